@@ -1,0 +1,64 @@
+//! What the coordinator keeps of an ask: the lease that it was granted, or the ask while it waits.
+use super::copied::Copied;
+use super::items::Items;
+use super::number::{Ask, Life, NodeId, Ticket};
+use super::slot::Slot;
+use super::want::Wants;
+use std::alloc::{AllocError, Global};
+
+/// A lease that was granted and has not ended.
+#[derive(Debug, Drop)]
+pub struct Lease {
+    pub ticket: Ticket,
+    pub node: NodeId,
+    pub life: Life,
+    pub ask: Ask,
+    /// Whether the wants have a SHARED folder.
+    pub shared: bool,
+    /// Whether the lease is the tenure of a SHARED folder.
+    pub tenure: bool,
+    /// The slots, rising, and whether each may be written.
+    pub slots: Items<(Slot, bool)>,
+}
+
+/// An ask that waits for a slot or a tenure.
+#[derive(Debug, Drop)]
+pub struct Parked {
+    pub node: NodeId,
+    pub life: Life,
+    pub ask: Ask,
+    pub wants: Wants,
+    pub tenure: bool,
+}
+
+impl Copied for (Slot, bool) {
+    fn copy(&self, alloc: Global) -> Result<Self, AllocError> {
+        Ok((self.0.copy(alloc)?, self.1))
+    }
+}
+
+impl Copied for Lease {
+    fn copy(&self, alloc: Global) -> Result<Self, AllocError> {
+        Ok(Lease {
+            ticket: self.ticket,
+            node: self.node,
+            life: self.life,
+            ask: self.ask,
+            shared: self.shared,
+            tenure: self.tenure,
+            slots: self.slots.copy(alloc)?,
+        })
+    }
+}
+
+impl Copied for Parked {
+    fn copy(&self, alloc: Global) -> Result<Self, AllocError> {
+        Ok(Parked {
+            node: self.node,
+            life: self.life,
+            ask: self.ask,
+            wants: self.wants.copy(alloc)?,
+            tenure: self.tenure,
+        })
+    }
+}

@@ -1,0 +1,257 @@
+//! What the nodes and the coordinator tell each other.
+use super::copied::Copied;
+use super::digest::Digest;
+use super::items::Items;
+use super::number::{Ask, Life, NodeId, Ticket};
+use super::slot::Slot;
+use super::want::Wants;
+use std::alloc::{AllocError, Global};
+
+/// A version of a slot. Version 0 of each slot is the empty folder.
+#[derive(Debug, Drop, PartialEq, Eq, PartialOrd, Ord, Hash)]
+pub struct Version {
+    pub slot: Slot,
+    pub number: u64,
+}
+
+/// What a commit leaves in a slot.
+#[derive(Debug, Drop)]
+pub struct News {
+    pub slot: Slot,
+    pub digest: Digest,
+}
+
+/// A slot of a grant, with the version that its holder begins from.
+#[derive(Debug, Drop)]
+pub struct GrantedSlot {
+    pub slot: Slot,
+    pub writable: bool,
+    /// The number of the slot's last version when the grant was made.
+    pub base: u64,
+    /// The digest of that version.
+    pub digest: Digest,
+}
+
+/// A version that a commit added.
+#[derive(Debug, Drop)]
+pub struct Confirmed {
+    pub slot: Slot,
+    pub number: u64,
+    pub digest: Digest,
+}
+
+/// What a node says to the coordinator.
+#[derive(Debug, Drop)]
+pub enum Request {
+    /// This life of the node has begun.
+    Hello,
+    /// The node asks for a lease, or for the tenure of a SHARED folder.
+    Acquire {
+        ask: Ask,
+        wants: Wants,
+        tenure: bool,
+    },
+    /// The node's execution is over, and left these contents.
+    Commit {
+        ticket: Ticket,
+        news: Items<News>,
+    },
+    /// The node gives a lease back.
+    Release {
+        ticket: Ticket,
+    },
+}
+
+/// A message to the coordinator, from one life of a node.
+#[derive(Debug, Drop)]
+pub struct ToCoord {
+    pub node: NodeId,
+    pub life: Life,
+    pub request: Request,
+}
+
+/// A lease as its holder is told of it.
+#[derive(Debug, Drop)]
+pub struct Grant {
+    pub ticket: Ticket,
+    pub node: NodeId,
+    pub life: Life,
+    pub ask: Ask,
+    /// Whether the wants have a SHARED folder.
+    pub shared: bool,
+    /// Whether the lease is the tenure of a SHARED folder.
+    pub tenure: bool,
+    /// The slots, rising.
+    pub slots: Items<GrantedSlot>,
+}
+
+/// Why an ask is denied.
+#[derive(Clone, Copy, Debug, PartialEq, Eq)]
+pub enum Why {
+    /// A PRIVATE folder has no instance left.
+    InstancesSpent,
+    /// The greatest ticket was given.
+    TicketsSpent,
+}
+
+/// A message from the coordinator to one life of a node.
+#[derive(Debug, Drop)]
+pub enum FromCoord {
+    Granted(Grant),
+    /// The commit under this ticket counts, and added these versions.
+    Committed {
+        node: NodeId,
+        life: Life,
+        ticket: Ticket,
+        versions: Items<Confirmed>,
+    },
+    /// The commit under this ticket does not count.
+    Fenced {
+        node: NodeId,
+        life: Life,
+        ticket: Ticket,
+    },
+    Denied {
+        node: NodeId,
+        life: Life,
+        ask: Ask,
+        why: Why,
+    },
+    /// Another node asks for the tenure that is held under this ticket.
+    Recall {
+        node: NodeId,
+        life: Life,
+        ticket: Ticket,
+    },
+}
+
+/// A node asks another one for a content.
+#[derive(Clone, Copy, Debug, PartialEq, Eq)]
+pub struct Fetch {
+    /// The node that is asked.
+    pub node: NodeId,
+    /// The node that asks.
+    pub from: NodeId,
+    pub digest: Digest,
+}
+
+impl Copied for Version {
+    fn copy(&self, alloc: Global) -> Result<Self, AllocError> {
+        Ok(Version {
+            slot: self.slot.copy(alloc)?,
+            number: self.number,
+        })
+    }
+}
+
+impl Copied for News {
+    fn copy(&self, alloc: Global) -> Result<Self, AllocError> {
+        Ok(News {
+            slot: self.slot.copy(alloc)?,
+            digest: self.digest,
+        })
+    }
+}
+
+impl Copied for GrantedSlot {
+    fn copy(&self, alloc: Global) -> Result<Self, AllocError> {
+        Ok(GrantedSlot {
+            slot: self.slot.copy(alloc)?,
+            writable: self.writable,
+            base: self.base,
+            digest: self.digest,
+        })
+    }
+}
+
+impl Copied for Confirmed {
+    fn copy(&self, alloc: Global) -> Result<Self, AllocError> {
+        Ok(Confirmed {
+            slot: self.slot.copy(alloc)?,
+            number: self.number,
+            digest: self.digest,
+        })
+    }
+}
+
+impl Copied for Request {
+    fn copy(&self, alloc: Global) -> Result<Self, AllocError> {
+        Ok(match self {
+            Request::Hello => Request::Hello,
+            Request::Acquire { ask, wants, tenure } => Request::Acquire {
+                ask: *ask,
+                wants: wants.copy(alloc)?,
+                tenure: *tenure,
+            },
+            Request::Commit { ticket, news } => Request::Commit {
+                ticket: *ticket,
+                news: news.copy(alloc)?,
+            },
+            Request::Release { ticket } => Request::Release { ticket: *ticket },
+        })
+    }
+}
+
+impl Copied for ToCoord {
+    fn copy(&self, alloc: Global) -> Result<Self, AllocError> {
+        Ok(ToCoord {
+            node: self.node,
+            life: self.life,
+            request: self.request.copy(alloc)?,
+        })
+    }
+}
+
+impl Copied for Grant {
+    fn copy(&self, alloc: Global) -> Result<Self, AllocError> {
+        Ok(Grant {
+            ticket: self.ticket,
+            node: self.node,
+            life: self.life,
+            ask: self.ask,
+            shared: self.shared,
+            tenure: self.tenure,
+            slots: self.slots.copy(alloc)?,
+        })
+    }
+}
+
+impl Copied for FromCoord {
+    fn copy(&self, alloc: Global) -> Result<Self, AllocError> {
+        Ok(match self {
+            FromCoord::Granted(grant) => FromCoord::Granted(grant.copy(alloc)?),
+            FromCoord::Committed {
+                node,
+                life,
+                ticket,
+                versions,
+            } => FromCoord::Committed {
+                node: *node,
+                life: *life,
+                ticket: *ticket,
+                versions: versions.copy(alloc)?,
+            },
+            FromCoord::Fenced { node, life, ticket } => FromCoord::Fenced {
+                node: *node,
+                life: *life,
+                ticket: *ticket,
+            },
+            FromCoord::Denied {
+                node,
+                life,
+                ask,
+                why,
+            } => FromCoord::Denied {
+                node: *node,
+                life: *life,
+                ask: *ask,
+                why: *why,
+            },
+            FromCoord::Recall { node, life, ticket } => FromCoord::Recall {
+                node: *node,
+                life: *life,
+                ticket: *ticket,
+            },
+        })
+    }
+}

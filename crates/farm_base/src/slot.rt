@@ -1,0 +1,73 @@
+ghost use Rattle.std.specs.Prelude.{◌≡◌, IsTrue, ◌↔◌};
+ghost use Rattle.farm_base.specs.Slots.{IsInstance};
+
+use super::copied::Copied;
+use super::folder::{FolderName, Mode};
+use std::alloc::{AllocError, Global};
+use std::marker::Model;
+
+/// The one slot of a SHARED or LOCKED folder, or an instance of a PRIVATE one. Slots are ordered by folder and instance.
+#[derive(Debug, Drop, PartialEq, Eq, PartialOrd, Ord, Hash)]
+pub struct Slot {
+    folder: FolderName,
+    instance: u32,
+}
+
+impl Model for Slot {
+    ghost use Rattle.farm_base.specs.Slots.{SlotParts, IsInstance};
+
+    ghost Value = { SlotParts };
+
+    ghost view = { λ s. record { folder = s.folder; instance = s.instance } };
+
+    ghost invariant = { λ s. IsInstance s.folder.mode s.instance };
+
+    ghost inverse = { λ d. record { folder = d.folder; instance = d.instance } };
+}
+
+impl Slot {
+    /// The greatest instance of a PRIVATE folder.
+    pub const INSTANCES: u32 = 4096;
+
+    /// Whether a folder of this mode has this instance.
+    pub fn has_instance(mode: Mode, instance: u32) -> bool
+        ensures { IsTrue result ↔ IsInstance mode instance }
+    {
+        match mode {
+            Mode::Shared => instance == 0,
+            Mode::Private => 1 <= instance && instance <= Self::INSTANCES,
+            Mode::Locked => instance == 0,
+        }
+    }
+
+    pub fn new(folder: FolderName, instance: u32) -> Self
+        requires { IsInstance folder.mode instance }
+        ensures folder { result.folder ≡ folder }
+        ensures instance { result.instance ≡ instance }
+    {
+        Slot { folder, instance }
+    }
+
+    pub fn folder(&self) -> &FolderName
+        ensures { result.now ≡ self.now.folder }
+    {
+        &self.folder
+    }
+
+    pub fn instance(&self) -> u32
+        ensures value { result ≡ self.now.instance }
+        ensures valid { IsInstance self.now.folder.mode result }
+    {
+        self.instance
+    }
+}
+
+impl Copied for Slot {
+    fn copy(&self, alloc: Global) -> Result<Self, AllocError> {
+        let folder = self.folder.copy(alloc)?;
+        Ok(Slot {
+            folder,
+            instance: self.instance,
+        })
+    }
+}

@@ -1,0 +1,114 @@
+ghost use Rattle.std.specs.Prelude.{◌≡◌, ◌<◌, ◌≤◌, ◌↔◌, ◌≢◌, vec_len, length, IsPermutation, IfOk, IsErrOf};
+ghost use Rattle.std.specs.List.{IsDistinct, IsAllAdjacentAnswer};
+ghost use Rattle.std.specs.Ordering.{is_lt};
+ghost use Rattle.farm_base.specs.Folders.{folder_cmp, folder_eq};
+ghost use Rattle.farm_base.specs.Wanted.{folders, IsWants};
+
+use super::copied::Copied;
+use super::folder::FolderName;
+use super::items::Items;
+use std::alloc::{AllocError, Global};
+use std::marker::Model;
+use thiserror::Error;
+
+/// A folder that an execution uses.
+#[derive(Debug, Drop, PartialEq, Eq, PartialOrd, Ord, Hash)]
+pub struct Want {
+    pub folder: FolderName,
+    pub writable: bool,
+}
+
+impl Copied for Want {
+    fn copy(&self, alloc: Global) -> Result<Self, AllocError> {
+        Ok(Want {
+            folder: self.folder.copy(alloc)?,
+            writable: self.writable,
+        })
+    }
+}
+
+/// What an execution wants: at most 16 folders, each once, by rising folder.
+#[derive(Debug, Drop)]
+pub struct Wants {
+    wants: Items<Want>,
+}
+
+impl Model for Wants {
+    ghost use Rattle.std.specs.Prelude.{List};
+    ghost use Rattle.farm_base.specs.declared.want.Want.{Want};
+    ghost use Rattle.farm_base.specs.Wanted.{IsWants};
+
+    ghost Value = { List Want };
+
+    ghost view = { λ w. w.wants };
+
+    ghost invariant = { λ w. IsWants w.wants };
+}
+
+#[derive(Debug, Drop, PartialEq, Eq, Error)]
+pub enum WantsRefusal {
+    #[error("more than 16 folders")]
+    TooManyWants,
+    #[error("a folder twice")]
+    SameFolderTwice,
+    #[error("out of memory")]
+    OutOfMemory,
+}
+
+impl Wants {
+    /// The greatest number of wants.
+    pub const LIMIT: usize = 16;
+
+    /// The wants by rising folder.
+    pub fn of(wants: Vec<Want>) -> Result<Self, WantsRefusal>
+        ensures same { IfOk result (IsPermutation wants.items) }
+        ensures sorted { IfOk result IsWants }
+        ensures too_many { IsErrOf result WantsRefusal.TooManyWants ↔ (16 < vec_len wants) }
+        ensures twice { IsErrOf result WantsRefusal.SameFolderTwice
+            ↔ ((vec_len wants ≤ 16) × ¬ IsDistinct folder_eq (folders wants.items)) }
+        ensures memory { result ≢ Err WantsRefusal.OutOfMemory }
+    {
+        if wants.len() > Self::LIMIT {
+            return Err(WantsRefusal::TooManyWants);
+        }
+        let mut wants = wants;
+        if wants.sort().is_err() {
+            return Err(WantsRefusal::OutOfMemory);
+        }
+        if !rises(wants.as_slice()) {
+            return Err(WantsRefusal::SameFolderTwice);
+        }
+        Ok(Wants {
+            wants: Items::new(wants),
+        })
+    }
+
+    pub fn as_slice(&self) -> &[Want]
+        ensures same { result.now ≡ self.now }
+        ensures sorted { IsWants result.now }
+    {
+        self.wants.as_slice()
+    }
+}
+
+impl Copied for Wants {
+    fn copy(&self, alloc: Global) -> Result<Self, AllocError> {
+        Ok(Wants {
+            wants: self.wants.copy(alloc)?,
+        })
+    }
+}
+
+/// Whether each folder is below the next.
+fn rises(wants: &[Want]) -> bool
+    ensures { IsAllAdjacentAnswer (λ a b answer. answer ≡ is_lt (folder_cmp a.folder b.folder)) wants.now result }
+{
+    wants.is_sorted_by(is_below)
+}
+
+/// Whether the folder of one is below that of the other.
+fn is_below(one: &Want, other: &Want) -> bool
+    ensures { result ≡ is_lt (folder_cmp one.now.folder other.now.folder) }
+{
+    one.folder.cmp(&other.folder).is_lt()
+}
