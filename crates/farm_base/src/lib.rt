@@ -22,7 +22,8 @@ pub use folder::{Base, FolderName, Index, Mode};
 pub use items::Items;
 pub use lease::{Lease, Parked};
 pub use message::{
-    Confirmed, Fetch, FromCoord, Grant, GrantedSlot, News, Request, ToCoord, Version, Why,
+    Confirmed, Fetch, FromCoord, Grant, GrantedSlot, LineVersion, News, Request, ToCoord, Version,
+    Why,
 };
 pub use number::{Ask, Life, NodeId, Ticket};
 pub use refusal::{FolderRefusal, SlotRefusal};

@@ -14,6 +14,14 @@ pub struct Version {
     pub number: u64,
 }
 
+/// A version as its slot's line has it.
+#[derive(Clone, Copy, Debug, PartialEq, Eq)]
+pub struct LineVersion {
+    /// The ticket under which it was added.
+    pub ticket: Ticket,
+    pub digest: Digest,
+}
+
 /// What a commit leaves in a slot.
 #[derive(Debug, Drop)]
 pub struct News {
