@@ -1,0 +1,7 @@
+pub mod Lists
+pub mod Names
+pub mod Machine
+pub mod World
+pub mod Ledger
+pub mod Nodes
+pub mod Replay

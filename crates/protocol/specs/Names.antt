@@ -1,0 +1,63 @@
+-- The names that the protocol is about, and tests of them that compute (docs/PROTOCOL.md, "Names").
+use Rattle.std.specs.Prelude.{◌≡◌, ℕ, ◌==◌, Bool, true, false, not, ◌&&◌, if◌then◌else◌, nat_eq, List, [], ◌∷◌, filter, Option, None}
+use Rattle.std.specs.List.{list_any}
+use Rattle.std.specs.Cmp.Lexicographic.{pointwise}
+use Rattle.farm_base.specs.Folders.{folder_eq}
+use Rattle.farm_base.specs.Slots.{SlotParts}
+pub use Rattle.farm_base.specs.Slots.{IsInstance}
+pub use Rattle.farm_base.specs.declared.folder.Mode.{Mode}
+pub use Rattle.farm_base.specs.declared.folder.Mode.TheVariants.{Shared, Private, Locked}
+pub use Rattle.farm_base.specs.declared.folder.FolderName.{FolderName}
+pub use Rattle.farm_base.specs.declared.digest.Digest.{Digest}
+pub use Rattle.farm_base.specs.declared.number.NodeId.{NodeId}
+pub use Rattle.farm_base.specs.declared.number.Life.{Life}
+pub use Rattle.farm_base.specs.declared.number.Ask.{Ask}
+pub use Rattle.farm_base.specs.declared.number.Ticket.{Ticket}
+pub use Rattle.farm_base.specs.declared.want.Want.{Want}
+
+abbrev pub Slot : Type 0
+Slot = SlotParts
+
+abbrev pub is_shared : Mode → Bool
+is_shared Shared = true
+is_shared Private = false
+is_shared Locked = false
+
+abbrev pub is_private : Mode → Bool
+is_private Shared = false
+is_private Private = true
+is_private Locked = false
+
+-- the same slot
+abbrev pub slot_eq : Slot → Slot → Bool
+slot_eq a b = folder_eq a.folder b.folder && nat_eq a.instance b.instance
+
+-- the same digest
+abbrev pub digest_eq : Digest → Digest → Bool
+digest_eq a b = pointwise nat_eq a.0 b.0
+
+abbrev pub slots_eq : List Slot → List Slot → Bool
+slots_eq [] [] = true
+slots_eq [] (y ∷ ys) = false
+slots_eq (x ∷ xs) [] = false
+slots_eq (x ∷ xs) (y ∷ ys) = slot_eq x y && slots_eq xs ys
+
+-- the one slot of a SHARED or LOCKED folder
+abbrev pub only_slot : FolderName → Slot
+only_slot f = record { folder = f; instance = 0 }
+
+abbrev pub wants_shared : Want → Bool
+wants_shared w = is_shared w.folder.mode
+
+-- some want is of a SHARED folder
+abbrev pub any_shared : List Want → Bool
+any_shared wants = list_any wants_shared wants
+
+-- the wants of which a lease takes slots: a tenure of its SHARED folder, any other lease of the other folders
+abbrev pub leased_wants : Bool → List Want → List Want
+leased_wants true wants = filter wants_shared wants
+leased_wants false wants = filter (λ w. not (wants_shared w)) wants
+
+-- what the ask for a tenure wants: the SHARED folder of this name, writable
+abbrev pub tenure_wants : FolderName → List Want
+tenure_wants f = record { folder = record f { mode = Shared }; writable = true } ∷ []

@@ -1,0 +1,158 @@
+//! What the calls of coordinator, nodes and world answer.
+use farm_base::{Ask, Grant, Life, NodeId, Ticket, Why};
+use thiserror::Error;
+
+/// What the coordinator did.
+#[derive(Debug, Drop)]
+pub enum CoordNote {
+    Granted(Grant),
+    /// The lease of this ask is live: its Grant is sent again.
+    GrantedBefore(Grant),
+    Parked,
+    Committed(Ticket),
+    /// The ticket's versions stand on their lines already.
+    CommittedBefore(Ticket),
+    Fenced(Ticket),
+    Released(Ticket),
+    Denied(Why),
+    /// The message is of an older life of its node.
+    OldLife,
+    /// The message is of a retired node.
+    NodeRetired,
+    Withdrawn(Ticket),
+    Pruned(Ticket),
+    Retired(NodeId),
+    Nudged,
+    Nothing,
+}
+
+/// Why the coordinator refused a call. What is refused changes nothing, but for `SaveFault`.
+#[derive(Clone, Copy, Debug, PartialEq, Eq, Error)]
+pub enum CoordRefusal {
+    #[error("the coordinator is down")]
+    Down,
+    #[error("the record could not be saved: the coordinator is down until it is restarted")]
+    SaveFault,
+    #[error("the record is no record")]
+    BadRecord,
+    #[error("no live lease has the ticket")]
+    NotLive,
+    #[error("the slot is leased")]
+    SlotLeased,
+    #[error("the slot has no version")]
+    NoSuchSlot,
+    #[error("the greatest ticket was given")]
+    TicketsSpent,
+    #[error("out of memory")]
+    OutOfMemory,
+    #[error("the record could not be loaded")]
+    LoadFault,
+    #[error("the ticket is a tenure's")]
+    Tenure,
+    #[error("the node holds a tenure or is the old home")]
+    TenureHeld,
+    #[error("the node is retired")]
+    NodeRetired,
+}
+
+/// What a node did.
+#[derive(Debug, Drop)]
+pub enum NodeNote {
+    Asked(Ask),
+    Begun(Ticket),
+    Finished(Ticket),
+    Aborted(Ticket),
+    Resent,
+    Life(Life),
+    Took(Grant),
+    GaveBack(Ticket),
+    Learned(Ticket),
+    Dropped(Ticket),
+    Denied(Why),
+    Recalled(Ticket),
+    SentBlob,
+    BlobTaken,
+    /// The message is for an older life of this node.
+    OldLife,
+    Nothing,
+}
+
+/// Why a node refused a call. What is refused changes nothing, but for `LivesSpent`.
+#[derive(Clone, Copy, Debug, PartialEq, Eq, Error)]
+pub enum NodeRefusal {
+    #[error("a SHARED folder's tenure is not in use on this node")]
+    NotHomeHere,
+    #[error("no ask has the ticket")]
+    NoSuchTicket,
+    #[error("a base content is not stored here")]
+    ContentsMissing,
+    #[error("the news are not just for the writable slots")]
+    WrongNews,
+    #[error("no execution runs under the ticket")]
+    NotRunning,
+    #[error("the greatest life has begun: the node is down for good")]
+    LivesSpent,
+    #[error("the greatest ask was made")]
+    AsksSpent,
+    #[error("out of memory")]
+    OutOfMemory,
+    #[error("an ask of this node is the folder's tenure")]
+    TenureHere,
+    #[error("an ask of this node uses the tenure's folder")]
+    TenureInUse,
+}
+
+/// How an ask came to its end.
+#[derive(Clone, Copy, Debug, PartialEq, Eq)]
+pub enum How {
+    Denied(Why),
+    Committed,
+    Fenced,
+    /// The lease was given back.
+    Other,
+}
+
+/// What a record holds after a save that failed.
+#[derive(Clone, Copy, Debug, PartialEq, Eq)]
+pub enum Survivor {
+    /// What it held before.
+    Old,
+    /// What was to be saved.
+    New,
+}
+
+/// What an event of the world did.
+#[derive(Debug, Drop)]
+pub enum EventNote {
+    Coord(CoordNote),
+    Node(NodeNote),
+    /// The coordinator restarted.
+    Restarted,
+    /// The next save will fail.
+    Armed,
+}
+
+/// An accepted event: what it did, and the messages that it sent.
+#[derive(Debug, Drop)]
+pub struct Outcome {
+    pub note: EventNote,
+    /// The number of the first message sent, 0 where none was.
+    pub first: u64,
+    /// How many messages were sent.
+    pub sent: u64,
+}
+
+/// Why an event was refused.
+#[derive(Clone, Copy, Debug, PartialEq, Eq, Error)]
+pub enum EventRefusal {
+    #[error("no message has the number")]
+    NoSuchMessage,
+    #[error("no node has the number")]
+    NoSuchNode,
+    #[error("{0}")]
+    Node(NodeRefusal),
+    #[error("{0}")]
+    Coord(CoordRefusal),
+    #[error("out of memory")]
+    OutOfMemory,
+}
