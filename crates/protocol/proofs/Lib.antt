@@ -1,0 +1,3 @@
+mod Base
+mod Lines
+mod Steps
