@@ -1,3 +1,7 @@
 mod Base
 mod Lines
 mod Steps
+mod Invariant
+mod Acts
+mod Worlds
+mod Safety

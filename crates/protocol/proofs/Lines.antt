@@ -2,7 +2,7 @@
 use Rattle.std.proofs.Common.{◌≡◌, ◌≢◌, ℕ, ◌<◌, ◌≤◌, List, [], ◌∷◌, ◌++◌, ◌⊎◌, Bool, true, false, ◌||◌, map, Option, Some, None, refl, sym, ◌∙◌, ap, subst, inl, inr, arith, append-nil}
 use Rattle.std.specs.Prelude.{⊤}
 use Rattle.protocol.specs.Lists.{In, put}
-use Rattle.protocol.specs.Names.{Slot, slot_eq, is_private, is_shared, Digest, Ticket}
+use Rattle.protocol.specs.Names.{Slot, slot_eq, is_alone, Digest, Ticket}
 use Rattle.protocol.specs.Machine.{GrantedSlot, Grant, News, LineVersion, Ending, Committed, Released, Withdrawn, Died, Made, Granted, Pruned, ticket_of, Has, digest_for, version_of, version_at, added, line_of, written, slots_of}
 use Rattle.protocol.proofs.Base.{cases_option, cases_bool, put_same, put_other, slot_eq_is, in_append, in_one, none_some}
 
@@ -51,10 +51,6 @@ Touches (Pruned t p) s = p ≡ s
 abbrev pub is_grant : Made → Bool
 is_grant (Granted g) = true
 is_grant (Pruned t p) = false
-
--- a slot that two executions never share: of a PRIVATE or a SHARED folder
-abbrev pub is_alone : Slot → Bool
-is_alone s = is_private s.folder.mode || is_shared s.folder.mode
 
 -- the grant has ended; and so that a PRIVATE or SHARED slot has no execution left, where x is a grant
 abbrev pub Gone : (ℕ → Option Ending) → Made → Slot → Grant → Type 0

@@ -1,10 +1,10 @@
 -- What each step of the machine keeps.
 use Rattle.std.proofs.Common.{◌≡◌, ◌≢◌, ℕ, ◌+◌, ◌<◌, ◌≤◌, List, [], ◌∷◌, ◌++◌, ◌⊎◌, Bool, true, false, not, ◌||◌, map, filter, length, Option, Some, None, slice_get, refl, sym, ◌∙◌, ap, subst, inl, inr, arith, append-nil}
 use Rattle.protocol.specs.Lists.{In, IsFrontOf, put}
-use Rattle.protocol.specs.Names.{Mode, Shared, Private, Locked, Slot, slot_eq, is_private, is_shared, wants_shared, Digest, NodeId, Ticket, Want, leased_wants}
+use Rattle.protocol.specs.Names.{Mode, Shared, Private, Locked, Slot, slot_eq, is_private, is_shared, is_alone, wants_shared, Digest, NodeId, Ticket, Want, leased_wants}
 use Rattle.protocol.specs.Machine.{GrantedSlot, Grant, LineVersion, Ending, Committed, Released, Withdrawn, Died, Made, Granted, Pruned, ticket_of, Message, Machine, Has, Live, Leased, Retired, Free, version_at, added, line, Names, Based, Answers, want_of, MayEnd, Parked, Step, Grants, Ends, Prunes, Sees, Retires, Parks, Unparks, Raises}
 use Rattle.protocol.proofs.Base.{cases_option, cases_nat, cases_bool, order_cases, true_false, not_true, put_same, put_other, slot_eq_is, front_refl, front_trans, front_get, get_in, get_push_cases, in_map, from_filter}
-use Rattle.protocol.proofs.Lines.{Below, below_in, below_more, one_grant, granted_is, is_alone, Gone, Apart, Extends, apart_later, apart_pair, Lawful, AllLawful, adds_cases, line-end, line_source, version_cases, added_cases_one, added_ticket}
+use Rattle.protocol.proofs.Lines.{Below, below_in, below_more, one_grant, granted_is, Gone, Apart, Extends, apart_later, apart_pair, Lawful, AllLawful, adds_cases, line-end, line_source, version_cases, added_cases_one, added_ticket}
 
 no_element : {P : Type 0} (v : LineVersion) → (v ∷ [] ≡ []) → P
 no_element v e = cc
@@ -130,10 +130,14 @@ module _ (empty : Digest) (m : Machine) (sound : Sound empty m) (g : Grant) (new
       let f : Free m s = subst (Free m) k.2 (free k.0 k.1).0 in
       elim (cases_option (m.ending g'.ticket.0)) [
         | inl n ↦ absurd (f.0 (g', (i, n), k'))
-        | inr y ↦ (y.0, y.1, λ p q w. elim (alone_cases s q) [
-          | inl private ↦ f.1 (private, (g', i, y.1 ∙ ap Some w, k'))
-          | inr shared ↦ tenure_kept g' s y.0 i k' y.1 shared w
-        ])
+        | inr y ↦ (
+          y.0,
+          y.1,
+          λ p q w. elim (alone_cases s q) [
+            | inl private ↦ f.1 (private, (g', i, y.1 ∙ ap Some w, k'))
+            | inr shared ↦ tenure_kept g' s y.0 i k' y.1 shared w
+          ],
+        )
       ]
 
   grant_later : Later empty m after_grant

@@ -1,5 +1,5 @@
 -- The names that the protocol is about, and tests of them that compute (docs/PROTOCOL.md, "Names").
-use Rattle.std.specs.Prelude.{◌≡◌, ℕ, ◌==◌, Bool, true, false, not, ◌&&◌, if◌then◌else◌, nat_eq, List, [], ◌∷◌, filter, Option, None}
+use Rattle.std.specs.Prelude.{◌≡◌, ℕ, ◌==◌, Bool, true, false, not, ◌&&◌, ◌||◌, if◌then◌else◌, nat_eq, List, [], ◌∷◌, filter, Option, None}
 use Rattle.std.specs.List.{list_any}
 use Rattle.std.specs.Cmp.Lexicographic.{pointwise}
 use Rattle.farm_base.specs.Folders.{folder_eq}
@@ -27,6 +27,10 @@ abbrev pub is_private : Mode → Bool
 is_private Shared = false
 is_private Private = true
 is_private Locked = false
+
+-- a slot that two executions never share: of a PRIVATE or SHARED folder
+abbrev pub is_alone : Slot → Bool
+is_alone s = is_private s.folder.mode || is_shared s.folder.mode
 
 -- the same slot
 abbrev pub slot_eq : Slot → Slot → Bool
