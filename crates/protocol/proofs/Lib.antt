@@ -5,3 +5,5 @@ mod Invariant
 mod Acts
 mod Worlds
 mod Safety
+mod Bulk
+mod Leases

@@ -6,3 +6,4 @@ pub mod Safe
 pub mod Ledger
 pub mod Nodes
 pub mod Replay
+pub mod Follows

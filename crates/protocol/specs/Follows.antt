@@ -1,0 +1,102 @@
+-- The ledger agrees with a machine that forgets nothing, and a farm's state with a world
+-- (docs/PROOFS.md, "From the replay to the world").
+use Rattle.std.specs.Prelude.{◌≡◌, ℕ, ◌≤◌, Bool, true, false, List, [], ◌∷◌, ◌++◌, ◌⊎◌, map, Option, Some, None, ⊤, Ok, Err}
+use Rattle.protocol.specs.Lists.{In, put, IsFrontOf}
+use Rattle.protocol.specs.Names.{Slot, NodeId, Digest}
+use Rattle.protocol.specs.Machine.{Grant, GrantedSlot, Message, Told, acquire, FromCoord, Parked, Machine, Live, Retired, line, Step, Says}
+use Rattle.protocol.specs.Ledger.{Limits, Ledger, Lease, Work, is_of, is_parked}
+use Rattle.protocol.specs.World.{World, Node, Moves, start}
+use Rattle.protocol.specs.Safe.{Safe, SafeSince}
+use Rattle.protocol.specs.Replay.{Event, Farm, run, opening}
+
+-- the lease of a grant: what is kept of it
+abbrev pub lease_from : Grant → Lease
+lease_from g = record {
+  ticket = g.ticket;
+  node = g.node;
+  life = g.life;
+  ask = g.ask;
+  shared = g.shared;
+  tenure = g.tenure;
+  slots = map (λ u. (u.slot, u.writable)) g.slots;
+}
+
+-- no lease is this ask's
+abbrev pub NoLease : List Lease → Parked → Type 0
+NoLease live p = (g : Lease) → In g live → is_of p.node p.life p.ask g ≡ false
+
+-- the parked asks are of different asks, and none has a lease
+abbrev pub Waits : List Lease → List Parked → Type 0
+Waits live [] = ⊤
+Waits live (p ∷ ps) = NoLease live p × (is_parked ps p.node p.life p.ask ≡ false) × Waits live ps
+
+-- the ledger keeps just what the machine knows that is still of use, these messages having been sent
+pub record Agrees (empty : Digest) (pool : List Message) (m : Machine) (q : Ledger) : Type 0 where
+  -- the leases are just the live grants
+  pub live_made : (h : Lease) → In h q.live → (g : Grant) × Live m g × (lease_from g ≡ h)
+  pub live_kept : (g : Grant) → Live m g → In (lease_from g) q.live
+  -- the retired slots are just those
+  pub retired_made : (s : Slot) → q.retired s ≡ true → Retired m s
+  pub retired_kept : (s : Slot) → Retired m s → q.retired s ≡ true
+  pub lines : (s : Slot) → q.line s ≡ line empty m s
+  pub last : q.last ≡ m.last
+  pub ceiling : q.last ≤ q.ceiling
+  pub old_home : q.old_home ≡ m.old_home
+  pub gone : q.gone ≡ m.gone
+  pub lives : q.lives ≡ m.lives
+  pub parked : q.parked ≡ m.parked
+  -- each parked ask was sent by a node that isn't retired
+  pub asked : (p : Parked) → In p q.parked → In (acquire p.node p.life p.ask p.wants p.tenure) pool × (q.gone p.node.0 ≡ false)
+  pub waits : Waits q.live q.parked
+
+-- what the coordinator does at one event: steps, and what it says, in order
+pub data Works (empty : Digest) (pool : List Message) (m : Machine) : Machine → List FromCoord → Type 0 where
+  Begins_work : Works empty pool m m []
+  Goes_on : (a b : Machine) (sends : List FromCoord) → Works empty pool m a sends → Step empty pool a b → Works empty pool m b sends
+  Speaks : (a : Machine) (sends : List FromCoord) (y : FromCoord) → Works empty pool m a sends → Says empty pool a y → Works empty pool m a (sends ++ y ∷ [])
+
+-- what the work comes to, the machine may do
+pub record Follows (empty : Digest) (pool : List Message) (m : Machine) (w : Work) : Type 0 where
+  pub machine : Machine
+  pub works : Works empty pool m machine w.sends
+  pub agrees : Agrees empty pool machine w.ledger
+
+-- what the record holds after a failed save
+abbrev pub KeptAgrees : Digest → List Message → Option Machine → Option Ledger → Type 0
+KeptAgrees empty pool None None = ⊤
+KeptAgrees empty pool None (Some q) = ⊥
+KeptAgrees empty pool (Some m) None = ⊥
+KeptAgrees empty pool (Some m) (Some q) = Agrees empty pool m q
+
+-- a farm's state is that of the world
+pub record Shows (sha : List ℕ → Digest) (u : World) (s : Farm) : Type 0 where
+  pub now : Agrees (sha []) u.pool u.machine s.ledger
+  pub kept : KeptAgrees (sha []) u.pool u.down s.down
+  pub pool : u.pool ≡ s.pool
+  pub nodes : (n : ℕ) → u.nodes n ≡ s.nodes n
+
+-- the limits of a farm whose contents have these digests
+pub record IsFarm (sha : List ℕ → Digest) (k : Limits) : Type 0 where
+  pub empty : k.empty ≡ sha []
+  pub instances : k.instances ≤ 4096
+
+-- a world that the farm is in after the events, safe
+pub record SafeAfter (sha : List ℕ → Digest) (s : Farm) : Type 0 where
+  pub world : World
+  pub moves : Moves sha (start sha) world
+  pub shows : Shows sha world s
+  pub safe : Safe sha world
+
+-- worlds that a farm is in before and after some events: the later follows from the earlier, and stays safe
+pub record SafeBetween (sha : List ℕ → Digest) (s t : Farm) : Type 0 where
+  pub before : SafeAfter sha s
+  pub after : SafeAfter sha t
+  pub moves : Moves sha before.world after.world
+  pub since : SafeSince sha before.world after.world
+
+abbrev pub EveryScheduleIsSafe : Type 0
+EveryScheduleIsSafe = (sha : List ℕ → Digest) (k : Limits) → IsFarm sha k → (size : ℕ) (events : List Event) → SafeAfter sha (run sha k events (opening sha size))
+
+abbrev pub EveryScheduleStaysSafe : Type 0
+EveryScheduleStaysSafe = (sha : List ℕ → Digest) (k : Limits) → IsFarm sha k → (size : ℕ) (early late : List Event)
+    → SafeBetween sha (run sha k early (opening sha size)) (run sha k (early ++ late) (opening sha size))
