@@ -7,3 +7,4 @@ mod Worlds
 mod Safety
 mod Bulk
 mod Leases
+mod Following

@@ -1,0 +1,380 @@
+-- What the coordinator does with its ledger, a machine that forgets nothing may do.
+use Rattle.std.proofs.Common.{◌≡◌, ◌≢◌, ℕ, zero, suc, ◌+◌, ◌<◌, ◌≤◌, List, [], ◌∷◌, ◌++◌, ◌⊎◌, min, Bool, true, false, not, ◌&&◌, ◌||◌, eqb, length, map, filter, Option, Some, None, slice_get, Result, Ok, Err, refl, sym, ◌∙◌, ap, subst, inl, inr, arith, append-nil}
+use Rattle.std.proofs.lemmas.Bool.Decides.{nat_tests}
+use Rattle.std.specs.List.{list_any, find}
+use Rattle.std.specs.Prelude.{⊤, nat_lt, is_some}
+use Rattle.protocol.specs.Lists.{In, put, is_nil}
+use Rattle.protocol.specs.Names.{Mode, Shared, Private, Locked, Slot, slot_eq, slots_eq, is_private, is_shared, wants_shared, only_slot, IsInstance, Digest, NodeId, Life, Ask, Ticket, Want, FolderName, leased_wants, any_shared, tenure_wants}
+use Rattle.protocol.specs.Machine.{Grant, GrantedSlot, News, Confirmed, LineVersion, Made, Granted, Pruned, Ending, Committed, Released, Withdrawn, Died, Message, Said, Told, ToCoord, FromCoord, Parked, Machine, Has, Live, Leased, Retired, Free, Based, Answers, SameAsk, want_of, line, line_of, version_at, version_of, digest_for, slots_of, Names, written, acquire, commit, release, WasHeard, MayEnd, cleared, IsPartOf, Ends_part, Keeps, Leaves, Step, Grants, Ends, Prunes, Sees, Retires, Parks, Unparks, Raises, Steps, No_step, One_more, Stands, Says, Says_granted, Says_committed, Says_fenced, Says_denied, Says_recall}
+use Rattle.farm_base.specs.declared.message.FromCoord.TheVariants as told
+use Rattle.farm_base.specs.declared.message.Request.{Request}
+use Rattle.farm_base.specs.declared.message.Request.TheVariants.{Hello, Acquire, Commit, Release}
+use Rattle.farm_base.specs.declared.message.Why.{Why}
+use Rattle.protocol.specs.declared.answer.CoordNote.{CoordNote}
+use Rattle.protocol.specs.declared.answer.CoordNote.TheVariants as note
+use Rattle.protocol.specs.declared.answer.CoordRefusal.{CoordRefusal}
+use Rattle.protocol.specs.Ledger.{Limits, Ledger, Work, Lease, begin_work, says, notes, has_slot, some_lease, is_leased, is_free, lowest, instance_for, slot_for, all_taken, busy, is_saved, writable_slots, last_digest, granted_slot, grant_of, Decision, Give, Deny, Wait, pick, another, elsewhere, decision, lease_for, raised, granting, gives, denies, carried_out, waits, tried, stays, try_all, waiting, parks, retried, is_of, lease_of, is_parked, holds_wanted, recall, recalls, decided, acquiring, has_ticket, lease_under, without, ends, commits, place, confirmed, versions_of, on_all, is_its, may_commit, may_release, confirms, answered, committing, released, answering, is_older, is_older_ask, sees, is_home, newer_life, handled, retires, withdraws, withdrawing, withdrawn, is_at, retire_all, goes, retired, prunes, pruned, is_awaited, nudges, nudge_all, nudged, reread}
+use Rattle.protocol.specs.Follows.{lease_from, NoLease, Waits, Agrees, Works, Begins_work, Goes_on, Speaks, Follows}
+use Rattle.protocol.proofs.Base.{cases_bool, cases_nat, cases_option, true_false, not_true, not_false, and_both, or_false, none_some, some_is, eqb_is, eqb_same, eqb_apart, eqb_not, slot_eq_same, slot_eq_is, slot_path, node_is, life_is, ask_is, ticket_is, in_map, from_map, any_in, from_any, any_none, in_filter, from_filter, in_append, in_left, in_right, in_one, get_in, put_same, put_other}
+use Rattle.protocol.proofs.Lines.{Lawful, line-end}
+use Rattle.protocol.proofs.Steps.{Sound, Later, later_refl, later_trans, step_sound, fresh, same_grant}
+use Rattle.protocol.proofs.Bulk.{EndsThose, end_those, Bare, ended_line, still_live, live_after, retired_before, retired_stays, retired_now}
+use Rattle.protocol.proofs.Leases.{Core, core_of, AllAsked, agrees_from, lease_has, has_lease, writable-from, names_last, grant-lease, lease-grant, not_leased, free_is, lowest_is, find_some, find_none, find_in, waits_give, waits_less, parked_part, waits_filter, waits_push, no_grant}
+
+pub works_sound : (empty : Digest) (pool : List Message) (a b : Machine) (sends : List FromCoord) → Sound empty a → Works empty pool a b sends → Later empty a b × Sound empty b
+works_sound empty pool a b sends sound Begins_work = (later_refl empty a, sound)
+works_sound empty pool a b sends sound (Goes_on c d ss works step) =
+    let before = works_sound empty pool a c sends sound works in
+    let after = step_sound empty pool c b before.1 step in
+    (later_trans empty a c b before.0 after.0, after.1)
+works_sound empty pool a b sends sound (Speaks c ss y works may) = works_sound empty pool a b ss sound works
+
+-- the steps alone, as a record may hold them
+pub works_steps : (empty : Digest) (pool : List Message) (a b : Machine) (sends : List FromCoord) → Works empty pool a b sends → Steps empty pool a b
+works_steps empty pool a b sends Begins_work = No_step a
+works_steps empty pool a b sends (Goes_on c d ss works step) = One_more a c b (works_steps empty pool a c sends works) step
+works_steps empty pool a b sends (Speaks c ss y works may) = works_steps empty pool a b ss works
+
+pub part_refl : {A : Type 0} (xs : List A) → IsPartOf xs xs
+part_refl [] = Ends_part
+part_refl (x ∷ xs) = Keeps x xs xs (part_refl xs)
+
+part_filter : {A : Type 0} (test : A → Bool) (xs : List A) → IsPartOf xs (filter test xs)
+part_filter test [] = Ends_part
+part_filter test (x ∷ xs) = elim (cases_bool (test x)) [
+  | inl t ↦ rw t (Keeps x xs (filter test xs) (part_filter test xs))
+  | inr t ↦ rw t (Leaves x xs (filter test xs) (part_filter test xs))
+]
+
+part_none : {A : Type 0} (xs : List A) → IsPartOf xs []
+part_none [] = Ends_part
+part_none (x ∷ xs) = Leaves x xs [] (part_none xs)
+
+slots_eq_is : (xs ys : List Slot) → slots_eq xs ys ≡ true → xs ≡ ys
+slots_eq_is [] [] h = refl
+slots_eq_is [] (y ∷ ys) h = (let bad : false ≡ true = h in cc)
+slots_eq_is (x ∷ xs) [] h = (let bad : false ≡ true = h in cc)
+slots_eq_is (x ∷ xs) (y ∷ ys) h = (let b = and_both (slot_eq x y) (slots_eq xs ys) h in let p = slot_eq_is x y b.0 in let q = slots_eq_is xs ys b.1 in λ i. p i ∷ q i)
+
+slots_eq_same : (xs : List Slot) → slots_eq xs xs ≡ true
+slots_eq_same [] = refl
+slots_eq_same (x ∷ xs) = (let p = slot_eq_same x in let q = slots_eq_same xs in rw (p, q) refl)
+
+-- what a decision to give says
+record Picked (a b c d : Bool) : Type 0 where
+  pub here : a ≡ false
+  pub left : b ≡ false
+  pub idle : c ≡ false
+  pub below : d ≡ false
+
+pick_give : (a b c d : Bool) → pick a b c d ≡ Give → Picked a b c d
+pick_give true b c d e = cc
+pick_give false true c d e = cc
+pick_give false false true d e = cc
+pick_give false false false true e = cc
+pick_give false false false false e = record { here = refl; left = refl; idle = refl; below = refl }
+
+-- what was sent is as the nodes send it
+pub record Sent (pool : List Message) (m : Machine) : Type 0 where
+  pub tenures : (n : NodeId) (l : Life) (a : Ask) (wants : List Want) (tenure : Bool) → In (acquire n l a wants tenure) pool → tenure ≡ true → (f : FolderName) × (wants ≡ tenure_wants f)
+  pub commits : (n : NodeId) (l : Life) (t : Ticket) (news : List News) → In (commit n l t news) pool
+      → (g : Grant) × In (Granted g) m.made × (g.ticket ≡ t) × (g.node ≡ n) × (g.life ≡ l) × (slots_of news ≡ written g.slots) × (news ≢ [])
+
+module _ (k : Limits) (fits : k.instances ≤ 4096) (pool : List Message) (m : Machine) (sound : Sound k.empty m) (sent : Sent pool m) where
+  abbrev pub F : Work → Type 0
+  F w = Follows k.empty pool m w
+
+  now_sound : (b : Machine) (sends : List FromCoord) → Works k.empty pool m b sends → Sound k.empty b
+  now_sound b sends works = (works_sound k.empty pool m b sends sound works).1
+
+  -- ---- saying
+
+  pub notes_follows : (n : CoordNote) (w : Work) → F w → F (notes n w)
+  notes_follows n w f = record { machine = f.machine; works = f.works; agrees = f.agrees }
+
+  pub says_follows : (y : FromCoord) (w : Work) (f : F w) → Says k.empty pool f.machine y → F (says y w)
+  says_follows y w f may = record { machine = f.machine; works = Speaks f.machine w.sends y f.works may; agrees = f.agrees }
+
+  live_of_lease : (w : Work) (f : F w) (h : Lease) → In h w.ledger.live → (g : Grant) × Live f.machine g × (lease_from g ≡ h)
+  live_of_lease w f h i = f.agrees.live_made h i
+
+  grant_says : (w : Work) (f : F w) (h : Lease) → In h w.ledger.live → Says k.empty pool f.machine (told.Granted (grant_of k.empty w.ledger.line h))
+  grant_says w f h i =
+      let r = f.agrees.live_made h i in
+      let core = core_of k.empty pool f.machine w.ledger f.agrees in
+      let is : grant_of k.empty w.ledger.line h ≡ r.0 = ap (grant_of k.empty w.ledger.line) (sym r.2) ∙ grant-lease k.empty f.machine w.ledger r.0 (now_sound f.machine w.sends f.works) core r.1 in
+      subst (λ z. Says k.empty pool f.machine (told.Granted z)) (sym is) (Says_granted r.0 r.1)
+
+  -- ---- granting
+
+  -- work whose parked asks are yet to be settled
+  pub record Going (w : Work) : Type 0 where
+    pub machine : Machine
+    pub works : Works k.empty pool m machine w.sends
+    pub core : Core k.empty machine w.ledger
+    pub parked : w.ledger.parked ≡ machine.parked
+
+  going : (w : Work) → F w → Going w
+  going w f = record { machine = f.machine; works = f.works; core = core_of k.empty pool f.machine w.ledger f.agrees; parked = f.agrees.parked }
+
+  -- a want that can be met
+  abbrev IsMet : Machine → Ledger → Want → Type 0
+  IsMet b q w = Free b (slot_for k.instances (is_free q) w) × IsInstance w.folder.mode (slot_for k.instances (is_free q) w).instance
+
+  by_kind : (b : Machine) (q : Ledger) (w : Want) (private : Bool) → Core k.empty b q → is_private w.folder.mode ≡ private
+      → (private && (eqb (lowest (is_free q) w.folder 1 k.instances) 0)) ≡ false → (not private && some_lease q.live (only_slot w.folder)) ≡ false
+      → Free b (record { folder = w.folder; instance = instance_for k.instances (is_free q) w.folder private }) × IsInstance w.folder.mode (instance_for k.instances (is_free q) w.folder private)
+  by_kind b q w true core p left idle =
+      let ne : lowest (is_free q) w.folder 1 k.instances ≢ 0 = eqb_not (lowest (is_free q) w.folder 1 k.instances) 0 left in
+      let r = lowest_is (is_free q) w.folder k.instances 1 ne in
+      let low : 1 ≤ lowest (is_free q) w.folder 1 k.instances = r.1 in
+      let high : lowest (is_free q) w.folder 1 k.instances < 1 + k.instances = r.2 in
+      (free_is k.empty b q (record { folder = w.folder; instance = lowest (is_free q) w.folder 1 k.instances }) core r.0, ranged w.folder.mode p (lowest (is_free q) w.folder 1 k.instances) low (omega arith))
+    where
+      ranged : (mode : Mode) → is_private mode ≡ true → (n : ℕ) → 1 ≤ n → n ≤ 4096 → IsInstance mode n
+      ranged Shared e n low high = (let bad : false ≡ true = e in cc)
+      ranged Private e n low high = (low, high)
+      ranged Locked e n low high = (let bad : false ≡ true = e in cc)
+  by_kind b q w false core p left idle =
+      ((not_leased k.empty b q (only_slot w.folder) core idle, λ r. true_false (is_private w.folder.mode) r.0 p), zero_instance w.folder.mode p)
+    where
+      zero_instance : (mode : Mode) → is_private mode ≡ false → IsInstance mode 0
+      zero_instance Shared e = refl
+      zero_instance Private e = (let bad : true ≡ false = e in cc)
+      zero_instance Locked e = refl
+
+  met : (b : Machine) (q : Ledger) (ws : List Want) → Core k.empty b q → all_taken k.instances (is_free q) ws ≡ false → busy (is_leased q) ws ≡ false → (w : Want) → In w ws → IsMet b q w
+  met b q ws core taken idle w i =
+      by_kind b q w (is_private w.folder.mode) core refl
+      (any_none (λ (v : Want). is_private v.folder.mode && (eqb (lowest (is_free q) v.folder 1 k.instances) 0)) w ws taken i)
+      (any_none (λ (v : Want). not (is_private v.folder.mode) && some_lease q.live (only_slot v.folder)) w ws idle i)
+
+  abbrev slot_of : Ledger → Want → GrantedSlot
+  slot_of q w = granted_slot k.empty q.line (slot_for k.instances (is_free q) w, w.writable)
+
+  wants_back : (q : Ledger) (ws : List Want) → map want_of (map (granted_slot k.empty q.line) (map (λ (w : Want). (slot_for k.instances (is_free q) w, w.writable)) ws)) ≡ ws
+  wants_back q [] = refl
+  wants_back q (w ∷ ws) = (let rest = wants_back q ws in λ i. w ∷ rest i)
+
+  granted_from : (q : Ledger) (ws : List Want) (u : GrantedSlot) → In u (map (granted_slot k.empty q.line) (map (λ (w : Want). (slot_for k.instances (is_free q) w, w.writable)) ws)) → (w : Want) × In w ws × (u ≡ slot_of q w)
+  granted_from q ws u i =
+      let r = from_map (granted_slot k.empty q.line) u (map (λ (w : Want). (slot_for k.instances (is_free q) w, w.writable)) ws) i in
+      let o = from_map (λ (w : Want). (slot_for k.instances (is_free q) w, w.writable)) r.0 ws r.1 in
+      (o.0, o.1, r.2 ∙ ap (granted_slot k.empty q.line) o.2)
+
+  home_of : (o : Option NodeId) (n h : NodeId) → another o n ≡ false → o ≡ Some h → h ≡ n
+  home_of None n h e s = none_some h s
+  home_of (Some x) n h e s = (let same : x ≡ h = some_is x h s in node_is h n (eqb_is h.0 n.0 (subst (λ (z : NodeId). eqb z.0 n.0 ≡ true) same (not_false (eqb x.0 n.0) e))))
+
+  and_here : (a b : Bool) → a ≡ true → (a && b) ≡ false → b ≡ false
+  and_here a b e h = rw e at h
+
+  -- a grant goes on a machine with none of its ticket, and its lease is the last one
+  give_core : (b : Machine) (q : Ledger) (g : Grant) (h : Lease) (c : ℕ) → Sound k.empty b → Core k.empty b q → b.last < g.ticket.0 → lease_from g ≡ h → g.ticket.0 ≤ c
+      → Core k.empty (record b { made = Granted g ∷ b.made; last = g.ticket.0 }) (record q { live = q.live ++ h ∷ []; last = g.ticket.0; ceiling = c })
+  give_core b q g h c sound core lt is le =
+      let new : b.ending g.ticket.0 ≡ None = fresh k.empty b sound g.ticket.0 lt in
+      record {
+        live_made = λ x i. elim (in_append x q.live (h ∷ []) i) [
+          | inl j ↦ (let l = core.live_made x j in (l.0, (inr l.1.0, l.1.1), l.2))
+          | inr j ↦ (g, (inl refl, new), is ∙ sym (in_one x h j))
+        ];
+        live_kept = λ x l. elim l.0 [
+          | inl e ↦ (let e' : x ≡ g = cc in in_right (lease_from x) q.live (h ∷ []) (inl (ap lease_from e' ∙ is)))
+          | inr i ↦ in_left (lease_from x) q.live (h ∷ []) (core.live_kept x (i, l.1))
+        ];
+        retired_made = λ s e. (let r = core.retired_made s e in (r.0, (r.1.0, inr r.1.1, r.1.2, r.1.3)));
+        retired_kept = λ s r. elim r.1.1 [
+          | inl e ↦ (let e' : r.1.0 ≡ g = cc in none_some Withdrawn (sym new ∙ subst (λ (z : Grant). b.ending z.ticket.0 ≡ Some Withdrawn) e' r.1.2))
+          | inr i ↦ core.retired_kept s (r.0, (r.1.0, i, r.1.2, r.1.3))
+        ];
+        lines = λ s. core.lines s ∙ sym (ap (λ v. line k.empty b s ++ version_at s g.ticket v) new ∙ append-nil (line k.empty b s));
+        last = refl;
+        ceiling = le;
+        old_home = core.old_home;
+        gone = core.gone;
+        lives = core.lives;
+      }
+
+  raised_covers : (q : Ledger) → q.last ≤ q.ceiling → nat_lt q.last k.greatest ≡ true → q.last + 1 ≤ raised k q
+  raised_covers q le lt = grind (arith, nat_tests)
+
+  give_going : (p : Parked) (w : Work) → Going w → In (acquire p.node p.life p.ask p.wants p.tenure) pool → w.ledger.gone p.node.0 ≡ false → NoLease w.ledger.live p → decision k w.ledger p ≡ Give → Going (gives k p w)
+  unfolding decision gives
+  give_going p w going asked here none e =
+      let q : Ledger = w.ledger in
+      let b : Machine = going.machine in
+      let h : Lease = lease_for k q p in
+      let g : Grant = grant_of k.empty q.line h in
+      let ws : List Want = leased_wants p.tenure p.wants in
+      let picked = pick_give (elsewhere q p) (all_taken k.instances (is_free q) ws) (busy (is_leased q) ws) (not (nat_lt q.last k.greatest)) e in
+      let all = met b q ws going.core picked.left picked.idle in
+      let below : b.last < g.ticket.0 = (let l : q.last ≡ b.last = going.core.last in omega arith) in
+      let free : (u : GrantedSlot) → In u g.slots → Free b u.slot × Based k.empty b u =
+          λ u i. (let r = granted_from q ws u i in
+              let s : Slot = slot_for k.instances (is_free q) r.0 in
+              subst (λ (z : GrantedSlot). Free b z.slot × Based k.empty b z) (sym r.2)
+              ((all r.0 r.1).0, (ap length (going.core.lines s), subst (λ v. Names k.empty v (length (q.line s)) (last_digest k.empty (q.line s))) (going.core.lines s) (names_last k.empty (q.line s))))) in
+      let answers : Answers g p.wants = record {
+        shared = refl;
+        slots = wants_back q ws;
+        instances = λ u i. (let r = granted_from q ws u i in subst (λ (z : GrantedSlot). IsInstance z.slot.folder.mode z.slot.instance) (sym r.2) (all r.0 r.1).1);
+        tenure = sent.tenures p.node p.life p.ask p.wants p.tenure asked;
+      } in
+      let alone : (x : Grant) → Live b x → SameAsk g x → ⊥ = λ x l same. no_grant k.empty b q p going.core none x l (sym same.0, sym same.1, sym same.2) in
+      let home : g.tenure ≡ true → (x : NodeId) → b.old_home ≡ Some x → x ≡ g.node =
+          λ t x o. home_of q.old_home p.node x (and_here p.tenure (another q.old_home p.node) t picked.here) (going.core.old_home ∙ o) in
+      let next : Machine = record b { made = Granted g ∷ b.made; last = g.ticket.0 } in
+      let step : Step k.empty pool b next = Grants g p.wants asked answers (subst (λ z. z p.node.0 ≡ false) going.core.gone here) alone home below free in
+      let now = now_sound b w.sends going.works in
+      let new : b.ending g.ticket.0 ≡ None = fresh k.empty b now g.ticket.0 below in
+      record {
+        machine = next;
+        works = Speaks next w.sends (told.Granted g) (Goes_on b next w.sends going.works step) (Says_granted g (inl refl, new));
+        core = give_core b q g h (raised k q) now going.core below (lease-grant k.empty q.line h) (raised_covers q going.core.ceiling (not_false (nat_lt q.last k.greatest) picked.below));
+        parked = going.parked;
+      }
+
+  deny_going : (why : Why) (p : Parked) (w : Work) → Going w → In (acquire p.node p.life p.ask p.wants p.tenure) pool → Going (denies why p w)
+  deny_going why p w g asked = record {
+    machine = g.machine;
+    works = Speaks g.machine w.sends (told.Denied p.node p.life p.ask why) g.works (Says_denied p.node p.life p.ask why p.wants p.tenure asked);
+    core = g.core;
+    parked = g.parked;
+  }
+
+  carried_going : (d : Decision) (p : Parked) (w : Work) → Going w → In (acquire p.node p.life p.ask p.wants p.tenure) pool → w.ledger.gone p.node.0 ≡ false → NoLease w.ledger.live p → decision k w.ledger p ≡ d → Going (carried_out d k p w)
+  carried_going Give p w g asked here none e = give_going p w g asked here none e
+  carried_going (Deny why) p w g asked here none e = deny_going why p w g asked
+  carried_going Wait p w g asked here none e = g
+
+  tried_going : (p : Parked) (w : Work) → Going w → In (acquire p.node p.life p.ask p.wants p.tenure) pool → w.ledger.gone p.node.0 ≡ false → NoLease w.ledger.live p → Going (tried k p w)
+  unfolding tried
+  tried_going p w g asked here none = carried_going (decision k w.ledger p) p w g asked here none refl
+
+  -- ---- trying the parked asks
+
+  carried-gone : (d : Decision) (p : Parked) (w : Work) → (carried_out d k p w).ledger.gone ≡ w.ledger.gone
+  unfolding gives
+  carried-gone Give p w = refl
+  carried-gone (Deny why) p w = refl
+  carried-gone Wait p w = refl
+
+  tried-gone : (p : Parked) (w : Work) → (tried k p w).ledger.gone ≡ w.ledger.gone
+  unfolding tried
+  tried-gone p w = carried-gone (decision k w.ledger p) p w
+
+  carried-parked : (d : Decision) (p : Parked) (w : Work) → (carried_out d k p w).ledger.parked ≡ w.ledger.parked
+  unfolding gives
+  carried-parked Give p w = refl
+  carried-parked (Deny why) p w = refl
+  carried-parked Wait p w = refl
+
+  tried-parked : (p : Parked) (w : Work) → (tried k p w).ledger.parked ≡ w.ledger.parked
+  unfolding tried
+  tried-parked p w = carried-parked (decision k w.ledger p) p w
+
+  -- the leases after a try: as before, or with one of the ask at the end
+  carried_live : (d : Decision) (p : Parked) (w : Work) → ((carried_out d k p w).ledger.live ≡ w.ledger.live) ⊎ ((h : Lease) × (h.node ≡ p.node) × (h.life ≡ p.life) × (h.ask ≡ p.ask) × ((carried_out d k p w).ledger.live ≡ w.ledger.live ++ h ∷ []) × (d ≡ Give))
+  unfolding gives
+  carried_live Give p w = inr (lease_for k w.ledger p, refl, refl, refl, refl, refl)
+  carried_live (Deny why) p w = inl refl
+  carried_live Wait p w = inl refl
+
+  abbrev TriedLive : Parked → Work → Type 0
+  TriedLive p w = ((tried k p w).ledger.live ≡ w.ledger.live) ⊎ ((h : Lease) × (h.node ≡ p.node) × (h.life ≡ p.life) × (h.ask ≡ p.ask) × ((tried k p w).ledger.live ≡ w.ledger.live ++ h ∷ []) × (stays k p w ≡ false))
+
+  tried_live : (p : Parked) (w : Work) → TriedLive p w
+  unfolding tried stays
+  tried_live p w = elim (carried_live (decision k w.ledger p) p w) [ inl e ↦ inl e | inr r ↦ inr (r.0, r.1, r.2, r.3, r.4, ap waits r.5) ]
+
+  tried_waits : (p : Parked) (w : Work) (ps : List Parked) → is_parked ps p.node p.life p.ask ≡ false → Waits w.ledger.live ps → Waits (tried k p w).ledger.live ps
+  tried_waits p w ps other waiting = elim (tried_live p w) [
+    | inl e ↦ subst (λ l. Waits l ps) (sym e) waiting
+    | inr r ↦ subst (λ l. Waits l ps) (sym r.4) (waits_give w.ledger.live r.0 p ps r.1 r.2 r.3 other waiting)
+  ]
+
+  asked_later : (gone gone' : ℕ → Bool) (ps : List Parked) → gone' ≡ gone → AllAsked pool gone ps → AllAsked pool gone' ps
+  asked_later gone gone' ps e all p i = (let r = all p i in (r.0, subst (λ f. f p.node.0 ≡ false) (sym e) r.1))
+
+  try_going : (ps : List Parked) (w : Work) → Going w → AllAsked pool w.ledger.gone ps → Waits w.ledger.live ps → Going (try_all k ps w)
+  try_going [] w g asked waiting = g
+  try_going (p ∷ ps) w g asked waiting =
+      let a = asked p (inl refl) in
+      try_going ps (tried k p w) (tried_going p w g a.0 a.1 waiting.0)
+      (asked_later w.ledger.gone (tried k p w).ledger.gone ps (tried-gone p w) (λ q i. asked q (inr i)))
+      (tried_waits p w ps waiting.1 waiting.2)
+
+  try-gone : (ps : List Parked) (w : Work) → (try_all k ps w).ledger.gone ≡ w.ledger.gone
+  try-gone [] w = refl
+  try-gone (p ∷ ps) w = try-gone ps (tried k p w) ∙ tried-gone p w
+
+  try-parked : (ps : List Parked) (w : Work) → (try_all k ps w).ledger.parked ≡ w.ledger.parked
+  try-parked [] w = refl
+  try-parked (p ∷ ps) w = try-parked ps (tried k p w) ∙ tried-parked p w
+
+  -- an ask that is not tried has no lease where it had none
+  try_none : (ps : List Parked) (w : Work) (p : Parked) → is_parked ps p.node p.life p.ask ≡ false → NoLease w.ledger.live p → NoLease (try_all k ps w).ledger.live p
+  try_none [] w p other none = none
+  try_none (r ∷ ps) w p other none =
+      let o = or_false ((eqb r.node.0 p.node.0) && (eqb r.life.0 p.life.0) && (eqb r.ask.0 p.ask.0)) (is_parked ps p.node p.life p.ask) other in
+      try_none ps (tried k r w) p o.1 (elim (tried_live r w) [
+        | inl e ↦ subst (λ l. NoLease l p) (sym e) none
+        | inr x ↦ subst (λ l. NoLease l p) (sym x.4) (λ g i. elim (in_append g w.ledger.live (x.0 ∷ []) i) [
+          | inl j ↦ none g j
+          | inr j ↦ (let same : g ≡ x.0 = in_one g x.0 j in
+              let n : g.node ≡ r.node = ap (λ (z : Lease). z.node) same ∙ x.1 in
+              let l : g.life ≡ r.life = ap (λ (z : Lease). z.life) same ∙ x.2 in
+              let a : g.ask ≡ r.ask = ap (λ (z : Lease). z.ask) same ∙ x.3 in
+              subst (λ (z : NodeId). ((eqb z.0 p.node.0) && (eqb g.life.0 p.life.0) && (eqb g.ask.0 p.ask.0)) ≡ false) (sym n)
+              (subst (λ (z : Life). ((eqb r.node.0 p.node.0) && (eqb z.0 p.life.0) && (eqb g.ask.0 p.ask.0)) ≡ false) (sym l)
+              (subst (λ (z : Ask). ((eqb r.node.0 p.node.0) && (eqb r.life.0 p.life.0) && (eqb z.0 p.ask.0)) ≡ false) (sym a) o.0)))
+        ])
+      ])
+
+  waiting_in : (ps : List Parked) (w : Work) (p : Parked) → In p (waiting k ps w) → In p ps
+  waiting_in [] w p i = absurd i
+  waiting_in (r ∷ ps) w p i = elim (cases_bool (stays k r w)) [
+    | inl t ↦ elim (let j : In p (r ∷ waiting k ps (tried k r w)) = rw t at i in j) [ inl e ↦ inl e | inr j ↦ inr (waiting_in ps (tried k r w) p j) ]
+    | inr t ↦ inr (waiting_in ps (tried k r w) p (rw t at i))
+  ]
+
+  waiting_part : (ps : List Parked) (w : Work) → IsPartOf ps (waiting k ps w)
+  waiting_part [] w = Ends_part
+  waiting_part (r ∷ ps) w = elim (cases_bool (stays k r w)) [
+    | inl t ↦ rw t (Keeps r ps (waiting k ps (tried k r w)) (waiting_part ps (tried k r w)))
+    | inr t ↦ rw t (Leaves r ps (waiting k ps (tried k r w)) (waiting_part ps (tried k r w)))
+  ]
+
+  stays_none : (p : Parked) (w : Work) → stays k p w ≡ true → NoLease w.ledger.live p → NoLease (tried k p w).ledger.live p
+  stays_none p w t none = elim (tried_live p w) [
+    | inl e ↦ subst (λ l. NoLease l p) (sym e) none
+    | inr x ↦ true_false (stays k p w) t x.5
+  ]
+
+  waiting_waits : (ps : List Parked) (w : Work) → Waits w.ledger.live ps → Waits (try_all k ps w).ledger.live (waiting k ps w)
+  waiting_waits [] w h = tt
+  waiting_waits (p ∷ ps) w h =
+      let rest = waiting_waits ps (tried k p w) (tried_waits p w ps h.1 h.2) in
+      elim (cases_bool (stays k p w)) [
+        | inl t ↦ rw t (try_none ps (tried k p w) p h.1 (stays_none p w t h.0), parked_part ps (waiting k ps (tried k p w)) p.node p.life p.ask (waiting_in ps (tried k p w)) h.1, rest)
+        | inr t ↦ rw t rest
+      ]
+
+  pub retried_follows : (w : Work) → F w → F (retried k w)
+  unfolding retried
+  retried_follows w f =
+      let ps : List Parked = w.ledger.parked in
+      let g = try_going ps w (going w f) f.agrees.asked f.agrees.waits in
+      let stay : List Parked = waiting k ps w in
+      let part : IsPartOf g.machine.parked stay = subst (λ l. IsPartOf l stay) (sym (try-parked ps w) ∙ g.parked) (waiting_part ps w) in
+      let next : Machine = record g.machine { parked = stay } in
+      record {
+        machine = next;
+        works = Goes_on g.machine next (try_all k ps w).sends g.works (Unparks stay part);
+        agrees = agrees_from k.empty pool next (record (try_all k ps w).ledger { parked = stay })
+            (record { live_made = g.core.live_made; live_kept = g.core.live_kept; retired_made = g.core.retired_made; retired_kept = g.core.retired_kept; lines = g.core.lines; last = g.core.last; ceiling = g.core.ceiling; old_home = g.core.old_home; gone = g.core.gone; lives = g.core.lives })
+            refl
+            (asked_later w.ledger.gone (try_all k ps w).ledger.gone stay (try-gone ps w) (λ p i. f.agrees.asked p (waiting_in ps w p i)))
+            (waiting_waits ps w f.agrees.waits);
+      }
