@@ -39,24 +39,24 @@ pub part_refl : {A : Type 0} (xs : List A) → IsPartOf xs xs
 part_refl [] = Ends_part
 part_refl (x ∷ xs) = Keeps x xs xs (part_refl xs)
 
-part_filter : {A : Type 0} (test : A → Bool) (xs : List A) → IsPartOf xs (filter test xs)
+pub part_filter : {A : Type 0} (test : A → Bool) (xs : List A) → IsPartOf xs (filter test xs)
 part_filter test [] = Ends_part
 part_filter test (x ∷ xs) = elim (cases_bool (test x)) [
   | inl t ↦ rw t (Keeps x xs (filter test xs) (part_filter test xs))
   | inr t ↦ rw t (Leaves x xs (filter test xs) (part_filter test xs))
 ]
 
-part_none : {A : Type 0} (xs : List A) → IsPartOf xs []
+pub part_none : {A : Type 0} (xs : List A) → IsPartOf xs []
 part_none [] = Ends_part
 part_none (x ∷ xs) = Leaves x xs [] (part_none xs)
 
-slots_eq_is : (xs ys : List Slot) → slots_eq xs ys ≡ true → xs ≡ ys
+pub slots_eq_is : (xs ys : List Slot) → slots_eq xs ys ≡ true → xs ≡ ys
 slots_eq_is [] [] h = refl
 slots_eq_is [] (y ∷ ys) h = (let bad : false ≡ true = h in cc)
 slots_eq_is (x ∷ xs) [] h = (let bad : false ≡ true = h in cc)
 slots_eq_is (x ∷ xs) (y ∷ ys) h = (let b = and_both (slot_eq x y) (slots_eq xs ys) h in let p = slot_eq_is x y b.0 in let q = slots_eq_is xs ys b.1 in λ i. p i ∷ q i)
 
-slots_eq_same : (xs : List Slot) → slots_eq xs xs ≡ true
+pub slots_eq_same : (xs : List Slot) → slots_eq xs xs ≡ true
 slots_eq_same [] = refl
 slots_eq_same (x ∷ xs) = (let p = slot_eq_same x in let q = slots_eq_same xs in rw (p, q) refl)
 
@@ -84,7 +84,7 @@ module _ (k : Limits) (fits : k.instances ≤ 4096) (pool : List Message) (m : M
   abbrev pub F : Work → Type 0
   F w = Follows k.empty pool m w
 
-  now_sound : (b : Machine) (sends : List FromCoord) → Works k.empty pool m b sends → Sound k.empty b
+  pub now_sound : (b : Machine) (sends : List FromCoord) → Works k.empty pool m b sends → Sound k.empty b
   now_sound b sends works = (works_sound k.empty pool m b sends sound works).1
 
   -- ---- saying
@@ -98,7 +98,7 @@ module _ (k : Limits) (fits : k.instances ≤ 4096) (pool : List Message) (m : M
   live_of_lease : (w : Work) (f : F w) (h : Lease) → In h w.ledger.live → (g : Grant) × Live f.machine g × (lease_from g ≡ h)
   live_of_lease w f h i = f.agrees.live_made h i
 
-  grant_says : (w : Work) (f : F w) (h : Lease) → In h w.ledger.live → Says k.empty pool f.machine (told.Granted (grant_of k.empty w.ledger.line h))
+  pub grant_says : (w : Work) (f : F w) (h : Lease) → In h w.ledger.live → Says k.empty pool f.machine (told.Granted (grant_of k.empty w.ledger.line h))
   grant_says w f h i =
       let r = f.agrees.live_made h i in
       let core = core_of k.empty pool f.machine w.ledger f.agrees in
@@ -114,7 +114,7 @@ module _ (k : Limits) (fits : k.instances ≤ 4096) (pool : List Message) (m : M
     pub core : Core k.empty machine w.ledger
     pub parked : w.ledger.parked ≡ machine.parked
 
-  going : (w : Work) → F w → Going w
+  pub going : (w : Work) → F w → Going w
   going w f = record { machine = f.machine; works = f.works; core = core_of k.empty pool f.machine w.ledger f.agrees; parked = f.agrees.parked }
 
   -- a want that can be met
@@ -199,7 +199,7 @@ module _ (k : Limits) (fits : k.instances ≤ 4096) (pool : List Message) (m : M
   raised_covers : (q : Ledger) → q.last ≤ q.ceiling → nat_lt q.last k.greatest ≡ true → q.last + 1 ≤ raised k q
   raised_covers q le lt = grind (arith, nat_tests)
 
-  give_going : (p : Parked) (w : Work) → Going w → In (acquire p.node p.life p.ask p.wants p.tenure) pool → w.ledger.gone p.node.0 ≡ false → NoLease w.ledger.live p → decision k w.ledger p ≡ Give → Going (gives k p w)
+  pub give_going : (p : Parked) (w : Work) → Going w → In (acquire p.node p.life p.ask p.wants p.tenure) pool → w.ledger.gone p.node.0 ≡ false → NoLease w.ledger.live p → decision k w.ledger p ≡ Give → Going (gives k p w)
   unfolding decision gives
   give_going p w going asked here none e =
       let q : Ledger = w.ledger in
@@ -235,7 +235,7 @@ module _ (k : Limits) (fits : k.instances ≤ 4096) (pool : List Message) (m : M
         parked = going.parked;
       }
 
-  deny_going : (why : Why) (p : Parked) (w : Work) → Going w → In (acquire p.node p.life p.ask p.wants p.tenure) pool → Going (denies why p w)
+  pub deny_going : (why : Why) (p : Parked) (w : Work) → Going w → In (acquire p.node p.life p.ask p.wants p.tenure) pool → Going (denies why p w)
   deny_going why p w g asked = record {
     machine = g.machine;
     works = Speaks g.machine w.sends (told.Denied p.node p.life p.ask why) g.works (Says_denied p.node p.life p.ask why p.wants p.tenure asked);
@@ -294,7 +294,7 @@ module _ (k : Limits) (fits : k.instances ≤ 4096) (pool : List Message) (m : M
     | inr r ↦ subst (λ l. Waits l ps) (sym r.4) (waits_give w.ledger.live r.0 p ps r.1 r.2 r.3 other waiting)
   ]
 
-  asked_later : (gone gone' : ℕ → Bool) (ps : List Parked) → gone' ≡ gone → AllAsked pool gone ps → AllAsked pool gone' ps
+  pub asked_later : (gone gone' : ℕ → Bool) (ps : List Parked) → gone' ≡ gone → AllAsked pool gone ps → AllAsked pool gone' ps
   asked_later gone gone' ps e all p i = (let r = all p i in (r.0, subst (λ f. f p.node.0 ≡ false) (sym e) r.1))
 
   try_going : (ps : List Parked) (w : Work) → Going w → AllAsked pool w.ledger.gone ps → Waits w.ledger.live ps → Going (try_all k ps w)

@@ -8,3 +8,4 @@ mod Safety
 mod Bulk
 mod Leases
 mod Following
+mod Calls

@@ -1,0 +1,297 @@
+-- Each message and call of the coordinator follows the machine.
+use Rattle.std.proofs.Common.{◌≡◌, ◌≢◌, ℕ, zero, suc, ◌+◌, ◌<◌, ◌≤◌, List, [], ◌∷◌, ◌++◌, ◌⊎◌, min, Bool, true, false, not, ◌&&◌, ◌||◌, eqb, length, map, filter, Option, Some, None, slice_get, Result, Ok, Err, refl, sym, ◌∙◌, ap, subst, inl, inr, arith, append-nil}
+use Rattle.std.proofs.lemmas.Bool.Decides.{nat_tests}
+use Rattle.std.specs.List.{list_any, find}
+use Rattle.std.specs.Prelude.{⊤, nat_lt, is_some}
+use Rattle.protocol.specs.Lists.{In, put, is_nil}
+use Rattle.protocol.specs.Names.{Mode, Shared, Private, Locked, Slot, slot_eq, slots_eq, is_private, is_shared, wants_shared, only_slot, IsInstance, Digest, NodeId, Life, Ask, Ticket, Want, FolderName, leased_wants, any_shared, tenure_wants}
+use Rattle.protocol.specs.Machine.{Grant, GrantedSlot, News, Confirmed, LineVersion, Made, Granted, Pruned, Ending, Committed, Released, Withdrawn, Died, Message, Said, Told, ToCoord, FromCoord, Parked, Machine, Has, Live, Leased, Retired, Free, Based, Answers, SameAsk, want_of, line, line_of, version_at, version_of, digest_for, slots_of, Names, written, acquire, commit, release, WasHeard, MayEnd, cleared, IsPartOf, Ends_part, Keeps, Leaves, Step, Grants, Ends, Prunes, Sees, Retires, Parks, Unparks, Raises, Steps, No_step, One_more, Stands, Says, Says_granted, Says_committed, Says_fenced, Says_denied, Says_recall}
+use Rattle.farm_base.specs.declared.message.FromCoord.TheVariants as told
+use Rattle.farm_base.specs.declared.message.Request.{Request}
+use Rattle.farm_base.specs.declared.message.Request.TheVariants.{Hello, Acquire, Commit, Release}
+use Rattle.farm_base.specs.declared.message.Why.{Why}
+use Rattle.protocol.specs.declared.answer.CoordNote.{CoordNote}
+use Rattle.protocol.specs.declared.answer.CoordNote.TheVariants as note
+use Rattle.protocol.specs.declared.answer.CoordRefusal.{CoordRefusal}
+use Rattle.protocol.specs.Ledger.{Limits, Ledger, Work, Lease, begin_work, says, notes, has_slot, some_lease, is_leased, is_free, lowest, instance_for, slot_for, all_taken, busy, is_saved, writable_slots, last_digest, granted_slot, grant_of, Decision, Give, Deny, Wait, pick, another, elsewhere, decision, lease_for, raised, granting, gives, denies, carried_out, waits, tried, stays, try_all, waiting, parks, retried, is_of, lease_of, is_parked, holds_wanted, recall, recalls, decided, acquiring, has_ticket, lease_under, without, ends, commits, place, confirmed, versions_of, on_all, is_its, may_commit, may_release, confirms, answered, committing, released, answering, is_older, is_older_ask, sees, is_home, newer_life, handled, retires, withdraws, withdrawing, withdrawn, is_at, retire_all, goes, retired, prunes, pruned, is_awaited, nudges, nudge_all, nudged, reread}
+use Rattle.protocol.specs.Follows.{lease_from, NoLease, Waits, Agrees, Works, Begins_work, Goes_on, Speaks, Follows}
+use Rattle.protocol.proofs.Base.{cases_bool, cases_nat, cases_option, true_false, not_true, not_false, and_both, or_false, none_some, some_is, eqb_is, eqb_same, eqb_apart, eqb_not, slot_eq_same, slot_eq_is, slot_path, node_is, life_is, ask_is, ticket_is, in_map, from_map, any_in, from_any, any_none, in_filter, from_filter, in_append, in_left, in_right, in_one, get_in, put_same, put_other}
+use Rattle.protocol.proofs.Lines.{Lawful, line-end}
+use Rattle.protocol.proofs.Steps.{Sound, Later, later_refl, later_trans, step_sound, fresh, same_grant}
+use Rattle.protocol.proofs.Bulk.{EndsThose, end_those, Bare, ended_line, still_live, live_after, retired_before, retired_stays, retired_now}
+use Rattle.protocol.proofs.Leases.{Core, core_of, AllAsked, agrees_from, lease_has, has_lease, writable-from, names_last, grant-lease, lease-grant, not_leased, free_is, lowest_is, find_some, find_none, find_in, waits_give, waits_less, parked_part, waits_filter, waits_push, no_grant}
+
+use Rattle.protocol.proofs.Following.{works_sound, part_filter, part_none, slots_eq_is, slots_eq_same, Sent, F, notes_follows, says_follows, now_sound, grant_says, Going, going, give_going, deny_going, asked_later, retried_follows}
+
+-- ---- places on a line
+
+-- the version of a ticket stands where its place says
+place_stands : (t : Ticket) (vs : List LineVersion) (k : ℕ) (x : ℕ × Digest) → place t vs k ≡ Some x → (j : ℕ) × (x.0 ≡ k + j + 1) × (slice_get vs j ≡ Some (record { ticket = t; digest = x.1 }))
+place_stands t [] k x e = none_some x e
+place_stands t (v ∷ vs) k x e = elim (cases_bool (eqb v.ticket.0 t.0)) [
+  | inl b ↦ (let is : (k + 1, v.digest) ≡ x = some_is (k + 1, v.digest) x (rw b at e) in
+      let number : k + 1 ≡ x.0 = ap (λ (z : ℕ × Digest). z.0) is in
+      let digest : v.digest ≡ x.1 = ap (λ (z : ℕ × Digest). z.1) is in
+      let ticket : v.ticket ≡ t = ticket_is v.ticket t (eqb_is v.ticket.0 t.0 b) in
+      (0, omega arith, λ i. Some (record { ticket = ticket i; digest = digest i })))
+  | inr b ↦ (let r = place_stands t vs (k + 1) x (rw b at e) in
+      let at : x.0 ≡ k + 1 + r.0 + 1 = r.1 in
+      (suc r.0, omega arith, r.2))
+]
+
+place_found : (t : Ticket) (vs : List LineVersion) (k : ℕ) (v : LineVersion) → In v vs → v.ticket ≡ t → (x : ℕ × Digest) × (place t vs k ≡ Some x)
+place_found t [] k v i e = absurd i
+place_found t (u ∷ vs) k v i e = elim (cases_bool (eqb u.ticket.0 t.0)) [
+  | inl b ↦ ((k + 1, u.digest), rw b refl)
+  | inr b ↦ elim i [
+    | inl p ↦ (let same : u.ticket ≡ t = ap (λ (z : LineVersion). z.ticket) (sym p) ∙ e in
+        true_false (eqb u.ticket.0 t.0) (subst (λ (z : Ticket). eqb u.ticket.0 z.0 ≡ true) same (eqb_same u.ticket.0)) b)
+    | inr j ↦ (let r = place_found t vs (k + 1) v j e in (r.0, rw b r.1))
+  ]
+]
+
+some_test : {A : Type 0} (o : Option A) → is_some o ≡ true → (x : A) × (o ≡ Some x)
+some_test None h = (let bad : false ≡ true = h in cc)
+some_test (Some x) h = (x, refl)
+
+no_confirmed : {P : Type 0} (v : Confirmed) (vs : List Confirmed) → (v ∷ vs ≡ []) → P
+no_confirmed v vs e = cc
+
+is_nil_is : (news : List News) → is_nil news ≡ false → news ≢ []
+is_nil_is [] h = (let bad : true ≡ false = h in cc)
+is_nil_is (x ∷ xs) h = λ e. (let bad : x ∷ xs ≡ [] = e in cc)
+
+not_nil : (news : List News) → news ≢ [] → is_nil news ≡ false
+not_nil [] h = absurd (h refl)
+not_nil (x ∷ xs) h = refl
+
+module _ (empty : Digest) (m : Machine) (line' : Slot → List LineVersion) (lines : (s : Slot) → line' s ≡ line empty m s) (t : Ticket) where
+  confirmed_stands : (s : Slot) (o : Option (ℕ × Digest)) → place t (line' s) 0 ≡ o → (v : Confirmed) → In v (confirmed s o) → Stands empty m t v
+  confirmed_stands s None e v i = absurd i
+  confirmed_stands s (Some x) e v i =
+      let r = place_stands t (line' s) 0 x e in
+      let at : x.0 ≡ 0 + r.0 + 1 = r.1 in
+      let is : v ≡ record { slot = s; number = x.0; digest = x.1 } = in_one v (record { slot = s; number = x.0; digest = x.1 }) i in
+      subst (Stands empty m t) (sym is) (r.0, omega arith, subst (λ l. slice_get l r.0 ≡ Some (record { ticket = t; digest = x.1 })) (lines s) r.2)
+
+  versions_stand : (news : List News) (v : Confirmed) → In v (versions_of line' t news) → Stands empty m t v
+  versions_stand [] v i = absurd i
+  versions_stand (x ∷ xs) v i = elim (in_append v (confirmed x.slot (place t (line' x.slot) 0)) (versions_of line' t xs) i) [
+    | inl j ↦ confirmed_stands x.slot (place t (line' x.slot) 0) refl v j
+    | inr j ↦ versions_stand xs v j
+  ]
+
+  -- there is a version where the ticket is on the line of a slot
+  versions_some : (x : News) (xs : List News) → is_some (place t (line' x.slot) 0) ≡ true → versions_of line' t (x ∷ xs) ≢ []
+  versions_some x xs h e =
+      let r = some_test (place t (line' x.slot) 0) h in
+      no_confirmed (record { slot = x.slot; number = r.0.0; digest = r.0.1 }) (versions_of line' t xs)
+      (sym (ap (λ o. confirmed x.slot o ++ versions_of line' t xs) r.1) ∙ e)
+
+-- what is not on all lines
+all_on : (line' : Slot → List LineVersion) (t : Ticket) (news : List News) → ((x : News) → In x news → (v : LineVersion) × In v (line' x.slot) × (v.ticket ≡ t)) → on_all line' t news ≡ true
+all_on line' t [] h = refl
+all_on line' t (x ∷ xs) h =
+    let v = h x (inl refl) in
+    let found = place_found t (line' x.slot) 0 v.0 v.1 v.2 in
+    let here : is_some (place t (line' x.slot) 0) ≡ true = ap is_some found.1 in
+    rw here (all_on line' t xs (λ y i. h y (inr i)))
+
+digest_found : (x : News) (xs : List News) → (d : Digest) × (digest_for x.slot (x ∷ xs) ≡ Some d)
+digest_found x xs = (x.digest, (let e = slot_eq_same x.slot in rw e refl))
+
+bare_released : Bare Released
+bare_released s t = refl
+
+bare_withdrawn : Bare Withdrawn
+bare_withdrawn s t = refl
+
+bare_died : Bare Died
+bare_died s t = refl
+
+module _ (k : Limits) (fits : k.instances ≤ 4096) (pool : List Message) (m : Machine) (sound : Sound k.empty m) (sent : Sent pool m) where
+  abbrev Fo : Work → Type 0
+  Fo w = F k fits pool m sound sent w
+
+  abbrev core_at : (w : Work) (f : Fo w) → Core k.empty f.machine w.ledger
+  core_at w f = core_of k.empty pool f.machine w.ledger f.agrees
+
+  sound_at : (w : Work) (f : Fo w) → Sound k.empty f.machine
+  sound_at w f = now_sound k fits pool m sound sent f.machine w.sends f.works
+
+  retry : (w : Work) → Fo w → Fo (retried k w)
+  retry w f = retried_follows k fits pool m sound sent w f
+
+  note_it : (n : CoordNote) (w : Work) → Fo w → Fo (notes n w)
+  note_it n w f = notes_follows k fits pool m sound sent n w f
+
+  say_it : (y : FromCoord) (w : Work) (f : Fo w) → Says k.empty pool f.machine y → Fo (says y w)
+  say_it y w f may = says_follows k fits pool m sound sent y w f may
+
+  -- ---- Acquire
+
+  no_lease_from : (live : List Lease) (p : Parked) → lease_of live p.node p.life p.ask ≡ None → NoLease live p
+  no_lease_from live p e g i = find_none (is_of p.node p.life p.ask) live e g i
+
+  give_it : (p : Parked) (w : Work) → Fo w → In (acquire p.node p.life p.ask p.wants p.tenure) pool → w.ledger.gone p.node.0 ≡ false → NoLease w.ledger.live p → is_parked w.ledger.parked p.node p.life p.ask ≡ false → decision k w.ledger p ≡ Give → Fo (gives k p w)
+  unfolding gives
+  give_it p w f asked here none other e =
+      let g = give_going k fits pool m sound sent p w (going k fits pool m sound sent w f) asked here none e in
+      record {
+        machine = g.machine;
+        works = g.works;
+        agrees = agrees_from k.empty pool g.machine (gives k p w).ledger g.core g.parked f.agrees.asked
+            (waits_give w.ledger.live (lease_for k w.ledger p) p w.ledger.parked refl refl refl other f.agrees.waits);
+      }
+
+  recall_it : (p : Parked) (w : Work) (f : Fo w) (o : Option Lease) → find (holds_wanted p) w.ledger.live ≡ o → p.tenure ≡ true → Fo (recall o w)
+  recall_it p w f None e t = f
+  recall_it p w f (Some h) e t =
+      let r = find_some (holds_wanted p) w.ledger.live h e in
+      let g = f.agrees.live_made h r.0 in
+      let wanted = from_any (λ (v : Want). has_slot h.slots (only_slot v.folder)) (leased_wants p.tenure p.wants) r.1 in
+      let has : Has g.0 (only_slot wanted.0.folder) = has_lease g.0 (only_slot wanted.0.folder) (subst (λ (z : Lease). has_slot z.slots (only_slot wanted.0.folder) ≡ true) (sym g.2) wanted.2) in
+      let shared : is_shared wanted.0.folder.mode ≡ true = (from_filter wants_shared wanted.0 p.wants (subst (λ b. In wanted.0 (leased_wants b p.wants)) t wanted.1)).1 in
+      let tenure : g.0.tenure ≡ true = (sound_at w f).tenures g.0 (only_slot wanted.0.folder) g.1.0 has shared in
+      say_it (told.Recall h.node h.life h.ticket) w f (subst (λ (z : Lease). Says k.empty pool f.machine (told.Recall z.node z.life z.ticket)) g.2 (Says_recall g.0 g.1 tenure))
+
+  recalls_it : (b : Bool) (p : Parked) (w : Work) (f : Fo w) → (b ≡ true → p.tenure ≡ true) → Fo (recalls b p w)
+  recalls_it false p w f t = f
+  recalls_it true p w f t = recall_it p w f (find (holds_wanted p) w.ledger.live) refl (t refl)
+
+  recall-ledger : (o : Option Lease) (w : Work) → (recall o w).ledger ≡ w.ledger
+  recall-ledger None w = refl
+  recall-ledger (Some h) w = refl
+
+  recalls-ledger : (b : Bool) (p : Parked) (w : Work) → (recalls b p w).ledger ≡ w.ledger
+  recalls-ledger false p w = refl
+  recalls-ledger true p w = recall-ledger (find (holds_wanted p) w.ledger.live) w
+
+  -- an ask without a lease joins the parked ones
+  park_it : (p : Parked) (ps : List Parked) (w : Work) (f : Fo w) → w.ledger.parked ≡ ps → In (acquire p.node p.life p.ask p.wants p.tenure) pool → w.ledger.gone p.node.0 ≡ false → NoLease w.ledger.live p → is_parked ps p.node p.life p.ask ≡ false → Fo (parks (ps ++ p ∷ []) w)
+  park_it p ps w f same asked here none other =
+      let b : Machine = f.machine in
+      let at : b.parked ≡ ps = sym f.agrees.parked ∙ same in
+      let next : Machine = record b { parked = ps ++ p ∷ [] } in
+      let step : Step k.empty pool b next = subst (λ l. Step k.empty pool b (record b { parked = l ++ p ∷ [] })) at (Parks p asked (λ g l same. no_grant k.empty b w.ledger p (core_at w f) none g l same)) in
+      let core = core_at w f in
+      record {
+        machine = next;
+        works = Goes_on b next w.sends f.works step;
+        agrees = agrees_from k.empty pool next (record w.ledger { parked = ps ++ p ∷ [] })
+            (record { live_made = core.live_made; live_kept = core.live_kept; retired_made = core.retired_made; retired_kept = core.retired_kept; lines = core.lines; last = core.last; ceiling = core.ceiling; old_home = core.old_home; gone = core.gone; lives = core.lives })
+            refl
+            (λ q i. elim (in_append q ps (p ∷ []) i) [ inl j ↦ f.agrees.asked q (subst (In q) (sym same) j) | inr j ↦ subst (λ (z : Parked). In (acquire z.node z.life z.ask z.wants z.tenure) pool × (w.ledger.gone z.node.0 ≡ false)) (sym (in_one q p j)) (asked, here) ])
+            (waits_push w.ledger.live ps p (subst (Waits w.ledger.live) same f.agrees.waits) none other);
+      }
+
+  decided_it : (d : Decision) (p : Parked) (w : Work) (f : Fo w) → In (acquire p.node p.life p.ask p.wants p.tenure) pool → w.ledger.gone p.node.0 ≡ false → NoLease w.ledger.live p → is_parked w.ledger.parked p.node p.life p.ask ≡ false → decision k w.ledger p ≡ d → Fo (decided d k p w)
+  decided_it Give p w f asked here none other e = note_it (note.Granted (grant_of k.empty w.ledger.line (lease_for k w.ledger p))) (gives k p w) (give_it p w f asked here none other e)
+  decided_it (Deny why) p w f asked here none other e = note_it (note.Denied why) (denies why p w) (say_it (told.Denied p.node p.life p.ask why) w f (Says_denied p.node p.life p.ask why p.wants p.tenure asked))
+  decided_it Wait p w f asked here none other e =
+      let b : Bool = p.tenure && not (elsewhere w.ledger p) in
+      let v : Work = recalls b p w in
+      let same : v.ledger ≡ w.ledger = recalls-ledger b p w in
+      let g = recalls_it b p w f (λ t. (and_both p.tenure (not (elsewhere w.ledger p)) t).0) in
+      note_it note.Parked (parks (w.ledger.parked ++ p ∷ []) v)
+      (park_it p w.ledger.parked v g (ap (λ (z : Ledger). z.parked) same) asked (subst (λ (z : Ledger). z.gone p.node.0 ≡ false) (sym same) here) (subst (λ (z : Ledger). NoLease z.live p) (sym same) none) other)
+
+  acquiring_it : (o : Option Lease) (b : Bool) (p : Parked) (w : Work) (f : Fo w) → In (acquire p.node p.life p.ask p.wants p.tenure) pool → w.ledger.gone p.node.0 ≡ false → lease_of w.ledger.live p.node p.life p.ask ≡ o → is_parked w.ledger.parked p.node p.life p.ask ≡ b → Fo (acquiring k o b p w)
+  acquiring_it (Some h) b p w f asked here e i =
+      let r = find_some (is_of p.node p.life p.ask) w.ledger.live h e in
+      note_it (note.GrantedBefore (grant_of k.empty w.ledger.line h)) (says (told.Granted (grant_of k.empty w.ledger.line h)) w)
+      (say_it (told.Granted (grant_of k.empty w.ledger.line h)) w f (grant_says k fits pool m sound sent w f h r.0))
+  acquiring_it None true p w f asked here e i = note_it note.Parked w f
+  acquiring_it None false p w f asked here e i = decided_it (decision k w.ledger p) p w f asked here (no_lease_from w.ledger.live p e) i refl
+
+  -- ---- ends of leases
+
+  abbrev picks : (Lease → Bool) → Grant → Bool
+  picks test g = test (lease_from g)
+
+  -- the ledger without the leases that `test` picks, whose grants all end so, without a version
+  bulk_core : (test : Lease → Bool) (y : Ending) (b : Machine) (q : Ledger) (e : ℕ → Option Ending) (retired' : Slot → Bool) → Sound k.empty b → Core k.empty b q → EndsThose b.ending e (picks test) y b.made → Bare y
+      → ((s : Slot) → retired' s ≡ true → Retired (record b { ending = e }) s) → ((s : Slot) → Retired (record b { ending = e }) s → retired' s ≡ true)
+      → Core k.empty (record b { ending = e }) (record q { live = filter (λ h. not (test h)) q.live; retired = retired' })
+  bulk_core test y b q e retired' sound core ends bare made kept = record {
+    live_made = λ h i. (let r = from_filter (λ (z : Lease). not (test z)) h q.live i in
+        let g = core.live_made h r.0 in
+        (g.0, live_after k.empty b sound e (picks test) y ends g.0 g.1 (subst (λ z. test z ≡ false) (sym g.2) (not_true (test h) r.1)), g.2));
+    live_kept = λ g l. (let r = still_live k.empty b sound e (picks test) y ends g l in
+        in_filter (λ (z : Lease). not (test z)) (lease_from g) q.live (core.live_kept g r.0) (ap not r.1));
+    retired_made = made;
+    retired_kept = kept;
+    lines = λ s. core.lines s ∙ sym (ended_line k.empty b sound e (picks test) y ends bare s);
+    last = core.last;
+    ceiling = core.ceiling;
+    old_home = core.old_home;
+    gone = core.gone;
+    lives = core.lives;
+  }
+
+  end_all : (test : Lease → Bool) (y : Ending) (w : Work) (f : Fo w) → ((e : ℕ → Option Ending) (g : Grant) → In (Granted g) f.machine.made → picks test g ≡ true → MayEnd pool (record f.machine { ending = e }) g y)
+      → (e : ℕ → Option Ending) × Works k.empty pool m (record f.machine { ending = e }) w.sends × EndsThose f.machine.ending e (picks test) y f.machine.made
+  end_all test y w f may = end_those k.empty pool m f.machine w.sends f.works (picks test) y may f.machine.made (λ x i. i)
+
+  less_live : (test : Lease → Bool) (live : List Lease) (g : Lease) → In g (filter (λ h. not (test h)) live) → In g live
+  less_live test live g i = (from_filter (λ (h : Lease). not (test h)) g live i).0
+
+  -- an end that retires nothing
+  plain_ends : (test : Lease → Bool) (y : Ending) (changed : Bool) (w : Work) (f : Fo w) → Bare y → y ≢ Withdrawn
+      → ((e : ℕ → Option Ending) (g : Grant) → In (Granted g) f.machine.made → picks test g ≡ true → MayEnd pool (record f.machine { ending = e }) g y)
+      → Fo (record w { ledger = record w.ledger { live = filter (λ h. not (test h)) w.ledger.live }; changed = changed })
+  plain_ends test y changed w f bare other may =
+      let r = end_all test y w f may in
+      let b : Machine = f.machine in
+      let sound' = sound_at w f in
+      let core = core_at w f in
+      record {
+        machine = record b { ending = r.0 };
+        works = r.1;
+        agrees = agrees_from k.empty pool (record b { ending = r.0 }) (record w.ledger { live = filter (λ h. not (test h)) w.ledger.live })
+            (bulk_core test y b w.ledger r.0 w.ledger.retired sound' core r.2 bare
+            (λ s t. retired_stays k.empty b sound' r.0 (picks test) y r.2 s (core.retired_made s t))
+            (λ s t. elim (retired_before k.empty b sound' r.0 (picks test) y r.2 s t) [ inl old ↦ core.retired_kept s old | inr new ↦ absurd (other new.0) ]))
+            f.agrees.parked f.agrees.asked
+            (waits_less w.ledger.live (filter (λ h. not (test h)) w.ledger.live) w.ledger.parked (less_live test w.ledger.live) f.agrees.waits);
+      }
+
+  -- withdrawals, which retire the PRIVATE slots
+  withdrawn_ends : (test : Lease → Bool) (changed : Bool) (retired' : Slot → Bool) (w : Work) (f : Fo w) → ((g : Grant) → Live f.machine g → picks test g ≡ true → g.tenure ≡ false)
+      → ((s : Slot) → retired' s ≡ true → (w.ledger.retired s ≡ true) ⊎ ((is_private s.folder.mode ≡ true) × ((h : Lease) × In h w.ledger.live × (test h ≡ true) × (has_slot h.slots s ≡ true))))
+      → ((s : Slot) → w.ledger.retired s ≡ true → retired' s ≡ true)
+      → ((s : Slot) (h : Lease) → is_private s.folder.mode ≡ true → In h w.ledger.live → test h ≡ true → has_slot h.slots s ≡ true → retired' s ≡ true)
+      → Fo (record w { ledger = record w.ledger { live = filter (λ h. not (test h)) w.ledger.live; retired = retired' }; changed = changed })
+  withdrawn_ends test changed retired' w f plain made old new =
+      let b : Machine = f.machine in
+      let sound' = sound_at w f in
+      let core = core_at w f in
+      let tenure_free : (g : Grant) → Live b g → picks test g ≡ true → g.tenure ≡ false = plain in
+      let r = end_live_withdrawn b (picks test) w.sends f.works tenure_free in
+      record {
+        machine = record b { ending = r.0 };
+        works = r.1;
+        agrees = agrees_from k.empty pool (record b { ending = r.0 }) (record w.ledger { live = filter (λ h. not (test h)) w.ledger.live; retired = retired' })
+            (bulk_core test Withdrawn b w.ledger r.0 retired' sound' core r.2 bare_withdrawn
+            (λ s t. elim (made s t) [
+              | inl was ↦ retired_stays k.empty b sound' r.0 (picks test) Withdrawn r.2 s (core.retired_made s was)
+              | inr h ↦ (let g = core.live_made h.1.0 h.1.1 in
+                  retired_now k.empty b sound' r.0 (picks test) Withdrawn r.2 g.0 s refl g.1 (subst (λ z. test z ≡ true) (sym g.2) h.1.2) (has_lease g.0 s (subst (λ (z : Lease). has_slot z.slots s ≡ true) (sym g.2) h.1.3)) h.0)
+            ])
+            (λ s t. elim (retired_before k.empty b sound' r.0 (picks test) Withdrawn r.2 s t) [
+              | inl was ↦ old s (core.retired_kept s was)
+              | inr g ↦ new s (lease_from g.1.0) g.1.4 (core.live_kept g.1.0 g.1.1) g.1.2 (lease_has g.1.0 s g.1.3)
+            ]))
+            f.agrees.parked f.agrees.asked
+            (waits_less w.ledger.live (filter (λ h. not (test h)) w.ledger.live) w.ledger.parked (less_live test w.ledger.live) f.agrees.waits);
+      }
+    where
+      -- only live grants are ended, and none of these is a tenure
+      end_live_withdrawn : (b : Machine) (test : Grant → Bool) (sends : List FromCoord) → Works k.empty pool m b sends → ((g : Grant) → Live b g → test g ≡ true → g.tenure ≡ false)
+          → (e : ℕ → Option Ending) × Works k.empty pool m (record b { ending = e }) sends × EndsThose b.ending e test Withdrawn b.made
+      end_live_withdrawn b test sends works plain =
+          let r = end_those k.empty pool m b sends works (λ g. test g && not g.tenure) Withdrawn (λ e g i t. not_true g.tenure (and_both (test g) (not g.tenure) t).1) b.made (λ x i. i) in
+          (r.0, r.1, record {
+            done = λ g i t e. (let free : g.tenure ≡ false = plain g (i, e) t in r.2.done g i (rw (t, free) refl) e);
+            only = λ t. elim (r.2.only t) [ inl e ↦ inl e | inr q ↦ inr (q.0, q.1, (and_both (test q.0) (not q.0.tenure) q.2).0, q.3, q.4, q.5) ];
+          })
