@@ -79,8 +79,8 @@ unfolding encode_with
 encode-lacks c no_digit [] h = Lacks-nil c
 encode-lacks c no_digit (x ∷ xs) h =
     let fits : x < 256 = h 0 in
-    let high : get_or lower_digits (x / 16) 0 ≢ c = λ e. (let d = IsDigits-lower_digits (x / 16) (omega arith) in let n = ap hex_digit_value e in cc (d, n, no_digit)) in
-    let low : get_or lower_digits (x % 16) 0 ≢ c = λ e. (let d = IsDigits-lower_digits (x % 16) (omega arith) in let n = ap hex_digit_value e in cc (d, n, no_digit)) in
+    let high : get_or lower_digits (x / 16) 0 ≢ c = λ e. (let d = IsDigits-lower_digits (x / 16) (omega arith) in cc (d, no_digit)) in
+    let low : get_or lower_digits (x % 16) 0 ≢ c = λ e. (let d = IsDigits-lower_digits (x % 16) (omega arith) in cc (d, no_digit)) in
     let rest = encode-lacks c no_digit xs (λ i. h (suc i)) in
     Lacks-cons c (get_or lower_digits (x / 16) 0) (get_or lower_digits (x % 16) 0 ∷ encode_lower xs) high (Lacks-cons c (get_or lower_digits (x % 16) 0) (encode_lower xs) low rest)
 
