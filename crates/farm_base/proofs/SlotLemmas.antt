@@ -1,8 +1,6 @@
 -- Texts of slots.
-use Rattle.std.proofs.Common.{◌≡◌, ◌≢◌, ℕ, Bool, true, ◌&&◌, eqb, List, [], ◌∷◌, ◌++◌, Option, Some, None, refl, sym, ap, ◌∙◌, subst, arith}
-use Rattle.std.specs.Prelude.{decimal, not}
-use Rattle.std.proofs.lemmas.Bool.{and_parts}
-use Rattle.std.proofs.lemmas.Bool.Decides.{nat_tests}
+use Rattle.std.proofs.Common.{◌≡◌, ℕ, List, ◌∷◌, ◌++◌, Option, Some, None, refl, sym, ap, ◌∙◌, subst, arith}
+use Rattle.std.specs.Prelude.{decimal}
 use Rattle.std.proofs.lemmas.List.{append-nil}
 use Rattle.std.proofs.lemmas.Fmt.{decimal_injective}
 use Rattle.farm_base.specs.declared.folder.Mode.{Mode}
@@ -14,19 +12,8 @@ use Rattle.farm_base.specs.Digests.{key_text}
 use Rattle.farm_base.specs.Escapes.{id_text}
 use Rattle.farm_base.specs.Slots.{SlotParts, IsInstance}
 use Rattle.farm_base.specs.Names.{mode_text, output_text, base_text, folder_text, instance_text, slot_text, IsBase, IsName, IsSlot}
+use Rattle.farm_base.proofs.TextLemmas.{Lacks-from_test}
 use Rattle.farm_base.proofs.NameLemmas.{Lacks-nil, Lacks-cons, Lacks-append, Lacks-middle, split_same, key-lacks, decimal-lacks, id-lacks, hash_mark, mode_same}
-
--- a test of a text for a byte, which computes
-abbrev none_of : ℕ → List ℕ → Bool
-none_of c [] = true
-none_of c (x ∷ xs) = not (eqb x c) && none_of c xs
-
-Lacks-from_test : (c : ℕ) (xs : List ℕ) → none_of c xs ≡ true → Lacks c xs
-Lacks-from_test c [] h = Lacks-nil c
-Lacks-from_test c (x ∷ xs) h =
-    let parts = and_parts (not (eqb x c)) (none_of c xs) h in
-    let differ : x ≢ c = λ e. (let p = parts.0 in grind (arith, nat_tests)) in
-    Lacks-cons c x xs differ (Lacks-from_test c xs parts.1)
 
 mode-lacks_hash : (m : Mode) → Lacks 35 (mode_text m)
 mode-lacks_hash Shared = Lacks-from_test 35 (mode_text Shared) refl

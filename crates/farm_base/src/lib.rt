@@ -6,20 +6,26 @@ mod digest;
 mod escape;
 mod folder;
 mod items;
+mod laws;
 mod lease;
 mod message;
 mod name;
 mod number;
-mod reading;
+pub mod reading;
 mod refusal;
 mod slot;
 mod text;
 mod want;
 
 pub use copied::Copied;
-pub use digest::{BadDigestText, Digest, Key};
+pub use digest::{BadDigestText, Digest, Key, are_bytes};
 pub use folder::{Base, FolderName, Index, Mode};
 pub use items::Items;
+pub use laws::{
+    equal_digests_are_one, equal_names_are_one, equal_slots_are_one, equal_versions_are_one,
+    folders_are_ordered, is_name, is_slot, names_equal_themselves, one_digest_per_text,
+    one_folder_per_text, one_key_per_text, one_slot_per_text, slots_are_ordered,
+};
 pub use lease::{Lease, Parked};
 pub use message::{
     Confirmed, Fetch, FromCoord, Grant, GrantedSlot, LineVersion, News, Request, ToCoord, Version,

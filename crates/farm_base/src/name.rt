@@ -6,8 +6,6 @@ ghost use Rattle.farm_base.specs.Slots.{IsInstance, SlotParts};
 ghost use Rattle.farm_base.specs.declared.folder.Base.{Base};
 ghost use Rattle.farm_base.specs.declared.folder.FolderName.{FolderName};
 ghost use Rattle.farm_base.specs.declared.folder.Mode.{Mode};
-ghost use Rattle.std.specs.Prelude.{true};
-ghost use Rattle.farm_base.specs.Folders.{folder_eq};
 
 use super::digest::{Key, lower_digits};
 use super::escape::{id_of, push_id};
@@ -175,13 +173,3 @@ impl Slot {
         Ok(text)
     }
 }
-
-/// No two folder names have one text.
-pub fn one_folder_per_text()
-    ensures { (f g : FolderName) → IsName f → IsName g → folder_text f ≡ folder_text g → f ≡ g }
-{}
-
-/// Two folder names are equal where `==` says so.
-pub fn equal_names_are_one()
-    ensures { (f g : FolderName) → folder_eq f g ≡ true → f ≡ g }
-{}

@@ -1,0 +1,8 @@
+-- What a version of a slot holds: any bytes, known by their digest.
+use Rattle.std.specs.Prelude.{ℕ, List}
+use Rattle.sha2.specs.Sha256.{sha256}
+use Rattle.farm_base.specs.declared.digest.Digest.{Digest}
+
+-- the digest of a content: SHA-256, as FIPS 180-4 defines it in section 6.2, of its bytes
+abbrev pub content_digest : List ℕ → Digest
+content_digest bytes = record { 0 = sha256 bytes }

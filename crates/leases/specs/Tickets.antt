@@ -1,0 +1,17 @@
+-- Where tickets come from.
+use Rattle.std.specs.Prelude.{ℕ, ◌+◌, ◌==◌, if◌then◌else◌, min}
+
+-- what a contract sees of a ticket source
+pub record Tickets : Type 0 where
+  -- the ticket that was given last, or the one after which it began
+  pub position : ℕ
+  -- the last ticket of the block that is saved
+  pub ceiling : ℕ
+
+-- the ceiling that the next ticket needs: at the ceiling a block of 64 tickets is added, up to 2 ^ 64 - 1
+abbrev pub raised : Tickets → ℕ
+raised t = if t.position == t.ceiling then min (t.ceiling + 64) 0xffff_ffff_ffff_ffff else t.ceiling
+
+-- after the next ticket
+abbrev pub advanced : Tickets → Tickets
+advanced t = record { position = t.position + 1; ceiling = raised t }

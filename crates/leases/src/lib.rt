@@ -1,0 +1,6 @@
+//! Tickets, and the leases that they number.
+#![tactic(auto)]
+
+mod ticket_source;
+
+pub use ticket_source::{TicketSource, TicketsSpent};

@@ -1,0 +1,6 @@
+//! The line of versions of one slot.
+#![tactic(auto)]
+
+mod line;
+
+pub use line::Line;
