@@ -110,22 +110,22 @@ bare_died : Bare Died
 bare_died s t = refl
 
 module _ (k : Limits) (fits : k.instances ≤ 4096) (pool : List Message) (m : Machine) (sound : Sound k.empty m) (sent : Sent pool m) where
-  abbrev Fo : Work → Type 0
+  abbrev pub Fo : Work → Type 0
   Fo w = F k fits pool m sound sent w
 
-  abbrev core_at : (w : Work) (f : Fo w) → Core k.empty f.machine w.ledger
+  abbrev pub core_at : (w : Work) (f : Fo w) → Core k.empty f.machine w.ledger
   core_at w f = core_of k.empty pool f.machine w.ledger f.agrees
 
-  sound_at : (w : Work) (f : Fo w) → Sound k.empty f.machine
+  pub sound_at : (w : Work) (f : Fo w) → Sound k.empty f.machine
   sound_at w f = now_sound k fits pool m sound sent f.machine w.sends f.works
 
-  retry : (w : Work) → Fo w → Fo (retried k w)
+  pub retry : (w : Work) → Fo w → Fo (retried k w)
   retry w f = retried_follows k fits pool m sound sent w f
 
-  note_it : (n : CoordNote) (w : Work) → Fo w → Fo (notes n w)
+  pub note_it : (n : CoordNote) (w : Work) → Fo w → Fo (notes n w)
   note_it n w f = notes_follows k fits pool m sound sent n w f
 
-  say_it : (y : FromCoord) (w : Work) (f : Fo w) → Says k.empty pool f.machine y → Fo (says y w)
+  pub say_it : (y : FromCoord) (w : Work) (f : Fo w) → Says k.empty pool f.machine y → Fo (says y w)
   say_it y w f may = says_follows k fits pool m sound sent y w f may
 
   -- ---- Acquire
@@ -206,7 +206,7 @@ module _ (k : Limits) (fits : k.instances ≤ 4096) (pool : List Message) (m : M
 
   -- ---- ends of leases
 
-  abbrev picks : (Lease → Bool) → Grant → Bool
+  abbrev pub picks : (Lease → Bool) → Grant → Bool
   picks test g = test (lease_from g)
 
   -- the ledger without the leases that `test` picks, whose grants all end so, without a version
@@ -233,11 +233,11 @@ module _ (k : Limits) (fits : k.instances ≤ 4096) (pool : List Message) (m : M
       → (e : ℕ → Option Ending) × Works k.empty pool m (record f.machine { ending = e }) w.sends × EndsThose f.machine.ending e (picks test) y f.machine.made
   end_all test y w f may = end_those k.empty pool m f.machine w.sends f.works (picks test) y may f.machine.made (λ x i. i)
 
-  less_live : (test : Lease → Bool) (live : List Lease) (g : Lease) → In g (filter (λ h. not (test h)) live) → In g live
+  pub less_live : (test : Lease → Bool) (live : List Lease) (g : Lease) → In g (filter (λ h. not (test h)) live) → In g live
   less_live test live g i = (from_filter (λ (h : Lease). not (test h)) g live i).0
 
   -- an end that retires nothing
-  plain_ends : (test : Lease → Bool) (y : Ending) (changed : Bool) (w : Work) (f : Fo w) → Bare y → y ≢ Withdrawn
+  pub plain_ends : (test : Lease → Bool) (y : Ending) (changed : Bool) (w : Work) (f : Fo w) → Bare y → y ≢ Withdrawn
       → ((e : ℕ → Option Ending) (g : Grant) → In (Granted g) f.machine.made → picks test g ≡ true → MayEnd pool (record f.machine { ending = e }) g y)
       → Fo (record w { ledger = record w.ledger { live = filter (λ h. not (test h)) w.ledger.live }; changed = changed })
   plain_ends test y changed w f bare other may =
@@ -257,7 +257,7 @@ module _ (k : Limits) (fits : k.instances ≤ 4096) (pool : List Message) (m : M
       }
 
   -- withdrawals, which retire the PRIVATE slots
-  withdrawn_ends : (test : Lease → Bool) (changed : Bool) (retired' : Slot → Bool) (w : Work) (f : Fo w) → ((g : Grant) → Live f.machine g → picks test g ≡ true → g.tenure ≡ false)
+  pub withdrawn_ends : (test : Lease → Bool) (changed : Bool) (retired' : Slot → Bool) (w : Work) (f : Fo w) → ((g : Grant) → Live f.machine g → picks test g ≡ true → g.tenure ≡ false)
       → ((s : Slot) → retired' s ≡ true → (w.ledger.retired s ≡ true) ⊎ ((is_private s.folder.mode ≡ true) × ((h : Lease) × In h w.ledger.live × (test h ≡ true) × (has_slot h.slots s ≡ true))))
       → ((s : Slot) → w.ledger.retired s ≡ true → retired' s ≡ true)
       → ((s : Slot) (h : Lease) → is_private s.folder.mode ≡ true → In h w.ledger.live → test h ≡ true → has_slot h.slots s ≡ true → retired' s ≡ true)
@@ -295,3 +295,157 @@ module _ (k : Limits) (fits : k.instances ≤ 4096) (pool : List Message) (m : M
             done = λ g i t e. (let free : g.tenure ≡ false = plain g (i, e) t in r.2.done g i (rw (t, free) refl) e);
             only = λ t. elim (r.2.only t) [ inl e ↦ inl e | inr q ↦ inr (q.0, q.1, (and_both (test q.0) (not q.0.tenure) q.2).0, q.3, q.4, q.5) ];
           })
+
+  -- ---- Commit and Release
+
+  pub lease_of_ticket : (w : Work) (f : Fo w) (t : Ticket) (h : Lease) → lease_under w.ledger.live t ≡ Some h → In h w.ledger.live × (h.ticket ≡ t)
+  lease_of_ticket w f t h e = (let r = find_some (has_ticket t) w.ledger.live h e in (r.0, ticket_is h.ticket t (eqb_is h.ticket.0 t.0 r.1)))
+
+  its_is : (n : NodeId) (l : Life) (h : Lease) → is_its n l h ≡ true → (h.node ≡ n) × (h.life ≡ l)
+  its_is n l h e = (let b = and_both (eqb h.node.0 n.0) (eqb h.life.0 l.0) e in (node_is h.node n (eqb_is h.node.0 n.0 b.0), life_is h.life l (eqb_is h.life.0 l.0 b.1)))
+
+  -- a grant of the ticket that a message of a node names is that node's
+  pub same_ticket : (b : Machine) (g h : Grant) → Sound k.empty b → Live b g → Live b h → g.ticket ≡ h.ticket → g ≡ h
+  same_ticket b g h s l l' e = same_grant k.empty b s g h l.0 l'.0 (ap (λ (t : Ticket). t.0) e)
+
+  -- the lease ends Committed, and each line gets its version
+  commit_it : (n : NodeId) (l : Life) (t : Ticket) (news : List News) (w : Work) (f : Fo w) (h : Lease) → In (commit n l t news) pool → lease_under w.ledger.live t ≡ Some h → may_commit n l news (Some h) ≡ true → Fo (commits t news w)
+  commit_it n l t news w f h asked e may =
+      let r = lease_of_ticket w f t h e in
+      let g = f.agrees.live_made h r.0 in
+      let b1 = and_both (is_its n l h && slots_eq (slots_of news) (writable_slots h.slots)) (not (is_nil news)) may in
+      let b2 = and_both (is_its n l h) (slots_eq (slots_of news) (writable_slots h.slots)) b1.0 in
+      let its = its_is n l h b2.0 in
+      let ticket : g.0.ticket ≡ t = ap (λ (z : Lease). z.ticket) g.2 ∙ r.1 in
+      let node : g.0.node ≡ n = ap (λ (z : Lease). z.node) g.2 ∙ its.0 in
+      let life : g.0.life ≡ l = ap (λ (z : Lease). z.life) g.2 ∙ its.1 in
+      let slots : slots_of news ≡ written g.0.slots =
+          slots_eq_is (slots_of news) (writable_slots h.slots) b2.1 ∙ ap (λ (z : Lease). writable_slots z.slots) (sym g.2) ∙ writable-from g.0.slots in
+      let message : In (commit g.0.node g.0.life g.0.ticket news) pool =
+          subst (λ (z : NodeId). In (commit z g.0.life g.0.ticket news) pool) (sym node) (subst (λ (z : Life). In (commit n z g.0.ticket news) pool) (sym life) (subst (λ (z : Ticket). In (commit n l z news) pool) (sym ticket) asked)) in
+      let b : Machine = f.machine in
+      let core = core_at w f in
+      let sound' = sound_at w f in
+      let y : Ending = Committed news in
+      let next : Machine = record b { ending = put g.0.ticket.0 (Some y) b.ending } in
+      let step : Step k.empty pool b next = Ends g.0 y g.1 (message, slots, is_nil_is news (not_true (is_nil news) b1.1)) in
+      let other : (x : Grant) → Live b x → has_ticket t (lease_from x) ≡ false → x.ticket.0 ≢ g.0.ticket.0 =
+          λ x lx free q. eqb_not x.ticket.0 t.0 free (q ∙ ap (λ (z : Ticket). z.0) ticket) in
+      record {
+        machine = next;
+        works = Goes_on b next w.sends f.works step;
+        agrees = agrees_from k.empty pool next (commits t news w).ledger
+            (record {
+              live_made = λ x i. (let q = from_filter (λ (z : Lease). not (has_ticket t z)) x w.ledger.live i in
+                  let o = core.live_made x q.0 in
+                  let free : has_ticket t (lease_from o.0) ≡ false = subst (λ z. has_ticket t z ≡ false) (sym o.2) (not_true (has_ticket t x) q.1) in
+                  (o.0, (o.1.0, put_other g.0.ticket.0 (Some y) b.ending o.0.ticket.0 (other o.0 o.1 free) ∙ o.1.1), o.2));
+              live_kept = λ x lx. elim (cases_nat x.ticket.0 g.0.ticket.0) [
+                | inl q ↦ none_some y (sym lx.1 ∙ ap (put g.0.ticket.0 (Some y) b.ending) q ∙ put_same g.0.ticket.0 (Some y) b.ending)
+                | inr ne ↦ (let was : Live b x = (lx.0, sym (put_other g.0.ticket.0 (Some y) b.ending x.ticket.0 ne) ∙ lx.1) in
+                    in_filter (λ (z : Lease). not (has_ticket t z)) (lease_from x) w.ledger.live (core.live_kept x was)
+                    (ap not (eqb_apart x.ticket.0 t.0 (λ q. ne (q ∙ sym (ap (λ (z : Ticket). z.0) ticket))))))
+              ];
+              retired_made = λ s i. (let o = core.retired_made s i in
+                  (o.0, (o.1.0, o.1.1, elim (cases_nat o.1.0.ticket.0 g.0.ticket.0) [
+                    | inl q ↦ none_some Withdrawn (sym g.1.1 ∙ sym (ap b.ending q) ∙ o.1.2)
+                    | inr ne ↦ put_other g.0.ticket.0 (Some y) b.ending o.1.0.ticket.0 ne ∙ o.1.2
+                  ], o.1.3)));
+              retired_kept = λ s o. core.retired_kept s (o.0, (o.1.0, o.1.1, elim (cases_nat o.1.0.ticket.0 g.0.ticket.0) [
+                | inl q ↦ (let bad : Some y ≡ Some Withdrawn = sym (put_same g.0.ticket.0 (Some y) b.ending) ∙ sym (ap (put g.0.ticket.0 (Some y) b.ending) q) ∙ o.1.2 in absurd (wrong (some_is y Withdrawn bad)))
+                | inr ne ↦ sym (put_other g.0.ticket.0 (Some y) b.ending o.1.0.ticket.0 ne) ∙ o.1.2
+              ], o.1.3));
+              lines = λ s. ap (λ v. v ++ version_of t (digest_for s news)) (core.lines s)
+                  ∙ ap (λ z. line k.empty b s ++ version_of z (digest_for s news)) (sym ticket)
+                  ∙ sym (line-end k.empty s b.ending g.0 y b.made (b.last + 1) sound'.order sound'.apart sound'.laws slots g.1.1 g.1.0);
+              last = core.last;
+              ceiling = core.ceiling;
+              old_home = core.old_home;
+              gone = core.gone;
+              lives = core.lives;
+            })
+            f.agrees.parked f.agrees.asked
+            (waits_less w.ledger.live (without t w.ledger.live) w.ledger.parked (less_live (has_ticket t) w.ledger.live) f.agrees.waits);
+      }
+    where
+      wrong : Committed news ≡ Withdrawn → ⊥
+      wrong q = (let bad : Committed news ≡ Withdrawn = q in cc)
+
+  confirm_it : (n : NodeId) (l : Life) (t : Ticket) (x : News) (xs : List News) (w : Work) (f : Fo w) → In (commit n l t (x ∷ xs)) pool → is_some (place t (w.ledger.line x.slot) 0) ≡ true → Fo (confirms n l t (x ∷ xs) w)
+  confirm_it n l t x xs w f asked on =
+      let g = sent.commits n l t (x ∷ xs) asked in
+      let made : In (Granted g.0) f.machine.made = (works_sound k.empty pool m f.machine w.sends sound f.works).0.made (Granted g.0) g.1 in
+      let vs : List Confirmed = versions_of w.ledger.line t (x ∷ xs) in
+      let stand : (v : Confirmed) → In v vs → Stands k.empty f.machine t v = versions_stand k.empty f.machine w.ledger.line (core_at w f).lines t (x ∷ xs) in
+      let some : vs ≢ [] = versions_some k.empty f.machine w.ledger.line (core_at w f).lines t x xs on in
+      say_it (told.Committed n l t vs) w f
+      (subst (λ (z : NodeId). Says k.empty pool f.machine (told.Committed z l t vs)) g.3
+      (subst (λ (z : Life). Says k.empty pool f.machine (told.Committed g.0.node z t vs)) g.4
+      (subst (λ (z : Ticket). Says k.empty pool f.machine (told.Committed g.0.node g.0.life z vs)) g.2
+      (Says_committed g.0 vs made (λ v i. subst (λ (z : Ticket). Stands k.empty f.machine z v) (sym g.2) (stand v i)) some))))
+
+  -- after a commit the ticket is on the line of each of its slots
+  now_on : (t : Ticket) (x : News) (xs : List News) (line' : Slot → List LineVersion) → is_some (place t (line' x.slot ++ version_of t (digest_for x.slot (x ∷ xs))) 0) ≡ true
+  now_on t x xs line' =
+      let d = digest_found x xs in
+      let v : LineVersion = record { ticket = t; digest = d.0 } in
+      let i : In v (line' x.slot ++ version_of t (digest_for x.slot (x ∷ xs))) = in_right v (line' x.slot) (version_of t (digest_for x.slot (x ∷ xs))) (subst (λ o. In v (version_of t o)) (sym d.1) (inl refl)) in
+      let r = place_found t (line' x.slot ++ version_of t (digest_for x.slot (x ∷ xs))) 0 v i refl in
+      ap is_some r.1
+
+  answered_it : (b : Bool) (n : NodeId) (l : Life) (t : Ticket) (news : List News) (w : Work) (f : Fo w) → In (commit n l t news) pool → may_commit n l news (lease_under w.ledger.live t) ≡ false → (not (is_nil news) && on_all w.ledger.line t news) ≡ b → Fo (answered b n l t news w)
+  answered_it true n l t [] w f asked may e = (let bad : false ≡ true = e in cc)
+  answered_it true n l t (x ∷ xs) w f asked may e =
+      note_it (note.CommittedBefore t) (confirms n l t (x ∷ xs) w) (confirm_it n l t x xs w f asked (and_both (is_some (place t (w.ledger.line x.slot) 0)) (on_all w.ledger.line t xs) e).0)
+  answered_it false n l t news w f asked may e =
+      let refused : (g : Grant) → Live f.machine g → (g.ticket ≡ t) → (g.node ≡ n) → (g.life ≡ l) → (slots_of news ≡ written g.slots) → (news ≢ []) → ⊥ =
+          λ g live ticket node life slots some.
+          (let i = f.agrees.live_kept g live in
+          let ht : has_ticket t (lease_from g) ≡ true = subst (λ (z : Ticket). eqb g.ticket.0 z.0 ≡ true) ticket (eqb_same g.ticket.0) in
+          let found = find_in (has_ticket t) w.ledger.live (lease_from g) i ht in
+          let o = lease_of_ticket w f t found.0 found.1 in
+          let og = f.agrees.live_made found.0 o.0 in
+          let same : og.0 ≡ g = same_ticket f.machine og.0 g (sound_at w f) og.1 live (ap (λ (z : Lease). z.ticket) og.2 ∙ o.1 ∙ sym ticket) in
+          let is : found.0 ≡ lease_from g = sym og.2 ∙ ap lease_from same in
+          let nodes : eqb g.node.0 n.0 ≡ true = subst (λ (z : NodeId). eqb g.node.0 z.0 ≡ true) node (eqb_same g.node.0) in
+          let lifes : eqb g.life.0 l.0 ≡ true = subst (λ (z : Life). eqb g.life.0 z.0 ≡ true) life (eqb_same g.life.0) in
+          let eqs : slots_eq (slots_of news) (writable_slots (lease_from g).slots) ≡ true = subst (λ z. slots_eq (slots_of news) z ≡ true) (slots ∙ sym (writable-from g.slots)) (slots_eq_same (slots_of news)) in
+          let nil = not_nil news some in
+          let yes' : may_commit n l news (Some (lease_from g)) ≡ true = rw (nodes, lifes, eqs, nil) refl in
+          true_false (may_commit n l news (lease_under w.ledger.live t)) (ap (may_commit n l news) (found.1 ∙ ap Some is) ∙ yes') may) in
+      let off : (news ≢ []) → ((x : News) → In x news → (v : LineVersion) × In v (line k.empty f.machine x.slot) × (v.ticket ≡ t)) → ⊥ =
+          λ some all. (let nil = not_nil news some in
+          let on : on_all w.ledger.line t news ≡ true = all_on w.ledger.line t news (λ x i. (let v = all x i in (v.0, subst (In v.0) (sym ((core_at w f).lines x.slot)) v.1, v.2))) in
+          true_false (not (is_nil news) && on_all w.ledger.line t news) (rw (nil, on) refl) e) in
+      note_it (note.Fenced t) (says (told.Fenced n l t) w) (say_it (told.Fenced n l t) w f (Says_fenced n l t news asked refused off))
+
+  committing_it : (b : Bool) (o : Option Lease) (n : NodeId) (l : Life) (t : Ticket) (news : List News) (w : Work) (f : Fo w) → In (commit n l t news) pool → lease_under w.ledger.live t ≡ o → may_commit n l news o ≡ b → Fo (committing k b n l t news w)
+  committing_it true None n l t news w f asked e may = (let bad : false ≡ true = may in cc)
+  committing_it true (Some h) n l t [] w f asked e may = (let b = and_both (is_its n l h && slots_eq (slots_of []) (writable_slots h.slots)) false may in let bad : false ≡ true = b.1 in cc)
+  committing_it true (Some h) n l t (x ∷ xs) w f asked e may =
+      let c = commit_it n l t (x ∷ xs) w f h asked e may in
+      note_it (note.Committed t) (retried k (confirms n l t (x ∷ xs) (commits t (x ∷ xs) w)))
+      (retry (confirms n l t (x ∷ xs) (commits t (x ∷ xs) w)) (confirm_it n l t x xs (commits t (x ∷ xs) w) c asked (now_on t x xs w.ledger.line)))
+  committing_it false o n l t news w f asked e may = answered_it (not (is_nil news) && on_all w.ledger.line t news) n l t news w f asked (ap (may_commit n l news) e ∙ may) refl
+
+  released_it : (b : Bool) (o : Option Lease) (n : NodeId) (l : Life) (t : Ticket) (w : Work) (f : Fo w) → In (release n l t) pool → lease_under w.ledger.live t ≡ o → may_release n l o ≡ b → Fo (released k b t o w)
+  released_it b None n l t w f asked e may = f
+  released_it false (Some h) n l t w f asked e may = f
+  released_it true (Some h) n l t w f asked e may =
+      let r = lease_of_ticket w f t h e in
+      let its = its_is n l h may in
+      let g = f.agrees.live_made h r.0 in
+      note_it (note.Released t) (retried k (ends h w)) (retry (ends h w)
+      (plain_ends (has_ticket h.ticket) Released (w.changed || is_saved h) w f bare_released (λ q. (let bad : Released ≡ Withdrawn = q in cc))
+      (λ x y made t'. (let at : y.ticket.0 ≡ g.0.ticket.0 = eqb_is y.ticket.0 h.ticket.0 t' ∙ ap (λ (z : Lease). z.ticket.0) (sym g.2) in
+        let same : y ≡ g.0 = same_grant k.empty f.machine (sound_at w f) y g.0 made g.1.0 at in
+        let is : lease_from y ≡ h = ap lease_from same ∙ g.2 in
+        subst (λ (z : Lease). In (release z.node z.life z.ticket) pool) (sym is)
+        (subst (λ (z : NodeId). In (release z h.life h.ticket) pool) (sym its.0) (subst (λ (z : Life). In (release n z h.ticket) pool) (sym its.1) (subst (λ (z : Ticket). In (release n l z) pool) (sym r.1) asked)))))))
+
+  -- a message of the life that is now the greatest
+  pub answering_it : (n : NodeId) (l : Life) (r : Request) (w : Work) (f : Fo w) → In (Said (record { node = n; life = l; request = r })) pool → w.ledger.gone n.0 ≡ false → Fo (answering k n l r w)
+  answering_it n l Hello w f asked here = f
+  answering_it n l (Acquire a wants tenure) w f asked here = acquiring_it (lease_of w.ledger.live n l a) (is_parked w.ledger.parked n l a) (record { node = n; life = l; ask = a; wants = wants; tenure = tenure }) w f asked here refl refl
+  answering_it n l (Commit t news) w f asked here = committing_it (may_commit n l news (lease_under w.ledger.live t)) (lease_under w.ledger.live t) n l t news w f asked refl refl
+  answering_it n l (Release t) w f asked here = released_it (may_release n l (lease_under w.ledger.live t)) (lease_under w.ledger.live t) n l t w f asked refl refl

@@ -196,7 +196,7 @@ module _ (k : Limits) (fits : k.instances ≤ 4096) (pool : List Message) (m : M
         lives = core.lives;
       }
 
-  raised_covers : (q : Ledger) → q.last ≤ q.ceiling → nat_lt q.last k.greatest ≡ true → q.last + 1 ≤ raised k q
+  pub raised_covers : (q : Ledger) → q.last ≤ q.ceiling → nat_lt q.last k.greatest ≡ true → q.last + 1 ≤ raised k q
   raised_covers q le lt = grind (arith, nat_tests)
 
   pub give_going : (p : Parked) (w : Work) → Going w → In (acquire p.node p.life p.ask p.wants p.tenure) pool → w.ledger.gone p.node.0 ≡ false → NoLease w.ledger.live p → decision k w.ledger p ≡ Give → Going (gives k p w)
@@ -305,7 +305,7 @@ module _ (k : Limits) (fits : k.instances ≤ 4096) (pool : List Message) (m : M
       (asked_later w.ledger.gone (tried k p w).ledger.gone ps (tried-gone p w) (λ q i. asked q (inr i)))
       (tried_waits p w ps waiting.1 waiting.2)
 
-  try-gone : (ps : List Parked) (w : Work) → (try_all k ps w).ledger.gone ≡ w.ledger.gone
+  pub try-gone : (ps : List Parked) (w : Work) → (try_all k ps w).ledger.gone ≡ w.ledger.gone
   try-gone [] w = refl
   try-gone (p ∷ ps) w = try-gone ps (tried k p w) ∙ tried-gone p w
 

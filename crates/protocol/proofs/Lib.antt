@@ -9,3 +9,4 @@ mod Bulk
 mod Leases
 mod Following
 mod Calls
+mod Others
