@@ -10,3 +10,4 @@ mod Leases
 mod Following
 mod Calls
 mod Others
+mod Moving
