@@ -1,13 +1,13 @@
 -- What each act of a node keeps.
-use Rattle.std.proofs.Common.{◌≡◌, ◌≢◌, ℕ, zero, suc, ◌+◌, ◌<◌, ◌≤◌, List, [], ◌∷◌, ◌++◌, ◌⊎◌, Bool, true, false, not, eqb, length, map, Option, Some, None, refl, sym, ◌∙◌, ap, subst, inl, inr, arith}
+use Rattle.std.proofs.Common.{◌≡◌, ◌≢◌, ℕ, zero, suc, ◌+◌, ◌≤◌, List, [], ◌∷◌, ◌++◌, ◌⊎◌, Bool, true, false, not, eqb, length, Option, Some, refl, sym, ◌∙◌, ap, subst, inl, inr, arith}
 use Rattle.protocol.specs.Lists.{In, nth, set_nth}
-use Rattle.protocol.specs.Names.{Slot, Shared, slot_eq, digest_eq, NodeId, Life, Ask, Ticket, Digest, Want, FolderName, wants_shared, tenure_wants}
-use Rattle.protocol.specs.Machine.{GrantedSlot, Grant, News, Confirmed, Granted, Message, Said, Told, Fetches, Blob, ToCoord, hello, acquire, commit, release, Machine, Answers, line, written, slots_of, Names, Stands}
+use Rattle.protocol.specs.Names.{Slot, slot_eq, digest_eq, NodeId, Life, Ask, Ticket, Digest, Want, FolderName, wants_shared, tenure_wants}
+use Rattle.protocol.specs.Machine.{GrantedSlot, Grant, News, Confirmed, Granted, Message, Told, Fetches, Blob, hello, acquire, commit, release, Machine, Answers, line, written, slots_of, Names, Stands}
 use Rattle.farm_base.specs.declared.message.FromCoord.TheVariants as told
 use Rattle.protocol.specs.declared.answer.How.TheVariants as how
-use Rattle.protocol.specs.World.{AskState, Open, Holding, Running, Finished, Over, Node, keeps, learn, learn_bases, learn_versions, keep, has_life, IsTenureOf, RunsTenure, Uses, Open_uses, Held_uses, Running_uses, Idle, Act, Asks, Asks_tenure, Asks_again, Greets, Takes, Gives_back, Begins, Finishes, Gives_up, Sends_commit, Learns, Drops, Is_denied, Is_recalled, Is_recalled_running, Stores, Asks_content, Sends_blob, Restarts, Stops, World}
-use Rattle.protocol.proofs.Base.{cases_bool, cases_nat, true_false, eqb_is, slot_eq_is, digest_eq_is, in_one, some_is, none_some, nth-set_same, nth-set_other, nth_set_cases, nth-append, nth-push, nth_push_cases, ask_is, life_is}
-use Rattle.protocol.proofs.Invariant.{Wanted, spent, WasAsked, Spent, ForTenure, Its, StateOk, WantsNow, for_tenure, HasTenure, AtHome, NodeOk, RequestOk, WasGiven, MessageOk, WasWanted, Inv, Ahead, ahead_refl}
+use Rattle.protocol.specs.World.{AskState, Open, Holding, Running, Finished, Over, Node, keeps, learn, learn_bases, learn_versions, keep, has_life, RunsTenure, Uses, Open_uses, Held_uses, Running_uses, Idle, Act, Asks, Asks_tenure, Asks_again, Greets, Takes, Gives_back, Begins, Finishes, Gives_up, Sends_commit, Learns, Drops, Is_denied, Is_recalled, Is_recalled_running, Stores, Asks_content, Sends_blob, Restarts, Stops, World}
+use Rattle.protocol.proofs.Base.{cases_bool, cases_nat, eqb_is, slot_eq_is, digest_eq_is, in_one, some_is, none_some, nth-set_same, nth-set_other, nth_set_cases, nth-append, nth-push, nth_push_cases}
+use Rattle.protocol.proofs.Invariant.{Wanted, spent, WasAsked, Spent, ForTenure, Its, StateOk, WantsNow, for_tenure, HasTenure, AtHome, NodeOk, WasGiven, MessageOk, Inv, Ahead, ahead_refl}
 
 -- ---- what is known
 

@@ -1,8 +1,8 @@
 -- Many grants end at once, without a version: one step for each.
-use Rattle.std.proofs.Common.{◌≡◌, ◌≢◌, ℕ, ◌+◌, ◌<◌, ◌≤◌, List, [], ◌∷◌, ◌++◌, ◌⊎◌, Bool, true, false, not, eqb, map, filter, Option, Some, None, refl, sym, ◌∙◌, ap, subst, inl, inr, arith}
+use Rattle.std.proofs.Common.{◌≡◌, ◌≢◌, ℕ, List, [], ◌∷◌, ◌⊎◌, Bool, true, false, Option, Some, None, refl, sym, ◌∙◌, ap, subst, inl, inr}
 use Rattle.protocol.specs.Lists.{In, put}
 use Rattle.protocol.specs.Names.{Slot, is_private, Digest, Ticket}
-use Rattle.protocol.specs.Machine.{Grant, News, Ending, Committed, Released, Withdrawn, Died, Made, Granted, Pruned, Message, FromCoord, Machine, Has, Live, Retired, LineVersion, version_at, added, line, line_of, MayEnd, Step, Ends}
+use Rattle.protocol.specs.Machine.{Grant, Ending, Withdrawn, Made, Granted, Pruned, Message, FromCoord, Machine, Has, Live, Retired, version_at, line, line_of, MayEnd, Ends}
 use Rattle.protocol.specs.Follows.{Works, Goes_on}
 use Rattle.protocol.proofs.Base.{cases_option, cases_bool, cases_nat, put_same, put_other, some_is, none_some, true_false}
 use Rattle.protocol.proofs.Steps.{Sound, same_grant}
@@ -18,10 +18,14 @@ module _ (empty : Digest) (pool : List Message) (start m : Machine) (sends : Lis
   Result xs = (e : ℕ → Option Ending) × Works empty pool start (record m { ending = e }) sends × EndsThose m.ending e test y xs
 
   skip : (xs : List Made) (x : Made) → Result xs → ((e : ℕ → Option Ending) (g : Grant) → EndsThose m.ending e test y xs → x ≡ Granted g → test g ≡ true → m.ending g.ticket.0 ≡ None → e g.ticket.0 ≡ Some y) → Result (x ∷ xs)
-  skip xs x r here = (r.0, r.1, record {
-    done = λ g i t e. elim i [ inl p ↦ here r.0 g r.2 (sym p) t e | inr j ↦ r.2.done g j t e ];
-    only = λ t. elim (r.2.only t) [ inl e ↦ inl e | inr q ↦ inr (q.0, inr q.1, q.2, q.3, q.4, q.5) ];
-  })
+  skip xs x r here = (
+    r.0,
+    r.1,
+    record {
+      done = λ g i t e. elim i [ inl p ↦ here r.0 g r.2 (sym p) t e | inr j ↦ r.2.done g j t e ];
+      only = λ t. elim (r.2.only t) [ inl e ↦ inl e | inr q ↦ inr (q.0, inr q.1, q.2, q.3, q.4, q.5) ];
+    },
+  )
 
   add : (xs : List Made) (g : Grant) (r : Result xs) → In (Granted g) m.made → test g ≡ true → m.ending g.ticket.0 ≡ None → r.0 g.ticket.0 ≡ None → Result (Granted g ∷ xs)
   add xs g r made t was now = (
@@ -56,10 +60,14 @@ module _ (empty : Digest) (pool : List Message) (start m : Machine) (sends : Lis
       | inr z ↦ skip xs (Granted g) r (λ e h ends p u was. (let same : g ≡ h = cc in none_some z.0 (sym was ∙ ap (λ (k : Grant). m.ending k.ticket.0) (sym same) ∙ z.1)))
       | inl was ↦ elim (r.2.only g.ticket.0) [
         | inl e ↦ add xs g r made t was (e ∙ was)
-        | inr q ↦ (r.0, r.1, record {
+        | inr q ↦ (
+          r.0,
+          r.1,
+          record {
             done = λ h i u e. elim i [ inl p ↦ (let same : g ≡ h = cc in subst (λ (z : Grant). r.0 z.ticket.0 ≡ Some y) same q.5) | inr j ↦ r.2.done h j u e ];
             only = λ k. elim (r.2.only k) [ inl e ↦ inl e | inr s ↦ inr (s.0, inr s.1, s.2, s.3, s.4, s.5) ];
-          })
+          },
+        )
       ]
     ]
   ]
@@ -99,10 +107,13 @@ module _ (empty : Digest) (m : Machine) (sound : Sound empty m) (e : ℕ → Opt
 
   -- who is live and isn't picked is live afterwards
   pub live_after : (g : Grant) → Live m g → test g ≡ false → Live after g
-  live_after g l f = (l.0, elim (ends.only g.ticket.0) [
-    | inl q ↦ q ∙ l.1
-    | inr q ↦ (let same : q.0 ≡ g = same_grant empty m sound q.0 g q.1 l.0 q.4 in true_false (test g) (subst (λ z. test z ≡ true) same q.2) f)
-  ])
+  live_after g l f = (
+    l.0,
+    elim (ends.only g.ticket.0) [
+      | inl q ↦ q ∙ l.1
+      | inr q ↦ (let same : q.0 ≡ g = same_grant empty m sound q.0 g q.1 l.0 q.4 in true_false (test g) (subst (λ z. test z ≡ true) same q.2) f)
+    ],
+  )
 
   withdrawn_before : (g : Grant) → (e g.ticket.0 ≡ Some Withdrawn) → (m.ending g.ticket.0 ≡ Some Withdrawn) ⊎ ((y ≡ Withdrawn) × ((h : Grant) × In (Granted h) m.made × (test h ≡ true) × (m.ending g.ticket.0 ≡ None) × (h.ticket.0 ≡ g.ticket.0)))
   withdrawn_before g w = elim (ends.only g.ticket.0) [
@@ -119,10 +130,18 @@ module _ (empty : Digest) (m : Machine) (sound : Sound empty m) (e : ℕ → Opt
   ])
 
   pub retired_stays : (s : Slot) → Retired m s → Retired after s
-  retired_stays s r = (r.0, (r.1.0, r.1.1, elim (ends.only r.1.0.ticket.0) [
-    | inl q ↦ q ∙ r.1.2
-    | inr q ↦ none_some Withdrawn (sym q.3 ∙ r.1.2)
-  ], r.1.3))
+  retired_stays s r = (
+    r.0,
+    (
+      r.1.0,
+      r.1.1,
+      elim (ends.only r.1.0.ticket.0) [
+        | inl q ↦ q ∙ r.1.2
+        | inr q ↦ none_some Withdrawn (sym q.3 ∙ r.1.2)
+      ],
+      r.1.3,
+    ),
+  )
 
   pub retired_now : (g : Grant) (s : Slot) → y ≡ Withdrawn → Live m g → test g ≡ true → Has g s → is_private s.folder.mode ≡ true → Retired after s
   retired_now g s w l t h p = (p, (g, l.0, ends.done g l.0 t l.1 ∙ ap Some w, h))

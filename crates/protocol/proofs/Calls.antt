@@ -1,27 +1,23 @@
 -- Each message and call of the coordinator follows the machine.
-use Rattle.std.proofs.Common.{◌≡◌, ◌≢◌, ℕ, zero, suc, ◌+◌, ◌<◌, ◌≤◌, List, [], ◌∷◌, ◌++◌, ◌⊎◌, min, Bool, true, false, not, ◌&&◌, ◌||◌, eqb, length, map, filter, Option, Some, None, slice_get, Result, Ok, Err, refl, sym, ◌∙◌, ap, subst, inl, inr, arith, append-nil}
-use Rattle.std.proofs.lemmas.Bool.Decides.{nat_tests}
-use Rattle.std.specs.List.{list_any, find}
-use Rattle.std.specs.Prelude.{⊤, nat_lt, is_some}
+use Rattle.std.proofs.Common.{◌≡◌, ◌≢◌, ℕ, suc, ◌+◌, ◌≤◌, List, [], ◌∷◌, ◌++◌, ◌⊎◌, Bool, true, false, not, ◌&&◌, ◌||◌, eqb, filter, Option, Some, None, slice_get, refl, sym, ◌∙◌, ap, subst, inl, inr, arith}
+use Rattle.std.specs.List.{find}
+use Rattle.std.specs.Prelude.{is_some}
 use Rattle.protocol.specs.Lists.{In, put, is_nil}
-use Rattle.protocol.specs.Names.{Mode, Shared, Private, Locked, Slot, slot_eq, slots_eq, is_private, is_shared, wants_shared, only_slot, IsInstance, Digest, NodeId, Life, Ask, Ticket, Want, FolderName, leased_wants, any_shared, tenure_wants}
-use Rattle.protocol.specs.Machine.{Grant, GrantedSlot, News, Confirmed, LineVersion, Made, Granted, Pruned, Ending, Committed, Released, Withdrawn, Died, Message, Said, Told, ToCoord, FromCoord, Parked, Machine, Has, Live, Leased, Retired, Free, Based, Answers, SameAsk, want_of, line, line_of, version_at, version_of, digest_for, slots_of, Names, written, acquire, commit, release, WasHeard, MayEnd, cleared, IsPartOf, Ends_part, Keeps, Leaves, Step, Grants, Ends, Prunes, Sees, Retires, Parks, Unparks, Raises, Steps, No_step, One_more, Stands, Says, Says_granted, Says_committed, Says_fenced, Says_denied, Says_recall}
+use Rattle.protocol.specs.Names.{Slot, slots_eq, is_private, is_shared, wants_shared, only_slot, Digest, NodeId, Life, Ticket, Want, leased_wants}
+use Rattle.protocol.specs.Machine.{Grant, News, Confirmed, LineVersion, Granted, Ending, Committed, Released, Withdrawn, Died, Message, Said, FromCoord, Parked, Machine, Has, Live, Retired, line, version_of, digest_for, slots_of, written, acquire, commit, release, MayEnd, Step, Ends, Parks, Stands, Says, Says_committed, Says_fenced, Says_denied, Says_recall}
 use Rattle.farm_base.specs.declared.message.FromCoord.TheVariants as told
 use Rattle.farm_base.specs.declared.message.Request.{Request}
 use Rattle.farm_base.specs.declared.message.Request.TheVariants.{Hello, Acquire, Commit, Release}
-use Rattle.farm_base.specs.declared.message.Why.{Why}
 use Rattle.protocol.specs.declared.answer.CoordNote.{CoordNote}
 use Rattle.protocol.specs.declared.answer.CoordNote.TheVariants as note
-use Rattle.protocol.specs.declared.answer.CoordRefusal.{CoordRefusal}
-use Rattle.protocol.specs.Ledger.{Limits, Ledger, Work, Lease, begin_work, says, notes, has_slot, some_lease, is_leased, is_free, lowest, instance_for, slot_for, all_taken, busy, is_saved, writable_slots, last_digest, granted_slot, grant_of, Decision, Give, Deny, Wait, pick, another, elsewhere, decision, lease_for, raised, granting, gives, denies, carried_out, waits, tried, stays, try_all, waiting, parks, retried, is_of, lease_of, is_parked, holds_wanted, recall, recalls, decided, acquiring, has_ticket, lease_under, without, ends, commits, place, confirmed, versions_of, on_all, is_its, may_commit, may_release, confirms, answered, committing, released, answering, is_older, is_older_ask, sees, is_home, newer_life, handled, retires, withdraws, withdrawing, withdrawn, is_at, retire_all, goes, retired, prunes, pruned, is_awaited, nudges, nudge_all, nudged, reread}
-use Rattle.protocol.specs.Follows.{lease_from, NoLease, Waits, Agrees, Works, Begins_work, Goes_on, Speaks, Follows}
-use Rattle.protocol.proofs.Base.{cases_bool, cases_nat, cases_option, true_false, not_true, not_false, and_both, or_false, none_some, some_is, eqb_is, eqb_same, eqb_apart, eqb_not, slot_eq_same, slot_eq_is, slot_path, node_is, life_is, ask_is, ticket_is, in_map, from_map, any_in, from_any, any_none, in_filter, from_filter, in_append, in_left, in_right, in_one, get_in, put_same, put_other}
-use Rattle.protocol.proofs.Lines.{Lawful, line-end}
-use Rattle.protocol.proofs.Steps.{Sound, Later, later_refl, later_trans, step_sound, fresh, same_grant}
+use Rattle.protocol.specs.Ledger.{Limits, Ledger, Work, Lease, says, notes, has_slot, is_saved, writable_slots, grant_of, Decision, Give, Deny, Wait, elsewhere, decision, lease_for, gives, denies, parks, retried, is_of, lease_of, is_parked, holds_wanted, recall, recalls, decided, acquiring, has_ticket, lease_under, without, ends, commits, place, confirmed, versions_of, on_all, is_its, may_commit, may_release, confirms, answered, committing, released, answering}
+use Rattle.protocol.specs.Follows.{lease_from, NoLease, Waits, Works, Goes_on}
+use Rattle.protocol.proofs.Base.{cases_bool, cases_nat, true_false, not_true, and_both, none_some, some_is, eqb_is, eqb_same, eqb_apart, eqb_not, slot_eq_same, node_is, life_is, ticket_is, from_any, in_filter, from_filter, in_append, in_right, in_one, put_same, put_other}
+use Rattle.protocol.proofs.Lines.{line-end}
+use Rattle.protocol.proofs.Steps.{Sound, same_grant}
 use Rattle.protocol.proofs.Bulk.{EndsThose, end_those, Bare, ended_line, still_live, live_after, retired_before, retired_stays, retired_now}
-use Rattle.protocol.proofs.Leases.{Core, core_of, AllAsked, agrees_from, lease_has, has_lease, writable-from, names_last, grant-lease, lease-grant, not_leased, free_is, lowest_is, find_some, find_none, find_in, waits_give, waits_less, parked_part, waits_filter, waits_push, no_grant}
-
-use Rattle.protocol.proofs.Following.{works_sound, part_filter, part_none, slots_eq_is, slots_eq_same, Sent, F, notes_follows, says_follows, now_sound, grant_says, Going, going, give_going, deny_going, asked_later, retried_follows}
+use Rattle.protocol.proofs.Leases.{Core, core_of, agrees_from, lease_has, has_lease, writable-from, find_some, find_none, find_in, waits_give, waits_less, waits_push, no_grant}
+use Rattle.protocol.proofs.Following.{works_sound, slots_eq_is, slots_eq_same, Sent, F, notes_follows, says_follows, now_sound, grant_says, going, give_going, retried_follows}
 
 -- ---- places on a line
 
@@ -290,11 +286,14 @@ module _ (k : Limits) (fits : k.instances ≤ 4096) (pool : List Message) (m : M
       end_live_withdrawn : (b : Machine) (test : Grant → Bool) (sends : List FromCoord) → Works k.empty pool m b sends → ((g : Grant) → Live b g → test g ≡ true → g.tenure ≡ false)
           → (e : ℕ → Option Ending) × Works k.empty pool m (record b { ending = e }) sends × EndsThose b.ending e test Withdrawn b.made
       end_live_withdrawn b test sends works plain =
-          let r = end_those k.empty pool m b sends works (λ g. test g && not g.tenure) Withdrawn (λ e g i t. not_true g.tenure (and_both (test g) (not g.tenure) t).1) b.made (λ x i. i) in
-          (r.0, r.1, record {
-            done = λ g i t e. (let free : g.tenure ≡ false = plain g (i, e) t in r.2.done g i (rw (t, free) refl) e);
-            only = λ t. elim (r.2.only t) [ inl e ↦ inl e | inr q ↦ inr (q.0, q.1, (and_both (test q.0) (not q.0.tenure) q.2).0, q.3, q.4, q.5) ];
-          })
+          let r = end_those k.empty pool m b sends works (λ g. test g && not g.tenure) Withdrawn (λ e g i t. not_true g.tenure (and_both (test g) (not g.tenure) t).1) b.made (λ x i. i) in (
+            r.0,
+            r.1,
+            record {
+              done = λ g i t e. (let free : g.tenure ≡ false = plain g (i, e) t in r.2.done g i (rw (t, free) refl) e);
+              only = λ t. elim (r.2.only t) [ inl e ↦ inl e | inr q ↦ inr (q.0, q.1, (and_both (test q.0) (not q.0.tenure) q.2).0, q.3, q.4, q.5) ];
+            },
+          )
 
   -- ---- Commit and Release
 
@@ -320,9 +319,9 @@ module _ (k : Limits) (fits : k.instances ≤ 4096) (pool : List Message) (m : M
       let node : g.0.node ≡ n = ap (λ (z : Lease). z.node) g.2 ∙ its.0 in
       let life : g.0.life ≡ l = ap (λ (z : Lease). z.life) g.2 ∙ its.1 in
       let slots : slots_of news ≡ written g.0.slots =
-          slots_eq_is (slots_of news) (writable_slots h.slots) b2.1 ∙ ap (λ (z : Lease). writable_slots z.slots) (sym g.2) ∙ writable-from g.0.slots in
+      slots_eq_is (slots_of news) (writable_slots h.slots) b2.1 ∙ ap (λ (z : Lease). writable_slots z.slots) (sym g.2) ∙ writable-from g.0.slots in
       let message : In (commit g.0.node g.0.life g.0.ticket news) pool =
-          subst (λ (z : NodeId). In (commit z g.0.life g.0.ticket news) pool) (sym node) (subst (λ (z : Life). In (commit n z g.0.ticket news) pool) (sym life) (subst (λ (z : Ticket). In (commit n l z news) pool) (sym ticket) asked)) in
+      subst (λ (z : NodeId). In (commit z g.0.life g.0.ticket news) pool) (sym node) (subst (λ (z : Life). In (commit n z g.0.ticket news) pool) (sym life) (subst (λ (z : Ticket). In (commit n l z news) pool) (sym ticket) asked)) in
       let b : Machine = f.machine in
       let core = core_at w f in
       let sound' = sound_at w f in
@@ -330,7 +329,7 @@ module _ (k : Limits) (fits : k.instances ≤ 4096) (pool : List Message) (m : M
       let next : Machine = record b { ending = put g.0.ticket.0 (Some y) b.ending } in
       let step : Step k.empty pool b next = Ends g.0 y g.1 (message, slots, is_nil_is news (not_true (is_nil news) b1.1)) in
       let other : (x : Grant) → Live b x → has_ticket t (lease_from x) ≡ false → x.ticket.0 ≢ g.0.ticket.0 =
-          λ x lx free q. eqb_not x.ticket.0 t.0 free (q ∙ ap (λ (z : Ticket). z.0) ticket) in
+      λ x lx free q. eqb_not x.ticket.0 t.0 free (q ∙ ap (λ (z : Ticket). z.0) ticket) in
       record {
         machine = next;
         works = Goes_on b next w.sends f.works step;
@@ -346,15 +345,30 @@ module _ (k : Limits) (fits : k.instances ≤ 4096) (pool : List Message) (m : M
                     in_filter (λ (z : Lease). not (has_ticket t z)) (lease_from x) w.ledger.live (core.live_kept x was)
                     (ap not (eqb_apart x.ticket.0 t.0 (λ q. ne (q ∙ sym (ap (λ (z : Ticket). z.0) ticket))))))
               ];
-              retired_made = λ s i. (let o = core.retired_made s i in
-                  (o.0, (o.1.0, o.1.1, elim (cases_nat o.1.0.ticket.0 g.0.ticket.0) [
+              retired_made = λ s i. (let o = core.retired_made s i in (
+                o.0,
+                (
+                  o.1.0,
+                  o.1.1,
+                  elim (cases_nat o.1.0.ticket.0 g.0.ticket.0) [
                     | inl q ↦ none_some Withdrawn (sym g.1.1 ∙ sym (ap b.ending q) ∙ o.1.2)
                     | inr ne ↦ put_other g.0.ticket.0 (Some y) b.ending o.1.0.ticket.0 ne ∙ o.1.2
-                  ], o.1.3)));
-              retired_kept = λ s o. core.retired_kept s (o.0, (o.1.0, o.1.1, elim (cases_nat o.1.0.ticket.0 g.0.ticket.0) [
-                | inl q ↦ (let bad : Some y ≡ Some Withdrawn = sym (put_same g.0.ticket.0 (Some y) b.ending) ∙ sym (ap (put g.0.ticket.0 (Some y) b.ending) q) ∙ o.1.2 in absurd (wrong (some_is y Withdrawn bad)))
-                | inr ne ↦ sym (put_other g.0.ticket.0 (Some y) b.ending o.1.0.ticket.0 ne) ∙ o.1.2
-              ], o.1.3));
+                  ],
+                  o.1.3,
+                ),
+              ));
+              retired_kept = λ s o. core.retired_kept s (
+                o.0,
+                (
+                  o.1.0,
+                  o.1.1,
+                  elim (cases_nat o.1.0.ticket.0 g.0.ticket.0) [
+                    | inl q ↦ (let bad : Some y ≡ Some Withdrawn = sym (put_same g.0.ticket.0 (Some y) b.ending) ∙ sym (ap (put g.0.ticket.0 (Some y) b.ending) q) ∙ o.1.2 in absurd (wrong (some_is y Withdrawn bad)))
+                    | inr ne ↦ sym (put_other g.0.ticket.0 (Some y) b.ending o.1.0.ticket.0 ne) ∙ o.1.2
+                  ],
+                  o.1.3,
+                ),
+              );
               lines = λ s. ap (λ v. v ++ version_of t (digest_for s news)) (core.lines s)
                   ∙ ap (λ z. line k.empty b s ++ version_of z (digest_for s news)) (sym ticket)
                   ∙ sym (line-end k.empty s b.ending g.0 y b.made (b.last + 1) sound'.order sound'.apart sound'.laws slots g.1.1 g.1.0);
@@ -399,24 +413,24 @@ module _ (k : Limits) (fits : k.instances ≤ 4096) (pool : List Message) (m : M
       note_it (note.CommittedBefore t) (confirms n l t (x ∷ xs) w) (confirm_it n l t x xs w f asked (and_both (is_some (place t (w.ledger.line x.slot) 0)) (on_all w.ledger.line t xs) e).0)
   answered_it false n l t news w f asked may e =
       let refused : (g : Grant) → Live f.machine g → (g.ticket ≡ t) → (g.node ≡ n) → (g.life ≡ l) → (slots_of news ≡ written g.slots) → (news ≢ []) → ⊥ =
-          λ g live ticket node life slots some.
-          (let i = f.agrees.live_kept g live in
-          let ht : has_ticket t (lease_from g) ≡ true = subst (λ (z : Ticket). eqb g.ticket.0 z.0 ≡ true) ticket (eqb_same g.ticket.0) in
-          let found = find_in (has_ticket t) w.ledger.live (lease_from g) i ht in
-          let o = lease_of_ticket w f t found.0 found.1 in
-          let og = f.agrees.live_made found.0 o.0 in
-          let same : og.0 ≡ g = same_ticket f.machine og.0 g (sound_at w f) og.1 live (ap (λ (z : Lease). z.ticket) og.2 ∙ o.1 ∙ sym ticket) in
-          let is : found.0 ≡ lease_from g = sym og.2 ∙ ap lease_from same in
-          let nodes : eqb g.node.0 n.0 ≡ true = subst (λ (z : NodeId). eqb g.node.0 z.0 ≡ true) node (eqb_same g.node.0) in
-          let lifes : eqb g.life.0 l.0 ≡ true = subst (λ (z : Life). eqb g.life.0 z.0 ≡ true) life (eqb_same g.life.0) in
-          let eqs : slots_eq (slots_of news) (writable_slots (lease_from g).slots) ≡ true = subst (λ z. slots_eq (slots_of news) z ≡ true) (slots ∙ sym (writable-from g.slots)) (slots_eq_same (slots_of news)) in
-          let nil = not_nil news some in
-          let yes' : may_commit n l news (Some (lease_from g)) ≡ true = rw (nodes, lifes, eqs, nil) refl in
-          true_false (may_commit n l news (lease_under w.ledger.live t)) (ap (may_commit n l news) (found.1 ∙ ap Some is) ∙ yes') may) in
+      λ g live ticket node life slots some.
+      (let i = f.agrees.live_kept g live in
+      let ht : has_ticket t (lease_from g) ≡ true = subst (λ (z : Ticket). eqb g.ticket.0 z.0 ≡ true) ticket (eqb_same g.ticket.0) in
+      let found = find_in (has_ticket t) w.ledger.live (lease_from g) i ht in
+      let o = lease_of_ticket w f t found.0 found.1 in
+      let og = f.agrees.live_made found.0 o.0 in
+      let same : og.0 ≡ g = same_ticket f.machine og.0 g (sound_at w f) og.1 live (ap (λ (z : Lease). z.ticket) og.2 ∙ o.1 ∙ sym ticket) in
+      let is : found.0 ≡ lease_from g = sym og.2 ∙ ap lease_from same in
+      let nodes : eqb g.node.0 n.0 ≡ true = subst (λ (z : NodeId). eqb g.node.0 z.0 ≡ true) node (eqb_same g.node.0) in
+      let lifes : eqb g.life.0 l.0 ≡ true = subst (λ (z : Life). eqb g.life.0 z.0 ≡ true) life (eqb_same g.life.0) in
+      let eqs : slots_eq (slots_of news) (writable_slots (lease_from g).slots) ≡ true = subst (λ z. slots_eq (slots_of news) z ≡ true) (slots ∙ sym (writable-from g.slots)) (slots_eq_same (slots_of news)) in
+      let nil = not_nil news some in
+      let yes' : may_commit n l news (Some (lease_from g)) ≡ true = rw (nodes, lifes, eqs, nil) refl in
+      true_false (may_commit n l news (lease_under w.ledger.live t)) (ap (may_commit n l news) (found.1 ∙ ap Some is) ∙ yes') may) in
       let off : (news ≢ []) → ((x : News) → In x news → (v : LineVersion) × In v (line k.empty f.machine x.slot) × (v.ticket ≡ t)) → ⊥ =
-          λ some all. (let nil = not_nil news some in
-          let on : on_all w.ledger.line t news ≡ true = all_on w.ledger.line t news (λ x i. (let v = all x i in (v.0, subst (In v.0) (sym ((core_at w f).lines x.slot)) v.1, v.2))) in
-          true_false (not (is_nil news) && on_all w.ledger.line t news) (rw (nil, on) refl) e) in
+      λ some all. (let nil = not_nil news some in
+      let on : on_all w.ledger.line t news ≡ true = all_on w.ledger.line t news (λ x i. (let v = all x i in (v.0, subst (In v.0) (sym ((core_at w f).lines x.slot)) v.1, v.2))) in
+      true_false (not (is_nil news) && on_all w.ledger.line t news) (rw (nil, on) refl) e) in
       note_it (note.Fenced t) (says (told.Fenced n l t) w) (say_it (told.Fenced n l t) w f (Says_fenced n l t news asked refused off))
 
   committing_it : (b : Bool) (o : Option Lease) (n : NodeId) (l : Life) (t : Ticket) (news : List News) (w : Work) (f : Fo w) → In (commit n l t news) pool → lease_under w.ledger.live t ≡ o → may_commit n l news o ≡ b → Fo (committing k b n l t news w)
@@ -438,10 +452,10 @@ module _ (k : Limits) (fits : k.instances ≤ 4096) (pool : List Message) (m : M
       note_it (note.Released t) (retried k (ends h w)) (retry (ends h w)
       (plain_ends (has_ticket h.ticket) Released (w.changed || is_saved h) w f bare_released (λ q. (let bad : Released ≡ Withdrawn = q in cc))
       (λ x y made t'. (let at : y.ticket.0 ≡ g.0.ticket.0 = eqb_is y.ticket.0 h.ticket.0 t' ∙ ap (λ (z : Lease). z.ticket.0) (sym g.2) in
-        let same : y ≡ g.0 = same_grant k.empty f.machine (sound_at w f) y g.0 made g.1.0 at in
-        let is : lease_from y ≡ h = ap lease_from same ∙ g.2 in
-        subst (λ (z : Lease). In (release z.node z.life z.ticket) pool) (sym is)
-        (subst (λ (z : NodeId). In (release z h.life h.ticket) pool) (sym its.0) (subst (λ (z : Life). In (release n z h.ticket) pool) (sym its.1) (subst (λ (z : Ticket). In (release n l z) pool) (sym r.1) asked)))))))
+      let same : y ≡ g.0 = same_grant k.empty f.machine (sound_at w f) y g.0 made g.1.0 at in
+      let is : lease_from y ≡ h = ap lease_from same ∙ g.2 in
+      subst (λ (z : Lease). In (release z.node z.life z.ticket) pool) (sym is)
+      (subst (λ (z : NodeId). In (release z h.life h.ticket) pool) (sym its.0) (subst (λ (z : Life). In (release n z h.ticket) pool) (sym its.1) (subst (λ (z : Ticket). In (release n l z) pool) (sym r.1) asked)))))))
 
   -- a message of the life that is now the greatest
   pub answering_it : (n : NodeId) (l : Life) (r : Request) (w : Work) (f : Fo w) → In (Said (record { node = n; life = l; request = r })) pool → w.ledger.gone n.0 ≡ false → Fo (answering k n l r w)

@@ -1,25 +1,18 @@
 -- What the coordinator does with its ledger, a machine that forgets nothing may do.
-use Rattle.std.proofs.Common.{◌≡◌, ◌≢◌, ℕ, zero, suc, ◌+◌, ◌<◌, ◌≤◌, List, [], ◌∷◌, ◌++◌, ◌⊎◌, min, Bool, true, false, not, ◌&&◌, ◌||◌, eqb, length, map, filter, Option, Some, None, slice_get, Result, Ok, Err, refl, sym, ◌∙◌, ap, subst, inl, inr, arith, append-nil}
+use Rattle.std.proofs.Common.{◌≡◌, ◌≢◌, ℕ, ◌+◌, ◌<◌, ◌≤◌, List, [], ◌∷◌, ◌++◌, ◌⊎◌, Bool, true, false, not, ◌&&◌, eqb, length, map, filter, Option, Some, None, refl, sym, ◌∙◌, ap, subst, inl, inr, arith, append-nil}
 use Rattle.std.proofs.lemmas.Bool.Decides.{nat_tests}
-use Rattle.std.specs.List.{list_any, find}
-use Rattle.std.specs.Prelude.{⊤, nat_lt, is_some}
-use Rattle.protocol.specs.Lists.{In, put, is_nil}
-use Rattle.protocol.specs.Names.{Mode, Shared, Private, Locked, Slot, slot_eq, slots_eq, is_private, is_shared, wants_shared, only_slot, IsInstance, Digest, NodeId, Life, Ask, Ticket, Want, FolderName, leased_wants, any_shared, tenure_wants}
-use Rattle.protocol.specs.Machine.{Grant, GrantedSlot, News, Confirmed, LineVersion, Made, Granted, Pruned, Ending, Committed, Released, Withdrawn, Died, Message, Said, Told, ToCoord, FromCoord, Parked, Machine, Has, Live, Leased, Retired, Free, Based, Answers, SameAsk, want_of, line, line_of, version_at, version_of, digest_for, slots_of, Names, written, acquire, commit, release, WasHeard, MayEnd, cleared, IsPartOf, Ends_part, Keeps, Leaves, Step, Grants, Ends, Prunes, Sees, Retires, Parks, Unparks, Raises, Steps, No_step, One_more, Stands, Says, Says_granted, Says_committed, Says_fenced, Says_denied, Says_recall}
+use Rattle.std.specs.Prelude.{nat_lt}
+use Rattle.protocol.specs.Lists.{In}
+use Rattle.protocol.specs.Names.{Mode, Shared, Private, Locked, Slot, slot_eq, slots_eq, is_private, only_slot, IsInstance, Digest, NodeId, Life, Ask, Ticket, Want, FolderName, leased_wants, tenure_wants}
+use Rattle.protocol.specs.Machine.{Grant, GrantedSlot, News, Granted, Withdrawn, Message, FromCoord, Parked, Machine, Live, Free, Based, Answers, SameAsk, want_of, line, version_at, slots_of, Names, written, acquire, commit, IsPartOf, Ends_part, Keeps, Leaves, Step, Grants, Unparks, Steps, No_step, One_more, Says, Says_granted, Says_denied}
 use Rattle.farm_base.specs.declared.message.FromCoord.TheVariants as told
-use Rattle.farm_base.specs.declared.message.Request.{Request}
-use Rattle.farm_base.specs.declared.message.Request.TheVariants.{Hello, Acquire, Commit, Release}
 use Rattle.farm_base.specs.declared.message.Why.{Why}
 use Rattle.protocol.specs.declared.answer.CoordNote.{CoordNote}
-use Rattle.protocol.specs.declared.answer.CoordNote.TheVariants as note
-use Rattle.protocol.specs.declared.answer.CoordRefusal.{CoordRefusal}
-use Rattle.protocol.specs.Ledger.{Limits, Ledger, Work, Lease, begin_work, says, notes, has_slot, some_lease, is_leased, is_free, lowest, instance_for, slot_for, all_taken, busy, is_saved, writable_slots, last_digest, granted_slot, grant_of, Decision, Give, Deny, Wait, pick, another, elsewhere, decision, lease_for, raised, granting, gives, denies, carried_out, waits, tried, stays, try_all, waiting, parks, retried, is_of, lease_of, is_parked, holds_wanted, recall, recalls, decided, acquiring, has_ticket, lease_under, without, ends, commits, place, confirmed, versions_of, on_all, is_its, may_commit, may_release, confirms, answered, committing, released, answering, is_older, is_older_ask, sees, is_home, newer_life, handled, retires, withdraws, withdrawing, withdrawn, is_at, retire_all, goes, retired, prunes, pruned, is_awaited, nudges, nudge_all, nudged, reread}
-use Rattle.protocol.specs.Follows.{lease_from, NoLease, Waits, Agrees, Works, Begins_work, Goes_on, Speaks, Follows}
-use Rattle.protocol.proofs.Base.{cases_bool, cases_nat, cases_option, true_false, not_true, not_false, and_both, or_false, none_some, some_is, eqb_is, eqb_same, eqb_apart, eqb_not, slot_eq_same, slot_eq_is, slot_path, node_is, life_is, ask_is, ticket_is, in_map, from_map, any_in, from_any, any_none, in_filter, from_filter, in_append, in_left, in_right, in_one, get_in, put_same, put_other}
-use Rattle.protocol.proofs.Lines.{Lawful, line-end}
-use Rattle.protocol.proofs.Steps.{Sound, Later, later_refl, later_trans, step_sound, fresh, same_grant}
-use Rattle.protocol.proofs.Bulk.{EndsThose, end_those, Bare, ended_line, still_live, live_after, retired_before, retired_stays, retired_now}
-use Rattle.protocol.proofs.Leases.{Core, core_of, AllAsked, agrees_from, lease_has, has_lease, writable-from, names_last, grant-lease, lease-grant, not_leased, free_is, lowest_is, find_some, find_none, find_in, waits_give, waits_less, parked_part, waits_filter, waits_push, no_grant}
+use Rattle.protocol.specs.Ledger.{Limits, Ledger, Work, Lease, says, notes, some_lease, is_leased, is_free, lowest, instance_for, slot_for, all_taken, busy, last_digest, granted_slot, grant_of, Decision, Give, Deny, Wait, pick, another, elsewhere, decision, lease_for, raised, gives, denies, carried_out, waits, tried, stays, try_all, waiting, retried, is_parked}
+use Rattle.protocol.specs.Follows.{lease_from, NoLease, Waits, Works, Begins_work, Goes_on, Speaks, Follows}
+use Rattle.protocol.proofs.Base.{cases_bool, true_false, not_false, and_both, or_false, none_some, some_is, eqb_is, eqb_not, slot_eq_same, slot_eq_is, node_is, from_map, any_none, in_append, in_left, in_right, in_one}
+use Rattle.protocol.proofs.Steps.{Sound, Later, later_refl, later_trans, step_sound, fresh}
+use Rattle.protocol.proofs.Leases.{Core, core_of, AllAsked, agrees_from, names_last, grant-lease, lease-grant, not_leased, free_is, lowest_is, waits_give, parked_part, no_grant}
 
 pub works_sound : (empty : Digest) (pool : List Message) (a b : Machine) (sends : List FromCoord) → Sound empty a → Works empty pool a b sends → Later empty a b × Sound empty b
 works_sound empty pool a b sends sound Begins_work = (later_refl empty a, sound)
@@ -211,10 +204,10 @@ module _ (k : Limits) (fits : k.instances ≤ 4096) (pool : List Message) (m : M
       let all = met b q ws going.core picked.left picked.idle in
       let below : b.last < g.ticket.0 = (let l : q.last ≡ b.last = going.core.last in omega arith) in
       let free : (u : GrantedSlot) → In u g.slots → Free b u.slot × Based k.empty b u =
-          λ u i. (let r = granted_from q ws u i in
-              let s : Slot = slot_for k.instances (is_free q) r.0 in
-              subst (λ (z : GrantedSlot). Free b z.slot × Based k.empty b z) (sym r.2)
-              ((all r.0 r.1).0, (ap length (going.core.lines s), subst (λ v. Names k.empty v (length (q.line s)) (last_digest k.empty (q.line s))) (going.core.lines s) (names_last k.empty (q.line s))))) in
+      λ u i. (let r = granted_from q ws u i in
+      let s : Slot = slot_for k.instances (is_free q) r.0 in
+      subst (λ (z : GrantedSlot). Free b z.slot × Based k.empty b z) (sym r.2)
+      ((all r.0 r.1).0, (ap length (going.core.lines s), subst (λ v. Names k.empty v (length (q.line s)) (last_digest k.empty (q.line s))) (going.core.lines s) (names_last k.empty (q.line s))))) in
       let answers : Answers g p.wants = record {
         shared = refl;
         slots = wants_back q ws;
@@ -223,7 +216,7 @@ module _ (k : Limits) (fits : k.instances ≤ 4096) (pool : List Message) (m : M
       } in
       let alone : (x : Grant) → Live b x → SameAsk g x → ⊥ = λ x l same. no_grant k.empty b q p going.core none x l (sym same.0, sym same.1, sym same.2) in
       let home : g.tenure ≡ true → (x : NodeId) → b.old_home ≡ Some x → x ≡ g.node =
-          λ t x o. home_of q.old_home p.node x (and_here p.tenure (another q.old_home p.node) t picked.here) (going.core.old_home ∙ o) in
+      λ t x o. home_of q.old_home p.node x (and_here p.tenure (another q.old_home p.node) t picked.here) (going.core.old_home ∙ o) in
       let next : Machine = record b { made = Granted g ∷ b.made; last = g.ticket.0 } in
       let step : Step k.empty pool b next = Grants g p.wants asked answers (subst (λ z. z p.node.0 ≡ false) going.core.gone here) alone home below free in
       let now = now_sound b w.sends going.works in

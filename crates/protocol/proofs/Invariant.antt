@@ -1,8 +1,8 @@
 -- The invariant of the world, and what of it stays as the world goes on.
-use Rattle.std.proofs.Common.{◌≡◌, ◌≢◌, ℕ, ◌<◌, ◌≤◌, List, [], ◌⊎◌, Bool, true, false, not, eqb, map, Option, Some, subst, inl, inr, arith, sym, ap, ◌∙◌, refl}
+use Rattle.std.proofs.Common.{◌≡◌, ◌≢◌, ℕ, ◌<◌, ◌≤◌, List, [], ◌⊎◌, Bool, true, false, not, eqb, Some, subst, inl, inr, arith, ap}
 use Rattle.std.specs.Prelude.{⊤}
 use Rattle.protocol.specs.Lists.{In, nth}
-use Rattle.protocol.specs.Names.{Slot, NodeId, Life, Ask, Ticket, Digest, Want, FolderName, wants_shared, tenure_wants}
+use Rattle.protocol.specs.Names.{Slot, NodeId, Life, Ticket, Digest, Want, FolderName, wants_shared, tenure_wants}
 use Rattle.protocol.specs.Machine.{Grant, News, Confirmed, Ending, Committed, Released, Withdrawn, Died, Granted, Message, Said, Told, Fetches, Blob, ToCoord, FromCoord, acquire, WasHeard, Machine, Answers, line, written, slots_of, Names, Stands}
 use Rattle.farm_base.specs.declared.message.Request.{Request}
 use Rattle.farm_base.specs.declared.message.Request.TheVariants.{Hello, Acquire, Commit, Release}

@@ -1,15 +1,14 @@
 -- Leases and the live grants that they are of.
-use Rattle.std.proofs.Common.{◌≡◌, ◌≢◌, ℕ, zero, suc, ◌+◌, ◌<◌, ◌≤◌, List, [], ◌∷◌, ◌++◌, ◌⊎◌, Bool, true, false, not, ◌&&◌, ◌||◌, eqb, length, map, filter, Option, Some, None, slice_get, refl, sym, ◌∙◌, ap, subst, inl, inr, arith, append-nil}
+use Rattle.std.proofs.Common.{◌≡◌, ◌≢◌, ℕ, zero, suc, ◌+◌, ◌<◌, ◌≤◌, List, [], ◌∷◌, ◌++◌, Bool, true, false, not, ◌&&◌, eqb, length, map, filter, Some, None, slice_get, refl, sym, ◌∙◌, ap, subst, inl, inr, arith}
 use Rattle.std.proofs.lemmas.Bool.Decides.{nat_tests}
-use Rattle.std.specs.List.{list_any, find}
-use Rattle.std.specs.Prelude.{⊤}
-use Rattle.protocol.specs.Lists.{In, put}
-use Rattle.protocol.specs.Names.{Slot, slot_eq, slots_eq, is_private, only_slot, Digest, NodeId, Life, Ask, Ticket, Want, FolderName}
-use Rattle.protocol.specs.Machine.{Grant, GrantedSlot, LineVersion, Made, Granted, Ending, Withdrawn, Message, Parked, Machine, Has, Live, Leased, Retired, Free, line, Names, written, acquire}
-use Rattle.protocol.specs.Ledger.{Ledger, Lease, has_slot, some_lease, is_free, is_saved, writable_slots, last_digest, granted_slot, grant_of, is_of, lease_of, is_parked, has_ticket, lease_under, without, lowest}
+use Rattle.std.specs.List.{find}
+use Rattle.protocol.specs.Lists.{In}
+use Rattle.protocol.specs.Names.{Slot, slot_eq, Digest, NodeId, Life, Ask, FolderName}
+use Rattle.protocol.specs.Machine.{Grant, GrantedSlot, LineVersion, Message, Parked, Machine, Has, Live, Leased, Retired, Free, line, Names, written, acquire}
+use Rattle.protocol.specs.Ledger.{Ledger, Lease, has_slot, some_lease, is_free, writable_slots, last_digest, granted_slot, grant_of, is_of, is_parked, lowest}
 use Rattle.protocol.specs.Follows.{lease_from, NoLease, Waits, Agrees}
-use Rattle.protocol.proofs.Base.{cases_bool, cases_nat, true_false, not_true, not_false, and_both, or_false, none_some, some_is, eqb_is, eqb_same, slot_eq_same, slot_eq_is, slot_path, ticket_is, in_map, from_map, any_in, from_any, any_none, in_filter, from_filter, in_append, in_left, in_right, in_one, get_in}
-use Rattle.protocol.proofs.Steps.{Sound, same_grant}
+use Rattle.protocol.proofs.Base.{cases_bool, true_false, not_true, and_both, or_false, none_some, some_is, eqb_same, slot_eq_same, slot_eq_is, in_map, from_map, any_in, from_any, any_none, from_filter, in_append, in_one}
+use Rattle.protocol.proofs.Steps.{Sound}
 
 -- what the ledger keeps of grants, lines and nodes agrees with the machine
 pub record Core (empty : Digest) (m : Machine) (q : Ledger) : Type 0 where
@@ -89,7 +88,7 @@ names_at_end empty [] d (inl h) = h.1
 names_at_end empty [] d (inr h) = none_some h.1 h.3
 names_at_end empty (v ∷ vs) d (inl h) = (let bad : suc (length vs) ≡ 0 = h.0 in absurd (omega arith))
 names_at_end empty (v ∷ vs) d (inr h) = (let at : h.0 ≡ length vs = (let e : suc (length vs) ≡ h.0 + 1 = h.2 in omega arith) in
-  sym h.4 ∙ last_is empty v vs h.1 (ap (slice_get (v ∷ vs)) (sym at) ∙ h.3))
+    sym h.4 ∙ last_is empty v vs h.1 (ap (slice_get (v ∷ vs)) (sym at) ∙ h.3))
   where
     last_is : (empty : Digest) (v : LineVersion) (vs : List LineVersion) (u : LineVersion) → slice_get (v ∷ vs) (length vs) ≡ Some u → u.digest ≡ last_digest empty (v ∷ vs)
     last_is empty v [] u e = ap (λ (z : LineVersion). z.digest) (some_is u v (sym e))
@@ -115,9 +114,9 @@ slots_back empty line (u ∷ us) h =
 pub grant-lease : (empty : Digest) (m : Machine) (q : Ledger) (g : Grant) → Sound empty m → Core empty m q → Live m g → grant_of empty q.line (lease_from g) ≡ g
 grant-lease empty m q g sound core l =
     let all : (u : GrantedSlot) → In u g.slots → (u.base ≡ length (q.line u.slot)) × (u.digest ≡ last_digest empty (q.line u.slot)) =
-        λ u i. (let base : u.base ≡ length (line empty m u.slot) = sound.based g u l i in
-            let named : Names empty (line empty m u.slot) (length (line empty m u.slot)) u.digest = subst (λ b. Names empty (line empty m u.slot) b u.digest) base (sound.named g u l.0 i) in
-            (base ∙ ap length (sym (core.lines u.slot)), names_at_end empty (line empty m u.slot) u.digest named ∙ ap (last_digest empty) (sym (core.lines u.slot)))) in
+    λ u i. (let base : u.base ≡ length (line empty m u.slot) = sound.based g u l i in
+    let named : Names empty (line empty m u.slot) (length (line empty m u.slot)) u.digest = subst (λ b. Names empty (line empty m u.slot) b u.digest) base (sound.named g u l.0 i) in
+    (base ∙ ap length (sym (core.lines u.slot)), names_at_end empty (line empty m u.slot) u.digest named ∙ ap (last_digest empty) (sym (core.lines u.slot)))) in
     ap (λ (us : List GrantedSlot). record { ticket = g.ticket; node = g.node; life = g.life; ask = g.ask; shared = g.shared; tenure = g.tenure; slots = us }) (slots_back empty q.line g.slots all)
 
 pairs_back : (empty : Digest) (line : Slot → List LineVersion) (xs : List (Slot × Bool)) → map (λ (v : GrantedSlot). (v.slot, v.writable)) (map (granted_slot empty line) xs) ≡ xs
@@ -135,7 +134,7 @@ not_leased empty m q s core e l = true_false (some_lease q.live s) (any_in (λ (
 
 pub free_is : (empty : Digest) (m : Machine) (q : Ledger) (s : Slot) → Core empty m q → is_free q s ≡ true → Free m s
 free_is empty m q s core e = (let b = and_both (not (some_lease q.live s)) (not (q.retired s)) e in
-  (not_leased empty m q s core (not_true (some_lease q.live s) b.0), λ r. true_false (q.retired s) (core.retired_kept s r) (not_true (q.retired s) b.1)))
+    (not_leased empty m q s core (not_true (some_lease q.live s) b.0), λ r. true_false (q.retired s) (core.retired_kept s r) (not_true (q.retired s) b.1)))
 
 pub lowest-none : (free : Slot → Bool) (f : FolderName) (i : ℕ) → lowest free f i zero ≡ 0
 unfolding lowest

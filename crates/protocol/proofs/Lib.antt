@@ -11,3 +11,5 @@ mod Following
 mod Calls
 mod Others
 mod Moving
+mod Schedules
+mod Answering

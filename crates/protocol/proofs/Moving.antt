@@ -1,21 +1,19 @@
 -- What nodes do in the replay are acts of the world's nodes.
-use Rattle.std.proofs.Common.{◌≡◌, ◌≢◌, ℕ, zero, suc, ◌+◌, ◌<◌, ◌≤◌, List, [], ◌∷◌, ◌++◌, ◌⊎◌, Bool, true, false, not, ◌&&◌, ◌||◌, eqb, length, map, filter, Option, Some, None, slice_get, Result, Ok, Err, refl, sym, ◌∙◌, ap, subst, inl, inr, arith, append-nil, append_assoc}
-use Rattle.std.proofs.lemmas.Bool.Decides.{nat_tests}
+use Rattle.std.proofs.Common.{◌≡◌, ◌≢◌, ℕ, zero, suc, ◌+◌, List, [], ◌∷◌, ◌++◌, ◌⊎◌, Bool, true, false, not, ◌&&◌, ◌||◌, eqb, length, filter, Option, Some, None, slice_get, Ok, Err, refl, sym, ◌∙◌, ap, subst, inl, inr, arith, append-nil, append_assoc}
 use Rattle.std.specs.List.{list_any, list_all, flat_map}
-use Rattle.std.specs.Prelude.{⊤, nat_lt, is_some, if◌then◌else◌}
+use Rattle.std.specs.Prelude.{⊤, nat_lt, is_some}
 use Rattle.farm_base.specs.Folders.{folder_eq}
-use Rattle.protocol.specs.Lists.{In, put, nth, set_nth, is_nil}
-use Rattle.protocol.specs.Names.{Slot, Shared, slots_eq, digest_eq, NodeId, Life, Ask, Ticket, Digest, Want, FolderName, wants_shared, tenure_wants}
-use Rattle.protocol.specs.Machine.{News, GrantedSlot, Confirmed, Grant, Message, Said, Told, Fetches, Blob, FromCoord, hello, acquire, commit, release, written, slots_of, Machine}
+use Rattle.protocol.specs.Lists.{In, put, nth, set_nth}
+use Rattle.protocol.specs.Names.{Shared, slots_eq, digest_eq, NodeId, Life, Ask, Ticket, Digest, Want, FolderName, wants_shared, tenure_wants}
+use Rattle.protocol.specs.Machine.{GrantedSlot, Confirmed, Grant, Message, Told, Fetches, Blob, FromCoord, hello, acquire, commit, release, written, slots_of}
 use Rattle.farm_base.specs.declared.message.FromCoord.TheVariants as told
 use Rattle.farm_base.specs.declared.message.Why.{Why}
 use Rattle.protocol.specs.declared.answer.How.TheVariants as how
-use Rattle.protocol.specs.declared.answer.NodeNote.{NodeNote}
 use Rattle.protocol.specs.declared.answer.NodeRefusal.{NodeRefusal}
 use Rattle.protocol.specs.Ledger.{Limits}
-use Rattle.protocol.specs.World.{AskState, Open, Holding, Running, Finished, Over, Node, World, keeps, learn_bases, learn_versions, keep, has_life, IsTenureOf, Asked_tenure, Held_tenure, Running_tenure, Finished_tenure, RunsTenure, Uses, Open_uses, Held_uses, Running_uses, Idle, Act, Asks, Asks_tenure, Asks_again, Greets, Takes, Gives_back, Begins, Finishes, Gives_up, Sends_commit, Learns, Drops, Is_denied, Is_recalled, Is_recalled_running, Stores, Asks_content, Sends_blob, Restarts, Stops, Move, Node_moves, Moves, Still, Then}
-use Rattle.protocol.specs.Nodes.{NodeWork, NodeAnswer, guard, Place, wants_folder, is_tenure_of, is_home_of, uses, at_home, others_use, in_use, Held, Sent, first, first_of, under, held, running, held_or_running, finished, recalled_if, recallable, becomes, is_stored, all_stored, is_missing, others, fetches_of, fetches, is_base, opens, asked, asked_tenure, beginning, begun, Left, news_of, stored, gives_up, leaves, leaving, finishing, finished_with, aborting, aborted, again, all_again, resent, restarted, may_restart, nothing, takes, gives_back, granted, learned, dropped, denied, recalled, of_life, heard, fetched, brought, unless_spent}
-use Rattle.protocol.proofs.Base.{cases_bool, cases_nat, true_false, not_true, not_false, and_both, or_false, none_some, some_is, eqb_is, eqb_same, eqb_apart, folder_eq_same, digest_eq_is, life_is, ticket_is, in_append, in_one, from_map, any_in, any_none, from_any, from_filter, put_same, put_other, nth_in}
+use Rattle.protocol.specs.World.{AskState, Open, Holding, Running, Finished, Over, Node, World, keeps, learn_bases, learn_versions, keep, has_life, IsTenureOf, Asked_tenure, Held_tenure, Running_tenure, Finished_tenure, RunsTenure, Uses, Open_uses, Held_uses, Running_uses, Idle, Act, Asks, Asks_tenure, Asks_again, Greets, Takes, Gives_back, Begins, Finishes, Gives_up, Sends_commit, Learns, Drops, Is_denied, Is_recalled, Is_recalled_running, Stores, Asks_content, Sends_blob, Restarts, Stops, Node_moves, Moves, Still, Then}
+use Rattle.protocol.specs.Nodes.{NodeWork, NodeAnswer, guard, Place, wants_folder, is_tenure_of, is_home_of, uses, at_home, others_use, in_use, Held, Sent, first, first_of, under, held, running, held_or_running, finished, recalled_if, recallable, is_stored, all_stored, is_missing, others, fetches_of, fetches, is_base, asked, asked_tenure, beginning, begun, Left, news_of, stored, leaving, finishing, finished_with, aborting, aborted, again, all_again, resent, restarted, gives_back, granted, learned, dropped, denied, recalled, of_life, heard, fetched, brought, unless_spent}
+use Rattle.protocol.proofs.Base.{cases_bool, cases_nat, true_false, not_true, not_false, and_both, or_false, none_some, some_is, eqb_is, eqb_apart, folder_eq_same, digest_eq_is, life_is, ticket_is, in_append, from_map, any_in, any_none, from_any, put_same, put_other, nth_in}
 use Rattle.protocol.specs.Replay.{told_to}
 use Rattle.protocol.proofs.Following.{slots_eq_is}
 use Rattle.farm_base.proofs.NameLaws.{folder_exact}
@@ -118,7 +116,7 @@ under_is g t x y e = elim (cases_bool (eqb g.ticket.0 t.0)) [
 held_is : (t : Ticket) (s : AskState) (h : Held) → held t s ≡ Some h → (s ≡ Holding h.wants h.grant h.recalled) × (h.grant.ticket ≡ t)
 held_is t (Open wants tenure) h e = none_some h e
 held_is t (Holding wants g r) h e = (let u = under_is g t (record { wants = wants; grant = g; recalled = r }) h e in
-  (ap (λ (z : Held). Holding z.wants z.grant z.recalled) u.1, ap (λ (z : Held). z.grant.ticket) (sym u.1) ∙ u.0))
+    (ap (λ (z : Held). Holding z.wants z.grant z.recalled) u.1, ap (λ (z : Held). z.grant.ticket) (sym u.1) ∙ u.0))
 held_is t (Running wants g r) h e = none_some h e
 held_is t (Finished wants g news) h e = none_some h e
 held_is t (Over how) h e = none_some h e
@@ -127,7 +125,7 @@ running_is : (t : Ticket) (s : AskState) (h : Held) → running t s ≡ Some h �
 running_is t (Open wants tenure) h e = none_some h e
 running_is t (Holding wants g r) h e = none_some h e
 running_is t (Running wants g r) h e = (let u = under_is g t (record { wants = wants; grant = g; recalled = r }) h e in
-  (ap (λ (z : Held). Running z.wants z.grant z.recalled) u.1, ap (λ (z : Held). z.grant.ticket) (sym u.1) ∙ u.0))
+    (ap (λ (z : Held). Running z.wants z.grant z.recalled) u.1, ap (λ (z : Held). z.grant.ticket) (sym u.1) ∙ u.0))
 running_is t (Finished wants g news) h e = none_some h e
 running_is t (Over how) h e = none_some h e
 
@@ -143,7 +141,7 @@ finished_is t (Open wants tenure) h e = none_some h e
 finished_is t (Holding wants g r) h e = none_some h e
 finished_is t (Running wants g r) h e = none_some h e
 finished_is t (Finished wants g news) h e = (let u = under_is g t (record { wants = wants; grant = g; news = news }) h e in
-  (ap (λ (z : Sent). Finished z.wants z.grant z.news) u.1, ap (λ (z : Sent). z.grant.ticket) (sym u.1) ∙ u.0))
+    (ap (λ (z : Sent). Finished z.wants z.grant z.news) u.1, ap (λ (z : Sent). z.grant.ticket) (sym u.1) ∙ u.0))
 finished_is t (Over how) h e = none_some h e
 
 recalled_if_is : (b : Bool) (s x : AskState) → recalled_if b s ≡ Some x → (b ≡ true) × (s ≡ x)
@@ -280,7 +278,7 @@ module _ (sha : List ℕ → Digest) (u : World) (n : NodeId) where
       on_guard here.spent _ _ (λ up. on_guard (not (at_home here.asks wants)) _ _ (λ home. on_guard (not (nat_lt (length here.asks) k.greatest)) _ _ (λ left.
       does (acquire n here.life (record { 0 = length here.asks + 1 }) wants false ∷ []) (record here { asks = here.asks ++ Open wants false ∷ [] })
       (Asks wants (λ w i shared. (let t : (not (wants_shared w) || list_any (is_home_of w.folder) here.asks) ≡ true = all_in (λ (v : Want). not (wants_shared v) || list_any (is_home_of v.folder) here.asks) wants (not_false (at_home here.asks wants) home) w i in
-        some_home w.folder here.asks (rw shared at t)))))))
+      some_home w.folder here.asks (rw shared at t)))))))
 
   pub tenure_does : (k : Limits) (size : ℕ) (f : FolderName) → OnAnswer (asked_tenure k (at size) f here)
   tenure_does k size f =

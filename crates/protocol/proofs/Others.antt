@@ -1,29 +1,22 @@
 -- Newer lives, withdrawals, retirements, prunes, nudges and restarts follow the machine.
-use Rattle.std.proofs.Common.{◌≡◌, ◌≢◌, ℕ, zero, suc, ◌+◌, ◌<◌, ◌≤◌, List, [], ◌∷◌, ◌++◌, ◌⊎◌, min, Bool, true, false, not, ◌&&◌, ◌||◌, eqb, length, map, filter, Option, Some, None, slice_get, Result, Ok, Err, refl, sym, ◌∙◌, ap, subst, inl, inr, arith, append-nil}
+use Rattle.std.proofs.Common.{◌≡◌, ◌≢◌, ℕ, ◌+◌, ◌<◌, ◌≤◌, List, [], ◌∷◌, ◌++◌, ◌⊎◌, Bool, true, false, not, ◌&&◌, ◌||◌, eqb, filter, Option, Some, None, Result, Ok, Err, refl, sym, ◌∙◌, ap, subst, inl, inr, arith, append-nil}
 use Rattle.std.proofs.lemmas.Bool.Decides.{nat_tests}
-use Rattle.std.specs.List.{list_any, find}
-use Rattle.std.specs.Prelude.{⊤, nat_lt, is_some, if◌then◌else◌}
+use Rattle.std.specs.List.{list_any}
+use Rattle.std.specs.Prelude.{⊤, nat_lt, if◌then◌else◌}
 use Rattle.protocol.specs.Lists.{In, put, is_nil}
-use Rattle.protocol.specs.Names.{Mode, Shared, Private, Locked, Slot, slot_eq, slots_eq, is_private, is_shared, wants_shared, only_slot, IsInstance, Digest, NodeId, Life, Ask, Ticket, Want, FolderName, leased_wants, any_shared, tenure_wants}
-use Rattle.protocol.specs.Machine.{Grant, GrantedSlot, News, Confirmed, LineVersion, Made, Granted, Pruned, Ending, Committed, Released, Withdrawn, Died, Message, Said, Told, ToCoord, FromCoord, Parked, Machine, Has, Live, Leased, Retired, Free, Based, Answers, SameAsk, want_of, line, line_of, version_at, version_of, digest_for, slots_of, Names, written, acquire, commit, release, WasHeard, MayEnd, cleared, IsPartOf, Ends_part, Keeps, Leaves, Step, Grants, Ends, Prunes, Sees, Retires, Parks, Unparks, Raises, Steps, No_step, One_more, Stands, Says, Says_granted, Says_committed, Says_fenced, Says_denied, Says_recall}
+use Rattle.protocol.specs.Names.{Slot, slot_eq, is_private, NodeId, Life, Ticket}
+use Rattle.protocol.specs.Machine.{Grant, LineVersion, Granted, Pruned, Withdrawn, Died, Message, Said, ToCoord, FromCoord, Parked, Machine, Live, line, WasHeard, cleared, IsPartOf, Step, Prunes, Sees, Retires, Unparks, Raises, Says, Says_recall}
 use Rattle.farm_base.specs.declared.message.FromCoord.TheVariants as told
-use Rattle.farm_base.specs.declared.message.Request.{Request}
-use Rattle.farm_base.specs.declared.message.Request.TheVariants.{Hello, Acquire, Commit, Release}
-use Rattle.farm_base.specs.declared.message.Why.{Why}
 use Rattle.protocol.specs.declared.answer.CoordNote.{CoordNote}
 use Rattle.protocol.specs.declared.answer.CoordNote.TheVariants as note
 use Rattle.protocol.specs.declared.answer.CoordRefusal.{CoordRefusal}
 use Rattle.protocol.specs.declared.answer.CoordRefusal.TheVariants as refusal
-use Rattle.protocol.specs.Ledger.{Limits, Ledger, Work, Lease, begin_work, says, notes, has_slot, some_lease, is_leased, is_free, lowest, instance_for, slot_for, all_taken, busy, is_saved, writable_slots, last_digest, granted_slot, grant_of, Decision, Give, Deny, Wait, pick, another, elsewhere, decision, lease_for, raised, granting, gives, denies, carried_out, waits, tried, stays, try_all, waiting, parks, retried, is_of, lease_of, is_parked, holds_wanted, recall, recalls, decided, acquiring, has_ticket, lease_under, without, ends, commits, place, confirmed, versions_of, on_all, is_its, may_commit, may_release, confirms, answered, committing, released, answering, is_older, is_older_ask, sees, is_home, newer_life, handled, retires, withdraws, withdrawing, withdrawn, is_at, retire_all, goes, retired, prunes, pruned, is_awaited, nudges, nudge_all, nudged, reread}
-use Rattle.protocol.specs.Follows.{lease_from, NoLease, Waits, Agrees, Works, Begins_work, Goes_on, Speaks, Follows}
-use Rattle.protocol.proofs.Base.{cases_bool, cases_nat, cases_option, true_false, not_true, not_false, and_both, or_false, none_some, some_is, eqb_is, eqb_same, eqb_apart, eqb_not, slot_eq_same, slot_eq_is, slot_path, node_is, life_is, ask_is, ticket_is, in_map, from_map, any_in, from_any, any_none, in_filter, from_filter, in_append, in_left, in_right, in_one, get_in, put_same, put_other}
-use Rattle.protocol.proofs.Lines.{Lawful, line-end}
-use Rattle.protocol.proofs.Steps.{Sound, Later, later_refl, later_trans, step_sound, fresh, same_grant}
-use Rattle.protocol.proofs.Bulk.{EndsThose, end_those, Bare, ended_line, still_live, live_after, retired_before, retired_stays, retired_now}
-use Rattle.protocol.proofs.Leases.{Core, core_of, AllAsked, agrees_from, lease_has, has_lease, writable-from, names_last, grant-lease, lease-grant, not_leased, free_is, lowest_is, find_some, find_none, find_in, waits_give, waits_less, parked_part, waits_filter, waits_push, no_grant}
-
-use Rattle.protocol.proofs.Following.{works_sound, part_filter, part_none, slots_eq_is, slots_eq_same, Sent, F, notes_follows, says_follows, now_sound, grant_says, Going, going, give_going, deny_going, asked_later, retried_follows, try-gone, raised_covers}
-
+use Rattle.protocol.specs.Ledger.{Limits, Ledger, Work, Lease, notes, has_slot, some_lease, is_leased, is_saved, grant_of, retried, holds_wanted, has_ticket, lease_under, is_older, is_older_ask, sees, is_home, newer_life, handled, retires, withdraws, withdrawing, withdrawn, is_at, retire_all, goes, retired, prunes, pruned, is_awaited, nudges, nudge_all, nudged, reread}
+use Rattle.protocol.specs.Follows.{lease_from, Works, Goes_on, Speaks}
+use Rattle.protocol.proofs.Base.{cases_bool, true_false, not_true, and_both, or_false, none_some, some_is, eqb_is, eqb_same, eqb_not, slot_eq_is, node_is, any_in, from_any, any_none, in_filter, from_filter, put_other}
+use Rattle.protocol.proofs.Steps.{Sound, same_grant}
+use Rattle.protocol.proofs.Leases.{Core, core_of, agrees_from, not_leased, find_some, waits_filter}
+use Rattle.protocol.proofs.Following.{part_filter, part_none, Sent, notes_follows, now_sound, grant_says, retried_follows, try-gone, raised_covers}
 use Rattle.protocol.proofs.Calls as calls
 use Rattle.protocol.proofs.Calls.{Fo, picks}
 
@@ -94,8 +87,8 @@ module _ (k : Limits) (fits : k.instances ≤ 4096) (pool : List Message) (m : M
       let next : Machine = record b { lives = put n.0 l.0 b.lives; old_home = cleared n b.old_home } in
       let older : (a c : ℕ) (d e : ℕ) → a ≡ c → d < e → ((eqb a c) && nat_lt d e) ≡ true = λ a c d e p q. grind (arith, nat_tests) in
       let step : Step k.empty pool b next = Sees n l heard (subst (λ g. g n.0 ≡ false) core.gone here) (lt_is (b.lives n.0) l.0 (subst (λ g. nat_lt (g n.0) l.0 ≡ true) core.lives newer))
-          (λ g live at lt. true_false (is_older n l (lease_from g)) (older g.node.0 n.0 g.life.0 l.0 (ap (λ (z : NodeId). z.0) at) lt) (leases (lease_from g) (core.live_kept g live)))
-          (λ p i at lt. true_false (is_older_ask n l p) (older p.node.0 n.0 p.life.0 l.0 (ap (λ (z : NodeId). z.0) at) lt) (asks p (subst (In p) (sym f.agrees.parked) i))) in
+      (λ g live at lt. true_false (is_older n l (lease_from g)) (older g.node.0 n.0 g.life.0 l.0 (ap (λ (z : NodeId). z.0) at) lt) (leases (lease_from g) (core.live_kept g live)))
+      (λ p i at lt. true_false (is_older_ask n l p) (older p.node.0 n.0 p.life.0 l.0 (ap (λ (z : NodeId). z.0) at) lt) (asks p (subst (In p) (sym f.agrees.parked) i))) in
       record {
         machine = next;
         works = Goes_on b next w.sends f.works step;
@@ -107,10 +100,13 @@ module _ (k : Limits) (fits : k.instances ≤ 4096) (pool : List Message) (m : M
   sees_it : (n : NodeId) (l : Life) (w : Work) (f : Fi w) → WasHeard pool n l → w.ledger.gone n.0 ≡ false → nat_lt (w.ledger.lives n.0) l.0 ≡ true → Fi (sees n l w)
   sees_it n l w f heard here newer =
       let died = calls.plain_ends k fits pool m sound sent (is_older n l) Died true w f (λ s t. refl) (λ q. (let bad : Died ≡ Withdrawn = q in cc))
-          (λ e g made t. (let b = and_both (eqb g.node.0 n.0) (nat_lt g.life.0 l.0) t in
-            let node : g.node ≡ n = node_is g.node n (eqb_is g.node.0 n.0 b.0) in
-            (l, subst (λ (z : NodeId). WasHeard pool z l) (sym node) heard, lt_is g.life.0 l.0 b.1,
-              subst (λ (z : NodeId). f.machine.gone z.0 ≡ false) (sym node) (subst (λ h. h n.0 ≡ false) f.agrees.gone here)))) in
+      (λ e g made t. (let b = and_both (eqb g.node.0 n.0) (nat_lt g.life.0 l.0) t in
+      let node : g.node ≡ n = node_is g.node n (eqb_is g.node.0 n.0 b.0) in (
+        l,
+        subst (λ (z : NodeId). WasHeard pool z l) (sym node) heard,
+        lt_is g.life.0 l.0 b.1,
+        subst (λ (z : NodeId). f.machine.gone z.0 ≡ false) (sym node) (subst (λ h. h n.0 ≡ false) f.agrees.gone here),
+      ))) in
       let v : Work = record w { ledger = record w.ledger { live = filter (λ h. not (is_older n l h)) w.ledger.live }; changed = true } in
       let left = unpark_it (λ p. not (is_older_ask n l p)) v died in
       let u : Work = record v { ledger = record v.ledger { parked = filter (λ p. not (is_older_ask n l p)) w.ledger.parked } } in
@@ -150,8 +146,8 @@ module _ (k : Limits) (fits : k.instances ≤ 4096) (pool : List Message) (m : M
   withdraws_it h w f i free =
       let g = f.agrees.live_made h i in
       let only : (x : Grant) → Live f.machine x → has_ticket h.ticket (lease_from x) ≡ true → lease_from x ≡ h =
-          λ x l t. (let at : x.ticket.0 ≡ g.0.ticket.0 = eqb_is x.ticket.0 h.ticket.0 t ∙ ap (λ (z : Lease). z.ticket.0) (sym g.2) in
-            ap lease_from (same_grant k.empty f.machine (sound_at w f) x g.0 l.0 g.1.0 at) ∙ g.2) in
+      λ x l t. (let at : x.ticket.0 ≡ g.0.ticket.0 = eqb_is x.ticket.0 h.ticket.0 t ∙ ap (λ (z : Lease). z.ticket.0) (sym g.2) in
+      ap lease_from (same_grant k.empty f.machine (sound_at w f) x g.0 l.0 g.1.0 at) ∙ g.2) in
       calls.withdrawn_ends k fits pool m sound sent (has_ticket h.ticket) (w.changed || is_saved h) (retires h w.ledger.retired) w f
       (λ x l t. ap (λ (z : Lease). z.tenure) (only x l t) ∙ free)
       (λ s t. elim (or_cases (is_private s.folder.mode && has_slot h.slots s) (w.ledger.retired s) t) [
@@ -160,9 +156,9 @@ module _ (k : Limits) (fits : k.instances ≤ 4096) (pool : List Message) (m : M
       ])
       (λ s t. or_right (is_private s.folder.mode && has_slot h.slots s) (w.ledger.retired s) t)
       (λ s x p j t has. (let o = f.agrees.live_made x j in
-        let is : x ≡ h = sym o.2 ∙ only o.0 o.1 (subst (λ z. has_ticket h.ticket z ≡ true) (sym o.2) t) in
-        let has' : has_slot h.slots s ≡ true = subst (λ (z : Lease). has_slot z.slots s ≡ true) is has in
-        or_left (is_private s.folder.mode && has_slot h.slots s) (w.ledger.retired s) (rw (p, has') refl)))
+      let is : x ≡ h = sym o.2 ∙ only o.0 o.1 (subst (λ z. has_ticket h.ticket z ≡ true) (sym o.2) t) in
+      let has' : has_slot h.slots s ≡ true = subst (λ (z : Lease). has_slot z.slots s ≡ true) is has in
+      or_left (is_private s.folder.mode && has_slot h.slots s) (w.ledger.retired s) (rw (p, has') refl)))
 
   abbrev pub OnWork : Result Work CoordRefusal → Type 0
   OnWork (Ok w) = Fi w
@@ -185,17 +181,17 @@ module _ (k : Limits) (fits : k.instances ≤ 4096) (pool : List Message) (m : M
   goes_it n w f here plain home =
       let gone' : Slot → Bool = retire_all (filter (is_at n) w.ledger.live) w.ledger.retired in
       let ended = calls.withdrawn_ends k fits pool m sound sent (is_at n) true gone' w f
-          (λ g l t. (let x : (is_at n (lease_from g) && g.tenure) ≡ false = any_none (λ (h : Lease). is_at n h && h.tenure) (lease_from g) w.ledger.live plain (f.agrees.live_kept g l) in rw t at x))
-          (λ s t. elim (or_cases (is_private s.folder.mode && some_lease (filter (is_at n) w.ledger.live) s) (w.ledger.retired s) t) [
-            | inl new ↦ (let b = and_both (is_private s.folder.mode) (some_lease (filter (is_at n) w.ledger.live) s) new in
-                let r = from_any (λ (h : Lease). has_slot h.slots s) (filter (is_at n) w.ledger.live) b.1 in
-                let o = from_filter (is_at n) r.0 w.ledger.live r.1 in
-                inr (b.0, (r.0, o.0, o.1, r.2)))
-            | inr old ↦ inl old
-          ])
-          (λ s t. or_right (is_private s.folder.mode && some_lease (filter (is_at n) w.ledger.live) s) (w.ledger.retired s) t)
-          (λ s h p i t has. (let some : some_lease (filter (is_at n) w.ledger.live) s ≡ true = any_in (λ (z : Lease). has_slot z.slots s) h (filter (is_at n) w.ledger.live) (in_filter (is_at n) h w.ledger.live i t) has in
-            or_left (is_private s.folder.mode && some_lease (filter (is_at n) w.ledger.live) s) (w.ledger.retired s) (rw (p, some) refl))) in
+      (λ g l t. (let x : (is_at n (lease_from g) && g.tenure) ≡ false = any_none (λ (h : Lease). is_at n h && h.tenure) (lease_from g) w.ledger.live plain (f.agrees.live_kept g l) in rw t at x))
+      (λ s t. elim (or_cases (is_private s.folder.mode && some_lease (filter (is_at n) w.ledger.live) s) (w.ledger.retired s) t) [
+        | inl new ↦ (let b = and_both (is_private s.folder.mode) (some_lease (filter (is_at n) w.ledger.live) s) new in
+            let r = from_any (λ (h : Lease). has_slot h.slots s) (filter (is_at n) w.ledger.live) b.1 in
+            let o = from_filter (is_at n) r.0 w.ledger.live r.1 in
+            inr (b.0, (r.0, o.0, o.1, r.2)))
+        | inr old ↦ inl old
+      ])
+      (λ s t. or_right (is_private s.folder.mode && some_lease (filter (is_at n) w.ledger.live) s) (w.ledger.retired s) t)
+      (λ s h p i t has. (let some : some_lease (filter (is_at n) w.ledger.live) s ≡ true = any_in (λ (z : Lease). has_slot z.slots s) h (filter (is_at n) w.ledger.live) (in_filter (is_at n) h w.ledger.live i t) has in
+      or_left (is_private s.folder.mode && some_lease (filter (is_at n) w.ledger.live) s) (w.ledger.retired s) (rw (p, some) refl))) in
       let v : Work = record w { ledger = record w.ledger { live = filter (λ h. not (is_at n h)) w.ledger.live; retired = gone' }; changed = true } in
       let left = unpark_it (λ p. not (eqb p.node.0 n.0)) v ended in
       let u : Work = record v { ledger = record v.ledger { parked = filter (λ p. not (eqb p.node.0 n.0)) w.ledger.parked } } in
@@ -213,8 +209,8 @@ module _ (k : Limits) (fits : k.instances ≤ 4096) (pool : List Message) (m : M
           let core = core_at w f in
           let next : Machine = record b { gone = put n.0 true b.gone } in
           let step : Step k.empty pool b next = Retires n (subst (λ g. g n.0 ≡ false) core.gone here) (subst (λ o. o ≢ Some n) core.old_home (not_home w.ledger.old_home home))
-              (λ g l e. true_false (is_at n (lease_from g)) (subst (λ (z : NodeId). eqb g.node.0 z.0 ≡ true) e (eqb_same g.node.0)) (leases (lease_from g) (core.live_kept g l)))
-              (λ p i e. true_false (eqb p.node.0 n.0) (subst (λ (z : NodeId). eqb p.node.0 z.0 ≡ true) e (eqb_same p.node.0)) (asks p (subst (In p) (sym f.agrees.parked) i))) in
+          (λ g l e. true_false (is_at n (lease_from g)) (subst (λ (z : NodeId). eqb g.node.0 z.0 ≡ true) e (eqb_same g.node.0)) (leases (lease_from g) (core.live_kept g l)))
+          (λ p i e. true_false (eqb p.node.0 n.0) (subst (λ (z : NodeId). eqb p.node.0 z.0 ≡ true) e (eqb_same p.node.0)) (asks p (subst (In p) (sym f.agrees.parked) i))) in
           record {
             machine = next;
             works = Goes_on b next w.sends f.works step;
@@ -323,12 +319,12 @@ module _ (k : Limits) (fits : k.instances ≤ 4096) (pool : List Message) (m : M
   pub reread_follows : (w : Work) → Fi w → Fi (record w { ledger = reread w.ledger; changed = true })
   reread_follows w f =
       let ended = calls.withdrawn_ends k fits pool m sound sent (λ h. not (is_saved h)) true w.ledger.retired w f
-          (λ g l t. (or_false g.tenure (list_any (λ (x : Slot × Bool). is_private x.0.folder.mode) (lease_from g).slots) (not_true (is_saved (lease_from g)) t)).0)
-          (λ s t. inl t) (λ s t. t)
-          (λ s h p i t has. (let o = or_false h.tenure (list_any (λ (x : Slot × Bool). is_private x.0.folder.mode) h.slots) (not_true (is_saved h) t) in
-            let r = from_any (λ (x : Slot × Bool). slot_eq x.0 s) h.slots has in
-            let private : is_private r.0.0.folder.mode ≡ true = subst (λ (z : Slot). is_private z.folder.mode ≡ true) (sym (slot_eq_is r.0.0 s r.2)) p in
-            true_false (list_any (λ (x : Slot × Bool). is_private x.0.folder.mode) h.slots) (any_in (λ (x : Slot × Bool). is_private x.0.folder.mode) r.0 h.slots r.1 private) o.1)) in
+      (λ g l t. (or_false g.tenure (list_any (λ (x : Slot × Bool). is_private x.0.folder.mode) (lease_from g).slots) (not_true (is_saved (lease_from g)) t)).0)
+      (λ s t. inl t) (λ s t. t)
+      (λ s h p i t has. (let o = or_false h.tenure (list_any (λ (x : Slot × Bool). is_private x.0.folder.mode) h.slots) (not_true (is_saved h) t) in
+      let r = from_any (λ (x : Slot × Bool). slot_eq x.0 s) h.slots has in
+      let private : is_private r.0.0.folder.mode ≡ true = subst (λ (z : Slot). is_private z.folder.mode ≡ true) (sym (slot_eq_is r.0.0 s r.2)) p in
+      true_false (list_any (λ (x : Slot × Bool). is_private x.0.folder.mode) h.slots) (any_in (λ (x : Slot × Bool). is_private x.0.folder.mode) r.0 h.slots r.1 private) o.1)) in
       let v : Work = record w { ledger = record w.ledger { live = filter (λ h. not (not (is_saved h))) w.ledger.live; retired = w.ledger.retired }; changed = true } in
       let b : Machine = ended.machine in
       let core = core_at v ended in

@@ -1,16 +1,16 @@
 -- What the invariant says of a world.
-use Rattle.std.proofs.Common.{◌≡◌, ◌≢◌, ℕ, ◌+◌, ◌<◌, List, [], ◌∷◌, ◌++◌, ◌⊎◌, Bool, true, false, not, eqb, map, filter, Option, Some, None, slice_get, refl, sym, ◌∙◌, ap, subst, inl, inr, arith, append-nil}
+use Rattle.std.proofs.Common.{◌≡◌, ◌≢◌, ℕ, ◌+◌, ◌<◌, List, [], ◌∷◌, ◌++◌, ◌⊎◌, Bool, true, not, eqb, map, Option, Some, None, slice_get, refl, sym, ◌∙◌, ap, subst, inl, inr, arith, append-nil}
 use Rattle.std.proofs.lemmas.Bool.Decides.{nat_tests}
 use Rattle.protocol.specs.Lists.{In, nth}
-use Rattle.protocol.specs.Names.{Mode, Shared, Private, Locked, Slot, IsInstance, is_alone, wants_shared, only_slot, Digest, NodeId, Life, Ticket, Want, FolderName, leased_wants, tenure_wants}
-use Rattle.protocol.specs.Machine.{GrantedSlot, Grant, News, LineVersion, Confirmed, Ending, Committed, Released, Withdrawn, Died, Made, Granted, Pruned, ticket_of, Answers, want_of, Told, Has, added, line, line_of, version_at, Names, Stands}
+use Rattle.protocol.specs.Names.{Mode, Shared, Slot, IsInstance, is_alone, wants_shared, only_slot, Digest, NodeId, Life, Ticket, Want, FolderName, leased_wants, tenure_wants}
+use Rattle.protocol.specs.Machine.{Grant, News, LineVersion, Confirmed, Ending, Committed, Released, Withdrawn, Died, Made, Granted, Pruned, ticket_of, Answers, want_of, Told, Has, added, line, line_of, version_at, Names, Stands}
 use Rattle.farm_base.specs.declared.message.FromCoord.TheVariants as told
 use Rattle.protocol.specs.World.{AskState, Running, World, start}
-use Rattle.protocol.specs.Safe.{InUse, Held, IsWithdrawn, OnALine, Rising, Falling, Safe, SafeSince, EveryRunIsSafe, EveryRunStaysSafe}
-use Rattle.protocol.proofs.Base.{cases_nat, cases_bool, order_cases, in_one, in_append, in_map, from_map, get_in, none_some, some_is, true_false, ticket_is, slot_path}
+use Rattle.protocol.specs.Safe.{InUse, Held, IsWithdrawn, OnALine, Rising, Falling, Safe, EveryRunIsSafe, EveryRunStaysSafe}
+use Rattle.protocol.proofs.Base.{cases_nat, cases_bool, order_cases, in_one, in_append, from_map, get_in, some_is, slot_path}
 use Rattle.protocol.proofs.Lines.{Below, below_in, one_made, line_source, added_ticket, added_cases_one}
 use Rattle.protocol.proofs.Steps.{names_later, same_grant, older_gone, live_apart}
-use Rattle.protocol.proofs.Invariant.{spent, Spent, Its, StateOk, Fate, Inv, WasWanted}
+use Rattle.protocol.proofs.Invariant.{spent, Spent, Its, Fate, Inv}
 use Rattle.protocol.proofs.Worlds.{Onward, moves_inv, start_whole}
 
 falling : (xs : List Made) (b : ℕ) → Below xs b → Falling xs

@@ -1,8 +1,8 @@
 -- What each step of the machine keeps.
-use Rattle.std.proofs.Common.{◌≡◌, ◌≢◌, ℕ, ◌+◌, ◌<◌, ◌≤◌, List, [], ◌∷◌, ◌++◌, ◌⊎◌, Bool, true, false, not, ◌||◌, map, filter, length, Option, Some, None, slice_get, refl, sym, ◌∙◌, ap, subst, inl, inr, arith, append-nil}
+use Rattle.std.proofs.Common.{◌≡◌, ◌≢◌, ℕ, ◌+◌, ◌<◌, ◌≤◌, List, [], ◌∷◌, ◌++◌, ◌⊎◌, Bool, true, false, not, ◌||◌, length, Option, Some, None, slice_get, refl, sym, ◌∙◌, ap, subst, inl, inr, arith, append-nil}
 use Rattle.protocol.specs.Lists.{In, IsFrontOf, put}
 use Rattle.protocol.specs.Names.{Mode, Shared, Private, Locked, Slot, slot_eq, is_private, is_shared, is_alone, wants_shared, Digest, NodeId, Ticket, Want, leased_wants}
-use Rattle.protocol.specs.Machine.{GrantedSlot, Grant, LineVersion, Ending, Committed, Released, Withdrawn, Died, Made, Granted, Pruned, ticket_of, Message, Machine, Has, Live, Leased, Retired, Free, version_at, added, line, Names, Based, Answers, want_of, MayEnd, Parked, Step, Grants, Ends, Prunes, Sees, Retires, Parks, Unparks, Raises}
+use Rattle.protocol.specs.Machine.{GrantedSlot, Grant, LineVersion, Ending, Committed, Released, Withdrawn, Died, Made, Granted, Pruned, ticket_of, Message, Machine, Has, Live, Leased, Free, version_at, added, line, Names, Based, Answers, want_of, MayEnd, Parked, Step, Grants, Ends, Prunes, Sees, Retires, Parks, Unparks, Raises}
 use Rattle.protocol.proofs.Base.{cases_option, cases_nat, cases_bool, order_cases, true_false, not_true, put_same, put_other, slot_eq_is, front_refl, front_trans, front_get, get_in, get_push_cases, in_map, from_filter}
 use Rattle.protocol.proofs.Lines.{Below, below_in, below_more, one_grant, granted_is, Gone, Apart, Extends, apart_later, apart_pair, Lawful, AllLawful, adds_cases, line-end, line_source, version_cases, added_cases_one, added_ticket}
 

@@ -1,11 +1,10 @@
 -- Each move keeps the invariant, and so every run is safe.
-use Rattle.std.proofs.Common.{◌≡◌, ◌≢◌, ℕ, zero, suc, ◌<◌, ◌≤◌, List, [], ◌∷◌, ◌++◌, true, false, map, Option, Some, None, refl, sym, ◌∙◌, ap, subst, inl, inr, arith}
+use Rattle.std.proofs.Common.{◌≡◌, ◌≢◌, ℕ, zero, suc, ◌<◌, ◌≤◌, List, [], ◌∷◌, ◌++◌, true, Option, Some, None, refl, sym, ◌∙◌, ap, subst, inl, inr, arith}
 use Rattle.protocol.specs.Lists.{In, put, nth}
-use Rattle.protocol.specs.Names.{Slot, slot_eq, Digest, NodeId, Life, Ticket}
-use Rattle.protocol.specs.Machine.{Grant, News, LineVersion, Confirmed, Ending, Committed, Released, Withdrawn, Died, Made, Granted, ticket_of, Message, Told, FromCoord, acquire, commit, release, Machine, Live, added, line, line_of, digest_for, version_of, version_at, written, slots_of, MayEnd, Step, Grants, Ends, Prunes, Sees, Retires, Parks, Unparks, Raises, Steps, No_step, One_more, Says, Says_granted, Says_committed, Says_fenced, Says_denied, Says_recall}
-use Rattle.farm_base.specs.declared.message.FromCoord.TheVariants as told
-use Rattle.protocol.specs.World.{Node, AskState, Act, World, Move, Node_moves, Machine_moves, Machine_says, Fails, Recovers, Moves, Still, Then, start, keep, first_node}
-use Rattle.protocol.proofs.Base.{cases_bool, cases_nat, slot_eq_same, put_same, put_other, put_all, in_one, in_left, in_right, in_append, in_map, none_some, some_is, true_false, node_is}
+use Rattle.protocol.specs.Names.{Slot, slot_eq, Digest, NodeId, Ticket}
+use Rattle.protocol.specs.Machine.{Grant, News, LineVersion, Ending, Committed, Released, Withdrawn, Died, Made, Granted, ticket_of, Message, Told, FromCoord, acquire, commit, release, Machine, Live, added, line, line_of, digest_for, version_of, version_at, written, slots_of, MayEnd, Step, Grants, Ends, Prunes, Sees, Retires, Parks, Unparks, Raises, Steps, No_step, One_more, Says, Says_granted, Says_committed, Says_fenced, Says_denied, Says_recall}
+use Rattle.protocol.specs.World.{Node, AskState, Act, World, Move, Node_moves, Machine_moves, Machine_says, Fails, Recovers, Moves, Still, Then, start}
+use Rattle.protocol.proofs.Base.{cases_bool, cases_nat, slot_eq_same, put_same, put_other, put_all, in_one, in_left, in_right, in_append, in_map, none_some, some_is, true_false}
 use Rattle.protocol.proofs.Steps.{Later, later_refl, later_trans, step_sound, fresh, same_grant}
 use Rattle.protocol.proofs.Invariant.{Spent, NodeOk, ToldOk, MessageOk, Fate, WasWanted, Inv, Ahead, ahead_refl, message_later, fate_later, node_later, heard_life}
 use Rattle.protocol.proofs.Acts.{act_ahead, act_ok, act_sends, keep_ok}

@@ -1,13 +1,21 @@
 -- The ledger agrees with a machine that forgets nothing, and a farm's state with a world
 -- (docs/PROOFS.md, "From the replay to the world").
-use Rattle.std.specs.Prelude.{◌≡◌, ℕ, ◌≤◌, Bool, true, false, List, [], ◌∷◌, ◌++◌, ◌⊎◌, map, Option, Some, None, ⊤, Ok, Err}
-use Rattle.protocol.specs.Lists.{In, put, IsFrontOf}
-use Rattle.protocol.specs.Names.{Slot, NodeId, Digest}
-use Rattle.protocol.specs.Machine.{Grant, GrantedSlot, Message, Told, acquire, FromCoord, Parked, Machine, Live, Retired, line, Step, Says}
-use Rattle.protocol.specs.Ledger.{Limits, Ledger, Lease, Work, is_of, is_parked}
-use Rattle.protocol.specs.World.{World, Node, Moves, start}
+use Rattle.std.specs.Prelude.{◌≡◌, ℕ, ◌≤◌, nat_lt, if◌then◌else◌, true, false, List, [], ◌∷◌, ◌++◌, ◌⊎◌, map, Option, Some, None, ⊤, Result, Ok, Err}
+use Rattle.protocol.specs.Lists.{In}
+use Rattle.farm_base.specs.declared.message.Request.TheVariants.{Acquire}
+use Rattle.farm_base.specs.declared.message.FromCoord.TheVariants as told
+use Rattle.protocol.specs.declared.answer.CoordNote.TheVariants as note
+use Rattle.protocol.specs.declared.answer.CoordRefusal.{CoordRefusal}
+use Rattle.protocol.specs.declared.answer.CoordRefusal.TheVariants as refusal
+use Rattle.protocol.specs.declared.answer.EventRefusal.{EventRefusal}
+use Rattle.protocol.specs.declared.answer.EventRefusal.TheVariants as event
+use Rattle.protocol.specs.declared.answer.Outcome.{Outcome}
+use Rattle.protocol.specs.Names.{Slot, NodeId, Life, Ticket, Digest, leased_wants}
+use Rattle.protocol.specs.Machine.{Grant, Message, Said, acquire, ToCoord, FromCoord, Parked, Machine, Live, Retired, line, Step, Says}
+use Rattle.protocol.specs.Ledger.{Limits, Ledger, Lease, Work, begin_work, is_of, lease_of, is_parked, is_free, is_leased, all_taken, busy, elsewhere, grant_of, lease_for, newer_life, handled, withdrawn, retired, pruned, nudged, reread}
+use Rattle.protocol.specs.World.{World, Moves, start}
 use Rattle.protocol.specs.Safe.{Safe, SafeSince}
-use Rattle.protocol.specs.Replay.{Event, Farm, run, opening}
+use Rattle.protocol.specs.Replay.{Event, Farm, step, run, opening}
 
 -- the lease of a grant: what is kept of it
 abbrev pub lease_from : Grant → Lease
@@ -100,3 +108,54 @@ EveryScheduleIsSafe = (sha : List ℕ → Digest) (k : Limits) → IsFarm sha k 
 abbrev pub EveryScheduleStaysSafe : Type 0
 EveryScheduleStaysSafe = (sha : List ℕ → Digest) (k : Limits) → IsFarm sha k → (size : ℕ) (early late : List Event)
     → SafeBetween sha (run sha k early (opening sha size)) (run sha k (early ++ late) (opening sha size))
+
+-- each event, from any world of a run that a farm is in, leads to a world that the farm is in then
+abbrev pub EveryEventIsMoves : Type 0
+EveryEventIsMoves = (sha : List ℕ → Digest) (k : Limits) → IsFarm sha k → (u : World) → Moves sha (start sha) u → (s : Farm) → Shows sha u s → (e : Event)
+    → (v : World) × Moves sha u v × Shows sha v (step sha k s e).farm
+
+-- what a call comes to, the machine may do
+abbrev pub FollowsOk : Digest → List Message → Machine → Result Work CoordRefusal → Type 0
+FollowsOk empty pool m (Ok w) = Follows empty pool m w
+FollowsOk empty pool m (Err e) = ⊤
+
+-- every decision on a ledger that agrees with the machine of a world of a run
+pub record EveryDecision (k : Limits) (pool : List Message) (m : Machine) (q : Ledger) : Type 0 where
+  pub message : (y : ToCoord) → In (Said y) pool → Follows k.empty pool m (handled k y (begin_work q))
+  pub withdraw : (t : Ticket) → FollowsOk k.empty pool m (withdrawn k t (begin_work q))
+  pub retire : (n : NodeId) → FollowsOk k.empty pool m (retired k n (begin_work q))
+  pub prune : (s : Slot) → FollowsOk k.empty pool m (pruned k s (begin_work q))
+  pub nudge : Follows k.empty pool m (nudged k (begin_work q))
+  pub restart : Follows k.empty pool m (record (begin_work q) { ledger = reread q; changed = true })
+
+abbrev pub EveryDecisionFollows : Type 0
+EveryDecisionFollows = (sha : List ℕ → Digest) (k : Limits) → IsFarm sha k → (u : World) → Moves sha (start sha) u → (q : Ledger) → Agrees k.empty u.pool u.machine q → EveryDecision k u.pool u.machine q
+
+-- the work after the step on the message's life
+abbrev pub after_life : Limits → NodeId → Life → Work → Work
+after_life k n l w = if nat_lt (w.ledger.lives n.0) l.0 then newer_life k n l w else w
+
+-- the rules let the ask be granted: it has no lease and isn't parked; another node isn't the old home of a tenure; an
+-- instance is left of each PRIVATE folder; the slot of each other folder isn't leased; a ticket is left
+pub record MayBeGranted (k : Limits) (q : Ledger) (p : Parked) : Type 0 where
+  pub new : lease_of q.live p.node p.life p.ask ≡ None
+  pub unparked : is_parked q.parked p.node p.life p.ask ≡ false
+  pub here : elsewhere q p ≡ false
+  pub left : all_taken k.instances (is_free q) (leased_wants p.tenure p.wants) ≡ false
+  pub idle : busy (is_leased q) (leased_wants p.tenure p.wants) ≡ false
+  pub ticket : nat_lt q.last k.greatest ≡ true
+
+-- an Acquire of a node that isn't retired, of no older life, that the rules let be granted, is granted in that call
+abbrev pub FittingAskIsGranted : Type 0
+FittingAskIsGranted = (k : Limits) (p : Parked) (w : Work) → w.ledger.gone p.node.0 ≡ false → nat_lt p.life.0 (w.ledger.lives p.node.0) ≡ false
+    → let v : Work = after_life k p.node p.life w in
+    let grant : Grant = grant_of k.empty v.ledger.line (lease_for k v.ledger p) in
+    let y : ToCoord = record { node = p.node; life = p.life; request = Acquire p.ask p.wants p.tenure } in
+    MayBeGranted k v.ledger p → ((handled k y w).note ≡ note.Granted grant) × In (told.Granted grant) (handled k y w).sends
+
+-- no event of a replay is refused as BadRecord or LoadFault
+abbrev pub IsRecordFault : Result Outcome EventRefusal → Type 0
+IsRecordFault o = (o ≡ Err (event.Coord refusal.BadRecord)) ⊎ (o ≡ Err (event.Coord refusal.LoadFault))
+
+abbrev pub NoRecordFault : Type 0
+NoRecordFault = (sha : List ℕ → Digest) (k : Limits) (s : Farm) (e : Event) → IsRecordFault (step sha k s e).outcome → ⊥

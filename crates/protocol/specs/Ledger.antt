@@ -1,9 +1,9 @@
 -- The ledger: what the coordinator keeps, and what it does with it at each message and call, all choices made
 -- (docs/PROTOCOL.md, "What the coordinator does"). The rules are this project's own.
-use Rattle.std.specs.Prelude.{◌≡◌, ℕ, zero, suc, ◌+◌, ◌≤◌, min, Bool, true, false, not, ◌&&◌, ◌||◌, ◌==◌, nat_lt, if◌then◌else◌, List, [], ◌∷◌, ◌++◌, length, map, filter, Option, Some, None, is_some, Result, Ok, Err}
+use Rattle.std.specs.Prelude.{ℕ, zero, suc, ◌+◌, min, Bool, true, false, not, ◌&&◌, ◌||◌, ◌==◌, nat_lt, if◌then◌else◌, List, [], ◌∷◌, ◌++◌, length, map, filter, Option, Some, None, is_some, Result, Ok, Err}
 use Rattle.std.specs.List.{list_any, find}
 use Rattle.protocol.specs.Lists.{put, is_nil}
-use Rattle.protocol.specs.Names.{Mode, Shared, Private, Locked, Slot, slot_eq, slots_eq, is_private, only_slot, NodeId, Life, Ask, Ticket, Digest, Want, FolderName, any_shared, leased_wants}
+use Rattle.protocol.specs.Names.{Slot, slot_eq, slots_eq, is_private, only_slot, NodeId, Life, Ask, Ticket, Digest, Want, FolderName, any_shared, leased_wants}
 use Rattle.protocol.specs.Machine.{News, GrantedSlot, Confirmed, LineVersion, Grant, FromCoord, ToCoord, Parked, version_of, digest_for, slots_of, cleared}
 use Rattle.farm_base.specs.declared.message.Request.{Request}
 use Rattle.farm_base.specs.declared.message.Request.TheVariants.{Hello, Acquire, Commit, Release}

@@ -1,5 +1,5 @@
 -- Lists, places in them counted from 1, and functions changed at one place.
-use Rattle.std.specs.Prelude.{◌≡◌, ℕ, zero, suc, List, [], ◌∷◌, ◌++◌, ◌⊎◌, ◌==◌, Bool, false, true, not, if◌then◌else◌, Option, None, slice_get, slice_set}
+use Rattle.std.specs.Prelude.{◌≡◌, ℕ, zero, suc, List, [], ◌∷◌, ◌++◌, ◌⊎◌, ◌==◌, Bool, false, true, if◌then◌else◌, Option, None, slice_get, slice_set}
 
 -- x stands in the list
 abbrev pub In : {A : Type 0} → A → List A → Type 0

@@ -1,8 +1,8 @@
 -- The coordinator's machine, which forgets nothing: every grant ever made, how each ended, and what is read
 -- off these (docs/PROTOCOL.md, "The machine"). The rules are this project's own.
-use Rattle.std.specs.Prelude.{◌≡◌, ◌≢◌, ℕ, ◌+◌, ◌<◌, ◌≤◌, Bool, true, false, ◌==◌, if◌then◌else◌, List, [], ◌∷◌, ◌++◌, length, map, ◌⊎◌, Option, Some, None, slice_get, ⊤}
+use Rattle.std.specs.Prelude.{◌≡◌, ◌≢◌, ℕ, ◌+◌, ◌<◌, ◌≤◌, Bool, true, false, ◌==◌, if◌then◌else◌, List, [], ◌∷◌, ◌++◌, length, map, ◌⊎◌, Option, Some, None, slice_get}
 use Rattle.protocol.specs.Lists.{In, put}
-use Rattle.protocol.specs.Names.{Slot, slot_eq, is_private, is_shared, IsInstance, NodeId, Life, Ask, Ticket, Digest, Want, FolderName, any_shared, leased_wants, tenure_wants}
+use Rattle.protocol.specs.Names.{Slot, slot_eq, is_private, IsInstance, NodeId, Life, Ask, Ticket, Digest, Want, FolderName, any_shared, leased_wants, tenure_wants}
 use Rattle.farm_base.specs.declared.message.Request.TheVariants as request
 use Rattle.farm_base.specs.declared.message.FromCoord.TheVariants as told
 pub use Rattle.farm_base.specs.declared.message.News.{News}

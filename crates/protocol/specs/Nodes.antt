@@ -1,10 +1,10 @@
 -- What a node does at each message and call, all choices made (docs/PROTOCOL.md, "What a node does").
-use Rattle.std.specs.Prelude.{◌≡◌, ℕ, zero, suc, ◌+◌, Bool, true, false, not, ◌&&◌, ◌||◌, ◌==◌, nat_lt, if◌then◌else◌, List, [], ◌∷◌, ◌++◌, length, map, filter, Option, Some, None, is_some, Result, Ok, Err}
+use Rattle.std.specs.Prelude.{ℕ, zero, suc, ◌+◌, Bool, true, false, not, ◌&&◌, ◌||◌, ◌==◌, nat_lt, if◌then◌else◌, List, [], ◌∷◌, ◌++◌, length, map, filter, Option, Some, None, is_some, Result, Ok, Err}
 use Rattle.std.specs.List.{list_any, list_all, flat_map}
 use Rattle.farm_base.specs.Folders.{folder_eq}
-use Rattle.protocol.specs.Lists.{is_nil, nth, set_nth}
+use Rattle.protocol.specs.Lists.{nth, set_nth}
 use Rattle.protocol.specs.Names.{Slot, Shared, slots_eq, digest_eq, NodeId, Life, Ask, Ticket, Digest, Want, FolderName, wants_shared, tenure_wants}
-use Rattle.protocol.specs.Machine.{News, GrantedSlot, Confirmed, Grant, Message, Said, Told, Fetches, Blob, FromCoord, hello, acquire, commit, release, written, slots_of}
+use Rattle.protocol.specs.Machine.{News, GrantedSlot, Confirmed, Grant, Message, Fetches, Blob, FromCoord, hello, acquire, commit, release, written, slots_of}
 use Rattle.protocol.specs.Ledger.{Limits}
 use Rattle.protocol.specs.World.{AskState, Open, Holding, Running, Finished, Over, Node, keeps, learn_bases, learn_versions, keep, has_life}
 use Rattle.farm_base.specs.declared.message.FromCoord.TheVariants as told

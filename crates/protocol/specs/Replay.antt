@@ -1,8 +1,8 @@
 -- The one run of a schedule: each choice made by the rules (docs/PROTOCOL.md, "The replay of a schedule").
-use Rattle.std.specs.Prelude.{◌≡◌, ℕ, zero, suc, ◌+◌, ◌-◌, Bool, true, false, not, ◌&&◌, ◌||◌, ◌==◌, nat_lt, nat_le, if◌then◌else◌, List, [], ◌∷◌, ◌++◌, length, map, Option, Some, None, Result, Ok, Err}
-use Rattle.protocol.specs.Lists.{put, nth, is_nil}
+use Rattle.std.specs.Prelude.{ℕ, ◌+◌, Bool, true, false, ◌&&◌, nat_le, if◌then◌else◌, List, [], ◌∷◌, ◌++◌, length, map, Option, Some, None, Result, Ok, Err}
+use Rattle.protocol.specs.Lists.{put, nth}
 use Rattle.protocol.specs.Names.{Slot, NodeId, Ticket, Digest, Want, FolderName}
-use Rattle.protocol.specs.Machine.{Message, Said, Told, Fetches, Blob, ToCoord, FromCoord}
+use Rattle.protocol.specs.Machine.{Message, Said, Told, Fetches, Blob, FromCoord}
 use Rattle.protocol.specs.Ledger.{Limits, Ledger, Work, begin_work, handled, withdrawn, retired, pruned, nudged, reread}
 use Rattle.protocol.specs.Ledger as ledger
 use Rattle.protocol.specs.World.{Node, first_node}

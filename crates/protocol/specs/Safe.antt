@@ -1,8 +1,8 @@
 -- What is promised of every run (docs/PROTOCOL.md, "What is safe").
-use Rattle.std.specs.Prelude.{◌≡◌, ◌≢◌, ℕ, ◌<◌, Bool, List, [], ◌∷◌, ◌++◌, ◌⊎◌, Some, None, true, slice_get, ⊤}
+use Rattle.std.specs.Prelude.{◌≡◌, ◌≢◌, ℕ, ◌<◌, Bool, List, [], ◌∷◌, ◌⊎◌, Some, None, true, slice_get, ⊤}
 use Rattle.protocol.specs.Lists.{In, IsFrontOf, nth}
 use Rattle.protocol.specs.Names.{Slot, is_alone, wants_shared, only_slot, NodeId, Life, Ticket, Digest, Want}
-use Rattle.protocol.specs.Machine.{GrantedSlot, Grant, LineVersion, Confirmed, Made, Granted, ticket_of, Message, Told, Has, Withdrawn, Died, line, Names, Stands, Machine}
+use Rattle.protocol.specs.Machine.{GrantedSlot, Grant, LineVersion, Confirmed, Made, Granted, ticket_of, Told, Has, Withdrawn, Died, line, Names, Stands, Machine}
 use Rattle.farm_base.specs.declared.message.FromCoord.TheVariants as told
 use Rattle.protocol.specs.World.{World, Node, Running, Moves, start}
 

@@ -1,8 +1,8 @@
 -- The world: the machine, every message ever sent, and the nodes (docs/PROTOCOL.md, "The world").
-use Rattle.std.specs.Prelude.{◌≡◌, ◌≢◌, ℕ, ◌+◌, Bool, true, false, ◌==◌, if◌then◌else◌, List, [], ◌∷◌, ◌++◌, length, map, ◌⊎◌, Option, Some, None}
+use Rattle.std.specs.Prelude.{◌≡◌, ◌≢◌, ℕ, ◌+◌, Bool, true, false, ◌==◌, if◌then◌else◌, List, [], ◌∷◌, ◌++◌, length, ◌⊎◌, Option, Some, None}
 use Rattle.protocol.specs.Lists.{In, put, nth, set_nth}
 use Rattle.protocol.specs.Names.{Slot, Shared, slot_eq, digest_eq, NodeId, Life, Ask, Ticket, Digest, Want, FolderName, wants_shared, tenure_wants}
-use Rattle.protocol.specs.Machine.{GrantedSlot, Grant, News, Confirmed, Message, Said, Told, Fetches, Blob, hello, acquire, commit, release, Machine, Step, Steps, Says, written, slots_of}
+use Rattle.protocol.specs.Machine.{GrantedSlot, Grant, News, Confirmed, Message, Told, Fetches, Blob, hello, acquire, commit, release, Machine, Step, Steps, Says, written, slots_of}
 use Rattle.farm_base.specs.declared.message.FromCoord.TheVariants as told
 pub use Rattle.farm_base.specs.declared.message.Why.{Why}
 pub use Rattle.farm_base.specs.declared.message.FromCoord.{FromCoord}
