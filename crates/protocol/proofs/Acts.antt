@@ -35,13 +35,13 @@ learn_ok empty m s k d known here ok s' k' d' h =
 
 bases_ok : (empty : Digest) (m : Machine) (us : List GrantedSlot) (known : Slot → ℕ → Option Digest) → ((u : GrantedSlot) → In u us → Names empty (line empty m u.slot) u.base u.digest) → KnownOk empty m known → KnownOk empty m (learn_bases us known)
 bases_ok empty m [] known all ok = ok
-bases_ok empty m (u ∷ us) known all ok = learn_ok empty m u.slot u.base u.digest (learn_bases us known) (all u (inl refl)) (bases_ok empty m us known (λ v i. all v (inr i)) ok)
+bases_ok empty m (u ∷ us) known all ok = bases_ok empty m us (learn u.slot u.base u.digest known) (λ v i. all v (inr i)) (learn_ok empty m u.slot u.base u.digest known (all u (inl refl)) ok)
 
 versions_ok : (empty : Digest) (m : Machine) (t : Ticket) (vs : List Confirmed) (known : Slot → ℕ → Option Digest) → ((v : Confirmed) → In v vs → Stands empty m t v) → KnownOk empty m known → KnownOk empty m (learn_versions vs known)
 versions_ok empty m t [] known all ok = ok
 versions_ok empty m t (v ∷ vs) known all ok =
     let h = all v (inl refl) in
-    learn_ok empty m v.slot v.number v.digest (learn_versions vs known) (inr (h.0, record { ticket = t; digest = v.digest }, h.1, h.2, refl)) (versions_ok empty m t vs known (λ v i. all v (inr i)) ok)
+    versions_ok empty m t vs (learn v.slot v.number v.digest known) (λ v i. all v (inr i)) (learn_ok empty m v.slot v.number v.digest known (inr (h.0, record { ticket = t; digest = v.digest }, h.1, h.2, refl)) ok)
 
 pub keep_ok : (sha : List ℕ → Digest) (c : List ℕ) (store : Digest → Option (List ℕ)) → ((d : Digest) (c' : List ℕ) → store d ≡ Some c' → sha c' ≡ d) → (d : Digest) (c' : List ℕ) → keep (sha c) c store d ≡ Some c' → sha c' ≡ d
 keep_ok sha c store ok d c' h = elim (cases_bool (digest_eq d (sha c))) [

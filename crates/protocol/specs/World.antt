@@ -45,12 +45,12 @@ learn s k d known s' k' = if slot_eq s' s then (if k' == k then Some d else know
 -- the base versions of a grant become known
 abbrev pub learn_bases : List GrantedSlot → (Slot → ℕ → Option Digest) → Slot → ℕ → Option Digest
 learn_bases [] known = known
-learn_bases (u ∷ us) known = learn u.slot u.base u.digest (learn_bases us known)
+learn_bases (u ∷ us) known = learn_bases us (learn u.slot u.base u.digest known)
 
 -- the versions of a confirmation become known
 abbrev pub learn_versions : List Confirmed → (Slot → ℕ → Option Digest) → Slot → ℕ → Option Digest
 learn_versions [] known = known
-learn_versions (v ∷ vs) known = learn v.slot v.number v.digest (learn_versions vs known)
+learn_versions (v ∷ vs) known = learn_versions vs (learn v.slot v.number v.digest known)
 
 -- the content is stored under the digest
 abbrev pub keep : Digest → List ℕ → (Digest → Option (List ℕ)) → Digest → Option (List ℕ)
