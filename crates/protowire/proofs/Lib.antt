@@ -1,0 +1,5 @@
+pub mod Bind
+pub mod FieldLaws
+pub mod FieldLoop
+pub mod VarintLaws
+pub mod VarintLoop

@@ -1,0 +1,4 @@
+pub mod Fields
+pub mod Reading
+pub mod Seen
+pub mod Varints
