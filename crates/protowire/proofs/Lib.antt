@@ -3,3 +3,5 @@ pub mod FieldLaws
 pub mod FieldLoop
 pub mod VarintLaws
 pub mod VarintLoop
+pub mod LookupLoop
+pub mod WritingLoop

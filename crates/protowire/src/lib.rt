@@ -3,11 +3,15 @@
 
 mod field;
 
+mod lookup;
 mod reading;
 mod refusal;
 mod varint;
+mod writing;
 
 pub use field::{Field, Value};
 
 pub use refusal::WireRefusal;
+pub use writing::{put_bytes, put_message, put_varint};
+pub use lookup::{bodies, joined_body, last_member, last_varint};
 pub use reading::fields;
