@@ -1,15 +1,19 @@
 -- A field that is read is spelled so, and what is spelled so is read.
-use Rattle.std.proofs.Common.{◌≡◌, ℕ, zero, suc, ◌+◌, ◌-◌, ◌*◌, ◌/◌, ◌%◌, ◌<◌, ◌≤◌, ◌^◌, ltb, leb, eqb, Bool, true, false, ◌||◌, cond, List, [], ◌∷◌, ◌++◌, length, take, drop, Result, Ok, Err, refl, sym, ap, subst, ◌∙◌, append_assoc, arith, inl, inr}
+use Rattle.std.proofs.Common.{◌≡◌, ℕ, zero, suc, ◌+◌, ◌-◌, ◌*◌, ◌/◌, ◌%◌, ◌<◌, ◌≤◌, ◌^◌, ltb, leb, eqb, true, false, ◌||◌, cond, List, [], ◌∷◌, ◌++◌, length, take, drop, Result, Ok, Err, refl, sym, ap, subst, ◌∙◌, append_assoc, arith, inl, inr}
 use Rattle.std.specs.List.{flat_map, AllByRecursion}
 use Rattle.std.proofs.lemmas.Bool.{ltb-false, le-ltb, leb-false, lt-leb, eqb-true, eqb-false, ne_eqb, or_parts}
-use Rattle.std.proofs.lemmas.List.{take-append-drop, take_at, drop_at, length-append, length-take, nil_from_length}
+use Rattle.std.proofs.lemmas.List.{take-append-drop, take_at, drop_at, length-append, length-take}
 use Rattle.protowire.specs.declared.refusal.WireRefusal.{WireRefusal}
 use Rattle.protowire.specs.declared.refusal.WireRefusal.TheVariants.{Truncated, BadWireType, BadFieldNumber}
 use Rattle.protowire.specs.Varints.{IsVarint}
 use Rattle.protowire.specs.Fields.{Payload, varint, eight, bytes, four, Entry, Spelled, wire_type, IsPayload, IsField, AreFields}
-use Rattle.protowire.specs.Reading.{◌>>=◌, varint_at, front_at, number_payload, eight_payload, bytes_payload, four_payload, payload_at, field_at, spelled_at, fields_in, fields_of}
+use Rattle.protowire.specs.Reading.{◌>>=◌, varint_at, front_at, number_payload, eight_payload, bytes_payload, four_payload, payload_at, field_at, spelled_at, fields_in, fields_of, Faulted}
 use Rattle.protowire.proofs.Bind.{bind_ok, bind_err, guard_ok, chosen, ok_is, pair_parts}
 use Rattle.protowire.proofs.VarintLaws.{varint_at_took, varint_at_again}
+
+-- two parts, one behind the other
+parts_then : (text a middle b rest : List ℕ) → text ≡ a ++ middle → middle ≡ b ++ rest → text ≡ (a ++ b) ++ rest
+parts_then text a middle b rest p q = p ∙ ap (λ (x : List ℕ). a ++ x) q ∙ sym (append_assoc a b rest)
 
 -- ---- so many bytes
 
@@ -41,21 +45,21 @@ held_varint text p rest e =
     let t = varint_at_took text s.0.0 s.0.1 s.1 in
     let q = pair_parts (varint s.0.0) p s.0.1 rest (ok_is {E = WireRefusal} (varint s.0.0, s.0.1) (p, rest) s.2) in
     subst (λ (x : Payload × List ℕ). Held 0 text x.0 x.1) (ok_is {E = WireRefusal} (varint s.0.0, s.0.1) (p, rest) s.2)
-      (record { front = t.0; parts = t.2; is_payload = t.1; is_type = refl })
+    (record { front = t.0; parts = t.2; is_payload = t.1; is_type = refl })
 
 held_eight : (text : List ℕ) (p : Payload) (rest : List ℕ) → eight_payload text ≡ Ok (p, rest) → Held 1 text p rest
 held_eight text p rest e =
     let s = bind_ok (front_at 8 text) (λ body. Ok (eight, body.1)) (p, rest) e in
     let t = front_took 8 text s.0.0 s.0.1 s.1 in
     subst (λ (x : Payload × List ℕ). Held 1 text x.0 x.1) (ok_is {E = WireRefusal} (eight, s.0.1) (p, rest) s.2)
-      (record { front = s.0.0; parts = t.0; is_payload = t.1; is_type = refl })
+    (record { front = s.0.0; parts = t.0; is_payload = t.1; is_type = refl })
 
 held_four : (text : List ℕ) (p : Payload) (rest : List ℕ) → four_payload text ≡ Ok (p, rest) → Held 5 text p rest
 held_four text p rest e =
     let s = bind_ok (front_at 4 text) (λ body. Ok (four, body.1)) (p, rest) e in
     let t = front_took 4 text s.0.0 s.0.1 s.1 in
     subst (λ (x : Payload × List ℕ). Held 5 text x.0 x.1) (ok_is {E = WireRefusal} (four, s.0.1) (p, rest) s.2)
-      (record { front = s.0.0; parts = t.0; is_payload = t.1; is_type = refl })
+    (record { front = s.0.0; parts = t.0; is_payload = t.1; is_type = refl })
 
 held_bytes : (text : List ℕ) (p : Payload) (rest : List ℕ) → bytes_payload text ≡ Ok (p, rest) → Held 2 text p rest
 held_bytes text p rest e =
@@ -65,12 +69,12 @@ held_bytes text p rest e =
     let b = front_took s.0.0 s.0.1 u.0.0 u.0.1 u.1 in
     let size : IsVarint t.0 (length u.0.0) = subst (λ (n : ℕ). IsVarint t.0 n) (sym b.1) t.1 in
     subst (λ (x : Payload × List ℕ). Held 2 text x.0 x.1) (ok_is {E = WireRefusal} (bytes u.0.0, u.0.1) (p, rest) u.2)
-      (record {
-        front = t.0 ++ u.0.0;
-        parts = t.2 ∙ ap (λ (x : List ℕ). t.0 ++ x) b.0 ∙ sym (append_assoc t.0 u.0.0 u.0.1);
-        is_payload = (t.0, size, refl);
-        is_type = refl;
-      })
+    (record {
+      front = t.0 ++ u.0.0;
+      parts = parts_then text t.0 s.0.1 u.0.0 u.0.1 t.2 b.0;
+      is_payload = (t.0, size, refl);
+      is_type = refl;
+    })
 
 of_type : (k type : ℕ) (text : List ℕ) (p : Payload) (rest : List ℕ) → eqb type k ≡ true → Held k text p rest → Held type text p rest
 of_type k type text p rest e h = subst (λ (n : ℕ). Held n text p rest) (sym (eqb-true type k e)) h
@@ -118,6 +122,25 @@ pub record FieldTook (text : List ℕ) (e : Entry) (rest : List ℕ) : Type 0 wh
   pub is_field : IsField (record { entry = e; text = front })
   pub long : 1 ≤ length front
 
+field_of_parts : (text : List ℕ) (tag : ℕ) (front middle : List ℕ) (p : Payload) (value rest : List ℕ) → IsVarint front tag → text ≡ front ++ middle → middle ≡ value ++ rest → IsPayload p value
+    → tag % 8 ≡ wire_type p → (tag / 8 ≡ 0 → ⊥) → tag / 8 < 2 ^ 29 → FieldTook text (record { number = tag / 8; payload = p }) rest
+field_of_parts text tag front middle p value rest is first second is_payload is_type some small =
+    let whole : tag ≡ 8 * (tag / 8) + wire_type p = omega (arith, is_type) in
+    record {
+      front = front ++ value;
+      parts = parts_then text front middle value rest first second;
+      is_field = record {
+        positive = omega arith;
+        small = small;
+        tag = front;
+        value = value;
+        is_tag = subst (λ (n : ℕ). IsVarint front n) whole is;
+        is_value = is_payload;
+        parts = refl;
+      };
+      long = omega (arith, length-append front value, AreGroups-not_nil front tag is);
+    }
+
 pub field_took : (text : List ℕ) (e : Entry) (rest : List ℕ) → field_at text ≡ Ok (e, rest) → FieldTook text e rest
 unfolding field_at
 field_took text e rest h =
@@ -126,19 +149,11 @@ field_took text e rest h =
     let t = varint_at_took text tag s.0.1 s.1 in
     let g = guard_ok (eqb (tag / 8) 0 || leb (2 ^ 29) (tag / 8)) BadFieldNumber (payload_at (tag % 8) s.0.1 >>= λ value. Ok (record { number = tag / 8; payload = value.0 }, value.1)) (e, rest) s.2 in
     let both = or_parts (eqb (tag / 8) 0) (leb (2 ^ 29) (tag / 8)) g.0 in
-    let positive : tag / 8 ≡ 0 → ⊥ = eqb-false (tag / 8) 0 both.0 in
-    let small : tag / 8 < 2 ^ 29 = leb-false (2 ^ 29) (tag / 8) both.1 in
     let u = bind_ok (payload_at (tag % 8) s.0.1) (λ value. Ok (record { number = tag / 8; payload = value.0 }, value.1)) (e, rest) g.1 in
     let v = payload_took (tag % 8) s.0.1 u.0.0 u.0.1 u.1 in
-    let whole : tag ≡ 8 * (tag / 8) + wire_type u.0.0 = omega (arith, v.is_type) in
     let made : Entry × List ℕ = (record { number = tag / 8; payload = u.0.0 }, u.0.1) in
     subst (λ (x : Entry × List ℕ). FieldTook text x.0 x.1) (ok_is {E = WireRefusal} made (e, rest) u.2)
-      (record {
-        front = t.0 ++ v.front;
-        parts = t.2 ∙ ap (λ (x : List ℕ). t.0 ++ x) v.parts ∙ sym (append_assoc t.0 v.front u.0.1);
-        is_field = record { positive = omega arith; small = small; tag = t.0; value = v.front; is_tag = subst (λ (n : ℕ). IsVarint t.0 n) whole t.1; is_value = v.is_payload; parts = refl };
-        long = omega (arith, length-append t.0 v.front, AreGroups-not_nil t.0 tag t.1);
-      })
+    (field_of_parts text tag t.0 s.0.1 u.0.0 v.front u.0.1 t.1 t.2 v.parts v.is_payload v.is_type (eqb-false (tag / 8) 0 both.0) (leb-false (2 ^ 29) (tag / 8) both.1))
 
 type_below : (p : Payload) → wire_type p < 8
 type_below (varint n) = omega arith
@@ -200,7 +215,7 @@ fields_in_took (suc limit) (b ∷ bs) fs fits e =
     let less : length s.0.1 ≤ limit = omega (arith, ap length t.0, length-append s.0.0.text s.0.1, IsField-long s.0.0 t.1) in
     let rest = fields_in_took limit s.0.1 u.0 less u.1 in
     subst (λ (x : List Spelled). AreFields (b ∷ bs) x) (ok_is {E = WireRefusal} (s.0.0 ∷ u.0) fs u.2)
-      (record { each = (t.1, rest.each); joined = t.0 ∙ ap (λ (x : List ℕ). s.0.0.text ++ x) rest.joined })
+    (record { each = (t.1, rest.each); joined = t.0 ∙ ap (λ (x : List ℕ). s.0.0.text ++ x) rest.joined })
 
 fields_in_some : (limit : ℕ) (text : List ℕ) → 1 ≤ length text → fields_in (suc limit) text ≡ (spelled_at text >>= λ first. fields_in limit first.1 >>= λ others. Ok (first.0 ∷ others))
 unfolding fields_in
@@ -262,14 +277,6 @@ unfolding fields_of
 fields_again text fs are =
     rw are.joined (fields_in_again (length (flat_map (λ f. f.text) fs)) fs are.each (omega arith))
 
--- what was read before a fault, and where it is
-pub record Faulted (text : List ℕ) (d : WireRefusal) : Type 0 where
-  pub before : List Spelled
-  pub rest : List ℕ
-  pub each : AllByRecursion IsField before
-  pub parts : text ≡ flat_map (λ f. f.text) before ++ rest
-  pub fault : field_at rest ≡ Err d
-
 spelled_fault : (text : List ℕ) (d : WireRefusal) → spelled_at text ≡ Err d → field_at text ≡ Err d
 unfolding spelled_at
 spelled_fault text d e =
@@ -295,7 +302,7 @@ fields_in_fault (suc limit) (b ∷ bs) d fits e =
               before = s.0.0 ∷ others.before;
               rest = others.rest;
               each = (t.1, others.each);
-              parts = t.0 ∙ ap (λ (x : List ℕ). s.0.0.text ++ x) others.parts ∙ sym (append_assoc s.0.0.text (flat_map (λ g. g.text) others.before) others.rest);
+              parts = parts_then (b ∷ bs) s.0.0.text s.0.1 (flat_map (λ g. g.text) others.before) others.rest t.0 others.parts;
               fault = others.fault;
             }
         | inr x ↦ absurd (let g = x.2 in cc)

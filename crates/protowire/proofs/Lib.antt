@@ -5,3 +5,4 @@ pub mod VarintLaws
 pub mod VarintLoop
 pub mod LookupLoop
 pub mod WritingLoop
+pub mod WritingLaws

@@ -1,8 +1,8 @@
 -- Looking fields up one after the other, as the loops do.
-use Rattle.std.proofs.Common.{◌≡◌, ℕ, ◌+◌, ◌<◌, ◌≤◌, Bool, true, false, cond, eqb, List, [], ◌∷◌, ◌++◌, length, get_or, take, drop, map, Option, Some, None, refl, sym, ap, ◌∙◌, append_assoc, arith, Bor, ◌&&◌, not, inl, inr}
+use Rattle.std.proofs.Common.{◌≡◌, ℕ, ◌+◌, ◌<◌, Bool, true, false, cond, eqb, List, [], ◌∷◌, ◌++◌, length, get_or, take, drop, map, Option, Some, None, refl, sym, ap, ◌∙◌, append_assoc, Bor, ◌&&◌, not, inl, inr}
 use Rattle.std.specs.Prelude.{filter_map}
 use Rattle.std.specs.Global.{Vec}
-use Rattle.std.specs.List.{flat_map, last_or, cons_option, list_any, list_all}
+use Rattle.std.specs.List.{flat_map, cons_option, list_all}
 use Rattle.std.specs.Option.{option_map, option_eq}
 use Rattle.std.proofs.lemmas.Bool.{and_parts, cases_eq, eqb-true, eqb-false, eq-eqb, ne_eqb}
 use Rattle.std.proofs.lemmas.List.Concat.{flat_map-append}
@@ -12,7 +12,7 @@ use Rattle.protowire.specs.declared.field.Field.{Field}
 use Rattle.protowire.specs.declared.field.Value.TheVariants as held
 use Rattle.protowire.specs.Fields.{Entry}
 use Rattle.protowire.specs.Seen.{entry, entries}
-use Rattle.protowire.specs.Lookups.{payload_body, number_in, body_in, bodies, last_varint, Member, member_in, last_run, last_member, joined, joined_parts, joined_body}
+use Rattle.protowire.specs.Lookups.{payload_body, bodies, Member, member_in, last_run, last_member, joined, joined_parts, joined_body}
 
 abbrev pub bodies_now : List (Bor (List ℕ)) → List (List ℕ)
 bodies_now bodies = map (λ body. body.now) bodies
@@ -61,12 +61,14 @@ run_pushed m ms x true e again = run_of_one m ms x (has m.0 x) refl e again
   where
     flat-push : (ms : List Member) (x : Member) → flat_map (λ y. y.1) (ms ++ x ∷ []) ≡ flat_map (λ y. y.1) ms ++ x.1
     flat-push ms x = flat_map-append (λ y. y.1) ms (x ∷ []) ∙ ap (λ t. flat_map (λ y. y.1) ms ++ t) (append-nil x.1)
+
     other : (ms : List Member) (m x : Member) → list_all (has m.0) ms ≡ true → has m.0 x ≡ false → run_push (last_run ms) x ≡ Some x
     other [] m x all no-x = refl
     other (y ∷ ms) m x all no-x =
         let run = all_one m.0 y ms all in
         let differs : eqb m.0 x.0 ≡ false = ne_eqb m.0 x.0 (λ h. eqb-false x.0 m.0 no-x (sym h)) in
         rw (run, differs) refl
+
     run_of_one : (m : Member) (ms : List Member) (x : Member) (b : Bool) → has m.0 x ≡ b → list_all (has m.0) ms ≡ true → last_run (ms ++ x ∷ []) ≡ run_push (last_run ms) x → last_run (m ∷ (ms ++ x ∷ [])) ≡ run_push (last_run (m ∷ ms)) x
     run_of_one m ms x true is all again =
         let more : list_all (has m.0) (ms ++ x ∷ []) ≡ true = list_all-push (has m.0) ms x ∙ rw (all, is) refl in

@@ -1,9 +1,9 @@
 -- A varint that is read is spelled so, and what is spelled so is read.
-use Rattle.std.proofs.Common.{◌≡◌, ℕ, zero, suc, ◌+◌, ◌-◌, ◌*◌, ◌%◌, ◌<◌, ◌≤◌, ◌^◌, ltb, cond, List, [], ◌∷◌, ◌++◌, length, Result, Ok, Err, refl, sym, ap, subst, ◌∙◌, arith, inl, inr, mod-eq_of_lt}
+use Rattle.std.proofs.Common.{◌≡◌, ℕ, zero, suc, ◌+◌, ◌*◌, ◌%◌, ◌<◌, ◌≤◌, ◌^◌, ltb, List, [], ◌∷◌, ◌++◌, length, Ok, Err, refl, sym, ap, subst, ◌∙◌, arith, inl, inr}
 use Rattle.std.proofs.lemmas.Bool.{ltb-true, ltb-false, lt-ltb, le-ltb}
 use Rattle.std.proofs.Math.Nat.{pow-suc}
 use Rattle.protowire.specs.declared.refusal.WireRefusal.{WireRefusal}
-use Rattle.protowire.specs.declared.refusal.WireRefusal.TheVariants.{Truncated, VarintTooLong}
+use Rattle.protowire.specs.declared.refusal.WireRefusal.TheVariants.{VarintTooLong}
 use Rattle.protowire.specs.Varints.{number_of, AreGroups, IsVarint}
 use Rattle.protowire.specs.Reading.{◌>>=◌, varint_in, varint_at}
 use Rattle.protowire.proofs.Bind.{bind_ok, chosen, ok_is}
@@ -18,7 +18,7 @@ pub record Took (places : ℕ) (text : List ℕ) (n : ℕ) (rest : List ℕ) : T
   pub fits : n < 2 * 128 ^ places
 
 -- one group before others
-AreGroups-more : (b : ℕ) (bs : List ℕ) → 128 ≤ b → AreGroups bs → AreGroups (b ∷ bs)
+pub AreGroups-more : (b : ℕ) (bs : List ℕ) → 128 ≤ b → AreGroups bs → AreGroups (b ∷ bs)
 AreGroups-more b [] top groups = absurd groups
 AreGroups-more b (c ∷ bs) top groups = (top, groups)
 

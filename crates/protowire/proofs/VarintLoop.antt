@@ -1,11 +1,11 @@
 -- Reading a varint byte by byte, as the loop does.
-use Rattle.std.proofs.Common.{◌≡◌, ℕ, zero, suc, ◌+◌, ◌-◌, ◌*◌, ◌%◌, ◌<◌, ◌≤◌, ◌^◌, List, [], ◌∷◌, length, get_or, take, drop, Result, Ok, Err, refl, sym, ap, ◌∙◌, arith, mod-eq_of_lt}
+use Rattle.std.proofs.Common.{◌≡◌, ℕ, suc, ◌+◌, ◌-◌, ◌*◌, ◌%◌, ◌<◌, ◌≤◌, List, length, get_or, take, drop, Result, Ok, Err, refl, sym, ap, ◌∙◌, arith, mod-eq_of_lt}
 use Rattle.std.proofs.lemmas.Bool.{lt-ltb, le-ltb}
 use Rattle.std.proofs.lemmas.List.{drop_more, drop_all, take_rest}
-use Rattle.std.proofs.Math.Nat.{mul_comm, pow-suc}
+use Rattle.std.proofs.Math.Nat.{mul_comm}
 use Rattle.protowire.specs.declared.refusal.WireRefusal.{WireRefusal}
 use Rattle.protowire.specs.declared.refusal.WireRefusal.TheVariants.{Truncated, VarintTooLong}
-use Rattle.protowire.specs.Reading.{◌>>=◌, varint_in, varint_at}
+use Rattle.protowire.specs.Reading.{◌>>=◌, varint_in}
 
 -- the groups that were read, and the number that is still read
 abbrev pub with_low : ℕ → ℕ → Result (ℕ × List ℕ) WireRefusal → Result (ℕ × List ℕ) WireRefusal
@@ -28,9 +28,8 @@ goes_on bytes place low weight total lt early top so_far =
     let k : 9 - place ≡ suc (9 - (place + 1)) = omega arith in
     let test = le-ltb (get_or bytes place 0) 128 top in
     let here : with_low low weight (varint_in (9 - place) (drop place bytes)) ≡ with_low (low + get_or bytes place 0 % 128 * weight) (weight * 128) (varint_in (9 - (place + 1)) (drop (place + 1) bytes)) =
-        rw (k, drop_more bytes place 0 lt, test) (group (get_or bytes place 0) low weight (varint_in (9 - (place + 1)) (drop (place + 1) bytes))) in
+    rw (k, drop_more bytes place 0 lt, test) (group (get_or bytes place 0) low weight (varint_in (9 - (place + 1)) (drop (place + 1) bytes))) in
     sym here ∙ so_far
-
 
 pub ends_tenth : (bytes : List ℕ) (place low weight : ℕ) (total : Result (ℕ × List ℕ) WireRefusal) → place < length bytes → place ≡ 9 → get_or bytes place 0 < 2
     → with_low low weight (varint_in (9 - place) (drop place bytes)) ≡ total
@@ -41,7 +40,7 @@ ends_tenth bytes place low weight total lt last small so_far =
     let test = lt-ltb (get_or bytes place 0) 2 small in
     let commuted : weight * get_or bytes place 0 ≡ get_or bytes place 0 * weight = mul_comm weight (get_or bytes place 0) in
     let here : with_low low weight (varint_in (9 - place) (drop place bytes)) ≡ Ok (low + get_or bytes place 0 * weight, take (length bytes - (place + 1)) (drop (place + 1) bytes)) =
-        rw (k, drop_more bytes place 0 lt, test, commuted, take_rest bytes (place + 1)) refl in
+    rw (k, drop_more bytes place 0 lt, test, commuted, take_rest bytes (place + 1)) refl in
     sym here ∙ so_far
 
 pub too_long : (bytes : List ℕ) (place low weight : ℕ) (total : Result (ℕ × List ℕ) WireRefusal) → place < length bytes → place ≡ 9 → 2 ≤ get_or bytes place 0
@@ -51,7 +50,7 @@ too_long bytes place low weight total lt last great so_far =
     let k : 9 - place ≡ 0 = omega arith in
     let test = le-ltb (get_or bytes place 0) 2 great in
     let here : with_low low weight (varint_in (9 - place) (drop place bytes)) ≡ Err VarintTooLong =
-        rw (k, drop_more bytes place 0 lt, test) refl in
+    rw (k, drop_more bytes place 0 lt, test) refl in
     sym here ∙ so_far
 
 pub ends : (bytes : List ℕ) (place low weight : ℕ) (total : Result (ℕ × List ℕ) WireRefusal) → place < length bytes → place < 9 → get_or bytes place 0 < 128
@@ -63,7 +62,7 @@ ends bytes place low weight total lt early small so_far =
     let test = lt-ltb (get_or bytes place 0) 128 small in
     let group_is : weight * get_or bytes place 0 ≡ get_or bytes place 0 % 128 * weight = rw (mod-eq_of_lt small) (mul_comm weight (get_or bytes place 0)) in
     let here : with_low low weight (varint_in (9 - place) (drop place bytes)) ≡ Ok (low + get_or bytes place 0 % 128 * weight, take (length bytes - (place + 1)) (drop (place + 1) bytes)) =
-        rw (k, drop_more bytes place 0 lt, test, group_is, take_rest bytes (place + 1)) refl in
+    rw (k, drop_more bytes place 0 lt, test, group_is, take_rest bytes (place + 1)) refl in
     sym here ∙ so_far
 
 pub cut : (bytes : List ℕ) (place low weight : ℕ) (total : Result (ℕ × List ℕ) WireRefusal) → length bytes ≤ place
@@ -71,5 +70,5 @@ pub cut : (bytes : List ℕ) (place low weight : ℕ) (total : Result (ℕ × Li
 unfolding varint_in
 cut bytes place low weight total past so_far =
     let here : with_low low weight (varint_in (9 - place) (drop place bytes)) ≡ Err Truncated =
-        rw (drop_all place bytes past) refl in
+    rw (drop_all place bytes past) refl in
     sym here ∙ so_far

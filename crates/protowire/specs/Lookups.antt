@@ -1,5 +1,5 @@
 -- What a message's fields give to a reader who asks for some numbers (proto3 encoding).
-use Rattle.std.specs.Prelude.{ℕ, Bool, ◌==◌, if◌then◌else◌, List, [], ◌∷◌, Option, Some, None, filter_map}
+use Rattle.std.specs.Prelude.{ℕ, ◌==◌, if◌then◌else◌, List, [], ◌∷◌, Option, Some, None, filter_map}
 use Rattle.std.specs.List.{flat_map, last_or, list_any, list_all}
 use Rattle.std.specs.Option.{option_map}
 use Rattle.protowire.specs.Fields.{Payload, varint, eight, bytes, four, Entry}

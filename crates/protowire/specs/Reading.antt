@@ -1,8 +1,9 @@
 -- Reading a message from the left: its fields, or the first fault.
-use Rattle.std.specs.Prelude.{◌≡◌, ℕ, zero, suc, ◌+◌, ◌-◌, ◌*◌, ◌/◌, ◌%◌, ◌^◌, Bool, ◌||◌, ◌==◌, nat_lt, nat_le, if◌then◌else◌, List, [], ◌∷◌, length, take, drop, Result, Ok, Err}
+use Rattle.std.specs.Prelude.{◌≡◌, ℕ, zero, suc, ◌+◌, ◌-◌, ◌*◌, ◌/◌, ◌%◌, ◌^◌, ◌||◌, ◌==◌, nat_lt, nat_le, if◌then◌else◌, List, [], ◌∷◌, ◌++◌, length, take, drop, Result, Ok, Err}
 use Rattle.protowire.specs.declared.refusal.WireRefusal.{WireRefusal}
 use Rattle.protowire.specs.declared.refusal.WireRefusal.TheVariants.{Truncated, VarintTooLong, BadWireType, BadFieldNumber, OutOfMemory}
-use Rattle.protowire.specs.Fields.{Payload, varint, eight, bytes, four, Entry, Spelled}
+use Rattle.std.specs.List.{flat_map, AllByRecursion}
+use Rattle.protowire.specs.Fields.{Payload, varint, eight, bytes, four, Entry, Spelled, IsField}
 
 -- one step after another, up to the first fault
 infixl 10 ◌>>=◌
@@ -100,3 +101,11 @@ fields_in (suc limit) (b ∷ bs) = do
 -- the fields of a message, or the first fault from the left
 unfoldable pub fields_of : List ℕ → Result (List Spelled) WireRefusal
 fields_of text = fields_in (length text) text
+
+-- fields stand in front of the fault, and it is the fault of what follows them
+pub record Faulted (text : List ℕ) (refusal : WireRefusal) : Type 0 where
+  pub before : List Spelled
+  pub rest : List ℕ
+  pub each : AllByRecursion IsField before
+  pub parts : text ≡ flat_map (λ f. f.text) before ++ rest
+  pub fault : field_at rest ≡ Err refusal

@@ -2,7 +2,7 @@
 #![tactic(auto)]
 
 mod field;
-
+mod laws;
 mod lookup;
 mod reading;
 mod refusal;
@@ -10,8 +10,11 @@ mod varint;
 mod writing;
 
 pub use field::{Field, Value};
-
-pub use refusal::WireRefusal;
-pub use writing::{put_bytes, put_message, put_varint};
+pub use laws::{
+    fields_are_determined, first_fault_decides, written_fields_are_fields,
+    written_numbers_are_shortest,
+};
 pub use lookup::{bodies, joined_body, last_member, last_varint};
 pub use reading::fields;
+pub use refusal::WireRefusal;
+pub use writing::{put_bytes, put_message, put_varint};

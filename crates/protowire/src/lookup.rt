@@ -51,7 +51,11 @@ pub fn last_varint(fields: &[Field<'_>], number: u32) -> Option<u64>
 }
 
 /// The bodies of this number, in order. Fields of other wire types are skipped.
-pub fn bodies<'a>(alloc: Global, fields: &[Field<'a>], number: u32) -> Result<Vec<&'a [u8]>, AllocError>
+pub fn bodies<'a>(
+    alloc: Global,
+    fields: &[Field<'a>],
+    number: u32,
+) -> Result<Vec<&'a [u8]>, AllocError>
     ensures { IfOk result (λ v. map (λ body. body.now) v.items ≡ bodies number (entries fields.now)) }
 {
     let mut bodies = Vec::new(alloc);
@@ -64,7 +68,11 @@ pub fn bodies<'a>(alloc: Global, fields: &[Field<'a>], number: u32) -> Result<Ve
 }
 
 /// The bodies of this number joined, if there are any. Fields of other wire types are skipped.
-pub fn joined_body(alloc: Global, fields: &[Field<'_>], number: u32) -> Result<Option<Vec<u8>>, AllocError>
+pub fn joined_body(
+    alloc: Global,
+    fields: &[Field<'_>],
+    number: u32,
+) -> Result<Option<Vec<u8>>, AllocError>
     ensures { IfOk result (λ found. option_map (λ body. body.items) found ≡ joined_body number (entries fields.now)) }
 {
     match last_member(alloc, fields, &[number])? {

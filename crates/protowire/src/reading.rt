@@ -1,7 +1,5 @@
 ghost use Rattle.std.specs.Prelude.{◌≡◌, List, length, IfOk, Ok};
-
 ghost use Rattle.protowire.specs.Reading.{shown, front_at, payload_at, field_at, fields_of, Gives};
-
 ghost use Rattle.protowire.specs.Fields.{Spelled, AreFields};
 ghost use Rattle.protowire.specs.Seen.{payload, spelled_all, StandInRow};
 
@@ -9,7 +7,6 @@ use super::field::{Field, Value};
 use super::refusal::WireRefusal;
 use super::varint::varint;
 use std::alloc::Global;
-
 
 /// Field numbers are below this one.
 const NUMBERS: u64 = 1 << 29;
@@ -75,7 +72,12 @@ fn all_fields(alloc: Global, bytes: &[u8]) -> Result<Vec<Field<'_>>, WireRefusal
         let (number, value, after) = first_field(rest)?;
         let start = bytes.len() - rest.len();
         let end = bytes.len() - after.len();
-        fields.push(Field { number, value, start, end })?;
+        fields.push(Field {
+            number,
+            value,
+            start,
+            end,
+        })?;
         rest = after;
     }
     Ok(fields)

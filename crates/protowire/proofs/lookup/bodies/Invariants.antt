@@ -1,4 +1,4 @@
-use Rattle.std.proofs.Common.{◌≡◌, ◌++◌, drop, map}
+use Rattle.std.proofs.Common.{◌≡◌, ◌++◌, drop}
 use Rattle.protowire.specs.Seen.{entries}
 use Rattle.protowire.specs.Lookups.{bodies}
 use Rattle.protowire.proofs.LookupLoop.{bodies_now}

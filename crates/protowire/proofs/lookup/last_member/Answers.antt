@@ -1,6 +1,6 @@
-use Rattle.std.proofs.Common.{◌≡◌, ◌++◌, Some, get_or, ap, sym, ◌∙◌, refl}
+use Rattle.std.proofs.Common.{◌≡◌, ◌++◌, get_or, ap, sym, ◌∙◌, refl}
 use Rattle.protowire.specs.Lookups.{Member}
-use Rattle.protowire.proofs.LookupLoop.{no_field, run_of, run_push, member_step, skip_step, joins, begins}
+use Rattle.protowire.proofs.LookupLoop.{no_field, run_push, member_step, skip_step, joins, begins}
 use Rattle.protowire.proofs.lookup.last_member.Goals as goal
 use Rattle.protowire.proofs.lookup.last_member.Goals.{then-ne, else-ne}
 

@@ -1,7 +1,6 @@
-use Rattle.std.proofs.Common.{◌≡◌, ◌++◌, ◌∷◌, [], ◌-◌, ◌≤◌, length, ap, sym, arith}
+use Rattle.std.proofs.Common.{sym, arith}
 use Rattle.std.proofs.lemmas.Result.{err_from_is_err_and}
 use Rattle.std.proofs.lemmas.List.{map_push}
-use Rattle.std.specs.List.{slice_range}
 use Rattle.protowire.specs.Fields.{Entry}
 use Rattle.protowire.specs.Reading.{fields_of}
 use Rattle.protowire.specs.Seen.{payload, spelled, spelled_all}

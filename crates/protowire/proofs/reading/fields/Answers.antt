@@ -1,5 +1,5 @@
 use Rattle.std.proofs.Common.{subst}
-use Rattle.protowire.specs.Reading.{Gives, fields_of}
+use Rattle.protowire.specs.Reading.{Gives}
 use Rattle.protowire.specs.Seen.{spelled_all}
 use Rattle.protowire.proofs.FieldLaws.{fields_again}
 use Rattle.protowire.proofs.FieldLoop.{is_spelled}

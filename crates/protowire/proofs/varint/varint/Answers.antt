@@ -1,4 +1,4 @@
-use Rattle.std.proofs.Common.{◌≡◌, ◌+◌, ◌*◌, ◌%◌, ◌<◌, ◌≤◌, ◌^◌, get_or, add-one, arith}
+use Rattle.std.proofs.Common.{◌<◌, ◌≤◌, get_or, add-one, arith}
 use Rattle.std.proofs.Math.Nat.{pow-suc}
 use Rattle.protowire.specs.Reading.{varint_at}
 use Rattle.protowire.proofs.VarintLoop.{ends_tenth, too_long, ends, goes_on, cut}

@@ -1,4 +1,4 @@
-use Rattle.std.proofs.Common.{◌≡◌, ◌-◌, ◌<◌, ◌≤◌, ◌^◌, drop, length}
+use Rattle.std.proofs.Common.{◌≡◌, ◌-◌, ◌<◌, ◌≤◌, ◌^◌, drop}
 use Rattle.protowire.specs.Reading.{varint_in, varint_at}
 use Rattle.protowire.proofs.VarintLoop.{with_low}
 use Rattle.protowire.proofs.varint.varint.Given as goal

@@ -1,4 +1,3 @@
-use Rattle.std.proofs.Common.{length}
 use Rattle.protowire.proofs.WritingLoop.{Written}
 use Rattle.protowire.proofs.writing.push_number.Given as goal
 
