@@ -6,7 +6,7 @@ use Rattle.std.proofs.lemmas.List.{take-append-drop, take_at, drop_at, length-ap
 use Rattle.protowire.specs.declared.refusal.WireRefusal.{WireRefusal}
 use Rattle.protowire.specs.declared.refusal.WireRefusal.TheVariants.{Truncated, BadWireType, BadFieldNumber}
 use Rattle.protowire.specs.Varints.{IsVarint}
-use Rattle.protowire.specs.Fields.{Payload, varint, eight, bytes, four, Entry, Spelled, wire_type, IsPayload, IsField, AreFields}
+use Rattle.protowire.specs.Fields.{Payload, varint, eight, bytes, four, Entry, Spelled, wire_type, IsPayload, IsField, message, AreFields}
 use Rattle.protowire.specs.Reading.{◌>>=◌, varint_at, front_at, number_payload, eight_payload, bytes_payload, four_payload, payload_at, field_at, spelled_at, fields_in, fields_of, Faulted}
 use Rattle.protowire.proofs.Bind.{bind_ok, bind_err, guard_ok, chosen, ok_is, pair_parts}
 use Rattle.protowire.proofs.VarintLaws.{varint_at_took, varint_at_again}
@@ -222,13 +222,13 @@ unfolding fields_in
 fields_in_some limit [] long = absurd (omega arith)
 fields_in_some limit (b ∷ bs) long = refl
 
-pub fields_in_again : (limit : ℕ) (fs : List Spelled) → AllByRecursion IsField fs → length (flat_map (λ f. f.text) fs) ≤ limit → fields_in limit (flat_map (λ f. f.text) fs) ≡ Ok fs
+pub fields_in_again : (limit : ℕ) (fs : List Spelled) → AllByRecursion IsField fs → length (message fs) ≤ limit → fields_in limit (message fs) ≡ Ok fs
 unfolding fields_in
 fields_in_again zero [] each fits = refl
 fields_in_again (suc limit) [] each fits = refl
-fields_in_again zero (f ∷ fs) each fits = absurd (omega (arith, length-append f.text (flat_map (λ g. g.text) fs), IsField-long f each.0))
+fields_in_again zero (f ∷ fs) each fits = absurd (omega (arith, length-append f.text (message fs), IsField-long f each.0))
 fields_in_again (suc limit) (f ∷ fs) each fits =
-    let rest = flat_map (λ g. g.text) fs in
+    let rest = message fs in
     let long = IsField-long f each.0 in
     let count = length-append f.text rest in
     let others = fields_in_again limit fs each.1 (omega (arith, fits, count, long)) in
@@ -275,7 +275,7 @@ fields_took text fs e = fields_in_took (length text) text fs (omega arith) e
 pub fields_again : (text : List ℕ) (fs : List Spelled) → AreFields text fs → fields_of text ≡ Ok fs
 unfolding fields_of
 fields_again text fs are =
-    rw are.joined (fields_in_again (length (flat_map (λ f. f.text) fs)) fs are.each (omega arith))
+    rw are.joined (fields_in_again (length (message fs)) fs are.each (omega arith))
 
 spelled_fault : (text : List ℕ) (d : WireRefusal) → spelled_at text ≡ Err d → field_at text ≡ Err d
 unfolding spelled_at
@@ -302,7 +302,7 @@ fields_in_fault (suc limit) (b ∷ bs) d fits e =
               before = s.0.0 ∷ others.before;
               rest = others.rest;
               each = (t.1, others.each);
-              parts = parts_then (b ∷ bs) s.0.0.text s.0.1 (flat_map (λ g. g.text) others.before) others.rest t.0 others.parts;
+              parts = parts_then (b ∷ bs) s.0.0.text s.0.1 (message others.before) others.rest t.0 others.parts;
               fault = others.fault;
             }
         | inr x ↦ absurd (let g = x.2 in cc)

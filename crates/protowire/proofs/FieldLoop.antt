@@ -1,5 +1,5 @@
 -- Reading fields one after the other, as the loop does.
-use Rattle.std.proofs.Common.{◌≡◌, ℕ, ◌-◌, ◌+◌, ◌≤◌, ◌<◌, List, [], ◌∷◌, ◌++◌, length, take, drop, Result, Ok, Err, refl, sym, ap, ◌∙◌, append_assoc, arith}
+use Rattle.std.proofs.Common.{◌⊎◌, inr, ◌≡◌, ℕ, ◌-◌, ◌+◌, ◌≤◌, ◌<◌, List, [], ◌∷◌, ◌++◌, length, take, drop, Result, Ok, Err, refl, sym, ap, ◌∙◌, append_assoc, arith}
 use Rattle.std.specs.Prelude.{IfOk}
 use Rattle.std.specs.Global.{Vec}
 use Rattle.std.specs.List.{slice_range}
@@ -8,7 +8,7 @@ use Rattle.protowire.specs.declared.refusal.WireRefusal.{WireRefusal}
 use Rattle.protowire.specs.declared.refusal.WireRefusal.TheVariants as refusal
 use Rattle.protowire.specs.declared.field.Field.{Field}
 use Rattle.protowire.specs.Fields.{Entry, Spelled, AreFields}
-use Rattle.protowire.specs.Reading.{◌>>=◌, Fails, Gives, field_at, spelled_at, fields_in, fields_of}
+use Rattle.protowire.specs.Reading.{◌>>=◌, Gives, field_at, spelled_at, fields_in, fields_of}
 use Rattle.protowire.specs.Seen.{spelled_all, StandInRow}
 use Rattle.protowire.proofs.FieldLaws.{field_took, fields_of_some, fields_took}
 
@@ -67,18 +67,11 @@ goes_on text rest e after front total left h so_far =
     sym (ap (with_front front) one ∙ regroup front f (fields_of after)) ∙ so_far
 
 pub ends : (d : WireRefusal) (front : List Spelled) (rest : List ℕ) (total : Result (List Spelled) WireRefusal) → 1 ≤ length rest → field_at rest ≡ Err d
-    → with_front front (fields_of rest) ≡ total → Fails d total
+    → with_front front (fields_of rest) ≡ total → (d ≡ refusal.OutOfMemory) ⊎ (total ≡ Err d)
 unfolding spelled_at
 ends d front rest total long h so_far =
     let one : with_front front (fields_of rest) ≡ Err d = rw (fields_of_some rest long, h) refl in
-    fails d total (sym so_far ∙ one)
-  where
-    fails : (d : WireRefusal) (total : Result (List Spelled) WireRefusal) → total ≡ Err d → Fails d total
-    fails refusal.Truncated total e = e
-    fails refusal.VarintTooLong total e = e
-    fails refusal.BadWireType total e = e
-    fails refusal.BadFieldNumber total e = e
-    fails refusal.OutOfMemory total e = tt
+    inr (sym so_far ∙ one)
 
 pub is_done : (front : List Spelled) (rest : List ℕ) (total : Result (List Spelled) WireRefusal) → length rest ≡ 0 → with_front front (fields_of rest) ≡ total → total ≡ Ok front
 unfolding fields_of fields_in

@@ -4,7 +4,7 @@ use Rattle.std.proofs.lemmas.Bool.{cases_lt, lt-ltb, le-ltb}
 use Rattle.std.proofs.Math.Nat.{pow-suc}
 use Rattle.protowire.specs.Varints.{number_of, AreGroups, IsVarint}
 use Rattle.protowire.specs.Fields.{varint, bytes, IsField}
-use Rattle.protowire.specs.Writing.{minimal_in, minimal, varint_field, bytes_field}
+use Rattle.protowire.specs.Writing.{minimal_in, minimal, spelled_varint, spelled_bytes}
 use Rattle.protowire.proofs.VarintLaws.{AreGroups-more}
 
 -- what a number's groups are
@@ -55,7 +55,7 @@ unfolding minimal
 minimal_shortest text n is = rw is.value (minimal_in_shortest 9 text is.groups)
 
 pub varint_is_field : (number n : ℕ) → 1 ≤ number → number < 2 ^ 29 → n < 2 ^ 64
-    → IsField (record { entry = record { number = number; payload = varint n }; text = varint_field number n })
+    → IsField (spelled_varint number n)
 varint_is_field number n positive small fits = record {
   positive = positive;
   small = small;
@@ -67,7 +67,7 @@ varint_is_field number n positive small fits = record {
 }
 
 pub bytes_is_field : (number : ℕ) (body : List ℕ) → 1 ≤ number → number < 2 ^ 29 → length body < 2 ^ 64
-    → IsField (record { entry = record { number = number; payload = bytes body }; text = bytes_field number body })
+    → IsField (spelled_bytes number body)
 bytes_is_field number body positive small fits = record {
   positive = positive;
   small = small;

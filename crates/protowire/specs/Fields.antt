@@ -44,7 +44,11 @@ pub record IsField (f : Spelled) : Type 0 where
   pub is_value : IsPayload f.entry.payload value
   pub parts : f.text ≡ tag ++ value
 
+-- the bytes that spell the fields, one after the other
+abbrev pub message : List Spelled → List ℕ
+message fs = flat_map (λ f. f.text) fs
+
 -- the text is the joining of one spelling per field, in order (proto3 encoding)
 pub record AreFields (text : List ℕ) (fs : List Spelled) : Type 0 where
   pub each : AllByRecursion IsField fs
-  pub joined : text ≡ flat_map (λ f. f.text) fs
+  pub joined : text ≡ message fs

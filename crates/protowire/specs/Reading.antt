@@ -1,9 +1,9 @@
 -- Reading a message from the left: its fields, or the first fault.
-use Rattle.std.specs.Prelude.{◌≡◌, ℕ, zero, suc, ◌+◌, ◌-◌, ◌*◌, ◌/◌, ◌%◌, ◌^◌, ◌||◌, ◌==◌, nat_lt, nat_le, if◌then◌else◌, List, [], ◌∷◌, ◌++◌, length, take, drop, Result, Ok, Err}
+use Rattle.std.specs.Prelude.{◌≡◌, ◌⊎◌, ℕ, zero, suc, ◌+◌, ◌-◌, ◌*◌, ◌/◌, ◌%◌, ◌^◌, ◌||◌, ◌==◌, nat_lt, nat_le, if◌then◌else◌, List, [], ◌∷◌, ◌++◌, length, take, drop, Result, Ok, Err}
 use Rattle.protowire.specs.declared.refusal.WireRefusal.{WireRefusal}
 use Rattle.protowire.specs.declared.refusal.WireRefusal.TheVariants.{Truncated, VarintTooLong, BadWireType, BadFieldNumber, OutOfMemory}
 use Rattle.std.specs.List.{flat_map, AllByRecursion}
-use Rattle.protowire.specs.Fields.{Payload, varint, eight, bytes, four, Entry, Spelled, IsField}
+use Rattle.protowire.specs.Fields.{Payload, varint, eight, bytes, four, Entry, Spelled, IsField, message}
 
 -- one step after another, up to the first fault
 infixl 10 ◌>>=◌
@@ -16,18 +16,13 @@ abbrev pub shown : {X Y E : Type 0} → (X → Y) → Result X E → Result Y E
 shown view (Ok x) = Ok (view x)
 shown view (Err e) = Err e
 
--- a refusal is the first fault, unless memory ran out
-abbrev pub Fails : {Y : Type 0} → WireRefusal → Result Y WireRefusal → Type 0
-Fails Truncated read = read ≡ Err Truncated
-Fails VarintTooLong read = read ≡ Err VarintTooLong
-Fails BadWireType read = read ≡ Err BadWireType
-Fails BadFieldNumber read = read ≡ Err BadFieldNumber
-Fails OutOfMemory read = Unit {0}
-
 -- what was returned, its value seen by view, is what reading gives, unless memory ran out
+abbrev pub GivesUnless : {X Y E : Type 0} → E → (X → Y) → Result X E → Result Y E → Type 0
+GivesUnless memory view (Ok x) read = read ≡ Ok (view x)
+GivesUnless memory view (Err e) read = (e ≡ memory) ⊎ (read ≡ Err e)
+
 abbrev pub Gives : {X Y : Type 0} → (X → Y) → Result X WireRefusal → Result Y WireRefusal → Type 0
-Gives view (Ok x) read = read ≡ Ok (view x)
-Gives view (Err e) read = Fails e read
+Gives view returned read = GivesUnless OutOfMemory view returned read
 
 -- The number at the front, and what follows it, where so many bytes may stand before its last one.
 -- The tenth byte has one bit left.
@@ -107,5 +102,5 @@ pub record Faulted (text : List ℕ) (refusal : WireRefusal) : Type 0 where
   pub before : List Spelled
   pub rest : List ℕ
   pub each : AllByRecursion IsField before
-  pub parts : text ≡ flat_map (λ f. f.text) before ++ rest
+  pub parts : text ≡ message before ++ rest
   pub fault : field_at rest ≡ Err refusal

@@ -1,4 +1,5 @@
 -- What is written: the shortest spellings (proto3 encoding).
+use Rattle.protowire.specs.Fields.{varint, bytes, Spelled}
 use Rattle.std.specs.Prelude.{ℕ, zero, suc, ◌+◌, ◌*◌, ◌/◌, ◌%◌, nat_lt, if◌then◌else◌, List, [], ◌∷◌, ◌++◌, length}
 
 -- seven bits a byte, least group first, with no group of 0 at the end, in at most so many bytes before the last
@@ -17,3 +18,10 @@ varint_field number n = minimal (8 * number) ++ minimal n
 -- a field that holds bytes
 abbrev pub bytes_field : ℕ → List ℕ → List ℕ
 bytes_field number body = minimal (8 * number + 2) ++ (minimal (length body) ++ body)
+
+-- those fields, with the bytes that spell them
+abbrev pub spelled_varint : ℕ → ℕ → Spelled
+spelled_varint number n = record { entry = record { number = number; payload = varint n }; text = varint_field number n }
+
+abbrev pub spelled_bytes : ℕ → List ℕ → Spelled
+spelled_bytes number body = record { entry = record { number = number; payload = bytes body }; text = bytes_field number body }

@@ -3,9 +3,9 @@
 ghost use Rattle.std.specs.Prelude.{◌≡◌, ℕ, ◌<◌, ◌≤◌, ◌^◌, List, length, Err};
 ghost use Rattle.protowire.specs.declared.refusal.WireRefusal.{WireRefusal};
 ghost use Rattle.protowire.specs.Varints.{IsVarint};
-ghost use Rattle.protowire.specs.Fields.{Spelled, IsField, AreFields, varint, bytes};
+ghost use Rattle.protowire.specs.Fields.{Spelled, IsField, AreFields};
 ghost use Rattle.protowire.specs.Reading.{fields_of, Faulted};
-ghost use Rattle.protowire.specs.Writing.{minimal, varint_field, bytes_field};
+ghost use Rattle.protowire.specs.Writing.{minimal, spelled_varint, spelled_bytes};
 
 /// No text is the joining of two lists of fields.
 pub fn fields_are_determined()
@@ -20,9 +20,9 @@ pub fn first_fault_decides()
 /// What the writers append is a field, which `fields` reads again wherever it stands.
 pub fn written_fields_are_fields()
     ensures varints { (number n : ℕ) → 1 ≤ number → number < 2 ^ 29 → n < 2 ^ 64
-        → IsField (record { entry = record { number = number; payload = varint n }; text = varint_field number n }) }
+        → IsField (spelled_varint number n) }
     ensures bodies { (number : ℕ) (body : List ℕ) → 1 ≤ number → number < 2 ^ 29 → length body < 2 ^ 64
-        → IsField (record { entry = record { number = number; payload = bytes body }; text = bytes_field number body }) }
+        → IsField (spelled_bytes number body) }
 {}
 
 /// No spelling of a number is shorter than the one that is written.
