@@ -10,3 +10,6 @@ one_field f = append-nil f.text
 -- what was appended, and what is still to be appended
 pub message-append : (fs gs : List Spelled) → message (fs ++ gs) ≡ message fs ++ message gs
 message-append fs gs = flat_map-append (λ f. f.text) fs gs
+
+-- for a message that is written field by field
+pub ruleset writes = (message-append, append_assoc)

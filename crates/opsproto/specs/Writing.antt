@@ -51,10 +51,14 @@ cache_fields c = text_fields 1 c.id ++ int_fields 2 c.sharing
 abbrev pub cache_text : CacheOpt Text → List ℕ
 cache_text c = message (cache_fields c)
 
+abbrev pub end_fields : Mount Text → List Spelled
+end_fields m = int_fields 1 m.input ++ text_fields 2 m.selector ++ text_fields 3 m.dest
+
+abbrev pub manner_fields : Mount Text → List Spelled
+manner_fields m = int_fields 4 m.output ++ bool_fields 5 m.readonly ++ int_fields 6 m.mount_type
+
 abbrev pub mount_fields : Mount Text → List Spelled
-mount_fields m =
-    int_fields 1 m.input ++ text_fields 2 m.selector ++ text_fields 3 m.dest ++ int_fields 4 m.output ++ bool_fields 5 m.readonly
-    ++ int_fields 6 m.mount_type ++ optional_fields 20 (option_map cache_text m.cache)
+mount_fields m = end_fields m ++ manner_fields m ++ optional_fields 20 (option_map cache_text m.cache)
 
 abbrev pub mount_text : Mount Text → List ℕ
 mount_text m = message (mount_fields m)

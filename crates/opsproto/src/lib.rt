@@ -12,6 +12,7 @@ mod read;
 mod reading;
 mod refusal;
 mod texts;
+mod write;
 
 pub use definition::Definition;
 pub use exec::{CacheOpt, ExecOp, Meta, Mount};
