@@ -17,8 +17,8 @@ use Rattle.opsproto.specs.declared.exec.ExecOp.{ExecOp}
 use Rattle.opsproto.specs.Scalars.{Text, int64_in, int32_in, bool_in, text_in}
 use Rattle.opsproto.specs.Reading.{says, each_of, optional_of, input_of, cache_of, mount_of, meta_of, exec_of}
 use Rattle.opsproto.specs.Writing.{number_fields, int_fields, bool_fields, text_fields, each_fields, optional_fields, input_fields, input_text, cache_fields, cache_text, end_fields, manner_fields, mount_fields, mount_text, meta_fields, meta_text, exec_fields, exec_text}
-use Rattle.opsproto.specs.Written.{IsText, IsInput, IsCache, IsMount, IsMeta, IsExec}
-use Rattle.opsproto.proofs.Parts.{numbers, texts, numbers-append, texts-append, unless_zero, unless_empty, numbers_number, numbers_text, numbers_each, numbers_optional, texts_number, texts_text, texts_each, texts_optional, text_again, bodies_again, body_again, int64_again, int32_again, bool_again, fields_append, number_is_field, unsigned64, unsigned32, bit_below, text_is_field, IsBody, each_is_field, optional_is_field, entries_again}
+use Rattle.opsproto.specs.Written.{IsBody, IsText, IsInput, IsCache, IsMount, IsMeta, IsExec}
+use Rattle.opsproto.proofs.Parts.{numbers, texts, numbers-append, texts-append, unless_zero, unless_empty, numbers_number, numbers_text, numbers_each, numbers_optional, texts_number, texts_text, texts_each, texts_optional, text_again, bodies_again, body_again, int64_again, int32_again, bool_again, fields_append, number_is_field, unsigned64, unsigned32, bit_below, text_is_field, each_is_field, optional_is_field, entries_again}
 
 ruleset parts = (numbers-append, texts-append, numbers_number, numbers_text, numbers_each, numbers_optional, texts_number, texts_text, texts_each, texts_optional, append-nil)
 

@@ -5,3 +5,4 @@ pub mod PutLemmas
 pub mod Parts
 pub mod Again
 pub mod Passes
+pub mod OpLaws

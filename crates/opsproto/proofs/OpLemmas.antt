@@ -29,7 +29,7 @@ kept_bodies (f ∷ fs) =
       | inr e ↦ rw (e, e) (kept_bodies fs)
     ]
 
-no_member : (e : Entry) → e.number ≡ 1 → member_in members e ≡ None
+pub no_member : (e : Entry) → e.number ≡ 1 → member_in members e ≡ None
 no_member e h = rw h refl
 
 kept_members : (fs : List Spelled) → filter_map (member_in members) (says (kept fs)) ≡ filter_map (member_in members) (says fs)

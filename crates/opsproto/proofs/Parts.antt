@@ -17,7 +17,7 @@ use Rattle.protowire.proofs.WritingLaws.{varint_is_field, bytes_is_field}
 use Rattle.opsproto.specs.Scalars.{Text, number_in, int64_in, int32_in, bool_in, text_in}
 use Rattle.opsproto.specs.Reading.{says, entries_of}
 use Rattle.opsproto.specs.Writing.{number_fields, text_fields, each_fields, optional_fields}
-use Rattle.opsproto.specs.Written.{IsText}
+use Rattle.opsproto.specs.Written.{IsBody, IsText}
 
 -- ---- the numbers and the bodies of one field number
 
@@ -190,10 +190,6 @@ pub text_is_field : (k : ℕ) (text : Text) → IsNumber k → IsText text → A
 unfolding text_fields
 text_is_field k [] is valid = tt
 text_is_field k (b ∷ bs) is valid = (bytes_is_field k (b ∷ bs) is.0 is.1 valid.size, tt)
-
--- a body that fits memory
-abbrev pub IsBody : List ℕ → Type 0
-IsBody body = length body < 2 ^ 64
 
 pub each_is_field : (k : ℕ) (parts : List (List ℕ)) → IsNumber k → AllByRecursion IsBody parts → AllByRecursion IsField (each_fields k parts)
 unfolding each_fields
