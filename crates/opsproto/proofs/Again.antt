@@ -1,22 +1,19 @@
 -- What was written is read again.
-use Rattle.std.proofs.Common.{◌≡◌, ℕ, ℤ, ◌+◌, ◌<◌, ◌≤◌, ◌^◌, Bool, cond, List, [], ◌∷◌, ◌++◌, length, map, Option, Some, None, Result, Ok, Err, refl, sym, ap, ◌∙◌, arith}
+use Rattle.std.proofs.Common.{◌≡◌, cond, List, [], ◌∷◌, ◌++◌, map, Option, Some, None, Ok, refl, arith}
 use Rattle.std.specs.Prelude.{IfSome}
 use Rattle.std.specs.List.{AllByRecursion}
 use Rattle.std.specs.Option.{option_map, option_to_list}
 use Rattle.std.specs.Int.{w64, cast_unsigned}
 use Rattle.std.proofs.lemmas.List.{append-nil}
-use Rattle.protowire.specs.declared.refusal.WireRefusal.{WireRefusal}
-use Rattle.protowire.specs.Fields.{Spelled, IsField, message}
-use Rattle.protowire.specs.Reading.{◌>>=◌}
-use Rattle.protowire.specs.Lookups.{bodies, joined_body}
+use Rattle.protowire.specs.Fields.{IsField}
 use Rattle.opsproto.specs.declared.input.Input.{Input}
 use Rattle.opsproto.specs.declared.exec.CacheOpt.{CacheOpt}
 use Rattle.opsproto.specs.declared.exec.Mount.{Mount}
 use Rattle.opsproto.specs.declared.exec.Meta.{Meta}
 use Rattle.opsproto.specs.declared.exec.ExecOp.{ExecOp}
-use Rattle.opsproto.specs.Scalars.{Text, int64_in, int32_in, bool_in, text_in}
-use Rattle.opsproto.specs.Reading.{says, each_of, optional_of, input_of, cache_of, mount_of, meta_of, exec_of}
-use Rattle.opsproto.specs.Writing.{number_fields, int_fields, bool_fields, text_fields, each_fields, optional_fields, input_fields, input_text, cache_fields, cache_text, end_fields, manner_fields, mount_fields, mount_text, meta_fields, meta_text, exec_fields, exec_text}
+use Rattle.opsproto.specs.Scalars.{Text}
+use Rattle.opsproto.specs.Reading.{each_of, optional_of, input_of, cache_of, mount_of, meta_of, exec_of}
+use Rattle.opsproto.specs.Writing.{int_fields, bool_fields, text_fields, each_fields, optional_fields, input_fields, input_text, cache_fields, cache_text, end_fields, manner_fields, mount_fields, mount_text, meta_fields, meta_text, exec_fields, exec_text}
 use Rattle.opsproto.specs.Written.{IsBody, IsText, IsInput, IsCache, IsMount, IsMeta, IsExec}
 use Rattle.opsproto.proofs.Parts.{numbers, texts, numbers-append, texts-append, unless_zero, unless_empty, numbers_number, numbers_text, numbers_each, numbers_optional, texts_number, texts_text, texts_each, texts_optional, text_again, bodies_again, body_again, int64_again, int32_again, bool_again, fields_append, number_is_field, unsigned64, unsigned32, bit_below, text_is_field, each_is_field, optional_is_field, entries_again}
 
@@ -27,8 +24,8 @@ ruleset parts = (numbers-append, texts-append, numbers_number, numbers_text, num
 pub input_is_field : (i : Input Text) → IsInput i → AllByRecursion IsField (input_fields i)
 input_is_field i is =
     fields_append (text_fields 1 i.digest) (int_fields 2 i.index)
-      (text_is_field 1 i.digest (omega arith, omega arith) is.digest)
-      (number_is_field 2 (cast_unsigned w64 i.index) (omega arith, omega arith) (unsigned64 i.index is.index))
+    (text_is_field 1 i.digest (omega arith, omega arith) is.digest)
+    (number_is_field 2 (cast_unsigned w64 i.index) (omega arith, omega arith) (unsigned64 i.index is.index))
 
 pub input_again : (i : Input Text) → IsInput i → input_of (input_text i) ≡ Ok i
 unfolding input_of
@@ -43,8 +40,8 @@ input_again i is =
 pub cache_is_field : (c : CacheOpt Text) → IsCache c → AllByRecursion IsField (cache_fields c)
 cache_is_field c is =
     fields_append (text_fields 1 c.id) (int_fields 2 c.sharing)
-      (text_is_field 1 c.id (omega arith, omega arith) is.id)
-      (number_is_field 2 (cast_unsigned w64 c.sharing) (omega arith, omega arith) (unsigned32 c.sharing is.sharing))
+    (text_is_field 1 c.id (omega arith, omega arith) is.id)
+    (number_is_field 2 (cast_unsigned w64 c.sharing) (omega arith, omega arith) (unsigned32 c.sharing is.sharing))
 
 pub cache_again : (c : CacheOpt Text) → IsCache c → cache_of (cache_text c) ≡ Ok c
 unfolding cache_of
@@ -74,10 +71,10 @@ mount_is_field m is =
     let kind = number_is_field 6 (cast_unsigned w64 m.mount_type) (omega arith, omega arith) (unsigned32 m.mount_type is.mount_type) in
     let cache = optional_is_field 20 (option_map cache_text m.cache) (omega arith, omega arith) (cache_body m.cache is.cache) in
     fields_append (end_fields m ++ manner_fields m) (optional_fields 20 (option_map cache_text m.cache))
-      (fields_append (end_fields m) (manner_fields m)
-        (fields_append (int_fields 1 m.input ++ text_fields 2 m.selector) (text_fields 3 m.dest) (fields_append (int_fields 1 m.input) (text_fields 2 m.selector) input selector) dest)
-        (fields_append (int_fields 4 m.output ++ bool_fields 5 m.readonly) (int_fields 6 m.mount_type) (fields_append (int_fields 4 m.output) (bool_fields 5 m.readonly) output readonly) kind))
-      cache
+    (fields_append (end_fields m) (manner_fields m)
+    (fields_append (int_fields 1 m.input ++ text_fields 2 m.selector) (text_fields 3 m.dest) (fields_append (int_fields 1 m.input) (text_fields 2 m.selector) input selector) dest)
+    (fields_append (int_fields 4 m.output ++ bool_fields 5 m.readonly) (int_fields 6 m.mount_type) (fields_append (int_fields 4 m.output) (bool_fields 5 m.readonly) output readonly) kind))
+    cache
 
 pub mount_again : (m : Mount Text) → IsMount m → mount_of (mount_text m) ≡ Ok m
 unfolding mount_of
@@ -90,9 +87,17 @@ mount_again m is =
     let readonly : numbers 5 fs ≡ unless_zero (cond m.readonly 1 0) = simp parts in
     let kind : numbers 6 fs ≡ unless_zero (cast_unsigned w64 m.mount_type) = simp parts in
     let cache : texts 20 fs ≡ option_to_list (option_map cache_text m.cache) = simp parts in
-    rw (entries_again fs (mount_is_field m is), body_again 20 fs (option_map cache_text m.cache) cache, found_cache_again m.cache is.cache,
-      int64_again 1 fs m.input is.input input, text_again 2 fs m.selector selector, text_again 3 fs m.dest dest,
-      int64_again 4 fs m.output is.output output, bool_again 5 fs m.readonly readonly, int32_again 6 fs m.mount_type is.mount_type kind) refl
+    rw (
+      entries_again fs (mount_is_field m is),
+      body_again 20 fs (option_map cache_text m.cache) cache,
+      found_cache_again m.cache is.cache,
+      int64_again 1 fs m.input is.input input,
+      text_again 2 fs m.selector selector,
+      text_again 3 fs m.dest dest,
+      int64_again 4 fs m.output is.output output,
+      bool_again 5 fs m.readonly readonly,
+      int32_again 6 fs m.mount_type is.mount_type kind,
+    ) refl
 
 -- ---- meta
 
@@ -107,7 +112,7 @@ meta_is_field m is =
     let cwd = text_is_field 3 m.cwd (omega arith, omega arith) is.cwd in
     let user = text_is_field 4 m.user (omega arith, omega arith) is.user in
     fields_append (each_fields 1 m.args ++ each_fields 2 m.env ++ text_fields 3 m.cwd) (text_fields 4 m.user)
-      (fields_append (each_fields 1 m.args ++ each_fields 2 m.env) (text_fields 3 m.cwd) (fields_append (each_fields 1 m.args) (each_fields 2 m.env) args env) cwd) user
+    (fields_append (each_fields 1 m.args ++ each_fields 2 m.env) (text_fields 3 m.cwd) (fields_append (each_fields 1 m.args) (each_fields 2 m.env) args env) cwd) user
 
 pub meta_again : (m : Meta Text) → IsMeta m → meta_of (meta_text m) ≡ Ok m
 unfolding meta_of
@@ -146,7 +151,7 @@ exec_is_field e is =
     let metas = optional_fields 1 (option_map meta_text e.meta) in
     let all = each_fields 2 (map mount_text e.mounts) in
     fields_append (metas ++ all ++ int_fields 3 e.network) (int_fields 4 e.security)
-      (fields_append (metas ++ all) (int_fields 3 e.network) (fields_append metas all meta mounts) network) security
+    (fields_append (metas ++ all) (int_fields 3 e.network) (fields_append metas all meta mounts) network) security
 
 pub exec_again : (e : ExecOp Text) → IsExec e → exec_of (exec_text e) ≡ Ok e
 unfolding exec_of
@@ -156,6 +161,12 @@ exec_again e is =
     let mounts : texts 2 fs ≡ map mount_text e.mounts = simp parts in
     let network : numbers 3 fs ≡ unless_zero (cast_unsigned w64 e.network) = simp parts in
     let security : numbers 4 fs ≡ unless_zero (cast_unsigned w64 e.security) = simp parts in
-    rw (entries_again fs (exec_is_field e is), body_again 1 fs (option_map meta_text e.meta) meta, found_meta_again e.meta is.meta,
-      bodies_again 2 fs (map mount_text e.mounts) mounts, mounts_again e.mounts is.mounts,
-      int32_again 3 fs e.network is.network network, int32_again 4 fs e.security is.security security) refl
+    rw (
+      entries_again fs (exec_is_field e is),
+      body_again 1 fs (option_map meta_text e.meta) meta,
+      found_meta_again e.meta is.meta,
+      bodies_again 2 fs (map mount_text e.mounts) mounts,
+      mounts_again e.mounts is.mounts,
+      int32_again 3 fs e.network is.network network,
+      int32_again 4 fs e.security is.security security,
+    ) refl

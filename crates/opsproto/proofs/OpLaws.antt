@@ -1,11 +1,10 @@
 -- An op, or a definition, that was written is read again.
-use Rattle.std.proofs.Common.{◌≡◌, ℕ, ◌<◌, ◌≤◌, ◌^◌, Bool, true, false, not, eqb, List, [], ◌∷◌, ◌++◌, length, map, Option, Some, None, Result, Ok, Err, refl, sym, ap, subst, ◌∙◌, arith}
-use Rattle.std.specs.Prelude.{filter, filter_map, IfOk, OnOk}
+use Rattle.std.proofs.Common.{◌≡◌, ℕ, ◌≤◌, List, [], ◌∷◌, ◌++◌, length, map, Result, Ok, Err, refl, sym, ap, subst, ◌∙◌, arith}
+use Rattle.std.specs.Prelude.{filter_map, IfOk, OnOk}
 use Rattle.std.specs.Global.{Vec}
 use Rattle.std.specs.List.{AllByRecursion}
 use Rattle.std.proofs.lemmas.Bool.{le-ltb}
-use Rattle.std.proofs.lemmas.List.{append-nil, map-append}
-use Rattle.std.proofs.lemmas.List.Elements.{filter_map-append}
+use Rattle.std.proofs.lemmas.List.{append-nil}
 use Rattle.protowire.specs.declared.refusal.WireRefusal.{WireRefusal}
 use Rattle.protowire.specs.Fields.{Spelled, IsField, message, AreFields}
 use Rattle.protowire.specs.Reading.{◌>>=◌, fields_of}
@@ -22,7 +21,7 @@ use Rattle.opsproto.specs.declared.op.Kind.{Kind}
 use Rattle.opsproto.specs.declared.op.Kind.TheVariants.{Exec}
 use Rattle.opsproto.specs.Refusals.{wire}
 use Rattle.opsproto.specs.Scalars.{Text}
-use Rattle.opsproto.specs.Reading.{says, each_of, input_of, exec_of, entries_of}
+use Rattle.opsproto.specs.Reading.{says, each_of, input_of, entries_of}
 use Rattle.opsproto.specs.Texts.{each_checked, input_checked}
 use Rattle.opsproto.specs.Ops.{OpParts, members, kind_of, kept, op_of, kind_checked, op_checked, op_read, limit, op_at, IsOp}
 use Rattle.opsproto.specs.Definitions.{most_entries, definition_at}
@@ -32,7 +31,7 @@ use Rattle.opsproto.proofs.PutLemmas.{message-append}
 use Rattle.opsproto.proofs.Parts.{texts, texts-append, texts_each, bodies_again, fields_append, each_is_field, entries_again}
 use Rattle.opsproto.proofs.Again.{input_again, exec_again}
 use Rattle.opsproto.proofs.Passes.{inputs_pass, exec_passes}
-use Rattle.opsproto.proofs.OpLemmas.{no_member, stripped_read, OpTook, op_took, is_op}
+use Rattle.opsproto.proofs.OpLemmas.{stripped_read, OpTook, op_took}
 
 -- ---- an exec op alone
 
@@ -46,7 +45,7 @@ exec_is_op e is =
     let kind : kind_of (last_member members (says (f ∷ []))) ≡ Ok (Exec e) = rw (whole, exec_again e is) refl in
     let text : message (kept (f ∷ [])) ≡ bytes_field 2 body = append-nil (bytes_field 2 body) in
     let read : op_of (bytes_field 2 body) ≡ Ok (record { inputs = []; kind = Exec e; stripped = bytes_field 2 body }) =
-        subst (λ (t : List ℕ). op_of t ≡ Ok (record { inputs = []; kind = Exec e; stripped = t })) text (stripped_read (f ∷ []) (Exec e) each kind) in
+    subst (λ (t : List ℕ). op_of t ≡ Ok (record { inputs = []; kind = Exec e; stripped = t })) text (stripped_read (f ∷ []) (Exec e) each kind) in
     rw (read, exec_passes e is) refl
 
 -- ---- the fields of inputs
@@ -125,7 +124,7 @@ alone stripped kind is =
     let made : OpParts = record { inputs = b.0; kind = c.0; stripped = p.stripped } in
     let same : made ≡ whole = ok_is {E = OpRefusal} made whole c.2 in
     alone_of stripped kind c.0 p (op_took stripped p (wire_ok (op_of stripped) p a.1))
-      (none_checked p.inputs b.0 (ap (λ (o : OpParts). o.inputs) same) b.1) (ap (λ (o : OpParts). o.stripped) same) c.1 (ap (λ (o : OpParts). o.kind) same)
+    (none_checked p.inputs b.0 (ap (λ (o : OpParts). o.inputs) same) b.1) (ap (λ (o : OpParts). o.stripped) same) c.1 (ap (λ (o : OpParts). o.kind) same)
 
 pub op_again : (op : OpParts) → AllByRecursion IsInput op.inputs → IsOp op.stripped op.kind → op_read (op_text op) ≡ Ok op
 unfolding op_of op_read op_checked

@@ -1,5 +1,5 @@
 -- What is read of fields that were written.
-use Rattle.std.proofs.Common.{◌≡◌, ℕ, ℤ, pos, negsuc, zero, suc, ◌+◌, ◌-◌, ◌*◌, ◌%◌, ◌<◌, ◌≤◌, ◌^◌, Bool, true, false, cond, eqb, not, List, [], ◌∷◌, ◌++◌, length, map, Option, Some, None, Result, Ok, Err, refl, sym, ap, subst, ◌∙◌, inl, inr, arith, to_z, of_z, FitsSigned}
+use Rattle.std.proofs.Common.{◌≡◌, ℕ, ℤ, pos, negsuc, ◌%◌, ◌<◌, ◌≤◌, ◌^◌, Bool, true, false, cond, eqb, not, List, [], ◌∷◌, ◌++◌, map, Option, Some, None, Ok, refl, sym, ap, ◌∙◌, inl, inr, arith, FitsSigned}
 use Rattle.std.specs.Prelude.{filter_map, unwrap_or, IfSome}
 use Rattle.std.specs.List.{AllByRecursion, last_or, cons_option}
 use Rattle.std.specs.Option.{option_to_list}
@@ -8,10 +8,10 @@ use Rattle.std.proofs.lemmas.Bool.{cases_Bool, eqb-true}
 use Rattle.std.proofs.lemmas.Int.{to_z-of_z}
 use Rattle.std.proofs.lemmas.List.{append-nil, map-append}
 use Rattle.std.proofs.lemmas.List.Elements.{filter_map-append}
-use Rattle.protowire.specs.Fields.{Entry, Spelled, IsField, message, AreFields}
-use Rattle.protowire.specs.Lookups.{bodies, joined, joined_parts, joined_body}
+use Rattle.protowire.specs.Fields.{Spelled, IsField, message}
+use Rattle.protowire.specs.Lookups.{bodies, joined_parts, joined_body}
 use Rattle.protowire.specs.Lookups.{number_in as held_number, body_in}
-use Rattle.protowire.specs.Writing.{spelled_varint, spelled_bytes}
+use Rattle.protowire.specs.Writing.{spelled_bytes}
 use Rattle.protowire.proofs.FieldLaws.{fields_again}
 use Rattle.protowire.proofs.WritingLaws.{varint_is_field, bytes_is_field}
 use Rattle.opsproto.specs.Scalars.{Text, number_in, int64_in, int32_in, bool_in, text_in}

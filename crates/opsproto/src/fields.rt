@@ -24,7 +24,9 @@ pub(crate) fn fields(alloc: Global, message: &[u8]) -> Result<Vec<Field<'_>>, Wi
 pub(crate) fn int64_in(fields: &[Field<'_>], number: u32) -> i64
     ensures { result ≡ int64_in number (entries fields.now) }
 {
-    protowire::last_varint(fields, number).unwrap_or(0).cast_signed()
+    protowire::last_varint(fields, number)
+        .unwrap_or(0)
+        .cast_signed()
 }
 
 pub(crate) fn int32_in(fields: &[Field<'_>], number: u32) -> i32
@@ -55,7 +57,11 @@ pub(crate) fn text_in(alloc: Global, fields: &[Field<'_>], number: u32) -> Resul
 }
 
 /// The strings of this number.
-pub(crate) fn texts_in(alloc: Global, fields: &[Field<'_>], number: u32) -> Result<Items<Bytes>, AllocError>
+pub(crate) fn texts_in(
+    alloc: Global,
+    fields: &[Field<'_>],
+    number: u32,
+) -> Result<Items<Bytes>, AllocError>
     ensures { IfOk result (λ texts. texts ≡ bodies number (entries fields.now)) }
 {
     let bodies = protowire::bodies(alloc, fields, number)?;

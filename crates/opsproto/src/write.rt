@@ -11,8 +11,8 @@ ghost use Rattle.opsproto.specs.Written.{IsBody, IsText, IsInput, IsCache, IsMou
 
 use super::definition::Definition;
 use super::exec::{CacheOpt, ExecOp, Meta, Mount};
-use super::input::Input;
 use super::fields::Bytes;
+use super::input::Input;
 use super::op::{Kind, Op};
 use super::put::{put_body, put_bool, put_int32, put_int64, put_text, put_texts};
 use super::read::DEF;
