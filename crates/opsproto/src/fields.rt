@@ -4,7 +4,7 @@ ghost use Rattle.protowire.specs.Seen.{entries};
 ghost use Rattle.protowire.specs.Reading.{Gives};
 ghost use Rattle.protowire.specs.Lookups.{bodies};
 ghost use Rattle.opsproto.specs.Scalars.{int64_in, int32_in, bool_in, text_in};
-ghost use Rattle.opsproto.specs.Reading.{entries_of};
+ghost use Rattle.opsproto.specs.Reading.{bodies_now, entries_of};
 
 use farm_base::Items;
 use protowire::{Field, Value, WireRefusal};
@@ -64,10 +64,16 @@ pub(crate) fn texts_in(
 ) -> Result<Items<Bytes>, AllocError>
     ensures { IfOk result (λ texts. texts ≡ bodies number (entries fields.now)) }
 {
-    let bodies = protowire::bodies(alloc, fields, number)?;
-    let mut texts = Vec::with_capacity(alloc, bodies.len())?;
-    for body in &bodies {
-        texts.push(Items::new(Vec::from_slice(alloc, body)?))?;
+    owned(alloc, &protowire::bodies(alloc, fields, number)?)
+}
+
+/// The bodies, copied.
+pub(crate) fn owned(alloc: Global, bodies: &[&[u8]]) -> Result<Items<Bytes>, AllocError>
+    ensures { IfOk result (λ copies. copies ≡ bodies_now bodies.now) }
+{
+    let mut copies = Vec::with_capacity(alloc, bodies.len())?;
+    for body in bodies {
+        copies.push(Items::new(Vec::from_slice(alloc, body)?))?;
     }
-    Ok(Items::new(texts))
+    Ok(Items::new(copies))
 }
