@@ -1,0 +1,53 @@
+-- What fields say, seen through their spelling or not.
+use Rattle.std.proofs.Common.{◌≡◌, ℕ, zero, suc, ◌<◌, ◌≤◌, length, get_or, arith, List, [], ◌∷◌, ◌++◌, Some, None, Result, Ok, refl, ap}
+use Rattle.std.specs.Prelude.{unwrap_or}
+use Rattle.std.specs.List.{last_or}
+use Rattle.protowire.specs.declared.refusal.WireRefusal.{WireRefusal}
+use Rattle.protowire.specs.Fields.{Entry}
+use Rattle.protowire.specs.Reading.{◌>>=◌}
+use Rattle.protowire.specs.Lookups.{bodies}
+use Rattle.opsproto.specs.Scalars.{text_in}
+use Rattle.protowire.specs.declared.field.Field.{Field}
+use Rattle.protowire.specs.declared.field.Value.TheVariants as held
+use Rattle.protowire.specs.Seen.{entry, entries, spelled_all, StandInRow}
+use Rattle.opsproto.specs.Reading.{says}
+
+pub says_spelled : (message : List ℕ) (fs : List Field) → says (spelled_all message fs) ≡ entries fs
+says_spelled message [] = refl
+says_spelled message (f ∷ fs) = ap (λ es. entry f ∷ es) (says_spelled message fs)
+
+-- the last text of a number behind one that was found
+abbrev pub text_after : List ℕ → ℕ → List Entry → List ℕ
+text_after last number es = unwrap_or (last_or (Some last) (bodies number es)) []
+
+pub text_after_none : (number : ℕ) (es : List Entry) → text_after [] number es ≡ text_in number es
+text_after_none number es = by_bodies (bodies number es)
+  where
+    by_bodies : (bs : List (List ℕ)) → unwrap_or (last_or (Some []) bs) [] ≡ unwrap_or (last_or None bs) []
+    by_bodies [] = refl
+    by_bodies (b ∷ bs) = refl
+
+-- what was read of messages before, and what is still read
+abbrev pub with_front : {X : Type 0} → List X → Result (List X) WireRefusal → Result (List X) WireRefusal
+with_front front read = read >>= λ xs. Ok (front ++ xs)
+
+-- a field's places, of fields that stand one after the other
+pub record Within (f : Field) (from to : ℕ) : Type 0 where
+  pub begins : from ≤ f.start
+  pub rises : f.start ≤ f.end
+  pub ends : f.end ≤ to
+
+row_rises : (from : ℕ) (fs : List Field) (to : ℕ) → StandInRow from fs to → from ≤ to
+row_rises from [] to row = omega (arith, row)
+row_rises from (f ∷ fs) to row = omega (arith, row.0, row.1, row_rises f.end fs to row.2)
+
+pub row_within : (from : ℕ) (fs : List Field) (to i : ℕ) (d : Field) → StandInRow from fs to → i < length fs → Within (get_or fs i d) from to
+row_within from [] to i d row lt = absurd (omega arith)
+row_within from (f ∷ fs) to zero d row lt = record { begins = omega (arith, row.0); rises = omega (arith, row.1); ends = row_rises f.end fs to row.2 }
+row_within from (f ∷ fs) to (suc i) d row lt =
+    let w = row_within f.end fs to i d row.2 (omega arith) in
+    record { begins = omega (arith, row.0, row.1, w.begins); rises = w.rises; ends = w.ends }
+
+-- what a loop reads past the end
+abbrev pub no_field : Field
+no_field = record { number = 0; value = held.Varint 0; start = 0; end = 0 }

@@ -1,0 +1,9 @@
+pub mod Refusals
+pub mod Scalars
+pub mod Reading
+pub mod Texts
+pub mod Ops
+pub mod RawOps
+pub mod Definitions
+pub mod Writing
+pub mod Written
