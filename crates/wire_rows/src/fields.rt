@@ -1,0 +1,102 @@
+use protowire::{
+    Value, bodies, fields, joined_body, last_member, last_varint, put_bytes, put_message,
+    put_varint,
+};
+use std::alloc::Global;
+use std::test::Fail;
+
+/// Bytes in hexadecimal, and what `fields` gives: each field's number with its varint or its body, or the refusal.
+const ROWS: [(&str, &str); 24] = [
+    ("", ""),
+    ("089601", "1:150 "),
+    ("088000", "1:0 "),
+    ("0880808080808080808000", "1:0 "),
+    ("08ffffffffffffffffff01", "1:18446744073709551615 "),
+    ("08ffffffffffffffffff02", "VarintTooLong"),
+    ("088080808080808080808000", "VarintTooLong"),
+    ("0880", "Truncated"),
+    ("0a0261", "Truncated"),
+    ("0affffffff0f", "Truncated"),
+    ("0affffffffffffffffff01", "Truncated"),
+    ("090011223344556677", "1:eight "),
+    ("0900112233445566", "Truncated"),
+    ("0d00112233", "1:four "),
+    ("0d001122", "Truncated"),
+    ("0b", "BadWireType"),
+    ("0c", "BadWireType"),
+    ("0e", "BadWireType"),
+    ("0f", "BadWireType"),
+    ("00", "BadFieldNumber"),
+    ("03", "BadFieldNumber"),
+    ("f8ffffff0f00", "536870911:0 "),
+    ("808080801000", "BadFieldNumber"),
+    ("888080808001", "BadFieldNumber"),
+];
+
+fn shown(alloc: Global, bytes: &[u8]) -> Result<String, Fail> {
+    let mut text = String::new(alloc);
+    match fields(alloc, bytes) {
+        Err(refusal) => write!(text, "{refusal:?}")?,
+        Ok(fields) => {
+            for field in &fields {
+                let number = field.number;
+                match field.value {
+                    Value::Varint(value) => write!(text, "{number}:{value} ")?,
+                    Value::Eight => write!(text, "{number}:eight ")?,
+                    Value::Four => write!(text, "{number}:four ")?,
+                    Value::Bytes(body) => {
+                        let body = hex::encode(alloc, body)?;
+                        write!(text, "{number}={body} ")?;
+                    }
+                }
+            }
+        }
+    }
+    Ok(text)
+}
+
+#[test]
+fn messages_of_fields(rt: HostRuntime) -> Result<(), Fail> {
+    for (bytes, wanted) in &ROWS {
+        let bytes = hex::decode(rt.alloc(), *bytes)?;
+        let text = shown(rt.alloc(), &bytes)?;
+        assert_eq!(rt; text.as_str(), *wanted);
+    }
+    Ok(())
+}
+
+#[test]
+fn what_is_looked_up(rt: HostRuntime) -> Result<(), Fail> {
+    let alloc = rt.alloc();
+    // Field 1 as 5, as `a` and as 7; field 2 as `b`; field 9 as 0; field 2 as `c`; field 3 as `d`; field 2 as `e`.
+    let bytes = hex::decode(alloc, "08050a0161080712016248001201631a0164120165")?;
+    let found = fields(alloc, &bytes)?;
+    assert_eq!(rt; last_varint(&found, 1), Some(7));
+    assert_eq!(rt; last_varint(&found, 2), None);
+    let joined = joined_body(alloc, &found, 2)?.ok_or("none")?;
+    assert_eq!(rt; joined.as_slice(), b"bce".as_slice());
+    assert_eq!(rt; bodies(alloc, &found, 2)?.len(), 3);
+    let (member, body) = last_member(alloc, &found, &[2, 3])?.ok_or("none")?;
+    assert_eq!(rt; member, 2);
+    assert_eq!(rt; body.as_slice(), b"e".as_slice());
+    let (_, body) = last_member(alloc, &found, &[2, 4])?.ok_or("none")?;
+    assert_eq!(rt; body.as_slice(), b"bce".as_slice());
+    assert!(rt; last_member(alloc, &found, &[4])?.is_none());
+    Ok(())
+}
+
+#[test]
+fn what_is_written(rt: HostRuntime) -> Result<(), Fail> {
+    let alloc = rt.alloc();
+    let mut out = Vec::new(alloc);
+    put_varint(&mut out, 1, 150)?;
+    put_varint(&mut out, 536_870_911, u64::MAX)?;
+    put_bytes(&mut out, 2, b"a")?;
+    put_message(&mut out, 3, b"")?;
+    let text = hex::encode(alloc, &out)?;
+    assert_eq!(rt;
+        text.as_str(),
+        "089601f8ffffff0fffffffffffffffffff011201611a00"
+    );
+    Ok(())
+}

@@ -1,0 +1,183 @@
+use farm_base::{Items, Text};
+use opsproto::{
+    CacheOpt, Definition, ExecOp, Input, Kind, Meta, Mount, Op, OpRefusal, read_definition,
+    read_op, write_definition, write_exec, write_op,
+};
+use std::alloc::{AllocError, Global};
+use std::test::Fail;
+
+/// An exec op with the argument `x`, a root mount, and a cache mount at /go/pkg/mod with sharing 3.
+const CACHED: &str =
+    "12410a030a0178120e08ffffffffffffffffff011a012f122a08ffffffffffffffffff011a0b2f676f2f706b672f6d6f6420ffffffffffffffffff013003a201021003";
+
+/// Bytes in hexadecimal, and what `read_op` gives, shortened by `shown`.
+const ROWS: [(&str, &str); 21] = [
+    ("", "bare"),
+    ("1a00", "opaque 3"),
+    (CACHED, "exec x; mounts / /go/pkg/mod:3; network 0"),
+    // `exec` given twice is joined; after another member the last run alone counts.
+    (
+        "12050a030a017812050a030a0179",
+        "exec x y; mounts; network 0",
+    ),
+    (
+        "12050a030a01781a0012050a030a0179",
+        "exec y; mounts; network 0",
+    ),
+    ("12050a030a01781a00", "opaque 3"),
+    // Fields of other numbers do not break a run, nor does the member's number with another wire type.
+    (
+        "12050a030a017852011012050a030a0179",
+        "exec x y; mounts; network 0",
+    ),
+    (
+        "12050a030a0178180112050a030a0179",
+        "exec x y; mounts; network 0",
+    ),
+    // The body of a member that another one overtook is never read; that of the one that counts is.
+    ("1201ff1a00", "opaque 3"),
+    ("12010a", "Wire(Truncated)"),
+    ("0a010a", "Wire(Truncated)"),
+    ("12030a010a", "Wire(Truncated)"),
+    // A known number with another wire type is skipped as unknown.
+    ("1001", "bare"),
+    ("0801", "bare"),
+    // Two parts of a message that are broken alone may be whole when they are joined.
+    ("120112120100", "exec; mounts ; network 0"),
+    // The last of a scalar counts, by its low 32 bits.
+    ("120418011802", "exec; mounts; network 2"),
+    ("120618ffffffff0f", "exec; mounts; network -1"),
+    // Text that counts is UTF-8. Wire faults come before.
+    ("12050a030a01ff", "NotUtf8(1)"),
+    ("0a030a01ff", "NotUtf8(1)"),
+    ("0a030a01ff0a010a", "Wire(Truncated)"),
+    ("5201ff", "bare"),
+];
+
+fn text(alloc: Global, text: &str) -> Result<Text, AllocError> {
+    Ok(Text::new(String::from_str(alloc, text)?))
+}
+
+fn shown_exec(alloc: Global, exec: &ExecOp) -> Result<String, AllocError> {
+    let mut shown = String::from_str(alloc, "exec")?;
+    if let Some(meta) = &exec.meta {
+        for arg in meta.args.as_slice() {
+            let arg = arg.as_str();
+            write!(shown, " {arg}")?;
+        }
+    }
+    shown.push_str("; mounts")?;
+    for mount in exec.mounts.as_slice() {
+        let dest = mount.dest.as_str();
+        write!(shown, " {dest}")?;
+        if let Some(cache) = &mount.cache {
+            let sharing = cache.sharing;
+            write!(shown, ":{sharing}")?;
+        }
+    }
+    let network = exec.network;
+    write!(shown, "; network {network}")?;
+    Ok(shown)
+}
+
+fn shown(alloc: Global, read: &Result<Op, OpRefusal>) -> Result<String, AllocError> {
+    match read {
+        Err(refusal) => format!(in alloc; "{refusal:?}"),
+        Ok(op) => match op.kind() {
+            Kind::Bare => String::from_str(alloc, "bare"),
+            Kind::Opaque(number) => format!(in alloc; "opaque {number}"),
+            Kind::Exec(exec) => shown_exec(alloc, exec),
+        },
+    }
+}
+
+#[test]
+fn ops(rt: HostRuntime) -> Result<(), Fail> {
+    for (bytes, wanted) in &ROWS {
+        let bytes = hex::decode(rt.alloc(), *bytes)?;
+        let read = read_op(rt.alloc(), &bytes);
+        let text = shown(rt.alloc(), &read)?;
+        assert_eq!(rt; text.as_str(), *wanted);
+    }
+    Ok(())
+}
+
+fn mount(alloc: Global, dest: &str, cached: bool) -> Result<Mount, AllocError> {
+    let cache = if cached {
+        Some(CacheOpt {
+            id: text(alloc, "")?,
+            sharing: 3,
+        })
+    } else {
+        None
+    };
+    Ok(Mount {
+        input: -1,
+        selector: text(alloc, "")?,
+        dest: text(alloc, dest)?,
+        output: if cached { -1 } else { 0 },
+        readonly: false,
+        mount_type: if cached { 3 } else { 0 },
+        cache,
+    })
+}
+
+fn cached(alloc: Global) -> Result<ExecOp, Fail> {
+    let meta = Meta {
+        args: Items::new(vec![in alloc; text(alloc, "x")?]?),
+        env: Items::new(Vec::new(alloc)),
+        cwd: text(alloc, "")?,
+        user: text(alloc, "")?,
+    };
+    let mounts = vec![in alloc;
+        mount(alloc, "/", false)?,
+        mount(alloc, "/go/pkg/mod", true)?,
+    ]?;
+    Ok(ExecOp {
+        meta: Some(meta),
+        mounts: Items::new(mounts),
+        network: 0,
+        security: 0,
+    })
+}
+
+#[test]
+fn an_exec_op_is_written(rt: HostRuntime) -> Result<(), Fail> {
+    let alloc = rt.alloc();
+    let exec = cached(alloc)?;
+    let body = write_exec(alloc, &exec)?;
+    let body = hex::encode(alloc, &body)?;
+    assert_eq!(rt; body.as_str(), CACHED.strip_prefix("1241").ok_or("prefix")?);
+    let input = Input {
+        digest: text(alloc, "d")?,
+        index: -1,
+    };
+    let op = Op::exec(alloc, vec![in alloc; input]?, &exec)?;
+    let bytes = write_op(alloc, &op)?;
+    let text = hex::encode(alloc, &bytes)?;
+    assert!(rt;
+        text.as_str()
+            .starts_with("0a0e0a016410ffffffffffffffffff011241")
+    );
+    Ok(())
+}
+
+#[test]
+fn definitions(rt: HostRuntime) -> Result<(), Fail> {
+    let alloc = rt.alloc();
+    // No entry; metadata and source, which are skipped; one entry; one that is cut.
+    assert_eq!(rt; read_definition(alloc, b"")?.def.as_slice().len(), 0);
+    assert_eq!(rt;
+        read_definition(alloc, b"\x12\x00\x1a\x01\xff")?
+            .def
+            .as_slice()
+            .len(),
+        0
+    );
+    let definition = read_definition(alloc, b"\x0a\x00\x0a\x01\x0a")?;
+    assert_eq!(rt; definition.def.as_slice().len(), 2);
+    let bytes = write_definition(alloc, &definition)?;
+    assert_eq!(rt; bytes.as_slice(), b"\x0a\x00\x0a\x01\x0a".as_slice());
+    assert!(rt; matches!(&read_definition(alloc, b"\x0a"), Err(OpRefusal::Wire(_))));
+    Ok(())
+}
