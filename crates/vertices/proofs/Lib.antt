@@ -1,3 +1,4 @@
 pub mod OrderLaws
 pub mod RowLemmas
 pub mod SortingLemmas
+pub mod TableLemmas

@@ -1,3 +1,5 @@
+pub mod Entries
+pub mod Firsts
 pub mod Flags
 pub mod Orders
 pub mod Rows
