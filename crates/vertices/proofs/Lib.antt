@@ -1,3 +1,4 @@
+pub mod EntryLemmas
 pub mod OrderLaws
 pub mod RowLemmas
 pub mod SortingLemmas
