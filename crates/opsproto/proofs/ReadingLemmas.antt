@@ -1,0 +1,31 @@
+-- What fields say, seen through their spelling or not.
+use Rattle.std.proofs.Common.{◌≡◌, ℕ, List, [], ◌∷◌, map, ◌++◌, Bor, Some, None, Result, Ok, Err, refl, ap}
+use Rattle.std.specs.Prelude.{unwrap_or}
+use Rattle.std.specs.List.{last_or}
+use Rattle.protowire.specs.declared.refusal.WireRefusal.{WireRefusal}
+use Rattle.protowire.specs.Fields.{Entry}
+use Rattle.protowire.specs.Reading.{◌>>=◌}
+use Rattle.protowire.specs.Lookups.{bodies}
+use Rattle.opsproto.specs.Scalars.{text_in}
+use Rattle.protowire.specs.declared.field.Field.{Field}
+use Rattle.protowire.specs.Seen.{entry, entries, spelled, spelled_all}
+use Rattle.opsproto.specs.Reading.{says, bodies_now, each_of}
+
+pub says_spelled : (message : List ℕ) (fs : List Field) → says (spelled_all message fs) ≡ entries fs
+says_spelled message [] = refl
+says_spelled message (f ∷ fs) = ap (λ es. entry f ∷ es) (says_spelled message fs)
+
+-- the last text of a number behind one that was found
+abbrev pub text_after : List ℕ → ℕ → List Entry → List ℕ
+text_after last number es = unwrap_or (last_or (Some last) (bodies number es)) []
+
+pub text_after_none : (number : ℕ) (es : List Entry) → text_after [] number es ≡ text_in number es
+text_after_none number es = by_bodies (bodies number es)
+  where
+    by_bodies : (bs : List (List ℕ)) → unwrap_or (last_or (Some []) bs) [] ≡ unwrap_or (last_or None bs) []
+    by_bodies [] = refl
+    by_bodies (b ∷ bs) = refl
+
+-- what was read of messages before, and what is still read
+abbrev pub with_front : {X : Type 0} → List X → Result (List X) WireRefusal → Result (List X) WireRefusal
+with_front front read = read >>= λ xs. Ok (front ++ xs)

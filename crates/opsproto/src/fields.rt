@@ -1,0 +1,67 @@
+ghost use Rattle.std.specs.Prelude.{◌≡◌, IfOk};
+ghost use Rattle.std.specs.Option.{option_map};
+ghost use Rattle.protowire.specs.Seen.{entries};
+ghost use Rattle.protowire.specs.Reading.{Gives};
+ghost use Rattle.protowire.specs.Lookups.{bodies};
+ghost use Rattle.opsproto.specs.Scalars.{int64_in, int32_in, bool_in, text_in};
+ghost use Rattle.opsproto.specs.Reading.{entries_of};
+
+use farm_base::Items;
+use protowire::{Field, Value, WireRefusal};
+use std::alloc::{AllocError, Global};
+
+/// A text as it is read, which may not be UTF-8.
+pub(crate) type Bytes = Items<u8>;
+
+/// The fields of a message.
+#[tactic(auto, using(crate::proofs::ReadingLemmas::says_spelled), unfolding(crate::specs::Reading::entries_of))]
+pub(crate) fn fields(alloc: Global, message: &[u8]) -> Result<Vec<Field<'_>>, WireRefusal>
+    ensures { Gives (λ v. entries v.items) result (entries_of message.now) }
+{
+    protowire::fields(alloc, message)
+}
+
+pub(crate) fn int64_in(fields: &[Field<'_>], number: u32) -> i64
+    ensures { result ≡ int64_in number (entries fields.now) }
+{
+    protowire::last_varint(fields, number).unwrap_or(0).cast_signed()
+}
+
+pub(crate) fn int32_in(fields: &[Field<'_>], number: u32) -> i32
+    ensures { result ≡ int32_in number (entries fields.now) }
+{
+    let number = protowire::last_varint(fields, number).unwrap_or(0);
+    ((number % (1 << 32)) as u32).cast_signed()
+}
+
+pub(crate) fn bool_in(fields: &[Field<'_>], number: u32) -> bool
+    ensures { result ≡ bool_in number (entries fields.now) }
+{
+    protowire::last_varint(fields, number).unwrap_or(0) != 0
+}
+
+/// The last string of this number.
+pub(crate) fn text_in(alloc: Global, fields: &[Field<'_>], number: u32) -> Result<Bytes, AllocError>
+    ensures { IfOk result (λ text. text ≡ text_in number (entries fields.now)) }
+{
+    let mut last: &[u8] = &[];
+    for field in fields {
+        match field.value {
+            Value::Bytes(body) if field.number == number => last = body,
+            _ => {}
+        }
+    }
+    Ok(Items::new(Vec::from_slice(alloc, last)?))
+}
+
+/// The strings of this number.
+pub(crate) fn texts_in(alloc: Global, fields: &[Field<'_>], number: u32) -> Result<Items<Bytes>, AllocError>
+    ensures { IfOk result (λ texts. texts ≡ bodies number (entries fields.now)) }
+{
+    let bodies = protowire::bodies(alloc, fields, number)?;
+    let mut texts = Vec::with_capacity(alloc, bodies.len())?;
+    for body in &bodies {
+        texts.push(Items::new(Vec::from_slice(alloc, body)?))?;
+    }
+    Ok(Items::new(texts))
+}

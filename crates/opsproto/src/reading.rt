@@ -1,0 +1,119 @@
+//! What the bytes of a message mean, before anything is asked of its texts.
+
+ghost use Rattle.std.specs.Prelude.{◌≡◌};
+ghost use Rattle.protowire.specs.Seen.{entries};
+ghost use Rattle.protowire.specs.Reading.{Gives};
+ghost use Rattle.protowire.specs.Lookups.{bodies, joined_body};
+ghost use Rattle.opsproto.specs.Reading.{bodies_now, each_of, optional_of, input_of, cache_of, mount_of, meta_of, exec_of};
+
+use super::exec::{CacheOpt, ExecOp, Meta, Mount};
+use super::fields::{Bytes, bool_in, fields, int32_in, int64_in, text_in, texts_in};
+use super::input::Input;
+use farm_base::Items;
+use protowire::{Field, WireRefusal};
+use std::alloc::Global;
+
+#[tactic(auto, unfolding(crate::specs::Reading::input_of))]
+fn input_of(alloc: Global, message: &[u8]) -> Result<Input<Bytes>, WireRefusal>
+    ensures { Gives (λ v. v) result (input_of message.now) }
+{
+    let fields = fields(alloc, message)?;
+    Ok(Input {
+        digest: text_in(alloc, &fields, 1)?,
+        index: int64_in(&fields, 2),
+    })
+}
+
+#[tactic(auto, unfolding(crate::specs::Reading::cache_of))]
+fn cache_of(alloc: Global, message: &[u8]) -> Result<CacheOpt<Bytes>, WireRefusal>
+    ensures { Gives (λ v. v) result (cache_of message.now) }
+{
+    let fields = fields(alloc, message)?;
+    Ok(CacheOpt {
+        id: text_in(alloc, &fields, 1)?,
+        sharing: int32_in(&fields, 2),
+    })
+}
+
+fn cache_in(alloc: Global, fields: &[Field<'_>]) -> Result<Option<CacheOpt<Bytes>>, WireRefusal>
+    ensures { Gives (λ v. v) result (optional_of cache_of (joined_body 20 (entries fields.now))) }
+{
+    match protowire::joined_body(alloc, fields, 20)? {
+        Some(body) => Ok(Some(cache_of(alloc, &body)?)),
+        None => Ok(None),
+    }
+}
+
+#[tactic(auto, unfolding(crate::specs::Reading::mount_of))]
+fn mount_of(alloc: Global, message: &[u8]) -> Result<Mount<Bytes>, WireRefusal>
+    ensures { Gives (λ v. v) result (mount_of message.now) }
+{
+    let fields = fields(alloc, message)?;
+    let cache = cache_in(alloc, &fields)?;
+    Ok(Mount {
+        input: int64_in(&fields, 1),
+        selector: text_in(alloc, &fields, 2)?,
+        dest: text_in(alloc, &fields, 3)?,
+        output: int64_in(&fields, 4),
+        readonly: bool_in(&fields, 5),
+        mount_type: int32_in(&fields, 6),
+        cache,
+    })
+}
+
+#[tactic(auto, unfolding(crate::specs::Reading::meta_of))]
+fn meta_of(alloc: Global, message: &[u8]) -> Result<Meta<Bytes>, WireRefusal>
+    ensures { Gives (λ v. v) result (meta_of message.now) }
+{
+    let fields = fields(alloc, message)?;
+    Ok(Meta {
+        args: texts_in(alloc, &fields, 1)?,
+        env: texts_in(alloc, &fields, 2)?,
+        cwd: text_in(alloc, &fields, 3)?,
+        user: text_in(alloc, &fields, 4)?,
+    })
+}
+
+fn inputs_of(alloc: Global, messages: &[&[u8]]) -> Result<Items<Input<Bytes>>, WireRefusal>
+    ensures { Gives (λ v. v) result (each_of input_of (bodies_now messages.now)) }
+{
+    let mut inputs = Vec::with_capacity(alloc, messages.len())?;
+    for message in messages {
+        inputs.push(input_of(alloc, message)?)?;
+    }
+    Ok(Items::new(inputs))
+}
+
+fn mounts_of(alloc: Global, messages: &[&[u8]]) -> Result<Items<Mount<Bytes>>, WireRefusal>
+    ensures { Gives (λ v. v) result (each_of mount_of (bodies_now messages.now)) }
+{
+    let mut mounts = Vec::with_capacity(alloc, messages.len())?;
+    for message in messages {
+        mounts.push(mount_of(alloc, message)?)?;
+    }
+    Ok(Items::new(mounts))
+}
+
+fn meta_in(alloc: Global, fields: &[Field<'_>]) -> Result<Option<Meta<Bytes>>, WireRefusal>
+    ensures { Gives (λ v. v) result (optional_of meta_of (joined_body 1 (entries fields.now))) }
+{
+    match protowire::joined_body(alloc, fields, 1)? {
+        Some(body) => Ok(Some(meta_of(alloc, &body)?)),
+        None => Ok(None),
+    }
+}
+
+#[tactic(auto, unfolding(crate::specs::Reading::exec_of))]
+fn exec_of(alloc: Global, message: &[u8]) -> Result<ExecOp<Bytes>, WireRefusal>
+    ensures { Gives (λ v. v) result (exec_of message.now) }
+{
+    let fields = fields(alloc, message)?;
+    let meta = meta_in(alloc, &fields)?;
+    let mounts = mounts_of(alloc, &protowire::bodies(alloc, &fields, 2)?)?;
+    Ok(ExecOp {
+        meta,
+        mounts,
+        network: int32_in(&fields, 3),
+        security: int32_in(&fields, 4),
+    })
+}

@@ -1,0 +1,6 @@
+pub mod Fields
+pub mod Lookups
+pub mod Reading
+pub mod Seen
+pub mod Varints
+pub mod Writing

@@ -1,0 +1,106 @@
+-- Reading a message from the left: its fields, or the first fault.
+use Rattle.std.specs.Prelude.{◌≡◌, ◌⊎◌, ℕ, zero, suc, ◌+◌, ◌-◌, ◌*◌, ◌/◌, ◌%◌, ◌^◌, ◌||◌, ◌==◌, nat_lt, nat_le, if◌then◌else◌, List, [], ◌∷◌, ◌++◌, length, take, drop, Result, Ok, Err}
+use Rattle.protowire.specs.declared.refusal.WireRefusal.{WireRefusal}
+use Rattle.protowire.specs.declared.refusal.WireRefusal.TheVariants.{Truncated, VarintTooLong, BadWireType, BadFieldNumber, OutOfMemory}
+use Rattle.std.specs.List.{flat_map, AllByRecursion}
+use Rattle.protowire.specs.Fields.{Payload, varint, eight, bytes, four, Entry, Spelled, IsField, message}
+
+-- one step after another, up to the first fault
+infixl 10 ◌>>=◌
+abbrev pub ◌>>=◌ : {A B E : Type 0} → Result A E → (A → Result B E) → Result B E
+(Ok x) >>= f = f x
+(Err e) >>= f = Err e
+
+-- a result, its value seen by view
+abbrev pub shown : {X Y E : Type 0} → (X → Y) → Result X E → Result Y E
+shown view (Ok x) = Ok (view x)
+shown view (Err e) = Err e
+
+-- what was returned, its value seen by view, is what reading gives, unless memory ran out
+abbrev pub GivesUnless : {X Y E : Type 0} → E → (X → Y) → Result X E → Result Y E → Type 0
+GivesUnless memory view (Ok x) read = read ≡ Ok (view x)
+GivesUnless memory view (Err e) read = (e ≡ memory) ⊎ (read ≡ Err e)
+
+abbrev pub Gives : {X Y : Type 0} → (X → Y) → Result X WireRefusal → Result Y WireRefusal → Type 0
+Gives view returned read = GivesUnless OutOfMemory view returned read
+
+-- The number at the front, and what follows it, where so many bytes may stand before its last one.
+-- The tenth byte has one bit left.
+unfoldable pub varint_in : ℕ → List ℕ → Result (ℕ × List ℕ) WireRefusal
+varint_in places [] = Err Truncated
+varint_in zero (b ∷ bs) = if nat_lt b 2 then Ok (b, bs) else Err VarintTooLong
+varint_in (suc places) (b ∷ bs) = if nat_lt b 128 then Ok (b, bs)
+    else (varint_in places bs >>= λ high. Ok (b % 128 + 128 * high.0, high.1))
+
+unfoldable pub varint_at : List ℕ → Result (ℕ × List ℕ) WireRefusal
+varint_at text = varint_in 9 text
+
+-- so many bytes, and what follows them
+abbrev pub front_at : ℕ → List ℕ → Result (List ℕ × List ℕ) WireRefusal
+front_at len text = if nat_lt (length text) len then Err Truncated else Ok (take len text, drop len text)
+
+-- what a field of each wire type holds, and what follows it (proto3 encoding)
+abbrev pub number_payload : List ℕ → Result (Payload × List ℕ) WireRefusal
+number_payload text = do
+  number ← varint_at text
+  Ok (varint number.0, number.1)
+
+abbrev pub eight_payload : List ℕ → Result (Payload × List ℕ) WireRefusal
+eight_payload text = do
+  body ← front_at 8 text
+  Ok (eight, body.1)
+
+abbrev pub bytes_payload : List ℕ → Result (Payload × List ℕ) WireRefusal
+bytes_payload text = do
+  len ← varint_at text
+  body ← front_at len.0 len.1
+  Ok (bytes body.0, body.1)
+
+abbrev pub four_payload : List ℕ → Result (Payload × List ℕ) WireRefusal
+four_payload text = do
+  body ← front_at 4 text
+  Ok (four, body.1)
+
+-- what a field of this wire type holds; there is no type 3, 4, 6 or 7 (groups are left out: this project's own)
+unfoldable pub payload_at : ℕ → List ℕ → Result (Payload × List ℕ) WireRefusal
+payload_at type text =
+    if type == 0 then number_payload text
+    else if type == 1 then eight_payload text
+    else if type == 2 then bytes_payload text
+    else if type == 5 then four_payload text
+    else Err BadWireType
+
+-- the tag, then the number, then the wire type, then the value
+unfoldable pub field_at : List ℕ → Result (Entry × List ℕ) WireRefusal
+field_at text = do
+  tag ← varint_at text
+  if tag.0 / 8 == 0 || nat_le (2 ^ 29) (tag.0 / 8) then Err BadFieldNumber else (do
+    value ← payload_at (tag.0 % 8) tag.1
+    Ok (record { number = tag.0 / 8; payload = value.0 }, value.1))
+
+-- the field at the front with the bytes that spell it, and what follows it
+unfoldable pub spelled_at : List ℕ → Result (Spelled × List ℕ) WireRefusal
+spelled_at text = do
+  field ← field_at text
+  Ok (record { entry = field.0; text = take (length text - length field.1) text }, field.1)
+
+-- the fields of a text of at most so many bytes
+unfoldable pub fields_in : ℕ → List ℕ → Result (List Spelled) WireRefusal
+fields_in limit [] = Ok []
+fields_in zero (b ∷ bs) = Ok []
+fields_in (suc limit) (b ∷ bs) = do
+  first ← spelled_at (b ∷ bs)
+  others ← fields_in limit first.1
+  Ok (first.0 ∷ others)
+
+-- the fields of a message, or the first fault from the left
+unfoldable pub fields_of : List ℕ → Result (List Spelled) WireRefusal
+fields_of text = fields_in (length text) text
+
+-- fields stand in front of the fault, and it is the fault of what follows them
+pub record Faulted (text : List ℕ) (refusal : WireRefusal) : Type 0 where
+  pub before : List Spelled
+  pub rest : List ℕ
+  pub each : AllByRecursion IsField before
+  pub parts : text ≡ message before ++ rest
+  pub fault : field_at rest ≡ Err refusal

@@ -1,0 +1,20 @@
+//! The fields of a proto3 message: reading and writing its wire form.
+#![tactic(auto)]
+
+mod field;
+mod laws;
+mod lookup;
+mod reading;
+mod refusal;
+mod varint;
+mod writing;
+
+pub use field::{Field, Value};
+pub use laws::{
+    fields_are_determined, first_fault_decides, written_fields_are_fields,
+    written_numbers_are_shortest,
+};
+pub use lookup::{bodies, joined_body, last_member, last_varint};
+pub use reading::fields;
+pub use refusal::WireRefusal;
+pub use writing::{put_bytes, put_message, put_varint};

@@ -1,0 +1,40 @@
+ghost use Rattle.std.specs.Prelude.{◌≡◌};
+ghost use Rattle.protowire.specs.declared.refusal.WireRefusal.TheVariants as refusal;
+
+use std::alloc::{AllocError, AllocFailed};
+use thiserror::Error;
+
+/// Why bytes are no message.
+#[derive(Clone, Copy, Debug, PartialEq, Eq, Error)]
+pub enum WireRefusal {
+    /// The bytes end inside a field.
+    #[error("the bytes end inside a field")]
+    Truncated,
+    /// A varint of more than ten bytes, or of 2^64 or more.
+    #[error("a varint that passes 64 bits")]
+    VarintTooLong,
+    /// A wire type other than a varint, eight bytes, bytes of a length, and four bytes.
+    #[error("no wire type")]
+    BadWireType,
+    /// A field number outside 1 to 2^29 - 1.
+    #[error("no field number")]
+    BadFieldNumber,
+    #[error("out of memory")]
+    OutOfMemory,
+}
+
+impl From<AllocError> for WireRefusal {
+    ghost from_gives = { λ _ e. e ≡ refusal.OutOfMemory };
+
+    fn from(_error: AllocError) -> WireRefusal {
+        WireRefusal::OutOfMemory
+    }
+}
+
+impl<T: Drop> From<AllocFailed<T>> for WireRefusal {
+    ghost from_gives = { λ _ e. e ≡ refusal.OutOfMemory };
+
+    fn from(_error: AllocFailed<T>) -> WireRefusal {
+        WireRefusal::OutOfMemory
+    }
+}
