@@ -1,3 +1,5 @@
 pub mod Refusals
 pub mod Scalars
 pub mod Reading
+pub mod Texts
+pub mod Ops

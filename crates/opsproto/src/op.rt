@@ -1,0 +1,86 @@
+ghost use Rattle.std.specs.Prelude.{◌≡◌, IfOk};
+
+use super::exec::ExecOp;
+use super::fields::Bytes;
+use super::input::Input;
+use farm_base::{Copied, Items, Text};
+use std::alloc::{AllocError, Global};
+use std::marker::Model;
+
+/// What an op does.
+#[derive(Debug, Drop)]
+pub enum Kind<T = Text> {
+    Exec(ExecOp<T>),
+    /// A member of the oneof that nothing reads, by its field number.
+    Opaque(u32),
+    /// None of the oneof's members.
+    Bare,
+}
+
+/// A vertex of a build. Its kind is the one that its stripped bytes spell.
+#[derive(Debug, Drop)]
+pub struct Op {
+    inputs: Items<Input>,
+    kind: Kind,
+    stripped: Bytes,
+}
+
+impl Model for Op {
+    ghost use Rattle.opsproto.specs.Ops.{OpParts, IsOp};
+
+    ghost Value = { OpParts };
+
+    ghost view = { λ o. record { inputs = o.inputs; kind = o.kind; stripped = o.stripped } };
+
+    ghost invariant = { λ o. IsOp o.stripped o.kind };
+}
+
+impl Op {
+    pub fn inputs(&self) -> &[Input]
+        ensures { result.now ≡ self.now.inputs }
+    {
+        self.inputs.as_slice()
+    }
+
+    pub fn kind(&self) -> &Kind
+        ensures { result.now ≡ self.now.kind }
+    {
+        &self.kind
+    }
+
+    /// The op's bytes without every field of its inputs' number.
+    pub fn stripped(&self) -> &[u8]
+        ensures { result.now ≡ self.now.stripped }
+    {
+        self.stripped.as_slice()
+    }
+}
+
+impl Copied for Kind {
+    fn copy(&self, alloc: Global) -> Result<Self, AllocError> {
+        match self {
+            Kind::Exec(exec) => Ok(Kind::Exec(exec.copy(alloc)?)),
+            Kind::Opaque(number) => Ok(Kind::Opaque(*number)),
+            Kind::Bare => Ok(Kind::Bare),
+        }
+    }
+}
+
+fn copied_bytes(alloc: Global, bytes: &Bytes) -> Result<Bytes, AllocError>
+    ensures { IfOk result (λ copy. copy ≡ bytes.now) }
+{
+    Ok(Items::new(Vec::from_slice(alloc, bytes.as_slice())?))
+}
+
+impl Copied for Op {
+    fn copy(&self, alloc: Global) -> Result<Self, AllocError> {
+        let inputs = self.inputs.copy(alloc)?;
+        let kind = self.kind.copy(alloc)?;
+        let stripped = copied_bytes(alloc, &self.stripped)?;
+        Ok(Op {
+            inputs,
+            kind,
+            stripped,
+        })
+    }
+}
