@@ -1,3 +1,4 @@
+pub mod CheckLemmas
 pub mod EntryLemmas
 pub mod OrderLaws
 pub mod RowLemmas

@@ -1,7 +1,9 @@
 pub mod Entries
 pub mod Firsts
 pub mod Flags
+pub mod OpChecks
 pub mod Orders
+pub mod Outcomes
 pub mod Rows
 pub mod Sorting
 pub mod Waiters

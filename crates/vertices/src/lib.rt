@@ -2,9 +2,10 @@
 #![tactic(auto)]
 
 mod entries;
+mod execs;
 mod ordering;
 mod refusal;
 mod table;
 
 pub use entries::order;
-pub use refusal::OrderRefusal;
+pub use refusal::{LoadRefusal, OrderRefusal};
