@@ -1,2 +1,4 @@
 pub mod ReadingLemmas
 pub mod TextLemmas
+pub mod OpLemmas
+pub mod PutLemmas

@@ -1,5 +1,5 @@
 -- What fields say, seen through their spelling or not.
-use Rattle.std.proofs.Common.{◌≡◌, ℕ, List, [], ◌∷◌, map, ◌++◌, Bor, Some, None, Result, Ok, Err, refl, ap}
+use Rattle.std.proofs.Common.{◌≡◌, ℕ, zero, suc, ◌<◌, ◌≤◌, length, get_or, arith, List, [], ◌∷◌, map, ◌++◌, Bor, Some, None, Result, Ok, Err, refl, ap}
 use Rattle.std.specs.Prelude.{unwrap_or}
 use Rattle.std.specs.List.{last_or}
 use Rattle.protowire.specs.declared.refusal.WireRefusal.{WireRefusal}
@@ -8,7 +8,8 @@ use Rattle.protowire.specs.Reading.{◌>>=◌}
 use Rattle.protowire.specs.Lookups.{bodies}
 use Rattle.opsproto.specs.Scalars.{text_in}
 use Rattle.protowire.specs.declared.field.Field.{Field}
-use Rattle.protowire.specs.Seen.{entry, entries, spelled, spelled_all}
+use Rattle.protowire.specs.declared.field.Value.TheVariants as held
+use Rattle.protowire.specs.Seen.{entry, entries, spelled, spelled_all, StandInRow}
 use Rattle.opsproto.specs.Reading.{says, bodies_now, each_of}
 
 pub says_spelled : (message : List ℕ) (fs : List Field) → says (spelled_all message fs) ≡ entries fs
@@ -29,3 +30,25 @@ text_after_none number es = by_bodies (bodies number es)
 -- what was read of messages before, and what is still read
 abbrev pub with_front : {X : Type 0} → List X → Result (List X) WireRefusal → Result (List X) WireRefusal
 with_front front read = read >>= λ xs. Ok (front ++ xs)
+
+-- a field's places, of fields that stand one after the other
+pub record Within (f : Field) (from to : ℕ) : Type 0 where
+  pub begins : from ≤ f.start
+  pub rises : f.start ≤ f.end
+  pub ends : f.end ≤ to
+
+row_rises : (from : ℕ) (fs : List Field) (to : ℕ) → StandInRow from fs to → from ≤ to
+row_rises from [] to row = omega (arith, row)
+row_rises from (f ∷ fs) to row = omega (arith, row.0, row.1, row_rises f.end fs to row.2)
+
+pub row_within : (from : ℕ) (fs : List Field) (to i : ℕ) (d : Field) → StandInRow from fs to → i < length fs → Within (get_or fs i d) from to
+row_within from [] to i d row lt = absurd (omega arith)
+row_within from (f ∷ fs) to zero d row lt = record { begins = omega (arith, row.0); rises = omega (arith, row.1); ends = row_rises f.end fs to row.2 }
+row_within from (f ∷ fs) to (suc i) d row lt =
+    let w = row_within f.end fs to i d row.2 (omega arith) in
+    record { begins = omega (arith, row.0, row.1, w.begins); rises = w.rises; ends = w.ends }
+
+
+-- what a loop reads past the end
+abbrev pub no_field : Field
+no_field = record { number = 0; value = held.Varint 0; start = 0; end = 0 }

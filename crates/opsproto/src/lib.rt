@@ -1,15 +1,22 @@
 //! BuildKit's `Definition` and `Op` messages: reading and writing them.
 #![tactic(auto)]
 
+mod definition;
 mod exec;
 mod fields;
 mod input;
 mod op;
+mod put;
+mod raw;
+mod read;
 mod reading;
 mod refusal;
 mod texts;
+mod write;
 
+pub use definition::Definition;
 pub use exec::{CacheOpt, ExecOp, Meta, Mount};
 pub use input::Input;
 pub use op::{Kind, Op};
+pub use read::{ENTRIES, LIMIT, read_definition, read_op};
 pub use refusal::OpRefusal;

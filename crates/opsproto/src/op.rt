@@ -36,6 +36,19 @@ impl Model for Op {
 }
 
 impl Op {
+    ghost use Rattle.opsproto.specs.Ops.{IsOp};
+
+    pub(crate) fn new(inputs: Items<Input>, kind: Kind, stripped: Bytes) -> Self
+        requires { IsOp stripped kind }
+        ensures { result ≡ record { inputs = inputs; kind = kind; stripped = stripped } }
+    {
+        Op {
+            inputs,
+            kind,
+            stripped,
+        }
+    }
+
     pub fn inputs(&self) -> &[Input]
         ensures { result.now ≡ self.now.inputs }
     {

@@ -74,7 +74,7 @@ fn meta_of(alloc: Global, message: &[u8]) -> Result<Meta<Bytes>, WireRefusal>
     })
 }
 
-fn inputs_of(alloc: Global, messages: &[&[u8]]) -> Result<Items<Input<Bytes>>, WireRefusal>
+pub(crate) fn inputs_of(alloc: Global, messages: &[&[u8]]) -> Result<Items<Input<Bytes>>, WireRefusal>
     ensures { Gives (λ v. v) result (each_of input_of (bodies_now messages.now)) }
 {
     let mut inputs = Vec::with_capacity(alloc, messages.len())?;
@@ -104,7 +104,7 @@ fn meta_in(alloc: Global, fields: &[Field<'_>]) -> Result<Option<Meta<Bytes>>, W
 }
 
 #[tactic(auto, unfolding(crate::specs::Reading::exec_of))]
-fn exec_of(alloc: Global, message: &[u8]) -> Result<ExecOp<Bytes>, WireRefusal>
+pub(crate) fn exec_of(alloc: Global, message: &[u8]) -> Result<ExecOp<Bytes>, WireRefusal>
     ensures { Gives (λ v. v) result (exec_of message.now) }
 {
     let fields = fields(alloc, message)?;

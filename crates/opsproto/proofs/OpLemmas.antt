@@ -1,0 +1,91 @@
+-- The bytes of an op without its inputs are an op of the same kind.
+use Rattle.std.proofs.Common.{◌≡◌, ℕ, Bool, true, false, cond, eqb, not, List, [], ◌∷◌, ◌++◌, map, Option, Some, None, Result, Ok, Err, refl, sym, ap, subst, ◌∙◌, inl, inr}
+use Rattle.std.specs.Prelude.{filter, filter_map}
+use Rattle.std.specs.List.{AllByRecursion}
+use Rattle.std.proofs.lemmas.Bool.{cases_Bool, eqb-true}
+use Rattle.protowire.specs.declared.refusal.WireRefusal.{WireRefusal}
+use Rattle.protowire.specs.Fields.{Entry, Spelled, IsField, message, AreFields}
+use Rattle.protowire.specs.Reading.{◌>>=◌, fields_of}
+use Rattle.protowire.specs.Lookups.{Member, member_in, bodies, last_run, last_member}
+use Rattle.protowire.proofs.Bind.{bind_ok, ok_is}
+use Rattle.protowire.proofs.FieldLaws.{fields_took, fields_again}
+use Rattle.opsproto.specs.declared.refusal.OpRefusal.{OpRefusal}
+use Rattle.opsproto.specs.declared.op.Kind.{Kind}
+use Rattle.opsproto.specs.declared.input.Input.{Input}
+use Rattle.opsproto.specs.Refusals.{wire}
+use Rattle.opsproto.specs.Scalars.{Text}
+use Rattle.opsproto.specs.Reading.{says, each_of, input_of}
+use Rattle.opsproto.specs.Ops.{OpParts, members, kind_of, kept, op_of, kind_checked, op_checked, op_read, IsOp}
+
+-- whether a field is an input
+abbrev is_input : Spelled → Bool
+is_input f = eqb f.entry.number 1
+
+kept_bodies : (fs : List Spelled) → bodies 1 (says (kept fs)) ≡ []
+kept_bodies [] = refl
+kept_bodies (f ∷ fs) =
+    elim (cases_Bool (is_input f)) [
+      | inl e ↦ rw e (kept_bodies fs)
+      | inr e ↦ rw (e, e) (kept_bodies fs)
+    ]
+
+no_member : (e : Entry) → e.number ≡ 1 → member_in members e ≡ None
+no_member e h = rw h refl
+
+kept_members : (fs : List Spelled) → filter_map (member_in members) (says (kept fs)) ≡ filter_map (member_in members) (says fs)
+kept_members [] = refl
+kept_members (f ∷ fs) =
+    elim (cases_Bool (is_input f)) [
+      | inl e ↦ rw (e, no_member f.entry (eqb-true f.entry.number 1 e)) (kept_members fs)
+      | inr e ↦ rw (e, kept_members fs) refl
+    ]
+
+kept_kept : (fs : List Spelled) → kept (kept fs) ≡ kept fs
+kept_kept [] = refl
+kept_kept (f ∷ fs) =
+    elim (cases_Bool (is_input f)) [
+      | inl e ↦ rw e (kept_kept fs)
+      | inr e ↦ rw (e, e) (ap (λ (xs : List Spelled). f ∷ xs) (kept_kept fs))
+    ]
+
+kept_each : (fs : List Spelled) → AllByRecursion IsField fs → AllByRecursion IsField (kept fs)
+kept_each [] each = tt
+kept_each (f ∷ fs) each =
+    elim (cases_Bool (is_input f)) [
+      | inl e ↦ rw e (kept_each fs each.1)
+      | inr e ↦ rw e (each.0, kept_each fs each.1)
+    ]
+
+pub stripped_read : (fs : List Spelled) (kind : Kind Text) → AllByRecursion IsField fs → kind_of (last_member members (says fs)) ≡ Ok kind
+    → op_of (message (kept fs)) ≡ Ok (record { inputs = []; kind = kind; stripped = message (kept fs) })
+unfolding op_of
+stripped_read fs kind each is =
+    let read : fields_of (message (kept fs)) ≡ Ok (kept fs) = fields_again (message (kept fs)) (kept fs) (record { each = kept_each fs each; joined = refl }) in
+    let same : kind_of (last_member members (says (kept fs))) ≡ Ok kind = ap (λ (ms : List Member). kind_of (last_run ms)) (kept_members fs) ∙ is in
+    rw (read, kept_bodies fs, same, kept_kept fs) refl
+
+-- what was read of an op
+pub record OpTook (text : List ℕ) (op : OpParts) : Type 0 where
+  pub fields : List Spelled
+  pub are : AreFields text fields
+  pub inputs : each_of input_of (bodies 1 (says fields)) ≡ Ok op.inputs
+  pub kind : kind_of (last_member members (says fields)) ≡ Ok op.kind
+  pub stripped : op.stripped ≡ message (kept fields)
+
+pub op_took : (text : List ℕ) (op : OpParts) → op_of text ≡ Ok op → OpTook text op
+unfolding op_of
+op_took text op e =
+    let a = bind_ok (fields_of text) (λ fs. each_of input_of (bodies 1 (says fs)) >>= λ inputs. kind_of (last_member members (says fs)) >>= λ kind. Ok (record { inputs = inputs; kind = kind; stripped = message (kept fs) })) op e in
+    let b = bind_ok (each_of input_of (bodies 1 (says a.0))) (λ inputs. kind_of (last_member members (says a.0)) >>= λ kind. Ok (record { inputs = inputs; kind = kind; stripped = message (kept a.0) })) op a.2 in
+    let c = bind_ok (kind_of (last_member members (says a.0))) (λ kind. Ok (record { inputs = b.0; kind = kind; stripped = message (kept a.0) })) op b.2 in
+    let made : OpParts = record { inputs = b.0; kind = c.0; stripped = message (kept a.0) } in
+    subst (λ (x : OpParts). OpTook text x) (ok_is {E = WireRefusal} made op c.2)
+      (record { fields = a.0; are = fields_took text a.0 a.1; inputs = b.1; kind = c.1; stripped = refl })
+
+pub is_op : (text : List ℕ) (op : OpParts) (kind : Kind Text) → op_of text ≡ Ok op → kind_checked op.kind ≡ Ok kind → IsOp op.stripped kind
+unfolding op_read op_checked
+is_op text op kind e checked =
+    let t = op_took text op e in
+    let alone : op_of op.stripped ≡ Ok (record { inputs = []; kind = op.kind; stripped = op.stripped }) =
+        rw t.stripped (stripped_read t.fields op.kind t.are.each t.kind) in
+    rw (alone, checked) refl

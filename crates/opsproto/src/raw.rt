@@ -1,0 +1,73 @@
+//! What the bytes of an op mean, before anything is asked of its texts.
+
+ghost use Rattle.std.specs.Prelude.{◌≡◌, IfOk, length};
+ghost use Rattle.protowire.specs.Fields.{message as joined};
+ghost use Rattle.protowire.specs.Seen.{entries, spelled_all, StandInRow};
+ghost use Rattle.protowire.specs.Reading.{Gives};
+ghost use Rattle.protowire.specs.Lookups.{last_member};
+ghost use Rattle.opsproto.specs.Ops.{members, kind_of, kept, op_of};
+ghost use Rattle.opsproto.specs.RawOps.{parts};
+
+use super::fields::Bytes;
+use super::input::Input;
+use super::op::Kind;
+use super::reading::{exec_of, inputs_of};
+use farm_base::Items;
+use protowire::{Field, WireRefusal};
+use std::alloc::{AllocError, Global};
+
+/// The field number of an op's inputs.
+pub(crate) const INPUTS: u32 = 1;
+
+/// The field number of an exec op.
+pub(crate) const EXEC: u32 = 2;
+
+/// The field numbers of what an op may be: an exec, source, file, build, merge or diff op.
+const MEMBERS: [u32; 6] = [EXEC, 3, 4, 5, 6, 7];
+
+/// An op whose texts may not be UTF-8.
+#[derive(Drop)]
+pub(crate) struct RawOp {
+    pub inputs: Items<Input<Bytes>>,
+    pub kind: Kind<Bytes>,
+    pub stripped: Bytes,
+}
+
+fn kind_of(alloc: Global, fields: &[Field<'_>]) -> Result<Kind<Bytes>, WireRefusal>
+    ensures { Gives (λ v. v) result (kind_of (last_member members (entries fields.now))) }
+{
+    match protowire::last_member(alloc, fields, &MEMBERS)? {
+        Some((EXEC, body)) => Ok(Kind::Exec(exec_of(alloc, &body)?)),
+        Some((number, _)) => Ok(Kind::Opaque(number)),
+        None => Ok(Kind::Bare),
+    }
+}
+
+/// The bytes of the fields of another number than the inputs'.
+fn stripped(alloc: Global, message: &[u8], fields: &[Field<'_>]) -> Result<Bytes, AllocError>
+    requires { StandInRow 0 fields.now (length message.now) }
+    ensures { IfOk result (λ bytes. bytes ≡ joined (kept (spelled_all message.now fields.now))) }
+{
+    let mut bytes = Vec::new(alloc);
+    for field in fields {
+        if field.number != INPUTS {
+            bytes.extend_from_slice(&message[field.start..field.end])?;
+        }
+    }
+    Ok(Items::new(bytes))
+}
+
+#[tactic(auto, using(crate::proofs::ReadingLemmas::says_spelled), unfolding(crate::specs::Ops::op_of))]
+pub(crate) fn raw_op(alloc: Global, message: &[u8]) -> Result<RawOp, WireRefusal>
+    ensures { Gives parts result (op_of message.now) }
+{
+    let fields = protowire::fields(alloc, message)?;
+    let inputs = inputs_of(alloc, &protowire::bodies(alloc, &fields, INPUTS)?)?;
+    let kind = kind_of(alloc, &fields)?;
+    let stripped = stripped(alloc, message, &fields)?;
+    Ok(RawOp {
+        inputs,
+        kind,
+        stripped,
+    })
+}

@@ -1,0 +1,63 @@
+ghost use Rattle.std.specs.Prelude.{◌≡◌};
+ghost use Rattle.protowire.specs.Seen.{entries};
+ghost use Rattle.opsproto.specs.Refusals.{Gives};
+ghost use Rattle.opsproto.specs.Texts.{each_checked, input_checked};
+ghost use Rattle.opsproto.specs.Ops.{kind_checked, op_at};
+ghost use Rattle.opsproto.specs.Definitions.{definition_at};
+
+use super::definition::Definition;
+use super::fields::{Bytes, fields, texts_in};
+use super::op::{Kind, Op};
+use super::raw::raw_op;
+use super::refusal::OpRefusal;
+use super::texts::{exec_checked, inputs_checked};
+use std::alloc::Global;
+
+/// The greatest size of a definition or an op: 16 MiB.
+pub const LIMIT: usize = 16 << 20;
+
+/// The greatest number of entries of a definition.
+pub const ENTRIES: usize = 65_536;
+
+/// The field number of a definition's entries.
+pub(crate) const DEF: u32 = 1;
+
+fn kind_checked(alloc: Global, kind: Kind<Bytes>) -> Result<Kind, OpRefusal>
+    ensures { Gives (λ v. v) result (kind_checked kind) }
+{
+    match kind {
+        Kind::Exec(exec) => Ok(Kind::Exec(exec_checked(alloc, exec)?)),
+        Kind::Opaque(number) => Ok(Kind::Opaque(number)),
+        Kind::Bare => Ok(Kind::Bare),
+    }
+}
+
+/// Reads an op. Its size comes first, then the forms of all its messages, then its texts.
+#[tactic(auto, unfolding(crate::specs::Ops::op_at, crate::specs::Ops::op_read, crate::specs::Ops::op_checked))]
+pub fn read_op(alloc: Global, bytes: &[u8]) -> Result<Op, OpRefusal>
+    ensures { Gives (λ op. op) result (op_at bytes.now) }
+{
+    if bytes.len() > LIMIT {
+        return Err(OpRefusal::TooLarge);
+    }
+    let raw = raw_op(alloc, bytes)?;
+    let inputs = inputs_checked(alloc, raw.inputs)?;
+    let kind = kind_checked(alloc, raw.kind)?;
+    Ok(Op::new(inputs, kind, raw.stripped))
+}
+
+/// Reads a definition. Its size comes first, then its form, then the number of its entries.
+#[tactic(auto, unfolding(crate::specs::Definitions::definition_at))]
+pub fn read_definition(alloc: Global, bytes: &[u8]) -> Result<Definition, OpRefusal>
+    ensures { Gives (λ definition. definition) result (definition_at bytes.now) }
+{
+    if bytes.len() > LIMIT {
+        return Err(OpRefusal::TooLarge);
+    }
+    let fields = fields(alloc, bytes)?;
+    let def = texts_in(alloc, &fields, DEF)?;
+    if def.as_slice().len() > ENTRIES {
+        return Err(OpRefusal::TooLarge);
+    }
+    Ok(Definition { def })
+}
