@@ -1,6 +1,8 @@
+pub mod Edges
 pub mod Entries
 pub mod Firsts
 pub mod Flags
+pub mod Loading
 pub mod OpChecks
 pub mod Orders
 pub mod Outcomes

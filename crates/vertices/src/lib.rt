@@ -1,11 +1,15 @@
 //! The vertices of a definition: loading, checks, and the order in which they can be solved.
 #![tactic(auto)]
 
+mod edges;
 mod entries;
 mod execs;
 mod ordering;
+mod reading;
 mod refusal;
 mod table;
+mod vertex;
 
 pub use entries::order;
+pub use vertex::Vertex;
 pub use refusal::{LoadRefusal, OrderRefusal};
