@@ -2,6 +2,7 @@ pub mod Edges
 pub mod Entries
 pub mod Firsts
 pub mod Flags
+pub mod Loaded
 pub mod Loading
 pub mod OpChecks
 pub mod Orders

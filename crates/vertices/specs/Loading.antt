@@ -86,3 +86,20 @@ GraphCheck entries vertices last =
     Then (ResultCheck (digests_in entries) (length entries) last)
     (Then (Each (VertexCheck (digests_in entries)) vertices)
     (Refuses (IsCyclic vertices) refusal.Cycle))
+
+-- all entries but the last, which names the result
+abbrev pub front : List (List ℕ) → List (List ℕ)
+front def = take (length def - 1) def
+
+-- the last entry
+abbrev pub last_of : List (List ℕ) → List ℕ
+last_of def = slice_index_or def (length def - 1) []
+
+-- the graph of the entries is asked for
+abbrev pub VerticesCheck : List (List ℕ) → Option LoadRefusal → Type 0
+VerticesCheck def given =
+    (vertices : List Vertex) × AreVertices (front def) vertices × GraphCheck (front def) vertices (op_in (last_of def)).inputs given
+
+-- what is asked of the entries of a definition, in this order
+abbrev pub DefinitionCheck : List (List ℕ) → Option LoadRefusal → Type 0
+DefinitionCheck def = Then (Needs (0 < length def) refusal.EmptyDefinition) (Then (ReadChecks 0 def) (VerticesCheck def))

@@ -4,6 +4,7 @@
 mod edges;
 mod entries;
 mod execs;
+mod loading;
 mod ordering;
 mod reading;
 mod refusal;

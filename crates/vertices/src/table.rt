@@ -1,4 +1,4 @@
-ghost use Rattle.std.specs.Prelude.{◌≡◌, ◌++◌, ◌∷◌, ◌<◌, ℕ, [], List, Some, None, length, OnOk, IfSome, IfNone, slice_get};
+ghost use Rattle.std.specs.Prelude.{◌≡◌, ◌++◌, ◌∷◌, ◌<◌, ℕ, [], List, Some, None, length, if◌then◌else◌, OnOk, IfOk, IfSome, IfNone, slice_get};
 
 use farm_base::Digest;
 use std::alloc::{AllocError, Global};
@@ -16,7 +16,8 @@ impl Table {
     ghost use Rattle.vertices.specs.Firsts.{IsFirstAt, IsTable, number_in};
 
     pub(crate) fn new(alloc: Global) -> Self
-        ensures { IsTable [] result }
+        ensures table { IsTable [] result }
+        ensures places { result.places.items ≡ [] }
     {
         Table {
             numbers: HashMap::new(alloc),
@@ -24,17 +25,18 @@ impl Table {
         }
     }
 
-    /// Adds the digest at the next place, where it is new.
-    pub(crate) fn add(&mut self, place: usize, digest: Digest) -> Result<(), AllocError>
-        ensures { OnOk result ((digests : List Digest) → length digests ≡ place → IsTable digests self.old
+    /// Adds the digest at the next place, where it is new. Answers whether it was.
+    pub(crate) fn add(&mut self, place: usize, digest: Digest) -> Result<bool, AllocError>
+        ensures table { OnOk result ((digests : List Digest) → length digests ≡ place → IsTable digests self.old
             → IsTable (digests ++ digest ∷ []) self.new) }
+        ensures places { IfOk result (λ new. self.new.places.items ≡ (if new then self.old.places.items ++ place ∷ [] else self.old.places.items)) }
     {
         if self.numbers.contains_key(&digest) {
-            return Ok(());
+            return Ok(false);
         }
         self.numbers.insert(digest, self.places.len())?;
         self.places.push(place)?;
-        Ok(())
+        Ok(true)
     }
 
     /// The number of the vertex with this digest.

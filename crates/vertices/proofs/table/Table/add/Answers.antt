@@ -4,8 +4,8 @@ use Rattle.vertices.specs.Firsts.{digest_eq, number_in}
 use Rattle.vertices.proofs.TableLemmas.{table_more, not_some}
 use Rattle.vertices.proofs.table.Table.add.Goals as goal
 
-pub returns : goal.returns
-returns c = λ digests len h.
+pub returns-clause-table : goal.returns-clause-table
+returns-clause-table c = λ digests len h.
     let new : Table = record { numbers = c.insert.new.self; places = c.push.new.self } in
     table_more digests c.args.self.now new c.args.digest h
     (not_some (number_in c.args.self.now c.args.digest) c.contains_key.result c.contains_key.ensures c.if-contains_key.false)
