@@ -14,6 +14,7 @@ use Rattle.opsproto.specs.declared.input.Input.{Input}
 use Rattle.vertices.specs.declared.vertex.Vertex.{Vertex}
 use Rattle.vertices.specs.Edges.{IsEdge, AreEdges}
 use Rattle.vertices.specs.declared.refusal.LoadRefusal.{LoadRefusal}
+use Rattle.vertices.specs.declared.refusal.LoadRefusal.TheVariants.{OutOfMemory}
 use Rattle.vertices.specs.Outcomes.{Then, Each}
 use Rattle.vertices.proofs.EntryLemmas.{take_push}
 
@@ -57,3 +58,8 @@ pub edges_more : (vertices : List Vertex) (inputs : List (Input Text)) (k : ℕ)
 edges_more vertices inputs k x edges edge at h is =
     subst (λ (ys : List (Input Text)). AreEdges vertices ys (edges ++ edge ∷ [])) (sym (take_push inputs k x at))
         (all_zip_push (IsEdge vertices) (take k inputs) edges x edge h is)
+
+-- one that is refused answers for all of them
+pub each_answers : {X : Type 0} (C : X → Option LoadRefusal → Type 0) (xs : List X) (k : ℕ) (x : X) (e : LoadRefusal) → slice_get xs k ≡ Some x
+    → Each C (take k xs) None → (e ≡ OutOfMemory) ⊎ C x (Some e) → (e ≡ OutOfMemory) ⊎ Each C xs (Some e)
+each_answers C xs k x e at h c = elim c [ inl memory ↦ inl memory | inr check ↦ inr (each_fails C xs k x e at h check) ]

@@ -1,5 +1,6 @@
 pub mod CheckLemmas
 pub mod EntryLemmas
+pub mod GraphLemmas
 pub mod LoadLemmas
 pub mod OrderLaws
 pub mod RowLemmas

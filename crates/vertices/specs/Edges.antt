@@ -1,5 +1,5 @@
 -- The edges that inputs name (this project's own, over BuildKit's ops.proto).
-use Rattle.std.specs.Prelude.{◌≡◌, ℕ, ℤ, pos, ◌≤ℤ◌, List, [], ◌∷◌, Option, Some, None, slice_get}
+use Rattle.std.specs.Prelude.{◌≡◌, ℕ, ℤ, pos, ◌≤ℤ◌, zero, suc, map, List, [], ◌∷◌, Option, Some, None, slice_get}
 use Rattle.std.specs.List.{Contains, AllZip}
 use Rattle.farm_base.specs.declared.digest.Digest.{Digest}
 use Rattle.farm_base.specs.Digests.{IsDigest, digest_text}
@@ -45,3 +45,18 @@ pub record Numbers (digests : List Digest) (vertices : List Vertex) (table : Tab
   pub listed : (digest : Digest) (number : ℕ) → number_in table digest ≡ Some number → Contains digests digest
   pub missing : (digest : Digest) → number_in table digest ≡ None → Contains digests digest → ⊥
   pub are_digests : (digest : Digest) → Contains digests digest → IsDigest digest
+  pub numbered : (number : ℕ) (vertex : Vertex) → slice_get vertices number ≡ Some vertex → number_in table vertex.digest ≡ Some number
+
+-- what stands in a list of lists at a place
+abbrev pub list_at : {X : Type 0} → List (List X) → ℕ → List X
+list_at [] place = []
+list_at (xs ∷ lists) zero = xs
+list_at (xs ∷ lists) (suc place) = list_at lists place
+
+-- the numbers that edges go to
+abbrev pub targets : List (ℕ × ℕ) → List ℕ
+targets edges = map (λ (edge : ℕ × ℕ). edge.0) edges
+
+-- an edge of the one goes to the other
+abbrev pub GoesTo : List (List (ℕ × ℕ)) → ℕ → ℕ → Type 0
+GoesTo edges number other = Contains (targets (list_at edges number)) other

@@ -4,6 +4,7 @@ pub mod Firsts
 pub mod Flags
 pub mod Loaded
 pub mod Loading
+pub mod Numbered
 pub mod OpChecks
 pub mod Orders
 pub mod Outcomes

@@ -1,5 +1,5 @@
 -- What a definition means as a graph (this project's own, over BuildKit's ops.proto).
-use Rattle.std.specs.Prelude.{◌≡◌, ℕ, ◌+◌, ◌-◌, ◌<◌, List, [], ◌∷◌, length, map, take, slice_index_or, slice_get, Option, Some, None, Result, Ok, IsOk}
+use Rattle.std.specs.Prelude.{◌≡◌, ℕ, ◌+◌, ◌-◌, ◌<◌, List, [], ◌∷◌, length, map, take, slice_index_or, slice_get, Option, Some, None, Result, Ok, IsOk, IfSome}
 use Rattle.std.specs.Result.{result_unwrap_or}
 use Rattle.std.specs.List.{Contains, AllZip}
 use Rattle.std.specs.List.Sorted.{IsStrictlyIncreasing}
@@ -80,12 +80,25 @@ pub record HasEdge (vertices : List Vertex) (number other : ℕ) : Type 0 where
 abbrev pub IsCyclic : List Vertex → Type 0
 IsCyclic vertices = orders.IsCyclic (HasEdge vertices)
 
--- what is asked of the entries but the last, which are these vertices, and of the inputs of the last
-abbrev pub GraphCheck : List (List ℕ) → List Vertex → List (Input Text) → Option LoadRefusal → Type 0
-GraphCheck entries vertices last =
-    Then (ResultCheck (digests_in entries) (length entries) last)
-    (Then (Each (VertexCheck (digests_in entries)) vertices)
-    (Refuses (IsCyclic vertices) refusal.Cycle))
+-- what a graph is: its vertices, the edges of each, the numbers in the order in which they can be
+-- solved, and the edge to its result
+pub record GraphParts : Type 0 where
+  pub vertices : List Vertex
+  pub edges : List (List (ℕ × ℕ))
+  pub order : List ℕ
+  pub result : ℕ × ℕ
+
+-- each vertex has an edge for each of its inputs, the order is that of the graph, and the result is one of them
+pub record IsGraph (g : GraphParts) : Type 0 where
+  pub edges : AllZip (λ v edges. AreEdges g.vertices v.op.inputs edges) g.vertices g.edges
+  pub order : orders.IsOrder (λ number. number < length g.vertices) (HasEdge g.vertices) g.order
+  pub acyclic : IsCyclic g.vertices → ⊥
+  pub result : g.result.0 < length g.vertices
+
+-- what is asked of vertices, where all have these digests, and of the inputs of the last entry, at its place
+abbrev pub GraphCheck : List Digest → ℕ → List Vertex → List (Input Text) → Option LoadRefusal → Type 0
+GraphCheck digests place vertices last =
+    Then (ResultCheck digests place last) (Then (Each (VertexCheck digests) vertices) (Refuses (IsCyclic vertices) refusal.Cycle))
 
 -- all entries but the last, which names the result
 abbrev pub front : List (List ℕ) → List (List ℕ)
@@ -98,8 +111,14 @@ last_of def = slice_index_or def (length def - 1) []
 -- the graph of the entries is asked for
 abbrev pub VerticesCheck : List (List ℕ) → Option LoadRefusal → Type 0
 VerticesCheck def given =
-    (vertices : List Vertex) × AreVertices (front def) vertices × GraphCheck (front def) vertices (op_in (last_of def)).inputs given
+    (vertices : List Vertex) × AreVertices (front def) vertices × GraphCheck (digests_in (front def)) (length (front def)) vertices (op_in (last_of def)).inputs given
 
 -- what is asked of the entries of a definition, in this order
 abbrev pub DefinitionCheck : List (List ℕ) → Option LoadRefusal → Type 0
 DefinitionCheck def = Then (Needs (0 < length def) refusal.EmptyDefinition) (Then (ReadChecks 0 def) (VerticesCheck def))
+
+-- the graph of a definition: its vertices, and the edge to the result
+pub record IsGraphOf (def : List (List ℕ)) (g : GraphParts) : Type 0 where
+  pub graph : IsGraph g
+  pub vertices : AreVertices (front def) g.vertices
+  pub result : IfSome (slice_get (op_in (last_of def)).inputs 0) (λ input. IsEdge g.vertices input g.result)

@@ -1,9 +1,11 @@
 //! The vertices of a definition: loading, checks, and the order in which they can be solved.
 #![tactic(auto)]
 
+mod building;
 mod edges;
 mod entries;
 mod execs;
+mod graph;
 mod loading;
 mod ordering;
 mod reading;
@@ -12,5 +14,7 @@ mod table;
 mod vertex;
 
 pub use entries::order;
+pub use graph::Graph;
+pub use loading::load;
 pub use vertex::Vertex;
 pub use refusal::{LoadRefusal, OrderRefusal};
