@@ -1,0 +1,23 @@
+ghost use Rattle.std.specs.Prelude.{◌≡◌};
+ghost use Rattle.solverkeys.specs.Keys.{solver_key};
+
+use farm_base::{Digest, Key};
+use sha2::{Digest as Hasher, Sha256};
+
+/// The byte that begins the message of a key.
+const KEY_MARK: u8 = 1;
+
+/// The solver key of a vertex with these stripped bytes, whose inputs have these keys and output
+/// indexes. It takes no memory.
+pub fn key_of(stripped: &[u8], inputs: &[(Key, u64)]) -> Key
+    ensures { result ≡ solver_key stripped.now inputs.now }
+{
+    let mut hasher = Sha256::new();
+    hasher.update([KEY_MARK]);
+    hasher.update(Sha256::digest(stripped));
+    for (key, index) in inputs {
+        hasher.update(key.0.0);
+        hasher.update(index.to_be_bytes());
+    }
+    Key(Digest(hasher.finalize()))
+}

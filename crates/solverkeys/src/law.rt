@@ -1,0 +1,10 @@
+ghost use Rattle.std.specs.Prelude.{◌≡◌, ◌≢◌};
+ghost use Rattle.solverkeys.specs.Shapes.{Shape, HasIndexes, shape_key, ShowCollision};
+
+/// Equal shapes have equal keys, and two different shapes with one key show a collision of SHA-256
+/// among the byte strings that are hashed for them.
+pub fn keys_tell_shapes()
+    ensures equal { (one other : Shape) → one ≡ other → shape_key one ≡ shape_key other }
+    ensures different { (one other : Shape) → HasIndexes one → HasIndexes other → one ≢ other
+        → shape_key one ≡ shape_key other → ShowCollision one other }
+{}

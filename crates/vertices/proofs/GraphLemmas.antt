@@ -1,0 +1,186 @@
+-- The edges of vertices as a graph of their numbers.
+use Rattle.std.proofs.Common.{◌≡◌, ◌≢◌, ℕ, zero, suc, ◌+◌, ◌<◌, ◌≤◌, ◌⊎◌, inl, inr, List, [], ◌∷◌, ◌++◌, length, map, take, get_or, Option, Some, None, refl, sym, ap, ◌∙◌, subst, arith}
+use Rattle.std.specs.List.{Contains, slice_get, AllZip}
+use Rattle.std.specs.declared.vec.Vec.{Vec}
+use Rattle.std.specs.declared.alloc.Global.{Global}
+use Rattle.std.proofs.lemmas.List.{get_or-map, length-map, get_or_default}
+use Rattle.std.proofs.lemmas.Bool.{cases_lt}
+use Rattle.std.proofs.lemmas.List.Elements.{Contains-push_cases, Contains-append_left, Contains-push}
+use Rattle.std.proofs.lemmas.Option.{slice_get-get_or, slice_get_within, get_or_from_slice_get}
+use Rattle.farm_base.specs.declared.digest.Digest.{Digest}
+use Rattle.farm_base.specs.Digests.{IsDigest, digest_text}
+use Rattle.opsproto.specs.Scalars.{Text}
+use Rattle.opsproto.specs.declared.input.Input.{Input}
+use Rattle.vertices.specs.declared.vertex.Vertex.{Vertex}
+use Rattle.vertices.specs.declared.table.Table.{Table}
+use Rattle.vertices.specs.Firsts.{number_in}
+use Rattle.vertices.specs.Rows.{row_at, HasInput, AreRows}
+use Rattle.vertices.specs.Orders.{IsOrder}
+use Rattle.vertices.specs.declared.refusal.LoadRefusal.{LoadRefusal}
+use Rattle.vertices.specs.declared.refusal.LoadRefusal.TheVariants.{OutOfMemory}
+use Rattle.vertices.specs.Outcomes.{Each}
+use Rattle.vertices.specs.Edges.{InputCheck, IsEdge, AreEdges, Numbers, list_at, targets, GoesTo}
+use Rattle.vertices.specs.Numbered.{AreNumbers, HasTargets}
+use Rattle.vertices.specs.Loading.{HasEdge, IsCyclic, ResultCheck, VertexCheck, GraphCheck}
+use Rattle.vertices.proofs.EntryLemmas.{at_Contains, Contains-at, order_same, cycle_same}
+use Rattle.vertices.proofs.CheckLemmas.{one_digest}
+use Rattle.vertices.proofs.RowLemmas.{row_within}
+
+-- lists that match are as long
+pub all_zip_length : {A B : Type 0} (R : A → B → Type 0) (xs : List A) (ys : List B) → AllZip R xs ys → length xs ≡ length ys
+all_zip_length R [] [] h = refl
+all_zip_length R [] (y ∷ ys) h = absurd h
+all_zip_length R (x ∷ xs) [] h = absurd h
+all_zip_length R (x ∷ xs) (y ∷ ys) h = ap suc (all_zip_length R xs ys h.1)
+
+-- what matches the element at a place
+pub all_zip_at : {A B : Type 0} (R : A → B → Type 0) (xs : List A) (ys : List B) (k : ℕ) (x : A) → AllZip R xs ys → slice_get xs k ≡ Some x
+    → (y : B) × (slice_get ys k ≡ Some y) × R x y
+all_zip_at R [] [] zero x h e = absurd (cc e)
+all_zip_at R [] [] (suc k) x h e = absurd (cc e)
+all_zip_at R [] (y ∷ ys) k x h e = absurd h
+all_zip_at R (a ∷ xs) [] k x h e = absurd h
+all_zip_at R (a ∷ xs) (b ∷ ys) zero x h e = let same : a ≡ x = cc e in (b, refl, subst (λ (z : _). R z b) same h.0)
+all_zip_at R (a ∷ xs) (b ∷ ys) (suc k) x h e = all_zip_at R xs ys k x h.1 e
+
+pub all_zip_back : {A B : Type 0} (R : A → B → Type 0) (xs : List A) (ys : List B) (k : ℕ) (y : B) → AllZip R xs ys → slice_get ys k ≡ Some y
+    → (x : A) × (slice_get xs k ≡ Some x) × R x y
+all_zip_back R [] [] zero y h e = absurd (cc e)
+all_zip_back R [] [] (suc k) y h e = absurd (cc e)
+all_zip_back R [] (b ∷ ys) k y h e = absurd h
+all_zip_back R (a ∷ xs) [] k y h e = absurd h
+all_zip_back R (a ∷ xs) (b ∷ ys) zero y h e = let same : b ≡ y = cc e in (a, refl, subst (λ (z : _). R a z) same h.0)
+all_zip_back R (a ∷ xs) (b ∷ ys) (suc k) y h e = all_zip_back R xs ys k y h.1 e
+
+-- ---- lists of lists
+
+pub list_at-get : {X : Type 0} (lists : List (List X)) (k : ℕ) (xs : List X) → slice_get lists k ≡ Some xs → list_at lists k ≡ xs
+list_at-get [] zero xs e = absurd (cc e)
+list_at-get [] (suc k) xs e = absurd (cc e)
+list_at-get (ys ∷ lists) zero xs e = cc e
+list_at-get (ys ∷ lists) (suc k) xs e = list_at-get lists k xs e
+
+pub list_within : {X : Type 0} (lists : List (List X)) (k : ℕ) (x : X) → Contains (list_at lists k) x → k < length lists
+list_within [] k x (i, lt, is) = absurd (omega arith)
+list_within (xs ∷ lists) zero x h = omega arith
+list_within (xs ∷ lists) (suc k) x h = let less = list_within lists k x h in omega arith
+
+-- a target is that of an edge
+target_edge : (edges : List (ℕ × ℕ)) (m : ℕ) → Contains (targets edges) m → (k : ℕ) × (e : ℕ × ℕ) × (slice_get edges k ≡ Some e) × (e.0 ≡ m)
+target_edge edges m (k, lt, is) =
+    let d : ℕ × ℕ = (m, 0) in
+    let within : k < length edges = omega (arith, length-map edges (λ (edge : ℕ × ℕ). edge.0)) in
+    let e = get_or edges k d in
+    (k, e, slice_get-get_or edges k d within, sym (get_or-map (λ (edge : ℕ × ℕ). edge.0) edges k d m within) ∙ is)
+
+edge_target : (edges : List (ℕ × ℕ)) (k : ℕ) (e : ℕ × ℕ) → slice_get edges k ≡ Some e → Contains (targets edges) e.0
+edge_target edges k e at =
+    let within = slice_get_within edges k e at in
+    (k, omega (arith, length-map edges (λ (edge : ℕ × ℕ). edge.0)),
+        get_or-map (λ (edge : ℕ × ℕ). edge.0) edges k e e.0 within ∙ ap (λ (edge : ℕ × ℕ). edge.0) (get_or_from_slice_get edges k e e at))
+
+-- ---- edges of vertices
+
+module _ (digests : List Digest) (vertices : List Vertex) (table : Table) (n : Numbers digests vertices table)
+    (edges : List (List (ℕ × ℕ))) (are : AllZip (λ v es. AreEdges vertices v.op.inputs es) vertices edges) where
+  -- what an edge goes to is named by an input
+  pub edge_named : (a b : ℕ) → GoesTo edges a b → HasEdge vertices a b
+  edge_named a b goes =
+      let less = list_at-within goes in
+      let es = list_at edges a in
+      let at_es : slice_get edges a ≡ Some es = slice_get-get_or edges a [] less ∙ ap (λ (xs : List (ℕ × ℕ)). Some xs) (sym (list_at-get edges a (get_or edges a []) (slice_get-get_or edges a [] less))) in
+      let v = all_zip_back (λ v es. AreEdges vertices v.op.inputs es) vertices edges a es are at_es in
+      let t = target_edge es b goes in
+      let i = all_zip_back (IsEdge vertices) v.0.op.inputs es t.0 t.1 v.2 t.2 in
+      record {
+        vertex = v.0;
+        input = i.0;
+        target = i.2.vertex;
+        from = v.1;
+        has = Contains-at v.0.op.inputs t.0 i.0 i.1;
+        to = ap (slice_get vertices) (sym t.3) ∙ i.2.there;
+        named = i.2.named
+      } where
+    list_at-within : GoesTo edges a b → a < length edges
+    list_at-within (k, lt, is) =
+        let within : k < length (list_at edges a) = omega (arith, length-map (list_at edges a) (λ (edge : ℕ × ℕ). edge.0)) in
+        list_within edges a (get_or (list_at edges a) k (0, 0)) (k, within, get_or_default (list_at edges a) k (get_or (list_at edges a) k (0, 0)) (0, 0) within)
+
+  -- what an input names an edge goes to
+  pub named_edge : (a b : ℕ) → HasEdge vertices a b → GoesTo edges a b
+  named_edge a b h =
+      let es = all_zip_at (λ v es. AreEdges vertices v.op.inputs es) vertices edges a h.vertex are h.from in
+      let i = at_Contains h.vertex.op.inputs h.input h.has in
+      let e = all_zip_at (IsEdge vertices) h.vertex.op.inputs es.0 i.0 h.input es.2 i.1 in
+      let there = n.numbered e.0.0 e.2.vertex e.2.there in
+      let here = n.numbered b h.target h.to in
+      let da = n.are_digests e.2.vertex.digest (n.listed e.2.vertex.digest e.0.0 there) in
+      let db = n.are_digests h.target.digest (n.listed h.target.digest b here) in
+      let same : e.2.vertex.digest ≡ h.target.digest = one_digest e.2.vertex.digest h.target.digest da db (sym e.2.named ∙ h.named) in
+      let number : e.0.0 ≡ b = let f : number_in table e.2.vertex.digest ≡ number_in table h.target.digest = ap (number_in table) same in cc (f, there, here) in
+      subst (λ (m : ℕ). GoesTo edges a m) number
+          (subst (λ (xs : List (ℕ × ℕ)). Contains (targets xs) e.0.0) (sym (list_at-get edges a es.0 es.1)) (edge_target es.0 i.0 e.0 e.1))
+
+  -- it goes to a vertex
+  pub edge_within : (a b : ℕ) → GoesTo edges a b → b < length edges
+  edge_within a b goes =
+      let h = edge_named a b goes in
+      let less = slice_get_within vertices b h.target h.to in
+      let len = all_zip_length (λ v es. AreEdges vertices v.op.inputs es) vertices edges are in
+      omega arith
+
+  -- the order of the edges is that of the vertices
+  pub vertex_order : (order : List ℕ) → IsOrder (λ a. a < length edges) (GoesTo edges) order → IsOrder (λ a. a < length vertices) (HasEdge vertices) order
+  vertex_order order is =
+      let len = all_zip_length (λ v es. AreEdges vertices v.op.inputs es) vertices edges are in
+      order_same (λ a. a < length edges) (λ a. a < length vertices) (GoesTo edges) (HasEdge vertices)
+          (λ a h. omega arith) (λ a h. omega arith) edge_named named_edge order is
+
+-- ---- the table of numbers
+
+-- the numbers below one more
+pub numbers_more : (numbers : List ℕ) (k : ℕ) → AreNumbers numbers k → AreNumbers (numbers ++ k ∷ []) (k + 1)
+numbers_more numbers k h = record {
+    below = λ x c. elim (Contains-push_cases numbers k x c) [ inl old ↦ let less = h.below x old in omega arith | inr same ↦ omega arith ];
+    whole = λ x less. elim (cases_lt x k) [
+        inl old ↦ Contains-append_left numbers (k ∷ []) x (h.whole x old)
+      | inr more ↦ let same : k ≡ x = omega arith in subst (Contains (numbers ++ k ∷ [])) same (Contains-push numbers k)
+      ]
+  }
+
+-- a row has the targets of its edges
+row_targets : (edges : List (List (ℕ × ℕ))) (rows : List (Vec ℕ Global)) (a : ℕ) → HasTargets edges rows → row_at rows a ≡ targets (list_at edges a)
+row_targets [] [] a h = refl
+row_targets [] (r ∷ rows) a h = absurd h
+row_targets (e ∷ edges) [] a h = absurd h
+row_targets (e ∷ edges) (r ∷ rows) zero h = h.0
+row_targets (e ∷ edges) (r ∷ rows) (suc a) h = row_targets edges rows a h.1
+
+pub row_goes : (edges : List (List (ℕ × ℕ))) (rows : List (Vec ℕ Global)) → HasTargets edges rows → (a b : ℕ) → HasInput rows a b → GoesTo edges a b
+row_goes edges rows h a b e = subst (λ (xs : List ℕ). Contains xs b) (row_targets edges rows a h) e
+
+pub goes_row : (edges : List (List (ℕ × ℕ))) (rows : List (Vec ℕ Global)) → HasTargets edges rows → (a b : ℕ) → GoesTo edges a b → HasInput rows a b
+goes_row edges rows h a b e = subst (λ (xs : List ℕ). Contains xs b) (sym (row_targets edges rows a h)) e
+
+pub target_rows : (edges : List (List (ℕ × ℕ))) (rows : List (Vec ℕ Global)) (numbers : List ℕ) → HasTargets edges rows → AreNumbers numbers (length edges)
+    → ((a b : ℕ) → GoesTo edges a b → b < length edges) → AreRows numbers rows
+target_rows edges rows numbers h is within =
+    let len = all_zip_length (λ es (row : Vec ℕ Global). row.items ≡ targets es) edges rows h in
+    record {
+      within = λ p c. let less = is.below p c in omega arith;
+      inputs = λ p q e. is.whole q (within p q (row_goes edges rows h p q e))
+    }
+
+-- ---- the checks of a graph
+
+-- the first input of the last entry
+pub result_check : (digests : List Digest) (place : ℕ) (last : List (Input Text)) (x : Input Text) (given : Option LoadRefusal) → slice_get last 0 ≡ Some x
+    → InputCheck digests place x given → ResultCheck digests place last given
+result_check digests place [] x given e h = absurd (cc e)
+result_check digests place (y ∷ last) x given e h = let same : x ≡ y = cc e in subst (λ (z : Input Text). InputCheck digests place z given) same h
+
+-- what the edges of the vertices answer
+pub edges_answer : (digests : List Digest) (place : ℕ) (vertices : List Vertex) (last : List (Input Text)) (e : LoadRefusal)
+    → ResultCheck digests place last None → (e ≡ OutOfMemory) ⊎ Each (VertexCheck digests) vertices (Some e)
+    → (e ≡ OutOfMemory) ⊎ GraphCheck digests place vertices last (Some e)
+edges_answer digests place vertices last e h c = elim c [ inl memory ↦ inl memory | inr check ↦ inr (inr (h, inl check)) ]

@@ -1,0 +1,234 @@
+-- Reading the entries of a definition.
+use Rattle.std.proofs.Common.{◌≡◌, ◌≢◌, ℕ, zero, suc, ◌+◌, ◌-◌, ◌<◌, ◌≤◌, ◌⊎◌, inl, inr, List, [], ◌∷◌, ◌++◌, length, map, take, get_or, Option, Some, None, Result, Ok, Err, refl, sym, ap, ◌∙◌, subst, arith, if◌then◌else◌}
+use Rattle.std.specs.List.{Contains, slice_get}
+use Rattle.std.specs.Option.{IfSome}
+use Rattle.std.specs.Result.{result_unwrap_or, IsOk, IfOk}
+use Rattle.std.specs.List.Sorted.{IsStrictlyIncreasing}
+use Rattle.std.proofs.lemmas.List.{take_at, get_or_push, length_push, map_push, get_or-map, length-map, length-take-le, get_or_default}
+use Rattle.std.proofs.lemmas.List.Elements.{Contains-push_cases}
+use Rattle.std.proofs.lemmas.Option.{slice_get-get_or, slice_get_within, get_or_from_slice_get}
+use Rattle.farm_base.specs.declared.digest.Digest.{Digest}
+use Rattle.farm_base.specs.Digests.{IsDigest}
+use Rattle.opsproto.specs.Ops.{OpParts, op_at}
+use Rattle.opsproto.specs.declared.op.Kind.TheVariants.{Bare}
+use Rattle.vertices.specs.declared.vertex.Vertex.{Vertex}
+use Rattle.vertices.specs.declared.refusal.LoadRefusal.{LoadRefusal}
+use Rattle.vertices.specs.declared.refusal.LoadRefusal.TheVariants.{OutOfMemory}
+use Rattle.vertices.specs.declared.table.Table.{Table}
+use Rattle.vertices.specs.declared.loading.Loading.{Loading}
+use Rattle.vertices.specs.Firsts.{IsFirstAt, number_in, IsTable}
+use Rattle.vertices.specs.Outcomes.{Answers}
+use Rattle.vertices.specs.Edges.{Numbers, IsEdge}
+use Rattle.opsproto.specs.declared.refusal.OpRefusal.{OpRefusal}
+use Rattle.opsproto.specs.declared.input.Input.{Input}
+use Rattle.opsproto.specs.Scalars.{Text}
+use Rattle.vertices.specs.Loading.{GraphParts, IsGraph, IsGraphOf, front, last_of, GraphCheck, VerticesCheck, DefinitionCheck, digest_in, op_in, digests_in, vertex_at, AreFirsts, AreVertices, ReadCheck, ReadChecks}
+use Rattle.vertices.specs.Loaded.{IsLoaded}
+use Rattle.vertices.proofs.EntryLemmas.{take_push, Contains-at, at_Contains}
+use Rattle.vertices.proofs.TableLemmas.{first_once, get_push_end}
+
+-- ---- checks of entries by place
+
+reads_push : (place : ℕ) (entries : List (List ℕ)) (x : List ℕ) → ReadChecks place entries None → ReadCheck (place + length entries) x None
+    → ReadChecks place (entries ++ x ∷ []) None
+reads_push place [] x h c = (subst (λ (p : ℕ). ReadCheck p x None) (let same : place + 0 ≡ place = omega arith in same) c, tt)
+reads_push place (e ∷ entries) x h c =
+    (h.0, reads_push (place + 1) entries x h.1 (subst (λ (p : ℕ). ReadCheck p x None) (let same : place + suc (length entries) ≡ place + 1 + length entries = omega arith in same) c))
+
+-- one more that is read
+pub reads_more : (entries : List (List ℕ)) (k : ℕ) (x : List ℕ) → slice_get entries k ≡ Some x → ReadChecks 0 (take k entries) None → ReadCheck k x None
+    → ReadChecks 0 (take (k + 1) entries) None
+reads_more entries k x at h c =
+    let len : length (take k entries) ≡ k = length-take-le k entries (let w = slice_get_within entries k x at in omega arith) in
+    subst (λ (ys : List (List ℕ)). ReadChecks 0 ys None) (sym (take_push entries k x at))
+        (reads_push 0 (take k entries) x h (subst (λ (p : ℕ). ReadCheck p x None) (let same : k ≡ 0 + length (take k entries) = omega arith in same) c))
+
+reads_fails_from : (place : ℕ) (entries : List (List ℕ)) (k : ℕ) (x : List ℕ) (e : LoadRefusal) → slice_get entries k ≡ Some x
+    → ReadChecks place (take k entries) None → ReadCheck (place + k) x (Some e) → ReadChecks place entries (Some e)
+reads_fails_from place [] zero x e at h c = absurd (cc at)
+reads_fails_from place [] (suc k) x e at h c = absurd (cc at)
+reads_fails_from place (y ∷ entries) zero x e at h c =
+    let same : x ≡ y = cc at in
+    inl (subst (λ (z : List ℕ). ReadCheck place z (Some e)) same (subst (λ (p : ℕ). ReadCheck p x (Some e)) (let here : place + 0 ≡ place = omega arith in here) c))
+reads_fails_from place (y ∷ entries) (suc k) x e at h c =
+    inr (h.0, reads_fails_from (place + 1) entries k x e at h.1 (subst (λ (p : ℕ). ReadCheck p x (Some e)) (let here : place + suc k ≡ place + 1 + k = omega arith in here) c))
+
+-- one that isn't, where those before it are
+pub reads_fails : (entries : List (List ℕ)) (k : ℕ) (x : List ℕ) (e : LoadRefusal) → slice_get entries k ≡ Some x
+    → ReadChecks 0 (take k entries) None → ReadCheck k x (Some e) → ReadChecks 0 entries (Some e)
+reads_fails entries k x e at h c = reads_fails_from 0 entries k x e at h (subst (λ (p : ℕ). ReadCheck p x (Some e)) (let same : k ≡ 0 + k = omega arith in same) c)
+
+-- ---- vertices
+
+-- the digests of some more entries
+pub digests_in-more : (entries : List (List ℕ)) (k : ℕ) (x : List ℕ) → slice_get entries k ≡ Some x
+    → digests_in (take (k + 1) entries) ≡ digests_in (take k entries) ++ digest_in x ∷ []
+digests_in-more entries k x at = ap digests_in (take_push entries k x at) ∙ map_push digest_in (take k entries) x
+
+-- a vertex more, where its digest is new
+pub vertices_more : (entries : List (List ℕ)) (k : ℕ) (x : List ℕ) (op : OpParts) (places : List ℕ) (vertices : List Vertex)
+    → slice_get entries k ≡ Some x → op_at x ≡ Ok op → vertices ≡ map (vertex_at entries) places
+    → vertices ++ (record { place = k; digest = digest_in x; op = op }) ∷ [] ≡ map (vertex_at entries) (places ++ k ∷ [])
+vertices_more entries k x op places vertices at is h =
+    let bytes : get_or entries k [] ≡ x = get_or_from_slice_get entries k x [] at in
+    let reads : op_in x ≡ op = ap (λ (r : Result OpParts _). result_unwrap_or r (record { inputs = []; kind = Bare; stripped = [] })) is in
+    let same : vertex_at entries k ≡ record { place = k; digest = digest_in x; op = op }
+        = ap (λ (b : List ℕ). let v : Vertex = record { place = k; digest = digest_in b; op = op_in b } in v) bytes
+        ∙ ap (λ (o : OpParts). let v : Vertex = record { place = k; digest = digest_in x; op = o } in v) reads in
+    ap (λ (vs : List Vertex). vs ++ (record { place = k; digest = digest_in x; op = op }) ∷ []) h
+    ∙ ap (λ (v : Vertex). map (vertex_at entries) places ++ v ∷ []) (sym same)
+    ∙ sym (map_push (vertex_at entries) places k)
+
+-- the digests are digests
+pub digests_more : (digests : List Digest) (x : Digest) → ((d : Digest) → Contains digests d → IsDigest d) → IsDigest x
+    → (d : Digest) → Contains (digests ++ x ∷ []) d → IsDigest d
+digests_more digests x all is d c = elim (Contains-push_cases digests x d c) [ inl old ↦ all d old | inr same ↦ subst IsDigest same is ]
+
+-- the vertex of a number
+vertex_of_number : (entries : List (List ℕ)) (loading : Loading) (number place : ℕ) → IsLoaded entries loading
+    → slice_get loading.table.places.items number ≡ Some place → slice_get loading.vertices.items number ≡ Some (vertex_at entries place)
+vertex_of_number entries loading number place h at =
+    let within = slice_get_within loading.table.places.items number place at in
+    let value = get_or_from_slice_get loading.table.places.items number place place at in
+    ap (λ (vs : List Vertex). slice_get vs number) h.vertices
+    ∙ slice_get-get_or (map (vertex_at entries) loading.table.places.items) number (vertex_at entries place) (omega (arith, length-map loading.table.places.items (vertex_at entries)))
+    ∙ ap (λ (v : Vertex). Some v) (get_or-map (vertex_at entries) loading.table.places.items number place (vertex_at entries place) within ∙ ap (vertex_at entries) value)
+
+-- the digest at a place
+digest_at_place : (entries : List (List ℕ)) (place : ℕ) (d : Digest) → slice_get (digests_in entries) place ≡ Some d → (vertex_at entries place).digest ≡ d
+digest_at_place [] zero d e = absurd (cc e)
+digest_at_place [] (suc place) d e = absurd (cc e)
+digest_at_place (x ∷ entries) zero d e = cc e
+digest_at_place (x ∷ entries) (suc place) d e = digest_at_place entries place d e
+
+-- the table finds the numbers of the vertices
+pub loaded_numbers : (entries : List (List ℕ)) (loading : Loading) → IsLoaded entries loading → Numbers (digests_in entries) loading.vertices.items loading.table
+loaded_numbers entries loading h = record {
+    found = λ d n e.
+        let f = h.table.found d n e in
+        (vertex_at entries f.0, vertex_of_number entries loading n f.0 h f.1, digest_at_place entries f.0 d f.2.there);
+    listed = λ d n e. let f = h.table.found d n e in Contains-at (digests_in entries) f.0 d f.2.there;
+    missing = λ d none c. let there = at_Contains (digests_in entries) d c in h.table.missing d there.0 none there.1;
+    are_digests = h.digests;
+    numbered = λ n v at.
+        let len : length loading.vertices.items ≡ length loading.table.places.items = ap length h.vertices ∙ length-map loading.table.places.items (vertex_at entries) in
+        let within = slice_get_within loading.vertices.items n v at in
+        let p = get_or loading.table.places.items n 0 in
+        let here : slice_get loading.table.places.items n ≡ Some p = slice_get-get_or loading.table.places.items n 0 (omega arith) in
+        let f = h.table.vertex n p here in
+        let same : vertex_at entries p ≡ v = let a = vertex_of_number entries loading n p h here in cc (a, at) in
+        ap (number_in loading.table) (ap (λ (x : Vertex). x.digest) (sym same) ∙ digest_at_place entries p f.0 f.1.there) ∙ f.2
+  }
+
+-- they are the vertices of the entries
+pub loaded_vertices : (entries : List (List ℕ)) (loading : Loading) → IsLoaded entries loading → AreVertices entries loading.vertices.items
+loaded_vertices entries loading h = record {
+    places = loading.table.places.items;
+    firsts = record {
+      first = λ p c. let there = at_Contains loading.table.places.items p c in let f = h.table.vertex there.0 p there.1 in (f.0, f.1);
+      whole = λ p d first.
+          let case : (n : Option ℕ) → number_in loading.table d ≡ n → Contains loading.table.places.items p
+              = λ n. elim n as (λ m. number_in loading.table d ≡ m → Contains loading.table.places.items p) [
+                  None ↦ λ e. absurd (h.table.missing d p e first.there)
+                | Some number ↦ λ e.
+                    let f = h.table.found d number e in
+                    subst (Contains loading.table.places.items) (first_once (digests_in entries) f.0 p d f.2 first) (Contains-at loading.table.places.items number f.0 f.1)
+                ] in
+          case (number_in loading.table d) refl;
+      rising = h.table.rising
+    };
+    vertices_are = h.vertices
+  }
+
+-- an entry that isn't read answers for all of them
+pub entry_answers : (entries : List (List ℕ)) (k : ℕ) (x : List ℕ) (e : LoadRefusal) → slice_get entries k ≡ Some x
+    → ReadChecks 0 (take k entries) None → (e ≡ OutOfMemory) ⊎ ReadCheck k x (Some e) → (e ≡ OutOfMemory) ⊎ ReadChecks 0 entries (Some e)
+entry_answers entries k x e at h c = elim c [ inl memory ↦ inl memory | inr check ↦ inr (reads_fails entries k x e at h check) ]
+
+-- ---- a definition: entries, and the last
+
+front-push : (entries : List (List ℕ)) (last : List ℕ) → front (entries ++ last ∷ []) ≡ entries
+front-push entries last =
+    let len = length_push entries last in
+    let n : length (entries ++ last ∷ []) - 1 ≡ length entries = omega arith in
+    ap (λ (k : ℕ). take k (entries ++ last ∷ [])) n ∙ take_at entries (last ∷ []) (length entries) refl
+
+last_of-push : (entries : List (List ℕ)) (last : List ℕ) → last_of (entries ++ last ∷ []) ≡ last
+last_of-push entries last =
+    let len = length_push entries last in
+    get_or_push entries last [] (length (entries ++ last ∷ []) - 1) (omega arith)
+
+-- one that isn't read, among some entries
+reads_fail_left : (place : ℕ) (entries : List (List ℕ)) (last : List ℕ) (e : LoadRefusal) → ReadChecks place entries (Some e) → ReadChecks place (entries ++ last ∷ []) (Some e)
+reads_fail_left place [] last e h = absurd h
+reads_fail_left place (x ∷ entries) last e h = elim h [ inl here ↦ inl here | inr (c, rest) ↦ inr (c, reads_fail_left (place + 1) entries last e rest) ]
+
+has_entry : (entries : List (List ℕ)) (last : List ℕ) → 0 < length (entries ++ last ∷ [])
+has_entry entries last = let len = length_push entries last in omega arith
+
+-- the definition, where an entry but the last isn't read
+pub entries_refused : (entries : List (List ℕ)) (last : List ℕ) (def : List (List ℕ)) (e : LoadRefusal) → def ≡ entries ++ last ∷ []
+    → (e ≡ OutOfMemory) ⊎ ReadChecks 0 entries (Some e) → (e ≡ OutOfMemory) ⊎ DefinitionCheck def (Some e)
+entries_refused entries last def e is h =
+    subst (λ (d : List (List ℕ)). (e ≡ OutOfMemory) ⊎ DefinitionCheck d (Some e)) (sym is) (elim h [
+        inl memory ↦ inl memory
+      | inr check ↦ inr (inr (has_entry entries last, inl (reads_fail_left 0 entries last e check)))
+      ])
+
+-- where the last isn't
+pub last_refused : (entries : List (List ℕ)) (last : List ℕ) (def : List (List ℕ)) (e : LoadRefusal) → def ≡ entries ++ last ∷ []
+    → ReadChecks 0 entries None → (e ≡ OutOfMemory) ⊎ ReadCheck (length entries) last (Some e) → (e ≡ OutOfMemory) ⊎ DefinitionCheck def (Some e)
+last_refused entries last def e is reads h =
+    subst (λ (d : List (List ℕ)). (e ≡ OutOfMemory) ⊎ DefinitionCheck d (Some e)) (sym is) (elim h [
+        inl memory ↦ inl memory
+      | inr check ↦ inr (inr (has_entry entries last, inl (reads_fails (entries ++ last ∷ []) (length entries) last e (get_push_end entries last)
+            (subst (λ (es : List (List ℕ)). ReadChecks 0 es None) (sym (take_at entries (last ∷ []) (length entries) refl)) reads) check)))
+      ])
+
+-- the vertices of a definition
+pub definition_vertices : (entries : List (List ℕ)) (last : List ℕ) (def : List (List ℕ)) (vertices : List Vertex) → def ≡ entries ++ last ∷ []
+    → AreVertices entries vertices → AreVertices (front def) vertices
+definition_vertices entries last def vertices is h = subst (λ (es : List (List ℕ)). AreVertices es vertices) (sym (ap front is ∙ front-push entries last)) h
+
+-- the inputs of its last entry
+pub definition_last : (entries : List (List ℕ)) (last : List ℕ) (def : List (List ℕ)) (op : OpParts) → def ≡ entries ++ last ∷ [] → op_at last ≡ Ok op
+    → (op_in (last_of def)).inputs ≡ op.inputs
+definition_last entries last def op is reads =
+    ap (λ (bytes : List ℕ). (op_in bytes).inputs) (ap last_of is ∙ last_of-push entries last)
+    ∙ ap (λ (r : Result OpParts OpRefusal). (result_unwrap_or r (record { inputs = []; kind = Bare; stripped = [] })).inputs) reads
+
+-- the last check of a definition
+then_last : (given : Option LoadRefusal) (def : List (List ℕ)) → 0 < length def → ReadChecks 0 def None → VerticesCheck def given → DefinitionCheck def given
+then_last None def some all h = (some, (all, h))
+then_last (Some e) def some all h = inr (some, inr (all, h))
+
+-- what the graph of the vertices answers, the definition does
+pub graph_answers : (entries : List (List ℕ)) (last : List ℕ) (def : List (List ℕ)) (op : OpParts) (vertices : List Vertex) (given : Option LoadRefusal)
+    → def ≡ entries ++ last ∷ [] → ReadChecks 0 entries None → op_at last ≡ Ok op → AreVertices entries vertices
+    → GraphCheck (digests_in entries) (length entries) vertices op.inputs given → DefinitionCheck def given
+graph_answers entries last def op vertices given is reads read are h =
+    let all : ReadChecks 0 def None = subst (λ (d : List (List ℕ)). ReadChecks 0 d None) (sym is)
+        (reads_push 0 entries last reads (subst (λ (r : Result OpParts OpRefusal). IsOk r) (sym read) refl)) in
+    let some : 0 < length def = subst (λ (d : List (List ℕ)). 0 < length d) (sym is) (has_entry entries last) in
+    let front_is : front def ≡ entries = ap front is ∙ front-push entries last in
+    let checked : GraphCheck (digests_in (front def)) (length (front def)) vertices (op_in (last_of def)).inputs given
+        = subst (λ (es : List (List ℕ)). GraphCheck (digests_in es) (length es) vertices (op_in (last_of def)).inputs given) (sym front_is)
+          (subst (λ (inputs : List (Input Text)). GraphCheck (digests_in entries) (length entries) vertices inputs given) (sym (definition_last entries last def op is read)) h) in
+    then_last given def some all (vertices, definition_vertices entries last def vertices is are, checked)
+
+-- what a call answers to one check it answers to one that follows from it
+pub answers_weaker : {X : Type 0} (C D : Option LoadRefusal → Type 0) (r : Result X LoadRefusal) → ((given : Option LoadRefusal) → C given → D given) → Answers C r → Answers D r
+answers_weaker C D (Ok x) f h = f None h
+answers_weaker C D (Err e) f h = elim h [ inl memory ↦ inl memory | inr check ↦ inr (f (Some e) check) ]
+
+-- the graph of a definition
+pub graph_is : (def : List (List ℕ)) (vertices : List Vertex) (inputs : List (Input Text)) (r : Result GraphParts LoadRefusal)
+    → AreVertices (front def) vertices → (op_in (last_of def)).inputs ≡ inputs → IfOk r (λ g. g.vertices ≡ vertices) → IfOk r IsGraph
+    → IfOk r (λ g. IfSome (slice_get inputs 0) (λ input. IsEdge vertices input g.result)) → IfOk r (IsGraphOf def)
+graph_is def vertices inputs (Ok g) are last is graph result = record {
+    graph = graph;
+    vertices = subst (AreVertices (front def)) (sym is) are;
+    result = subst (λ (xs : List (Input Text)). IfSome (slice_get xs 0) (λ input. IsEdge g.vertices input g.result)) (sym last)
+        (subst (λ (vs : List Vertex). IfSome (slice_get inputs 0) (λ input. IsEdge vs input g.result)) (sym is) result)
+  }
+graph_is def vertices inputs (Err e) are last is graph result = tt

@@ -1,0 +1,13 @@
+pub mod Edges
+pub mod Entries
+pub mod Firsts
+pub mod Flags
+pub mod Loaded
+pub mod Loading
+pub mod Numbered
+pub mod OpChecks
+pub mod Orders
+pub mod Outcomes
+pub mod Rows
+pub mod Sorting
+pub mod Waiters

@@ -1,0 +1,87 @@
+ghost use Rattle.std.specs.Prelude.{◌≡◌, ◌<◌, ℕ, List, length, map, IfOk, IfSome, IfNone, Contains};
+ghost use Rattle.std.specs.List.{AllZip};
+ghost use Rattle.farm_base.specs.declared.digest.Digest.{Digest as SpecDigest};
+ghost use Rattle.vertices.specs.declared.vertex.Vertex.{Vertex as SpecVertex};
+ghost use Rattle.vertices.specs.Outcomes.{Each, Answers};
+ghost use Rattle.vertices.specs.Edges.{AreEdges, Numbers, GoesTo, targets};
+ghost use Rattle.vertices.specs.Numbered.{AreNumbers, HasTargets};
+ghost use Rattle.vertices.specs.Orders.{IsOrder, IsCyclic};
+ghost use Rattle.vertices.specs.Loading.{VertexCheck};
+
+use super::edges::edges_of;
+use super::execs::check_kind;
+use super::ordering::order_of;
+use super::refusal::LoadRefusal;
+use super::table::Table;
+use super::vertex::Vertex;
+use farm_base::Items;
+use std::alloc::{AllocError, Global};
+
+/// Checks a vertex, and gives its edges.
+fn vertex_edges(alloc: Global, table: &Table, vertex: &Vertex) -> Result<Vec<(usize, u64)>, LoadRefusal>
+    ensures check { (digests : List SpecDigest) (all : List SpecVertex) → Numbers digests all table.now
+        → Answers (VertexCheck digests vertex.now) result }
+    ensures edges { (digests : List SpecDigest) (all : List SpecVertex) → Numbers digests all table.now
+        → IfOk result (λ edges. AreEdges all vertex.now.op.inputs edges.items) }
+{
+    let inputs = vertex.op.inputs();
+    let edges = edges_of(alloc, table, vertex.place, inputs)?;
+    check_kind(vertex.place, inputs.len(), vertex.op.kind())?;
+    Ok(edges)
+}
+
+/// Checks each vertex, and gives their edges.
+pub(crate) fn all_edges(alloc: Global, table: &Table, vertices: &[Vertex]) -> Result<Vec<Items<(usize, u64)>>, LoadRefusal>
+    ensures check { (digests : List SpecDigest) (all : List SpecVertex) → Numbers digests all table.now
+        → Answers (Each (VertexCheck digests) vertices.now) result }
+    ensures edges { (digests : List SpecDigest) (all : List SpecVertex) → Numbers digests all table.now
+        → IfOk result (λ edges. AllZip (λ v es. AreEdges all v.op.inputs es) vertices.now edges.items) }
+{
+    let mut edges = Vec::with_capacity(alloc, vertices.len())?;
+    for vertex in vertices {
+        edges.push(Items::new(vertex_edges(alloc, table, vertex)?))?;
+    }
+    Ok(edges)
+}
+
+/// The numbers that edges go to.
+fn targets_of(alloc: Global, edges: &[(usize, u64)]) -> Result<Vec<usize>, AllocError>
+    ensures { IfOk result (λ numbers. numbers.items ≡ targets edges.now) }
+{
+    edges.iter().map(|edge| edge.0).collect(alloc)
+}
+
+/// The numbers that the edges of each vertex go to.
+fn all_targets(alloc: Global, edges: &[Items<(usize, u64)>]) -> Result<Vec<Vec<usize>>, AllocError>
+    ensures { IfOk result (λ rows. HasTargets edges.now rows.items) }
+{
+    let mut rows = Vec::with_capacity(alloc, edges.len())?;
+    for some in edges {
+        rows.push(targets_of(alloc, some.as_slice())?)?;
+    }
+    Ok(rows)
+}
+
+/// The numbers below a count.
+fn numbers(alloc: Global, count: usize) -> Result<Vec<usize>, AllocError>
+    ensures { IfOk result (λ numbers. AreNumbers numbers.items count) }
+{
+    let mut numbers = Vec::with_capacity(alloc, count)?;
+    for number in 0..count {
+        numbers.push(number)?;
+    }
+    Ok(numbers)
+}
+
+/// The order of vertices with these edges, or None where there is a cycle.
+pub(crate) fn edge_order(alloc: Global, edges: &[Items<(usize, u64)>]) -> Result<Option<Vec<usize>>, AllocError>
+    requires { (number other : ℕ) → GoesTo edges.now number other → other < length edges.now }
+    ensures order { IfOk result (λ answer. IfSome answer (λ order.
+        IsOrder (λ number. number < length edges.now) (GoesTo edges.now) order.items)) }
+    ensures acyclic { IfOk result (λ answer. IfSome answer (λ _. ¬ IsCyclic (GoesTo edges.now))) }
+    ensures cyclic { IfOk result (λ answer. IfNone answer (IsCyclic (GoesTo edges.now))) }
+{
+    let rows = all_targets(alloc, edges)?;
+    let numbers = numbers(alloc, edges.len())?;
+    order_of(alloc, numbers.as_slice(), rows.as_slice())
+}

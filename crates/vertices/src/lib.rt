@@ -1,0 +1,20 @@
+//! The vertices of a definition: loading, checks, and the order in which they can be solved.
+#![tactic(auto)]
+
+mod building;
+mod edges;
+mod entries;
+mod execs;
+mod graph;
+mod loading;
+mod ordering;
+mod reading;
+mod refusal;
+mod table;
+mod vertex;
+
+pub use entries::order;
+pub use graph::Graph;
+pub use loading::load;
+pub use vertex::Vertex;
+pub use refusal::{LoadRefusal, OrderRefusal};

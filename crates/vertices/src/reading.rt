@@ -1,0 +1,34 @@
+ghost use Rattle.std.specs.Prelude.{◌≡◌, IfOk, Ok};
+ghost use Rattle.sha2.specs.Sha256.{sha256};
+ghost use Rattle.opsproto.specs.Ops.{op_at};
+ghost use Rattle.farm_base.specs.Digests.{IsDigest};
+ghost use Rattle.vertices.specs.Outcomes.{Answers};
+ghost use Rattle.vertices.specs.Loading.{ReadCheck, digest_in};
+
+use super::refusal::LoadRefusal;
+use farm_base::Digest;
+use opsproto::{Op, OpRefusal, read_op};
+use sha2::{Digest as Hasher, Sha256};
+use std::alloc::Global;
+
+/// The op of the entry at a place.
+pub(crate) fn read_entry(alloc: Global, place: usize, bytes: &[u8]) -> Result<Op, LoadRefusal>
+    ensures check { Answers (ReadCheck place bytes.now) result }
+    ensures op { IfOk result (λ op. op_at bytes.now ≡ Ok op) }
+{
+    match read_op(alloc, bytes) {
+        Ok(op) => Ok(op),
+        Err(OpRefusal::OutOfMemory) => Err(LoadRefusal::OutOfMemory),
+        Err(_) => Err(LoadRefusal::BadOp(place)),
+    }
+}
+
+/// The SHA-256 of an entry's bytes.
+pub(crate) fn digest_of(bytes: &[u8]) -> Digest
+    ensures value { result ≡ digest_in bytes.now }
+    ensures digest { IsDigest result }
+{
+    let digest = Digest(Sha256::digest(bytes));
+    prove!(digest.bytes().len() == 32);
+    digest
+}
