@@ -73,7 +73,7 @@ target_edge edges m (k, lt, is) =
     let e = get_or edges k d in
     (k, e, slice_get-get_or edges k d within, sym (get_or-map (λ (edge : ℕ × ℕ). edge.0) edges k d m within) ∙ is)
 
-edge_target : (edges : List (ℕ × ℕ)) (k : ℕ) (e : ℕ × ℕ) → slice_get edges k ≡ Some e → Contains (targets edges) e.0
+pub edge_target : (edges : List (ℕ × ℕ)) (k : ℕ) (e : ℕ × ℕ) → slice_get edges k ≡ Some e → Contains (targets edges) e.0
 edge_target edges k e at =
     let within = slice_get_within edges k e at in
     (k, omega (arith, length-map edges (λ (edge : ℕ × ℕ). edge.0)),
@@ -130,11 +130,11 @@ module _ (digests : List Digest) (vertices : List Vertex) (table : Table) (n : N
       omega arith
 
   -- the order of the edges is that of the vertices
-  pub vertex_order : (order : List ℕ) → IsOrder (λ a. a < length edges) (GoesTo edges) order → IsOrder (λ a. a < length vertices) (HasEdge vertices) order
+  pub vertex_order : (order : List ℕ) → IsOrder (λ a. a < length edges) (GoesTo edges) order → IsOrder (λ a. a < length vertices) (GoesTo edges) order
   vertex_order order is =
       let len = all_zip_length (λ v es. AreEdges vertices v.op.inputs es) vertices edges are in
-      order_same (λ a. a < length edges) (λ a. a < length vertices) (GoesTo edges) (HasEdge vertices)
-          (λ a h. omega arith) (λ a h. omega arith) edge_named named_edge order is
+      order_same (λ a. a < length edges) (λ a. a < length vertices) (GoesTo edges) (GoesTo edges)
+          (λ a h. omega arith) (λ a h. omega arith) (λ a b h. h) (λ a b h. h) order is
 
 -- ---- the table of numbers
 
