@@ -1,19 +1,18 @@
 -- The keys of the vertices of a graph are those of their shapes.
-use Rattle.std.proofs.Common.{◌≡◌, ◌≢◌, ℕ, zero, suc, ◌+◌, ◌<◌, ◌≤◌, ◌⊎◌, inl, inr, List, [], ◌∷◌, ◌++◌, length, take, get_or, set, Option, Some, None, refl, sym, ap, ◌∙◌, subst, arith}
-use Rattle.std.specs.List.{Contains, slice_get, AllZip, All}
+use Rattle.std.proofs.Common.{◌≡◌, ℕ, suc, ◌+◌, ◌<◌, inl, inr, List, [], ◌∷◌, ◌++◌, length, take, set, Some, refl, sym, ap, ◌∙◌, subst, arith}
+use Rattle.std.specs.List.{Contains, slice_get, All}
 use Rattle.std.proofs.lemmas.Bool.{cases_eq}
 use Rattle.std.proofs.lemmas.List.{length-set, get_or-set_same, get_or-set_other}
 use Rattle.std.proofs.lemmas.List.Elements.{Contains-push_cases, All-weaker, All-contains_itself}
 use Rattle.std.proofs.lemmas.Option.{slice_get-get_or, slice_get_within, get_or_from_slice_get}
 use Rattle.farm_base.specs.declared.digest.Key.{Key}
-use Rattle.vertices.specs.declared.vertex.Vertex.{Vertex}
-use Rattle.vertices.specs.Edges.{IsEdge, AreEdges, list_at, targets, GoesTo}
+use Rattle.vertices.specs.Edges.{IsEdge, AreEdges, list_at}
 use Rattle.vertices.specs.Loading.{GraphParts, IsGraph}
-use Rattle.vertices.proofs.EntryLemmas.{take_push, at_Contains, Contains-at}
-use Rattle.vertices.proofs.GraphLemmas.{all_zip_length, all_zip_at, all_zip_back, list_at-get, edge_target}
+use Rattle.vertices.proofs.EntryLemmas.{take_push, at_Contains}
+use Rattle.vertices.proofs.GraphLemmas.{all_zip_length, all_zip_back, edge_target}
 use Rattle.solverkeys.specs.Keys.{solver_key}
 use Rattle.solverkeys.specs.Shapes.{Shape, vertex, Inputs, no_inputs, input, shape_key, input_keys}
-use Rattle.solverkeys.specs.GraphKeys.{IsShapeOf, AreShapesOf, HasKey, AreKeys, TakesKeys, FollowsKeys}
+use Rattle.solverkeys.specs.GraphKeys.{IsShapeOf, AreShapesOf, HasKey, TakesKeys, FollowsKeys}
 
 -- a graph has edges for each vertex
 pub edges_count : (g : GraphParts) → IsGraph g → length g.vertices ≡ length g.edges
@@ -25,11 +24,11 @@ pub edges_within : (g : GraphParts) (number : ℕ) (edges : List (ℕ × ℕ)) �
 edges_within g number edges is at =
     let v = all_zip_back (λ v es. AreEdges g.vertices v.op.inputs es) g.vertices g.edges number edges is.edges at in
     All-weaker (Contains edges) (λ edge. edge.0 < length g.vertices)
-        (λ edge c.
-            let there = at_Contains edges edge c in
-            let i = all_zip_back (IsEdge g.vertices) v.0.op.inputs edges there.0 edge v.2 there.1 in
-            slice_get_within g.vertices edge.0 i.2.vertex i.2.there)
-        edges (All-contains_itself edges)
+    (λ edge c.
+    let there = at_Contains edges edge c in
+    let i = all_zip_back (IsEdge g.vertices) v.0.op.inputs edges there.0 edge v.2 there.1 in
+    slice_get_within g.vertices edge.0 i.2.vertex i.2.there)
+    edges (All-contains_itself edges)
 
 -- shapes for edges, where those that they go to have theirs
 shapes_of : (g : GraphParts) (keys : List Key) (edges : List (ℕ × ℕ)) (inputs : List (Key × ℕ)) → TakesKeys keys edges inputs
@@ -43,9 +42,11 @@ shapes_of g keys (e ∷ edges) (i ∷ inputs) h known =
     let rest = shapes_of g keys edges inputs h.1 (λ edge c. known edge (suc c.0, omega (arith, c.1), c.2)) in
     let same : shape_key first.shape ≡ i.0 = let a = first.key in let b = h.0.0 in cc (a, b) in
     let index : e.1 ≡ i.1 = sym h.0.1 in
-    let head : (shape_key first.shape, e.1) ≡ i = ap (λ (k : Key). (k, e.1)) same ∙ ap (λ (n : ℕ). (i.0, n)) index in
-    (input first.shape e.1 rest.0, (first.is_shape, refl, rest.1),
-        ap (λ (k : Key × ℕ). k ∷ input_keys rest.0) head ∙ ap (λ (ks : List (Key × ℕ)). i ∷ ks) rest.2)
+    let head : (shape_key first.shape, e.1) ≡ i = ap (λ (k : Key). (k, e.1)) same ∙ ap (λ (n : ℕ). (i.0, n)) index in (
+      input first.shape e.1 rest.0,
+      (first.is_shape, refl, rest.1),
+      ap (λ (k : Key × ℕ). k ∷ input_keys rest.0) head ∙ ap (λ (ks : List (Key × ℕ)). i ∷ ks) rest.2,
+    )
 
 -- the key that follows from the keys of the inputs is that of a shape
 pub follows_shape : (g : GraphParts) (keys : List Key) (number : ℕ) (key : Key) → FollowsKeys g keys number key
@@ -63,26 +64,26 @@ keys_more g keys k number key is at len follows known n c =
     let lowest = is.order.lowest k number at in
     let own = slice_get_within g.vertices number follows.own follows.there in
     let shape = follows_shape g keys number key follows (λ edge there.
-        known edge.0 (lowest.ready.inputs edge.0 (let t = at_Contains (list_at g.edges number) edge there in edge_target (list_at g.edges number) t.0 edge t.1))) in
+    known edge.0 (lowest.ready.inputs edge.0 (let t = at_Contains (list_at g.edges number) edge there in edge_target (list_at g.edges number) t.0 edge t.1))) in
     elim (cases_eq n number) [
-      inl same ↦ record {
-          shape = shape.0;
-          is_shape = subst (IsShapeOf g shape.0) (sym same) shape.1;
-          key = ap (slice_get (set keys number key)) same
-              ∙ slice_get-get_or (set keys number key) number key (omega (arith, length-set keys number key))
-              ∙ ap (λ (x : Key). Some x) (get_or-set_same keys number key key (omega arith) ∙ shape.2)
-        }
-    | inr apart ↦ elim (Contains-push_cases (take k g.order) number n (subst (λ (ns : List ℕ). Contains ns n) (take_push g.order k number at) c)) [
-        inr same ↦ absurd (apart (sym same))
-      | inl old ↦
-          let h = known n old in
-          let within = slice_get_within keys n (shape_key h.shape) h.key in
-          record {
-            shape = h.shape;
-            is_shape = h.is_shape;
-            key = slice_get-get_or (set keys number key) n key (omega (arith, length-set keys number key))
-                ∙ ap (λ (x : Key). Some x) (get_or-set_other keys number n key key apart ∙ get_or_from_slice_get keys n (shape_key h.shape) key h.key)
-          }
+      | inl same ↦ record {
+        shape = shape.0;
+        is_shape = subst (IsShapeOf g shape.0) (sym same) shape.1;
+        key = ap (slice_get (set keys number key)) same
+            ∙ slice_get-get_or (set keys number key) number key (omega (arith, length-set keys number key))
+            ∙ ap (λ (x : Key). Some x) (get_or-set_same keys number key key (omega arith) ∙ shape.2);
+      }
+      | inr apart ↦ elim (Contains-push_cases (take k g.order) number n (subst (λ (ns : List ℕ). Contains ns n) (take_push g.order k number at) c)) [
+        | inr same ↦ absurd (apart (sym same))
+        | inl old ↦
+            let h = known n old in
+            let within = slice_get_within keys n (shape_key h.shape) h.key in
+            record {
+              shape = h.shape;
+              is_shape = h.is_shape;
+              key = slice_get-get_or (set keys number key) n key (omega (arith, length-set keys number key))
+                  ∙ ap (λ (x : Key). Some x) (get_or-set_other keys number n key key apart ∙ get_or_from_slice_get keys n (shape_key h.shape) key h.key);
+            }
       ]
     ]
 

@@ -30,7 +30,11 @@ fn key_at(alloc: Global, graph: &Graph, keys: &[Key], number: usize) -> Result<K
 }
 
 /// The key and the index of each edge.
-fn inputs_of(alloc: Global, keys: &[Key], edges: &[(usize, u64)]) -> Result<Vec<(Key, u64)>, AllocError>
+fn inputs_of(
+    alloc: Global,
+    keys: &[Key],
+    edges: &[(usize, u64)],
+) -> Result<Vec<(Key, u64)>, AllocError>
     requires { All (λ edge. edge.0 < length keys.now) edges.now }
     ensures { IfOk result (λ inputs. TakesKeys keys.now edges.now inputs.items) }
 {
