@@ -1,2 +1,3 @@
+pub mod GraphKeys
 pub mod Keys
 pub mod Shapes

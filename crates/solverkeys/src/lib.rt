@@ -1,8 +1,10 @@
 //! Solver keys: two vertices of equal shape have one key.
 #![tactic(auto)]
 
+mod graph;
 mod key;
 mod law;
 
+pub use graph::keys;
 pub use key::key_of;
 pub use law::keys_tell_shapes;

@@ -1,10 +1,8 @@
 -- Checks of lists.
-use Rattle.std.proofs.Common.{◌≡◌, ◌≢◌, ℕ, zero, suc, ◌+◌, ◌<◌, ◌≤◌, ◌⊎◌, inl, inr, List, [], ◌∷◌, ◌++◌, length, map, take, Option, Some, None, refl, sym, ap, ◌∙◌, subst, arith}
+use Rattle.std.proofs.Common.{◌≡◌, ℕ, zero, suc, ◌+◌, ◌⊎◌, inl, inr, List, [], ◌∷◌, ◌++◌, take, Option, Some, None, sym, ap, subst}
 use Rattle.std.specs.Prelude.{codes}
-use Rattle.std.specs.List.{Contains, slice_get, AllZip}
+use Rattle.std.specs.List.{slice_get, AllZip}
 use Rattle.std.proofs.lemmas.List.{append_cancel_left}
-use Rattle.std.proofs.lemmas.List.Elements.{Contains-push_cases}
-use Rattle.std.proofs.lemmas.Option.{slice_get-get_or}
 use Rattle.hex.specs.Hex.{encode_lower, decode_sized}
 use Rattle.hex.proofs.HexLemmas.{decode_sized-encode_lower}
 use Rattle.farm_base.specs.declared.digest.Digest.{Digest}
@@ -15,7 +13,7 @@ use Rattle.vertices.specs.declared.vertex.Vertex.{Vertex}
 use Rattle.vertices.specs.Edges.{IsEdge, AreEdges}
 use Rattle.vertices.specs.declared.refusal.LoadRefusal.{LoadRefusal}
 use Rattle.vertices.specs.declared.refusal.LoadRefusal.TheVariants.{OutOfMemory}
-use Rattle.vertices.specs.Outcomes.{Then, Each}
+use Rattle.vertices.specs.Outcomes.{Each}
 use Rattle.vertices.proofs.EntryLemmas.{take_push}
 
 module _ {X : Type 0} (C : X → Option LoadRefusal → Type 0) where
@@ -57,7 +55,7 @@ pub edges_more : (vertices : List Vertex) (inputs : List (Input Text)) (k : ℕ)
     → AreEdges vertices (take (k + 1) inputs) (edges ++ edge ∷ [])
 edges_more vertices inputs k x edges edge at h is =
     subst (λ (ys : List (Input Text)). AreEdges vertices ys (edges ++ edge ∷ [])) (sym (take_push inputs k x at))
-        (all_zip_push (IsEdge vertices) (take k inputs) edges x edge h is)
+    (all_zip_push (IsEdge vertices) (take k inputs) edges x edge h is)
 
 -- one that is refused answers for all of them
 pub each_answers : {X : Type 0} (C : X → Option LoadRefusal → Type 0) (xs : List X) (k : ℕ) (x : X) (e : LoadRefusal) → slice_get xs k ≡ Some x

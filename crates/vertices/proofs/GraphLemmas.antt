@@ -1,5 +1,5 @@
 -- The edges of vertices as a graph of their numbers.
-use Rattle.std.proofs.Common.{◌≡◌, ◌≢◌, ℕ, zero, suc, ◌+◌, ◌<◌, ◌≤◌, ◌⊎◌, inl, inr, List, [], ◌∷◌, ◌++◌, length, map, take, get_or, Option, Some, None, refl, sym, ap, ◌∙◌, subst, arith}
+use Rattle.std.proofs.Common.{◌≡◌, ℕ, zero, suc, ◌+◌, ◌<◌, ◌⊎◌, inl, inr, List, [], ◌∷◌, ◌++◌, length, get_or, Option, Some, None, refl, sym, ap, ◌∙◌, subst, arith}
 use Rattle.std.specs.List.{Contains, slice_get, AllZip}
 use Rattle.std.specs.declared.vec.Vec.{Vec}
 use Rattle.std.specs.declared.alloc.Global.{Global}
@@ -8,7 +8,6 @@ use Rattle.std.proofs.lemmas.Bool.{cases_lt}
 use Rattle.std.proofs.lemmas.List.Elements.{Contains-push_cases, Contains-append_left, Contains-push}
 use Rattle.std.proofs.lemmas.Option.{slice_get-get_or, slice_get_within, get_or_from_slice_get}
 use Rattle.farm_base.specs.declared.digest.Digest.{Digest}
-use Rattle.farm_base.specs.Digests.{IsDigest, digest_text}
 use Rattle.opsproto.specs.Scalars.{Text}
 use Rattle.opsproto.specs.declared.input.Input.{Input}
 use Rattle.vertices.specs.declared.vertex.Vertex.{Vertex}
@@ -21,10 +20,9 @@ use Rattle.vertices.specs.declared.refusal.LoadRefusal.TheVariants.{OutOfMemory}
 use Rattle.vertices.specs.Outcomes.{Each}
 use Rattle.vertices.specs.Edges.{InputCheck, IsEdge, AreEdges, Numbers, list_at, targets, GoesTo}
 use Rattle.vertices.specs.Numbered.{AreNumbers, HasTargets}
-use Rattle.vertices.specs.Loading.{HasEdge, IsCyclic, ResultCheck, VertexCheck, GraphCheck}
-use Rattle.vertices.proofs.EntryLemmas.{at_Contains, Contains-at, order_same, cycle_same}
+use Rattle.vertices.specs.Loading.{HasEdge, ResultCheck, VertexCheck, GraphCheck}
+use Rattle.vertices.proofs.EntryLemmas.{at_Contains, Contains-at, order_same}
 use Rattle.vertices.proofs.CheckLemmas.{one_digest}
-use Rattle.vertices.proofs.RowLemmas.{row_within}
 
 -- lists that match are as long
 pub all_zip_length : {A B : Type 0} (R : A → B → Type 0) (xs : List A) (ys : List B) → AllZip R xs ys → length xs ≡ length ys
@@ -73,11 +71,13 @@ target_edge edges m (k, lt, is) =
     let e = get_or edges k d in
     (k, e, slice_get-get_or edges k d within, sym (get_or-map (λ (edge : ℕ × ℕ). edge.0) edges k d m within) ∙ is)
 
-edge_target : (edges : List (ℕ × ℕ)) (k : ℕ) (e : ℕ × ℕ) → slice_get edges k ≡ Some e → Contains (targets edges) e.0
+pub edge_target : (edges : List (ℕ × ℕ)) (k : ℕ) (e : ℕ × ℕ) → slice_get edges k ≡ Some e → Contains (targets edges) e.0
 edge_target edges k e at =
-    let within = slice_get_within edges k e at in
-    (k, omega (arith, length-map edges (λ (edge : ℕ × ℕ). edge.0)),
-        get_or-map (λ (edge : ℕ × ℕ). edge.0) edges k e e.0 within ∙ ap (λ (edge : ℕ × ℕ). edge.0) (get_or_from_slice_get edges k e e at))
+    let within = slice_get_within edges k e at in (
+      k,
+      omega (arith, length-map edges (λ (edge : ℕ × ℕ). edge.0)),
+      get_or-map (λ (edge : ℕ × ℕ). edge.0) edges k e e.0 within ∙ ap (λ (edge : ℕ × ℕ). edge.0) (get_or_from_slice_get edges k e e at),
+    )
 
 -- ---- edges of vertices
 
@@ -99,12 +99,12 @@ module _ (digests : List Digest) (vertices : List Vertex) (table : Table) (n : N
         from = v.1;
         has = Contains-at v.0.op.inputs t.0 i.0 i.1;
         to = ap (slice_get vertices) (sym t.3) ∙ i.2.there;
-        named = i.2.named
+        named = i.2.named;
       } where
-    list_at-within : GoesTo edges a b → a < length edges
-    list_at-within (k, lt, is) =
-        let within : k < length (list_at edges a) = omega (arith, length-map (list_at edges a) (λ (edge : ℕ × ℕ). edge.0)) in
-        list_within edges a (get_or (list_at edges a) k (0, 0)) (k, within, get_or_default (list_at edges a) k (get_or (list_at edges a) k (0, 0)) (0, 0) within)
+        list_at-within : GoesTo edges a b → a < length edges
+        list_at-within (k, lt, is) =
+            let within : k < length (list_at edges a) = omega (arith, length-map (list_at edges a) (λ (edge : ℕ × ℕ). edge.0)) in
+            list_within edges a (get_or (list_at edges a) k (0, 0)) (k, within, get_or_default (list_at edges a) k (get_or (list_at edges a) k (0, 0)) (0, 0) within)
 
   -- what an input names an edge goes to
   pub named_edge : (a b : ℕ) → HasEdge vertices a b → GoesTo edges a b
@@ -119,7 +119,7 @@ module _ (digests : List Digest) (vertices : List Vertex) (table : Table) (n : N
       let same : e.2.vertex.digest ≡ h.target.digest = one_digest e.2.vertex.digest h.target.digest da db (sym e.2.named ∙ h.named) in
       let number : e.0.0 ≡ b = let f : number_in table e.2.vertex.digest ≡ number_in table h.target.digest = ap (number_in table) same in cc (f, there, here) in
       subst (λ (m : ℕ). GoesTo edges a m) number
-          (subst (λ (xs : List (ℕ × ℕ)). Contains (targets xs) e.0.0) (sym (list_at-get edges a es.0 es.1)) (edge_target es.0 i.0 e.0 e.1))
+      (subst (λ (xs : List (ℕ × ℕ)). Contains (targets xs) e.0.0) (sym (list_at-get edges a es.0 es.1)) (edge_target es.0 i.0 e.0 e.1))
 
   -- it goes to a vertex
   pub edge_within : (a b : ℕ) → GoesTo edges a b → b < length edges
@@ -130,23 +130,23 @@ module _ (digests : List Digest) (vertices : List Vertex) (table : Table) (n : N
       omega arith
 
   -- the order of the edges is that of the vertices
-  pub vertex_order : (order : List ℕ) → IsOrder (λ a. a < length edges) (GoesTo edges) order → IsOrder (λ a. a < length vertices) (HasEdge vertices) order
+  pub vertex_order : (order : List ℕ) → IsOrder (λ a. a < length edges) (GoesTo edges) order → IsOrder (λ a. a < length vertices) (GoesTo edges) order
   vertex_order order is =
       let len = all_zip_length (λ v es. AreEdges vertices v.op.inputs es) vertices edges are in
-      order_same (λ a. a < length edges) (λ a. a < length vertices) (GoesTo edges) (HasEdge vertices)
-          (λ a h. omega arith) (λ a h. omega arith) edge_named named_edge order is
+      order_same (λ a. a < length edges) (λ a. a < length vertices) (GoesTo edges) (GoesTo edges)
+      (λ a h. omega arith) (λ a h. omega arith) (λ a b h. h) (λ a b h. h) order is
 
 -- ---- the table of numbers
 
 -- the numbers below one more
 pub numbers_more : (numbers : List ℕ) (k : ℕ) → AreNumbers numbers k → AreNumbers (numbers ++ k ∷ []) (k + 1)
 numbers_more numbers k h = record {
-    below = λ x c. elim (Contains-push_cases numbers k x c) [ inl old ↦ let less = h.below x old in omega arith | inr same ↦ omega arith ];
-    whole = λ x less. elim (cases_lt x k) [
-        inl old ↦ Contains-append_left numbers (k ∷ []) x (h.whole x old)
-      | inr more ↦ let same : k ≡ x = omega arith in subst (Contains (numbers ++ k ∷ [])) same (Contains-push numbers k)
-      ]
-  }
+  below = λ x c. elim (Contains-push_cases numbers k x c) [ inl old ↦ let less = h.below x old in omega arith | inr same ↦ omega arith ];
+  whole = λ x less. elim (cases_lt x k) [
+    | inl old ↦ Contains-append_left numbers (k ∷ []) x (h.whole x old)
+    | inr more ↦ let same : k ≡ x = omega arith in subst (Contains (numbers ++ k ∷ [])) same (Contains-push numbers k)
+  ];
+}
 
 -- a row has the targets of its edges
 row_targets : (edges : List (List (ℕ × ℕ))) (rows : List (Vec ℕ Global)) (a : ℕ) → HasTargets edges rows → row_at rows a ≡ targets (list_at edges a)
@@ -168,7 +168,7 @@ target_rows edges rows numbers h is within =
     let len = all_zip_length (λ es (row : Vec ℕ Global). row.items ≡ targets es) edges rows h in
     record {
       within = λ p c. let less = is.below p c in omega arith;
-      inputs = λ p q e. is.whole q (within p q (row_goes edges rows h p q e))
+      inputs = λ p q e. is.whole q (within p q (row_goes edges rows h p q e));
     }
 
 -- ---- the checks of a graph

@@ -1,10 +1,9 @@
 -- Reading the entries of a definition.
-use Rattle.std.proofs.Common.{◌≡◌, ◌≢◌, ℕ, zero, suc, ◌+◌, ◌-◌, ◌<◌, ◌≤◌, ◌⊎◌, inl, inr, List, [], ◌∷◌, ◌++◌, length, map, take, get_or, Option, Some, None, Result, Ok, Err, refl, sym, ap, ◌∙◌, subst, arith, if◌then◌else◌}
+use Rattle.std.proofs.Common.{◌≡◌, ℕ, zero, suc, ◌+◌, ◌-◌, ◌<◌, ◌⊎◌, inl, inr, List, [], ◌∷◌, ◌++◌, length, map, take, get_or, Option, Some, None, Result, Ok, Err, refl, sym, ap, ◌∙◌, subst, arith}
 use Rattle.std.specs.List.{Contains, slice_get}
 use Rattle.std.specs.Option.{IfSome}
 use Rattle.std.specs.Result.{result_unwrap_or, IsOk, IfOk}
-use Rattle.std.specs.List.Sorted.{IsStrictlyIncreasing}
-use Rattle.std.proofs.lemmas.List.{take_at, get_or_push, length_push, map_push, get_or-map, length-map, length-take-le, get_or_default}
+use Rattle.std.proofs.lemmas.List.{take_at, get_or_push, length_push, map_push, get_or-map, length-map, length-take-le}
 use Rattle.std.proofs.lemmas.List.Elements.{Contains-push_cases}
 use Rattle.std.proofs.lemmas.Option.{slice_get-get_or, slice_get_within, get_or_from_slice_get}
 use Rattle.farm_base.specs.declared.digest.Digest.{Digest}
@@ -14,15 +13,14 @@ use Rattle.opsproto.specs.declared.op.Kind.TheVariants.{Bare}
 use Rattle.vertices.specs.declared.vertex.Vertex.{Vertex}
 use Rattle.vertices.specs.declared.refusal.LoadRefusal.{LoadRefusal}
 use Rattle.vertices.specs.declared.refusal.LoadRefusal.TheVariants.{OutOfMemory}
-use Rattle.vertices.specs.declared.table.Table.{Table}
 use Rattle.vertices.specs.declared.loading.Loading.{Loading}
-use Rattle.vertices.specs.Firsts.{IsFirstAt, number_in, IsTable}
+use Rattle.vertices.specs.Firsts.{number_in}
 use Rattle.vertices.specs.Outcomes.{Answers}
 use Rattle.vertices.specs.Edges.{Numbers, IsEdge}
 use Rattle.opsproto.specs.declared.refusal.OpRefusal.{OpRefusal}
 use Rattle.opsproto.specs.declared.input.Input.{Input}
 use Rattle.opsproto.specs.Scalars.{Text}
-use Rattle.vertices.specs.Loading.{GraphParts, IsGraph, IsGraphOf, front, last_of, GraphCheck, VerticesCheck, DefinitionCheck, digest_in, op_in, digests_in, vertex_at, AreFirsts, AreVertices, ReadCheck, ReadChecks}
+use Rattle.vertices.specs.Loading.{GraphParts, IsGraph, IsGraphOf, front, last_of, GraphCheck, VerticesCheck, DefinitionCheck, digest_in, op_in, digests_in, vertex_at, AreVertices, ReadCheck, ReadChecks}
 use Rattle.vertices.specs.Loaded.{IsLoaded}
 use Rattle.vertices.proofs.EntryLemmas.{take_push, Contains-at, at_Contains}
 use Rattle.vertices.proofs.TableLemmas.{first_once, get_push_end}
@@ -41,7 +39,7 @@ pub reads_more : (entries : List (List ℕ)) (k : ℕ) (x : List ℕ) → slice_
 reads_more entries k x at h c =
     let len : length (take k entries) ≡ k = length-take-le k entries (let w = slice_get_within entries k x at in omega arith) in
     subst (λ (ys : List (List ℕ)). ReadChecks 0 ys None) (sym (take_push entries k x at))
-        (reads_push 0 (take k entries) x h (subst (λ (p : ℕ). ReadCheck p x None) (let same : k ≡ 0 + length (take k entries) = omega arith in same) c))
+    (reads_push 0 (take k entries) x h (subst (λ (p : ℕ). ReadCheck p x None) (let same : k ≡ 0 + length (take k entries) = omega arith in same) c))
 
 reads_fails_from : (place : ℕ) (entries : List (List ℕ)) (k : ℕ) (x : List ℕ) (e : LoadRefusal) → slice_get entries k ≡ Some x
     → ReadChecks place (take k entries) None → ReadCheck (place + k) x (Some e) → ReadChecks place entries (Some e)
@@ -73,8 +71,8 @@ vertices_more entries k x op places vertices at is h =
     let bytes : get_or entries k [] ≡ x = get_or_from_slice_get entries k x [] at in
     let reads : op_in x ≡ op = ap (λ (r : Result OpParts _). result_unwrap_or r (record { inputs = []; kind = Bare; stripped = [] })) is in
     let same : vertex_at entries k ≡ record { place = k; digest = digest_in x; op = op }
-        = ap (λ (b : List ℕ). let v : Vertex = record { place = k; digest = digest_in b; op = op_in b } in v) bytes
-        ∙ ap (λ (o : OpParts). let v : Vertex = record { place = k; digest = digest_in x; op = o } in v) reads in
+    = ap (λ (b : List ℕ). let v : Vertex = record { place = k; digest = digest_in b; op = op_in b } in v) bytes
+    ∙ ap (λ (o : OpParts). let v : Vertex = record { place = k; digest = digest_in x; op = o } in v) reads in
     ap (λ (vs : List Vertex). vs ++ (record { place = k; digest = digest_in x; op = op }) ∷ []) h
     ∙ ap (λ (v : Vertex). map (vertex_at entries) places ++ v ∷ []) (sym same)
     ∙ sym (map_push (vertex_at entries) places k)
@@ -104,41 +102,41 @@ digest_at_place (x ∷ entries) (suc place) d e = digest_at_place entries place 
 -- the table finds the numbers of the vertices
 pub loaded_numbers : (entries : List (List ℕ)) (loading : Loading) → IsLoaded entries loading → Numbers (digests_in entries) loading.vertices.items loading.table
 loaded_numbers entries loading h = record {
-    found = λ d n e.
-        let f = h.table.found d n e in
-        (vertex_at entries f.0, vertex_of_number entries loading n f.0 h f.1, digest_at_place entries f.0 d f.2.there);
-    listed = λ d n e. let f = h.table.found d n e in Contains-at (digests_in entries) f.0 d f.2.there;
-    missing = λ d none c. let there = at_Contains (digests_in entries) d c in h.table.missing d there.0 none there.1;
-    are_digests = h.digests;
-    numbered = λ n v at.
-        let len : length loading.vertices.items ≡ length loading.table.places.items = ap length h.vertices ∙ length-map loading.table.places.items (vertex_at entries) in
-        let within = slice_get_within loading.vertices.items n v at in
-        let p = get_or loading.table.places.items n 0 in
-        let here : slice_get loading.table.places.items n ≡ Some p = slice_get-get_or loading.table.places.items n 0 (omega arith) in
-        let f = h.table.vertex n p here in
-        let same : vertex_at entries p ≡ v = let a = vertex_of_number entries loading n p h here in cc (a, at) in
-        ap (number_in loading.table) (ap (λ (x : Vertex). x.digest) (sym same) ∙ digest_at_place entries p f.0 f.1.there) ∙ f.2
-  }
+  found = λ d n e.
+      let f = h.table.found d n e in
+      (vertex_at entries f.0, vertex_of_number entries loading n f.0 h f.1, digest_at_place entries f.0 d f.2.there);
+  listed = λ d n e. let f = h.table.found d n e in Contains-at (digests_in entries) f.0 d f.2.there;
+  missing = λ d none c. let there = at_Contains (digests_in entries) d c in h.table.missing d there.0 none there.1;
+  are_digests = h.digests;
+  numbered = λ n v at.
+      let len : length loading.vertices.items ≡ length loading.table.places.items = ap length h.vertices ∙ length-map loading.table.places.items (vertex_at entries) in
+      let within = slice_get_within loading.vertices.items n v at in
+      let p = get_or loading.table.places.items n 0 in
+      let here : slice_get loading.table.places.items n ≡ Some p = slice_get-get_or loading.table.places.items n 0 (omega arith) in
+      let f = h.table.vertex n p here in
+      let same : vertex_at entries p ≡ v = let a = vertex_of_number entries loading n p h here in cc (a, at) in
+      ap (number_in loading.table) (ap (λ (x : Vertex). x.digest) (sym same) ∙ digest_at_place entries p f.0 f.1.there) ∙ f.2;
+}
 
 -- they are the vertices of the entries
 pub loaded_vertices : (entries : List (List ℕ)) (loading : Loading) → IsLoaded entries loading → AreVertices entries loading.vertices.items
 loaded_vertices entries loading h = record {
-    places = loading.table.places.items;
-    firsts = record {
-      first = λ p c. let there = at_Contains loading.table.places.items p c in let f = h.table.vertex there.0 p there.1 in (f.0, f.1);
-      whole = λ p d first.
-          let case : (n : Option ℕ) → number_in loading.table d ≡ n → Contains loading.table.places.items p
-              = λ n. elim n as (λ m. number_in loading.table d ≡ m → Contains loading.table.places.items p) [
-                  None ↦ λ e. absurd (h.table.missing d p e first.there)
-                | Some number ↦ λ e.
-                    let f = h.table.found d number e in
-                    subst (Contains loading.table.places.items) (first_once (digests_in entries) f.0 p d f.2 first) (Contains-at loading.table.places.items number f.0 f.1)
-                ] in
-          case (number_in loading.table d) refl;
-      rising = h.table.rising
-    };
-    vertices_are = h.vertices
-  }
+  places = loading.table.places.items;
+  firsts = record {
+    first = λ p c. let there = at_Contains loading.table.places.items p c in let f = h.table.vertex there.0 p there.1 in (f.0, f.1);
+    whole = λ p d first.
+        let case : (n : Option ℕ) → number_in loading.table d ≡ n → Contains loading.table.places.items p
+        = λ n. elim n as (λ m. number_in loading.table d ≡ m → Contains loading.table.places.items p) [
+          | None ↦ λ e. absurd (h.table.missing d p e first.there)
+          | Some number ↦ λ e.
+              let f = h.table.found d number e in
+              subst (Contains loading.table.places.items) (first_once (digests_in entries) f.0 p d f.2 first) (Contains-at loading.table.places.items number f.0 f.1)
+        ] in
+        case (number_in loading.table d) refl;
+    rising = h.table.rising;
+  };
+  vertices_are = h.vertices;
+}
 
 -- an entry that isn't read answers for all of them
 pub entry_answers : (entries : List (List ℕ)) (k : ℕ) (x : List ℕ) (e : LoadRefusal) → slice_get entries k ≡ Some x
@@ -171,19 +169,22 @@ pub entries_refused : (entries : List (List ℕ)) (last : List ℕ) (def : List 
     → (e ≡ OutOfMemory) ⊎ ReadChecks 0 entries (Some e) → (e ≡ OutOfMemory) ⊎ DefinitionCheck def (Some e)
 entries_refused entries last def e is h =
     subst (λ (d : List (List ℕ)). (e ≡ OutOfMemory) ⊎ DefinitionCheck d (Some e)) (sym is) (elim h [
-        inl memory ↦ inl memory
+      | inl memory ↦ inl memory
       | inr check ↦ inr (inr (has_entry entries last, inl (reads_fail_left 0 entries last e check)))
-      ])
+    ])
 
 -- where the last isn't
 pub last_refused : (entries : List (List ℕ)) (last : List ℕ) (def : List (List ℕ)) (e : LoadRefusal) → def ≡ entries ++ last ∷ []
     → ReadChecks 0 entries None → (e ≡ OutOfMemory) ⊎ ReadCheck (length entries) last (Some e) → (e ≡ OutOfMemory) ⊎ DefinitionCheck def (Some e)
 last_refused entries last def e is reads h =
     subst (λ (d : List (List ℕ)). (e ≡ OutOfMemory) ⊎ DefinitionCheck d (Some e)) (sym is) (elim h [
-        inl memory ↦ inl memory
-      | inr check ↦ inr (inr (has_entry entries last, inl (reads_fails (entries ++ last ∷ []) (length entries) last e (get_push_end entries last)
-            (subst (λ (es : List (List ℕ)). ReadChecks 0 es None) (sym (take_at entries (last ∷ []) (length entries) refl)) reads) check)))
-      ])
+      | inl memory ↦ inl memory
+      | inr check ↦ inr (inr (
+        has_entry entries last,
+        inl (reads_fails (entries ++ last ∷ []) (length entries) last e (get_push_end entries last)
+            (subst (λ (es : List (List ℕ)). ReadChecks 0 es None) (sym (take_at entries (last ∷ []) (length entries) refl)) reads) check),
+      ))
+    ])
 
 -- the vertices of a definition
 pub definition_vertices : (entries : List (List ℕ)) (last : List ℕ) (def : List (List ℕ)) (vertices : List Vertex) → def ≡ entries ++ last ∷ []
@@ -208,12 +209,12 @@ pub graph_answers : (entries : List (List ℕ)) (last : List ℕ) (def : List (L
     → GraphCheck (digests_in entries) (length entries) vertices op.inputs given → DefinitionCheck def given
 graph_answers entries last def op vertices given is reads read are h =
     let all : ReadChecks 0 def None = subst (λ (d : List (List ℕ)). ReadChecks 0 d None) (sym is)
-        (reads_push 0 entries last reads (subst (λ (r : Result OpParts OpRefusal). IsOk r) (sym read) refl)) in
+    (reads_push 0 entries last reads (subst (λ (r : Result OpParts OpRefusal). IsOk r) (sym read) refl)) in
     let some : 0 < length def = subst (λ (d : List (List ℕ)). 0 < length d) (sym is) (has_entry entries last) in
     let front_is : front def ≡ entries = ap front is ∙ front-push entries last in
     let checked : GraphCheck (digests_in (front def)) (length (front def)) vertices (op_in (last_of def)).inputs given
-        = subst (λ (es : List (List ℕ)). GraphCheck (digests_in es) (length es) vertices (op_in (last_of def)).inputs given) (sym front_is)
-          (subst (λ (inputs : List (Input Text)). GraphCheck (digests_in entries) (length entries) vertices inputs given) (sym (definition_last entries last def op is read)) h) in
+    = subst (λ (es : List (List ℕ)). GraphCheck (digests_in es) (length es) vertices (op_in (last_of def)).inputs given) (sym front_is)
+    (subst (λ (inputs : List (Input Text)). GraphCheck (digests_in entries) (length entries) vertices inputs given) (sym (definition_last entries last def op is read)) h) in
     then_last given def some all (vertices, definition_vertices entries last def vertices is are, checked)
 
 -- what a call answers to one check it answers to one that follows from it
@@ -226,9 +227,9 @@ pub graph_is : (def : List (List ℕ)) (vertices : List Vertex) (inputs : List (
     → AreVertices (front def) vertices → (op_in (last_of def)).inputs ≡ inputs → IfOk r (λ g. g.vertices ≡ vertices) → IfOk r IsGraph
     → IfOk r (λ g. IfSome (slice_get inputs 0) (λ input. IsEdge vertices input g.result)) → IfOk r (IsGraphOf def)
 graph_is def vertices inputs (Ok g) are last is graph result = record {
-    graph = graph;
-    vertices = subst (AreVertices (front def)) (sym is) are;
-    result = subst (λ (xs : List (Input Text)). IfSome (slice_get xs 0) (λ input. IsEdge g.vertices input g.result)) (sym last)
-        (subst (λ (vs : List Vertex). IfSome (slice_get inputs 0) (λ input. IsEdge vs input g.result)) (sym is) result)
-  }
+  graph = graph;
+  vertices = subst (AreVertices (front def)) (sym is) are;
+  result = subst (λ (xs : List (Input Text)). IfSome (slice_get xs 0) (λ input. IsEdge g.vertices input g.result)) (sym last)
+      (subst (λ (vs : List Vertex). IfSome (slice_get inputs 0) (λ input. IsEdge vs input g.result)) (sym is) result);
+}
 graph_is def vertices inputs (Err e) are last is graph result = tt

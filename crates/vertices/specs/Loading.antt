@@ -1,5 +1,5 @@
 -- What a definition means as a graph (this project's own, over BuildKit's ops.proto).
-use Rattle.std.specs.Prelude.{◌≡◌, ℕ, ◌+◌, ◌-◌, ◌<◌, List, [], ◌∷◌, length, map, take, slice_index_or, slice_get, Option, Some, None, Result, Ok, IsOk, IfSome}
+use Rattle.std.specs.Prelude.{◌≡◌, ℕ, ◌+◌, ◌-◌, ◌<◌, List, [], ◌∷◌, length, map, take, slice_index_or, slice_get, Option, Some, IsOk, IfSome}
 use Rattle.std.specs.Result.{result_unwrap_or}
 use Rattle.std.specs.List.{Contains, AllZip}
 use Rattle.std.specs.List.Sorted.{IsStrictlyIncreasing}
@@ -17,7 +17,7 @@ use Rattle.vertices.specs.Firsts.{IsFirstAt}
 use Rattle.vertices.specs.Orders as orders
 use Rattle.vertices.specs.Outcomes.{Passes, Fails, Needs, Refuses, Then, Each}
 use Rattle.vertices.specs.OpChecks.{KindCheck}
-use Rattle.vertices.specs.Edges.{InputCheck, IsEdge, AreEdges}
+use Rattle.vertices.specs.Edges.{InputCheck, IsEdge, AreEdges, GoesTo}
 
 -- the SHA-256 of an entry's bytes (FIPS 180-4)
 abbrev pub digest_in : List ℕ → Digest
@@ -91,7 +91,7 @@ pub record GraphParts : Type 0 where
 -- each vertex has an edge for each of its inputs, the order is that of the graph, and the result is one of them
 pub record IsGraph (g : GraphParts) : Type 0 where
   pub edges : AllZip (λ v edges. AreEdges g.vertices v.op.inputs edges) g.vertices g.edges
-  pub order : orders.IsOrder (λ number. number < length g.vertices) (HasEdge g.vertices) g.order
+  pub order : orders.IsOrder (λ number. number < length g.vertices) (GoesTo g.edges) g.order
   pub acyclic : IsCyclic g.vertices → ⊥
   pub result : g.result.0 < length g.vertices
 

@@ -5,7 +5,6 @@ use Rattle.std.specs.List.{Contains, count_by}
 use Rattle.opsproto.specs.Scalars.{Text}
 use Rattle.opsproto.specs.declared.exec.CacheOpt.{CacheOpt}
 use Rattle.opsproto.specs.declared.exec.Mount.{Mount}
-use Rattle.opsproto.specs.declared.exec.Meta.{Meta}
 use Rattle.opsproto.specs.declared.exec.ExecOp.{ExecOp}
 use Rattle.opsproto.specs.declared.op.Kind.{Kind}
 use Rattle.opsproto.specs.declared.op.Kind.TheVariants.{Exec, Opaque, Bare}

@@ -18,7 +18,11 @@ use farm_base::Items;
 use std::alloc::{AllocError, Global};
 
 /// Checks a vertex, and gives its edges.
-fn vertex_edges(alloc: Global, table: &Table, vertex: &Vertex) -> Result<Vec<(usize, u64)>, LoadRefusal>
+fn vertex_edges(
+    alloc: Global,
+    table: &Table,
+    vertex: &Vertex,
+) -> Result<Vec<(usize, u64)>, LoadRefusal>
     ensures check { (digests : List SpecDigest) (all : List SpecVertex) → Numbers digests all table.now
         → Answers (VertexCheck digests vertex.now) result }
     ensures edges { (digests : List SpecDigest) (all : List SpecVertex) → Numbers digests all table.now
@@ -31,7 +35,11 @@ fn vertex_edges(alloc: Global, table: &Table, vertex: &Vertex) -> Result<Vec<(us
 }
 
 /// Checks each vertex, and gives their edges.
-pub(crate) fn all_edges(alloc: Global, table: &Table, vertices: &[Vertex]) -> Result<Vec<Items<(usize, u64)>>, LoadRefusal>
+pub(crate) fn all_edges(
+    alloc: Global,
+    table: &Table,
+    vertices: &[Vertex],
+) -> Result<Vec<Items<(usize, u64)>>, LoadRefusal>
     ensures check { (digests : List SpecDigest) (all : List SpecVertex) → Numbers digests all table.now
         → Answers (Each (VertexCheck digests) vertices.now) result }
     ensures edges { (digests : List SpecDigest) (all : List SpecVertex) → Numbers digests all table.now
@@ -74,7 +82,10 @@ fn numbers(alloc: Global, count: usize) -> Result<Vec<usize>, AllocError>
 }
 
 /// The order of vertices with these edges, or None where there is a cycle.
-pub(crate) fn edge_order(alloc: Global, edges: &[Items<(usize, u64)>]) -> Result<Option<Vec<usize>>, AllocError>
+pub(crate) fn edge_order(
+    alloc: Global,
+    edges: &[Items<(usize, u64)>],
+) -> Result<Option<Vec<usize>>, AllocError>
     requires { (number other : ℕ) → GoesTo edges.now number other → other < length edges.now }
     ensures order { IfOk result (λ answer. IfSome answer (λ order.
         IsOrder (λ number. number < length edges.now) (GoesTo edges.now) order.items)) }

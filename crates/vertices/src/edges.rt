@@ -22,7 +22,11 @@ fn named_digest(text: &str) -> Option<Digest>
 }
 
 /// The vertex that an input names, by its number, and the index of the output.
-pub(crate) fn edge_of(table: &Table, place: usize, input: &Input) -> Result<(usize, u64), LoadRefusal>
+pub(crate) fn edge_of(
+    table: &Table,
+    place: usize,
+    input: &Input,
+) -> Result<(usize, u64), LoadRefusal>
     ensures check { (digests : List SpecDigest) (vertices : List Vertex) → Numbers digests vertices table.now
         → InputCheck digests place input.now (refused result) }
     ensures edge { (digests : List SpecDigest) (vertices : List Vertex) → Numbers digests vertices table.now

@@ -61,7 +61,10 @@ fn has_root(mounts: &[Mount]) -> bool
 fn count_caches(mounts: &[Mount]) -> usize
     ensures { result ≡ cache_count mounts.now }
 {
-    mounts.iter().filter(|mount| mount.mount_type == CACHE).count()
+    mounts
+        .iter()
+        .filter(|mount| mount.mount_type == CACHE)
+        .count()
 }
 
 fn check_mounts(place: usize, inputs: usize, mounts: &[Mount]) -> Result<(), LoadRefusal>

@@ -16,5 +16,5 @@ mod vertex;
 pub use entries::order;
 pub use graph::Graph;
 pub use loading::load;
-pub use vertex::Vertex;
 pub use refusal::{LoadRefusal, OrderRefusal};
+pub use vertex::Vertex;

@@ -10,7 +10,7 @@ use Rattle.vertices.proofs.building.all_edges.Given as goal
 -- the vertices so far pass, and have their edges
 abbrev pub invariant-loop-vertex : goal.invariant-loop-vertex
 invariant-loop-vertex l = record {
-    passes : (digests : List Digest) (all : List Vertex) → Numbers digests all l.table → Each (VertexCheck digests) (take l.vertex-index l.vertices) None;
-    edges : (digests : List Digest) (all : List Vertex) → Numbers digests all l.table
-        → AllZip (λ v es. AreEdges all v.op.inputs es) (take l.vertex-index l.vertices) l.edges.items
-  }
+  passes : (digests : List Digest) (all : List Vertex) → Numbers digests all l.table → Each (VertexCheck digests) (take l.vertex-index l.vertices) None;
+  edges : (digests : List Digest) (all : List Vertex) → Numbers digests all l.table
+      → AllZip (λ v es. AreEdges all v.op.inputs es) (take l.vertex-index l.vertices) l.edges.items;
+}

@@ -1,4 +1,4 @@
-use Rattle.std.proofs.Common.{◌≡◌, ℕ, ◌+◌, List, [], ◌∷◌, ◌++◌, Some, take, subst, sym, ap, ◌∙◌, arith}
+use Rattle.std.proofs.Common.{◌≡◌, ℕ, List, [], ◌∷◌, ◌++◌, Some, take, subst, sym, ap, ◌∙◌, arith}
 use Rattle.std.specs.List.{slice_get}
 use Rattle.std.specs.declared.vec.Vec.{Vec}
 use Rattle.std.specs.declared.alloc.Global.{Global}
@@ -18,8 +18,8 @@ loop-some-preserved c =
     let at : slice_get edges k ≡ Some x = slice_get-get_or edges k x c.loop-some-test.true ∙ ap (λ (es : List (ℕ × ℕ)). Some es) (sym c.some-item.is) in
     subst (λ (es : List (List (ℕ × ℕ))). HasTargets es c.push.new.self.items) (sym (take_push edges k x at))
     (subst (HasTargets (take k edges ++ x ∷ [])) (sym c.in_ok-push.ensures.items)
-        (all_zip_push (λ es (row : Vec ℕ Global). row.items ≡ targets es) (take k edges) c.loop-some.rows.items x c.in_ok-targets_of.field-0 c.loop-some.invariant
-            (c.in_ok-targets_of.ensures ∙ ap targets c.as_slice.ensures)))
+    (all_zip_push (λ es (row : Vec ℕ Global). row.items ≡ targets es) (take k edges) c.loop-some.rows.items x c.in_ok-targets_of.field-0 c.loop-some.invariant
+    (c.in_ok-targets_of.ensures ∙ ap targets c.as_slice.ensures)))
 
 pub returns : goal.returns
 returns c = subst (λ (es : List (List (ℕ × ℕ))). HasTargets es c.loop-some.rows.items) (take_all c.loop-some.some-index c.args.edges.now (omega arith)) c.loop-some.invariant

@@ -1,7 +1,6 @@
-use Rattle.std.proofs.Common.{◌≡◌, ℕ, ◌<◌, List, length, Vec, subst, sym, ap, ◌∙◌, arith}
+use Rattle.std.proofs.Common.{ℕ, ◌<◌, List, length, subst, sym}
 use Rattle.std.specs.List.{Contains}
-use Rattle.std.specs.declared.alloc.Global.{Global}
-use Rattle.vertices.specs.Rows.{AreRows, IsRowOrder, HasInput, HasRowCycle}
+use Rattle.vertices.specs.Rows.{IsRowOrder, HasInput, HasRowCycle}
 use Rattle.vertices.specs.Orders.{IsOrder, IsCyclic}
 use Rattle.vertices.specs.Edges.{GoesTo}
 use Rattle.vertices.specs.Numbered.{HasTargets, AreNumbers}
@@ -12,31 +11,31 @@ use Rattle.vertices.proofs.building.edge_order.Goals as goal
 pub order_of-requires : goal.order_of-requires
 order_of-requires c =
     target_rows c.args.edges.now c.as_slice-2.result.now c.as_slice.result.now
-        (subst (HasTargets c.args.edges.now) (sym c.as_slice-2.ensures.value) c.in_ok-rows.ensures)
-        (subst (λ (ns : List ℕ). AreNumbers ns (length c.args.edges.now)) (sym c.as_slice.ensures.value) c.in_ok-numbers.ensures)
-        c.requires
+    (subst (HasTargets c.args.edges.now) (sym c.as_slice-2.ensures.value) c.in_ok-rows.ensures)
+    (subst (λ (ns : List ℕ). AreNumbers ns (length c.args.edges.now)) (sym c.as_slice.ensures.value) c.in_ok-numbers.ensures)
+    c.requires
 
 pub returns-clause-order : goal.returns-clause-order
 returns-clause-order c =
     let rows = subst (HasTargets c.args.edges.now) (sym c.as_slice-2.ensures.value) c.in_ok-rows.ensures in
     let numbers = subst (λ (ns : List ℕ). AreNumbers ns (length c.args.edges.now)) (sym c.as_slice.ensures.value) c.in_ok-numbers.ensures in
     if_ok_some c.order_of.result (λ order. IsRowOrder c.as_slice.result.now c.as_slice-2.result.now order.items)
-        (λ order. IsOrder (λ number. number < length c.args.edges.now) (GoesTo c.args.edges.now) order.items)
-        (λ order is. order_same (Contains c.as_slice.result.now) (λ number. number < length c.args.edges.now)
-            (HasInput c.as_slice-2.result.now) (GoesTo c.args.edges.now) numbers.below numbers.whole
-            (row_goes c.args.edges.now c.as_slice-2.result.now rows) (goes_row c.args.edges.now c.as_slice-2.result.now rows) order.items is)
-        c.order_of.ensures.order
+    (λ order. IsOrder (λ number. number < length c.args.edges.now) (GoesTo c.args.edges.now) order.items)
+    (λ order is. order_same (Contains c.as_slice.result.now) (λ number. number < length c.args.edges.now)
+    (HasInput c.as_slice-2.result.now) (GoesTo c.args.edges.now) numbers.below numbers.whole
+    (row_goes c.args.edges.now c.as_slice-2.result.now rows) (goes_row c.args.edges.now c.as_slice-2.result.now rows) order.items is)
+    c.order_of.ensures.order
 
 pub returns-clause-acyclic : goal.returns-clause-acyclic
 returns-clause-acyclic c =
     let rows = subst (HasTargets c.args.edges.now) (sym c.as_slice-2.ensures.value) c.in_ok-rows.ensures in
     if_ok_some c.order_of.result (λ _. HasRowCycle c.as_slice-2.result.now → ⊥) (λ _. IsCyclic (GoesTo c.args.edges.now) → ⊥)
-        (λ order none cycle. none (cycle_same (GoesTo c.args.edges.now) (HasInput c.as_slice-2.result.now) (goes_row c.args.edges.now c.as_slice-2.result.now rows) cycle))
-        c.order_of.ensures.acyclic
+    (λ order none cycle. none (cycle_same (GoesTo c.args.edges.now) (HasInput c.as_slice-2.result.now) (goes_row c.args.edges.now c.as_slice-2.result.now rows) cycle))
+    c.order_of.ensures.acyclic
 
 pub returns-clause-cyclic : goal.returns-clause-cyclic
 returns-clause-cyclic c =
     let rows = subst (HasTargets c.args.edges.now) (sym c.as_slice-2.ensures.value) c.in_ok-rows.ensures in
     if_ok_none c.order_of.result (HasRowCycle c.as_slice-2.result.now) (IsCyclic (GoesTo c.args.edges.now))
-        (cycle_same (HasInput c.as_slice-2.result.now) (GoesTo c.args.edges.now) (row_goes c.args.edges.now c.as_slice-2.result.now rows))
-        c.order_of.ensures.cyclic
+    (cycle_same (HasInput c.as_slice-2.result.now) (GoesTo c.args.edges.now) (row_goes c.args.edges.now c.as_slice-2.result.now rows))
+    c.order_of.ensures.cyclic

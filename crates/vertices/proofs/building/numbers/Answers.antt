@@ -6,7 +6,7 @@ use Rattle.vertices.proofs.building.numbers.Goals as goal
 pub loop-number-preserved : goal.loop-number-preserved
 loop-number-preserved c =
     subst (λ (xs : List ℕ). AreNumbers xs (c.loop-number.number + 1)) (sym c.in_ok-push.ensures.items)
-        (numbers_more c.loop-number.numbers.items c.loop-number.number c.loop-number.invariant)
+    (numbers_more c.loop-number.numbers.items c.loop-number.number c.loop-number.invariant)
 
 pub returns : goal.returns
 returns c =

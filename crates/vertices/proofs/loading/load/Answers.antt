@@ -1,10 +1,10 @@
-use Rattle.std.proofs.Common.{◌≡◌, ◌⊎◌, inl, inr, ℕ, List, [], ◌∷◌, ◌++◌, length, Ok, Some, None, Result, Option, refl, sym, ap, ◌∙◌, subst, arith}
+use Rattle.std.proofs.Common.{◌≡◌, ◌⊎◌, ℕ, List, [], ◌∷◌, ◌++◌, length, Ok, Some, sym, ap, ◌∙◌, subst}
 use Rattle.std.proofs.lemmas.Result.{err_from_is_err_and}
-use Rattle.opsproto.specs.Ops.{OpParts, op_at}
+use Rattle.opsproto.specs.Ops.{op_at}
 use Rattle.opsproto.specs.Scalars.{Text}
 use Rattle.opsproto.specs.declared.input.Input.{Input}
 use Rattle.vertices.specs.declared.refusal.LoadRefusal.TheVariants.{OutOfMemory}
-use Rattle.vertices.specs.Loading.{digests_in, ReadCheck, ReadChecks, GraphCheck, DefinitionCheck}
+use Rattle.vertices.specs.Loading.{digests_in, ReadCheck, GraphCheck, DefinitionCheck}
 use Rattle.vertices.proofs.LoadLemmas.{entries_refused, last_refused, graph_answers, loaded_numbers, loaded_vertices, definition_vertices, definition_last, answers_weaker, graph_is}
 use Rattle.vertices.proofs.loading.load.Goals as goal
 
@@ -20,7 +20,7 @@ returns-in_err-op-clause-check c =
     let is : c.args.definition.def ≡ c.in-Some.entries.now ++ c.in-Some.last.now ∷ [] = sym c.as_slice.ensures ∙ c.in-Some.ensures.cases.0 in
     let e = c.in_err-op.field-0.0 in
     rw (p.1, p.2) (last_refused c.in-Some.entries.now c.in-Some.last.now c.args.definition.def e is c.in_ok-loading.ensures.check
-        (subst (λ (b : List ℕ). (e ≡ OutOfMemory) ⊎ ReadCheck (length c.in-Some.entries.now) b (Some e)) c.as_slice-2.ensures c.in_err-op.ensures.check))
+    (subst (λ (b : List ℕ). (e ≡ OutOfMemory) ⊎ ReadCheck (length c.in-Some.entries.now) b (Some e)) c.as_slice-2.ensures c.in_err-op.ensures.check))
 
 pub graph-requires : goal.graph-requires
 graph-requires c = (digests_in c.in-Some.entries.now, loaded_numbers c.in-Some.entries.now c.in_ok-loading.loading c.in_ok-loading.ensures.loaded)
@@ -35,10 +35,10 @@ returns-clause-check c =
     let is : def ≡ entries ++ last ∷ [] = sym c.as_slice.ensures ∙ c.in-Some.ensures.cases.0 in
     let read : op_at last ≡ Ok c.in_ok-op.op = ap op_at (sym c.as_slice-2.ensures) ∙ c.in_ok-op.ensures.op in
     answers_weaker (GraphCheck (digests_in entries) (length entries) vertices c.inputs.result.now) (DefinitionCheck def) c.graph.result
-        (λ given h. graph_answers entries last def c.in_ok-op.op vertices given is c.in_ok-loading.ensures.check read
-            (loaded_vertices entries c.in_ok-loading.loading loaded)
-            (subst (λ (xs : List (Input Text)). GraphCheck (digests_in entries) (length entries) vertices xs given) c.inputs.ensures h))
-        (c.graph.ensures.check (digests_in entries) (loaded_numbers entries c.in_ok-loading.loading loaded))
+    (λ given h. graph_answers entries last def c.in_ok-op.op vertices given is c.in_ok-loading.ensures.check read
+    (loaded_vertices entries c.in_ok-loading.loading loaded)
+    (subst (λ (xs : List (Input Text)). GraphCheck (digests_in entries) (length entries) vertices xs given) c.inputs.ensures h))
+    (c.graph.ensures.check (digests_in entries) (loaded_numbers entries c.in_ok-loading.loading loaded))
 
 pub returns-clause-graph : goal.returns-clause-graph
 returns-clause-graph c =
@@ -49,6 +49,6 @@ returns-clause-graph c =
     let is : def ≡ entries ++ last ∷ [] = sym c.as_slice.ensures ∙ c.in-Some.ensures.cases.0 in
     let read : op_at last ≡ Ok c.in_ok-op.op = ap op_at (sym c.as_slice-2.ensures) ∙ c.in_ok-op.ensures.op in
     graph_is def vertices c.inputs.result.now c.graph.result
-        (definition_vertices entries last def vertices is (loaded_vertices entries c.in_ok-loading.loading c.in_ok-loading.ensures.loaded))
-        (definition_last entries last def c.in_ok-op.op is read ∙ sym c.inputs.ensures)
-        c.graph.ensures.vertices c.graph.ensures.graph c.graph.ensures.result
+    (definition_vertices entries last def vertices is (loaded_vertices entries c.in_ok-loading.loading c.in_ok-loading.ensures.loaded))
+    (definition_last entries last def c.in_ok-op.op is read ∙ sym c.inputs.ensures)
+    c.graph.ensures.vertices c.graph.ensures.graph c.graph.ensures.result

@@ -1,0 +1,117 @@
+//! What the program does: reads, answers, prints.
+
+use super::answer::answer;
+use super::command::{Command, command_of};
+use super::failure::Failure;
+use super::files::contents;
+use std::alloc::Global;
+use std::io::Write;
+use std::rt::Files;
+
+/// The answer was printed.
+pub const DONE: u8 = 0;
+/// An input was refused, or can't be read.
+pub const REFUSED: u8 = 1;
+/// The words are no command.
+pub const USAGE: u8 = 2;
+/// Memory ran out.
+pub const MEMORY: u8 = 3;
+/// The answer could not be written.
+pub const FAULT: u8 = 4;
+
+/// Writes a text, and answers the status, or that it could not be written.
+fn print<W: Write>(writer: &mut W, text: &str, status: u8) -> u8 {
+    match writer.write_all(text.as_bytes()) {
+        Ok(()) => match writer.flush() {
+            Ok(()) => status,
+            Err(_) => FAULT,
+        },
+        Err(_) => FAULT,
+    }
+}
+
+fn print_failure<E: Write>(alloc: Global, failure: Failure, err: &mut E) -> u8 {
+    let status = match failure {
+        Failure::Memory => MEMORY,
+        _ => REFUSED,
+    };
+    match failure.line(alloc) {
+        Ok(line) => print(err, line.as_str(), status),
+        Err(_) => print(err, "out of memory\n", MEMORY),
+    }
+}
+
+fn print_unreadable<E: Write>(alloc: Global, name: &str, err: &mut E) -> u8 {
+    match format!(in alloc; "unreadable {name}\n") {
+        Ok(line) => print(err, line.as_str(), REFUSED),
+        Err(_) => print(err, "out of memory\n", MEMORY),
+    }
+}
+
+/// Carries out a command on files, each with its bytes or `None` where it can't be read. Nothing is printed
+/// before all texts are made; the first fault decides. Answers the status of the program.
+pub fn act<O: Write, E: Write>(
+    alloc: Global,
+    command: Command,
+    files: &[(String, Option<Vec<u8>>)],
+    out: &mut O,
+    err: &mut E,
+) -> u8 {
+    let mut all = String::new(alloc);
+    for (name, bytes) in files {
+        let Some(bytes) = bytes else {
+            return print_unreadable(alloc, name.as_str(), err);
+        };
+        match answer(alloc, command, bytes.as_slice()) {
+            Err(failure) => return print_failure(alloc, failure, err),
+            Ok(text) => {
+                if all.push_str(text.as_str()).is_err() {
+                    return print_failure(alloc, Failure::Memory, err);
+                }
+            }
+        }
+    }
+    print(out, all.as_str(), DONE)
+}
+
+/// Reads the words and the files that they name, and acts. Usage faults and help are `clap`'s texts.
+pub fn run<R: Files + Input + AllocGlobal, O: Write, E: Write>(
+    rt: &R,
+    words: &[String],
+    out: &mut O,
+    err: &mut E,
+) -> u8 {
+    let (command, names) = match command_of(rt.alloc(), words) {
+        Ok(found) => found,
+        Err(error) => return print_usage(rt.alloc(), &error, out, err),
+    };
+    let mut files = Vec::new(rt.alloc());
+    for name in &names {
+        let bytes = contents(rt, name).ok();
+        let Ok(name) = String::from_str(rt.alloc(), name) else {
+            return print(err, "out of memory\n", MEMORY);
+        };
+        if files.push((name, bytes)).is_err() {
+            return print(err, "out of memory\n", MEMORY);
+        }
+    }
+    act(rt.alloc(), command, files.as_slice(), out, err)
+}
+
+fn print_usage<O: Write, E: Write>(
+    alloc: Global,
+    error: &clap::Error,
+    out: &mut O,
+    err: &mut E,
+) -> u8 {
+    let Ok(text) = error.to_string(alloc) else {
+        return print(err, "out of memory\n", MEMORY);
+    };
+    if matches!(error.kind(), clap::error::ErrorKind::OutOfMemory) {
+        print(err, "out of memory\n", MEMORY)
+    } else if error.use_stderr() {
+        print(err, text.as_str(), USAGE)
+    } else {
+        print(out, text.as_str(), DONE)
+    }
+}

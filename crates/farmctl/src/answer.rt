@@ -1,0 +1,67 @@
+//! What the program answers for a file.
+ghost use Rattle.std.specs.Prelude.{◌≡◌, IfOk, OnOk, List, ◌++◌, take};
+ghost use Rattle.std.specs.String.{string_bytes};
+ghost use Rattle.farmctl.specs.Answers.{check_text, key_line};
+
+use super::command::Command;
+use super::failure::Failure;
+use farm_base::{Digest, Key};
+use opsproto::{OpRefusal, read_definition};
+use std::alloc::{AllocError, Global};
+use vertices::{Graph, LoadRefusal, load};
+
+/// How many vertices the graph has, and its result.
+fn checked(alloc: Global, graph: &Graph) -> Result<String, AllocError>
+    ensures { IfOk result (λ text. string_bytes text ≡ check_text graph.now) }
+{
+    let (number, index) = graph.result();
+    let digest = graph.vertex(number).digest.to_text(alloc)?;
+    let len = graph.len();
+    format!(in alloc; "vertices {len} result {digest} {index}\n")
+}
+
+/// Adds the line of a vertex.
+fn push_key(alloc: Global, text: &mut String, digest: &Digest, key: &Key) -> Result<(), AllocError>
+    ensures { OnOk result (string_bytes text.new ≡ string_bytes text.old ++ key_line digest.now key.now) }
+{
+    let digest = digest.to_text(alloc)?;
+    let key = key.to_text(alloc)?;
+    text.push_str(digest.as_str())?;
+    text.push(' ')?;
+    text.push_str(key.as_str())?;
+    text.push('\n')
+}
+
+fn listed(alloc: Global, graph: &Graph) -> Result<String, AllocError> {
+    let keys = solverkeys::keys(alloc, graph)?;
+    let mut text = String::new(alloc);
+    for (number, key) in keys.iter().enumerate() {
+        if number < graph.len() {
+            push_key(alloc, &mut text, &graph.vertex(number).digest, key)?;
+        }
+    }
+    Ok(text)
+}
+
+/// The graph that the bytes of a file spell.
+fn graph_of(alloc: Global, bytes: &[u8]) -> Result<Graph, Failure> {
+    match read_definition(alloc, bytes) {
+        Err(OpRefusal::OutOfMemory) => Err(Failure::Memory),
+        Err(refusal) => Err(Failure::Read(refusal)),
+        Ok(definition) => match load(alloc, definition) {
+            Err(LoadRefusal::OutOfMemory) => Err(Failure::Memory),
+            Err(refusal) => Err(Failure::Load(refusal)),
+            Ok(graph) => Ok(graph),
+        },
+    }
+}
+
+/// The lines that the command prints for a file.
+pub fn answer(alloc: Global, command: Command, bytes: &[u8]) -> Result<String, Failure> {
+    let graph = graph_of(alloc, bytes)?;
+    let text = match command {
+        Command::Check => checked(alloc, &graph)?,
+        Command::Keys => listed(alloc, &graph)?,
+    };
+    Ok(text)
+}

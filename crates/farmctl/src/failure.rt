@@ -1,0 +1,82 @@
+//! Why a file has no answer.
+ghost use Rattle.std.specs.Prelude.{◌≡◌};
+ghost use Rattle.farmctl.specs.declared.failure.Failure.TheVariants as failure;
+
+use opsproto::OpRefusal;
+use protowire::WireRefusal;
+use std::alloc::{AllocError, Global};
+use vertices::LoadRefusal;
+
+/// Why there is no answer for a file.
+#[derive(Clone, Copy, Debug, PartialEq, Eq)]
+pub enum Failure {
+    /// Its bytes are no definition.
+    Read(OpRefusal),
+    /// Its definition is no graph.
+    Load(LoadRefusal),
+    Memory,
+}
+
+impl From<AllocError> for Failure {
+    ghost from_gives = { λ _ e. e ≡ failure.Memory };
+
+    fn from(_error: AllocError) -> Failure {
+        Failure::Memory
+    }
+}
+
+/// The name of a fault of the wire form.
+fn wire_name(refusal: WireRefusal) -> &'static str {
+    match refusal {
+        WireRefusal::Truncated => "Truncated",
+        WireRefusal::VarintTooLong => "VarintTooLong",
+        WireRefusal::BadWireType => "BadWireType",
+        WireRefusal::BadFieldNumber => "BadFieldNumber",
+        WireRefusal::OutOfMemory => "OutOfMemory",
+    }
+}
+
+fn read_text(alloc: Global, refusal: OpRefusal) -> Result<String, AllocError> {
+    match refusal {
+        OpRefusal::Wire(wire) => String::from_str(alloc, wire_name(wire)),
+        OpRefusal::NotUtf8(number) => format!(in alloc; "NotUtf8 {number}"),
+        OpRefusal::TooLarge => String::from_str(alloc, "TooLarge"),
+        OpRefusal::OutOfMemory => String::from_str(alloc, "OutOfMemory"),
+    }
+}
+
+fn load_text(alloc: Global, refusal: LoadRefusal) -> Result<String, AllocError> {
+    match refusal {
+        LoadRefusal::EmptyDefinition => String::from_str(alloc, "EmptyDefinition"),
+        LoadRefusal::BadOp(place) => format!(in alloc; "BadOp {place}"),
+        LoadRefusal::NoResult => String::from_str(alloc, "NoResult"),
+        LoadRefusal::BadInputDigest(place) => format!(in alloc; "BadInputDigest {place}"),
+        LoadRefusal::MissingInput(place) => format!(in alloc; "MissingInput {place}"),
+        LoadRefusal::NegativeIndex(place) => format!(in alloc; "NegativeIndex {place}"),
+        LoadRefusal::NoOp(place) => format!(in alloc; "NoOp {place}"),
+        LoadRefusal::NoMeta(place) => format!(in alloc; "NoMeta {place}"),
+        LoadRefusal::NoArgs(place) => format!(in alloc; "NoArgs {place}"),
+        LoadRefusal::NoMounts(place) => format!(in alloc; "NoMounts {place}"),
+        LoadRefusal::NoRoot(place) => format!(in alloc; "NoRoot {place}"),
+        LoadRefusal::BadMountInput(place) => format!(in alloc; "BadMountInput {place}"),
+        LoadRefusal::NoCacheOpt(place) => format!(in alloc; "NoCacheOpt {place}"),
+        LoadRefusal::UnknownSharing(place, value) => {
+            format!(in alloc; "UnknownSharing {place} {value}")
+        }
+        LoadRefusal::TooManyCacheMounts(place) => format!(in alloc; "TooManyCacheMounts {place}"),
+        LoadRefusal::Cycle => String::from_str(alloc, "Cycle"),
+        LoadRefusal::OutOfMemory => String::from_str(alloc, "OutOfMemory"),
+    }
+}
+
+impl Failure {
+    /// Its line: `refused`, the refusal's name and its numbers, or that memory ran out.
+    pub fn line(self, alloc: Global) -> Result<String, AllocError> {
+        let refusal = match self {
+            Failure::Read(refusal) => read_text(alloc, refusal)?,
+            Failure::Load(refusal) => load_text(alloc, refusal)?,
+            Failure::Memory => return String::from_str(alloc, "out of memory\n"),
+        };
+        format!(in alloc; "refused {refusal}\n")
+    }
+}

@@ -1,0 +1,29 @@
+//! The program: checks definitions of BuildKit and prints their solver keys.
+#![tactic(auto)]
+
+mod act;
+mod answer;
+mod command;
+mod failure;
+mod files;
+#[cfg(test)]
+mod tests;
+
+use std::process::ExitCode;
+use std::{env, io};
+
+fn main(rt: HostRuntime) -> ExitCode {
+    let mut words = Vec::new(rt.alloc());
+    let Ok(given) = env::args(&rt) else {
+        return ExitCode::from(act::MEMORY);
+    };
+    for word in given.skip(1) {
+        if words.push(word).is_err() {
+            return ExitCode::from(act::MEMORY);
+        }
+    }
+    let mut out = rt.stdout();
+    let mut err = rt.stderr();
+    let status = act::run(&rt, words.as_slice(), &mut out, &mut err);
+    ExitCode::from(status)
+}

@@ -1,0 +1,7 @@
+use Rattle.std.proofs.Common.{take}
+use Rattle.solverkeys.specs.GraphKeys.{TakesKeys}
+use Rattle.solverkeys.proofs.graph.inputs_of.Given as goal
+
+-- the edges so far have their keys
+abbrev pub invariant-loop-number : goal.invariant-loop-number
+invariant-loop-number l = TakesKeys l.keys (take l.number-index l.edges) l.inputs.items
