@@ -1,7 +1,7 @@
 //! What the program answers for a file.
 ghost use Rattle.std.specs.Prelude.{◌≡◌, IfOk, OnOk, List, ◌++◌, take};
 ghost use Rattle.std.specs.String.{string_bytes};
-ghost use Rattle.farmctl.specs.Answers.{check_text, key_line};
+ghost use Rattle.farmctl.specs.Answers.{result_text, check_text, key_line};
 
 use super::command::Command;
 use super::failure::Failure;
@@ -10,14 +10,29 @@ use opsproto::{OpRefusal, read_definition};
 use std::alloc::{AllocError, Global};
 use vertices::{Graph, LoadRefusal, load};
 
+/// The line of a graph whose result is an output of a vertex of this digest.
+fn result_line(alloc: Global, len: usize, digest: &Digest, index: u64) -> Result<String, AllocError>
+    ensures { IfOk result (λ text. string_bytes text ≡ result_text len digest.now index) }
+{
+    let len = len.to_string(alloc)?;
+    let digest = digest.to_text(alloc)?;
+    let index = index.to_string(alloc)?;
+    let mut text = String::from_str(alloc, "vertices ")?;
+    text.push_str(len.as_str())?;
+    text.push_str(" result ")?;
+    text.push_str(digest.as_str())?;
+    text.push(' ')?;
+    text.push_str(index.as_str())?;
+    text.push('\n')?;
+    Ok(text)
+}
+
 /// How many vertices the graph has, and its result.
 fn checked(alloc: Global, graph: &Graph) -> Result<String, AllocError>
     ensures { IfOk result (λ text. string_bytes text ≡ check_text graph.now) }
 {
     let (number, index) = graph.result();
-    let digest = graph.vertex(number).digest.to_text(alloc)?;
-    let len = graph.len();
-    format!(in alloc; "vertices {len} result {digest} {index}\n")
+    result_line(alloc, graph.len(), &graph.vertex(number).digest, index)
 }
 
 /// Adds the line of a vertex.

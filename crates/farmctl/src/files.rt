@@ -3,6 +3,7 @@
 use opsproto::LIMIT;
 use std::alloc::Global;
 use std::io::Read;
+use std::rt::Files;
 use std::{fs, io};
 
 /// The bytes of a reader, up to one past the limit of an input. `None` where it can't be read.

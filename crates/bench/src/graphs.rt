@@ -1,0 +1,174 @@
+//! Definitions that are made to be measured.
+
+use farm_base::{Digest, Items, Text};
+use opsproto::{Definition, ExecOp, Input, Meta, Mount, Op, write_definition, write_op};
+use protowire::put_bytes;
+use sha2::Sha256;
+use std::alloc::{AllocError, Global};
+
+type Entries = Vec<Items<u8>>;
+
+fn text(alloc: Global, text: &str) -> Result<Text, AllocError> {
+    Ok(Text::new(String::from_str(alloc, text)?))
+}
+
+/// A bind mount at the root, of the first input if there is one.
+fn root(alloc: Global, input: i64) -> Result<Mount, AllocError> {
+    Ok(Mount {
+        input,
+        selector: text(alloc, "")?,
+        dest: text(alloc, "/")?,
+        output: 0,
+        readonly: false,
+        mount_type: 0,
+        cache: None,
+    })
+}
+
+fn command(alloc: Global, number: usize, padding: &str) -> Result<Meta, AllocError> {
+    let script = format!(in alloc;
+        "make step-{number} && install --mode 0755 out/step-{number} /usr/local/bin {padding}"
+    )?;
+    Ok(Meta {
+        args: Items::new(vec![in alloc;
+            text(alloc, "/bin/sh")?,
+            text(alloc, "-c")?,
+            Text::new(script),
+        ]?),
+        env: Items::new(vec![in alloc; text(alloc, "PATH=/usr/local/sbin:/usr/local/bin")?]?),
+        cwd: text(alloc, "/src")?,
+        user: text(alloc, "")?,
+    })
+}
+
+/// An exec vertex that takes the first output of each of these.
+fn step(
+    alloc: Global,
+    number: usize,
+    inputs: &[&Digest],
+    padding: &str,
+) -> Result<Vec<u8>, AllocError> {
+    let mut named = Vec::new(alloc);
+    for digest in inputs {
+        named.push(Input {
+            digest: Text::new(digest.to_text(alloc)?),
+            index: 0,
+        })?;
+    }
+    let input = if inputs.is_empty() { -1 } else { 0 };
+    let exec = ExecOp {
+        meta: Some(command(alloc, number, padding)?),
+        mounts: Items::new(vec![in alloc; root(alloc, input)?]?),
+        network: 0,
+        security: 0,
+    };
+    write_op(alloc, &Op::exec(alloc, named, &exec)?)
+}
+
+fn digest_of(bytes: &[u8]) -> Digest {
+    Digest(<Sha256 as sha2::Digest>::digest(bytes))
+}
+
+/// The entry whose first input is the result.
+fn result(alloc: Global, digest: &Digest) -> Result<Vec<u8>, AllocError> {
+    let mut input = Vec::new(alloc);
+    let digest = digest.to_text(alloc)?;
+    put_bytes(&mut input, 1, digest.as_bytes())?;
+    let mut entry = Vec::new(alloc);
+    put_bytes(&mut entry, 1, &input)?;
+    Ok(entry)
+}
+
+fn written(alloc: Global, entries: Entries, metadata: bool) -> Result<Vec<u8>, AllocError> {
+    let sizes = entries.len();
+    let definition = Definition {
+        def: Items::new(entries),
+    };
+    let mut bytes = write_definition(alloc, &definition)?;
+    if metadata {
+        let body = [7u8; 440];
+        for _ in 0..sizes {
+            put_bytes(&mut bytes, 2, &body)?;
+        }
+    }
+    Ok(bytes)
+}
+
+/// A chain of vertices, each of which takes the one before; with metadata of twice their size if asked.
+pub fn chain(alloc: Global, count: usize, metadata: bool) -> Result<Vec<u8>, AllocError> {
+    let mut entries = Vec::new(alloc);
+    let mut last = digest_of(b"");
+    for number in 0..count {
+        let entry = if number == 0 {
+            step(alloc, number, &[], "")?
+        } else {
+            step(alloc, number, &[&last], "")?
+        };
+        last = digest_of(&entry);
+        entries.push(Items::new(entry))?;
+    }
+    entries.push(Items::new(result(alloc, &last)?))?;
+    written(alloc, entries, metadata)
+}
+
+/// A vertex that takes all of so many others.
+pub fn wide(alloc: Global, count: usize) -> Result<Vec<u8>, AllocError> {
+    let mut entries = Vec::new(alloc);
+    let mut digests = Vec::new(alloc);
+    for number in 0..count {
+        let entry = step(alloc, number, &[], "")?;
+        digests.push(digest_of(&entry))?;
+        entries.push(Items::new(entry))?;
+    }
+    let mut inputs = Vec::new(alloc);
+    for digest in &digests {
+        inputs.push(digest)?;
+    }
+    let entry = step(alloc, count, &inputs, "")?;
+    let last = digest_of(&entry);
+    entries.push(Items::new(entry))?;
+    entries.push(Items::new(result(alloc, &last)?))?;
+    written(alloc, entries, false)
+}
+
+/// Vertices each of which takes the two before.
+pub fn diamonds(alloc: Global, count: usize) -> Result<Vec<u8>, AllocError> {
+    let mut entries = Vec::new(alloc);
+    let mut last = digest_of(b"");
+    let mut before = digest_of(b"");
+    for number in 0..count {
+        let entry = if number == 0 {
+            step(alloc, number, &[], "")?
+        } else if number == 1 {
+            step(alloc, number, &[&last], "")?
+        } else {
+            step(alloc, number, &[&last, &before], "")?
+        };
+        before = last;
+        last = digest_of(&entry);
+        entries.push(Items::new(entry))?;
+    }
+    entries.push(Items::new(result(alloc, &last)?))?;
+    written(alloc, entries, false)
+}
+
+/// A chain of vertices of a mebibyte.
+pub fn large(alloc: Global, count: usize) -> Result<Vec<u8>, AllocError> {
+    let mut padding = String::new(alloc);
+    for _ in 0..65_000 {
+        padding.push_str("0123456789abcdef")?;
+    }
+    let mut entries = Vec::new(alloc);
+    let mut last = digest_of(b"");
+    for number in 0..count {
+        let entry = if number == 0 {
+            step(alloc, number, &[], padding.as_str())?
+        } else {
+            step(alloc, number, &[&last], padding.as_str())?
+        };
+        last = digest_of(&entry);
+        entries.push(Items::new(entry))?;
+    }
+    entries.push(Items::new(result(alloc, &last)?))?;
+    written(alloc, entries, false)
+}

@@ -1,0 +1,79 @@
+//! Loading a definition and its solver keys against hashing just what they need.
+
+use super::clock::{ROUNDS, seconds_since};
+use super::graphs::{chain, diamonds, large, wide};
+use opsproto::read_definition;
+use sha2::Sha256;
+use std::alloc::Global;
+use std::rt::Clock;
+use std::time::Instant;
+use vertices::{Graph, load};
+
+fn graph_of(alloc: Global, bytes: &[u8]) -> anyhow::Result<Graph> {
+    Ok(load(alloc, read_definition(alloc, bytes)?)?)
+}
+
+/// The least time from the bytes to the keys.
+fn solving<R: Clock + AllocGlobal>(rt: &R, bytes: &[u8]) -> anyhow::Result<f64> {
+    let mut least = f64::INFINITY;
+    for _ in 0..ROUNDS {
+        let start = Instant::now(rt)?;
+        let graph = graph_of(rt.alloc(), bytes)?;
+        let _keys = solverkeys::keys(rt.alloc(), &graph)?;
+        least = least.min(seconds_since(rt, start));
+    }
+    Ok(least)
+}
+
+/// The least time of hashing what the keys need: each op's bytes, its stripped bytes, and its key's message.
+fn hashing<R: Clock + AllocGlobal>(rt: &R, bytes: &[u8]) -> anyhow::Result<f64> {
+    let definition = read_definition(rt.alloc(), bytes)?;
+    let graph = graph_of(rt.alloc(), bytes)?;
+    let message = vec![in rt.alloc(); 1u8; 33 + 40 * 16_000]?;
+    let mut least = f64::INFINITY;
+    for _ in 0..ROUNDS {
+        let start = Instant::now(rt)?;
+        for entry in definition.def.as_slice() {
+            let _digest = <Sha256 as sha2::Digest>::digest(entry.as_slice());
+        }
+        for number in 0..graph.len() {
+            let inputs = graph.inputs_of(number).len().min(16_000);
+            let _stripped = <Sha256 as sha2::Digest>::digest(graph.vertex(number).op.stripped());
+            let _key = <Sha256 as sha2::Digest>::digest(&message[..33 + 40 * inputs]);
+        }
+        least = least.min(seconds_since(rt, start));
+    }
+    Ok(least)
+}
+
+fn print<R: Print + Clock + AllocGlobal>(rt: &R, name: &str, bytes: &[u8]) -> anyhow::Result<f64> {
+    let size = f64::from(u32::try_from(bytes.len()).unwrap_or(u32::MAX));
+    let solve = solving(rt, bytes)?;
+    let hash = hashing(rt, bytes)?;
+    let millis = solve * 1e3;
+    let speed = size / solve / 1e6;
+    let ratio = solve / hash;
+    println!(rt;
+        "keys {name}, {size:.0} bytes: {millis:.1} ms, {speed:.0} MB/s, {ratio:.2} of the hashing"
+    )?;
+    Ok(solve)
+}
+
+/// Prints, for chains of 4,000, 16,000 and 64,000 vertices, a wide and a diamond graph of 16,000, and 16
+/// vertices of a mebibyte, the time, and its ratio to the hashing that the keys need.
+pub fn measure<R: Print + Clock + AllocGlobal>(rt: &R) -> anyhow::Result<()> {
+    let short = print(rt, "a chain of 4,000", &chain(rt.alloc(), 4_000, false)?)?;
+    print(rt, "a chain of 16,000", &chain(rt.alloc(), 16_000, false)?)?;
+    let long = print(rt, "a chain of 64,000", &chain(rt.alloc(), 64_000, false)?)?;
+    let growth = long / short / 16.0;
+    println!(rt; "growth for a vertex from 4,000 to 64,000: {growth:.2}")?;
+    print(
+        rt,
+        "a chain of 23,000 with metadata",
+        &chain(rt.alloc(), 23_000, true)?,
+    )?;
+    print(rt, "a wide graph of 16,000", &wide(rt.alloc(), 16_000)?)?;
+    print(rt, "diamonds of 16,000", &diamonds(rt.alloc(), 16_000)?)?;
+    print(rt, "16 vertices of a mebibyte", &large(rt.alloc(), 16)?)?;
+    Ok(())
+}
