@@ -14,8 +14,9 @@ use super::exec::{CacheOpt, ExecOp, Meta, Mount};
 use super::fields::Bytes;
 use super::input::Input;
 use super::op::{Kind, Op};
-use super::put::{put_body, put_bool, put_int32, put_int64, put_text, put_texts};
+use super::put::{put_bool, put_int32, put_int64, put_text, put_texts};
 use super::read::DEF;
+use protowire::put_message;
 use std::alloc::{AllocError, Global};
 
 #[tactic(auto, using(crate::proofs::PutLemmas::writes))]
@@ -46,7 +47,7 @@ fn put_cache(alloc: Global, out: &mut Vec<u8>, cache: &Option<CacheOpt>) -> Resu
     ensures valid { OnOk result (IfSome cache.now IsCache) }
 {
     match cache {
-        Some(cache) => put_body(out, 20, &cache_bytes(alloc, cache)?),
+        Some(cache) => put_message(out, 20, &cache_bytes(alloc, cache)?),
         None => Ok(()),
     }
 }
@@ -107,7 +108,7 @@ fn put_meta(alloc: Global, out: &mut Vec<u8>, meta: &Option<Meta>) -> Result<(),
     ensures valid { OnOk result (IfSome meta.now IsMeta) }
 {
     match meta {
-        Some(meta) => put_body(out, 1, &meta_bytes(alloc, meta)?),
+        Some(meta) => put_message(out, 1, &meta_bytes(alloc, meta)?),
         None => Ok(()),
     }
 }
@@ -118,7 +119,7 @@ fn put_mounts(alloc: Global, out: &mut Vec<u8>, mounts: &[Mount]) -> Result<(), 
     ensures valid { OnOk result (AllByRecursion IsMount mounts.now) }
 {
     for mount in mounts {
-        put_body(out, 2, &mount_bytes(alloc, mount)?)?;
+        put_message(out, 2, &mount_bytes(alloc, mount)?)?;
     }
     Ok(())
 }
@@ -129,7 +130,7 @@ fn put_inputs(alloc: Global, out: &mut Vec<u8>, inputs: &[Input]) -> Result<(), 
     ensures valid { OnOk result (AllByRecursion IsInput inputs.now) }
 {
     for input in inputs {
-        put_body(out, 1, &input_bytes(alloc, input)?)?;
+        put_message(out, 1, &input_bytes(alloc, input)?)?;
     }
     Ok(())
 }
@@ -174,7 +175,7 @@ fn put_entries(out: &mut Vec<u8>, entries: &[Bytes]) -> Result<(), AllocError>
     ensures valid { OnOk result (AllByRecursion IsBody entries.now) }
 {
     for entry in entries {
-        put_body(out, DEF, entry.as_slice())?;
+        put_message(out, DEF, entry.as_slice())?;
     }
     Ok(())
 }
