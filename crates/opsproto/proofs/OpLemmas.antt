@@ -1,6 +1,6 @@
 -- The bytes of an op without its inputs are an op of the same kind.
-use Rattle.std.proofs.Common.{◌≡◌, ℕ, Bool, true, false, cond, eqb, not, List, [], ◌∷◌, ◌++◌, map, Option, Some, None, Result, Ok, Err, refl, sym, ap, subst, ◌∙◌, inl, inr}
-use Rattle.std.specs.Prelude.{filter, filter_map}
+use Rattle.std.proofs.Common.{◌≡◌, ℕ, Bool, eqb, List, [], ◌∷◌, None, Ok, refl, ap, subst, ◌∙◌, inl, inr}
+use Rattle.std.specs.Prelude.{filter_map}
 use Rattle.std.specs.List.{AllByRecursion}
 use Rattle.std.proofs.lemmas.Bool.{cases_Bool, eqb-true}
 use Rattle.protowire.specs.declared.refusal.WireRefusal.{WireRefusal}
@@ -9,10 +9,7 @@ use Rattle.protowire.specs.Reading.{◌>>=◌, fields_of}
 use Rattle.protowire.specs.Lookups.{Member, member_in, bodies, last_run, last_member}
 use Rattle.protowire.proofs.Bind.{bind_ok, ok_is}
 use Rattle.protowire.proofs.FieldLaws.{fields_took, fields_again}
-use Rattle.opsproto.specs.declared.refusal.OpRefusal.{OpRefusal}
 use Rattle.opsproto.specs.declared.op.Kind.{Kind}
-use Rattle.opsproto.specs.declared.input.Input.{Input}
-use Rattle.opsproto.specs.Refusals.{wire}
 use Rattle.opsproto.specs.Scalars.{Text}
 use Rattle.opsproto.specs.Reading.{says, each_of, input_of}
 use Rattle.opsproto.specs.Ops.{OpParts, members, kind_of, kept, op_of, kind_checked, op_checked, op_read, IsOp}
@@ -29,7 +26,7 @@ kept_bodies (f ∷ fs) =
       | inr e ↦ rw (e, e) (kept_bodies fs)
     ]
 
-no_member : (e : Entry) → e.number ≡ 1 → member_in members e ≡ None
+pub no_member : (e : Entry) → e.number ≡ 1 → member_in members e ≡ None
 no_member e h = rw h refl
 
 kept_members : (fs : List Spelled) → filter_map (member_in members) (says (kept fs)) ≡ filter_map (member_in members) (says fs)
@@ -80,12 +77,12 @@ op_took text op e =
     let c = bind_ok (kind_of (last_member members (says a.0))) (λ kind. Ok (record { inputs = b.0; kind = kind; stripped = message (kept a.0) })) op b.2 in
     let made : OpParts = record { inputs = b.0; kind = c.0; stripped = message (kept a.0) } in
     subst (λ (x : OpParts). OpTook text x) (ok_is {E = WireRefusal} made op c.2)
-      (record { fields = a.0; are = fields_took text a.0 a.1; inputs = b.1; kind = c.1; stripped = refl })
+    (record { fields = a.0; are = fields_took text a.0 a.1; inputs = b.1; kind = c.1; stripped = refl })
 
 pub is_op : (text : List ℕ) (op : OpParts) (kind : Kind Text) → op_of text ≡ Ok op → kind_checked op.kind ≡ Ok kind → IsOp op.stripped kind
 unfolding op_read op_checked
 is_op text op kind e checked =
     let t = op_took text op e in
     let alone : op_of op.stripped ≡ Ok (record { inputs = []; kind = op.kind; stripped = op.stripped }) =
-        rw t.stripped (stripped_read t.fields op.kind t.are.each t.kind) in
+    rw t.stripped (stripped_read t.fields op.kind t.are.each t.kind) in
     rw (alone, checked) refl

@@ -1,5 +1,5 @@
 -- What fields say, seen through their spelling or not.
-use Rattle.std.proofs.Common.{◌≡◌, ℕ, zero, suc, ◌<◌, ◌≤◌, length, get_or, arith, List, [], ◌∷◌, map, ◌++◌, Bor, Some, None, Result, Ok, Err, refl, ap}
+use Rattle.std.proofs.Common.{◌≡◌, ℕ, zero, suc, ◌<◌, ◌≤◌, length, get_or, arith, List, [], ◌∷◌, ◌++◌, Some, None, Result, Ok, refl, ap}
 use Rattle.std.specs.Prelude.{unwrap_or}
 use Rattle.std.specs.List.{last_or}
 use Rattle.protowire.specs.declared.refusal.WireRefusal.{WireRefusal}
@@ -9,8 +9,8 @@ use Rattle.protowire.specs.Lookups.{bodies}
 use Rattle.opsproto.specs.Scalars.{text_in}
 use Rattle.protowire.specs.declared.field.Field.{Field}
 use Rattle.protowire.specs.declared.field.Value.TheVariants as held
-use Rattle.protowire.specs.Seen.{entry, entries, spelled, spelled_all, StandInRow}
-use Rattle.opsproto.specs.Reading.{says, bodies_now, each_of}
+use Rattle.protowire.specs.Seen.{entry, entries, spelled_all, StandInRow}
+use Rattle.opsproto.specs.Reading.{says}
 
 pub says_spelled : (message : List ℕ) (fs : List Field) → says (spelled_all message fs) ≡ entries fs
 says_spelled message [] = refl
@@ -47,7 +47,6 @@ row_within from (f ∷ fs) to zero d row lt = record { begins = omega (arith, ro
 row_within from (f ∷ fs) to (suc i) d row lt =
     let w = row_within f.end fs to i d row.2 (omega arith) in
     record { begins = omega (arith, row.0, row.1, w.begins); rises = w.rises; ends = w.ends }
-
 
 -- what a loop reads past the end
 abbrev pub no_field : Field

@@ -1,5 +1,5 @@
 -- Texts that are UTF-8, one after the other.
-use Rattle.std.proofs.Common.{◌≡◌, ℕ, ◌+◌, ◌<◌, ◌≤◌, Bool, true, false, cond, List, [], ◌∷◌, ◌++◌, length, get_or, drop, Result, Ok, Err, refl, sym, ap, ◌∙◌, append_assoc, arith}
+use Rattle.std.proofs.Common.{◌≡◌, ℕ, ◌+◌, ◌<◌, ◌≤◌, List, [], ◌∷◌, ◌++◌, length, get_or, drop, Result, Ok, Err, refl, sym, ap, ◌∙◌, append_assoc}
 use Rattle.std.specs.Str.{IsUtf8, is_utf8}
 use Rattle.std.proofs.lemmas.Str.{IsUtf8-from_is_utf8, is_utf8-from_IsUtf8}
 use Rattle.std.proofs.lemmas.Bool.{false_from_ne_true}
@@ -31,7 +31,7 @@ module _ {X : Type 0} (check : X → Result X OpRefusal) where
       → with_front front (each_checked check (drop n all)) ≡ total → with_front (front ++ y ∷ []) (each_checked check (drop (n + 1) all)) ≡ total
   goes_on front all n x y total lt item passed so_far =
       let one : with_front front (each_checked check (drop n all)) ≡ with_front (front ++ y ∷ []) (each_checked check (drop (n + 1) all)) =
-          rw (next_is all n x lt item, passed) (regroup front y (each_checked check (drop (n + 1) all))) in
+      rw (next_is all n x lt item, passed) (regroup front y (each_checked check (drop (n + 1) all))) in
       sym one ∙ so_far
 
   pub stops : (front : List X) (all : List X) (n : ℕ) (x : X) (e : OpRefusal) (total : Result (List X) OpRefusal) → n < length all → x ≡ get_or all n x → check x ≡ Err e

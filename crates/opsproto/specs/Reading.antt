@@ -1,6 +1,6 @@
 -- What the bytes of a message mean (ops.proto), before anything is asked of its texts. The first fault
 -- decides: the message's own form, then its fields in this order.
-use Rattle.std.specs.Prelude.{ℕ, ◌==◌, if◌then◌else◌, List, [], ◌∷◌, map, Option, Some, None, Result, Ok, Err}
+use Rattle.std.specs.Prelude.{ℕ, List, [], ◌∷◌, map, Option, Some, None, Result, Ok}
 use Rattle.std.specs.Borrow.{Bor}
 use Rattle.protowire.specs.declared.refusal.WireRefusal.{WireRefusal}
 use Rattle.protowire.specs.Fields.{Entry, Spelled}

@@ -1,5 +1,5 @@
 -- What a message's fields say of one number (proto3 encoding).
-use Rattle.std.specs.Prelude.{ℕ, ℤ, ◌%◌, ◌^◌, Bool, not, ◌==◌, List, [], Option, None, unwrap_or}
+use Rattle.std.specs.Prelude.{ℕ, ℤ, ◌%◌, ◌^◌, Bool, not, ◌==◌, List, [], None, unwrap_or}
 use Rattle.std.specs.List.{last_or}
 use Rattle.std.specs.Int.{w32, w64, cast_signed}
 use Rattle.protowire.specs.Fields.{Entry}

@@ -1,10 +1,8 @@
 -- What is written: the known fields by rising number, in their shortest spellings. Numbers, bools and
 -- strings at their default are left out (proto3 encoding).
-use Rattle.std.specs.Prelude.{◌≡◌, ℕ, ℤ, ◌<◌, ◌^◌, Bool, ◌==◌, if◌then◌else◌, List, [], ◌∷◌, ◌++◌, length, map, Option, Some, None, FitsSigned, IfSome}
-use Rattle.std.specs.List.{flat_map, AllByRecursion}
+use Rattle.std.specs.Prelude.{ℕ, ℤ, Bool, ◌==◌, if◌then◌else◌, List, [], ◌∷◌, ◌++◌, map, Option, Some, None}
 use Rattle.std.specs.Option.{option_map}
-use Rattle.std.specs.Str.{IsUtf8}
-use Rattle.std.specs.Int.{w32, w64, cast_unsigned}
+use Rattle.std.specs.Int.{w64, cast_unsigned}
 use Rattle.protowire.specs.Fields.{Spelled, message}
 use Rattle.protowire.specs.Writing.{spelled_varint, spelled_bytes}
 use Rattle.opsproto.specs.declared.input.Input.{Input}

@@ -9,7 +9,11 @@ use Rattle.opsproto.specs.declared.exec.Mount.{Mount}
 use Rattle.opsproto.specs.declared.exec.Meta.{Meta}
 use Rattle.opsproto.specs.declared.exec.ExecOp.{ExecOp}
 use Rattle.opsproto.specs.Scalars.{Text}
-use Rattle.opsproto.specs.Writing.{input_text, cache_text, mount_text, meta_text}
+use Rattle.opsproto.specs.Writing.{input_text, cache_text, mount_text, meta_text, exec_text}
+
+-- it fits memory
+abbrev pub IsBody : List ℕ → Type 0
+IsBody body = length body < 2 ^ 64
 
 pub record IsText (text : Text) : Type 0 where
   pub utf8 : IsUtf8 text
@@ -46,3 +50,4 @@ pub record IsExec (e : ExecOp Text) : Type 0 where
   pub mounts : AllByRecursion IsMount e.mounts
   pub network : FitsSigned w32 e.network
   pub security : FitsSigned w32 e.security
+  pub size : length (exec_text e) < 2 ^ 64

@@ -4,7 +4,7 @@ ghost use Rattle.protowire.specs.Seen.{entries};
 ghost use Rattle.protowire.specs.Reading.{Gives};
 ghost use Rattle.protowire.specs.Lookups.{bodies};
 ghost use Rattle.opsproto.specs.Scalars.{int64_in, int32_in, bool_in, text_in};
-ghost use Rattle.opsproto.specs.Reading.{entries_of};
+ghost use Rattle.opsproto.specs.Reading.{bodies_now, entries_of};
 
 use farm_base::Items;
 use protowire::{Field, Value, WireRefusal};
@@ -24,7 +24,9 @@ pub(crate) fn fields(alloc: Global, message: &[u8]) -> Result<Vec<Field<'_>>, Wi
 pub(crate) fn int64_in(fields: &[Field<'_>], number: u32) -> i64
     ensures { result ≡ int64_in number (entries fields.now) }
 {
-    protowire::last_varint(fields, number).unwrap_or(0).cast_signed()
+    protowire::last_varint(fields, number)
+        .unwrap_or(0)
+        .cast_signed()
 }
 
 pub(crate) fn int32_in(fields: &[Field<'_>], number: u32) -> i32
@@ -55,13 +57,23 @@ pub(crate) fn text_in(alloc: Global, fields: &[Field<'_>], number: u32) -> Resul
 }
 
 /// The strings of this number.
-pub(crate) fn texts_in(alloc: Global, fields: &[Field<'_>], number: u32) -> Result<Items<Bytes>, AllocError>
+pub(crate) fn texts_in(
+    alloc: Global,
+    fields: &[Field<'_>],
+    number: u32,
+) -> Result<Items<Bytes>, AllocError>
     ensures { IfOk result (λ texts. texts ≡ bodies number (entries fields.now)) }
 {
-    let bodies = protowire::bodies(alloc, fields, number)?;
-    let mut texts = Vec::with_capacity(alloc, bodies.len())?;
-    for body in &bodies {
-        texts.push(Items::new(Vec::from_slice(alloc, body)?))?;
+    owned(alloc, &protowire::bodies(alloc, fields, number)?)
+}
+
+/// The bodies, copied.
+pub(crate) fn owned(alloc: Global, bodies: &[&[u8]]) -> Result<Items<Bytes>, AllocError>
+    ensures { IfOk result (λ copies. copies ≡ bodies_now bodies.now) }
+{
+    let mut copies = Vec::with_capacity(alloc, bodies.len())?;
+    for body in bodies {
+        copies.push(Items::new(Vec::from_slice(alloc, body)?))?;
     }
-    Ok(Items::new(texts))
+    Ok(Items::new(copies))
 }

@@ -20,3 +20,4 @@ pub use input::Input;
 pub use op::{Kind, Op};
 pub use read::{ENTRIES, LIMIT, read_definition, read_op};
 pub use refusal::OpRefusal;
+pub use write::{write_definition, write_exec, write_op};

@@ -3,6 +3,8 @@ ghost use Rattle.std.specs.Prelude.{◌≡◌, IfOk};
 use super::exec::ExecOp;
 use super::fields::Bytes;
 use super::input::Input;
+use super::raw::EXEC;
+use super::write::write_exec;
 use farm_base::{Copied, Items, Text};
 use std::alloc::{AllocError, Global};
 use std::marker::Model;
@@ -37,6 +39,8 @@ impl Model for Op {
 
 impl Op {
     ghost use Rattle.opsproto.specs.Ops.{IsOp};
+    ghost use Rattle.opsproto.specs.Writing.{exec_text};
+    ghost use Rattle.protowire.specs.Writing.{bytes_field};
 
     pub(crate) fn new(inputs: Items<Input>, kind: Kind, stripped: Bytes) -> Self
         requires { IsOp stripped kind }
@@ -47,6 +51,19 @@ impl Op {
             kind,
             stripped,
         }
+    }
+
+    /// An op that runs a command. Its stripped bytes are the exec op alone.
+    pub fn exec(alloc: Global, inputs: Vec<Input>, exec: &ExecOp) -> Result<Self, AllocError>
+        ensures inputs { IfOk result (λ op. op.inputs ≡ inputs.items) }
+        ensures kind { IfOk result (λ op. op.kind ≡ Kind.Exec exec.now) }
+        ensures stripped { IfOk result (λ op. op.stripped ≡ bytes_field 2 (exec_text exec.now)) }
+    {
+        let body = write_exec(alloc, exec)?;
+        let mut stripped = Vec::new(alloc);
+        protowire::put_message(&mut stripped, EXEC, &body)?;
+        let kind = Kind::Exec(exec.copy(alloc)?);
+        Ok(Op::new(Items::new(inputs), kind, Items::new(stripped)))
     }
 
     pub fn inputs(&self) -> &[Input]
@@ -63,7 +80,8 @@ impl Op {
 
     /// The op's bytes without every field of its inputs' number.
     pub fn stripped(&self) -> &[u8]
-        ensures { result.now ≡ self.now.stripped }
+        ensures value { result.now ≡ self.now.stripped }
+        ensures kind { IsOp result.now self.now.kind }
     {
         self.stripped.as_slice()
     }
@@ -79,7 +97,7 @@ impl Copied for Kind {
     }
 }
 
-fn copied_bytes(alloc: Global, bytes: &Bytes) -> Result<Bytes, AllocError>
+pub(crate) fn copied_bytes(alloc: Global, bytes: &Bytes) -> Result<Bytes, AllocError>
     ensures { IfOk result (λ copy. copy ≡ bytes.now) }
 {
     Ok(Items::new(Vec::from_slice(alloc, bytes.as_slice())?))

@@ -53,17 +53,6 @@ pub(crate) fn put_bool(out: &mut Vec<u8>, number: u32, value: bool) -> Result<()
     put_number(out, number, u64::from(value))
 }
 
-/// Appends a body.
-pub(crate) fn put_body(out: &mut Vec<u8>, number: u32, body: &[u8]) -> Result<(), AllocError>
-    requires first { 1 ≤ number }
-    requires last { number < 2 ^ 29 }
-    ensures ok { OnOk result (out.new.items ≡ out.old.items ++ bytes_field number body.now) }
-    ensures size { length body.now < 2 ^ 64 }
-{
-    let _len = body.len();
-    protowire::put_message(out, number, body)
-}
-
 /// Appends a string, unless it is empty.
 #[tactic(auto, using(crate::proofs::PutLemmas::one_field), unfolding(crate::specs::Writing::text_fields))]
 pub(crate) fn put_text(out: &mut Vec<u8>, number: u32, text: &Text) -> Result<(), AllocError>
@@ -86,7 +75,7 @@ fn put_item(out: &mut Vec<u8>, number: u32, text: &Text) -> Result<(), AllocErro
     ensures ok { OnOk result (out.new.items ≡ out.old.items ++ bytes_field number text.now) }
     ensures valid { IsText text.now }
 {
-    put_body(out, number, text.as_str().as_bytes())
+    protowire::put_bytes(out, number, text.as_str().as_bytes())
 }
 
 /// Appends each string of a repeated field.

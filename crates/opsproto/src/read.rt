@@ -6,7 +6,7 @@ ghost use Rattle.opsproto.specs.Ops.{kind_checked, op_at};
 ghost use Rattle.opsproto.specs.Definitions.{definition_at};
 
 use super::definition::Definition;
-use super::fields::{Bytes, fields, texts_in};
+use super::fields::{Bytes, fields, owned};
 use super::op::{Kind, Op};
 use super::raw::raw_op;
 use super::refusal::OpRefusal;
@@ -55,9 +55,10 @@ pub fn read_definition(alloc: Global, bytes: &[u8]) -> Result<Definition, OpRefu
         return Err(OpRefusal::TooLarge);
     }
     let fields = fields(alloc, bytes)?;
-    let def = texts_in(alloc, &fields, DEF)?;
-    if def.as_slice().len() > ENTRIES {
+    let entries = protowire::bodies(alloc, &fields, DEF)?;
+    if entries.len() > ENTRIES {
         return Err(OpRefusal::TooLarge);
     }
+    let def = owned(alloc, &entries)?;
     Ok(Definition { def })
 }

@@ -74,7 +74,10 @@ fn meta_of(alloc: Global, message: &[u8]) -> Result<Meta<Bytes>, WireRefusal>
     })
 }
 
-pub(crate) fn inputs_of(alloc: Global, messages: &[&[u8]]) -> Result<Items<Input<Bytes>>, WireRefusal>
+pub(crate) fn inputs_of(
+    alloc: Global,
+    messages: &[&[u8]],
+) -> Result<Items<Input<Bytes>>, WireRefusal>
     ensures { Gives (λ v. v) result (each_of input_of (bodies_now messages.now)) }
 {
     let mut inputs = Vec::with_capacity(alloc, messages.len())?;

@@ -107,7 +107,10 @@ fn mounts_checked(alloc: Global, mounts: Items<Mount<Bytes>>) -> Result<Items<Mo
     Ok(Items::new(checked))
 }
 
-pub(crate) fn inputs_checked(alloc: Global, inputs: Items<Input<Bytes>>) -> Result<Items<Input>, OpRefusal>
+pub(crate) fn inputs_checked(
+    alloc: Global,
+    inputs: Items<Input<Bytes>>,
+) -> Result<Items<Input>, OpRefusal>
     ensures { Gives (λ v. v) result (each_checked input_checked inputs) }
 {
     let inputs = inputs.into_vec();

@@ -4,11 +4,19 @@ ghost use Rattle.std.specs.List.{AllByRecursion};
 ghost use Rattle.std.specs.Option.{option_map};
 ghost use Rattle.protowire.specs.Fields.{message};
 ghost use Rattle.opsproto.specs.Writing.{end_fields, manner_fields, each_fields, optional_fields, input_text, cache_text, mount_text, meta_text, exec_text, op_text, definition_text};
-ghost use Rattle.opsproto.specs.Written.{IsText, IsInput, IsCache, IsMount, IsMeta, IsExec};
+ghost use Rattle.protowire.specs.Writing.{bytes_field};
+ghost use Rattle.opsproto.specs.Ops.{limit, op_at, IsOp};
+ghost use Rattle.opsproto.specs.Definitions.{most_entries, definition_at};
+ghost use Rattle.opsproto.specs.Written.{IsBody, IsText, IsInput, IsCache, IsMount, IsMeta, IsExec};
 
+use super::definition::Definition;
 use super::exec::{CacheOpt, ExecOp, Meta, Mount};
+use super::fields::Bytes;
 use super::input::Input;
-use super::put::{put_body, put_bool, put_int32, put_int64, put_text, put_texts};
+use super::op::{Kind, Op};
+use super::put::{put_bool, put_int32, put_int64, put_text, put_texts};
+use super::read::DEF;
+use protowire::put_message;
 use std::alloc::{AllocError, Global};
 
 #[tactic(auto, using(crate::proofs::PutLemmas::writes))]
@@ -39,7 +47,7 @@ fn put_cache(alloc: Global, out: &mut Vec<u8>, cache: &Option<CacheOpt>) -> Resu
     ensures valid { OnOk result (IfSome cache.now IsCache) }
 {
     match cache {
-        Some(cache) => put_body(out, 20, &cache_bytes(alloc, cache)?),
+        Some(cache) => put_message(out, 20, &cache_bytes(alloc, cache)?),
         None => Ok(()),
     }
 }
@@ -100,7 +108,7 @@ fn put_meta(alloc: Global, out: &mut Vec<u8>, meta: &Option<Meta>) -> Result<(),
     ensures valid { OnOk result (IfSome meta.now IsMeta) }
 {
     match meta {
-        Some(meta) => put_body(out, 1, &meta_bytes(alloc, meta)?),
+        Some(meta) => put_message(out, 1, &meta_bytes(alloc, meta)?),
         None => Ok(()),
     }
 }
@@ -111,7 +119,7 @@ fn put_mounts(alloc: Global, out: &mut Vec<u8>, mounts: &[Mount]) -> Result<(), 
     ensures valid { OnOk result (AllByRecursion IsMount mounts.now) }
 {
     for mount in mounts {
-        put_body(out, 2, &mount_bytes(alloc, mount)?)?;
+        put_message(out, 2, &mount_bytes(alloc, mount)?)?;
     }
     Ok(())
 }
@@ -122,7 +130,7 @@ fn put_inputs(alloc: Global, out: &mut Vec<u8>, inputs: &[Input]) -> Result<(), 
     ensures valid { OnOk result (AllByRecursion IsInput inputs.now) }
 {
     for input in inputs {
-        put_body(out, 1, &input_bytes(alloc, input)?)?;
+        put_message(out, 1, &input_bytes(alloc, input)?)?;
     }
     Ok(())
 }
@@ -137,5 +145,48 @@ fn exec_bytes(alloc: Global, exec: &ExecOp) -> Result<Vec<u8>, AllocError>
     put_mounts(alloc, &mut out, exec.mounts.as_slice())?;
     put_int32(&mut out, 3, exec.network)?;
     put_int32(&mut out, 4, exec.security)?;
+    Ok(out)
+}
+
+/// The body of an exec op: the known fields by rising number, in their shortest spellings, without
+/// numbers, bools and strings at their default.
+pub fn write_exec(alloc: Global, exec: &ExecOp) -> Result<Vec<u8>, AllocError>
+    ensures spelled { IfOk result (λ v. v.items ≡ exec_text exec.now) }
+    // As an op's field of this number it is read as the same exec op.
+    ensures read { IfOk result (λ v. IsOp (bytes_field 2 v.items) (Kind.Exec exec.now)) }
+{
+    exec_bytes(alloc, exec)
+}
+
+/// An op's bytes: its inputs, and then its stripped bytes.
+pub fn write_op(alloc: Global, op: &Op) -> Result<Vec<u8>, AllocError>
+    ensures spelled { IfOk result (λ v. v.items ≡ op_text op.now) }
+    ensures read { IfOk result (λ v. length v.items ≤ limit → op_at v.items ≡ Ok op.now) }
+{
+    let mut out = Vec::new(alloc);
+    put_inputs(alloc, &mut out, op.inputs())?;
+    out.extend_from_slice(op.stripped())?;
+    Ok(out)
+}
+
+#[tactic(auto, unfolding(crate::specs::Writing::each_fields))]
+fn put_entries(out: &mut Vec<u8>, entries: &[Bytes]) -> Result<(), AllocError>
+    ensures ok { OnOk result (out.new.items ≡ out.old.items ++ message (each_fields 1 entries.now)) }
+    ensures valid { OnOk result (AllByRecursion IsBody entries.now) }
+{
+    for entry in entries {
+        put_message(out, DEF, entry.as_slice())?;
+    }
+    Ok(())
+}
+
+/// A definition's bytes: its entries.
+pub fn write_definition(alloc: Global, definition: &Definition) -> Result<Vec<u8>, AllocError>
+    ensures spelled { IfOk result (λ v. v.items ≡ definition_text definition.now) }
+    ensures read { IfOk result (λ v. length v.items ≤ limit → length definition.now.def ≤ most_entries
+        → definition_at v.items ≡ Ok definition.now) }
+{
+    let mut out = Vec::new(alloc);
+    put_entries(&mut out, definition.def.as_slice())?;
     Ok(out)
 }

@@ -3,7 +3,7 @@ use Rattle.std.proofs.Common.{◌≡◌, ℕ, zero, suc, ◌+◌, ◌*◌, ◌/�
 use Rattle.std.proofs.lemmas.Bool.{cases_lt, lt-ltb, le-ltb}
 use Rattle.std.proofs.Math.Nat.{pow-suc}
 use Rattle.protowire.specs.Varints.{number_of, AreGroups, IsVarint}
-use Rattle.protowire.specs.Fields.{varint, bytes, IsField}
+use Rattle.protowire.specs.Fields.{IsField}
 use Rattle.protowire.specs.Writing.{minimal_in, minimal, spelled_varint, spelled_bytes}
 use Rattle.protowire.proofs.VarintLaws.{AreGroups-more}
 

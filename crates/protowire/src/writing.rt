@@ -32,9 +32,11 @@ fn push_bytes(out: &mut Vec<u8>, number: u32, body: &[u8]) -> Result<(), AllocEr
     requires { number < 2 ^ 29 }
     ensures ok { OnOk result (out.new.items ≡ out.old.items ++ bytes_field number body.now) }
     ensures front { take (length out.old.items) out.new.items ≡ out.old.items }
+    ensures size { length body.now < 2 ^ 64 }
 {
+    let size = body.len() as u64;
     push_number(out, 8 * u64::from(number) + 2)?;
-    push_number(out, body.len() as u64)?;
+    push_number(out, size)?;
     out.extend_from_slice(body)
 }
 
@@ -59,6 +61,7 @@ pub fn put_bytes(out: &mut Vec<u8>, number: u32, body: &[u8]) -> Result<(), Allo
     requires last { number < 2 ^ 29 }
     ensures ok { OnOk result (out.new.items ≡ out.old.items ++ bytes_field number body.now) }
     ensures err { OnErr result (out.new.items ≡ out.old.items) }
+    ensures size { length body.now < 2 ^ 64 }
 {
     let len = out.len();
     let pushed = push_bytes(out, number, body);
@@ -74,6 +77,7 @@ pub fn put_message(out: &mut Vec<u8>, number: u32, message: &[u8]) -> Result<(),
     requires last { number < 2 ^ 29 }
     ensures ok { OnOk result (out.new.items ≡ out.old.items ++ bytes_field number message.now) }
     ensures err { OnErr result (out.new.items ≡ out.old.items) }
+    ensures size { length message.now < 2 ^ 64 }
 {
     put_bytes(out, number, message)
 }

@@ -1,5 +1,4 @@
 use Rattle.std.proofs.Common.{length, arith}
-use Rattle.protowire.specs.declared.field.Field.{Field}
 use Rattle.opsproto.proofs.ReadingLemmas.{no_field, row_within}
 use Rattle.opsproto.proofs.raw.stripped.Goals as goal
 
