@@ -1,10 +1,17 @@
 -- What the program prints for a definition (this project's own).
-use Rattle.std.specs.Prelude.{ℕ, List, [], ◌∷◌, ◌++◌, length, codes, decimal, slice_get, Option, Some, None}
+use Rattle.std.specs.Prelude.{◌≡◌, ⊤, ℕ, List, [], ◌∷◌, ◌++◌, length, codes, decimal, slice_get, Option, Some, None, Ok, Err}
 use Rattle.farm_base.specs.declared.digest.Digest.{Digest}
 use Rattle.farm_base.specs.declared.digest.Key.{Key}
 use Rattle.farm_base.specs.Digests.{digest_text, key_text}
 use Rattle.vertices.specs.declared.vertex.Vertex.{Vertex}
-use Rattle.vertices.specs.Loading.{GraphParts}
+use Rattle.vertices.specs.Loading.{GraphParts, IsGraphOf, DefinitionCheck}
+use Rattle.opsproto.specs.declared.definition.Definition.{Definition}
+use Rattle.opsproto.specs.Definitions.{definition_at}
+use Rattle.solverkeys.specs.GraphKeys.{AreKeys}
+use Rattle.farmctl.specs.declared.command.Command.{Command}
+use Rattle.farmctl.specs.declared.command.Command.TheVariants.{Check, Keys}
+use Rattle.farmctl.specs.declared.failure.Failure.{Failure}
+use Rattle.farmctl.specs.declared.failure.Failure.TheVariants as failure
 
 -- `vertices N result DIGEST INDEX`
 abbrev pub result_text : ℕ → Digest → ℕ → List ℕ
@@ -27,3 +34,22 @@ abbrev pub keys_text : List Vertex → List Key → List ℕ
 keys_text [] ks = []
 keys_text (v ∷ vs) [] = []
 keys_text (v ∷ vs) (k ∷ ks) = key_line v.digest k ++ keys_text vs ks
+
+-- the bytes spell a definition whose graph this is
+abbrev pub SpellsGraph : List ℕ → GraphParts → Type 0
+SpellsGraph bytes g = (d : Definition) × (definition_at bytes ≡ Ok d) × IsGraphOf d.def g
+
+-- why they don't: the first refusal of the definition's bytes, or of its graph
+abbrev pub IsRefused : List ℕ → Failure → Type 0
+IsRefused bytes (failure.Read e) = definition_at bytes ≡ Err e
+IsRefused bytes (failure.Load e) = (d : Definition) × (definition_at bytes ≡ Ok d) × DefinitionCheck d.def (Some e)
+IsRefused bytes failure.Memory = ⊤
+
+-- what is printed of a graph
+abbrev pub IsPrinted : Command → GraphParts → List ℕ → Type 0
+IsPrinted Check g text = text ≡ check_text g
+IsPrinted Keys g text = (keys : List Key) × AreKeys g keys × (text ≡ keys_text g.vertices keys)
+
+-- what is printed for bytes
+abbrev pub IsAnswer : Command → List ℕ → List ℕ → Type 0
+IsAnswer command bytes text = (g : GraphParts) × SpellsGraph bytes g × IsPrinted command g text

@@ -1,7 +1,8 @@
 //! What the program answers for a file.
-ghost use Rattle.std.specs.Prelude.{◌≡◌, IfOk, OnOk, List, ◌++◌, take};
+ghost use Rattle.std.specs.Prelude.{◌≡◌, IfOk, IfErr, OnOk, List, ◌++◌, length};
 ghost use Rattle.std.specs.String.{string_bytes};
-ghost use Rattle.farmctl.specs.Answers.{result_text, check_text, key_line};
+ghost use Rattle.farmctl.specs.Answers.{result_text, check_text, key_line, keys_text, SpellsGraph, IsRefused, IsPrinted, IsAnswer};
+ghost use Rattle.farmctl.specs.declared.command.Command.TheVariants.{Keys};
 
 use super::command::Command;
 use super::failure::Failure;
@@ -47,19 +48,31 @@ fn push_key(alloc: Global, text: &mut String, digest: &Digest, key: &Key) -> Res
     text.push('\n')
 }
 
-fn listed(alloc: Global, graph: &Graph) -> Result<String, AllocError> {
-    let keys = solverkeys::keys(alloc, graph)?;
+/// The lines of a graph's vertices, given their keys.
+fn lines(alloc: Global, graph: &Graph, keys: &[Key]) -> Result<String, AllocError>
+    requires { length keys.now ≡ length graph.now.vertices }
+    ensures { IfOk result (λ text. string_bytes text ≡ keys_text graph.now.vertices keys.now) }
+{
     let mut text = String::new(alloc);
-    for (number, key) in keys.iter().enumerate() {
-        if number < graph.len() {
-            push_key(alloc, &mut text, &graph.vertex(number).digest, key)?;
-        }
+    for number in 0..graph.len() {
+        let digest = &graph.vertex(number).digest;
+        push_key(alloc, &mut text, digest, &keys[number])?;
     }
     Ok(text)
 }
 
+fn listed(alloc: Global, graph: &Graph) -> Result<String, AllocError>
+    ensures { IfOk result (λ text. IsPrinted Keys graph.now (string_bytes text)) }
+{
+    let keys = solverkeys::keys(alloc, graph)?;
+    lines(alloc, graph, keys.as_slice())
+}
+
 /// The graph that the bytes of a file spell.
-fn graph_of(alloc: Global, bytes: &[u8]) -> Result<Graph, Failure> {
+fn graph_of(alloc: Global, bytes: &[u8]) -> Result<Graph, Failure>
+    ensures found { IfOk result (SpellsGraph bytes.now) }
+    ensures refused { IfErr result (IsRefused bytes.now) }
+{
     match read_definition(alloc, bytes) {
         Err(OpRefusal::OutOfMemory) => Err(Failure::Memory),
         Err(refusal) => Err(Failure::Read(refusal)),
@@ -72,7 +85,10 @@ fn graph_of(alloc: Global, bytes: &[u8]) -> Result<Graph, Failure> {
 }
 
 /// The lines that the command prints for a file.
-pub fn answer(alloc: Global, command: Command, bytes: &[u8]) -> Result<String, Failure> {
+pub fn answer(alloc: Global, command: Command, bytes: &[u8]) -> Result<String, Failure>
+    ensures printed { IfOk result (λ text. IsAnswer command bytes.now (string_bytes text)) }
+    ensures refused { IfErr result (IsRefused bytes.now) }
+{
     let graph = graph_of(alloc, bytes)?;
     let text = match command {
         Command::Check => checked(alloc, &graph)?,
