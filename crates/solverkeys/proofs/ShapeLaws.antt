@@ -9,6 +9,10 @@ use Rattle.sha2.specs.Sha256.{sha256}
 use Rattle.sha2.proofs.Facts256.{length-sha256}
 use Rattle.farm_base.specs.declared.digest.Key.{Key}
 use Rattle.solverkeys.specs.Keys.{input_bytes, key_message}
+use Rattle.vertices.specs.declared.vertex.Vertex.{Vertex}
+use Rattle.vertices.specs.Edges.{list_at}
+use Rattle.vertices.specs.Loading.{GraphParts}
+use Rattle.solverkeys.specs.GraphKeys.{IsShapeOf, AreShapesOf}
 use Rattle.solverkeys.specs.Shapes.{Shape, vertex, Inputs, no_inputs, input, shape_key, input_keys, HasIndexes, InputsHaveIndexes, Hashes, InputsHash, ShowCollision}
 
 -- byte strings are one or two
@@ -114,3 +118,28 @@ mutual
 pub collision : (a b : Shape) → HasIndexes a → HasIndexes b → a ≢ b → shape_key a ≡ shape_key b → ShowCollision a b
 collision a b h k d e =
     elim (one_or_collision a b h k (ap (λ (key : Key). key.0.0) e)) [ inl same ↦ absurd (d same) | inr c ↦ c ]
+
+mutual
+  unfolding IsShapeOf
+
+  -- a vertex has one shape
+  pub one_shape : (g : GraphParts) (a b : Shape) (number : ℕ) → IsShapeOf g a number → IsShapeOf g b number → a ≡ b
+  one_shape g (vertex s i) (vertex t j) number h k =
+      let same : h.0 ≡ k.0 = let x = h.1 in let y = k.1 in cc (x, y) in
+      let stripped : s ≡ t = h.2 ∙ ap (λ (v : Vertex). v.op.stripped) same ∙ sym k.2 in
+      let inputs : i ≡ j = same_shapes g i j (list_at g.edges number) h.3 k.3 in
+      cc (stripped, inputs)
+
+  -- its inputs have one shape each
+  same_shapes : (g : GraphParts) (i j : Inputs) (edges : List (ℕ × ℕ)) → AreShapesOf g i edges → AreShapesOf g j edges → i ≡ j
+  same_shapes g no_inputs no_inputs edges h k = refl
+  same_shapes g no_inputs (input b n bs) [] h k = absurd k
+  same_shapes g no_inputs (input b n bs) (e ∷ edges) h k = absurd (cc h)
+  same_shapes g (input a m ones) no_inputs [] h k = absurd h
+  same_shapes g (input a m ones) no_inputs (e ∷ edges) h k = absurd (cc k)
+  same_shapes g (input a m ones) (input b n bs) [] h k = absurd h
+  same_shapes g (input a m ones) (input b n bs) (e ∷ edges) h k =
+      let first : a ≡ b = one_shape g a b e.0 h.0 k.0 in
+      let index : m ≡ n = h.1 ∙ sym k.1 in
+      let rest : ones ≡ bs = same_shapes g ones bs edges h.2 k.2 in
+      cc (first, index, rest)

@@ -1,10 +1,10 @@
 -- What an order says of walks, and how a cycle is found where no vertex is ready.
-use Rattle.std.proofs.Common.{◌≡◌, ℕ, zero, suc, zero-add, suc-add, ◌+◌, ◌<◌, ◌≤◌, ◌⊎◌, inl, inr, List, length, take, get_or, sym, ap, ◌∙◌, subst, arith, Some}
+use Rattle.std.proofs.Common.{add-one, ◌≡◌, ℕ, zero, suc, zero-add, suc-add, ◌+◌, ◌<◌, ◌≤◌, ◌⊎◌, inl, inr, List, refl, length, take, get_or, sym, ap, ◌∙◌, subst, arith, Some}
 use Rattle.std.specs.List.{Contains, slice_get}
-use Rattle.std.proofs.lemmas.Bool.{cases_eq}
-use Rattle.std.proofs.lemmas.List.{get_or-take, length-take-le}
+use Rattle.std.proofs.lemmas.Bool.{cases_eq, cases_lt}
+use Rattle.std.proofs.lemmas.List.{get_or-take, length-take-le, take_all, take_more_same}
 use Rattle.std.proofs.lemmas.Option.{slice_get-get_or, slice_get_within}
-use Rattle.vertices.specs.Orders.{TakesLowest, IsOrder, Walk, IsCyclic}
+use Rattle.vertices.specs.Orders.{IsReady, TakesLowest, IsOrder, Walk, IsCyclic}
 
 -- what stands among the first k stands at some place below k
 among_first : (xs : List ℕ) (k x : ℕ) → k ≤ length xs → Contains (take k xs) x → (j : ℕ) × (j < k) × (slice_get xs j ≡ Some x)
@@ -93,3 +93,37 @@ module _ (IsVertex : ℕ → Type 0) (IsInput : ℕ → ℕ → Type 0) where
         | inr apart ↦ cycle_among n T lower on place (s, apart)
         | inl same ↦ elim (past (subst S same s)) [ inr c ↦ c | inl (q, t, w) ↦ cycle_among n T lower on q t ]
       ]
+
+module _ (IsVertex : ℕ → Type 0) (IsInput : ℕ → ℕ → Type 0) where
+  -- two orders agree as far as the one goes
+  agree : (one other : List ℕ) → IsOrder IsVertex IsInput one → IsOrder IsVertex IsInput other → (k : ℕ) → k ≤ length one
+      → (k ≤ length other) × (take k one ≡ take k other)
+  agree one other h i zero le = (omega arith, refl)
+  agree one other h i (suc k) le =
+      let before = agree one other h i k (omega arith) in
+      let same = before.1 in
+      let x = get_or one k 0 in
+      let at : slice_get one k ≡ Some x = slice_get-get_or one k 0 (omega arith) in
+      let low = h.lowest k x at in
+      let within : k < length other = elim (cases_lt k (length other)) [
+        | inl less ↦ less
+        | inr more ↦
+            let all : take k other ≡ other = take_all k other more in
+            absurd (low.ready.new (subst (λ (xs : List ℕ). Contains xs x) (sym (same ∙ all)) (i.whole x low.ready.vertex)))
+      ] in
+      let y = get_or other k 0 in
+      let at_other : slice_get other k ≡ Some y = slice_get-get_or other k 0 within in
+      let low_other = i.lowest k y at_other in
+      let ready_x = subst (λ (xs : List ℕ). IsReady IsVertex IsInput xs x) same low.ready in
+      let ready_y = subst (λ (xs : List ℕ). IsReady IsVertex IsInput xs y) (sym same) low_other.ready in
+      let a = low.lowest y ready_y in
+      let b = low_other.lowest x ready_x in
+      let equal : x ≡ y = omega arith in
+      (omega arith, rw (← add-one) (take_more_same one other k 0 (omega arith) within same equal))
+
+  -- there is one order
+  pub one_order : (one other : List ℕ) → IsOrder IsVertex IsInput one → IsOrder IsVertex IsInput other → one ≡ other
+  one_order one other h i =
+      let a = agree one other h i (length one) (omega arith) in
+      let b = agree other one i h (length other) (omega arith) in
+      sym (take_all (length one) one (omega arith)) ∙ a.1 ∙ take_all (length one) other (let le = b.0 in omega arith)

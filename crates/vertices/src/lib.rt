@@ -6,6 +6,7 @@ mod edges;
 mod entries;
 mod execs;
 mod graph;
+mod laws;
 mod loading;
 mod ordering;
 mod reading;
@@ -15,6 +16,7 @@ mod vertex;
 
 pub use entries::order;
 pub use graph::Graph;
+pub use laws::order_is_determined;
 pub use loading::load;
 pub use refusal::{LoadRefusal, OrderRefusal};
 pub use vertex::Vertex;
