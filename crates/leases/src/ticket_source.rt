@@ -1,7 +1,8 @@
 ghost use Rattle.std.specs.Prelude.{◌≡◌, ◌+◌, ◌≤◌, ◌↔◌, IsErr, IfOk, OnOk, OnErr};
 ghost use Rattle.leases.specs.Tickets.{raised, advanced};
 
-use farm_base::Ticket;
+use farm_base::{Copied, Ticket};
+use std::alloc::{AllocError, Global};
 use std::marker::Model;
 use thiserror::Error;
 
@@ -80,5 +81,14 @@ impl TicketSource {
         self.position = ticket.0;
         self.ceiling = ceiling.0;
         Ok(ticket)
+    }
+}
+
+impl Copied for TicketSource {
+    fn copy(&self, _alloc: Global) -> Result<Self, AllocError> {
+        Ok(TicketSource {
+            position: self.position,
+            ceiling: self.ceiling,
+        })
     }
 }
