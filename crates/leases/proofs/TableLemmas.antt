@@ -1,6 +1,6 @@
 -- Leases that may be live together: one more, and some fewer.
-use Rattle.std.proofs.Common.{◌≡◌, ◌≢◌, ℕ, zero, suc, ◌+◌, ◌<◌, ◌≤◌, List, [], ◌∷◌, ◌++◌, ◌⊎◌, Bool, true, false, not, ◌&&◌, ◌||◌, eqb, length, get_or, map, filter, take, drop, Option, Some, None, refl, sym, ◌∙◌, ap, subst, inl, inr, arith}
-use Rattle.std.specs.Prelude.{All, AllPairs, nat_eq}
+use Rattle.std.proofs.Common.{◌≡◌, ◌≢◌, ℕ, zero, suc, ◌+◌, ◌<◌, List, [], ◌∷◌, ◌++◌, ◌⊎◌, Bool, true, false, not, ◌&&◌, ◌||◌, eqb, length, get_or, map, filter, Some, None, refl, sym, ◌∙◌, ap, subst, inl, inr, arith}
+use Rattle.std.specs.Prelude.{All, AllPairs}
 use Rattle.std.specs.List.{list_any, find, position_from, remove, AllByRecursion}
 use Rattle.std.specs.List.Sorted.{IsStrictlySortedBy}
 use Rattle.std.specs.Ordering.{ordering_then, nat_cmp}
@@ -14,11 +14,11 @@ use Rattle.farm_base.specs.Slots.{slot_cmp}
 use Rattle.farm_base.specs.Wanted.{folders, IsWants}
 use Rattle.farm_base.specs.declared.lease.Lease.{Lease}
 use Rattle.farm_base.proofs.CompareLaws as laws
-use Rattle.protocol.specs.Names.{Slot, slot_eq, is_private, only_slot, FolderName, NodeId, Life, Ask, Ticket, Want, wants_shared, leased_wants}
+use Rattle.protocol.specs.Names.{Slot, slot_eq, is_private, only_slot, FolderName, NodeId, Life, Ask, Ticket, Want, leased_wants}
 use Rattle.protocol.specs.Ledger.{has_slot, some_lease, lowest, slot_for, all_taken, busy, without, has_ticket}
 use Rattle.leases.specs.Leases.{Table, AreLeases, AreApart, IsBefore, Rises}
 use Rattle.leases.specs.Table.{takes, slots_of, is_free, is_leased, fit_of, first_fit, lease_for}
-use Rattle.leases.specs.declared.lease_table.Fit.TheVariants.{Fits, Busy, InstancesSpent}
+use Rattle.leases.specs.declared.lease_table.Fit.TheVariants.{Fits}
 
 pub cases_bool : (b : Bool) → (b ≡ true) ⊎ (b ≡ false)
 cases_bool true = inl refl

@@ -1,5 +1,5 @@
 -- The leases that a table holds.
-use Rattle.std.specs.Prelude.{◌≡◌, ◌<◌, Bool, true, false, List, map, All, AllPairs}
+use Rattle.std.specs.Prelude.{◌≡◌, ◌<◌, true, false, List, map, All, AllPairs}
 use Rattle.std.specs.List.Sorted.{IsStrictlySortedBy}
 use Rattle.farm_base.specs.Slots.{slot_cmp}
 use Rattle.farm_base.specs.declared.lease.Lease.{Lease}

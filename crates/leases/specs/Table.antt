@@ -1,8 +1,6 @@
 -- What a lease table holds, and whether an ask fits in.
-use Rattle.std.specs.Prelude.{◌≡◌, ℕ, ◌<◌, Bool, true, false, not, ◌&&◌, List, [], ◌∷◌, map, Option, Some, None, All, AllPairs}
+use Rattle.std.specs.Prelude.{Bool, true, false, not, ◌&&◌, List, map, Option, Some, None}
 use Rattle.std.specs.List.{list_any, find}
-use Rattle.std.specs.List.Sorted.{IsStrictlySortedBy}
-use Rattle.farm_base.specs.Slots.{slot_cmp}
 use Rattle.farm_base.specs.declared.lease.Lease.{Lease}
 use Rattle.protocol.specs.Names.{Slot, slot_eq, NodeId, Life, Ask, Ticket, Want, any_shared, wants_shared, leased_wants}
 use Rattle.protocol.specs.Ledger.{has_slot, some_lease, slot_for, all_taken, busy}

@@ -1,5 +1,5 @@
-use Rattle.std.proofs.Common.{◌≡◌, ◌+◌, ◌<◌, ℕ, None, Some, get_or, ap, sym, ◌∙◌, subst, length, arith}
-use Rattle.std.specs.List.{position_from, remove}
+use Rattle.std.proofs.Common.{Some, ap, sym, ◌∙◌, length, arith}
+use Rattle.std.specs.List.{position_from}
 use Rattle.protocol.specs.Ledger.{has_ticket}
 use Rattle.leases.proofs.TableLemmas.{StandsAt, stands, missing}
 use Rattle.leases.proofs.lease_table.take_out.Goals as goal

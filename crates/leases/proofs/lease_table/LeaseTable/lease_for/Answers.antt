@@ -1,4 +1,4 @@
-use Rattle.std.proofs.Common.{◌≡◌, List, false, filter, ap, sym, ◌∙◌, subst}
+use Rattle.std.proofs.Common.{List, filter, ap, sym, ◌∙◌}
 use Rattle.protocol.specs.Names.{Want}
 use Rattle.protocol.specs.Ledger.{all_taken}
 use Rattle.leases.specs.Table.{is_free, takes}

@@ -1,5 +1,4 @@
-use Rattle.std.proofs.Common.{◌≡◌, ◌+◌, ◌-◌, ◌<◌, suc, Bool, true, false, not, get_or, sym, ◌∙◌, ap, arith}
-use Rattle.protocol.specs.Ledger.{lowest}
+use Rattle.std.proofs.Common.{◌≡◌, ◌+◌, ◌-◌, false, not, get_or, sym, ◌∙◌, ap, arith}
 use Rattle.leases.specs.Table.{is_free}
 use Rattle.leases.proofs.MarkLemmas.{free-unmarked}
 use Rattle.leases.proofs.TableLemmas.{lowest-end, lowest-free, lowest-taken}
