@@ -155,30 +155,40 @@ not_true : (b : Bool) → not b ≡ true → b ≡ false
 not_true true h = (let bad : false ≡ true = h in cc)
 not_true false h = refl
 
--- the slot that a want gets is not leased
-want_free : (t : Table) (w : Want) → (is_private w.folder.mode && eqb (lowest (is_free t) w.folder 1 4096) 0) ≡ false → (not (is_private w.folder.mode) && is_leased t (only_slot w.folder)) ≡ false
-    → some_lease t.live (slot_for 4096 (is_free t) w) ≡ false
-want_free t w left right = by (is_private w.folder.mode) refl
-  where
-    by : (b : Bool) → is_private w.folder.mode ≡ b → some_lease t.live (slot_for 4096 (is_free t) w) ≡ false
-    by true e =
-        let some : eqb (lowest (is_free t) w.folder 1 4096) 0 ≡ false = rw e at left in
-        let free : is_free t (record { folder = w.folder; instance = lowest (is_free t) w.folder 1 4096 }) ≡ true = lowest_is_free (is_free t) w.folder 4096 1 (λ z. (let yes' : eqb (lowest (is_free t) w.folder 1 4096) 0 ≡ true = rw z refl in true_false (eqb (lowest (is_free t) w.folder 1 4096) 0) yes' some)) in
-        rw e (not_true (some_lease t.live (record { folder = w.folder; instance = lowest (is_free t) w.folder 1 4096 })) (and_both _ _ free).0)
-    by false e = rw e (let out : is_leased t (only_slot w.folder) ≡ false = rw e at right in out)
+-- what is free is not leased
+abbrev pub FreeIsOpen : (Slot → Bool) → List Lease → Type 0
+FreeIsOpen free live = (s : Slot) → free s ≡ true → some_lease live s ≡ false
 
-slot_is : (a b : Slot) → slot_eq a b ≡ true → a ≡ b
-slot_is a b e = laws.slot_exact a b e
+pub free_is_open : (t : Table) → FreeIsOpen (is_free t) t.live
+free_is_open t s e = not_true (some_lease t.live s) (and_both _ _ e).0
+
+-- the slot that a want gets is not leased
+want_open : (n : ℕ) (free : Slot → Bool) (live : List Lease) (w : Want) → FreeIsOpen free live
+    → (is_private w.folder.mode && eqb (lowest free w.folder 1 n) 0) ≡ false → (not (is_private w.folder.mode) && some_lease live (only_slot w.folder)) ≡ false
+    → some_lease live (slot_for n free w) ≡ false
+want_open n free live w is_open left right = by (is_private w.folder.mode) refl
+  where
+    by : (b : Bool) → is_private w.folder.mode ≡ b → some_lease live (slot_for n free w) ≡ false
+    by true e =
+        let some : eqb (lowest free w.folder 1 n) 0 ≡ false = rw e at left in
+        let here : free (record { folder = w.folder; instance = lowest free w.folder 1 n }) ≡ true = lowest_is_free free w.folder n 1 (λ z. (let same : eqb (lowest free w.folder 1 n) 0 ≡ true = rw z refl in true_false (eqb (lowest free w.folder 1 n) 0) same some)) in
+        rw e (is_open (record { folder = w.folder; instance = lowest free w.folder 1 n }) here)
+    by false e = rw e (let out : some_lease live (only_slot w.folder) ≡ false = rw e at right in out)
+
+-- the slots that some wants get
+abbrev pub slots_by : ℕ → (Slot → Bool) → List Want → List (Slot × Bool)
+slots_by n free ws = map (λ w. (slot_for n free w, w.writable)) ws
 
 -- none of the slots of some wants that fit is leased
-pub slots_apart : (t : Table) (ws : List Want) → all_taken 4096 (is_free t) ws ≡ false → busy (is_leased t) ws ≡ false → (s : Slot) → has_slot (slots_of t ws) s ≡ true → some_lease t.live s ≡ false
-slots_apart t [] taken not_busy s h = (let bad : false ≡ true = h in cc)
-slots_apart t (w ∷ ws) taken not_busy s h =
+slots_apart : (n : ℕ) (free : Slot → Bool) (live : List Lease) (ws : List Want) → FreeIsOpen free live → all_taken n free ws ≡ false → busy (some_lease live) ws ≡ false
+    → (s : Slot) → has_slot (slots_by n free ws) s ≡ true → some_lease live s ≡ false
+slots_apart n free live [] is_open taken not_busy s h = (let bad : false ≡ true = h in cc)
+slots_apart n free live (w ∷ ws) is_open taken not_busy s h =
     let a = or_false _ _ taken in
     let b = or_false _ _ not_busy in
-    elim (cases_bool (slot_eq (slot_for 4096 (is_free t) w) s)) [
-      | inl e ↦ subst (λ z. some_lease t.live z ≡ false) (slot_is (slot_for 4096 (is_free t) w) s e) (want_free t w a.0 b.0)
-      | inr e ↦ slots_apart t ws a.1 b.1 s (let g : has_slot (slots_of t ws) s ≡ true = rw e at h in g)
+    elim (cases_bool (slot_eq (slot_for n free w) s)) [
+      | inl e ↦ subst (λ z. some_lease live z ≡ false) (laws.slot_exact (slot_for n free w) s e) (want_open n free live w is_open a.0 b.0)
+      | inr e ↦ slots_apart n free live ws is_open a.1 b.1 s (let g : has_slot (slots_by n free ws) s ≡ true = rw e at h in g)
     ]
 
 any_at : {A : Type 0} (test : A → Bool) (xs : List A) (k : ℕ) (d : A) → k < length xs → test (get_or xs k d) ≡ true → list_any test xs ≡ true
@@ -191,16 +201,16 @@ fits_both true b e = absurd (cc e)
 fits_both false true e = absurd (cc e)
 fits_both false false e = (refl, refl)
 
-below_all : (t : Table) (w : Want) (ws : List Want) → AllByRecursion (λ f. folder_cmp w.folder f ≡ Less) (folders ws)
-    → AllByRecursion (λ s. slot_cmp (slot_for 4096 (is_free t) w) s ≡ Less) (map (λ x. x.0) (slots_of t ws))
-below_all t w [] h = tt
-below_all t w (v ∷ ws) h = (ap (λ o. ordering_then o (nat_cmp (slot_for 4096 (is_free t) w).instance (slot_for 4096 (is_free t) v).instance)) h.0, below_all t w ws h.1)
+below_all : (n : ℕ) (free : Slot → Bool) (w : Want) (ws : List Want) → AllByRecursion (λ f. folder_cmp w.folder f ≡ Less) (folders ws)
+    → AllByRecursion (λ s. slot_cmp (slot_for n free w) s ≡ Less) (map (λ x. x.0) (slots_by n free ws))
+below_all n free w [] h = tt
+below_all n free w (v ∷ ws) h = (ap (λ o. ordering_then o (nat_cmp (slot_for n free w).instance (slot_for n free v).instance)) h.0, below_all n free w ws h.1)
 
 -- slots of rising folders rise
-slots_rise : (t : Table) (ws : List Want) → IsStrictlySortedBy folder_cmp (folders ws) → IsStrictlySortedBy slot_cmp (map (λ x. x.0) (slots_of t ws))
+slots_rise : (n : ℕ) (free : Slot → Bool) (ws : List Want) → IsStrictlySortedBy folder_cmp (folders ws) → IsStrictlySortedBy slot_cmp (map (λ x. x.0) (slots_by n free ws))
 unfolding IsStrictlySortedBy
-slots_rise t [] h = tt
-slots_rise t (w ∷ ws) h = (below_all t w ws h.0, slots_rise t ws h.1)
+slots_rise n free [] h = tt
+slots_rise n free (w ∷ ws) h = (below_all n free w ws h.0, slots_rise n free ws h.1)
 
 below_filter : (p : Want → Bool) (f : FolderName) (ws : List Want) → AllByRecursion (λ g. folder_cmp f g ≡ Less) (folders ws) → AllByRecursion (λ g. folder_cmp f g ≡ Less) (folders (filter p ws))
 below_filter p f [] h = tt
@@ -217,20 +227,35 @@ wants_filter p (w ∷ ws) h = elim (cases_bool (p w)) [
   | inr e ↦ rw e (wants_filter p ws h.1)
 ]
 
--- a lease for wants that fit
+-- one lease more, for wants that fit
+pub leases_more : (n : ℕ) (free : Slot → Bool) (live : List Lease) (wants : List Want) (g : Lease) → FreeIsOpen free live → IsWants wants
+    → all_taken n free (leased_wants g.tenure wants) ≡ false → busy (some_lease live) (leased_wants g.tenure wants) ≡ false
+    → g.slots ≡ slots_by n free (leased_wants g.tenure wants) → All (λ h. h.ticket.0 < g.ticket.0) live → AreLeases live → AreLeases (live ++ g ∷ [])
+leases_more n free live wants g is_open sorted taken not_busy is above h =
+    let ws : List Want = leased_wants g.tenure wants in
+    let apart : (k : ℕ) (d : Lease) → k < length live → AreApart (get_or live k d) g = λ k d inside s has. elim (cases_bool (has_slot g.slots s)) [
+        | inl e ↦ true_false (some_lease live s) (any_at (λ (g : Lease). has_slot g.slots s) live k d inside has) (slots_apart n free live ws is_open taken not_busy s (subst (λ (z : List (Slot × Bool)). has_slot z s ≡ true) is e))
+        | inr e ↦ e
+      ] in
+    let rises : Rises g = subst (λ (z : List (Slot × Bool)). IsStrictlySortedBy slot_cmp (map (λ (x : Slot × Bool). x.0) z)) (sym is)
+        (slots_rise n free ws (subst (λ (z : List Want). IsStrictlySortedBy folder_cmp (folders z)) (sym (leased-filter g.tenure wants)) (wants_filter (takes g.tenure) wants sorted.1))) in
+    record {
+      tickets = all_pairs_push IsBefore live g h.tickets above;
+      apart = all_pairs_push AreApart live g h.apart apart;
+      slots = All-push Rises live g h.slots rises;
+    }
+
+-- a lease that a table grants
 pub leases-push : (t : Table) (n : NodeId) (l : Life) (a : Ask) (wants : List Want) (tenure : Bool) (ticket : Ticket) → AreLeases t.live → IsWants wants
     → fit_of t tenure wants ≡ Fits → All (λ g. g.ticket.0 < ticket.0) t.live → AreLeases (t.live ++ lease_for t n l a wants tenure ticket ∷ [])
 leases-push t n l a wants tenure ticket h sorted fits above =
-    let ws : List Want = leased_wants tenure wants in
     let both = fits_both _ _ fits in
-    let new : Lease = lease_for t n l a wants tenure ticket in
-    let apart : (k : ℕ) (d : Lease) → k < length t.live → AreApart (get_or t.live k d) new = λ k d inside s has. elim (cases_bool (has_slot (slots_of t ws) s)) [
-        | inl e ↦ true_false (some_lease t.live s) (any_at (λ (g : Lease). has_slot g.slots s) t.live k d inside has) (slots_apart t ws both.0 both.1 s e)
-        | inr e ↦ e
-      ] in
-    let rises : Rises new = slots_rise t ws (subst (λ (z : List Want). IsStrictlySortedBy folder_cmp (folders z)) (sym (leased-filter tenure wants)) (wants_filter (takes tenure) wants sorted.1)) in
-    record {
-      tickets = all_pairs_push IsBefore t.live new h.tickets above;
-      apart = all_pairs_push AreApart t.live new h.apart apart;
-      slots = All-push Rises t.live new h.slots rises;
-    }
+    leases_more 4096 (is_free t) t.live wants (lease_for t n l a wants tenure ticket) (free_is_open t) sorted both.0 both.1 refl above h
+
+-- the newest lease is that of its ticket
+pub lease_under-push : (live : List Lease) (g : Lease) → All (λ h. h.ticket.0 < g.ticket.0) live → find (has_ticket g.ticket) (live ++ g ∷ []) ≡ Some g
+lease_under-push [] g above = (let same = eqb_same g.ticket.0 in rw same refl)
+lease_under-push (h ∷ live) g above =
+    let lower : h.ticket.0 < g.ticket.0 = above 0 h (omega arith) in
+    let other : eqb h.ticket.0 g.ticket.0 ≡ false = eqb_apart h.ticket.0 g.ticket.0 (λ same. omega arith) in
+    rw other (lease_under-push live g (All-tail (λ h. h.ticket.0 < g.ticket.0) h live above))

@@ -2,7 +2,7 @@
 use Rattle.std.specs.Prelude.{Bool, true, false, not, ◌&&◌, List, map, Option, Some, None}
 use Rattle.std.specs.List.{list_any, find}
 use Rattle.farm_base.specs.declared.lease.Lease.{Lease}
-use Rattle.protocol.specs.Names.{Slot, slot_eq, NodeId, Life, Ask, Ticket, Want, any_shared, wants_shared, leased_wants}
+use Rattle.protocol.specs.Names.{Slot, slot_eq, only_slot, NodeId, Life, Ask, Ticket, Want, any_shared, wants_shared, leased_wants}
 use Rattle.protocol.specs.Ledger.{has_slot, some_lease, slot_for, all_taken, busy}
 use Rattle.leases.specs.declared.lease_table.Fit.{Fit}
 use Rattle.leases.specs.declared.lease_table.Fit.TheVariants.{Fits, Busy, InstancesSpent}
@@ -50,6 +50,10 @@ lease_for t n l a wants tenure ticket = record {
   tenure = tenure;
   slots = slots_of t (leased_wants tenure wants);
 }
+
+-- the lease has the one slot of a folder that is wanted
+abbrev pub holds_some : List Want → Lease → Bool
+holds_some wants g = list_any (λ w. has_slot g.slots (only_slot w.folder)) wants
 
 abbrev pub state_by : Option Lease → Bool → SlotState
 state_by (Some g) b = state.Leased g.ticket

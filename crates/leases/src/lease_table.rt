@@ -1,11 +1,11 @@
 ghost use Rattle.std.specs.Prelude.{if◌then◌else◌, ◌≡◌, ◌≢◌, ℕ, ◌≤◌, ◌<◌, true, false, not, [], ◌∷◌, ◌++◌, filter, map, count_by, All, AllPairs, IfOk, IfSome, OnOk, OnErr, option_copied};
-ghost use Rattle.std.specs.List.{find, position_from};
+ghost use Rattle.std.specs.List.{find, list_any, position_from};
 ghost use Rattle.farm_base.specs.Wanted.{IsWants};
 ghost use Rattle.protocol.specs.Names.{leased_wants, wants_shared, any_shared, is_private, only_slot};
 ghost use Rattle.protocol.specs.Ledger.{has_slot, some_lease, lowest, slot_for, all_taken, busy, lease_of, lease_under, without, is_older, has_ticket};
 ghost use Rattle.leases.specs.Leases.{AreLeases, IsBefore};
 ghost use Rattle.leases.specs.Marks.{Marks};
-ghost use Rattle.leases.specs.Table.{among, is_leased, is_free, fit_of, lease_for, state_of, slots_of, takes};
+ghost use Rattle.leases.specs.Table.{among, is_leased, is_free, fit_of, lease_for, state_of, slots_of, takes, holds_some};
 
 use super::marks::{mark_all, mark_leased};
 use farm_base::{
@@ -219,6 +219,21 @@ impl LeaseTable {
             .find(|lease| lease.node == node && lease.life == life && lease.ask == ask)
     }
 
+    /// The oldest lease that has the one slot of a folder for which an ask with these wants takes a slot.
+    pub fn holder_of(&self, wants: &Wants, tenure: bool) -> Option<&Lease>
+        ensures { option_copied result ≡ find (holds_some (leased_wants tenure wants.now)) self.now.live }
+    {
+        self.first_with(wants.as_slice(), tenure)
+    }
+
+    fn first_with(&self, wants: &[Want], tenure: bool) -> Option<&Lease>
+        ensures { option_copied result ≡ find (holds_some (filter (takes tenure) wants.now)) self.now.live }
+    {
+        self.leases
+            .iter()
+            .find(|lease| holds_some(lease.slots.as_slice(), wants, tenure))
+    }
+
     /// The slot that a want gets.
     fn slot_for(&self, alloc: Global, want: &Want) -> Result<Slot, AllocError>
         requires { is_private want.now.folder.mode ≡ true → lowest (is_free self.now) want.now.folder 1 4096 ≢ 0 }
@@ -299,10 +314,12 @@ impl LeaseTable {
         requires fits { fit_of self.old tenure wants.now ≡ Fit.Fits }
         requires above { All (λ g. g.ticket.0 < ticket.0) self.old.live }
         ensures ok { OnOk result (self.new ≡ record self.old { live = self.old.live ++ lease_for self.old node life ask wants.now tenure ticket ∷ [] }) }
+        ensures found { OnOk result (lease_under self.new.live ticket ≡ Some (lease_for self.old node life ask wants.now tenure ticket)) }
         ensures err { OnErr result (self.new ≡ self.old) }
     {
         let lease = self.lease_for(alloc, node, life, ask, wants, tenure, ticket)?;
-        self.add(lease)
+        self.add(lease)?;
+        Ok(())
     }
 
     /// Ends the lease of a ticket, and gives it back. Its slots are free again.
@@ -364,6 +381,16 @@ fn has_only(slots: &[(Slot, bool)], folder: &FolderName) -> bool
     slots
         .iter()
         .any(|held| held.0.folder() == folder && held.0.instance() == 0)
+}
+
+/// Whether the slots have the one slot of a folder for which an ask takes a slot.
+fn holds_some(slots: &[(Slot, bool)], wants: &[Want], tenure: bool) -> bool
+    ensures { result ≡ list_any (λ w. has_slot slots.now (only_slot w.folder)) (filter (takes tenure) wants.now) }
+{
+    wants
+        .iter()
+        .filter(|want| takes(want, tenure))
+        .any(|want| has_only(slots, &want.folder))
 }
 
 impl Copied for LeaseTable {

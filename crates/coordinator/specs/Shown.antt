@@ -1,0 +1,49 @@
+-- What an event shows while it is worked out.
+use Rattle.std.specs.Prelude.{◌≡◌, ℕ, ◌<◌, Bool, List, [], ◌∷◌, ◌++◌, length, map, All, Option, Some, None}
+use Rattle.protocol.specs.Names.{Slot, NodeId, Life, Ticket, Digest}
+use Rattle.protocol.specs.Machine.{LineVersion, News, digest_for, version_of}
+use Rattle.protocol.specs.Ledger.{Ledger, Work, Decision, Give, Deny, Wait}
+use Rattle.leases.specs.Table.{among}
+use Rattle.coordinator.specs.declared.lines.Addition.{Addition}
+use Rattle.coordinator.specs.declared.lines.Added.{Added}
+use Rattle.coordinator.specs.declared.lines.SlotLine.{SlotLine}
+use Rattle.coordinator.specs.declared.state.State.{State}
+use Rattle.coordinator.specs.declared.state.Verdict.{Verdict}
+use Rattle.coordinator.specs.declared.state.Verdict.TheVariants as verdict
+use Rattle.coordinator.specs.declared.draft.Draft.{Draft}
+use Rattle.coordinator.specs.Held.{line_at, life_at, is_among}
+
+-- the lines of slots
+abbrev pub Lines : Type 0
+Lines = Slot → List LineVersion
+
+abbrev pub news_of : Addition → News
+news_of a = record { slot = a.slot; digest = a.digest }
+
+-- the lines with what a commit adds
+abbrev pub lines_with : List SlotLine → Option Added → Lines
+lines_with lines None s = line_at lines s
+lines_with lines (Some a) s = line_at lines s ++ version_of a.ticket (digest_for s (map news_of a.additions.items))
+
+-- the ledger that a state shows, with these lines
+abbrev pub kept : Lines → State → Ledger
+kept line s = record {
+  live = s.table.live;
+  retired = among s.table.retired;
+  gone = is_among s.gone.items;
+  line = line;
+  last = s.tickets.position;
+  ceiling = s.tickets.ceiling;
+  old_home = s.old_home;
+  lives = life_at s.lives.items;
+  parked = s.parked.items;
+}
+
+-- what an event has come to
+abbrev pub shown : Lines → Draft → Work
+shown line d = record { ledger = kept line d.state; sends = d.sends.items; changed = d.changed; note = d.note }
+
+abbrev pub as_decision : Verdict → Decision
+as_decision verdict.Give = Give
+as_decision (verdict.Deny why) = Deny why
+as_decision verdict.Wait = Wait
