@@ -1,2 +1,4 @@
 pub mod Held
 pub mod Shown
+pub mod Additions
+pub mod Sound

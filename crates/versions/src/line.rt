@@ -1,4 +1,4 @@
-ghost use Rattle.std.specs.Prelude.{◌≡◌, ◌≢◌, ℕ, ◌<◌, [], ◌∷◌, ◌++◌, length, vec_len, All, IfOk, IfSome, IfNone, OnOk, OnErr};
+ghost use Rattle.std.specs.Prelude.{◌≡◌, ◌≢◌, ℕ, ◌<◌, ◌^◌, [], ◌∷◌, ◌++◌, length, vec_len, All, IfOk, IfSome, IfNone, OnOk, OnErr};
 ghost use Rattle.std.specs.Vec.{vec_capacity};
 ghost use Rattle.versions.specs.Lines.{IsLine, version_in, ticket_in, digest_in, number_in};
 
@@ -38,6 +38,7 @@ impl Line {
     pub fn len(&self) -> u64
         ensures value { result ≡ length self.now }
         ensures rises { IsLine self.now }
+        ensures range { result < 2 ^ 63 }
     {
         self.versions.len() as u64
     }

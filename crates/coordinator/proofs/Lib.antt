@@ -1,0 +1,4 @@
+pub mod LineWords
+pub mod StateWords
+pub mod Trying
+pub mod SoundWords
