@@ -161,7 +161,7 @@ sound-newer_life k n l w s = elim (cases_bool (list_any (is_older n l) w.ledger.
   | inr e ↦ rw e (sound-sees n l w s)
 ]
 
-sound-ends : (g : Lease) (w : Work) → IsSound w.ledger → IsSound (ends g w).ledger
+pub sound-ends : (g : Lease) (w : Work) → IsSound w.ledger → IsSound (ends g w).ledger
 sound-ends g w s = sound-fewer (λ h. not (has_ticket g.ticket h)) w.ledger s
 
 -- ---- a commit

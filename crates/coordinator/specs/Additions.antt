@@ -1,8 +1,9 @@
 -- What a commit adds to the lines, in the room that is made for it.
-use Rattle.std.specs.Prelude.{◌≡◌, ◌<◌, Bool, false, if◌then◌else◌, List, [], ◌∷◌, ◌++◌, length, All}
+use Rattle.std.specs.Prelude.{◌≡◌, ◌<◌, Bool, false, if◌then◌else◌, List, [], ◌∷◌, ◌++◌, length, All, Option, Some, None}
 use Rattle.protocol.specs.Names.{Slot, slot_eq, Ticket}
 use Rattle.protocol.specs.Machine.{LineVersion}
 use Rattle.coordinator.specs.declared.lines.Addition.{Addition}
+use Rattle.coordinator.specs.declared.lines.Added.{Added}
 use Rattle.coordinator.specs.declared.lines.SlotLine.{SlotLine}
 use Rattle.coordinator.specs.Held.{line_at}
 
@@ -19,6 +20,11 @@ IsAbove lines t s = All (λ v. v.ticket.0 < t.0) (line_at lines s)
 abbrev pub AreReady : List SlotLine → Ticket → List Addition → Type 0
 AreReady lines t [] = Unit {0}
 AreReady lines t (a ∷ rest) = HasRoom lines a × IsAbove lines t a.slot × All (λ b. slot_eq a.slot b.slot ≡ false) rest × AreReady lines t rest
+
+-- the same of what a commit adds, where there is one
+abbrev pub IsReady : List SlotLine → Option Added → Type 0
+IsReady lines None = Unit {0}
+IsReady lines (Some a) = AreReady lines a.ticket a.additions.items
 
 -- the lines with one version more
 abbrev pub adds : Slot → LineVersion → (Slot → List LineVersion) → Slot → List LineVersion

@@ -1,8 +1,8 @@
 -- What an event shows while it is worked out.
-use Rattle.std.specs.Prelude.{◌≡◌, ℕ, ◌<◌, Bool, List, [], ◌∷◌, ◌++◌, length, map, All, Option, Some, None}
+use Rattle.std.specs.Prelude.{◌≡◌, ℕ, ◌<◌, Bool, true, false, ◌||◌, List, [], ◌∷◌, ◌++◌, length, map, All, Option, Some, None}
 use Rattle.protocol.specs.Names.{Slot, NodeId, Life, Ticket, Digest}
 use Rattle.protocol.specs.Machine.{LineVersion, News, digest_for, version_of}
-use Rattle.protocol.specs.Ledger.{Ledger, Work, Decision, Give, Deny, Wait}
+use Rattle.protocol.specs.Ledger.{Ledger, Work, Lease, is_saved, without, lease_under, Decision, Give, Deny, Wait}
 use Rattle.leases.specs.Table.{among}
 use Rattle.coordinator.specs.declared.lines.Addition.{Addition}
 use Rattle.coordinator.specs.declared.lines.Added.{Added}
@@ -42,6 +42,22 @@ kept line s = record {
 -- what an event has come to
 abbrev pub shown : Lines → Draft → Work
 shown line d = record { ledger = kept line d.state; sends = d.sends.items; changed = d.changed; note = d.note }
+
+-- the record has the lease, if there is one
+abbrev pub saved_under : Option Lease → Bool
+saved_under None = false
+saved_under (Some g) = is_saved g
+
+-- the lease of a ticket ends, if there is one
+abbrev pub ended : Ticket → Work → Work
+ended t w = record w {
+  ledger = record w.ledger { live = without t w.ledger.live };
+  changed = w.changed || saved_under (lease_under w.ledger.live t);
+}
+
+-- the same where the record has its versions
+abbrev pub ended_committed : Ticket → Work → Work
+ended_committed t w = record w { ledger = record w.ledger { live = without t w.ledger.live }; changed = true }
 
 abbrev pub as_decision : Verdict → Decision
 as_decision verdict.Give = Give

@@ -1,5 +1,5 @@
 //! What the coordinator keeps beside the lines.
-ghost use Rattle.std.specs.Prelude.{◌≡◌, ◌≢◌, ℕ, ◌<◌, ◌==◌, true, IfOk, OnOk, filter, not, List, option_copied};
+ghost use Rattle.std.specs.Prelude.{◌≡◌, ◌≢◌, ℕ, ◌<◌, ◌==◌, ◌&&◌, true, IfOk, OnOk, filter, not, List, option_copied};
 ghost use Rattle.folders.specs.Farm.{empty_digest, farm_limits};
 ghost use Rattle.leases.specs.Table.{fit_of};
 ghost use Rattle.leases.specs.Tickets.{Tickets};
@@ -9,7 +9,7 @@ ghost use Rattle.protocol.specs.Lists.{put};
 ghost use Rattle.protocol.specs.Machine.{slots_of, cleared};
 ghost use Rattle.protocol.specs.Ledger.{decision, elsewhere, grant_of, is_saved, is_parked, is_older_ask, is_home, writable_slots, may_commit, may_release, lease_under};
 ghost use Rattle.coordinator.specs.Held.{life_at, is_among};
-ghost use Rattle.coordinator.specs.Shown.{Lines, kept, as_decision, lines_with};
+ghost use Rattle.coordinator.specs.Shown.{Lines, kept, as_decision, lines_with, saved_under};
 
 use super::lines::{Added, SlotLine, granted_slots};
 use farm_base::{Ask, Copied, Grant, Items, Lease, Life, Mode, News, NodeId, Parked, Slot, Ticket, Why, copy_all};
@@ -159,6 +159,15 @@ pub(crate) fn is_saved(lease: &Lease) -> bool
     lease.tenure || has_private(lease.slots.as_slice())
 }
 
+pub(crate) fn is_some_saved(lease: &Option<Lease>) -> bool
+    ensures { result ≡ saved_under lease.now }
+{
+    match lease {
+        Some(lease) => is_saved(lease),
+        None => false,
+    }
+}
+
 fn has_private(slots: &[(Slot, bool)]) -> bool
     ensures { result ≡ list_any (λ x. is_private x.0.folder.mode) slots.now }
 {
@@ -189,6 +198,13 @@ impl State {
             Some(home) => p.tenure && home != p.node,
             None => false,
         }
+    }
+
+    /// Whether a tenure is asked for whose holder is told to give it up.
+    pub(crate) fn is_awaited(&self, p: &Parked) -> bool
+        ensures { (line : Lines) → result ≡ (p.now.tenure && not (elsewhere (kept line self.now) p.now)) }
+    {
+        p.tenure && !self.is_elsewhere(p)
     }
 
     /// What is done with an ask.
