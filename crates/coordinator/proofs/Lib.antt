@@ -2,3 +2,4 @@ pub mod LineWords
 pub mod StateWords
 pub mod Trying
 pub mod SoundWords
+pub mod Pushing

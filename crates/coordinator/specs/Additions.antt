@@ -34,3 +34,7 @@ adds s v line x = if slot_eq s x then line x ++ v ∷ [] else line x
 abbrev pub adds_all : Ticket → List Addition → (Slot → List LineVersion) → Slot → List LineVersion
 adds_all t [] line = line
 adds_all t (a ∷ rest) line = adds_all t rest (adds a.slot (record { ticket = t; digest = a.digest }) line)
+
+-- the line of a slot, with one version, is added at the end
+abbrev pub IsPushed : List SlotLine → List SlotLine → Slot → LineVersion → Type 0
+IsPushed old new s v = new ≡ old ++ record { slot = s; line = v ∷ [] } ∷ []

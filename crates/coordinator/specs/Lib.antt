@@ -2,3 +2,4 @@ pub mod Held
 pub mod Shown
 pub mod Additions
 pub mod Sound
+pub mod Keeps

@@ -3,6 +3,7 @@ use Rattle.std.specs.Prelude.{◌≡◌, ℕ, ◌<◌, Bool, true, false, ◌||�
 use Rattle.protocol.specs.Names.{Slot, NodeId, Life, Ticket, Digest}
 use Rattle.protocol.specs.Machine.{LineVersion, News, digest_for, version_of}
 use Rattle.protocol.specs.Ledger.{Ledger, Work, Lease, is_saved, without, lease_under, Decision, Give, Deny, Wait}
+use Rattle.std.specs.Vec.{vec_len}
 use Rattle.leases.specs.Table.{among}
 use Rattle.coordinator.specs.declared.lines.Addition.{Addition}
 use Rattle.coordinator.specs.declared.lines.Added.{Added}
@@ -63,3 +64,8 @@ abbrev pub as_decision : Verdict → Decision
 as_decision verdict.Give = Give
 as_decision (verdict.Deny why) = Deny why
 as_decision verdict.Wait = Wait
+
+-- how many lines a commit adds to
+abbrev pub added_count : Option Added → ℕ
+added_count None = 0
+added_count (Some a) = vec_len a.additions

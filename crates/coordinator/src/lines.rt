@@ -1,11 +1,12 @@
 //! The lines of slots, and what a commit adds to them.
-ghost use Rattle.std.specs.Prelude.{◌≡◌, ℕ, ◌<◌, ◌≤◌, ◌^◌, [], map, length, All, IfOk, unwrap_or, option_copied, is_some};
+ghost use Rattle.std.specs.Prelude.{◌≡◌, ℕ, ◌<◌, ◌≤◌, ◌^◌, [], map, length, All, IfOk, unwrap_or, option_copied, is_some, vec_len, ◌+◌, Some};
+ghost use Rattle.std.specs.Vec.{vec_capacity};
 ghost use Rattle.folders.specs.Farm.{empty_digest};
 ghost use Rattle.protocol.specs.Machine.{digest_for};
 ghost use Rattle.protocol.specs.Ledger.{last_digest, place, versions_of, on_all, granted_slot};
 ghost use Rattle.coordinator.specs.Held.{line_at, first_line};
-ghost use Rattle.coordinator.specs.Additions.{HasRoom};
-ghost use Rattle.coordinator.specs.Shown.{lines_with, news_of};
+ghost use Rattle.coordinator.specs.Additions.{HasRoom, IsAbove, AreReady, IsReady, adds, IsPushed};
+ghost use Rattle.coordinator.specs.Shown.{lines_with, news_of, added_count};
 
 use farm_base::{Confirmed, Copied, Digest, GrantedSlot, News, Slot, Ticket};
 use folders::Content;
@@ -254,4 +255,89 @@ fn index_of(lines: &[SlotLine], slot: &Slot) -> usize
         }
     }
     lines.len()
+}
+
+/// Adds a version to a slot's line.
+fn add(lines: &mut Vec<SlotLine>, ticket: Ticket, addition: Addition)
+    requires space { vec_len lines.old < vec_capacity lines.old }
+    requires room { HasRoom lines.old.items addition }
+    requires above { IsAbove lines.old.items ticket addition.slot }
+    ensures lines { line_at lines.new.items ≡ adds addition.slot (record { ticket = ticket; digest = addition.digest }) (line_at lines.old.items) }
+    ensures len { vec_len lines.new ≤ vec_len lines.old + 1 }
+    ensures capacity { vec_capacity lines.old ≤ vec_capacity lines.new }
+{
+    let place = index_of(lines.as_slice(), &addition.slot);
+    if place < lines.len() {
+        lines[place]
+            .line
+            .push_into(addition.room, ticket, addition.digest);
+    } else {
+        push_line(lines, ticket, addition);
+    }
+}
+
+/// Adds the line of a slot that has none.
+fn push_line(lines: &mut Vec<SlotLine>, ticket: Ticket, addition: Addition)
+    requires space { vec_len lines.old < vec_capacity lines.old }
+    requires room { 0 < addition.room }
+    requires line { addition.line ≡ [] }
+    ensures line { IsPushed lines.old.items lines.new.items addition.slot (record { ticket = ticket; digest = addition.digest }) }
+    ensures len { vec_len lines.new ≤ vec_len lines.old + 1 }
+    ensures capacity { vec_capacity lines.old ≤ vec_capacity lines.new }
+{
+    let mut line = addition.line;
+    line.push_into(addition.room, ticket, addition.digest);
+    let slot = addition.slot;
+    lines.push(SlotLine { slot, line }).unwrap();
+}
+
+/// Moves the lines into this room, where they have too little of their own.
+fn make_room(lines: &mut Vec<SlotLine>, room: Vec<SlotLine>, more: usize)
+    requires empty { room.items ≡ [] }
+    requires larger { vec_len lines.old + more ≤ vec_capacity room }
+    ensures items { lines.new.items ≡ lines.old.items }
+    ensures room { vec_len lines.new + more ≤ vec_capacity lines.new }
+{
+    if lines.capacity() - lines.len() < more {
+        let mut room = room;
+        room.append(lines).unwrap();
+        *lines = room;
+    }
+}
+
+/// Adds what a commit adds, in the room that was made for it.
+pub(crate) fn add_all(lines: &mut Vec<SlotLine>, added: Added, room: Vec<SlotLine>)
+    requires empty { room.items ≡ [] }
+    requires larger { vec_len lines.old + vec_len added.additions ≤ vec_capacity room }
+    requires ready { AreReady lines.old.items added.ticket added.additions.items }
+    ensures { line_at lines.new.items ≡ lines_with lines.old.items (Some added) }
+{
+    make_room(lines, room, added.additions.len());
+    let ticket = added.ticket;
+    for addition in added.additions {
+        add(lines, ticket, addition);
+    }
+}
+
+/// Adds what a commit adds, if it adds anything.
+pub(crate) fn add_to(lines: &mut Vec<SlotLine>, added: Option<Added>, room: Vec<SlotLine>)
+    requires empty { room.items ≡ [] }
+    requires larger { vec_len lines.old + added_count added ≤ vec_capacity room }
+    requires ready { IsReady lines.old.items added }
+    ensures { line_at lines.new.items ≡ lines_with lines.old.items added }
+{
+    if let Some(added) = added {
+        add_all(lines, added, room);
+    }
+}
+
+/// Room for the lines and what a commit adds.
+pub(crate) fn room_to_add(alloc: Global, lines: &[SlotLine], added: &Option<Added>) -> Result<Vec<SlotLine>, AllocError>
+    ensures empty { IfOk result (λ room. room.items ≡ []) }
+    ensures larger { IfOk result (λ room. length lines.now + added_count added.now ≤ vec_capacity room) }
+{
+    match added {
+        None => Vec::with_capacity(alloc, lines.len()),
+        Some(added) => Vec::with_capacity(alloc, 2 * lines.len() + added.additions.len()),
+    }
 }
