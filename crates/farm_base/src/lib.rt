@@ -20,7 +20,7 @@ mod want;
 pub use copied::Copied;
 pub use digest::{BadDigestText, Digest, Key, are_bytes};
 pub use folder::{Base, FolderName, Index, Mode};
-pub use items::Items;
+pub use items::{Items, copy_all};
 pub use laws::{
     equal_digests_are_one, equal_names_are_one, equal_slots_are_one, equal_versions_are_one,
     folders_are_ordered, is_name, is_slot, names_equal_themselves, one_digest_per_text,

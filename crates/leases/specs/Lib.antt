@@ -1,1 +1,4 @@
 pub mod Tickets
+pub mod Leases
+pub mod Marks
+pub mod Table

@@ -1,7 +1,8 @@
-ghost use Rattle.std.specs.Prelude.{◌≡◌, ◌+◌, ◌≤◌, ◌↔◌, IsErr, IfOk, OnOk, OnErr};
+ghost use Rattle.std.specs.Prelude.{◌≡◌, ◌==◌, ◌+◌, ◌≤◌, ◌↔◌, IsErr, IfOk, OnOk, OnErr};
 ghost use Rattle.leases.specs.Tickets.{raised, advanced};
 
-use farm_base::Ticket;
+use farm_base::{Copied, Ticket};
+use std::alloc::{AllocError, Global};
 use std::marker::Model;
 use thiserror::Error;
 
@@ -54,9 +55,17 @@ impl TicketSource {
         ensures ticket { IfOk result (λ next. next.0.0 ≡ self.now.position + 1) }
         ensures ceiling { IfOk result (λ next. next.1.0 ≡ raised self.now) }
         ensures spent { IsErr result ↔ (self.now.position ≡ u64.MAX) }
+        ensures range { self.now.position ≤ u64.MAX }
     {
         let ticket = self.position.checked_add(1).ok_or(TicketsSpent)?;
         Ok((Ticket(ticket), Ticket(self.raised())))
+    }
+
+    /// Whether the next ticket needs a block that is not saved yet.
+    pub fn needs_block(&self) -> bool
+        ensures { result ≡ (self.now.position == self.now.ceiling) }
+    {
+        self.position == self.ceiling
     }
 
     fn raised(&self) -> u64
@@ -80,5 +89,14 @@ impl TicketSource {
         self.position = ticket.0;
         self.ceiling = ceiling.0;
         Ok(ticket)
+    }
+}
+
+impl Copied for TicketSource {
+    fn copy(&self, _alloc: Global) -> Result<Self, AllocError> {
+        Ok(TicketSource {
+            position: self.position,
+            ceiling: self.ceiling,
+        })
     }
 }

@@ -3,4 +3,4 @@
 
 mod line;
 
-pub use line::Line;
+pub use line::{Line, Room};

@@ -1,4 +1,5 @@
-ghost use Rattle.std.specs.Prelude.{◌≡◌, ◌≢◌, ℕ, ◌<◌, [], ◌∷◌, ◌++◌, length, All, IfSome, IfNone, OnOk, OnErr};
+ghost use Rattle.std.specs.Prelude.{◌≡◌, ◌≢◌, ℕ, ◌<◌, ◌^◌, [], ◌∷◌, ◌++◌, length, vec_len, All, IfOk, IfSome, IfNone, OnOk, OnErr};
+ghost use Rattle.std.specs.Vec.{vec_capacity};
 ghost use Rattle.versions.specs.Lines.{IsLine, version_in, ticket_in, digest_in, number_in};
 
 use farm_base::{Copied, Digest, LineVersion, Ticket};
@@ -37,6 +38,7 @@ impl Line {
     pub fn len(&self) -> u64
         ensures value { result ≡ length self.now }
         ensures rises { IsLine self.now }
+        ensures range { result < 2 ^ 63 }
     {
         self.versions.len() as u64
     }
@@ -82,6 +84,57 @@ impl Line {
     {
         self.versions.push(LineVersion { ticket, digest })?;
         Ok(())
+    }
+}
+
+/// Room for a version more on a line, made before the line changes. Contracts see how many versions it holds.
+#[derive(Debug, Drop)]
+pub struct Room {
+    versions: Vec<LineVersion>,
+}
+
+impl Model for Room {
+    ghost use Rattle.std.specs.Prelude.{◌≡◌, ℕ, []};
+    ghost use Rattle.std.specs.Vec.{vec_capacity};
+
+    ghost Value = { ℕ };
+
+    ghost view = { λ r. vec_capacity r.versions };
+
+    ghost invariant = { λ r. r.versions.items ≡ [] };
+}
+
+impl Line {
+    /// Room for the next version, which `push_into` uses where the line has none of its own.
+    pub fn room(&self, alloc: Global) -> Result<Room, AllocError>
+        ensures { IfOk result (λ room. length self.now < room) }
+    {
+        let versions = Vec::with_capacity(alloc, 2 * self.versions.len() + 1)?;
+        Ok(Room { versions })
+    }
+
+    /// Adds a version, taking no memory but the room that was made for it.
+    pub fn push_into(&mut self, room: Room, ticket: Ticket, digest: Digest)
+        requires above { All (λ version. version.ticket.0 < ticket.0) self.old }
+        requires room { length self.old < room }
+        ensures { self.new ≡ self.old ++ record { ticket = ticket; digest = digest } ∷ [] }
+    {
+        make_room(&mut self.versions, room.versions);
+        self.versions.push(LineVersion { ticket, digest }).unwrap();
+    }
+}
+
+/// Moves the versions into this room, where they have none of their own.
+fn make_room(versions: &mut Vec<LineVersion>, room: Vec<LineVersion>)
+    requires empty { room.items ≡ [] }
+    requires larger { vec_len versions.old < vec_capacity room }
+    ensures items { versions.new.items ≡ versions.old.items }
+    ensures room { vec_len versions.new < vec_capacity versions.new }
+{
+    if versions.len() == versions.capacity() {
+        let mut room = room;
+        room.extend_from_slice(versions.as_slice()).unwrap();
+        *versions = room;
     }
 }
 

@@ -1,0 +1,116 @@
+-- Decisions, lives, and the slots of news.
+use mathlib.Core.Path.{fun_ext}
+use Rattle.std.proofs.Common.{◌≡◌, ◌≢◌, ℕ, zero, suc, ◌+◌, ◌<◌, ◌≤◌, List, [], ◌∷◌, ◌++◌, ◌⊎◌, Bool, true, false, not, eqb, length, map, filter, drop, get_or, Option, Some, None, refl, sym, ◌∙◌, ap, subst, inl, inr, arith, add-one, drop-cons}
+use Rattle.std.specs.Prelude.{nat_lt}
+use Rattle.std.proofs.lemmas.Bool.Decides.{nat_tests}
+use Rattle.farm_base.specs.declared.message.Why.TheVariants.{InstancesSpent, TicketsSpent}
+use Rattle.farm_base.specs.declared.number.Life.{Life}
+use Rattle.farm_base.specs.declared.number.NodeId.{NodeId}
+use Rattle.leases.specs.declared.lease_table.Fit.TheVariants as fit
+use Rattle.leases.specs.Table.{first_fit}
+use Rattle.leases.proofs.MarkLemmas.{drop-item, drop_none}
+use Rattle.protocol.specs.Lists.{put}
+use Rattle.protocol.specs.Names.{Slot, slots_eq, leased_wants}
+use Rattle.protocol.specs.Machine.{News, slots_of, Parked}
+use Rattle.protocol.specs.Ledger.{Limits, Ledger, Decision, Give, Deny, Wait, pick, decision, elsewhere, all_taken, busy, is_free, is_leased}
+use Rattle.coordinator.specs.declared.state.SeenLife.{SeenLife}
+use Rattle.coordinator.specs.Held.{life_at}
+use Rattle.coordinator.proofs.LineWords.{cases_bool, eqb_same, eqb_apart}
+
+cases_nat : (a b : ℕ) → (a ≡ b) ⊎ (a ≢ b)
+cases_nat a b = grind arith
+
+pub decision-is : (k : Limits) (q : Ledger) (p : Parked) → decision k q p ≡ pick (elsewhere q p) (all_taken k.instances (is_free q) (leased_wants p.tenure p.wants)) (busy (is_leased q) (leased_wants p.tenure p.wants)) (not (nat_lt q.last k.greatest))
+unfolding decision
+decision-is k q p = refl
+
+-- whether the leases leave room for the ask
+abbrev pub room_for : Limits → Ledger → Parked → fit.the_data
+room_for k q p = first_fit (all_taken k.instances (is_free q) (leased_wants p.tenure p.wants)) (busy (is_leased q) (leased_wants p.tenure p.wants))
+
+picks_spent : (a b c d : Bool) → a ≡ false → first_fit b c ≡ fit.InstancesSpent → pick a b c d ≡ Deny InstancesSpent
+picks_spent true b c d e h = (let bad : true ≡ false = e in absurd (cc bad))
+picks_spent false true c d e h = refl
+picks_spent false false true d e h = absurd (cc h)
+picks_spent false false false d e h = absurd (cc h)
+
+picks_wait : (a b c d : Bool) → a ≡ false → first_fit b c ≡ fit.Busy → pick a b c d ≡ Wait
+picks_wait true b c d e h = refl
+picks_wait false true c d e h = absurd (cc h)
+picks_wait false false true d e h = refl
+picks_wait false false false d e h = absurd (cc h)
+
+picks_give : (a b c d : Bool) → a ≡ false → first_fit b c ≡ fit.Fits → d ≡ false → pick a b c d ≡ Give
+picks_give true b c d e h f = (let bad : true ≡ false = e in absurd (cc bad))
+picks_give false true c d e h f = absurd (cc h)
+picks_give false false true d e h f = absurd (cc h)
+picks_give false false false true e h f = (let bad : true ≡ false = f in absurd (cc bad))
+picks_give false false false false e h f = refl
+
+picks_last : (a b c d : Bool) → a ≡ false → first_fit b c ≡ fit.Fits → d ≡ true → pick a b c d ≡ Deny TicketsSpent
+picks_last true b c d e h f = (let bad : true ≡ false = e in absurd (cc bad))
+picks_last false true c d e h f = absurd (cc h)
+picks_last false false true d e h f = absurd (cc h)
+picks_last false false false true e h f = refl
+picks_last false false false false e h f = (let bad : false ≡ true = f in absurd (cc bad))
+
+picks_elsewhere : (a b c d : Bool) → a ≡ true → pick a b c d ≡ Wait
+picks_elsewhere true b c d e = refl
+picks_elsewhere false b c d e = (let bad : false ≡ true = e in absurd (cc bad))
+
+pub decision-elsewhere : (k : Limits) (q : Ledger) (p : Parked) → elsewhere q p ≡ true → decision k q p ≡ Wait
+decision-elsewhere k q p e = decision-is k q p ∙ picks_elsewhere _ _ _ _ e
+
+pub decision-instances : (k : Limits) (q : Ledger) (p : Parked) → elsewhere q p ≡ false → room_for k q p ≡ fit.InstancesSpent → decision k q p ≡ Deny InstancesSpent
+decision-instances k q p e h = decision-is k q p ∙ picks_spent _ _ _ _ e h
+
+pub decision-busy : (k : Limits) (q : Ledger) (p : Parked) → elsewhere q p ≡ false → room_for k q p ≡ fit.Busy → decision k q p ≡ Wait
+decision-busy k q p e h = decision-is k q p ∙ picks_wait _ _ _ _ e h
+
+lower : (a b : ℕ) → a ≤ b → a ≢ b → not (nat_lt a b) ≡ false
+lower a b h ne = grind (arith, nat_tests)
+
+equal : (a b : ℕ) → a ≡ b → not (nat_lt a b) ≡ true
+equal a b e = grind (arith, nat_tests)
+
+pub decision-give : (k : Limits) (q : Ledger) (p : Parked) → elsewhere q p ≡ false → room_for k q p ≡ fit.Fits → q.last ≤ k.greatest → q.last ≢ k.greatest → decision k q p ≡ Give
+decision-give k q p e h le ne = decision-is k q p ∙ picks_give _ _ _ _ e h (lower q.last k.greatest le ne)
+
+pub decision-tickets : (k : Limits) (q : Ledger) (p : Parked) → elsewhere q p ≡ false → room_for k q p ≡ fit.Fits → q.last ≡ k.greatest → decision k q p ≡ Deny TicketsSpent
+decision-tickets k q p e h same = decision-is k q p ∙ picks_last _ _ _ _ e h (equal q.last k.greatest same)
+
+-- ---- lives
+
+life_at-set : (ls : List SeenLife) (node : NodeId) (life : Life) (n : ℕ) → life_at (filter (λ s. not (eqb s.node.0 node.0)) ls ++ record { node = node; life = life } ∷ []) n ≡ put node.0 life.0 (life_at ls) n
+life_at-set [] node life n = elim (cases_nat n node.0) [
+  | inl e ↦ (let t : eqb node.0 n ≡ true = subst (λ (z : ℕ). eqb node.0 z ≡ true) (sym e) (eqb_same node.0) in let u : eqb n node.0 ≡ true = subst (λ (z : ℕ). eqb n z ≡ true) e (eqb_same n) in rw (t, u) refl)
+  | inr ne ↦ (let t : eqb node.0 n ≡ false = eqb_apart node.0 n (λ h. ne (sym h)) in let u : eqb n node.0 ≡ false = eqb_apart n node.0 ne in rw (t, u) refl)
+]
+life_at-set (l ∷ ls) node life n = elim (cases_nat l.node.0 node.0) [
+  | inl e ↦ (let t : eqb l.node.0 node.0 ≡ true = subst (λ (z : ℕ). eqb l.node.0 z ≡ true) e (eqb_same l.node.0) in
+      rw t (life_at-set ls node life n ∙ elim (cases_nat n node.0) [
+        | inl f ↦ (let g : eqb n node.0 ≡ true = subst (λ (z : ℕ). eqb n z ≡ true) f (eqb_same n) in rw g refl)
+        | inr ne ↦ (let g : eqb n node.0 ≡ false = eqb_apart n node.0 ne in let h : eqb l.node.0 n ≡ false = eqb_apart l.node.0 n (λ k. ne (sym k ∙ e)) in rw (g, h) refl)
+      ]))
+  | inr ne ↦ (let t : eqb l.node.0 node.0 ≡ false = eqb_apart l.node.0 node.0 ne in
+      rw t (elim (cases_nat l.node.0 n) [
+        | inl f ↦ (let g : eqb l.node.0 n ≡ true = subst (λ (z : ℕ). eqb l.node.0 z ≡ true) f (eqb_same l.node.0) in let h : eqb n node.0 ≡ false = eqb_apart n node.0 (λ k. ne (f ∙ k)) in rw (g, h) refl)
+        | inr nf ↦ (let g : eqb l.node.0 n ≡ false = eqb_apart l.node.0 n nf in rw g (life_at-set ls node life n))
+      ]))
+]
+
+-- the life of a node that is set anew
+pub set-life : (ls : List SeenLife) (node : NodeId) (life : Life) → life_at (filter (λ s. not (eqb s.node.0 node.0)) ls ++ record { node = node; life = life } ∷ []) ≡ put node.0 life.0 (life_at ls)
+set-life ls node life = fun_ext (life_at-set ls node life)
+
+-- ---- the slots of news
+
+-- at the end of the slots that may be written the news are at their end too
+pub fit_end : (news : List News) (i : ℕ) → i ≤ length news → slots_eq (slots_of (drop i news)) [] ≡ eqb i (length news)
+fit_end [] zero h = refl
+fit_end [] (suc i) h = absurd (omega arith)
+fit_end (x ∷ news) zero h = (let other : eqb 0 (suc (length news)) ≡ false = eqb_apart 0 (suc (length news)) (λ e. omega arith) in sym other)
+fit_end (x ∷ news) (suc i) h = fit_end news i (omega arith) ∙ same_after i (length news)
+  where
+    same_after : (a b : ℕ) → eqb a b ≡ eqb (suc a) (suc b)
+    same_after a b = grind (arith, nat_tests)

@@ -1,0 +1,153 @@
+-- Trying an ask, by what is decided of it.
+use Rattle.std.proofs.Common.{◌≡◌, ℕ, suc, List, [], ◌∷◌, ◌++◌, ◌⊎◌, ◌+◌, ◌<◌, ◌≤◌, cond, Bool, true, false, not, ◌&&◌, ◌||◌, Option, Some, None, refl, sym, ◌∙◌, ap, subst, inl, inr, arith, append_assoc}
+use Rattle.std.specs.Prelude.{if◌then◌else◌, is_some, count_by, nat_lt}
+use Rattle.std.specs.List.{list_any}
+use Rattle.std.proofs.lemmas.List.Sums.{sum_by-cons}
+use Rattle.std.proofs.lemmas.Bool.Decides.{nat_tests}
+use Rattle.protocol.specs.Names.{NodeId, Life, Ticket}
+use Rattle.protocol.specs.declared.answer.CoordNote.TheVariants as note
+use Rattle.protocol.specs.Machine.{Parked, ToCoord}
+use Rattle.protocol.specs.Ledger.{Limits, Ledger, Work, Decision, Give, Deny, Wait, decision, carried_out, waits, tried, stays, try_all, waiting, retried, parks, gives, granting, lease_for, denies, says, notes, Lease, acquiring, decided, is_older, is_home, newer_life, sees, may_release, released, ends, lease_under, has_ticket, without, answering, handled}
+use Rattle.coordinator.specs.Shown.{ended, saved_under}
+use Rattle.coordinator.proofs.LineWords.{cases_bool, eqb_is}
+
+pub tried-is : (k : Limits) (p : Parked) (w : Work) (d : Decision) → decision k w.ledger p ≡ d → tried k p w ≡ carried_out d k p w
+unfolding tried
+tried-is k p w d e = ap (λ x. carried_out x k p w) e
+
+pub stays-is : (k : Limits) (p : Parked) (w : Work) (d : Decision) → decision k w.ledger p ≡ d → stays k p w ≡ waits d
+unfolding stays
+stays-is k p w d e = ap waits e
+
+-- what waits has no say in what is decided
+decision-parks : (k : Limits) (p : Parked) (w : Work) (ps : List Parked) → decision k (parks ps w).ledger p ≡ decision k w.ledger p
+unfolding decision
+decision-parks k p w ps = refl
+
+carried_out-parks : (d : Decision) (k : Limits) (p : Parked) (w : Work) (ps : List Parked) → carried_out d k p (parks ps w) ≡ parks ps (carried_out d k p w)
+unfolding gives
+carried_out-parks Give k p w ps = refl
+carried_out-parks (Deny why) k p w ps = refl
+carried_out-parks Wait k p w ps = refl
+
+tried-parks : (k : Limits) (p : Parked) (w : Work) (ps : List Parked) → tried k p (parks ps w) ≡ parks ps (tried k p w)
+tried-parks k p w ps =
+    tried-is k p (parks ps w) (decision k w.ledger p) (decision-parks k p w ps) ∙ carried_out-parks (decision k w.ledger p) k p w ps ∙ ap (parks ps) (sym (tried-is k p w (decision k w.ledger p) refl))
+
+stays-parks : (k : Limits) (p : Parked) (w : Work) (ps : List Parked) → stays k p (parks ps w) ≡ stays k p w
+stays-parks k p w ps = stays-is k p (parks ps w) (decision k w.ledger p) (decision-parks k p w ps) ∙ sym (stays-is k p w (decision k w.ledger p) refl)
+
+pub try_all-parks : (k : Limits) (qs : List Parked) (w : Work) (ps : List Parked) → try_all k qs (parks ps w) ≡ parks ps (try_all k qs w)
+try_all-parks k [] w ps = refl
+try_all-parks k (q ∷ qs) w ps = ap (try_all k qs) (tried-parks k q w ps) ∙ try_all-parks k qs (tried k q w) ps
+
+pub waiting-parks : (k : Limits) (qs : List Parked) (w : Work) (ps : List Parked) → waiting k qs (parks ps w) ≡ waiting k qs w
+waiting-parks k [] w ps = refl
+waiting-parks k (q ∷ qs) w ps =
+    let same = stays-parks k q w ps in
+    let next : waiting k qs (tried k q (parks ps w)) ≡ waiting k qs (tried k q w) = ap (waiting k qs) (tried-parks k q w ps) ∙ waiting-parks k qs (tried k q w) ps in
+    rw (same, next) refl
+
+pub retried-is : (k : Limits) (w : Work) → retried k w ≡ parks (waiting k w.ledger.parked w) (try_all k w.ledger.parked w)
+unfolding retried
+retried-is k w = refl
+
+-- all parked asks were tried, while none was parked
+pub retried-from : (k : Limits) (w last : Work) (stay : List Parked) → try_all k w.ledger.parked (parks [] w) ≡ last → waiting k w.ledger.parked (parks [] w) ≡ stay → parks stay last ≡ retried k w
+retried-from k w last stay all rest =
+    let e : last ≡ parks [] (try_all k w.ledger.parked w) = sym all ∙ try_all-parks k w.ledger.parked w [] in
+    let s : stay ≡ waiting k w.ledger.parked w = sym rest ∙ waiting-parks k w.ledger.parked w [] in
+    ap (λ x. parks stay x) e ∙ ap (λ x. parks x (try_all k w.ledger.parked w)) s ∙ sym (retried-is k w)
+
+-- one ask more was tried
+pub waiting-next : (k : Limits) (p : Parked) (rest : List Parked) (w : Work) (stay stay' total : List Parked) (b : Bool) → b ≡ stays k p w → stay' ≡ (if b then stay ++ p ∷ [] else stay)
+    → stay ++ waiting k (p ∷ rest) w ≡ total → stay' ++ waiting k rest (tried k p w) ≡ total
+waiting-next k p rest w stay stay' total true e s h =
+    let t : stays k p w ≡ true = sym e in
+    let all : stay ++ (p ∷ waiting k rest (tried k p w)) ≡ total = rw t at h in
+    ap (λ (x : List Parked). x ++ waiting k rest (tried k p w)) s ∙ append_assoc stay (p ∷ []) (waiting k rest (tried k p w)) ∙ all
+waiting-next k p rest w stay stay' total false e s h =
+    let t : stays k p w ≡ false = sym e in
+    let all : stay ++ waiting k rest (tried k p w) ≡ total = rw t at h in
+    ap (λ (x : List Parked). x ++ waiting k rest (tried k p w)) s ∙ all
+
+-- an ask that was not granted or parked before is decided
+pub acquiring-decides : (k : Limits) (o : Option Lease) (b : Bool) (p : Parked) (w : Work) → is_some o ≡ false → b ≡ false → acquiring k o b p w ≡ decided (decision k w.ledger p) k p w
+acquiring-decides k (Some g) b p w h e = (let bad : true ≡ false = h in absurd (cc bad))
+acquiring-decides k None true p w h e = (let bad : true ≡ false = e in absurd (cc bad))
+acquiring-decides k None false p w h e = refl
+
+-- where something ended
+pub any-count : {A : Type 0} (test : A → Bool) (xs : List A) → nat_lt 0 (count_by test xs) ≡ list_any test xs
+any-count test [] = refl
+any-count test (x ∷ xs) = elim (cases_bool (test x)) [
+  | inl e ↦ (let c : count_by test (x ∷ xs) ≡ 1 + count_by test xs = sum_by-cons (λ y. cond (test y) 1 0) x xs ∙ ap (λ (b : Bool). cond b 1 0 + count_by test xs) e in
+      ap (nat_lt 0) c ∙ above (count_by test xs) ∙ sym (ap (λ (b : Bool). b || list_any test xs) e))
+  | inr e ↦ (let c : count_by test (x ∷ xs) ≡ 0 + count_by test xs = sum_by-cons (λ y. cond (test y) 1 0) x xs ∙ ap (λ (b : Bool). cond b 1 0 + count_by test xs) e in
+      ap (nat_lt 0) c ∙ same (count_by test xs) ∙ any-count test xs ∙ sym (ap (λ (b : Bool). b || list_any test xs) e))
+]
+  where
+    above : (b : ℕ) → nat_lt 0 (1 + b) ≡ true
+    above b = grind (arith, nat_tests)
+    same : (b : ℕ) → nat_lt 0 (0 + b) ≡ nat_lt 0 b
+    same b = grind (arith, nat_tests)
+
+pub newer_life-tries : (k : Limits) (n : NodeId) (l : Life) (w : Work) → (list_any (is_older n l) w.ledger.live || is_home n w.ledger.old_home) ≡ true → newer_life k n l w ≡ retried k (sees n l w)
+unfolding newer_life
+newer_life-tries k n l w e = rw e refl
+
+pub newer_life-sees : (k : Limits) (n : NodeId) (l : Life) (w : Work) → (list_any (is_older n l) w.ledger.live || is_home n w.ledger.old_home) ≡ false → newer_life k n l w ≡ sees n l w
+unfolding newer_life
+newer_life-sees k n l w e = rw e refl
+
+-- what is released was leased
+pub may_release-some : (n : NodeId) (l : Life) (o : Option Lease) → may_release n l o ≡ true → (g : Lease) × (o ≡ Some g)
+may_release-some n l None h = (let bad : false ≡ true = h in absurd (cc bad))
+may_release-some n l (Some g) h = (g, refl)
+
+pub released-is : (k : Limits) (b : Bool) (t : Ticket) (o : Option Lease) (g : Lease) (w : Work) → b ≡ true → o ≡ Some g → released k b t o w ≡ notes (note.Released t) (retried k (ends g w))
+released-is k b t o g w e h = ap (λ (x : Bool). released k x t o w) e ∙ ap (λ (x : Option Lease). released k true t x w) h
+
+pub released-not : (k : Limits) (b : Bool) (t : Ticket) (o : Option Lease) (w : Work) → b ≡ false → released k b t o w ≡ w
+released-not k true t o w e = (let bad : true ≡ false = e in absurd (cc bad))
+released-not k false t None w e = refl
+released-not k false t (Some g) w e = refl
+
+-- the lease that is found has the ticket
+pub ticket-found : (t : Ticket) (live : List Lease) (g : Lease) → lease_under live t ≡ Some g → g.ticket ≡ t
+ticket-found t [] g e = absurd (cc e)
+ticket-found t (x ∷ live) g e = elim (cases_bool (has_ticket t x)) [
+  | inl h ↦ (let at : Some x ≡ Some g = rw h at e in let same : x ≡ g = cc at in let is : x.ticket.0 ≡ t.0 = eqb_is x.ticket.0 t.0 h in
+      sym (ap (λ (z : Lease). z.ticket) same) ∙ (λ i. record { 0 = is i }))
+  | inr h ↦ ticket-found t live g (rw h at e)
+]
+
+-- the lease of a ticket ends
+pub ended-is : (t : Ticket) (w : Work) (g : Lease) → lease_under w.ledger.live t ≡ Some g → ended t w ≡ ends g w
+ended-is t w g e =
+    let by : (Option Lease → Ticket → Work) = λ o u. record w { ledger = record w.ledger { live = without u w.ledger.live }; changed = w.changed || saved_under o } in
+    ap (λ (o : Option Lease). by o t) e ∙ ap (by (Some g)) (sym (ticket-found t w.ledger.live g e))
+
+-- ---- a message, by its node and life
+
+below : (a b : ℕ) → a < b → nat_lt a b ≡ true
+below a b h = grind (arith, nat_tests)
+
+not_below : (a b : ℕ) → b ≤ a → nat_lt a b ≡ false
+not_below a b h = grind (arith, nat_tests)
+
+pub handled-gone : (k : Limits) (y : ToCoord) (w : Work) → w.ledger.gone y.node.0 ≡ true → handled k y w ≡ notes note.NodeRetired w
+unfolding handled
+handled-gone k y w e = rw e refl
+
+pub handled-old : (k : Limits) (y : ToCoord) (w : Work) → w.ledger.gone y.node.0 ≡ false → y.life.0 < w.ledger.lives y.node.0 → handled k y w ≡ notes note.OldLife w
+unfolding handled
+handled-old k y w e h = (let f = below _ _ h in rw (e, f) refl)
+
+pub handled-new : (k : Limits) (y : ToCoord) (w : Work) → w.ledger.gone y.node.0 ≡ false → w.ledger.lives y.node.0 < y.life.0 → handled k y w ≡ answering k y.node y.life y.request (newer_life k y.node y.life w)
+unfolding handled
+handled-new k y w e h = (let f : nat_lt y.life.0 (w.ledger.lives y.node.0) ≡ false = not_below _ _ (omega arith) in let g = below _ _ h in rw (e, f, g) refl)
+
+pub handled-same : (k : Limits) (y : ToCoord) (w : Work) → w.ledger.gone y.node.0 ≡ false → w.ledger.lives y.node.0 ≤ y.life.0 → y.life.0 ≤ w.ledger.lives y.node.0 → handled k y w ≡ answering k y.node y.life y.request w
+unfolding handled
+handled-same k y w e h i = (let f = not_below _ _ h in let g = not_below _ _ i in rw (e, f, g) refl)

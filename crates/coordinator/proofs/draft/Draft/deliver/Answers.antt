@@ -1,0 +1,54 @@
+use Rattle.std.proofs.Common.{◌≡◌, ◌<◌, ◌≤◌, true, false, Bool, List, Option, Some, None, map, refl, ap, sym, ◌∙◌, subst, arith}
+use Rattle.folders.specs.Farm.{farm_limits}
+use Rattle.protocol.specs.declared.answer.CoordNote.TheVariants as note
+use Rattle.protocol.specs.Names.{NodeId}
+use Rattle.protocol.specs.Machine.{ToCoord}
+use Rattle.coordinator.specs.declared.state.SeenLife.{SeenLife}
+use Rattle.coordinator.specs.Held.{line_at, is_among, life_at}
+use Rattle.coordinator.specs.Shown.{Lines, shown, kept, lines_with, news_of}
+use Rattle.coordinator.specs.Sound.{IsSound}
+use Rattle.protocol.specs.Ledger.{Work, answering}
+use Rattle.coordinator.proofs.Trying.{handled-gone, handled-old, handled-new, handled-same}
+use Rattle.coordinator.proofs.SoundWords.{sound-newer_life}
+use Rattle.coordinator.proofs.draft.Draft.deliver.Goals as goal
+
+pub returns-then-is_among-clause-work : goal.returns-then-is_among-clause-work
+returns-then-is_among-clause-work c =
+    let y : ToCoord = c.args.message.now in
+    let w : Work = shown (line_at c.args.lines.now) c.args.self.now in
+    let gone : w.ledger.gone y.node.0 ≡ true = ap (λ (xs : List NodeId). is_among xs y.node.0) (sym c.as_slice.ensures.value) ∙ sym c.is_among.ensures ∙ c.if-is_among.true in
+    sym (handled-gone farm_limits y w gone)
+
+pub returns-then-message-seen-clause-work : goal.returns-then-message-seen-clause-work
+returns-then-message-seen-clause-work c =
+    let y : ToCoord = c.args.message.now in
+    let w : Work = shown (line_at c.args.lines.now) c.args.self.now in
+    let gone : w.ledger.gone y.node.0 ≡ false = ap (λ (xs : List NodeId). is_among xs y.node.0) (sym c.as_slice.ensures.value) ∙ sym c.is_among.ensures ∙ c.if-is_among.false in
+    let seen : c.seen_life-seen.result ≡ w.ledger.lives y.node.0 = c.seen_life-seen.ensures ∙ ap (λ (xs : List SeenLife). life_at xs y.node.0) c.as_slice-2.ensures.value in
+    let older : y.life.0 < c.seen_life-seen.result = c.if-message-seen.true in
+    sym (handled-old farm_limits y w gone (omega arith))
+
+pub answer-requires : goal.answer-requires
+answer-requires c =
+    let line : Lines = line_at c.args.lines.now in
+    let P : Work → Type 0 = λ w. IsSound w.ledger in
+    subst P (sym c.in_ok-begin_life.ensures) (sound-newer_life farm_limits c.args.message.now.node c.args.message.now.life (shown line c.args.self.now) c.requires)
+
+pub returns-then-seen-message-clause-work : goal.returns-then-seen-message-clause-work
+returns-then-seen-message-clause-work c =
+    let y : ToCoord = c.args.message.now in
+    let w : Work = shown (line_at c.args.lines.now) c.args.self.now in
+    let gone : w.ledger.gone y.node.0 ≡ false = ap (λ (xs : List NodeId). is_among xs y.node.0) (sym c.as_slice.ensures.value) ∙ sym c.is_among.ensures ∙ c.if-is_among.false in
+    let seen : c.seen_life-seen.result ≡ w.ledger.lives y.node.0 = c.seen_life-seen.ensures ∙ ap (λ (xs : List SeenLife). life_at xs y.node.0) c.as_slice-2.ensures.value in
+    let newer : c.seen_life-seen.result < y.life.0 = c.if-seen-message.true in
+    c.in_ok-added.ensures.work ∙ ap (answering farm_limits y.node y.life y.request) c.in_ok-begin_life.ensures ∙ sym (handled-new farm_limits y w gone (omega arith))
+
+pub returns-clause-work : goal.returns-clause-work
+returns-clause-work c =
+    let y : ToCoord = c.args.message.now in
+    let w : Work = shown (line_at c.args.lines.now) c.args.self.now in
+    let gone : w.ledger.gone y.node.0 ≡ false = ap (λ (xs : List NodeId). is_among xs y.node.0) (sym c.as_slice.ensures.value) ∙ sym c.is_among.ensures ∙ c.if-is_among.false in
+    let seen : c.seen_life-seen.result ≡ w.ledger.lives y.node.0 = c.seen_life-seen.ensures ∙ ap (λ (xs : List SeenLife). life_at xs y.node.0) c.as_slice-2.ensures.value in
+    let high : c.seen_life-seen.result ≤ y.life.0 = c.if-message-seen.false in
+    let low : y.life.0 ≤ c.seen_life-seen.result = c.if-seen-message.false in
+    c.in_ok-added-2.ensures.work ∙ sym (handled-same farm_limits y w gone (omega arith) (omega arith))

@@ -1,0 +1,27 @@
+use Rattle.std.proofs.Common.{◌≡◌, ◌<◌, ◌≤◌, true, false, Bool, List, Option, Some, None, map, refl, ap, sym, ◌∙◌, subst, arith}
+use Rattle.folders.specs.Farm.{farm_limits}
+use Rattle.protocol.specs.declared.answer.CoordNote.TheVariants as note
+use Rattle.coordinator.specs.Held.{line_at}
+use Rattle.coordinator.specs.Shown.{Lines, shown, kept, lines_with, news_of}
+use Rattle.coordinator.specs.Sound.{IsSound}
+use Rattle.protocol.specs.Ledger.{Work, Lease, retried, notes, lease_under, may_release, ends}
+use Rattle.coordinator.proofs.Trying.{may_release-some, released-is, ended-is}
+use Rattle.coordinator.proofs.SoundWords.{sound-ends}
+use Rattle.coordinator.proofs.draft.Draft.release.Goals as goal
+
+pub retry-requires : goal.retry-requires
+retry-requires c =
+    let line : Lines = line_at c.args.lines.now in
+    let w : Work = shown line c.args.self.now in
+    let r = may_release-some c.args.node c.args.life (lease_under w.ledger.live c.args.ticket) (sym c.may_release.ensures ∙ c.if-not-may_release.false) in
+    let P : Work → Type 0 = λ w. IsSound w.ledger in
+    subst P (sym (c.end.ensures line ∙ ended-is c.args.ticket w r.0 r.1)) (sound-ends r.0 w c.requires)
+
+pub returns : goal.returns
+returns c =
+    let line : Lines = line_at c.args.lines.now in
+    let w : Work = shown line c.args.self.now in
+    let may : may_release c.args.node c.args.life (lease_under w.ledger.live c.args.ticket) ≡ true = sym c.may_release.ensures ∙ c.if-not-may_release.false in
+    let r = may_release-some c.args.node c.args.life (lease_under w.ledger.live c.args.ticket) may in
+    ap (λ (x : Work). notes (note.Released c.args.ticket) x) (c.in_ok-retry.ensures ∙ ap (retried farm_limits) (c.end.ensures line ∙ ended-is c.args.ticket w r.0 r.1))
+    ∙ sym (released-is farm_limits (may_release c.args.node c.args.life (lease_under w.ledger.live c.args.ticket)) c.args.ticket (lease_under w.ledger.live c.args.ticket) r.0 w may r.1)

@@ -1,0 +1,54 @@
+-- What contracts see of a coordinator.
+use Rattle.std.specs.Prelude.{ℕ, ◌+◌, Bool, ◌==◌, if◌then◌else◌, List, [], ◌∷◌, Option}
+use Rattle.std.specs.List.{list_any}
+use Rattle.protocol.specs.Names.{Slot, slot_eq, NodeId}
+use Rattle.protocol.specs.Machine.{LineVersion, Parked}
+use Rattle.protocol.specs.Ledger.{Lease, Ledger}
+use Rattle.leases.specs.Table.{among}
+use Rattle.coordinator.specs.declared.lines.SlotLine.{SlotLine}
+use Rattle.coordinator.specs.declared.state.SeenLife.{SeenLife}
+
+-- the ledger, as lists
+pub record Held : Type 0 where
+  pub live : List Lease
+  pub retired : List Slot
+  pub gone : List NodeId
+  pub lines : List SlotLine
+  pub last : ℕ
+  pub ceiling : ℕ
+  pub old_home : Option NodeId
+  pub lives : List SeenLife
+  pub parked : List Parked
+
+-- the line of a slot
+abbrev pub line_at : List SlotLine → Slot → List LineVersion
+line_at [] s = []
+line_at (l ∷ ls) s = if slot_eq l.slot s then l.line else line_at ls s
+
+-- the place of the slot's line, or how many there are
+abbrev pub first_line : Slot → List SlotLine → ℕ
+first_line s [] = 0
+first_line s (l ∷ ls) = if slot_eq l.slot s then 0 else first_line s ls + 1
+
+-- the greatest life seen of a node
+abbrev pub life_at : List SeenLife → ℕ → ℕ
+life_at [] n = 0
+life_at (l ∷ ls) n = if l.node.0 == n then l.life.0 else life_at ls n
+
+-- the node is among these
+abbrev pub is_among : List NodeId → ℕ → Bool
+is_among nodes n = list_any (λ node. node.0 == n) nodes
+
+-- the ledger that is held
+abbrev pub ledger : Held → Ledger
+ledger h = record {
+  live = h.live;
+  retired = among h.retired;
+  gone = is_among h.gone;
+  line = line_at h.lines;
+  last = h.last;
+  ceiling = h.ceiling;
+  old_home = h.old_home;
+  lives = life_at h.lives;
+  parked = h.parked;
+}

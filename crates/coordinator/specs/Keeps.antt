@@ -1,0 +1,29 @@
+-- What a coordinator keeps, by its fields.
+use Rattle.std.specs.Prelude.{◌≡◌, Bool, List, [], ◌∷◌, Option, Some, None}
+use Rattle.protocol.specs.Machine.{LineVersion}
+use Rattle.coordinator.specs.declared.lines.SlotLine.{SlotLine}
+use Rattle.coordinator.specs.declared.state.State.{State}
+use Rattle.coordinator.specs.Held.{Held, line_at}
+use Rattle.coordinator.specs.Shown.{kept}
+use Rattle.coordinator.specs.Sound.{IsSound}
+
+abbrev pub held : State → List SlotLine → Held
+held s lines = record {
+  live = s.table.live;
+  retired = s.table.retired;
+  gone = s.gone.items;
+  lines = lines;
+  last = s.tickets.position;
+  ceiling = s.tickets.ceiling;
+  old_home = s.old_home;
+  lives = s.lives.items;
+  parked = s.parked.items;
+}
+
+abbrev pub keeps_sound : State → List SlotLine → Type 0
+keeps_sound s lines = IsSound (kept (line_at lines) s)
+
+-- the line, if it has a version
+abbrev pub line_shown : List LineVersion → Option (List LineVersion)
+line_shown [] = None
+line_shown (v ∷ vs) = Some (v ∷ vs)

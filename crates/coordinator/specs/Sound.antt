@@ -1,0 +1,28 @@
+-- What a ledger keeps to.
+use Rattle.std.specs.Prelude.{◌≡◌, ◌<◌, ◌≤◌, true, List, All}
+use Rattle.farm_base.specs.Wanted.{IsWants}
+use Rattle.farm_base.specs.declared.message.Request.{Request}
+use Rattle.farm_base.specs.declared.message.Request.TheVariants.{Hello, Acquire, Commit, Release}
+use Rattle.leases.specs.Leases.{AreLeases}
+use Rattle.protocol.specs.Names.{Slot}
+use Rattle.protocol.specs.Machine.{LineVersion}
+use Rattle.protocol.specs.Ledger.{Lease, Ledger, has_slot}
+
+-- the lease's ticket is above all on the lines of its slots
+abbrev pub IsOpen : (Slot → List LineVersion) → Lease → Type 0
+IsOpen line g = (s : Slot) → has_slot g.slots s ≡ true → All (λ v. v.ticket.0 < g.ticket.0) (line s)
+
+pub record IsSound (q : Ledger) : Type 0 where
+  pub leases : AreLeases q.live
+  -- no ticket is above the last
+  pub given : All (λ g. g.ticket.0 ≤ q.last) q.live
+  pub past : (s : Slot) → All (λ v. v.ticket.0 ≤ q.last) (q.line s)
+  pub ahead : All (IsOpen q.line) q.live
+  pub asks : All (λ p. IsWants p.wants) q.parked
+
+-- what each request of the program is
+abbrev pub IsRequest : Request → Type 0
+IsRequest Hello = Unit {0}
+IsRequest (Acquire ask wants tenure) = IsWants wants
+IsRequest (Commit ticket news) = Unit {0}
+IsRequest (Release ticket) = Unit {0}

@@ -1,0 +1,156 @@
+ghost use Rattle.std.specs.Prelude.{◌≡◌, ◌≢◌, ◌+◌, ◌≤◌, List, [], map, IfOk, OnOk, OnErr, IsOkUnless, Option, option_copied, length};
+ghost use Rattle.std.specs.Vec.{vec_capacity};
+ghost use Rattle.folders.specs.Farm.{farm_limits};
+ghost use Rattle.leases.specs.Table.{state_of};
+ghost use Rattle.protocol.specs.Ledger.{opening, begin_work, handled};
+ghost use Rattle.coordinator.specs.Held.{line_at, ledger};
+ghost use Rattle.coordinator.specs.Additions.{IsReady};
+ghost use Rattle.coordinator.specs.Shown.{kept, shown, lines_with, added_count};
+ghost use Rattle.coordinator.specs.Sound.{IsSound, IsRequest};
+ghost use Rattle.coordinator.specs.Keeps.{line_shown};
+
+use super::draft::Draft;
+use super::lines::{Added, SlotLine, add_to, find_line, room_to_add};
+use super::state::State;
+use farm_base::{FromCoord, Items, Request, Slot, Ticket, ToCoord};
+use leases::{LeaseTable, SlotState, TicketSource};
+use protocol::{CoordNote, CoordRefusal};
+use std::alloc::{AllocError, Global};
+use std::marker::Model;
+use versions::Line;
+
+/// The coordinator of a farm, which decides who may use which slot, and keeps the lines of versions.
+/// Contracts see what it keeps.
+#[derive(Debug, Drop)]
+pub struct Coordinator {
+    state: State,
+    lines: Vec<SlotLine>,
+}
+
+impl Model for Coordinator {
+    ghost use Rattle.coordinator.specs.Held.{Held};
+
+    ghost Value = { Held };
+
+    ghost use Rattle.coordinator.specs.Keeps.{held, keeps_sound};
+
+    ghost view = { λ c. held c.state c.lines.items };
+
+    ghost invariant = { λ c. keeps_sound c.state c.lines.items };
+}
+
+/// What a message came to.
+#[derive(Debug, Drop)]
+pub struct Handled {
+    pub sends: Items<FromCoord>,
+    pub note: CoordNote,
+}
+
+/// What a message comes to once it is accepted.
+#[derive(Debug, Drop)]
+struct Prepared {
+    draft: Draft,
+    added: Option<Added>,
+    /// Room for the lines, with those that are added.
+    room: Vec<SlotLine>,
+}
+
+/// The requests of the program.
+fn is_request(message: &ToCoord)
+    ensures { IsRequest message.now.request }
+{
+    if let Request::Acquire { wants, .. } = &message.request {
+        let _wants = wants.as_slice();
+    }
+}
+
+impl Coordinator {
+    /// The coordinator of a farm where nothing happened.
+    pub fn start(alloc: Global) -> Self
+        ensures { ledger result ≡ opening }
+    {
+        let state = State {
+            table: LeaseTable::new(alloc),
+            tickets: TicketSource::after(Ticket(0)),
+            lives: Vec::new(alloc),
+            gone: Vec::new(alloc),
+            old_home: None,
+            parked: Vec::new(alloc),
+        };
+        Coordinator {
+            state,
+            lines: Vec::new(alloc),
+        }
+    }
+
+    /// What a message comes to. Nothing changes until that is accepted.
+    fn prepare(&self, alloc: Global, message: &ToCoord) -> Result<Prepared, AllocError>
+        ensures work { IfOk result (λ p. shown (lines_with self.now.lines p.added) p.draft
+            ≡ handled farm_limits message.now (begin_work (ledger self.now))) }
+        ensures sound { IfOk result (λ p. IsSound (kept (lines_with self.now.lines p.added) p.draft.state)) }
+        ensures ready { IfOk result (λ p. IsReady self.now.lines p.added) }
+        ensures empty { IfOk result (λ p. p.room.items ≡ []) }
+        ensures larger { IfOk result (λ p. length self.now.lines + added_count p.added ≤ vec_capacity p.room) }
+    {
+        is_request(message);
+        let mut draft = Draft {
+            state: self.state.copy(alloc)?,
+            sends: Vec::new(alloc),
+            changed: false,
+            note: CoordNote::Nothing,
+        };
+        let added = draft.deliver(alloc, self.lines.as_slice(), message)?;
+        let room = room_to_add(alloc, self.lines.as_slice(), &added)?;
+        Ok(Prepared { draft, added, room })
+    }
+
+    /// Changes to what was prepared.
+    fn accept(&mut self, prepared: Prepared) -> Handled
+        requires sound { IsSound (kept (lines_with self.old.lines prepared.added) prepared.draft.state) }
+        requires ready { IsReady self.old.lines prepared.added }
+        requires empty { prepared.room.items ≡ [] }
+        requires larger { length self.old.lines + added_count prepared.added ≤ vec_capacity prepared.room }
+        ensures ledger { ledger self.new ≡ kept (lines_with self.old.lines prepared.added) prepared.draft.state }
+        ensures sends { result.sends ≡ prepared.draft.sends.items }
+        ensures note { result.note ≡ prepared.draft.note }
+    {
+        let Prepared { draft, added, room } = prepared;
+        add_to(&mut self.lines, added, room);
+        self.state = draft.state;
+        Handled {
+            sends: Items::new(draft.sends),
+            note: draft.note,
+        }
+    }
+
+    /// Does what a message asks, in one step.
+    pub fn handle(&mut self, alloc: Global, message: &ToCoord) -> Result<Handled, CoordRefusal>
+        ensures ledger { OnOk result (ledger self.new ≡ (handled farm_limits message.now (begin_work (ledger self.old))).ledger) }
+        ensures sends { IfOk result (λ h. h.sends ≡ (handled farm_limits message.now (begin_work (ledger self.old))).sends) }
+        ensures note { IfOk result (λ h. h.note ≡ (handled farm_limits message.now (begin_work (ledger self.old))).note) }
+        ensures memory { IsOkUnless result CoordRefusal.OutOfMemory }
+        ensures err { OnErr result (self.new ≡ self.old) }
+    {
+        let Ok(prepared) = self.prepare(alloc, message) else {
+            return Err(CoordRefusal::OutOfMemory);
+        };
+        Ok(self.accept(prepared))
+    }
+
+    /// The line of a slot, if it has a version.
+    pub fn line(&self, slot: &Slot) -> Option<&Line>
+        ensures { option_copied result ≡ line_shown (line_at self.now.lines slot.now) }
+    {
+        let line = find_line(self.lines.as_slice(), slot)?;
+        if line.len() == 0 {
+            return None;
+        }
+        Some(line)
+    }
+
+    pub fn slot_state(&self, slot: &Slot) -> SlotState
+        ensures { result ≡ state_of (record { live = self.now.live; retired = self.now.retired }) slot.now }
+    {
+        self.state.table.slot_state(slot)
+    }
+}

@@ -1,0 +1,11 @@
+//! The coordinator's decisions.
+#![tactic(auto)]
+
+mod coordinator;
+mod draft;
+mod lines;
+mod state;
+
+pub use coordinator::{Coordinator, Handled};
+pub use leases::SlotState;
+pub use protocol::{CoordNote, CoordRefusal};

@@ -1,0 +1,253 @@
+//! What the coordinator keeps beside the lines.
+ghost use Rattle.std.specs.Prelude.{◌≡◌, ◌≢◌, ℕ, ◌<◌, ◌==◌, ◌&&◌, true, IfOk, OnOk, filter, not, List, option_copied};
+ghost use Rattle.folders.specs.Farm.{empty_digest, farm_limits};
+ghost use Rattle.leases.specs.Table.{fit_of};
+ghost use Rattle.leases.specs.Tickets.{Tickets};
+ghost use Rattle.std.specs.List.{list_any};
+ghost use Rattle.protocol.specs.Names.{slots_eq, is_private};
+ghost use Rattle.protocol.specs.Lists.{put};
+ghost use Rattle.protocol.specs.Machine.{slots_of, cleared};
+ghost use Rattle.protocol.specs.Ledger.{decision, elsewhere, grant_of, is_saved, is_parked, is_older_ask, is_home, writable_slots, may_commit, may_release, lease_under};
+ghost use Rattle.coordinator.specs.Held.{life_at, is_among};
+ghost use Rattle.coordinator.specs.Shown.{Lines, kept, as_decision, lines_with, saved_under};
+
+use super::lines::{Added, SlotLine, granted_slots};
+use farm_base::{Ask, Copied, Grant, Items, Lease, Life, Mode, News, NodeId, Parked, Slot, Ticket, Why, copy_all};
+use leases::{Fit, LeaseTable, TicketSource};
+use std::alloc::{AllocError, Global};
+
+/// The greatest life seen of a node.
+#[derive(Clone, Copy, Debug, PartialEq, Eq)]
+pub struct SeenLife {
+    pub node: NodeId,
+    pub life: Life,
+}
+
+/// All that the coordinator keeps but the lines.
+#[derive(Debug, Drop)]
+pub struct State {
+    pub table: LeaseTable,
+    pub tickets: TicketSource,
+    pub lives: Vec<SeenLife>,
+    pub gone: Vec<NodeId>,
+    pub old_home: Option<NodeId>,
+    pub parked: Vec<Parked>,
+}
+
+/// What is done with an ask.
+#[derive(Clone, Copy, Debug, PartialEq, Eq)]
+pub enum Verdict {
+    Give,
+    Deny(Why),
+    Wait,
+}
+
+/// The greatest life seen of a node, 0 where none was.
+pub(crate) fn seen_life(lives: &[SeenLife], node: NodeId) -> u64
+    ensures { result ≡ life_at lives.now node.0 }
+{
+    for seen in lives {
+        if seen.node == node {
+            return seen.life.0;
+        }
+    }
+    0
+}
+
+fn drop_life(lives: &mut Vec<SeenLife>, node: NodeId)
+    ensures { lives.new.items ≡ filter (λ seen. not (seen.node.0 == node.0)) lives.old.items }
+{
+    lives.retain(|seen| seen.node != node);
+}
+
+/// Keeps the life as the node's greatest.
+pub(crate) fn set_life(lives: &mut Vec<SeenLife>, node: NodeId, life: Life) -> Result<(), AllocError>
+    ensures { OnOk result (life_at lives.new.items ≡ put node.0 life.0 (life_at lives.old.items)) }
+{
+    drop_life(lives, node);
+    lives.push(SeenLife { node, life })?;
+    Ok(())
+}
+
+pub(crate) fn is_among(nodes: &[NodeId], node: NodeId) -> bool
+    ensures { result ≡ is_among nodes.now node.0 }
+{
+    nodes.iter().any(|other| *other == node)
+}
+
+pub(crate) fn is_parked(parked: &[Parked], node: NodeId, life: Life, ask: Ask) -> bool
+    ensures { result ≡ is_parked parked.now node life ask }
+{
+    parked
+        .iter()
+        .any(|p| p.node == node && p.life == life && p.ask == ask)
+}
+
+/// Drops the asks of older lives of a node.
+pub(crate) fn drop_older_asks(parked: &mut Vec<Parked>, node: NodeId, life: Life)
+    ensures { parked.new.items ≡ filter (λ p. not (is_older_ask node life p)) parked.old.items }
+{
+    parked.retain(|p| !(p.node == node && p.life < life));
+}
+
+/// An old home that is this node is no more.
+pub(crate) fn cleared(node: NodeId, old_home: Option<NodeId>) -> Option<NodeId>
+    ensures { result ≡ cleared node old_home }
+{
+    match old_home {
+        Some(home) => {
+            if home == node {
+                None
+            } else {
+                Some(home)
+            }
+        }
+        None => None,
+    }
+}
+
+pub(crate) fn is_home(node: NodeId, old_home: Option<NodeId>) -> bool
+    ensures { result ≡ is_home node old_home }
+{
+    match old_home {
+        Some(home) => home == node,
+        None => false,
+    }
+}
+
+/// Whether the news are for just the slots that may be written, in their order.
+fn fit_slots(news: &[News], slots: &[(Slot, bool)]) -> bool
+    ensures { result ≡ slots_eq (slots_of news.now) (writable_slots slots.now) }
+{
+    let mut place = 0;
+    for held in slots {
+        if held.1 {
+            if place >= news.len() || news[place].slot != held.0 {
+                return false;
+            }
+            place += 1;
+        }
+    }
+    place == news.len()
+}
+
+/// The Grant of a lease.
+pub(crate) fn grant_of(
+    alloc: Global,
+    lines: &[SlotLine],
+    added: &Option<Added>,
+    lease: &Lease,
+) -> Result<Grant, AllocError>
+    ensures { IfOk result (λ grant. grant ≡ grant_of empty_digest (lines_with lines.now added.now) lease.now) }
+{
+    let slots = granted_slots(alloc, lines, added, lease.slots.as_slice())?;
+    Ok(Grant {
+        ticket: lease.ticket,
+        node: lease.node,
+        life: lease.life,
+        ask: lease.ask,
+        shared: lease.shared,
+        tenure: lease.tenure,
+        slots: Items::new(slots),
+    })
+}
+
+/// Whether the record has the lease.
+pub(crate) fn is_saved(lease: &Lease) -> bool
+    ensures { result ≡ is_saved lease.now }
+{
+    lease.tenure || has_private(lease.slots.as_slice())
+}
+
+pub(crate) fn is_some_saved(lease: &Option<Lease>) -> bool
+    ensures { result ≡ saved_under lease.now }
+{
+    match lease {
+        Some(lease) => is_saved(lease),
+        None => false,
+    }
+}
+
+fn has_private(slots: &[(Slot, bool)]) -> bool
+    ensures { result ≡ list_any (λ x. is_private x.0.folder.mode) slots.now }
+{
+    slots
+        .iter()
+        .any(|held| matches!(held.0.folder().mode, Mode::Private))
+}
+
+impl State {
+    pub(crate) fn copy(&self, alloc: Global) -> Result<State, AllocError>
+        ensures { IfOk result (λ copy. (line : Lines) → kept line copy ≡ kept line self.now) }
+    {
+        Ok(State {
+            table: self.table.copy(alloc)?,
+            tickets: self.tickets.copy(alloc)?,
+            lives: Vec::from_slice(alloc, self.lives.as_slice())?,
+            gone: Vec::from_slice(alloc, self.gone.as_slice())?,
+            old_home: self.old_home,
+            parked: copy_all(alloc, self.parked.as_slice())?,
+        })
+    }
+
+    /// Whether a tenure is asked for while another node is the old home.
+    pub(crate) fn is_elsewhere(&self, p: &Parked) -> bool
+        ensures { (line : Lines) → result ≡ elsewhere (kept line self.now) p.now }
+    {
+        match self.old_home {
+            Some(home) => p.tenure && home != p.node,
+            None => false,
+        }
+    }
+
+    /// Whether a tenure is asked for whose holder is told to give it up.
+    pub(crate) fn is_awaited(&self, p: &Parked) -> bool
+        ensures { (line : Lines) → result ≡ (p.now.tenure && not (elsewhere (kept line self.now) p.now)) }
+    {
+        p.tenure && !self.is_elsewhere(p)
+    }
+
+    /// What is done with an ask.
+    pub(crate) fn decide(&self, p: &Parked) -> Verdict
+        ensures decision { (line : Lines) → as_decision result ≡ decision farm_limits (kept line self.now) p.now }
+        ensures fits { result ≡ Verdict.Give → fit_of self.now.table p.now.tenure p.now.wants ≡ Fit.Fits }
+        ensures room { result ≡ Verdict.Give → self.now.tickets.position ≢ u64.MAX }
+    {
+        if self.is_elsewhere(p) {
+            return Verdict::Wait;
+        }
+        match self.table.fits(&p.wants, p.tenure) {
+            Fit::InstancesSpent => Verdict::Deny(Why::InstancesSpent),
+            Fit::Busy => Verdict::Wait,
+            Fit::Fits => {
+                match self.tickets.peek() {
+                    Ok(_) => Verdict::Give,
+                    Err(_) => Verdict::Deny(Why::TicketsSpent),
+                }
+            }
+        }
+    }
+
+    pub(crate) fn may_commit(&self, node: NodeId, life: Life, ticket: Ticket, news: &[News]) -> bool
+        ensures { result ≡ may_commit node life news.now (lease_under self.now.table.live ticket) }
+    {
+        match self.table.lease(ticket) {
+            Some(lease) => {
+                lease.node == node
+                    && lease.life == life
+                    && fit_slots(news, lease.slots.as_slice())
+                    && !news.is_empty()
+            }
+            None => false,
+        }
+    }
+
+    pub(crate) fn may_release(&self, node: NodeId, life: Life, ticket: Ticket) -> bool
+        ensures { result ≡ may_release node life (lease_under self.now.table.live ticket) }
+    {
+        match self.table.lease(ticket) {
+            Some(lease) => lease.node == node && lease.life == life,
+            None => false,
+        }
+    }
+}

@@ -1,0 +1,261 @@
+-- Leases that may be live together: one more, and some fewer.
+use Rattle.std.proofs.Common.{◌≡◌, ◌≢◌, ℕ, zero, suc, ◌+◌, ◌<◌, List, [], ◌∷◌, ◌++◌, ◌⊎◌, Bool, true, false, not, ◌&&◌, ◌||◌, eqb, length, get_or, map, filter, Some, None, refl, sym, ◌∙◌, ap, subst, inl, inr, arith}
+use Rattle.std.specs.Prelude.{All, AllPairs}
+use Rattle.std.specs.List.{list_any, find, position_from, remove, AllByRecursion}
+use Rattle.std.specs.List.Sorted.{IsStrictlySortedBy}
+use Rattle.std.specs.Ordering.{ordering_then, nat_cmp}
+use Rattle.std.specs.declared.cmp.Ordering.TheVariants.{Less}
+use Rattle.std.proofs.lemmas.List.Elements.{All-filter, All-push}
+use Rattle.std.proofs.lemmas.List.Kept.{AllPairs-filter}
+use Rattle.std.proofs.lemmas.List.Quantifiers.{all_pairs_push}
+use Rattle.std.proofs.lemmas.Bool.Decides.{nat_tests}
+use Rattle.farm_base.specs.Folders.{folder_cmp}
+use Rattle.farm_base.specs.Slots.{slot_cmp}
+use Rattle.farm_base.specs.Wanted.{folders, IsWants}
+use Rattle.farm_base.specs.declared.lease.Lease.{Lease}
+use Rattle.farm_base.proofs.CompareLaws as laws
+use Rattle.protocol.specs.Names.{Slot, slot_eq, is_private, only_slot, FolderName, NodeId, Life, Ask, Ticket, Want, leased_wants}
+use Rattle.protocol.specs.Ledger.{has_slot, some_lease, lowest, slot_for, all_taken, busy, without, has_ticket}
+use Rattle.leases.specs.Leases.{Table, AreLeases, AreApart, IsBefore, Rises}
+use Rattle.leases.specs.Table.{takes, slots_of, is_free, is_leased, fit_of, first_fit, lease_for}
+use Rattle.leases.specs.declared.lease_table.Fit.TheVariants.{Fits}
+
+pub cases_bool : (b : Bool) → (b ≡ true) ⊎ (b ≡ false)
+cases_bool true = inl refl
+cases_bool false = inr refl
+
+pub true_false : {P : Type 0} (b : Bool) → b ≡ true → b ≡ false → P
+true_false b t f = let bad : true ≡ false = sym t ∙ f in cc
+
+and_both : (a b : Bool) → (a && b) ≡ true → (a ≡ true) × (b ≡ true)
+and_both true b h = (refl, h)
+and_both false b h = cc
+
+or_false : (a b : Bool) → (a || b) ≡ false → (a ≡ false) × (b ≡ false)
+or_false true b h = (let bad : true ≡ false = h in cc)
+or_false false b h = (refl, h)
+
+eqb_same : (a : ℕ) → eqb a a ≡ true
+eqb_same a = grind (arith, nat_tests)
+
+eqb_apart : (a b : ℕ) → a ≢ b → eqb a b ≡ false
+eqb_apart a b h = grind (arith, nat_tests)
+
+eqb_is : (a b : ℕ) → eqb a b ≡ true → a ≡ b
+eqb_is a b h = grind (arith, nat_tests)
+
+-- ---- the wants of which a lease takes slots
+
+pub leased-filter : (tenure : Bool) (wants : List Want) → leased_wants tenure wants ≡ filter (takes tenure) wants
+leased-filter true wants = refl
+leased-filter false wants = refl
+
+-- ---- some leases fewer
+
+pub leases-filter : (p : Lease → Bool) (live : List Lease) → AreLeases live → AreLeases (filter p live)
+leases-filter p live h = record {
+  tickets = AllPairs-filter IsBefore p live h.tickets;
+  apart = AllPairs-filter AreApart p live h.apart;
+  slots = All-filter p Rises live h.slots;
+}
+
+AllPairs-tail : {A : Type 0} (R : A → A → Type 0) (x : A) (xs : List A) → AllPairs R (x ∷ xs) → AllPairs R xs
+AllPairs-tail R x xs h i j d lt inside = h (suc i) (suc j) d (omega arith) (omega arith)
+
+AllPairs-head : {A : Type 0} (R : A → A → Type 0) (x : A) (xs : List A) → AllPairs R (x ∷ xs) → All (R x) xs
+AllPairs-head R x xs h k d inside = h 0 (suc k) d (omega arith) (omega arith)
+
+All-tail : {A : Type 0} (P : A → Type 0) (x : A) (xs : List A) → All P (x ∷ xs) → All P xs
+All-tail P x xs h k d inside = h (suc k) d (omega arith)
+
+-- no later lease has the ticket
+later : (t : Ticket) (g : Lease) (live : List Lease) → g.ticket.0 ≡ t.0 → All (IsBefore g) live → without t live ≡ live
+later t g [] e above = refl
+later t g (h ∷ live) e above =
+    let higher : g.ticket.0 < h.ticket.0 = above 0 h (omega arith) in
+    let other : eqb h.ticket.0 t.0 ≡ false = eqb_apart h.ticket.0 t.0 (λ same. omega arith) in
+    rw other (ap (λ xs. h ∷ xs) (later t g live e (All-tail (IsBefore g) h live above)))
+
+-- where the lease of a ticket stands
+pub record StandsAt (t : Ticket) (live : List Lease) (k : ℕ) : Type 0 where
+  pub inside : k < length live
+  pub found : (d : Lease) → find (has_ticket t) live ≡ Some (get_or live k d)
+  pub rest : AllPairs IsBefore live → remove live k ≡ without t live
+
+placed : (t : Ticket) (live : List Lease) (from n : ℕ) → position_from (has_ticket t) from live ≡ Some n → (k : ℕ) × (n ≡ from + k) × StandsAt t live k
+placed t [] from n e = absurd (cc e)
+placed t (g ∷ live) from n e = elim (cases_bool (eqb g.ticket.0 t.0)) [
+  | inl same ↦ (
+      let at : Some from ≡ Some n = rw same at e in
+      let here : n ≡ from + 0 = (let same : from ≡ n = cc at in omega arith) in
+      (0, here, record {
+        inside = omega arith;
+        found = λ d. rw same refl;
+        rest = λ up. sym (rw same (later t g live (eqb_is g.ticket.0 t.0 same) (AllPairs-head IsBefore g live up)));
+      }))
+  | inr other ↦ (
+      let r = placed t live (from + 1) n (rw other at e) in
+      let s = r.2 in
+      let at : n ≡ from + suc r.0 = (let at = r.1 in omega arith) in
+      (suc r.0, at, record {
+        inside = omega (arith, s.inside);
+        found = λ d. rw other (s.found d);
+        rest = λ up. rw other (ap (λ xs. g ∷ xs) (s.rest (AllPairs-tail IsBefore g live up)));
+      }))
+]
+
+pub stands : (t : Ticket) (live : List Lease) (n : ℕ) → position_from (has_ticket t) 0 live ≡ Some n → StandsAt t live n
+stands t live n e =
+    let r = placed t live 0 n e in
+    let P : ℕ → Type 0 = λ k. StandsAt t live k in
+    let same : r.0 ≡ n = (let at = r.1 in omega arith) in
+    subst P same r.2
+
+pub missing : (t : Ticket) (live : List Lease) (from : ℕ) → position_from (has_ticket t) from live ≡ None → (find (has_ticket t) live ≡ None) × (without t live ≡ live)
+missing t [] from e = (refl, refl)
+missing t (g ∷ live) from e = elim (cases_bool (eqb g.ticket.0 t.0)) [
+  | inl same ↦ (let bad : Some from ≡ None = rw same at e in absurd (cc bad))
+  | inr other ↦ (let r = missing t live (from + 1) (rw other at e) in (rw other r.0, rw other (ap (λ xs. g ∷ xs) r.1)))
+]
+
+-- ---- one lease more
+
+lowest-none : (free : Slot → Bool) (f : FolderName) (i : ℕ) → lowest free f i zero ≡ 0
+unfolding lowest
+lowest-none free f i = refl
+
+pub lowest-end : (free : Slot → Bool) (f : FolderName) (i k : ℕ) → k ≡ 0 → lowest free f i k ≡ 0
+lowest-end free f i k e = ap (lowest free f i) e ∙ lowest-none free f i
+
+suc_free : (free : Slot → Bool) (f : FolderName) (i k : ℕ) → free (record { folder = f; instance = i }) ≡ true → lowest free f i (suc k) ≡ i
+unfolding lowest
+suc_free free f i k e = rw e refl
+
+suc_taken : (free : Slot → Bool) (f : FolderName) (i k : ℕ) → free (record { folder = f; instance = i }) ≡ false → lowest free f i (suc k) ≡ lowest free f (i + 1) k
+unfolding lowest
+suc_taken free f i k e = rw e refl
+
+pub lowest-free : (free : Slot → Bool) (f : FolderName) (i k : ℕ) → 0 < k → free (record { folder = f; instance = i }) ≡ true → lowest free f i k ≡ i
+lowest-free free f i zero h e = absurd (omega arith)
+lowest-free free f i (suc k) h e = suc_free free f i k e
+
+pub lowest-taken : (free : Slot → Bool) (f : FolderName) (i k j : ℕ) → k ≡ suc j → free (record { folder = f; instance = i }) ≡ false → lowest free f i k ≡ lowest free f (i + 1) j
+lowest-taken free f i k j h e = ap (lowest free f i) h ∙ suc_taken free f i j e
+
+-- the lowest free instance is free
+pub lowest_is_free : (free : Slot → Bool) (f : FolderName) (k i : ℕ) → lowest free f i k ≢ 0 → free (record { folder = f; instance = lowest free f i k }) ≡ true
+lowest_is_free free f zero i h = absurd (h (lowest-none free f i))
+lowest_is_free free f (suc k) i h = elim (cases_bool (free (record { folder = f; instance = i }))) [
+  | inl e ↦ subst (λ (z : ℕ). free (record { folder = f; instance = z }) ≡ true) (sym (suc_free free f i k e)) e
+  | inr e ↦ (let is : lowest free f i (suc k) ≡ lowest free f (i + 1) k = suc_taken free f i k e in
+      subst (λ (z : ℕ). free (record { folder = f; instance = z }) ≡ true) (sym is) (lowest_is_free free f k (i + 1) (λ z. h (is ∙ z))))
+]
+
+not_true : (b : Bool) → not b ≡ true → b ≡ false
+not_true true h = (let bad : false ≡ true = h in cc)
+not_true false h = refl
+
+-- what is free is not leased
+abbrev pub FreeIsOpen : (Slot → Bool) → List Lease → Type 0
+FreeIsOpen free live = (s : Slot) → free s ≡ true → some_lease live s ≡ false
+
+pub free_is_open : (t : Table) → FreeIsOpen (is_free t) t.live
+free_is_open t s e = not_true (some_lease t.live s) (and_both _ _ e).0
+
+-- the slot that a want gets is not leased
+want_open : (n : ℕ) (free : Slot → Bool) (live : List Lease) (w : Want) → FreeIsOpen free live
+    → (is_private w.folder.mode && eqb (lowest free w.folder 1 n) 0) ≡ false → (not (is_private w.folder.mode) && some_lease live (only_slot w.folder)) ≡ false
+    → some_lease live (slot_for n free w) ≡ false
+want_open n free live w is_open left right = by (is_private w.folder.mode) refl
+  where
+    by : (b : Bool) → is_private w.folder.mode ≡ b → some_lease live (slot_for n free w) ≡ false
+    by true e =
+        let some : eqb (lowest free w.folder 1 n) 0 ≡ false = rw e at left in
+        let here : free (record { folder = w.folder; instance = lowest free w.folder 1 n }) ≡ true = lowest_is_free free w.folder n 1 (λ z. (let same : eqb (lowest free w.folder 1 n) 0 ≡ true = rw z refl in true_false (eqb (lowest free w.folder 1 n) 0) same some)) in
+        rw e (is_open (record { folder = w.folder; instance = lowest free w.folder 1 n }) here)
+    by false e = rw e (let out : some_lease live (only_slot w.folder) ≡ false = rw e at right in out)
+
+-- the slots that some wants get
+abbrev pub slots_by : ℕ → (Slot → Bool) → List Want → List (Slot × Bool)
+slots_by n free ws = map (λ w. (slot_for n free w, w.writable)) ws
+
+-- none of the slots of some wants that fit is leased
+slots_apart : (n : ℕ) (free : Slot → Bool) (live : List Lease) (ws : List Want) → FreeIsOpen free live → all_taken n free ws ≡ false → busy (some_lease live) ws ≡ false
+    → (s : Slot) → has_slot (slots_by n free ws) s ≡ true → some_lease live s ≡ false
+slots_apart n free live [] is_open taken not_busy s h = (let bad : false ≡ true = h in cc)
+slots_apart n free live (w ∷ ws) is_open taken not_busy s h =
+    let a = or_false _ _ taken in
+    let b = or_false _ _ not_busy in
+    elim (cases_bool (slot_eq (slot_for n free w) s)) [
+      | inl e ↦ subst (λ z. some_lease live z ≡ false) (laws.slot_exact (slot_for n free w) s e) (want_open n free live w is_open a.0 b.0)
+      | inr e ↦ slots_apart n free live ws is_open a.1 b.1 s (let g : has_slot (slots_by n free ws) s ≡ true = rw e at h in g)
+    ]
+
+any_at : {A : Type 0} (test : A → Bool) (xs : List A) (k : ℕ) (d : A) → k < length xs → test (get_or xs k d) ≡ true → list_any test xs ≡ true
+any_at test [] k d inside e = absurd (omega arith)
+any_at test (x ∷ xs) zero d inside e = rw e refl
+any_at test (x ∷ xs) (suc k) d inside e = elim (cases_bool (test x)) [ inl t ↦ rw t refl | inr t ↦ rw t (any_at test xs k d (omega arith) e) ]
+
+pub fits_both : (a b : Bool) → first_fit a b ≡ Fits → (a ≡ false) × (b ≡ false)
+fits_both true b e = absurd (cc e)
+fits_both false true e = absurd (cc e)
+fits_both false false e = (refl, refl)
+
+below_all : (n : ℕ) (free : Slot → Bool) (w : Want) (ws : List Want) → AllByRecursion (λ f. folder_cmp w.folder f ≡ Less) (folders ws)
+    → AllByRecursion (λ s. slot_cmp (slot_for n free w) s ≡ Less) (map (λ x. x.0) (slots_by n free ws))
+below_all n free w [] h = tt
+below_all n free w (v ∷ ws) h = (ap (λ o. ordering_then o (nat_cmp (slot_for n free w).instance (slot_for n free v).instance)) h.0, below_all n free w ws h.1)
+
+-- slots of rising folders rise
+slots_rise : (n : ℕ) (free : Slot → Bool) (ws : List Want) → IsStrictlySortedBy folder_cmp (folders ws) → IsStrictlySortedBy slot_cmp (map (λ x. x.0) (slots_by n free ws))
+unfolding IsStrictlySortedBy
+slots_rise n free [] h = tt
+slots_rise n free (w ∷ ws) h = (below_all n free w ws h.0, slots_rise n free ws h.1)
+
+below_filter : (p : Want → Bool) (f : FolderName) (ws : List Want) → AllByRecursion (λ g. folder_cmp f g ≡ Less) (folders ws) → AllByRecursion (λ g. folder_cmp f g ≡ Less) (folders (filter p ws))
+below_filter p f [] h = tt
+below_filter p f (w ∷ ws) h = elim (cases_bool (p w)) [
+  | inl e ↦ rw e (h.0, below_filter p f ws h.1)
+  | inr e ↦ rw e (below_filter p f ws h.1)
+]
+
+wants_filter : (p : Want → Bool) (ws : List Want) → IsStrictlySortedBy folder_cmp (folders ws) → IsStrictlySortedBy folder_cmp (folders (filter p ws))
+unfolding IsStrictlySortedBy
+wants_filter p [] h = tt
+wants_filter p (w ∷ ws) h = elim (cases_bool (p w)) [
+  | inl e ↦ rw e (below_filter p w.folder ws h.0, wants_filter p ws h.1)
+  | inr e ↦ rw e (wants_filter p ws h.1)
+]
+
+-- one lease more, for wants that fit
+pub leases_more : (n : ℕ) (free : Slot → Bool) (live : List Lease) (wants : List Want) (g : Lease) → FreeIsOpen free live → IsWants wants
+    → all_taken n free (leased_wants g.tenure wants) ≡ false → busy (some_lease live) (leased_wants g.tenure wants) ≡ false
+    → g.slots ≡ slots_by n free (leased_wants g.tenure wants) → All (λ h. h.ticket.0 < g.ticket.0) live → AreLeases live → AreLeases (live ++ g ∷ [])
+leases_more n free live wants g is_open sorted taken not_busy is above h =
+    let ws : List Want = leased_wants g.tenure wants in
+    let apart : (k : ℕ) (d : Lease) → k < length live → AreApart (get_or live k d) g = λ k d inside s has. elim (cases_bool (has_slot g.slots s)) [
+        | inl e ↦ true_false (some_lease live s) (any_at (λ (g : Lease). has_slot g.slots s) live k d inside has) (slots_apart n free live ws is_open taken not_busy s (subst (λ (z : List (Slot × Bool)). has_slot z s ≡ true) is e))
+        | inr e ↦ e
+      ] in
+    let rises : Rises g = subst (λ (z : List (Slot × Bool)). IsStrictlySortedBy slot_cmp (map (λ (x : Slot × Bool). x.0) z)) (sym is)
+        (slots_rise n free ws (subst (λ (z : List Want). IsStrictlySortedBy folder_cmp (folders z)) (sym (leased-filter g.tenure wants)) (wants_filter (takes g.tenure) wants sorted.1))) in
+    record {
+      tickets = all_pairs_push IsBefore live g h.tickets above;
+      apart = all_pairs_push AreApart live g h.apart apart;
+      slots = All-push Rises live g h.slots rises;
+    }
+
+-- a lease that a table grants
+pub leases-push : (t : Table) (n : NodeId) (l : Life) (a : Ask) (wants : List Want) (tenure : Bool) (ticket : Ticket) → AreLeases t.live → IsWants wants
+    → fit_of t tenure wants ≡ Fits → All (λ g. g.ticket.0 < ticket.0) t.live → AreLeases (t.live ++ lease_for t n l a wants tenure ticket ∷ [])
+leases-push t n l a wants tenure ticket h sorted fits above =
+    let both = fits_both _ _ fits in
+    leases_more 4096 (is_free t) t.live wants (lease_for t n l a wants tenure ticket) (free_is_open t) sorted both.0 both.1 refl above h
+
+-- the newest lease is that of its ticket
+pub lease_under-push : (live : List Lease) (g : Lease) → All (λ h. h.ticket.0 < g.ticket.0) live → find (has_ticket g.ticket) (live ++ g ∷ []) ≡ Some g
+lease_under-push [] g above = (let same = eqb_same g.ticket.0 in rw same refl)
+lease_under-push (h ∷ live) g above =
+    let lower : h.ticket.0 < g.ticket.0 = above 0 h (omega arith) in
+    let other : eqb h.ticket.0 g.ticket.0 ≡ false = eqb_apart h.ticket.0 g.ticket.0 (λ same. omega arith) in
+    rw other (lease_under-push live g (All-tail (λ h. h.ticket.0 < g.ticket.0) h live above))

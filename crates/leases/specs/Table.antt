@@ -1,0 +1,65 @@
+-- What a lease table holds, and whether an ask fits in.
+use Rattle.std.specs.Prelude.{Bool, true, false, not, ◌&&◌, List, map, Option, Some, None}
+use Rattle.std.specs.List.{list_any, find}
+use Rattle.farm_base.specs.declared.lease.Lease.{Lease}
+use Rattle.protocol.specs.Names.{Slot, slot_eq, only_slot, NodeId, Life, Ask, Ticket, Want, any_shared, wants_shared, leased_wants}
+use Rattle.protocol.specs.Ledger.{has_slot, some_lease, slot_for, all_taken, busy}
+use Rattle.leases.specs.declared.lease_table.Fit.{Fit}
+use Rattle.leases.specs.declared.lease_table.Fit.TheVariants.{Fits, Busy, InstancesSpent}
+use Rattle.leases.specs.declared.lease_table.SlotState.{SlotState}
+use Rattle.leases.specs.declared.lease_table.SlotState.TheVariants as state
+use Rattle.leases.specs.Leases.{Table}
+
+abbrev pub is_leased : Table → Slot → Bool
+is_leased t s = some_lease t.live s
+
+-- the slot is among these
+abbrev pub among : List Slot → Slot → Bool
+among slots s = list_any (λ x. slot_eq x s) slots
+
+abbrev pub is_free : Table → Slot → Bool
+is_free t s = not (some_lease t.live s) && not (among t.retired s)
+
+-- no instance is left; or else the one slot of another folder is leased; or else the ask fits
+abbrev pub first_fit : Bool → Bool → Fit
+first_fit true b = InstancesSpent
+first_fit false true = Busy
+first_fit false false = Fits
+
+-- whether these wants fit in. A PRIVATE folder has 4,096 instances
+abbrev pub fit_of : Table → Bool → List Want → Fit
+fit_of t tenure wants = first_fit (all_taken 4096 (is_free t) (leased_wants tenure wants)) (busy (is_leased t) (leased_wants tenure wants))
+
+-- a lease takes a slot for the want
+abbrev pub takes : Bool → Want → Bool
+takes true w = wants_shared w
+takes false w = not (wants_shared w)
+
+-- the slots that these wants get, and whether each may be written
+abbrev pub slots_of : Table → List Want → List (Slot × Bool)
+slots_of t wants = map (λ w. (slot_for 4096 (is_free t) w, w.writable)) wants
+
+-- the lease that an ask gets
+abbrev pub lease_for : Table → NodeId → Life → Ask → List Want → Bool → Ticket → Lease
+lease_for t n l a wants tenure ticket = record {
+  ticket = ticket;
+  node = n;
+  life = l;
+  ask = a;
+  shared = any_shared wants;
+  tenure = tenure;
+  slots = slots_of t (leased_wants tenure wants);
+}
+
+-- the lease has the one slot of a folder that is wanted
+abbrev pub holds_some : List Want → Lease → Bool
+holds_some wants g = list_any (λ w. has_slot g.slots (only_slot w.folder)) wants
+
+abbrev pub state_by : Option Lease → Bool → SlotState
+state_by (Some g) b = state.Leased g.ticket
+state_by None true = state.Retired
+state_by None false = state.Free
+
+-- the slot is leased, or else retired, or else free
+abbrev pub state_of : Table → Slot → SlotState
+state_of t s = state_by (find (λ g. has_slot g.slots s) t.live) (among t.retired s)

@@ -1,0 +1,45 @@
+//! Which instances of a folder stand among some slots, in one pass.
+ghost use Rattle.std.specs.Prelude.{◌≡◌, ℕ, ◌<◌, ◌||◌, length, false, slice_index_or};
+ghost use Rattle.protocol.specs.Names.{slot_eq};
+ghost use Rattle.protocol.specs.Ledger.{has_slot, some_lease};
+ghost use Rattle.leases.specs.Marks.{Marks};
+ghost use Rattle.leases.specs.Table.{among};
+
+use farm_base::{FolderName, Lease, Slot};
+
+/// Marks the instance of a slot, where it is of the folder.
+fn mark(marks: &mut [bool], folder: &FolderName, slot: &Slot)
+    ensures { Marks marks.old marks.new folder.now (λ s. slot_eq slot.now s) }
+{
+    let instance = slot.instance() as usize;
+    if slot.folder() == folder && instance < marks.len() {
+        marks[instance] = true;
+    }
+}
+
+/// Marks the instances of a folder that a lease has.
+fn mark_lease(marks: &mut [bool], folder: &FolderName, slots: &[(Slot, bool)])
+    ensures { Marks marks.old marks.new folder.now (λ s. has_slot slots.now s) }
+{
+    for held in slots {
+        mark(marks, folder, &held.0);
+    }
+}
+
+/// Marks the instances of a folder that some lease has.
+pub(crate) fn mark_leased(marks: &mut [bool], folder: &FolderName, leases: &[Lease])
+    ensures { Marks marks.old marks.new folder.now (λ s. some_lease leases.now s) }
+{
+    for lease in leases {
+        mark_lease(marks, folder, lease.slots.as_slice());
+    }
+}
+
+/// Marks the instances of a folder that are among these slots.
+pub(crate) fn mark_all(marks: &mut [bool], folder: &FolderName, slots: &[Slot])
+    ensures { Marks marks.old marks.new folder.now (λ s. among slots.now s) }
+{
+    for slot in slots {
+        mark(marks, folder, slot);
+    }
+}
