@@ -99,9 +99,7 @@ fn last_version(alloc: Global, lines: &[SlotLine], slot: &Slot) -> Base
         },
         Some(line) => Base {
             number: line.len(),
-            digest: line
-                .digest_at(line.len())
-                .unwrap_or(empty_digest(alloc)),
+            digest: line.digest_at(line.len()).unwrap_or(empty_digest(alloc)),
         },
     }
 }
@@ -162,7 +160,12 @@ fn on_line(line: &Line, ticket: Ticket) -> Option<(u64, Digest)>
 }
 
 /// The same, with what a commit adds.
-fn place_of(lines: &[SlotLine], added: &Option<Added>, ticket: Ticket, slot: &Slot) -> Option<(u64, Digest)>
+fn place_of(
+    lines: &[SlotLine],
+    added: &Option<Added>,
+    ticket: Ticket,
+    slot: &Slot,
+) -> Option<(u64, Digest)>
     ensures { result ≡ place ticket (lines_with lines.now added.now slot.now) 0 }
 {
     if let Some(found) = stands_at(lines, ticket, slot) {
@@ -228,7 +231,11 @@ fn room_for(alloc: Global, lines: &[SlotLine], slot: &Slot) -> Result<Room, Allo
 }
 
 /// What some news add to the lines, with room for it.
-pub(crate) fn additions(alloc: Global, lines: &[SlotLine], news: &[News]) -> Result<Vec<Addition>, AllocError>
+pub(crate) fn additions(
+    alloc: Global,
+    lines: &[SlotLine],
+    news: &[News],
+) -> Result<Vec<Addition>, AllocError>
     ensures news { IfOk result (λ v. map news_of v.items ≡ news.now) }
     ensures room { IfOk result (λ v. All (HasRoom lines.now) v.items) }
 {
@@ -332,7 +339,11 @@ pub(crate) fn add_to(lines: &mut Vec<SlotLine>, added: Option<Added>, room: Vec<
 }
 
 /// Room for the lines and what a commit adds.
-pub(crate) fn room_to_add(alloc: Global, lines: &[SlotLine], added: &Option<Added>) -> Result<Vec<SlotLine>, AllocError>
+pub(crate) fn room_to_add(
+    alloc: Global,
+    lines: &[SlotLine],
+    added: &Option<Added>,
+) -> Result<Vec<SlotLine>, AllocError>
     ensures empty { IfOk result (λ room. room.items ≡ []) }
     ensures larger { IfOk result (λ room. length lines.now + added_count added.now ≤ vec_capacity room) }
 {
