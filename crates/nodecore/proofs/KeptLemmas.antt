@@ -1,0 +1,53 @@
+-- What a test tells of the ask that it picks.
+use Rattle.std.proofs.Common.{◌≡◌, ℕ, ◌==◌, Bool, true, false, ◌⊎◌, inl, inr, List, refl, ap, sym, ◌∙◌, Some, None}
+use Rattle.std.proofs.lemmas.Bool.{eqb-true}
+use Rattle.protocol.specs.Names.{Want, Ticket}
+use Rattle.protocol.specs.Machine.{Grant, News}
+use Rattle.protocol.specs.World.{AskState, Open, Holding, Running, Finished, Over}
+use Rattle.protocol.specs.Nodes.{Held, Sent, under, held, running, held_or_running, finished}
+use Rattle.nodecore.specs.declared.asks.KeptAsk.{KeptAsk}
+use Rattle.nodecore.specs.declared.asks.KeptAsk.TheVariants as kept
+use Rattle.nodecore.specs.declared.asks.Stage.{Stage}
+use Rattle.nodecore.specs.declared.asks.Stage.TheVariants as stage
+use Rattle.nodecore.specs.Asks.{shown_ask}
+
+cases_bool : (b : Bool) → (b ≡ true) ⊎ (b ≡ false)
+cases_bool true = inl refl
+cases_bool false = inr refl
+
+under_is : {A : Type 0} (g : Grant) (t : Ticket) (x h : A) → under g t x ≡ Some h → (g.ticket ≡ t) × (x ≡ h)
+under_is g t x h e = elim (cases_bool (g.ticket.0 == t.0)) [
+  | inl p ↦ (let n : g.ticket.0 ≡ t.0 = eqb-true _ _ p in let s : under g t x ≡ Some x = rw p refl in (λ j. record { 0 = n j }, cc))
+  | inr p ↦ (let s : under g t x ≡ None = rw p refl in absurd (cc))
+]
+
+-- the ask is granted under the ticket, at this stage
+pub record Kept (d : KeptAsk) (t : Ticket) (h : Held) (s : Stage) : Type 0 where
+  pub is : d ≡ kept.Granted h.wants h.grant h.recalled s
+  pub ticket : h.grant.ticket ≡ t
+
+granted_is : (t : Ticket) (w : List Want) (g : Grant) (r : Bool) (s : Stage) (h : Held) → under g t (record { wants = w; grant = g; recalled = r }) ≡ Some h → Kept (kept.Granted w g r s) t h s
+granted_is t w g r s h e =
+    let p = under_is g t (record { wants = w; grant = g; recalled = r }) h e in
+    record { is = ap (λ (x : Held). kept.Granted x.wants x.grant x.recalled s) p.1; ticket = sym (ap (λ (x : Held). x.grant.ticket) p.1) ∙ p.0 }
+
+pub held_is : (t : Ticket) (d : KeptAsk) (h : Held) → held t (shown_ask d) ≡ Some h → Kept d t h stage.Held
+held_is t (kept.Open w b) h e = absurd (cc)
+held_is t (kept.Granted w g r stage.Held) h e = granted_is t w g r stage.Held h e
+held_is t (kept.Granted w g r stage.Running) h e = absurd (cc)
+held_is t (kept.Granted w g r (stage.Finished news)) h e = absurd (cc)
+held_is t (kept.Over how) h e = absurd (cc)
+
+pub running_is : (t : Ticket) (d : KeptAsk) (h : Held) → running t (shown_ask d) ≡ Some h → Kept d t h stage.Running
+running_is t (kept.Open w b) h e = absurd (cc)
+running_is t (kept.Granted w g r stage.Held) h e = absurd (cc)
+running_is t (kept.Granted w g r stage.Running) h e = granted_is t w g r stage.Running h e
+running_is t (kept.Granted w g r (stage.Finished news)) h e = absurd (cc)
+running_is t (kept.Over how) h e = absurd (cc)
+
+pub held_or_running_is : (t : Ticket) (d : KeptAsk) (h : Held) → held_or_running t (shown_ask d) ≡ Some h → (s : Stage) × Kept d t h s
+held_or_running_is t (kept.Open w b) h e = absurd (cc)
+held_or_running_is t (kept.Granted w g r stage.Held) h e = (stage.Held, granted_is t w g r stage.Held h e)
+held_or_running_is t (kept.Granted w g r stage.Running) h e = (stage.Running, granted_is t w g r stage.Running h e)
+held_or_running_is t (kept.Granted w g r (stage.Finished news)) h e = absurd (cc)
+held_or_running_is t (kept.Over how) h e = absurd (cc)

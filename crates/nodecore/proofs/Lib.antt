@@ -1,0 +1,4 @@
+pub mod AskLemmas
+pub mod NodeLemmas
+pub mod FirstLemmas
+pub mod KeptLemmas

@@ -1,0 +1,200 @@
+ghost use Rattle.std.specs.Prelude.{◌≡◌, ◌∷◌, [], ◌<◌, ◌+◌, ◌^◌, IfOk, IfSome, IfNone, map, vec_len, option_map};
+ghost use Rattle.protocol.specs.Lists.{nth};
+ghost use Rattle.protocol.specs.Machine.{Said};
+ghost use Rattle.protocol.specs.World.{first_node};
+ghost use Rattle.protocol.specs.Nodes.{aborted, all_stored, asked, begun, opens};
+ghost use Rattle.folders.specs.Contents.{content_digest};
+ghost use Rattle.folders.specs.Farm.{farm_limits};
+ghost use Rattle.nodecore.specs.Asks.{message_of, told_state};
+ghost use Rattle.nodecore.specs.Shown.{shown, place, Does, Answers};
+
+use super::asks::{KeptAsk, Stage, at_home, held_or_running_place, held_place, in_use};
+use super::message::{AskState, Message, NodeDone};
+use farm_base::{
+    Ask, Copied, Digest, GrantedSlot, Items, Life, NodeId, Request, Ticket, ToCoord, Version, Wants,
+};
+use folders::Content;
+use indexmap::IndexMap;
+use protocol::{How, NodeNote, NodeRefusal};
+use std::alloc::{AllocError, Global};
+
+/// A node of the farm: what it keeps in its present life.
+#[derive(Drop)]
+pub struct NodeCore {
+    pub(crate) node: NodeId,
+    /// How many nodes the farm has.
+    pub(crate) nodes: u32,
+    pub(crate) life: Life,
+    /// The asks of this life, in their order.
+    pub(crate) asks: Vec<KeptAsk>,
+    pub(crate) contents: IndexMap<Digest, Content>,
+    pub(crate) versions: IndexMap<Version, Digest>,
+    /// Whether it is down for good.
+    pub(crate) spent: bool,
+}
+
+impl NodeCore {
+    /// A node in its first life.
+    pub fn start(alloc: Global, node: NodeId, nodes: u32) -> Result<Self, AllocError>
+        ensures node { IfOk result (λ core. shown core ≡ first_node content_digest) }
+        ensures place { IfOk result (λ core. place core ≡ record { node = node; nodes = nodes }) }
+    {
+        let empty = Content::of(Vec::new(alloc));
+        let mut contents = IndexMap::new(alloc);
+        contents.insert(empty.digest(), empty)?;
+        Ok(NodeCore {
+            node,
+            nodes,
+            life: Life(1),
+            asks: Vec::new(alloc),
+            contents,
+            versions: IndexMap::new(alloc),
+            spent: false,
+        })
+    }
+
+    pub fn life(&self) -> Life
+        ensures { result ≡ (shown self.now).life }
+    {
+        self.life
+    }
+
+    /// The content of a version that is known and stored here.
+    pub fn held(&self, version: &Version) -> Option<&Content> {
+        let digest = self.versions.get(version)?;
+        self.contents.get(digest)
+    }
+
+    /// How an ask of this life stands.
+    pub fn ask_state(&self, alloc: Global, ask: Ask) -> Result<Option<AskState>, AllocError>
+        ensures { IfOk result (λ state. state ≡ option_map told_state (nth (shown self.now).asks ask.0)) }
+    {
+        let Some(place) = self.place_of(ask) else {
+            return Ok(None);
+        };
+        Ok(Some(self.asks[place].told(alloc)?))
+    }
+
+    /// The place of an ask of this life.
+    fn place_of(&self, ask: Ask) -> Option<usize>
+        ensures found { IfSome result (λ place. ask.0 ≡ place + 1) }
+        ensures inside { IfSome result (λ place. place < vec_len self.now.asks) }
+        ensures none { IfNone result (nth (shown self.now).asks ask.0 ≡ None) }
+    {
+        if 1 <= ask.0 && ask.0 <= self.asks.len() as u64 {
+            Some(ask.0 as usize - 1)
+        } else {
+            None
+        }
+    }
+}
+
+impl NodeCore {
+    /// One message to the coordinator.
+    fn say(&self, alloc: Global, request: Request) -> Result<Items<Message>, AllocError>
+        ensures { IfOk result (λ sends. map message_of sends ≡ Said (record { node = self.now.node; life = self.now.life; request = request }) ∷ []) }
+    {
+        let mut sends = Vec::new(alloc);
+        sends.push(Message::ToCoord(ToCoord {
+            node: self.node,
+            life: self.life,
+            request,
+        }))?;
+        Ok(Items::new(sends))
+    }
+
+    /// Opens an ask.
+    fn open(&mut self, alloc: Global, wants: Wants, tenure: bool) -> Result<NodeDone, AllocError>
+        requires { vec_len self.old.asks + 1 < 2 ^ 64 }
+        ensures work { Does (opens (place self.old) wants tenure (shown self.old)) (shown self.old) (shown self.new) result }
+        ensures place { place self.new ≡ place self.old }
+    {
+        self.asks.reserve(1)?;
+        let ask = Ask(self.asks.len() as u64 + 1);
+        let request = Request::Acquire {
+            ask,
+            wants: wants.copy(alloc)?,
+            tenure,
+        };
+        let sends = self.say(alloc, request)?;
+        self.asks.push_reserved(KeptAsk::Open { wants, tenure });
+        Ok(NodeDone {
+            note: NodeNote::Asked(ask),
+            sends,
+        })
+    }
+
+    /// Asks for a lease.
+    pub fn ask(&mut self, alloc: Global, wants: Wants) -> Result<NodeDone, NodeRefusal>
+        ensures answer { Answers (asked farm_limits (place self.old) wants (shown self.old)) (shown self.old) (shown self.new) result }
+        ensures place { place self.new ≡ place self.old }
+    {
+        if self.spent {
+            return Err(NodeRefusal::LivesSpent);
+        }
+        if !at_home(self.asks.as_slice(), wants.as_slice()) {
+            return Err(NodeRefusal::NotHomeHere);
+        }
+        if self.asks.len() as u64 == u64::MAX {
+            return Err(NodeRefusal::AsksSpent);
+        }
+        let Ok(done) = self.open(alloc, wants, false) else {
+            return Err(NodeRefusal::OutOfMemory);
+        };
+        Ok(done)
+    }
+
+    /// Whether all bases are stored.
+    fn has_all(&self, slots: &[GrantedSlot]) -> bool
+        ensures { result ≡ all_stored (shown self.now) slots.now }
+    {
+        slots
+            .iter()
+            .all(|slot| self.contents.contains_key(&slot.digest))
+    }
+
+    /// Begins the execution of a granted ask.
+    pub fn begin(&mut self, alloc: Global, ticket: Ticket) -> Result<NodeDone, NodeRefusal>
+        ensures answer { Answers (begun ticket (shown self.old)) (shown self.old) (shown self.new) result }
+        ensures place { place self.new ≡ place self.old }
+    {
+        if self.spent {
+            return Err(NodeRefusal::LivesSpent);
+        }
+        let Some(place) = held_place(self.asks.as_slice(), ticket) else {
+            return Err(NodeRefusal::NoSuchTicket);
+        };
+        if !self.has_all(self.asks[place].slots()) {
+            return Err(NodeRefusal::ContentsMissing);
+        }
+        self.asks[place].come_to(Stage::Running);
+        Ok(NodeDone {
+            note: NodeNote::Begun(ticket),
+            sends: Items::new(Vec::new(alloc)),
+        })
+    }
+
+    /// Ends an execution without its news, or gives a lease back unused.
+    pub fn abort(&mut self, alloc: Global, ticket: Ticket) -> Result<NodeDone, NodeRefusal>
+        ensures answer { Answers (aborted (place self.old) ticket (shown self.old)) (shown self.old) (shown self.new) result }
+        ensures place { place self.new ≡ place self.old }
+    {
+        if self.spent {
+            return Err(NodeRefusal::LivesSpent);
+        }
+        let Some(place) = held_or_running_place(self.asks.as_slice(), ticket) else {
+            return Err(NodeRefusal::NoSuchTicket);
+        };
+        if in_use(self.asks.as_slice(), place) {
+            return Err(NodeRefusal::TenureInUse);
+        }
+        let Ok(sends) = self.say(alloc, Request::Release { ticket }) else {
+            return Err(NodeRefusal::OutOfMemory);
+        };
+        self.asks[place] = KeptAsk::Over(How::Other);
+        Ok(NodeDone {
+            note: NodeNote::Aborted(ticket),
+            sends,
+        })
+    }
+}
