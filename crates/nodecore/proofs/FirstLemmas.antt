@@ -36,21 +36,27 @@ some_step : {A : Type 0} (test : AskState → Option A) (x : KeptAsk) (xs : List
     → (position_from (picks test) (i + 1) xs ≡ Some n → (j : ℕ) × (n ≡ (i + 1) + j) × FirstAt test xs (k + 1) j)
     → (j : ℕ) × (n ≡ i + j) × FirstAt test (x ∷ xs) k j
 some_step test x xs None e i n k h ih =
-    let (j, at, f) = ih h in
-    (j + 1, omega (arith, at), record {
-      inside = omega (arith, f.inside);
-      what = f.what;
-      here = λ d. rw add-one (f.here d);
-      found = λ a is. ap (λ z. first_of (k + 1) z (first test (map shown_ask xs) (k + 1))) e ∙ f.found a (omega (arith, is));
-    })
+    let (j, at, f) = ih h in (
+      j + 1,
+      omega (arith, at),
+      record {
+        inside = omega (arith, f.inside);
+        what = f.what;
+        here = λ d. rw add-one (f.here d);
+        found = λ a is. ap (λ z. first_of (k + 1) z (first test (map shown_ask xs) (k + 1))) e ∙ f.found a (omega (arith, is));
+      },
+    )
 some_step test x xs (Some w) e i n k h ih =
-    let same : i ≡ n = cc in
-    (0, omega (arith, same), record {
-      inside = omega arith;
-      what = w;
-      here = λ d. e;
-      found = λ a is. let num : k + 1 ≡ a = omega (arith, is) in ap (λ z. first_of (k + 1) z (first test (map shown_ask xs) (k + 1))) e ∙ ap (λ (b : ℕ). Some (b, w)) num;
-    })
+    let same : i ≡ n = cc in (
+      0,
+      omega (arith, same),
+      record {
+        inside = omega arith;
+        what = w;
+        here = λ d. e;
+        found = λ a is. let num : k + 1 ≡ a = omega (arith, is) in ap (λ z. first_of (k + 1) z (first test (map shown_ask xs) (k + 1))) e ∙ ap (λ (b : ℕ). Some (b, w)) num;
+      },
+    )
 
 some_from : {A : Type 0} (test : AskState → Option A) (asks : List KeptAsk) (i n k : ℕ) → position_from (picks test) i asks ≡ Some n → (j : ℕ) × (n ≡ i + j) × FirstAt test asks k j
 some_from test [] i n k h = absurd (cc)

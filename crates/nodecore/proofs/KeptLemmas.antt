@@ -1,5 +1,8 @@
 -- What a test tells of the ask that it picks.
-use Rattle.std.proofs.Common.{◌≡◌, ℕ, ◌==◌, Bool, true, false, ◌⊎◌, inl, inr, List, refl, ap, sym, ◌∙◌, Some, None}
+use Rattle.std.proofs.Common.{◌≡◌, ℕ, ◌<◌, ◌==◌, Bool, true, false, ◌⊎◌, inl, inr, List, length, get_or, slice_get, refl, ap, sym, ◌∙◌, Some, None}
+use Rattle.std.proofs.lemmas.Option.{slice_get-get_or, get_or_from_slice_get}
+use Rattle.protocol.specs.declared.answer.How.TheVariants as how
+use Rattle.nodecore.proofs.FirstLemmas.{FirstAt}
 use Rattle.std.proofs.lemmas.Bool.{eqb-true}
 use Rattle.protocol.specs.Names.{Want, Ticket}
 use Rattle.protocol.specs.Machine.{Grant, News}
@@ -51,3 +54,29 @@ held_or_running_is t (kept.Granted w g r stage.Held) h e = (stage.Held, granted_
 held_or_running_is t (kept.Granted w g r stage.Running) h e = (stage.Running, granted_is t w g r stage.Running h e)
 held_or_running_is t (kept.Granted w g r (stage.Finished news)) h e = absurd (cc)
 held_or_running_is t (kept.Over how) h e = absurd (cc)
+
+-- the ask at the place is granted under the ticket, at this stage
+pub record FoundAt (t : Ticket) (asks : List KeptAsk) (i : ℕ) (h : Held) (s : Stage) : Type 0 where
+  pub get : slice_get asks i ≡ Some (kept.Granted h.wants h.grant h.recalled s)
+  pub ticket : h.grant.ticket ≡ t
+
+found_at : (t : Ticket) (asks : List KeptAsk) (i : ℕ) (d : KeptAsk) (h : Held) (s : Stage) → i < length asks → Kept (get_or asks i d) t h s → FoundAt t asks i h s
+found_at t asks i d h s inside k = record { get = slice_get-get_or asks i d inside ∙ ap (λ (x : KeptAsk). Some x) k.is; ticket = k.ticket }
+
+abbrev any_ask : KeptAsk
+any_ask = kept.Over how.Other
+
+pub held_at : (t : Ticket) (asks : List KeptAsk) (i : ℕ) (f : FirstAt (held t) asks 0 i) → FoundAt t asks i f.what stage.Held
+held_at t asks i f = found_at t asks i any_ask f.what stage.Held f.inside (held_is t (get_or asks i any_ask) f.what (f.here any_ask))
+
+pub running_at : (t : Ticket) (asks : List KeptAsk) (i : ℕ) (f : FirstAt (running t) asks 0 i) → FoundAt t asks i f.what stage.Running
+running_at t asks i f = found_at t asks i any_ask f.what stage.Running f.inside (running_is t (get_or asks i any_ask) f.what (f.here any_ask))
+
+pub held_or_running_at : (t : Ticket) (asks : List KeptAsk) (i : ℕ) (f : FirstAt (held_or_running t) asks 0 i) → (s : Stage) × FoundAt t asks i f.what s
+held_or_running_at t asks i f =
+    let (s, k) = held_or_running_is t (get_or asks i any_ask) f.what (f.here any_ask) in
+    (s, found_at t asks i any_ask f.what s f.inside k)
+
+-- what is read there
+pub read_at : {t : Ticket} {asks : List KeptAsk} {i : ℕ} {h : Held} {s : Stage} → FoundAt t asks i h s → (d : KeptAsk) → d ≡ get_or asks i d → d ≡ kept.Granted h.wants h.grant h.recalled s
+read_at {t} {asks} {i} {h} {s} f d e = e ∙ get_or_from_slice_get asks i (kept.Granted h.wants h.grant h.recalled s) d f.get

@@ -1,5 +1,5 @@
 -- What contracts see of the asks and messages of a node.
-use Rattle.std.specs.Prelude.{Bool, List, []}
+use Rattle.std.specs.Prelude.{Bool, true, false, List, []}
 use Rattle.protocol.specs.Names.{Want}
 use Rattle.protocol.specs.Machine.{Grant, GrantedSlot, Message, Said, Told, Fetches}
 use Rattle.protocol.specs.Machine as machine
@@ -37,6 +37,17 @@ abbrev pub at_stage : Stage → KeptAsk → KeptAsk
 at_stage s (kept.Open wants tenure) = kept.Open wants tenure
 at_stage s (kept.Granted wants g r old) = kept.Granted wants g r s
 at_stage s (kept.Over how) = kept.Over how
+
+abbrev pub is_open : KeptAsk → Bool
+is_open (kept.Open wants tenure) = true
+is_open (kept.Granted wants g r s) = false
+is_open (kept.Over how) = false
+
+-- a granted ask is recalled
+abbrev pub recalls : KeptAsk → KeptAsk
+recalls (kept.Open wants tenure) = kept.Open wants tenure
+recalls (kept.Granted wants g r s) = kept.Granted wants g true s
+recalls (kept.Over how) = kept.Over how
 
 -- the protocol's message
 abbrev pub message_of : sent.Message → Message

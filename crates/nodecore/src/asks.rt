@@ -1,14 +1,16 @@
 ghost use Rattle.std.specs.Prelude.{◌≡◌, ◌+◌, ◌<◌, Bool, List, IfOk, map, length, is_some, position, slice_get};
 ghost use Rattle.std.specs.List.{list_any};
-ghost use Rattle.protocol.specs.Nodes.{wants_folder, is_tenure_of, is_home_of, uses, at_home, held, running, held_or_running, finished, others_use, in_use};
-ghost use Rattle.nodecore.specs.Asks.{shown_ask, told_state, slots_in, at_stage};
+ghost use Rattle.protocol.specs.Nodes.{wants_folder, is_tenure_of, is_home_of, uses, at_home, held, running, held_or_running, recallable, is_base, finished, others_use, in_use};
+ghost use Rattle.nodecore.specs.Asks.{shown_ask, told_state, slots_in, at_stage, is_open, recalls};
 ghost use Rattle.protocol.specs.Names.{Want};
 ghost use Rattle.protocol.specs.Machine.{Grant};
 ghost use Rattle.nodecore.specs.declared.asks.Stage.{Stage};
 ghost use Rattle.nodecore.specs.declared.asks.KeptAsk.{KeptAsk};
 
 use super::message::AskState;
-use farm_base::{Copied, FolderName, Grant, GrantedSlot, Items, Mode, News, Ticket, Want, Wants};
+use farm_base::{
+    Copied, Digest, FolderName, Grant, GrantedSlot, Items, Mode, News, Ticket, Want, Wants,
+};
 use protocol::How;
 use std::alloc::{AllocError, Global};
 
@@ -151,6 +153,58 @@ impl KeptAsk {
         }
     }
 
+    /// Whether the ask is the tenure under the ticket, granted or running and not recalled.
+    fn is_recallable(&self, ticket: Ticket) -> bool
+        ensures { result ≡ is_some (recallable ticket (shown_ask self.now)) }
+    {
+        match self {
+            KeptAsk::Granted {
+                stage: Stage::Finished(_),
+                ..
+            } => false,
+            KeptAsk::Granted {
+                grant,
+                recalled,
+                ..
+            } => grant.ticket.0 == ticket.0 && grant.tenure && !*recalled,
+            _ => false,
+        }
+    }
+
+    /// Whether the digest is the base of the ask, which is granted and not begun.
+    fn has_base(&self, digest: Digest) -> bool
+        ensures { result ≡ is_base digest (shown_ask self.now) }
+    {
+        match self {
+            KeptAsk::Granted {
+                grant,
+                stage: Stage::Held,
+                ..
+            } => grant
+                .slots
+                .as_slice()
+                .iter()
+                .any(|slot| slot.digest == digest),
+            _ => false,
+        }
+    }
+
+    /// Whether nothing was heard of the ask.
+    pub(crate) fn is_open(&self) -> bool
+        ensures { result ≡ is_open self.now }
+    {
+        matches!(self, KeptAsk::Open { .. })
+    }
+
+    /// A granted ask is recalled.
+    pub(crate) fn recall(&mut self)
+        ensures { self.new ≡ recalls self.old }
+    {
+        if let KeptAsk::Granted { recalled, .. } = self {
+            *recalled = true;
+        }
+    }
+
     /// The slots of the ask's grant, none where it has no grant.
     pub(crate) fn slots(&self) -> &[GrantedSlot]
         ensures { result.now ≡ slots_in self.now }
@@ -198,6 +252,25 @@ pub(crate) fn finished_place(asks: &[KeptAsk], ticket: Ticket) -> Option<usize>
     ensures { result ≡ position (λ ask. is_some (finished ticket (shown_ask ask))) asks.now }
 {
     asks.iter().position(|ask| ask.is_finished(ticket))
+}
+
+/// The place of the first ask that is a tenure under the ticket and can be recalled.
+pub(crate) fn recallable_place(asks: &[KeptAsk], ticket: Ticket) -> Option<usize>
+    ensures { result ≡ position (λ ask. is_some (recallable ticket (shown_ask ask))) asks.now }
+{
+    asks.iter().position(|ask| ask.is_recallable(ticket))
+}
+
+/// Whether the digest is the base of a granted ask.
+pub(crate) fn any_base(asks: &[KeptAsk], digest: Digest) -> bool
+    ensures { result ≡ list_any (is_base digest) (map shown_ask asks.now) }
+{
+    for ask in asks {
+        if ask.has_base(digest) {
+            return true;
+        }
+    }
+    false
 }
 
 /// Whether an ask other than that of this number uses one of the folders.

@@ -2,6 +2,7 @@
 #![tactic(auto)]
 
 mod asks;
+mod heard;
 mod message;
 mod node_core;
 

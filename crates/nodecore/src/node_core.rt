@@ -1,12 +1,12 @@
-ghost use Rattle.std.specs.Prelude.{◌≡◌, ◌∷◌, [], ◌<◌, ◌+◌, ◌^◌, IfOk, IfSome, IfNone, map, vec_len, option_map};
+ghost use Rattle.std.specs.Prelude.{◌≡◌, ◌∷◌, [], ◌<◌, ◌+◌, ◌^◌, ◌⊎◌, true, false, OnErr, IfOk, IfSome, IfNone, map, vec_len, option_map};
 ghost use Rattle.protocol.specs.Lists.{nth};
 ghost use Rattle.protocol.specs.Machine.{Said};
 ghost use Rattle.protocol.specs.World.{first_node};
-ghost use Rattle.protocol.specs.Nodes.{aborted, all_stored, asked, begun, opens};
+ghost use Rattle.protocol.specs.Nodes.{aborted, all_stored, asked, begun, gives_up, may_restart, opens, restarted};
 ghost use Rattle.folders.specs.Contents.{content_digest};
 ghost use Rattle.folders.specs.Farm.{farm_limits};
 ghost use Rattle.nodecore.specs.Asks.{message_of, told_state};
-ghost use Rattle.nodecore.specs.Shown.{shown, place, Does, Answers};
+ghost use Rattle.nodecore.specs.Shown.{shown, place, work_of, Does, Answers};
 
 use super::asks::{KeptAsk, Stage, at_home, held_or_running_place, held_place, in_use};
 use super::message::{AskState, Message, NodeDone};
@@ -17,6 +17,24 @@ use folders::Content;
 use indexmap::IndexMap;
 use protocol::{How, NodeNote, NodeRefusal};
 use std::alloc::{AllocError, Global};
+
+/// One message to the coordinator.
+fn one_message(
+    alloc: Global,
+    node: NodeId,
+    life: Life,
+    request: Request,
+) -> Result<Items<Message>, AllocError>
+    ensures { IfOk result (λ sends. map message_of sends ≡ Said (record { node = node; life = life; request = request }) ∷ []) }
+{
+    let mut sends = Vec::new(alloc);
+    sends.push(Message::ToCoord(ToCoord {
+        node,
+        life,
+        request,
+    }))?;
+    Ok(Items::new(sends))
+}
 
 /// A node of the farm: what it keeps in its present life.
 #[derive(Drop)]
@@ -76,7 +94,7 @@ impl NodeCore {
     }
 
     /// The place of an ask of this life.
-    fn place_of(&self, ask: Ask) -> Option<usize>
+    pub(crate) fn place_of(&self, ask: Ask) -> Option<usize>
         ensures found { IfSome result (λ place. ask.0 ≡ place + 1) }
         ensures inside { IfSome result (λ place. place < vec_len self.now.asks) }
         ensures none { IfNone result (nth (shown self.now).asks ask.0 ≡ None) }
@@ -94,13 +112,7 @@ impl NodeCore {
     fn say(&self, alloc: Global, request: Request) -> Result<Items<Message>, AllocError>
         ensures { IfOk result (λ sends. map message_of sends ≡ Said (record { node = self.now.node; life = self.now.life; request = request }) ∷ []) }
     {
-        let mut sends = Vec::new(alloc);
-        sends.push(Message::ToCoord(ToCoord {
-            node: self.node,
-            life: self.life,
-            request,
-        }))?;
-        Ok(Items::new(sends))
+        one_message(alloc, self.node, self.life, request)
     }
 
     /// Opens an ask.
@@ -188,12 +200,50 @@ impl NodeCore {
         if in_use(self.asks.as_slice(), place) {
             return Err(NodeRefusal::TenureInUse);
         }
-        let Ok(sends) = self.say(alloc, Request::Release { ticket }) else {
+        let Ok(done) = self.give_up(alloc, place, ticket, NodeNote::Aborted(ticket)) else {
             return Err(NodeRefusal::OutOfMemory);
         };
-        self.asks[place] = KeptAsk::Over(How::Other);
+        Ok(done)
+    }
+
+    /// Gives a lease back.
+    pub(crate) fn give_up(
+        &mut self,
+        alloc: Global,
+        index: usize,
+        ticket: Ticket,
+        note: NodeNote,
+    ) -> Result<NodeDone, AllocError>
+        requires { index < vec_len self.old.asks }
+        ensures work { Does (gives_up (place self.old) (index + 1) ticket note (shown self.old)) (shown self.old) (shown self.new) result }
+        ensures place { place self.new ≡ place self.old }
+    {
+        let sends = self.say(alloc, Request::Release { ticket })?;
+        self.asks[index] = KeptAsk::Over(How::Other);
+        Ok(NodeDone { note, sends })
+    }
+
+    /// Begins the next life: its asks are over, its contents and versions stay.
+    pub fn restart(&mut self, alloc: Global) -> Result<NodeDone, NodeRefusal>
+        ensures done { IfOk result (λ done. (may_restart farm_limits (shown self.old) ≡ true) × (restarted (place self.old) (shown self.old) ≡ work_of (shown self.new) done)) }
+        ensures spent { result ≡ Err NodeRefusal.LivesSpent
+            → (may_restart farm_limits (shown self.old) ≡ false) × (shown self.new ≡ record (shown self.old) { spent = true }) }
+        ensures memory { result ≡ Err NodeRefusal.OutOfMemory → shown self.new ≡ shown self.old }
+        ensures only { OnErr result ((result ≡ Err NodeRefusal.LivesSpent) ⊎ (result ≡ Err NodeRefusal.OutOfMemory)) }
+        ensures place { place self.new ≡ place self.old }
+    {
+        if self.spent || self.life.0 == u64::MAX {
+            self.spent = true;
+            return Err(NodeRefusal::LivesSpent);
+        }
+        let life = Life(self.life.0 + 1);
+        let Ok(sends) = one_message(alloc, self.node, life, Request::Hello) else {
+            return Err(NodeRefusal::OutOfMemory);
+        };
+        self.life = life;
+        self.asks.clear();
         Ok(NodeDone {
-            note: NodeNote::Aborted(ticket),
+            note: NodeNote::Life(life),
             sends,
         })
     }
