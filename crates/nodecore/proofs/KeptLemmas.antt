@@ -1,18 +1,19 @@
 -- What a test tells of the ask that it picks.
-use Rattle.std.proofs.Common.{◌≡◌, ℕ, ◌<◌, ◌==◌, Bool, true, false, ◌⊎◌, inl, inr, List, length, get_or, slice_get, refl, ap, sym, ◌∙◌, Some, None}
+use Rattle.std.proofs.Common.{◌≡◌, ℕ, ◌<◌, ◌==◌, Bool, true, false, not, ◌&&◌, [], ◌⊎◌, inl, inr, List, length, get_or, slice_get, refl, ap, sym, ◌∙◌, Some, None}
 use Rattle.std.proofs.lemmas.Option.{slice_get-get_or, get_or_from_slice_get}
 use Rattle.protocol.specs.declared.answer.How.TheVariants as how
+use Rattle.protocol.specs.declared.answer.NodeNote.TheVariants as note
 use Rattle.nodecore.proofs.FirstLemmas.{FirstAt}
 use Rattle.std.proofs.lemmas.Bool.{eqb-true}
-use Rattle.protocol.specs.Names.{Want, Ticket}
-use Rattle.protocol.specs.Machine.{Grant, News}
-use Rattle.protocol.specs.World.{AskState, Open, Holding, Running, Finished, Over}
-use Rattle.protocol.specs.Nodes.{Held, Sent, under, held, running, held_or_running, finished}
+use Rattle.protocol.specs.Names.{Want, Ticket, Ask}
+use Rattle.protocol.specs.Machine.{Grant, Why}
+use Rattle.protocol.specs.World.{AskState, Node, Holding, Running, Over}
+use Rattle.protocol.specs.Nodes.{Held, under, held, running, held_or_running, recallable, recalled_if, denied, nothing, becomes}
 use Rattle.nodecore.specs.declared.asks.KeptAsk.{KeptAsk}
 use Rattle.nodecore.specs.declared.asks.KeptAsk.TheVariants as kept
 use Rattle.nodecore.specs.declared.asks.Stage.{Stage}
 use Rattle.nodecore.specs.declared.asks.Stage.TheVariants as stage
-use Rattle.nodecore.specs.Asks.{shown_ask}
+use Rattle.nodecore.specs.Asks.{shown_ask, recalls, is_open}
 
 cases_bool : (b : Bool) → (b ≡ true) ⊎ (b ≡ false)
 cases_bool true = inl refl
@@ -80,3 +81,34 @@ held_or_running_at t asks i f =
 -- what is read there
 pub read_at : {t : Ticket} {asks : List KeptAsk} {i : ℕ} {h : Held} {s : Stage} → FoundAt t asks i h s → (d : KeptAsk) → d ≡ get_or asks i d → d ≡ kept.Granted h.wants h.grant h.recalled s
 read_at {t} {asks} {i} {h} {s} f d e = e ∙ get_or_from_slice_get asks i (kept.Granted h.wants h.grant h.recalled s) d f.get
+
+-- a recalled ask
+recalled_is : (b : Bool) (x s : AskState) → recalled_if b x ≡ Some s → x ≡ s
+recalled_is true x s e = cc
+recalled_is false x s e = absurd (cc)
+
+pub recalls_is : (t : Ticket) (d : KeptAsk) (s : AskState) → recallable t (shown_ask d) ≡ Some s → shown_ask (recalls d) ≡ s
+recalls_is t (kept.Open w b) s e = absurd (cc)
+recalls_is t (kept.Granted w g r stage.Held) s e = recalled_is ((g.ticket.0 == t.0) && g.tenure && not r) (Holding w g true) s e
+recalls_is t (kept.Granted w g r stage.Running) s e = recalled_is ((g.ticket.0 == t.0) && g.tenure && not r) (Running w g true) s e
+recalls_is t (kept.Granted w g r (stage.Finished news)) s e = absurd (cc)
+recalls_is t (kept.Over how) s e = absurd (cc)
+
+-- an open ask
+pub open_is : (d : KeptAsk) → is_open d ≡ true → (w : List Want) × (b : Bool) × (d ≡ kept.Open w b)
+open_is (kept.Open w b) e = (w, b, refl)
+open_is (kept.Granted w g r s) e = absurd (cc)
+open_is (kept.Over how) e = absurd (cc)
+
+-- what is not open is not denied
+pub not_denied : (a : Ask) (why : Why) (x : Node) (d : KeptAsk) → is_open d ≡ false → denied a why x (Some (shown_ask d)) ≡ nothing x
+not_denied a why x (kept.Open w b) e = absurd (cc)
+not_denied a why x (kept.Granted w g r stage.Held) e = refl
+not_denied a why x (kept.Granted w g r stage.Running) e = refl
+not_denied a why x (kept.Granted w g r (stage.Finished news)) e = refl
+not_denied a why x (kept.Over how) e = refl
+
+pub is_denied : (a : Ask) (why : Why) (x : Node) (d : KeptAsk) → is_open d ≡ true → denied a why x (Some (shown_ask d)) ≡ record { node = becomes a.0 (Over (how.Denied why)) x; sends = []; note = note.Denied why }
+is_denied a why x (kept.Open w b) e = refl
+is_denied a why x (kept.Granted w g r s) e = absurd (cc)
+is_denied a why x (kept.Over how) e = absurd (cc)

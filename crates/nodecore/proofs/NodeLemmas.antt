@@ -1,13 +1,19 @@
 -- What calls come to.
-use Rattle.std.proofs.Common.{◌≡◌, ◌≢◌, ℕ, ◌+◌, ◌<◌, Bool, true, false, not, nat_lt, List, [], ◌∷◌, length, map, refl, ap, sym, ◌∙◌, add-one, arith, Option, Some, None, Ok, Err, slice_set}
+use Rattle.std.proofs.Common.{◌≡◌, ◌≢◌, ℕ, ◌+◌, ◌<◌, Bool, true, false, not, nat_lt, List, [], ◌∷◌, length, map, refl, ap, sym, ◌∙◌, add-one, arith, cond, is_some, Option, Some, None, Ok, Err, slice_set}
+use mathlib.Core.Path.{fun_ext}
+use Rattle.std.specs.List.{list_any}
+use Rattle.indexmap.specs.IndexMap.{IndexMap, get}
+use Rattle.farm_base.specs.Digests.{digest_eq}
+use Rattle.folders.specs.Contents.{content_digest}
 use Rattle.std.proofs.Math.ListN.{set}
 use Rattle.std.proofs.lemmas.Grind.{common_steps}
 use Rattle.std.proofs.lemmas.List.{map-set}
+use Rattle.std.proofs.lemmas.Cmp.{nat_list_eq_equiv}
 use Rattle.protocol.specs.Lists.{set_nth}
-use Rattle.protocol.specs.Names.{Ticket}
+use Rattle.protocol.specs.Names.{Ticket, Digest}
 use Rattle.protocol.specs.Machine.{Message}
-use Rattle.protocol.specs.World.{AskState, Node, Running, Over}
-use Rattle.protocol.specs.Nodes.{NodeAnswer, NodeWork, Place, Held, guard, first, held, held_or_running, begun, beginning, all_stored, becomes, aborted, aborting, in_use, gives_up}
+use Rattle.protocol.specs.World.{AskState, Node, Running, Over, keep}
+use Rattle.protocol.specs.Nodes.{NodeAnswer, NodeWork, Place, Held, guard, first, held, held_or_running, begun, beginning, all_stored, becomes, aborted, aborting, in_use, gives_up, brought, is_base}
 use Rattle.protocol.specs.declared.answer.How.TheVariants as how
 use Rattle.protocol.specs.declared.answer.NodeNote.TheVariants as note
 use Rattle.protocol.specs.declared.answer.NodeRefusal.{NodeRefusal}
@@ -57,3 +63,20 @@ aborts at t x w a h p q r e s =
     passes _ _ p ∙ ap (aborting at x) q ∙ passes _ _ r
     ∙ ap (λ (u : Ticket). Ok (gives_up at a u (note.Aborted u) x)) e
     ∙ ap (λ (v : NodeWork). Ok v) s
+
+digest_eq-sym : (a b : Digest) → digest_eq a b ≡ digest_eq b a
+digest_eq-sym a b = nat_list_eq_equiv.symm a.0 b.0
+
+-- the store with one content more
+pub keep_shown : {S : Type 0} (m n : IndexMap Digest (List ℕ) S) (d : Digest) (v : List ℕ) → ((q : Digest) → get digest_eq n q ≡ cond (digest_eq d q) (Some v) (get digest_eq m q))
+    → (λ e. get digest_eq n e) ≡ keep d v (λ e. get digest_eq m e)
+keep_shown m n d v h = fun_ext (λ e. h e ∙ ap (λ (b : Bool). cond b (Some v) (get digest_eq m e)) (digest_eq-sym d e))
+
+-- a content that is wanted and isn't stored
+pub brings : (c : List ℕ) (x y : Node) (d : Digest) → d ≡ content_digest c → is_some (x.store d) ≡ false → list_any (is_base d) x.asks ≡ true → record x { store = keep d c x.store } ≡ y
+    → brought content_digest c x ≡ record { node = y; sends = []; note = note.BlobTaken }
+brings c x y d e p q s =
+    let stored : is_some (x.store (content_digest c)) ≡ false = ap (λ (z : Digest). is_some (x.store z)) (sym e) ∙ p in
+    let based : list_any (is_base (content_digest c)) x.asks ≡ true = ap (λ (z : Digest). list_any (is_base z) x.asks) (sym e) ∙ q in
+    let kept : record x { store = keep (content_digest c) c x.store } ≡ y = ap (λ (z : Digest). record x { store = keep z c x.store }) (sym e) ∙ s in
+    rw (stored, based) (λ j. record { node = kept j; sends = []; note = note.BlobTaken })

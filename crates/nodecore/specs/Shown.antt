@@ -1,24 +1,52 @@
 -- What contracts see of a node.
-use Rattle.std.specs.Prelude.{◌≡◌, Option, Result, Ok, Err, map}
+use Rattle.std.specs.Prelude.{◌≡◌, ℕ, List, [], ◌∷◌, Option, Result, Ok, Err, map}
 use Rattle.std.specs.declared.alloc.AllocError.{AllocError}
-use Rattle.indexmap.specs.IndexMap.{get}
+use Rattle.indexmap.specs.IndexMap.{IndexMap, get}
 use Rattle.farm_base.specs.Digests.{digest_eq}
 use Rattle.farm_base.specs.Versions.{version_eq}
-use Rattle.protocol.specs.World.{Node}
-use Rattle.protocol.specs.Nodes.{NodeWork, NodeAnswer, Place}
+use Rattle.protocol.specs.World.{Node, learn}
+use Rattle.protocol.specs.Names.{Slot, Digest}
+use Rattle.protocol.specs.Machine.{GrantedSlot, Confirmed}
+use Rattle.farm_base.specs.declared.message.Version.{Version}
+use Rattle.protocol.specs.Nodes.{NodeWork, NodeAnswer, Place, Left}
 use Rattle.protocol.specs.declared.answer.NodeRefusal.{NodeRefusal}
 use Rattle.protocol.specs.declared.answer.NodeRefusal.TheVariants.{OutOfMemory}
 use Rattle.nodecore.specs.declared.message.NodeDone.{NodeDone}
 use Rattle.nodecore.specs.declared.node_core.NodeCore.{NodeCore}
 use Rattle.nodecore.specs.Asks.{shown_ask, message_of}
 
+-- the contents of a map
+abbrev pub store_in : {S : Type 0} → IndexMap Digest (List ℕ) S → Digest → Option (List ℕ)
+store_in m d = get digest_eq m d
+
+-- the digests of a map
+abbrev pub known_in : {S : Type 0} → IndexMap Version Digest S → Slot → ℕ → Option Digest
+known_in m s k = get version_eq m (record { slot = s; number = k })
+
+-- the versions become known
+abbrev pub learn_all : List (Version × Digest) → (Slot → ℕ → Option Digest) → Slot → ℕ → Option Digest
+learn_all [] known = known
+learn_all (v ∷ vs) known = learn_all vs (learn v.0.slot v.0.number v.1 known)
+
+-- the base of a granted slot
+abbrev pub base_of : GrantedSlot → Version × Digest
+base_of u = (record { slot = u.slot; number = u.base }, u.digest)
+
+-- a version that a confirmation names
+abbrev pub version_of : Confirmed → Version × Digest
+version_of v = (record { slot = v.slot; number = v.number }, v.digest)
+
+-- what an execution leaves in a slot
+abbrev pub left_of : Slot × List ℕ → Left
+left_of x = record { slot = x.0; content = x.1 }
+
 -- the protocol's node
 abbrev pub shown : NodeCore → Node
 shown x = record {
   life = x.life;
   asks = map shown_ask x.asks.items;
-  store = λ d. get digest_eq x.contents d;
-  known = λ s k. get version_eq x.versions (record { slot = s; number = k });
+  store = store_in x.contents;
+  known = known_in x.versions;
   spent = x.spent;
 }
 

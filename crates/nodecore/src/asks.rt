@@ -1,6 +1,7 @@
 ghost use Rattle.std.specs.Prelude.{◌≡◌, ◌+◌, ◌<◌, Bool, List, IfOk, map, length, is_some, position, slice_get};
 ghost use Rattle.std.specs.List.{list_any};
 ghost use Rattle.protocol.specs.Nodes.{wants_folder, is_tenure_of, is_home_of, uses, at_home, held, running, held_or_running, recallable, is_base, finished, others_use, in_use};
+ghost use Rattle.farm_base.specs.Digests.{digest_eq};
 ghost use Rattle.nodecore.specs.Asks.{shown_ask, told_state, slots_in, at_stage, is_open, recalls};
 ghost use Rattle.protocol.specs.Names.{Want};
 ghost use Rattle.protocol.specs.Machine.{Grant};
@@ -43,6 +44,13 @@ fn wants_folder(wants: &[Want], folder: &FolderName) -> bool
     ensures { result ≡ wants_folder folder.now wants.now }
 {
     wants.iter().any(|want| want.folder == *folder)
+}
+
+/// Whether the digest is the base of one of the slots.
+fn is_base(slots: &[GrantedSlot], digest: Digest) -> bool
+    ensures { result ≡ list_any (λ u. digest_eq u.digest digest) slots.now }
+{
+    slots.iter().any(|slot| slot.digest == digest)
 }
 
 impl KeptAsk {
@@ -180,11 +188,7 @@ impl KeptAsk {
                 grant,
                 stage: Stage::Held,
                 ..
-            } => grant
-                .slots
-                .as_slice()
-                .iter()
-                .any(|slot| slot.digest == digest),
+            } => is_base(grant.slots.as_slice(), digest),
             _ => false,
         }
     }

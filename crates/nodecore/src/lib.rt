@@ -3,6 +3,7 @@
 
 mod asks;
 mod heard;
+mod kept;
 mod message;
 mod node_core;
 
