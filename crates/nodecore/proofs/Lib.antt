@@ -2,3 +2,4 @@ pub mod AskLemmas
 pub mod NodeLemmas
 pub mod FirstLemmas
 pub mod KeptLemmas
+pub mod MapLemmas

@@ -3,7 +3,7 @@ ghost use Rattle.indexmap.specs.IndexMap.{spare};
 ghost use Rattle.protocol.specs.Machine.{slots_of, written};
 ghost use Rattle.protocol.specs.Names.{slots_eq};
 ghost use Rattle.protocol.specs.Nodes.{news_of, stored};
-ghost use Rattle.protocol.specs.World.{keep};
+ghost use Rattle.protocol.specs.World.{keep, learn};
 ghost use Rattle.folders.specs.Contents.{content_digest};
 ghost use Rattle.nodecore.specs.Shown.{base_of, known_in, learn_all, left_of, store_in, version_of};
 
@@ -48,13 +48,22 @@ pub(crate) fn confirmed(
     Ok(named)
 }
 
+/// Learns the digest of a version, in the room that is there.
+fn learn_one(known: &mut IndexMap<Version, Digest>, version: Version, digest: Digest)
+    requires { 0 < spare known.old }
+    ensures known { known_in known.new ≡ learn version.slot version.number digest (known_in known.old) }
+    ensures spare { spare known.old ≤ spare known.new + 1 }
+{
+    let _ = known.insert(version, digest);
+}
+
 /// Learns the digests of versions, in the room that is there.
 pub(crate) fn learn(known: &mut IndexMap<Version, Digest>, versions: Vec<(Version, Digest)>)
     requires { vec_len versions ≤ spare known.old }
     ensures { known_in known.new ≡ learn_all versions.items (known_in known.old) }
 {
     for (version, digest) in versions {
-        let _ = known.insert(version, digest);
+        learn_one(known, version, digest);
     }
 }
 
@@ -92,4 +101,23 @@ pub(crate) fn store_all(contents: &mut IndexMap<Digest, Content>, lefts: Vec<(Sl
     for (_, content) in lefts {
         store(contents, content);
     }
+}
+
+/// Whether an execution leaves just the slots that it may write, in their order.
+pub(crate) fn fits(lefts: &[(Slot, Content)], slots: &[GrantedSlot]) -> bool
+    ensures { result ≡ slots_eq (slots_of (news_of content_digest (map left_of lefts.now))) (written slots.now) }
+{
+    let mut rest = lefts;
+    for slot in slots {
+        if slot.writable {
+            let [left, others @ ..] = rest else {
+                return false;
+            };
+            if left.0 != slot.slot {
+                return false;
+            }
+            rest = others;
+        }
+    }
+    rest.is_empty()
 }
