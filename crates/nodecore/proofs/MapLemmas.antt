@@ -1,8 +1,9 @@
 -- What is stored and known, with one entry more.
 use mathlib.Core.Path.{fun_ext}
-use Rattle.std.proofs.Common.{◌≡◌, ℕ, ◌==◌, Bool, true, false, cond, ◌&&◌, List, [], ◌∷◌, ◌++◌, map, refl, ap, sym, ◌∙◌, Option, Some, is_some, Result, Ok, Err}
+use Rattle.std.proofs.Common.{◌≡◌, ℕ, ◌==◌, Bool, true, false, cond, ◌&&◌, List, [], ◌∷◌, ◌++◌, map, refl, ap, sym, ◌∙◌, Option, Some, is_some, Result, Ok, Err, zero, suc, ◌≤◌, length, drop, eqb, arith}
 use Rattle.std.specs.Prelude.{if◌then◌else◌, nat_eq, IsOk, OnOk}
 use Rattle.std.proofs.lemmas.Cmp.{nat_eq_equiv}
+use Rattle.std.proofs.lemmas.Grind.{common_steps}
 use Rattle.indexmap.specs.IndexMap.{IndexMap, get}
 use Rattle.farm_base.specs.Digests.{digest_eq}
 use Rattle.farm_base.specs.Slots.{slot_eq}
@@ -10,10 +11,11 @@ use Rattle.farm_base.specs.Versions.{version_eq}
 use Rattle.farm_base.specs.declared.message.Version.{Version}
 use Rattle.farm_base.proofs.CompareLaws.{slot_equivalence}
 use Rattle.folders.specs.Contents.{content_digest}
-use Rattle.protocol.specs.Names.{Slot, Digest}
-use Rattle.protocol.specs.Nodes.{Left, stored}
-use Rattle.protocol.specs.World.{keep, learn}
-use Rattle.nodecore.specs.Shown.{store_in, known_in, learn_all}
+use Rattle.protocol.specs.Names.{Slot, Digest, slots_eq}
+use Rattle.protocol.specs.Nodes.{Left, stored, news_of}
+use Rattle.protocol.specs.World.{keep, learn, learn_versions, learn_bases}
+use Rattle.protocol.specs.Machine.{Confirmed, GrantedSlot, slots_of}
+use Rattle.nodecore.specs.Shown.{store_in, known_in, learn_all, version_of, base_of, left_of}
 use Rattle.nodecore.proofs.NodeLemmas.{keep_shown}
 
 -- what an Ok promises
@@ -55,3 +57,32 @@ stored-push sha (y ∷ ys) x store = elim (is_some (store (sha y.content))) as (
       | true ↦ stored-push sha ys x store
       | false ↦ stored-push sha ys x (keep (sha y.content) y.content store)
     ]
+
+-- a map with the same entries
+pub same_store : {S : Type 0} (m n : IndexMap Digest (List ℕ) S) → n.entries ≡ m.entries → store_in n ≡ store_in m
+same_store m n h = fun_ext (λ d. rw h refl)
+
+pub same_known : {S : Type 0} (m n : IndexMap Version Digest S) → n.entries ≡ m.entries → known_in n ≡ known_in m
+same_known m n h = fun_ext (λ s. fun_ext (λ k. rw h refl))
+
+pub versions_learned : (vs : List Confirmed) (known : Slot → ℕ → Option Digest) → learn_versions vs known ≡ learn_all (map version_of vs) known
+versions_learned [] known = refl
+versions_learned (v ∷ vs) known = versions_learned vs (learn v.slot v.number v.digest known)
+
+pub bases_learned : (us : List GrantedSlot) (known : Slot → ℕ → Option Digest) → learn_bases us known ≡ learn_all (map base_of us) known
+bases_learned [] known = refl
+bases_learned (u ∷ us) known = bases_learned us (learn u.slot u.base u.digest known)
+
+not_zero : (n : ℕ) → false ≡ eqb (suc n) 0
+not_zero n = grind (arith, common_steps)
+
+-- nothing is left to leave
+pub fits_end : (rest : List (Slot × List ℕ)) → slots_eq (slots_of (news_of content_digest (map left_of rest))) [] ≡ eqb (length rest) 0
+fits_end [] = refl
+fits_end (x ∷ xs) = not_zero (length xs)
+
+pub drop_end : {A : Type 0} (xs : List A) (i : ℕ) → length xs ≤ i → drop i xs ≡ []
+drop_end [] zero h = refl
+drop_end [] (suc i) h = refl
+drop_end (x ∷ xs) zero h = absurd (omega (arith, h))
+drop_end (x ∷ xs) (suc i) h = drop_end xs i (omega (arith, h))

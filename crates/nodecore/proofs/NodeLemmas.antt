@@ -10,10 +10,10 @@ use Rattle.std.proofs.lemmas.Grind.{common_steps}
 use Rattle.std.proofs.lemmas.List.{map-set}
 use Rattle.std.proofs.lemmas.Cmp.{nat_list_eq_equiv}
 use Rattle.protocol.specs.Lists.{set_nth}
-use Rattle.protocol.specs.Names.{Ticket, Digest}
-use Rattle.protocol.specs.Machine.{Message}
-use Rattle.protocol.specs.World.{AskState, Node, Running, Over, keep}
-use Rattle.protocol.specs.Nodes.{NodeAnswer, NodeWork, Place, Held, guard, first, held, held_or_running, begun, beginning, all_stored, becomes, aborted, aborting, in_use, gives_up, brought, is_base}
+use Rattle.protocol.specs.Names.{Ticket, Digest, slots_eq}
+use Rattle.protocol.specs.Machine.{Message, News, commit, slots_of, written}
+use Rattle.protocol.specs.World.{AskState, Node, Running, Finished, Over, keep}
+use Rattle.protocol.specs.Nodes.{NodeAnswer, NodeWork, Place, Held, guard, first, held, held_or_running, begun, beginning, all_stored, becomes, aborted, aborting, in_use, gives_up, brought, is_base, running, Left, stored, leaving, leaves, news_of, finishing, finished_with}
 use Rattle.protocol.specs.declared.answer.How.TheVariants as how
 use Rattle.protocol.specs.declared.answer.NodeNote.TheVariants as note
 use Rattle.protocol.specs.declared.answer.NodeRefusal.{NodeRefusal}
@@ -80,3 +80,39 @@ brings c x y d e p q s =
     let based : list_any (is_base (content_digest c)) x.asks ≡ true = ap (λ (z : Digest). list_any (is_base z) x.asks) (sym e) ∙ q in
     let kept : record x { store = keep (content_digest c) c x.store } ≡ y = ap (λ (z : Digest). record x { store = keep z c x.store }) (sym e) ∙ s in
     rw (stored, based) (λ j. record { node = kept j; sends = []; note = note.BlobTaken })
+
+-- finish
+
+pub finishes_not : (at : Place) (t : Ticket) (lefts : List Left) (x : Node) → x.spent ≡ false → first (running t) x.asks 0 ≡ None → finished_with content_digest at t lefts x ≡ Err refusal.NotRunning
+finishes_not at t lefts x p q = passes _ _ p ∙ ap (finishing content_digest at lefts x) q
+
+pub finishes_in_use : (at : Place) (t : Ticket) (lefts : List Left) (x : Node) (a : ℕ) (h : Held) → x.spent ≡ false → first (running t) x.asks 0 ≡ Some (a, h) → in_use x.asks a h.wants h.grant ≡ true
+    → finished_with content_digest at t lefts x ≡ Err refusal.TenureInUse
+finishes_in_use at t lefts x a h p q r = passes _ _ p ∙ ap (finishing content_digest at lefts x) q ∙ rw r refl
+
+abbrev pub fitting : List Left → Held → Bool
+fitting lefts h = slots_eq (slots_of (news_of content_digest lefts)) (written h.grant.slots)
+
+pub finishes_wrong : (at : Place) (t : Ticket) (lefts : List Left) (x : Node) (a : ℕ) (h : Held) → x.spent ≡ false → first (running t) x.asks 0 ≡ Some (a, h) → in_use x.asks a h.wants h.grant ≡ false → fitting lefts h ≡ false
+    → finished_with content_digest at t lefts x ≡ Err refusal.WrongNews
+finishes_wrong at t lefts x a h p q r s = passes _ _ p ∙ ap (finishing content_digest at lefts x) q ∙ passes _ _ r ∙ ap (λ (b : Bool). guard (not b) refusal.WrongNews (Ok (leaving content_digest at a h lefts x))) s
+
+pub finishes : (at : Place) (t : Ticket) (lefts : List Left) (x : Node) (w : NodeWork) (a : ℕ) (h : Held) → x.spent ≡ false → first (running t) x.asks 0 ≡ Some (a, h) → in_use x.asks a h.wants h.grant ≡ false → fitting lefts h ≡ true
+    → leaving content_digest at a h lefts x ≡ w → finished_with content_digest at t lefts x ≡ Ok w
+finishes at t lefts x w a h p q r s e = passes _ _ p ∙ ap (finishing content_digest at lefts x) q ∙ passes _ _ r ∙ ap (λ (b : Bool). guard (not b) refusal.WrongNews (Ok (leaving content_digest at a h lefts x))) s ∙ ap (λ (v : NodeWork). Ok v) e
+
+pub leaves_none : (at : Place) (a : ℕ) (h : Held) (lefts : List Left) (x : Node) (t : Ticket) → lefts ≡ [] → h.grant.ticket ≡ t → leaving content_digest at a h lefts x ≡ gives_up at a t (note.Finished t) x
+leaves_none at a h lefts x t e f = ap (λ (l : List Left). leaving content_digest at a h l x) e ∙ ap (λ (u : Ticket). gives_up at a u (note.Finished u) x) f
+
+pub leaves_some : (at : Place) (a : ℕ) (h : Held) (lefts : List Left) (x : Node) → 0 < length lefts → leaving content_digest at a h lefts x ≡ leaves content_digest at a h lefts x
+leaves_some at a h [] x e = absurd (omega (arith, e))
+leaves_some at a h (l ∷ ls) x e = refl
+
+pub left_work : (at : Place) (t : Ticket) (a : ℕ) (h : Held) (lefts : List Left) (news : List News) (x : Node) (asks : List AskState) (store : Digest → Option (List ℕ)) (sends : List Message) → 0 < length lefts
+    → h.grant.ticket ≡ t → news ≡ news_of content_digest lefts → set_nth x.asks a (Finished h.wants h.grant news) ≡ asks → stored content_digest lefts x.store ≡ store → commit at.node x.life t news ∷ [] ≡ sends
+    → leaving content_digest at a h lefts x ≡ record { node = record x { asks = asks; store = store }; sends = sends; note = note.Finished t }
+left_work at t a h lefts news x asks store sends some ticket is asked stored_as said =
+    leaves_some at a h lefts x some
+    ∙ ap (λ (n : List News). record { node = record (becomes a (Finished h.wants h.grant n) x) { store = stored content_digest lefts x.store }; sends = commit at.node x.life h.grant.ticket n ∷ []; note = note.Finished h.grant.ticket }) (sym is)
+    ∙ ap (λ (u : Ticket). record { node = record (becomes a (Finished h.wants h.grant news) x) { store = stored content_digest lefts x.store }; sends = commit at.node x.life u news ∷ []; note = note.Finished u }) ticket
+    ∙ (λ j. record { node = record x { asks = asked j; store = stored_as j }; sends = said j; note = note.Finished t })

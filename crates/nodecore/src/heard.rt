@@ -1,13 +1,14 @@
 ghost use Rattle.std.specs.Prelude.{◌≡◌, [], IfOk};
 ghost use Rattle.protocol.specs.Lists.{nth};
-ghost use Rattle.protocol.specs.Nodes.{brought, denied, dropped, fetched, finished, first, recallable, recalled};
+ghost use Rattle.protocol.specs.Nodes.{brought, denied, dropped, fetched, finished, learned, first, recallable, recalled};
 ghost use Rattle.folders.specs.Contents.{content_digest};
 ghost use Rattle.nodecore.specs.Shown.{shown, place, work_of, Does};
 
 use super::asks::{KeptAsk, any_base, finished_place, recallable_place};
+use super::kept::{confirmed, learn};
 use super::message::{Message, NodeDone, ToNode};
 use super::node_core::NodeCore;
-use farm_base::{Ask, Copied, Digest, Items, NodeId, Ticket, Why};
+use farm_base::{Ask, Confirmed, Copied, Digest, Items, NodeId, Ticket, Why};
 use folders::Content;
 use protocol::{How, NodeNote};
 use std::alloc::{AllocError, Global};
@@ -33,6 +34,26 @@ impl NodeCore {
         };
         self.asks[index] = KeptAsk::Over(How::Fenced);
         silent(alloc, NodeNote::Dropped(ticket))
+    }
+
+    /// The news under the ticket count.
+    pub(crate) fn learn_news(
+        &mut self,
+        alloc: Global,
+        ticket: Ticket,
+        versions: &[Confirmed],
+    ) -> Result<NodeDone, AllocError>
+        ensures work { Does (learned ticket versions.now (shown self.old) (first (finished ticket) (shown self.old).asks 0)) (shown self.old) (shown self.new) result }
+        ensures place { place self.new ≡ place self.old }
+    {
+        let Some(index) = finished_place(self.asks.as_slice(), ticket) else {
+            return Ok(silent(alloc, NodeNote::Nothing));
+        };
+        let named = confirmed(alloc, versions)?;
+        self.versions.reserve(named.len())?;
+        learn(&mut self.versions, named);
+        self.asks[index] = KeptAsk::Over(How::Committed);
+        Ok(silent(alloc, NodeNote::Learned(ticket)))
     }
 
     /// An open ask is denied.

@@ -1,17 +1,23 @@
-ghost use Rattle.std.specs.Prelude.{◌≡◌, ◌∷◌, [], ◌<◌, ◌+◌, ◌^◌, ◌⊎◌, true, false, OnErr, IfOk, IfSome, IfNone, map, vec_len, option_map};
+ghost use Rattle.std.specs.Prelude.{◌≡◌, ◌∷◌, [], ◌<◌, ◌+◌, ◌^◌, ◌⊎◌, true, false, OnErr, slice_get, Some, IfOk, IfSome, IfNone, map, vec_len, option_map};
 ghost use Rattle.protocol.specs.Lists.{nth};
 ghost use Rattle.protocol.specs.Machine.{Said};
 ghost use Rattle.protocol.specs.World.{first_node};
-ghost use Rattle.protocol.specs.Nodes.{aborted, all_stored, asked, begun, gives_up, may_restart, opens, restarted};
+ghost use Rattle.protocol.specs.Nodes.{Held, finished_with, leaving, aborted, all_stored, asked, asked_tenure, begun, gives_up, may_restart, opens, restarted};
 ghost use Rattle.folders.specs.Contents.{content_digest};
 ghost use Rattle.folders.specs.Farm.{farm_limits};
+ghost use Rattle.nodecore.specs.declared.asks.KeptAsk.{KeptAsk};
+ghost use Rattle.nodecore.specs.declared.asks.Stage.{Stage};
 ghost use Rattle.nodecore.specs.Asks.{message_of, told_state};
-ghost use Rattle.nodecore.specs.Shown.{shown, place, work_of, Does, Answers};
+ghost use Rattle.nodecore.specs.Shown.{left_of, shown, place, work_of, Does, Answers};
 
-use super::asks::{KeptAsk, Stage, at_home, held_or_running_place, held_place, in_use};
+use super::asks::{
+    KeptAsk, Stage, at_home, has_tenure, held_or_running_place, held_place, in_use, running_place,
+};
+use super::kept::{fits, news_of, store_all};
 use super::message::{AskState, Message, NodeDone};
 use farm_base::{
-    Ask, Copied, Digest, GrantedSlot, Items, Life, NodeId, Request, Ticket, ToCoord, Version, Wants,
+    Ask, Copied, Digest, FolderName, GrantedSlot, Items, Life, Mode, NodeId, Request, Slot, Ticket,
+    ToCoord, Version, Want, Wants,
 };
 use folders::Content;
 use indexmap::IndexMap;
@@ -34,6 +40,21 @@ fn one_message(
         request,
     }))?;
     Ok(Items::new(sends))
+}
+
+/// The wants of an ask for the folder alone, writable.
+fn one_want(alloc: Global, folder: FolderName) -> Result<Wants, AllocError>
+    ensures { IfOk result (λ wants. wants ≡ record { folder = folder; writable = true } ∷ []) }
+{
+    let mut wants = Vec::with_capacity(alloc, 1)?;
+    wants.push(Want {
+        folder,
+        writable: true,
+    })?;
+    match Wants::of(wants) {
+        Ok(wants) => Ok(wants),
+        Err(_) => unreachable!(),
+    }
 }
 
 /// A node of the farm: what it keeps in its present life.
@@ -156,6 +177,34 @@ impl NodeCore {
         Ok(done)
     }
 
+    /// Asks for the tenure of the SHARED folder of this name.
+    pub fn ask_tenure(&mut self, alloc: Global, folder: FolderName) -> Result<NodeDone, NodeRefusal>
+        ensures answer { Answers (asked_tenure farm_limits (place self.old) folder (shown self.old)) (shown self.old) (shown self.new) result }
+        ensures place { place self.new ≡ place self.old }
+    {
+        if self.spent {
+            return Err(NodeRefusal::LivesSpent);
+        }
+        let folder = FolderName {
+            id: folder.id,
+            mode: Mode::Shared,
+            base: folder.base,
+        };
+        if has_tenure(self.asks.as_slice(), &folder) {
+            return Err(NodeRefusal::TenureHere);
+        }
+        if self.asks.len() as u64 == u64::MAX {
+            return Err(NodeRefusal::AsksSpent);
+        }
+        let Ok(wants) = one_want(alloc, folder) else {
+            return Err(NodeRefusal::OutOfMemory);
+        };
+        let Ok(done) = self.open(alloc, wants, true) else {
+            return Err(NodeRefusal::OutOfMemory);
+        };
+        Ok(done)
+    }
+
     /// Whether all bases are stored.
     fn has_all(&self, slots: &[GrantedSlot]) -> bool
         ensures { result ≡ all_stored (shown self.now) slots.now }
@@ -204,6 +253,67 @@ impl NodeCore {
             return Err(NodeRefusal::OutOfMemory);
         };
         Ok(done)
+    }
+
+    /// Ends an execution with what it leaves in each slot that it may write, in the order of its grant.
+    pub fn finish(
+        &mut self,
+        alloc: Global,
+        ticket: Ticket,
+        lefts: Vec<(Slot, Content)>,
+    ) -> Result<NodeDone, NodeRefusal>
+        ensures answer { Answers (finished_with content_digest (place self.old) ticket (map left_of lefts.items) (shown self.old)) (shown self.old) (shown self.new) result }
+        ensures place { place self.new ≡ place self.old }
+    {
+        if self.spent {
+            return Err(NodeRefusal::LivesSpent);
+        }
+        let Some(place) = running_place(self.asks.as_slice(), ticket) else {
+            return Err(NodeRefusal::NotRunning);
+        };
+        if in_use(self.asks.as_slice(), place) {
+            return Err(NodeRefusal::TenureInUse);
+        }
+        if !fits(lefts.as_slice(), self.asks[place].slots()) {
+            return Err(NodeRefusal::WrongNews);
+        }
+        let Ok(done) = self.leave(alloc, place, ticket, lefts) else {
+            return Err(NodeRefusal::OutOfMemory);
+        };
+        Ok(done)
+    }
+
+    /// Sends the news of an execution, or gives its lease back where it wrote nothing.
+    fn leave(
+        &mut self,
+        alloc: Global,
+        index: usize,
+        ticket: Ticket,
+        lefts: Vec<(Slot, Content)>,
+    ) -> Result<NodeDone, AllocError>
+        requires { index < vec_len self.old.asks }
+        ensures work { (h : Held)
+            → slice_get self.old.asks.items index ≡ Some (KeptAsk.Granted h.wants h.grant h.recalled Stage.Running)
+            → h.grant.ticket ≡ ticket
+            → Does (leaving content_digest (place self.old) (index + 1) h (map left_of lefts.items) (shown self.old)) (shown self.old) (shown self.new) result }
+        ensures place { place self.new ≡ place self.old }
+    {
+        if lefts.is_empty() {
+            return self.give_up(alloc, index, ticket, NodeNote::Finished(ticket));
+        }
+        let news = news_of(alloc, lefts.as_slice())?;
+        let request = Request::Commit {
+            ticket,
+            news: news.copy(alloc)?,
+        };
+        let sends = self.say(alloc, request)?;
+        self.contents.reserve(lefts.len())?;
+        self.asks[index].come_to(Stage::Finished(news));
+        store_all(&mut self.contents, lefts);
+        Ok(NodeDone {
+            note: NodeNote::Finished(ticket),
+            sends,
+        })
     }
 
     /// Gives a lease back.

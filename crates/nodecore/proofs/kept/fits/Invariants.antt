@@ -7,4 +7,4 @@ use Rattle.nodecore.specs.Shown.{left_of}
 use Rattle.nodecore.proofs.kept.fits.Given as goal
 
 abbrev pub invariant-loop-slot : goal.invariant-loop-slot
-invariant-loop-slot l = slots_eq (slots_of (news_of content_digest (map left_of l.rest.now))) (written (drop l.slot-index l.slots)) ≡ slots_eq (slots_of (news_of content_digest (map left_of l.lefts))) (written l.slots)
+invariant-loop-slot l = slots_eq (slots_of (news_of content_digest (map left_of l.rest))) (written (drop l.slot-index l.slots)) ≡ slots_eq (slots_of (news_of content_digest (map left_of l.lefts))) (written l.slots)
