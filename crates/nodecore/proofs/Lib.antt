@@ -3,3 +3,4 @@ pub mod NodeLemmas
 pub mod FirstLemmas
 pub mod KeptLemmas
 pub mod MapLemmas
+pub mod WantLemmas

@@ -1,5 +1,5 @@
 -- What contracts see of a node.
-use Rattle.std.specs.Prelude.{◌≡◌, ℕ, List, [], ◌∷◌, Option, Result, Ok, Err, map}
+use Rattle.std.specs.Prelude.{◌≡◌, ℕ, List, [], ◌∷◌, Option, None, Some, Result, Ok, Err, map}
 use Rattle.std.specs.declared.alloc.AllocError.{AllocError}
 use Rattle.indexmap.specs.IndexMap.{IndexMap, get}
 use Rattle.farm_base.specs.Digests.{digest_eq}
@@ -68,3 +68,12 @@ abbrev pub Answers : NodeAnswer → Node → Node → Result NodeDone NodeRefusa
 Answers answer old new (Ok done) = answer ≡ Ok (work_of new done)
 Answers answer old new (Err OutOfMemory) = new ≡ old
 Answers answer old new (Err e) = (answer ≡ Err e) × (new ≡ old)
+
+-- the content under the digest
+abbrev pub content_at : Node → Option Digest → Option (List ℕ)
+content_at x None = None
+content_at x (Some d) = x.store d
+
+-- the content of a version
+abbrev pub content_of : Node → Version → Option (List ℕ)
+content_of x v = content_at x (x.known v.slot v.number)

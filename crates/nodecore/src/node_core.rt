@@ -1,4 +1,4 @@
-ghost use Rattle.std.specs.Prelude.{◌≡◌, ◌∷◌, [], ◌<◌, ◌+◌, ◌^◌, ◌⊎◌, true, false, OnErr, slice_get, Some, IfOk, IfSome, IfNone, map, vec_len, option_map};
+ghost use Rattle.std.specs.Prelude.{◌≡◌, ◌∷◌, [], ◌<◌, ◌+◌, ◌^◌, ◌⊎◌, true, false, OnErr, slice_get, Some, IfOk, IfSome, IfNone, map, vec_len, option_map, option_copied};
 ghost use Rattle.protocol.specs.Lists.{nth};
 ghost use Rattle.protocol.specs.Machine.{Said};
 ghost use Rattle.protocol.specs.World.{first_node};
@@ -8,7 +8,7 @@ ghost use Rattle.folders.specs.Farm.{farm_limits};
 ghost use Rattle.nodecore.specs.declared.asks.KeptAsk.{KeptAsk};
 ghost use Rattle.nodecore.specs.declared.asks.Stage.{Stage};
 ghost use Rattle.nodecore.specs.Asks.{message_of, told_state};
-ghost use Rattle.nodecore.specs.Shown.{left_of, shown, place, work_of, Does, Answers};
+ghost use Rattle.nodecore.specs.Shown.{content_of, left_of, shown, place, work_of, Does, Answers};
 
 use super::asks::{
     KeptAsk, Stage, at_home, has_tenure, held_or_running_place, held_place, in_use, running_place,
@@ -99,7 +99,9 @@ impl NodeCore {
     }
 
     /// The content of a version that is known and stored here.
-    pub fn held(&self, version: &Version) -> Option<&Content> {
+    pub fn held(&self, version: &Version) -> Option<&Content>
+        ensures { option_copied result ≡ content_of (shown self.now) version.now }
+    {
         let digest = self.versions.get(version)?;
         self.contents.get(digest)
     }
