@@ -1,16 +1,10 @@
 -- The first ask that a test picks.
-use Rattle.std.proofs.Common.{◌≡◌, ℕ, zero, suc, ◌+◌, ◌<◌, ◌==◌, Bool, true, false, cond, ◌⊎◌, inl, inr, List, [], ◌∷◌, map, refl, ap, subst, sym, ◌∙◌, Option, Some, None, is_some, length, get_or, slice_get, add-one, arith}
-use Rattle.std.proofs.lemmas.Bool.{eqb-true}
-use Rattle.std.proofs.lemmas.Option.{slice_get_read}
+use Rattle.std.proofs.Common.{◌≡◌, ℕ, ◌+◌, ◌<◌, Bool, cond, List, [], ◌∷◌, map, refl, ap, subst, sym, ◌∙◌, Option, Some, None, is_some, length, get_or, add-one, arith}
 use Rattle.std.proofs.lemmas.Iterator.Adapters.{position_from-zero}
 use Rattle.std.specs.List.{position, position_from}
-use Rattle.protocol.specs.Names.{Want, Ticket}
-use Rattle.protocol.specs.Machine.{Grant, News}
-use Rattle.protocol.specs.World.{AskState, Open, Holding, Running, Finished, Over}
-use Rattle.protocol.specs.Nodes.{Held, Sent, first, first_of, under, held, running, held_or_running, finished}
+use Rattle.protocol.specs.World.{AskState}
+use Rattle.protocol.specs.Nodes.{first, first_of}
 use Rattle.nodecore.specs.declared.asks.KeptAsk.{KeptAsk}
-use Rattle.nodecore.specs.declared.asks.KeptAsk.TheVariants as kept
-use Rattle.nodecore.specs.declared.asks.Stage.TheVariants as stage
 use Rattle.nodecore.specs.Asks.{shown_ask}
 
 -- the test of an ask as it is kept

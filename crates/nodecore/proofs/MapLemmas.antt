@@ -1,6 +1,6 @@
 -- What is stored and known, with one entry more.
 use mathlib.Core.Path.{fun_ext}
-use Rattle.std.proofs.Common.{◌≡◌, ℕ, ◌==◌, Bool, true, false, cond, ◌&&◌, List, [], ◌∷◌, ◌++◌, map, refl, ap, sym, ◌∙◌, Option, Some, is_some, Result, Ok, Err, zero, suc, ◌≤◌, length, drop, eqb, arith}
+use Rattle.std.proofs.Common.{◌≡◌, ℕ, Bool, true, false, cond, ◌&&◌, List, [], ◌∷◌, ◌++◌, map, refl, ap, sym, ◌∙◌, Option, Some, is_some, Result, Ok, Err, zero, suc, ◌≤◌, length, drop, eqb, arith}
 use Rattle.std.specs.Prelude.{if◌then◌else◌, nat_eq, IsOk, OnOk}
 use Rattle.std.proofs.lemmas.Cmp.{nat_eq_equiv}
 use Rattle.std.proofs.lemmas.Grind.{common_steps}

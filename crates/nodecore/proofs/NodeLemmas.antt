@@ -1,5 +1,5 @@
 -- What calls come to.
-use Rattle.std.proofs.Common.{◌≡◌, ◌≢◌, ℕ, ◌+◌, ◌<◌, Bool, true, false, not, nat_lt, List, [], ◌∷◌, length, map, refl, ap, sym, ◌∙◌, add-one, arith, cond, is_some, Option, Some, None, Ok, Err, slice_set}
+use Rattle.std.proofs.Common.{◌≡◌, ℕ, ◌+◌, ◌<◌, Bool, true, false, not, nat_lt, List, [], ◌∷◌, length, map, refl, ap, sym, ◌∙◌, add-one, arith, cond, is_some, Option, Some, None, Ok, Err}
 use mathlib.Core.Path.{fun_ext}
 use Rattle.std.specs.List.{list_any}
 use Rattle.indexmap.specs.IndexMap.{IndexMap, get}
@@ -12,9 +12,8 @@ use Rattle.std.proofs.lemmas.Cmp.{nat_list_eq_equiv}
 use Rattle.protocol.specs.Lists.{set_nth}
 use Rattle.protocol.specs.Names.{Ticket, Digest, slots_eq}
 use Rattle.protocol.specs.Machine.{Message, News, commit, slots_of, written}
-use Rattle.protocol.specs.World.{AskState, Node, Running, Finished, Over, keep}
+use Rattle.protocol.specs.World.{AskState, Node, Running, Finished, keep}
 use Rattle.protocol.specs.Nodes.{NodeAnswer, NodeWork, Place, Held, guard, first, held, held_or_running, begun, beginning, all_stored, becomes, aborted, aborting, in_use, gives_up, brought, is_base, running, Left, stored, leaving, leaves, news_of, finishing, finished_with}
-use Rattle.protocol.specs.declared.answer.How.TheVariants as how
 use Rattle.protocol.specs.declared.answer.NodeNote.TheVariants as note
 use Rattle.protocol.specs.declared.answer.NodeRefusal.{NodeRefusal}
 use Rattle.protocol.specs.declared.answer.NodeRefusal.TheVariants as refusal

@@ -1,5 +1,5 @@
 -- The wants of one folder.
-use Rattle.std.proofs.Common.{◌≡◌, ◌≢◌, ℕ, zero, suc, ◌<◌, ◌≤◌, List, [], ◌∷◌, length, refl, ap, subst, sym, ◌∙◌, Result, Ok, Err, arith}
+use Rattle.std.proofs.Common.{◌≡◌, ◌≢◌, ℕ, zero, suc, ◌<◌, ◌≤◌, List, [], ◌∷◌, refl, ap, subst, sym, ◌∙◌, Result, Err, arith}
 use Rattle.std.specs.Prelude.{◌↔◌, IsErrOf, IsPermutation}
 use Rattle.std.specs.List.{IsDistinct, swap}
 use Rattle.std.specs.List.Sorted.{SwapsInRange, apply_swaps}

@@ -1,6 +1,5 @@
-use Rattle.std.proofs.Common.{◌≡◌, ◌∷◌, [], ◌++◌, true, ap, ◌∙◌, vec_len, arith, rules}
+use Rattle.std.proofs.Common.{◌≡◌, ◌∷◌, [], ◌++◌, true, ap, ◌∙◌, vec_len, arith}
 use Rattle.std.proofs.lemmas.Grind.{common_steps}
-use Rattle.protocol.specs.Names.{Want}
 use Rattle.nodecore.proofs.WantLemmas.{one_order, not_refused}
 use Rattle.nodecore.proofs.node_core.one_want.Goals as goal
 

@@ -1,16 +1,12 @@
-use Rattle.std.proofs.Common.{◌≡◌, ◌+◌, ◌∷◌, [], List, true, false, None, Some, refl, ap, sym, ◌∙◌, rules, arith, length, map, slice_get}
+use Rattle.std.proofs.Common.{◌≡◌, ◌+◌, List, true, false, None, Some, refl, ap, sym, ◌∙◌, rules, arith, map, slice_get}
 use Rattle.std.specs.List.{position}
-use Rattle.protocol.specs.Machine.{release}
-use Rattle.protocol.specs.World.{AskState, Over}
 use Rattle.protocol.specs.Nodes.{held_or_running, in_use}
-use Rattle.protocol.specs.declared.answer.How.TheVariants as how
 use Rattle.nodecore.specs.declared.asks.KeptAsk.{KeptAsk}
-use Rattle.nodecore.specs.declared.asks.KeptAsk.TheVariants as kept
-use Rattle.nodecore.specs.Asks.{shown_ask, message_of}
+use Rattle.nodecore.specs.Asks.{shown_ask}
 use Rattle.nodecore.specs.Shown.{shown, place}
 use Rattle.nodecore.proofs.FirstLemmas.{FirstAt, picks, some_first, none_first}
 use Rattle.nodecore.proofs.KeptLemmas.{held_or_running_at}
-use Rattle.nodecore.proofs.NodeLemmas.{aborts_not, aborts_in_use, aborts, becomes_shown}
+use Rattle.nodecore.proofs.NodeLemmas.{aborts_not, aborts_in_use, aborts}
 use Rattle.nodecore.proofs.node_core.NodeCore.abort.Goals as goal
 
 pub returns-in_default-clause-answer : goal.returns-in_default-clause-answer

@@ -1,5 +1,4 @@
-use Rattle.std.proofs.Common.{◌≡◌, false, true, nat_lt, length, not, Ok, ap, sym, ◌∙◌, rules, arith}
-use Rattle.std.proofs.lemmas.Grind.{common_steps}
+use Rattle.std.proofs.Common.{◌≡◌, false, nat_lt, length, not, Ok, ap, ◌∙◌, rules, arith}
 use Rattle.protocol.specs.Nodes.{at_home}
 use Rattle.nodecore.specs.Shown.{shown}
 use Rattle.nodecore.proofs.NodeLemmas.{passes, has_room}

@@ -1,4 +1,4 @@
-use Rattle.std.proofs.Common.{◌≡◌, Some, ap, sym, ◌∙◌, option_map, refl, ◌<◌, length, arith, rules}
+use Rattle.std.proofs.Common.{Some, ap, sym, ◌∙◌, option_map, ◌<◌, length, arith, rules}
 use Rattle.nodecore.specs.Asks.{told_state}
 use Rattle.nodecore.proofs.AskLemmas.{nth_shown}
 use Rattle.nodecore.proofs.node_core.NodeCore.ask_state.Goals as goal

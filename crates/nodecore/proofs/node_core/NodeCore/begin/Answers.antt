@@ -1,9 +1,7 @@
-use Rattle.std.proofs.Common.{◌≡◌, ◌+◌, List, [], map, true, false, None, Some, refl, ap, sym, ◌∙◌, rules, arith, length, get_or}
+use Rattle.std.proofs.Common.{◌≡◌, ◌+◌, [], map, true, false, None, Some, refl, ap, sym, ◌∙◌, rules, arith}
 use Rattle.std.specs.List.{position}
-use Rattle.protocol.specs.Machine.{GrantedSlot}
 use Rattle.protocol.specs.World.{Running}
 use Rattle.protocol.specs.Nodes.{held, all_stored}
-use Rattle.nodecore.specs.declared.asks.KeptAsk.{KeptAsk}
 use Rattle.nodecore.specs.declared.asks.Stage.TheVariants as stage
 use Rattle.nodecore.specs.Asks.{shown_ask, slots_in, at_stage, message_of}
 use Rattle.nodecore.specs.Shown.{shown}

@@ -1,6 +1,6 @@
-use Rattle.std.proofs.Common.{◌≡◌, false, true, not, is_some, ℕ, List, [], refl, ap, sym, ◌∙◌, rules}
+use Rattle.std.proofs.Common.{◌≡◌, false, true, is_some, ℕ, List, ap, sym, ◌∙◌, rules}
 use Rattle.std.specs.List.{list_any}
-use Rattle.protocol.specs.World.{Node, keep}
+use Rattle.protocol.specs.World.{keep}
 use Rattle.protocol.specs.Nodes.{is_base}
 use Rattle.indexmap.specs.IndexMap.{get}
 use Rattle.farm_base.specs.Digests.{digest_eq}

@@ -1,11 +1,10 @@
-use Rattle.std.proofs.Common.{◌≡◌, ℕ, ◌+◌, ◌<◌, false, true, not, length, get_or, [], Some, refl, ap, sym, ◌∙◌, rules, arith}
-use Rattle.protocol.specs.Lists.{nth}
+use Rattle.std.proofs.Common.{◌≡◌, ℕ, ◌<◌, false, true, length, [], refl, ap, sym, ◌∙◌, rules, arith}
 use Rattle.protocol.specs.World.{Node, Over}
 use Rattle.protocol.specs.Nodes.{denied, becomes}
 use Rattle.protocol.specs.declared.answer.How.TheVariants as how
 use Rattle.protocol.specs.declared.answer.NodeNote.TheVariants as note
 use Rattle.nodecore.specs.declared.asks.KeptAsk.TheVariants as kept
-use Rattle.nodecore.specs.Asks.{shown_ask, is_open}
+use Rattle.nodecore.specs.Asks.{is_open}
 use Rattle.nodecore.specs.Shown.{shown, work_of}
 use Rattle.nodecore.proofs.AskLemmas.{nth_shown}
 use Rattle.nodecore.proofs.KeptLemmas.{not_denied, is_denied}

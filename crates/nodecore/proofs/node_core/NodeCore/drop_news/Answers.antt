@@ -1,4 +1,4 @@
-use Rattle.std.proofs.Common.{◌≡◌, ◌+◌, [], List, None, Some, refl, ap, sym, ◌∙◌, rules, arith}
+use Rattle.std.proofs.Common.{◌≡◌, ◌+◌, [], None, Some, refl, ap, sym, ◌∙◌, rules, arith}
 use Rattle.std.specs.List.{position}
 use Rattle.protocol.specs.World.{Node, Over}
 use Rattle.protocol.specs.Nodes.{dropped, finished}

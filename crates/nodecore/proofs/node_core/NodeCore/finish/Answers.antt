@@ -1,11 +1,7 @@
-use Rattle.std.proofs.Common.{◌≡◌, ℕ, ◌+◌, ◌∷◌, [], List, true, false, None, Some, refl, ap, sym, ◌∙◌, rules, arith, length, map, slice_get}
+use Rattle.std.proofs.Common.{◌≡◌, ℕ, ◌+◌, List, true, false, None, Some, refl, ap, sym, ◌∙◌, rules, arith, map, slice_get}
 use Rattle.std.specs.List.{position}
-use Rattle.protocol.specs.Machine.{release}
-use Rattle.protocol.specs.World.{AskState, Over}
 use Rattle.protocol.specs.Nodes.{running, in_use}
-use Rattle.protocol.specs.declared.answer.How.TheVariants as how
 use Rattle.nodecore.specs.declared.asks.KeptAsk.{KeptAsk}
-use Rattle.nodecore.specs.declared.asks.KeptAsk.TheVariants as kept
 use Rattle.nodecore.specs.declared.asks.Stage.TheVariants as stage
 use Rattle.nodecore.specs.Asks.{shown_ask, slots_in}
 use Rattle.folders.specs.Contents.{content_digest}

@@ -1,4 +1,4 @@
-use Rattle.std.proofs.Common.{◌≡◌, ◌+◌, [], List, get_or, None, Some, refl, ap, sym, ◌∙◌, rules, arith}
+use Rattle.std.proofs.Common.{◌≡◌, ◌+◌, [], get_or, None, Some, refl, ap, sym, ◌∙◌, rules, arith}
 use Rattle.std.specs.List.{position}
 use Rattle.protocol.specs.World.{Node}
 use Rattle.protocol.specs.Nodes.{recalled, recallable}
