@@ -1,0 +1,6 @@
+pub mod AskLemmas
+pub mod NodeLemmas
+pub mod FirstLemmas
+pub mod KeptLemmas
+pub mod MapLemmas
+pub mod WantLemmas

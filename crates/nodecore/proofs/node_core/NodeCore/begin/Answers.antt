@@ -1,0 +1,38 @@
+use Rattle.std.proofs.Common.{◌≡◌, ◌+◌, [], map, true, false, None, Some, refl, ap, sym, ◌∙◌, rules, arith}
+use Rattle.std.specs.List.{position}
+use Rattle.protocol.specs.World.{Running}
+use Rattle.protocol.specs.Nodes.{held, all_stored}
+use Rattle.nodecore.specs.declared.asks.Stage.TheVariants as stage
+use Rattle.nodecore.specs.Asks.{shown_ask, slots_in, at_stage, message_of}
+use Rattle.nodecore.specs.Shown.{shown}
+use Rattle.nodecore.proofs.FirstLemmas.{FirstAt, picks, some_first, none_first}
+use Rattle.nodecore.proofs.KeptLemmas.{held_at, read_at}
+use Rattle.nodecore.proofs.NodeLemmas.{begins_not, begins_missing, begins, becomes_shown}
+use Rattle.nodecore.proofs.node_core.NodeCore.begin.Goals as goal
+
+pub returns-in_default-clause-answer : goal.returns-in_default-clause-answer
+returns-in_default-clause-answer c =
+    let at : position (picks (held c.args.ticket)) c.args.self.now.asks.items ≡ None = search rules in
+    (begins_not c.args.ticket (shown c.args.self.now) c.if-self.false (none_first (held c.args.ticket) c.args.self.now.asks.items at), refl)
+
+pub returns-then-not-has_all-clause-answer : goal.returns-then-not-has_all-clause-answer
+returns-then-not-has_all-clause-answer c =
+    let at : position (picks (held c.args.ticket)) c.args.self.now.asks.items ≡ Some c.in-Some.place = search rules in
+    let f : FirstAt (held c.args.ticket) c.args.self.now.asks.items 0 c.in-Some.place = some_first (held c.args.ticket) c.args.self.now.asks.items c.in-Some.place at in
+    let read = read_at (held_at c.args.ticket c.args.self.now.asks.items c.in-Some.place f) c.index.result.now (search rules) in
+    let slots : c.slots.result.now ≡ f.what.grant.slots = c.slots.ensures ∙ ap slots_in read in
+    let missing : all_stored (shown c.args.self.now) f.what.grant.slots ≡ false = ap (all_stored (shown c.args.self.now)) (sym slots) ∙ sym c.has_all.ensures ∙ search rules in
+    (begins_missing c.args.ticket (shown c.args.self.now) (c.in-Some.place + 1) f.what c.if-self.false (f.found (c.in-Some.place + 1) (omega arith)) missing, refl)
+
+pub returns-clause-answer : goal.returns-clause-answer
+returns-clause-answer c =
+    let at : position (picks (held c.args.ticket)) c.args.self.now.asks.items ≡ Some c.in-Some.place = search rules in
+    let f : FirstAt (held c.args.ticket) c.args.self.now.asks.items 0 c.in-Some.place = some_first (held c.args.ticket) c.args.self.now.asks.items c.in-Some.place at in
+    let read = read_at (held_at c.args.ticket c.args.self.now.asks.items c.in-Some.place f) c.index.result.now (search rules) in
+    let slots : c.slots.result.now ≡ f.what.grant.slots = c.slots.ensures ∙ ap slots_in read in
+    let here : all_stored (shown c.args.self.now) f.what.grant.slots ≡ true = ap (all_stored (shown c.args.self.now)) (sym slots) ∙ sym c.has_all.ensures ∙ search rules in
+    let written = read_at (held_at c.args.ticket c.args.self.now.asks.items c.in-Some.place f) c.index_mut.result.now (search rules) in
+    let next : Running f.what.wants f.what.grant f.what.recalled ≡ shown_ask c.come_to.new.self = sym (ap shown_ask (c.come_to.ensures ∙ ap (at_stage stage.Running) written)) in
+    let quiet : [] ≡ map message_of c.new-2.result = sym (ap (map message_of) (c.new-2.ensures ∙ c.new.ensures.items)) in
+    begins c.args.ticket (shown c.args.self.now) _ (c.in-Some.place + 1) f.what _ c.if-self.false (f.found (c.in-Some.place + 1) (omega arith)) here quiet
+    (becomes_shown (shown c.args.self.now) c.args.self.now.asks.items c.in-Some.place c.come_to.new.self _ refl next)

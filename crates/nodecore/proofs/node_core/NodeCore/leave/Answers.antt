@@ -1,0 +1,32 @@
+use Rattle.std.proofs.Common.{◌≡◌, ◌+◌, ◌<◌, ◌∷◌, [], ℕ, List, Option, length, map, ap, sym, ◌∙◌, arith}
+use Rattle.std.proofs.lemmas.Grind.{common_steps}
+use Rattle.std.proofs.lemmas.List.{length-map}
+use Rattle.std.proofs.lemmas.Option.{get_or_from_slice_get}
+use Rattle.folders.specs.Contents.{content_digest}
+use Rattle.protocol.specs.Names.{Slot, Digest}
+use Rattle.protocol.specs.Machine.{News, commit}
+use Rattle.protocol.specs.World.{Finished}
+use Rattle.protocol.specs.Nodes.{news_of, stored}
+use Rattle.nodecore.specs.declared.asks.KeptAsk.TheVariants as kept
+use Rattle.nodecore.specs.declared.asks.Stage.TheVariants as stage
+use Rattle.nodecore.specs.Asks.{shown_ask, at_stage, message_of}
+use Rattle.nodecore.specs.Shown.{shown, place, left_of, store_in}
+use Rattle.nodecore.proofs.MapLemmas.{same_store}
+use Rattle.nodecore.proofs.NodeLemmas.{left_work, set_shown}
+use Rattle.nodecore.proofs.node_core.NodeCore.leave.Goals as goal
+
+pub returns-clause-work : goal.returns-clause-work
+returns-clause-work c = λ h get ticket.
+    let filled : 0 < length c.args.lefts.items = grind (arith, common_steps) in
+    let some : 0 < length (map left_of c.args.lefts.items) = simp length-map filled in
+    let news : c.in_ok-news.news ≡ news_of content_digest (map left_of c.args.lefts.items) =
+    c.in_ok-news.ensures ∙ ap (λ (ls : List (Slot × List ℕ)). news_of content_digest (map left_of ls)) c.as_slice.ensures.value in
+    let old : c.index_mut.result.now ≡ kept.Granted h.wants h.grant h.recalled stage.Running =
+    c.index_mut.ensures.value ∙ get_or_from_slice_get c.args.self.now.asks.items c.args.index (kept.Granted h.wants h.grant h.recalled stage.Running) c.index_mut.result.now get in
+    let next : Finished h.wants h.grant c.in_ok-news.news ≡ shown_ask c.come_to.new.self = sym (ap shown_ask (c.come_to.ensures ∙ ap (at_stage (stage.Finished c.in_ok-news.news)) old)) in
+    let contents : stored content_digest (map left_of c.args.lefts.items) (store_in c.args.self.now.contents) ≡ store_in c.store_all.new.contents =
+    sym (c.store_all.ensures ∙ ap (λ (s : Digest → Option (List ℕ)). stored content_digest (map left_of c.args.lefts.items) s) (same_store c.args.self.now.contents c.reserve.new.self c.in_ok-reserve.ensures.entries)) in
+    let sends : commit c.args.self.now.node c.args.self.now.life c.args.ticket c.in_ok-news.news ∷ [] ≡ map message_of c.in_ok-sends.sends =
+    sym (c.in_ok-sends.ensures ∙ ap (λ (n : List News). commit c.args.self.now.node c.args.self.now.life c.args.ticket n ∷ []) c.in_ok-copy.ensures) in
+    left_work (place c.args.self.now) c.args.ticket (c.args.index + 1) h (map left_of c.args.lefts.items) c.in_ok-news.news (shown c.args.self.now) _ _ _ some ticket news
+    (set_shown c.args.self.now.asks.items c.args.index c.come_to.new.self (Finished h.wants h.grant c.in_ok-news.news) next) contents sends

@@ -1,0 +1,65 @@
+-- What contracts see of the asks and messages of a node.
+use Rattle.std.specs.Prelude.{Bool, true, false, List, []}
+use Rattle.protocol.specs.Names.{Want}
+use Rattle.protocol.specs.Machine.{Grant, GrantedSlot, Message, Said, Told, Fetches}
+use Rattle.protocol.specs.Machine as machine
+use Rattle.protocol.specs.World.{AskState, Open, Holding, Running, Finished, Over}
+use Rattle.nodecore.specs.declared.asks.KeptAsk.{KeptAsk}
+use Rattle.nodecore.specs.declared.asks.KeptAsk.TheVariants as kept
+use Rattle.nodecore.specs.declared.asks.Stage.{Stage}
+use Rattle.nodecore.specs.declared.asks.Stage.TheVariants as stage
+use Rattle.nodecore.specs.declared.message.Message as sent
+use Rattle.nodecore.specs.declared.message.Message.TheVariants.{ToCoord, ToNode}
+use Rattle.nodecore.specs.declared.message.ToNode.TheVariants.{FromCoord, Fetch, Blob}
+use Rattle.nodecore.specs.declared.message.AskState as state
+use Rattle.nodecore.specs.declared.message.AskState.TheVariants as told
+
+-- a granted ask at this stage
+abbrev pub shown_stage : List Want → Grant → Bool → Stage → AskState
+shown_stage wants g r stage.Held = Holding wants g r
+shown_stage wants g r stage.Running = Running wants g r
+shown_stage wants g r (stage.Finished news) = Finished wants g news
+
+-- the ask that is kept
+abbrev pub shown_ask : KeptAsk → AskState
+shown_ask (kept.Open wants tenure) = Open wants tenure
+shown_ask (kept.Granted wants g r s) = shown_stage wants g r s
+shown_ask (kept.Over how) = Over how
+
+-- the slots of the ask's grant, none where it has no grant
+abbrev pub slots_in : KeptAsk → List GrantedSlot
+slots_in (kept.Open wants tenure) = []
+slots_in (kept.Granted wants g r s) = g.slots
+slots_in (kept.Over how) = []
+
+-- a granted ask at this stage
+abbrev pub at_stage : Stage → KeptAsk → KeptAsk
+at_stage s (kept.Open wants tenure) = kept.Open wants tenure
+at_stage s (kept.Granted wants g r old) = kept.Granted wants g r s
+at_stage s (kept.Over how) = kept.Over how
+
+abbrev pub is_open : KeptAsk → Bool
+is_open (kept.Open wants tenure) = true
+is_open (kept.Granted wants g r s) = false
+is_open (kept.Over how) = false
+
+-- a granted ask is recalled
+abbrev pub recalls : KeptAsk → KeptAsk
+recalls (kept.Open wants tenure) = kept.Open wants tenure
+recalls (kept.Granted wants g r s) = kept.Granted wants g true s
+recalls (kept.Over how) = kept.Over how
+
+-- the protocol's message
+abbrev pub message_of : sent.Message → Message
+message_of (ToCoord m) = Said m
+message_of (ToNode (FromCoord m)) = Told m
+message_of (ToNode (Fetch m)) = Fetches m
+message_of (ToNode (Blob n c)) = machine.Blob n c
+
+-- how an ask stands, as callers are told
+abbrev pub told_state : AskState → state.AskState
+told_state (Open wants tenure) = told.Pending
+told_state (Holding wants g r) = told.Granted g
+told_state (Running wants g r) = told.Running g
+told_state (Finished wants g news) = told.Finished g.ticket
+told_state (Over how) = told.Over how

@@ -1,0 +1,79 @@
+-- What contracts see of a node.
+use Rattle.std.specs.Prelude.{◌≡◌, ℕ, List, [], ◌∷◌, Option, None, Some, Result, Ok, Err, map}
+use Rattle.std.specs.declared.alloc.AllocError.{AllocError}
+use Rattle.indexmap.specs.IndexMap.{IndexMap, get}
+use Rattle.farm_base.specs.Digests.{digest_eq}
+use Rattle.farm_base.specs.Versions.{version_eq}
+use Rattle.protocol.specs.World.{Node, learn}
+use Rattle.protocol.specs.Names.{Slot, Digest}
+use Rattle.protocol.specs.Machine.{GrantedSlot, Confirmed}
+use Rattle.farm_base.specs.declared.message.Version.{Version}
+use Rattle.protocol.specs.Nodes.{NodeWork, NodeAnswer, Place, Left}
+use Rattle.protocol.specs.declared.answer.NodeRefusal.{NodeRefusal}
+use Rattle.protocol.specs.declared.answer.NodeRefusal.TheVariants.{OutOfMemory}
+use Rattle.nodecore.specs.declared.message.NodeDone.{NodeDone}
+use Rattle.nodecore.specs.declared.node_core.NodeCore.{NodeCore}
+use Rattle.nodecore.specs.Asks.{shown_ask, message_of}
+
+-- the contents of a map
+abbrev pub store_in : {S : Type 0} → IndexMap Digest (List ℕ) S → Digest → Option (List ℕ)
+store_in m d = get digest_eq m d
+
+-- the digests of a map
+abbrev pub known_in : {S : Type 0} → IndexMap Version Digest S → Slot → ℕ → Option Digest
+known_in m s k = get version_eq m (record { slot = s; number = k })
+
+-- the versions become known
+abbrev pub learn_all : List (Version × Digest) → (Slot → ℕ → Option Digest) → Slot → ℕ → Option Digest
+learn_all [] known = known
+learn_all (v ∷ vs) known = learn_all vs (learn v.0.slot v.0.number v.1 known)
+
+-- the base of a granted slot
+abbrev pub base_of : GrantedSlot → Version × Digest
+base_of u = (record { slot = u.slot; number = u.base }, u.digest)
+
+-- a version that a confirmation names
+abbrev pub version_of : Confirmed → Version × Digest
+version_of v = (record { slot = v.slot; number = v.number }, v.digest)
+
+-- what an execution leaves in a slot
+abbrev pub left_of : Slot × List ℕ → Left
+left_of x = record { slot = x.0; content = x.1 }
+
+-- the protocol's node
+abbrev pub shown : NodeCore → Node
+shown x = record {
+  life = x.life;
+  asks = map shown_ask x.asks.items;
+  store = store_in x.contents;
+  known = known_in x.versions;
+  spent = x.spent;
+}
+
+-- which node it is, and how many there are
+abbrev pub place : NodeCore → Place
+place x = record { node = x.node; nodes = x.nodes }
+
+-- the work that was done, between these nodes
+abbrev pub work_of : Node → NodeDone → NodeWork
+work_of new done = record { node = new; sends = map message_of done.sends; note = done.note }
+
+-- the call did this work. Where memory ran out it did nothing
+abbrev pub Does : NodeWork → Node → Node → Result NodeDone AllocError → Type 0
+Does work old new (Ok done) = work ≡ work_of new done
+Does work old new (Err e) = new ≡ old
+
+-- the call came to this. Where it was refused nothing is changed
+abbrev pub Answers : NodeAnswer → Node → Node → Result NodeDone NodeRefusal → Type 0
+Answers answer old new (Ok done) = answer ≡ Ok (work_of new done)
+Answers answer old new (Err OutOfMemory) = new ≡ old
+Answers answer old new (Err e) = (answer ≡ Err e) × (new ≡ old)
+
+-- the content under the digest
+abbrev pub content_at : Node → Option Digest → Option (List ℕ)
+content_at x None = None
+content_at x (Some d) = x.store d
+
+-- the content of a version
+abbrev pub content_of : Node → Version → Option (List ℕ)
+content_of x v = content_at x (x.known v.slot v.number)

@@ -1,0 +1,123 @@
+ghost use Rattle.std.specs.Prelude.{◌≡◌, [], IfOk};
+ghost use Rattle.protocol.specs.Lists.{nth};
+ghost use Rattle.protocol.specs.Nodes.{brought, denied, dropped, fetched, finished, learned, first, recallable, recalled};
+ghost use Rattle.folders.specs.Contents.{content_digest};
+ghost use Rattle.nodecore.specs.Shown.{shown, place, work_of, Does};
+
+use super::asks::{KeptAsk, any_base, finished_place, recallable_place};
+use super::kept::{confirmed, learn};
+use super::message::{Message, NodeDone, ToNode};
+use super::node_core::NodeCore;
+use farm_base::{Ask, Confirmed, Copied, Digest, Items, NodeId, Ticket, Why};
+use folders::Content;
+use protocol::{How, NodeNote};
+use std::alloc::{AllocError, Global};
+
+/// What sends nothing.
+pub(crate) fn silent(alloc: Global, note: NodeNote) -> NodeDone
+    ensures { result ≡ record { note = note; sends = [] } }
+{
+    NodeDone {
+        note,
+        sends: Items::new(Vec::new(alloc)),
+    }
+}
+
+impl NodeCore {
+    /// The news under the ticket do not count.
+    pub(crate) fn drop_news(&mut self, alloc: Global, ticket: Ticket) -> NodeDone
+        ensures work { dropped ticket (shown self.old) (first (finished ticket) (shown self.old).asks 0) ≡ work_of (shown self.new) result }
+        ensures place { place self.new ≡ place self.old }
+    {
+        let Some(index) = finished_place(self.asks.as_slice(), ticket) else {
+            return silent(alloc, NodeNote::Nothing);
+        };
+        self.asks[index] = KeptAsk::Over(How::Fenced);
+        silent(alloc, NodeNote::Dropped(ticket))
+    }
+
+    /// The news under the ticket count.
+    pub(crate) fn learn_news(
+        &mut self,
+        alloc: Global,
+        ticket: Ticket,
+        versions: &[Confirmed],
+    ) -> Result<NodeDone, AllocError>
+        ensures work { Does (learned ticket versions.now (shown self.old) (first (finished ticket) (shown self.old).asks 0)) (shown self.old) (shown self.new) result }
+        ensures place { place self.new ≡ place self.old }
+    {
+        let Some(index) = finished_place(self.asks.as_slice(), ticket) else {
+            return Ok(silent(alloc, NodeNote::Nothing));
+        };
+        let named = confirmed(alloc, versions)?;
+        self.versions.reserve(named.len())?;
+        learn(&mut self.versions, named);
+        self.asks[index] = KeptAsk::Over(How::Committed);
+        Ok(silent(alloc, NodeNote::Learned(ticket)))
+    }
+
+    /// An open ask is denied.
+    pub(crate) fn deny(&mut self, alloc: Global, ask: Ask, why: Why) -> NodeDone
+        ensures work { denied ask why (shown self.old) (nth (shown self.old).asks ask.0) ≡ work_of (shown self.new) result }
+        ensures place { place self.new ≡ place self.old }
+    {
+        let Some(index) = self.place_of(ask) else {
+            return silent(alloc, NodeNote::Nothing);
+        };
+        if !self.asks[index].is_open() {
+            return silent(alloc, NodeNote::Nothing);
+        }
+        self.asks[index] = KeptAsk::Over(How::Denied(why));
+        silent(alloc, NodeNote::Denied(why))
+    }
+
+    /// Another node asks for the tenure under the ticket.
+    pub(crate) fn recall(&mut self, alloc: Global, ticket: Ticket) -> NodeDone
+        ensures work { recalled ticket (shown self.old) (first (recallable ticket) (shown self.old).asks 0) ≡ work_of (shown self.new) result }
+        ensures place { place self.new ≡ place self.old }
+    {
+        let Some(index) = recallable_place(self.asks.as_slice(), ticket) else {
+            return silent(alloc, NodeNote::Nothing);
+        };
+        self.asks[index].recall();
+        silent(alloc, NodeNote::Recalled(ticket))
+    }
+
+    /// Answers a node that asks for a content.
+    pub(crate) fn lend(
+        &self,
+        alloc: Global,
+        from: NodeId,
+        digest: Digest,
+    ) -> Result<NodeDone, AllocError>
+        ensures { IfOk result (λ done. fetched from (shown self.now) ((shown self.now).store digest) ≡ work_of (shown self.now) done) }
+    {
+        let Some(content) = self.contents.get(&digest) else {
+            return Ok(silent(alloc, NodeNote::Nothing));
+        };
+        let content = content.copy(alloc)?;
+        let mut sends = Vec::new(alloc);
+        sends.push(Message::ToNode(ToNode::Blob {
+            node: from,
+            content,
+        }))?;
+        Ok(NodeDone {
+            note: NodeNote::SentBlob,
+            sends: Items::new(sends),
+        })
+    }
+
+    /// Stores a content that a granted ask is based on, where it is not stored.
+    pub(crate) fn bring(&mut self, alloc: Global, content: &Content) -> Result<NodeDone, AllocError>
+        ensures work { Does (brought content_digest content.now (shown self.old)) (shown self.old) (shown self.new) result }
+        ensures place { place self.new ≡ place self.old }
+    {
+        let digest = content.digest();
+        if self.contents.contains_key(&digest) || !any_base(self.asks.as_slice(), digest) {
+            return Ok(silent(alloc, NodeNote::Nothing));
+        }
+        let copy = content.copy(alloc)?;
+        self.contents.insert(digest, copy)?;
+        Ok(silent(alloc, NodeNote::BlobTaken))
+    }
+}

@@ -1,0 +1,11 @@
+//! What a node decides: its asks, the contents that it stores, and the versions that it knows.
+#![tactic(auto)]
+
+mod asks;
+mod heard;
+mod kept;
+mod message;
+mod node_core;
+
+pub use message::{AskState, Message, NodeDone, ToNode};
+pub use node_core::NodeCore;

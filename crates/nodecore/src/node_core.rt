@@ -1,0 +1,362 @@
+ghost use Rattle.std.specs.Prelude.{◌≡◌, ◌∷◌, [], ◌<◌, ◌+◌, ◌^◌, ◌⊎◌, true, false, OnErr, slice_get, Some, IfOk, IfSome, IfNone, map, vec_len, option_map, option_copied};
+ghost use Rattle.protocol.specs.Lists.{nth};
+ghost use Rattle.protocol.specs.Machine.{Said};
+ghost use Rattle.protocol.specs.World.{first_node};
+ghost use Rattle.protocol.specs.Nodes.{Held, finished_with, leaving, aborted, all_stored, asked, asked_tenure, begun, gives_up, may_restart, opens, restarted};
+ghost use Rattle.folders.specs.Contents.{content_digest};
+ghost use Rattle.folders.specs.Farm.{farm_limits};
+ghost use Rattle.nodecore.specs.declared.asks.KeptAsk.{KeptAsk};
+ghost use Rattle.nodecore.specs.declared.asks.Stage.{Stage};
+ghost use Rattle.nodecore.specs.Asks.{message_of, told_state};
+ghost use Rattle.nodecore.specs.Shown.{content_of, left_of, shown, place, work_of, Does, Answers};
+
+use super::asks::{
+    KeptAsk, Stage, at_home, has_tenure, held_or_running_place, held_place, in_use, running_place,
+};
+use super::kept::{fits, news_of, store_all};
+use super::message::{AskState, Message, NodeDone};
+use farm_base::{
+    Ask, Copied, Digest, FolderName, GrantedSlot, Items, Life, Mode, NodeId, Request, Slot, Ticket,
+    ToCoord, Version, Want, Wants,
+};
+use folders::Content;
+use indexmap::IndexMap;
+use protocol::{How, NodeNote, NodeRefusal};
+use std::alloc::{AllocError, Global};
+
+/// One message to the coordinator.
+fn one_message(
+    alloc: Global,
+    node: NodeId,
+    life: Life,
+    request: Request,
+) -> Result<Items<Message>, AllocError>
+    ensures { IfOk result (λ sends. map message_of sends ≡ Said (record { node = node; life = life; request = request }) ∷ []) }
+{
+    let mut sends = Vec::new(alloc);
+    sends.push(Message::ToCoord(ToCoord {
+        node,
+        life,
+        request,
+    }))?;
+    Ok(Items::new(sends))
+}
+
+/// The wants of an ask for the folder alone, writable.
+fn one_want(alloc: Global, folder: FolderName) -> Result<Wants, AllocError>
+    ensures { IfOk result (λ wants. wants ≡ record { folder = folder; writable = true } ∷ []) }
+{
+    let mut wants = Vec::with_capacity(alloc, 1)?;
+    wants.push(Want {
+        folder,
+        writable: true,
+    })?;
+    match Wants::of(wants) {
+        Ok(wants) => Ok(wants),
+        Err(_) => unreachable!(),
+    }
+}
+
+/// A node of the farm: what it keeps in its present life.
+#[derive(Drop)]
+pub struct NodeCore {
+    pub(crate) node: NodeId,
+    /// How many nodes the farm has.
+    pub(crate) nodes: u32,
+    pub(crate) life: Life,
+    /// The asks of this life, in their order.
+    pub(crate) asks: Vec<KeptAsk>,
+    pub(crate) contents: IndexMap<Digest, Content>,
+    pub(crate) versions: IndexMap<Version, Digest>,
+    /// Whether it is down for good.
+    pub(crate) spent: bool,
+}
+
+impl NodeCore {
+    /// A node in its first life.
+    pub fn start(alloc: Global, node: NodeId, nodes: u32) -> Result<Self, AllocError>
+        ensures node { IfOk result (λ core. shown core ≡ first_node content_digest) }
+        ensures place { IfOk result (λ core. place core ≡ record { node = node; nodes = nodes }) }
+    {
+        let empty = Content::of(Vec::new(alloc));
+        let mut contents = IndexMap::new(alloc);
+        contents.insert(empty.digest(), empty)?;
+        Ok(NodeCore {
+            node,
+            nodes,
+            life: Life(1),
+            asks: Vec::new(alloc),
+            contents,
+            versions: IndexMap::new(alloc),
+            spent: false,
+        })
+    }
+
+    pub fn life(&self) -> Life
+        ensures { result ≡ (shown self.now).life }
+    {
+        self.life
+    }
+
+    /// The content of a version that is known and stored here.
+    pub fn held(&self, version: &Version) -> Option<&Content>
+        ensures { option_copied result ≡ content_of (shown self.now) version.now }
+    {
+        let digest = self.versions.get(version)?;
+        self.contents.get(digest)
+    }
+
+    /// How an ask of this life stands.
+    pub fn ask_state(&self, alloc: Global, ask: Ask) -> Result<Option<AskState>, AllocError>
+        ensures { IfOk result (λ state. state ≡ option_map told_state (nth (shown self.now).asks ask.0)) }
+    {
+        let Some(place) = self.place_of(ask) else {
+            return Ok(None);
+        };
+        Ok(Some(self.asks[place].told(alloc)?))
+    }
+
+    /// The place of an ask of this life.
+    pub(crate) fn place_of(&self, ask: Ask) -> Option<usize>
+        ensures found { IfSome result (λ place. ask.0 ≡ place + 1) }
+        ensures inside { IfSome result (λ place. place < vec_len self.now.asks) }
+        ensures none { IfNone result (nth (shown self.now).asks ask.0 ≡ None) }
+    {
+        if 1 <= ask.0 && ask.0 <= self.asks.len() as u64 {
+            Some(ask.0 as usize - 1)
+        } else {
+            None
+        }
+    }
+}
+
+impl NodeCore {
+    /// One message to the coordinator.
+    fn say(&self, alloc: Global, request: Request) -> Result<Items<Message>, AllocError>
+        ensures { IfOk result (λ sends. map message_of sends ≡ Said (record { node = self.now.node; life = self.now.life; request = request }) ∷ []) }
+    {
+        one_message(alloc, self.node, self.life, request)
+    }
+
+    /// Opens an ask.
+    fn open(&mut self, alloc: Global, wants: Wants, tenure: bool) -> Result<NodeDone, AllocError>
+        requires { vec_len self.old.asks + 1 < 2 ^ 64 }
+        ensures work { Does (opens (place self.old) wants tenure (shown self.old)) (shown self.old) (shown self.new) result }
+        ensures place { place self.new ≡ place self.old }
+    {
+        self.asks.reserve(1)?;
+        let ask = Ask(self.asks.len() as u64 + 1);
+        let request = Request::Acquire {
+            ask,
+            wants: wants.copy(alloc)?,
+            tenure,
+        };
+        let sends = self.say(alloc, request)?;
+        self.asks.push_reserved(KeptAsk::Open { wants, tenure });
+        Ok(NodeDone {
+            note: NodeNote::Asked(ask),
+            sends,
+        })
+    }
+
+    /// Asks for a lease.
+    pub fn ask(&mut self, alloc: Global, wants: Wants) -> Result<NodeDone, NodeRefusal>
+        ensures answer { Answers (asked farm_limits (place self.old) wants (shown self.old)) (shown self.old) (shown self.new) result }
+        ensures place { place self.new ≡ place self.old }
+    {
+        if self.spent {
+            return Err(NodeRefusal::LivesSpent);
+        }
+        if !at_home(self.asks.as_slice(), wants.as_slice()) {
+            return Err(NodeRefusal::NotHomeHere);
+        }
+        if self.asks.len() as u64 == u64::MAX {
+            return Err(NodeRefusal::AsksSpent);
+        }
+        let Ok(done) = self.open(alloc, wants, false) else {
+            return Err(NodeRefusal::OutOfMemory);
+        };
+        Ok(done)
+    }
+
+    /// Asks for the tenure of the SHARED folder of this name.
+    pub fn ask_tenure(&mut self, alloc: Global, folder: FolderName) -> Result<NodeDone, NodeRefusal>
+        ensures answer { Answers (asked_tenure farm_limits (place self.old) folder (shown self.old)) (shown self.old) (shown self.new) result }
+        ensures place { place self.new ≡ place self.old }
+    {
+        if self.spent {
+            return Err(NodeRefusal::LivesSpent);
+        }
+        let folder = FolderName {
+            id: folder.id,
+            mode: Mode::Shared,
+            base: folder.base,
+        };
+        if has_tenure(self.asks.as_slice(), &folder) {
+            return Err(NodeRefusal::TenureHere);
+        }
+        if self.asks.len() as u64 == u64::MAX {
+            return Err(NodeRefusal::AsksSpent);
+        }
+        let Ok(wants) = one_want(alloc, folder) else {
+            return Err(NodeRefusal::OutOfMemory);
+        };
+        let Ok(done) = self.open(alloc, wants, true) else {
+            return Err(NodeRefusal::OutOfMemory);
+        };
+        Ok(done)
+    }
+
+    /// Whether all bases are stored.
+    fn has_all(&self, slots: &[GrantedSlot]) -> bool
+        ensures { result ≡ all_stored (shown self.now) slots.now }
+    {
+        slots
+            .iter()
+            .all(|slot| self.contents.contains_key(&slot.digest))
+    }
+
+    /// Begins the execution of a granted ask.
+    pub fn begin(&mut self, alloc: Global, ticket: Ticket) -> Result<NodeDone, NodeRefusal>
+        ensures answer { Answers (begun ticket (shown self.old)) (shown self.old) (shown self.new) result }
+        ensures place { place self.new ≡ place self.old }
+    {
+        if self.spent {
+            return Err(NodeRefusal::LivesSpent);
+        }
+        let Some(place) = held_place(self.asks.as_slice(), ticket) else {
+            return Err(NodeRefusal::NoSuchTicket);
+        };
+        if !self.has_all(self.asks[place].slots()) {
+            return Err(NodeRefusal::ContentsMissing);
+        }
+        self.asks[place].come_to(Stage::Running);
+        Ok(NodeDone {
+            note: NodeNote::Begun(ticket),
+            sends: Items::new(Vec::new(alloc)),
+        })
+    }
+
+    /// Ends an execution without its news, or gives a lease back unused.
+    pub fn abort(&mut self, alloc: Global, ticket: Ticket) -> Result<NodeDone, NodeRefusal>
+        ensures answer { Answers (aborted (place self.old) ticket (shown self.old)) (shown self.old) (shown self.new) result }
+        ensures place { place self.new ≡ place self.old }
+    {
+        if self.spent {
+            return Err(NodeRefusal::LivesSpent);
+        }
+        let Some(place) = held_or_running_place(self.asks.as_slice(), ticket) else {
+            return Err(NodeRefusal::NoSuchTicket);
+        };
+        if in_use(self.asks.as_slice(), place) {
+            return Err(NodeRefusal::TenureInUse);
+        }
+        let Ok(done) = self.give_up(alloc, place, ticket, NodeNote::Aborted(ticket)) else {
+            return Err(NodeRefusal::OutOfMemory);
+        };
+        Ok(done)
+    }
+
+    /// Ends an execution with what it leaves in each slot that it may write, in the order of its grant.
+    pub fn finish(
+        &mut self,
+        alloc: Global,
+        ticket: Ticket,
+        lefts: Vec<(Slot, Content)>,
+    ) -> Result<NodeDone, NodeRefusal>
+        ensures answer { Answers (finished_with content_digest (place self.old) ticket (map left_of lefts.items) (shown self.old)) (shown self.old) (shown self.new) result }
+        ensures place { place self.new ≡ place self.old }
+    {
+        if self.spent {
+            return Err(NodeRefusal::LivesSpent);
+        }
+        let Some(place) = running_place(self.asks.as_slice(), ticket) else {
+            return Err(NodeRefusal::NotRunning);
+        };
+        if in_use(self.asks.as_slice(), place) {
+            return Err(NodeRefusal::TenureInUse);
+        }
+        if !fits(lefts.as_slice(), self.asks[place].slots()) {
+            return Err(NodeRefusal::WrongNews);
+        }
+        let Ok(done) = self.leave(alloc, place, ticket, lefts) else {
+            return Err(NodeRefusal::OutOfMemory);
+        };
+        Ok(done)
+    }
+
+    /// Sends the news of an execution, or gives its lease back where it wrote nothing.
+    fn leave(
+        &mut self,
+        alloc: Global,
+        index: usize,
+        ticket: Ticket,
+        lefts: Vec<(Slot, Content)>,
+    ) -> Result<NodeDone, AllocError>
+        requires { index < vec_len self.old.asks }
+        ensures work { (h : Held)
+            → slice_get self.old.asks.items index ≡ Some (KeptAsk.Granted h.wants h.grant h.recalled Stage.Running)
+            → h.grant.ticket ≡ ticket
+            → Does (leaving content_digest (place self.old) (index + 1) h (map left_of lefts.items) (shown self.old)) (shown self.old) (shown self.new) result }
+        ensures place { place self.new ≡ place self.old }
+    {
+        if lefts.is_empty() {
+            return self.give_up(alloc, index, ticket, NodeNote::Finished(ticket));
+        }
+        let news = news_of(alloc, lefts.as_slice())?;
+        let request = Request::Commit {
+            ticket,
+            news: news.copy(alloc)?,
+        };
+        let sends = self.say(alloc, request)?;
+        self.contents.reserve(lefts.len())?;
+        self.asks[index].come_to(Stage::Finished(news));
+        store_all(&mut self.contents, lefts);
+        Ok(NodeDone {
+            note: NodeNote::Finished(ticket),
+            sends,
+        })
+    }
+
+    /// Gives a lease back.
+    pub(crate) fn give_up(
+        &mut self,
+        alloc: Global,
+        index: usize,
+        ticket: Ticket,
+        note: NodeNote,
+    ) -> Result<NodeDone, AllocError>
+        requires { index < vec_len self.old.asks }
+        ensures work { Does (gives_up (place self.old) (index + 1) ticket note (shown self.old)) (shown self.old) (shown self.new) result }
+        ensures place { place self.new ≡ place self.old }
+    {
+        let sends = self.say(alloc, Request::Release { ticket })?;
+        self.asks[index] = KeptAsk::Over(How::Other);
+        Ok(NodeDone { note, sends })
+    }
+
+    /// Begins the next life: its asks are over, its contents and versions stay.
+    pub fn restart(&mut self, alloc: Global) -> Result<NodeDone, NodeRefusal>
+        ensures done { IfOk result (λ done. (may_restart farm_limits (shown self.old) ≡ true) × (restarted (place self.old) (shown self.old) ≡ work_of (shown self.new) done)) }
+        ensures spent { result ≡ Err NodeRefusal.LivesSpent
+            → (may_restart farm_limits (shown self.old) ≡ false) × (shown self.new ≡ record (shown self.old) { spent = true }) }
+        ensures memory { result ≡ Err NodeRefusal.OutOfMemory → shown self.new ≡ shown self.old }
+        ensures only { OnErr result ((result ≡ Err NodeRefusal.LivesSpent) ⊎ (result ≡ Err NodeRefusal.OutOfMemory)) }
+        ensures place { place self.new ≡ place self.old }
+    {
+        if self.spent || self.life.0 == u64::MAX {
+            self.spent = true;
+            return Err(NodeRefusal::LivesSpent);
+        }
+        let life = Life(self.life.0 + 1);
+        let Ok(sends) = one_message(alloc, self.node, life, Request::Hello) else {
+            return Err(NodeRefusal::OutOfMemory);
+        };
+        self.life = life;
+        self.asks.clear();
+        Ok(NodeDone {
+            note: NodeNote::Life(life),
+            sends,
+        })
+    }
+}
