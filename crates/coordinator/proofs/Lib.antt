@@ -3,3 +3,4 @@ pub mod StateWords
 pub mod Trying
 pub mod SoundWords
 pub mod Pushing
+pub mod Ordered

@@ -6,11 +6,11 @@ ghost use Rattle.leases.specs.Table.{fit_of};
 ghost use Rattle.leases.specs.declared.lease_table.Fit.{Fit};
 ghost use Rattle.protocol.specs.Ledger.{decision, decided, sees, is_older, is_home, ends, without, Lease, lease_for, grant_of, gives, denies, tried, stays, retried, elsewhere, recall, recalls, holds_wanted, acquiring, lease_of, is_parked, confirms, committing, may_commit, may_release, lease_under, released, newer_life, answering, handled};
 ghost use Rattle.coordinator.specs.Held.{line_at};
-ghost use Rattle.coordinator.specs.Shown.{Lines, kept, shown, lines_with, ended, ended_committed};
+ghost use Rattle.coordinator.specs.Shown.{LineOf, kept, shown, lines_with, ended, ended_committed};
 ghost use Rattle.coordinator.specs.Sound.{IsSound};
 ghost use Rattle.coordinator.specs.Additions.{IsReady};
 
-use super::lines::{Added, SlotLine, additions, all_stand, confirmed};
+use super::lines::{Added, Lines, additions, all_stand, confirmed};
 use super::state::{
     State, Verdict, cleared, drop_older_asks, grant_of, is_among, is_home, is_parked, is_saved, is_some_saved, seen_life, set_life,
 };
@@ -35,7 +35,7 @@ impl Draft {
     fn give(
         &mut self,
         alloc: Global,
-        lines: &[SlotLine],
+        lines: &Lines,
         added: &Option<Added>,
         p: &Parked,
     ) -> Result<Grant, AllocError>
@@ -64,7 +64,7 @@ impl Draft {
     }
 
     fn deny(&mut self, p: &Parked, why: Why) -> Result<(), AllocError>
-        ensures { OnOk result ((line : Lines) → shown line self.new ≡ denies why p.now (shown line self.old)) }
+        ensures { OnOk result ((line : LineOf) → shown line self.new ≡ denies why p.now (shown line self.old)) }
     {
         self.sends.push(FromCoord::Denied {
             node: p.node,
@@ -79,7 +79,7 @@ impl Draft {
     fn try_ask(
         &mut self,
         alloc: Global,
-        lines: &[SlotLine],
+        lines: &Lines,
         added: &Option<Added>,
         p: &Parked,
     ) -> Result<bool, AllocError>
@@ -102,7 +102,7 @@ impl Draft {
     }
 
     /// Tries the parked asks, in order of arrival.
-    fn retry(&mut self, alloc: Global, lines: &[SlotLine], added: &Option<Added>) -> Result<(), AllocError>
+    fn retry(&mut self, alloc: Global, lines: &Lines, added: &Option<Added>) -> Result<(), AllocError>
         requires { IsSound (kept (lines_with lines.now added.now) self.old.state) }
         ensures { OnOk result (shown (lines_with lines.now added.now) self.new
             ≡ retried farm_limits (shown (lines_with lines.now added.now) self.old)) }
@@ -119,7 +119,7 @@ impl Draft {
 
     /// Tells the holder of a slot that is wanted to give it up.
     fn tell_holder(&mut self, p: &Parked) -> Result<(), AllocError>
-        ensures { OnOk result ((line : Lines) → shown line self.new
+        ensures { OnOk result ((line : LineOf) → shown line self.new
             ≡ recall (find (holds_wanted p.now) self.old.state.table.live) (shown line self.old)) }
     {
         match self.state.table.holder_of(&p.wants, p.tenure) {
@@ -137,7 +137,7 @@ impl Draft {
 
     /// Tells the holder of the tenure that is asked for to give it up.
     fn recall(&mut self, p: &Parked) -> Result<(), AllocError>
-        ensures { OnOk result ((line : Lines) → shown line self.new
+        ensures { OnOk result ((line : LineOf) → shown line self.new
             ≡ recalls (p.now.tenure && not (elsewhere (kept line self.old.state) p.now)) p.now (shown line self.old)) }
     {
         if !self.state.is_awaited(p) {
@@ -151,7 +151,7 @@ impl Draft {
     fn decide(
         &mut self,
         alloc: Global,
-        lines: &[SlotLine],
+        lines: &Lines,
         added: &Option<Added>,
         p: Parked,
     ) -> Result<(), AllocError>
@@ -181,7 +181,7 @@ impl Draft {
     fn grant_again(
         &mut self,
         alloc: Global,
-        lines: &[SlotLine],
+        lines: &Lines,
         added: &Option<Added>,
         p: &Parked,
     ) -> Result<bool, AllocError>
@@ -202,7 +202,7 @@ impl Draft {
     fn acquire(
         &mut self,
         alloc: Global,
-        lines: &[SlotLine],
+        lines: &Lines,
         added: &Option<Added>,
         p: Parked,
     ) -> Result<(), AllocError>
@@ -225,7 +225,7 @@ impl Draft {
     fn confirm(
         &mut self,
         alloc: Global,
-        lines: &[SlotLine],
+        lines: &Lines,
         added: &Option<Added>,
         node: NodeId,
         life: Life,
@@ -249,7 +249,7 @@ impl Draft {
     fn answer_again(
         &mut self,
         alloc: Global,
-        lines: &[SlotLine],
+        lines: &Lines,
         node: NodeId,
         life: Life,
         ticket: Ticket,
@@ -270,7 +270,7 @@ impl Draft {
 
     /// Ends the lease of a ticket, where there is one.
     fn end(&mut self, ticket: Ticket)
-        ensures { (line : Lines) → shown line self.new ≡ ended ticket (shown line self.old) }
+        ensures { (line : LineOf) → shown line self.new ≡ ended ticket (shown line self.old) }
     {
         let ended = self.state.table.end(ticket);
         self.changed = self.changed || is_some_saved(&ended);
@@ -279,7 +279,7 @@ impl Draft {
     fn release(
         &mut self,
         alloc: Global,
-        lines: &[SlotLine],
+        lines: &Lines,
         node: NodeId,
         life: Life,
         ticket: Ticket,
@@ -299,7 +299,7 @@ impl Draft {
 
     /// Ends the lease of a ticket whose versions the record has.
     fn end_committed(&mut self, ticket: Ticket)
-        ensures { (line : Lines) → shown line self.new ≡ ended_committed ticket (shown line self.old) }
+        ensures { (line : LineOf) → shown line self.new ≡ ended_committed ticket (shown line self.old) }
     {
         let _lease = self.state.table.end(ticket);
         self.changed = true;
@@ -309,7 +309,7 @@ impl Draft {
     fn commit(
         &mut self,
         alloc: Global,
-        lines: &[SlotLine],
+        lines: &Lines,
         node: NodeId,
         life: Life,
         ticket: Ticket,
@@ -335,7 +335,7 @@ impl Draft {
 
     /// Ends what a newer life of a node ends, and says whether the parked asks are to be tried.
     fn see(&mut self, node: NodeId, life: Life) -> Result<bool, AllocError>
-        ensures work { OnOk result ((line : Lines) → shown line self.new ≡ sees node life (shown line self.old)) }
+        ensures work { OnOk result ((line : LineOf) → shown line self.new ≡ sees node life (shown line self.old)) }
         ensures due { IfOk result (λ due. due ≡ (list_any (is_older node life) self.old.state.table.live || is_home node self.old.state.old_home)) }
     {
         let was_home = is_home(node, self.state.old_home);
@@ -348,7 +348,7 @@ impl Draft {
     }
 
     /// A newer life of a node: where something of it ended, the parked asks are tried.
-    fn begin_life(&mut self, alloc: Global, lines: &[SlotLine], node: NodeId, life: Life) -> Result<(), AllocError>
+    fn begin_life(&mut self, alloc: Global, lines: &Lines, node: NodeId, life: Life) -> Result<(), AllocError>
         requires { IsSound (kept (line_at lines.now) self.old.state) }
         ensures { OnOk result (shown (line_at lines.now) self.new ≡ newer_life farm_limits node life (shown (line_at lines.now) self.old)) }
     {
@@ -360,7 +360,7 @@ impl Draft {
     }
 
     /// Answers a message of the life that is now the node's greatest.
-    fn answer(&mut self, alloc: Global, lines: &[SlotLine], message: &ToCoord) -> Result<Option<Added>, AllocError>
+    fn answer(&mut self, alloc: Global, lines: &Lines, message: &ToCoord) -> Result<Option<Added>, AllocError>
         requires { IsSound (kept (line_at lines.now) self.old.state) }
         ensures work { IfOk result (λ added. shown (lines_with lines.now added) self.new
             ≡ answering farm_limits message.now.node message.now.life message.now.request (shown (line_at lines.now) self.old)) }
@@ -391,7 +391,7 @@ impl Draft {
     }
 
     /// Does what a message asks.
-    pub(crate) fn deliver(&mut self, alloc: Global, lines: &[SlotLine], message: &ToCoord) -> Result<Option<Added>, AllocError>
+    pub(crate) fn deliver(&mut self, alloc: Global, lines: &Lines, message: &ToCoord) -> Result<Option<Added>, AllocError>
         requires { IsSound (kept (line_at lines.now) self.old.state) }
         ensures work { IfOk result (λ added. shown (lines_with lines.now added) self.new
             ≡ handled farm_limits message.now (shown (line_at lines.now) self.old)) }
