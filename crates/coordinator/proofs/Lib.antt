@@ -4,3 +4,4 @@ pub mod Trying
 pub mod SoundWords
 pub mod Pushing
 pub mod Ordered
+pub mod Kept

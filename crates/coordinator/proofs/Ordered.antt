@@ -24,7 +24,6 @@ use Rattle.coordinator.proofs.LineWords.{cases_bool}
 abbrev pub Rise : List SlotLine → Type 0
 Rise ls = IsStrictlySortedBy slot_cmp (slots ls)
 
-
 reversed : (a b : Slot) (o : Ordering) → slot_cmp a b ≡ o → slot_cmp b a ≡ ordering_reverse o
 reversed a b o e = laws.slot_total.antisymm b a ∙ ap ordering_reverse e
 
@@ -138,13 +137,14 @@ rise_insert [] zero n up gap = (tt, tt)
 rise_insert [] (suc k) n up gap = (let inside : suc k ≤ 0 = gap.inside in absurd (omega arith))
 rise_insert (l ∷ ls) zero n up gap = (all_above n.slot (l ∷ ls) (λ i d lt. gap.above i d (omega arith) lt), up)
 rise_insert (l ∷ ls) (suc k) n up gap =
-    let inside : suc k ≤ suc (length ls) = gap.inside in
-    (below_insert (λ x. slot_cmp l.slot x ≡ Less) ls k n up.0 (gap.below 0 l (omega arith)),
-    rise_insert ls k n up.1 (record {
-      inside = omega arith;
-      below = λ i d lt. gap.below (suc i) d (omega arith);
-      above = λ i d low lt. gap.above (suc i) d (omega arith) (omega arith);
-    }))
+    let inside : suc k ≤ suc (length ls) = gap.inside in (
+      below_insert (λ x. slot_cmp l.slot x ≡ Less) ls k n up.0 (gap.below 0 l (omega arith)),
+      rise_insert ls k n up.1 (record {
+        inside = omega arith;
+        below = λ i d lt. gap.below (suc i) d (omega arith);
+        above = λ i d low lt. gap.above (suc i) d (omega arith) (omega arith);
+      }),
+    )
 
 all_insert : (P : SlotLine → Type 0) (ls : List SlotLine) (k : ℕ) (n : SlotLine) → All P ls → P n → All P (insert ls k n)
 all_insert P [] zero n all here zero d lt = here

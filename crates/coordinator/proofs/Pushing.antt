@@ -64,14 +64,15 @@ ready_more : (ls ms : List SlotLine) (t : Ticket) (a : Addition) (rest : List Ad
 ready_more ls ms t a [] e apart h = tt
 ready_more ls ms t a (b ∷ rest) e apart h =
     let differ : slot_eq a.slot b.slot ≡ false = All-head (λ b. slot_eq a.slot b.slot ≡ false) b rest apart in
-    let same : line_at ls b.slot ≡ line_at ms b.slot = sym (ap (λ (f : Slot → List LineVersion). f b.slot) e ∙ rw differ refl) in
-    (record {
-      room = subst (λ (xs : List LineVersion). length xs < b.room) same h.0.room;
-      line = h.0.line;
-    },
-    subst (All (λ v. v.ticket.0 < t.0)) same h.1,
-    h.2,
-    ready_more ls ms t a rest e (All-tail (λ b. slot_eq a.slot b.slot ≡ false) b rest apart) h.3)
+    let same : line_at ls b.slot ≡ line_at ms b.slot = sym (ap (λ (f : Slot → List LineVersion). f b.slot) e ∙ rw differ refl) in (
+      record {
+        room = subst (λ (xs : List LineVersion). length xs < b.room) same h.0.room;
+        line = h.0.line;
+      },
+      subst (All (λ v. v.ticket.0 < t.0)) same h.1,
+      h.2,
+      ready_more ls ms t a rest e (All-tail (λ b. slot_eq a.slot b.slot ≡ false) b rest apart) h.3,
+    )
 
 -- what is left to add is ready after one was added
 pub ready-next : (ls ms : List SlotLine) (t : Ticket) (a : Addition) (rest : List Addition) → line_at ms ≡ adds a.slot (record { ticket = t; digest = a.digest }) (line_at ls) → AreReady ls t (a ∷ rest) → AreReady ms t rest

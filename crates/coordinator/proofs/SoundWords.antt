@@ -223,8 +223,8 @@ committer n l t news live h = by (lease_under live t) refl
     by : (o : Option Lease) → lease_under live t ≡ o → (g : Lease) × MayCommit t news live g
     by None e = (let bad : false ≡ true = rw e at h in absurd (cc bad))
     by (Some g) e = (let at : (is_its n l g && slots_eq (slots_of news) (writable_slots g.slots) && not (is_nil news)) ≡ true = rw e at h in
-      let a = and_both (is_its n l g && slots_eq (slots_of news) (writable_slots g.slots)) (not (is_nil news)) at in
-      (g, record { found = e; slots = (and_both (is_its n l g) (slots_eq (slots_of news) (writable_slots g.slots)) a.0).1 }))
+        let a = and_both (is_its n l g && slots_eq (slots_of news) (writable_slots g.slots)) (not (is_nil news)) at in
+        (g, record { found = e; slots = (and_both (is_its n l g) (slots_eq (slots_of news) (writable_slots g.slots)) a.0).1 }))
 
 append_nothing : (xs : List LineVersion) → xs ++ [] ≡ xs
 append_nothing [] = refl
@@ -253,8 +253,8 @@ sound-commits n l t news w s may =
       given = All-filter (λ h. not (has_ticket t h)) (λ h. h.ticket.0 ≤ q.last) q.live s.given;
       past = λ x. all_with (λ v. v.ticket.0 ≤ q.last) (q.line x) t (digest_for x news) (s.past x) (λ d. low);
       ahead = λ i d inside x has.
-        (let none : digest_for x news ≡ None = no_news news (writable_slots g.slots) x r.1.slots (not_writable g.slots x (apart i d inside x has)) in
-        all_same (λ v. v.ticket.0 < (get_or (without t q.live) i d).ticket.0) (q.line x) t (digest_for x news) none (kept i d inside x has));
+          (let none : digest_for x news ≡ None = no_news news (writable_slots g.slots) x r.1.slots (not_writable g.slots x (apart i d inside x has)) in
+          all_same (λ v. v.ticket.0 < (get_or (without t q.live) i d).ticket.0) (q.line x) t (digest_for x news) none (kept i d inside x has));
       asks = s.asks;
     }
 
@@ -349,12 +349,13 @@ ready_from lines t (a ∷ adds) [] e sorted room above = (let bad : false ≡ tr
 ready_from lines t (a ∷ adds) (y ∷ slots) e sorted room above =
     let both = and_both (slot_eq a.slot y) (slots_eq (slots_of (map news_of adds)) slots) e in
     let same : a.slot ≡ y = laws.slot_exact a.slot y both.0 in
-    let here : (slot_eq y a.slot || list_any (λ z. slot_eq z a.slot) slots) ≡ true = (let is : slot_eq y a.slot ≡ true = subst (λ z. slot_eq z a.slot ≡ true) same (laws.slot_eq-itself a.slot) in rw is refl) in
-    (All-head (HasRoom lines) a adds room,
-    above a.slot here,
-    apart_from a adds slots both.1 (subst (λ z. AllByRecursion (λ x. slot_cmp z x ≡ Less) slots) (sym same) sorted.0),
-    ready_from lines t adds slots both.1 sorted.1 (All-tail (HasRoom lines) a adds room)
-    (λ s h. above s (elim (cases_bool (slot_eq y s)) [ inl f ↦ rw f refl | inr f ↦ rw f h ])))
+    let here : (slot_eq y a.slot || list_any (λ z. slot_eq z a.slot) slots) ≡ true = (let is : slot_eq y a.slot ≡ true = subst (λ z. slot_eq z a.slot ≡ true) same (laws.slot_eq-itself a.slot) in rw is refl) in (
+      All-head (HasRoom lines) a adds room,
+      above a.slot here,
+      apart_from a adds slots both.1 (subst (λ z. AllByRecursion (λ x. slot_cmp z x ≡ Less) slots) (sym same) sorted.0),
+      ready_from lines t adds slots both.1 sorted.1 (All-tail (HasRoom lines) a adds room)
+          (λ s h. above s (elim (cases_bool (slot_eq y s)) [ inl f ↦ rw f refl | inr f ↦ rw f h ])),
+    )
 
 writable_has : (slots : List (Slot × Bool)) (s : Slot) → list_any (λ y. slot_eq y s) (writable_slots slots) ≡ true → has_slot slots s ≡ true
 writable_has slots s h = elim (cases_bool (has_slot slots s)) [
@@ -374,4 +375,4 @@ ready-commit lines q n l t news adds s is may e room =
     let fits : AreFor adds (writable_slots g.slots) = ap (λ (x : List News). slots_eq (slots_of x) (writable_slots g.slots)) e ∙ r.1.slots in
     ready_from lines t adds (writable_slots g.slots) fits (writable_rise g.slots rises) room
     (λ x h. subst (λ (f : Slot → List LineVersion). All (λ v. v.ticket.0 < t.0) (f x)) is
-      (subst (λ (m : ℕ). All (λ v. v.ticket.0 < m) (q.line x)) same (ahead.0 x (writable_has g.slots x h))))
+    (subst (λ (m : ℕ). All (λ v. v.ticket.0 < m) (q.line x)) same (ahead.0 x (writable_has g.slots x h))))

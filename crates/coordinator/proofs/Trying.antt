@@ -89,6 +89,7 @@ any-count test (x ∷ xs) = elim (cases_bool (test x)) [
   where
     above : (b : ℕ) → nat_lt 0 (1 + b) ≡ true
     above b = grind (arith, nat_tests)
+
     same : (b : ℕ) → nat_lt 0 (0 + b) ≡ nat_lt 0 b
     same b = grind (arith, nat_tests)
 

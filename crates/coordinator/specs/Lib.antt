@@ -4,3 +4,4 @@ pub mod Additions
 pub mod Sound
 pub mod Keeps
 pub mod Ordered
+pub mod Promises

@@ -12,6 +12,7 @@ ghost use Rattle.coordinator.specs.Held.{line_at, ledger};
 ghost use Rattle.coordinator.specs.Additions.{IsReady};
 ghost use Rattle.coordinator.specs.Shown.{kept, shown, lines_with, added_count};
 ghost use Rattle.coordinator.specs.Sound.{IsSound, IsRequest};
+ghost use Rattle.coordinator.specs.Promises.{OnlyGrow, GrantsAtOnce};
 ghost use Rattle.coordinator.specs.Keeps.{line_shown};
 
 use super::draft::Draft;
@@ -117,6 +118,7 @@ impl Coordinator {
         requires larger { length self.old.lines + added_count prepared.added ≤ vec_capacity prepared.room }
         ensures ledger { ledger self.new ≡ kept (lines_with self.old.lines prepared.added) prepared.draft.state }
         ensures sends { result.sends ≡ prepared.draft.sends.items }
+        ensures grow { OnlyGrow (line_at self.old.lines) (line_at self.new.lines) }
         ensures note { result.note ≡ prepared.draft.note }
     {
         let Prepared { draft, added, room } = prepared;
@@ -133,13 +135,16 @@ impl Coordinator {
         ensures ledger { OnOk result (ledger self.new ≡ (handled farm_limits message.now (begin_work (ledger self.old))).ledger) }
         ensures sends { IfOk result (λ h. h.sends ≡ (handled farm_limits message.now (begin_work (ledger self.old))).sends) }
         ensures note { IfOk result (λ h. h.note ≡ (handled farm_limits message.now (begin_work (ledger self.old))).note) }
+        ensures grow { OnlyGrow (line_at self.old.lines) (line_at self.new.lines) }
+        ensures at_once { IfOk result (λ h. GrantsAtOnce (ledger self.old) message.now h.note) }
         ensures memory { IsOkUnless result CoordRefusal.OutOfMemory }
         ensures err { OnErr result (self.new ≡ self.old) }
     {
         let Ok(prepared) = self.prepare(alloc, message) else {
             return Err(CoordRefusal::OutOfMemory);
         };
-        Ok(self.accept(prepared))
+        let handled = self.accept(prepared);
+        Ok(handled)
     }
 
     /// The line of a slot, if it has a version.

@@ -12,9 +12,12 @@ ghost use Rattle.coordinator.specs.Additions.{IsReady};
 
 use super::lines::{Added, Lines, additions, all_stand, confirmed};
 use super::state::{
-    State, Verdict, cleared, drop_older_asks, grant_of, is_among, is_home, is_parked, is_saved, is_some_saved, seen_life, set_life,
+    State, Verdict, cleared, drop_older_asks, grant_of, is_among, is_home, is_parked, is_saved,
+    is_some_saved, seen_life, set_life,
 };
-use farm_base::{Copied, FromCoord, Grant, Items, Life, News, NodeId, Parked, Request, Ticket, ToCoord, Why};
+use farm_base::{
+    Copied, FromCoord, Grant, Items, Life, News, NodeId, Parked, Request, Ticket, ToCoord, Why,
+};
 use protocol::CoordNote;
 use std::alloc::{AllocError, Global};
 use std::mem;
@@ -102,7 +105,12 @@ impl Draft {
     }
 
     /// Tries the parked asks, in order of arrival.
-    fn retry(&mut self, alloc: Global, lines: &Lines, added: &Option<Added>) -> Result<(), AllocError>
+    fn retry(
+        &mut self,
+        alloc: Global,
+        lines: &Lines,
+        added: &Option<Added>,
+    ) -> Result<(), AllocError>
         requires { IsSound (kept (lines_with lines.now added.now) self.old.state) }
         ensures { OnOk result (shown (lines_with lines.now added.now) self.new
             ≡ retried farm_limits (shown (lines_with lines.now added.now) self.old)) }
@@ -348,7 +356,13 @@ impl Draft {
     }
 
     /// A newer life of a node: where something of it ended, the parked asks are tried.
-    fn begin_life(&mut self, alloc: Global, lines: &Lines, node: NodeId, life: Life) -> Result<(), AllocError>
+    fn begin_life(
+        &mut self,
+        alloc: Global,
+        lines: &Lines,
+        node: NodeId,
+        life: Life,
+    ) -> Result<(), AllocError>
         requires { IsSound (kept (line_at lines.now) self.old.state) }
         ensures { OnOk result (shown (line_at lines.now) self.new ≡ newer_life farm_limits node life (shown (line_at lines.now) self.old)) }
     {
@@ -360,7 +374,12 @@ impl Draft {
     }
 
     /// Answers a message of the life that is now the node's greatest.
-    fn answer(&mut self, alloc: Global, lines: &Lines, message: &ToCoord) -> Result<Option<Added>, AllocError>
+    fn answer(
+        &mut self,
+        alloc: Global,
+        lines: &Lines,
+        message: &ToCoord,
+    ) -> Result<Option<Added>, AllocError>
         requires { IsSound (kept (line_at lines.now) self.old.state) }
         ensures work { IfOk result (λ added. shown (lines_with lines.now added) self.new
             ≡ answering farm_limits message.now.node message.now.life message.now.request (shown (line_at lines.now) self.old)) }
@@ -380,7 +399,14 @@ impl Draft {
                 Ok(None)
             }
             Request::Commit { ticket, news } => {
-                let added = self.commit(alloc, lines, message.node, message.life, *ticket, news.as_slice())?;
+                let added = self.commit(
+                    alloc,
+                    lines,
+                    message.node,
+                    message.life,
+                    *ticket,
+                    news.as_slice(),
+                )?;
                 Ok(added)
             }
             Request::Release { ticket } => {
@@ -391,7 +417,12 @@ impl Draft {
     }
 
     /// Does what a message asks.
-    pub(crate) fn deliver(&mut self, alloc: Global, lines: &Lines, message: &ToCoord) -> Result<Option<Added>, AllocError>
+    pub(crate) fn deliver(
+        &mut self,
+        alloc: Global,
+        lines: &Lines,
+        message: &ToCoord,
+    ) -> Result<Option<Added>, AllocError>
         requires { IsSound (kept (line_at lines.now) self.old.state) }
         ensures work { IfOk result (λ added. shown (lines_with lines.now added) self.new
             ≡ handled farm_limits message.now (shown (line_at lines.now) self.old)) }

@@ -107,7 +107,11 @@ impl Lines {
     }
 
     /// Room for the lines and what a commit adds.
-    pub(crate) fn room_to_add(&self, alloc: Global, added: &Option<Added>) -> Result<Vec<SlotLine>, AllocError>
+    pub(crate) fn room_to_add(
+        &self,
+        alloc: Global,
+        added: &Option<Added>,
+    ) -> Result<Vec<SlotLine>, AllocError>
         ensures empty { IfOk result (λ room. room.items ≡ []) }
         ensures larger { IfOk result (λ room. length self.now + added_count added.now ≤ vec_capacity room) }
     {
@@ -192,9 +196,7 @@ fn last_version(alloc: Global, lines: &Lines, slot: &Slot) -> Base
         },
         Some(line) => Base {
             number: line.len(),
-            digest: line
-                .digest_at(line.len())
-                .unwrap_or(empty_digest(alloc)),
+            digest: line.digest_at(line.len()).unwrap_or(empty_digest(alloc)),
         },
     }
 }
@@ -255,7 +257,12 @@ fn on_line(line: &Line, ticket: Ticket) -> Option<(u64, Digest)>
 }
 
 /// The same, with what a commit adds.
-fn place_with(lines: &Lines, added: &Option<Added>, ticket: Ticket, slot: &Slot) -> Option<(u64, Digest)>
+fn place_with(
+    lines: &Lines,
+    added: &Option<Added>,
+    ticket: Ticket,
+    slot: &Slot,
+) -> Option<(u64, Digest)>
     ensures { result ≡ place ticket (lines_with lines.now added.now slot.now) 0 }
 {
     if let Some(found) = stands_at(lines, ticket, slot) {
@@ -321,7 +328,11 @@ fn room_for(alloc: Global, lines: &Lines, slot: &Slot) -> Result<Room, AllocErro
 }
 
 /// What some news add to the lines, with room for it.
-pub(crate) fn additions(alloc: Global, lines: &Lines, news: &[News]) -> Result<Vec<Addition>, AllocError>
+pub(crate) fn additions(
+    alloc: Global,
+    lines: &Lines,
+    news: &[News],
+) -> Result<Vec<Addition>, AllocError>
     ensures news { IfOk result (λ v. map news_of v.items ≡ news.now) }
     ensures room { IfOk result (λ v. All (HasRoom lines.now) v.items) }
 {
@@ -401,4 +412,3 @@ fn add_all(lines: &mut Vec<SlotLine>, added: Added, room: Vec<SlotLine>)
         add(lines, ticket, addition);
     }
 }
-

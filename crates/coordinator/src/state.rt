@@ -12,7 +12,9 @@ ghost use Rattle.coordinator.specs.Held.{life_at, is_among};
 ghost use Rattle.coordinator.specs.Shown.{LineOf, kept, as_decision, lines_with, saved_under};
 
 use super::lines::{Added, Lines, granted_slots};
-use farm_base::{Ask, Copied, Grant, Items, Lease, Life, Mode, News, NodeId, Parked, Slot, Ticket, Why, copy_all};
+use farm_base::{
+    Ask, Copied, Grant, Items, Lease, Life, Mode, News, NodeId, Parked, Slot, Ticket, Why, copy_all,
+};
 use leases::{Fit, LeaseTable, TicketSource};
 use std::alloc::{AllocError, Global};
 
@@ -61,7 +63,11 @@ fn drop_life(lives: &mut Vec<SeenLife>, node: NodeId)
 }
 
 /// Keeps the life as the node's greatest.
-pub(crate) fn set_life(lives: &mut Vec<SeenLife>, node: NodeId, life: Life) -> Result<(), AllocError>
+pub(crate) fn set_life(
+    lives: &mut Vec<SeenLife>,
+    node: NodeId,
+    life: Life,
+) -> Result<(), AllocError>
     ensures { OnOk result (life_at lives.new.items ≡ put node.0 life.0 (life_at lives.old.items)) }
 {
     drop_life(lives, node);
@@ -95,13 +101,7 @@ pub(crate) fn cleared(node: NodeId, old_home: Option<NodeId>) -> Option<NodeId>
     ensures { result ≡ cleared node old_home }
 {
     match old_home {
-        Some(home) => {
-            if home == node {
-                None
-            } else {
-                Some(home)
-            }
-        }
+        Some(home) => { if home == node { None } else { Some(home) } }
         None => None,
     }
 }

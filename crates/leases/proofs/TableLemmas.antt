@@ -17,7 +17,7 @@ use Rattle.farm_base.proofs.CompareLaws as laws
 use Rattle.protocol.specs.Names.{Slot, slot_eq, is_private, only_slot, FolderName, NodeId, Life, Ask, Ticket, Want, leased_wants}
 use Rattle.protocol.specs.Ledger.{has_slot, some_lease, lowest, slot_for, all_taken, busy, without, has_ticket}
 use Rattle.leases.specs.Leases.{Table, AreLeases, AreApart, IsBefore, Rises}
-use Rattle.leases.specs.Table.{takes, slots_of, is_free, is_leased, fit_of, first_fit, lease_for}
+use Rattle.leases.specs.Table.{takes, is_free, fit_of, first_fit, lease_for}
 use Rattle.leases.specs.declared.lease_table.Fit.TheVariants.{Fits}
 
 pub cases_bool : (b : Bool) → (b ≡ true) ⊎ (b ≡ false)
@@ -87,21 +87,27 @@ placed t [] from n e = absurd (cc e)
 placed t (g ∷ live) from n e = elim (cases_bool (eqb g.ticket.0 t.0)) [
   | inl same ↦ (
       let at : Some from ≡ Some n = rw same at e in
-      let here : n ≡ from + 0 = (let same : from ≡ n = cc at in omega arith) in
-      (0, here, record {
-        inside = omega arith;
-        found = λ d. rw same refl;
-        rest = λ up. sym (rw same (later t g live (eqb_is g.ticket.0 t.0 same) (AllPairs-head IsBefore g live up)));
-      }))
+      let here : n ≡ from + 0 = (let same : from ≡ n = cc at in omega arith) in (
+        0,
+        here,
+        record {
+          inside = omega arith;
+          found = λ d. rw same refl;
+          rest = λ up. sym (rw same (later t g live (eqb_is g.ticket.0 t.0 same) (AllPairs-head IsBefore g live up)));
+        },
+      ))
   | inr other ↦ (
       let r = placed t live (from + 1) n (rw other at e) in
       let s = r.2 in
-      let at : n ≡ from + suc r.0 = (let at = r.1 in omega arith) in
-      (suc r.0, at, record {
-        inside = omega (arith, s.inside);
-        found = λ d. rw other (s.found d);
-        rest = λ up. rw other (ap (λ xs. g ∷ xs) (s.rest (AllPairs-tail IsBefore g live up)));
-      }))
+      let at : n ≡ from + suc r.0 = (let at = r.1 in omega arith) in (
+        suc r.0,
+        at,
+        record {
+          inside = omega (arith, s.inside);
+          found = λ d. rw other (s.found d);
+          rest = λ up. rw other (ap (λ xs. g ∷ xs) (s.rest (AllPairs-tail IsBefore g live up)));
+        },
+      ))
 ]
 
 pub stands : (t : Ticket) (live : List Lease) (n : ℕ) → position_from (has_ticket t) 0 live ≡ Some n → StandsAt t live n
@@ -234,11 +240,11 @@ pub leases_more : (n : ℕ) (free : Slot → Bool) (live : List Lease) (wants : 
 leases_more n free live wants g is_open sorted taken not_busy is above h =
     let ws : List Want = leased_wants g.tenure wants in
     let apart : (k : ℕ) (d : Lease) → k < length live → AreApart (get_or live k d) g = λ k d inside s has. elim (cases_bool (has_slot g.slots s)) [
-        | inl e ↦ true_false (some_lease live s) (any_at (λ (g : Lease). has_slot g.slots s) live k d inside has) (slots_apart n free live ws is_open taken not_busy s (subst (λ (z : List (Slot × Bool)). has_slot z s ≡ true) is e))
-        | inr e ↦ e
-      ] in
+      | inl e ↦ true_false (some_lease live s) (any_at (λ (g : Lease). has_slot g.slots s) live k d inside has) (slots_apart n free live ws is_open taken not_busy s (subst (λ (z : List (Slot × Bool)). has_slot z s ≡ true) is e))
+      | inr e ↦ e
+    ] in
     let rises : Rises g = subst (λ (z : List (Slot × Bool)). IsStrictlySortedBy slot_cmp (map (λ (x : Slot × Bool). x.0) z)) (sym is)
-        (slots_rise n free ws (subst (λ (z : List Want). IsStrictlySortedBy folder_cmp (folders z)) (sym (leased-filter g.tenure wants)) (wants_filter (takes g.tenure) wants sorted.1))) in
+    (slots_rise n free ws (subst (λ (z : List Want). IsStrictlySortedBy folder_cmp (folders z)) (sym (leased-filter g.tenure wants)) (wants_filter (takes g.tenure) wants sorted.1))) in
     record {
       tickets = all_pairs_push IsBefore live g h.tickets above;
       apart = all_pairs_push AreApart live g h.apart apart;

@@ -151,10 +151,8 @@ impl LeaseTable {
     fn is_busy(&self, wants: &[Want], tenure: bool) -> bool
         ensures { result ≡ busy (is_leased self.now) (filter (takes tenure) wants.now) }
     {
-        wants
-            .iter()
-            .filter(|want| takes(want, tenure))
-            .any(|want| !is_private(want) && self.has_only_slot(&want.folder))
+        wants.iter().filter(|want| takes(want, tenure)).any(|want| !is_private(want)
+            && self.has_only_slot(&want.folder))
     }
 
     /// Whether an ask with these wants can be granted. A tenure takes a slot of its SHARED folder, any other
@@ -214,9 +212,9 @@ impl LeaseTable {
     pub fn lease_of(&self, node: NodeId, life: Life, ask: Ask) -> Option<&Lease>
         ensures { option_copied result ≡ lease_of self.now.live node life ask }
     {
-        self.leases
-            .iter()
-            .find(|lease| lease.node == node && lease.life == life && lease.ask == ask)
+        self.leases.iter().find(|lease| lease.node == node
+            && lease.life == life
+            && lease.ask == ask)
     }
 
     /// The oldest lease that has the one slot of a folder for which an ask with these wants takes a slot.
@@ -248,7 +246,12 @@ impl LeaseTable {
     }
 
     /// The slots that some wants get.
-    fn slots_for(&self, alloc: Global, wants: &[Want], tenure: bool) -> Result<Vec<(Slot, bool)>, AllocError>
+    fn slots_for(
+        &self,
+        alloc: Global,
+        wants: &[Want],
+        tenure: bool,
+    ) -> Result<Vec<(Slot, bool)>, AllocError>
         requires { all_taken 4096 (is_free self.now) (filter (takes tenure) wants.now) ≡ false }
         ensures { IfOk result (λ slots. slots.items ≡ slots_of self.now (filter (takes tenure) wants.now)) }
     {

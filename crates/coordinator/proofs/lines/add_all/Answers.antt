@@ -22,7 +22,7 @@ loop-addition-init c =
       finite = tt;
       sound = subst AreLines (sym c.make_room.ensures.items) c.requires.sound;
       ready = subst (λ (ls : List SlotLine). AreReady ls c.args.added.ticket (into_iter_items c.into_iter-addition-iterator.result)) (sym c.make_room.ensures.items)
-        (subst (AreReady c.args.lines.now.items c.args.added.ticket) (sym items) c.requires.ready);
+          (subst (AreReady c.args.lines.now.items c.args.added.ticket) (sym items) c.requires.ready);
       lines = ap (λ (xs : List Addition). adds_all c.args.added.ticket xs (line_at c.make_room.new.lines.items)) items ∙ ap (λ (ls : List SlotLine). adds_all c.args.added.ticket c.args.added.additions.items (line_at ls)) c.make_room.ensures.items;
       space = omega arith;
       count = omega arith;

@@ -12,4 +12,4 @@ pub returns-in-Some-added_digest-clause-digest : goal.returns-in-Some-added_dige
 returns-in-Some-added_digest-clause-digest c =
     sym (ap (λ (o : Option Added). last_digest empty_digest (lines_with c.args.lines.now o c.args.slot.now)) c.in-Some.is
     ∙ last_digest-with empty_digest c.args.lines.now c.in-Some.added c.args.slot.now c.in-Some-added_digest.digest
-      (ap (λ (as' : List Addition). digest_for c.args.slot.now (map news_of as')) (sym c.as_slice.ensures.value) ∙ sym c.added_digest.ensures ∙ c.in-Some-added_digest.is))
+    (ap (λ (as' : List Addition). digest_for c.args.slot.now (map news_of as')) (sym c.as_slice.ensures.value) ∙ sym c.added_digest.ensures ∙ c.in-Some-added_digest.is))

@@ -17,7 +17,7 @@ returns-in_ok-digest-in-Some-added c =
     ap (λ (n : ℕ). Some (n + 1, c.in_ok-digest-in-Some-added.digest)) c.version_count-number.ensures.value
     ∙ sym (ap (λ (o : Option Added). place c.args.ticket (lines_with c.args.lines.now o c.args.slot.now) 0) c.in-Some-added.is
     ∙ place-added c.args.lines.now a c.args.slot.now c.args.ticket c.in_ok-digest-in-Some-added.digest (sym c.stands_at.ensures ∙ c.in_default.is) (let same : eqb a.ticket.0 c.args.ticket.0 ≡ true = sym c.eq.ensures ∙ c.if-eq.true in eqb_is a.ticket.0 c.args.ticket.0 same)
-      (ap (λ (as' : List Addition). digest_for c.args.slot.now (map news_of as')) (sym c.as_slice.ensures.value) ∙ sym c.added_digest.ensures ∙ c.in_ok-digest-in-Some-added.was))
+    (ap (λ (as' : List Addition). digest_for c.args.slot.now (map news_of as')) (sym c.as_slice.ensures.value) ∙ sym c.added_digest.ensures ∙ c.in_ok-digest-in-Some-added.was))
 
 pub returns-else-eq : goal.returns-else-eq
 returns-else-eq c =

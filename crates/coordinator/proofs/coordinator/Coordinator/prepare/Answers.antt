@@ -20,7 +20,7 @@ returns-clause-work c =
     let line : LineOf = line_at c.self.inside.lines in
     let lines : c.self.inside.lines ≡ c.args.self.now.lines = ap (λ (h : Held). h.lines) c.self.view_is in
     let was : kept line c.in_ok-copy.field-0 ≡ ledger c.args.self.now =
-        c.in_ok-copy.ensures line ∙ ap ledger c.self.view_is in
+    c.in_ok-copy.ensures line ∙ ap ledger c.self.view_is in
     let by : (Ledger → List FromCoord → Work) = λ q sends. record { ledger = q; sends = sends; changed = false; note = note.Nothing } in
     ap (λ (ls : List SlotLine). shown (lines_with ls c.in_ok-added.added) c.deliver.new.self) (sym lines)
     ∙ c.in_ok-added.ensures.work
@@ -31,11 +31,11 @@ returns-clause-sound c =
     let line : LineOf = line_at c.self.inside.lines in
     let lines : c.self.inside.lines ≡ c.args.self.now.lines = ap (λ (h : Held). h.lines) c.self.view_is in
     let was : kept line c.in_ok-copy.field-0 ≡ ledger c.args.self.now =
-        c.in_ok-copy.ensures line ∙ ap ledger c.self.view_is in
+    c.in_ok-copy.ensures line ∙ ap ledger c.self.view_is in
     let by : (Ledger → List FromCoord → Work) = λ q sends. record { ledger = q; sends = sends; changed = false; note = note.Nothing } in
     let work : shown (lines_with c.args.self.now.lines c.in_ok-added.added) c.deliver.new.self ≡ handled farm_limits c.args.message.now (begin_work (ledger c.args.self.now)) =
-        ap (λ (ls : List SlotLine). shown (lines_with ls c.in_ok-added.added) c.deliver.new.self) (sym lines)
-        ∙ c.in_ok-added.ensures.work
-        ∙ ap (handled farm_limits c.args.message.now) (ap (λ (q : Ledger). by q c.new.result.items) was ∙ ap (by (ledger c.args.self.now)) c.new.ensures.items) in
+    ap (λ (ls : List SlotLine). shown (lines_with ls c.in_ok-added.added) c.deliver.new.self) (sym lines)
+    ∙ c.in_ok-added.ensures.work
+    ∙ ap (handled farm_limits c.args.message.now) (ap (λ (q : Ledger). by q c.new.result.items) was ∙ ap (by (ledger c.args.self.now)) c.new.ensures.items) in
     let P : Work → Type 0 = λ w. IsSound w.ledger in
     subst P (sym work) (sound-handled farm_limits c.args.message.now (begin_work (ledger c.args.self.now)) (subst (λ (h : Held). IsSound (ledger h)) c.self.view_is c.self.invariant) c.is_request.ensures)

@@ -13,7 +13,7 @@ returns c =
     let w : Work = shown line c.args.self.now in
     let same : shown line c.grant_again.new.self ≡ w = rw c.if-branch.false at c.in_ok-grant_again.ensures.work in
     let parked : is_parked w.ledger.parked p.node p.life p.ask ≡ false =
-        ap (λ (x : Work). is_parked x.ledger.parked p.node p.life p.ask) (sym same) ∙ ap (λ (x : List Parked). is_parked x p.node p.life p.ask) (sym c.as_slice.ensures.value) ∙ sym c.is_parked.ensures ∙ c.if-is_parked.false in
+    ap (λ (x : Work). is_parked x.ledger.parked p.node p.life p.ask) (sym same) ∙ ap (λ (x : List Parked). is_parked x p.node p.life p.ask) (sym c.as_slice.ensures.value) ∙ sym c.is_parked.ensures ∙ c.if-is_parked.false in
     c.in_ok-decide.ensures
     ∙ ap (λ (x : Work). decided (decision farm_limits x.ledger p) farm_limits p x) same
     ∙ sym (acquiring-decides farm_limits (lease_of w.ledger.live p.node p.life p.ask) (is_parked w.ledger.parked p.node p.life p.ask) p w (sym c.in_ok-grant_again.ensures.found ∙ c.if-branch.false) parked)

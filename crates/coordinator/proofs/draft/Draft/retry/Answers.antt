@@ -25,7 +25,7 @@ loop-p-preserved c =
     record {
       work = ap (try_all farm_limits (drop (i + 1) items)) done ∙ ap (λ (ps : List Parked). try_all farm_limits ps w) (sym first) ∙ c.loop-p.invariant.work;
       waiting = ap (λ (x : Work). c.keep.new.waiting.items ++ waiting farm_limits (drop (i + 1) items) x) done
-        ∙ waiting-next farm_limits p (drop (i + 1) items) w c.loop-p.waiting.items c.keep.new.waiting.items _ c.in_ok-waits.waits c.in_ok-waits.ensures.waits c.in_ok-keep.ensures
+          ∙ waiting-next farm_limits p (drop (i + 1) items) w c.loop-p.waiting.items c.keep.new.waiting.items _ c.in_ok-waits.waits c.in_ok-waits.ensures.waits c.in_ok-keep.ensures
           (ap (λ (ps : List Parked). c.loop-p.waiting.items ++ waiting farm_limits ps w) (sym first) ∙ c.loop-p.invariant.waiting);
       sound = subst P (sym done) (sound-tried farm_limits p w c.loop-p.invariant.sound (subst (λ (x : Parked). IsWants x.wants) (sym c.p-item.is) (c.loop-p.invariant.asks i p inside)));
       asks = c.loop-p.invariant.asks;
@@ -42,6 +42,6 @@ returns c =
     let empty : c.replace-parked.new.dest.items ≡ [] = ap (λ v. v.items) c.replace-parked.ensures.after ∙ c.new.ensures.items in
     retried-from farm_limits w last c.loop-p.waiting.items
     (ap (λ (ps : List Parked). try_all farm_limits ps (parks [] w)) (sym was) ∙ ap (λ (ps : List Parked). try_all farm_limits items (parks ps w)) (sym empty)
-      ∙ sym c.loop-p.invariant.work ∙ ap (λ (ps : List Parked). try_all farm_limits ps last) none)
+    ∙ sym c.loop-p.invariant.work ∙ ap (λ (ps : List Parked). try_all farm_limits ps last) none)
     (ap (λ (ps : List Parked). waiting farm_limits ps (parks [] w)) (sym was) ∙ ap (λ (ps : List Parked). waiting farm_limits items (parks ps w)) (sym empty)
-      ∙ sym c.loop-p.invariant.waiting ∙ ap (λ (ps : List Parked). c.loop-p.waiting.items ++ waiting farm_limits ps last) none ∙ append-nil c.loop-p.waiting.items)
+    ∙ sym c.loop-p.invariant.waiting ∙ ap (λ (ps : List Parked). c.loop-p.waiting.items ++ waiting farm_limits ps last) none ∙ append-nil c.loop-p.waiting.items)
