@@ -3,3 +3,5 @@ pub mod StateWords
 pub mod Trying
 pub mod SoundWords
 pub mod Pushing
+pub mod Ordered
+pub mod Kept

@@ -1,11 +1,11 @@
 -- Versions on lines: the last one, and that of a ticket.
-use Rattle.std.proofs.Common.{◌≡◌, ◌≢◌, ℕ, zero, suc, ◌+◌, ◌<◌, ◌≤◌, List, [], ◌∷◌, ◌++◌, ◌⊎◌, Bool, true, false, eqb, length, map, Option, Some, None, refl, sym, ◌∙◌, ap, subst, inl, inr, arith}
+use Rattle.std.proofs.Common.{◌≡◌, ◌≢◌, ℕ, suc, ◌+◌, List, [], ◌∷◌, ◌++◌, ◌⊎◌, Bool, true, false, eqb, length, map, Option, Some, None, refl, sym, ◌∙◌, ap, subst, inl, inr, arith}
 use Rattle.std.specs.Prelude.{slice_get, unwrap_or}
 use Rattle.std.specs.List.{position_from}
 use Rattle.std.proofs.lemmas.Bool.Decides.{nat_tests}
 use Rattle.farm_base.specs.declared.digest.Digest.{Digest}
 use Rattle.protocol.specs.Names.{Slot, Ticket}
-use Rattle.protocol.specs.Machine.{LineVersion, digest_for, version_of}
+use Rattle.protocol.specs.Machine.{LineVersion, digest_for}
 use Rattle.protocol.specs.Ledger.{last_digest, place}
 use Rattle.versions.specs.Lines.{number_in, digest_in}
 use Rattle.coordinator.specs.declared.lines.Added.{Added}

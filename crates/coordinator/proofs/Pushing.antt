@@ -1,82 +1,23 @@
 -- A version at the end of a slot's line.
 use mathlib.Core.Path.{fun_ext}
-use Rattle.std.proofs.Common.{◌≡◌, ℕ, zero, suc, ◌+◌, ◌<◌, ◌≤◌, List, [], ◌∷◌, ◌++◌, ◌⊎◌, Bool, true, false, not, length, get_or, map, drop, Option, Some, None, refl, sym, ◌∙◌, ap, subst, inl, inr, arith, add-one, append_assoc}
-use Rattle.std.proofs.Math.ListN.{set}
-use Rattle.std.specs.Prelude.{if◌then◌else◌, All}
+use Rattle.std.proofs.Common.{◌≡◌, suc, ◌<◌, List, [], ◌∷◌, ◌++◌, true, false, length, map, Some, None, refl, sym, ◌∙◌, ap, subst, inl, inr, arith}
+use Rattle.std.specs.Prelude.{All}
 use Rattle.farm_base.proofs.CompareLaws as laws
-use Rattle.protocol.specs.Names.{Slot, slot_eq, Ticket, Digest}
+use Rattle.protocol.specs.Names.{Slot, slot_eq, Ticket}
 use Rattle.protocol.specs.Machine.{LineVersion, digest_for, version_of}
 use Rattle.coordinator.specs.declared.lines.Addition.{Addition}
 use Rattle.coordinator.specs.declared.lines.Added.{Added}
 use Rattle.coordinator.specs.declared.lines.SlotLine.{SlotLine}
-use Rattle.coordinator.specs.Held.{line_at, first_line}
+use Rattle.coordinator.specs.Held.{line_at}
 use Rattle.coordinator.specs.Shown.{lines_with, news_of}
-use Rattle.coordinator.specs.Additions.{HasRoom, IsAbove, AreReady, adds, adds_all}
+use Rattle.coordinator.specs.Additions.{AreReady, adds, adds_all}
 use Rattle.coordinator.proofs.LineWords.{cases_bool}
-
-no_line : (ls : List SlotLine) (s : Slot) → first_line s ls ≡ length ls → line_at ls s ≡ []
-no_line [] s h = refl
-no_line (l ∷ ls) s h = elim (cases_bool (slot_eq l.slot s)) [
-  | inl e ↦ (let g : 0 ≡ length (l ∷ ls) = rw e at h in absurd (omega arith))
-  | inr e ↦ (let g : first_line s ls + 1 ≡ length (l ∷ ls) = rw e at h in rw e (no_line ls s (omega arith)))
-]
 
 other : (a b : Slot) → slot_eq a b ≡ false → (x : Slot) → slot_eq a x ≡ true → slot_eq b x ≡ false
 other a b h x e = elim (cases_bool (slot_eq b x)) [
   | inl f ↦ (let ab : a ≡ b = laws.slot_exact a x e ∙ sym (laws.slot_exact b x f) in let bad : slot_eq a a ≡ false = subst (λ z. slot_eq a z ≡ false) (sym ab) h in let clash : true ≡ false = sym (laws.slot_eq-itself a) ∙ bad in cc)
   | inr f ↦ f
 ]
-
-line-new-at : (ls : List SlotLine) (s x : Slot) (v : LineVersion) → first_line s ls ≡ length ls → line_at (ls ++ record { slot = s; line = v ∷ [] } ∷ []) x ≡ adds s v (line_at ls) x
-line-new-at [] s x v h = elim (cases_bool (slot_eq s x)) [ inl e ↦ rw e refl | inr e ↦ rw e refl ]
-line-new-at (k ∷ ls) s x v h = elim (cases_bool (slot_eq k.slot s)) [
-  | inl e ↦ (let g : 0 ≡ length (k ∷ ls) = rw e at h in absurd (omega arith))
-  | inr e ↦ (let g : first_line s ls + 1 ≡ length (k ∷ ls) = rw e at h in
-      let ih : line_at (ls ++ record { slot = s; line = v ∷ [] } ∷ []) x ≡ adds s v (line_at ls) x = line-new-at ls s x v (omega arith) in
-      elim (cases_bool (slot_eq k.slot x)) [
-        | inl f ↦ (let n : slot_eq s x ≡ false = other k.slot s e x f in rw (f, n) refl)
-        | inr f ↦ rw f ih
-      ])
-]
-
--- the line of a slot that had none
-pub line-new : (ls : List SlotLine) (s : Slot) (v : LineVersion) → first_line s ls ≡ length ls → line_at (ls ++ record { slot = s; line = v ∷ [] } ∷ []) ≡ adds s v (line_at ls)
-line-new ls s v h = fun_ext (λ x. line-new-at ls s x v h)
-
-line-set-at : (ls : List SlotLine) (s x : Slot) (v : LineVersion) (l d : SlotLine) → first_line s ls < length ls → l.slot ≡ (get_or ls (first_line s ls) d).slot → l.line ≡ (get_or ls (first_line s ls) d).line ++ v ∷ []
-    → line_at (set ls (first_line s ls) l) x ≡ adds s v (line_at ls) x
-line-set-at [] s x v l d lt es ev = absurd (omega arith)
-line-set-at (k ∷ ls) s x v l d lt es ev = elim (cases_bool (slot_eq k.slot s)) [
-  | inl e ↦ (let same : k.slot ≡ s = laws.slot_exact k.slot s e in
-      let es' : l.slot ≡ k.slot = rw e at es in
-      let ev' : l.line ≡ k.line ++ v ∷ [] = rw e at ev in
-      rw (e, es', same) (elim (cases_bool (slot_eq s x)) [ inl f ↦ rw f ev' | inr f ↦ rw f refl ]))
-  | inr e ↦ (let lt' : first_line s ls + 1 < length (k ∷ ls) = rw e at lt in
-      let es' : l.slot ≡ (get_or ls (first_line s ls) d).slot = rw (e, add-one) at es in
-      let ev' : l.line ≡ (get_or ls (first_line s ls) d).line ++ v ∷ [] = rw (e, add-one) at ev in
-      let ih : line_at (set ls (first_line s ls) l) x ≡ adds s v (line_at ls) x = line-set-at ls s x v l d (omega arith) es' ev' in
-      rw (e, add-one) (elim (cases_bool (slot_eq k.slot x)) [
-        | inl f ↦ (let n : slot_eq s x ≡ false = other k.slot s e x f in rw (f, n) refl)
-        | inr f ↦ rw f ih
-      ]))
-]
-
--- the line of a slot, with one version more
-pub line-set : (ls : List SlotLine) (i : ℕ) (s : Slot) (v : LineVersion) (l d : SlotLine) → i ≡ first_line s ls → i < length ls → d ≡ get_or ls i d → l.slot ≡ d.slot → l.line ≡ d.line ++ v ∷ []
-    → line_at (set ls i l) ≡ adds s v (line_at ls)
-line-set ls i s v l d e lt is es ev =
-    ap (λ (j : ℕ). line_at (set ls j l)) e ∙ fun_ext (λ x. line-set-at ls s x v l d (omega arith) (es ∙ ap (λ z. z.slot) (is ∙ ap (λ (j : ℕ). get_or ls j d) e)) (ev ∙ ap (λ z. z.line ++ v ∷ []) (is ∙ ap (λ (j : ℕ). get_or ls j d) e)))
-
-line_of : (ls : List SlotLine) (s : Slot) (i : ℕ) (d : SlotLine) → i ≡ first_line s ls → i < length ls → line_at ls s ≡ (get_or ls i d).line
-line_of [] s i d e lt = absurd (omega arith)
-line_of (l ∷ ls) s i d e lt = elim (cases_bool (slot_eq l.slot s)) [
-  | inl t ↦ (let z : i ≡ 0 = rw t at e in rw (t, z) refl)
-  | inr t ↦ (let z : i ≡ first_line s ls + 1 = rw t at e in rw (t, z, add-one) (line_of ls s (first_line s ls) d refl (omega arith)))
-]
-
--- the line at the place of a slot is the slot's
-pub line-first : (ls : List SlotLine) (s : Slot) (i : ℕ) (d : SlotLine) → i ≡ first_line s ls → i < length ls → d ≡ get_or ls i d → line_at ls s ≡ d.line
-line-first ls s i d e lt is = line_of ls s i d e lt ∙ ap (λ (l : SlotLine). l.line) (sym is)
 
 -- ---- all additions
 

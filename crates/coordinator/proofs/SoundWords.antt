@@ -1,5 +1,5 @@
 -- What a ledger keeps to, over all that a message does.
-use Rattle.std.proofs.Common.{◌≡◌, ◌≢◌, ℕ, zero, suc, ◌+◌, ◌<◌, ◌≤◌, List, [], ◌∷◌, ◌++◌, ◌⊎◌, Bool, true, false, not, ◌&&◌, ◌||◌, eqb, length, get_or, map, filter, Option, Some, None, refl, sym, ◌∙◌, ap, subst, inl, inr, arith}
+use Rattle.std.proofs.Common.{◌≡◌, ℕ, zero, suc, ◌+◌, ◌<◌, ◌≤◌, List, [], ◌∷◌, ◌++◌, Bool, true, false, not, ◌&&◌, ◌||◌, get_or, map, filter, Option, Some, None, refl, sym, ◌∙◌, ap, subst, inl, inr, arith}
 use Rattle.std.specs.Prelude.{All, AllPairs, nat_lt}
 use Rattle.std.specs.List.{list_any, find, AllByRecursion}
 use Rattle.std.specs.List.Sorted.{IsStrictlySortedBy}
@@ -10,14 +10,13 @@ use Rattle.farm_base.specs.Slots.{slot_cmp}
 use Rattle.farm_base.specs.Wanted.{IsWants}
 use Rattle.farm_base.specs.declared.message.Request.{Request}
 use Rattle.farm_base.specs.declared.message.Request.TheVariants.{Hello, Acquire, Commit, Release}
-use Rattle.farm_base.specs.declared.message.Why.{Why}
 use Rattle.farm_base.proofs.CompareLaws as laws
-use Rattle.leases.specs.Leases.{AreLeases, AreApart, Rises}
+use Rattle.leases.specs.Leases.{AreApart, Rises}
 use Rattle.leases.proofs.TableLemmas.{leases-filter, leases_more, FreeIsOpen}
-use Rattle.protocol.specs.Names.{Slot, slot_eq, slots_eq, NodeId, Life, Ask, Ticket, Digest, leased_wants}
+use Rattle.protocol.specs.Names.{Slot, slot_eq, slots_eq, NodeId, Life, Ticket, Digest}
 use Rattle.protocol.specs.Lists.{is_nil}
 use Rattle.protocol.specs.Machine.{News, LineVersion, Parked, ToCoord, slots_of, digest_for, version_of}
-use Rattle.protocol.specs.Ledger.{Limits, Ledger, Lease, Work, Decision, Give, Deny, Wait, pick, elsewhere, all_taken, busy, is_free, is_leased, some_lease, has_slot, writable_slots, decision, gives, lease_for, denies, says, notes, carried_out, tried, stays, try_all, waiting, parks, retried, recall, recalls, holds_wanted, decided, acquiring, has_ticket, lease_under, lease_of, is_parked, without, ends, commits, confirms, may_commit, may_release, is_its, on_all, answered, committing, released, answering, is_older, is_older_ask, sees, newer_life, is_home, handled}
+use Rattle.protocol.specs.Ledger.{Limits, Ledger, Lease, Work, Decision, Give, Deny, Wait, pick, elsewhere, is_free, some_lease, has_slot, writable_slots, decision, gives, lease_for, carried_out, tried, stays, try_all, waiting, parks, retried, recall, recalls, holds_wanted, decided, acquiring, has_ticket, lease_under, lease_of, is_parked, without, ends, commits, confirms, may_commit, may_release, is_its, on_all, answered, committing, released, answering, is_older, is_older_ask, sees, newer_life, is_home, handled}
 use Rattle.coordinator.specs.declared.lines.Addition.{Addition}
 use Rattle.coordinator.specs.declared.lines.SlotLine.{SlotLine}
 use Rattle.coordinator.specs.Held.{line_at}

@@ -1,6 +1,6 @@
 -- Decisions, lives, and the slots of news.
 use mathlib.Core.Path.{fun_ext}
-use Rattle.std.proofs.Common.{◌≡◌, ◌≢◌, ℕ, zero, suc, ◌+◌, ◌<◌, ◌≤◌, List, [], ◌∷◌, ◌++◌, ◌⊎◌, Bool, true, false, not, eqb, length, map, filter, drop, get_or, Option, Some, None, refl, sym, ◌∙◌, ap, subst, inl, inr, arith, add-one, drop-cons}
+use Rattle.std.proofs.Common.{◌≡◌, ◌≢◌, ℕ, zero, suc, ◌≤◌, List, [], ◌∷◌, ◌++◌, ◌⊎◌, Bool, true, false, not, eqb, length, filter, drop, refl, sym, ◌∙◌, subst, inl, inr, arith}
 use Rattle.std.specs.Prelude.{nat_lt}
 use Rattle.std.proofs.lemmas.Bool.Decides.{nat_tests}
 use Rattle.farm_base.specs.declared.message.Why.TheVariants.{InstancesSpent, TicketsSpent}
@@ -8,14 +8,13 @@ use Rattle.farm_base.specs.declared.number.Life.{Life}
 use Rattle.farm_base.specs.declared.number.NodeId.{NodeId}
 use Rattle.leases.specs.declared.lease_table.Fit.TheVariants as fit
 use Rattle.leases.specs.Table.{first_fit}
-use Rattle.leases.proofs.MarkLemmas.{drop-item, drop_none}
 use Rattle.protocol.specs.Lists.{put}
-use Rattle.protocol.specs.Names.{Slot, slots_eq, leased_wants}
+use Rattle.protocol.specs.Names.{slots_eq, leased_wants}
 use Rattle.protocol.specs.Machine.{News, slots_of, Parked}
-use Rattle.protocol.specs.Ledger.{Limits, Ledger, Decision, Give, Deny, Wait, pick, decision, elsewhere, all_taken, busy, is_free, is_leased}
+use Rattle.protocol.specs.Ledger.{Limits, Ledger, Give, Deny, Wait, pick, decision, elsewhere, all_taken, busy, is_free, is_leased}
 use Rattle.coordinator.specs.declared.state.SeenLife.{SeenLife}
 use Rattle.coordinator.specs.Held.{life_at}
-use Rattle.coordinator.proofs.LineWords.{cases_bool, eqb_same, eqb_apart}
+use Rattle.coordinator.proofs.LineWords.{eqb_same, eqb_apart}
 
 cases_nat : (a b : ℕ) → (a ≡ b) ⊎ (a ≢ b)
 cases_nat a b = grind arith

@@ -1,5 +1,5 @@
 -- Trying an ask, by what is decided of it.
-use Rattle.std.proofs.Common.{◌≡◌, ℕ, suc, List, [], ◌∷◌, ◌++◌, ◌⊎◌, ◌+◌, ◌<◌, ◌≤◌, cond, Bool, true, false, not, ◌&&◌, ◌||◌, Option, Some, None, refl, sym, ◌∙◌, ap, subst, inl, inr, arith, append_assoc}
+use Rattle.std.proofs.Common.{◌≡◌, ℕ, List, [], ◌∷◌, ◌++◌, ◌+◌, ◌<◌, ◌≤◌, cond, Bool, true, false, ◌||◌, Option, Some, None, refl, sym, ◌∙◌, ap, inl, inr, arith, append_assoc}
 use Rattle.std.specs.Prelude.{if◌then◌else◌, is_some, count_by, nat_lt}
 use Rattle.std.specs.List.{list_any}
 use Rattle.std.proofs.lemmas.List.Sums.{sum_by-cons}
@@ -7,7 +7,7 @@ use Rattle.std.proofs.lemmas.Bool.Decides.{nat_tests}
 use Rattle.protocol.specs.Names.{NodeId, Life, Ticket}
 use Rattle.protocol.specs.declared.answer.CoordNote.TheVariants as note
 use Rattle.protocol.specs.Machine.{Parked, ToCoord}
-use Rattle.protocol.specs.Ledger.{Limits, Ledger, Work, Decision, Give, Deny, Wait, decision, carried_out, waits, tried, stays, try_all, waiting, retried, parks, gives, granting, lease_for, denies, says, notes, Lease, acquiring, decided, is_older, is_home, newer_life, sees, may_release, released, ends, lease_under, has_ticket, without, answering, handled}
+use Rattle.protocol.specs.Ledger.{Limits, Work, Decision, Give, Deny, Wait, decision, carried_out, waits, tried, stays, try_all, waiting, retried, parks, gives, notes, Lease, acquiring, decided, is_older, is_home, newer_life, sees, may_release, released, ends, lease_under, has_ticket, without, answering, handled}
 use Rattle.coordinator.specs.Shown.{ended, saved_under}
 use Rattle.coordinator.proofs.LineWords.{cases_bool, eqb_is}
 

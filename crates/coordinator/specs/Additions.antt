@@ -1,5 +1,5 @@
 -- What a commit adds to the lines, in the room that is made for it.
-use Rattle.std.specs.Prelude.{◌≡◌, ◌<◌, Bool, false, if◌then◌else◌, List, [], ◌∷◌, ◌++◌, length, All, Option, Some, None}
+use Rattle.std.specs.Prelude.{◌≡◌, ℕ, insert, ◌<◌, false, if◌then◌else◌, List, [], ◌∷◌, ◌++◌, length, All, Option, Some, None}
 use Rattle.protocol.specs.Names.{Slot, slot_eq, Ticket}
 use Rattle.protocol.specs.Machine.{LineVersion}
 use Rattle.coordinator.specs.declared.lines.Addition.{Addition}
@@ -35,6 +35,6 @@ abbrev pub adds_all : Ticket → List Addition → (Slot → List LineVersion) �
 adds_all t [] line = line
 adds_all t (a ∷ rest) line = adds_all t rest (adds a.slot (record { ticket = t; digest = a.digest }) line)
 
--- the line of a slot, with one version, is added at the end
-abbrev pub IsPushed : List SlotLine → List SlotLine → Slot → LineVersion → Type 0
-IsPushed old new s v = new ≡ old ++ record { slot = s; line = v ∷ [] } ∷ []
+-- the line of a slot, with one version, is inserted at this place
+abbrev pub IsInserted : List SlotLine → List SlotLine → ℕ → Slot → LineVersion → Type 0
+IsInserted old new k s v = new ≡ insert old k (record { slot = s; line = v ∷ [] })

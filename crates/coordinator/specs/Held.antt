@@ -1,5 +1,5 @@
 -- What contracts see of a coordinator.
-use Rattle.std.specs.Prelude.{ℕ, ◌+◌, Bool, ◌==◌, if◌then◌else◌, List, [], ◌∷◌, Option}
+use Rattle.std.specs.Prelude.{ℕ, Bool, ◌==◌, if◌then◌else◌, List, [], ◌∷◌, Option}
 use Rattle.std.specs.List.{list_any}
 use Rattle.protocol.specs.Names.{Slot, slot_eq, NodeId}
 use Rattle.protocol.specs.Machine.{LineVersion, Parked}
@@ -24,11 +24,6 @@ pub record Held : Type 0 where
 abbrev pub line_at : List SlotLine → Slot → List LineVersion
 line_at [] s = []
 line_at (l ∷ ls) s = if slot_eq l.slot s then l.line else line_at ls s
-
--- the place of the slot's line, or how many there are
-abbrev pub first_line : Slot → List SlotLine → ℕ
-first_line s [] = 0
-first_line s (l ∷ ls) = if slot_eq l.slot s then 0 else first_line s ls + 1
 
 -- the greatest life seen of a node
 abbrev pub life_at : List SeenLife → ℕ → ℕ

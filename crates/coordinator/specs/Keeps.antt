@@ -1,5 +1,5 @@
 -- What a coordinator keeps, by its fields.
-use Rattle.std.specs.Prelude.{◌≡◌, Bool, List, [], ◌∷◌, Option, Some, None}
+use Rattle.std.specs.Prelude.{List, [], ◌∷◌, Option, Some, None}
 use Rattle.protocol.specs.Machine.{LineVersion}
 use Rattle.coordinator.specs.declared.lines.SlotLine.{SlotLine}
 use Rattle.coordinator.specs.declared.state.State.{State}

@@ -3,3 +3,5 @@ pub mod Shown
 pub mod Additions
 pub mod Sound
 pub mod Keeps
+pub mod Ordered
+pub mod Promises

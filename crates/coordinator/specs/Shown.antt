@@ -1,6 +1,6 @@
 -- What an event shows while it is worked out.
-use Rattle.std.specs.Prelude.{◌≡◌, ℕ, ◌<◌, Bool, true, false, ◌||◌, List, [], ◌∷◌, ◌++◌, length, map, All, Option, Some, None}
-use Rattle.protocol.specs.Names.{Slot, NodeId, Life, Ticket, Digest}
+use Rattle.std.specs.Prelude.{ℕ, Bool, true, false, ◌||◌, List, ◌++◌, map, Option, Some, None}
+use Rattle.protocol.specs.Names.{Slot, Ticket}
 use Rattle.protocol.specs.Machine.{LineVersion, News, digest_for, version_of}
 use Rattle.protocol.specs.Ledger.{Ledger, Work, Lease, is_saved, without, lease_under, Decision, Give, Deny, Wait}
 use Rattle.std.specs.Vec.{vec_len}
@@ -14,20 +14,20 @@ use Rattle.coordinator.specs.declared.state.Verdict.TheVariants as verdict
 use Rattle.coordinator.specs.declared.draft.Draft.{Draft}
 use Rattle.coordinator.specs.Held.{line_at, life_at, is_among}
 
--- the lines of slots
-abbrev pub Lines : Type 0
-Lines = Slot → List LineVersion
+-- the line of each slot
+abbrev pub LineOf : Type 0
+LineOf = Slot → List LineVersion
 
 abbrev pub news_of : Addition → News
 news_of a = record { slot = a.slot; digest = a.digest }
 
 -- the lines with what a commit adds
-abbrev pub lines_with : List SlotLine → Option Added → Lines
+abbrev pub lines_with : List SlotLine → Option Added → LineOf
 lines_with lines None s = line_at lines s
 lines_with lines (Some a) s = line_at lines s ++ version_of a.ticket (digest_for s (map news_of a.additions.items))
 
 -- the ledger that a state shows, with these lines
-abbrev pub kept : Lines → State → Ledger
+abbrev pub kept : LineOf → State → Ledger
 kept line s = record {
   live = s.table.live;
   retired = among s.table.retired;
@@ -41,7 +41,7 @@ kept line s = record {
 }
 
 -- what an event has come to
-abbrev pub shown : Lines → Draft → Work
+abbrev pub shown : LineOf → Draft → Work
 shown line d = record { ledger = kept line d.state; sends = d.sends.items; changed = d.changed; note = d.note }
 
 -- the record has the lease, if there is one

@@ -1,16 +1,22 @@
-ghost use Rattle.std.specs.Prelude.{◌≡◌, ◌≢◌, ◌+◌, ◌≤◌, List, [], map, IfOk, OnOk, OnErr, IsOkUnless, Option, option_copied, length};
+ghost use Rattle.std.specs.Prelude.{◌≡◌, not, ◌+◌, ◌≤◌, List, [], map, IfOk, OnOk, OnErr, IsOkUnless, Option, option_copied, length};
+ghost use Rattle.std.specs.List.{list_any};
+ghost use Rattle.std.specs.List.Sorted.{IsStrictlySortedBy};
 ghost use Rattle.std.specs.Vec.{vec_capacity};
+ghost use Rattle.farm_base.specs.Slots.{slot_cmp};
 ghost use Rattle.folders.specs.Farm.{farm_limits};
 ghost use Rattle.leases.specs.Table.{state_of};
+ghost use Rattle.protocol.specs.Lists.{is_nil};
+ghost use Rattle.protocol.specs.Names.{slot_eq};
 ghost use Rattle.protocol.specs.Ledger.{opening, begin_work, handled};
 ghost use Rattle.coordinator.specs.Held.{line_at, ledger};
 ghost use Rattle.coordinator.specs.Additions.{IsReady};
 ghost use Rattle.coordinator.specs.Shown.{kept, shown, lines_with, added_count};
 ghost use Rattle.coordinator.specs.Sound.{IsSound, IsRequest};
+ghost use Rattle.coordinator.specs.Promises.{OnlyGrow, GrantsAtOnce};
 ghost use Rattle.coordinator.specs.Keeps.{line_shown};
 
 use super::draft::Draft;
-use super::lines::{Added, SlotLine, add_to, find_line, room_to_add};
+use super::lines::{Added, Lines, SlotLine};
 use super::state::State;
 use farm_base::{FromCoord, Items, Request, Slot, Ticket, ToCoord};
 use leases::{LeaseTable, SlotState, TicketSource};
@@ -24,7 +30,7 @@ use versions::Line;
 #[derive(Debug, Drop)]
 pub struct Coordinator {
     state: State,
-    lines: Vec<SlotLine>,
+    lines: Lines,
 }
 
 impl Model for Coordinator {
@@ -34,9 +40,9 @@ impl Model for Coordinator {
 
     ghost use Rattle.coordinator.specs.Keeps.{held, keeps_sound};
 
-    ghost view = { λ c. held c.state c.lines.items };
+    ghost view = { λ c. held c.state c.lines };
 
-    ghost invariant = { λ c. keeps_sound c.state c.lines.items };
+    ghost invariant = { λ c. keeps_sound c.state c.lines };
 }
 
 /// What a message came to.
@@ -79,7 +85,7 @@ impl Coordinator {
         };
         Coordinator {
             state,
-            lines: Vec::new(alloc),
+            lines: Lines::new(alloc),
         }
     }
 
@@ -99,8 +105,8 @@ impl Coordinator {
             changed: false,
             note: CoordNote::Nothing,
         };
-        let added = draft.deliver(alloc, self.lines.as_slice(), message)?;
-        let room = room_to_add(alloc, self.lines.as_slice(), &added)?;
+        let added = draft.deliver(alloc, &self.lines, message)?;
+        let room = self.lines.room_to_add(alloc, &added)?;
         Ok(Prepared { draft, added, room })
     }
 
@@ -112,10 +118,11 @@ impl Coordinator {
         requires larger { length self.old.lines + added_count prepared.added ≤ vec_capacity prepared.room }
         ensures ledger { ledger self.new ≡ kept (lines_with self.old.lines prepared.added) prepared.draft.state }
         ensures sends { result.sends ≡ prepared.draft.sends.items }
+        ensures grow { OnlyGrow (line_at self.old.lines) (line_at self.new.lines) }
         ensures note { result.note ≡ prepared.draft.note }
     {
         let Prepared { draft, added, room } = prepared;
-        add_to(&mut self.lines, added, room);
+        self.lines.add_to(added, room);
         self.state = draft.state;
         Handled {
             sends: Items::new(draft.sends),
@@ -128,24 +135,31 @@ impl Coordinator {
         ensures ledger { OnOk result (ledger self.new ≡ (handled farm_limits message.now (begin_work (ledger self.old))).ledger) }
         ensures sends { IfOk result (λ h. h.sends ≡ (handled farm_limits message.now (begin_work (ledger self.old))).sends) }
         ensures note { IfOk result (λ h. h.note ≡ (handled farm_limits message.now (begin_work (ledger self.old))).note) }
+        ensures grow { OnlyGrow (line_at self.old.lines) (line_at self.new.lines) }
+        ensures at_once { IfOk result (λ h. GrantsAtOnce (ledger self.old) message.now h.note) }
         ensures memory { IsOkUnless result CoordRefusal.OutOfMemory }
         ensures err { OnErr result (self.new ≡ self.old) }
     {
         let Ok(prepared) = self.prepare(alloc, message) else {
             return Err(CoordRefusal::OutOfMemory);
         };
-        Ok(self.accept(prepared))
+        let handled = self.accept(prepared);
+        Ok(handled)
     }
 
     /// The line of a slot, if it has a version.
     pub fn line(&self, slot: &Slot) -> Option<&Line>
         ensures { option_copied result ≡ line_shown (line_at self.now.lines slot.now) }
     {
-        let line = find_line(self.lines.as_slice(), slot)?;
-        if line.len() == 0 {
-            return None;
-        }
-        Some(line)
+        self.lines.find(slot)
+    }
+
+    /// The slots that have a version, rising.
+    pub fn slots(&self, alloc: Global) -> Result<Vec<Slot>, AllocError>
+        ensures rising { IfOk result (λ v. IsStrictlySortedBy slot_cmp v.items) }
+        ensures exact { IfOk result (λ v. (s : _) → list_any (λ x. slot_eq x s) v.items ≡ not (is_nil (line_at self.now.lines s))) }
+    {
+        self.lines.slots(alloc)
     }
 
     pub fn slot_state(&self, slot: &Slot) -> SlotState

@@ -6,11 +6,11 @@ ghost use Rattle.leases.specs.Table.{fit_of};
 ghost use Rattle.leases.specs.declared.lease_table.Fit.{Fit};
 ghost use Rattle.protocol.specs.Ledger.{decision, decided, sees, is_older, is_home, ends, without, Lease, lease_for, grant_of, gives, denies, tried, stays, retried, elsewhere, recall, recalls, holds_wanted, acquiring, lease_of, is_parked, confirms, committing, may_commit, may_release, lease_under, released, newer_life, answering, handled};
 ghost use Rattle.coordinator.specs.Held.{line_at};
-ghost use Rattle.coordinator.specs.Shown.{Lines, kept, shown, lines_with, ended, ended_committed};
+ghost use Rattle.coordinator.specs.Shown.{LineOf, kept, shown, lines_with, ended, ended_committed};
 ghost use Rattle.coordinator.specs.Sound.{IsSound};
 ghost use Rattle.coordinator.specs.Additions.{IsReady};
 
-use super::lines::{Added, SlotLine, additions, all_stand, confirmed};
+use super::lines::{Added, Lines, additions, all_stand, confirmed};
 use super::state::{
     State, Verdict, cleared, drop_older_asks, grant_of, is_among, is_home, is_parked, is_saved,
     is_some_saved, seen_life, set_life,
@@ -38,7 +38,7 @@ impl Draft {
     fn give(
         &mut self,
         alloc: Global,
-        lines: &[SlotLine],
+        lines: &Lines,
         added: &Option<Added>,
         p: &Parked,
     ) -> Result<Grant, AllocError>
@@ -67,7 +67,7 @@ impl Draft {
     }
 
     fn deny(&mut self, p: &Parked, why: Why) -> Result<(), AllocError>
-        ensures { OnOk result ((line : Lines) → shown line self.new ≡ denies why p.now (shown line self.old)) }
+        ensures { OnOk result ((line : LineOf) → shown line self.new ≡ denies why p.now (shown line self.old)) }
     {
         self.sends.push(FromCoord::Denied {
             node: p.node,
@@ -82,7 +82,7 @@ impl Draft {
     fn try_ask(
         &mut self,
         alloc: Global,
-        lines: &[SlotLine],
+        lines: &Lines,
         added: &Option<Added>,
         p: &Parked,
     ) -> Result<bool, AllocError>
@@ -108,7 +108,7 @@ impl Draft {
     fn retry(
         &mut self,
         alloc: Global,
-        lines: &[SlotLine],
+        lines: &Lines,
         added: &Option<Added>,
     ) -> Result<(), AllocError>
         requires { IsSound (kept (lines_with lines.now added.now) self.old.state) }
@@ -127,7 +127,7 @@ impl Draft {
 
     /// Tells the holder of a slot that is wanted to give it up.
     fn tell_holder(&mut self, p: &Parked) -> Result<(), AllocError>
-        ensures { OnOk result ((line : Lines) → shown line self.new
+        ensures { OnOk result ((line : LineOf) → shown line self.new
             ≡ recall (find (holds_wanted p.now) self.old.state.table.live) (shown line self.old)) }
     {
         match self.state.table.holder_of(&p.wants, p.tenure) {
@@ -145,7 +145,7 @@ impl Draft {
 
     /// Tells the holder of the tenure that is asked for to give it up.
     fn recall(&mut self, p: &Parked) -> Result<(), AllocError>
-        ensures { OnOk result ((line : Lines) → shown line self.new
+        ensures { OnOk result ((line : LineOf) → shown line self.new
             ≡ recalls (p.now.tenure && not (elsewhere (kept line self.old.state) p.now)) p.now (shown line self.old)) }
     {
         if !self.state.is_awaited(p) {
@@ -159,7 +159,7 @@ impl Draft {
     fn decide(
         &mut self,
         alloc: Global,
-        lines: &[SlotLine],
+        lines: &Lines,
         added: &Option<Added>,
         p: Parked,
     ) -> Result<(), AllocError>
@@ -189,7 +189,7 @@ impl Draft {
     fn grant_again(
         &mut self,
         alloc: Global,
-        lines: &[SlotLine],
+        lines: &Lines,
         added: &Option<Added>,
         p: &Parked,
     ) -> Result<bool, AllocError>
@@ -210,7 +210,7 @@ impl Draft {
     fn acquire(
         &mut self,
         alloc: Global,
-        lines: &[SlotLine],
+        lines: &Lines,
         added: &Option<Added>,
         p: Parked,
     ) -> Result<(), AllocError>
@@ -233,7 +233,7 @@ impl Draft {
     fn confirm(
         &mut self,
         alloc: Global,
-        lines: &[SlotLine],
+        lines: &Lines,
         added: &Option<Added>,
         node: NodeId,
         life: Life,
@@ -257,7 +257,7 @@ impl Draft {
     fn answer_again(
         &mut self,
         alloc: Global,
-        lines: &[SlotLine],
+        lines: &Lines,
         node: NodeId,
         life: Life,
         ticket: Ticket,
@@ -278,7 +278,7 @@ impl Draft {
 
     /// Ends the lease of a ticket, where there is one.
     fn end(&mut self, ticket: Ticket)
-        ensures { (line : Lines) → shown line self.new ≡ ended ticket (shown line self.old) }
+        ensures { (line : LineOf) → shown line self.new ≡ ended ticket (shown line self.old) }
     {
         let ended = self.state.table.end(ticket);
         self.changed = self.changed || is_some_saved(&ended);
@@ -287,7 +287,7 @@ impl Draft {
     fn release(
         &mut self,
         alloc: Global,
-        lines: &[SlotLine],
+        lines: &Lines,
         node: NodeId,
         life: Life,
         ticket: Ticket,
@@ -307,7 +307,7 @@ impl Draft {
 
     /// Ends the lease of a ticket whose versions the record has.
     fn end_committed(&mut self, ticket: Ticket)
-        ensures { (line : Lines) → shown line self.new ≡ ended_committed ticket (shown line self.old) }
+        ensures { (line : LineOf) → shown line self.new ≡ ended_committed ticket (shown line self.old) }
     {
         let _lease = self.state.table.end(ticket);
         self.changed = true;
@@ -317,7 +317,7 @@ impl Draft {
     fn commit(
         &mut self,
         alloc: Global,
-        lines: &[SlotLine],
+        lines: &Lines,
         node: NodeId,
         life: Life,
         ticket: Ticket,
@@ -343,7 +343,7 @@ impl Draft {
 
     /// Ends what a newer life of a node ends, and says whether the parked asks are to be tried.
     fn see(&mut self, node: NodeId, life: Life) -> Result<bool, AllocError>
-        ensures work { OnOk result ((line : Lines) → shown line self.new ≡ sees node life (shown line self.old)) }
+        ensures work { OnOk result ((line : LineOf) → shown line self.new ≡ sees node life (shown line self.old)) }
         ensures due { IfOk result (λ due. due ≡ (list_any (is_older node life) self.old.state.table.live || is_home node self.old.state.old_home)) }
     {
         let was_home = is_home(node, self.state.old_home);
@@ -359,7 +359,7 @@ impl Draft {
     fn begin_life(
         &mut self,
         alloc: Global,
-        lines: &[SlotLine],
+        lines: &Lines,
         node: NodeId,
         life: Life,
     ) -> Result<(), AllocError>
@@ -377,7 +377,7 @@ impl Draft {
     fn answer(
         &mut self,
         alloc: Global,
-        lines: &[SlotLine],
+        lines: &Lines,
         message: &ToCoord,
     ) -> Result<Option<Added>, AllocError>
         requires { IsSound (kept (line_at lines.now) self.old.state) }
@@ -420,7 +420,7 @@ impl Draft {
     pub(crate) fn deliver(
         &mut self,
         alloc: Global,
-        lines: &[SlotLine],
+        lines: &Lines,
         message: &ToCoord,
     ) -> Result<Option<Added>, AllocError>
         requires { IsSound (kept (line_at lines.now) self.old.state) }

@@ -1,16 +1,24 @@
 //! The lines of slots, and what a commit adds to them.
-ghost use Rattle.std.specs.Prelude.{◌≡◌, ℕ, ◌<◌, ◌≤◌, ◌^◌, [], map, length, All, IfOk, unwrap_or, option_copied, is_some, vec_len, ◌+◌, Some};
+ghost use Rattle.std.specs.Prelude.{◌≡◌, ◌≢◌, not, ℕ, ◌<◌, ◌≤◌, ◌^◌, [], map, length, All, IfOk, IfSome, MatchResult, unwrap_or, option_copied, is_some, vec_len, ◌+◌, Some};
+ghost use Rattle.std.specs.List.{list_any};
+ghost use Rattle.std.specs.List.Sorted.{IsStrictlySortedBy};
 ghost use Rattle.std.specs.Vec.{vec_capacity};
+ghost use Rattle.farm_base.specs.Slots.{slot_cmp};
 ghost use Rattle.folders.specs.Farm.{empty_digest};
+ghost use Rattle.protocol.specs.Lists.{is_nil};
+ghost use Rattle.protocol.specs.Names.{slot_eq};
 ghost use Rattle.protocol.specs.Machine.{digest_for};
 ghost use Rattle.protocol.specs.Ledger.{last_digest, place, versions_of, on_all, granted_slot};
-ghost use Rattle.coordinator.specs.Held.{line_at, first_line};
-ghost use Rattle.coordinator.specs.Additions.{HasRoom, IsAbove, AreReady, IsReady, adds, IsPushed};
+ghost use Rattle.coordinator.specs.Held.{line_at};
+ghost use Rattle.coordinator.specs.Additions.{HasRoom, IsAbove, AreReady, IsReady, adds, IsInserted};
+ghost use Rattle.coordinator.specs.Ordered.{AreLines, IsPlace, IsGap, slots};
 ghost use Rattle.coordinator.specs.Shown.{lines_with, news_of, added_count};
 
 use farm_base::{Confirmed, Copied, Digest, GrantedSlot, News, Slot, Ticket};
 use folders::Content;
 use std::alloc::{AllocError, Global};
+use std::cmp::Ordering;
+use std::marker::Model;
 use versions::{Line, Room};
 
 /// The line of a slot.
@@ -52,15 +60,104 @@ fn empty_digest(alloc: Global) -> Digest
     Content::of(Vec::new(alloc)).digest()
 }
 
-pub(crate) fn find_line<'a>(lines: &'a [SlotLine], slot: &Slot) -> Option<&'a Line>
-    ensures { unwrap_or (option_copied result) [] ≡ line_at lines.now slot.now }
-{
-    for slot_line in lines {
-        if slot_line.slot == *slot {
-            return Some(&slot_line.line);
+/// The lines of the slots that have a version, by rising slot. Contracts see them as their list.
+#[derive(Debug, Drop)]
+pub struct Lines {
+    lines: Vec<SlotLine>,
+}
+
+impl Model for Lines {
+    ghost use Rattle.std.specs.Prelude.{List};
+    ghost use Rattle.coordinator.specs.declared.lines.SlotLine.{SlotLine};
+    ghost use Rattle.coordinator.specs.Ordered.{AreLines};
+
+    ghost Value = { List SlotLine };
+
+    ghost view = { λ l. l.lines.items };
+
+    ghost invariant = { λ l. AreLines l.lines.items };
+}
+
+impl Lines {
+    pub(crate) fn new(alloc: Global) -> Self
+        ensures { result ≡ [] }
+    {
+        Lines {
+            lines: Vec::new(alloc),
         }
     }
-    None
+
+    pub(crate) fn find(&self, slot: &Slot) -> Option<&Line>
+        ensures value { unwrap_or (option_copied result) [] ≡ line_at self.now slot.now }
+        ensures filled { IfSome result (λ line. line.now ≢ []) }
+    {
+        match place_of(self.lines.as_slice(), slot) {
+            Ok(place) => Some(&self.lines[place].line),
+            Err(_) => None,
+        }
+    }
+
+    /// The slots that have a version, rising.
+    pub(crate) fn slots(&self, alloc: Global) -> Result<Vec<Slot>, AllocError>
+        ensures rising { IfOk result (λ v. IsStrictlySortedBy slot_cmp v.items) }
+        ensures exact { IfOk result (λ v. (s : _) → list_any (λ x. slot_eq x s) v.items ≡ not (is_nil (line_at self.now s))) }
+    {
+        let slots = slots_of(alloc, self.lines.as_slice())?;
+        Ok(slots)
+    }
+
+    /// Room for the lines and what a commit adds.
+    pub(crate) fn room_to_add(
+        &self,
+        alloc: Global,
+        added: &Option<Added>,
+    ) -> Result<Vec<SlotLine>, AllocError>
+        ensures empty { IfOk result (λ room. room.items ≡ []) }
+        ensures larger { IfOk result (λ room. length self.now + added_count added.now ≤ vec_capacity room) }
+    {
+        let lines = self.lines.as_slice();
+        match added {
+            None => Vec::with_capacity(alloc, lines.len()),
+            Some(added) => Vec::with_capacity(alloc, 2 * lines.len() + added.additions.len()),
+        }
+    }
+
+    /// Adds what a commit adds, if it adds anything, in the room that was made for it.
+    pub(crate) fn add_to(&mut self, added: Option<Added>, room: Vec<SlotLine>)
+        requires empty { room.items ≡ [] }
+        requires larger { length self.old + added_count added ≤ vec_capacity room }
+        requires ready { IsReady self.old added }
+        ensures { line_at self.new ≡ lines_with self.old added }
+    {
+        if let Some(added) = added {
+            add_all(&mut self.lines, added, room);
+        }
+    }
+}
+
+/// The place of a slot's line, or the one that it would have.
+fn place_of(lines: &[SlotLine], slot: &Slot) -> Result<usize, usize>
+    requires { AreLines lines.now }
+    ensures { MatchResult result (IsPlace slot.now lines.now) (IsGap slot.now lines.now) }
+{
+    lines.binary_search_by(|line| compared(line, slot))
+}
+
+/// The order of a line's slot and another slot.
+fn compared(line: &SlotLine, slot: &Slot) -> Ordering
+    ensures { result ≡ slot_cmp line.now.slot slot.now }
+{
+    line.slot.cmp(slot)
+}
+
+fn slots_of(alloc: Global, lines: &[SlotLine]) -> Result<Vec<Slot>, AllocError>
+    ensures { IfOk result (λ v. v.items ≡ slots lines.now) }
+{
+    let mut slots = Vec::with_capacity(alloc, lines.len())?;
+    for line in lines {
+        slots.push(line.slot.copy(alloc)?)?;
+    }
+    Ok(slots)
 }
 
 /// The digest that a commit adds to a slot's line.
@@ -76,23 +173,23 @@ fn added_digest(additions: &[Addition], slot: &Slot) -> Option<Digest>
 }
 
 /// How many versions a slot's line has.
-fn version_count(lines: &[SlotLine], slot: &Slot) -> u64
+fn version_count(lines: &Lines, slot: &Slot) -> u64
     ensures value { result ≡ length (line_at lines.now slot.now) }
     ensures range { result < 2 ^ 63 }
 {
-    match find_line(lines, slot) {
+    match lines.find(slot) {
         None => 0,
         Some(line) => line.len(),
     }
 }
 
 /// The last version of a slot's line.
-fn last_version(alloc: Global, lines: &[SlotLine], slot: &Slot) -> Base
+fn last_version(alloc: Global, lines: &Lines, slot: &Slot) -> Base
     ensures number { result.number ≡ length (line_at lines.now slot.now) }
     ensures digest { result.digest ≡ last_digest empty_digest (line_at lines.now slot.now) }
     ensures range { result.number < 2 ^ 63 }
 {
-    match find_line(lines, slot) {
+    match lines.find(slot) {
         None => Base {
             number: 0,
             digest: empty_digest(alloc),
@@ -105,7 +202,7 @@ fn last_version(alloc: Global, lines: &[SlotLine], slot: &Slot) -> Base
 }
 
 /// The version of a slot that a lease begins from.
-fn base_of(alloc: Global, lines: &[SlotLine], added: &Option<Added>, slot: &Slot) -> Base
+fn base_of(alloc: Global, lines: &Lines, added: &Option<Added>, slot: &Slot) -> Base
     ensures number { result.number ≡ length (lines_with lines.now added.now slot.now) }
     ensures digest { result.digest ≡ last_digest empty_digest (lines_with lines.now added.now slot.now) }
 {
@@ -125,7 +222,7 @@ fn base_of(alloc: Global, lines: &[SlotLine], added: &Option<Added>, slot: &Slot
 /// The slots of a lease, as its holder is told of them.
 pub(crate) fn granted_slots(
     alloc: Global,
-    lines: &[SlotLine],
+    lines: &Lines,
     added: &Option<Added>,
     slots: &[(Slot, bool)],
 ) -> Result<Vec<GrantedSlot>, AllocError>
@@ -145,10 +242,10 @@ pub(crate) fn granted_slots(
 }
 
 /// The number and digest of a ticket's version on a slot's line.
-fn stands_at(lines: &[SlotLine], ticket: Ticket, slot: &Slot) -> Option<(u64, Digest)>
+fn stands_at(lines: &Lines, ticket: Ticket, slot: &Slot) -> Option<(u64, Digest)>
     ensures { result ≡ place ticket (line_at lines.now slot.now) 0 }
 {
-    on_line(find_line(lines, slot)?, ticket)
+    on_line(lines.find(slot)?, ticket)
 }
 
 fn on_line(line: &Line, ticket: Ticket) -> Option<(u64, Digest)>
@@ -160,8 +257,8 @@ fn on_line(line: &Line, ticket: Ticket) -> Option<(u64, Digest)>
 }
 
 /// The same, with what a commit adds.
-fn place_of(
-    lines: &[SlotLine],
+fn place_with(
+    lines: &Lines,
     added: &Option<Added>,
     ticket: Ticket,
     slot: &Slot,
@@ -188,7 +285,7 @@ fn place_of(
 /// The versions that a ticket has on the lines of these slots.
 pub(crate) fn confirmed(
     alloc: Global,
-    lines: &[SlotLine],
+    lines: &Lines,
     added: &Option<Added>,
     ticket: Ticket,
     news: &[News],
@@ -197,7 +294,7 @@ pub(crate) fn confirmed(
 {
     let mut versions = Vec::with_capacity(alloc, news.len())?;
     for x in news {
-        if let Some((number, digest)) = place_of(lines, added, ticket, &x.slot) {
+        if let Some((number, digest)) = place_with(lines, added, ticket, &x.slot) {
             versions.push(Confirmed {
                 slot: x.slot.copy(alloc)?,
                 number,
@@ -209,7 +306,7 @@ pub(crate) fn confirmed(
 }
 
 /// Whether the ticket is on the line of each of these slots.
-pub(crate) fn all_stand(lines: &[SlotLine], ticket: Ticket, news: &[News]) -> bool
+pub(crate) fn all_stand(lines: &Lines, ticket: Ticket, news: &[News]) -> bool
     ensures { result ≡ on_all (line_at lines.now) ticket news.now }
 {
     for x in news {
@@ -221,10 +318,10 @@ pub(crate) fn all_stand(lines: &[SlotLine], ticket: Ticket, news: &[News]) -> bo
 }
 
 /// Room for the next version of a slot's line.
-fn room_for(alloc: Global, lines: &[SlotLine], slot: &Slot) -> Result<Room, AllocError>
+fn room_for(alloc: Global, lines: &Lines, slot: &Slot) -> Result<Room, AllocError>
     ensures { IfOk result (λ room. length (line_at lines.now slot.now) < room) }
 {
-    match find_line(lines, slot) {
+    match lines.find(slot) {
         Some(line) => line.room(alloc),
         None => Line::new(alloc).room(alloc),
     }
@@ -233,7 +330,7 @@ fn room_for(alloc: Global, lines: &[SlotLine], slot: &Slot) -> Result<Room, Allo
 /// What some news add to the lines, with room for it.
 pub(crate) fn additions(
     alloc: Global,
-    lines: &[SlotLine],
+    lines: &Lines,
     news: &[News],
 ) -> Result<Vec<Addition>, AllocError>
     ensures news { IfOk result (λ v. map news_of v.items ≡ news.now) }
@@ -251,51 +348,39 @@ pub(crate) fn additions(
     Ok(additions)
 }
 
-/// The place of a slot's line, or how many there are.
-fn index_of(lines: &[SlotLine], slot: &Slot) -> usize
-    ensures within { result ≤ length lines.now }
-    ensures first { result ≡ first_line slot.now lines.now }
-{
-    for (i, slot_line) in lines.iter().enumerate() {
-        if slot_line.slot == *slot {
-            return i;
-        }
-    }
-    lines.len()
-}
-
 /// Adds a version to a slot's line.
 fn add(lines: &mut Vec<SlotLine>, ticket: Ticket, addition: Addition)
+    requires sound { AreLines lines.old.items }
     requires space { vec_len lines.old < vec_capacity lines.old }
     requires room { HasRoom lines.old.items addition }
     requires above { IsAbove lines.old.items ticket addition.slot }
     ensures lines { line_at lines.new.items ≡ adds addition.slot (record { ticket = ticket; digest = addition.digest }) (line_at lines.old.items) }
+    ensures sound { AreLines lines.new.items }
     ensures len { vec_len lines.new ≤ vec_len lines.old + 1 }
     ensures capacity { vec_capacity lines.old ≤ vec_capacity lines.new }
 {
-    let place = index_of(lines.as_slice(), &addition.slot);
-    if place < lines.len() {
-        lines[place]
+    match place_of(lines.as_slice(), &addition.slot) {
+        Ok(place) => lines[place]
             .line
-            .push_into(addition.room, ticket, addition.digest);
-    } else {
-        push_line(lines, ticket, addition);
+            .push_into(addition.room, ticket, addition.digest),
+        Err(place) => insert_line(lines, place, ticket, addition),
     }
 }
 
 /// Adds the line of a slot that has none.
-fn push_line(lines: &mut Vec<SlotLine>, ticket: Ticket, addition: Addition)
+fn insert_line(lines: &mut Vec<SlotLine>, place: usize, ticket: Ticket, addition: Addition)
+    requires place { place ≤ vec_len lines.old }
     requires space { vec_len lines.old < vec_capacity lines.old }
     requires room { 0 < addition.room }
     requires line { addition.line ≡ [] }
-    ensures line { IsPushed lines.old.items lines.new.items addition.slot (record { ticket = ticket; digest = addition.digest }) }
+    ensures line { IsInserted lines.old.items lines.new.items place addition.slot (record { ticket = ticket; digest = addition.digest }) }
     ensures len { vec_len lines.new ≤ vec_len lines.old + 1 }
     ensures capacity { vec_capacity lines.old ≤ vec_capacity lines.new }
 {
     let mut line = addition.line;
     line.push_into(addition.room, ticket, addition.digest);
     let slot = addition.slot;
-    lines.push(SlotLine { slot, line }).unwrap();
+    lines.insert(place, SlotLine { slot, line }).unwrap();
 }
 
 /// Moves the lines into this room, where they have too little of their own.
@@ -313,42 +398,17 @@ fn make_room(lines: &mut Vec<SlotLine>, room: Vec<SlotLine>, more: usize)
 }
 
 /// Adds what a commit adds, in the room that was made for it.
-pub(crate) fn add_all(lines: &mut Vec<SlotLine>, added: Added, room: Vec<SlotLine>)
+fn add_all(lines: &mut Vec<SlotLine>, added: Added, room: Vec<SlotLine>)
     requires empty { room.items ≡ [] }
     requires larger { vec_len lines.old + vec_len added.additions ≤ vec_capacity room }
+    requires sound { AreLines lines.old.items }
     requires ready { AreReady lines.old.items added.ticket added.additions.items }
-    ensures { line_at lines.new.items ≡ lines_with lines.old.items (Some added) }
+    ensures sound { AreLines lines.new.items }
+    ensures lines { line_at lines.new.items ≡ lines_with lines.old.items (Some added) }
 {
     make_room(lines, room, added.additions.len());
     let ticket = added.ticket;
     for addition in added.additions {
         add(lines, ticket, addition);
-    }
-}
-
-/// Adds what a commit adds, if it adds anything.
-pub(crate) fn add_to(lines: &mut Vec<SlotLine>, added: Option<Added>, room: Vec<SlotLine>)
-    requires empty { room.items ≡ [] }
-    requires larger { vec_len lines.old + added_count added ≤ vec_capacity room }
-    requires ready { IsReady lines.old.items added }
-    ensures { line_at lines.new.items ≡ lines_with lines.old.items added }
-{
-    if let Some(added) = added {
-        add_all(lines, added, room);
-    }
-}
-
-/// Room for the lines and what a commit adds.
-pub(crate) fn room_to_add(
-    alloc: Global,
-    lines: &[SlotLine],
-    added: &Option<Added>,
-) -> Result<Vec<SlotLine>, AllocError>
-    ensures empty { IfOk result (λ room. room.items ≡ []) }
-    ensures larger { IfOk result (λ room. length lines.now + added_count added.now ≤ vec_capacity room) }
-{
-    match added {
-        None => Vec::with_capacity(alloc, lines.len()),
-        Some(added) => Vec::with_capacity(alloc, 2 * lines.len() + added.additions.len()),
     }
 }

@@ -9,9 +9,9 @@ ghost use Rattle.protocol.specs.Lists.{put};
 ghost use Rattle.protocol.specs.Machine.{slots_of, cleared};
 ghost use Rattle.protocol.specs.Ledger.{decision, elsewhere, grant_of, is_saved, is_parked, is_older_ask, is_home, writable_slots, may_commit, may_release, lease_under};
 ghost use Rattle.coordinator.specs.Held.{life_at, is_among};
-ghost use Rattle.coordinator.specs.Shown.{Lines, kept, as_decision, lines_with, saved_under};
+ghost use Rattle.coordinator.specs.Shown.{LineOf, kept, as_decision, lines_with, saved_under};
 
-use super::lines::{Added, SlotLine, granted_slots};
+use super::lines::{Added, Lines, granted_slots};
 use farm_base::{
     Ask, Copied, Grant, Items, Lease, Life, Mode, News, NodeId, Parked, Slot, Ticket, Why, copy_all,
 };
@@ -134,7 +134,7 @@ fn fit_slots(news: &[News], slots: &[(Slot, bool)]) -> bool
 /// The Grant of a lease.
 pub(crate) fn grant_of(
     alloc: Global,
-    lines: &[SlotLine],
+    lines: &Lines,
     added: &Option<Added>,
     lease: &Lease,
 ) -> Result<Grant, AllocError>
@@ -178,7 +178,7 @@ fn has_private(slots: &[(Slot, bool)]) -> bool
 
 impl State {
     pub(crate) fn copy(&self, alloc: Global) -> Result<State, AllocError>
-        ensures { IfOk result (λ copy. (line : Lines) → kept line copy ≡ kept line self.now) }
+        ensures { IfOk result (λ copy. (line : LineOf) → kept line copy ≡ kept line self.now) }
     {
         Ok(State {
             table: self.table.copy(alloc)?,
@@ -192,7 +192,7 @@ impl State {
 
     /// Whether a tenure is asked for while another node is the old home.
     pub(crate) fn is_elsewhere(&self, p: &Parked) -> bool
-        ensures { (line : Lines) → result ≡ elsewhere (kept line self.now) p.now }
+        ensures { (line : LineOf) → result ≡ elsewhere (kept line self.now) p.now }
     {
         match self.old_home {
             Some(home) => p.tenure && home != p.node,
@@ -202,14 +202,14 @@ impl State {
 
     /// Whether a tenure is asked for whose holder is told to give it up.
     pub(crate) fn is_awaited(&self, p: &Parked) -> bool
-        ensures { (line : Lines) → result ≡ (p.now.tenure && not (elsewhere (kept line self.now) p.now)) }
+        ensures { (line : LineOf) → result ≡ (p.now.tenure && not (elsewhere (kept line self.now) p.now)) }
     {
         p.tenure && !self.is_elsewhere(p)
     }
 
     /// What is done with an ask.
     pub(crate) fn decide(&self, p: &Parked) -> Verdict
-        ensures decision { (line : Lines) → as_decision result ≡ decision farm_limits (kept line self.now) p.now }
+        ensures decision { (line : LineOf) → as_decision result ≡ decision farm_limits (kept line self.now) p.now }
         ensures fits { result ≡ Verdict.Give → fit_of self.now.table p.now.tenure p.now.wants ≡ Fit.Fits }
         ensures room { result ≡ Verdict.Give → self.now.tickets.position ≢ u64.MAX }
     {

@@ -17,7 +17,7 @@ use Rattle.farm_base.proofs.CompareLaws as laws
 use Rattle.protocol.specs.Names.{Slot, slot_eq, is_private, only_slot, FolderName, NodeId, Life, Ask, Ticket, Want, leased_wants}
 use Rattle.protocol.specs.Ledger.{has_slot, some_lease, lowest, slot_for, all_taken, busy, without, has_ticket}
 use Rattle.leases.specs.Leases.{Table, AreLeases, AreApart, IsBefore, Rises}
-use Rattle.leases.specs.Table.{takes, slots_of, is_free, is_leased, fit_of, first_fit, lease_for}
+use Rattle.leases.specs.Table.{takes, is_free, fit_of, first_fit, lease_for}
 use Rattle.leases.specs.declared.lease_table.Fit.TheVariants.{Fits}
 
 pub cases_bool : (b : Bool) → (b ≡ true) ⊎ (b ≡ false)

@@ -65,7 +65,7 @@ impl TicketSource {
     pub fn needs_block(&self) -> bool
         ensures { result ≡ (self.now.position == self.now.ceiling) }
     {
-        self.position == self.ceiling
+        self.ceiling == self.position
     }
 
     fn raised(&self) -> u64

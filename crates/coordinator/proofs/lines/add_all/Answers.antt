@@ -1,11 +1,11 @@
-use Rattle.std.proofs.Common.{◌≡◌, ◌+◌, ◌<◌, ◌≤◌, ◌∷◌, [], List, length, refl, ap, sym, ◌∙◌, subst, arith}
-use Rattle.std.specs.Vec.{vec_len, vec_capacity}
+use Rattle.std.proofs.Common.{◌≡◌, ◌∷◌, [], List, length, ap, sym, ◌∙◌, subst, arith}
+use Rattle.std.specs.Vec.{vec_len}
 use Rattle.std.specs.Vec.Iter.{into_iter_items, into_iter_len}
-use Rattle.protocol.specs.Machine.{LineVersion}
 use Rattle.coordinator.specs.declared.lines.Addition.{Addition}
 use Rattle.coordinator.specs.declared.lines.SlotLine.{SlotLine}
 use Rattle.coordinator.specs.Held.{line_at}
 use Rattle.coordinator.specs.Additions.{AreReady, adds_all}
+use Rattle.coordinator.specs.Ordered.{AreLines}
 use Rattle.coordinator.proofs.Pushing.{adds_all-is, ready-next, no_items}
 use Rattle.coordinator.proofs.lines.add_all.Goals as goal
 
@@ -20,6 +20,7 @@ loop-addition-init c =
     record {
       can = tt;
       finite = tt;
+      sound = subst AreLines (sym c.make_room.ensures.items) c.requires.sound;
       ready = subst (λ (ls : List SlotLine). AreReady ls c.args.added.ticket (into_iter_items c.into_iter-addition-iterator.result)) (sym c.make_room.ensures.items)
           (subst (AreReady c.args.lines.now.items c.args.added.ticket) (sym items) c.requires.ready);
       lines = ap (λ (xs : List Addition). adds_all c.args.added.ticket xs (line_at c.make_room.new.lines.items)) items ∙ ap (λ (ls : List SlotLine). adds_all c.args.added.ticket c.args.added.additions.items (line_at ls)) c.make_room.ensures.items;
@@ -59,14 +60,15 @@ loop-addition-preserved c =
     record {
       can = tt;
       finite = tt;
+      sound = c.add.ensures.sound;
       ready = ready-next c.loop-addition.lines.items c.add.new.lines.items c.args.added.ticket a rest c.add.ensures.lines ready;
       lines = ap (adds_all c.args.added.ticket rest) c.add.ensures.lines ∙ ap (λ (xs : List Addition). adds_all c.args.added.ticket xs (line_at c.loop-addition.lines.items)) (sym first) ∙ c.loop-addition.invariant.lines;
       space = omega arith;
       count = omega arith;
     }
 
-pub returns : goal.returns
-returns c =
+pub returns-clause-lines : goal.returns-clause-lines
+returns-clause-lines c =
     let none : into_iter_items c.loop-addition.addition-iterator ≡ [] = (let empty = c.in-None.ensures.steps.0 in let count = c.loop-addition.invariant.count in no_items (into_iter_items c.loop-addition.addition-iterator) (omega arith)) in
     ap (λ (xs : List Addition). adds_all c.args.added.ticket xs (line_at c.loop-addition.lines.items)) (sym none) ∙ c.loop-addition.invariant.lines
     ∙ adds_all-is c.args.lines.now.items c.args.added c.requires.ready

@@ -1,4 +1,4 @@
-use Rattle.std.proofs.Common.{◌≡◌, ◌+◌, ◌++◌, drop, take, map}
+use Rattle.std.proofs.Common.{◌≡◌, drop, map}
 use Rattle.protocol.specs.Machine.{digest_for}
 use Rattle.coordinator.specs.Shown.{news_of}
 use Rattle.coordinator.proofs.lines.added_digest.Given as goal

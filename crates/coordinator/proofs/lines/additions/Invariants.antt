@@ -1,4 +1,4 @@
-use Rattle.std.proofs.Common.{◌≡◌, ◌+◌, ◌++◌, drop, take, map}
+use Rattle.std.proofs.Common.{◌≡◌, take, map}
 use Rattle.std.specs.Prelude.{All}
 use Rattle.coordinator.specs.Additions.{HasRoom}
 use Rattle.coordinator.specs.Shown.{news_of}

@@ -1,4 +1,4 @@
-use Rattle.std.proofs.Common.{◌≡◌, ◌+◌, ◌++◌, drop, take, map}
+use Rattle.std.proofs.Common.{◌≡◌, drop}
 use Rattle.protocol.specs.Ledger.{on_all}
 use Rattle.coordinator.specs.Held.{line_at}
 use Rattle.coordinator.proofs.lines.all_stand.Given as goal

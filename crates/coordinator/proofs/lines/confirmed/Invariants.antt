@@ -1,4 +1,4 @@
-use Rattle.std.proofs.Common.{◌≡◌, ◌+◌, ◌++◌, drop, take, map}
+use Rattle.std.proofs.Common.{◌≡◌, ◌++◌, drop}
 use Rattle.protocol.specs.Ledger.{versions_of}
 use Rattle.coordinator.specs.Shown.{lines_with}
 use Rattle.coordinator.proofs.lines.confirmed.Given as goal

@@ -1,4 +1,4 @@
-use Rattle.std.proofs.Common.{◌≡◌, ◌+◌, ◌++◌, drop, take, map}
+use Rattle.std.proofs.Common.{◌≡◌, take, map}
 use Rattle.folders.specs.Farm.{empty_digest}
 use Rattle.protocol.specs.Ledger.{granted_slot}
 use Rattle.coordinator.specs.Shown.{lines_with}

@@ -1,4 +1,4 @@
-use Rattle.std.proofs.Common.{List, Option, length, ap, sym, ◌∙◌}
+use Rattle.std.proofs.Common.{Option, length, ap, ◌∙◌}
 use Rattle.std.specs.Prelude.{unwrap_or}
 use Rattle.folders.specs.Farm.{empty_digest}
 use Rattle.protocol.specs.Names.{Digest}
@@ -14,4 +14,4 @@ returns-in-Some-clause-digest c =
     ∙ ap (λ (o : Option Digest). unwrap_or o c.empty_digest-in-Some.result) (c.digest_at.ensures ∙ ap (digest_in line) c.len-in-Some.ensures.value)
     ∙ ap (unwrap_or (digest_in line (length line))) c.empty_digest-in-Some.ensures
     ∙ last_digest-at empty_digest line
-    ∙ ap (last_digest empty_digest) c.in-Some.ensures
+    ∙ ap (last_digest empty_digest) c.in-Some.ensures.value

@@ -1,4 +1,4 @@
-use Rattle.std.proofs.Common.{ap, sym, ◌∙◌}
+use Rattle.std.proofs.Common.{sym, ◌∙◌}
 use Rattle.coordinator.proofs.LineWords.{place-none, place-number}
 use Rattle.coordinator.proofs.lines.on_line.Goals as goal
 

@@ -1,6 +1,6 @@
-use Rattle.std.proofs.Common.{◌≡◌, List, Bool, length, drop, map, [], ap, sym, ◌∙◌, arith}
+use Rattle.std.proofs.Common.{◌≡◌, List, Bool, drop, [], ap, sym, ◌∙◌, arith}
 use Rattle.protocol.specs.Names.{Slot, slots_eq}
-use Rattle.protocol.specs.Machine.{News, slots_of}
+use Rattle.protocol.specs.Machine.{slots_of}
 use Rattle.protocol.specs.Ledger.{writable_slots}
 use Rattle.std.proofs.lemmas.Grind.{common_steps}
 use Rattle.coordinator.proofs.StateWords.{fit_end}

@@ -1,4 +1,4 @@
-use Rattle.std.proofs.Common.{◌≡◌, ◌+◌, ◌≤◌, ◌++◌, drop, take, map, length}
+use Rattle.std.proofs.Common.{◌≡◌, ◌≤◌, drop, length}
 use Rattle.protocol.specs.Names.{slots_eq}
 use Rattle.protocol.specs.Machine.{slots_of}
 use Rattle.protocol.specs.Ledger.{writable_slots}

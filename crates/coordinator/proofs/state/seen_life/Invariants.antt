@@ -1,4 +1,4 @@
-use Rattle.std.proofs.Common.{◌≡◌, ◌+◌, ◌≤◌, ◌++◌, drop, take, map, length}
+use Rattle.std.proofs.Common.{◌≡◌, drop}
 use Rattle.coordinator.specs.Held.{life_at}
 use Rattle.coordinator.proofs.state.seen_life.Given as goal
 

@@ -1,26 +1,26 @@
-use Rattle.std.proofs.Common.{◌≡◌, List, [], false, ap, sym, ◌∙◌, subst}
+use Rattle.std.proofs.Common.{◌≡◌, List, false, ap, sym, ◌∙◌, subst}
 use Rattle.folders.specs.Farm.{farm_limits}
 use Rattle.protocol.specs.declared.answer.CoordNote.TheVariants as note
 use Rattle.protocol.specs.Machine.{FromCoord}
 use Rattle.protocol.specs.Ledger.{Ledger, Work, begin_work, handled}
 use Rattle.coordinator.specs.declared.lines.SlotLine.{SlotLine}
 use Rattle.coordinator.specs.Held.{Held, line_at, ledger}
-use Rattle.coordinator.specs.Shown.{Lines, kept, shown, lines_with}
+use Rattle.coordinator.specs.Shown.{LineOf, kept, shown, lines_with}
 use Rattle.coordinator.specs.Sound.{IsSound}
 use Rattle.coordinator.proofs.SoundWords.{sound-handled}
 use Rattle.coordinator.proofs.coordinator.Coordinator.prepare.Goals as goal
 
 pub deliver-requires : goal.deliver-requires
 deliver-requires c =
-    let line : Lines = line_at c.as_slice.result.now in
-    subst IsSound (sym (c.in_ok-copy.ensures line ∙ ap (λ (ls : List SlotLine). kept (line_at ls) c.self.inside.state) c.as_slice.ensures.value)) c.self.invariant
+    let line : LineOf = line_at c.self.inside.lines in
+    subst IsSound (sym (c.in_ok-copy.ensures line)) c.self.invariant
 
 pub returns-clause-work : goal.returns-clause-work
 returns-clause-work c =
-    let line : Lines = line_at c.as_slice.result.now in
-    let lines : c.as_slice.result.now ≡ c.args.self.now.lines = c.as_slice.ensures.value ∙ ap (λ (h : Held). h.lines) c.self.view_is in
+    let line : LineOf = line_at c.self.inside.lines in
+    let lines : c.self.inside.lines ≡ c.args.self.now.lines = ap (λ (h : Held). h.lines) c.self.view_is in
     let was : kept line c.in_ok-copy.field-0 ≡ ledger c.args.self.now =
-    c.in_ok-copy.ensures line ∙ ap (λ (ls : List SlotLine). kept (line_at ls) c.self.inside.state) c.as_slice.ensures.value ∙ ap ledger c.self.view_is in
+    c.in_ok-copy.ensures line ∙ ap ledger c.self.view_is in
     let by : (Ledger → List FromCoord → Work) = λ q sends. record { ledger = q; sends = sends; changed = false; note = note.Nothing } in
     ap (λ (ls : List SlotLine). shown (lines_with ls c.in_ok-added.added) c.deliver.new.self) (sym lines)
     ∙ c.in_ok-added.ensures.work
@@ -28,10 +28,10 @@ returns-clause-work c =
 
 pub returns-clause-sound : goal.returns-clause-sound
 returns-clause-sound c =
-    let line : Lines = line_at c.as_slice.result.now in
-    let lines : c.as_slice.result.now ≡ c.args.self.now.lines = c.as_slice.ensures.value ∙ ap (λ (h : Held). h.lines) c.self.view_is in
+    let line : LineOf = line_at c.self.inside.lines in
+    let lines : c.self.inside.lines ≡ c.args.self.now.lines = ap (λ (h : Held). h.lines) c.self.view_is in
     let was : kept line c.in_ok-copy.field-0 ≡ ledger c.args.self.now =
-    c.in_ok-copy.ensures line ∙ ap (λ (ls : List SlotLine). kept (line_at ls) c.self.inside.state) c.as_slice.ensures.value ∙ ap ledger c.self.view_is in
+    c.in_ok-copy.ensures line ∙ ap ledger c.self.view_is in
     let by : (Ledger → List FromCoord → Work) = λ q sends. record { ledger = q; sends = sends; changed = false; note = note.Nothing } in
     let work : shown (lines_with c.args.self.now.lines c.in_ok-added.added) c.deliver.new.self ≡ handled farm_limits c.args.message.now (begin_work (ledger c.args.self.now)) =
     ap (λ (ls : List SlotLine). shown (lines_with ls c.in_ok-added.added) c.deliver.new.self) (sym lines)

@@ -2,14 +2,14 @@ use Rattle.std.proofs.Common.{◌≡◌, false, List, ap, sym, ◌∙◌}
 use Rattle.folders.specs.Farm.{farm_limits}
 use Rattle.protocol.specs.Machine.{Parked}
 use Rattle.protocol.specs.Ledger.{Work, decision, decided, lease_of, is_parked}
-use Rattle.coordinator.specs.Shown.{Lines, shown, lines_with}
+use Rattle.coordinator.specs.Shown.{LineOf, shown, lines_with}
 use Rattle.coordinator.proofs.Trying.{acquiring-decides}
 use Rattle.coordinator.proofs.draft.Draft.acquire.Goals as goal
 
 pub returns : goal.returns
 returns c =
     let p : Parked = c.args.p in
-    let line : Lines = lines_with c.args.lines.now c.args.added.now in
+    let line : LineOf = lines_with c.args.lines.now c.args.added.now in
     let w : Work = shown line c.args.self.now in
     let same : shown line c.grant_again.new.self ≡ w = rw c.if-branch.false at c.in_ok-grant_again.ensures.work in
     let parked : is_parked w.ledger.parked p.node p.life p.ask ≡ false =

@@ -1,8 +1,7 @@
-use Rattle.std.proofs.Common.{◌≡◌, ◌<◌, ◌≤◌, true, false, Bool, List, Option, Some, None, map, refl, ap, sym, ◌∙◌, subst, arith}
+use Rattle.std.proofs.Common.{ap, sym, ◌∙◌, subst}
 use Rattle.folders.specs.Farm.{farm_limits}
-use Rattle.protocol.specs.declared.answer.CoordNote.TheVariants as note
 use Rattle.coordinator.specs.Held.{line_at}
-use Rattle.coordinator.specs.Shown.{Lines, shown, kept, lines_with, news_of}
+use Rattle.coordinator.specs.Shown.{LineOf, shown}
 use Rattle.coordinator.specs.Sound.{IsSound}
 use Rattle.protocol.specs.Ledger.{Work, retried}
 use Rattle.coordinator.proofs.Trying.{newer_life-tries, newer_life-sees}
@@ -11,17 +10,17 @@ use Rattle.coordinator.proofs.draft.Draft.begin_life.Goals as goal
 
 pub retry-requires : goal.retry-requires
 retry-requires c =
-    let line : Lines = line_at c.args.lines.now in
+    let line : LineOf = line_at c.args.lines.now in
     let P : Work → Type 0 = λ w. IsSound w.ledger in
     subst P (sym (c.in_ok-see.ensures.work line)) (sound-sees c.args.node c.args.life (shown line c.args.self.now) c.requires)
 
 pub returns-then-not-branch : goal.returns-then-not-branch
 returns-then-not-branch c =
-    let line : Lines = line_at c.args.lines.now in
+    let line : LineOf = line_at c.args.lines.now in
     c.in_ok-see.ensures.work line ∙ sym (newer_life-sees farm_limits c.args.node c.args.life (shown line c.args.self.now) (sym c.in_ok-see.ensures.due ∙ c.if-not-branch.true))
 
 pub returns : goal.returns
 returns c =
-    let line : Lines = line_at c.args.lines.now in
+    let line : LineOf = line_at c.args.lines.now in
     c.in_ok-retry.ensures ∙ ap (retried farm_limits) (c.in_ok-see.ensures.work line)
     ∙ sym (newer_life-tries farm_limits c.args.node c.args.life (shown line c.args.self.now) (sym c.in_ok-see.ensures.due ∙ c.if-not-branch.false))

@@ -1,8 +1,8 @@
-use Rattle.std.proofs.Common.{◌≡◌, ◌<◌, ◌≤◌, true, false, Bool, List, Option, Some, None, map, ◌++◌, refl, ap, sym, ◌∙◌, subst, arith}
+use Rattle.std.proofs.Common.{◌≡◌, true, Bool, List, Some, ◌++◌, refl, ap, sym, ◌∙◌, subst}
 use Rattle.folders.specs.Farm.{farm_limits}
 use Rattle.protocol.specs.declared.answer.CoordNote.TheVariants as note
 use Rattle.coordinator.specs.Held.{line_at}
-use Rattle.coordinator.specs.Shown.{Lines, shown, kept, lines_with, news_of}
+use Rattle.coordinator.specs.Shown.{LineOf, shown, kept, lines_with}
 use Rattle.coordinator.specs.Sound.{IsSound}
 use Rattle.protocol.specs.Machine.{News, digest_for, version_of}
 use Rattle.protocol.specs.Ledger.{Work, retried, notes, lease_under, may_commit, commits, confirms, committing, without}
@@ -14,7 +14,7 @@ pub retry-requires : goal.retry-requires
 retry-requires c =
     let w : Work = shown (line_at c.args.lines.now) c.args.self.now in
     let a : Added = record { ticket = c.args.ticket; additions = c.in_ok-additions.additions } in
-    let line : Lines = lines_with c.args.lines.now (Some a) in
+    let line : LineOf = lines_with c.args.lines.now (Some a) in
     let by : (List News → Work) = λ news. record w { ledger = record w.ledger { live = without c.args.ticket w.ledger.live; line = λ s. line_at c.args.lines.now s ++ version_of c.args.ticket (digest_for s news) }; changed = true } in
     let may : may_commit c.args.node c.args.life c.args.news.now (lease_under w.ledger.live c.args.ticket) ≡ true = sym c.may_commit.ensures ∙ c.if-not-may_commit.false in
     let done : shown line c.end_committed.new.self ≡ commits c.args.ticket c.args.news.now w = c.end_committed.ensures line ∙ ap by c.in_ok-additions.ensures.news in
@@ -25,7 +25,7 @@ pub returns-clause-work : goal.returns-clause-work
 returns-clause-work c =
     let w : Work = shown (line_at c.args.lines.now) c.args.self.now in
     let a : Added = record { ticket = c.args.ticket; additions = c.in_ok-additions.additions } in
-    let line : Lines = lines_with c.args.lines.now (Some a) in
+    let line : LineOf = lines_with c.args.lines.now (Some a) in
     let by : (List News → Work) = λ news. record w { ledger = record w.ledger { live = without c.args.ticket w.ledger.live; line = λ s. line_at c.args.lines.now s ++ version_of c.args.ticket (digest_for s news) }; changed = true } in
     let may : may_commit c.args.node c.args.life c.args.news.now (lease_under w.ledger.live c.args.ticket) ≡ true = sym c.may_commit.ensures ∙ c.if-not-may_commit.false in
     let done : shown line c.end_committed.new.self ≡ commits c.args.ticket c.args.news.now w = c.end_committed.ensures line ∙ ap by c.in_ok-additions.ensures.news in
@@ -34,6 +34,6 @@ returns-clause-work c =
 
 pub returns-clause-ready : goal.returns-clause-ready
 returns-clause-ready c =
-    let line : Lines = line_at c.args.lines.now in
+    let line : LineOf = line_at c.args.lines.now in
     ready-commit c.args.lines.now (kept line c.args.self.now.state) c.args.node c.args.life c.args.ticket c.args.news.now c.in_ok-additions.additions.items c.requires refl
     (sym c.may_commit.ensures ∙ c.if-not-may_commit.false) c.in_ok-additions.ensures.news c.in_ok-additions.ensures.room

@@ -1,11 +1,11 @@
-use Rattle.std.proofs.Common.{ap, sym, ◌∙◌}
+use Rattle.std.proofs.Common.{ap, ◌∙◌}
 use Rattle.folders.specs.Farm.{farm_limits}
 use Rattle.protocol.specs.declared.answer.CoordNote.TheVariants as note
-use Rattle.protocol.specs.Ledger.{Decision, Deny, notes, decided}
-use Rattle.coordinator.specs.Shown.{Lines, shown, lines_with}
+use Rattle.protocol.specs.Ledger.{Decision, notes, decided}
+use Rattle.coordinator.specs.Shown.{LineOf, shown, lines_with}
 use Rattle.coordinator.proofs.draft.Draft.decide.Goals as goal
 
 pub returns-in_ok-deny-in-Deny : goal.returns-in_ok-deny-in-Deny
 returns-in_ok-deny-in-Deny c =
-    let line : Lines = lines_with c.args.lines.now c.args.added.now in
+    let line : LineOf = lines_with c.args.lines.now c.args.added.now in
     ap (notes (note.Denied c.in-Deny.why)) (c.in_ok-deny-in-Deny.ensures line) ∙ ap (λ (d : Decision). decided d farm_limits c.args.p (shown line c.args.self.now)) (c.in-Deny.ensures.decision line)

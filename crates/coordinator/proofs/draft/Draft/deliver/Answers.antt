@@ -1,11 +1,10 @@
-use Rattle.std.proofs.Common.{◌≡◌, ◌<◌, ◌≤◌, true, false, Bool, List, Option, Some, None, map, refl, ap, sym, ◌∙◌, subst, arith}
+use Rattle.std.proofs.Common.{◌≡◌, ◌<◌, ◌≤◌, true, false, List, ap, sym, ◌∙◌, subst, arith}
 use Rattle.folders.specs.Farm.{farm_limits}
-use Rattle.protocol.specs.declared.answer.CoordNote.TheVariants as note
 use Rattle.protocol.specs.Names.{NodeId}
 use Rattle.protocol.specs.Machine.{ToCoord}
 use Rattle.coordinator.specs.declared.state.SeenLife.{SeenLife}
 use Rattle.coordinator.specs.Held.{line_at, is_among, life_at}
-use Rattle.coordinator.specs.Shown.{Lines, shown, kept, lines_with, news_of}
+use Rattle.coordinator.specs.Shown.{LineOf, shown}
 use Rattle.coordinator.specs.Sound.{IsSound}
 use Rattle.protocol.specs.Ledger.{Work, answering}
 use Rattle.coordinator.proofs.Trying.{handled-gone, handled-old, handled-new, handled-same}
@@ -30,7 +29,7 @@ returns-then-message-seen-clause-work c =
 
 pub answer-requires : goal.answer-requires
 answer-requires c =
-    let line : Lines = line_at c.args.lines.now in
+    let line : LineOf = line_at c.args.lines.now in
     let P : Work → Type 0 = λ w. IsSound w.ledger in
     subst P (sym c.in_ok-begin_life.ensures) (sound-newer_life farm_limits c.args.message.now.node c.args.message.now.life (shown line c.args.self.now) c.requires)
 

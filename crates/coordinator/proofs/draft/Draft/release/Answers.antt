@@ -1,17 +1,17 @@
-use Rattle.std.proofs.Common.{◌≡◌, ◌<◌, ◌≤◌, true, false, Bool, List, Option, Some, None, map, refl, ap, sym, ◌∙◌, subst, arith}
+use Rattle.std.proofs.Common.{◌≡◌, true, ap, sym, ◌∙◌, subst}
 use Rattle.folders.specs.Farm.{farm_limits}
 use Rattle.protocol.specs.declared.answer.CoordNote.TheVariants as note
 use Rattle.coordinator.specs.Held.{line_at}
-use Rattle.coordinator.specs.Shown.{Lines, shown, kept, lines_with, news_of}
+use Rattle.coordinator.specs.Shown.{LineOf, shown}
 use Rattle.coordinator.specs.Sound.{IsSound}
-use Rattle.protocol.specs.Ledger.{Work, Lease, retried, notes, lease_under, may_release, ends}
+use Rattle.protocol.specs.Ledger.{Work, retried, notes, lease_under, may_release}
 use Rattle.coordinator.proofs.Trying.{may_release-some, released-is, ended-is}
 use Rattle.coordinator.proofs.SoundWords.{sound-ends}
 use Rattle.coordinator.proofs.draft.Draft.release.Goals as goal
 
 pub retry-requires : goal.retry-requires
 retry-requires c =
-    let line : Lines = line_at c.args.lines.now in
+    let line : LineOf = line_at c.args.lines.now in
     let w : Work = shown line c.args.self.now in
     let r = may_release-some c.args.node c.args.life (lease_under w.ledger.live c.args.ticket) (sym c.may_release.ensures ∙ c.if-not-may_release.false) in
     let P : Work → Type 0 = λ w. IsSound w.ledger in
@@ -19,7 +19,7 @@ retry-requires c =
 
 pub returns : goal.returns
 returns c =
-    let line : Lines = line_at c.args.lines.now in
+    let line : LineOf = line_at c.args.lines.now in
     let w : Work = shown line c.args.self.now in
     let may : may_release c.args.node c.args.life (lease_under w.ledger.live c.args.ticket) ≡ true = sym c.may_release.ensures ∙ c.if-not-may_release.false in
     let r = may_release-some c.args.node c.args.life (lease_under w.ledger.live c.args.ticket) may in

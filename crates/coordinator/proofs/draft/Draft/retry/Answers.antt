@@ -1,11 +1,10 @@
-use Rattle.std.proofs.Common.{◌≡◌, ◌+◌, ◌<◌, length, ◌++◌, ◌∷◌, [], List, Bool, drop, ap, sym, ◌∙◌, subst, arith, append-nil}
-use Rattle.std.specs.Prelude.{if◌then◌else◌}
+use Rattle.std.proofs.Common.{◌≡◌, ◌+◌, ◌<◌, length, ◌++◌, ◌∷◌, [], List, drop, ap, sym, ◌∙◌, subst, arith, append-nil}
 use Rattle.std.proofs.lemmas.Grind.{common_steps}
 use Rattle.folders.specs.Farm.{farm_limits}
 use Rattle.leases.proofs.MarkLemmas.{drop-item}
 use Rattle.protocol.specs.Machine.{Parked}
 use Rattle.protocol.specs.Ledger.{Work, parks, try_all, waiting, tried}
-use Rattle.coordinator.specs.Shown.{Lines, shown, lines_with}
+use Rattle.coordinator.specs.Shown.{LineOf, shown, lines_with}
 use Rattle.coordinator.specs.Sound.{IsSound}
 use Rattle.coordinator.proofs.Trying.{waiting-next, retried-from}
 use Rattle.coordinator.proofs.SoundWords.{sound-tried}
@@ -14,7 +13,7 @@ use Rattle.farm_base.specs.Wanted.{IsWants}
 
 pub loop-p-preserved : goal.loop-p-preserved
 loop-p-preserved c =
-    let line : Lines = lines_with c.args.lines.now c.args.added.now in
+    let line : LineOf = lines_with c.args.lines.now c.args.added.now in
     let items : List Parked = c.deref-p-items.result.now in
     let i = c.loop-p.p-index in
     let p : Parked = c.p-item.result in
@@ -34,7 +33,7 @@ loop-p-preserved c =
 
 pub returns : goal.returns
 returns c =
-    let line : Lines = lines_with c.args.lines.now c.args.added.now in
+    let line : LineOf = lines_with c.args.lines.now c.args.added.now in
     let items : List Parked = c.deref-p-items.result.now in
     let w : Work = shown line c.args.self.now in
     let last : Work = shown line c.loop-p.self in

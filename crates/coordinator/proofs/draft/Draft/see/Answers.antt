@@ -1,12 +1,7 @@
-use Rattle.std.proofs.Common.{◌≡◌, ◌<◌, ◌≤◌, true, false, Bool, List, Option, Some, None, map, refl, ap, sym, ◌∙◌, subst, arith}
-use Rattle.folders.specs.Farm.{farm_limits}
-use Rattle.protocol.specs.declared.answer.CoordNote.TheVariants as note
-use Rattle.coordinator.specs.Held.{line_at}
-use Rattle.coordinator.specs.Shown.{Lines, shown, kept, lines_with, news_of}
-use Rattle.coordinator.specs.Sound.{IsSound}
+use Rattle.std.proofs.Common.{Bool, ap, ◌∙◌}
 use Rattle.std.specs.Prelude.{◌||◌, nat_lt}
 use Rattle.std.specs.List.{list_any}
-use Rattle.protocol.specs.Ledger.{is_older, is_home}
+use Rattle.protocol.specs.Ledger.{is_older}
 use Rattle.coordinator.proofs.Trying.{any-count}
 use Rattle.coordinator.proofs.draft.Draft.see.Goals as goal
 
