@@ -7,8 +7,13 @@ use Rattle.nodecore.proofs.FirstLemmas.{FirstAt}
 use Rattle.std.proofs.lemmas.Bool.{eqb-true}
 use Rattle.protocol.specs.Names.{Want, Ticket, Ask}
 use Rattle.protocol.specs.Machine.{Grant, Why}
-use Rattle.protocol.specs.World.{AskState, Node, Holding, Running, Over}
-use Rattle.protocol.specs.Nodes.{Held, under, held, running, held_or_running, recallable, recalled_if, denied, nothing, becomes}
+use Rattle.protocol.specs.World.{AskState, Node, Holding, Running, Over, keeps}
+use Rattle.protocol.specs.Ledger.{Limits}
+use Rattle.std.proofs.Common.{Result, Ok, Err, IfOk}
+use Rattle.std.specs.declared.alloc.AllocError.{AllocError}
+use Rattle.nodecore.specs.declared.message.NodeDone.{NodeDone}
+use Rattle.nodecore.specs.Shown.{work_of, Does}
+use Rattle.protocol.specs.Nodes.{Held, under, held, running, held_or_running, recallable, recalled_if, denied, nothing, becomes, granted, gives_back, NodeWork, Place}
 use Rattle.nodecore.specs.declared.asks.KeptAsk.{KeptAsk}
 use Rattle.nodecore.specs.declared.asks.KeptAsk.TheVariants as kept
 use Rattle.nodecore.specs.declared.asks.Stage.{Stage}
@@ -112,3 +117,17 @@ pub is_denied : (a : Ask) (why : Why) (x : Node) (d : KeptAsk) → is_open d ≡
 is_denied a why x (kept.Open w b) e = refl
 is_denied a why x (kept.Granted w g r s) e = absurd (cc)
 is_denied a why x (kept.Over how) e = absurd (cc)
+
+-- a lease comes to an ask that isn't open
+pub granted_kept : (k : Limits) (at : Place) (g : Grant) (x : Node) (d : KeptAsk) (b : Bool) → is_open d ≡ false → keeps (shown_ask d) g.ticket ≡ b
+    → granted k at g x (Some (shown_ask d)) ≡ gives_back at g b x
+granted_kept k at g x (kept.Open w t) b e h = absurd (cc)
+granted_kept k at g x (kept.Granted w h r stage.Held) b e f = ap (λ (c : Bool). gives_back at g c x) f
+granted_kept k at g x (kept.Granted w h r stage.Running) b e f = ap (λ (c : Bool). gives_back at g c x) f
+granted_kept k at g x (kept.Granted w h r (stage.Finished news)) b e f = ap (λ (c : Bool). gives_back at g c x) f
+granted_kept k at g x (kept.Over how) b e f = ap (λ (c : Bool). gives_back at g c x) f
+
+-- work that changes nothing
+pub does_ok : (w v : NodeWork) (x : Node) (r : Result NodeDone AllocError) → w ≡ v → IfOk r (λ (done : NodeDone). v ≡ work_of x done) → Does w x x r
+does_ok w v x (Ok done) e h = e ∙ h
+does_ok w v x (Err f) e h = refl

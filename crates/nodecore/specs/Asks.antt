@@ -43,6 +43,12 @@ is_open (kept.Open wants tenure) = true
 is_open (kept.Granted wants g r s) = false
 is_open (kept.Over how) = false
 
+-- an open ask is granted
+abbrev pub holds : Grant → KeptAsk → KeptAsk
+holds g (kept.Open wants tenure) = kept.Granted wants g false stage.Held
+holds g (kept.Granted wants old r s) = kept.Granted wants old r s
+holds g (kept.Over how) = kept.Over how
+
 -- a granted ask is recalled
 abbrev pub recalls : KeptAsk → KeptAsk
 recalls (kept.Open wants tenure) = kept.Open wants tenure

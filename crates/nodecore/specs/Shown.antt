@@ -8,7 +8,11 @@ use Rattle.protocol.specs.World.{Node, learn}
 use Rattle.protocol.specs.Names.{Slot, Digest}
 use Rattle.protocol.specs.Machine.{GrantedSlot, Confirmed}
 use Rattle.farm_base.specs.declared.message.Version.{Version}
-use Rattle.protocol.specs.Nodes.{NodeWork, NodeAnswer, Place, Left}
+use Rattle.protocol.specs.Nodes.{NodeWork, NodeAnswer, Place, Left, heard, fetched, brought}
+use Rattle.folders.specs.Contents.{content_digest}
+use Rattle.folders.specs.Farm.{farm_limits}
+use Rattle.nodecore.specs.declared.message.ToNode.{ToNode}
+use Rattle.nodecore.specs.declared.message.ToNode.TheVariants.{FromCoord, Fetch, Blob}
 use Rattle.protocol.specs.declared.answer.NodeRefusal.{NodeRefusal}
 use Rattle.protocol.specs.declared.answer.NodeRefusal.TheVariants.{OutOfMemory}
 use Rattle.nodecore.specs.declared.message.NodeDone.{NodeDone}
@@ -77,3 +81,9 @@ content_at x (Some d) = x.store d
 -- the content of a version
 abbrev pub content_of : Node → Version → Option (List ℕ)
 content_of x v = content_at x (x.known v.slot v.number)
+
+-- what a message comes to
+abbrev pub message_work : Place → Node → ToNode → NodeWork
+message_work at x (FromCoord m) = heard farm_limits at m x
+message_work at x (Fetch m) = fetched m.from x (x.store m.digest)
+message_work at x (Blob n c) = brought content_digest c x

@@ -2,8 +2,9 @@ ghost use Rattle.std.specs.Prelude.{◌≡◌, ◌+◌, ◌<◌, Bool, List, IfO
 ghost use Rattle.std.specs.List.{list_any};
 ghost use Rattle.protocol.specs.Nodes.{wants_folder, is_tenure_of, is_home_of, uses, at_home, held, running, held_or_running, recallable, is_base, finished, others_use, in_use};
 ghost use Rattle.farm_base.specs.Digests.{digest_eq};
-ghost use Rattle.nodecore.specs.Asks.{shown_ask, told_state, slots_in, at_stage, is_open, recalls};
+ghost use Rattle.nodecore.specs.Asks.{shown_ask, told_state, slots_in, at_stage, is_open, recalls, holds};
 ghost use Rattle.protocol.specs.Names.{Want};
+ghost use Rattle.protocol.specs.World.{keeps};
 ghost use Rattle.protocol.specs.Machine.{Grant};
 ghost use Rattle.nodecore.specs.declared.asks.Stage.{Stage};
 ghost use Rattle.nodecore.specs.declared.asks.KeptAsk.{KeptAsk};
@@ -14,6 +15,7 @@ use farm_base::{
 };
 use protocol::How;
 use std::alloc::{AllocError, Global};
+use std::mem;
 
 /// How far a granted ask has come.
 #[derive(Debug, Drop)]
@@ -198,6 +200,31 @@ impl KeptAsk {
         ensures { result ≡ is_open self.now }
     {
         matches!(self, KeptAsk::Open { .. })
+    }
+
+    /// Whether the ask has its lease under the ticket, and the lease's end isn't known.
+    pub(crate) fn keeps(&self, ticket: Ticket) -> bool
+        ensures { result ≡ keeps (shown_ask self.now) ticket }
+    {
+        match self {
+            KeptAsk::Granted { grant, .. } => grant.ticket.0 == ticket.0,
+            _ => false,
+        }
+    }
+
+    /// An open ask is granted.
+    pub(crate) fn hold(&mut self, grant: Grant)
+        ensures { self.new ≡ holds grant self.old }
+    {
+        *self = match mem::replace(self, KeptAsk::Over(How::Other)) {
+            KeptAsk::Open { wants, .. } => KeptAsk::Granted {
+                wants,
+                grant,
+                recalled: false,
+                stage: Stage::Held,
+            },
+            other => other,
+        };
     }
 
     /// A granted ask is recalled.

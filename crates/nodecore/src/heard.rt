@@ -1,14 +1,19 @@
-ghost use Rattle.std.specs.Prelude.{◌≡◌, [], IfOk};
+ghost use Rattle.std.specs.Prelude.{◌≡◌, ◌+◌, ◌<◌, [], List, Bool, false, IfOk, Some, slice_get, vec_len};
+ghost use Rattle.protocol.specs.Names.{Want};
+ghost use Rattle.folders.specs.Farm.{farm_limits};
+ghost use Rattle.nodecore.specs.declared.asks.KeptAsk.{KeptAsk};
 ghost use Rattle.protocol.specs.Lists.{nth};
-ghost use Rattle.protocol.specs.Nodes.{brought, denied, dropped, fetched, finished, learned, first, recallable, recalled};
+ghost use Rattle.protocol.specs.Nodes.{brought, denied, dropped, fetched, finished, gives_back, granted, takes, learned, first, recallable, recalled};
 ghost use Rattle.folders.specs.Contents.{content_digest};
 ghost use Rattle.nodecore.specs.Shown.{shown, place, work_of, Does};
 
 use super::asks::{KeptAsk, any_base, finished_place, recallable_place};
-use super::kept::{confirmed, learn};
+use super::kept::{bases, confirmed, learn};
 use super::message::{Message, NodeDone, ToNode};
 use super::node_core::NodeCore;
-use farm_base::{Ask, Confirmed, Copied, Digest, Items, NodeId, Ticket, Why};
+use farm_base::{
+    Ask, Confirmed, Copied, Digest, Grant, Items, NodeId, Request, Ticket, Why,
+};
 use folders::Content;
 use protocol::{How, NodeNote};
 use std::alloc::{AllocError, Global};
@@ -24,6 +29,57 @@ pub(crate) fn silent(alloc: Global, note: NodeNote) -> NodeDone
 }
 
 impl NodeCore {
+    /// Gives back a lease that no ask waits for.
+    fn give_back(&self, alloc: Global, grant: &Grant) -> Result<NodeDone, AllocError>
+        ensures { IfOk result (λ done. gives_back (place self.now) grant.now false (shown self.now) ≡ work_of (shown self.now) done) }
+    {
+        let ticket = grant.ticket;
+        let sends = self.say(alloc, Request::Release { ticket })?;
+        Ok(NodeDone {
+            note: NodeNote::GaveBack(ticket),
+            sends,
+        })
+    }
+
+    /// An open ask has its lease.
+    fn take(&mut self, alloc: Global, index: usize, grant: &Grant) -> Result<NodeDone, AllocError>
+        requires { index < vec_len self.old.asks }
+        ensures work { (wants : List Want) (tenure : Bool)
+            → slice_get self.old.asks.items index ≡ Some (KeptAsk.Open wants tenure)
+            → grant.now.ask.0 ≡ index + 1
+            → Does (takes farm_limits (place self.old) grant.now wants (shown self.old)) (shown self.old) (shown self.new) result }
+        ensures place { place self.new ≡ place self.old }
+    {
+        let sends = self.fetches(alloc, grant.slots.as_slice())?;
+        let bases = bases(alloc, grant.slots.as_slice())?;
+        let told = grant.copy(alloc)?;
+        let held = grant.copy(alloc)?;
+        self.versions.reserve(bases.len())?;
+        learn(&mut self.versions, bases);
+        self.asks[index].hold(held);
+        Ok(NodeDone {
+            note: NodeNote::Took(told),
+            sends: Items::new(sends),
+        })
+    }
+
+    /// A lease was granted.
+    pub(crate) fn grant(&mut self, alloc: Global, grant: &Grant) -> Result<NodeDone, AllocError>
+        ensures work { Does (granted farm_limits (place self.old) grant.now (shown self.old) (nth (shown self.old).asks grant.now.ask.0)) (shown self.old) (shown self.new) result }
+        ensures place { place self.new ≡ place self.old }
+    {
+        let Some(index) = self.place_of(grant.ask) else {
+            return self.give_back(alloc, grant);
+        };
+        if self.asks[index].is_open() {
+            return self.take(alloc, index, grant);
+        }
+        if self.asks[index].keeps(grant.ticket) {
+            return Ok(silent(alloc, NodeNote::Nothing));
+        }
+        self.give_back(alloc, grant)
+    }
+
     /// The news under the ticket do not count.
     pub(crate) fn drop_news(&mut self, alloc: Global, ticket: Ticket) -> NodeDone
         ensures work { dropped ticket (shown self.old) (first (finished ticket) (shown self.old).asks 0) ≡ work_of (shown self.new) result }

@@ -2,6 +2,7 @@
 #![tactic(auto)]
 
 mod asks;
+mod fetching;
 mod heard;
 mod kept;
 mod message;

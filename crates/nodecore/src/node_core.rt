@@ -132,7 +132,7 @@ impl NodeCore {
 
 impl NodeCore {
     /// One message to the coordinator.
-    fn say(&self, alloc: Global, request: Request) -> Result<Items<Message>, AllocError>
+    pub(crate) fn say(&self, alloc: Global, request: Request) -> Result<Items<Message>, AllocError>
         ensures { IfOk result (λ sends. map message_of sends ≡ Said (record { node = self.now.node; life = self.now.life; request = request }) ∷ []) }
     {
         one_message(alloc, self.node, self.life, request)

@@ -1,0 +1,64 @@
+ghost use Rattle.std.specs.Prelude.{◌≡◌, ◌++◌, IfOk, OnOk, map};
+ghost use Rattle.protocol.specs.Nodes.{fetches, fetches_of, is_missing};
+ghost use Rattle.folders.specs.Farm.{empty_digest, farm_limits};
+ghost use Rattle.nodecore.specs.Asks.{message_of};
+ghost use Rattle.nodecore.specs.Shown.{shown, place};
+
+use super::message::{Message, ToNode};
+use super::node_core::NodeCore;
+use farm_base::{Digest, Fetch, GrantedSlot, NodeId};
+use folders::Content;
+use std::alloc::{AllocError, Global};
+
+/// The digest of the empty content, which every node has.
+#[tactic(auto, unfolding(folders::specs::Farm::empty_digest))]
+fn empty_digest(alloc: Global) -> Digest
+    ensures { result ≡ empty_digest }
+{
+    Content::of(Vec::new(alloc)).digest()
+}
+
+impl NodeCore {
+    /// Adds a Fetch of the digest to each other node.
+    fn push_fetches(&self, sends: &mut Vec<Message>, digest: Digest) -> Result<(), AllocError>
+        ensures { OnOk result (map message_of sends.new.items ≡ map message_of sends.old.items ++ fetches_of (place self.now) digest) }
+    {
+        for number in 0..self.nodes {
+            let node = NodeId(number + 1);
+            if node != self.node {
+                sends.push(Message::ToNode(ToNode::Fetch(Fetch {
+                    node,
+                    from: self.node,
+                    digest,
+                })))?;
+            }
+        }
+        Ok(())
+    }
+
+    /// Whether the base of a slot has to be fetched.
+    fn is_missing(&self, slot: &GrantedSlot, empty: Digest) -> bool
+        requires { empty ≡ empty_digest }
+        ensures { result ≡ is_missing farm_limits (shown self.now) slot.now }
+    {
+        slot.digest != empty && !self.contents.contains_key(&slot.digest)
+    }
+
+    /// The Fetches of the missing bases, slots in order.
+    pub(crate) fn fetches(
+        &self,
+        alloc: Global,
+        slots: &[GrantedSlot],
+    ) -> Result<Vec<Message>, AllocError>
+        ensures { IfOk result (λ sends. map message_of sends.items ≡ fetches farm_limits (place self.now) (shown self.now) slots.now) }
+    {
+        let empty = empty_digest(alloc);
+        let mut sends = Vec::new(alloc);
+        for slot in slots {
+            if self.is_missing(slot, empty) {
+                self.push_fetches(&mut sends, slot.digest)?;
+            }
+        }
+        Ok(sends)
+    }
+}
