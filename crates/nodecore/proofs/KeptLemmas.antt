@@ -5,7 +5,7 @@ use Rattle.protocol.specs.declared.answer.How.TheVariants as how
 use Rattle.protocol.specs.declared.answer.NodeNote.TheVariants as note
 use Rattle.nodecore.proofs.FirstLemmas.{FirstAt}
 use Rattle.std.proofs.lemmas.Bool.{eqb-true}
-use Rattle.protocol.specs.Names.{Want, Ticket, Ask}
+use Rattle.protocol.specs.Names.{Want, Ticket, Ask, Life}
 use Rattle.protocol.specs.Machine.{Grant, Why}
 use Rattle.protocol.specs.World.{AskState, Node, Holding, Running, Over, keeps}
 use Rattle.protocol.specs.Ledger.{Limits}
@@ -13,7 +13,7 @@ use Rattle.std.proofs.Common.{Result, Ok, Err, IfOk}
 use Rattle.std.specs.declared.alloc.AllocError.{AllocError}
 use Rattle.nodecore.specs.declared.message.NodeDone.{NodeDone}
 use Rattle.nodecore.specs.Shown.{work_of, Does}
-use Rattle.protocol.specs.Nodes.{Held, under, held, running, held_or_running, recallable, recalled_if, denied, nothing, becomes, granted, gives_back, NodeWork, Place}
+use Rattle.protocol.specs.Nodes.{Held, under, held, running, held_or_running, recallable, recalled_if, denied, nothing, becomes, granted, gives_back, of_life, NodeWork, Place}
 use Rattle.nodecore.specs.declared.asks.KeptAsk.{KeptAsk}
 use Rattle.nodecore.specs.declared.asks.KeptAsk.TheVariants as kept
 use Rattle.nodecore.specs.declared.asks.Stage.{Stage}
@@ -131,3 +131,7 @@ granted_kept k at g x (kept.Over how) b e f = ap (λ (c : Bool). gives_back at g
 pub does_ok : (w v : NodeWork) (x : Node) (r : Result NodeDone AllocError) → w ≡ v → IfOk r (λ (done : NodeDone). v ≡ work_of x done) → Does w x x r
 does_ok w v x (Ok done) e h = e ∙ h
 does_ok w v x (Err f) e h = refl
+
+-- a message for this life
+pub of_life_now : (l : Life) (x : Node) (w : NodeWork) → (l.0 == x.life.0) ≡ true → of_life l x w ≡ w
+of_life_now l x w e = rw e refl

@@ -1,6 +1,8 @@
 -- What contracts see of the asks and messages of a node.
 use Rattle.std.specs.Prelude.{Bool, true, false, List, []}
-use Rattle.protocol.specs.Names.{Want}
+use Rattle.protocol.specs.Names.{Want, Life}
+use Rattle.farm_base.specs.declared.message.FromCoord as FromCoord
+use Rattle.farm_base.specs.declared.message.FromCoord.TheVariants as coord
 use Rattle.protocol.specs.Machine.{Grant, GrantedSlot, Message, Said, Told, Fetches}
 use Rattle.protocol.specs.Machine as machine
 use Rattle.protocol.specs.World.{AskState, Open, Holding, Running, Finished, Over}
@@ -69,3 +71,11 @@ told_state (Holding wants g r) = told.Granted g
 told_state (Running wants g r) = told.Running g
 told_state (Finished wants g news) = told.Finished g.ticket
 told_state (Over how) = told.Over how
+
+-- the life of the node that a message is for
+abbrev pub life_of : FromCoord.FromCoord → Life
+life_of (coord.Granted g) = g.life
+life_of (coord.Committed n l t versions) = l
+life_of (coord.Fenced n l t) = l
+life_of (coord.Denied n l a why) = l
+life_of (coord.Recall n l t) = l

@@ -3,19 +3,20 @@ ghost use Rattle.protocol.specs.Names.{Want};
 ghost use Rattle.folders.specs.Farm.{farm_limits};
 ghost use Rattle.nodecore.specs.declared.asks.KeptAsk.{KeptAsk};
 ghost use Rattle.protocol.specs.Lists.{nth};
-ghost use Rattle.protocol.specs.Nodes.{brought, denied, dropped, fetched, finished, gives_back, granted, takes, learned, first, recallable, recalled};
+ghost use Rattle.protocol.specs.Nodes.{heard, unless_spent, brought, denied, dropped, fetched, finished, gives_back, granted, takes, learned, first, recallable, recalled};
 ghost use Rattle.folders.specs.Contents.{content_digest};
-ghost use Rattle.nodecore.specs.Shown.{shown, place, work_of, Does};
+ghost use Rattle.nodecore.specs.Asks.{life_of};
+ghost use Rattle.nodecore.specs.Shown.{shown, place, work_of, message_work, Does, Answers};
 
 use super::asks::{KeptAsk, any_base, finished_place, recallable_place};
 use super::kept::{bases, confirmed, learn};
 use super::message::{Message, NodeDone, ToNode};
 use super::node_core::NodeCore;
 use farm_base::{
-    Ask, Confirmed, Copied, Digest, Grant, Items, NodeId, Request, Ticket, Why,
+    Ask, Confirmed, Copied, Digest, FromCoord, Grant, Items, Life, NodeId, Request, Ticket, Why,
 };
 use folders::Content;
-use protocol::{How, NodeNote};
+use protocol::{How, NodeNote, NodeRefusal};
 use std::alloc::{AllocError, Global};
 
 /// What sends nothing.
@@ -25,6 +26,19 @@ pub(crate) fn silent(alloc: Global, note: NodeNote) -> NodeDone
     NodeDone {
         note,
         sends: Items::new(Vec::new(alloc)),
+    }
+}
+
+/// The life of the node that a message is for.
+fn life_of(message: &FromCoord) -> Life
+    ensures { result ≡ life_of message.now }
+{
+    match message {
+        FromCoord::Granted(grant) => grant.life,
+        FromCoord::Committed { life, .. } => *life,
+        FromCoord::Fenced { life, .. } => *life,
+        FromCoord::Denied { life, .. } => *life,
+        FromCoord::Recall { life, .. } => *life,
     }
 }
 
@@ -175,5 +189,53 @@ impl NodeCore {
         let copy = content.copy(alloc)?;
         self.contents.insert(digest, copy)?;
         Ok(silent(alloc, NodeNote::BlobTaken))
+    }
+
+    /// What a message of the coordinator comes to.
+    fn hear(&mut self, alloc: Global, message: &FromCoord) -> Result<NodeDone, AllocError>
+        ensures work { Does (heard farm_limits (place self.old) message.now (shown self.old)) (shown self.old) (shown self.new) result }
+        ensures place { place self.new ≡ place self.old }
+    {
+        if life_of(message).0 != self.life.0 {
+            return Ok(silent(alloc, NodeNote::OldLife));
+        }
+        match message {
+            FromCoord::Granted(grant) => self.grant(alloc, grant),
+            FromCoord::Committed {
+                ticket,
+                versions,
+                ..
+            } => self.learn_news(alloc, *ticket, versions.as_slice()),
+            FromCoord::Fenced { ticket, .. } => Ok(self.drop_news(alloc, *ticket)),
+            FromCoord::Denied { ask, why, .. } => Ok(self.deny(alloc, *ask, *why)),
+            FromCoord::Recall { ticket, .. } => Ok(self.recall(alloc, *ticket)),
+        }
+    }
+
+    /// What a message comes to.
+    fn receive(&mut self, alloc: Global, message: &ToNode) -> Result<NodeDone, AllocError>
+        ensures work { Does (message_work (place self.old) (shown self.old) message.now) (shown self.old) (shown self.new) result }
+        ensures place { place self.new ≡ place self.old }
+    {
+        match message {
+            ToNode::FromCoord(message) => self.hear(alloc, message),
+            ToNode::Fetch(fetch) => self.lend(alloc, fetch.from, fetch.digest),
+            ToNode::Blob { content, .. } => self.bring(alloc, content),
+        }
+    }
+
+    /// Hears a message. One for another life of the node changes nothing, nor does one that nothing here
+    /// waits for; a lease that nothing waits for is given back.
+    pub fn handle(&mut self, alloc: Global, message: &ToNode) -> Result<NodeDone, NodeRefusal>
+        ensures answer { Answers (unless_spent (shown self.old) (message_work (place self.old) (shown self.old) message.now)) (shown self.old) (shown self.new) result }
+        ensures place { place self.new ≡ place self.old }
+    {
+        if self.spent {
+            return Err(NodeRefusal::LivesSpent);
+        }
+        let Ok(done) = self.receive(alloc, message) else {
+            return Err(NodeRefusal::OutOfMemory);
+        };
+        Ok(done)
     }
 }

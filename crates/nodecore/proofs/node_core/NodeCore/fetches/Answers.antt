@@ -1,4 +1,4 @@
-use Rattle.std.proofs.Common.{rules, ◌≡◌, ℕ, ◌<◌, ◌+◌, suc, ◌∷◌, [], ◌++◌, List, true, false, length, drop, map, get_or, ap, sym, ◌∙◌, append_assoc, append-nil, arith}
+use Rattle.std.proofs.Common.{rules, ◌≡◌, ◌<◌, ◌+◌, suc, ◌∷◌, [], ◌++◌, List, true, false, length, drop, map, get_or, ap, sym, ◌∙◌, append_assoc, append-nil, arith}
 use Rattle.std.proofs.Math.Seq.{drop-cons}
 use Rattle.folders.specs.Farm.{farm_limits}
 use Rattle.protocol.specs.Machine.{Message, GrantedSlot}
@@ -24,18 +24,18 @@ loop-slot-preserved c =
     let next : suc i ≡ i + 1 = search arith in
     let parts : drop i slots ≡ slot ∷ drop (i + 1) slots = drop-cons slots i slot inside ∙ (λ j. here j ∷ drop (next j) slots) in
     elim c.if-is_missing.branch [
-    | then-is_missing+in_ok-push_fetches w ↦
-        let missing : is_missing farm_limits x slot ≡ true = search rules in
-        let items : map message_of c.if-is_missing.sends.items ≡ sent ++ fetches_of at slot.digest = ap (λ v. map message_of v.items) w.sends-is ∙ w.in_ok-push_fetches.ensures in
-        ap (λ (m : List Message). m ++ rest) items
-        ∙ append_assoc sent (fetches_of at slot.digest) rest
-        ∙ sym (ap (λ (m : List Message). sent ++ m) (ap (λ (s : List GrantedSlot). fetches farm_limits at x s) parts ∙ fetches_slot farm_limits at x slot (drop (i + 1) slots) true missing))
-        ∙ c.loop-slot.invariant
-    | else-is_missing w ↦
-        let there : is_missing farm_limits x slot ≡ false = search rules in
-        ap (λ v. map message_of v.items ++ rest) w.sends-is
-        ∙ sym (ap (λ (m : List Message). sent ++ m) (ap (λ (s : List GrantedSlot). fetches farm_limits at x s) parts ∙ fetches_slot farm_limits at x slot (drop (i + 1) slots) false there))
-        ∙ c.loop-slot.invariant
+      | then-is_missing+in_ok-push_fetches w ↦
+          let missing : is_missing farm_limits x slot ≡ true = search rules in
+          let items : map message_of c.if-is_missing.sends.items ≡ sent ++ fetches_of at slot.digest = ap (λ v. map message_of v.items) w.sends-is ∙ w.in_ok-push_fetches.ensures in
+          ap (λ (m : List Message). m ++ rest) items
+          ∙ append_assoc sent (fetches_of at slot.digest) rest
+          ∙ sym (ap (λ (m : List Message). sent ++ m) (ap (λ (s : List GrantedSlot). fetches farm_limits at x s) parts ∙ fetches_slot farm_limits at x slot (drop (i + 1) slots) true missing))
+          ∙ c.loop-slot.invariant
+      | else-is_missing w ↦
+          let there : is_missing farm_limits x slot ≡ false = search rules in
+          ap (λ v. map message_of v.items ++ rest) w.sends-is
+          ∙ sym (ap (λ (m : List Message). sent ++ m) (ap (λ (s : List GrantedSlot). fetches farm_limits at x s) parts ∙ fetches_slot farm_limits at x slot (drop (i + 1) slots) false there))
+          ∙ c.loop-slot.invariant
     ]
 
 pub returns : goal.returns

@@ -1,4 +1,4 @@
-use Rattle.std.proofs.Common.{rules, ◌≡◌, ℕ, ◌<◌, ◌+◌, ◌∷◌, [], ◌++◌, List, true, false, map, ap, sym, ◌∙◌, append_assoc, arith}
+use Rattle.std.proofs.Common.{rules, ◌≡◌, ◌<◌, ◌+◌, ◌∷◌, [], ◌++◌, List, true, false, map, ap, sym, ◌∙◌, append_assoc}
 use Rattle.std.proofs.lemmas.List.{map-append}
 use Rattle.protocol.specs.Machine.{Message}
 use Rattle.nodecore.specs.Asks.{message_of}
@@ -15,16 +15,16 @@ loop-number-preserved c =
     let digest = c.args.digest in
     let less : i < n = search rules in
     elim c.if-ne.branch [
-    | then-ne+in_ok-push w ↦
-        let other : is_other at (record { 0 = i + 1 }) ≡ true = search rules in
-        let items = ap (map message_of) (ap (λ v. v.items) w.sends-is ∙ w.in_ok-push.ensures.items) ∙ map-append message_of c.loop-number.sends.items _ in
-        ap (λ (m : List Message). m ++ fetches_above at digest (i + 1) n) items
-        ∙ append_assoc (map message_of c.loop-number.sends.items) (fetch_to at digest (record { 0 = i + 1 }) ∷ []) (fetches_above at digest (i + 1) n)
-        ∙ sym (ap (λ (m : List Message). map message_of c.loop-number.sends.items ++ m) (fetches-next at digest i n true less other))
-        ∙ c.loop-number.invariant
-    | else-ne w ↦
-        let same : is_other at (record { 0 = i + 1 }) ≡ false = search rules in
-        ap (λ v. map message_of v.items ++ fetches_above at digest (i + 1) n) w.sends-is
-        ∙ sym (ap (λ (m : List Message). map message_of c.loop-number.sends.items ++ m) (fetches-next at digest i n false less same))
-        ∙ c.loop-number.invariant
+      | then-ne+in_ok-push w ↦
+          let other : is_other at (record { 0 = i + 1 }) ≡ true = search rules in
+          let items = ap (map message_of) (ap (λ v. v.items) w.sends-is ∙ w.in_ok-push.ensures.items) ∙ map-append message_of c.loop-number.sends.items _ in
+          ap (λ (m : List Message). m ++ fetches_above at digest (i + 1) n) items
+          ∙ append_assoc (map message_of c.loop-number.sends.items) (fetch_to at digest (record { 0 = i + 1 }) ∷ []) (fetches_above at digest (i + 1) n)
+          ∙ sym (ap (λ (m : List Message). map message_of c.loop-number.sends.items ++ m) (fetches-next at digest i n true less other))
+          ∙ c.loop-number.invariant
+      | else-ne w ↦
+          let same : is_other at (record { 0 = i + 1 }) ≡ false = search rules in
+          ap (λ v. map message_of v.items ++ fetches_above at digest (i + 1) n) w.sends-is
+          ∙ sym (ap (λ (m : List Message). map message_of c.loop-number.sends.items ++ m) (fetches-next at digest i n false less same))
+          ∙ c.loop-number.invariant
     ]

@@ -1,10 +1,8 @@
-use Rattle.std.proofs.Common.{◌≡◌, ℕ, ◌+◌, false, List, map, refl, ap, sym, ◌∙◌}
+use Rattle.std.proofs.Common.{◌≡◌, ℕ, false, List, map, ap, sym, ◌∙◌}
 use Rattle.std.proofs.Math.ListN.{set}
 use Rattle.std.proofs.lemmas.Option.{get_or_from_slice_get}
-use Rattle.farm_base.specs.declared.message.Version.{Version}
 use Rattle.folders.specs.Farm.{farm_limits}
 use Rattle.protocol.specs.Lists.{set_nth}
-use Rattle.protocol.specs.Names.{Digest}
 use Rattle.protocol.specs.Machine.{GrantedSlot}
 use Rattle.protocol.specs.World.{Holding, learn_bases}
 use Rattle.protocol.specs.Nodes.{fetches}
