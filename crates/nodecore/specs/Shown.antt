@@ -8,8 +8,9 @@ use Rattle.protocol.specs.World.{Node, learn}
 use Rattle.protocol.specs.Names.{Slot, Digest}
 use Rattle.protocol.specs.Machine.{GrantedSlot, Confirmed}
 use Rattle.farm_base.specs.declared.message.Version.{Version}
-use Rattle.protocol.specs.Nodes.{NodeWork, NodeAnswer, Place, Left, heard, fetched, brought}
+use Rattle.protocol.specs.Nodes.{NodeWork, NodeAnswer, Place, heard, fetched, brought}
 use Rattle.folders.specs.Contents.{content_digest}
+pub use Rattle.folders.specs.Contents.{left_of}
 use Rattle.folders.specs.Farm.{farm_limits}
 use Rattle.nodecore.specs.declared.message.ToNode.{ToNode}
 use Rattle.nodecore.specs.declared.message.ToNode.TheVariants.{FromCoord, Fetch, Blob}
@@ -39,10 +40,6 @@ base_of u = (record { slot = u.slot; number = u.base }, u.digest)
 -- a version that a confirmation names
 abbrev pub version_of : Confirmed → Version × Digest
 version_of v = (record { slot = v.slot; number = v.number }, v.digest)
-
--- what an execution leaves in a slot
-abbrev pub left_of : Slot × List ℕ → Left
-left_of x = record { slot = x.0; content = x.1 }
 
 -- the protocol's node
 abbrev pub shown : NodeCore → Node

@@ -1,0 +1,17 @@
+-- The protocol's event that an event is.
+use Rattle.std.specs.Prelude.{ℕ, List, map}
+use Rattle.protocol.specs.Replay as replay
+use Rattle.folders.specs.Contents.{left_of}
+use Rattle.schedule.specs.declared.event.Event.{Event}
+use Rattle.schedule.specs.declared.event.Event.TheVariants as event
+
+abbrev pub event_of : Event → replay.Event
+event_of (event.Ask n wants) = replay.Ask n wants
+event_of (event.Tenure n folder) = replay.Tenure n folder
+event_of (event.Deliver number) = replay.Deliver number
+event_of (event.Begin n t) = replay.Begin n t
+event_of (event.Finish n t lefts) = replay.Finish n t (map left_of lefts)
+event_of (event.Abort n t) = replay.Abort n t
+event_of (event.Resend n) = replay.Resend n
+event_of (event.RestartNode n) = replay.RestartNode n
+event_of (event.Forge n content) = replay.Forge n content

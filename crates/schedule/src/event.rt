@@ -1,0 +1,68 @@
+ghost use Rattle.std.specs.Prelude.{◌≡◌, IfOk};
+
+use farm_base::{Copied, FolderName, Items, NodeId, Slot, Ticket, Wants};
+use folders::Content;
+use std::alloc::{AllocError, Global};
+
+/// What a farm begins with.
+#[derive(Clone, Copy, Debug, PartialEq, Eq)]
+pub struct Setup {
+    /// How many nodes it has.
+    pub nodes: u32,
+}
+
+/// One thing that happens in a farm.
+#[derive(Debug, Drop)]
+pub enum Event {
+    /// The node asks for a lease.
+    Ask(NodeId, Wants),
+    /// The node asks for the tenure of the SHARED folder of this name.
+    Tenure(NodeId, FolderName),
+    /// The message of this number arrives, for the first time or again.
+    Deliver(u64),
+    /// The node begins the execution that the ticket was granted for.
+    Begin(NodeId, Ticket),
+    /// The execution is over, and left these contents.
+    Finish(NodeId, Ticket, Items<(Slot, Content)>),
+    /// The node gives the lease back.
+    Abort(NodeId, Ticket),
+    /// The node sends again what was not answered.
+    Resend(NodeId),
+    /// The node fails and starts again.
+    RestartNode(NodeId),
+    /// A content that nobody sent arrives at the node.
+    Forge(NodeId, Content),
+}
+
+/// Copies of what an execution left in each slot.
+fn copy_lefts(alloc: Global, lefts: &[(Slot, Content)]) -> Result<Vec<(Slot, Content)>, AllocError>
+    ensures { IfOk result (λ copy. copy.items ≡ lefts.now) }
+{
+    let mut copies = Vec::with_capacity(alloc, lefts.len())?;
+    for left in lefts {
+        copies.push((left.0.copy(alloc)?, left.1.copy(alloc)?))?;
+    }
+    Ok(copies)
+}
+
+impl Copied for Event {
+    fn copy(&self, alloc: Global) -> Result<Self, AllocError> {
+        Ok(match self {
+            Event::Ask(node, wants) => Event::Ask(*node, wants.copy(alloc)?),
+            Event::Tenure(node, folder) => Event::Tenure(*node, folder.copy(alloc)?),
+            Event::Deliver(message) => Event::Deliver(*message),
+            Event::Begin(node, ticket) => Event::Begin(*node, *ticket),
+            Event::Finish(node, ticket, lefts) => {
+                Event::Finish(
+                    *node,
+                    *ticket,
+                    Items::new(copy_lefts(alloc, lefts.as_slice())?),
+                )
+            }
+            Event::Abort(node, ticket) => Event::Abort(*node, *ticket),
+            Event::Resend(node) => Event::Resend(*node),
+            Event::RestartNode(node) => Event::RestartNode(*node),
+            Event::Forge(node, content) => Event::Forge(*node, content.copy(alloc)?),
+        })
+    }
+}
