@@ -1,4 +1,4 @@
-mod Base
+pub mod Base
 mod Lines
 mod Steps
 mod Invariant

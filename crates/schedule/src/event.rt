@@ -34,13 +34,20 @@ pub enum Event {
     Forge(NodeId, Content),
 }
 
+/// A copy of what an execution left in a slot.
+fn copy_left(alloc: Global, left: &(Slot, Content)) -> Result<(Slot, Content), AllocError>
+    ensures { IfOk result (λ copy. copy ≡ left.now) }
+{
+    Ok((left.0.copy(alloc)?, left.1.copy(alloc)?))
+}
+
 /// Copies of what an execution left in each slot.
 fn copy_lefts(alloc: Global, lefts: &[(Slot, Content)]) -> Result<Vec<(Slot, Content)>, AllocError>
     ensures { IfOk result (λ copy. copy.items ≡ lefts.now) }
 {
     let mut copies = Vec::with_capacity(alloc, lefts.len())?;
     for left in lefts {
-        copies.push((left.0.copy(alloc)?, left.1.copy(alloc)?))?;
+        copies.push(copy_left(alloc, left)?)?;
     }
     Ok(copies)
 }

@@ -1,0 +1,41 @@
+ghost use Rattle.nodecore.specs.Shown.{shown, place, Answers};
+ghost use Rattle.world.specs.Tables.{called};
+ghost use Rattle.std.specs.Prelude.{◌≡◌};
+
+use farm_base::{FolderName, Items, NodeId, Slot, Ticket, Wants};
+use folders::Content;
+use nodecore::{NodeCore, NodeDone, ToNode};
+use protocol::NodeRefusal;
+use std::alloc::Global;
+
+/// What an event asks of one node.
+#[derive(Debug, Drop)]
+pub(crate) enum Call {
+    Ask(Wants),
+    Tenure(FolderName),
+    Begin(Ticket),
+    Finish(Ticket, Items<(Slot, Content)>),
+    Abort(Ticket),
+    /// A content arrives that nobody sent.
+    Forge(Content),
+}
+
+/// The node's answer to the call.
+pub(crate) fn answer(
+    core: &mut NodeCore,
+    alloc: Global,
+    node: NodeId,
+    call: Call,
+) -> Result<NodeDone, NodeRefusal>
+    ensures answer { Answers (called call (place core.old) (shown core.old)) (shown core.old) (shown core.new) result }
+    ensures place { place core.new ≡ place core.old }
+{
+    match call {
+        Call::Ask(wants) => core.ask(alloc, wants),
+        Call::Tenure(folder) => core.ask_tenure(alloc, folder),
+        Call::Begin(ticket) => core.begin(alloc, ticket),
+        Call::Finish(ticket, lefts) => core.finish(alloc, ticket, lefts.into_vec()),
+        Call::Abort(ticket) => core.abort(alloc, ticket),
+        Call::Forge(content) => core.handle(alloc, &ToNode::Blob { node, content }),
+    }
+}
