@@ -1,17 +1,16 @@
 -- What the rules promise of one message is kept.
-use Rattle.std.proofs.Common.{◌≡◌, ◌≤◌, List, [], ◌++◌, Bool, Option, Some, None, false, refl, sym, ◌∙◌, ap, subst, arith, append-nil}
+use Rattle.std.proofs.Common.{◌≡◌, ◌≤◌, List, [], Option, Some, None, false, refl, sym, ◌∙◌, ap, arith, append-nil}
 use Rattle.std.specs.Prelude.{is_some}
 use Rattle.folders.specs.Farm.{farm_limits}
 use Rattle.farm_base.specs.declared.message.Request.{Request}
-use Rattle.farm_base.specs.declared.message.Request.TheVariants.{Acquire}
-use Rattle.protocol.specs.Names.{Slot, Ask, Want}
-use Rattle.protocol.specs.Machine.{LineVersion, ToCoord, Parked, digest_for, version_of}
+use Rattle.protocol.specs.Names.{Slot}
+use Rattle.protocol.specs.Machine.{LineVersion, ToCoord, Parked}
 use Rattle.protocol.specs.Ledger.{Ledger, Lease, Work, Decision, begin_work, decided, answering, lease_of, is_parked, handled}
 use Rattle.coordinator.specs.declared.lines.Added.{Added}
 use Rattle.coordinator.specs.declared.lines.SlotLine.{SlotLine}
 use Rattle.coordinator.specs.Held.{line_at}
 use Rattle.coordinator.specs.Shown.{lines_with}
-use Rattle.coordinator.specs.Promises.{OnlyGrow, asked, CanBeGranted, GrantsAtOnce}
+use Rattle.coordinator.specs.Promises.{OnlyGrow, asked, GrantsAtOnce}
 use Rattle.coordinator.proofs.Trying.{handled-same, acquiring-decides}
 
 -- what a commit adds leaves all before it

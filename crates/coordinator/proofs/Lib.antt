@@ -5,3 +5,4 @@ pub mod SoundWords
 pub mod Pushing
 pub mod Ordered
 pub mod Kept
+pub mod Sends

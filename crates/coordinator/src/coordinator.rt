@@ -7,6 +7,7 @@ ghost use Rattle.folders.specs.Farm.{farm_limits};
 ghost use Rattle.leases.specs.Table.{state_of};
 ghost use Rattle.protocol.specs.Lists.{is_nil};
 ghost use Rattle.protocol.specs.Names.{slot_eq};
+ghost use Rattle.protocol.specs.Machine.{ToCoord};
 ghost use Rattle.protocol.specs.Ledger.{opening, begin_work, handled};
 ghost use Rattle.coordinator.specs.Held.{line_at, ledger};
 ghost use Rattle.coordinator.specs.Additions.{IsReady};
@@ -145,6 +146,13 @@ impl Coordinator {
         };
         let handled = self.accept(prepared);
         Ok(handled)
+    }
+
+    /// How many messages one message makes it send, at most.
+    pub fn most_sends(&self) -> usize
+        ensures { (y : ToCoord) → length (handled farm_limits y (begin_work (ledger self.now))).sends ≤ result }
+    {
+        self.state.parked.len() + 1
     }
 
     /// The line of a slot, if it has a version.

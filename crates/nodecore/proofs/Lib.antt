@@ -5,3 +5,4 @@ pub mod FirstLemmas
 pub mod KeptLemmas
 pub mod MapLemmas
 pub mod WantLemmas
+pub mod SendLemmas

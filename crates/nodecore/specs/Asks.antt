@@ -79,3 +79,11 @@ life_of (coord.Committed n l t versions) = l
 life_of (coord.Fenced n l t) = l
 life_of (coord.Denied n l a why) = l
 life_of (coord.Recall n l t) = l
+
+-- the slots of the lease that the coordinator grants, none where it says something else
+abbrev pub slots_told : FromCoord.FromCoord → List GrantedSlot
+slots_told (coord.Granted g) = g.slots
+slots_told (coord.Committed n l t versions) = []
+slots_told (coord.Fenced n l t) = []
+slots_told (coord.Denied n l a why) = []
+slots_told (coord.Recall n l t) = []

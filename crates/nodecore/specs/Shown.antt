@@ -18,7 +18,7 @@ use Rattle.protocol.specs.declared.answer.NodeRefusal.{NodeRefusal}
 use Rattle.protocol.specs.declared.answer.NodeRefusal.TheVariants.{OutOfMemory}
 use Rattle.nodecore.specs.declared.message.NodeDone.{NodeDone}
 use Rattle.nodecore.specs.declared.node_core.NodeCore.{NodeCore}
-use Rattle.nodecore.specs.Asks.{shown_ask, message_of}
+use Rattle.nodecore.specs.Asks.{shown_ask, message_of, slots_told}
 
 -- the contents of a map
 abbrev pub store_in : {S : Type 0} → IndexMap Digest (List ℕ) S → Digest → Option (List ℕ)
@@ -84,3 +84,9 @@ abbrev pub message_work : Place → Node → ToNode → NodeWork
 message_work at x (FromCoord m) = heard farm_limits at m x
 message_work at x (Fetch m) = fetched m.from x (x.store m.digest)
 message_work at x (Blob n c) = brought content_digest c x
+
+-- the slots of the lease that the message grants, none where it grants no lease
+abbrev pub granted_slots : ToNode → List GrantedSlot
+granted_slots (FromCoord m) = slots_told m
+granted_slots (Fetch m) = []
+granted_slots (Blob n c) = []

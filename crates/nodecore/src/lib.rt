@@ -7,6 +7,8 @@ mod heard;
 mod kept;
 mod message;
 mod node_core;
+mod resending;
+mod sending;
 
 pub use message::{AskState, Message, NodeDone, ToNode};
 pub use node_core::NodeCore;

@@ -1,0 +1,89 @@
+//! What a node says again.
+ghost use Rattle.std.specs.Prelude.{◌≡◌, ◌∷◌, Bool, List, IfOk, map};
+ghost use Rattle.folders.specs.Farm.{farm_limits};
+ghost use Rattle.protocol.specs.Names.{Ask, Want};
+ghost use Rattle.protocol.specs.Machine.{hello};
+ghost use Rattle.protocol.specs.Nodes.{again, all_again, resent};
+ghost use Rattle.nodecore.specs.Asks.{message_of, shown_ask, shown_stage};
+ghost use Rattle.nodecore.specs.Shown.{place, shown, Answers};
+
+use super::asks::{KeptAsk, Stage};
+use super::message::{Message, NodeDone};
+use super::node_core::NodeCore;
+use farm_base::{Ask, Copied, Grant, Items, Request};
+use protocol::{NodeNote, NodeRefusal};
+use std::alloc::{AllocError, Global};
+
+impl NodeCore {
+    /// What an ask with a grant sends again.
+    fn granted_again(
+        &self,
+        alloc: Global,
+        grant: &Grant,
+        stage: &Stage,
+    ) -> Result<Vec<Message>, AllocError>
+        ensures { (ask : Ask) (wants : List Want) (recalled : Bool) → IfOk result (λ sends. map message_of sends.items
+            ≡ again farm_limits (place self.now) (shown self.now) ask (shown_stage wants grant.now recalled stage.now)) }
+    {
+        match stage {
+            Stage::Held => self.fetches(alloc, grant.slots.as_slice()),
+            Stage::Running => Ok(Vec::new(alloc)),
+            Stage::Finished(news) => {
+                let request = Request::Commit {
+                    ticket: grant.ticket,
+                    news: news.copy(alloc)?,
+                };
+                Ok(self.say(alloc, request)?.into_vec())
+            }
+        }
+    }
+
+    /// What an ask sends again.
+    fn again(&self, alloc: Global, ask: Ask, kept: &KeptAsk) -> Result<Vec<Message>, AllocError>
+        ensures { IfOk result (λ sends. map message_of sends.items
+            ≡ again farm_limits (place self.now) (shown self.now) ask (shown_ask kept.now)) }
+    {
+        match kept {
+            KeptAsk::Open { wants, tenure } => {
+                let request = Request::Acquire {
+                    ask,
+                    wants: wants.copy(alloc)?,
+                    tenure: *tenure,
+                };
+                Ok(self.say(alloc, request)?.into_vec())
+            }
+            KeptAsk::Granted { grant, stage, .. } => self.granted_again(alloc, grant, stage),
+            KeptAsk::Over(_) => Ok(Vec::new(alloc)),
+        }
+    }
+
+    /// A Hello, and what each ask sends again.
+    fn all_again(&self, alloc: Global) -> Result<Vec<Message>, AllocError>
+        ensures { IfOk result (λ sends. map message_of sends.items
+            ≡ hello self.now.node self.now.life ∷ all_again farm_limits (place self.now) (shown self.now) (shown self.now).asks 0) }
+    {
+        let mut sends = self.say(alloc, Request::Hello)?.into_vec();
+        for (i, kept) in self.asks.iter().enumerate() {
+            let mut again = self.again(alloc, Ask(i as u64 + 1), kept)?;
+            sends.append(&mut again)?;
+        }
+        Ok(sends)
+    }
+
+    /// Says again what may have been lost: that it lives, and by rising ask what is still wanted, missing or
+    /// unconfirmed. What runs says nothing.
+    pub fn resend(&self, alloc: Global) -> Result<NodeDone, NodeRefusal>
+        ensures { Answers (resent farm_limits (place self.now) (shown self.now)) (shown self.now) (shown self.now) result }
+    {
+        if self.spent {
+            return Err(NodeRefusal::LivesSpent);
+        }
+        let Ok(sends) = self.all_again(alloc) else {
+            return Err(NodeRefusal::OutOfMemory);
+        };
+        Ok(NodeDone {
+            note: NodeNote::Resent,
+            sends: Items::new(sends),
+        })
+    }
+}
