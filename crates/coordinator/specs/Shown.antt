@@ -1,30 +1,14 @@
 -- What an event shows while it is worked out.
-use Rattle.std.specs.Prelude.{ℕ, Bool, true, false, ◌||◌, List, ◌++◌, map, Option, Some, None}
-use Rattle.protocol.specs.Names.{Slot, Ticket}
-use Rattle.protocol.specs.Machine.{LineVersion, News, digest_for, version_of}
+use Rattle.std.specs.Prelude.{Bool, true, false, ◌||◌, Option, Some, None}
+use Rattle.protocol.specs.Names.{Ticket}
 use Rattle.protocol.specs.Ledger.{Ledger, Work, Lease, is_saved, without, lease_under, Decision, Give, Deny, Wait}
-use Rattle.std.specs.Vec.{vec_len}
 use Rattle.leases.specs.Table.{among}
-use Rattle.coordinator.specs.declared.lines.Addition.{Addition}
-use Rattle.coordinator.specs.declared.lines.Added.{Added}
-use Rattle.coordinator.specs.declared.lines.SlotLine.{SlotLine}
+pub use Rattle.slotlines.specs.Lines.{LineOf, lines_with}
 use Rattle.coordinator.specs.declared.state.State.{State}
 use Rattle.coordinator.specs.declared.state.Verdict.{Verdict}
 use Rattle.coordinator.specs.declared.state.Verdict.TheVariants as verdict
 use Rattle.coordinator.specs.declared.draft.Draft.{Draft}
-use Rattle.coordinator.specs.Held.{line_at, life_at, is_among}
-
--- the line of each slot
-abbrev pub LineOf : Type 0
-LineOf = Slot → List LineVersion
-
-abbrev pub news_of : Addition → News
-news_of a = record { slot = a.slot; digest = a.digest }
-
--- the lines with what a commit adds
-abbrev pub lines_with : List SlotLine → Option Added → LineOf
-lines_with lines None s = line_at lines s
-lines_with lines (Some a) s = line_at lines s ++ version_of a.ticket (digest_for s (map news_of a.additions.items))
+use Rattle.coordinator.specs.Held.{life_at, is_among}
 
 -- the ledger that a state shows, with these lines
 abbrev pub kept : LineOf → State → Ledger
@@ -64,8 +48,3 @@ abbrev pub as_decision : Verdict → Decision
 as_decision verdict.Give = Give
 as_decision (verdict.Deny why) = Deny why
 as_decision verdict.Wait = Wait
-
--- how many lines a commit adds to
-abbrev pub added_count : Option Added → ℕ
-added_count None = 0
-added_count (Some a) = vec_len a.additions

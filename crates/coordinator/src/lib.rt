@@ -3,7 +3,6 @@
 
 mod coordinator;
 mod draft;
-mod lines;
 mod state;
 
 pub use coordinator::{Coordinator, Handled};

@@ -11,11 +11,11 @@ ghost use Rattle.protocol.specs.Ledger.{decision, elsewhere, grant_of, is_saved,
 ghost use Rattle.coordinator.specs.Held.{life_at, is_among};
 ghost use Rattle.coordinator.specs.Shown.{LineOf, kept, as_decision, lines_with, saved_under};
 
-use super::lines::{Added, Lines, granted_slots};
 use farm_base::{
     Ask, Copied, Grant, Items, Lease, Life, Mode, News, NodeId, Parked, Slot, Ticket, Why, copy_all,
 };
 use leases::{Fit, LeaseTable, TicketSource};
+use slotlines::{Added, Lines, granted_slots};
 use std::alloc::{AllocError, Global};
 
 /// The greatest life seen of a node.

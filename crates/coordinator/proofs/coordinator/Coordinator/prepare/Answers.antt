@@ -3,7 +3,7 @@ use Rattle.folders.specs.Farm.{farm_limits}
 use Rattle.protocol.specs.declared.answer.CoordNote.TheVariants as note
 use Rattle.protocol.specs.Machine.{FromCoord}
 use Rattle.protocol.specs.Ledger.{Ledger, Work, begin_work, handled}
-use Rattle.coordinator.specs.declared.lines.SlotLine.{SlotLine}
+use Rattle.slotlines.specs.declared.lines.SlotLine.{SlotLine}
 use Rattle.coordinator.specs.Held.{Held, line_at, ledger}
 use Rattle.coordinator.specs.Shown.{LineOf, kept, shown, lines_with}
 use Rattle.coordinator.specs.Sound.{IsSound}
