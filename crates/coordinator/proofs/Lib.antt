@@ -3,3 +3,4 @@ pub mod Trying
 pub mod SoundWords
 pub mod Kept
 pub mod Sends
+pub mod OwnCalls

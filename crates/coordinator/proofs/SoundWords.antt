@@ -135,7 +135,7 @@ sound-retried k w s =
 -- ---- leases end
 
 -- some leases fewer
-sound-fewer : (p : Lease → Bool) (q : Ledger) → IsSound q → IsSound (record q { live = filter p q.live })
+pub sound-fewer : (p : Lease → Bool) (q : Ledger) → IsSound q → IsSound (record q { live = filter p q.live })
 sound-fewer p q s = record {
   leases = leases-filter p q.live s.leases;
   given = All-filter p (λ g. g.ticket.0 ≤ q.last) q.live s.given;

@@ -3,3 +3,4 @@ pub mod Shown
 pub mod Sound
 pub mod Keeps
 pub mod Promises
+pub mod Answers

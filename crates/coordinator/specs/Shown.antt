@@ -2,7 +2,7 @@
 use Rattle.std.specs.Prelude.{Bool, true, false, ◌||◌, Option, Some, None}
 use Rattle.protocol.specs.Names.{Ticket}
 use Rattle.protocol.specs.Ledger.{Ledger, Work, Lease, is_saved, without, lease_under, Decision, Give, Deny, Wait}
-use Rattle.leases.specs.Table.{among}
+use Rattle.leases.specs.Table.{among, retires_some}
 pub use Rattle.slotlines.specs.Lines.{LineOf, lines_with}
 use Rattle.coordinator.specs.declared.state.State.{State}
 use Rattle.coordinator.specs.declared.state.Verdict.{Verdict}
@@ -40,7 +40,14 @@ ended t w = record w {
   changed = w.changed || saved_under (lease_under w.ledger.live t);
 }
 
--- the same where the record has its versions
+-- the lease of a ticket is withdrawn, if there is one
+abbrev pub withdraws_under : Ticket → Work → Work
+withdraws_under t w = record w {
+  ledger = record w.ledger { live = without t w.ledger.live; retired = retires_some (lease_under w.ledger.live t) w.ledger.retired };
+  changed = w.changed || saved_under (lease_under w.ledger.live t);
+}
+
+-- a lease ends, if there is one, and the record has its versions
 abbrev pub ended_committed : Ticket → Work → Work
 ended_committed t w = record w { ledger = record w.ledger { live = without t w.ledger.live }; changed = true }
 

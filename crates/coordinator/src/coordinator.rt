@@ -1,4 +1,4 @@
-ghost use Rattle.std.specs.Prelude.{◌≡◌, not, ◌+◌, ◌≤◌, List, [], map, IfOk, OnOk, OnErr, IsOkUnless, Option, option_copied, length};
+ghost use Rattle.std.specs.Prelude.{◌≡◌, not, ◌+◌, ◌≤◌, List, [], map, IfOk, OnOk, OnErr, IsOkUnless, Option, Ok, None, option_copied, length};
 ghost use Rattle.std.specs.List.{list_any};
 ghost use Rattle.std.specs.List.Sorted.{IsStrictlySortedBy};
 ghost use Rattle.std.specs.Vec.{vec_capacity};
@@ -8,7 +8,9 @@ ghost use Rattle.leases.specs.Table.{state_of};
 ghost use Rattle.protocol.specs.Lists.{is_nil};
 ghost use Rattle.protocol.specs.Names.{slot_eq};
 ghost use Rattle.protocol.specs.Machine.{ToCoord};
-ghost use Rattle.protocol.specs.Ledger.{opening, begin_work, handled};
+ghost use Rattle.protocol.specs.Ledger.{opening, begin_work, handled, withdrawn};
+ghost use Rattle.std.specs.Result.{result_err};
+ghost use Rattle.coordinator.specs.Answers.{Answers};
 ghost use Rattle.coordinator.specs.Held.{line_at, ledger};
 ghost use Rattle.slotlines.specs.Additions.{IsReady};
 ghost use Rattle.coordinator.specs.Shown.{kept, shown};
@@ -90,6 +92,19 @@ impl Coordinator {
         }
     }
 
+    /// What an event is worked out on: all that is kept but the lines.
+    fn draft(&self, alloc: Global) -> Result<Draft, AllocError>
+        ensures work { IfOk result (λ draft. shown (line_at self.now.lines) draft ≡ begin_work (ledger self.now)) }
+        ensures sound { IfOk result (λ draft. IsSound (kept (line_at self.now.lines) draft.state)) }
+    {
+        Ok(Draft {
+            state: self.state.copy(alloc)?,
+            sends: Vec::new(alloc),
+            changed: false,
+            note: CoordNote::Nothing,
+        })
+    }
+
     /// What a message comes to. Nothing changes until that is accepted.
     fn prepare(&self, alloc: Global, message: &ToCoord) -> Result<Prepared, AllocError>
         ensures work { IfOk result (λ p. shown (lines_with self.now.lines p.added) p.draft
@@ -100,12 +115,7 @@ impl Coordinator {
         ensures larger { IfOk result (λ p. length self.now.lines + added_count p.added ≤ vec_capacity p.room) }
     {
         is_request(message);
-        let mut draft = Draft {
-            state: self.state.copy(alloc)?,
-            sends: Vec::new(alloc),
-            changed: false,
-            note: CoordNote::Nothing,
-        };
+        let mut draft = self.draft(alloc)?;
         let added = draft.deliver(alloc, &self.lines, message)?;
         let room = self.lines.room_to_add(alloc, &added)?;
         Ok(Prepared { draft, added, room })
@@ -131,6 +141,21 @@ impl Coordinator {
         }
     }
 
+    /// Changes to what was worked out, where no line changes.
+    fn settle(&mut self, draft: Draft) -> Handled
+        requires { IsSound (kept (line_at self.old.lines) draft.state) }
+        ensures ledger { ledger self.new ≡ kept (line_at self.old.lines) draft.state }
+        ensures lines { self.new.lines ≡ self.old.lines }
+        ensures sends { result.sends ≡ draft.sends.items }
+        ensures note { result.note ≡ draft.note }
+    {
+        self.state = draft.state;
+        Handled {
+            sends: Items::new(draft.sends),
+            note: draft.note,
+        }
+    }
+
     /// Does what a message asks, in one step.
     pub fn handle(&mut self, alloc: Global, message: &ToCoord) -> Result<Handled, CoordRefusal>
         ensures ledger { OnOk result (ledger self.new ≡ (handled farm_limits message.now (begin_work (ledger self.old))).ledger) }
@@ -145,6 +170,34 @@ impl Coordinator {
             return Err(CoordRefusal::OutOfMemory);
         };
         let handled = self.accept(prepared);
+        Ok(handled)
+    }
+
+    /// What the withdrawal of a lease comes to.
+    fn withdrawal(&self, alloc: Global, ticket: Ticket) -> Result<Draft, AllocError>
+        requires { result_err (withdrawn farm_limits ticket (begin_work (ledger self.now))) ≡ None }
+        ensures work { IfOk result (λ draft. withdrawn farm_limits ticket (begin_work (ledger self.now)) ≡ Ok (shown (line_at self.now.lines) draft)) }
+        ensures sound { IfOk result (λ draft. IsSound (kept (line_at self.now.lines) draft.state)) }
+    {
+        let mut draft = self.draft(alloc)?;
+        draft.withdraw(alloc, &self.lines, ticket)?;
+        Ok(draft)
+    }
+
+    /// Withdraws the lease of a ticket, in one step: its PRIVATE slots are never granted again, and the parked
+    /// asks are tried. A tenure is never withdrawn.
+    pub fn withdraw(&mut self, alloc: Global, ticket: Ticket) -> Result<Handled, CoordRefusal>
+        ensures answer { Answers (withdrawn farm_limits ticket (begin_work (ledger self.old))) (ledger self.new) result }
+        ensures lines { self.new.lines ≡ self.old.lines }
+        ensures err { OnErr result (self.new ≡ self.old) }
+    {
+        if let Some(refusal) = self.state.withdrawal_refusal(ticket) {
+            return Err(refusal);
+        }
+        let Ok(draft) = self.withdrawal(alloc, ticket) else {
+            return Err(CoordRefusal::OutOfMemory);
+        };
+        let handled = self.settle(draft);
         Ok(handled)
     }
 

@@ -105,7 +105,7 @@ impl Draft {
     }
 
     /// Tries the parked asks, in order of arrival.
-    fn retry(
+    pub(crate) fn retry(
         &mut self,
         alloc: Global,
         lines: &Lines,

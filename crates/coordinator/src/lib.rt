@@ -3,6 +3,7 @@
 
 mod coordinator;
 mod draft;
+mod own_calls;
 mod state;
 
 pub use coordinator::{Coordinator, Handled};
