@@ -149,10 +149,16 @@ impl Coordinator {
         ensures sends { result.sends ≡ draft.sends.items }
         ensures note { result.note ≡ draft.note }
     {
-        self.state = draft.state;
+        let Draft {
+            state,
+            sends,
+            note,
+            ..
+        } = draft;
+        self.state = state;
         Handled {
-            sends: Items::new(draft.sends),
-            note: draft.note,
+            sends: Items::new(sends),
+            note,
         }
     }
 
