@@ -1,7 +1,8 @@
 -- What an event shows while it is worked out.
-use Rattle.std.specs.Prelude.{Bool, true, false, ◌||◌, Option, Some, None}
+use Rattle.std.specs.Prelude.{Bool, true, false, ◌||◌, List, Option, Some, None}
 use Rattle.protocol.specs.Names.{Ticket}
-use Rattle.protocol.specs.Ledger.{Ledger, Work, Lease, is_saved, without, lease_under, Decision, Give, Deny, Wait}
+use Rattle.protocol.specs.Machine.{FromCoord}
+use Rattle.protocol.specs.Ledger.{Ledger, Work, begin_work, Lease, is_saved, without, lease_under, Decision, Give, Deny, Wait}
 use Rattle.leases.specs.Table.{among, retires_some}
 pub use Rattle.slotlines.specs.Lines.{LineOf, lines_with}
 use Rattle.coordinator.specs.declared.state.State.{State}
@@ -32,6 +33,10 @@ shown line d = record { ledger = kept line d.state; sends = d.sends.items; chang
 abbrev pub saved_under : Option Lease → Bool
 saved_under None = false
 saved_under (Some g) = is_saved g
+
+-- an event that said these, and nothing else
+abbrev pub having_said : List FromCoord → Ledger → Work
+having_said sends q = record (begin_work q) { sends = sends }
 
 -- the lease of a ticket ends, if there is one
 abbrev pub ended : Ticket → Work → Work

@@ -8,7 +8,7 @@ ghost use Rattle.leases.specs.Table.{state_of};
 ghost use Rattle.protocol.specs.Lists.{is_nil};
 ghost use Rattle.protocol.specs.Names.{slot_eq};
 ghost use Rattle.protocol.specs.Machine.{ToCoord};
-ghost use Rattle.protocol.specs.Ledger.{opening, begin_work, handled, withdrawn};
+ghost use Rattle.protocol.specs.Ledger.{opening, begin_work, handled, withdrawn, nudged};
 ghost use Rattle.std.specs.Result.{result_err};
 ghost use Rattle.coordinator.specs.Answers.{Answers};
 ghost use Rattle.coordinator.specs.Held.{line_at, ledger};
@@ -205,6 +205,20 @@ impl Coordinator {
         };
         let handled = self.settle(draft);
         Ok(handled)
+    }
+
+    /// Sends the Grant of each lease again, the oldest first, and asks for each tenure that is waited for.
+    /// Nothing else changes.
+    pub fn nudge(&self, alloc: Global) -> Result<Handled, CoordRefusal>
+        ensures { Answers (Ok (nudged farm_limits (begin_work (ledger self.now)))) (ledger self.now) result }
+    {
+        let Ok(sends) = self.state.remind_all(alloc, &self.lines) else {
+            return Err(CoordRefusal::OutOfMemory);
+        };
+        Ok(Handled {
+            sends: Items::new(sends),
+            note: CoordNote::Nudged,
+        })
     }
 
     /// How many messages one message makes it send, at most.

@@ -1,18 +1,34 @@
 //! The coordinator's own calls, as they are worked out.
-ghost use Rattle.std.specs.Prelude.{◌≡◌, OnOk, Ok, None};
+ghost use Rattle.std.specs.Prelude.{◌≡◌, ◌&&◌, IfOk, OnOk, Ok, None};
+ghost use Rattle.std.specs.List.{list_any};
 ghost use Rattle.std.specs.Result.{result_err};
 ghost use Rattle.folders.specs.Farm.{farm_limits};
-ghost use Rattle.protocol.specs.Ledger.{begin_work, withdrawn};
+ghost use Rattle.protocol.specs.Ledger.{begin_work, withdrawn, holds_wanted, is_awaited, nudges, nudge_all};
 ghost use Rattle.coordinator.specs.Held.{line_at};
-ghost use Rattle.coordinator.specs.Shown.{LineOf, kept, shown, withdraws_under};
+ghost use Rattle.coordinator.specs.Shown.{LineOf, having_said, kept, shown, withdraws_under};
 ghost use Rattle.coordinator.specs.Sound.{IsSound};
 
 use super::draft::Draft;
-use super::state::{State, is_some_saved};
-use farm_base::Ticket;
+use super::state::{State, grant_of, is_some_saved};
+use farm_base::{FromCoord, Lease, Parked, Ticket};
+use leases::holds_wanted;
 use protocol::{CoordNote, CoordRefusal};
 use slotlines::Lines;
 use std::alloc::{AllocError, Global};
+
+/// Whether an ask is for the tenure that the lease is.
+fn asks_for(p: &Parked, lease: &Lease) -> bool
+    ensures { result ≡ (p.now.tenure && holds_wanted p.now lease.now) }
+{
+    p.tenure && holds_wanted(lease, &p.wants, p.tenure)
+}
+
+/// Whether one of these asks is for the tenure that the lease is.
+fn is_asked_for(parked: &[Parked], lease: &Lease) -> bool
+    ensures { result ≡ list_any (λ p. p.tenure && holds_wanted p lease.now) parked.now }
+{
+    parked.iter().any(|p| asks_for(p, lease))
+}
 
 impl State {
     /// Why the lease of a ticket can't be withdrawn, if so.
@@ -29,6 +45,55 @@ impl State {
             }
             None => Some(CoordRefusal::NotLive),
         }
+    }
+}
+
+impl State {
+    /// Whether a parked ask is for the tenure that the lease is.
+    fn is_waited_for(&self, lease: &Lease) -> bool
+        ensures { result ≡ is_awaited self.now.parked.items lease.now }
+    {
+        lease.tenure && is_asked_for(self.parked.as_slice(), lease)
+    }
+
+    /// Sends the Grant of a lease again, and asks for a tenure that is waited for.
+    fn remind(
+        &self,
+        alloc: Global,
+        lines: &Lines,
+        sends: &mut Vec<FromCoord>,
+        lease: &Lease,
+    ) -> Result<(), AllocError>
+        ensures { OnOk result (having_said sends.new.items (kept (line_at lines.now) self.now)
+            ≡ nudges farm_limits lease.now (having_said sends.old.items (kept (line_at lines.now) self.now))) }
+    {
+        let grant = grant_of(alloc, lines, &None, lease)?;
+        sends.push(FromCoord::Granted(grant))?;
+        if self.is_waited_for(lease) {
+            sends.push(FromCoord::Recall {
+                node: lease.node,
+                life: lease.life,
+                ticket: lease.ticket,
+            })?;
+        }
+        Ok(())
+    }
+
+    /// Reminds the holder of each lease of it, the oldest first.
+    pub(crate) fn remind_all(
+        &self,
+        alloc: Global,
+        lines: &Lines,
+    ) -> Result<Vec<FromCoord>, AllocError>
+        ensures { IfOk result (λ sends. having_said sends.items (kept (line_at lines.now) self.now)
+            ≡ nudge_all farm_limits self.now.table.live (begin_work (kept (line_at lines.now) self.now))) }
+    {
+        let mut sends = Vec::new(alloc);
+        let leases = self.table.leases();
+        for lease in leases {
+            self.remind(alloc, lines, &mut sends, lease)?;
+        }
+        Ok(sends)
     }
 }
 
