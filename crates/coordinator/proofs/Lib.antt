@@ -4,3 +4,4 @@ pub mod SoundWords
 pub mod Kept
 pub mod Sends
 pub mod OwnCalls
+pub mod Prunes

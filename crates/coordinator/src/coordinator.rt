@@ -8,7 +8,7 @@ ghost use Rattle.leases.specs.Table.{state_of};
 ghost use Rattle.protocol.specs.Lists.{is_nil};
 ghost use Rattle.protocol.specs.Names.{slot_eq};
 ghost use Rattle.protocol.specs.Machine.{ToCoord};
-ghost use Rattle.protocol.specs.Ledger.{opening, begin_work, handled, withdrawn, nudged};
+ghost use Rattle.protocol.specs.Ledger.{opening, begin_work, handled, withdrawn, pruned, nudged};
 ghost use Rattle.std.specs.Result.{result_err};
 ghost use Rattle.coordinator.specs.Answers.{Answers};
 ghost use Rattle.coordinator.specs.Held.{line_at, ledger};
@@ -204,6 +204,52 @@ impl Coordinator {
             return Err(CoordRefusal::OutOfMemory);
         };
         let handled = self.settle(draft);
+        Ok(handled)
+    }
+
+    /// Why the line of a slot can't be pruned, if so.
+    fn prune_refusal(&self, slot: &Slot) -> Option<CoordRefusal>
+        ensures { result ≡ result_err (pruned farm_limits slot.now (begin_work (ledger self.now))) }
+    {
+        if self.state.table.is_leased(slot) {
+            Some(CoordRefusal::SlotLeased)
+        } else if !self.lines.has_version(slot) {
+            Some(CoordRefusal::NoSuchSlot)
+        } else if self.state.has_ticket() {
+            None
+        } else {
+            Some(CoordRefusal::TicketsSpent)
+        }
+    }
+
+    /// What the prune of a slot's line comes to.
+    fn pruning(&self, alloc: Global, slot: &Slot) -> Result<Prepared, AllocError>
+        requires { result_err (pruned farm_limits slot.now (begin_work (ledger self.now))) ≡ None }
+        ensures work { IfOk result (λ p. pruned farm_limits slot.now (begin_work (ledger self.now)) ≡ Ok (shown (lines_with self.now.lines p.added) p.draft)) }
+        ensures sound { IfOk result (λ p. IsSound (kept (lines_with self.now.lines p.added) p.draft.state)) }
+        ensures ready { IfOk result (λ p. IsReady self.now.lines p.added) }
+        ensures empty { IfOk result (λ p. p.room.items ≡ []) }
+        ensures larger { IfOk result (λ p. length self.now.lines + added_count p.added ≤ vec_capacity p.room) }
+    {
+        let mut draft = self.draft(alloc)?;
+        let added = draft.prune(alloc, &self.lines, slot)?;
+        let room = self.lines.room_to_add(alloc, &added)?;
+        Ok(Prepared { draft, added, room })
+    }
+
+    /// Puts the empty content on the line of a slot, under a new ticket, in one step.
+    pub fn prune(&mut self, alloc: Global, slot: &Slot) -> Result<Handled, CoordRefusal>
+        ensures answer { Answers (pruned farm_limits slot.now (begin_work (ledger self.old))) (ledger self.new) result }
+        ensures grow { OnlyGrow (line_at self.old.lines) (line_at self.new.lines) }
+        ensures err { OnErr result (self.new ≡ self.old) }
+    {
+        if let Some(refusal) = self.prune_refusal(slot) {
+            return Err(refusal);
+        }
+        let Ok(prepared) = self.pruning(alloc, slot) else {
+            return Err(CoordRefusal::OutOfMemory);
+        };
+        let handled = self.accept(prepared);
         Ok(handled)
     }
 

@@ -1,19 +1,22 @@
 //! The coordinator's own calls, as they are worked out.
-ghost use Rattle.std.specs.Prelude.{◌≡◌, ◌&&◌, IfOk, OnOk, Ok, None};
+ghost use Rattle.std.specs.Prelude.{◌≡◌, ◌∷◌, [], ◌&&◌, nat_lt, map, All, IfOk, OnOk, Ok, None};
 ghost use Rattle.std.specs.List.{list_any};
 ghost use Rattle.std.specs.Result.{result_err};
-ghost use Rattle.folders.specs.Farm.{farm_limits};
-ghost use Rattle.protocol.specs.Ledger.{begin_work, withdrawn, holds_wanted, is_awaited, nudges, nudge_all};
+ghost use Rattle.folders.specs.Farm.{empty_digest, farm_limits};
+ghost use Rattle.protocol.specs.Ledger.{begin_work, withdrawn, pruned, holds_wanted, is_awaited, nudges, nudge_all};
+ghost use Rattle.slotlines.specs.Additions.{HasRoom, IsReady};
+ghost use Rattle.slotlines.specs.Lines.{lines_with, news_of};
 ghost use Rattle.coordinator.specs.Held.{line_at};
 ghost use Rattle.coordinator.specs.Shown.{LineOf, having_said, kept, shown, withdraws_under};
 ghost use Rattle.coordinator.specs.Sound.{IsSound};
 
 use super::draft::Draft;
 use super::state::{State, grant_of, is_some_saved};
-use farm_base::{FromCoord, Lease, Parked, Ticket};
+use farm_base::{Copied, Digest, FromCoord, Lease, News, Parked, Slot, Ticket};
+use folders::Content;
 use leases::holds_wanted;
 use protocol::{CoordNote, CoordRefusal};
-use slotlines::Lines;
+use slotlines::{Added, Addition, Lines, additions};
 use std::alloc::{AllocError, Global};
 
 /// Whether an ask is for the tenure that the lease is.
@@ -49,6 +52,13 @@ impl State {
 }
 
 impl State {
+    /// Whether a ticket can still be given.
+    pub(crate) fn has_ticket(&self) -> bool
+        ensures { result ≡ nat_lt self.now.tickets.position farm_limits.greatest }
+    {
+        self.tickets.peek().is_ok()
+    }
+
     /// Whether a parked ask is for the tenure that the lease is.
     fn is_waited_for(&self, lease: &Lease) -> bool
         ensures { result ≡ is_awaited self.now.parked.items lease.now }
@@ -124,4 +134,46 @@ impl Draft {
         self.note = CoordNote::Withdrawn(ticket);
         Ok(())
     }
+
+    /// Prunes the line of a slot that has a version and isn't leased.
+    pub(crate) fn prune(
+        &mut self,
+        alloc: Global,
+        lines: &Lines,
+        slot: &Slot,
+    ) -> Result<Option<Added>, AllocError>
+        requires sound { IsSound (kept (line_at lines.now) self.old.state) }
+        requires accepted { result_err (pruned farm_limits slot.now (shown (line_at lines.now) self.old)) ≡ None }
+        ensures work { IfOk result (λ added. pruned farm_limits slot.now (shown (line_at lines.now) self.old) ≡ Ok (shown (lines_with lines.now added) self.new)) }
+        ensures ready { IfOk result (IsReady lines.now) }
+        ensures sound { IfOk result (λ added. IsSound (kept (lines_with lines.now added) self.new.state)) }
+    {
+        let additions = emptied(alloc, lines, slot)?;
+        let Ok(ticket) = self.state.tickets.next() else {
+            unreachable!();
+        };
+        self.changed = true;
+        self.note = CoordNote::Pruned(ticket);
+        Ok(Some(Added { ticket, additions }))
+    }
+}
+
+/// The digest of the empty content.
+#[tactic(auto, unfolding(folders::specs::Farm::empty_digest))]
+fn empty_digest(alloc: Global) -> Digest
+    ensures { result ≡ empty_digest }
+{
+    Content::of(Vec::new(alloc)).digest()
+}
+
+/// What a prune adds to the line of a slot: the empty content.
+fn emptied(alloc: Global, lines: &Lines, slot: &Slot) -> Result<Vec<Addition>, AllocError>
+    ensures news { IfOk result (λ v. map news_of v.items ≡ record { slot = slot.now; digest = empty_digest } ∷ []) }
+    ensures room { IfOk result (λ v. All (HasRoom lines.now) v.items) }
+{
+    let news = [News {
+        slot: slot.copy(alloc)?,
+        digest: empty_digest(alloc),
+    }];
+    additions(alloc, lines, &news)
 }

@@ -179,6 +179,13 @@ impl LeaseTable {
             .find(|lease| has_slot(lease.slots.as_slice(), slot))
     }
 
+    /// Whether a lease has the slot.
+    pub fn is_leased(&self, slot: &Slot) -> bool
+        ensures { result ≡ is_leased self.now slot.now }
+    {
+        some_lease(self.leases.as_slice(), slot)
+    }
+
     fn is_retired(&self, slot: &Slot) -> bool
         ensures { result ≡ among self.now.retired slot.now }
     {

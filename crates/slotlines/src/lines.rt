@@ -97,6 +97,13 @@ impl Lines {
         }
     }
 
+    /// Whether the slot's line has a version.
+    pub fn has_version(&self, slot: &Slot) -> bool
+        ensures { result ≡ not (is_nil (line_at self.now slot.now)) }
+    {
+        self.find(slot).is_some()
+    }
+
     /// The slots that have a version, rising.
     pub fn slots(&self, alloc: Global) -> Result<Vec<Slot>, AllocError>
         ensures rising { IfOk result (λ v. IsStrictlySortedBy slot_cmp v.items) }
