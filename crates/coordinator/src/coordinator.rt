@@ -8,7 +8,7 @@ ghost use Rattle.leases.specs.Table.{state_of};
 ghost use Rattle.protocol.specs.Lists.{is_nil};
 ghost use Rattle.protocol.specs.Names.{slot_eq};
 ghost use Rattle.protocol.specs.Machine.{ToCoord};
-ghost use Rattle.protocol.specs.Ledger.{opening, begin_work, handled, withdrawn, pruned, nudged};
+ghost use Rattle.protocol.specs.Ledger.{opening, begin_work, handled, withdrawn, retired, pruned, nudged};
 ghost use Rattle.std.specs.Result.{result_err};
 ghost use Rattle.coordinator.specs.Answers.{Answers};
 ghost use Rattle.coordinator.specs.Held.{line_at, ledger};
@@ -20,7 +20,7 @@ ghost use Rattle.coordinator.specs.Promises.{OnlyGrow, GrantsAtOnce};
 
 use super::draft::Draft;
 use super::state::State;
-use farm_base::{FromCoord, Items, Request, Slot, Ticket, ToCoord};
+use farm_base::{FromCoord, Items, NodeId, Request, Slot, Ticket, ToCoord};
 use leases::{LeaseTable, SlotState, TicketSource};
 use protocol::{CoordNote, CoordRefusal};
 use slotlines::{Added, Lines, SlotLine};
@@ -201,6 +201,34 @@ impl Coordinator {
             return Err(refusal);
         }
         let Ok(draft) = self.withdrawal(alloc, ticket) else {
+            return Err(CoordRefusal::OutOfMemory);
+        };
+        let handled = self.settle(draft);
+        Ok(handled)
+    }
+
+    /// What the retirement of a node comes to.
+    fn retirement(&self, alloc: Global, node: NodeId) -> Result<Draft, AllocError>
+        requires { result_err (retired farm_limits node (begin_work (ledger self.now))) ≡ None }
+        ensures work { IfOk result (λ draft. retired farm_limits node (begin_work (ledger self.now)) ≡ Ok (shown (line_at self.now.lines) draft)) }
+        ensures sound { IfOk result (λ draft. IsSound (kept (line_at self.now.lines) draft.state)) }
+    {
+        let mut draft = self.draft(alloc)?;
+        draft.retire(alloc, &self.lines, node)?;
+        Ok(draft)
+    }
+
+    /// Retires a node for good, in one step: its leases are withdrawn, and nothing that it says is heard again.
+    /// The holder of a tenure is never retired.
+    pub fn retire(&mut self, alloc: Global, node: NodeId) -> Result<Handled, CoordRefusal>
+        ensures answer { Answers (retired farm_limits node (begin_work (ledger self.old))) (ledger self.new) result }
+        ensures lines { self.new.lines ≡ self.old.lines }
+        ensures err { OnErr result (self.new ≡ self.old) }
+    {
+        if let Some(refusal) = self.state.retirement_refusal(node) {
+            return Err(refusal);
+        }
+        let Ok(draft) = self.retirement(alloc, node) else {
             return Err(CoordRefusal::OutOfMemory);
         };
         let handled = self.settle(draft);

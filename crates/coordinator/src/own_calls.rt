@@ -1,9 +1,9 @@
 //! The coordinator's own calls, as they are worked out.
-ghost use Rattle.std.specs.Prelude.{◌≡◌, ◌∷◌, [], ◌&&◌, nat_lt, map, All, IfOk, OnOk, Ok, None};
+ghost use Rattle.std.specs.Prelude.{◌≡◌, ◌∷◌, [], ◌&&◌, if◌then◌else◌, nat_lt, map, All, IfOk, OnOk, Ok, None};
 ghost use Rattle.std.specs.List.{list_any};
 ghost use Rattle.std.specs.Result.{result_err};
 ghost use Rattle.folders.specs.Farm.{empty_digest, farm_limits};
-ghost use Rattle.protocol.specs.Ledger.{begin_work, withdrawn, pruned, holds_wanted, is_awaited, nudges, nudge_all};
+ghost use Rattle.protocol.specs.Ledger.{begin_work, withdrawn, pruned, retired, retried, goes, holds_wanted, is_awaited, nudges, nudge_all};
 ghost use Rattle.slotlines.specs.Additions.{HasRoom, IsReady};
 ghost use Rattle.slotlines.specs.Lines.{lines_with, news_of};
 ghost use Rattle.coordinator.specs.Held.{line_at};
@@ -11,8 +11,8 @@ ghost use Rattle.coordinator.specs.Shown.{LineOf, having_said, kept, shown, with
 ghost use Rattle.coordinator.specs.Sound.{IsSound};
 
 use super::draft::Draft;
-use super::state::{State, grant_of, is_some_saved};
-use farm_base::{Copied, Digest, FromCoord, Lease, News, Parked, Slot, Ticket};
+use super::state::{State, add_gone, drop_asks_of, grant_of, is_among, is_home, is_some_saved};
+use farm_base::{Copied, Digest, FromCoord, Lease, News, NodeId, Parked, Slot, Ticket};
 use folders::Content;
 use leases::holds_wanted;
 use protocol::{CoordNote, CoordRefusal};
@@ -52,6 +52,19 @@ impl State {
 }
 
 impl State {
+    /// Why a node can't be retired, if so.
+    pub(crate) fn retirement_refusal(&self, node: NodeId) -> Option<CoordRefusal>
+        ensures { (line : LineOf) → result ≡ result_err (retired farm_limits node (begin_work (kept line self.now))) }
+    {
+        if is_among(self.gone.as_slice(), node) {
+            Some(CoordRefusal::NodeRetired)
+        } else if self.table.has_tenure_of(node) || is_home(node, self.old_home) {
+            Some(CoordRefusal::TenureHeld)
+        } else {
+            None
+        }
+    }
+
     /// Whether a ticket can still be given.
     pub(crate) fn has_ticket(&self) -> bool
         ensures { result ≡ nat_lt self.now.tickets.position farm_limits.greatest }
@@ -132,6 +145,49 @@ impl Draft {
         self.take_back(alloc, ticket)?;
         self.retry(alloc, lines, &None)?;
         self.note = CoordNote::Withdrawn(ticket);
+        Ok(())
+    }
+
+    /// Tries the parked asks, where they are to be tried.
+    fn retry_if(&mut self, alloc: Global, lines: &Lines, due: bool) -> Result<(), AllocError>
+        requires { IsSound (kept (line_at lines.now) self.old.state) }
+        ensures { OnOk result (shown (line_at lines.now) self.new
+            ≡ (if due then retried farm_limits (shown (line_at lines.now) self.old) else shown (line_at lines.now) self.old)) }
+    {
+        if !due {
+            return Ok(());
+        }
+        self.retry(alloc, lines, &None)?;
+        Ok(())
+    }
+
+    /// Drops a node: its leases are withdrawn, its parked asks go, and nothing that it says is heard again.
+    fn drop_node(&mut self, alloc: Global, node: NodeId) -> Result<(), AllocError>
+        ensures { OnOk result ((line : LineOf) → shown line self.new ≡ goes node (shown line self.old)) }
+    {
+        self.state.table.withdraw_all_of(alloc, node)?;
+        drop_asks_of(&mut self.state.parked, node);
+        add_gone(&mut self.state.gone, node)?;
+        self.changed = true;
+        Ok(())
+    }
+
+    /// Retires a node that holds no tenure and isn't the old home.
+    pub(crate) fn retire(
+        &mut self,
+        alloc: Global,
+        lines: &Lines,
+        node: NodeId,
+    ) -> Result<(), AllocError>
+        requires sound { IsSound (kept (line_at lines.now) self.old.state) }
+        requires accepted { result_err (retired farm_limits node (shown (line_at lines.now) self.old)) ≡ None }
+        ensures work { OnOk result (retired farm_limits node (shown (line_at lines.now) self.old) ≡ Ok (shown (line_at lines.now) self.new)) }
+        ensures sound { OnOk result (IsSound (kept (line_at lines.now) self.new.state)) }
+    {
+        let had_leases = self.state.table.has_lease_of(node);
+        self.drop_node(alloc, node)?;
+        self.retry_if(alloc, lines, had_leases)?;
+        self.note = CoordNote::Retired(node);
         Ok(())
     }
 

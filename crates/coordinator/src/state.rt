@@ -96,6 +96,21 @@ pub(crate) fn drop_older_asks(parked: &mut Vec<Parked>, node: NodeId, life: Life
     parked.retain(|p| !(p.node == node && p.life < life));
 }
 
+/// Keeps the node as one that is retired.
+pub(crate) fn add_gone(gone: &mut Vec<NodeId>, node: NodeId) -> Result<(), AllocError>
+    ensures { OnOk result (is_among gone.new.items ≡ put node.0 true (is_among gone.old.items)) }
+{
+    gone.push(node)?;
+    Ok(())
+}
+
+/// Drops the asks of a node.
+pub(crate) fn drop_asks_of(parked: &mut Vec<Parked>, node: NodeId)
+    ensures { parked.new.items ≡ filter (λ p. not (p.node.0 == node.0)) parked.old.items }
+{
+    parked.retain(|p| p.node != node);
+}
+
 /// An old home that is this node is no more.
 pub(crate) fn cleared(node: NodeId, old_home: Option<NodeId>) -> Option<NodeId>
     ensures { result ≡ cleared node old_home }
