@@ -5,3 +5,4 @@ pub mod Kept
 pub mod Sends
 pub mod OwnCalls
 pub mod Prunes
+pub mod OwnSends

@@ -44,11 +44,11 @@ all_few k [] w = omega arith
 all_few k (p ∷ ps) w = omega (arith, all_few k ps (tried k p w), tried_few k p w, kept_length (stays k p w) p (waiting k ps (tried k p w)))
 
 -- what was said and the asks that wait, together
-abbrev weight : Work → ℕ
+abbrev pub weight : Work → ℕ
 weight w = length w.sends + length w.ledger.parked
 
 -- trying the parked asks adds nothing to it
-retried_few : (k : Limits) (w : Work) → weight (retried k w) ≤ weight w
+pub retried_few : (k : Limits) (w : Work) → weight (retried k w) ≤ weight w
 unfolding retried
 retried_few k w = all_few k w.ledger.parked w
 
@@ -99,14 +99,14 @@ answering_few k n l (Release t) w = omega (arith, released_few k (may_release n 
 
 -- a newer life
 
-filter_length : (test : Parked → Bool) (ps : List Parked) → length (filter test ps) ≤ length ps
+pub filter_length : (test : Parked → Bool) (ps : List Parked) → length (filter test ps) ≤ length ps
 filter_length test [] = omega arith
 filter_length test (p ∷ ps) = omega (arith, kept_length (test p) p (filter test ps), at_most_one (test p), filter_length test ps)
 
 sees_few : (n : NodeId) (l : Life) (w : Work) → weight (sees n l w) ≤ weight w
 sees_few n l w = omega (arith, filter_length (λ p. not (is_older_ask n l p)) w.ledger.parked)
 
-lighter : (b : Bool) (v w : Work) (n : ℕ) → weight v ≤ n → weight w ≤ n → weight (cond b v w) ≤ n
+pub lighter : (b : Bool) (v w : Work) (n : ℕ) → weight v ≤ n → weight w ≤ n → weight (cond b v w) ≤ n
 lighter true v w n h e = h
 lighter false v w n h e = e
 

@@ -6,9 +6,9 @@ ghost use Rattle.farm_base.specs.Slots.{slot_cmp};
 ghost use Rattle.folders.specs.Farm.{farm_limits};
 ghost use Rattle.leases.specs.Table.{state_of};
 ghost use Rattle.protocol.specs.Lists.{is_nil};
-ghost use Rattle.protocol.specs.Names.{slot_eq};
+ghost use Rattle.protocol.specs.Names.{slot_eq, NodeId, Slot, Ticket};
 ghost use Rattle.protocol.specs.Machine.{ToCoord};
-ghost use Rattle.protocol.specs.Ledger.{opening, begin_work, handled, withdrawn, retired, pruned, nudged};
+ghost use Rattle.protocol.specs.Ledger.{Work, opening, begin_work, handled, withdrawn, retired, pruned, nudged};
 ghost use Rattle.std.specs.Result.{result_err};
 ghost use Rattle.coordinator.specs.Answers.{Answers};
 ghost use Rattle.coordinator.specs.Held.{line_at, ledger};
@@ -299,7 +299,16 @@ impl Coordinator {
     pub fn most_sends(&self) -> usize
         ensures { (y : ToCoord) → length (handled farm_limits y (begin_work (ledger self.now))).sends ≤ result }
     {
-        self.state.parked.len() + 1
+        1 + self.state.parked.len()
+    }
+
+    /// How many messages a call of its own makes it send, at most; but for a nudge, which changes nothing.
+    pub fn most_sends_of_calls(&self) -> usize
+        ensures withdraw { (t : Ticket) (w : Work) → withdrawn farm_limits t (begin_work (ledger self.now)) ≡ Ok w → length w.sends ≤ result }
+        ensures retire { (n : NodeId) (w : Work) → retired farm_limits n (begin_work (ledger self.now)) ≡ Ok w → length w.sends ≤ result }
+        ensures prune { (s : Slot) (w : Work) → pruned farm_limits s (begin_work (ledger self.now)) ≡ Ok w → length w.sends ≤ result }
+    {
+        self.state.parked.len()
     }
 
     /// The line of a slot, if it has a version.
