@@ -1,1 +1,4 @@
 mod SeatLemmas
+mod PoolLemmas
+mod FewLemmas
+mod TurnLemmas

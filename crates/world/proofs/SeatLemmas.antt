@@ -1,9 +1,10 @@
 -- Nodes by their numbers.
 use Rattle.std.proofs.Common.{◌≡◌, ◌≢◌, ℕ, suc, zero, ◌+◌, ◌<◌, ◌≤◌, Bool, true, false, ◌==◌, if◌then◌else◌, List, [], ◌∷◌, ◌++◌, ◌⊎◌, inl, inr, length, get_or, Option, Some, None, Result, Ok, Err, IfOk, OnErr, slice_get, slice_set, refl, sym, ap, ◌∙◌, subst, add-one, arith}
 use mathlib.Core.Path.{fun_ext}
-use Rattle.std.proofs.lemmas.Option.{slice_get_read, slice_get_within}
+use Rattle.std.proofs.lemmas.Option.{slice_get_read, slice_get_cases}
 use Rattle.std.proofs.lemmas.List.{length-set, length_push}
 use Rattle.std.proofs.lemmas.List.Elements.{All-push}
+use Rattle.std.specs.Prelude.{All}
 use Rattle.std.proofs.lemmas.Bool.{eqb-true, eqb-false}
 use Rattle.protocol.specs.Lists.{nth, set_nth, put}
 use Rattle.protocol.specs.Names.{NodeId}
@@ -17,7 +18,7 @@ use Rattle.protocol.proofs.Base.{nth_set_cases, nth-set_same, nth-set_other, nth
 use Rattle.folders.specs.Contents.{content_digest}
 use Rattle.nodecore.specs.declared.node_core.NodeCore.{NodeCore}
 use Rattle.nodecore.specs.Shown.{shown, place, work_of, Answers}
-use Rattle.world.specs.Tables.{node_at, shown_or_first, seat, IsSeated, AreSeated, AreFirstOf, OnlyNode, Restarts}
+use Rattle.world.specs.Tables.{node_at, shown_or_first, seat, IsSeated, AreSeated, AreFirstOf, AreFirst, OnlyNode, Restarts}
 
 -- the node of a number
 pub nth_at : (cores : List NodeCore) (n i : ℕ) (x : NodeCore) → n ≡ i + 1 → i < length cores → x ≡ get_or cores i x → nth cores n ≡ Some x
@@ -100,3 +101,14 @@ restarts_as p x y (Err refusal.NotRunning) d s m o = elim o [ | inl e ↦ absurd
 restarts_as p x y (Err refusal.AsksSpent) d s m o = elim o [ | inl e ↦ absurd (cc) | inr e ↦ absurd (cc) ]
 restarts_as p x y (Err refusal.TenureHere) d s m o = elim o [ | inl e ↦ absurd (cc) | inr e ↦ absurd (cc) ]
 restarts_as p x y (Err refusal.TenureInUse) d s m o = elim o [ | inl e ↦ absurd (cc) | inr e ↦ absurd (cc) ]
+
+first_here : (cores : List NodeCore) (n : ℕ) → All (λ x. shown x ≡ first_node content_digest) cores → node_at cores n ≡ first_node content_digest
+first_here cores zero all = refl
+first_here cores (suc i) all = elim (slice_get_cases cores i).1 [
+  | inl found ↦ ap shown_or_first found.2 ∙ subst (λ (x : NodeCore). shown x ≡ first_node content_digest) found.3 (all i found.0 found.1)
+  | inr past ↦ ap shown_or_first past.1
+]
+
+-- nodes that have just started
+pub all_first : (count : ℕ) (cores : List NodeCore) → AreFirst count cores → node_at cores ≡ (λ n. first_node content_digest)
+all_first count cores h = fun_ext (λ n. first_here cores n h.first)

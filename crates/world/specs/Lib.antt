@@ -1,1 +1,5 @@
 pub mod Tables
+pub mod Turns
+pub mod Shown
+pub mod Setups
+pub mod Replays

@@ -3,5 +3,12 @@
 
 mod call;
 mod nodes;
+mod pool;
+mod replay;
+mod world;
 
 pub use schedule::{Event, Setup};
+pub use nodecore::{Message, ToNode};
+pub use protocol::{EventNote, EventRefusal, Outcome};
+pub use replay::{ReplayRefusal, replay};
+pub use world::{StartRefusal, World};
