@@ -2,3 +2,4 @@ mod SeatLemmas
 mod PoolLemmas
 mod FewLemmas
 mod TurnLemmas
+mod SafeLemmas

@@ -3,3 +3,4 @@ pub mod Turns
 pub mod Shown
 pub mod Setups
 pub mod Replays
+pub mod Printing

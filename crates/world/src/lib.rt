@@ -4,11 +4,14 @@
 mod call;
 mod nodes;
 mod pool;
-mod replay;
+mod printing;
+mod replaying;
 mod world;
 
 pub use schedule::{Event, Setup};
 pub use nodecore::{Message, ToNode};
 pub use protocol::{EventNote, EventRefusal, Outcome};
-pub use replay::{ReplayRefusal, replay};
+pub use outcomes::print_outcome;
+pub use printing::print_lines;
+pub use replaying::{ReplayRefusal, replay};
 pub use world::{StartRefusal, World};

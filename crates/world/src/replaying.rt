@@ -1,4 +1,4 @@
-ghost use Rattle.std.specs.Prelude.{◌≡◌, ◌≤◌, ◌<◌, ⊥, IfOk, OnOk, map, length};
+ghost use Rattle.std.specs.Prelude.{◌≡◌, ◌≤◌, ◌<◌, IfOk, OnOk, map, length};
 ghost use Rattle.folders.specs.Contents.{content_digest};
 ghost use Rattle.folders.specs.Farm.{farm_limits};
 ghost use Rattle.protocol.specs.Follows.{SafeAfter};
@@ -48,7 +48,7 @@ impl World {
 pub fn replay(alloc: Global, setup: Setup, events: &[Event]) -> Result<World, ReplayRefusal>
     ensures farm { IfOk result (λ w. shown w ≡ run content_digest farm_limits (map event_of events.now) (opening content_digest setup.nodes)) }
     ensures safe { IfOk result (λ w. SafeAfter content_digest (shown w)) }
-    ensures stays { StaysSafe setup.nodes (map event_of events.now) }
+    ensures stays { IfOk result (λ w. StaysSafe setup.nodes (map event_of events.now)) }
     ensures setup { result ≡ Err ReplayRefusal.BadSetup → IsSetup setup → ⊥ }
     ensures events { result ≡ Err ReplayRefusal.TooManyEvents → 65536 < length events.now }
     ensures within { IfOk result (λ w. IsSetup setup) }
