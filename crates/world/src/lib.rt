@@ -8,10 +8,10 @@ mod printing;
 mod replaying;
 mod world;
 
-pub use schedule::{Event, Setup};
 pub use nodecore::{Message, ToNode};
-pub use protocol::{EventNote, EventRefusal, Outcome};
 pub use outcomes::print_outcome;
 pub use printing::print_lines;
+pub use protocol::{EventNote, EventRefusal, Outcome};
 pub use replaying::{ReplayRefusal, replay};
+pub use schedule::{Event, Setup};
 pub use world::{StartRefusal, World};

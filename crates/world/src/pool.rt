@@ -37,11 +37,7 @@ pub(crate) fn message_at(pool: &[Message], number: u64) -> Option<&Message>
 fn first_number(pool: &[Message], count: usize) -> u64
     ensures { result ≡ first_number (length pool.now) count }
 {
-    if count == 0 {
-        0
-    } else {
-        pool.len() as u64 + 1
-    }
+    if count == 0 { 0 } else { pool.len() as u64 + 1 }
 }
 
 /// Adds what the coordinator sends.

@@ -10,6 +10,17 @@ use coordinator::Coordinator;
 use farm_base::Slot;
 use outcomes::print_line;
 use std::alloc::{AllocError, Global};
+use versions::Line;
+
+/// The line of a slot. A slot without a version has an empty one.
+fn slot_line(alloc: Global, coordinator: &Coordinator, slot: &Slot) -> Result<String, AllocError>
+    ensures { IfOk result (λ text. string_bytes text ≡ line_text slot.now ((ledger coordinator.now).line slot.now)) }
+{
+    match coordinator.line(slot) {
+        Some(line) => print_line(alloc, slot, line),
+        None => print_line(alloc, slot, &Line::new(alloc)),
+    }
+}
 
 /// The lines of these slots, one text after another.
 fn lines_of(alloc: Global, coordinator: &Coordinator, slots: &[Slot]) -> Result<String, AllocError>
@@ -17,10 +28,8 @@ fn lines_of(alloc: Global, coordinator: &Coordinator, slots: &[Slot]) -> Result<
 {
     let mut text = String::new(alloc);
     for slot in slots {
-        if let Some(line) = coordinator.line(slot) {
-            let line = print_line(alloc, slot, line)?;
-            text.push_str(line.as_str())?;
-        }
+        let line = slot_line(alloc, coordinator, slot)?;
+        text.push_str(line.as_str())?;
     }
     Ok(text)
 }
@@ -31,5 +40,6 @@ pub fn print_lines(alloc: Global, world: &World) -> Result<String, AllocError>
 {
     let coordinator = world.coordinator();
     let slots = coordinator.slots(alloc)?;
-    lines_of(alloc, coordinator, slots.as_slice())
+    let text = lines_of(alloc, coordinator, slots.as_slice())?;
+    Ok(text)
 }

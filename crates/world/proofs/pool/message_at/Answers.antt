@@ -1,4 +1,4 @@
-use Rattle.std.proofs.Common.{◌≡◌, ◌<◌, length, arith, rules}
+use Rattle.std.proofs.Common.{◌<◌, length, arith, rules}
 use Rattle.world.proofs.PoolLemmas.{number_at}
 use Rattle.world.proofs.pool.message_at.Goals as goal
 

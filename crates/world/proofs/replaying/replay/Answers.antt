@@ -1,9 +1,9 @@
-use Rattle.std.proofs.Common.{◌≡◌, [], List, drop, map, length, ap, sym, ◌∙◌, subst, arith}
+use Rattle.std.proofs.Common.{◌≡◌, [], List, drop, map, ap, sym, ◌∙◌, subst, arith}
 use Rattle.std.proofs.lemmas.Grind.{common_steps}
 use Rattle.folders.specs.Contents.{content_digest}
 use Rattle.folders.specs.Farm.{farm_limits}
 use Rattle.protocol.specs.Follows.{SafeAfter}
-use Rattle.protocol.specs.Replay.{Farm, opening, run}
+use Rattle.protocol.specs.Replay.{opening, run}
 use Rattle.schedule.specs.declared.event.Event.{Event}
 use Rattle.schedule.specs.Events.{event_of}
 use Rattle.world.specs.Shown.{shown}

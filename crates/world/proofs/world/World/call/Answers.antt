@@ -1,5 +1,4 @@
-use Rattle.std.proofs.Common.{◌≡◌, map, ◌≤◌, true, List, Ok, Err, length, is_some, ap, sym, ◌∙◌, arith, rules, subst}
-use Rattle.std.specs.Vec.{vec_len, vec_capacity}
+use Rattle.std.proofs.Common.{◌≡◌, map, ◌≤◌, true, List, Ok, Err, length, ap, sym, arith, subst}
 use Rattle.std.proofs.lemmas.Grind.{common_steps}
 use Rattle.protocol.specs.Names.{NodeId}
 use Rattle.protocol.specs.Replay.{Farm, is_node, node_does}
@@ -35,4 +34,4 @@ returns-in-Err c =
     let t : Farm = record s { size = length new; nodes = node_at new; pool = map message_of c.reserve.new.self.items } in
     subst (λ (e : EventRefusal). Came (node_does n (called c.args.call) s) s t (Err e)) (sym c.from_node.ensures)
     (came_refused s t n (called c.args.call) (node_at new n.0) c.in-Err.refusal here answer
-        (unmoved s n (length new) (node_at new) (map message_of c.reserve.new.self.items) c.in-Some.ensures.others.size c.in-Some.ensures.others.nodes (ap (map message_of) c.reserve.ensures.items)))
+    (unmoved s n (length new) (node_at new) (map message_of c.reserve.new.self.items) c.in-Some.ensures.others.size c.in-Some.ensures.others.nodes (ap (map message_of) c.reserve.ensures.items)))

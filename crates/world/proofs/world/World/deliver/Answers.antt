@@ -1,6 +1,5 @@
-use Rattle.std.proofs.Common.{◌≡◌, ℕ, ◌++◌, get_or, ◌<◌, ◌≤◌, ◌+◌, true, false, map, List, Some, None, Ok, Err, refl, length, ap, sym, ◌∙◌, subst, arith, rules}
+use Rattle.std.proofs.Common.{◌≡◌, ℕ, ◌++◌, get_or, ◌<◌, ◌≤◌, true, map, List, Some, Ok, Err, refl, length, ap, sym, ◌∙◌, subst, arith, rules}
 use Rattle.std.proofs.lemmas.Grind.{common_steps}
-use Rattle.std.specs.Vec.{vec_len, vec_capacity}
 use Rattle.folders.specs.Contents.{content_digest}
 use Rattle.folders.specs.Farm.{farm_limits}
 use Rattle.protocol.specs.Lists.{nth}
@@ -82,7 +81,7 @@ returns-in-Err-answer c =
     subst (λ (e : EventRefusal). Came (delivered content_digest farm_limits (nth (map message_of pool) c.args.number) s) s t (Err e)) (sym c.from_node.ensures)
     (came_as (node_does n (hears m) s) (delivered content_digest farm_limits (nth (map message_of pool) c.args.number) s) s t (Err (from_node c.in-Err-answer.refusal)) (sym is)
     (came_refused s t n (hears m) (node_at new n.0) c.in-Err-answer.refusal there answer
-        (unmoved s n (length new) (node_at new) (map message_of c.reserve.new.self.items) c.in-Some-hear.ensures.others.size c.in-Some-hear.ensures.others.nodes (ap (map message_of) same))))
+    (unmoved s n (length new) (node_at new) (map message_of c.reserve.new.self.items) c.in-Some-hear.ensures.others.size c.in-Some-hear.ensures.others.nodes (ap (map message_of) same))))
 
 pub returns-in-Ok-answer : goal.returns-in-Ok-answer
 returns-in-Ok-answer c =

@@ -21,5 +21,5 @@ returns-in-Err c =
     let t : Farm = record s { size = length new; nodes = node_at new; pool = map message_of c.reserve.new.self.items } in
     subst (λ (e : EventRefusal). Came (restarting n s) s t (Err e)) (sym c.from_node.ensures)
     (came_stopped s t n (node_at new n.0) c.in-Err.refusal here answer
-        (unmoved s n (length new) (node_at new) (map message_of c.reserve.new.self.items) c.in-Some.ensures.others.size c.in-Some.ensures.others.nodes (ap (map message_of) c.reserve.ensures.items))
-        (moved_to s n (length new) (node_at new) (map message_of c.reserve.new.self.items) c.in-Some.ensures.others.size c.in-Some.ensures.others.nodes (ap (map message_of) c.reserve.ensures.items)))
+    (unmoved s n (length new) (node_at new) (map message_of c.reserve.new.self.items) c.in-Some.ensures.others.size c.in-Some.ensures.others.nodes (ap (map message_of) c.reserve.ensures.items))
+    (moved_to s n (length new) (node_at new) (map message_of c.reserve.new.self.items) c.in-Some.ensures.others.size c.in-Some.ensures.others.nodes (ap (map message_of) c.reserve.ensures.items)))
