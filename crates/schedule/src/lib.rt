@@ -2,5 +2,9 @@
 #![tactic(auto)]
 
 mod event;
+mod refusal;
+mod verb;
+mod word;
 
 pub use event::{Event, Setup};
+pub use refusal::ScheduleRefusal;

@@ -1,0 +1,42 @@
+ghost use Rattle.std.specs.Prelude.{◌≡◌};
+ghost use Rattle.schedule.specs.declared.refusal.LineRefusal.TheVariants as line;
+
+use std::alloc::{AllocError, AllocFailed};
+use thiserror::Error;
+
+/// Why a text is no schedule. Of several faults the first from the top is told.
+#[derive(Clone, Copy, Debug, PartialEq, Eq, Error)]
+pub enum ScheduleRefusal {
+    /// The line of this number, counted from 1.
+    #[error("line {0} can't be read")]
+    BadLine(u64),
+    #[error("more than 65,536 events")]
+    TooManyEvents,
+    #[error("out of memory")]
+    OutOfMemory,
+    #[error("more than 16 MiB")]
+    TooLarge,
+}
+
+/// Why a line isn't read.
+#[derive(Clone, Copy, Debug)]
+pub(crate) enum LineRefusal {
+    BadLine,
+    OutOfMemory,
+}
+
+impl From<AllocError> for LineRefusal {
+    ghost from_gives = { λ _ e. e ≡ line.OutOfMemory };
+
+    fn from(_error: AllocError) -> LineRefusal {
+        LineRefusal::OutOfMemory
+    }
+}
+
+impl<T: Drop> From<AllocFailed<T>> for LineRefusal {
+    ghost from_gives = { λ _ e. e ≡ line.OutOfMemory };
+
+    fn from(_error: AllocFailed<T>) -> LineRefusal {
+        LineRefusal::OutOfMemory
+    }
+}
