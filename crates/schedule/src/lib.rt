@@ -2,6 +2,7 @@
 #![tactic(auto)]
 
 mod event;
+mod line;
 mod refusal;
 mod verb;
 mod word;

@@ -1,6 +1,8 @@
 ghost use Rattle.std.specs.Prelude.{◌≡◌};
+ghost use Rattle.schedule.specs.Refusals.{hex_refusal};
 ghost use Rattle.schedule.specs.declared.refusal.LineRefusal.TheVariants as line;
 
+use hex::FromHexError;
 use std::alloc::{AllocError, AllocFailed};
 use thiserror::Error;
 
@@ -38,5 +40,18 @@ impl<T: Drop> From<AllocFailed<T>> for LineRefusal {
 
     fn from(_error: AllocFailed<T>) -> LineRefusal {
         LineRefusal::OutOfMemory
+    }
+}
+
+impl From<FromHexError> for LineRefusal {
+    ghost from_gives = { λ d e. e ≡ hex_refusal d };
+
+    fn from(error: FromHexError) -> LineRefusal {
+        match error {
+            FromHexError::OutOfMemory => LineRefusal::OutOfMemory,
+            FromHexError::InvalidHexCharacter { .. }
+            | FromHexError::OddLength
+            | FromHexError::InvalidStringLength => LineRefusal::BadLine,
+        }
     }
 }

@@ -1,5 +1,7 @@
 //! The words of a line.
 ghost use Rattle.std.specs.Prelude.{◌≡◌, ◌≢◌, ℕ, ◌<◌, List, ◌++◌, ◌∷◌, IfOk, IfSome, IfNone};
+ghost use Rattle.std.specs.List.{list_any};
+ghost use Rattle.std.specs.Char.{is_ascii_uppercase};
 ghost use Rattle.farm_base.specs.declared.folder.FolderName.{FolderName};
 ghost use Rattle.farm_base.specs.declared.number.NodeId.{NodeId};
 ghost use Rattle.farm_base.specs.declared.number.Ticket.{Ticket};
@@ -16,7 +18,6 @@ use farm_base::{
     FolderName, FolderRefusal, NodeId, Slot, SlotRefusal, Ticket, Want, are_bytes, is_name, is_slot,
 };
 use folders::Content;
-use hex::FromHexError;
 use std::alloc::Global;
 
 /// The node of a word.
@@ -92,23 +93,25 @@ pub(crate) fn want_of(alloc: Global, word: &str) -> Result<Want, LineRefusal>
     }
 }
 
+/// Whether a byte is an upper-case letter.
+fn has_upper(word: &[u8]) -> bool
+    ensures { result ≡ list_any is_ascii_uppercase word.now }
+{
+    word.iter().any(|byte| byte.is_ascii_uppercase())
+}
+
 /// The bytes that a word's digits spell, which are lower case.
 pub(crate) fn bytes_of(alloc: Global, word: &str) -> Result<Vec<u8>, LineRefusal>
     ensures spelled { IfOk result (λ bytes. word.now ≡ encode_lower bytes.items) }
     ensures bytes { IfOk result (λ bytes. IsBytes bytes.items) }
     ensures only { result ≡ Err LineRefusal.BadLine → (bytes : List ℕ) → IsBytes bytes → word.now ≢ encode_lower bytes }
 {
-    if word.bytes().any(|byte| byte.is_ascii_uppercase()) {
+    if has_upper(word.as_bytes()) {
         return Err(LineRefusal::BadLine);
     }
-    match hex::decode(alloc, word) {
-        Err(FromHexError::OutOfMemory) => Err(LineRefusal::OutOfMemory),
-        Err(_) => Err(LineRefusal::BadLine),
-        Ok(bytes) => {
-            are_bytes(bytes.as_slice());
-            Ok(bytes)
-        }
-    }
+    let bytes = hex::decode(alloc, word)?;
+    are_bytes(bytes.as_slice());
+    Ok(bytes)
 }
 
 /// What is before the last of these bytes, and after it.
