@@ -1,7 +1,8 @@
 -- Words and values, one each.
-use Rattle.std.proofs.Common.{Bor, ◌≡◌, ℕ, zero, suc, ◌+◌, ◌<◌, List, [], ◌∷◌, ◌++◌, map, take, length, get_or, refl, sym, ap, ◌∙◌, arith}
+use Rattle.std.proofs.Common.{Bor, ◌≡◌, ℕ, zero, suc, ◌+◌, ◌-◌, ◌<◌, List, [], ◌∷◌, ◌++◌, map, take, drop, length, get_or, refl, sym, ap, ◌∙◌, arith}
 use Rattle.std.specs.List.{All}
 use Rattle.std.proofs.lemmas.List.{take_more, map-append}
+use Rattle.std.proofs.Math.Seq.{take-length}
 use Rattle.std.proofs.lemmas.List.Elements.{All-head, All-tail}
 use Rattle.schedule.specs.Lines.{texts}
 
@@ -33,3 +34,11 @@ map-injective text P one (x ∷ xs) (y ∷ ys) hx hy e =
     let this = one x y (All-head P x xs hx) (All-head P y ys hy) (cc e) in
     let rest = map-injective text P one xs ys (All-tail P x xs hx) (All-tail P y ys hy) (cc e) in
     cc (this, rest)
+
+-- the words behind the first
+pub texts_behind : (ws : List (Bor (List ℕ))) (first : List ℕ) (others : List (List ℕ)) → texts ws ≡ first ∷ others
+    → texts (take (length ws - 1) (drop 1 ws)) ≡ others
+texts_behind [] first others e = cc e
+texts_behind (w ∷ ws) first others e =
+    let len : length (w ∷ ws) - 1 ≡ length ws = omega arith in
+    rw (len, take-length ws) (cc e)

@@ -80,18 +80,30 @@ pub record IsLeft (left : Left) : Type 0 where
 abbrev pub left_slots : List Left → List SlotParts
 left_slots lefts = map (λ left. left.0) lefts
 
--- ---- what the words behind a verb say
-
--- N FOLDER..: the wants may stand in any order
-pub record Asks (ws : List (List ℕ)) (e : Event) : Type 0 where
-  pub node : NodeId
+-- FOLDER..: the wants in order, which may stand in any order
+pub record SpellWants (ws : List (List ℕ)) (wants : List Want) : Type 0 where
   pub given : List Want
-  pub wants : List Want
-  pub is_node : IsNode node
   pub each : All IsWant given
+  pub text : ws ≡ map want_text given
   pub sorted : IsPermutation given wants
   pub lawful : IsWants wants
-  pub text : ws ≡ node_text node ∷ map want_text given
+
+-- SLOT=HEX..: the slots rise
+pub record SpellLefts (ws : List (List ℕ)) (lefts : List Left) : Type 0 where
+  pub each : All IsLeft lefts
+  pub text : ws ≡ map left_text lefts
+  pub rising : IsStrictlySortedBy slot_cmp (left_slots lefts)
+
+-- ---- what the words behind a verb say
+
+-- N FOLDER..
+pub record Asks (ws : List (List ℕ)) (e : Event) : Type 0 where
+  pub node : NodeId
+  pub folders : List (List ℕ)
+  pub wants : List Want
+  pub is_node : IsNode node
+  pub spelled : SpellWants folders wants
+  pub text : ws ≡ node_text node ∷ folders
   pub event : e ≡ event.Ask node wants
 
 -- N FOLDER, which is SHARED
@@ -127,16 +139,16 @@ pub record OfLease (make : NodeId → Ticket → Event) (ws : List (List ℕ)) (
   pub text : ws ≡ node_text node ∷ ticket_text ticket ∷ []
   pub event : e ≡ make node ticket
 
--- N T SLOT=HEX..: the slots rise
+-- N T SLOT=HEX..
 pub record Finishes (ws : List (List ℕ)) (e : Event) : Type 0 where
   pub node : NodeId
   pub ticket : Ticket
+  pub slots : List (List ℕ)
   pub lefts : List Left
   pub is_node : IsNode node
   pub is_ticket : IsTicket ticket
-  pub each : All IsLeft lefts
-  pub rising : IsStrictlySortedBy slot_cmp (left_slots lefts)
-  pub text : ws ≡ node_text node ∷ ticket_text ticket ∷ map left_text lefts
+  pub spelled : SpellLefts slots lefts
+  pub text : ws ≡ node_text node ∷ ticket_text ticket ∷ slots
   pub event : e ≡ event.Finish node ticket lefts
 
 -- N HEX
@@ -160,10 +172,14 @@ Says Resend = OfNode event.Resend
 Says Restart = OfNode event.RestartNode
 Says Forge = Forges
 
+-- the words of a line spell this event
+pub record SpelledBy (ws : List (List ℕ)) (e : Event) : Type 0 where
+  pub verb : Verb
+  pub behind : List (List ℕ)
+  pub text : ws ≡ verb_text verb ∷ behind
+  pub says : Says verb behind e
+
 -- the line spells this event
 pub record IsSpelled (line : List ℕ) (e : Event) : Type 0 where
   pub utf8 : IsUtf8 line
-  pub verb : Verb
-  pub behind : List (List ℕ)
-  pub text : words line ≡ verb_text verb ∷ behind
-  pub says : Says verb behind e
+  pub spelled : SpelledBy (words line) e

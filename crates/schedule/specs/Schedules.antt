@@ -3,6 +3,8 @@ use Rattle.std.specs.Prelude.{◌≡◌, ◌≢◌, ℕ, ◌+◌, ◌*◌, ◌^�
 use Rattle.std.specs.List.{AllZip, slice_split}
 use Rattle.schedule.specs.declared.event.Event.{Event}
 use Rattle.schedule.specs.declared.event.Setup.{Setup}
+use Rattle.schedule.specs.declared.refusal.ScheduleRefusal.{ScheduleRefusal}
+use Rattle.schedule.specs.declared.refusal.ScheduleRefusal.TheVariants.{BadLine, TooManyEvents, OutOfMemory, TooLarge}
 use Rattle.schedule.specs.Lines.{IsSpelled}
 
 -- 16 MiB
@@ -48,29 +50,56 @@ pub record IsSchedule (text : List ℕ) (setup : Setup) (events : List Event) : 
   pub small : length text ≤ most_bytes
   pub say : Say (lines text) setup events
 
--- behind these lines, which are in order, a line is out of order: it is no setup, or no event although one may come
-abbrev pub IsBadBehind : List (List ℕ) → List ℕ → Type 0
-IsBadBehind [] line = (setup : Setup) → IsSetup line setup → ⊥
-IsBadBehind (first ∷ others) line = (setup : Setup) × (events : List Event) × IsSetup first setup × AreEvents others events
-    × (length events < most_events) × (line ≢ []) × ((e : Event) → IsSpelled line e → ⊥)
-
--- behind these lines, which are in order, a line would be one event too many
-abbrev pub IsTooManyBehind : List (List ℕ) → List ℕ → Type 0
-IsTooManyBehind front line = (setup : Setup) × (events : List Event) × Say front setup events × (length events ≡ most_events) × (line ≢ [])
-
--- a line of the text, with the lines before it, of which this holds
-pub record HasLine (text : List ℕ) (P : List (List ℕ) → List ℕ → Type 0) : Type 0 where
-  pub small : length text ≤ most_bytes
+-- one of these lines, and the lines before it, of which this holds
+pub record HasLine (ls : List (List ℕ)) (P : List (List ℕ) → List ℕ → Type 0) : Type 0 where
   pub front : List (List ℕ)
   pub line : List ℕ
   pub behind : List (List ℕ)
-  pub split : lines text ≡ front ++ line ∷ behind
+  pub split : ls ≡ front ++ line ∷ behind
   pub holds : P front line
 
--- the first fault is that the line of this number, counted from 1, is out of order
-abbrev pub IsBadAt : List ℕ → ℕ → Type 0
-IsBadAt text number = HasLine text (λ front line. (number ≡ length front + 1) × IsBadBehind front line)
+-- behind these lines of events stands one that spells no event, although one may come
+pub record IsNoEventBehind (others : List (List ℕ)) (line : List ℕ) : Type 0 where
+  pub events : List Event
+  pub before : AreEvents others events
+  pub room : length events < most_events
+  pub filled : line ≢ []
+  pub unspelled : (e : Event) → IsSpelled line e → ⊥
 
--- the first fault is that there are too many events
-abbrev pub HasTooManyEvents : List ℕ → Type 0
-HasTooManyEvents text = HasLine text IsTooManyBehind
+-- behind these lines of events stands one that would be one event too many
+pub record IsTooManyBehind (others : List (List ℕ)) (line : List ℕ) : Type 0 where
+  pub events : List Event
+  pub before : AreEvents others events
+  pub full : length events ≡ most_events
+  pub filled : line ≢ []
+
+-- the first line is a setup, and of the others up to a line this holds
+abbrev pub BehindSetup : (List (List ℕ) → List ℕ → Type 0) → List (List ℕ) → List ℕ → Type 0
+BehindSetup P [] line = ⊥
+BehindSetup P (first ∷ others) line = (setup : Setup) × IsSetup first setup × P others line
+
+-- the line is out of order, and those before it aren't
+abbrev pub IsBadBehind : List (List ℕ) → List ℕ → Type 0
+IsBadBehind [] line = (setup : Setup) → IsSetup line setup → ⊥
+IsBadBehind (first ∷ others) line = BehindSetup IsNoEventBehind (first ∷ others) line
+
+-- why the text is refused: its first fault. Lines are counted from 1; memory may run out at any text
+abbrev pub IsRefused : List ℕ → ScheduleRefusal → Type 0
+IsRefused text TooLarge = most_bytes < length text
+IsRefused text (BadLine number) = (length text ≤ most_bytes) × HasLine (lines text) (λ front line. (number ≡ length front + 1) × IsBadBehind front line)
+IsRefused text TooManyEvents = (length text ≤ most_bytes) × HasLine (lines text) (BehindSetup IsTooManyBehind)
+IsRefused text OutOfMemory = Unit {0}
+
+-- the same of lines of events of which the first has the number 2
+abbrev pub AreRefused : List (List ℕ) → ScheduleRefusal → Type 0
+AreRefused ls TooLarge = ⊥
+AreRefused ls (BadLine number) = HasLine ls (λ front line. (number ≡ length front + 2) × IsNoEventBehind front line)
+AreRefused ls TooManyEvents = HasLine ls IsTooManyBehind
+AreRefused ls OutOfMemory = Unit {0}
+
+-- the same of one line, of this number, behind so many events
+abbrev pub IsLineRefused : List ℕ → ℕ → ℕ → ScheduleRefusal → Type 0
+IsLineRefused line number count TooLarge = ⊥
+IsLineRefused line number count (BadLine n) = (n ≡ number) × (line ≢ []) × (count < most_events) × ((e : Event) → IsSpelled line e → ⊥)
+IsLineRefused line number count TooManyEvents = (line ≢ []) × (most_events ≤ count)
+IsLineRefused line number count OutOfMemory = Unit {0}

@@ -3,9 +3,11 @@
 
 mod event;
 mod line;
+mod reading;
 mod refusal;
 mod verb;
 mod word;
 
 pub use event::{Event, Setup};
+pub use reading::read_schedule;
 pub use refusal::ScheduleRefusal;

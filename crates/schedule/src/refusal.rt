@@ -1,7 +1,9 @@
 ghost use Rattle.std.specs.Prelude.{◌≡◌};
-ghost use Rattle.schedule.specs.Refusals.{hex_refusal};
+ghost use Rattle.schedule.specs.Refusals.{hex_refusal, wants_refusal, refusal_at};
 ghost use Rattle.schedule.specs.declared.refusal.LineRefusal.TheVariants as line;
+ghost use Rattle.schedule.specs.declared.refusal.ScheduleRefusal.TheVariants as schedule;
 
+use farm_base::WantsRefusal;
 use hex::FromHexError;
 use std::alloc::{AllocError, AllocFailed};
 use thiserror::Error;
@@ -20,11 +22,31 @@ pub enum ScheduleRefusal {
     TooLarge,
 }
 
+impl<T: Drop> From<AllocFailed<T>> for ScheduleRefusal {
+    ghost from_gives = { λ _ e. e ≡ schedule.OutOfMemory };
+
+    fn from(_error: AllocFailed<T>) -> ScheduleRefusal {
+        ScheduleRefusal::OutOfMemory
+    }
+}
+
 /// Why a line isn't read.
 #[derive(Clone, Copy, Debug)]
 pub(crate) enum LineRefusal {
     BadLine,
     OutOfMemory,
+}
+
+impl LineRefusal {
+    /// The refusal of a schedule whose line of this number isn't read.
+    pub(crate) fn at(self, number: u64) -> ScheduleRefusal
+        ensures { result ≡ refusal_at self number }
+    {
+        match self {
+            LineRefusal::BadLine => ScheduleRefusal::BadLine(number),
+            LineRefusal::OutOfMemory => ScheduleRefusal::OutOfMemory,
+        }
+    }
 }
 
 impl From<AllocError> for LineRefusal {
@@ -52,6 +74,17 @@ impl From<FromHexError> for LineRefusal {
             FromHexError::InvalidHexCharacter { .. }
             | FromHexError::OddLength
             | FromHexError::InvalidStringLength => LineRefusal::BadLine,
+        }
+    }
+}
+
+impl From<WantsRefusal> for LineRefusal {
+    ghost from_gives = { λ d e. e ≡ wants_refusal d };
+
+    fn from(error: WantsRefusal) -> LineRefusal {
+        match error {
+            WantsRefusal::OutOfMemory => LineRefusal::OutOfMemory,
+            WantsRefusal::TooManyWants | WantsRefusal::SameFolderTwice => LineRefusal::BadLine,
         }
     }
 }

@@ -1,21 +1,19 @@
-use Rattle.std.proofs.Common.{Err, ap}
-use Rattle.std.proofs.lemmas.List.Elements.{All-push}
-use Rattle.schedule.specs.Lines.{left_text, IsLeft}
-use Rattle.schedule.proofs.ListLemmas.{spelled_more, stuck_at}
-use Rattle.schedule.proofs.WordLemmas.{passed_on}
+use Rattle.std.proofs.Common.{sym, subst, ◌∙◌}
+use Rattle.schedule.proofs.LineLemmas.{rising, not_rising, IsRising}
 use Rattle.schedule.proofs.line.lefts_of.Goals as goal
 
-pub returns-in_err-left_of-clause-only : goal.returns-in_err-left_of-clause-only
-returns-in_err-left_of-clause-only c = λ same lefts each e.
-    let bad = passed_on _ _ _ c.from_residual.ensures.1 same in
-    stuck_at left_text IsLeft c.args.words.now lefts c.loop-word.word-index _ c.loop-word-test.true
-    (λ left is. c.in_err-left_of.ensures.only (ap Err bad) left is) each e
-
-pub loop-word-preserved : goal.loop-word-preserved
-loop-word-preserved c =
-    let this = c.in_ok-left_of.ensures in
-    let inv = c.loop-word.invariant in
-    rw c.in_ok-push.ensures.items (record {
-      spelled = spelled_more left_text c.args.words.now c.loop-word.lefts.items c.loop-word.word-index _ c.in_ok-left_of.field-0 c.loop-word-test.true inv.spelled this.spelled;
-      each = All-push IsLeft c.loop-word.lefts.items c.in_ok-left_of.field-0 inv.each this.left;
+pub returns-then-rises-clause-spelled : goal.returns-then-rises-clause-spelled
+returns-then-rises-clause-spelled c =
+    let given = c.in_ok-lefts.ensures in
+    let answer = rw c.as_slice.ensures.value at c.rises.ensures in
+    rw c.new.ensures (record {
+      each = given.lefts;
+      text = given.spelled;
+      rising = rising c.in_ok-lefts.lefts.items c.rises.result answer c.if-rises.true;
     })
+
+pub returns-else-rises-clause-only : goal.returns-else-rises-clause-only
+returns-else-rises-clause-only c = λ same lefts h.
+    let given = c.in_ok-lefts.ensures in
+    let answer = rw c.as_slice.ensures.value at c.rises.ensures in
+    not_rising _ c.in_ok-lefts.lefts.items lefts c.rises.result answer c.if-rises.false given.lefts given.spelled h
