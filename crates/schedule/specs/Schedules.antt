@@ -50,6 +50,17 @@ pub record IsSchedule (text : List ℕ) (setup : Setup) (events : List Event) : 
   pub small : length text ≤ most_bytes
   pub say : Say (lines text) setup events
 
+-- the events before a line and after it: a line that isn't empty adds its own
+pub record AddsEvent (old : List Event) (line : List ℕ) (new : List Event) : Type 0 where
+  pub event : Event
+  pub room : length old < most_events
+  pub spelled : IsSpelled line event
+  pub added : new ≡ old ++ event ∷ []
+
+pub record AddsLine (old : List Event) (line : List ℕ) (new : List Event) : Type 0 where
+  pub empty : line ≡ [] → new ≡ old
+  pub filled : line ≢ [] → AddsEvent old line new
+
 -- one of these lines, and the lines before it, of which this holds
 pub record HasLine (ls : List (List ℕ)) (P : List (List ℕ) → List ℕ → Type 0) : Type 0 where
   pub front : List (List ℕ)

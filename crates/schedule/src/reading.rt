@@ -1,9 +1,8 @@
 //! The text of a schedule.
-ghost use Rattle.std.specs.Prelude.{◌≡◌, ◌≢◌, ℕ, ◌<◌, ◌≤◌, [], ◌∷◌, length, IfOk, IfErr, IfSome, IfNone, MatchOption};
+ghost use Rattle.std.specs.Prelude.{◌≡◌, [], ◌∷◌, length, IfOk, IfErr, IfSome, IfNone, OnOk, ◌==◌, position};
 ghost use Rattle.std.specs.Option.{option_map_or};
 ghost use Rattle.schedule.specs.declared.event.Setup.{Setup};
-ghost use Rattle.schedule.specs.Lines.{IsSpelled};
-ghost use Rattle.schedule.specs.Schedules.{lines, most_bytes, most_events, IsSetup, AreEvents, IsSchedule, IsRefused, AreRefused, IsLineRefused};
+ghost use Rattle.schedule.specs.Schedules.{lines, IsSetup, AreEvents, AddsLine, IsSchedule, IsRefused, AreRefused, IsLineRefused};
 
 use super::event::{Event, Setup};
 use super::line::event_of;
@@ -23,7 +22,9 @@ fn setup_of(line: &[u8]) -> Option<Setup>
     ensures found { IfSome result (IsSetup line.now) }
     ensures only { IfNone result ((setup : Setup) → IsSetup line.now setup → ⊥) }
 {
-    let text = str::from_utf8(line).ok()?;
+    let Ok(text) = str::from_utf8(line) else {
+        return None;
+    };
     let nodes = number(after(text, "nodes ")?)?;
     if 1 <= nodes && nodes <= MOST_NODES {
         Some(Setup {
@@ -34,32 +35,33 @@ fn setup_of(line: &[u8]) -> Option<Setup>
     }
 }
 
-/// The event of the line of this number, behind so many events. An empty line has none.
-fn event_at(
+/// Adds the event of the line of this number. An empty line has none.
+fn push_event(
     alloc: Global,
+    events: &mut Vec<Event>,
     line: &[u8],
     number: u64,
-    count: usize,
-) -> Result<Option<Event>, ScheduleRefusal>
-    ensures event { IfOk result (λ event. MatchOption event (line.now ≡ [])
-        (λ e. (line.now ≢ []) × (count < most_events) × IsSpelled line.now e)) }
-    ensures refused { IfErr result (IsLineRefused line.now number count) }
+) -> Result<(), ScheduleRefusal>
+    ensures added { OnOk result (AddsLine events.old.items line.now events.new.items) }
+    ensures refused { IfErr result (IsLineRefused line.now number (length events.old.items)) }
 {
     if line.is_empty() {
-        return Ok(None);
+        return Ok(());
     }
-    if count >= MOST_EVENTS {
+    if events.len() >= MOST_EVENTS {
         return Err(ScheduleRefusal::TooManyEvents);
     }
     match event_of(alloc, line) {
-        Ok(event) => Ok(Some(event)),
+        Ok(event) => {
+            events.push(event)?;
+            Ok(())
+        }
         Err(refusal) => Err(refusal.at(number)),
     }
 }
 
 /// The events of all lines but the first.
 fn events_of(alloc: Global, text: &[u8]) -> Result<Vec<Event>, ScheduleRefusal>
-    requires { length text.now ≤ most_bytes }
     ensures events { IfOk result (λ events. AreEvents (lines text.now) events.items) }
     ensures refused { IfErr result (AreRefused (lines text.now)) }
 {
@@ -67,19 +69,23 @@ fn events_of(alloc: Global, text: &[u8]) -> Result<Vec<Event>, ScheduleRefusal>
     let mut number = 1;
     for line in text.split(|byte| *byte == b'\n') {
         number += 1;
-        if let Some(event) = event_at(alloc, line, number, events.len())? {
-            events.push(event)?;
-        }
+        push_event(alloc, &mut events, line, number)?;
     }
     Ok(events)
 }
 
+/// Where the first line ends with a line feed.
+fn line_end(text: &[u8]) -> Option<usize>
+    ensures { result ≡ position (λ b. b == 10) text.now }
+{
+    text.iter().position(|byte| *byte == b'\n')
+}
+
 /// The first line, and what follows its line feed.
 fn first_line(text: &[u8]) -> (&[u8], Option<&[u8]>)
-    ensures split { lines text.now ≡ result.0.now ∷ option_map_or (λ rest. lines rest.now) result.1 [] }
-    ensures rest { IfSome result.1 (λ rest. length rest.now ≤ length text.now) }
+    ensures { lines text.now ≡ result.0.now ∷ option_map_or (λ rest. lines rest.now) result.1 [] }
 {
-    match text.iter().position(|byte| *byte == b'\n') {
+    match line_end(text) {
         None => (text, None),
         Some(end) => (&text[..end], Some(&text[end + 1..])),
     }
@@ -97,7 +103,9 @@ pub fn read_schedule(
         return Err(ScheduleRefusal::TooLarge);
     }
     let (first, others) = first_line(bytes);
-    let setup = setup_of(first).ok_or(ScheduleRefusal::BadLine(1))?;
+    let Some(setup) = setup_of(first) else {
+        return Err(ScheduleRefusal::BadLine(1));
+    };
     let events = match others {
         None => Vec::new(alloc),
         Some(text) => events_of(alloc, text)?,
