@@ -1,6 +1,6 @@
 -- What the words behind a verb say.
-use Rattle.std.proofs.Common.{◌≡◌, ℕ, ◌+◌, ◌<◌, ◌≤◌, true, false, Bool, List, [], ◌∷◌, map, length, get_or, Result, Ok, Err, Ordering, refl, sym, ap, ◌∙◌, subst, arith}
-use Rattle.std.specs.Prelude.{IsPermutation, IsErrOf, ◌↔◌}
+use Rattle.std.proofs.Common.{◌≡◌, ℕ, ◌+◌, ◌<◌, ◌≤◌, true, false, Bool, List, [], ◌∷◌, map, length, get_or, Result, Err, Ordering, refl, sym, ◌∙◌, arith}
+use Rattle.std.specs.Prelude.{IsErrOf, ◌↔◌}
 use Rattle.std.specs.List.{All, IsDistinct, AllAdjacentBelow, IsAllAdjacentAnswer}
 use Rattle.std.specs.List.Sorted.{IsStrictlySortedBy}
 use Rattle.std.specs.Ordering.{is_lt}
@@ -12,8 +12,8 @@ use Rattle.farm_base.specs.declared.want.Want.{Want}
 use Rattle.farm_base.specs.declared.want.WantsRefusal.{WantsRefusal}
 use Rattle.farm_base.specs.declared.want.WantsRefusal.TheVariants.{TooManyWants, SameFolderTwice, OutOfMemory}
 use Rattle.farm_base.specs.Folders.{folder_eq}
-use Rattle.farm_base.specs.Slots.{SlotParts, slot_cmp}
-use Rattle.farm_base.specs.Wanted.{IsWants, folders}
+use Rattle.farm_base.specs.Slots.{slot_cmp}
+use Rattle.farm_base.specs.Wanted.{folders}
 use Rattle.farm_base.proofs.CompareLaws.{slot_total}
 use Rattle.farm_base.proofs.WantLemmas.{distinct-from_sorted, distinct-permutation, not_less}
 use Rattle.schedule.specs.declared.refusal.LineRefusal.TheVariants.{BadLine}

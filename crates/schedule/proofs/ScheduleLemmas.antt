@@ -1,7 +1,7 @@
 -- Lines of a schedule.
-use Rattle.std.proofs.Common.{Bor, ◌≡◌, ◌≢◌, ℕ, suc, ◌+◌, ◌-◌, ◌<◌, ◌≤◌, ◌==◌, ◌^◌, Bool, true, false, inl, inr, List, [], ◌∷◌, ◌++◌, map, take, drop, length, get_or, Option, Some, None, Result, Ok, Err, refl, sym, ap, ◌∙◌, subst, lt-ltb, le-ltb, length-append, length-drop, arith}
-use Rattle.std.specs.Prelude.{filter, codes, decimal, position}
-use Rattle.std.specs.List.{AllZip, slice_split, position_or_len, before_first, after_first, onto_first}
+use Rattle.std.proofs.Common.{Bor, ◌≡◌, ◌≢◌, ℕ, suc, ◌+◌, ◌-◌, ◌<◌, ◌≤◌, ◌==◌, ◌^◌, Bool, false, inl, inr, List, [], ◌∷◌, ◌++◌, take, drop, length, Option, Some, None, Result, Err, refl, sym, ap, ◌∙◌, subst, lt-ltb, le-ltb, length-append, length-drop, arith}
+use Rattle.std.specs.Prelude.{codes, decimal, position}
+use Rattle.std.specs.List.{AllZip, slice_split, position_or_len, onto_first}
 use Rattle.std.specs.Str.{IsUtf8, IsAscii}
 use Rattle.std.proofs.lemmas.Bool.{cases_Bool, cases_lt}
 use Rattle.std.proofs.lemmas.List.{take-append-drop, append-nil, map-append}
@@ -22,7 +22,7 @@ use Rattle.schedule.specs.declared.refusal.ScheduleRefusal.{ScheduleRefusal}
 use Rattle.schedule.specs.declared.refusal.ScheduleRefusal.TheVariants as schedule
 use Rattle.schedule.specs.Lines.{texts, IsSpelled}
 use Rattle.schedule.specs.Refusals.{refusal_at}
-use Rattle.schedule.specs.Schedules.{lines, most_bytes, most_events, is_filled, filled, IsSetup, AreEvents, AddsLine, IsSchedule, HasLine, IsNoEventBehind, IsTooManyBehind, IsRefused, AreRefused, IsLineRefused}
+use Rattle.schedule.specs.Schedules.{lines, most_bytes, most_events, is_filled, filled, IsSetup, AreEvents, AddsLine, IsRefused, AreRefused, IsLineRefused}
 
 -- ---- one line
 
@@ -163,29 +163,38 @@ refused_here all front line behind es number schedule.OutOfMemory split before p
 pub refused_behind : (text first : List ℕ) (others : List (List ℕ)) (s : Setup) (r : ScheduleRefusal) → length text ≤ most_bytes
     → lines text ≡ first ∷ others → IsSetup first s → AreRefused others r → IsRefused text r
 refused_behind text first others s schedule.TooLarge small split setup h = absurd h
-refused_behind text first others s (schedule.BadLine n) small split setup h = (small, record {
-  front = first ∷ h.front;
-  line = h.line;
-  behind = h.behind;
-  split = split ∙ ap (λ ls. first ∷ ls) h.split;
-  holds = (let place = h.holds.0 in omega arith, (s, setup, h.holds.1));
-})
-refused_behind text first others s schedule.TooManyEvents small split setup h = (small, record {
-  front = first ∷ h.front;
-  line = h.line;
-  behind = h.behind;
-  split = split ∙ ap (λ ls. first ∷ ls) h.split;
-  holds = (s, setup, h.holds);
-})
+refused_behind text first others s (schedule.BadLine n) small split setup h = (
+  small,
+  record {
+    front = first ∷ h.front;
+    line = h.line;
+    behind = h.behind;
+    split = split ∙ ap (λ ls. first ∷ ls) h.split;
+    holds = (let place = h.holds.0 in omega arith, (s, setup, h.holds.1));
+  },
+)
+refused_behind text first others s schedule.TooManyEvents small split setup h = (
+  small,
+  record {
+    front = first ∷ h.front;
+    line = h.line;
+    behind = h.behind;
+    split = split ∙ ap (λ ls. first ∷ ls) h.split;
+    holds = (s, setup, h.holds);
+  },
+)
 refused_behind text first others s schedule.OutOfMemory small split setup h = tt
 
 -- a first line that is no setup
 pub refused_first : (text first : List ℕ) (others : List (List ℕ)) → length text ≤ most_bytes → lines text ≡ first ∷ others
     → ((s : Setup) → IsSetup first s → ⊥) → IsRefused text (schedule.BadLine 1)
-refused_first text first others small split none = (small, record {
-  front = [];
-  line = first;
-  behind = others;
-  split = split;
-  holds = (refl, none);
-})
+refused_first text first others small split none = (
+  small,
+  record {
+    front = [];
+    line = first;
+    behind = others;
+    split = split;
+    holds = (refl, none);
+  },
+)

@@ -1,5 +1,5 @@
 -- No two values have one text.
-use Rattle.std.proofs.Common.{◌≡◌, ℕ, Bool, true, false, List, ◌∷◌, ◌++◌, get_or, refl, sym, ap, ◌∙◌, arith}
+use Rattle.std.proofs.Common.{◌≡◌, ℕ, Bool, true, false, List, ◌∷◌, ◌++◌, get_or, refl, sym, ap, arith}
 use Rattle.farm_base.specs.declared.folder.FolderName.{FolderName}
 use Rattle.farm_base.specs.declared.folder.Mode.{Mode}
 use Rattle.farm_base.specs.declared.folder.Mode.TheVariants.{Shared, Private, Locked}

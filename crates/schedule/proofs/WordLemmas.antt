@@ -1,14 +1,13 @@
 -- Words and their parts.
-use Rattle.std.proofs.Common.{Bor, ◌≡◌, ◌≢◌, ℕ, ◌+◌, ◌<◌, ◌≤◌, List, [], ◌∷◌, ◌++◌, take, drop, length, Option, Some, None, Result, Ok, Err, refl, sym, ap, ◌∙◌, subst, arith}
+use Rattle.std.proofs.Common.{Bor, ◌≡◌, ℕ, ◌+◌, ◌<◌, ◌≤◌, List, [], ◌∷◌, ◌++◌, take, drop, length, Option, Some, None, Result, Ok, Err, refl, sym, ◌∙◌, subst}
 use Rattle.std.specs.Prelude.{IfSome, IfNone, IsErrAnd, MatchOption}
 use Rattle.std.proofs.lemmas.List.{take-append-drop}
 use Rattle.std.specs.Str.Pattern.{RFindsChar}
 use Rattle.std.proofs.lemmas.Str.Pattern.{NoCharPasses-char, drop_at_char}
 use Rattle.farm_base.specs.Decimals.{Lacks}
-use Rattle.farm_base.specs.Slots.{SlotParts}
 use Rattle.farm_base.specs.Names.{slot_text}
 use Rattle.farm_base.proofs.TextLemmas.{Lacks-middle, heads, encode-lacks}
-use Rattle.hex.specs.Hex.{IsBytes, encode_lower}
+use Rattle.hex.specs.Hex.{encode_lower}
 use Rattle.schedule.specs.declared.refusal.LineRefusal.{LineRefusal}
 use Rattle.schedule.specs.Lines.{Left, IsLeft, left_text}
 

@@ -92,10 +92,7 @@ fn first_line(text: &[u8]) -> (&[u8], Option<&[u8]>)
 }
 
 /// The farm's setup and the events that a text spells, by the grammar of docs/FORMATS.md.
-pub fn read_schedule(
-    alloc: Global,
-    bytes: &[u8],
-) -> Result<(Setup, Vec<Event>), ScheduleRefusal>
+pub fn read_schedule(alloc: Global, bytes: &[u8]) -> Result<(Setup, Vec<Event>), ScheduleRefusal>
     ensures schedule { IfOk result (λ said. IsSchedule bytes.now said.0 said.1.items) }
     ensures refused { IfErr result (IsRefused bytes.now) }
 {

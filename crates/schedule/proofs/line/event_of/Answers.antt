@@ -1,4 +1,4 @@
-use Rattle.std.proofs.Common.{◌≡◌, ap, sym, subst, ◌∙◌}
+use Rattle.std.proofs.Common.{ap, sym, subst, ◌∙◌}
 use Rattle.schedule.specs.Lines.{SpelledBy, texts, words}
 use Rattle.schedule.proofs.line.event_of.Goals as goal
 

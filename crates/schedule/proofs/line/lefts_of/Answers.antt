@@ -1,5 +1,4 @@
-use Rattle.std.proofs.Common.{sym, subst, ◌∙◌}
-use Rattle.schedule.proofs.LineLemmas.{rising, not_rising, IsRising}
+use Rattle.schedule.proofs.LineLemmas.{rising, not_rising}
 use Rattle.schedule.proofs.line.lefts_of.Goals as goal
 
 pub returns-then-rises-clause-spelled : goal.returns-then-rises-clause-spelled

@@ -1,6 +1,3 @@
-use Rattle.std.proofs.Common.{◌≡◌, Err, true, false, sym, ap, ◌∙◌}
-use Rattle.std.specs.List.{list_any}
-use Rattle.std.specs.Char.{is_ascii_uppercase}
 use Rattle.schedule.proofs.HexLemmas.{lower_spelled, lower_no_upper, unread}
 use Rattle.schedule.proofs.WordLemmas.{passed_on}
 use Rattle.schedule.proofs.word.bytes_of.Goals as goal
