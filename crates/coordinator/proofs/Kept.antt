@@ -6,8 +6,8 @@ use Rattle.farm_base.specs.declared.message.Request.{Request}
 use Rattle.protocol.specs.Names.{Slot}
 use Rattle.protocol.specs.Machine.{LineVersion, ToCoord, Parked}
 use Rattle.protocol.specs.Ledger.{Ledger, Lease, Work, Decision, begin_work, decided, answering, lease_of, is_parked, handled}
-use Rattle.coordinator.specs.declared.lines.Added.{Added}
-use Rattle.coordinator.specs.declared.lines.SlotLine.{SlotLine}
+use Rattle.slotlines.specs.declared.lines.Added.{Added}
+use Rattle.slotlines.specs.declared.lines.SlotLine.{SlotLine}
 use Rattle.coordinator.specs.Held.{line_at}
 use Rattle.coordinator.specs.Shown.{lines_with}
 use Rattle.coordinator.specs.Promises.{OnlyGrow, asked, GrantsAtOnce}

@@ -17,13 +17,13 @@ use Rattle.protocol.specs.Names.{Slot, slot_eq, slots_eq, NodeId, Life, Ticket, 
 use Rattle.protocol.specs.Lists.{is_nil}
 use Rattle.protocol.specs.Machine.{News, LineVersion, Parked, ToCoord, slots_of, digest_for, version_of}
 use Rattle.protocol.specs.Ledger.{Limits, Ledger, Lease, Work, Decision, Give, Deny, Wait, pick, elsewhere, is_free, some_lease, has_slot, writable_slots, decision, gives, lease_for, carried_out, tried, stays, try_all, waiting, parks, retried, recall, recalls, holds_wanted, decided, acquiring, has_ticket, lease_under, lease_of, is_parked, without, ends, commits, confirms, may_commit, may_release, is_its, on_all, answered, committing, released, answering, is_older, is_older_ask, sees, newer_life, is_home, handled}
-use Rattle.coordinator.specs.declared.lines.Addition.{Addition}
-use Rattle.coordinator.specs.declared.lines.SlotLine.{SlotLine}
+use Rattle.slotlines.specs.declared.lines.Addition.{Addition}
+use Rattle.slotlines.specs.declared.lines.SlotLine.{SlotLine}
 use Rattle.coordinator.specs.Held.{line_at}
-use Rattle.coordinator.specs.Shown.{news_of}
-use Rattle.coordinator.specs.Additions.{HasRoom, IsAbove, AreReady}
+use Rattle.slotlines.specs.Lines.{news_of}
+use Rattle.slotlines.specs.Additions.{HasRoom, IsAbove, AreReady}
 use Rattle.coordinator.specs.Sound.{IsOpen, IsSound, IsRequest}
-use Rattle.coordinator.proofs.LineWords.{cases_bool, eqb_is}
+use Rattle.slotlines.proofs.LineWords.{cases_bool, eqb_is}
 use Rattle.coordinator.proofs.StateWords.{decision-is}
 use Rattle.coordinator.proofs.Trying.{tried-is, retried-is}
 
@@ -135,7 +135,7 @@ sound-retried k w s =
 -- ---- leases end
 
 -- some leases fewer
-sound-fewer : (p : Lease → Bool) (q : Ledger) → IsSound q → IsSound (record q { live = filter p q.live })
+pub sound-fewer : (p : Lease → Bool) (q : Ledger) → IsSound q → IsSound (record q { live = filter p q.live })
 sound-fewer p q s = record {
   leases = leases-filter p q.live s.leases;
   given = All-filter p (λ g. g.ticket.0 ≤ q.last) q.live s.given;

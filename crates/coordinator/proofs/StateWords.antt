@@ -14,7 +14,7 @@ use Rattle.protocol.specs.Machine.{News, slots_of, Parked}
 use Rattle.protocol.specs.Ledger.{Limits, Ledger, Give, Deny, Wait, pick, decision, elsewhere, all_taken, busy, is_free, is_leased}
 use Rattle.coordinator.specs.declared.state.SeenLife.{SeenLife}
 use Rattle.coordinator.specs.Held.{life_at}
-use Rattle.coordinator.proofs.LineWords.{eqb_same, eqb_apart}
+use Rattle.slotlines.proofs.LineWords.{eqb_same, eqb_apart}
 
 cases_nat : (a b : ℕ) → (a ≡ b) ⊎ (a ≢ b)
 cases_nat a b = grind arith

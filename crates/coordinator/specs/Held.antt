@@ -1,11 +1,12 @@
 -- What contracts see of a coordinator.
 use Rattle.std.specs.Prelude.{ℕ, Bool, ◌==◌, if◌then◌else◌, List, [], ◌∷◌, Option}
 use Rattle.std.specs.List.{list_any}
-use Rattle.protocol.specs.Names.{Slot, slot_eq, NodeId}
-use Rattle.protocol.specs.Machine.{LineVersion, Parked}
+use Rattle.protocol.specs.Names.{Slot, NodeId}
+use Rattle.protocol.specs.Machine.{Parked}
 use Rattle.protocol.specs.Ledger.{Lease, Ledger}
 use Rattle.leases.specs.Table.{among}
-use Rattle.coordinator.specs.declared.lines.SlotLine.{SlotLine}
+pub use Rattle.slotlines.specs.Lines.{line_at}
+use Rattle.slotlines.specs.declared.lines.SlotLine.{SlotLine}
 use Rattle.coordinator.specs.declared.state.SeenLife.{SeenLife}
 
 -- the ledger, as lists
@@ -19,11 +20,6 @@ pub record Held : Type 0 where
   pub old_home : Option NodeId
   pub lives : List SeenLife
   pub parked : List Parked
-
--- the line of a slot
-abbrev pub line_at : List SlotLine → Slot → List LineVersion
-line_at [] s = []
-line_at (l ∷ ls) s = if slot_eq l.slot s then l.line else line_at ls s
 
 -- the greatest life seen of a node
 abbrev pub life_at : List SeenLife → ℕ → ℕ

@@ -1,7 +1,6 @@
 -- What a coordinator keeps, by its fields.
-use Rattle.std.specs.Prelude.{List, [], ◌∷◌, Option, Some, None}
-use Rattle.protocol.specs.Machine.{LineVersion}
-use Rattle.coordinator.specs.declared.lines.SlotLine.{SlotLine}
+use Rattle.std.specs.Prelude.{List}
+use Rattle.slotlines.specs.declared.lines.SlotLine.{SlotLine}
 use Rattle.coordinator.specs.declared.state.State.{State}
 use Rattle.coordinator.specs.Held.{Held, line_at}
 use Rattle.coordinator.specs.Shown.{kept}
@@ -22,8 +21,3 @@ held s lines = record {
 
 abbrev pub keeps_sound : State → List SlotLine → Type 0
 keeps_sound s lines = IsSound (kept (line_at lines) s)
-
--- the line, if it has a version
-abbrev pub line_shown : List LineVersion → Option (List LineVersion)
-line_shown [] = None
-line_shown (v ∷ vs) = Some (v ∷ vs)

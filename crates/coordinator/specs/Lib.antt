@@ -1,7 +1,6 @@
 pub mod Held
 pub mod Shown
-pub mod Additions
 pub mod Sound
 pub mod Keeps
-pub mod Ordered
 pub mod Promises
+pub mod Answers

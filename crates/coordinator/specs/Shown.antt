@@ -1,30 +1,15 @@
 -- What an event shows while it is worked out.
-use Rattle.std.specs.Prelude.{ℕ, Bool, true, false, ◌||◌, List, ◌++◌, map, Option, Some, None}
-use Rattle.protocol.specs.Names.{Slot, Ticket}
-use Rattle.protocol.specs.Machine.{LineVersion, News, digest_for, version_of}
-use Rattle.protocol.specs.Ledger.{Ledger, Work, Lease, is_saved, without, lease_under, Decision, Give, Deny, Wait}
-use Rattle.std.specs.Vec.{vec_len}
-use Rattle.leases.specs.Table.{among}
-use Rattle.coordinator.specs.declared.lines.Addition.{Addition}
-use Rattle.coordinator.specs.declared.lines.Added.{Added}
-use Rattle.coordinator.specs.declared.lines.SlotLine.{SlotLine}
+use Rattle.std.specs.Prelude.{Bool, true, false, ◌||◌, List, Option, Some, None}
+use Rattle.protocol.specs.Names.{Ticket}
+use Rattle.protocol.specs.Machine.{FromCoord}
+use Rattle.protocol.specs.Ledger.{Ledger, Work, begin_work, Lease, is_saved, without, lease_under, Decision, Give, Deny, Wait}
+use Rattle.leases.specs.Table.{among, retires_some}
+pub use Rattle.slotlines.specs.Lines.{LineOf, lines_with}
 use Rattle.coordinator.specs.declared.state.State.{State}
 use Rattle.coordinator.specs.declared.state.Verdict.{Verdict}
 use Rattle.coordinator.specs.declared.state.Verdict.TheVariants as verdict
 use Rattle.coordinator.specs.declared.draft.Draft.{Draft}
-use Rattle.coordinator.specs.Held.{line_at, life_at, is_among}
-
--- the line of each slot
-abbrev pub LineOf : Type 0
-LineOf = Slot → List LineVersion
-
-abbrev pub news_of : Addition → News
-news_of a = record { slot = a.slot; digest = a.digest }
-
--- the lines with what a commit adds
-abbrev pub lines_with : List SlotLine → Option Added → LineOf
-lines_with lines None s = line_at lines s
-lines_with lines (Some a) s = line_at lines s ++ version_of a.ticket (digest_for s (map news_of a.additions.items))
+use Rattle.coordinator.specs.Held.{life_at, is_among}
 
 -- the ledger that a state shows, with these lines
 abbrev pub kept : LineOf → State → Ledger
@@ -49,6 +34,10 @@ abbrev pub saved_under : Option Lease → Bool
 saved_under None = false
 saved_under (Some g) = is_saved g
 
+-- an event that said these, and nothing else
+abbrev pub having_said : List FromCoord → Ledger → Work
+having_said sends q = record (begin_work q) { sends = sends }
+
 -- the lease of a ticket ends, if there is one
 abbrev pub ended : Ticket → Work → Work
 ended t w = record w {
@@ -56,7 +45,14 @@ ended t w = record w {
   changed = w.changed || saved_under (lease_under w.ledger.live t);
 }
 
--- the same where the record has its versions
+-- the lease of a ticket is withdrawn, if there is one
+abbrev pub withdraws_under : Ticket → Work → Work
+withdraws_under t w = record w {
+  ledger = record w.ledger { live = without t w.ledger.live; retired = retires_some (lease_under w.ledger.live t) w.ledger.retired };
+  changed = w.changed || saved_under (lease_under w.ledger.live t);
+}
+
+-- a lease ends, if there is one, and the record has its versions
 abbrev pub ended_committed : Ticket → Work → Work
 ended_committed t w = record w { ledger = record w.ledger { live = without t w.ledger.live }; changed = true }
 
@@ -64,8 +60,3 @@ abbrev pub as_decision : Verdict → Decision
 as_decision verdict.Give = Give
 as_decision (verdict.Deny why) = Deny why
 as_decision verdict.Wait = Wait
-
--- how many lines a commit adds to
-abbrev pub added_count : Option Added → ℕ
-added_count None = 0
-added_count (Some a) = vec_len a.additions

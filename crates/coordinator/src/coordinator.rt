@@ -1,4 +1,4 @@
-ghost use Rattle.std.specs.Prelude.{◌≡◌, not, ◌+◌, ◌≤◌, List, [], map, IfOk, OnOk, OnErr, IsOkUnless, Option, option_copied, length};
+ghost use Rattle.std.specs.Prelude.{◌≡◌, not, ◌+◌, ◌≤◌, List, [], map, IfOk, OnOk, OnErr, IsOkUnless, Option, Ok, None, option_copied, length};
 ghost use Rattle.std.specs.List.{list_any};
 ghost use Rattle.std.specs.List.Sorted.{IsStrictlySortedBy};
 ghost use Rattle.std.specs.Vec.{vec_capacity};
@@ -8,20 +8,22 @@ ghost use Rattle.leases.specs.Table.{state_of};
 ghost use Rattle.protocol.specs.Lists.{is_nil};
 ghost use Rattle.protocol.specs.Names.{slot_eq};
 ghost use Rattle.protocol.specs.Machine.{ToCoord};
-ghost use Rattle.protocol.specs.Ledger.{opening, begin_work, handled};
+ghost use Rattle.protocol.specs.Ledger.{opening, begin_work, handled, withdrawn, retired, pruned, nudged};
+ghost use Rattle.std.specs.Result.{result_err};
+ghost use Rattle.coordinator.specs.Answers.{Answers};
 ghost use Rattle.coordinator.specs.Held.{line_at, ledger};
-ghost use Rattle.coordinator.specs.Additions.{IsReady};
-ghost use Rattle.coordinator.specs.Shown.{kept, shown, lines_with, added_count};
+ghost use Rattle.slotlines.specs.Additions.{IsReady};
+ghost use Rattle.coordinator.specs.Shown.{kept, shown};
+ghost use Rattle.slotlines.specs.Lines.{lines_with, added_count, line_shown};
 ghost use Rattle.coordinator.specs.Sound.{IsSound, IsRequest};
 ghost use Rattle.coordinator.specs.Promises.{OnlyGrow, GrantsAtOnce};
-ghost use Rattle.coordinator.specs.Keeps.{line_shown};
 
 use super::draft::Draft;
-use super::lines::{Added, Lines, SlotLine};
 use super::state::State;
-use farm_base::{FromCoord, Items, Request, Slot, Ticket, ToCoord};
+use farm_base::{FromCoord, Items, NodeId, Request, Slot, Ticket, ToCoord};
 use leases::{LeaseTable, SlotState, TicketSource};
 use protocol::{CoordNote, CoordRefusal};
+use slotlines::{Added, Lines, SlotLine};
 use std::alloc::{AllocError, Global};
 use std::marker::Model;
 use versions::Line;
@@ -90,6 +92,19 @@ impl Coordinator {
         }
     }
 
+    /// What an event is worked out on: all that is kept but the lines.
+    fn draft(&self, alloc: Global) -> Result<Draft, AllocError>
+        ensures work { IfOk result (λ draft. shown (line_at self.now.lines) draft ≡ begin_work (ledger self.now)) }
+        ensures sound { IfOk result (λ draft. IsSound (kept (line_at self.now.lines) draft.state)) }
+    {
+        Ok(Draft {
+            state: self.state.copy(alloc)?,
+            sends: Vec::new(alloc),
+            changed: false,
+            note: CoordNote::Nothing,
+        })
+    }
+
     /// What a message comes to. Nothing changes until that is accepted.
     fn prepare(&self, alloc: Global, message: &ToCoord) -> Result<Prepared, AllocError>
         ensures work { IfOk result (λ p. shown (lines_with self.now.lines p.added) p.draft
@@ -100,12 +115,7 @@ impl Coordinator {
         ensures larger { IfOk result (λ p. length self.now.lines + added_count p.added ≤ vec_capacity p.room) }
     {
         is_request(message);
-        let mut draft = Draft {
-            state: self.state.copy(alloc)?,
-            sends: Vec::new(alloc),
-            changed: false,
-            note: CoordNote::Nothing,
-        };
+        let mut draft = self.draft(alloc)?;
         let added = draft.deliver(alloc, &self.lines, message)?;
         let room = self.lines.room_to_add(alloc, &added)?;
         Ok(Prepared { draft, added, room })
@@ -131,6 +141,27 @@ impl Coordinator {
         }
     }
 
+    /// Changes to what was worked out, where no line changes.
+    fn settle(&mut self, draft: Draft) -> Handled
+        requires { IsSound (kept (line_at self.old.lines) draft.state) }
+        ensures ledger { ledger self.new ≡ kept (line_at self.old.lines) draft.state }
+        ensures lines { self.new.lines ≡ self.old.lines }
+        ensures sends { result.sends ≡ draft.sends.items }
+        ensures note { result.note ≡ draft.note }
+    {
+        let Draft {
+            state,
+            sends,
+            note,
+            ..
+        } = draft;
+        self.state = state;
+        Handled {
+            sends: Items::new(sends),
+            note,
+        }
+    }
+
     /// Does what a message asks, in one step.
     pub fn handle(&mut self, alloc: Global, message: &ToCoord) -> Result<Handled, CoordRefusal>
         ensures ledger { OnOk result (ledger self.new ≡ (handled farm_limits message.now (begin_work (ledger self.old))).ledger) }
@@ -146,6 +177,122 @@ impl Coordinator {
         };
         let handled = self.accept(prepared);
         Ok(handled)
+    }
+
+    /// What the withdrawal of a lease comes to.
+    fn withdrawal(&self, alloc: Global, ticket: Ticket) -> Result<Draft, AllocError>
+        requires { result_err (withdrawn farm_limits ticket (begin_work (ledger self.now))) ≡ None }
+        ensures work { IfOk result (λ draft. withdrawn farm_limits ticket (begin_work (ledger self.now)) ≡ Ok (shown (line_at self.now.lines) draft)) }
+        ensures sound { IfOk result (λ draft. IsSound (kept (line_at self.now.lines) draft.state)) }
+    {
+        let mut draft = self.draft(alloc)?;
+        draft.withdraw(alloc, &self.lines, ticket)?;
+        Ok(draft)
+    }
+
+    /// Withdraws the lease of a ticket, in one step: its PRIVATE slots are never granted again, and the parked
+    /// asks are tried. A tenure is never withdrawn.
+    pub fn withdraw(&mut self, alloc: Global, ticket: Ticket) -> Result<Handled, CoordRefusal>
+        ensures answer { Answers (withdrawn farm_limits ticket (begin_work (ledger self.old))) (ledger self.new) result }
+        ensures lines { self.new.lines ≡ self.old.lines }
+        ensures err { OnErr result (self.new ≡ self.old) }
+    {
+        if let Some(refusal) = self.state.withdrawal_refusal(ticket) {
+            return Err(refusal);
+        }
+        let Ok(draft) = self.withdrawal(alloc, ticket) else {
+            return Err(CoordRefusal::OutOfMemory);
+        };
+        let handled = self.settle(draft);
+        Ok(handled)
+    }
+
+    /// What the retirement of a node comes to.
+    fn retirement(&self, alloc: Global, node: NodeId) -> Result<Draft, AllocError>
+        requires { result_err (retired farm_limits node (begin_work (ledger self.now))) ≡ None }
+        ensures work { IfOk result (λ draft. retired farm_limits node (begin_work (ledger self.now)) ≡ Ok (shown (line_at self.now.lines) draft)) }
+        ensures sound { IfOk result (λ draft. IsSound (kept (line_at self.now.lines) draft.state)) }
+    {
+        let mut draft = self.draft(alloc)?;
+        draft.retire(alloc, &self.lines, node)?;
+        Ok(draft)
+    }
+
+    /// Retires a node for good, in one step: its leases are withdrawn, and nothing that it says is heard again.
+    /// The holder of a tenure is never retired.
+    pub fn retire(&mut self, alloc: Global, node: NodeId) -> Result<Handled, CoordRefusal>
+        ensures answer { Answers (retired farm_limits node (begin_work (ledger self.old))) (ledger self.new) result }
+        ensures lines { self.new.lines ≡ self.old.lines }
+        ensures err { OnErr result (self.new ≡ self.old) }
+    {
+        if let Some(refusal) = self.state.retirement_refusal(node) {
+            return Err(refusal);
+        }
+        let Ok(draft) = self.retirement(alloc, node) else {
+            return Err(CoordRefusal::OutOfMemory);
+        };
+        let handled = self.settle(draft);
+        Ok(handled)
+    }
+
+    /// Why the line of a slot can't be pruned, if so.
+    fn prune_refusal(&self, slot: &Slot) -> Option<CoordRefusal>
+        ensures { result ≡ result_err (pruned farm_limits slot.now (begin_work (ledger self.now))) }
+    {
+        if self.state.table.is_leased(slot) {
+            Some(CoordRefusal::SlotLeased)
+        } else if !self.lines.has_version(slot) {
+            Some(CoordRefusal::NoSuchSlot)
+        } else if self.state.has_ticket() {
+            None
+        } else {
+            Some(CoordRefusal::TicketsSpent)
+        }
+    }
+
+    /// What the prune of a slot's line comes to.
+    fn pruning(&self, alloc: Global, slot: &Slot) -> Result<Prepared, AllocError>
+        requires { result_err (pruned farm_limits slot.now (begin_work (ledger self.now))) ≡ None }
+        ensures work { IfOk result (λ p. pruned farm_limits slot.now (begin_work (ledger self.now)) ≡ Ok (shown (lines_with self.now.lines p.added) p.draft)) }
+        ensures sound { IfOk result (λ p. IsSound (kept (lines_with self.now.lines p.added) p.draft.state)) }
+        ensures ready { IfOk result (λ p. IsReady self.now.lines p.added) }
+        ensures empty { IfOk result (λ p. p.room.items ≡ []) }
+        ensures larger { IfOk result (λ p. length self.now.lines + added_count p.added ≤ vec_capacity p.room) }
+    {
+        let mut draft = self.draft(alloc)?;
+        let added = draft.prune(alloc, &self.lines, slot)?;
+        let room = self.lines.room_to_add(alloc, &added)?;
+        Ok(Prepared { draft, added, room })
+    }
+
+    /// Puts the empty content on the line of a slot, under a new ticket, in one step.
+    pub fn prune(&mut self, alloc: Global, slot: &Slot) -> Result<Handled, CoordRefusal>
+        ensures answer { Answers (pruned farm_limits slot.now (begin_work (ledger self.old))) (ledger self.new) result }
+        ensures grow { OnlyGrow (line_at self.old.lines) (line_at self.new.lines) }
+        ensures err { OnErr result (self.new ≡ self.old) }
+    {
+        if let Some(refusal) = self.prune_refusal(slot) {
+            return Err(refusal);
+        }
+        let Ok(prepared) = self.pruning(alloc, slot) else {
+            return Err(CoordRefusal::OutOfMemory);
+        };
+        let handled = self.accept(prepared);
+        Ok(handled)
+    }
+
+    /// Sends the Grant of each lease again, the oldest first, and asks for each tenure that is waited for.
+    /// Nothing else changes.
+    pub fn nudge(&self, alloc: Global) -> Result<Handled, CoordRefusal>
+        ensures { Answers (Ok (nudged farm_limits (begin_work (ledger self.now)))) (ledger self.now) result }
+    {
+        let Ok(sends) = self.state.remind_all(alloc, &self.lines) else {
+            return Err(CoordRefusal::OutOfMemory);
+        };
+        Ok(Handled {
+            sends: Items::new(sends),
+            note: CoordNote::Nudged,
+        })
     }
 
     /// How many messages one message makes it send, at most.

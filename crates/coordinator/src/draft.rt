@@ -8,9 +8,8 @@ ghost use Rattle.protocol.specs.Ledger.{decision, decided, sees, is_older, is_ho
 ghost use Rattle.coordinator.specs.Held.{line_at};
 ghost use Rattle.coordinator.specs.Shown.{LineOf, kept, shown, lines_with, ended, ended_committed};
 ghost use Rattle.coordinator.specs.Sound.{IsSound};
-ghost use Rattle.coordinator.specs.Additions.{IsReady};
+ghost use Rattle.slotlines.specs.Additions.{IsReady};
 
-use super::lines::{Added, Lines, additions, all_stand, confirmed};
 use super::state::{
     State, Verdict, cleared, drop_older_asks, grant_of, is_among, is_home, is_parked, is_saved,
     is_some_saved, seen_life, set_life,
@@ -19,6 +18,7 @@ use farm_base::{
     Copied, FromCoord, Grant, Items, Life, News, NodeId, Parked, Request, Ticket, ToCoord, Why,
 };
 use protocol::CoordNote;
+use slotlines::{Added, Lines, additions, all_stand, confirmed};
 use std::alloc::{AllocError, Global};
 use std::mem;
 
@@ -105,7 +105,7 @@ impl Draft {
     }
 
     /// Tries the parked asks, in order of arrival.
-    fn retry(
+    pub(crate) fn retry(
         &mut self,
         alloc: Global,
         lines: &Lines,

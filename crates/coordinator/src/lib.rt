@@ -3,7 +3,7 @@
 
 mod coordinator;
 mod draft;
-mod lines;
+mod own_calls;
 mod state;
 
 pub use coordinator::{Coordinator, Handled};

@@ -11,11 +11,11 @@ ghost use Rattle.protocol.specs.Ledger.{decision, elsewhere, grant_of, is_saved,
 ghost use Rattle.coordinator.specs.Held.{life_at, is_among};
 ghost use Rattle.coordinator.specs.Shown.{LineOf, kept, as_decision, lines_with, saved_under};
 
-use super::lines::{Added, Lines, granted_slots};
 use farm_base::{
     Ask, Copied, Grant, Items, Lease, Life, Mode, News, NodeId, Parked, Slot, Ticket, Why, copy_all,
 };
 use leases::{Fit, LeaseTable, TicketSource};
+use slotlines::{Added, Lines, granted_slots};
 use std::alloc::{AllocError, Global};
 
 /// The greatest life seen of a node.
@@ -94,6 +94,21 @@ pub(crate) fn drop_older_asks(parked: &mut Vec<Parked>, node: NodeId, life: Life
     ensures { parked.new.items ≡ filter (λ p. not (is_older_ask node life p)) parked.old.items }
 {
     parked.retain(|p| !(p.node == node && p.life < life));
+}
+
+/// Keeps the node as one that is retired.
+pub(crate) fn add_gone(gone: &mut Vec<NodeId>, node: NodeId) -> Result<(), AllocError>
+    ensures { OnOk result (is_among gone.new.items ≡ put node.0 true (is_among gone.old.items)) }
+{
+    gone.push(node)?;
+    Ok(())
+}
+
+/// Drops the asks of a node.
+pub(crate) fn drop_asks_of(parked: &mut Vec<Parked>, node: NodeId)
+    ensures { parked.new.items ≡ filter (λ p. not (p.node.0 == node.0)) parked.old.items }
+{
+    parked.retain(|p| p.node != node);
 }
 
 /// An old home that is this node is no more.

@@ -1,3 +1,4 @@
 pub mod MarkLemmas
 pub mod TableLemmas
 pub mod LowestLaw
+pub mod RetiredLemmas

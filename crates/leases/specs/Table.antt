@@ -1,9 +1,9 @@
 -- What a lease table holds, and whether an ask fits in.
-use Rattle.std.specs.Prelude.{Bool, true, false, not, ◌&&◌, List, map, Option, Some, None}
-use Rattle.std.specs.List.{list_any, find}
+use Rattle.std.specs.Prelude.{Bool, true, false, not, ◌&&◌, List, [], map, filter, Option, Some, None}
+use Rattle.std.specs.List.{list_any, find, flat_map}
 use Rattle.farm_base.specs.declared.lease.Lease.{Lease}
-use Rattle.protocol.specs.Names.{Slot, slot_eq, only_slot, NodeId, Life, Ask, Ticket, Want, any_shared, wants_shared, leased_wants}
-use Rattle.protocol.specs.Ledger.{has_slot, some_lease, slot_for, all_taken, busy}
+use Rattle.protocol.specs.Names.{Slot, slot_eq, is_private, only_slot, NodeId, Life, Ask, Ticket, Want, any_shared, wants_shared, leased_wants}
+use Rattle.protocol.specs.Ledger.{has_slot, some_lease, slot_for, all_taken, busy, retires}
 use Rattle.leases.specs.declared.lease_table.Fit.{Fit}
 use Rattle.leases.specs.declared.lease_table.Fit.TheVariants.{Fits, Busy, InstancesSpent}
 use Rattle.leases.specs.declared.lease_table.SlotState.{SlotState}
@@ -63,3 +63,21 @@ state_by None false = state.Free
 -- the slot is leased, or else retired, or else free
 abbrev pub state_of : Table → Slot → SlotState
 state_of t s = state_by (find (λ g. has_slot g.slots s) t.live) (among t.retired s)
+
+-- the PRIVATE slots of a lease
+abbrev pub private_slots : List (Slot × Bool) → List Slot
+private_slots slots = map (λ x. x.0) (filter (λ x. is_private x.0.folder.mode) slots)
+
+-- the same of the lease, if there is one
+abbrev pub private_of : Option Lease → List Slot
+private_of None = []
+private_of (Some g) = private_slots g.slots
+
+-- the PRIVATE slots of leases
+abbrev pub all_private : List Lease → List Slot
+all_private leases = flat_map (λ g. private_slots g.slots) leases
+
+-- the PRIVATE slots of the lease are retired too, if there is one
+abbrev pub retires_some : Option Lease → (Slot → Bool) → Slot → Bool
+retires_some None retired = retired
+retires_some (Some g) retired = retires g retired

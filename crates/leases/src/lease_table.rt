@@ -1,11 +1,11 @@
-ghost use Rattle.std.specs.Prelude.{if◌then◌else◌, ◌≡◌, ◌≢◌, ℕ, ◌≤◌, ◌<◌, true, false, not, [], ◌∷◌, ◌++◌, filter, map, count_by, All, AllPairs, IfOk, IfSome, OnOk, OnErr, option_copied};
+ghost use Rattle.std.specs.Prelude.{if◌then◌else◌, ◌≡◌, ◌≢◌, ℕ, ◌≤◌, ◌<◌, true, false, not, [], ◌∷◌, ◌++◌, filter, map, count_by, ◌&&◌, All, AllPairs, IfOk, IfSome, OnOk, OnErr, option_copied};
 ghost use Rattle.std.specs.List.{find, list_any, position_from};
 ghost use Rattle.farm_base.specs.Wanted.{IsWants};
 ghost use Rattle.protocol.specs.Names.{leased_wants, wants_shared, any_shared, is_private, only_slot};
-ghost use Rattle.protocol.specs.Ledger.{has_slot, some_lease, lowest, slot_for, all_taken, busy, lease_of, lease_under, without, is_older, has_ticket};
+ghost use Rattle.protocol.specs.Ledger.{has_slot, some_lease, lowest, slot_for, all_taken, busy, lease_of, lease_under, without, is_older, has_ticket, is_at, retire_all};
 ghost use Rattle.leases.specs.Leases.{AreLeases, IsBefore};
 ghost use Rattle.leases.specs.Marks.{Marks};
-ghost use Rattle.leases.specs.Table.{among, is_leased, is_free, fit_of, lease_for, state_of, slots_of, takes, holds_some};
+ghost use Rattle.leases.specs.Table.{among, is_leased, is_free, fit_of, lease_for, state_of, slots_of, takes, holds_some, private_slots, private_of, all_private, retires_some};
 
 use super::marks::{mark_all, mark_leased};
 use farm_base::{
@@ -179,6 +179,13 @@ impl LeaseTable {
             .find(|lease| has_slot(lease.slots.as_slice(), slot))
     }
 
+    /// Whether a lease has the slot.
+    pub fn is_leased(&self, slot: &Slot) -> bool
+        ensures { result ≡ is_leased self.now slot.now }
+    {
+        some_lease(self.leases.as_slice(), slot)
+    }
+
     fn is_retired(&self, slot: &Slot) -> bool
         ensures { result ≡ among self.now.retired slot.now }
     {
@@ -333,6 +340,63 @@ impl LeaseTable {
         take_out(&mut self.leases, ticket)
     }
 
+    /// Withdraws the lease of a ticket, and gives it back. Its PRIVATE slots are never granted again.
+    pub fn withdraw(&mut self, alloc: Global, ticket: Ticket) -> Result<Option<Lease>, AllocError>
+        ensures ended { IfOk result (λ lease. lease ≡ lease_under self.old.live ticket) }
+        ensures rest { OnOk result (self.new.live ≡ without ticket self.old.live) }
+        ensures retired { OnOk result (among self.new.retired ≡ retires_some (lease_under self.old.live ticket) (among self.old.retired)) }
+        ensures err { OnErr result (self.new ≡ self.old) }
+    {
+        let mut retired = self.private_under(alloc, ticket)?;
+        self.retired.append(&mut retired)?;
+        Ok(take_out(&mut self.leases, ticket))
+    }
+
+    /// The PRIVATE slots of the lease of a ticket.
+    fn private_under(&self, alloc: Global, ticket: Ticket) -> Result<Vec<Slot>, AllocError>
+        ensures { IfOk result (λ slots. slots.items ≡ private_of (lease_under self.now.live ticket)) }
+    {
+        match self.lease(ticket) {
+            Some(lease) => private_slots(alloc, lease.slots.as_slice()),
+            None => Ok(Vec::new(alloc)),
+        }
+    }
+
+    /// Withdraws all leases of a node. Their PRIVATE slots are never granted again.
+    pub fn withdraw_all_of(&mut self, alloc: Global, node: NodeId) -> Result<(), AllocError>
+        ensures rest { OnOk result (self.new.live ≡ filter (λ g. not (is_at node g)) self.old.live) }
+        ensures retired { OnOk result (among self.new.retired ≡ retire_all (filter (is_at node) self.old.live) (among self.old.retired)) }
+        ensures err { OnErr result (self.new ≡ self.old) }
+    {
+        let mut retired = private_slots_of(alloc, self.leases.as_slice(), node)?;
+        self.retired.append(&mut retired)?;
+        drop_all_of(&mut self.leases, node);
+        Ok(())
+    }
+
+    /// Whether a node has a lease.
+    pub fn has_lease_of(&self, node: NodeId) -> bool
+        ensures { result ≡ list_any (is_at node) self.now.live }
+    {
+        self.leases.iter().any(|lease| lease.node == node)
+    }
+
+    /// Whether a node holds a tenure.
+    pub fn has_tenure_of(&self, node: NodeId) -> bool
+        ensures { result ≡ list_any (λ g. is_at node g && g.tenure) self.now.live }
+    {
+        self.leases
+            .iter()
+            .any(|lease| lease.node == node && lease.tenure)
+    }
+
+    /// The leases, the oldest first.
+    pub fn leases(&self) -> &[Lease]
+        ensures { result.now ≡ self.now.live }
+    {
+        self.leases.as_slice()
+    }
+
     /// Ends the leases of older lives of a node, and says how many. Their slots are free again.
     pub fn end_lives_below(&mut self, node: NodeId, life: Life) -> usize
         ensures ended { result ≡ count_by (is_older node life) self.old.live }
@@ -375,6 +439,46 @@ fn drop_older(leases: &mut Vec<Lease>, node: NodeId, life: Life)
     ensures { leases.new.items ≡ filter (λ g. not (is_older node life g)) leases.old.items }
 {
     leases.retain(|lease| !(lease.node == node && lease.life < life));
+}
+
+fn drop_all_of(leases: &mut Vec<Lease>, node: NodeId)
+    ensures { leases.new.items ≡ filter (λ g. not (is_at node g)) leases.old.items }
+{
+    leases.retain(|lease| lease.node != node);
+}
+
+/// The PRIVATE slots of a lease.
+fn private_slots(alloc: Global, slots: &[(Slot, bool)]) -> Result<Vec<Slot>, AllocError>
+    ensures { IfOk result (λ v. v.items ≡ private_slots slots.now) }
+{
+    let mut private = Vec::new(alloc);
+    for held in slots {
+        if matches!(held.0.folder().mode, Mode::Private) {
+            private.push(held.0.copy(alloc)?)?;
+        }
+    }
+    Ok(private)
+}
+
+/// The PRIVATE slots of a node's leases.
+fn private_slots_of(alloc: Global, leases: &[Lease], node: NodeId) -> Result<Vec<Slot>, AllocError>
+    ensures { IfOk result (λ v. v.items ≡ all_private (filter (is_at node) leases.now)) }
+{
+    let mut private = Vec::new(alloc);
+    for lease in leases {
+        if lease.node == node {
+            let mut slots = private_slots(alloc, lease.slots.as_slice())?;
+            private.append(&mut slots)?;
+        }
+    }
+    Ok(private)
+}
+
+/// Whether the lease has the one slot of a folder for which an ask with these wants takes a slot.
+pub fn holds_wanted(lease: &Lease, wants: &Wants, tenure: bool) -> bool
+    ensures { result ≡ holds_some (leased_wants tenure wants.now) lease.now }
+{
+    holds_some(lease.slots.as_slice(), wants.as_slice(), tenure)
 }
 
 /// Whether the folder's one slot is among the lease's.

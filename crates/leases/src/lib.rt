@@ -7,5 +7,5 @@ mod marks;
 mod ticket_source;
 
 pub use laws::lowest_is_lowest;
-pub use lease_table::{Fit, LeaseTable, SlotState};
+pub use lease_table::{Fit, LeaseTable, SlotState, holds_wanted};
 pub use ticket_source::{TicketSource, TicketsSpent};

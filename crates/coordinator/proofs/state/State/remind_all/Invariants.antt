@@ -1,0 +1,10 @@
+use Rattle.std.proofs.Common.{◌≡◌, drop}
+use Rattle.folders.specs.Farm.{farm_limits}
+use Rattle.protocol.specs.Ledger.{begin_work, nudge_all}
+use Rattle.coordinator.specs.Held.{line_at}
+use Rattle.coordinator.specs.Shown.{having_said, kept}
+use Rattle.coordinator.proofs.state.State.remind_all.Given as goal
+
+abbrev pub invariant-loop-lease : goal.invariant-loop-lease
+invariant-loop-lease l = nudge_all farm_limits (drop l.lease-index l.leases) (having_said l.sends.items (kept (line_at l.lines) l.self))
+    ≡ nudge_all farm_limits l.leases (begin_work (kept (line_at l.lines) l.self))

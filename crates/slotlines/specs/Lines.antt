@@ -1,0 +1,35 @@
+-- The lines of slots, and what contracts see of what a commit adds to them.
+use Rattle.std.specs.Prelude.{ℕ, if◌then◌else◌, List, [], ◌∷◌, ◌++◌, map, Option, Some, None}
+use Rattle.std.specs.Vec.{vec_len}
+use Rattle.protocol.specs.Names.{Slot, slot_eq}
+use Rattle.protocol.specs.Machine.{LineVersion, News, digest_for, version_of}
+use Rattle.slotlines.specs.declared.lines.Addition.{Addition}
+use Rattle.slotlines.specs.declared.lines.Added.{Added}
+use Rattle.slotlines.specs.declared.lines.SlotLine.{SlotLine}
+
+-- the line of each slot
+abbrev pub LineOf : Type 0
+LineOf = Slot → List LineVersion
+
+-- the line of a slot
+abbrev pub line_at : List SlotLine → Slot → List LineVersion
+line_at [] s = []
+line_at (l ∷ ls) s = if slot_eq l.slot s then l.line else line_at ls s
+
+-- the line, if it has a version
+abbrev pub line_shown : List LineVersion → Option (List LineVersion)
+line_shown [] = None
+line_shown (v ∷ vs) = Some (v ∷ vs)
+
+abbrev pub news_of : Addition → News
+news_of a = record { slot = a.slot; digest = a.digest }
+
+-- the lines with what a commit adds
+abbrev pub lines_with : List SlotLine → Option Added → LineOf
+lines_with lines None s = line_at lines s
+lines_with lines (Some a) s = line_at lines s ++ version_of a.ticket (digest_for s (map news_of a.additions.items))
+
+-- how many lines a commit adds to
+abbrev pub added_count : Option Added → ℕ
+added_count None = 0
+added_count (Some a) = vec_len a.additions
