@@ -1,25 +1,31 @@
 //! Measures the crates. With no words it makes small inputs and prints what comes of them; with the word
-//! `read` or `keys` it measures, each figure as a ratio to hashing in the same run.
+//! `read`, `keys` or `replay` it measures, each figure as a ratio of times in the same run.
 #![tactic(auto)]
 
 mod clock;
 mod graphs;
 mod keys;
 mod read;
+mod replay;
 
 use std::{env, io};
 
 fn main(rt: HostRuntime) -> anyhow::Result<()> {
     let mut word = env::args(&rt)?.skip(1);
     match word.next() {
-        None => small(&rt),
+        None => {
+            small(&rt)?;
+            turns(&rt)
+        }
         Some(word) => {
             if word.as_str() == "read" {
                 read::measure(&rt)
             } else if word.as_str() == "keys" {
                 keys::measure(&rt)
+            } else if word.as_str() == "replay" {
+                replay::measure(&rt)
             } else {
-                eprintln!(rt; "bench [read|keys]")?;
+                eprintln!(rt; "bench [read|keys|replay]")?;
                 Ok(())
             }
         }
@@ -39,5 +45,15 @@ fn small<R: Print + AllocGlobal>(rt: &R) -> anyhow::Result<()> {
         let text = key.to_text(rt.alloc())?;
         println!(rt; "{text}")?;
     }
+    Ok(())
+}
+
+/// What comes of two nodes that take turns with a folder.
+fn turns<R: Print + AllocGlobal>(rt: &R) -> anyhow::Result<()> {
+    let events = replay::events(rt.alloc(), 2, 28)?;
+    let world = world::replay(rt.alloc(), world::Setup { nodes: 2 }, events.as_slice())?;
+    let messages = world.pool_len();
+    let lines = world::print_lines(rt.alloc(), &world)?;
+    print!(rt; "messages {messages}\n{lines}")?;
     Ok(())
 }

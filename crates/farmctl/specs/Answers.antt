@@ -9,7 +9,8 @@ use Rattle.opsproto.specs.declared.definition.Definition.{Definition}
 use Rattle.opsproto.specs.Definitions.{definition_at}
 use Rattle.solverkeys.specs.GraphKeys.{AreKeys}
 use Rattle.farmctl.specs.declared.command.Command.{Command}
-use Rattle.farmctl.specs.declared.command.Command.TheVariants.{Check, Keys}
+use Rattle.farmctl.specs.declared.command.Command.TheVariants.{Check, Keys, Replay}
+use Rattle.farmctl.specs.Replays.{IsReplayed, IsUnread}
 use Rattle.farmctl.specs.declared.failure.Failure.{Failure}
 use Rattle.farmctl.specs.declared.failure.Failure.TheVariants as failure
 
@@ -40,16 +41,24 @@ abbrev pub SpellsGraph : List ℕ → GraphParts → Type 0
 SpellsGraph bytes g = (d : Definition) × (definition_at bytes ≡ Ok d) × IsGraphOf d.def g
 
 -- why they don't: the first refusal of the definition's bytes, or of its graph
-abbrev pub IsRefused : List ℕ → Failure → Type 0
-IsRefused bytes (failure.Read e) = definition_at bytes ≡ Err e
-IsRefused bytes (failure.Load e) = (d : Definition) × (definition_at bytes ≡ Ok d) × DefinitionCheck d.def (Some e)
-IsRefused bytes failure.Memory = ⊤
+abbrev pub IsNoGraph : List ℕ → Failure → Type 0
+IsNoGraph bytes (failure.Read e) = definition_at bytes ≡ Err e
+IsNoGraph bytes (failure.Load e) = (d : Definition) × (definition_at bytes ≡ Ok d) × DefinitionCheck d.def (Some e)
+IsNoGraph bytes (failure.Schedule e) = ⊥
+IsNoGraph bytes failure.Memory = ⊤
 
--- what is printed of a graph
-abbrev pub IsPrinted : Command → GraphParts → List ℕ → Type 0
-IsPrinted Check g text = text ≡ check_text g
-IsPrinted Keys g text = (keys : List Key) × AreKeys g keys × (text ≡ keys_text g.vertices keys)
+-- what `keys` prints of a graph
+abbrev pub AreListed : GraphParts → List ℕ → Type 0
+AreListed g text = (keys : List Key) × AreKeys g keys × (text ≡ keys_text g.vertices keys)
 
 -- what is printed for bytes
 abbrev pub IsAnswer : Command → List ℕ → List ℕ → Type 0
-IsAnswer command bytes text = (g : GraphParts) × SpellsGraph bytes g × IsPrinted command g text
+IsAnswer Check bytes text = (g : GraphParts) × SpellsGraph bytes g × (text ≡ check_text g)
+IsAnswer Keys bytes text = (g : GraphParts) × SpellsGraph bytes g × AreListed g text
+IsAnswer Replay bytes text = IsReplayed bytes text
+
+-- why nothing is printed
+abbrev pub IsRefused : Command → List ℕ → Failure → Type 0
+IsRefused Check = IsNoGraph
+IsRefused Keys = IsNoGraph
+IsRefused Replay = IsUnread

@@ -53,7 +53,7 @@ fn print_unreadable<E: Write>(alloc: Global, name: &str, err: &mut E) -> u8 {
 pub fn act<O: Write, E: Write>(
     alloc: Global,
     command: Command,
-    files: &[(String, Option<Vec<u8>>)],
+    files: Vec<(String, Option<Vec<u8>>)>,
     out: &mut O,
     err: &mut E,
 ) -> u8 {
@@ -62,7 +62,7 @@ pub fn act<O: Write, E: Write>(
         let Some(bytes) = bytes else {
             return print_unreadable(alloc, name.as_str(), err);
         };
-        match answer(alloc, command, bytes.as_slice()) {
+        match answer(alloc, command, bytes) {
             Err(failure) => return print_failure(alloc, failure, err),
             Ok(text) => {
                 if all.push_str(text.as_str()).is_err() {
@@ -95,7 +95,7 @@ pub fn run<R: Files + Input + AllocGlobal, O: Write, E: Write>(
             return print(err, "out of memory\n", MEMORY);
         }
     }
-    act(rt.alloc(), command, files.as_slice(), out, err)
+    act(rt.alloc(), command, files, out, err)
 }
 
 fn print_usage<O: Write, E: Write>(

@@ -1,11 +1,11 @@
 //! What the program answers for a file.
 ghost use Rattle.std.specs.Prelude.{◌≡◌, IfOk, IfErr, OnOk, List, ◌++◌, length};
 ghost use Rattle.std.specs.String.{string_bytes};
-ghost use Rattle.farmctl.specs.Answers.{result_text, check_text, key_line, keys_text, SpellsGraph, IsRefused, IsPrinted, IsAnswer};
-ghost use Rattle.farmctl.specs.declared.command.Command.TheVariants.{Keys};
+ghost use Rattle.farmctl.specs.Answers.{result_text, check_text, key_line, keys_text, SpellsGraph, IsNoGraph, AreListed, IsRefused, IsAnswer};
 
 use super::command::Command;
 use super::failure::Failure;
+use super::replaying::replayed;
 use farm_base::{Digest, Key};
 use opsproto::{OpRefusal, read_definition};
 use std::alloc::{AllocError, Global};
@@ -62,37 +62,46 @@ fn lines(alloc: Global, graph: &Graph, keys: &[Key]) -> Result<String, AllocErro
 }
 
 fn listed(alloc: Global, graph: &Graph) -> Result<String, AllocError>
-    ensures { IfOk result (λ text. IsPrinted Keys graph.now (string_bytes text)) }
+    ensures { IfOk result (λ text. AreListed graph.now (string_bytes text)) }
 {
     let keys = solverkeys::keys(alloc, graph)?;
     lines(alloc, graph, keys.as_slice())
 }
 
-/// The graph that the bytes of a file spell.
-fn graph_of(alloc: Global, bytes: &[u8]) -> Result<Graph, Failure>
-    ensures found { IfOk result (SpellsGraph bytes.now) }
-    ensures refused { IfErr result (IsRefused bytes.now) }
+/// The graph that the bytes of a file spell. The bytes are given back once they are read.
+fn graph_of(alloc: Global, bytes: Vec<u8>) -> Result<Graph, Failure>
+    ensures found { IfOk result (SpellsGraph bytes.items) }
+    ensures refused { IfErr result (IsNoGraph bytes.items) }
 {
-    match read_definition(alloc, bytes) {
-        Err(OpRefusal::OutOfMemory) => Err(Failure::Memory),
-        Err(refusal) => Err(Failure::Read(refusal)),
-        Ok(definition) => match load(alloc, definition) {
-            Err(LoadRefusal::OutOfMemory) => Err(Failure::Memory),
-            Err(refusal) => Err(Failure::Load(refusal)),
-            Ok(graph) => Ok(graph),
-        },
+    let definition = match read_definition(alloc, bytes.as_slice()) {
+        Err(OpRefusal::OutOfMemory) => return Err(Failure::Memory),
+        Err(refusal) => return Err(Failure::Read(refusal)),
+        Ok(definition) => definition,
+    };
+    drop(bytes);
+    match load(alloc, definition) {
+        Err(LoadRefusal::OutOfMemory) => Err(Failure::Memory),
+        Err(refusal) => Err(Failure::Load(refusal)),
+        Ok(graph) => Ok(graph),
     }
 }
 
 /// The lines that the command prints for a file.
-pub fn answer(alloc: Global, command: Command, bytes: &[u8]) -> Result<String, Failure>
-    ensures printed { IfOk result (λ text. IsAnswer command bytes.now (string_bytes text)) }
-    ensures refused { IfErr result (IsRefused bytes.now) }
+pub fn answer(alloc: Global, command: Command, bytes: Vec<u8>) -> Result<String, Failure>
+    ensures printed { IfOk result (λ text. IsAnswer command bytes.items (string_bytes text)) }
+    ensures refused { IfErr result (IsRefused command bytes.items) }
 {
-    let graph = graph_of(alloc, bytes)?;
-    let text = match command {
-        Command::Check => checked(alloc, &graph)?,
-        Command::Keys => listed(alloc, &graph)?,
-    };
-    Ok(text)
+    match command {
+        Command::Check => {
+            let graph = graph_of(alloc, bytes)?;
+            let text = checked(alloc, &graph)?;
+            Ok(text)
+        }
+        Command::Keys => {
+            let graph = graph_of(alloc, bytes)?;
+            let text = listed(alloc, &graph)?;
+            Ok(text)
+        }
+        Command::Replay => replayed(alloc, bytes.as_slice()),
+    }
 }

@@ -10,47 +10,78 @@ pub enum Command {
     Check,
     /// Prints the solver key of each vertex.
     Keys,
+    /// Prints what each event of a schedule comes to, and the lines of versions.
+    Replay,
 }
 
 fn subcommand<'a>(
     alloc: Global,
     name: &'a str,
     about: &'a str,
+    file: &'a str,
 ) -> Result<clap::Command<'a>, AllocError> {
-    let file = Arg::new(alloc, "FILE").required(true).help(
-        "A definition in proto3's wire form; `-` is the standard input",
-    );
+    let file = Arg::new(alloc, "FILE").required(true).help(file);
     clap::Command::new(alloc, name).about(about).arg(file)
 }
+
+/// What `check` and `keys` read.
+const DEFINITION: &str = "A definition in proto3's wire form; `-` is the standard input";
+
+/// What `replay` reads.
+const SCHEDULE: &str = "A schedule; `-` is the standard input";
 
 fn farmctl<'a>(alloc: Global) -> Result<clap::Command<'a>, AllocError> {
     let check = subcommand(
         alloc,
         "check",
         "Says whether a definition can be solved, and what its result is",
+        DEFINITION,
     )?;
-    let keys = subcommand(alloc, "keys", "Prints the solver key of each vertex")?;
+    let keys = subcommand(
+        alloc,
+        "keys",
+        "Prints the solver key of each vertex",
+        DEFINITION,
+    )?;
+    let replay = subcommand(
+        alloc,
+        "replay",
+        "Prints what each event of a schedule comes to, and the lines of versions",
+        SCHEDULE,
+    )?;
     clap::Command::new(alloc, "farmctl")
         .about("The solving core of a container build farm")
         .no_binary_name(true)
         .subcommand_required(true)
         .subcommand(check)?
-        .subcommand(keys)
+        .subcommand(keys)?
+        .subcommand(replay)
 }
 
-/// The command that the words spell, and the names of its files. An error is the usage fault, the help
-/// that was asked for, or want of memory.
+/// The command of a name.
+fn named(name: &str) -> Command {
+    match name {
+        "check" => Command::Check,
+        "keys" => Command::Keys,
+        _ => Command::Replay,
+    }
+}
+
+/// The command that the words spell, and the names of its files; with no words the replay of the standard
+/// input. An error is the usage fault, the help that was asked for, or want of memory.
 pub fn command_of<'a>(
     alloc: Global,
     words: &'a [String],
 ) -> Result<(Command, Vec<&'a str>), Error> {
-    let matches = farmctl(alloc)?.try_get_matches_from(words)?;
     let mut files = Vec::new(alloc);
-    let mut command = Command::Check;
+    if words.is_empty() {
+        files.push("-").map_err(AllocError::from)?;
+        return Ok((Command::Replay, files));
+    }
+    let matches = farmctl(alloc)?.try_get_matches_from(words)?;
+    let mut command = Command::Replay;
     if let Some((name, found)) = matches.subcommand() {
-        if name == "keys" {
-            command = Command::Keys;
-        }
+        command = named(name);
         if let Some(file) = found.get_str("FILE") {
             files.push(file).map_err(AllocError::from)?;
         }

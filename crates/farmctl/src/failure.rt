@@ -4,6 +4,7 @@ ghost use Rattle.farmctl.specs.declared.failure.Failure.TheVariants as failure;
 
 use opsproto::OpRefusal;
 use protowire::WireRefusal;
+use schedule::ScheduleRefusal;
 use std::alloc::{AllocError, Global};
 use vertices::LoadRefusal;
 
@@ -14,6 +15,8 @@ pub enum Failure {
     Read(OpRefusal),
     /// Its definition is no graph.
     Load(LoadRefusal),
+    /// Its bytes are no schedule.
+    Schedule(ScheduleRefusal),
     Memory,
 }
 
@@ -69,12 +72,22 @@ fn load_text(alloc: Global, refusal: LoadRefusal) -> Result<String, AllocError> 
     }
 }
 
+fn schedule_text(alloc: Global, refusal: ScheduleRefusal) -> Result<String, AllocError> {
+    match refusal {
+        ScheduleRefusal::BadLine(number) => format!(in alloc; "BadLine {number}"),
+        ScheduleRefusal::TooManyEvents => String::from_str(alloc, "TooManyEvents"),
+        ScheduleRefusal::OutOfMemory => String::from_str(alloc, "OutOfMemory"),
+        ScheduleRefusal::TooLarge => String::from_str(alloc, "TooLarge"),
+    }
+}
+
 impl Failure {
     /// Its line: `refused`, the refusal's name and its numbers, or that memory ran out.
     pub fn line(self, alloc: Global) -> Result<String, AllocError> {
         let refusal = match self {
             Failure::Read(refusal) => read_text(alloc, refusal)?,
             Failure::Load(refusal) => load_text(alloc, refusal)?,
+            Failure::Schedule(refusal) => schedule_text(alloc, refusal)?,
             Failure::Memory => return String::from_str(alloc, "out of memory\n"),
         };
         format!(in alloc; "refused {refusal}\n")

@@ -1,4 +1,4 @@
-//! The program: checks definitions of BuildKit and prints their solver keys.
+//! The program: checks definitions of BuildKit, prints their solver keys, and replays schedules of a farm.
 #![tactic(auto)]
 
 mod act;
@@ -6,6 +6,7 @@ mod answer;
 mod command;
 mod failure;
 mod files;
+mod replaying;
 #[cfg(test)]
 mod tests;
 

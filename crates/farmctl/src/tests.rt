@@ -47,7 +47,7 @@ fn done(
     files.push((String::from_str(alloc, "F")?, bytes))?;
     let mut out = Vec::new(alloc);
     let mut err = Vec::new(alloc);
-    let status = act(alloc, command, files.as_slice(), &mut out, &mut err);
+    let status = act(alloc, command, files, &mut out, &mut err);
     Ok((status, out, err))
 }
 

@@ -1,5 +1,5 @@
 -- The protocol's event that an event is.
-use Rattle.std.specs.Prelude.{ℕ, List, map}
+use Rattle.std.specs.Prelude.{map}
 use Rattle.protocol.specs.Replay as replay
 use Rattle.folders.specs.Contents.{left_of}
 use Rattle.schedule.specs.declared.event.Event.{Event}

@@ -1,1 +1,4 @@
 pub mod Events
+pub mod Lines
+pub mod Refusals
+pub mod Schedules

@@ -1,1 +1,5 @@
 mod SeatLemmas
+mod PoolLemmas
+mod FewLemmas
+mod TurnLemmas
+mod SafeLemmas

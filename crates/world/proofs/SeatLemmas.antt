@@ -1,11 +1,12 @@
 -- Nodes by their numbers.
-use Rattle.std.proofs.Common.{◌≡◌, ◌≢◌, ℕ, suc, zero, ◌+◌, ◌<◌, ◌≤◌, Bool, true, false, ◌==◌, if◌then◌else◌, List, [], ◌∷◌, ◌++◌, ◌⊎◌, inl, inr, length, get_or, Option, Some, None, Result, Ok, Err, IfOk, OnErr, slice_get, slice_set, refl, sym, ap, ◌∙◌, subst, add-one, arith}
+use Rattle.std.proofs.Common.{◌≡◌, ℕ, suc, zero, ◌+◌, ◌<◌, Bool, true, false, ◌==◌, if◌then◌else◌, List, [], ◌∷◌, ◌++◌, ◌⊎◌, inl, inr, length, get_or, Some, Result, Ok, Err, IfOk, OnErr, slice_set, refl, sym, ap, ◌∙◌, subst, add-one}
 use mathlib.Core.Path.{fun_ext}
-use Rattle.std.proofs.lemmas.Option.{slice_get_read, slice_get_within}
+use Rattle.std.proofs.lemmas.Option.{slice_get_read, slice_get_cases}
 use Rattle.std.proofs.lemmas.List.{length-set, length_push}
 use Rattle.std.proofs.lemmas.List.Elements.{All-push}
+use Rattle.std.specs.Prelude.{All}
 use Rattle.std.proofs.lemmas.Bool.{eqb-true, eqb-false}
-use Rattle.protocol.specs.Lists.{nth, set_nth, put}
+use Rattle.protocol.specs.Lists.{nth, set_nth}
 use Rattle.protocol.specs.Names.{NodeId}
 use Rattle.protocol.specs.World.{Node, first_node}
 use Rattle.protocol.specs.Nodes.{Place, NodeAnswer, may_restart, restarted}
@@ -17,7 +18,7 @@ use Rattle.protocol.proofs.Base.{nth_set_cases, nth-set_same, nth-set_other, nth
 use Rattle.folders.specs.Contents.{content_digest}
 use Rattle.nodecore.specs.declared.node_core.NodeCore.{NodeCore}
 use Rattle.nodecore.specs.Shown.{shown, place, work_of, Answers}
-use Rattle.world.specs.Tables.{node_at, shown_or_first, seat, IsSeated, AreSeated, AreFirstOf, OnlyNode, Restarts}
+use Rattle.world.specs.Tables.{node_at, shown_or_first, seat, IsSeated, AreSeated, AreFirstOf, AreFirst, OnlyNode, Restarts}
 
 -- the node of a number
 pub nth_at : (cores : List NodeCore) (n i : ℕ) (x : NodeCore) → n ≡ i + 1 → i < length cores → x ≡ get_or cores i x → nth cores n ≡ Some x
@@ -58,8 +59,8 @@ reseated cores n i x y all e at same =
       others = record {
         size = len;
         nodes = fun_ext (λ m. put_at (m == n.0) (node_at cores m) (node_at (slice_set cores i y) n.0) (node_at (slice_set cores i y) m)
-          (λ p. ap (node_at (slice_set cores i y)) (eqb-true m n.0 p))
-          (λ p. ap shown_or_first (ap (λ (l : List NodeCore). nth l m) (sym is) ∙ nth-set_other cores n.0 m y (eqb-false m n.0 p))));
+            (λ p. ap (node_at (slice_set cores i y)) (eqb-true m n.0 p))
+            (λ p. ap shown_or_first (ap (λ (l : List NodeCore). nth l m) (sym is) ∙ nth-set_other cores n.0 m y (eqb-false m n.0 p))));
       };
     }
 
@@ -67,13 +68,13 @@ reseated cores n i x y all e at same =
 pub first_pushed : (all so_far : ℕ) (cores : List NodeCore) (x : NodeCore) → AreFirstOf all so_far cores → shown x ≡ first_node content_digest → place x ≡ record { node = record { 0 = so_far + 1 }; nodes = all }
     → AreFirstOf all (so_far + 1) (cores ++ x ∷ [])
 first_pushed all so_far cores x h is at = record {
-    len = length_push cores x ∙ ap (λ (k : ℕ). k + 1) h.len;
-    first = All-push (λ z. shown z ≡ first_node content_digest) cores x h.first is;
-    seated = λ n z e. elim (nth_push_cases cores x n z e) [
-      | inl old ↦ h.seated n z old
-      | inr new ↦ record { number = ap (λ (w : NodeCore). (place w).node.0) new.1 ∙ ap (λ (p : Place). p.node.0) at ∙ sym (new.0 ∙ ap (λ (k : ℕ). k + 1) h.len); size = ap (λ (w : NodeCore). (place w).nodes) new.1 ∙ ap (λ (p : Place). p.nodes) at }
-    ];
-  }
+  len = length_push cores x ∙ ap (λ (k : ℕ). k + 1) h.len;
+  first = All-push (λ z. shown z ≡ first_node content_digest) cores x h.first is;
+  seated = λ n z e. elim (nth_push_cases cores x n z e) [
+    | inl old ↦ h.seated n z old
+    | inr new ↦ record { number = ap (λ (w : NodeCore). (place w).node.0) new.1 ∙ ap (λ (p : Place). p.node.0) at ∙ sym (new.0 ∙ ap (λ (k : ℕ). k + 1) h.len); size = ap (λ (w : NodeCore). (place w).nodes) new.1 ∙ ap (λ (p : Place). p.nodes) at }
+  ];
+}
 
 -- an answer told of other names for the same nodes
 pub answers_at : (f : Place → Node → NodeAnswer) (p p' : Place) (x x' y y' : Node) (r : Result NodeDone NodeRefusal) → p ≡ p' → x ≡ x' → y ≡ y' → Answers (f p x) x y r → Answers (f p' x') x' y' r
@@ -92,11 +93,22 @@ pub restarts_as : (p : Place) (x y : Node) (r : Result NodeDone NodeRefusal) →
 restarts_as p x y (Ok done) d s m o = d
 restarts_as p x y (Err refusal.LivesSpent) d s m o = s refl
 restarts_as p x y (Err refusal.OutOfMemory) d s m o = m refl
-restarts_as p x y (Err refusal.NotHomeHere) d s m o = elim o [ | inl e ↦ absurd (cc) | inr e ↦ absurd (cc) ]
-restarts_as p x y (Err refusal.NoSuchTicket) d s m o = elim o [ | inl e ↦ absurd (cc) | inr e ↦ absurd (cc) ]
-restarts_as p x y (Err refusal.ContentsMissing) d s m o = elim o [ | inl e ↦ absurd (cc) | inr e ↦ absurd (cc) ]
-restarts_as p x y (Err refusal.WrongNews) d s m o = elim o [ | inl e ↦ absurd (cc) | inr e ↦ absurd (cc) ]
-restarts_as p x y (Err refusal.NotRunning) d s m o = elim o [ | inl e ↦ absurd (cc) | inr e ↦ absurd (cc) ]
-restarts_as p x y (Err refusal.AsksSpent) d s m o = elim o [ | inl e ↦ absurd (cc) | inr e ↦ absurd (cc) ]
-restarts_as p x y (Err refusal.TenureHere) d s m o = elim o [ | inl e ↦ absurd (cc) | inr e ↦ absurd (cc) ]
-restarts_as p x y (Err refusal.TenureInUse) d s m o = elim o [ | inl e ↦ absurd (cc) | inr e ↦ absurd (cc) ]
+restarts_as p x y (Err refusal.NotHomeHere) d s m o = elim o [ inl e ↦ absurd (cc) | inr e ↦ absurd (cc) ]
+restarts_as p x y (Err refusal.NoSuchTicket) d s m o = elim o [ inl e ↦ absurd (cc) | inr e ↦ absurd (cc) ]
+restarts_as p x y (Err refusal.ContentsMissing) d s m o = elim o [ inl e ↦ absurd (cc) | inr e ↦ absurd (cc) ]
+restarts_as p x y (Err refusal.WrongNews) d s m o = elim o [ inl e ↦ absurd (cc) | inr e ↦ absurd (cc) ]
+restarts_as p x y (Err refusal.NotRunning) d s m o = elim o [ inl e ↦ absurd (cc) | inr e ↦ absurd (cc) ]
+restarts_as p x y (Err refusal.AsksSpent) d s m o = elim o [ inl e ↦ absurd (cc) | inr e ↦ absurd (cc) ]
+restarts_as p x y (Err refusal.TenureHere) d s m o = elim o [ inl e ↦ absurd (cc) | inr e ↦ absurd (cc) ]
+restarts_as p x y (Err refusal.TenureInUse) d s m o = elim o [ inl e ↦ absurd (cc) | inr e ↦ absurd (cc) ]
+
+first_here : (cores : List NodeCore) (n : ℕ) → All (λ x. shown x ≡ first_node content_digest) cores → node_at cores n ≡ first_node content_digest
+first_here cores zero all = refl
+first_here cores (suc i) all = elim (slice_get_cases cores i).1 [
+  | inl found ↦ ap shown_or_first found.2 ∙ subst (λ (x : NodeCore). shown x ≡ first_node content_digest) found.3 (all i found.0 found.1)
+  | inr past ↦ ap shown_or_first past.1
+]
+
+-- nodes that have just started
+pub all_first : (count : ℕ) (cores : List NodeCore) → AreFirst count cores → node_at cores ≡ (λ n. first_node content_digest)
+all_first count cores h = fun_ext (λ n. first_here cores n h.first)

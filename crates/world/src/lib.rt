@@ -3,5 +3,15 @@
 
 mod call;
 mod nodes;
+mod pool;
+mod printing;
+mod replaying;
+mod world;
 
+pub use nodecore::{Message, ToNode};
+pub use outcomes::print_outcome;
+pub use printing::print_lines;
+pub use protocol::{EventNote, EventRefusal, Outcome};
+pub use replaying::{ReplayRefusal, replay};
 pub use schedule::{Event, Setup};
+pub use world::{StartRefusal, World};

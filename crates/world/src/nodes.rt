@@ -1,5 +1,5 @@
 //! The nodes of a farm, by their numbers.
-ghost use Rattle.std.specs.Prelude.{◌≡◌, ◌+◌, ◌<◌, length, IfOk, IfSome, is_some};
+ghost use Rattle.std.specs.Prelude.{◌≡◌, ◌+◌, ◌<◌, length, IfOk, IfSome, IfNone, is_some};
 ghost use Rattle.protocol.specs.Nodes.{unless_spent};
 ghost use Rattle.nodecore.specs.Shown.{shown, place, message_work, Answers};
 ghost use Rattle.world.specs.Tables.{node_at, has, seat, called, AreSeated, AreFirst, OnlyNode, Restarts, told_node};
@@ -83,6 +83,7 @@ impl Nodes {
     ) -> Option<Result<NodeDone, NodeRefusal>>
         ensures answer { IfSome result (Answers (called call (seat self.old.cores.items node) (node_at self.old.cores.items node.0)) (node_at self.old.cores.items node.0) (node_at self.new.cores.items node.0)) }
         ensures others { OnlyNode node self.old.cores.items self.new.cores.items }
+        ensures none { IfNone result (self.new.cores.items ≡ self.old.cores.items) }
         ensures exact { is_some result ≡ has self.old.cores.items node }
     {
         let place = place_of(self.cores.as_slice(), node)?;
@@ -98,6 +99,7 @@ impl Nodes {
         ensures answer { IfSome result (Answers (unless_spent (node_at self.old.cores.items (told_node message.now).0) (message_work (seat self.old.cores.items (told_node message.now)) (node_at self.old.cores.items (told_node message.now).0) message.now))
             (node_at self.old.cores.items (told_node message.now).0) (node_at self.new.cores.items (told_node message.now).0)) }
         ensures others { OnlyNode (told_node message.now) self.old.cores.items self.new.cores.items }
+        ensures none { IfNone result (self.new.cores.items ≡ self.old.cores.items) }
         ensures exact { is_some result ≡ has self.old.cores.items (told_node message.now) }
     {
         let place = place_of(self.cores.as_slice(), told_node(message))?;
@@ -112,6 +114,7 @@ impl Nodes {
     ) -> Option<Result<NodeDone, NodeRefusal>>
         ensures answer { IfSome result (Restarts (seat self.old.cores.items node) (node_at self.old.cores.items node.0) (node_at self.new.cores.items node.0)) }
         ensures others { OnlyNode node self.old.cores.items self.new.cores.items }
+        ensures none { IfNone result (self.new.cores.items ≡ self.old.cores.items) }
         ensures exact { is_some result ≡ has self.old.cores.items node }
     {
         let place = place_of(self.cores.as_slice(), node)?;

@@ -4,7 +4,7 @@ use Rattle.protocol.specs.Lists.{nth}
 use Rattle.protocol.specs.Names.{NodeId}
 use Rattle.nodecore.specs.declared.node_core.NodeCore.{NodeCore}
 use Rattle.nodecore.specs.Shown.{shown, place}
-use Rattle.world.specs.Tables.{node_at, seat, Restarts}
+use Rattle.world.specs.Tables.{node_at, seat}
 use Rattle.world.proofs.SeatLemmas.{nth_at, place_is, Reseated, reseated, node_is, restarts_at, restarts_as}
 use Rattle.world.proofs.nodes.Nodes.restart.Goals as goal
 
@@ -37,4 +37,4 @@ returns-clause-answer c =
     let at : nth cores n.0 ≡ Some x = nth_at cores n.0 c.in_ok-place.place x c.in_ok-place.ensures.found inside (search rules) in
     let r : Reseated cores n c.in_ok-place.place c.restart.new.self = reseated cores n c.in_ok-place.place x c.restart.new.self c.args.self.now.seated c.in_ok-place.ensures.found at c.restart.ensures.place in
     restarts_at (place x) (seat cores n) (shown x) (node_at cores n.0) (shown c.restart.new.self) (node_at _ n.0) c.restart.result (place_is cores n x (c.args.self.now.seated n.0 x at)) (sym (node_is cores n.0 x at)) (sym r.shown)
-        (restarts_as (place x) (shown x) (shown c.restart.new.self) c.restart.result c.restart.ensures.done c.restart.ensures.spent c.restart.ensures.memory c.restart.ensures.only)
+    (restarts_as (place x) (shown x) (shown c.restart.new.self) c.restart.result c.restart.ensures.done c.restart.ensures.spent c.restart.ensures.memory c.restart.ensures.only)

@@ -1,0 +1,106 @@
+//! Replays of schedules, against their length.
+
+use super::clock::{ROUNDS, seconds_since};
+use farm_base::{FolderName, Items, Mode, NodeId, Slot, Text, Ticket, Want, Wants};
+use folders::Content;
+use std::alloc::Global;
+use std::rt::Clock;
+use std::time::Instant;
+use world::{Event, Setup, replay};
+
+/// What one lease takes: it is asked for, granted, used, committed and confirmed.
+const EVENTS_OF_A_LEASE: u64 = 7;
+/// The messages of one lease: Acquire, Grant, Commit and Committed.
+const MESSAGES_OF_A_LEASE: u64 = 4;
+
+fn folder(alloc: Global) -> anyhow::Result<FolderName> {
+    Ok(FolderName {
+        id: Text::new(String::from_str(alloc, "apt")?),
+        mode: Mode::Locked,
+        base: None,
+    })
+}
+
+fn wants(alloc: Global) -> anyhow::Result<Wants> {
+    let mut wants = Vec::new(alloc);
+    wants.push(Want {
+        folder: folder(alloc)?,
+        writable: true,
+    })?;
+    Ok(Wants::of(wants)?)
+}
+
+fn lefts(alloc: Global, bytes: Vec<u8>) -> anyhow::Result<Items<(Slot, Content)>> {
+    let mut lefts = Vec::new(alloc);
+    lefts.push((Slot::new(folder(alloc)?, 0), Content::of(bytes)))?;
+    Ok(Items::new(lefts))
+}
+
+/// The event of this place among those of a lease. Only a farm of one node leaves contents: another node
+/// would have to fetch them.
+fn event(alloc: Global, nodes: u64, lease: u64, place: u64) -> anyhow::Result<Event> {
+    let node = NodeId(u32::try_from(lease % nodes + 1)?);
+    let ticket = Ticket(lease + 1);
+    let first = lease * MESSAGES_OF_A_LEASE + 1;
+    Ok(match place {
+        0 => Event::Ask(node, wants(alloc)?),
+        1 => Event::Deliver(first),
+        2 => Event::Deliver(first + 1),
+        3 => Event::Begin(node, ticket),
+        4 => {
+            let mut bytes = Vec::new(alloc);
+            if nodes == 1 {
+                bytes.extend_from_slice(&lease.to_be_bytes())?;
+            }
+            Event::Finish(node, ticket, lefts(alloc, bytes)?)
+        }
+        5 => Event::Deliver(first + 2),
+        _ => Event::Deliver(first + 3),
+    })
+}
+
+/// So many events of nodes that take turns with one LOCKED folder.
+pub fn events(alloc: Global, nodes: u64, count: u64) -> anyhow::Result<Vec<Event>> {
+    let mut events = Vec::new(alloc);
+    for number in 0..count {
+        events.push(event(
+            alloc,
+            nodes.max(1),
+            number / EVENTS_OF_A_LEASE,
+            number % EVENTS_OF_A_LEASE,
+        )?)?;
+    }
+    Ok(events)
+}
+
+/// The least time of an event, in seconds.
+fn replaying<R: Clock + AllocGlobal>(rt: &R, nodes: u32, count: u32) -> anyhow::Result<f64> {
+    let events = events(rt.alloc(), u64::from(nodes), u64::from(count))?;
+    let mut least = f64::INFINITY;
+    for _ in 0..ROUNDS {
+        let start = Instant::now(rt)?;
+        let _world = replay(rt.alloc(), Setup { nodes }, events.as_slice())?;
+        least = least.min(seconds_since(rt, start));
+    }
+    Ok(least / f64::from(count))
+}
+
+/// Prints, for farms of 1 and of 64 nodes that take turns with one LOCKED folder, how many events of 4,096,
+/// 16,384 and 65,536 are replayed in a second, and how the time of an event grows.
+pub fn measure<R: Print + Clock + AllocGlobal>(rt: &R) -> anyhow::Result<()> {
+    for nodes in [1, 64] {
+        let mut first = 0.0;
+        for count in [4_096, 16_384, 65_536] {
+            let time = replaying(rt, nodes, count)?;
+            if count == 4_096 {
+                first = time;
+            }
+            let speed = 1.0 / time;
+            let growth = time / first;
+            println!(rt;
+                "replay {count} events, nodes {nodes}: {speed:.0} events/s, {growth:.2} of the time of an event of 4096"
+            )?;
+        }
+    }
+    Ok(())
+}

@@ -1,0 +1,3 @@
+pub mod Notes
+pub mod Refusals
+pub mod Printing

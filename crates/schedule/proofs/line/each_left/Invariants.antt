@@ -1,0 +1,10 @@
+use Rattle.std.proofs.Common.{◌≡◌, map, take}
+use Rattle.std.specs.List.{All}
+use Rattle.schedule.specs.Lines.{texts, left_text, IsLeft}
+use Rattle.schedule.proofs.line.each_left.Given as goal
+
+abbrev pub invariant-loop-word : goal.invariant-loop-word
+invariant-loop-word l = record {
+  spelled : texts (take l.word-index l.words) ≡ map left_text l.lefts.items;
+  each : All IsLeft l.lefts.items;
+}

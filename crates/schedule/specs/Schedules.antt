@@ -1,0 +1,116 @@
+-- What the text of a schedule says (docs/FORMATS.md): a farm's setup and its events, or the first fault from the top.
+use Rattle.std.specs.Prelude.{◌≡◌, ◌≢◌, ℕ, ◌+◌, ◌*◌, ◌^◌, ◌<◌, ◌≤◌, ◌==◌, Bool, true, false, List, [], ◌∷◌, ◌++◌, length, filter, codes, decimal}
+use Rattle.std.specs.List.{AllZip, slice_split}
+use Rattle.schedule.specs.declared.event.Event.{Event}
+use Rattle.schedule.specs.declared.event.Setup.{Setup}
+use Rattle.schedule.specs.declared.refusal.ScheduleRefusal.{ScheduleRefusal}
+use Rattle.schedule.specs.declared.refusal.ScheduleRefusal.TheVariants.{BadLine, TooManyEvents, OutOfMemory, TooLarge}
+use Rattle.schedule.specs.Lines.{IsSpelled}
+
+-- 16 MiB
+abbrev pub most_bytes : ℕ
+most_bytes = 16 * 2 ^ 20
+
+abbrev pub most_events : ℕ
+most_events = 65536
+
+abbrev pub most_nodes : ℕ
+most_nodes = 1024
+
+-- the lines of a text: what stands between its line feeds
+abbrev pub lines : List ℕ → List (List ℕ)
+lines text = slice_split (λ b. b == 10) text
+
+abbrev pub is_filled : List ℕ → Bool
+is_filled [] = false
+is_filled (b ∷ line) = true
+
+-- the lines that aren't empty
+abbrev pub filled : List (List ℕ) → List (List ℕ)
+filled ls = filter is_filled ls
+
+-- `nodes N`
+pub record IsSetup (line : List ℕ) (setup : Setup) : Type 0 where
+  pub some : 1 ≤ setup.nodes
+  pub few : setup.nodes ≤ most_nodes
+  pub text : line ≡ codes "nodes " ++ decimal setup.nodes
+
+-- each line that isn't empty spells an event, and there are as many as may be at most
+pub record AreEvents (ls : List (List ℕ)) (events : List Event) : Type 0 where
+  pub few : length events ≤ most_events
+  pub spelled : AllZip IsSpelled (filled ls) events
+
+-- the lines say the setup, and these events
+abbrev pub Say : List (List ℕ) → Setup → List Event → Type 0
+Say [] setup events = ⊥
+Say (first ∷ others) setup events = IsSetup first setup × AreEvents others events
+
+-- the text says the setup, and these events
+pub record IsSchedule (text : List ℕ) (setup : Setup) (events : List Event) : Type 0 where
+  pub small : length text ≤ most_bytes
+  pub say : Say (lines text) setup events
+
+-- the events before a line and after it: a line that isn't empty adds its own
+pub record AddsEvent (old : List Event) (line : List ℕ) (new : List Event) : Type 0 where
+  pub event : Event
+  pub room : length old < most_events
+  pub spelled : IsSpelled line event
+  pub added : new ≡ old ++ event ∷ []
+
+pub record AddsLine (old : List Event) (line : List ℕ) (new : List Event) : Type 0 where
+  pub empty : line ≡ [] → new ≡ old
+  pub filled : line ≢ [] → AddsEvent old line new
+
+-- one of these lines, and the lines before it, of which this holds
+pub record HasLine (ls : List (List ℕ)) (P : List (List ℕ) → List ℕ → Type 0) : Type 0 where
+  pub front : List (List ℕ)
+  pub line : List ℕ
+  pub behind : List (List ℕ)
+  pub split : ls ≡ front ++ line ∷ behind
+  pub holds : P front line
+
+-- behind these lines of events stands one that spells no event, although one may come
+pub record IsNoEventBehind (others : List (List ℕ)) (line : List ℕ) : Type 0 where
+  pub events : List Event
+  pub before : AreEvents others events
+  pub room : length events < most_events
+  pub filled : line ≢ []
+  pub unspelled : (e : Event) → IsSpelled line e → ⊥
+
+-- behind these lines of events stands one that would be one event too many
+pub record IsTooManyBehind (others : List (List ℕ)) (line : List ℕ) : Type 0 where
+  pub events : List Event
+  pub before : AreEvents others events
+  pub full : length events ≡ most_events
+  pub filled : line ≢ []
+
+-- the first line is a setup, and of the others up to a line this holds
+abbrev pub BehindSetup : (List (List ℕ) → List ℕ → Type 0) → List (List ℕ) → List ℕ → Type 0
+BehindSetup P [] line = ⊥
+BehindSetup P (first ∷ others) line = (setup : Setup) × IsSetup first setup × P others line
+
+-- the line is out of order, and those before it aren't
+abbrev pub IsBadBehind : List (List ℕ) → List ℕ → Type 0
+IsBadBehind [] line = (setup : Setup) → IsSetup line setup → ⊥
+IsBadBehind (first ∷ others) line = BehindSetup IsNoEventBehind (first ∷ others) line
+
+-- why the text is refused: its first fault. Lines are counted from 1; memory may run out at any text
+abbrev pub IsRefused : List ℕ → ScheduleRefusal → Type 0
+IsRefused text TooLarge = most_bytes < length text
+IsRefused text (BadLine number) = (length text ≤ most_bytes) × HasLine (lines text) (λ front line. (number ≡ length front + 1) × IsBadBehind front line)
+IsRefused text TooManyEvents = (length text ≤ most_bytes) × HasLine (lines text) (BehindSetup IsTooManyBehind)
+IsRefused text OutOfMemory = Unit {0}
+
+-- the same of lines of events of which the first has the number 2
+abbrev pub AreRefused : List (List ℕ) → ScheduleRefusal → Type 0
+AreRefused ls TooLarge = ⊥
+AreRefused ls (BadLine number) = HasLine ls (λ front line. (number ≡ length front + 2) × IsNoEventBehind front line)
+AreRefused ls TooManyEvents = HasLine ls IsTooManyBehind
+AreRefused ls OutOfMemory = Unit {0}
+
+-- the same of one line, of this number, behind so many events
+abbrev pub IsLineRefused : List ℕ → ℕ → ℕ → ScheduleRefusal → Type 0
+IsLineRefused line number count TooLarge = ⊥
+IsLineRefused line number count (BadLine n) = (n ≡ number) × (line ≢ []) × (count < most_events) × ((e : Event) → IsSpelled line e → ⊥)
+IsLineRefused line number count TooManyEvents = (line ≢ []) × (most_events ≤ count)
+IsLineRefused line number count OutOfMemory = Unit {0}

@@ -1,0 +1,245 @@
+//! The lines of the events.
+ghost use Rattle.std.specs.Prelude.{◌≡◌, ◌≢◌, ℕ, List, map, IfOk};
+ghost use Rattle.std.specs.List.{All, IsAllAdjacentAnswer};
+ghost use Rattle.std.specs.Ordering.{is_lt};
+ghost use Rattle.farm_base.specs.Slots.{slot_cmp};
+ghost use Rattle.std.specs.Str.{IsUtf8};
+ghost use Rattle.schedule.specs.declared.event.Event.{Event};
+ghost use Rattle.farm_base.specs.declared.want.Want.{Want};
+ghost use Rattle.schedule.specs.Lines.{texts, words, want_text, left_text, IsWant, IsLeft, Left, SpellWants, SpellLefts, Says, SpelledBy, IsSpelled};
+
+use super::event::Event;
+use super::refusal::LineRefusal;
+use super::verb::{Verb, verb_of};
+use super::word::{bytes_of, folder_of, left_of, node_of, ticket_of, want_of};
+use farm_base::reading::number;
+use farm_base::{Items, Mode, Slot, Want, Wants};
+use folders::Content;
+use std::alloc::{AllocError, Global};
+
+/// `deliver K`.
+fn deliver_of(words: &[&str]) -> Result<Event, LineRefusal>
+    ensures spelled { IfOk result (Says Verb.Deliver (texts words.now)) }
+    ensures only { result ≡ Err LineRefusal.BadLine → (e : Event) → Says Verb.Deliver (texts words.now) e → ⊥ }
+{
+    let [message] = words else {
+        return Err(LineRefusal::BadLine);
+    };
+    let message = number(message).ok_or(LineRefusal::BadLine)?;
+    Ok(Event::Deliver(message))
+}
+
+/// `resend N`.
+fn resend_of(words: &[&str]) -> Result<Event, LineRefusal>
+    ensures spelled { IfOk result (Says Verb.Resend (texts words.now)) }
+    ensures only { result ≡ Err LineRefusal.BadLine → (e : Event) → Says Verb.Resend (texts words.now) e → ⊥ }
+{
+    let [node] = words else {
+        return Err(LineRefusal::BadLine);
+    };
+    let node = node_of(node).ok_or(LineRefusal::BadLine)?;
+    Ok(Event::Resend(node))
+}
+
+/// `begin N T`.
+fn begin_of(words: &[&str]) -> Result<Event, LineRefusal>
+    ensures spelled { IfOk result (Says Verb.Begin (texts words.now)) }
+    ensures only { result ≡ Err LineRefusal.BadLine → (e : Event) → Says Verb.Begin (texts words.now) e → ⊥ }
+{
+    let [node, ticket] = words else {
+        return Err(LineRefusal::BadLine);
+    };
+    let node = node_of(node).ok_or(LineRefusal::BadLine)?;
+    let ticket = ticket_of(ticket).ok_or(LineRefusal::BadLine)?;
+    Ok(Event::Begin(node, ticket))
+}
+
+/// `abort N T`.
+fn abort_of(words: &[&str]) -> Result<Event, LineRefusal>
+    ensures spelled { IfOk result (Says Verb.Abort (texts words.now)) }
+    ensures only { result ≡ Err LineRefusal.BadLine → (e : Event) → Says Verb.Abort (texts words.now) e → ⊥ }
+{
+    let [node, ticket] = words else {
+        return Err(LineRefusal::BadLine);
+    };
+    let node = node_of(node).ok_or(LineRefusal::BadLine)?;
+    let ticket = ticket_of(ticket).ok_or(LineRefusal::BadLine)?;
+    Ok(Event::Abort(node, ticket))
+}
+
+/// `restart N`.
+fn restart_of(words: &[&str]) -> Result<Event, LineRefusal>
+    ensures spelled { IfOk result (Says Verb.Restart (texts words.now)) }
+    ensures only { result ≡ Err LineRefusal.BadLine → (e : Event) → Says Verb.Restart (texts words.now) e → ⊥ }
+{
+    let [node] = words else {
+        return Err(LineRefusal::BadLine);
+    };
+    let node = node_of(node).ok_or(LineRefusal::BadLine)?;
+    Ok(Event::RestartNode(node))
+}
+
+/// The words of a line.
+fn words_of<'a>(alloc: Global, line: &'a str) -> Result<Vec<&'a str>, AllocError>
+    ensures { IfOk result (λ v. texts v.items ≡ words line.now) }
+{
+    line.split(' ').collect(alloc)
+}
+
+/// The wants of these words, one each.
+fn each_want(alloc: Global, words: &[&str]) -> Result<Vec<Want>, LineRefusal>
+    ensures spelled { IfOk result (λ wants. texts words.now ≡ map want_text wants.items) }
+    ensures wants { IfOk result (λ wants. All IsWant wants.items) }
+    ensures only { result ≡ Err LineRefusal.BadLine → (wants : List Want) → All IsWant wants → texts words.now ≢ map want_text wants }
+{
+    let mut wants = Vec::new(alloc);
+    for word in words {
+        wants.push(want_of(alloc, word)?)?;
+    }
+    Ok(wants)
+}
+
+/// The wants of these words, in order.
+fn wants_of(alloc: Global, words: &[&str]) -> Result<Wants, LineRefusal>
+    ensures spelled { IfOk result (SpellWants (texts words.now)) }
+    ensures only { result ≡ Err LineRefusal.BadLine → (wants : List Want) → SpellWants (texts words.now) wants → ⊥ }
+{
+    let wants = each_want(alloc, words)?;
+    Ok(Wants::of(wants)?)
+}
+
+/// `ask N FOLDER..`.
+fn ask_of(alloc: Global, words: &[&str]) -> Result<Event, LineRefusal>
+    ensures spelled { IfOk result (Says Verb.Ask (texts words.now)) }
+    ensures only { result ≡ Err LineRefusal.BadLine → (e : Event) → Says Verb.Ask (texts words.now) e → ⊥ }
+{
+    let [node, folders @ ..] = words else {
+        return Err(LineRefusal::BadLine);
+    };
+    let node = node_of(node).ok_or(LineRefusal::BadLine)?;
+    Ok(Event::Ask(node, wants_of(alloc, folders)?))
+}
+
+/// `tenure N FOLDER`.
+fn tenure_of(alloc: Global, words: &[&str]) -> Result<Event, LineRefusal>
+    ensures spelled { IfOk result (Says Verb.Tenure (texts words.now)) }
+    ensures only { result ≡ Err LineRefusal.BadLine → (e : Event) → Says Verb.Tenure (texts words.now) e → ⊥ }
+{
+    let [node, folder] = words else {
+        return Err(LineRefusal::BadLine);
+    };
+    let node = node_of(node).ok_or(LineRefusal::BadLine)?;
+    let folder = folder_of(alloc, folder)?;
+    match folder.mode {
+        Mode::Shared => Ok(Event::Tenure(node, folder)),
+        Mode::Private | Mode::Locked => Err(LineRefusal::BadLine),
+    }
+}
+
+/// `forge N HEX`.
+fn forge_of(alloc: Global, words: &[&str]) -> Result<Event, LineRefusal>
+    ensures spelled { IfOk result (Says Verb.Forge (texts words.now)) }
+    ensures only { result ≡ Err LineRefusal.BadLine → (e : Event) → Says Verb.Forge (texts words.now) e → ⊥ }
+{
+    let [node, digits] = words else {
+        return Err(LineRefusal::BadLine);
+    };
+    let node = node_of(node).ok_or(LineRefusal::BadLine)?;
+    let bytes = bytes_of(alloc, digits)?;
+    Ok(Event::Forge(node, Content::of(bytes)))
+}
+
+/// What was left, by these words, one each.
+fn each_left(alloc: Global, words: &[&str]) -> Result<Vec<(Slot, Content)>, LineRefusal>
+    ensures spelled { IfOk result (λ lefts. texts words.now ≡ map left_text lefts.items) }
+    ensures lefts { IfOk result (λ lefts. All IsLeft lefts.items) }
+    ensures only { result ≡ Err LineRefusal.BadLine → (lefts : List Left) → All IsLeft lefts → texts words.now ≢ map left_text lefts }
+{
+    let mut lefts = Vec::new(alloc);
+    for word in words {
+        lefts.push(left_of(alloc, word)?)?;
+    }
+    Ok(lefts)
+}
+
+/// Whether each slot is below the next.
+fn rises(lefts: &[(Slot, Content)]) -> bool
+    ensures { IsAllAdjacentAnswer (λ a b answer. answer ≡ is_lt (slot_cmp a.0 b.0)) lefts.now result }
+{
+    lefts.is_sorted_by(is_below)
+}
+
+/// Whether the slot of one is below that of the other.
+fn is_below(one: &(Slot, Content), other: &(Slot, Content)) -> bool
+    ensures { result ≡ is_lt (slot_cmp one.now.0 other.now.0) }
+{
+    one.0.cmp(&other.0).is_lt()
+}
+
+/// What was left, by these words, with rising slots.
+fn lefts_of(alloc: Global, words: &[&str]) -> Result<Items<(Slot, Content)>, LineRefusal>
+    ensures spelled { IfOk result (SpellLefts (texts words.now)) }
+    ensures only { result ≡ Err LineRefusal.BadLine → (lefts : List Left) → SpellLefts (texts words.now) lefts → ⊥ }
+{
+    let lefts = each_left(alloc, words)?;
+    if rises(lefts.as_slice()) {
+        Ok(Items::new(lefts))
+    } else {
+        Err(LineRefusal::BadLine)
+    }
+}
+
+/// `finish N T SLOT=HEX..`.
+fn finish_of(alloc: Global, words: &[&str]) -> Result<Event, LineRefusal>
+    ensures spelled { IfOk result (Says Verb.Finish (texts words.now)) }
+    ensures only { result ≡ Err LineRefusal.BadLine → (e : Event) → Says Verb.Finish (texts words.now) e → ⊥ }
+{
+    let [node, ticket, lefts @ ..] = words else {
+        return Err(LineRefusal::BadLine);
+    };
+    let node = node_of(node).ok_or(LineRefusal::BadLine)?;
+    let ticket = ticket_of(ticket).ok_or(LineRefusal::BadLine)?;
+    Ok(Event::Finish(node, ticket, lefts_of(alloc, lefts)?))
+}
+
+/// The event that the words behind a verb say.
+fn said_by(alloc: Global, verb: Verb, words: &[&str]) -> Result<Event, LineRefusal>
+    ensures spelled { IfOk result (Says verb (texts words.now)) }
+    ensures only { result ≡ Err LineRefusal.BadLine → (e : Event) → Says verb (texts words.now) e → ⊥ }
+{
+    match verb {
+        Verb::Ask => ask_of(alloc, words),
+        Verb::Tenure => tenure_of(alloc, words),
+        Verb::Deliver => deliver_of(words),
+        Verb::Begin => begin_of(words),
+        Verb::Finish => finish_of(alloc, words),
+        Verb::Abort => abort_of(words),
+        Verb::Resend => resend_of(words),
+        Verb::Restart => restart_of(words),
+        Verb::Forge => forge_of(alloc, words),
+    }
+}
+
+/// The event that the words of a line spell.
+fn spelled_by(alloc: Global, words: &[&str]) -> Result<Event, LineRefusal>
+    ensures spelled { IfOk result (SpelledBy (texts words.now)) }
+    ensures only { result ≡ Err LineRefusal.BadLine → (e : Event) → SpelledBy (texts words.now) e → ⊥ }
+{
+    let [verb, others @ ..] = words else {
+        return Err(LineRefusal::BadLine);
+    };
+    let verb = verb_of(verb).ok_or(LineRefusal::BadLine)?;
+    said_by(alloc, verb, others)
+}
+
+/// The event that a line spells.
+pub(crate) fn event_of(alloc: Global, line: &[u8]) -> Result<Event, LineRefusal>
+    ensures spelled { IfOk result (IsSpelled line.now) }
+    ensures only { result ≡ Err LineRefusal.BadLine → (e : Event) → IsSpelled line.now e → ⊥ }
+{
+    let Ok(text) = str::from_utf8(line) else {
+        return Err(LineRefusal::BadLine);
+    };
+    let words = words_of(alloc, text)?;
+    spelled_by(alloc, words.as_slice())
+}

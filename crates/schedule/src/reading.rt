@@ -1,0 +1,111 @@
+//! The text of a schedule.
+ghost use Rattle.std.specs.Prelude.{◌≡◌, [], ◌∷◌, length, IfOk, IfErr, IfSome, IfNone, OnOk, ◌==◌, position};
+ghost use Rattle.std.specs.Option.{option_map_or};
+ghost use Rattle.schedule.specs.declared.event.Setup.{Setup};
+ghost use Rattle.schedule.specs.Schedules.{lines, IsSetup, AreEvents, AddsLine, IsSchedule, IsRefused, AreRefused, IsLineRefused};
+
+use super::event::{Event, Setup};
+use super::line::event_of;
+use super::refusal::ScheduleRefusal;
+use farm_base::reading::{after, number};
+use std::alloc::Global;
+
+/// The greatest size of a text: 16 MiB.
+const MOST_BYTES: usize = 16 << 20;
+
+const MOST_EVENTS: usize = 65_536;
+
+const MOST_NODES: u64 = 1024;
+
+/// The setup that a line spells.
+fn setup_of(line: &[u8]) -> Option<Setup>
+    ensures found { IfSome result (IsSetup line.now) }
+    ensures only { IfNone result ((setup : Setup) → IsSetup line.now setup → ⊥) }
+{
+    let Ok(text) = str::from_utf8(line) else {
+        return None;
+    };
+    let nodes = number(after(text, "nodes ")?)?;
+    if 1 <= nodes && nodes <= MOST_NODES {
+        Some(Setup {
+            nodes: nodes as u32,
+        })
+    } else {
+        None
+    }
+}
+
+/// Adds the event of the line of this number. An empty line has none.
+fn push_event(
+    alloc: Global,
+    events: &mut Vec<Event>,
+    line: &[u8],
+    number: u64,
+) -> Result<(), ScheduleRefusal>
+    ensures added { OnOk result (AddsLine events.old.items line.now events.new.items) }
+    ensures refused { IfErr result (IsLineRefused line.now number (length events.old.items)) }
+{
+    if line.is_empty() {
+        return Ok(());
+    }
+    if events.len() >= MOST_EVENTS {
+        return Err(ScheduleRefusal::TooManyEvents);
+    }
+    match event_of(alloc, line) {
+        Ok(event) => {
+            events.push(event)?;
+            Ok(())
+        }
+        Err(refusal) => Err(refusal.at(number)),
+    }
+}
+
+/// The events of all lines but the first.
+fn events_of(alloc: Global, text: &[u8]) -> Result<Vec<Event>, ScheduleRefusal>
+    ensures events { IfOk result (λ events. AreEvents (lines text.now) events.items) }
+    ensures refused { IfErr result (AreRefused (lines text.now)) }
+{
+    let mut events = Vec::new(alloc);
+    let mut number = 1;
+    for line in text.split(|byte| *byte == b'\n') {
+        number += 1;
+        push_event(alloc, &mut events, line, number)?;
+    }
+    Ok(events)
+}
+
+/// Where the first line ends with a line feed.
+fn line_end(text: &[u8]) -> Option<usize>
+    ensures { result ≡ position (λ b. b == 10) text.now }
+{
+    text.iter().position(|byte| *byte == b'\n')
+}
+
+/// The first line, and what follows its line feed.
+fn first_line(text: &[u8]) -> (&[u8], Option<&[u8]>)
+    ensures { lines text.now ≡ result.0.now ∷ option_map_or (λ rest. lines rest.now) result.1 [] }
+{
+    match line_end(text) {
+        None => (text, None),
+        Some(end) => (&text[..end], Some(&text[end + 1..])),
+    }
+}
+
+/// The farm's setup and the events that a text spells, by the grammar of docs/FORMATS.md.
+pub fn read_schedule(alloc: Global, bytes: &[u8]) -> Result<(Setup, Vec<Event>), ScheduleRefusal>
+    ensures schedule { IfOk result (λ said. IsSchedule bytes.now said.0 said.1.items) }
+    ensures refused { IfErr result (IsRefused bytes.now) }
+{
+    if bytes.len() > MOST_BYTES {
+        return Err(ScheduleRefusal::TooLarge);
+    }
+    let (first, others) = first_line(bytes);
+    let Some(setup) = setup_of(first) else {
+        return Err(ScheduleRefusal::BadLine(1));
+    };
+    let events = match others {
+        None => Vec::new(alloc),
+        Some(text) => events_of(alloc, text)?,
+    };
+    Ok((setup, events))
+}

@@ -1,0 +1,36 @@
+ghost use Rattle.std.specs.Prelude.{◌≡◌, ◌≢◌, IfSome, IfNone};
+ghost use Rattle.schedule.specs.declared.verb.Verb.{Verb};
+ghost use Rattle.schedule.specs.Lines.{verb_text};
+
+/// The word that a line begins with.
+#[derive(Clone, Copy, Debug)]
+pub(crate) enum Verb {
+    Ask,
+    Tenure,
+    Deliver,
+    Begin,
+    Finish,
+    Abort,
+    Resend,
+    Restart,
+    Forge,
+}
+
+/// The verb that a word is.
+pub(crate) fn verb_of(word: &str) -> Option<Verb>
+    ensures found { IfSome result (λ verb. word.now ≡ verb_text verb) }
+    ensures only { IfNone result ((verb : Verb) → word.now ≢ verb_text verb) }
+{
+    match word {
+        "ask" => Some(Verb::Ask),
+        "tenure" => Some(Verb::Tenure),
+        "deliver" => Some(Verb::Deliver),
+        "begin" => Some(Verb::Begin),
+        "finish" => Some(Verb::Finish),
+        "abort" => Some(Verb::Abort),
+        "resend" => Some(Verb::Resend),
+        "restart" => Some(Verb::Restart),
+        "forge" => Some(Verb::Forge),
+        _ => None,
+    }
+}

@@ -1,0 +1,140 @@
+-- What an event of a node comes to in the farm.
+use Rattle.std.proofs.Common.{◌≡◌, ℕ, suc, ◌==◌, Bool, true, false, if◌then◌else◌, List, [], ◌∷◌, ◌++◌, length, map, Option, Some, None, Result, Ok, Err, refl, sym, ap, ◌∙◌, subst}
+use mathlib.Core.Path.{fun_ext}
+use Rattle.std.proofs.lemmas.Bool.{eqb-true}
+use Rattle.protocol.specs.Lists.{put}
+use Rattle.protocol.specs.Names.{NodeId}
+use Rattle.protocol.specs.Machine.{Message, Said, Told, ToCoord, FromCoord}
+use Rattle.protocol.specs.declared.answer.Survivor.{Survivor}
+use Rattle.protocol.specs.declared.answer.CoordNote.{CoordNote}
+use Rattle.protocol.specs.World.{Node}
+use Rattle.protocol.specs.Nodes.{Place, NodeAnswer, may_restart, restarted, unless_spent}
+use Rattle.protocol.specs.Ledger.{Ledger, Work, handled, begin_work}
+use Rattle.folders.specs.Contents.{content_digest}
+use Rattle.folders.specs.Farm.{farm_limits}
+use Rattle.protocol.specs.Replay.{Farm, Turn, first_sent, is_node, at, at_node, node_does, answered, done, moved, refused, restarts, delivered, coordinated, settled, after_work}
+use Rattle.protocol.specs.declared.answer.NodeRefusal.{NodeRefusal}
+use Rattle.protocol.specs.declared.answer.NodeRefusal.TheVariants as node
+use Rattle.protocol.specs.declared.answer.EventNote.{EventNote}
+use Rattle.protocol.specs.declared.answer.EventNote.TheVariants as note
+use Rattle.protocol.specs.declared.answer.EventRefusal.{EventRefusal}
+use Rattle.protocol.specs.declared.answer.EventRefusal.TheVariants as refusal
+use Rattle.protocol.specs.declared.answer.Outcome.{Outcome}
+use Rattle.nodecore.specs.declared.message.NodeDone.{NodeDone}
+use Rattle.nodecore.specs.declared.message.Message.TheVariants as sent
+use Rattle.nodecore.specs.declared.message.ToNode.{ToNode}
+use Rattle.nodecore.specs.declared.message.ToNode.TheVariants as to
+use Rattle.nodecore.specs.Asks.{message_of}
+use Rattle.nodecore.specs.Shown.{work_of, message_work, Answers}
+use Rattle.world.specs.Turns.{Came, first_number, from_node, restarting}
+use Rattle.world.specs.Tables.{told_node, Restarts}
+
+put_here : (b : Bool) (v w x : Node) → v ≡ w → (b ≡ true → x ≡ w) → (if b then v else x) ≡ x
+put_here true v w x e h = e ∙ sym (h refl)
+put_here false v w x e h = refl
+
+-- a node that is put where it was
+pub put_same : (f : ℕ → Node) (n : ℕ) (v : Node) → v ≡ f n → put n v f ≡ f
+put_same f n v e = fun_ext (λ m. put_here (m == n) v (f n) (f m) e (λ p. ap f (eqb-true m n p)))
+
+first_is : {A : Type 0} (f : A → Message) (s : Farm) (sends : List A) → first_sent s (map f sends) ≡ first_number (length s.pool) (length sends)
+first_is f s [] = refl
+first_is f s (x ∷ xs) = refl
+
+pub count_of : {A : Type 0} (f : A → Message) (sends : List A) → length (map f sends) ≡ length sends
+count_of f [] = refl
+count_of f (x ∷ xs) = ap suc (count_of f xs)
+
+told : {A : Type 0} (f : A → Message) (s t : Farm) (n : EventNote) (sends : List A) (o : Outcome) → o ≡ record { note = n; first = first_number (length s.pool) (length sends); sent = length sends }
+    → done n (map f sends) s t ≡ record { farm = t; outcome = Ok o }
+told f s t n sends o e =
+    let is : record { note = n; first = first_sent s (map f sends); sent = length (map f sends) } ≡ o = (λ j. record { note = n; first = first_is f s sends j; sent = count_of f sends j }) ∙ sym e in
+    ap (λ (u : Outcome). record { farm = t; outcome = Ok u }) is
+
+-- the node isn't there
+pub came_none : (s t : Farm) (n : NodeId) (f : Place → Node → NodeAnswer) → is_node s n ≡ false → t ≡ s → Came (node_does n f s) s t (Err refusal.NoSuchNode)
+came_none s t n f none same = ap (λ (b : Bool). at_node b n (f (at s n) (s.nodes n.0)) s) none ∙ ap (refused refusal.NoSuchNode) (sym same)
+
+-- the node did it
+pub came_done : (s t : Farm) (n : NodeId) (f : Place → Node → NodeAnswer) (y : Node) (d : NodeDone) (o : Outcome) → is_node s n ≡ true → f (at s n) (s.nodes n.0) ≡ Ok (work_of y d)
+    → t ≡ record s { nodes = put n.0 y s.nodes; pool = s.pool ++ map message_of d.sends }
+    → o ≡ record { note = note.Node d.note; first = first_number (length s.pool) (length d.sends); sent = length d.sends } → Came (node_does n f s) s t (Ok o)
+came_done s t n f y d o here answer after outcome =
+    ap (λ (b : Bool). at_node b n (f (at s n) (s.nodes n.0)) s) here ∙ ap (λ (a : NodeAnswer). answered n a s) answer
+    ∙ ap (λ (u : Farm). done (note.Node d.note) (map message_of d.sends) s u) (sym after) ∙ told message_of s t (note.Node d.note) d.sends o outcome
+
+refused_as : (s t : Farm) (n : NodeId) (f : Place → Node → NodeAnswer) (e : NodeRefusal) → is_node s n ≡ true → f (at s n) (s.nodes n.0) ≡ Err e → t ≡ s → node_does n f s ≡ record { farm = t; outcome = Err (refusal.Node e) }
+refused_as s t n f e here answer same =
+    ap (λ (b : Bool). at_node b n (f (at s n) (s.nodes n.0)) s) here ∙ ap (λ (a : NodeAnswer). answered n a s) answer ∙ ap (refused (refusal.Node e)) (sym same)
+
+-- the node refused it
+pub came_refused : (s t : Farm) (n : NodeId) (f : Place → Node → NodeAnswer) (y : Node) (e : NodeRefusal) → is_node s n ≡ true → Answers (f (at s n) (s.nodes n.0)) (s.nodes n.0) y (Err e)
+    → (y ≡ s.nodes n.0 → t ≡ s) → Came (node_does n f s) s t (Err (from_node e))
+came_refused s t n f y node.OutOfMemory here a same = same a
+came_refused s t n f y node.NotHomeHere here a same = refused_as s t n f node.NotHomeHere here a.0 (same a.1)
+came_refused s t n f y node.NoSuchTicket here a same = refused_as s t n f node.NoSuchTicket here a.0 (same a.1)
+came_refused s t n f y node.ContentsMissing here a same = refused_as s t n f node.ContentsMissing here a.0 (same a.1)
+came_refused s t n f y node.WrongNews here a same = refused_as s t n f node.WrongNews here a.0 (same a.1)
+came_refused s t n f y node.NotRunning here a same = refused_as s t n f node.NotRunning here a.0 (same a.1)
+came_refused s t n f y node.LivesSpent here a same = refused_as s t n f node.LivesSpent here a.0 (same a.1)
+came_refused s t n f y node.AsksSpent here a same = refused_as s t n f node.AsksSpent here a.0 (same a.1)
+came_refused s t n f y node.TenureHere here a same = refused_as s t n f node.TenureHere here a.0 (same a.1)
+came_refused s t n f y node.TenureInUse here a same = refused_as s t n f node.TenureInUse here a.0 (same a.1)
+
+-- nothing has changed
+pub unmoved : (s : Farm) (n : NodeId) (size : ℕ) (nodes : ℕ → Node) (pool : List Message) → size ≡ s.size → nodes ≡ put n.0 (nodes n.0) s.nodes → pool ≡ s.pool → nodes n.0 ≡ s.nodes n.0
+    → record s { size = size; nodes = nodes; pool = pool } ≡ s
+unmoved s n size nodes pool e f g h = (let all : nodes ≡ s.nodes = f ∙ put_same s.nodes n.0 (nodes n.0) h in λ j. record s { size = e j; nodes = all j; pool = g j })
+
+pub moved_to : (s : Farm) (n : NodeId) (size : ℕ) (nodes : ℕ → Node) (pool : List Message) → size ≡ s.size → nodes ≡ put n.0 (nodes n.0) s.nodes → pool ≡ s.pool
+    → record s { size = size; nodes = nodes; pool = pool } ≡ record s { nodes = put n.0 (nodes n.0) s.nodes }
+moved_to s n size nodes pool e f g = λ j. record s { size = e j; nodes = f j; pool = g j }
+
+spent_as : (s t : Farm) (n : NodeId) (y : Node) → is_node s n ≡ true → may_restart farm_limits (s.nodes n.0) ≡ false → y ≡ record (s.nodes n.0) { spent = true } → t ≡ record s { nodes = put n.0 y s.nodes }
+    → restarting n s ≡ record { farm = t; outcome = Err (refusal.Node node.LivesSpent) }
+spent_as s t n y here not is after =
+    ap (λ (b : Bool). if b then restarts farm_limits n s else refused refusal.NoSuchNode s) here
+    ∙ ap (λ (b : Bool). if b then moved n (restarted (at s n) (s.nodes n.0)) s else refused (refusal.Node node.LivesSpent) (record s { nodes = put n.0 (record (s.nodes n.0) { spent = true }) s.nodes })) not
+    ∙ ap (refused (refusal.Node node.LivesSpent)) (ap (λ (z : Node). record s { nodes = put n.0 z s.nodes }) (sym is) ∙ sym after)
+
+-- the node didn't restart
+pub came_stopped : (s t : Farm) (n : NodeId) (y : Node) (e : NodeRefusal) → is_node s n ≡ true → Restarts (at s n) (s.nodes n.0) y (Err e) → (y ≡ s.nodes n.0 → t ≡ s) → t ≡ record s { nodes = put n.0 y s.nodes }
+    → Came (restarting n s) s t (Err (from_node e))
+came_stopped s t n y node.OutOfMemory here a same after = same a
+came_stopped s t n y node.LivesSpent here a same after = spent_as s t n y here a.0 a.1 after
+came_stopped s t n y node.NotHomeHere here a same after = absurd a
+came_stopped s t n y node.NoSuchTicket here a same after = absurd a
+came_stopped s t n y node.ContentsMissing here a same after = absurd a
+came_stopped s t n y node.WrongNews here a same after = absurd a
+came_stopped s t n y node.NotRunning here a same after = absurd a
+came_stopped s t n y node.AsksSpent here a same after = absurd a
+came_stopped s t n y node.TenureHere here a same after = absurd a
+came_stopped s t n y node.TenureInUse here a same after = absurd a
+
+-- what a message to a node comes to
+abbrev pub hears : ToNode → Place → Node → NodeAnswer
+hears m p x = unless_spent x (message_work p x m)
+
+pub delivered_node : (s : Farm) (m : ToNode) → delivered content_digest farm_limits (Some (message_of (sent.ToNode m))) s ≡ node_does (told_node m) (hears m) s
+delivered_node s (to.FromCoord y) = refl
+delivered_node s (to.Fetch y) = refl
+delivered_node s (to.Blob n c) = refl
+
+settled_is : (b : Bool) (w : Work) (s : Farm) → settled b None w s ≡ after_work w s
+settled_is true w s = refl
+settled_is false w s = refl
+
+-- the coordinator did it
+pub came_handled : (s : Farm) (y : ToCoord) (ledger : Ledger) (pool : List Message) (sends : List FromCoord) (n : CoordNote) (o : Outcome) → s.down ≡ None → s.armed ≡ None
+    → ledger ≡ (handled farm_limits y (begin_work s.ledger)).ledger → sends ≡ (handled farm_limits y (begin_work s.ledger)).sends → n ≡ (handled farm_limits y (begin_work s.ledger)).note
+    → pool ≡ s.pool ++ map Told sends → o ≡ record { note = note.Coord n; first = first_number (length s.pool) (length sends); sent = length sends }
+    → delivered content_digest farm_limits (Some (Said y)) s ≡ record { farm = record s { ledger = ledger; pool = pool }; outcome = Ok o }
+came_handled s y ledger pool sends n o up safe e f g h i =
+    let w : Work = handled farm_limits y (begin_work s.ledger) in
+    ap (λ (d : Option Ledger). coordinated d (Ok w) s) up ∙ ap (λ (a : Option Survivor). settled w.changed a w s) safe ∙ settled_is w.changed w s
+    ∙ sym (λ j. done (note.Coord (g j)) (map Told (f j)) s (record s { ledger = e j; pool = s.pool ++ map Told (f j) }))
+    ∙ ap (λ (p : List Message). done (note.Coord n) (map Told sends) s (record s { ledger = ledger; pool = p })) (sym h)
+    ∙ told Told s (record s { ledger = ledger; pool = pool }) (note.Coord n) sends o i
+
+pub came_as : (a b : Turn) (s t : Farm) (r : Result Outcome EventRefusal) → a ≡ b → Came a s t r → Came b s t r
+came_as a b s t r e h = subst (λ (z : Turn). Came z s t r) e h

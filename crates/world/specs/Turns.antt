@@ -1,0 +1,40 @@
+-- What an event of the world comes to.
+use Rattle.std.specs.Prelude.{◌≡◌, ℕ, zero, suc, ◌+◌, ◌<◌, ◌≤◌, true, if◌then◌else◌, length, Result, Ok, Err}
+use Rattle.folders.specs.Farm.{farm_limits}
+use Rattle.protocol.specs.Names.{NodeId}
+use Rattle.protocol.specs.Ledger.{handled, begin_work}
+use Rattle.protocol.specs.Replay.{Farm, Turn, is_node, at, restarts, refused}
+use Rattle.nodecore.specs.declared.message.Message.{Message}
+use Rattle.nodecore.specs.declared.message.Message.TheVariants.{ToCoord, ToNode}
+use Rattle.nodecore.specs.Shown.{message_work}
+use Rattle.world.specs.Tables.{told_node}
+use Rattle.protocol.specs.declared.answer.NodeRefusal.{NodeRefusal}
+use Rattle.protocol.specs.declared.answer.NodeRefusal.TheVariants as node
+use Rattle.protocol.specs.declared.answer.EventRefusal.{EventRefusal}
+use Rattle.protocol.specs.declared.answer.EventRefusal.TheVariants as refusal
+use Rattle.protocol.specs.declared.answer.Outcome.{Outcome}
+
+-- the number of the first of so many messages that are sent next, 0 where none is
+abbrev pub first_number : ℕ → ℕ → ℕ
+first_number before zero = 0
+first_number before (suc count) = before + 1
+
+-- the event came to this turn. Where memory ran out nothing is changed
+abbrev pub Came : Turn → Farm → Farm → Result Outcome EventRefusal → Type 0
+Came turn old new (Ok outcome) = turn ≡ record { farm = new; outcome = Ok outcome }
+Came turn old new (Err refusal.OutOfMemory) = new ≡ old
+Came turn old new (Err e) = turn ≡ record { farm = new; outcome = Err e }
+
+-- the event's refusal that a node's is
+abbrev pub from_node : NodeRefusal → EventRefusal
+from_node node.OutOfMemory = refusal.OutOfMemory
+from_node e = refusal.Node e
+
+-- there is room for what the message makes its receiver send; a room that is no machine's number isn't looked at
+abbrev pub FitsIn : Farm → Message → ℕ → Type 0
+FitsIn s (ToCoord y) room = length (handled farm_limits y (begin_work s.ledger)).sends ≤ room
+FitsIn s (ToNode m) room = is_node s (told_node m) ≡ true → room < 0xffff_ffff_ffff_ffff → length (message_work (at s (told_node m)) (s.nodes (told_node m).0) m).sends ≤ room
+
+-- a node of this number restarts, if it is there
+abbrev pub restarting : NodeId → Farm → Turn
+restarting n s = if is_node s n then restarts farm_limits n s else refused refusal.NoSuchNode s

@@ -1,0 +1,72 @@
+ghost use Rattle.std.specs.Prelude.{◌≡◌, ◌≤◌, ◌<◌, IfOk, OnOk, map, length};
+ghost use Rattle.folders.specs.Contents.{content_digest};
+ghost use Rattle.folders.specs.Farm.{farm_limits};
+ghost use Rattle.protocol.specs.Follows.{SafeAfter};
+ghost use Rattle.protocol.specs.Replay.{opening, run, step};
+ghost use Rattle.schedule.specs.Events.{event_of};
+ghost use Rattle.world.specs.Setups.{IsSetup};
+ghost use Rattle.world.specs.Shown.{shown};
+ghost use Rattle.world.specs.Replays.{StaysSafe};
+
+use super::world::{StartRefusal, World};
+use farm_base::Copied;
+use protocol::{EventRefusal, every_schedule_is_safe};
+use schedule::{Event, Setup};
+use std::alloc::{AllocError, Global};
+use thiserror::Error;
+
+/// The greatest number of events in a schedule.
+pub const EVENTS: usize = 65_536;
+
+/// Why a schedule is not replayed.
+#[derive(Clone, Copy, Debug, PartialEq, Eq, Error)]
+pub enum ReplayRefusal {
+    #[error("a farm has 1 to 1,024 nodes")]
+    BadSetup,
+    #[error("more than 65,536 events")]
+    TooManyEvents,
+    /// Memory ran out at the event of this number, or at the start for 0.
+    #[error("out of memory at event {0}")]
+    OutOfMemory(u64),
+}
+
+impl World {
+    /// Carries out a copy of one event. Only want of memory ends a replay: what is refused otherwise is an event too.
+    fn take(&mut self, alloc: Global, event: &Event) -> Result<(), AllocError>
+        ensures { OnOk result (shown self.new ≡ (step content_digest farm_limits (shown self.old) (event_of event.now)).farm) }
+    {
+        let event = event.copy(alloc)?;
+        match self.step(alloc, event) {
+            Err(EventRefusal::OutOfMemory) => Err(AllocError),
+            _ => Ok(()),
+        }
+    }
+}
+
+/// The farm after a whole schedule; refused events are events too. The farm is safe, and stays so from each
+/// part of the schedule to each later one: what `Safe` and `SafeSince` say is the headline of this project.
+pub fn replay(alloc: Global, setup: Setup, events: &[Event]) -> Result<World, ReplayRefusal>
+    ensures farm { IfOk result (λ w. shown w ≡ run content_digest farm_limits (map event_of events.now) (opening content_digest setup.nodes)) }
+    ensures safe { IfOk result (λ w. SafeAfter content_digest (shown w)) }
+    ensures stays { IfOk result (λ w. StaysSafe setup.nodes (map event_of events.now)) }
+    ensures setup { result ≡ Err ReplayRefusal.BadSetup → IsSetup setup → ⊥ }
+    ensures events { result ≡ Err ReplayRefusal.TooManyEvents → 65536 < length events.now }
+    ensures within { IfOk result (λ w. IsSetup setup) }
+    ensures few { IfOk result (λ w. length events.now ≤ 65536) }
+{
+    let mut world = match World::start(alloc, setup) {
+        Ok(world) => world,
+        Err(StartRefusal::BadSetup) => return Err(ReplayRefusal::BadSetup),
+        Err(StartRefusal::OutOfMemory) => return Err(ReplayRefusal::OutOfMemory(0)),
+    };
+    if events.len() > EVENTS {
+        return Err(ReplayRefusal::TooManyEvents);
+    }
+    every_schedule_is_safe();
+    for place in 0..events.len() {
+        if world.take(alloc, &events[place]).is_err() {
+            return Err(ReplayRefusal::OutOfMemory(place as u64 + 1));
+        }
+    }
+    Ok(world)
+}

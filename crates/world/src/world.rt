@@ -1,0 +1,215 @@
+ghost use Rattle.std.specs.Prelude.{◌≡◌, ◌≤◌, ◌<◌, IfOk, IfErr, IfSome, IsErrOf, OnErr, map, length, is_some, option_map, option_copied};
+ghost use Rattle.folders.specs.Contents.{content_digest};
+ghost use Rattle.folders.specs.Farm.{farm_limits};
+ghost use Rattle.protocol.specs.Lists.{nth};
+ghost use Rattle.protocol.specs.Machine.{Said};
+ghost use Rattle.protocol.specs.Ledger.{handled, begin_work};
+ghost use Rattle.protocol.specs.Replay.{opening, step, restarts, node_does, is_node, delivered};
+ghost use Rattle.protocol.specs.Nodes.{resent};
+ghost use Rattle.coordinator.specs.Held.{ledger};
+ghost use Rattle.nodecore.specs.Asks.{message_of};
+ghost use Rattle.nodecore.specs.Shown as core;
+ghost use Rattle.schedule.specs.Events.{event_of};
+ghost use Rattle.world.specs.Setups.{IsSetup};
+ghost use Rattle.world.specs.Tables.{called};
+ghost use Rattle.world.specs.Turns.{Came, FitsIn, from_node, restarting};
+ghost use Rattle.world.specs.Shown.{shown};
+
+use super::call::Call;
+use super::nodes::{Nodes, told_node};
+use super::pool::{message_at, place_in, send_coordinator, send_node};
+use coordinator::Coordinator;
+use farm_base::NodeId;
+use nodecore::{Message, NodeCore};
+use protocol::{EventRefusal, NodeRefusal, Outcome};
+use schedule::{Event, Setup};
+use std::alloc::Global;
+use thiserror::Error;
+
+/// A farm at one moment: its coordinator, its nodes, and every message that was ever sent.
+#[derive(Drop)]
+pub struct World {
+    coordinator: Coordinator,
+    nodes: Nodes,
+    pool: Vec<Message>,
+}
+
+/// Why a farm does not start.
+#[derive(Clone, Copy, Debug, PartialEq, Eq, Error)]
+pub enum StartRefusal {
+    #[error("a farm has 1 to 1,024 nodes")]
+    BadSetup,
+    #[error("out of memory")]
+    OutOfMemory,
+}
+
+/// The event's refusal that a node's is.
+fn from_node(refusal: NodeRefusal) -> EventRefusal
+    ensures { result ≡ from_node refusal }
+{
+    match refusal {
+        NodeRefusal::OutOfMemory => EventRefusal::OutOfMemory,
+        other => EventRefusal::Node(other),
+    }
+}
+
+impl World {
+    /// A farm where nothing happened.
+    pub fn start(alloc: Global, setup: Setup) -> Result<Self, StartRefusal>
+        ensures farm { IfOk result (λ w. shown w ≡ opening content_digest setup.nodes) }
+        ensures setup { IfOk result (λ w. IsSetup setup) }
+        ensures bad { result ≡ Err StartRefusal.BadSetup → IsSetup setup → ⊥ }
+    {
+        if setup.nodes < 1 || 1024 < setup.nodes {
+            return Err(StartRefusal::BadSetup);
+        }
+        let Ok(nodes) = Nodes::start(alloc, setup.nodes) else {
+            return Err(StartRefusal::OutOfMemory);
+        };
+        Ok(World {
+            coordinator: Coordinator::start(alloc),
+            nodes,
+            pool: Vec::new(alloc),
+        })
+    }
+
+    pub fn coordinator(&self) -> &Coordinator
+        ensures { ledger result.now ≡ (shown self.now).ledger }
+    {
+        &self.coordinator
+    }
+
+    /// The node of this number, from 1 on.
+    pub fn node(&self, node: NodeId) -> Option<&NodeCore>
+        ensures node { IfSome result (λ x. core.shown x.now ≡ (shown self.now).nodes node.0) }
+        ensures exact { is_some result ≡ is_node (shown self.now) node }
+    {
+        self.nodes.get(node)
+    }
+
+    /// The message of this number, from 1 on.
+    pub fn message(&self, number: u64) -> Option<&Message>
+        ensures { option_map message_of (option_copied result) ≡ nth (shown self.now).pool number }
+    {
+        message_at(self.pool.as_slice(), number)
+    }
+
+    /// How many messages were ever sent.
+    pub fn pool_len(&self) -> u64
+        ensures { result ≡ length (shown self.now).pool }
+    {
+        self.pool.len() as u64
+    }
+
+    /// The node is asked for something.
+    fn call(&mut self, alloc: Global, node: NodeId, call: Call) -> Result<Outcome, EventRefusal>
+        ensures { Came (node_does node (called call) (shown self.old)) (shown self.old) (shown self.new) result }
+    {
+        if self.pool.reserve(1).is_err() {
+            return Err(EventRefusal::OutOfMemory);
+        }
+        let Some(answer) = self.nodes.call(alloc, node, call) else {
+            return Err(EventRefusal::NoSuchNode);
+        };
+        match answer {
+            Err(refusal) => Err(from_node(refusal)),
+            Ok(done) => Ok(send_node(&mut self.pool, done)),
+        }
+    }
+
+    /// How many messages its receiver sends of it, at most.
+    fn room_for(&self, message: &Message) -> usize
+        ensures { FitsIn (shown self.now) message.now result }
+    {
+        match message {
+            Message::ToCoord(_) => self.coordinator.most_sends(),
+            Message::ToNode(message) => match self.nodes.get(told_node(message)) {
+                None => 0,
+                Some(core) => core.most_sends(message),
+            },
+        }
+    }
+
+    /// The message of a number arrives.
+    fn deliver(&mut self, alloc: Global, number: u64) -> Result<Outcome, EventRefusal>
+        ensures { Came (delivered content_digest farm_limits (nth (shown self.old).pool number) (shown self.old)) (shown self.old) (shown self.new) result }
+    {
+        let Some(place) = place_in(self.pool.as_slice(), number) else {
+            return Err(EventRefusal::NoSuchMessage);
+        };
+        let room = self.room_for(&self.pool[place]);
+        if self.pool.reserve(room).is_err() {
+            return Err(EventRefusal::OutOfMemory);
+        }
+        match &self.pool[place] {
+            Message::ToCoord(message) => match self.coordinator.handle(alloc, message) {
+                Err(_) => Err(EventRefusal::OutOfMemory),
+                Ok(handled) => Ok(send_coordinator(&mut self.pool, handled)),
+            },
+            Message::ToNode(message) => {
+                let Some(answer) = self.nodes.hear(alloc, message) else {
+                    return Err(EventRefusal::NoSuchNode);
+                };
+                match answer {
+                    Err(refusal) => Err(from_node(refusal)),
+                    Ok(done) => Ok(send_node(&mut self.pool, done)),
+                }
+            }
+        }
+    }
+
+    /// The node sends again what was not answered.
+    fn resend(&mut self, alloc: Global, node: NodeId) -> Result<Outcome, EventRefusal>
+        ensures { Came (node_does node (resent farm_limits) (shown self.old)) (shown self.old) (shown self.new) result }
+    {
+        let Some(core) = self.nodes.get(node) else {
+            return Err(EventRefusal::NoSuchNode);
+        };
+        match core.resend(alloc) {
+            Err(refusal) => Err(from_node(refusal)),
+            Ok(done) => {
+                if self.pool.reserve(done.sends.as_slice().len()).is_err() {
+                    return Err(EventRefusal::OutOfMemory);
+                }
+                Ok(send_node(&mut self.pool, done))
+            }
+        }
+    }
+
+    /// The node fails and starts again.
+    fn restart(&mut self, alloc: Global, node: NodeId) -> Result<Outcome, EventRefusal>
+        ensures { Came (restarting node (shown self.old)) (shown self.old) (shown self.new) result }
+    {
+        if self.pool.reserve(1).is_err() {
+            return Err(EventRefusal::OutOfMemory);
+        }
+        let Some(answer) = self.nodes.restart(alloc, node) else {
+            return Err(EventRefusal::NoSuchNode);
+        };
+        match answer {
+            Err(refusal) => Err(from_node(refusal)),
+            Ok(done) => Ok(send_node(&mut self.pool, done)),
+        }
+    }
+
+    /// Carries out one event. What is refused changes nothing, but that a node whose greatest life is over is
+    /// down for good.
+    #[tactic(auto, unfolding(protocol::specs::Replay::step))]
+    pub fn step(&mut self, alloc: Global, event: Event) -> Result<Outcome, EventRefusal>
+        ensures { Came (step content_digest farm_limits (shown self.old) (event_of event)) (shown self.old) (shown self.new) result }
+    {
+        match event {
+            Event::Ask(node, wants) => self.call(alloc, node, Call::Ask(wants)),
+            Event::Tenure(node, folder) => self.call(alloc, node, Call::Tenure(folder)),
+            Event::Deliver(number) => self.deliver(alloc, number),
+            Event::Begin(node, ticket) => self.call(alloc, node, Call::Begin(ticket)),
+            Event::Finish(node, ticket, lefts) => {
+                self.call(alloc, node, Call::Finish(ticket, lefts))
+            }
+            Event::Abort(node, ticket) => self.call(alloc, node, Call::Abort(ticket)),
+            Event::Resend(node) => self.resend(alloc, node),
+            Event::RestartNode(node) => self.restart(alloc, node),
+            Event::Forge(node, content) => self.call(alloc, node, Call::Forge(content)),
+        }
+    }
+}
