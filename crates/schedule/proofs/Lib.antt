@@ -1,6 +1,9 @@
 pub mod HexLemmas
 pub mod LineLemmas
 pub mod ListLemmas
+pub mod PlainLemmas
 pub mod ScheduleLemmas
+pub mod SpelledLemmas
 pub mod Spelling
+pub mod UniqueLemmas
 pub mod WordLemmas

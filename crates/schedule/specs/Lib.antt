@@ -2,3 +2,4 @@ pub mod Events
 pub mod Lines
 pub mod Refusals
 pub mod Schedules
+pub mod Words
