@@ -90,9 +90,8 @@ here v vs = (zero, omega arith, refl)
 never_below_both : (f g : FolderName) → folder_cmp f g ≡ Less → folder_cmp g f ≡ Less → ⊥
 never_below_both f g up down =
     let flipped = folder_total.antisymm f g in
-    let back : ordering_reverse (folder_cmp f g) ≡ Greater = ap ordering_reverse up in
     let other : ordering_reverse (folder_cmp g f) ≡ Greater = ap ordering_reverse down in
-    cc (flipped, back, other, up, down)
+    cc (flipped, other, up)
 
 below_each : (f : FolderName) (ws : List Want) (x : Want) → AllByRecursion (λ g. folder_cmp f g ≡ Less) (folders ws) → Contains ws x
     → folder_cmp f x.folder ≡ Less
