@@ -1,6 +1,5 @@
 -- A text says one thing: one schedule, or one first fault.
-use Rattle.std.proofs.Common.{◌≡◌, ◌≢◌, ℕ, suc, ◌+◌, ◌<◌, ◌≤◌, ◌⊎◌, inl, inr, List, [], ◌∷◌, ◌++◌, length, refl, sym, ap, ◌∙◌, subst, length-append, arith}
-use Rattle.std.specs.Prelude.{codes, decimal}
+use Rattle.std.proofs.Common.{◌≡◌, ◌≢◌, ℕ, ◌+◌, ◌⊎◌, inl, inr, List, [], ◌∷◌, ◌++◌, length, refl, sym, ap, ◌∙◌, subst, length-append, arith}
 use Rattle.std.specs.List.{AllZip}
 use Rattle.std.proofs.lemmas.Fmt.{decimal_injective}
 use Rattle.std.proofs.lemmas.List.Elements.{filter-append}
@@ -9,7 +8,7 @@ use Rattle.schedule.specs.declared.event.Setup.{Setup}
 use Rattle.schedule.specs.declared.refusal.ScheduleRefusal.{ScheduleRefusal}
 use Rattle.schedule.specs.declared.refusal.ScheduleRefusal.TheVariants.{BadLine, TooManyEvents, OutOfMemory, TooLarge}
 use Rattle.schedule.specs.Lines.{IsSpelled}
-use Rattle.schedule.specs.Schedules.{lines, most_bytes, most_events, is_filled, filled, IsSetup, AreEvents, Say, IsSchedule, HasLine, IsNoEventBehind, IsTooManyBehind, BehindSetup, IsBadBehind, IsRefused}
+use Rattle.schedule.specs.Schedules.{lines, most_events, is_filled, filled, IsSetup, AreEvents, Say, IsSchedule, HasLine, IsNoEventBehind, IsTooManyBehind, BehindSetup, IsBadBehind, IsRefused}
 use Rattle.schedule.proofs.UniqueLemmas.{spelled_same}
 
 -- ---- events
@@ -67,7 +66,7 @@ parts_of : (front : List (List ℕ)) (line : List ℕ) (more : List (List ℕ)) 
     → Parts (filled front) line es
 parts_of front line more es some h =
     let same : filled (front ++ line ∷ more) ≡ filled front ++ line ∷ filled more =
-        filter-append is_filled front (line ∷ more) ∙ ap (λ ls. filled front ++ ls) (filled-one line more some) in
+    filter-append is_filled front (line ∷ more) ∙ ap (λ ls. filled front ++ ls) (filled-one line more some) in
     zip_parts (filled front) line (filled more) es (subst (λ ls. AllZip IsSpelled ls es) same h.spelled)
 
 -- lines of events go on behind no line that is no event

@@ -23,7 +23,8 @@ use Rattle.schedule.specs.declared.refusal.ScheduleRefusal.TheVariants as schedu
 use Rattle.schedule.specs.Lines.{IsSpelled}
 use Rattle.schedule.specs.Words.{texts}
 use Rattle.schedule.specs.Refusals.{refusal_at}
-use Rattle.schedule.specs.Schedules.{lines, most_bytes, most_events, is_filled, filled, IsSetup, AreEvents, AddsLine, IsRefused, AreRefused, IsLineRefused}
+use Rattle.schedule.specs.Schedules.{lines, most_bytes, most_events, is_filled, filled, IsSetup, AreEvents, IsRefused}
+use Rattle.schedule.specs.Steps.{AddsLine, AreRefused, IsLineRefused}
 
 -- ---- one line
 

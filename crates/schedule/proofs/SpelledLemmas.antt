@@ -1,23 +1,21 @@
 -- What the words of a line say is the event that the line spells.
-use Rattle.std.proofs.Common.{◌≡◌, ℕ, ◌<◌, ◌^◌, List, [], ◌∷◌, map, refl, sym, ap, ◌∙◌, subst, arith}
-use Rattle.std.specs.Prelude.{codes, decimal}
+use Rattle.std.proofs.Common.{◌≡◌, ℕ, List, [], ◌∷◌, map, refl, sym, ap, ◌∙◌, subst, arith}
+use Rattle.std.specs.Prelude.{decimal}
 use Rattle.std.specs.List.{All, join_with_byte}
 use Rattle.std.specs.Str.{IsUtf8}
 use Rattle.std.proofs.lemmas.List.Elements.{All-nil, All-cons}
 use Rattle.std.proofs.lemmas.List.Sorted.{All-permutation, IsPermutation-sym}
 use Rattle.std.proofs.lemmas.List.Splits.{join_with_byte-slice_split}
-use Rattle.hex.specs.Hex.{IsBytes, encode_lower}
-use Rattle.farm_base.specs.declared.folder.FolderName.{FolderName}
+use Rattle.hex.specs.Hex.{encode_lower}
 use Rattle.farm_base.specs.declared.number.NodeId.{NodeId}
 use Rattle.farm_base.specs.declared.number.Ticket.{Ticket}
-use Rattle.farm_base.specs.declared.want.Want.{Want}
 use Rattle.farm_base.specs.Names.{folder_text}
 use Rattle.schedule.specs.declared.event.Event.{Event}
 use Rattle.schedule.specs.declared.event.Event.TheVariants as event
 use Rattle.schedule.specs.declared.verb.Verb.{Verb}
 use Rattle.schedule.specs.declared.verb.Verb.TheVariants.{Ask, Tenure, Deliver, Begin, Finish, Abort, Resend, Restart, Forge}
-use Rattle.schedule.specs.Lines.{node_text, ticket_text, want_text, left_text, IsNode, IsTicket, IsWant, event_words, event_text, IsEvent, IsTextOf, IsSpelled}
-use Rattle.schedule.specs.Words.{words, verb_text, Says, SpelledBy, SpellWants}
+use Rattle.schedule.specs.Lines.{node_text, ticket_text, want_text, left_text, IsNode, IsTicket, IsWant, IsEvent, IsTextOf, IsSpelled}
+use Rattle.schedule.specs.Words.{words, verb_text, Says, SpelledBy}
 use Rattle.schedule.proofs.PlainLemmas.{IsWord, IsWord-from_test, decimal_word, hex_word, folder_word, want_words, left_words, words-joined, joined_utf8}
 
 -- ---- words of a text
@@ -107,66 +105,78 @@ pub record Saying (e : Event) : Type 0 where
 -- a line that spells an event is made of a verb and words behind it that say it
 said_by_text : (line : List ℕ) (e : Event) → IsEvent e → IsTextOf e line → (s : Saying e) × (line ≡ line_of s.verb s.behind)
 said_by_text line (event.Ask n wants) h text =
-    let each = All-permutation IsWant wants text.0 (IsPermutation-sym text.0 wants text.1) h.1.0 in
-    (record {
-      verb = Ask;
-      behind = node_text n ∷ map want_text text.0;
-      says = record {
-        node = n;
-        folders = map want_text text.0;
-        wants = wants;
-        is_node = h.0;
-        spelled = record { given = text.0; each = each; text = refl; sorted = text.1; lawful = h.1.1 };
-        text = refl;
-        event = refl;
-      };
-    }, text.2)
-said_by_text line (event.Tenure n folder) h text =
-    (record {
-      verb = Tenure;
-      behind = node_text n ∷ folder_text folder ∷ [];
-      says = record { node = n; folder = folder; is_node = h.0; is_name = h.1; shared = h.2; text = refl; event = refl };
-    }, text)
+    let each = All-permutation IsWant wants text.0 (IsPermutation-sym text.0 wants text.1) h.1.0 in (
+      record {
+        verb = Ask;
+        behind = node_text n ∷ map want_text text.0;
+        says = record {
+          node = n;
+          folders = map want_text text.0;
+          wants = wants;
+          is_node = h.0;
+          spelled = record { given = text.0; each = each; text = refl; sorted = text.1; lawful = h.1.1 };
+          text = refl;
+          event = refl;
+        };
+      },
+      text.2,
+    )
+said_by_text line (event.Tenure n folder) h text = (
+  record {
+    verb = Tenure;
+    behind = node_text n ∷ folder_text folder ∷ [];
+    says = record { node = n; folder = folder; is_node = h.0; is_name = h.1; shared = h.2; text = refl; event = refl };
+  },
+  text,
+)
 said_by_text line (event.Deliver number) h text =
     (record { verb = Deliver; behind = decimal number ∷ []; says = record { number = number; fits = h; text = refl; event = refl } }, text)
-said_by_text line (event.Begin n t) h text =
-    (record {
-      verb = Begin;
-      behind = node_text n ∷ ticket_text t ∷ [];
-      says = record { node = n; ticket = t; is_node = h.0; is_ticket = h.1; text = refl; event = refl };
-    }, text)
-said_by_text line (event.Finish n t lefts) h text =
-    (record {
-      verb = Finish;
-      behind = node_text n ∷ ticket_text t ∷ map left_text lefts;
-      says = record {
-        node = n;
-        ticket = t;
-        slots = map left_text lefts;
-        lefts = lefts;
-        is_node = h.0;
-        is_ticket = h.1;
-        spelled = record { each = h.2.0; text = refl; rising = h.2.1 };
-        text = refl;
-        event = refl;
-      };
-    }, text)
-said_by_text line (event.Abort n t) h text =
-    (record {
-      verb = Abort;
-      behind = node_text n ∷ ticket_text t ∷ [];
-      says = record { node = n; ticket = t; is_node = h.0; is_ticket = h.1; text = refl; event = refl };
-    }, text)
+said_by_text line (event.Begin n t) h text = (
+  record {
+    verb = Begin;
+    behind = node_text n ∷ ticket_text t ∷ [];
+    says = record { node = n; ticket = t; is_node = h.0; is_ticket = h.1; text = refl; event = refl };
+  },
+  text,
+)
+said_by_text line (event.Finish n t lefts) h text = (
+  record {
+    verb = Finish;
+    behind = node_text n ∷ ticket_text t ∷ map left_text lefts;
+    says = record {
+      node = n;
+      ticket = t;
+      slots = map left_text lefts;
+      lefts = lefts;
+      is_node = h.0;
+      is_ticket = h.1;
+      spelled = record { each = h.2.0; text = refl; rising = h.2.1 };
+      text = refl;
+      event = refl;
+    };
+  },
+  text,
+)
+said_by_text line (event.Abort n t) h text = (
+  record {
+    verb = Abort;
+    behind = node_text n ∷ ticket_text t ∷ [];
+    says = record { node = n; ticket = t; is_node = h.0; is_ticket = h.1; text = refl; event = refl };
+  },
+  text,
+)
 said_by_text line (event.Resend n) h text =
     (record { verb = Resend; behind = node_text n ∷ []; says = record { node = n; is_node = h; text = refl; event = refl } }, text)
 said_by_text line (event.RestartNode n) h text =
     (record { verb = Restart; behind = node_text n ∷ []; says = record { node = n; is_node = h; text = refl; event = refl } }, text)
-said_by_text line (event.Forge n content) h text =
-    (record {
-      verb = Forge;
-      behind = node_text n ∷ encode_lower content ∷ [];
-      says = record { node = n; content = content; is_node = h.0; is_content = h.1; text = refl; event = refl };
-    }, text)
+said_by_text line (event.Forge n content) h text = (
+  record {
+    verb = Forge;
+    behind = node_text n ∷ encode_lower content ∷ [];
+    says = record { node = n; content = content; is_node = h.0; is_content = h.1; text = refl; event = refl };
+  },
+  text,
+)
 
 saying_words : {e : Event} (s : Saying e) → All IsWord (verb_text s.verb ∷ s.behind)
 saying_words {e} s = All-cons IsWord (verb_text s.verb) s.behind (verb_word s.verb) (said_words s.verb s.behind e s.says)

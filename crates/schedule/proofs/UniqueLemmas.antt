@@ -1,21 +1,19 @@
 -- A line spells one event.
-use Rattle.std.proofs.Common.{◌≡◌, ◌≢◌, ℕ, zero, suc, ◌<◌, ◌^◌, Bool, true, false, ◌⊎◌, inl, inr, cond, List, [], ◌∷◌, map, length, get_or, Option, Some, None, Ordering, refl, sym, ap, ◌∙◌, subst, arith}
-use Rattle.std.specs.Prelude.{codes, decimal, IsPermutation, if◌then◌else◌}
-use Rattle.std.specs.List.{All, AllByRecursion, Contains}
+use Rattle.std.proofs.Common.{◌≡◌, ℕ, zero, suc, ◌⊎◌, inl, inr, List, [], ◌∷◌, Option, Some, None, refl, sym, ap, ◌∙◌, subst, arith}
+use Rattle.std.specs.Prelude.{IsPermutation, if◌then◌else◌}
+use Rattle.std.specs.List.{AllByRecursion, Contains}
 use Rattle.std.specs.List.Sorted.{IsStrictlySortedBy}
 use Rattle.std.specs.Ordering.{ordering_reverse}
 use Rattle.std.specs.Str.{bytes_eq}
-use Rattle.std.specs.declared.cmp.Ordering.TheVariants.{Less, Equal, Greater}
+use Rattle.std.specs.declared.cmp.Ordering.TheVariants.{Less, Greater}
 use Rattle.std.proofs.lemmas.Fmt.{decimal_injective}
 use Rattle.std.proofs.lemmas.List.Sorted.{Contains-permutation, IsPermutation-sym}
 use Rattle.std.proofs.lemmas.Map.Keys.{sorted_head, sorted_tail}
-use Rattle.hex.specs.Hex.{encode_lower}
 use Rattle.farm_base.specs.declared.folder.FolderName.{FolderName}
 use Rattle.farm_base.specs.declared.number.NodeId.{NodeId}
 use Rattle.farm_base.specs.declared.number.Ticket.{Ticket}
 use Rattle.farm_base.specs.declared.want.Want.{Want}
 use Rattle.farm_base.specs.Folders.{folder_cmp}
-use Rattle.farm_base.specs.Names.{folder_text}
 use Rattle.farm_base.specs.Wanted.{folders}
 use Rattle.farm_base.proofs.CompareLaws.{folder_total}
 use Rattle.farm_base.proofs.NameLaws.{folder_text-injective}
@@ -25,7 +23,7 @@ use Rattle.schedule.specs.declared.event.Event.TheVariants as event
 use Rattle.schedule.specs.declared.verb.Verb.{Verb}
 use Rattle.schedule.specs.declared.verb.Verb.TheVariants.{Ask, Tenure, Deliver, Begin, Finish, Abort, Resend, Restart, Forge}
 use Rattle.schedule.specs.Lines.{node_text, ticket_text, want_text, left_text, IsNode, IsTicket, IsWant, IsLeft, Left, IsSpelled}
-use Rattle.schedule.specs.Words.{words, verb_text, Says, SpelledBy, SpellWants, SpellLefts, OfNode, OfLease}
+use Rattle.schedule.specs.Words.{verb_text, Says, SpellWants, SpellLefts, OfNode, OfLease}
 use Rattle.schedule.proofs.ListLemmas.{map-injective}
 use Rattle.schedule.proofs.Spelling.{want_text-injective, left_text-injective}
 use Rattle.schedule.proofs.SpelledLemmas.{words-from_spelled}
