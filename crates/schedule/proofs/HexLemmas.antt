@@ -1,5 +1,5 @@
 -- Hexadecimal digits of which none is upper case.
-use Rattle.std.proofs.Common.{◌≡◌, ℕ, zero, suc, ◌+◌, ◌*◌, ◌/◌, ◌%◌, ◌<◌, ◌==◌, Bool, true, false, ◌&&◌, ◌||◌, ◌⊎◌, inl, inr, List, [], ◌∷◌, length, slice_index, Option, Some, None, Result, Ok, Err, refl, sym, ap, ◌∙◌, arith}
+use Rattle.std.proofs.Common.{◌≡◌, ℕ, zero, suc, ◌+◌, ◌*◌, ◌/◌, ◌%◌, ◌<◌, ◌≤◌, ◌==◌, Bool, true, false, ◌&&◌, ◌||◌, ◌⊎◌, inl, inr, List, [], ◌∷◌, length, slice_index, Option, Some, None, Result, Ok, Err, refl, sym, ap, ◌∙◌, arith}
 use Rattle.std.specs.Prelude.{if◌then◌else◌, nat_lt}
 use Rattle.std.specs.List.{list_any}
 use Rattle.std.specs.Char.{is_ascii_uppercase}
@@ -109,3 +109,7 @@ pub unread : (s bytes : List ℕ) (d : FromHexError) → (d ≡ OutOfMemory) ⊎
     → IsBytes bytes → s ≡ encode_lower bytes → ⊥
 unread s bytes d (inl memory) bad h e = cc (ap hex_refusal memory, bad)
 unread s bytes d (inr fault) bad h e = cc (fault, ap decode_of e, decode_of-encode_lower bytes h)
+
+-- a digit is `0` to `9` or `a` to `f`
+pub lower_digit-range : (d : ℕ) → d < 16 → (48 ≤ slice_index lower_digits d) × (slice_index lower_digits d ≤ 102)
+lower_digit-range d lt = rw (digit_is d lt) (grind (arith, nat_tests), grind (arith, nat_tests))

@@ -1,6 +1,10 @@
 pub mod HexLemmas
 pub mod LineLemmas
 pub mod ListLemmas
+pub mod PlainLemmas
+pub mod ScheduleLaws
 pub mod ScheduleLemmas
+pub mod SpelledLemmas
 pub mod Spelling
+pub mod UniqueLemmas
 pub mod WordLemmas

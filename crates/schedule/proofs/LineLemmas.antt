@@ -18,7 +18,8 @@ use Rattle.farm_base.proofs.CompareLaws.{slot_total}
 use Rattle.farm_base.proofs.WantLemmas.{distinct-from_sorted, distinct-permutation, not_less}
 use Rattle.schedule.specs.declared.refusal.LineRefusal.TheVariants.{BadLine}
 use Rattle.schedule.specs.Refusals.{wants_refusal}
-use Rattle.schedule.specs.Lines.{want_text, left_text, left_slots, IsWant, IsLeft, Left, SpellWants, SpellLefts}
+use Rattle.schedule.specs.Lines.{want_text, left_text, left_slots, IsWant, IsLeft, Left}
+use Rattle.schedule.specs.Words.{SpellWants, SpellLefts}
 use Rattle.schedule.proofs.ListLemmas.{map-injective}
 use Rattle.schedule.proofs.Spelling.{want_text-injective, left_text-injective}
 

@@ -20,9 +20,11 @@ use Rattle.schedule.specs.declared.refusal.LineRefusal.{LineRefusal}
 use Rattle.schedule.specs.declared.refusal.LineRefusal.TheVariants.{BadLine, OutOfMemory}
 use Rattle.schedule.specs.declared.refusal.ScheduleRefusal.{ScheduleRefusal}
 use Rattle.schedule.specs.declared.refusal.ScheduleRefusal.TheVariants as schedule
-use Rattle.schedule.specs.Lines.{texts, IsSpelled}
+use Rattle.schedule.specs.Lines.{IsSpelled}
+use Rattle.schedule.specs.Words.{texts}
 use Rattle.schedule.specs.Refusals.{refusal_at}
-use Rattle.schedule.specs.Schedules.{lines, most_bytes, most_events, is_filled, filled, IsSetup, AreEvents, AddsLine, IsRefused, AreRefused, IsLineRefused}
+use Rattle.schedule.specs.Schedules.{lines, most_bytes, most_events, is_filled, filled, IsSetup, AreEvents, IsRefused}
+use Rattle.schedule.specs.Steps.{AddsLine, AreRefused, IsLineRefused}
 
 -- ---- one line
 

@@ -1,12 +1,8 @@
--- The lines of a schedule's events (docs/FORMATS.md). The words of a line stand between its spaces: a verb, and
--- what the verb takes.
-use Rattle.std.specs.Prelude.{◌≡◌, ℕ, ◌<◌, ◌^◌, ◌==◌, Bool, true, false, List, [], ◌∷◌, ◌++◌, map, codes, decimal, IsPermutation}
-use Rattle.std.specs.List.{All, slice_split}
+-- The lines of a schedule's events. Each event has one line, but that its wants may stand in any order.
+use Rattle.std.specs.Prelude.{◌≡◌, ℕ, ◌<◌, ◌^◌, Bool, true, false, List, [], ◌∷◌, ◌++◌, map, codes, decimal, IsPermutation}
+use Rattle.std.specs.List.{All, join_with_byte}
 use Rattle.std.specs.List.Sorted.{IsStrictlySortedBy}
-use Rattle.std.specs.Str.{IsUtf8}
-use Rattle.std.specs.Borrow.{Bor}
 use Rattle.hex.specs.Hex.{IsBytes, encode_lower}
-use Rattle.farm_base.specs.declared.folder.FolderName.{FolderName}
 use Rattle.farm_base.specs.declared.folder.Mode.TheVariants.{Shared}
 use Rattle.farm_base.specs.declared.number.NodeId.{NodeId}
 use Rattle.farm_base.specs.declared.number.Ticket.{Ticket}
@@ -15,30 +11,9 @@ use Rattle.farm_base.specs.Names.{folder_text, slot_text, IsName, IsSlot}
 use Rattle.farm_base.specs.Slots.{SlotParts, slot_cmp}
 use Rattle.farm_base.specs.Wanted.{IsWants}
 use Rattle.schedule.specs.declared.event.Event.{Event}
-use Rattle.schedule.specs.declared.event.Event.TheVariants as event
-use Rattle.schedule.specs.declared.verb.Verb.{Verb}
-use Rattle.schedule.specs.declared.verb.Verb.TheVariants.{Ask, Tenure, Deliver, Begin, Finish, Abort, Resend, Restart, Forge}
+use Rattle.schedule.specs.declared.event.Event.TheVariants.{Ask, Tenure, Deliver, Begin, Finish, Abort, Resend, RestartNode, Forge}
 
 -- ---- words
-
--- the words of a line: what stands between its spaces
-abbrev pub words : List ℕ → List (List ℕ)
-words line = slice_split (λ b. b == 32) line
-
--- words, without where they lie in memory
-abbrev pub texts : List (Bor (List ℕ)) → List (List ℕ)
-texts ws = map (λ w. w.now) ws
-
-abbrev pub verb_text : Verb → List ℕ
-verb_text Ask = codes "ask"
-verb_text Tenure = codes "tenure"
-verb_text Deliver = codes "deliver"
-verb_text Begin = codes "begin"
-verb_text Finish = codes "finish"
-verb_text Abort = codes "abort"
-verb_text Resend = codes "resend"
-verb_text Restart = codes "restart"
-verb_text Forge = codes "forge"
 
 abbrev pub node_text : NodeId → List ℕ
 node_text node = decimal node.0
@@ -77,109 +52,52 @@ pub record IsLeft (left : Left) : Type 0 where
   pub slot : IsSlot left.0
   pub content : IsBytes left.1
 
+-- what was left, by rising slot
 abbrev pub left_slots : List Left → List SlotParts
 left_slots lefts = map (λ left. left.0) lefts
 
--- FOLDER..: the wants in order, which may stand in any order
-pub record SpellWants (ws : List (List ℕ)) (wants : List Want) : Type 0 where
-  pub given : List Want
-  pub each : All IsWant given
-  pub text : ws ≡ map want_text given
-  pub sorted : IsPermutation given wants
-  pub lawful : IsWants wants
+abbrev pub AreLefts : List Left → Type 0
+AreLefts lefts = All IsLeft lefts × IsStrictlySortedBy slot_cmp (left_slots lefts)
 
--- SLOT=HEX..: the slots rise
-pub record SpellLefts (ws : List (List ℕ)) (lefts : List Left) : Type 0 where
-  pub each : All IsLeft lefts
-  pub text : ws ≡ map left_text lefts
-  pub rising : IsStrictlySortedBy slot_cmp (left_slots lefts)
+abbrev pub AreWants : List Want → Type 0
+AreWants wants = All IsWant wants × IsWants wants
 
--- ---- what the words behind a verb say
+-- ---- events
 
--- N FOLDER..
-pub record Asks (ws : List (List ℕ)) (e : Event) : Type 0 where
-  pub node : NodeId
-  pub folders : List (List ℕ)
-  pub wants : List Want
-  pub is_node : IsNode node
-  pub spelled : SpellWants folders wants
-  pub text : ws ≡ node_text node ∷ folders
-  pub event : e ≡ event.Ask node wants
+-- the words of an event's line
+abbrev pub event_words : Event → List (List ℕ)
+event_words (Ask n wants) = codes "ask" ∷ node_text n ∷ map want_text wants
+event_words (Tenure n folder) = codes "tenure" ∷ node_text n ∷ folder_text folder ∷ []
+event_words (Deliver number) = codes "deliver" ∷ decimal number ∷ []
+event_words (Begin n t) = codes "begin" ∷ node_text n ∷ ticket_text t ∷ []
+event_words (Finish n t lefts) = codes "finish" ∷ node_text n ∷ ticket_text t ∷ map left_text lefts
+event_words (Abort n t) = codes "abort" ∷ node_text n ∷ ticket_text t ∷ []
+event_words (Resend n) = codes "resend" ∷ node_text n ∷ []
+event_words (RestartNode n) = codes "restart" ∷ node_text n ∷ []
+event_words (Forge n content) = codes "forge" ∷ node_text n ∷ encode_lower content ∷ []
 
--- N FOLDER, which is SHARED
-pub record AsksTenure (ws : List (List ℕ)) (e : Event) : Type 0 where
-  pub node : NodeId
-  pub folder : FolderName
-  pub is_node : IsNode node
-  pub is_name : IsName folder
-  pub shared : folder.mode ≡ Shared
-  pub text : ws ≡ node_text node ∷ folder_text folder ∷ []
-  pub event : e ≡ event.Tenure node folder
+-- the words, parted by spaces
+abbrev pub event_text : Event → List ℕ
+event_text e = join_with_byte 32 (event_words e)
 
--- K
-pub record Delivers (ws : List (List ℕ)) (e : Event) : Type 0 where
-  pub number : ℕ
-  pub fits : number < 2 ^ 64
-  pub text : ws ≡ decimal number ∷ []
-  pub event : e ≡ event.Deliver number
+-- what each event of a schedule is
+abbrev pub IsEvent : Event → Type 0
+IsEvent (Ask n wants) = IsNode n × AreWants wants
+IsEvent (Tenure n folder) = IsNode n × IsName folder × (folder.mode ≡ Shared)
+IsEvent (Deliver number) = number < 2 ^ 64
+IsEvent (Begin n t) = IsNode n × IsTicket t
+IsEvent (Finish n t lefts) = IsNode n × IsTicket t × AreLefts lefts
+IsEvent (Abort n t) = IsNode n × IsTicket t
+IsEvent (Resend n) = IsNode n
+IsEvent (RestartNode n) = IsNode n
+IsEvent (Forge n content) = IsNode n × IsBytes content
 
--- N
-pub record OfNode (make : NodeId → Event) (ws : List (List ℕ)) (e : Event) : Type 0 where
-  pub node : NodeId
-  pub is_node : IsNode node
-  pub text : ws ≡ node_text node ∷ []
-  pub event : e ≡ make node
+-- the line is the event's text, with its wants in some order
+abbrev pub IsTextOf : Event → List ℕ → Type 0
+IsTextOf (Ask n wants) line = (given : List Want) × IsPermutation given wants × (line ≡ event_text (Ask n given))
+IsTextOf e line = line ≡ event_text e
 
--- N T
-pub record OfLease (make : NodeId → Ticket → Event) (ws : List (List ℕ)) (e : Event) : Type 0 where
-  pub node : NodeId
-  pub ticket : Ticket
-  pub is_node : IsNode node
-  pub is_ticket : IsTicket ticket
-  pub text : ws ≡ node_text node ∷ ticket_text ticket ∷ []
-  pub event : e ≡ make node ticket
-
--- N T SLOT=HEX..
-pub record Finishes (ws : List (List ℕ)) (e : Event) : Type 0 where
-  pub node : NodeId
-  pub ticket : Ticket
-  pub slots : List (List ℕ)
-  pub lefts : List Left
-  pub is_node : IsNode node
-  pub is_ticket : IsTicket ticket
-  pub spelled : SpellLefts slots lefts
-  pub text : ws ≡ node_text node ∷ ticket_text ticket ∷ slots
-  pub event : e ≡ event.Finish node ticket lefts
-
--- N HEX
-pub record Forges (ws : List (List ℕ)) (e : Event) : Type 0 where
-  pub node : NodeId
-  pub content : List ℕ
-  pub is_node : IsNode node
-  pub is_content : IsBytes content
-  pub text : ws ≡ node_text node ∷ encode_lower content ∷ []
-  pub event : e ≡ event.Forge node content
-
--- the words behind the verb say this event
-abbrev pub Says : Verb → List (List ℕ) → Event → Type 0
-Says Ask = Asks
-Says Tenure = AsksTenure
-Says Deliver = Delivers
-Says Begin = OfLease event.Begin
-Says Finish = Finishes
-Says Abort = OfLease event.Abort
-Says Resend = OfNode event.Resend
-Says Restart = OfNode event.RestartNode
-Says Forge = Forges
-
--- the words of a line spell this event
-pub record SpelledBy (ws : List (List ℕ)) (e : Event) : Type 0 where
-  pub verb : Verb
-  pub behind : List (List ℕ)
-  pub text : ws ≡ verb_text verb ∷ behind
-  pub says : Says verb behind e
-
--- the line spells this event
+-- the line spells the event
 pub record IsSpelled (line : List ℕ) (e : Event) : Type 0 where
-  pub utf8 : IsUtf8 line
-  pub spelled : SpelledBy (words line) e
+  pub lawful : IsEvent e
+  pub text : IsTextOf e line

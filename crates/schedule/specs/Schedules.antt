@@ -1,4 +1,4 @@
--- What the text of a schedule says (docs/FORMATS.md): a farm's setup and its events, or the first fault from the top.
+-- What the text of a schedule says: a farm's setup and its events, or the first fault from the top.
 use Rattle.std.specs.Prelude.{◌≡◌, ◌≢◌, ℕ, ◌+◌, ◌*◌, ◌^◌, ◌<◌, ◌≤◌, ◌==◌, Bool, true, false, List, [], ◌∷◌, ◌++◌, length, filter, codes, decimal}
 use Rattle.std.specs.List.{AllZip, slice_split}
 use Rattle.schedule.specs.declared.event.Event.{Event}
@@ -50,17 +50,6 @@ pub record IsSchedule (text : List ℕ) (setup : Setup) (events : List Event) : 
   pub small : length text ≤ most_bytes
   pub say : Say (lines text) setup events
 
--- the events before a line and after it: a line that isn't empty adds its own
-pub record AddsEvent (old : List Event) (line : List ℕ) (new : List Event) : Type 0 where
-  pub event : Event
-  pub room : length old < most_events
-  pub spelled : IsSpelled line event
-  pub added : new ≡ old ++ event ∷ []
-
-pub record AddsLine (old : List Event) (line : List ℕ) (new : List Event) : Type 0 where
-  pub empty : line ≡ [] → new ≡ old
-  pub filled : line ≢ [] → AddsEvent old line new
-
 -- one of these lines, and the lines before it, of which this holds
 pub record HasLine (ls : List (List ℕ)) (P : List (List ℕ) → List ℕ → Type 0) : Type 0 where
   pub front : List (List ℕ)
@@ -100,17 +89,3 @@ IsRefused text TooLarge = most_bytes < length text
 IsRefused text (BadLine number) = (length text ≤ most_bytes) × HasLine (lines text) (λ front line. (number ≡ length front + 1) × IsBadBehind front line)
 IsRefused text TooManyEvents = (length text ≤ most_bytes) × HasLine (lines text) (BehindSetup IsTooManyBehind)
 IsRefused text OutOfMemory = Unit {0}
-
--- the same of lines of events of which the first has the number 2
-abbrev pub AreRefused : List (List ℕ) → ScheduleRefusal → Type 0
-AreRefused ls TooLarge = ⊥
-AreRefused ls (BadLine number) = HasLine ls (λ front line. (number ≡ length front + 2) × IsNoEventBehind front line)
-AreRefused ls TooManyEvents = HasLine ls IsTooManyBehind
-AreRefused ls OutOfMemory = Unit {0}
-
--- the same of one line, of this number, behind so many events
-abbrev pub IsLineRefused : List ℕ → ℕ → ℕ → ScheduleRefusal → Type 0
-IsLineRefused line number count TooLarge = ⊥
-IsLineRefused line number count (BadLine n) = (n ≡ number) × (line ≢ []) × (count < most_events) × ((e : Event) → IsSpelled line e → ⊥)
-IsLineRefused line number count TooManyEvents = (line ≢ []) × (most_events ≤ count)
-IsLineRefused line number count OutOfMemory = Unit {0}

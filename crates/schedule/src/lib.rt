@@ -2,6 +2,7 @@
 #![tactic(auto)]
 
 mod event;
+mod laws;
 mod line;
 mod reading;
 mod refusal;
@@ -9,5 +10,6 @@ mod verb;
 mod word;
 
 pub use event::{Event, Setup};
+pub use laws::{a_line_spells_one_event, a_text_says_one_thing};
 pub use reading::read_schedule;
 pub use refusal::ScheduleRefusal;

@@ -6,7 +6,8 @@ ghost use Rattle.farm_base.specs.Slots.{slot_cmp};
 ghost use Rattle.std.specs.Str.{IsUtf8};
 ghost use Rattle.schedule.specs.declared.event.Event.{Event};
 ghost use Rattle.farm_base.specs.declared.want.Want.{Want};
-ghost use Rattle.schedule.specs.Lines.{texts, words, want_text, left_text, IsWant, IsLeft, Left, SpellWants, SpellLefts, Says, SpelledBy, IsSpelled};
+ghost use Rattle.schedule.specs.Lines.{want_text, left_text, IsWant, IsLeft, Left, IsSpelled};
+ghost use Rattle.schedule.specs.Words.{texts, words, SpellWants, SpellLefts, Says, SpelledBy};
 
 use super::event::Event;
 use super::refusal::LineRefusal;

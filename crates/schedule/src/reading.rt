@@ -2,7 +2,8 @@
 ghost use Rattle.std.specs.Prelude.{◌≡◌, [], ◌∷◌, length, IfOk, IfErr, IfSome, IfNone, OnOk, ◌==◌, position};
 ghost use Rattle.std.specs.Option.{option_map_or};
 ghost use Rattle.schedule.specs.declared.event.Setup.{Setup};
-ghost use Rattle.schedule.specs.Schedules.{lines, IsSetup, AreEvents, AddsLine, IsSchedule, IsRefused, AreRefused, IsLineRefused};
+ghost use Rattle.schedule.specs.Schedules.{lines, IsSetup, AreEvents, IsSchedule, IsRefused};
+ghost use Rattle.schedule.specs.Steps.{AddsLine, AreRefused, IsLineRefused};
 
 use super::event::{Event, Setup};
 use super::line::event_of;
@@ -91,7 +92,20 @@ fn first_line(text: &[u8]) -> (&[u8], Option<&[u8]>)
     }
 }
 
-/// The farm's setup and the events that a text spells, by the grammar of docs/FORMATS.md.
+/// The farm's setup and the events that a text spells.
+///
+/// The first line is `nodes N`, with N from 1 to 1,024. Each further line is an event, or empty:
+///
+/// - `ask N FOLDER..`, where `ro=` before a folder makes it read only; the folders may stand in any order
+/// - `tenure N FOLDER`, of a SHARED folder
+/// - `deliver K`
+/// - `begin N T`, `abort N T`
+/// - `finish N T SLOT=HEX..`, by rising slots
+/// - `resend N`, `restart N`
+/// - `forge N HEX`
+///
+/// Lines end with a line feed, which the last may lack, and one space parts the words of a line. Numbers are
+/// decimal without leading zeros, digits lower case. A refusal tells the first fault from the top.
 pub fn read_schedule(alloc: Global, bytes: &[u8]) -> Result<(Setup, Vec<Event>), ScheduleRefusal>
     ensures schedule { IfOk result (λ said. IsSchedule bytes.now said.0 said.1.items) }
     ensures refused { IfErr result (IsRefused bytes.now) }

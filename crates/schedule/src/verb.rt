@@ -1,6 +1,6 @@
 ghost use Rattle.std.specs.Prelude.{◌≡◌, ◌≢◌, IfSome, IfNone};
 ghost use Rattle.schedule.specs.declared.verb.Verb.{Verb};
-ghost use Rattle.schedule.specs.Lines.{verb_text};
+ghost use Rattle.schedule.specs.Words.{verb_text};
 
 /// The word that a line begins with.
 #[derive(Clone, Copy, Debug)]

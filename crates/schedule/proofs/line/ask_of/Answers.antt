@@ -1,5 +1,5 @@
 use Rattle.std.proofs.Common.{Err, sym, ap, subst}
-use Rattle.schedule.specs.Lines.{SpellWants}
+use Rattle.schedule.specs.Words.{SpellWants}
 use Rattle.schedule.proofs.ListLemmas.{texts_behind}
 use Rattle.schedule.proofs.WordLemmas.{passed_on}
 use Rattle.schedule.proofs.line.ask_of.Goals as goal

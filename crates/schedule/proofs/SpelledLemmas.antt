@@ -1,0 +1,200 @@
+-- What the words of a line say is the event that the line spells.
+use Rattle.std.proofs.Common.{◌≡◌, ℕ, List, [], ◌∷◌, map, refl, sym, ap, ◌∙◌, subst, arith}
+use Rattle.std.specs.Prelude.{decimal}
+use Rattle.std.specs.List.{All, join_with_byte}
+use Rattle.std.specs.Str.{IsUtf8}
+use Rattle.std.proofs.lemmas.List.Elements.{All-nil, All-cons}
+use Rattle.std.proofs.lemmas.List.Sorted.{All-permutation, IsPermutation-sym}
+use Rattle.std.proofs.lemmas.List.Splits.{join_with_byte-slice_split}
+use Rattle.hex.specs.Hex.{encode_lower}
+use Rattle.farm_base.specs.declared.number.NodeId.{NodeId}
+use Rattle.farm_base.specs.declared.number.Ticket.{Ticket}
+use Rattle.farm_base.specs.Names.{folder_text}
+use Rattle.schedule.specs.declared.event.Event.{Event}
+use Rattle.schedule.specs.declared.event.Event.TheVariants as event
+use Rattle.schedule.specs.declared.verb.Verb.{Verb}
+use Rattle.schedule.specs.declared.verb.Verb.TheVariants.{Ask, Tenure, Deliver, Begin, Finish, Abort, Resend, Restart, Forge}
+use Rattle.schedule.specs.Lines.{node_text, ticket_text, want_text, left_text, IsNode, IsTicket, IsWant, IsEvent, IsTextOf, IsSpelled}
+use Rattle.schedule.specs.Words.{words, verb_text, Says, SpelledBy}
+use Rattle.schedule.proofs.PlainLemmas.{IsWord, IsWord-from_test, decimal_word, hex_word, folder_word, want_words, left_words, words-joined, joined_utf8}
+
+-- ---- words of a text
+
+one_word : (w : List ℕ) → IsWord w → All IsWord (w ∷ [])
+one_word w h = All-cons IsWord w [] h (All-nil IsWord)
+
+node_words : (n : NodeId) (ws : List (List ℕ)) → IsNode n → All IsWord ws → All IsWord (node_text n ∷ ws)
+node_words n ws h hs = All-cons IsWord (node_text n) ws (decimal_word n.0 (omega arith)) hs
+
+ticket_words : (t : Ticket) (ws : List (List ℕ)) → IsTicket t → All IsWord ws → All IsWord (ticket_text t ∷ ws)
+ticket_words t ws h hs = All-cons IsWord (ticket_text t) ws (decimal_word t.0 h) hs
+
+verb_word : (v : Verb) → IsWord (verb_text v)
+verb_word Ask = IsWord-from_test (verb_text Ask) refl
+verb_word Tenure = IsWord-from_test (verb_text Tenure) refl
+verb_word Deliver = IsWord-from_test (verb_text Deliver) refl
+verb_word Begin = IsWord-from_test (verb_text Begin) refl
+verb_word Finish = IsWord-from_test (verb_text Finish) refl
+verb_word Abort = IsWord-from_test (verb_text Abort) refl
+verb_word Resend = IsWord-from_test (verb_text Resend) refl
+verb_word Restart = IsWord-from_test (verb_text Restart) refl
+verb_word Forge = IsWord-from_test (verb_text Forge) refl
+
+-- the words behind a verb
+said_words : (v : Verb) (ws : List (List ℕ)) (e : Event) → Says v ws e → All IsWord ws
+said_words Ask ws e h =
+    let folders = subst (All IsWord) (sym h.spelled.text) (want_words h.spelled.given h.spelled.each) in
+    subst (All IsWord) (sym h.text) (node_words h.node h.folders h.is_node folders)
+said_words Tenure ws e h =
+    subst (All IsWord) (sym h.text) (node_words h.node (folder_text h.folder ∷ []) h.is_node (one_word (folder_text h.folder) (folder_word h.folder h.is_name)))
+said_words Deliver ws e h = subst (All IsWord) (sym h.text) (one_word (decimal h.number) (decimal_word h.number h.fits))
+said_words Begin ws e h = subst (All IsWord) (sym h.text) (node_words h.node (ticket_text h.ticket ∷ []) h.is_node (ticket_words h.ticket [] h.is_ticket (All-nil IsWord)))
+said_words Finish ws e h =
+    let slots = subst (All IsWord) (sym h.spelled.text) (left_words h.lefts h.spelled.each) in
+    subst (All IsWord) (sym h.text) (node_words h.node (ticket_text h.ticket ∷ h.slots) h.is_node (ticket_words h.ticket h.slots h.is_ticket slots))
+said_words Abort ws e h = subst (All IsWord) (sym h.text) (node_words h.node (ticket_text h.ticket ∷ []) h.is_node (ticket_words h.ticket [] h.is_ticket (All-nil IsWord)))
+said_words Resend ws e h = subst (All IsWord) (sym h.text) (node_words h.node [] h.is_node (All-nil IsWord))
+said_words Restart ws e h = subst (All IsWord) (sym h.text) (node_words h.node [] h.is_node (All-nil IsWord))
+said_words Forge ws e h =
+    subst (All IsWord) (sym h.text) (node_words h.node (encode_lower h.content ∷ []) h.is_node (one_word (encode_lower h.content) (hex_word h.content h.is_content)))
+
+-- ---- from the words to the line
+
+-- what the line is that a verb and the words behind it make
+abbrev pub line_of : Verb → List (List ℕ) → List ℕ
+line_of v ws = join_with_byte 32 (verb_text v ∷ ws)
+
+-- the line that says an event spells it
+said_spelled : (v : Verb) (ws : List (List ℕ)) (e : Event) → Says v ws e → IsSpelled (line_of v ws) e
+said_spelled Ask ws e h =
+    let wants = All-permutation IsWant h.spelled.given h.wants h.spelled.sorted h.spelled.each in
+    let ws_are = h.text ∙ ap (λ folders. node_text h.node ∷ folders) h.spelled.text in
+    subst (IsSpelled (line_of Ask ws)) (sym h.event) (record {
+      lawful = (h.is_node, (wants, h.spelled.lawful));
+      text = (h.spelled.given, h.spelled.sorted, ap (line_of Ask) ws_are);
+    })
+said_spelled Tenure ws e h =
+    subst (IsSpelled (line_of Tenure ws)) (sym h.event) (record { lawful = (h.is_node, h.is_name, h.shared); text = ap (line_of Tenure) h.text })
+said_spelled Deliver ws e h = subst (IsSpelled (line_of Deliver ws)) (sym h.event) (record { lawful = h.fits; text = ap (line_of Deliver) h.text })
+said_spelled Begin ws e h = subst (IsSpelled (line_of Begin ws)) (sym h.event) (record { lawful = (h.is_node, h.is_ticket); text = ap (line_of Begin) h.text })
+said_spelled Finish ws e h =
+    let ws_are = h.text ∙ ap (λ slots. node_text h.node ∷ ticket_text h.ticket ∷ slots) h.spelled.text in
+    subst (IsSpelled (line_of Finish ws)) (sym h.event) (record {
+      lawful = (h.is_node, h.is_ticket, (h.spelled.each, h.spelled.rising));
+      text = ap (line_of Finish) ws_are;
+    })
+said_spelled Abort ws e h = subst (IsSpelled (line_of Abort ws)) (sym h.event) (record { lawful = (h.is_node, h.is_ticket); text = ap (line_of Abort) h.text })
+said_spelled Resend ws e h = subst (IsSpelled (line_of Resend ws)) (sym h.event) (record { lawful = h.is_node; text = ap (line_of Resend) h.text })
+said_spelled Restart ws e h = subst (IsSpelled (line_of Restart ws)) (sym h.event) (record { lawful = h.is_node; text = ap (line_of Restart) h.text })
+said_spelled Forge ws e h = subst (IsSpelled (line_of Forge ws)) (sym h.event) (record { lawful = (h.is_node, h.is_content); text = ap (line_of Forge) h.text })
+
+-- a line whose words spell an event spells it
+pub spelled-from_words : (line : List ℕ) (e : Event) → SpelledBy (words line) e → IsSpelled line e
+spelled-from_words line e h =
+    let whole : line_of h.verb h.behind ≡ line = ap (join_with_byte 32) (sym h.text) ∙ join_with_byte-slice_split 32 line in
+    subst (λ l. IsSpelled l e) whole (said_spelled h.verb h.behind e h.says)
+
+-- ---- from the line to the words
+
+-- a verb and what it takes
+pub record Saying (e : Event) : Type 0 where
+  pub verb : Verb
+  pub behind : List (List ℕ)
+  pub says : Says verb behind e
+
+-- a line that spells an event is made of a verb and words behind it that say it
+said_by_text : (line : List ℕ) (e : Event) → IsEvent e → IsTextOf e line → (s : Saying e) × (line ≡ line_of s.verb s.behind)
+said_by_text line (event.Ask n wants) h text =
+    let each = All-permutation IsWant wants text.0 (IsPermutation-sym text.0 wants text.1) h.1.0 in (
+      record {
+        verb = Ask;
+        behind = node_text n ∷ map want_text text.0;
+        says = record {
+          node = n;
+          folders = map want_text text.0;
+          wants = wants;
+          is_node = h.0;
+          spelled = record { given = text.0; each = each; text = refl; sorted = text.1; lawful = h.1.1 };
+          text = refl;
+          event = refl;
+        };
+      },
+      text.2,
+    )
+said_by_text line (event.Tenure n folder) h text = (
+  record {
+    verb = Tenure;
+    behind = node_text n ∷ folder_text folder ∷ [];
+    says = record { node = n; folder = folder; is_node = h.0; is_name = h.1; shared = h.2; text = refl; event = refl };
+  },
+  text,
+)
+said_by_text line (event.Deliver number) h text =
+    (record { verb = Deliver; behind = decimal number ∷ []; says = record { number = number; fits = h; text = refl; event = refl } }, text)
+said_by_text line (event.Begin n t) h text = (
+  record {
+    verb = Begin;
+    behind = node_text n ∷ ticket_text t ∷ [];
+    says = record { node = n; ticket = t; is_node = h.0; is_ticket = h.1; text = refl; event = refl };
+  },
+  text,
+)
+said_by_text line (event.Finish n t lefts) h text = (
+  record {
+    verb = Finish;
+    behind = node_text n ∷ ticket_text t ∷ map left_text lefts;
+    says = record {
+      node = n;
+      ticket = t;
+      slots = map left_text lefts;
+      lefts = lefts;
+      is_node = h.0;
+      is_ticket = h.1;
+      spelled = record { each = h.2.0; text = refl; rising = h.2.1 };
+      text = refl;
+      event = refl;
+    };
+  },
+  text,
+)
+said_by_text line (event.Abort n t) h text = (
+  record {
+    verb = Abort;
+    behind = node_text n ∷ ticket_text t ∷ [];
+    says = record { node = n; ticket = t; is_node = h.0; is_ticket = h.1; text = refl; event = refl };
+  },
+  text,
+)
+said_by_text line (event.Resend n) h text =
+    (record { verb = Resend; behind = node_text n ∷ []; says = record { node = n; is_node = h; text = refl; event = refl } }, text)
+said_by_text line (event.RestartNode n) h text =
+    (record { verb = Restart; behind = node_text n ∷ []; says = record { node = n; is_node = h; text = refl; event = refl } }, text)
+said_by_text line (event.Forge n content) h text = (
+  record {
+    verb = Forge;
+    behind = node_text n ∷ encode_lower content ∷ [];
+    says = record { node = n; content = content; is_node = h.0; is_content = h.1; text = refl; event = refl };
+  },
+  text,
+)
+
+saying_words : {e : Event} (s : Saying e) → All IsWord (verb_text s.verb ∷ s.behind)
+saying_words {e} s = All-cons IsWord (verb_text s.verb) s.behind (verb_word s.verb) (said_words s.verb s.behind e s.says)
+
+-- the words of a line that spells an event spell it
+pub words-from_spelled : (line : List ℕ) (e : Event) → IsSpelled line e → SpelledBy (words line) e
+words-from_spelled line e h =
+    let said = said_by_text line e h.lawful h.text in
+    let s = said.0 in
+    record {
+      verb = s.verb;
+      behind = s.behind;
+      text = ap words said.1 ∙ words-joined (verb_text s.verb) s.behind (saying_words s);
+      says = s.says;
+    }
+
+-- a line that spells an event is UTF-8
+pub utf8-from_spelled : (line : List ℕ) (e : Event) → IsSpelled line e → IsUtf8 line
+utf8-from_spelled line e h =
+    let said = said_by_text line e h.lawful h.text in
+    subst IsUtf8 (sym said.1) (joined_utf8 (verb_text said.0.verb ∷ said.0.behind) (saying_words said.0))

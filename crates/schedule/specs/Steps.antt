@@ -1,0 +1,32 @@
+-- How the lines of events are read, one behind the other.
+use Rattle.std.specs.Prelude.{◌≡◌, ◌≢◌, ℕ, ◌+◌, ◌<◌, ◌≤◌, List, [], ◌∷◌, ◌++◌, length}
+use Rattle.schedule.specs.declared.event.Event.{Event}
+use Rattle.schedule.specs.declared.refusal.ScheduleRefusal.{ScheduleRefusal}
+use Rattle.schedule.specs.declared.refusal.ScheduleRefusal.TheVariants.{BadLine, TooManyEvents, OutOfMemory, TooLarge}
+use Rattle.schedule.specs.Lines.{IsSpelled}
+use Rattle.schedule.specs.Schedules.{most_events, HasLine, IsNoEventBehind, IsTooManyBehind}
+
+-- the events before a line and after it: a line that isn't empty adds its own
+pub record AddsEvent (old : List Event) (line : List ℕ) (new : List Event) : Type 0 where
+  pub event : Event
+  pub room : length old < most_events
+  pub spelled : IsSpelled line event
+  pub added : new ≡ old ++ event ∷ []
+
+pub record AddsLine (old : List Event) (line : List ℕ) (new : List Event) : Type 0 where
+  pub empty : line ≡ [] → new ≡ old
+  pub filled : line ≢ [] → AddsEvent old line new
+
+-- why lines of events are refused of which the first has the number 2
+abbrev pub AreRefused : List (List ℕ) → ScheduleRefusal → Type 0
+AreRefused ls TooLarge = ⊥
+AreRefused ls (BadLine number) = HasLine ls (λ front line. (number ≡ length front + 2) × IsNoEventBehind front line)
+AreRefused ls TooManyEvents = HasLine ls IsTooManyBehind
+AreRefused ls OutOfMemory = Unit {0}
+
+-- why one line is refused, of this number, behind so many events
+abbrev pub IsLineRefused : List ℕ → ℕ → ℕ → ScheduleRefusal → Type 0
+IsLineRefused line number count TooLarge = ⊥
+IsLineRefused line number count (BadLine n) = (n ≡ number) × (line ≢ []) × (count < most_events) × ((e : Event) → IsSpelled line e → ⊥)
+IsLineRefused line number count TooManyEvents = (line ≢ []) × (most_events ≤ count)
+IsLineRefused line number count OutOfMemory = Unit {0}

@@ -1,0 +1,137 @@
+-- What the words of a line say: a verb, and behind it what the verb takes.
+use Rattle.std.specs.Prelude.{◌≡◌, ℕ, ◌<◌, ◌^◌, ◌==◌, List, [], ◌∷◌, map, codes, decimal, IsPermutation}
+use Rattle.std.specs.List.{All, slice_split}
+use Rattle.std.specs.List.Sorted.{IsStrictlySortedBy}
+use Rattle.std.specs.Borrow.{Bor}
+use Rattle.hex.specs.Hex.{IsBytes, encode_lower}
+use Rattle.farm_base.specs.declared.folder.FolderName.{FolderName}
+use Rattle.farm_base.specs.declared.folder.Mode.TheVariants.{Shared}
+use Rattle.farm_base.specs.declared.number.NodeId.{NodeId}
+use Rattle.farm_base.specs.declared.number.Ticket.{Ticket}
+use Rattle.farm_base.specs.declared.want.Want.{Want}
+use Rattle.farm_base.specs.Names.{folder_text, IsName}
+use Rattle.farm_base.specs.Slots.{slot_cmp}
+use Rattle.farm_base.specs.Wanted.{IsWants}
+use Rattle.schedule.specs.declared.event.Event.{Event}
+use Rattle.schedule.specs.declared.event.Event.TheVariants as event
+use Rattle.schedule.specs.declared.verb.Verb.{Verb}
+use Rattle.schedule.specs.declared.verb.Verb.TheVariants.{Ask, Tenure, Deliver, Begin, Finish, Abort, Resend, Restart, Forge}
+use Rattle.schedule.specs.Lines.{node_text, ticket_text, want_text, left_text, left_slots, IsNode, IsTicket, IsWant, IsLeft, Left}
+
+-- the words of a line: what stands between its spaces
+abbrev pub words : List ℕ → List (List ℕ)
+words line = slice_split (λ b. b == 32) line
+
+-- words, without where they lie in memory
+abbrev pub texts : List (Bor (List ℕ)) → List (List ℕ)
+texts ws = map (λ w. w.now) ws
+
+abbrev pub verb_text : Verb → List ℕ
+verb_text Ask = codes "ask"
+verb_text Tenure = codes "tenure"
+verb_text Deliver = codes "deliver"
+verb_text Begin = codes "begin"
+verb_text Finish = codes "finish"
+verb_text Abort = codes "abort"
+verb_text Resend = codes "resend"
+verb_text Restart = codes "restart"
+verb_text Forge = codes "forge"
+
+-- FOLDER..: the wants in order, which may stand in any order
+pub record SpellWants (ws : List (List ℕ)) (wants : List Want) : Type 0 where
+  pub given : List Want
+  pub each : All IsWant given
+  pub text : ws ≡ map want_text given
+  pub sorted : IsPermutation given wants
+  pub lawful : IsWants wants
+
+-- SLOT=HEX..: the slots rise
+pub record SpellLefts (ws : List (List ℕ)) (lefts : List Left) : Type 0 where
+  pub each : All IsLeft lefts
+  pub text : ws ≡ map left_text lefts
+  pub rising : IsStrictlySortedBy slot_cmp (left_slots lefts)
+
+-- ---- what the words behind a verb say
+
+-- N FOLDER..
+pub record Asks (ws : List (List ℕ)) (e : Event) : Type 0 where
+  pub node : NodeId
+  pub folders : List (List ℕ)
+  pub wants : List Want
+  pub is_node : IsNode node
+  pub spelled : SpellWants folders wants
+  pub text : ws ≡ node_text node ∷ folders
+  pub event : e ≡ event.Ask node wants
+
+-- N FOLDER, which is SHARED
+pub record AsksTenure (ws : List (List ℕ)) (e : Event) : Type 0 where
+  pub node : NodeId
+  pub folder : FolderName
+  pub is_node : IsNode node
+  pub is_name : IsName folder
+  pub shared : folder.mode ≡ Shared
+  pub text : ws ≡ node_text node ∷ folder_text folder ∷ []
+  pub event : e ≡ event.Tenure node folder
+
+-- K
+pub record Delivers (ws : List (List ℕ)) (e : Event) : Type 0 where
+  pub number : ℕ
+  pub fits : number < 2 ^ 64
+  pub text : ws ≡ decimal number ∷ []
+  pub event : e ≡ event.Deliver number
+
+-- N
+pub record OfNode (make : NodeId → Event) (ws : List (List ℕ)) (e : Event) : Type 0 where
+  pub node : NodeId
+  pub is_node : IsNode node
+  pub text : ws ≡ node_text node ∷ []
+  pub event : e ≡ make node
+
+-- N T
+pub record OfLease (make : NodeId → Ticket → Event) (ws : List (List ℕ)) (e : Event) : Type 0 where
+  pub node : NodeId
+  pub ticket : Ticket
+  pub is_node : IsNode node
+  pub is_ticket : IsTicket ticket
+  pub text : ws ≡ node_text node ∷ ticket_text ticket ∷ []
+  pub event : e ≡ make node ticket
+
+-- N T SLOT=HEX..
+pub record Finishes (ws : List (List ℕ)) (e : Event) : Type 0 where
+  pub node : NodeId
+  pub ticket : Ticket
+  pub slots : List (List ℕ)
+  pub lefts : List Left
+  pub is_node : IsNode node
+  pub is_ticket : IsTicket ticket
+  pub spelled : SpellLefts slots lefts
+  pub text : ws ≡ node_text node ∷ ticket_text ticket ∷ slots
+  pub event : e ≡ event.Finish node ticket lefts
+
+-- N HEX
+pub record Forges (ws : List (List ℕ)) (e : Event) : Type 0 where
+  pub node : NodeId
+  pub content : List ℕ
+  pub is_node : IsNode node
+  pub is_content : IsBytes content
+  pub text : ws ≡ node_text node ∷ encode_lower content ∷ []
+  pub event : e ≡ event.Forge node content
+
+-- the words behind the verb say this event
+abbrev pub Says : Verb → List (List ℕ) → Event → Type 0
+Says Ask = Asks
+Says Tenure = AsksTenure
+Says Deliver = Delivers
+Says Begin = OfLease event.Begin
+Says Finish = Finishes
+Says Abort = OfLease event.Abort
+Says Resend = OfNode event.Resend
+Says Restart = OfNode event.RestartNode
+Says Forge = Forges
+
+-- the words of a line spell this event
+pub record SpelledBy (ws : List (List ℕ)) (e : Event) : Type 0 where
+  pub verb : Verb
+  pub behind : List (List ℕ)
+  pub text : ws ≡ verb_text verb ∷ behind
+  pub says : Says verb behind e
