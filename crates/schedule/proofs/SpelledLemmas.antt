@@ -9,14 +9,14 @@ use Rattle.std.proofs.lemmas.List.Splits.{join_with_byte-slice_split}
 use Rattle.hex.specs.Hex.{encode_lower}
 use Rattle.farm_base.specs.declared.number.NodeId.{NodeId}
 use Rattle.farm_base.specs.declared.number.Ticket.{Ticket}
-use Rattle.farm_base.specs.Names.{folder_text}
+use Rattle.farm_base.specs.Names.{folder_text, slot_text}
 use Rattle.schedule.specs.declared.event.Event.{Event}
 use Rattle.schedule.specs.declared.event.Event.TheVariants as event
 use Rattle.schedule.specs.declared.verb.Verb.{Verb}
-use Rattle.schedule.specs.declared.verb.Verb.TheVariants.{Ask, Tenure, Deliver, Begin, Finish, Abort, Resend, Restart, Forge}
+use Rattle.schedule.specs.declared.verb.Verb.TheVariants.{Ask, Tenure, Deliver, Begin, Finish, Abort, Resend, Restart, Forge, Nudge, Withdraw, Prune, Retire}
 use Rattle.schedule.specs.Lines.{node_text, ticket_text, want_text, left_text, IsNode, IsTicket, IsWant, IsEvent, IsTextOf, IsSpelled}
 use Rattle.schedule.specs.Words.{words, verb_text, Says, SpelledBy}
-use Rattle.schedule.proofs.PlainLemmas.{IsWord, IsWord-from_test, decimal_word, hex_word, folder_word, want_words, left_words, words-joined, joined_utf8}
+use Rattle.schedule.proofs.PlainLemmas.{IsWord, IsWord-from_test, decimal_word, hex_word, folder_word, slot_word, want_words, left_words, words-joined, joined_utf8}
 
 -- ---- words of a text
 
@@ -39,6 +39,10 @@ verb_word Abort = IsWord-from_test (verb_text Abort) refl
 verb_word Resend = IsWord-from_test (verb_text Resend) refl
 verb_word Restart = IsWord-from_test (verb_text Restart) refl
 verb_word Forge = IsWord-from_test (verb_text Forge) refl
+verb_word Nudge = IsWord-from_test (verb_text Nudge) refl
+verb_word Withdraw = IsWord-from_test (verb_text Withdraw) refl
+verb_word Prune = IsWord-from_test (verb_text Prune) refl
+verb_word Retire = IsWord-from_test (verb_text Retire) refl
 
 -- the words behind a verb
 said_words : (v : Verb) (ws : List (List ℕ)) (e : Event) → Says v ws e → All IsWord ws
@@ -57,6 +61,10 @@ said_words Resend ws e h = subst (All IsWord) (sym h.text) (node_words h.node []
 said_words Restart ws e h = subst (All IsWord) (sym h.text) (node_words h.node [] h.is_node (All-nil IsWord))
 said_words Forge ws e h =
     subst (All IsWord) (sym h.text) (node_words h.node (encode_lower h.content ∷ []) h.is_node (one_word (encode_lower h.content) (hex_word h.content h.is_content)))
+said_words Nudge ws e h = subst (All IsWord) (sym h.text) (All-nil IsWord)
+said_words Withdraw ws e h = subst (All IsWord) (sym h.text) (ticket_words h.ticket [] h.is_ticket (All-nil IsWord))
+said_words Prune ws e h = subst (All IsWord) (sym h.text) (one_word (slot_text h.slot) (slot_word h.slot h.is_slot))
+said_words Retire ws e h = subst (All IsWord) (sym h.text) (node_words h.node [] h.is_node (All-nil IsWord))
 
 -- ---- from the words to the line
 
@@ -87,6 +95,10 @@ said_spelled Abort ws e h = subst (IsSpelled (line_of Abort ws)) (sym h.event) (
 said_spelled Resend ws e h = subst (IsSpelled (line_of Resend ws)) (sym h.event) (record { lawful = h.is_node; text = ap (line_of Resend) h.text })
 said_spelled Restart ws e h = subst (IsSpelled (line_of Restart ws)) (sym h.event) (record { lawful = h.is_node; text = ap (line_of Restart) h.text })
 said_spelled Forge ws e h = subst (IsSpelled (line_of Forge ws)) (sym h.event) (record { lawful = (h.is_node, h.is_content); text = ap (line_of Forge) h.text })
+said_spelled Nudge ws e h = subst (IsSpelled (line_of Nudge ws)) (sym h.event) (record { lawful = tt; text = ap (line_of Nudge) h.text })
+said_spelled Withdraw ws e h = subst (IsSpelled (line_of Withdraw ws)) (sym h.event) (record { lawful = h.is_ticket; text = ap (line_of Withdraw) h.text })
+said_spelled Prune ws e h = subst (IsSpelled (line_of Prune ws)) (sym h.event) (record { lawful = h.is_slot; text = ap (line_of Prune) h.text })
+said_spelled Retire ws e h = subst (IsSpelled (line_of Retire ws)) (sym h.event) (record { lawful = h.is_node; text = ap (line_of Retire) h.text })
 
 -- a line whose words spell an event spells it
 pub spelled-from_words : (line : List ℕ) (e : Event) → SpelledBy (words line) e → IsSpelled line e
@@ -167,6 +179,13 @@ said_by_text line (event.Abort n t) h text = (
 )
 said_by_text line (event.Resend n) h text =
     (record { verb = Resend; behind = node_text n ∷ []; says = record { node = n; is_node = h; text = refl; event = refl } }, text)
+said_by_text line event.Nudge h text = (record { verb = Nudge; behind = []; says = record { text = refl; event = refl } }, text)
+said_by_text line (event.Withdraw t) h text =
+    (record { verb = Withdraw; behind = ticket_text t ∷ []; says = record { ticket = t; is_ticket = h; text = refl; event = refl } }, text)
+said_by_text line (event.Prune slot) h text =
+    (record { verb = Prune; behind = slot_text slot ∷ []; says = record { slot = slot; is_slot = h; text = refl; event = refl } }, text)
+said_by_text line (event.Retire n) h text =
+    (record { verb = Retire; behind = node_text n ∷ []; says = record { node = n; is_node = h; text = refl; event = refl } }, text)
 said_by_text line (event.RestartNode n) h text =
     (record { verb = Restart; behind = node_text n ∷ []; says = record { node = n; is_node = h; text = refl; event = refl } }, text)
 said_by_text line (event.Forge n content) h text = (

@@ -16,12 +16,12 @@ use Rattle.farm_base.specs.declared.want.Want.{Want}
 use Rattle.farm_base.specs.Folders.{folder_cmp}
 use Rattle.farm_base.specs.Wanted.{folders}
 use Rattle.farm_base.proofs.CompareLaws.{folder_total}
-use Rattle.farm_base.proofs.NameLaws.{folder_text-injective}
+use Rattle.farm_base.proofs.NameLaws.{folder_text-injective, slot_text-injective}
 use Rattle.farm_base.proofs.TextLemmas.{encode-injective}
 use Rattle.schedule.specs.declared.event.Event.{Event}
 use Rattle.schedule.specs.declared.event.Event.TheVariants as event
 use Rattle.schedule.specs.declared.verb.Verb.{Verb}
-use Rattle.schedule.specs.declared.verb.Verb.TheVariants.{Ask, Tenure, Deliver, Begin, Finish, Abort, Resend, Restart, Forge}
+use Rattle.schedule.specs.declared.verb.Verb.TheVariants.{Ask, Tenure, Deliver, Begin, Finish, Abort, Resend, Restart, Forge, Nudge, Withdraw, Prune, Retire}
 use Rattle.schedule.specs.Lines.{node_text, ticket_text, want_text, left_text, IsNode, IsTicket, IsWant, IsLeft, Left, IsSpelled}
 use Rattle.schedule.specs.Words.{verb_text, Says, SpellWants, SpellLefts, OfNode, OfLease}
 use Rattle.schedule.proofs.ListLemmas.{map-injective}
@@ -42,6 +42,10 @@ verb_named text =
     else if bytes_eq text (verb_text Resend) then Some Resend
     else if bytes_eq text (verb_text Restart) then Some Restart
     else if bytes_eq text (verb_text Forge) then Some Forge
+    else if bytes_eq text (verb_text Nudge) then Some Nudge
+    else if bytes_eq text (verb_text Withdraw) then Some Withdraw
+    else if bytes_eq text (verb_text Prune) then Some Prune
+    else if bytes_eq text (verb_text Retire) then Some Retire
     else None
 
 verb_named-text : (v : Verb) → verb_named (verb_text v) ≡ Some v
@@ -54,6 +58,10 @@ verb_named-text Abort = refl
 verb_named-text Resend = refl
 verb_named-text Restart = refl
 verb_named-text Forge = refl
+verb_named-text Nudge = refl
+verb_named-text Withdraw = refl
+verb_named-text Prune = refl
+verb_named-text Retire = refl
 
 some_same : (v w : Verb) → Some v ≡ Some w → v ≡ w
 some_same v w e = cc e
@@ -179,6 +187,14 @@ said_same Forge ws a b ha hb =
     let n = node_same ha.node hb.node ha.is_node hb.is_node (cc (ha.text, hb.text)) in
     let content = encode-injective ha.content hb.content ha.is_content hb.is_content (cc (ha.text, hb.text)) in
     ha.event ∙ cc (n, content) ∙ sym hb.event
+said_same Nudge ws a b ha hb = ha.event ∙ sym hb.event
+said_same Withdraw ws a b ha hb =
+    let t = ticket_same ha.ticket hb.ticket ha.is_ticket hb.is_ticket (cc (ha.text, hb.text)) in
+    ha.event ∙ ap event.Withdraw t ∙ sym hb.event
+said_same Prune ws a b ha hb =
+    let slot = slot_text-injective ha.slot hb.slot ha.is_slot hb.is_slot (cc (ha.text, hb.text)) in
+    ha.event ∙ ap event.Prune slot ∙ sym hb.event
+said_same Retire ws a b ha hb = of_node_same event.Retire ws a b ha hb
 
 -- a line spells one event
 pub spelled_same : (line : List ℕ) (a b : Event) → IsSpelled line a → IsSpelled line b → a ≡ b

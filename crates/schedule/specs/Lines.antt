@@ -11,7 +11,7 @@ use Rattle.farm_base.specs.Names.{folder_text, slot_text, IsName, IsSlot}
 use Rattle.farm_base.specs.Slots.{SlotParts, slot_cmp}
 use Rattle.farm_base.specs.Wanted.{IsWants}
 use Rattle.schedule.specs.declared.event.Event.{Event}
-use Rattle.schedule.specs.declared.event.Event.TheVariants.{Ask, Tenure, Deliver, Begin, Finish, Abort, Resend, RestartNode, Forge}
+use Rattle.schedule.specs.declared.event.Event.TheVariants.{Ask, Tenure, Deliver, Begin, Finish, Abort, Resend, Nudge, Withdraw, Prune, Retire, RestartNode, Forge}
 
 -- ---- words
 
@@ -73,6 +73,10 @@ event_words (Begin n t) = codes "begin" ∷ node_text n ∷ ticket_text t ∷ []
 event_words (Finish n t lefts) = codes "finish" ∷ node_text n ∷ ticket_text t ∷ map left_text lefts
 event_words (Abort n t) = codes "abort" ∷ node_text n ∷ ticket_text t ∷ []
 event_words (Resend n) = codes "resend" ∷ node_text n ∷ []
+event_words Nudge = codes "nudge" ∷ []
+event_words (Withdraw t) = codes "withdraw" ∷ ticket_text t ∷ []
+event_words (Prune slot) = codes "prune" ∷ slot_text slot ∷ []
+event_words (Retire n) = codes "retire" ∷ node_text n ∷ []
 event_words (RestartNode n) = codes "restart" ∷ node_text n ∷ []
 event_words (Forge n content) = codes "forge" ∷ node_text n ∷ encode_lower content ∷ []
 
@@ -89,6 +93,10 @@ IsEvent (Begin n t) = IsNode n × IsTicket t
 IsEvent (Finish n t lefts) = IsNode n × IsTicket t × AreLefts lefts
 IsEvent (Abort n t) = IsNode n × IsTicket t
 IsEvent (Resend n) = IsNode n
+IsEvent Nudge = Unit {0}
+IsEvent (Withdraw t) = IsTicket t
+IsEvent (Prune slot) = IsSlot slot
+IsEvent (Retire n) = IsNode n
 IsEvent (RestartNode n) = IsNode n
 IsEvent (Forge n content) = IsNode n × IsBytes content
 

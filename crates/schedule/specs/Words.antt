@@ -9,13 +9,13 @@ use Rattle.farm_base.specs.declared.folder.Mode.TheVariants.{Shared}
 use Rattle.farm_base.specs.declared.number.NodeId.{NodeId}
 use Rattle.farm_base.specs.declared.number.Ticket.{Ticket}
 use Rattle.farm_base.specs.declared.want.Want.{Want}
-use Rattle.farm_base.specs.Names.{folder_text, IsName}
-use Rattle.farm_base.specs.Slots.{slot_cmp}
+use Rattle.farm_base.specs.Names.{folder_text, slot_text, IsName, IsSlot}
+use Rattle.farm_base.specs.Slots.{SlotParts, slot_cmp}
 use Rattle.farm_base.specs.Wanted.{IsWants}
 use Rattle.schedule.specs.declared.event.Event.{Event}
 use Rattle.schedule.specs.declared.event.Event.TheVariants as event
 use Rattle.schedule.specs.declared.verb.Verb.{Verb}
-use Rattle.schedule.specs.declared.verb.Verb.TheVariants.{Ask, Tenure, Deliver, Begin, Finish, Abort, Resend, Restart, Forge}
+use Rattle.schedule.specs.declared.verb.Verb.TheVariants.{Ask, Tenure, Deliver, Begin, Finish, Abort, Resend, Restart, Forge, Nudge, Withdraw, Prune, Retire}
 use Rattle.schedule.specs.Lines.{node_text, ticket_text, want_text, left_text, left_slots, IsNode, IsTicket, IsWant, IsLeft, Left}
 
 -- the words of a line: what stands between its spaces
@@ -36,6 +36,10 @@ verb_text Abort = codes "abort"
 verb_text Resend = codes "resend"
 verb_text Restart = codes "restart"
 verb_text Forge = codes "forge"
+verb_text Nudge = codes "nudge"
+verb_text Withdraw = codes "withdraw"
+verb_text Prune = codes "prune"
+verb_text Retire = codes "retire"
 
 -- FOLDER..: the wants in order, which may stand in any order
 pub record SpellWants (ws : List (List ℕ)) (wants : List Want) : Type 0 where
@@ -117,6 +121,25 @@ pub record Forges (ws : List (List ℕ)) (e : Event) : Type 0 where
   pub text : ws ≡ node_text node ∷ encode_lower content ∷ []
   pub event : e ≡ event.Forge node content
 
+-- nothing
+pub record Nudges (ws : List (List ℕ)) (e : Event) : Type 0 where
+  pub text : ws ≡ []
+  pub event : e ≡ event.Nudge
+
+-- T
+pub record Withdraws (ws : List (List ℕ)) (e : Event) : Type 0 where
+  pub ticket : Ticket
+  pub is_ticket : IsTicket ticket
+  pub text : ws ≡ ticket_text ticket ∷ []
+  pub event : e ≡ event.Withdraw ticket
+
+-- SLOT
+pub record Prunes (ws : List (List ℕ)) (e : Event) : Type 0 where
+  pub slot : SlotParts
+  pub is_slot : IsSlot slot
+  pub text : ws ≡ slot_text slot ∷ []
+  pub event : e ≡ event.Prune slot
+
 -- the words behind the verb say this event
 abbrev pub Says : Verb → List (List ℕ) → Event → Type 0
 Says Ask = Asks
@@ -128,6 +151,10 @@ Says Abort = OfLease event.Abort
 Says Resend = OfNode event.Resend
 Says Restart = OfNode event.RestartNode
 Says Forge = Forges
+Says Nudge = Nudges
+Says Withdraw = Withdraws
+Says Prune = Prunes
+Says Retire = OfNode event.Retire
 
 -- the words of a line spell this event
 pub record SpelledBy (ws : List (List ℕ)) (e : Event) : Type 0 where

@@ -28,6 +28,14 @@ pub enum Event {
     Abort(NodeId, Ticket),
     /// The node sends again what was not answered.
     Resend(NodeId),
+    /// The coordinator sends the Grant of each lease again.
+    Nudge,
+    /// The lease is withdrawn.
+    Withdraw(Ticket),
+    /// The slot's line begins anew: its next version is the empty content.
+    Prune(Slot),
+    /// The node is gone for good.
+    Retire(NodeId),
     /// The node fails and starts again.
     RestartNode(NodeId),
     /// A content that nobody sent arrives at the node.
@@ -68,6 +76,10 @@ impl Copied for Event {
             }
             Event::Abort(node, ticket) => Event::Abort(*node, *ticket),
             Event::Resend(node) => Event::Resend(*node),
+            Event::Nudge => Event::Nudge,
+            Event::Withdraw(ticket) => Event::Withdraw(*ticket),
+            Event::Prune(slot) => Event::Prune(slot.copy(alloc)?),
+            Event::Retire(node) => Event::Retire(*node),
             Event::RestartNode(node) => Event::RestartNode(*node),
             Event::Forge(node, content) => Event::Forge(*node, content.copy(alloc)?),
         })

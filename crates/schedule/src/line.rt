@@ -12,7 +12,7 @@ ghost use Rattle.schedule.specs.Words.{texts, words, SpellWants, SpellLefts, Say
 use super::event::Event;
 use super::refusal::LineRefusal;
 use super::verb::{Verb, verb_of};
-use super::word::{bytes_of, folder_of, left_of, node_of, ticket_of, want_of};
+use super::word::{bytes_of, folder_of, left_of, node_of, slot_of, ticket_of, want_of};
 use farm_base::reading::number;
 use farm_base::{Items, Mode, Slot, Want, Wants};
 use folders::Content;
@@ -66,6 +66,53 @@ fn abort_of(words: &[&str]) -> Result<Event, LineRefusal>
     let node = node_of(node).ok_or(LineRefusal::BadLine)?;
     let ticket = ticket_of(ticket).ok_or(LineRefusal::BadLine)?;
     Ok(Event::Abort(node, ticket))
+}
+
+/// `nudge`.
+fn nudge_of(words: &[&str]) -> Result<Event, LineRefusal>
+    ensures spelled { IfOk result (Says Verb.Nudge (texts words.now)) }
+    ensures only { result ≡ Err LineRefusal.BadLine → (e : Event) → Says Verb.Nudge (texts words.now) e → ⊥ }
+{
+    let [] = words else {
+        return Err(LineRefusal::BadLine);
+    };
+    Ok(Event::Nudge)
+}
+
+/// `withdraw T`.
+fn withdraw_of(words: &[&str]) -> Result<Event, LineRefusal>
+    ensures spelled { IfOk result (Says Verb.Withdraw (texts words.now)) }
+    ensures only { result ≡ Err LineRefusal.BadLine → (e : Event) → Says Verb.Withdraw (texts words.now) e → ⊥ }
+{
+    let [ticket] = words else {
+        return Err(LineRefusal::BadLine);
+    };
+    let ticket = ticket_of(ticket).ok_or(LineRefusal::BadLine)?;
+    Ok(Event::Withdraw(ticket))
+}
+
+/// `prune SLOT`.
+fn prune_of(alloc: Global, words: &[&str]) -> Result<Event, LineRefusal>
+    ensures spelled { IfOk result (Says Verb.Prune (texts words.now)) }
+    ensures only { result ≡ Err LineRefusal.BadLine → (e : Event) → Says Verb.Prune (texts words.now) e → ⊥ }
+{
+    let [slot] = words else {
+        return Err(LineRefusal::BadLine);
+    };
+    let slot = slot_of(alloc, slot)?;
+    Ok(Event::Prune(slot))
+}
+
+/// `retire N`.
+fn retire_of(words: &[&str]) -> Result<Event, LineRefusal>
+    ensures spelled { IfOk result (Says Verb.Retire (texts words.now)) }
+    ensures only { result ≡ Err LineRefusal.BadLine → (e : Event) → Says Verb.Retire (texts words.now) e → ⊥ }
+{
+    let [node] = words else {
+        return Err(LineRefusal::BadLine);
+    };
+    let node = node_of(node).ok_or(LineRefusal::BadLine)?;
+    Ok(Event::Retire(node))
 }
 
 /// `restart N`.
@@ -218,6 +265,10 @@ fn said_by(alloc: Global, verb: Verb, words: &[&str]) -> Result<Event, LineRefus
         Verb::Resend => resend_of(words),
         Verb::Restart => restart_of(words),
         Verb::Forge => forge_of(alloc, words),
+        Verb::Nudge => nudge_of(words),
+        Verb::Withdraw => withdraw_of(words),
+        Verb::Prune => prune_of(alloc, words),
+        Verb::Retire => retire_of(words),
     }
 }
 

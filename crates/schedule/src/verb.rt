@@ -14,6 +14,10 @@ pub(crate) enum Verb {
     Resend,
     Restart,
     Forge,
+    Nudge,
+    Withdraw,
+    Prune,
+    Retire,
 }
 
 /// The verb that a word is.
@@ -31,6 +35,10 @@ pub(crate) fn verb_of(word: &str) -> Option<Verb>
         "resend" => Some(Verb::Resend),
         "restart" => Some(Verb::Restart),
         "forge" => Some(Verb::Forge),
+        "nudge" => Some(Verb::Nudge),
+        "withdraw" => Some(Verb::Withdraw),
+        "prune" => Some(Verb::Prune),
+        "retire" => Some(Verb::Retire),
         _ => None,
     }
 }

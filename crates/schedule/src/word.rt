@@ -60,7 +60,7 @@ pub(crate) fn folder_of(alloc: Global, word: &str) -> Result<FolderName, LineRef
 }
 
 /// The slot of a word.
-fn slot_of(alloc: Global, word: &str) -> Result<Slot, LineRefusal>
+pub(crate) fn slot_of(alloc: Global, word: &str) -> Result<Slot, LineRefusal>
     ensures spelled { IfOk result (λ slot. word.now ≡ slot_text slot) }
     ensures slot { IfOk result IsSlot }
     ensures only { result ≡ Err LineRefusal.BadLine → (slot : SlotParts) → IsSlot slot → word.now ≢ slot_text slot }

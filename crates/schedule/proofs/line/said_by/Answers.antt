@@ -26,3 +26,15 @@ returns-in-Restart c = rw c.in-Restart.is c.restart_of.ensures
 
 pub returns-in-Forge : goal.returns-in-Forge
 returns-in-Forge c = rw c.in-Forge.is c.forge_of.ensures
+
+pub returns-in-Nudge : goal.returns-in-Nudge
+returns-in-Nudge c = rw c.in-Nudge.is c.nudge_of.ensures
+
+pub returns-in-Withdraw : goal.returns-in-Withdraw
+returns-in-Withdraw c = rw c.in-Withdraw.is c.withdraw_of.ensures
+
+pub returns-in-Prune : goal.returns-in-Prune
+returns-in-Prune c = rw c.in-Prune.is c.prune_of.ensures
+
+pub returns-in-Retire : goal.returns-in-Retire
+returns-in-Retire c = rw c.in-Retire.is c.retire_of.ensures
