@@ -141,3 +141,183 @@ fn words_of_the_program(rt: HostRuntime) -> Result<(), Fail> {
     }
     Ok(())
 }
+
+/// Schedules, their lines parted by semicolons, and lines that their replay prints. `EMPTY` and `ABC` stand for
+/// the digits of the SHA-256 of nothing and of `abc`.
+const REPLAYS: [(&str, &[&str]); 15] = [
+    // Nothing happens.
+    (
+        "nodes 2",
+        &[],
+    ),
+    // The second node waits, and begins from what the first left.
+    (
+        "nodes 2; ask 1 locked:apt; ask 2 locked:apt; deliver 1; deliver 2; deliver 3; begin 1 1; finish 1 1 locked:apt=; deliver 4; deliver 6",
+        &["3 granted 1 locked:apt=0 -> 3", "4 parked", "8 committed 1 -> 5..6", "9 took 2 locked:apt=1", "locked:apt 1:1:EMPTY"],
+    ),
+    // A commit that arrives again adds nothing.
+    (
+        "nodes 2; ask 1 locked:apt; deliver 1; deliver 2; begin 1 1; finish 1 1 locked:apt=616263; deliver 3; deliver 3; deliver 3",
+        &["7 committed before 1 -> 5", "8 committed before 1 -> 6", "locked:apt 1:1:ABC"],
+    ),
+    // The commit of a withdrawn lease is fenced.
+    (
+        "nodes 2; ask 1 locked:apt; deliver 1; deliver 2; begin 1 1; withdraw 1; ask 2 locked:apt; deliver 3; deliver 4; begin 2 2; finish 2 2 locked:apt=616263; deliver 5; finish 1 1 locked:apt=616264; deliver 7; deliver 8",
+        &["5 withdrawn 1", "7 granted 2 locked:apt=0 -> 4", "11 committed 2 -> 6", "13 fenced 1 -> 8", "14 dropped 1", "locked:apt 1:2:ABC"],
+    ),
+    // The lowest free instance of a PRIVATE folder is granted.
+    (
+        "nodes 2; ask 1 private:npm; ask 2 private:npm; deliver 1; deliver 2; deliver 3; abort 1 1; deliver 5; ask 1 private:npm; deliver 6",
+        &["3 granted 1 private:npm#1=0 -> 3", "4 granted 2 private:npm#2=0 -> 4", "9 granted 3 private:npm#1=0 -> 7"],
+    ),
+    // A withdrawn PRIVATE slot is never granted again.
+    (
+        "nodes 1; ask 1 private:npm; deliver 1; withdraw 1; ask 1 private:npm; deliver 3",
+        &["3 withdrawn 1", "5 granted 2 private:npm#2=0 -> 4"],
+    ),
+    // A node that starts again takes no grant of its older life.
+    (
+        "nodes 1; ask 1 locked:apt; deliver 1; deliver 2; begin 1 1; restart 1; deliver 3; ask 1 locked:apt; deliver 4; deliver 2; begin 1 1",
+        &["5 life 2 -> 3", "6 nothing", "7 asked 1 -> 4", "8 granted 2 locked:apt=0 -> 5", "9 old life", "10 refused NoSuchTicket"],
+    ),
+    // A content under another digest is not taken.
+    (
+        "nodes 2; ask 1 locked:apt; deliver 1; deliver 2; begin 1 1; finish 1 1 locked:apt=616263; deliver 3; ask 2 locked:apt; deliver 5; deliver 6; forge 2 616264; begin 2 2; deliver 7; deliver 8; begin 2 2",
+        &["8 granted 2 locked:apt=1 -> 6", "9 took 2 locked:apt=1 -> 7", "10 nothing", "11 refused ContentsMissing", "12 sent blob -> 8", "13 blob taken", "14 begun 2", "locked:apt 1:1:ABC"],
+    ),
+    // A waiting ask holds no slot.
+    (
+        "nodes 2; ask 2 locked:b; deliver 1; ask 1 locked:a locked:b; deliver 3; ask 2 locked:a; deliver 4",
+        &["4 parked", "6 granted 2 locked:a=0 -> 5"],
+    ),
+    // A tenure is asked for and moves.
+    (
+        "nodes 2; tenure 1 shared:pip; deliver 1; deliver 2; begin 1 1; tenure 2 shared:pip; deliver 3; deliver 4; finish 1 1 shared:pip=616263; deliver 5; deliver 7",
+        &["1 asked 1 -> 1", "2 granted 1 shared:pip=0 -> 2", "3 took 1 shared:pip=0", "4 begun 1", "5 asked 1 -> 3", "6 parked -> 4", "7 recalled 1", "8 finished 1 -> 5", "9 committed 1 -> 6..7", "10 took 2 shared:pip=1 -> 8", "shared:pip 1:1:ABC"],
+    ),
+    // A tenure outlives the executions that use its folder.
+    (
+        "nodes 1; ask 1 shared:pip; tenure 1 shared:pip; deliver 1; deliver 2; begin 1 1; ask 1 shared:pip; finish 1 1 shared:pip=; deliver 3; deliver 4; begin 1 2; abort 1 1; finish 1 2; withdraw 1; finish 1 1 shared:pip=; deliver 6",
+        &["1 refused NotHomeHere", "6 asked 2 -> 3", "7 refused TenureInUse", "8 granted 2 -> 4", "9 took 2", "10 begun 2", "11 refused TenureInUse", "12 finished 2 -> 5", "13 refused Tenure", "14 finished 1 -> 6", "15 committed 1 -> 7", "shared:pip 1:1:EMPTY"],
+    ),
+    // A line is pruned, but not under a lease.
+    (
+        "nodes 1; ask 1 locked:apt; deliver 1; prune locked:apt; deliver 2; begin 1 1; finish 1 1 locked:apt=616263; deliver 3; prune locked:apt; prune locked:b",
+        &["3 refused SlotLeased", "8 pruned 2", "9 refused NoSuchSlot", "locked:apt 1:1:ABC 2:2:EMPTY"],
+    ),
+    // A grant that comes again is given back.
+    (
+        "nodes 1; ask 1 locked:apt; deliver 1; deliver 1; deliver 2; abort 1 1; deliver 4; deliver 1; deliver 5; deliver 6",
+        &["3 granted before 1 locked:apt=0 -> 3", "5 aborted 1 -> 4", "7 granted 2 locked:apt=0 -> 5", "8 gave back 2 -> 6", "9 released 2"],
+    ),
+    // What was lost is sent again.
+    (
+        "nodes 2; ask 1 locked:apt; resend 1; deliver 3; nudge; deliver 5; deliver 4; deliver 9; begin 3 1",
+        &["2 resent -> 2..3", "3 granted 1 locked:apt=0 -> 4", "4 nudged -> 5", "5 took 1 locked:apt=0", "6 nothing", "7 refused NoSuchMessage", "8 refused NoSuchNode"],
+    ),
+    // A node is retired.
+    (
+        "nodes 2; ask 1 locked:apt private:npm; ask 2 locked:apt; deliver 1; deliver 2; retire 1; deliver 1; retire 1; ask 2 private:npm; deliver 5",
+        &["3 granted 1 locked:apt=0 private:npm#1=0 -> 3", "4 parked", "5 retired 1 -> 4", "6 retired node", "7 refused NodeRetired", "8 asked 2 -> 5", "9 granted 3 private:npm#2=0 -> 6"],
+    ),
+];
+
+const EMPTY: &str = "e3b0c44298fc1c149afbf4c8996fb92427ae41e4649b934ca495991b7852b855";
+const ABC: &str = "ba7816bf8f01cfea414140de5dae2223b00361a396177a9cb410ff61f20015ad";
+
+/// A text with a line feed for each semicolon and what follows it.
+fn lines_of(alloc: Global, schedule: &str) -> Result<Vec<u8>, Fail> {
+    let text = schedule.replace(alloc, "; ", "\n")?;
+    let mut bytes = Vec::new(alloc);
+    bytes.extend_from_slice(text.as_bytes())?;
+    Ok(bytes)
+}
+
+#[test]
+fn what_schedules_come_to(rt: HostRuntime) -> Result<(), Fail> {
+    for (schedule, wanted) in &REPLAYS {
+        let bytes = lines_of(rt.alloc(), schedule)?;
+        let (status, out, err) = done(rt.alloc(), Command::Replay, Some(bytes))?;
+        assert_eq!(rt; status, DONE);
+        assert_eq!(rt; err.as_slice(), b"".as_slice());
+        let Ok(text) = str::from_utf8(out.as_slice()) else {
+            return Err(Fail);
+        };
+        for line in *wanted {
+            let line = line.replace(rt.alloc(), "EMPTY", EMPTY)?;
+            let line = line.replace(rt.alloc(), "ABC", ABC)?;
+            assert!(rt; text.lines().any(|printed| printed == line.as_str()));
+        }
+    }
+    Ok(())
+}
+
+/// Texts that are no schedules, and what is printed of each.
+const NO_SCHEDULES: [(&str, &str); 12] = [
+    ("", "refused BadLine 1\n"),
+    ("nodes 0", "refused BadLine 1\n"),
+    ("nodes 1025", "refused BadLine 1\n"),
+    ("nodes 01", "refused BadLine 1\n"),
+    ("nodes 1; ask 1  locked:a", "refused BadLine 2\n"),
+    ("nodes 1; ask 1 locked:%41", "refused BadLine 2\n"),
+    ("nodes 1; ask 1 locked:a locked:a", "refused BadLine 2\n"),
+    ("nodes 1; ; ; begin 1 01", "refused BadLine 4\n"),
+    ("nodes 1; deliver 18446744073709551616", "refused BadLine 2\n"),
+    ("nodes 1; tenure 1 locked:a", "refused BadLine 2\n"),
+    ("nodes 1; nudge ; ask 1", "refused BadLine 2\n"),
+    ("nodes 1; finish 1 1 locked:b= locked:a=", "refused BadLine 2\n"),
+];
+
+#[test]
+fn what_is_no_schedule(rt: HostRuntime) -> Result<(), Fail> {
+    for (schedule, wanted) in &NO_SCHEDULES {
+        let bytes = lines_of(rt.alloc(), schedule)?;
+        let (status, out, err) = done(rt.alloc(), Command::Replay, Some(bytes))?;
+        assert_eq!(rt; status, REFUSED);
+        assert_eq!(rt; out.as_slice(), b"".as_slice());
+        assert_eq!(rt; err.as_slice(), wanted.as_bytes());
+    }
+    Ok(())
+}
+
+/// So many times a line, behind the line of one node.
+fn repeated(alloc: Global, line: &str, count: usize) -> Result<Vec<u8>, Fail> {
+    let mut bytes = Vec::new(alloc);
+    bytes.extend_from_slice(b"nodes 1\n")?;
+    for _ in 0..count {
+        bytes.extend_from_slice(line.as_bytes())?;
+    }
+    Ok(bytes)
+}
+
+#[test]
+fn the_limits_of_schedules(rt: HostRuntime) -> Result<(), Fail> {
+    let limits = [
+        ("nudge\n", 65_536, DONE, ""),
+        ("nudge\n", 65_537, REFUSED, "refused TooManyEvents\n"),
+        ("\n", 16 * 1024 * 1024 - 8, DONE, ""),
+        ("\n", 16 * 1024 * 1024 - 7, REFUSED, "refused TooLarge\n"),
+    ];
+    for (line, count, wanted, text) in &limits {
+        let bytes = repeated(rt.alloc(), line, *count)?;
+        let (status, _, err) = done(rt.alloc(), Command::Replay, Some(bytes))?;
+        assert_eq!(rt; status, *wanted);
+        assert_eq!(rt; err.as_slice(), text.as_bytes());
+    }
+    Ok(())
+}
+
+/// 4,097 asks for one PRIVATE folder: each instance is granted once, and the last ask is denied.
+#[test]
+fn the_instances_of_a_folder(rt: HostRuntime) -> Result<(), Fail> {
+    let mut bytes = repeated(rt.alloc(), "ask 1 private:npm\n", 4_097)?;
+    for number in 1..4_098u32 {
+        let line = format!(in rt.alloc(); "deliver {number}\n")?;
+        bytes.extend_from_slice(line.as_bytes())?;
+    }
+    let (status, out, _) = done(rt.alloc(), Command::Replay, Some(bytes))?;
+    assert_eq!(rt; status, DONE);
+    let last = b"8193 granted 4096 private:npm#4096=0 -> 8193\n8194 denied InstancesSpent -> 8194\n";
+    assert!(rt; out.ends_with(last.as_slice()));
+    Ok(())
+}

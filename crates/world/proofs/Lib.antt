@@ -2,4 +2,5 @@ mod SeatLemmas
 mod PoolLemmas
 mod FewLemmas
 mod TurnLemmas
+mod CallLemmas
 mod SafeLemmas

@@ -4,12 +4,12 @@ use mathlib.Core.Path.{fun_ext}
 use Rattle.std.proofs.lemmas.Bool.{eqb-true}
 use Rattle.protocol.specs.Lists.{put}
 use Rattle.protocol.specs.Names.{NodeId}
-use Rattle.protocol.specs.Machine.{Message, Said, Told, ToCoord, FromCoord}
+use Rattle.protocol.specs.Machine.{Message, Told, FromCoord}
 use Rattle.protocol.specs.declared.answer.Survivor.{Survivor}
 use Rattle.protocol.specs.declared.answer.CoordNote.{CoordNote}
 use Rattle.protocol.specs.World.{Node}
 use Rattle.protocol.specs.Nodes.{Place, NodeAnswer, may_restart, restarted, unless_spent}
-use Rattle.protocol.specs.Ledger.{Ledger, Work, handled, begin_work}
+use Rattle.protocol.specs.Ledger.{Ledger, Work}
 use Rattle.folders.specs.Contents.{content_digest}
 use Rattle.folders.specs.Farm.{farm_limits}
 use Rattle.protocol.specs.Replay.{Farm, Turn, first_sent, is_node, at, at_node, node_does, answered, done, moved, refused, restarts, delivered, coordinated, settled, after_work}
@@ -124,13 +124,12 @@ settled_is : (b : Bool) (w : Work) (s : Farm) → settled b None w s ≡ after_w
 settled_is true w s = refl
 settled_is false w s = refl
 
--- the coordinator did it
-pub came_handled : (s : Farm) (y : ToCoord) (ledger : Ledger) (pool : List Message) (sends : List FromCoord) (n : CoordNote) (o : Outcome) → s.down ≡ None → s.armed ≡ None
-    → ledger ≡ (handled farm_limits y (begin_work s.ledger)).ledger → sends ≡ (handled farm_limits y (begin_work s.ledger)).sends → n ≡ (handled farm_limits y (begin_work s.ledger)).note
+-- the coordinator did this work
+pub came_worked : (s : Farm) (w : Work) (ledger : Ledger) (pool : List Message) (sends : List FromCoord) (n : CoordNote) (o : Outcome) → s.down ≡ None → s.armed ≡ None
+    → ledger ≡ w.ledger → sends ≡ w.sends → n ≡ w.note
     → pool ≡ s.pool ++ map Told sends → o ≡ record { note = note.Coord n; first = first_number (length s.pool) (length sends); sent = length sends }
-    → delivered content_digest farm_limits (Some (Said y)) s ≡ record { farm = record s { ledger = ledger; pool = pool }; outcome = Ok o }
-came_handled s y ledger pool sends n o up safe e f g h i =
-    let w : Work = handled farm_limits y (begin_work s.ledger) in
+    → coordinated s.down (Ok w) s ≡ record { farm = record s { ledger = ledger; pool = pool }; outcome = Ok o }
+came_worked s w ledger pool sends n o up safe e f g h i =
     ap (λ (d : Option Ledger). coordinated d (Ok w) s) up ∙ ap (λ (a : Option Survivor). settled w.changed a w s) safe ∙ settled_is w.changed w s
     ∙ sym (λ j. done (note.Coord (g j)) (map Told (f j)) s (record s { ledger = e j; pool = s.pool ++ map Told (f j) }))
     ∙ ap (λ (p : List Message). done (note.Coord n) (map Told sends) s (record s { ledger = ledger; pool = p })) (sym h)

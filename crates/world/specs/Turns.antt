@@ -2,8 +2,10 @@
 use Rattle.std.specs.Prelude.{◌≡◌, ℕ, zero, suc, ◌+◌, ◌<◌, ◌≤◌, true, if◌then◌else◌, length, Result, Ok, Err}
 use Rattle.folders.specs.Farm.{farm_limits}
 use Rattle.protocol.specs.Names.{NodeId}
-use Rattle.protocol.specs.Ledger.{handled, begin_work}
-use Rattle.protocol.specs.Replay.{Farm, Turn, is_node, at, restarts, refused}
+use Rattle.protocol.specs.Ledger.{handled, retired, begin_work}
+use Rattle.protocol.specs.Replay.{Farm, Turn, is_node, at, restarts, coordinated, refused}
+use Rattle.protocol.specs.declared.answer.CoordRefusal.{CoordRefusal}
+use Rattle.protocol.specs.declared.answer.CoordRefusal.TheVariants as coord
 use Rattle.nodecore.specs.declared.message.Message.{Message}
 use Rattle.nodecore.specs.declared.message.Message.TheVariants.{ToCoord, ToNode}
 use Rattle.nodecore.specs.Shown.{message_work}
@@ -34,6 +36,15 @@ from_node e = refusal.Node e
 abbrev pub FitsIn : Farm → Message → ℕ → Type 0
 FitsIn s (ToCoord y) room = length (handled farm_limits y (begin_work s.ledger)).sends ≤ room
 FitsIn s (ToNode m) room = is_node s (told_node m) ≡ true → room < 0xffff_ffff_ffff_ffff → length (message_work (at s (told_node m)) (s.nodes (told_node m).0) m).sends ≤ room
+
+-- the event's refusal that the coordinator's is
+abbrev pub from_coordinator : CoordRefusal → EventRefusal
+from_coordinator coord.OutOfMemory = refusal.OutOfMemory
+from_coordinator e = refusal.Coord e
+
+-- a node of this number is retired, if it is there
+abbrev pub retiring : NodeId → Farm → Turn
+retiring n s = if is_node s n then coordinated s.down (retired farm_limits n (begin_work s.ledger)) s else refused refusal.NoSuchNode s
 
 -- a node of this number restarts, if it is there
 abbrev pub restarting : NodeId → Farm → Turn

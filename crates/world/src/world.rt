@@ -1,10 +1,10 @@
-ghost use Rattle.std.specs.Prelude.{◌≡◌, ◌≤◌, ◌<◌, IfOk, IfErr, IfSome, IsErrOf, OnErr, map, length, is_some, option_map, option_copied};
+ghost use Rattle.std.specs.Prelude.{Ok, None, ◌≡◌, ◌≤◌, ◌<◌, IfOk, IfErr, IfSome, IsErrOf, OnErr, map, length, is_some, option_map, option_copied};
 ghost use Rattle.folders.specs.Contents.{content_digest};
 ghost use Rattle.folders.specs.Farm.{farm_limits};
 ghost use Rattle.protocol.specs.Lists.{nth};
 ghost use Rattle.protocol.specs.Machine.{Said};
-ghost use Rattle.protocol.specs.Ledger.{handled, begin_work};
-ghost use Rattle.protocol.specs.Replay.{opening, step, restarts, node_does, is_node, delivered};
+ghost use Rattle.protocol.specs.Ledger.{begin_work, withdrawn, pruned, nudged};
+ghost use Rattle.protocol.specs.Replay.{opening, step, node_does, is_node, delivered, coordinated};
 ghost use Rattle.protocol.specs.Nodes.{resent};
 ghost use Rattle.coordinator.specs.Held.{ledger};
 ghost use Rattle.nodecore.specs.Asks.{message_of};
@@ -12,16 +12,16 @@ ghost use Rattle.nodecore.specs.Shown as core;
 ghost use Rattle.schedule.specs.Events.{event_of};
 ghost use Rattle.world.specs.Setups.{IsSetup};
 ghost use Rattle.world.specs.Tables.{called};
-ghost use Rattle.world.specs.Turns.{Came, FitsIn, from_node, restarting};
+ghost use Rattle.world.specs.Turns.{Came, FitsIn, from_node, from_coordinator, restarting, retiring};
 ghost use Rattle.world.specs.Shown.{shown};
 
 use super::call::Call;
 use super::nodes::{Nodes, told_node};
 use super::pool::{message_at, place_in, send_coordinator, send_node};
 use coordinator::Coordinator;
-use farm_base::NodeId;
+use farm_base::{NodeId, Slot, Ticket};
 use nodecore::{Message, NodeCore};
-use protocol::{EventRefusal, NodeRefusal, Outcome};
+use protocol::{CoordRefusal, EventRefusal, NodeRefusal, Outcome};
 use schedule::{Event, Setup};
 use std::alloc::Global;
 use thiserror::Error;
@@ -50,6 +50,16 @@ fn from_node(refusal: NodeRefusal) -> EventRefusal
     match refusal {
         NodeRefusal::OutOfMemory => EventRefusal::OutOfMemory,
         other => EventRefusal::Node(other),
+    }
+}
+
+/// The event's refusal that the coordinator's is.
+fn from_coordinator(refusal: CoordRefusal) -> EventRefusal
+    ensures { result ≡ from_coordinator refusal }
+{
+    match refusal {
+        CoordRefusal::OutOfMemory => EventRefusal::OutOfMemory,
+        other => EventRefusal::Coord(other),
     }
 }
 
@@ -192,6 +202,66 @@ impl World {
         }
     }
 
+    /// The lease of a ticket is withdrawn.
+    fn withdraw(&mut self, alloc: Global, ticket: Ticket) -> Result<Outcome, EventRefusal>
+        ensures { Came (coordinated None (withdrawn farm_limits ticket (begin_work (shown self.old).ledger)) (shown self.old)) (shown self.old) (shown self.new) result }
+    {
+        let room = self.coordinator.most_sends_of_calls();
+        if self.pool.reserve(room).is_err() {
+            return Err(EventRefusal::OutOfMemory);
+        }
+        match self.coordinator.withdraw(alloc, ticket) {
+            Err(refusal) => Err(from_coordinator(refusal)),
+            Ok(handled) => Ok(send_coordinator(&mut self.pool, handled)),
+        }
+    }
+
+    /// The line of a slot begins anew.
+    fn prune(&mut self, alloc: Global, slot: &Slot) -> Result<Outcome, EventRefusal>
+        ensures { Came (coordinated None (pruned farm_limits slot.now (begin_work (shown self.old).ledger)) (shown self.old)) (shown self.old) (shown self.new) result }
+    {
+        let room = self.coordinator.most_sends_of_calls();
+        if self.pool.reserve(room).is_err() {
+            return Err(EventRefusal::OutOfMemory);
+        }
+        match self.coordinator.prune(alloc, slot) {
+            Err(refusal) => Err(from_coordinator(refusal)),
+            Ok(handled) => Ok(send_coordinator(&mut self.pool, handled)),
+        }
+    }
+
+    /// A node is gone for good.
+    fn retire(&mut self, alloc: Global, node: NodeId) -> Result<Outcome, EventRefusal>
+        ensures { Came (retiring node (shown self.old)) (shown self.old) (shown self.new) result }
+    {
+        if self.nodes.get(node).is_none() {
+            return Err(EventRefusal::NoSuchNode);
+        }
+        let room = self.coordinator.most_sends_of_calls();
+        if self.pool.reserve(room).is_err() {
+            return Err(EventRefusal::OutOfMemory);
+        }
+        match self.coordinator.retire(alloc, node) {
+            Err(refusal) => Err(from_coordinator(refusal)),
+            Ok(handled) => Ok(send_coordinator(&mut self.pool, handled)),
+        }
+    }
+
+    /// The Grant of each lease is sent again.
+    fn nudge(&mut self, alloc: Global) -> Result<Outcome, EventRefusal>
+        ensures { Came (coordinated None (Ok (nudged farm_limits (begin_work (shown self.old).ledger))) (shown self.old)) (shown self.old) (shown self.new) result }
+    {
+        match self.coordinator.nudge(alloc) {
+            Err(_) => Err(EventRefusal::OutOfMemory),
+            Ok(handled) => {
+                if self.pool.reserve(handled.sends.as_slice().len()).is_err() {
+                    return Err(EventRefusal::OutOfMemory);
+                }
+                Ok(send_coordinator(&mut self.pool, handled))
+            }
+        }
+    }
+
     /// Carries out one event. What is refused changes nothing, but that a node whose greatest life is over is
     /// down for good.
     #[tactic(auto, unfolding(protocol::specs::Replay::step))]
@@ -208,6 +278,10 @@ impl World {
             }
             Event::Abort(node, ticket) => self.call(alloc, node, Call::Abort(ticket)),
             Event::Resend(node) => self.resend(alloc, node),
+            Event::Nudge => self.nudge(alloc),
+            Event::Withdraw(ticket) => self.withdraw(alloc, ticket),
+            Event::Prune(slot) => self.prune(alloc, &slot),
+            Event::Retire(node) => self.retire(alloc, node),
             Event::RestartNode(node) => self.restart(alloc, node),
             Event::Forge(node, content) => self.call(alloc, node, Call::Forge(content)),
         }
