@@ -1,9 +1,8 @@
 //! The lines of the events.
-ghost use Rattle.std.specs.Prelude.{◌≡◌, ◌≢◌, ℕ, List, map, IfOk};
+ghost use Rattle.std.specs.Prelude.{◌≡◌, ◌≢◌, List, map, IfOk};
 ghost use Rattle.std.specs.List.{All, IsAllAdjacentAnswer};
 ghost use Rattle.std.specs.Ordering.{is_lt};
 ghost use Rattle.farm_base.specs.Slots.{slot_cmp};
-ghost use Rattle.std.specs.Str.{IsUtf8};
 ghost use Rattle.schedule.specs.declared.event.Event.{Event};
 ghost use Rattle.farm_base.specs.declared.want.Want.{Want};
 ghost use Rattle.schedule.specs.Lines.{want_text, left_text, IsWant, IsLeft, Left, IsSpelled};
