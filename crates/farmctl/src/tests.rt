@@ -146,29 +146,47 @@ fn words_of_the_program(rt: HostRuntime) -> Result<(), Fail> {
 /// the digits of the SHA-256 of nothing and of `abc`.
 const REPLAYS: [(&str, &[&str]); 15] = [
     // Nothing happens.
-    (
-        "nodes 2",
-        &[],
-    ),
+    ("nodes 2", &[]),
     // The second node waits, and begins from what the first left.
     (
         "nodes 2; ask 1 locked:apt; ask 2 locked:apt; deliver 1; deliver 2; deliver 3; begin 1 1; finish 1 1 locked:apt=; deliver 4; deliver 6",
-        &["3 granted 1 locked:apt=0 -> 3", "4 parked", "8 committed 1 -> 5..6", "9 took 2 locked:apt=1", "locked:apt 1:1:EMPTY"],
+        &[
+            "3 granted 1 locked:apt=0 -> 3",
+            "4 parked",
+            "8 committed 1 -> 5..6",
+            "9 took 2 locked:apt=1",
+            "locked:apt 1:1:EMPTY",
+        ],
     ),
     // A commit that arrives again adds nothing.
     (
         "nodes 2; ask 1 locked:apt; deliver 1; deliver 2; begin 1 1; finish 1 1 locked:apt=616263; deliver 3; deliver 3; deliver 3",
-        &["7 committed before 1 -> 5", "8 committed before 1 -> 6", "locked:apt 1:1:ABC"],
+        &[
+            "7 committed before 1 -> 5",
+            "8 committed before 1 -> 6",
+            "locked:apt 1:1:ABC",
+        ],
     ),
     // The commit of a withdrawn lease is fenced.
     (
         "nodes 2; ask 1 locked:apt; deliver 1; deliver 2; begin 1 1; withdraw 1; ask 2 locked:apt; deliver 3; deliver 4; begin 2 2; finish 2 2 locked:apt=616263; deliver 5; finish 1 1 locked:apt=616264; deliver 7; deliver 8",
-        &["5 withdrawn 1", "7 granted 2 locked:apt=0 -> 4", "11 committed 2 -> 6", "13 fenced 1 -> 8", "14 dropped 1", "locked:apt 1:2:ABC"],
+        &[
+            "5 withdrawn 1",
+            "7 granted 2 locked:apt=0 -> 4",
+            "11 committed 2 -> 6",
+            "13 fenced 1 -> 8",
+            "14 dropped 1",
+            "locked:apt 1:2:ABC",
+        ],
     ),
     // The lowest free instance of a PRIVATE folder is granted.
     (
         "nodes 2; ask 1 private:npm; ask 2 private:npm; deliver 1; deliver 2; deliver 3; abort 1 1; deliver 5; ask 1 private:npm; deliver 6",
-        &["3 granted 1 private:npm#1=0 -> 3", "4 granted 2 private:npm#2=0 -> 4", "9 granted 3 private:npm#1=0 -> 7"],
+        &[
+            "3 granted 1 private:npm#1=0 -> 3",
+            "4 granted 2 private:npm#2=0 -> 4",
+            "9 granted 3 private:npm#1=0 -> 7",
+        ],
     ),
     // A withdrawn PRIVATE slot is never granted again.
     (
@@ -178,12 +196,28 @@ const REPLAYS: [(&str, &[&str]); 15] = [
     // A node that starts again takes no grant of its older life.
     (
         "nodes 1; ask 1 locked:apt; deliver 1; deliver 2; begin 1 1; restart 1; deliver 3; ask 1 locked:apt; deliver 4; deliver 2; begin 1 1",
-        &["5 life 2 -> 3", "6 nothing", "7 asked 1 -> 4", "8 granted 2 locked:apt=0 -> 5", "9 old life", "10 refused NoSuchTicket"],
+        &[
+            "5 life 2 -> 3",
+            "6 nothing",
+            "7 asked 1 -> 4",
+            "8 granted 2 locked:apt=0 -> 5",
+            "9 old life",
+            "10 refused NoSuchTicket",
+        ],
     ),
     // A content under another digest is not taken.
     (
         "nodes 2; ask 1 locked:apt; deliver 1; deliver 2; begin 1 1; finish 1 1 locked:apt=616263; deliver 3; ask 2 locked:apt; deliver 5; deliver 6; forge 2 616264; begin 2 2; deliver 7; deliver 8; begin 2 2",
-        &["8 granted 2 locked:apt=1 -> 6", "9 took 2 locked:apt=1 -> 7", "10 nothing", "11 refused ContentsMissing", "12 sent blob -> 8", "13 blob taken", "14 begun 2", "locked:apt 1:1:ABC"],
+        &[
+            "8 granted 2 locked:apt=1 -> 6",
+            "9 took 2 locked:apt=1 -> 7",
+            "10 nothing",
+            "11 refused ContentsMissing",
+            "12 sent blob -> 8",
+            "13 blob taken",
+            "14 begun 2",
+            "locked:apt 1:1:ABC",
+        ],
     ),
     // A waiting ask holds no slot.
     (
@@ -193,36 +227,89 @@ const REPLAYS: [(&str, &[&str]); 15] = [
     // A tenure is asked for and moves.
     (
         "nodes 2; tenure 1 shared:pip; deliver 1; deliver 2; begin 1 1; tenure 2 shared:pip; deliver 3; deliver 4; finish 1 1 shared:pip=616263; deliver 5; deliver 7",
-        &["1 asked 1 -> 1", "2 granted 1 shared:pip=0 -> 2", "3 took 1 shared:pip=0", "4 begun 1", "5 asked 1 -> 3", "6 parked -> 4", "7 recalled 1", "8 finished 1 -> 5", "9 committed 1 -> 6..7", "10 took 2 shared:pip=1 -> 8", "shared:pip 1:1:ABC"],
+        &[
+            "1 asked 1 -> 1",
+            "2 granted 1 shared:pip=0 -> 2",
+            "3 took 1 shared:pip=0",
+            "4 begun 1",
+            "5 asked 1 -> 3",
+            "6 parked -> 4",
+            "7 recalled 1",
+            "8 finished 1 -> 5",
+            "9 committed 1 -> 6..7",
+            "10 took 2 shared:pip=1 -> 8",
+            "shared:pip 1:1:ABC",
+        ],
     ),
     // A tenure outlives the executions that use its folder.
     (
         "nodes 1; ask 1 shared:pip; tenure 1 shared:pip; deliver 1; deliver 2; begin 1 1; ask 1 shared:pip; finish 1 1 shared:pip=; deliver 3; deliver 4; begin 1 2; abort 1 1; finish 1 2; withdraw 1; finish 1 1 shared:pip=; deliver 6",
-        &["1 refused NotHomeHere", "6 asked 2 -> 3", "7 refused TenureInUse", "8 granted 2 -> 4", "9 took 2", "10 begun 2", "11 refused TenureInUse", "12 finished 2 -> 5", "13 refused Tenure", "14 finished 1 -> 6", "15 committed 1 -> 7", "shared:pip 1:1:EMPTY"],
+        &[
+            "1 refused NotHomeHere",
+            "6 asked 2 -> 3",
+            "7 refused TenureInUse",
+            "8 granted 2 -> 4",
+            "9 took 2",
+            "10 begun 2",
+            "11 refused TenureInUse",
+            "12 finished 2 -> 5",
+            "13 refused Tenure",
+            "14 finished 1 -> 6",
+            "15 committed 1 -> 7",
+            "shared:pip 1:1:EMPTY",
+        ],
     ),
     // A line is pruned, but not under a lease.
     (
         "nodes 1; ask 1 locked:apt; deliver 1; prune locked:apt; deliver 2; begin 1 1; finish 1 1 locked:apt=616263; deliver 3; prune locked:apt; prune locked:b",
-        &["3 refused SlotLeased", "8 pruned 2", "9 refused NoSuchSlot", "locked:apt 1:1:ABC 2:2:EMPTY"],
+        &[
+            "3 refused SlotLeased",
+            "8 pruned 2",
+            "9 refused NoSuchSlot",
+            "locked:apt 1:1:ABC 2:2:EMPTY",
+        ],
     ),
     // A grant that comes again is given back.
     (
         "nodes 1; ask 1 locked:apt; deliver 1; deliver 1; deliver 2; abort 1 1; deliver 4; deliver 1; deliver 5; deliver 6",
-        &["3 granted before 1 locked:apt=0 -> 3", "5 aborted 1 -> 4", "7 granted 2 locked:apt=0 -> 5", "8 gave back 2 -> 6", "9 released 2"],
+        &[
+            "3 granted before 1 locked:apt=0 -> 3",
+            "5 aborted 1 -> 4",
+            "7 granted 2 locked:apt=0 -> 5",
+            "8 gave back 2 -> 6",
+            "9 released 2",
+        ],
     ),
     // What was lost is sent again.
     (
         "nodes 2; ask 1 locked:apt; resend 1; deliver 3; nudge; deliver 5; deliver 4; deliver 9; begin 3 1",
-        &["2 resent -> 2..3", "3 granted 1 locked:apt=0 -> 4", "4 nudged -> 5", "5 took 1 locked:apt=0", "6 nothing", "7 refused NoSuchMessage", "8 refused NoSuchNode"],
+        &[
+            "2 resent -> 2..3",
+            "3 granted 1 locked:apt=0 -> 4",
+            "4 nudged -> 5",
+            "5 took 1 locked:apt=0",
+            "6 nothing",
+            "7 refused NoSuchMessage",
+            "8 refused NoSuchNode",
+        ],
     ),
     // A node is retired.
     (
         "nodes 2; ask 1 locked:apt private:npm; ask 2 locked:apt; deliver 1; deliver 2; retire 1; deliver 1; retire 1; ask 2 private:npm; deliver 5",
-        &["3 granted 1 locked:apt=0 private:npm#1=0 -> 3", "4 parked", "5 retired 1 -> 4", "6 retired node", "7 refused NodeRetired", "8 asked 2 -> 5", "9 granted 3 private:npm#2=0 -> 6"],
+        &[
+            "3 granted 1 locked:apt=0 private:npm#1=0 -> 3",
+            "4 parked",
+            "5 retired 1 -> 4",
+            "6 retired node",
+            "7 refused NodeRetired",
+            "8 asked 2 -> 5",
+            "9 granted 3 private:npm#2=0 -> 6",
+        ],
     ),
 ];
 
 const EMPTY: &str = "e3b0c44298fc1c149afbf4c8996fb92427ae41e4649b934ca495991b7852b855";
+
 const ABC: &str = "ba7816bf8f01cfea414140de5dae2223b00361a396177a9cb410ff61f20015ad";
 
 /// A text with a line feed for each semicolon and what follows it.
@@ -262,10 +349,16 @@ const NO_SCHEDULES: [(&str, &str); 12] = [
     ("nodes 1; ask 1 locked:%41", "refused BadLine 2\n"),
     ("nodes 1; ask 1 locked:a locked:a", "refused BadLine 2\n"),
     ("nodes 1; ; ; begin 1 01", "refused BadLine 4\n"),
-    ("nodes 1; deliver 18446744073709551616", "refused BadLine 2\n"),
+    (
+        "nodes 1; deliver 18446744073709551616",
+        "refused BadLine 2\n",
+    ),
     ("nodes 1; tenure 1 locked:a", "refused BadLine 2\n"),
     ("nodes 1; nudge ; ask 1", "refused BadLine 2\n"),
-    ("nodes 1; finish 1 1 locked:b= locked:a=", "refused BadLine 2\n"),
+    (
+        "nodes 1; finish 1 1 locked:b= locked:a=",
+        "refused BadLine 2\n",
+    ),
 ];
 
 #[test]
@@ -317,7 +410,8 @@ fn the_instances_of_a_folder(rt: HostRuntime) -> Result<(), Fail> {
     }
     let (status, out, _) = done(rt.alloc(), Command::Replay, Some(bytes))?;
     assert_eq!(rt; status, DONE);
-    let last = b"8193 granted 4096 private:npm#4096=0 -> 8193\n8194 denied InstancesSpent -> 8194\n";
+    let last =
+        b"8193 granted 4096 private:npm#4096=0 -> 8193\n8194 denied InstancesSpent -> 8194\n";
     assert!(rt; out.ends_with(last.as_slice()));
     Ok(())
 }

@@ -1,5 +1,5 @@
 -- What a call of the coordinator's own comes to in the farm.
-use Rattle.std.proofs.Common.{◌≡◌, ℕ, ◌≤◌, ◌++◌, List, length, map, Option, Some, None, Result, Ok, Err, refl, sym, ap, ◌∙◌, subst, arith}
+use Rattle.std.proofs.Common.{◌≡◌, ℕ, ◌≤◌, ◌++◌, List, length, map, None, Result, Ok, Err, refl, sym, ap, ◌∙◌, subst}
 use Rattle.protocol.specs.Machine.{Message, Told}
 use Rattle.protocol.specs.Ledger.{Ledger, Work}
 use Rattle.protocol.specs.Replay.{Farm, coordinated}
@@ -29,7 +29,7 @@ refused_for : (s t : Farm) (e : CoordRefusal) → s.down ≡ None → t ≡ s �
 refused_for s t e up same = ap (λ d. coordinated d (Err e) s) up ∙ (λ j. record { farm = sym same j; outcome = Err (refusal.Coord e) })
 
 out_of : (w : Work) (q : Ledger) (e : CoordRefusal) → Answers (Ok w) q (Err e) → e ≡ coord.OutOfMemory
-out_of w q e a = ?
+out_of w q e a = a.1
 
 same_refusal : (e x : CoordRefusal) → ◌≡◌ {A = Result Handled CoordRefusal} (Err e) (Err x) → e ≡ x
 same_refusal e x h = cc
