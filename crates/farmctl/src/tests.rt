@@ -327,9 +327,7 @@ fn what_schedules_come_to(rt: HostRuntime) -> Result<(), Fail> {
         let (status, out, err) = done(rt.alloc(), Command::Replay, Some(bytes))?;
         assert_eq!(rt; status, DONE);
         assert_eq!(rt; err.as_slice(), b"".as_slice());
-        let Ok(text) = str::from_utf8(out.as_slice()) else {
-            return Err(Fail);
-        };
+        let text = str::from_utf8(out.as_slice())?;
         for line in *wanted {
             let line = line.replace(rt.alloc(), "EMPTY", EMPTY)?;
             let line = line.replace(rt.alloc(), "ABC", ABC)?;

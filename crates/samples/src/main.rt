@@ -5,7 +5,7 @@ use opsproto::read_definition;
 use std::alloc::{AllocError, Global};
 use std::{env, fs};
 
-/// How many vertices a definition has and its result, or why it is none.
+/// How many vertices a definition has, its result and the result's solver key, or why it is none.
 fn line(alloc: Global, name: &str, bytes: &[u8]) -> Result<String, AllocError> {
     let definition = match read_definition(alloc, bytes) {
         Ok(definition) => definition,
@@ -18,7 +18,8 @@ fn line(alloc: Global, name: &str, bytes: &[u8]) -> Result<String, AllocError> {
     let (number, index) = graph.result();
     let len = graph.len();
     let digest = graph.vertex(number).digest.to_text(alloc)?;
-    format!(in alloc; "{name} {len} {digest} {index}")
+    let key = solverkeys::keys(alloc, &graph)?[number].to_text(alloc)?;
+    format!(in alloc; "{name} {len} {digest} {index} {key}")
 }
 
 fn main(rt: HostRuntime) -> anyhow::Result<()> {
