@@ -7,6 +7,7 @@ mod lookup;
 mod reading;
 mod refusal;
 mod varint;
+mod whole;
 mod writing;
 
 pub use field::{Field, Value};
@@ -17,4 +18,5 @@ pub use laws::{
 pub use lookup::{bodies, joined_body, last_member, last_varint};
 pub use reading::fields;
 pub use refusal::WireRefusal;
+pub use whole::{copy_bodies, count_bodies};
 pub use writing::{put_bytes, put_message, put_varint};

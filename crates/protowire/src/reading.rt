@@ -50,7 +50,7 @@ fn first_value(wire_type: u64, bytes: &[u8]) -> Result<(Value<'_>, &[u8]), WireR
 
 /// The number and the value of the field at the front, and what follows it.
 #[tactic(auto, unfolding(crate::specs::Reading::field_at))]
-fn first_field(bytes: &[u8]) -> Result<(u32, Value<'_>, &[u8]), WireRefusal>
+pub(crate) fn first_field(bytes: &[u8]) -> Result<(u32, Value<'_>, &[u8]), WireRefusal>
     ensures { shown (λ x. (record { number = x.0; payload = payload x.1 }, x.2.now)) result ≡ field_at bytes.now }
 {
     let (tag, rest) = varint(bytes)?;
