@@ -55,11 +55,9 @@ pub fn read_definition(alloc: Global, bytes: &[u8]) -> Result<Definition, OpRefu
     if bytes.len() > LIMIT {
         return Err(OpRefusal::TooLarge);
     }
-    let count = protowire::count_bodies(bytes, DEF)?;
-    if count > ENTRIES {
+    let Some(def) = protowire::copy_bodies(alloc, bytes, DEF, ENTRIES)? else {
         return Err(OpRefusal::TooLarge);
-    }
-    let def = protowire::copy_bodies(alloc, bytes, DEF, count)?;
+    };
     Ok(Definition {
         def: Items::new(def),
     })

@@ -96,10 +96,7 @@ pub(crate) fn inputs_of(
     Ok(Items::new(inputs))
 }
 
-fn mounts_of(
-    alloc: Global,
-    fields: &[Field<'_>],
-) -> Result<Items<Mount<Bytes>>, WireRefusal>
+fn mounts_of(alloc: Global, fields: &[Field<'_>]) -> Result<Items<Mount<Bytes>>, WireRefusal>
     ensures { Gives (λ v. v) result (each_of mount_of (bodies 2 (entries fields.now))) }
 {
     let mut mounts = Vec::with_capacity(alloc, body_count(fields, MOUNTS))?;

@@ -1,10 +1,10 @@
 -- Taking the bodies of one number from the fields of a text, one field after the other.
-use Rattle.std.proofs.Common.{◌⊎◌, inr, ◌≡◌, ℕ, ◌≤◌, List, [], ◌∷◌, ◌++◌, length, Option, Some, None, Result, Ok, Err, refl, sym, ap, ◌∙◌, append_assoc, arith, take, ◌-◌}
+use Rattle.std.proofs.Common.{inl, inr, ltb, false, ◌≡◌, ℕ, ◌≤◌, List, [], ◌∷◌, ◌++◌, length, Option, Some, None, Result, Ok, Err, refl, sym, ap, ◌∙◌, append_assoc, arith, take, ◌-◌}
 use Rattle.std.specs.Prelude.{filter_map}
 use Rattle.std.specs.List.{cons_option}
-use Rattle.std.proofs.lemmas.List.{append-nil, nil_from_length}
+use Rattle.std.proofs.lemmas.Bool.{cases_lt, ltb-false}
+use Rattle.std.proofs.lemmas.List.{append-nil, nil_from_length, take_all, take_at, take-append-le, length-take-le}
 use Rattle.protowire.specs.declared.refusal.WireRefusal.{WireRefusal}
-use Rattle.protowire.specs.declared.refusal.WireRefusal.TheVariants as refusal
 use Rattle.protowire.specs.Fields.{Entry, Spelled}
 use Rattle.protowire.specs.Reading.{◌>>=◌, field_at, spelled_at, fields_in, fields_of}
 use Rattle.protowire.specs.Lookups.{body_in, bodies, said, bodies_of}
@@ -63,3 +63,24 @@ pushed_some number e front body is = ap (push_found front) (sym is)
 
 pub pushed_none : (number : ℕ) (e : Entry) (front : List (List ℕ)) → no_body ≡ body_in number e → push_found front (body_in number e) ≡ front
 pushed_none number e front is = ap (push_found front) (sym is)
+
+-- ---- the first so many
+
+pub take_pushed : (most : ℕ) (front : List (List ℕ)) (body : List ℕ) → take most (take most front ++ body ∷ []) ≡ take most (front ++ body ∷ [])
+take_pushed most front body = elim (cases_lt most (length front)) [
+  | inr few ↦ ap (λ (bs : List (List ℕ)). take most (bs ++ body ∷ [])) (take_all most front few)
+  | inl many ↦
+      let len : length (take most front) ≡ most = length-take-le most front (omega arith) in
+      take_at (take most front) (body ∷ []) most len ∙ sym (take-append-le most front (body ∷ []) (omega arith))
+]
+
+pub all_taken : (most : ℕ) (front : List (List ℕ)) → ltb most (length front) ≡ false → take most front ≡ front
+all_taken most front few = take_all most front (ltb-false _ _ few)
+
+-- before anything is taken
+pub nothing_taken : (number : ℕ) (rest : List ℕ) → with_bodies number [] rest ≡ bodies_of number rest
+nothing_taken number rest = of_read (fields_of rest)
+  where
+    of_read : (read : Result (List Spelled) WireRefusal) → ((read >>= λ fs. Ok (bodies number (said fs))) >>= λ bs. Ok ([] ++ bs)) ≡ (read >>= λ fs. Ok (bodies number (said fs)))
+    of_read (Ok fs) = refl
+    of_read (Err d) = refl

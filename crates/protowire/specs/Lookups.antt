@@ -1,5 +1,5 @@
 -- What a message's fields give to a reader who asks for some numbers (proto3 encoding).
-use Rattle.std.specs.Prelude.{ℕ, ◌==◌, if◌then◌else◌, List, [], ◌∷◌, map, Option, Some, None, Result, Ok, filter_map}
+use Rattle.std.specs.Prelude.{ℕ, ◌==◌, nat_lt, length, if◌then◌else◌, List, [], ◌∷◌, map, Option, Some, None, Result, Ok, filter_map}
 use Rattle.std.specs.List.{flat_map, last_or, list_any, list_all}
 use Rattle.std.specs.Option.{option_map}
 use Rattle.protowire.specs.declared.refusal.WireRefusal.{WireRefusal}
@@ -42,6 +42,10 @@ said fs = map (λ f. f.entry) fs
 -- the same of a message's bytes, or its first fault
 abbrev pub bodies_of : ℕ → List ℕ → Result (List (List ℕ)) WireRefusal
 bodies_of number text = fields_of text >>= λ fs. Ok (bodies number (said fs))
+
+-- these, if they are no more than so many
+abbrev pub at_most : ℕ → List (List ℕ) → Option (List (List ℕ))
+at_most most bs = if nat_lt most (length bs) then None else Some bs
 
 -- the lists, one after the other
 abbrev pub joined : List (List ℕ) → List ℕ

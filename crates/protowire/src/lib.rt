@@ -18,5 +18,5 @@ pub use laws::{
 pub use lookup::{bodies, body_in, joined_body, last_member, last_varint};
 pub use reading::fields;
 pub use refusal::WireRefusal;
-pub use whole::{copy_bodies, count_bodies};
+pub use whole::copy_bodies;
 pub use writing::{put_bytes, put_message, put_varint};

@@ -1,16 +1,16 @@
 //! The bodies of one number straight from a message's bytes, without a list of its fields.
 
-ghost use Rattle.std.specs.Prelude.{◌≡◌, length};
+ghost use Rattle.std.specs.Prelude.{◌≡◌, ◌≤◌, ◌++◌, ◌∷◌, [], length, take, OnOk};
 ghost use Rattle.std.specs.Option.{option_map};
 ghost use Rattle.protowire.specs.Reading.{shown, Gives};
 ghost use Rattle.protowire.specs.Seen.{payload};
-ghost use Rattle.protowire.specs.Lookups.{body_in, bodies_of};
+ghost use Rattle.protowire.specs.Lookups.{body_in, bodies_of, at_most};
 
 use super::field::Value;
 use super::reading::first_field;
 use super::refusal::WireRefusal;
 use farm_base::Items;
-use std::alloc::Global;
+use std::alloc::{AllocError, Global};
 
 /// The body that a field holds, if it was found to have this number.
 fn body_held<'a>(number: u32, found: u32, value: Value<'a>) -> Option<&'a [u8]>
@@ -22,39 +22,47 @@ fn body_held<'a>(number: u32, found: u32, value: Value<'a>) -> Option<&'a [u8]>
     }
 }
 
-/// How many bodies of this number a message has. All of it is read, and no memory is taken.
-pub fn count_bodies(message: &[u8], number: u32) -> Result<usize, WireRefusal>
-    ensures { result ≡ shown length (bodies_of number message.now) }
+/// Adds a copy of a body, unless there are already so many.
+fn push_copy(
+    alloc: Global,
+    copies: &mut Vec<Items<u8>>,
+    body: &[u8],
+    most: usize,
+) -> Result<(), AllocError>
+    requires { length copies.old.items ≤ most }
+    ensures { OnOk result (copies.new.items ≡ take most (copies.old.items ++ body.now ∷ [])) }
 {
-    let mut count = 0;
-    let mut rest = message;
-    while !rest.is_empty() {
-        let (found, value, after) = first_field(rest)?;
-        if let Some(_) = body_held(number, found, value) {
-            count += 1;
-        }
-        rest = after;
+    if copies.len() < most {
+        copies.push(Items::new(Vec::from_slice(alloc, body)?))?;
     }
-    Ok(count)
+    Ok(())
 }
 
-/// Copies of the bodies of this number, in order, where so many are expected. Nothing but the copies takes memory.
+/// Copies of the bodies of this number, in order, or None where there are more than so many. All of the message is
+/// read in any case. Nothing but the copies takes memory.
 pub fn copy_bodies(
     alloc: Global,
     message: &[u8],
     number: u32,
-    expected: usize,
-) -> Result<Vec<Items<u8>>, WireRefusal>
-    ensures { Gives (λ v. v.items) result (bodies_of number message.now) }
+    most: usize,
+) -> Result<Option<Vec<Items<u8>>>, WireRefusal>
+    ensures { Gives (λ found. option_map (λ v. v.items) found) result (shown (at_most most) (bodies_of number message.now)) }
 {
-    let mut copies = Vec::with_capacity(alloc, expected)?;
+    let mut copies = Vec::new(alloc);
+    let mut count = 0;
     let mut rest = message;
     while !rest.is_empty() {
         let (found, value, after) = first_field(rest)?;
         if let Some(body) = body_held(number, found, value) {
-            copies.push(Items::new(Vec::from_slice(alloc, body)?))?;
+            push_copy(alloc, &mut copies, body, most)?;
+            count += 1;
         }
         rest = after;
     }
-    Ok(copies)
+    copies.shrink_to_fit();
+    if count > most {
+        Ok(None)
+    } else {
+        Ok(Some(copies))
+    }
 }
