@@ -1,6 +1,5 @@
 -- Taking the bodies of one number from the fields of a text, one field after the other.
 use Rattle.std.proofs.Common.{inl, inr, ltb, false, ◌≡◌, ℕ, ◌≤◌, List, [], ◌∷◌, ◌++◌, length, Option, Some, None, Result, Ok, Err, refl, sym, ap, ◌∙◌, append_assoc, arith, take, ◌-◌}
-use Rattle.std.specs.Prelude.{filter_map}
 use Rattle.std.specs.List.{cons_option}
 use Rattle.std.proofs.lemmas.Bool.{cases_lt, ltb-false}
 use Rattle.std.proofs.lemmas.List.{append-nil, nil_from_length, take_all, take_at, take-append-le, length-take-le}
