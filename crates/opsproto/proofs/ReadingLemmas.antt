@@ -1,16 +1,22 @@
 -- What fields say, seen through their spelling or not.
-use Rattle.std.proofs.Common.{◌≡◌, ℕ, zero, suc, ◌<◌, ◌≤◌, length, get_or, arith, List, [], ◌∷◌, ◌++◌, Some, None, Result, Ok, refl, ap}
+use Rattle.std.proofs.Common.{◌≡◌, ℕ, zero, suc, ◌<◌, ◌≤◌, length, get_or, arith, List, [], ◌∷◌, ◌++◌, Some, None, Result, Ok, Err, refl, ap, cond, ltb, Bool, true, false, Option}
 use Rattle.std.specs.Prelude.{unwrap_or}
 use Rattle.std.specs.List.{last_or}
 use Rattle.protowire.specs.declared.refusal.WireRefusal.{WireRefusal}
-use Rattle.protowire.specs.Fields.{Entry}
-use Rattle.protowire.specs.Reading.{◌>>=◌}
-use Rattle.protowire.specs.Lookups.{bodies}
+use Rattle.protowire.specs.Fields.{Entry, Spelled}
+use Rattle.protowire.specs.Reading.{◌>>=◌, fields_of, shown}
+use Rattle.protowire.specs.Lookups.{bodies, bodies_of, at_most}
 use Rattle.opsproto.specs.Scalars.{text_in}
 use Rattle.protowire.specs.declared.field.Field.{Field}
 use Rattle.protowire.specs.declared.field.Value.TheVariants as held
 use Rattle.protowire.specs.Seen.{entry, entries, spelled_all, StandInRow}
-use Rattle.opsproto.specs.Reading.{says}
+use Rattle.opsproto.specs.Reading.{says, entries_of}
+use Rattle.opsproto.specs.Ops.{limit}
+use Rattle.opsproto.specs.Definitions.{most_entries, definition_at}
+use Rattle.opsproto.specs.Refusals.{wire}
+use Rattle.opsproto.specs.declared.refusal.OpRefusal.{OpRefusal}
+use Rattle.opsproto.specs.declared.refusal.OpRefusal.TheVariants.{TooLarge}
+use Rattle.opsproto.specs.declared.definition.Definition.{Definition}
 
 pub says_spelled : (message : List ℕ) (fs : List Field) → says (spelled_all message fs) ≡ entries fs
 says_spelled message [] = refl
@@ -51,3 +57,27 @@ row_within from (f ∷ fs) to (suc i) d row lt =
 -- what a loop reads past the end
 abbrev pub no_field : Field
 no_field = record { number = 0; value = held.Varint 0; start = 0; end = 0 }
+
+-- a definition of these entries
+abbrev pub made : List (List ℕ) → Result Definition OpRefusal
+made bs = Ok (record { def = bs })
+
+-- a definition of these entries, if they are not too many
+abbrev pub of_found : Option (List (List ℕ)) → Result Definition OpRefusal
+of_found None = Err TooLarge
+of_found (Some bs) = Ok (record { def = bs })
+
+-- a definition by its bodies, without a list of its fields
+pub by_bodies : (text : List ℕ) → definition_at text ≡ cond (ltb limit (length text)) (Err TooLarge) (wire (shown (at_most most_entries) (bodies_of 1 text)) >>= of_found)
+unfolding definition_at entries_of
+by_bodies text = ap (λ (r : Result Definition OpRefusal). cond (ltb limit (length text)) (Err TooLarge) r) (of_read (fields_of text))
+  where
+    by_test : (b : Bool) (bs : List (List ℕ)) → cond b (Err TooLarge) (made bs) ≡ of_found (cond b None (Some bs))
+    by_test true bs = refl
+    by_test false bs = refl
+
+    of_read : (read : Result (List Spelled) WireRefusal)
+        → (wire (read >>= λ fs. Ok (says fs)) >>= λ es. cond (ltb most_entries (length (bodies 1 es))) (Err TooLarge) (made (bodies 1 es)))
+        ≡ (wire (shown (at_most most_entries) (read >>= λ fs. Ok (bodies 1 (says fs)))) >>= of_found)
+    of_read (Ok fs) = by_test (ltb most_entries (length (bodies 1 (says fs)))) (bodies 1 (says fs))
+    of_read (Err e) = refl

@@ -1,7 +1,6 @@
 -- What the bytes of a message mean (ops.proto), before anything is asked of its texts. The first fault
 -- decides: the message's own form, then its fields in this order.
 use Rattle.std.specs.Prelude.{ℕ, List, [], ◌∷◌, map, Option, Some, None, Result, Ok}
-use Rattle.std.specs.Borrow.{Bor}
 use Rattle.protowire.specs.declared.refusal.WireRefusal.{WireRefusal}
 use Rattle.protowire.specs.Fields.{Entry, Spelled}
 use Rattle.protowire.specs.Reading.{◌>>=◌, fields_of}
@@ -21,10 +20,6 @@ unfoldable pub entries_of : List ℕ → Result (List Entry) WireRefusal
 entries_of text = do
   fs ← fields_of text
   Ok (says fs)
-
--- bodies, without where they lie in memory
-abbrev pub bodies_now : List (Bor (List ℕ)) → List (List ℕ)
-bodies_now bodies = map (λ body. body.now) bodies
 
 -- each message of a repeated field
 abbrev pub each_of : {X : Type 0} → (List ℕ → Result X WireRefusal) → List (List ℕ) → Result (List X) WireRefusal

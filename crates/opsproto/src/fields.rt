@@ -4,7 +4,7 @@ ghost use Rattle.protowire.specs.Seen.{entries};
 ghost use Rattle.protowire.specs.Reading.{Gives};
 ghost use Rattle.protowire.specs.Lookups.{bodies};
 ghost use Rattle.opsproto.specs.Scalars.{int64_in, int32_in, bool_in, text_in};
-ghost use Rattle.opsproto.specs.Reading.{bodies_now, entries_of};
+ghost use Rattle.opsproto.specs.Reading.{entries_of};
 
 use farm_base::Items;
 use protowire::{Field, Value, WireRefusal};
@@ -56,6 +56,14 @@ pub(crate) fn text_in(alloc: Global, fields: &[Field<'_>], number: u32) -> Resul
     Ok(Items::new(Vec::from_slice(alloc, last)?))
 }
 
+/// How many bodies have this number.
+pub(crate) fn body_count(fields: &[Field<'_>], number: u32) -> usize {
+    fields
+        .iter()
+        .filter(|field| protowire::body_in(field, number).is_some())
+        .count()
+}
+
 /// The strings of this number.
 pub(crate) fn texts_in(
     alloc: Global,
@@ -64,16 +72,11 @@ pub(crate) fn texts_in(
 ) -> Result<Items<Bytes>, AllocError>
     ensures { IfOk result (λ texts. texts ≡ bodies number (entries fields.now)) }
 {
-    owned(alloc, &protowire::bodies(alloc, fields, number)?)
-}
-
-/// The bodies, copied.
-pub(crate) fn owned(alloc: Global, bodies: &[&[u8]]) -> Result<Items<Bytes>, AllocError>
-    ensures { IfOk result (λ copies. copies ≡ bodies_now bodies.now) }
-{
-    let mut copies = Vec::with_capacity(alloc, bodies.len())?;
-    for body in bodies {
-        copies.push(Items::new(Vec::from_slice(alloc, body)?))?;
+    let mut texts = Vec::with_capacity(alloc, body_count(fields, number))?;
+    for field in fields {
+        if let Some(body) = protowire::body_in(field, number) {
+            texts.push(Items::new(Vec::from_slice(alloc, body)?))?;
+        }
     }
-    Ok(Items::new(copies))
+    Ok(Items::new(texts))
 }

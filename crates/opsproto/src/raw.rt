@@ -11,13 +11,10 @@ ghost use Rattle.opsproto.specs.RawOps.{parts};
 use super::fields::Bytes;
 use super::input::Input;
 use super::op::Kind;
-use super::reading::{exec_of, inputs_of};
+use super::reading::{INPUTS, exec_of, inputs_of};
 use farm_base::Items;
 use protowire::{Field, WireRefusal};
 use std::alloc::{AllocError, Global};
-
-/// The field number of an op's inputs.
-pub(crate) const INPUTS: u32 = 1;
 
 /// The field number of an exec op.
 pub(crate) const EXEC: u32 = 2;
@@ -62,7 +59,7 @@ pub(crate) fn raw_op(alloc: Global, message: &[u8]) -> Result<RawOp, WireRefusal
     ensures { Gives parts result (op_of message.now) }
 {
     let fields = protowire::fields(alloc, message)?;
-    let inputs = inputs_of(alloc, &protowire::bodies(alloc, &fields, INPUTS)?)?;
+    let inputs = inputs_of(alloc, &fields)?;
     let kind = kind_of(alloc, &fields)?;
     let stripped = stripped(alloc, message, &fields)?;
     Ok(RawOp {

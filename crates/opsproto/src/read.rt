@@ -1,16 +1,16 @@
 ghost use Rattle.std.specs.Prelude.{◌≡◌};
-ghost use Rattle.protowire.specs.Seen.{entries};
 ghost use Rattle.opsproto.specs.Refusals.{Gives};
 ghost use Rattle.opsproto.specs.Texts.{each_checked, input_checked};
 ghost use Rattle.opsproto.specs.Ops.{kind_checked, op_at};
 ghost use Rattle.opsproto.specs.Definitions.{definition_at};
 
 use super::definition::Definition;
-use super::fields::{Bytes, fields, owned};
+use super::fields::Bytes;
 use super::op::{Kind, Op};
 use super::raw::raw_op;
 use super::refusal::OpRefusal;
 use super::texts::{exec_checked, inputs_checked};
+use farm_base::Items;
 use std::alloc::Global;
 
 /// The greatest size of a definition or an op: 16 MiB.
@@ -46,19 +46,19 @@ pub fn read_op(alloc: Global, bytes: &[u8]) -> Result<Op, OpRefusal>
     Ok(Op::new(inputs, kind, raw.stripped))
 }
 
-/// Reads a definition. Its size comes first, then its form, then the number of its entries.
-#[tactic(auto, unfolding(crate::specs::Definitions::definition_at))]
+/// Reads a definition. Its size comes first, then its form, then the number of its entries. Nothing but the entries
+/// takes memory.
+#[tactic(auto, using(crate::proofs::ReadingLemmas::by_bodies))]
 pub fn read_definition(alloc: Global, bytes: &[u8]) -> Result<Definition, OpRefusal>
     ensures { Gives (λ definition. definition) result (definition_at bytes.now) }
 {
     if bytes.len() > LIMIT {
         return Err(OpRefusal::TooLarge);
     }
-    let fields = fields(alloc, bytes)?;
-    let entries = protowire::bodies(alloc, &fields, DEF)?;
-    if entries.len() > ENTRIES {
+    let Some(def) = protowire::copy_bodies(alloc, bytes, DEF, ENTRIES)? else {
         return Err(OpRefusal::TooLarge);
-    }
-    let def = owned(alloc, &entries)?;
-    Ok(Definition { def })
+    };
+    Ok(Definition {
+        def: Items::new(def),
+    })
 }

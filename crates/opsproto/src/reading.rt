@@ -4,14 +4,20 @@ ghost use Rattle.std.specs.Prelude.{◌≡◌};
 ghost use Rattle.protowire.specs.Seen.{entries};
 ghost use Rattle.protowire.specs.Reading.{Gives};
 ghost use Rattle.protowire.specs.Lookups.{bodies, joined_body};
-ghost use Rattle.opsproto.specs.Reading.{bodies_now, each_of, optional_of, input_of, cache_of, mount_of, meta_of, exec_of};
+ghost use Rattle.opsproto.specs.Reading.{each_of, optional_of, input_of, cache_of, mount_of, meta_of, exec_of};
 
 use super::exec::{CacheOpt, ExecOp, Meta, Mount};
-use super::fields::{Bytes, bool_in, fields, int32_in, int64_in, text_in, texts_in};
+use super::fields::{Bytes, body_count, bool_in, fields, int32_in, int64_in, text_in, texts_in};
 use super::input::Input;
 use farm_base::Items;
 use protowire::{Field, WireRefusal};
 use std::alloc::Global;
+
+/// The field number of an op's inputs.
+pub(crate) const INPUTS: u32 = 1;
+
+/// The field number of an exec op's mounts.
+const MOUNTS: u32 = 2;
 
 #[tactic(auto, unfolding(crate::specs::Reading::input_of))]
 fn input_of(alloc: Global, message: &[u8]) -> Result<Input<Bytes>, WireRefusal>
@@ -76,22 +82,28 @@ fn meta_of(alloc: Global, message: &[u8]) -> Result<Meta<Bytes>, WireRefusal>
 
 pub(crate) fn inputs_of(
     alloc: Global,
-    messages: &[&[u8]],
+    fields: &[Field<'_>],
 ) -> Result<Items<Input<Bytes>>, WireRefusal>
-    ensures { Gives (λ v. v) result (each_of input_of (bodies_now messages.now)) }
+    ensures { Gives (λ v. v) result (each_of input_of (bodies 1 (entries fields.now))) }
 {
-    let mut inputs = Vec::with_capacity(alloc, messages.len())?;
-    for message in messages {
+    let mut inputs = Vec::with_capacity(alloc, body_count(fields, INPUTS))?;
+    for field in fields {
+        let Some(message) = protowire::body_in(field, INPUTS) else {
+            continue;
+        };
         inputs.push(input_of(alloc, message)?)?;
     }
     Ok(Items::new(inputs))
 }
 
-fn mounts_of(alloc: Global, messages: &[&[u8]]) -> Result<Items<Mount<Bytes>>, WireRefusal>
-    ensures { Gives (λ v. v) result (each_of mount_of (bodies_now messages.now)) }
+fn mounts_of(alloc: Global, fields: &[Field<'_>]) -> Result<Items<Mount<Bytes>>, WireRefusal>
+    ensures { Gives (λ v. v) result (each_of mount_of (bodies 2 (entries fields.now))) }
 {
-    let mut mounts = Vec::with_capacity(alloc, messages.len())?;
-    for message in messages {
+    let mut mounts = Vec::with_capacity(alloc, body_count(fields, MOUNTS))?;
+    for field in fields {
+        let Some(message) = protowire::body_in(field, MOUNTS) else {
+            continue;
+        };
         mounts.push(mount_of(alloc, message)?)?;
     }
     Ok(Items::new(mounts))
@@ -112,7 +124,7 @@ pub(crate) fn exec_of(alloc: Global, message: &[u8]) -> Result<ExecOp<Bytes>, Wi
 {
     let fields = fields(alloc, message)?;
     let meta = meta_in(alloc, &fields)?;
-    let mounts = mounts_of(alloc, &protowire::bodies(alloc, &fields, 2)?)?;
+    let mounts = mounts_of(alloc, &fields)?;
     Ok(ExecOp {
         meta,
         mounts,

@@ -1,8 +1,10 @@
 -- What a message's fields give to a reader who asks for some numbers (proto3 encoding).
-use Rattle.std.specs.Prelude.{ℕ, ◌==◌, if◌then◌else◌, List, [], ◌∷◌, Option, Some, None, filter_map}
+use Rattle.std.specs.Prelude.{ℕ, ◌==◌, nat_lt, length, if◌then◌else◌, List, [], ◌∷◌, map, Option, Some, None, Result, Ok, filter_map}
 use Rattle.std.specs.List.{flat_map, last_or, list_any, list_all}
 use Rattle.std.specs.Option.{option_map}
-use Rattle.protowire.specs.Fields.{Payload, varint, eight, bytes, four, Entry}
+use Rattle.protowire.specs.declared.refusal.WireRefusal.{WireRefusal}
+use Rattle.protowire.specs.Fields.{Payload, varint, eight, bytes, four, Entry, Spelled}
+use Rattle.protowire.specs.Reading.{◌>>=◌, fields_of}
 
 -- the number of a varint, and of nothing else
 abbrev pub payload_number : Payload → Option ℕ
@@ -32,6 +34,18 @@ last_varint number es = last_or None (filter_map (number_in number) es)
 -- a repeated field is all its occurrences, in order (proto3 encoding)
 abbrev pub bodies : ℕ → List Entry → List (List ℕ)
 bodies number es = filter_map (body_in number) es
+
+-- what the fields of a message say
+abbrev pub said : List Spelled → List Entry
+said fs = map (λ f. f.entry) fs
+
+-- the same of a message's bytes, or its first fault
+abbrev pub bodies_of : ℕ → List ℕ → Result (List (List ℕ)) WireRefusal
+bodies_of number text = fields_of text >>= λ fs. Ok (bodies number (said fs))
+
+-- these, if they are no more than so many
+abbrev pub at_most : ℕ → List (List ℕ) → Option (List (List ℕ))
+at_most most bs = if nat_lt most (length bs) then None else Some bs
 
 -- the lists, one after the other
 abbrev pub joined : List (List ℕ) → List ℕ

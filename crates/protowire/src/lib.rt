@@ -7,6 +7,7 @@ mod lookup;
 mod reading;
 mod refusal;
 mod varint;
+mod whole;
 mod writing;
 
 pub use field::{Field, Value};
@@ -14,7 +15,8 @@ pub use laws::{
     fields_are_determined, first_fault_decides, written_fields_are_fields,
     written_numbers_are_shortest,
 };
-pub use lookup::{bodies, joined_body, last_member, last_varint};
+pub use lookup::{bodies, body_in, joined_body, last_member, last_varint};
 pub use reading::fields;
 pub use refusal::WireRefusal;
+pub use whole::copy_bodies;
 pub use writing::{put_bytes, put_message, put_varint};

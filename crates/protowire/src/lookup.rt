@@ -17,7 +17,7 @@ fn number_in(field: &Field<'_>, number: u32) -> Option<u64>
 }
 
 /// The body of a field, if it has this number and a body.
-fn body_in<'a>(field: &Field<'a>, number: u32) -> Option<&'a [u8]>
+pub fn body_in<'a>(field: &Field<'a>, number: u32) -> Option<&'a [u8]>
     ensures { option_map (λ body. body.now) result ≡ body_in number (entry field.now) }
 {
     match field.value {

@@ -11,6 +11,9 @@ use std::alloc::Global;
 /// Field numbers are below this one.
 const NUMBERS: u64 = 1 << 29;
 
+/// The fields of most messages are no more than this.
+const ROOM: usize = 8;
+
 /// So many bytes, and what follows them.
 fn first_bytes(bytes: &[u8], len: u64) -> Result<(&[u8], &[u8]), WireRefusal>
     ensures { shown (λ x. (x.0.now, x.1.now)) result ≡ front_at len bytes.now }
@@ -50,7 +53,7 @@ fn first_value(wire_type: u64, bytes: &[u8]) -> Result<(Value<'_>, &[u8]), WireR
 
 /// The number and the value of the field at the front, and what follows it.
 #[tactic(auto, unfolding(crate::specs::Reading::field_at))]
-fn first_field(bytes: &[u8]) -> Result<(u32, Value<'_>, &[u8]), WireRefusal>
+pub(crate) fn first_field(bytes: &[u8]) -> Result<(u32, Value<'_>, &[u8]), WireRefusal>
     ensures { shown (λ x. (record { number = x.0; payload = payload x.1 }, x.2.now)) result ≡ field_at bytes.now }
 {
     let (tag, rest) = varint(bytes)?;
@@ -66,7 +69,7 @@ fn all_fields(alloc: Global, bytes: &[u8]) -> Result<Vec<Field<'_>>, WireRefusal
     ensures exact { Gives (λ v. spelled_all bytes.now v.items) result (fields_of bytes.now) }
     ensures placed { IfOk result (λ v. StandInRow 0 v.items (length bytes.now)) }
 {
-    let mut fields = Vec::new(alloc);
+    let mut fields = Vec::with_capacity(alloc, ROOM)?;
     let mut rest = bytes;
     while !rest.is_empty() {
         let (number, value, after) = first_field(rest)?;

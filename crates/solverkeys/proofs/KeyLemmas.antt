@@ -1,5 +1,5 @@
 -- The keys of the vertices of a graph are those of their shapes.
-use Rattle.std.proofs.Common.{◌≡◌, ℕ, suc, ◌+◌, ◌<◌, inl, inr, List, [], ◌∷◌, ◌++◌, length, take, set, Some, refl, sym, ap, ◌∙◌, subst, arith}
+use Rattle.std.proofs.Common.{◌≡◌, ℕ, suc, ◌+◌, ◌<◌, inl, inr, List, [], ◌∷◌, ◌++◌, length, take, set, get_or, ◌^◌, Some, refl, sym, ap, ◌∙◌, subst, arith}
 use Rattle.std.specs.List.{Contains, slice_get, All}
 use Rattle.std.proofs.lemmas.Bool.{cases_eq}
 use Rattle.std.proofs.lemmas.List.{length-set, get_or-set_same, get_or-set_other}
@@ -9,9 +9,9 @@ use Rattle.farm_base.specs.declared.digest.Key.{Key}
 use Rattle.vertices.specs.Edges.{IsEdge, AreEdges, list_at}
 use Rattle.vertices.specs.Loading.{GraphParts, IsGraph}
 use Rattle.vertices.proofs.EntryLemmas.{take_push, at_Contains}
-use Rattle.vertices.proofs.GraphLemmas.{all_zip_length, all_zip_back, edge_target}
+use Rattle.vertices.proofs.GraphLemmas.{all_zip_length, all_zip_back, edge_target, list_at-get}
 use Rattle.solverkeys.specs.Keys.{solver_key}
-use Rattle.solverkeys.specs.Shapes.{Shape, vertex, Inputs, no_inputs, input, shape_key, input_keys}
+use Rattle.solverkeys.specs.Shapes.{Shape, vertex, Inputs, no_inputs, input, shape_key, input_keys, HasIndexes, InputsHaveIndexes}
 use Rattle.solverkeys.specs.GraphKeys.{IsShapeOf, AreShapesOf, HasKey, TakesKeys, FollowsKeys}
 
 -- a graph has edges for each vertex
@@ -29,6 +29,36 @@ edges_within g number edges is at =
     let i = all_zip_back (IsEdge g.vertices) v.0.op.inputs edges there.0 edge v.2 there.1 in
     slice_get_within g.vertices edge.0 i.2.vertex i.2.there)
     edges (All-contains_itself edges)
+
+-- they take outputs of 64 bits
+edges_fit : (g : GraphParts) (number : ℕ) (edge : ℕ × ℕ) → IsGraph g → number < length g.vertices → Contains (list_at g.edges number) edge → edge.1 < 2 ^ 64
+edges_fit g number edge is less c =
+    let count = edges_count g is in
+    let edges = get_or g.edges number [] in
+    let at : slice_get g.edges number ≡ Some edges = slice_get-get_or g.edges number [] (omega arith) in
+    let v = all_zip_back (λ v es. AreEdges g.vertices v.op.inputs es) g.vertices g.edges number edges is.edges at in
+    let there = at_Contains edges edge (subst (λ (es : List (ℕ × ℕ)). Contains es edge) (list_at-get g.edges number edges at) c) in
+    let i = all_zip_back (IsEdge g.vertices) v.0.op.inputs edges there.0 edge v.2 there.1 in
+    i.2.small
+
+mutual
+  unfolding IsShapeOf HasIndexes
+
+  -- the indexes of the shape of a vertex
+  pub shape_indexes : (g : GraphParts) (shape : Shape) (number : ℕ) → IsGraph g → IsShapeOf g shape number → HasIndexes shape
+  shape_indexes g (vertex stripped inputs) number is h =
+      inputs_indexes g inputs (list_at g.edges number) is (λ edge c. edges_fit g number edge is (slice_get_within g.vertices number h.0 h.1) c) h.3
+
+  -- those of the shapes of its inputs
+  inputs_indexes : (g : GraphParts) (inputs : Inputs) (edges : List (ℕ × ℕ)) → IsGraph g → ((edge : ℕ × ℕ) → Contains edges edge → edge.1 < 2 ^ 64)
+      → AreShapesOf g inputs edges → InputsHaveIndexes inputs
+  inputs_indexes g no_inputs edges is fit h = tt
+  inputs_indexes g (input shape index others) [] is fit h = absurd h
+  inputs_indexes g (input shape index others) (e ∷ edges) is fit h = (
+    subst (λ (n : ℕ). n < 2 ^ 64) (sym h.1) (fit e (0, omega arith, refl)),
+    shape_indexes g shape e.0 is h.0,
+    inputs_indexes g others edges is (λ edge c. fit edge (suc c.0, omega (arith, c.1), c.2)) h.2,
+  )
 
 -- shapes for edges, where those that they go to have theirs
 shapes_of : (g : GraphParts) (keys : List Key) (edges : List (ℕ × ℕ)) (inputs : List (Key × ℕ)) → TakesKeys keys edges inputs

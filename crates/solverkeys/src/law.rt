@@ -1,5 +1,5 @@
 ghost use Rattle.std.specs.Prelude.{◌≡◌, ◌≢◌, ℕ};
-ghost use Rattle.vertices.specs.Loading.{GraphParts};
+ghost use Rattle.vertices.specs.Loading.{GraphParts, IsGraph};
 ghost use Rattle.solverkeys.specs.GraphKeys.{IsShapeOf};
 ghost use Rattle.solverkeys.specs.Shapes.{Shape, HasIndexes, shape_key, ShowCollision};
 
@@ -14,4 +14,9 @@ pub fn keys_tell_shapes()
 /// A vertex of a graph has one shape.
 pub fn shape_is_determined()
     ensures { (g : GraphParts) (one other : Shape) (number : ℕ) → IsShapeOf g one number → IsShapeOf g other number → one ≡ other }
+{}
+
+/// The shapes of a graph's vertices have indexes below 2^64, as the law on different shapes asks.
+pub fn shapes_have_indexes()
+    ensures { (g : GraphParts) (shape : Shape) (number : ℕ) → IsGraph g → IsShapeOf g shape number → HasIndexes shape }
 {}

@@ -7,4 +7,4 @@ mod law;
 
 pub use graph::keys;
 pub use key::key_of;
-pub use law::{keys_tell_shapes, shape_is_determined};
+pub use law::{keys_tell_shapes, shape_is_determined, shapes_have_indexes};

@@ -1,9 +1,9 @@
 -- Reading the entries of a definition.
-use Rattle.std.proofs.Common.{◌≡◌, ℕ, zero, suc, ◌+◌, ◌-◌, ◌<◌, ◌⊎◌, inl, inr, List, [], ◌∷◌, ◌++◌, length, map, take, get_or, Option, Some, None, Result, Ok, Err, refl, sym, ap, ◌∙◌, subst, arith}
+use Rattle.std.proofs.Common.{◌≡◌, ℕ, zero, suc, ◌+◌, ◌-◌, ◌<◌, ◌⊎◌, inl, inr, List, [], ◌∷◌, ◌++◌, length, map, take, drop, get_or, Option, Some, None, Result, Ok, Err, refl, sym, ap, ◌∙◌, subst, arith}
 use Rattle.std.specs.List.{Contains, slice_get}
 use Rattle.std.specs.Option.{IfSome}
 use Rattle.std.specs.Result.{result_unwrap_or, IsOk, IfOk}
-use Rattle.std.proofs.lemmas.List.{take_at, get_or_push, length_push, map_push, get_or-map, length-map, length-take-le}
+use Rattle.std.proofs.lemmas.List.{take_at, take_all, drop_more, length-drop, get_or_push, length_push, map_push, get_or-map, length-map, length-take-le}
 use Rattle.std.proofs.lemmas.List.Elements.{Contains-push_cases}
 use Rattle.std.proofs.lemmas.Option.{slice_get-get_or, slice_get_within, get_or_from_slice_get}
 use Rattle.farm_base.specs.declared.digest.Digest.{Digest}
@@ -233,3 +233,24 @@ graph_is def vertices inputs (Ok g) are last is graph result = record {
       (subst (λ (vs : List Vertex). IfSome (slice_get inputs 0) (λ input. IsEdge vs input g.result)) (sym is) result);
 }
 graph_is def vertices inputs (Err e) are last is graph result = tt
+
+-- ---- entries that are left
+
+-- the first of those left, and those behind it
+pub first_left : (xs : List (List ℕ)) (k : ℕ) (x : List ℕ) (ys : List (List ℕ)) → drop k xs ≡ x ∷ ys
+    → (slice_get xs k ≡ Some x) × (drop (k + 1) xs ≡ ys) × (k < length xs)
+first_left xs k x ys e =
+    let len = ap length e in
+    let count = length-drop k xs in
+    let less : k < length xs = omega arith in
+    let both = drop_more xs k x less in
+    let first : get_or xs k x ≡ x = cc (e, both) in
+    let others : drop (k + 1) xs ≡ ys = cc (e, both) in
+    (slice_get-get_or xs k x less ∙ ap (λ (y : List ℕ). Some y) first, others, less)
+
+-- none is left
+pub none_left : (xs : List (List ℕ)) (k : ℕ) → drop k xs ≡ [] → take k xs ≡ xs
+none_left xs k e =
+    let len = ap length e in
+    let count = length-drop k xs in
+    take_all k xs (omega arith)

@@ -26,18 +26,21 @@ impl Loading {
     ghost use Rattle.vertices.specs.Loaded.{IsLoaded};
 
     /// Reads each entry, and makes a vertex of the first one of each digest.
-    pub(crate) fn of(alloc: Global, entries: &[Items<u8>]) -> Result<Self, LoadRefusal>
-        ensures check { Answers (ReadChecks 0 entries.now) result }
-        ensures loaded { IfOk result (IsLoaded entries.now) }
+    /// Each entry is dropped once it is read.
+    pub(crate) fn of(alloc: Global, entries: Vec<Items<u8>>) -> Result<Self, LoadRefusal>
+        ensures check { Answers (ReadChecks 0 entries.items) result }
+        ensures loaded { IfOk result (IsLoaded entries.items) }
     {
-        let mut table = Table::new(alloc);
-        let mut vertices = Vec::new(alloc);
-        for (place, entry) in entries.iter().enumerate() {
+        let mut table = Table::with_room(alloc, entries.len())?;
+        let mut vertices = Vec::with_capacity(alloc, entries.len())?;
+        let mut place = 0;
+        for entry in entries {
             let op = read_entry(alloc, place, entry.as_slice())?;
             let digest = digest_of(entry.as_slice());
             if table.add(place, digest)? {
                 vertices.push(Vertex { place, digest, op })?;
             }
+            place += 1;
         }
         Ok(Loading { table, vertices })
     }
@@ -78,10 +81,12 @@ pub fn load(alloc: Global, definition: Definition) -> Result<Graph, LoadRefusal>
     ensures check { Answers (DefinitionCheck definition.def) result }
     ensures graph { IfOk result (IsGraphOf definition.def) }
 {
-    let Some((last, entries)) = definition.def.as_slice().split_last() else {
+    let mut entries = definition.def.into_vec();
+    let Some(last) = entries.pop() else {
         return Err(LoadRefusal::EmptyDefinition);
     };
+    let place = entries.len();
     let loading = Loading::of(alloc, entries)?;
-    let op = read_entry(alloc, entries.len(), last.as_slice())?;
-    loading.graph(alloc, entries.len(), op.inputs())
+    let op = read_entry(alloc, place, last.as_slice())?;
+    loading.graph(alloc, place, op.inputs())
 }

@@ -25,6 +25,17 @@ impl Table {
         }
     }
 
+    /// An empty table, with room for so many digests.
+    pub(crate) fn with_room(alloc: Global, expected: usize) -> Result<Self, AllocError>
+        ensures table { IfOk result (IsTable []) }
+        ensures places { IfOk result (λ table. table.places.items ≡ []) }
+    {
+        Ok(Table {
+            numbers: HashMap::with_capacity(alloc, expected)?,
+            places: Vec::with_capacity(alloc, expected)?,
+        })
+    }
+
     /// Adds the digest at the next place, where it is new. Answers whether it was.
     pub(crate) fn add(&mut self, place: usize, digest: Digest) -> Result<bool, AllocError>
         ensures table { OnOk result ((digests : List Digest) → length digests ≡ place → IsTable digests self.old

@@ -1,7 +1,9 @@
 use Rattle.std.proofs.Common.{◌≡◌, drop}
-use Rattle.opsproto.specs.Reading.{bodies_now, each_of, input_of}
+use Rattle.protowire.specs.Seen.{entries}
+use Rattle.protowire.specs.Lookups.{bodies}
+use Rattle.opsproto.specs.Reading.{each_of, input_of}
 use Rattle.opsproto.proofs.ReadingLemmas.{with_front}
 use Rattle.opsproto.proofs.reading.inputs_of.Given as goal
 
-abbrev pub invariant-loop-message : goal.invariant-loop-message
-invariant-loop-message l = with_front l.inputs.items (each_of input_of (bodies_now (drop l.message-index l.messages))) ≡ each_of input_of (bodies_now l.messages)
+abbrev pub invariant-loop-field : goal.invariant-loop-field
+invariant-loop-field l = with_front l.inputs.items (each_of input_of (bodies 1 (entries (drop l.field-index l.fields)))) ≡ each_of input_of (bodies 1 (entries l.fields))

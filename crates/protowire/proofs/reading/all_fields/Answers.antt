@@ -9,7 +9,7 @@ use Rattle.protowire.proofs.reading.all_fields.Goals as goal
 
 pub returns-in_err-number-clause-exact : goal.returns-in_err-number-clause-exact
 returns-in_err-number-clause-exact c =
-    let p = err_from_is_err_and c.from_residual.result c.from_residual.ensures.1 in
+    let p = err_from_is_err_and c.from_residual-in_err-number.result c.from_residual-in_err-number.ensures.1 in
     rw (p.1, p.2) (ends c.in_err-number.field-0.0 (spelled_all c.args.bytes.now c.loop-rest.fields.items) c.loop-rest.rest.now (fields_of c.args.bytes.now) (grind arith) (sym c.in_err-number.ensures) c.loop-rest.invariant.so_far)
 
 pub overflow_sub-end : goal.overflow_sub-end
