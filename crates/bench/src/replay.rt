@@ -1,30 +1,24 @@
 //! Replays of schedules, against their length.
 
 use super::clock::{ROUNDS, seconds_since};
-use farm_base::{FolderName, Items, Mode, NodeId, Slot, Text, Ticket, Want, Wants};
+use farm_base::{FolderName, Items, NodeId, Slot, Ticket, Want, Wants};
 use folders::Content;
 use std::alloc::Global;
 use std::rt::Clock;
 use std::time::Instant;
 use world::{Event, Setup, replay};
 
+/// The text of the folder, and of its one slot.
+const FOLDER: &str = "locked:apt";
 /// What one lease takes: it is asked for, granted, used, committed and confirmed.
-const EVENTS_OF_A_LEASE: u64 = 7;
+const EVENTS_OF_A_LEASE: u32 = 7;
 /// The messages of one lease: Acquire, Grant, Commit and Committed.
 const MESSAGES_OF_A_LEASE: u64 = 4;
-
-fn folder(alloc: Global) -> anyhow::Result<FolderName> {
-    Ok(FolderName {
-        id: Text::new(String::from_str(alloc, "apt")?),
-        mode: Mode::Locked,
-        base: None,
-    })
-}
 
 fn wants(alloc: Global) -> anyhow::Result<Wants> {
     let mut wants = Vec::new(alloc);
     wants.push(Want {
-        folder: folder(alloc)?,
+        folder: FolderName::parse(alloc, FOLDER)?,
         writable: true,
     })?;
     Ok(Wants::of(wants)?)
@@ -32,20 +26,20 @@ fn wants(alloc: Global) -> anyhow::Result<Wants> {
 
 fn lefts(alloc: Global, bytes: Vec<u8>) -> anyhow::Result<Items<(Slot, Content)>> {
     let mut lefts = Vec::new(alloc);
-    lefts.push((Slot::new(folder(alloc)?, 0), Content::of(bytes)))?;
+    lefts.push((Slot::parse(alloc, FOLDER)?, Content::of(bytes)))?;
     Ok(Items::new(lefts))
 }
 
 /// The event of this place among those of a lease. Only a farm of one node leaves contents: another node
 /// would have to fetch them.
-fn event(alloc: Global, nodes: u64, lease: u64, place: u64) -> anyhow::Result<Event> {
-    let node = NodeId(u32::try_from(lease % nodes + 1)?);
-    let ticket = Ticket(lease + 1);
-    let first = lease * MESSAGES_OF_A_LEASE + 1;
+fn event(alloc: Global, nodes: u32, lease: u32, place: u32) -> anyhow::Result<Event> {
+    let node = NodeId(lease.checked_rem(nodes).unwrap_or(0).saturating_add(1));
+    let ticket = Ticket(u64::from(lease) + 1);
+    let before = u64::from(lease) * MESSAGES_OF_A_LEASE;
     Ok(match place {
         0 => Event::Ask(node, wants(alloc)?),
-        1 => Event::Deliver(first),
-        2 => Event::Deliver(first + 1),
+        1 => Event::Deliver(before + 1),
+        2 => Event::Deliver(before + 2),
         3 => Event::Begin(node, ticket),
         4 => {
             let mut bytes = Vec::new(alloc);
@@ -54,28 +48,24 @@ fn event(alloc: Global, nodes: u64, lease: u64, place: u64) -> anyhow::Result<Ev
             }
             Event::Finish(node, ticket, lefts(alloc, bytes)?)
         }
-        5 => Event::Deliver(first + 2),
-        _ => Event::Deliver(first + 3),
+        5 => Event::Deliver(before + 3),
+        _ => Event::Deliver(before + 4),
     })
 }
 
 /// So many events of nodes that take turns with one LOCKED folder.
-pub fn events(alloc: Global, nodes: u64, count: u64) -> anyhow::Result<Vec<Event>> {
+pub fn events(alloc: Global, nodes: u32, count: u32) -> anyhow::Result<Vec<Event>> {
     let mut events = Vec::new(alloc);
     for number in 0..count {
-        events.push(event(
-            alloc,
-            nodes.max(1),
-            number / EVENTS_OF_A_LEASE,
-            number % EVENTS_OF_A_LEASE,
-        )?)?;
+        let lease = number / EVENTS_OF_A_LEASE;
+        events.push(event(alloc, nodes, lease, number % EVENTS_OF_A_LEASE)?)?;
     }
     Ok(events)
 }
 
 /// The least time of an event, in seconds.
 fn replaying<R: Clock + AllocGlobal>(rt: &R, nodes: u32, count: u32) -> anyhow::Result<f64> {
-    let events = events(rt.alloc(), u64::from(nodes), u64::from(count))?;
+    let events = events(rt.alloc(), nodes, count)?;
     let mut least = f64::INFINITY;
     for _ in 0..ROUNDS {
         let start = Instant::now(rt)?;
