@@ -6,3 +6,4 @@ pub mod KeptLemmas
 pub mod MapLemmas
 pub mod WantLemmas
 pub mod SendLemmas
+mod OverLemmas

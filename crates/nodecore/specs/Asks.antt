@@ -1,5 +1,5 @@
 -- What contracts see of the asks and messages of a node.
-use Rattle.std.specs.Prelude.{Bool, true, false, List, []}
+use Rattle.std.specs.Prelude.{◌≡◌, ℕ, ◌<◌, ◌≤◌, Bool, true, false, List, [], length, Some, slice_get}
 use Rattle.protocol.specs.Names.{Want, Life}
 use Rattle.farm_base.specs.declared.message.FromCoord as FromCoord
 use Rattle.farm_base.specs.declared.message.FromCoord.TheVariants as coord
@@ -44,6 +44,16 @@ abbrev pub is_open : KeptAsk → Bool
 is_open (kept.Open wants tenure) = true
 is_open (kept.Granted wants g r s) = false
 is_open (kept.Over how) = false
+
+abbrev pub is_over : KeptAsk → Bool
+is_over (kept.Open wants tenure) = false
+is_over (kept.Granted wants g r s) = false
+is_over (kept.Over how) = true
+
+-- the first so many asks are over
+pub record AreOver (count : ℕ) (asks : List KeptAsk) : Type 0 where
+  pub inside : count ≤ length asks
+  pub over : (i : ℕ) (x : KeptAsk) → i < count → slice_get asks i ≡ Some x → is_over x ≡ true
 
 -- an open ask is granted
 abbrev pub holds : Grant → KeptAsk → KeptAsk

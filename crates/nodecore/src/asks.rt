@@ -2,7 +2,7 @@ ghost use Rattle.std.specs.Prelude.{◌≡◌, ◌+◌, ◌<◌, Bool, List, IfO
 ghost use Rattle.std.specs.List.{list_any};
 ghost use Rattle.protocol.specs.Nodes.{wants_folder, is_tenure_of, is_home_of, uses, at_home, held, running, held_or_running, recallable, is_base, finished, others_use, in_use};
 ghost use Rattle.farm_base.specs.Digests.{digest_eq};
-ghost use Rattle.nodecore.specs.Asks.{shown_ask, told_state, slots_in, at_stage, is_open, recalls, holds};
+ghost use Rattle.nodecore.specs.Asks.{shown_ask, told_state, slots_in, at_stage, is_open, is_over, recalls, holds, AreOver};
 ghost use Rattle.protocol.specs.Names.{Want};
 ghost use Rattle.protocol.specs.World.{keeps};
 ghost use Rattle.protocol.specs.Machine.{Grant};
@@ -195,6 +195,12 @@ impl KeptAsk {
         }
     }
 
+    fn is_over(&self) -> bool
+        ensures { result ≡ is_over self.now }
+    {
+        matches!(self, KeptAsk::Over(_))
+    }
+
     /// Whether nothing was heard of the ask.
     pub(crate) fn is_open(&self) -> bool
         ensures { result ≡ is_open self.now }
@@ -256,40 +262,112 @@ impl KeptAsk {
     }
 }
 
-/// The place of the first ask that is granted under the ticket and not begun.
-pub(crate) fn held_place(asks: &[KeptAsk], ticket: Ticket) -> Option<usize>
+/// How many asks at the front are over, so many of them at least.
+pub(crate) fn over_from(asks: &[KeptAsk], least: usize) -> usize
+    requires { AreOver least asks.now }
+    ensures { AreOver result asks.now }
+{
+    let mut over = least;
+    while over < asks.len() && asks[over].is_over() {
+        over += 1;
+    }
+    over
+}
+
+/// The place of the first of these asks that is granted under the ticket and not begun.
+fn held_in(asks: &[KeptAsk], ticket: Ticket) -> Option<usize>
     ensures { result ≡ position (λ ask. is_some (held ticket (shown_ask ask))) asks.now }
 {
     asks.iter().position(|ask| ask.is_held(ticket))
 }
 
-/// The place of the first ask that runs under the ticket.
-pub(crate) fn running_place(asks: &[KeptAsk], ticket: Ticket) -> Option<usize>
+/// The same, where so many asks at the front are over.
+pub(crate) fn held_place(asks: &[KeptAsk], over: usize, ticket: Ticket) -> Option<usize>
+    requires { AreOver over asks.now }
+    ensures { result ≡ position (λ ask. is_some (held ticket (shown_ask ask))) asks.now }
+{
+    let (_, present) = asks.split_at(over);
+    match held_in(present, ticket) {
+        Some(place) => Some(over + place),
+        None => None,
+    }
+}
+
+/// The place of the first of these asks that runs under the ticket.
+fn running_in(asks: &[KeptAsk], ticket: Ticket) -> Option<usize>
     ensures { result ≡ position (λ ask. is_some (running ticket (shown_ask ask))) asks.now }
 {
     asks.iter().position(|ask| ask.is_running(ticket))
 }
 
-/// The place of the first ask that is granted or runs under the ticket.
-pub(crate) fn held_or_running_place(asks: &[KeptAsk], ticket: Ticket) -> Option<usize>
+/// The same, where so many asks at the front are over.
+pub(crate) fn running_place(asks: &[KeptAsk], over: usize, ticket: Ticket) -> Option<usize>
+    requires { AreOver over asks.now }
+    ensures { result ≡ position (λ ask. is_some (running ticket (shown_ask ask))) asks.now }
+{
+    let (_, present) = asks.split_at(over);
+    match running_in(present, ticket) {
+        Some(place) => Some(over + place),
+        None => None,
+    }
+}
+
+/// The place of the first of these asks that is granted or runs under the ticket.
+fn held_or_running_in(asks: &[KeptAsk], ticket: Ticket) -> Option<usize>
     ensures { result ≡ position (λ ask. is_some (held_or_running ticket (shown_ask ask))) asks.now }
 {
     asks.iter()
         .position(|ask| ask.is_held(ticket) || ask.is_running(ticket))
 }
 
-/// The place of the first ask whose news were sent under the ticket.
-pub(crate) fn finished_place(asks: &[KeptAsk], ticket: Ticket) -> Option<usize>
+/// The same, where so many asks at the front are over.
+pub(crate) fn held_or_running_place(asks: &[KeptAsk], over: usize, ticket: Ticket) -> Option<usize>
+    requires { AreOver over asks.now }
+    ensures { result ≡ position (λ ask. is_some (held_or_running ticket (shown_ask ask))) asks.now }
+{
+    let (_, present) = asks.split_at(over);
+    match held_or_running_in(present, ticket) {
+        Some(place) => Some(over + place),
+        None => None,
+    }
+}
+
+/// The place of the first of these asks that has sent its news under the ticket.
+fn finished_in(asks: &[KeptAsk], ticket: Ticket) -> Option<usize>
     ensures { result ≡ position (λ ask. is_some (finished ticket (shown_ask ask))) asks.now }
 {
     asks.iter().position(|ask| ask.is_finished(ticket))
 }
 
-/// The place of the first ask that is a tenure under the ticket and can be recalled.
-pub(crate) fn recallable_place(asks: &[KeptAsk], ticket: Ticket) -> Option<usize>
+/// The same, where so many asks at the front are over.
+pub(crate) fn finished_place(asks: &[KeptAsk], over: usize, ticket: Ticket) -> Option<usize>
+    requires { AreOver over asks.now }
+    ensures { result ≡ position (λ ask. is_some (finished ticket (shown_ask ask))) asks.now }
+{
+    let (_, present) = asks.split_at(over);
+    match finished_in(present, ticket) {
+        Some(place) => Some(over + place),
+        None => None,
+    }
+}
+
+/// The place of the first of these asks that is a tenure under the ticket and can be recalled.
+fn recallable_in(asks: &[KeptAsk], ticket: Ticket) -> Option<usize>
     ensures { result ≡ position (λ ask. is_some (recallable ticket (shown_ask ask))) asks.now }
 {
     asks.iter().position(|ask| ask.is_recallable(ticket))
+}
+
+/// The same, where so many asks at the front are over.
+pub(crate) fn recallable_place(asks: &[KeptAsk], over: usize, ticket: Ticket) -> Option<usize>
+    requires { AreOver over asks.now }
+    ensures { result ≡ position (λ ask. is_some (recallable ticket (shown_ask ask))) asks.now }
+{
+    let (_, present) = asks.split_at(over);
+    match recallable_in(present, ticket) {
+        Some(place) => Some(over + place),
+        None => None,
+    }
 }
 
 /// Whether the digest is the base of a granted ask.

@@ -99,7 +99,7 @@ impl NodeCore {
         ensures work { dropped ticket (shown self.old) (first (finished ticket) (shown self.old).asks 0) ≡ work_of (shown self.new) result }
         ensures place { place self.new ≡ place self.old }
     {
-        let Some(index) = finished_place(self.asks.as_slice(), ticket) else {
+        let Some(index) = finished_place(self.asks.as_slice(), self.over, ticket) else {
             return silent(alloc, NodeNote::Nothing);
         };
         self.asks[index] = KeptAsk::Over(How::Fenced);
@@ -116,7 +116,7 @@ impl NodeCore {
         ensures work { Does (learned ticket versions.now (shown self.old) (first (finished ticket) (shown self.old).asks 0)) (shown self.old) (shown self.new) result }
         ensures place { place self.new ≡ place self.old }
     {
-        let Some(index) = finished_place(self.asks.as_slice(), ticket) else {
+        let Some(index) = finished_place(self.asks.as_slice(), self.over, ticket) else {
             return Ok(silent(alloc, NodeNote::Nothing));
         };
         let named = confirmed(alloc, versions)?;
@@ -146,7 +146,7 @@ impl NodeCore {
         ensures work { recalled ticket (shown self.old) (first (recallable ticket) (shown self.old).asks 0) ≡ work_of (shown self.new) result }
         ensures place { place self.new ≡ place self.old }
     {
-        let Some(index) = recallable_place(self.asks.as_slice(), ticket) else {
+        let Some(index) = recallable_place(self.asks.as_slice(), self.over, ticket) else {
             return silent(alloc, NodeNote::Nothing);
         };
         self.asks[index].recall();

@@ -7,11 +7,11 @@ ghost use Rattle.folders.specs.Contents.{content_digest};
 ghost use Rattle.folders.specs.Farm.{farm_limits};
 ghost use Rattle.nodecore.specs.declared.asks.KeptAsk.{KeptAsk};
 ghost use Rattle.nodecore.specs.declared.asks.Stage.{Stage};
-ghost use Rattle.nodecore.specs.Asks.{message_of, told_state};
-ghost use Rattle.nodecore.specs.Shown.{content_of, left_of, shown, place, work_of, Does, Answers};
+ghost use Rattle.nodecore.specs.Asks.{message_of, told_state, AreOver};
 
 use super::asks::{
-    KeptAsk, Stage, at_home, has_tenure, held_or_running_place, held_place, in_use, running_place,
+    KeptAsk, Stage, at_home, has_tenure, held_or_running_place, held_place, in_use, over_from,
+    running_place,
 };
 use super::kept::{fits, news_of, store_all};
 use super::message::{AskState, Message, NodeDone};
@@ -66,13 +66,18 @@ pub struct NodeCore {
     pub(crate) life: Life,
     /// The asks of this life, in their order.
     pub(crate) asks: Vec<KeptAsk>,
+    /// How many asks at the front are known to be over: no ticket is sought among them.
+    pub(crate) over: usize,
     pub(crate) contents: IndexMap<Digest, Content>,
     pub(crate) versions: IndexMap<Version, Digest>,
     /// Whether it is down for good.
     pub(crate) spent: bool,
+    ghost settled: { AreOver over asks.items },
 }
 
 impl NodeCore {
+    ghost use Rattle.nodecore.specs.Shown.{content_of, left_of, shown, place, work_of, Does, Answers};
+
     /// A node in its first life.
     pub fn start(alloc: Global, node: NodeId, nodes: u32) -> Result<Self, AllocError>
         ensures node { IfOk result (λ core. shown core ≡ first_node content_digest) }
@@ -86,6 +91,7 @@ impl NodeCore {
             nodes,
             life: Life(1),
             asks: Vec::new(alloc),
+            over: 0,
             contents,
             versions: IndexMap::new(alloc),
             spent: false,
@@ -131,6 +137,8 @@ impl NodeCore {
 }
 
 impl NodeCore {
+    ghost use Rattle.nodecore.specs.Shown.{content_of, left_of, shown, place, work_of, Does, Answers};
+
     /// One message to the coordinator.
     pub(crate) fn say(&self, alloc: Global, request: Request) -> Result<Items<Message>, AllocError>
         ensures { IfOk result (λ sends. map message_of sends ≡ Said (record { node = self.now.node; life = self.now.life; request = request }) ∷ []) }
@@ -145,6 +153,7 @@ impl NodeCore {
         ensures place { place self.new ≡ place self.old }
     {
         self.asks.reserve(1)?;
+        self.over = over_from(self.asks.as_slice(), self.over);
         let ask = Ask(self.asks.len() as u64 + 1);
         let request = Request::Acquire {
             ask,
@@ -224,7 +233,7 @@ impl NodeCore {
         if self.spent {
             return Err(NodeRefusal::LivesSpent);
         }
-        let Some(place) = held_place(self.asks.as_slice(), ticket) else {
+        let Some(place) = held_place(self.asks.as_slice(), self.over, ticket) else {
             return Err(NodeRefusal::NoSuchTicket);
         };
         if !self.has_all(self.asks[place].slots()) {
@@ -245,7 +254,7 @@ impl NodeCore {
         if self.spent {
             return Err(NodeRefusal::LivesSpent);
         }
-        let Some(place) = held_or_running_place(self.asks.as_slice(), ticket) else {
+        let Some(place) = held_or_running_place(self.asks.as_slice(), self.over, ticket) else {
             return Err(NodeRefusal::NoSuchTicket);
         };
         if in_use(self.asks.as_slice(), place) {
@@ -270,7 +279,7 @@ impl NodeCore {
         if self.spent {
             return Err(NodeRefusal::LivesSpent);
         }
-        let Some(place) = running_place(self.asks.as_slice(), ticket) else {
+        let Some(place) = running_place(self.asks.as_slice(), self.over, ticket) else {
             return Err(NodeRefusal::NotRunning);
         };
         if in_use(self.asks.as_slice(), place) {
@@ -353,6 +362,7 @@ impl NodeCore {
             return Err(NodeRefusal::OutOfMemory);
         };
         self.life = life;
+        self.over = 0;
         self.asks.clear();
         Ok(NodeDone {
             note: NodeNote::Life(life),

@@ -13,6 +13,8 @@ use Rattle.nodecore.specs.Asks.{shown_ask, at_stage, message_of}
 use Rattle.nodecore.specs.Shown.{shown, place, left_of, store_in}
 use Rattle.nodecore.proofs.MapLemmas.{same_store}
 use Rattle.nodecore.proofs.NodeLemmas.{left_work, set_shown}
+use Rattle.nodecore.specs.declared.asks.KeptAsk.{KeptAsk}
+use Rattle.nodecore.proofs.OverLemmas.{over_staged}
 use Rattle.nodecore.proofs.node_core.NodeCore.leave.Goals as goal
 
 pub returns-clause-work : goal.returns-clause-work
@@ -30,3 +32,9 @@ returns-clause-work c = λ h get ticket.
     sym (c.in_ok-sends.ensures ∙ ap (λ (n : List News). commit c.args.self.now.node c.args.self.now.life c.args.ticket n ∷ []) c.in_ok-copy.ensures) in
     left_work (place c.args.self.now) c.args.ticket (c.args.index + 1) h (map left_of c.args.lefts.items) c.in_ok-news.news (shown c.args.self.now) _ _ _ some ticket news
     (set_shown c.args.self.now.asks.items c.args.index c.come_to.new.self (Finished h.wants h.grant c.in_ok-news.news) next) contents sends
+
+pub invariant_of-self-2 : goal.invariant_of-self-2
+invariant_of-self-2 c =
+    let asks : List KeptAsk = c.args.self.now.asks.items in
+    let inside : c.args.index < length asks = omega (arith, c.requires) in
+    record { settled = over_staged c.args.self.now.over asks c.args.index (stage.Finished c.in_ok-news.news) c.index_mut.result.now c.come_to.new.self c.args.self.now.settled inside c.index_mut.ensures.value c.come_to.ensures }

@@ -1,4 +1,4 @@
-use Rattle.std.proofs.Common.{◌≡◌, ◌+◌, [], get_or, None, Some, refl, ap, sym, ◌∙◌, rules, arith}
+use Rattle.std.proofs.Common.{◌≡◌, List, ◌+◌, [], get_or, None, Some, refl, ap, sym, ◌∙◌, rules, arith}
 use Rattle.std.specs.List.{position}
 use Rattle.protocol.specs.World.{Node}
 use Rattle.protocol.specs.Nodes.{recalled, recallable}
@@ -9,6 +9,7 @@ use Rattle.nodecore.proofs.KeptLemmas.{recalls_is}
 use Rattle.nodecore.specs.Shown.{shown, work_of}
 use Rattle.nodecore.proofs.FirstLemmas.{FirstAt, picks, some_first, none_first}
 use Rattle.nodecore.proofs.NodeLemmas.{becomes_shown}
+use Rattle.nodecore.proofs.OverLemmas.{over_recalled}
 use Rattle.nodecore.proofs.node_core.NodeCore.recall.Goals as goal
 
 pub returns-in_default-clause-work : goal.returns-in_default-clause-work
@@ -27,3 +28,10 @@ returns-clause-work c =
     ap (recalled c.args.ticket (shown c.args.self.now)) (f.found (c.in-Some.index + 1) (omega arith))
     ∙ ap (λ (y : Node). record { node = y; sends = []; note = note.Recalled c.args.ticket }) (becomes_shown (shown c.args.self.now) c.args.self.now.asks.items c.in-Some.index c.recall.new.self f.what refl next)
     ∙ sym (ap (work_of _) c.silent-2.ensures)
+
+pub invariant_of-self : goal.invariant_of-self
+invariant_of-self c =
+    let asks : List KeptAsk = c.args.self.now.asks.items in
+    let at : position (picks (recallable c.args.ticket)) asks ≡ Some c.in-Some.index = search rules in
+    let f : FirstAt (recallable c.args.ticket) asks 0 c.in-Some.index = some_first (recallable c.args.ticket) asks c.in-Some.index at in
+    record { settled = over_recalled c.args.self.now.over asks c.in-Some.index c.index_mut.result.now c.recall.new.self c.args.self.now.settled f.inside c.index_mut.ensures.value c.recall.ensures }

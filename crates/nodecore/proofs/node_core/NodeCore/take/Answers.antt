@@ -1,4 +1,4 @@
-use Rattle.std.proofs.Common.{◌≡◌, ℕ, false, List, map, ap, sym, ◌∙◌}
+use Rattle.std.proofs.Common.{◌≡◌, ◌<◌, ℕ, false, List, length, arith, map, ap, sym, ◌∙◌}
 use Rattle.std.proofs.Math.ListN.{set}
 use Rattle.std.proofs.lemmas.Option.{get_or_from_slice_get}
 use Rattle.folders.specs.Farm.{farm_limits}
@@ -12,6 +12,8 @@ use Rattle.nodecore.specs.Asks.{shown_ask, message_of, holds}
 use Rattle.nodecore.specs.Shown.{shown, place, base_of, known_in, learn_all}
 use Rattle.nodecore.proofs.MapLemmas.{bases_learned, same_known}
 use Rattle.nodecore.proofs.NodeLemmas.{set_shown}
+use Rattle.nodecore.specs.declared.asks.KeptAsk.{KeptAsk}
+use Rattle.nodecore.proofs.OverLemmas.{over_held}
 use Rattle.nodecore.proofs.node_core.NodeCore.take.Goals as goal
 
 pub returns-clause-work : goal.returns-clause-work
@@ -32,3 +34,9 @@ returns-clause-work c = λ wants tenure get number.
     let kept_asks : set_nth (map shown_ask asks) grant.ask.0 (Holding wants grant false) ≡ map shown_ask (set asks i c.hold.new.self) =
     ap (λ (a : ℕ). set_nth (map shown_ask asks) a (Holding wants grant false)) number ∙ set_shown asks i c.hold.new.self (Holding wants grant false) next in
     λ j. record { node = record x { asks = kept_asks j; known = known j }; sends = sends j; note = note.Took (sym c.in_ok-told.ensures j) }
+
+pub invariant_of-self-2 : goal.invariant_of-self-2
+invariant_of-self-2 c =
+    let asks : List KeptAsk = c.args.self.now.asks.items in
+    let inside : c.args.index < length asks = omega (arith, c.requires) in
+    record { settled = over_held c.args.self.now.over asks c.args.index c.in_ok-held.held c.index_mut.result.now c.hold.new.self c.args.self.now.settled inside c.index_mut.ensures.value c.hold.ensures }

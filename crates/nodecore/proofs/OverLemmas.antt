@@ -1,0 +1,130 @@
+-- Asks that are over, at the front.
+use Rattle.std.proofs.Common.{◌≡◌, ℕ, zero, suc, ◌+◌, ◌<◌, inl, inr, Bool, true, false, cond, List, [], ◌∷◌, ◌++◌, length, drop, set, get_or, Option, Some, None, slice_get, refl, sym, ap, ◌∙◌, subst, arith}
+use Rattle.std.specs.Prelude.{option_map}
+use Rattle.std.specs.List.{position, position_from}
+use Rattle.std.proofs.lemmas.Iterator.Adapters.{position_from-zero}
+use Rattle.std.proofs.lemmas.List.{length-set, length_push}
+use Rattle.protocol.proofs.Base.{nth_set_cases, get_push_cases, cases_nat}
+use Rattle.nodecore.specs.declared.asks.KeptAsk.{KeptAsk}
+use Rattle.std.proofs.Common.{is_some}
+use Rattle.protocol.specs.Names.{Ticket}
+use Rattle.protocol.specs.Nodes.{held, running, held_or_running, finished, recallable}
+use Rattle.nodecore.specs.declared.asks.KeptAsk.TheVariants as kept
+use Rattle.nodecore.specs.Asks.{shown_ask, is_over, at_stage, holds, recalls, AreOver}
+use Rattle.nodecore.specs.declared.asks.Stage.{Stage}
+use Rattle.protocol.specs.Machine.{Grant}
+use Rattle.std.proofs.lemmas.Option.{slice_get_read}
+
+over_tail : (n : ℕ) (x : KeptAsk) (xs : List KeptAsk) → AreOver (suc n) (x ∷ xs) → AreOver n xs
+over_tail n x xs h = record { inside = (let i = h.inside in omega arith); over = λ i y lt e. h.over (suc i) y (omega (arith, lt)) e }
+
+-- a test that picks none that is over skips those at the front
+skip : (p : KeptAsk → Bool) (xs : List KeptAsk) (n i : ℕ) → ((x : KeptAsk) → is_over x ≡ true → p x ≡ false) → AreOver n xs → position_from p i xs ≡ position_from p (i + n) (drop n xs)
+skip p xs zero i h a = (let e : i ≡ i + 0 = omega arith in ap (λ k. position_from p k xs) e)
+skip p [] (suc n) i h a = (let b = a.inside in absurd (omega arith))
+skip p (x ∷ xs) (suc n) i h a =
+    let none : p x ≡ false = h x (a.over 0 x (omega arith) refl) in
+    let e : (i + 1) + n ≡ i + suc n = omega arith in
+    ap (λ (b : Bool). cond b (Some i) (position_from p (i + 1) xs)) none ∙ skip p xs n (i + 1) h (over_tail n x xs a) ∙ ap (λ k. position_from p k (drop n xs)) e
+
+shift_step : (b : Bool) (i k : ℕ) (r s : Option ℕ) → r ≡ option_map (λ j. k + j) s → cond b (Some (k + i)) r ≡ option_map (λ j. k + j) (cond b (Some i) s)
+shift_step true i k r s e = refl
+shift_step false i k r s e = e
+
+shift : (p : KeptAsk → Bool) (xs : List KeptAsk) (i k : ℕ) → position_from p (k + i) xs ≡ option_map (λ j. k + j) (position_from p i xs)
+shift p [] i k = refl
+shift p (x ∷ xs) i k = (let e : (k + i) + 1 ≡ k + (i + 1) = omega arith in shift_step (p x) i k (position_from p ((k + i) + 1) xs) (position_from p (i + 1) xs) (ap (λ m. position_from p m xs) e ∙ shift p xs (i + 1) k))
+
+-- the place counted from behind the front
+pub position_behind : (p : KeptAsk → Bool) (xs ys : List KeptAsk) (n : ℕ) → ((x : KeptAsk) → is_over x ≡ true → p x ≡ false) → AreOver n xs → ys ≡ drop n xs → position p xs ≡ option_map (λ j. n + j) (position p ys)
+position_behind p xs ys n h a e =
+    let z : 0 + n ≡ n + 0 = omega arith in
+    position_from-zero p xs ∙ skip p xs n 0 h a ∙ ap (λ k. position_from p k (drop n xs)) z ∙ shift p (drop n xs) 0 n
+    ∙ ap (λ (l : List KeptAsk). option_map (λ j. n + j) (position_from p 0 l)) (sym e) ∙ ap (option_map (λ j. n + j)) (sym (position_from-zero p ys))
+
+pub found_behind : (p : KeptAsk → Bool) (xs ys : List KeptAsk) (n j : ℕ) → ((x : KeptAsk) → is_over x ≡ true → p x ≡ false) → AreOver n xs → ys ≡ drop n xs → Some j ≡ position p ys → Some (n + j) ≡ position p xs
+found_behind p xs ys n j h a e f = sym (position_behind p xs ys n h a e ∙ ap (option_map (λ k. n + k)) (sym f))
+
+pub none_behind : (p : KeptAsk → Bool) (xs ys : List KeptAsk) (n : ℕ) → ((x : KeptAsk) → is_over x ≡ true → p x ≡ false) → AreOver n xs → ys ≡ drop n xs → None ≡ position p ys → None ≡ position p xs
+none_behind p xs ys n h a e f = sym (position_behind p xs ys n h a e ∙ ap (option_map (λ k. n + k)) (sym f))
+
+some_is : (x y : KeptAsk) → ◌≡◌ {A = Option KeptAsk} (Some x) (Some y) → x ≡ y
+some_is x y e = cc
+
+pub over_more : (n : ℕ) (asks : List KeptAsk) (x : KeptAsk) → AreOver n asks → slice_get asks n ≡ Some x → n < length asks → is_over x ≡ true → AreOver (n + 1) asks
+over_more n asks x h at lt o = record {
+  inside = omega (arith, lt);
+  over = λ i y less e. elim (cases_nat i n) [
+    | inl same ↦ subst (λ (z : KeptAsk). is_over z ≡ true) (some_is x y (sym at ∙ ap (slice_get asks) (sym same) ∙ e)) o
+    | inr other ↦ h.over i y (omega (arith, less, other)) e
+  ];
+}
+
+-- another ask at a place, which is over where the old one was
+pub over_set : (n : ℕ) (asks : List KeptAsk) (i : ℕ) (old new : KeptAsk) → AreOver n asks → slice_get asks i ≡ Some old → (is_over old ≡ true → is_over new ≡ true) → AreOver n (set asks i new)
+over_set n asks i old new h at keeps = record {
+  inside = (let len = length-set asks i new in let was = h.inside in omega (arith, len, was));
+  over = λ k y less e. elim (nth_set_cases asks (suc i) new old (suc k) y at e) [
+    | inl same ↦ (let here : k ≡ i = omega (arith, same.0) in subst (λ (z : KeptAsk). is_over z ≡ true) (sym same.1) (keeps (h.over i old (omega (arith, less, here)) at)))
+    | inr other ↦ h.over k y less other.1
+  ];
+}
+
+pub over_push : (n : ℕ) (asks : List KeptAsk) (x : KeptAsk) → AreOver n asks → AreOver n (asks ++ x ∷ [])
+over_push n asks x h = record {
+  inside = (let len = length_push asks x in let was = h.inside in omega (arith, len, was));
+  over = λ k y less e. elim (get_push_cases asks x k y e) [
+    | inl old ↦ h.over k y less old
+    | inr new ↦ (let was = h.inside in let at = new.0 in absurd (omega (arith, less, was, at)))
+  ];
+}
+
+pub no_held : (t : Ticket) (x : KeptAsk) → is_over x ≡ true → is_some (held t (shown_ask x)) ≡ false
+no_held t (kept.Open w b) e = absurd (cc)
+no_held t (kept.Granted w g r s) e = absurd (cc)
+no_held t (kept.Over how) e = refl
+
+pub no_running : (t : Ticket) (x : KeptAsk) → is_over x ≡ true → is_some (running t (shown_ask x)) ≡ false
+no_running t (kept.Open w b) e = absurd (cc)
+no_running t (kept.Granted w g r s) e = absurd (cc)
+no_running t (kept.Over how) e = refl
+
+pub no_held_or_running : (t : Ticket) (x : KeptAsk) → is_over x ≡ true → is_some (held_or_running t (shown_ask x)) ≡ false
+no_held_or_running t (kept.Open w b) e = absurd (cc)
+no_held_or_running t (kept.Granted w g r s) e = absurd (cc)
+no_held_or_running t (kept.Over how) e = refl
+
+pub no_finished : (t : Ticket) (x : KeptAsk) → is_over x ≡ true → is_some (finished t (shown_ask x)) ≡ false
+no_finished t (kept.Open w b) e = absurd (cc)
+no_finished t (kept.Granted w g r s) e = absurd (cc)
+no_finished t (kept.Over how) e = refl
+
+pub no_recallable : (t : Ticket) (x : KeptAsk) → is_over x ≡ true → is_some (recallable t (shown_ask x)) ≡ false
+no_recallable t (kept.Open w b) e = absurd (cc)
+no_recallable t (kept.Granted w g r s) e = absurd (cc)
+no_recallable t (kept.Over how) e = refl
+
+staged_over : (s : Stage) (x : KeptAsk) → is_over x ≡ true → is_over (at_stage s x) ≡ true
+staged_over s (kept.Open w b) e = absurd (cc)
+staged_over s (kept.Granted w g r old) e = absurd (cc)
+staged_over s (kept.Over how) e = refl
+
+held_over : (g : Grant) (x : KeptAsk) → is_over x ≡ true → is_over (holds g x) ≡ true
+held_over g (kept.Open w b) e = absurd (cc)
+held_over g (kept.Granted w old r s) e = absurd (cc)
+held_over g (kept.Over how) e = refl
+
+recalled_over : (x : KeptAsk) → is_over x ≡ true → is_over (recalls x) ≡ true
+recalled_over (kept.Open w b) e = absurd (cc)
+recalled_over (kept.Granted w g r s) e = absurd (cc)
+recalled_over (kept.Over how) e = refl
+
+-- an ask at a place that comes to a stage, is granted or is recalled
+pub over_staged : (n : ℕ) (asks : List KeptAsk) (i : ℕ) (s : Stage) (old new : KeptAsk) → AreOver n asks → i < length asks → old ≡ get_or asks i old → new ≡ at_stage s old → AreOver n (set asks i new)
+over_staged n asks i s old new h lt at is = over_set n asks i old new h (slice_get_read asks (length asks) i old refl lt at) (λ o. ap is_over is ∙ staged_over s old o)
+
+pub over_held : (n : ℕ) (asks : List KeptAsk) (i : ℕ) (g : Grant) (old new : KeptAsk) → AreOver n asks → i < length asks → old ≡ get_or asks i old → new ≡ holds g old → AreOver n (set asks i new)
+over_held n asks i g old new h lt at is = over_set n asks i old new h (slice_get_read asks (length asks) i old refl lt at) (λ o. ap is_over is ∙ held_over g old o)
+
+pub over_recalled : (n : ℕ) (asks : List KeptAsk) (i : ℕ) (old new : KeptAsk) → AreOver n asks → i < length asks → old ≡ get_or asks i old → new ≡ recalls old → AreOver n (set asks i new)
+over_recalled n asks i old new h lt at is = over_set n asks i old new h (slice_get_read asks (length asks) i old refl lt at) (λ o. ap is_over is ∙ recalled_over old o)
