@@ -1,0 +1,90 @@
+use farm_base::{Digest, FolderName, FolderRefusal, Slot, SlotRefusal, Want, Wants, WantsRefusal};
+use std::alloc::Global;
+use std::test::Fail;
+
+/// Texts, and whether each is some slot's.
+const SLOTS: [(&str, bool); 14] = [
+    ("private:a%40b#64", true),
+    ("private:a#4096", true),
+    ("locked:a", true),
+    ("shared:a", true),
+    ("locked:", true),
+    ("private:a", false),
+    ("private:a#0", false),
+    ("private:a#4097", false),
+    ("private:a#01", false),
+    ("shared:a#1", false),
+    ("locked:%41", false),
+    ("locked:%4a", false),
+    ("locked:a b", false),
+    ("LOCKED:a", false),
+];
+
+#[test]
+fn texts_of_slots(rt: HostRuntime) -> Result<(), Fail> {
+    for (text, wanted) in &SLOTS {
+        match Slot::parse(rt.alloc(), text) {
+            Ok(slot) => {
+                assert!(rt; *wanted);
+                let spelled = slot.to_text(rt.alloc())?;
+                assert_eq!(rt; spelled.as_str(), *text);
+            }
+            Err(refusal) => {
+                assert!(rt; !*wanted);
+                assert!(rt; refusal == SlotRefusal::BadSlot);
+            }
+        }
+    }
+    let slot = Slot::parse(rt.alloc(), "private:a%40b#64")?;
+    assert_eq!(rt; slot.folder().id.as_str(), "a@b");
+    assert_eq!(rt; slot.instance(), 64);
+    Ok(())
+}
+
+/// The digits of a digest.
+const DIGITS: &str = "ba7816bf8f01cfea414140de5dae2223b00361a396177a9cb410ff61f20015ad";
+
+#[test]
+fn texts_of_folders_and_digests(rt: HostRuntime) -> Result<(), Fail> {
+    let empty = FolderName::parse(rt.alloc(), "shared:")?;
+    assert_eq!(rt; empty.id.as_str(), "");
+    let based = format!(in rt.alloc(); "locked:apt@{DIGITS}.7")?;
+    let folder = FolderName::parse(rt.alloc(), based.as_str())?;
+    let spelled = folder.to_text(rt.alloc())?;
+    assert_eq!(rt; spelled.as_str(), based.as_str());
+    let zeros = format!(in rt.alloc(); "locked:apt@{DIGITS}.07")?;
+    let refused = FolderName::parse(rt.alloc(), zeros.as_str());
+    assert!(rt; matches!(refused, Err(FolderRefusal::BadFolder)));
+    let text = format!(in rt.alloc(); "sha256:{DIGITS}")?;
+    let digest = Digest::parse(text.as_str())?;
+    let spelled = digest.to_text(rt.alloc())?;
+    assert_eq!(rt; spelled.as_str(), text.as_str());
+    assert!(rt; Digest::parse(DIGITS).is_err());
+    Ok(())
+}
+
+/// So many wants of folders that are named by numbers from the first on.
+fn wants(alloc: Global, first: usize, count: usize) -> Result<Vec<Want>, Fail> {
+    let mut wants = Vec::new(alloc);
+    for number in 0..count {
+        let number = first.saturating_sub(number);
+        let text = format!(in alloc; "locked:{number}")?;
+        wants.push(Want {
+            folder: FolderName::parse(alloc, text.as_str())?,
+            writable: true,
+        })?;
+    }
+    Ok(wants)
+}
+
+#[test]
+fn wants_of_an_ask(rt: HostRuntime) -> Result<(), Fail> {
+    let most = Wants::of(wants(rt.alloc(), 29, 16)?)?;
+    assert_eq!(rt; most.as_slice().len(), 16);
+    assert_eq!(rt; most.as_slice()[0].folder.id.as_str(), "14");
+    let many = Wants::of(wants(rt.alloc(), 29, 17)?);
+    assert!(rt; matches!(many, Err(WantsRefusal::TooManyWants)));
+    let twice = Wants::of(wants(rt.alloc(), 0, 2)?);
+    assert!(rt; matches!(twice, Err(WantsRefusal::SameFolderTwice)));
+    Ok(())
+}
