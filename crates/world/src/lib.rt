@@ -13,5 +13,5 @@ pub use outcomes::print_outcome;
 pub use printing::print_lines;
 pub use protocol::{EventNote, EventRefusal, Outcome};
 pub use replaying::{ReplayRefusal, replay};
-pub use schedule::{Event, Setup};
+pub use schedule::{Event, ScheduleRefusal, Setup, read_schedule};
 pub use world::{StartRefusal, World};
