@@ -4,3 +4,4 @@ mod FewLemmas
 mod TurnLemmas
 mod CallLemmas
 mod SafeLemmas
+mod OrderLemmas

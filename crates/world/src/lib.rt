@@ -2,12 +2,14 @@
 #![tactic(auto)]
 
 mod call;
+mod laws;
 mod nodes;
 mod pool;
 mod printing;
 mod replaying;
 mod world;
 
+pub use laws::lines_have_one_text;
 pub use nodecore::{Message, ToNode};
 pub use outcomes::print_outcome;
 pub use printing::print_lines;

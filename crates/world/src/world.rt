@@ -1,8 +1,7 @@
-ghost use Rattle.std.specs.Prelude.{Ok, None, ◌≡◌, ◌≤◌, ◌<◌, IfOk, IfErr, IfSome, IsErrOf, OnErr, map, length, is_some, option_map, option_copied};
+ghost use Rattle.std.specs.Prelude.{Ok, None, ◌≡◌, IfOk, IfSome, map, length, is_some, option_map, option_copied};
 ghost use Rattle.folders.specs.Contents.{content_digest};
 ghost use Rattle.folders.specs.Farm.{farm_limits};
 ghost use Rattle.protocol.specs.Lists.{nth};
-ghost use Rattle.protocol.specs.Machine.{Said};
 ghost use Rattle.protocol.specs.Ledger.{begin_work, withdrawn, pruned, nudged};
 ghost use Rattle.protocol.specs.Replay.{opening, step, node_does, is_node, delivered, coordinated};
 ghost use Rattle.protocol.specs.Nodes.{resent};
