@@ -2,11 +2,9 @@
 
 use farm_base::{Digest, Items, Text};
 use opsproto::{Definition, ExecOp, Input, Meta, Mount, Op, write_definition, write_op};
-use protowire::put_bytes;
+use protowire::{BodyList, put_bytes};
 use sha2::Sha256;
 use std::alloc::{AllocError, Global};
-
-type Entries = Vec<Items<u8>>;
 
 fn text(alloc: Global, text: &str) -> Result<Text, AllocError> {
     Ok(Text::new(String::from_str(alloc, text)?))
@@ -79,11 +77,9 @@ fn result(alloc: Global, digest: &Digest) -> Result<Vec<u8>, AllocError> {
     Ok(entry)
 }
 
-fn written(alloc: Global, entries: Entries, metadata: bool) -> Result<Vec<u8>, AllocError> {
+fn written(alloc: Global, entries: BodyList, metadata: bool) -> Result<Vec<u8>, AllocError> {
     let sizes = entries.len();
-    let definition = Definition {
-        def: Items::new(entries),
-    };
+    let definition = Definition { def: entries };
     let mut bytes = write_definition(alloc, &definition)?;
     if metadata {
         let body = [7u8; 440];
@@ -96,7 +92,7 @@ fn written(alloc: Global, entries: Entries, metadata: bool) -> Result<Vec<u8>, A
 
 /// A chain of vertices, each of which takes the one before; with metadata of twice their size if asked.
 pub fn chain(alloc: Global, count: usize, metadata: bool) -> Result<Vec<u8>, AllocError> {
-    let mut entries = Vec::new(alloc);
+    let mut entries = BodyList::new(alloc);
     let mut last = digest_of(b"");
     for number in 0..count {
         let entry = if number == 0 {
@@ -105,20 +101,20 @@ pub fn chain(alloc: Global, count: usize, metadata: bool) -> Result<Vec<u8>, All
             step(alloc, number, &[&last], "")?
         };
         last = digest_of(&entry);
-        entries.push(Items::new(entry))?;
+        entries.push(&entry)?;
     }
-    entries.push(Items::new(result(alloc, &last)?))?;
+    entries.push(&result(alloc, &last)?)?;
     written(alloc, entries, metadata)
 }
 
 /// A vertex that takes all of so many others.
 pub fn wide(alloc: Global, count: usize) -> Result<Vec<u8>, AllocError> {
-    let mut entries = Vec::new(alloc);
+    let mut entries = BodyList::new(alloc);
     let mut digests = Vec::new(alloc);
     for number in 0..count {
         let entry = step(alloc, number, &[], "")?;
         digests.push(digest_of(&entry))?;
-        entries.push(Items::new(entry))?;
+        entries.push(&entry)?;
     }
     let mut inputs = Vec::new(alloc);
     for digest in &digests {
@@ -126,14 +122,14 @@ pub fn wide(alloc: Global, count: usize) -> Result<Vec<u8>, AllocError> {
     }
     let entry = step(alloc, count, &inputs, "")?;
     let last = digest_of(&entry);
-    entries.push(Items::new(entry))?;
-    entries.push(Items::new(result(alloc, &last)?))?;
+    entries.push(&entry)?;
+    entries.push(&result(alloc, &last)?)?;
     written(alloc, entries, false)
 }
 
 /// Vertices each of which takes the two before.
 pub fn diamonds(alloc: Global, count: usize) -> Result<Vec<u8>, AllocError> {
-    let mut entries = Vec::new(alloc);
+    let mut entries = BodyList::new(alloc);
     let mut last = digest_of(b"");
     let mut before = digest_of(b"");
     for number in 0..count {
@@ -146,9 +142,9 @@ pub fn diamonds(alloc: Global, count: usize) -> Result<Vec<u8>, AllocError> {
         };
         before = last;
         last = digest_of(&entry);
-        entries.push(Items::new(entry))?;
+        entries.push(&entry)?;
     }
-    entries.push(Items::new(result(alloc, &last)?))?;
+    entries.push(&result(alloc, &last)?)?;
     written(alloc, entries, false)
 }
 
@@ -158,7 +154,7 @@ pub fn large(alloc: Global, count: usize) -> Result<Vec<u8>, AllocError> {
     for _ in 0..65_000 {
         padding.push_str("0123456789abcdef")?;
     }
-    let mut entries = Vec::new(alloc);
+    let mut entries = BodyList::new(alloc);
     let mut last = digest_of(b"");
     for number in 0..count {
         let entry = if number == 0 {
@@ -167,8 +163,8 @@ pub fn large(alloc: Global, count: usize) -> Result<Vec<u8>, AllocError> {
             step(alloc, number, &[&last], padding.as_str())?
         };
         last = digest_of(&entry);
-        entries.push(Items::new(entry))?;
+        entries.push(&entry)?;
     }
-    entries.push(Items::new(result(alloc, &last)?))?;
+    entries.push(&result(alloc, &last)?)?;
     written(alloc, entries, false)
 }

@@ -3,8 +3,9 @@
 use super::clock::{ROUNDS, seconds_since};
 use super::graphs::{chain, diamonds, large, wide};
 use opsproto::read_definition;
+use protowire::BodyList;
 use sha2::Sha256;
-use std::alloc::Global;
+use std::alloc::{AllocError, Global};
 use std::rt::Clock;
 use std::time::Instant;
 use vertices::{Graph, load};
@@ -25,20 +26,31 @@ fn solving<R: Clock + AllocGlobal>(rt: &R, bytes: &[u8]) -> anyhow::Result<f64> 
     Ok(least)
 }
 
+/// The stripped bytes of each vertex.
+fn all_stripped(alloc: Global, graph: &Graph) -> Result<BodyList, AllocError> {
+    let mut all = BodyList::new(alloc);
+    for number in 0..graph.len() {
+        let stripped = graph.vertex(number).op.stripped(alloc)?;
+        all.push(&stripped)?;
+    }
+    Ok(all)
+}
+
 /// The least time of hashing what the keys need: each op's bytes, its stripped bytes, and its key's message.
 fn hashing<R: Clock + AllocGlobal>(rt: &R, bytes: &[u8]) -> anyhow::Result<f64> {
     let definition = read_definition(rt.alloc(), bytes)?;
     let graph = graph_of(rt.alloc(), bytes)?;
+    let stripped = all_stripped(rt.alloc(), &graph)?;
     let message = vec![in rt.alloc(); 1u8; 33 + 40 * 16_000]?;
     let mut least = f64::INFINITY;
     for _ in 0..ROUNDS {
         let start = Instant::now(rt)?;
-        for entry in definition.def.as_slice() {
-            let _digest = <Sha256 as sha2::Digest>::digest(entry.as_slice());
+        for place in 0..definition.def.len() {
+            let _digest = <Sha256 as sha2::Digest>::digest(definition.def.body(place));
         }
-        for number in 0..graph.len() {
+        for number in 0..graph.len().min(stripped.len()) {
             let inputs = graph.inputs_of(number).len().min(16_000);
-            let _stripped = <Sha256 as sha2::Digest>::digest(graph.vertex(number).op.stripped());
+            let _stripped = <Sha256 as sha2::Digest>::digest(stripped.body(number));
             let _key = <Sha256 as sha2::Digest>::digest(&message[..33 + 40 * inputs]);
         }
         least = least.min(seconds_since(rt, start));

@@ -36,7 +36,7 @@ fn main(rt: HostRuntime) -> anyhow::Result<()> {
 fn small<R: Print + AllocGlobal>(rt: &R) -> anyhow::Result<()> {
     let bytes = graphs::chain(rt.alloc(), 3, true)?;
     let definition = opsproto::read_definition(rt.alloc(), &bytes)?;
-    let entries = definition.def.as_slice().len();
+    let entries = definition.def.len();
     let graph = vertices::load(rt.alloc(), definition)?;
     let keys = solverkeys::keys(rt.alloc(), &graph)?;
     let count = keys.len();

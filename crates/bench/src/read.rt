@@ -24,8 +24,8 @@ fn reading_ops<R: Clock + AllocGlobal>(rt: &R, bytes: &[u8]) -> anyhow::Result<f
     let mut least = f64::INFINITY;
     for _ in 0..ROUNDS {
         let start = Instant::now(rt)?;
-        for entry in definition.def.as_slice() {
-            let _op = read_op(rt.alloc(), entry.as_slice())?;
+        for place in 0..definition.def.len() {
+            let _op = read_op(rt.alloc(), definition.def.body(place))?;
         }
         least = least.min(seconds_since(rt, start));
     }

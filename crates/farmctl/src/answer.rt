@@ -33,7 +33,8 @@ fn checked(alloc: Global, graph: &Graph) -> Result<String, AllocError>
     ensures { IfOk result (λ text. string_bytes text ≡ check_text graph.now) }
 {
     let (number, index) = graph.result();
-    result_line(alloc, graph.len(), &graph.vertex(number).digest, index)
+    let vertex = graph.vertex(number);
+    result_line(alloc, graph.len(), &vertex.digest, index)
 }
 
 /// Adds the line of a vertex.
@@ -55,8 +56,8 @@ fn lines(alloc: Global, graph: &Graph, keys: &[Key]) -> Result<String, AllocErro
 {
     let mut text = String::new(alloc);
     for number in 0..graph.len() {
-        let digest = &graph.vertex(number).digest;
-        push_key(alloc, &mut text, digest, &keys[number])?;
+        let vertex = graph.vertex(number);
+        push_key(alloc, &mut text, &vertex.digest, &keys[number])?;
     }
     Ok(text)
 }

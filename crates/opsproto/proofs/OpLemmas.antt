@@ -1,7 +1,8 @@
 -- The bytes of an op without its inputs are an op of the same kind.
-use Rattle.std.proofs.Common.{◌≡◌, ℕ, Bool, eqb, List, [], ◌∷◌, None, Ok, refl, ap, subst, ◌∙◌, inl, inr}
+use Rattle.std.proofs.Common.{◌≡◌, ℕ, Bool, true, false, cond, eqb, ltb, List, [], ◌∷◌, length, None, Result, Ok, Err, refl, sym, ap, subst, ◌∙◌, inl, inr}
 use Rattle.std.specs.Prelude.{filter_map}
 use Rattle.std.specs.List.{AllByRecursion}
+use Rattle.std.specs.Result.{IsOk, result_unwrap_or}
 use Rattle.std.proofs.lemmas.Bool.{cases_Bool, eqb-true}
 use Rattle.protowire.specs.declared.refusal.WireRefusal.{WireRefusal}
 use Rattle.protowire.specs.Fields.{Entry, Spelled, IsField, message, AreFields}
@@ -9,10 +10,15 @@ use Rattle.protowire.specs.Reading.{◌>>=◌, fields_of}
 use Rattle.protowire.specs.Lookups.{Member, member_in, bodies, last_run, last_member}
 use Rattle.protowire.proofs.Bind.{bind_ok, ok_is}
 use Rattle.protowire.proofs.FieldLaws.{fields_took, fields_again}
+use Rattle.opsproto.specs.declared.refusal.OpRefusal.{OpRefusal}
+use Rattle.opsproto.specs.declared.refusal.OpRefusal.TheVariants.{TooLarge}
 use Rattle.opsproto.specs.declared.op.Kind.{Kind}
+use Rattle.opsproto.specs.declared.op.Kind.TheVariants.{Bare}
+use Rattle.opsproto.specs.Refusals.{wire}
+use Rattle.opsproto.specs.Texts.{each_checked, input_checked}
 use Rattle.opsproto.specs.Scalars.{Text}
 use Rattle.opsproto.specs.Reading.{says, each_of, input_of}
-use Rattle.opsproto.specs.Ops.{OpParts, members, kind_of, kept, op_of, kind_checked, op_checked, op_read, IsOp}
+use Rattle.opsproto.specs.Ops.{OpParts, members, kind_of, kept, op_of, kind_checked, op_checked, op_read, limit, op_at, op_in, stripped_of, IsOp}
 
 -- whether a field is an input
 abbrev is_input : Spelled → Bool
@@ -86,3 +92,38 @@ is_op text op kind e checked =
     let alone : op_of op.stripped ≡ Ok (record { inputs = []; kind = op.kind; stripped = op.stripped }) =
     rw t.stripped (stripped_read t.fields op.kind t.are.each t.kind) in
     rw (alone, checked) refl
+
+-- ---- the stripped bytes alone
+
+wire_ok : (r : Result OpParts WireRefusal) (op : OpParts) → wire r ≡ Ok op → r ≡ Ok op
+wire_ok (Ok x) op e = ap (λ (y : OpParts). Ok y) (ok_is {E = OpRefusal} x op e)
+wire_ok (Err d) op e = absurd cc
+
+fits : (b : Bool) (r : Result OpParts OpRefusal) (op : OpParts) → cond b (Err TooLarge) r ≡ Ok op → r ≡ Ok op
+fits true r op e = absurd cc
+fits false r op e = e
+
+checked_stripped : (raw op : OpParts) → op_checked raw ≡ Ok op → raw.stripped ≡ op.stripped
+unfolding op_checked
+checked_stripped raw op e =
+    let a = bind_ok (each_checked input_checked raw.inputs) (λ inputs. kind_checked raw.kind >>= λ kind. Ok (record { inputs = inputs; kind = kind; stripped = raw.stripped })) op e in
+    let b = bind_ok (kind_checked raw.kind) (λ kind. Ok (record { inputs = a.0; kind = kind; stripped = raw.stripped })) op a.2 in
+    let made : OpParts = record { inputs = a.0; kind = b.0; stripped = raw.stripped } in
+    ap (λ (o : OpParts). o.stripped) (ok_is {E = OpRefusal} made op b.2)
+
+op_stripped : (text stripped : List ℕ) (op : OpParts) → op_at text ≡ Ok op → stripped_of text ≡ Ok stripped → stripped ≡ op.stripped
+unfolding op_at op_read
+op_stripped text stripped op e s =
+    let read = fits (ltb limit (length text)) (op_read text) op e in
+    let a = bind_ok (wire (op_of text)) op_checked op read in
+    let t = op_took text a.0 (wire_ok (op_of text) a.0 a.1) in
+    let again : stripped_of text ≡ Ok (message (kept t.fields)) = rw (fields_again text t.fields t.are) refl in
+    ok_is {E = WireRefusal} stripped (message (kept t.fields)) (sym s ∙ again) ∙ sym t.stripped ∙ checked_stripped a.0 op a.2
+
+found : (r : Result OpParts OpRefusal) (other : OpParts) → IsOk r → r ≡ Ok (result_unwrap_or r other)
+found (Ok op) other h = refl
+found (Err e) other h = absurd cc
+
+-- the op of some bytes has their stripped bytes
+pub stripped_is : (text stripped : List ℕ) → IsOk (op_at text) → stripped_of text ≡ Ok stripped → stripped ≡ (op_in text).stripped
+stripped_is text stripped h s = op_stripped text stripped (op_in text) (found (op_at text) (record { inputs = []; kind = Bare; stripped = [] }) h) s

@@ -1,5 +1,6 @@
 -- The meaning of an op's bytes (ops.proto).
 use Rattle.std.specs.Prelude.{◌≡◌, ℕ, ◌*◌, ◌^◌, not, ◌==◌, nat_lt, if◌then◌else◌, List, [], ◌∷◌, length, filter, Option, Some, None, Result, Ok, Err}
+use Rattle.std.specs.Result.{result_unwrap_or}
 use Rattle.protowire.specs.declared.refusal.WireRefusal.{WireRefusal}
 use Rattle.protowire.specs.Fields.{Spelled, message}
 use Rattle.protowire.specs.Reading.{◌>>=◌, fields_of}
@@ -33,6 +34,10 @@ kind_of (Some m) = if m.0 == 2 then (exec_of m.1 >>= λ exec. Ok (Exec exec)) el
 abbrev pub kept : List Spelled → List Spelled
 kept fs = filter (λ f. not (f.entry.number == 1)) fs
 
+-- the bytes of those (this project's own)
+abbrev pub stripped_of : List ℕ → Result (List ℕ) WireRefusal
+stripped_of text = fields_of text >>= λ fs. Ok (message (kept fs))
+
 -- repeated Input inputs = 1, and the oneof (ops.proto)
 unfoldable pub op_of : List ℕ → Result OpParts WireRefusal
 op_of text = do
@@ -63,6 +68,10 @@ limit = 16 * 2 ^ 20
 -- the size comes before everything
 unfoldable pub op_at : List ℕ → Result OpParts OpRefusal
 op_at text = if nat_lt limit (length text) then Err TooLarge else op_read text
+
+-- the op of some bytes, where they are one
+abbrev pub op_in : List ℕ → OpParts
+op_in bytes = result_unwrap_or (op_at bytes) (record { inputs = []; kind = Bare; stripped = [] })
 
 -- the bytes alone are an op without inputs, of this kind
 abbrev pub IsOp : List ℕ → Kind Text → Type 0

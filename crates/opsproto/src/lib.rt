@@ -12,6 +12,7 @@ mod read;
 mod reading;
 mod refusal;
 mod texts;
+mod wire_op;
 mod write;
 
 pub use definition::Definition;
@@ -20,4 +21,5 @@ pub use input::Input;
 pub use op::{Kind, Op};
 pub use read::{ENTRIES, LIMIT, read_definition, read_op};
 pub use refusal::OpRefusal;
+pub use wire_op::WireOp;
 pub use write::{write_definition, write_exec, write_op};

@@ -5,7 +5,7 @@ ghost use Rattle.protowire.specs.Fields.{message as joined};
 ghost use Rattle.protowire.specs.Seen.{entries, spelled_all, StandInRow};
 ghost use Rattle.protowire.specs.Reading.{Gives};
 ghost use Rattle.protowire.specs.Lookups.{last_member};
-ghost use Rattle.opsproto.specs.Ops.{members, kind_of, kept, op_of};
+ghost use Rattle.opsproto.specs.Ops.{members, kind_of, kept, stripped_of, op_of};
 ghost use Rattle.opsproto.specs.RawOps.{parts};
 
 use super::fields::Bytes;
@@ -67,4 +67,13 @@ pub(crate) fn raw_op(alloc: Global, message: &[u8]) -> Result<RawOp, WireRefusal
         kind,
         stripped,
     })
+}
+
+/// The stripped bytes alone.
+#[tactic(auto, using(crate::proofs::ReadingLemmas::says_spelled))]
+pub(crate) fn stripped_of(alloc: Global, message: &[u8]) -> Result<Bytes, WireRefusal>
+    ensures { Gives (λ v. v) result (stripped_of message.now) }
+{
+    let fields = protowire::fields(alloc, message)?;
+    Ok(stripped(alloc, message, &fields)?)
 }

@@ -10,7 +10,6 @@ use super::op::{Kind, Op};
 use super::raw::raw_op;
 use super::refusal::OpRefusal;
 use super::texts::{exec_checked, inputs_checked};
-use farm_base::Items;
 use std::alloc::Global;
 
 /// The greatest size of a definition or an op: 16 MiB.
@@ -47,7 +46,7 @@ pub fn read_op(alloc: Global, bytes: &[u8]) -> Result<Op, OpRefusal>
 }
 
 /// Reads a definition. Its size comes first, then its form, then the number of its entries. Nothing but the entries
-/// takes memory.
+/// takes memory: as much as the bytes, and a place for each entry.
 #[tactic(auto, using(crate::proofs::ReadingLemmas::by_bodies))]
 pub fn read_definition(alloc: Global, bytes: &[u8]) -> Result<Definition, OpRefusal>
     ensures { Gives (λ definition. definition) result (definition_at bytes.now) }
@@ -58,7 +57,5 @@ pub fn read_definition(alloc: Global, bytes: &[u8]) -> Result<Definition, OpRefu
     let Some(def) = protowire::copy_bodies(alloc, bytes, DEF, ENTRIES)? else {
         return Err(OpRefusal::TooLarge);
     };
-    Ok(Definition {
-        def: Items::new(def),
-    })
+    Ok(Definition { def })
 }

@@ -11,12 +11,11 @@ ghost use Rattle.opsproto.specs.Written.{IsBody, IsText, IsInput, IsCache, IsMou
 
 use super::definition::Definition;
 use super::exec::{CacheOpt, ExecOp, Meta, Mount};
-use super::fields::Bytes;
 use super::input::Input;
 use super::op::{Kind, Op};
 use super::put::{put_bool, put_int32, put_int64, put_text, put_texts};
 use super::read::DEF;
-use protowire::put_message;
+use protowire::{BodyList, put_message};
 use std::alloc::{AllocError, Global};
 
 #[tactic(auto, using(crate::proofs::PutLemmas::writes))]
@@ -170,12 +169,12 @@ pub fn write_op(alloc: Global, op: &Op) -> Result<Vec<u8>, AllocError>
 }
 
 #[tactic(auto, unfolding(crate::specs::Writing::each_fields))]
-fn put_entries(out: &mut Vec<u8>, entries: &[Bytes]) -> Result<(), AllocError>
+fn put_entries(out: &mut Vec<u8>, entries: &BodyList) -> Result<(), AllocError>
     ensures ok { OnOk result (out.new.items ≡ out.old.items ++ message (each_fields 1 entries.now)) }
     ensures valid { OnOk result (AllByRecursion IsBody entries.now) }
 {
-    for entry in entries {
-        put_message(out, DEF, entry.as_slice())?;
+    for place in 0..entries.len() {
+        put_message(out, DEF, entries.body(place))?;
     }
     Ok(())
 }
@@ -187,6 +186,6 @@ pub fn write_definition(alloc: Global, definition: &Definition) -> Result<Vec<u8
         → definition_at v.items ≡ Ok definition.now) }
 {
     let mut out = Vec::new(alloc);
-    put_entries(&mut out, definition.def.as_slice())?;
+    put_entries(&mut out, &definition.def)?;
     Ok(out)
 }

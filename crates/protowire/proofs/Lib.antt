@@ -7,3 +7,4 @@ pub mod VarintLoop
 pub mod LookupLoop
 pub mod WritingLoop
 pub mod WritingLaws
+pub mod PieceLemmas

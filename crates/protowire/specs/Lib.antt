@@ -1,3 +1,4 @@
+pub mod BodyLists
 pub mod Fields
 pub mod Lookups
 pub mod Reading

@@ -1,6 +1,7 @@
 //! The fields of a proto3 message: reading and writing its wire form.
 #![tactic(auto)]
 
+mod body_list;
 mod field;
 mod laws;
 mod lookup;
@@ -10,6 +11,7 @@ mod varint;
 mod whole;
 mod writing;
 
+pub use body_list::BodyList;
 pub use field::{Field, Value};
 pub use laws::{
     fields_are_determined, first_fault_decides, written_fields_are_fields,

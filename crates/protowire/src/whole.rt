@@ -6,10 +6,10 @@ ghost use Rattle.protowire.specs.Reading.{shown, Gives};
 ghost use Rattle.protowire.specs.Seen.{payload};
 ghost use Rattle.protowire.specs.Lookups.{body_in, bodies_of, at_most};
 
+use super::body_list::BodyList;
 use super::field::Value;
 use super::reading::first_field;
 use super::refusal::WireRefusal;
-use farm_base::Items;
 use std::alloc::{AllocError, Global};
 
 /// The body that a field holds, if it was found to have this number.
@@ -24,37 +24,36 @@ fn body_held<'a>(number: u32, found: u32, value: Value<'a>) -> Option<&'a [u8]>
 
 /// Adds a copy of a body, unless there are already so many.
 fn push_copy(
-    alloc: Global,
-    copies: &mut Vec<Items<u8>>,
+    copies: &mut BodyList,
     body: &[u8],
     most: usize,
 ) -> Result<(), AllocError>
-    requires { length copies.old.items ≤ most }
-    ensures { OnOk result (copies.new.items ≡ take most (copies.old.items ++ body.now ∷ [])) }
+    requires { length copies.old ≤ most }
+    ensures { OnOk result (copies.new ≡ take most (copies.old ++ body.now ∷ [])) }
 {
     if copies.len() < most {
-        copies.push(Items::new(Vec::from_slice(alloc, body)?))?;
+        copies.push(body)?;
     }
     Ok(())
 }
 
 /// Copies of the bodies of this number, in order, or None where there are more than so many. All of the message is
-/// read in any case. Nothing but the copies takes memory.
+/// read in any case. Nothing but the copies takes memory, no more than the message and a place for each.
 pub fn copy_bodies(
     alloc: Global,
     message: &[u8],
     number: u32,
     most: usize,
-) -> Result<Option<Vec<Items<u8>>>, WireRefusal>
-    ensures { Gives (λ found. option_map (λ v. v.items) found) result (shown (at_most most) (bodies_of number message.now)) }
+) -> Result<Option<BodyList>, WireRefusal>
+    ensures { Gives (λ found. found) result (shown (at_most most) (bodies_of number message.now)) }
 {
-    let mut copies = Vec::new(alloc);
+    let mut copies = BodyList::with_room(alloc, 0, message.len())?;
     let mut count = 0;
     let mut rest = message;
     while !rest.is_empty() {
         let (found, value, after) = first_field(rest)?;
         if let Some(body) = body_held(number, found, value) {
-            push_copy(alloc, &mut copies, body, most)?;
+            push_copy(&mut copies, body, most)?;
             count += 1;
         }
         rest = after;

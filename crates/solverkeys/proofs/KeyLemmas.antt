@@ -9,7 +9,8 @@ use Rattle.farm_base.specs.declared.digest.Key.{Key}
 use Rattle.vertices.specs.Edges.{IsEdge, AreEdges, list_at}
 use Rattle.vertices.specs.Loading.{GraphParts, IsGraph}
 use Rattle.vertices.proofs.EntryLemmas.{take_push, at_Contains}
-use Rattle.vertices.proofs.GraphLemmas.{all_zip_length, all_zip_back, edge_target, list_at-get}
+use Rattle.vertices.proofs.GraphLemmas.{edge_target, list_at-get}
+use Rattle.vertices.proofs.ZipLemmas.{all_zip_length, all_zip_back}
 use Rattle.solverkeys.specs.Keys.{solver_key}
 use Rattle.solverkeys.specs.Shapes.{Shape, vertex, Inputs, no_inputs, input, shape_key, input_keys, HasIndexes, InputsHaveIndexes}
 use Rattle.solverkeys.specs.GraphKeys.{IsShapeOf, AreShapesOf, HasKey, TakesKeys, FollowsKeys}

@@ -26,7 +26,8 @@ fn key_at(alloc: Global, graph: &Graph, keys: &[Key], number: usize) -> Result<K
     ensures { IfOk result (FollowsKeys graph.now keys.now number) }
 {
     let inputs = inputs_of(alloc, keys, graph.inputs_of(number))?;
-    Ok(key_of(graph.vertex(number).op.stripped(), inputs.as_slice()))
+    let stripped = graph.vertex(number).op.stripped(alloc)?;
+    Ok(key_of(stripped.as_slice(), inputs.as_slice()))
 }
 
 /// The key and the index of each edge.

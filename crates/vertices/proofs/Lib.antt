@@ -6,3 +6,4 @@ pub mod OrderLaws
 pub mod RowLemmas
 pub mod SortingLemmas
 pub mod TableLemmas
+pub mod ZipLemmas

@@ -1,28 +1,34 @@
 -- Reading the entries of a definition.
-use Rattle.std.proofs.Common.{◌≡◌, ℕ, zero, suc, ◌+◌, ◌-◌, ◌<◌, ◌⊎◌, inl, inr, List, [], ◌∷◌, ◌++◌, length, map, take, drop, get_or, Option, Some, None, Result, Ok, Err, refl, sym, ap, ◌∙◌, subst, arith}
-use Rattle.std.specs.List.{Contains, slice_get}
+use Rattle.std.proofs.Common.{◌≡◌, ℕ, zero, suc, ◌+◌, ◌-◌, ◌<◌, ◌≤◌, ◌⊎◌, inl, inr, List, [], ◌∷◌, ◌++◌, length, map, take, drop, get_or, Option, Some, None, Result, Ok, Err, refl, sym, ap, ◌∙◌, subst, arith}
+use Rattle.std.specs.List.{AllByRecursion, AllZip, Contains, slice_get}
 use Rattle.std.specs.Option.{IfSome}
 use Rattle.std.specs.Result.{result_unwrap_or, IsOk, IfOk}
-use Rattle.std.proofs.lemmas.List.{take_at, take_all, drop_more, length-drop, get_or_push, length_push, map_push, get_or-map, length-map, length-take-le}
+use Rattle.std.proofs.lemmas.List.{take_at, take_all, drop_more, length-drop, get_or_push, length_push, map_push, get_or-map, length-map, length-take-le, length-take, get_or-take}
 use Rattle.std.proofs.lemmas.List.Elements.{Contains-push_cases}
 use Rattle.std.proofs.lemmas.Option.{slice_get-get_or, slice_get_within, get_or_from_slice_get}
 use Rattle.farm_base.specs.declared.digest.Digest.{Digest}
 use Rattle.farm_base.specs.Digests.{IsDigest}
-use Rattle.opsproto.specs.Ops.{OpParts, op_at}
+use Rattle.opsproto.specs.Ops.{OpParts, op_at, op_in}
 use Rattle.opsproto.specs.declared.op.Kind.TheVariants.{Bare}
 use Rattle.vertices.specs.declared.vertex.Vertex.{Vertex}
 use Rattle.vertices.specs.declared.refusal.LoadRefusal.{LoadRefusal}
 use Rattle.vertices.specs.declared.refusal.LoadRefusal.TheVariants.{OutOfMemory}
+use Rattle.vertices.specs.declared.asked.Asked.{Asked}
+use Rattle.vertices.specs.declared.vertex.Source.{Source}
+use Rattle.vertices.specs.declared.table.Table.{Table}
+use Rattle.vertices.specs.Asked.{Asks}
+use Rattle.vertices.specs.Sources.{IsSource, vertex_of}
 use Rattle.vertices.specs.declared.loading.Loading.{Loading}
-use Rattle.vertices.specs.Firsts.{number_in}
+use Rattle.vertices.specs.Firsts.{IsTable, number_in}
 use Rattle.vertices.specs.Outcomes.{Answers}
 use Rattle.vertices.specs.Edges.{Numbers, IsEdge}
 use Rattle.opsproto.specs.declared.refusal.OpRefusal.{OpRefusal}
 use Rattle.opsproto.specs.declared.input.Input.{Input}
 use Rattle.opsproto.specs.Scalars.{Text}
-use Rattle.vertices.specs.Loading.{GraphParts, IsGraph, IsGraphOf, front, last_of, GraphCheck, VerticesCheck, DefinitionCheck, digest_in, op_in, digests_in, vertex_at, AreVertices, ReadCheck, ReadChecks}
-use Rattle.vertices.specs.Loaded.{IsLoaded}
+use Rattle.vertices.specs.Loading.{GraphParts, IsGraph, IsGraphOf, front, last_of, GraphCheck, VerticesCheck, DefinitionCheck, digest_in, digests_in, vertex_at, AreVertices, ReadCheck, ReadChecks}
+use Rattle.vertices.specs.Loaded.{IsLoaded, vertices_in}
 use Rattle.vertices.proofs.EntryLemmas.{take_push, Contains-at, at_Contains}
+use Rattle.vertices.proofs.CheckLemmas.{all_zip_push}
 use Rattle.vertices.proofs.TableLemmas.{first_once, get_push_end}
 
 -- ---- checks of entries by place
@@ -63,19 +69,85 @@ pub digests_in-more : (entries : List (List ℕ)) (k : ℕ) (x : List ℕ) → s
     → digests_in (take (k + 1) entries) ≡ digests_in (take k entries) ++ digest_in x ∷ []
 digests_in-more entries k x at = ap digests_in (take_push entries k x at) ∙ map_push digest_in (take k entries) x
 
+-- the op of an entry
+pub op_of_entry : (entries : List (List ℕ)) (k : ℕ) (x : List ℕ) (op : OpParts) → slice_get entries k ≡ Some x → op_at x ≡ Ok op → op_in (get_or entries k []) ≡ op
+op_of_entry entries k x op at is =
+    ap op_in (get_or_from_slice_get entries k x [] at) ∙ ap (λ (r : Result OpParts _). result_unwrap_or r (record { inputs = []; kind = Bare; stripped = [] })) is
+
 -- a vertex more, where its digest is new
-pub vertices_more : (entries : List (List ℕ)) (k : ℕ) (x : List ℕ) (op : OpParts) (places : List ℕ) (vertices : List Vertex)
-    → slice_get entries k ≡ Some x → op_at x ≡ Ok op → vertices ≡ map (vertex_at entries) places
-    → vertices ++ (record { place = k; digest = digest_in x; op = op }) ∷ [] ≡ map (vertex_at entries) (places ++ k ∷ [])
-vertices_more entries k x op places vertices at is h =
-    let bytes : get_or entries k [] ≡ x = get_or_from_slice_get entries k x [] at in
-    let reads : op_in x ≡ op = ap (λ (r : Result OpParts _). result_unwrap_or r (record { inputs = []; kind = Bare; stripped = [] })) is in
-    let same : vertex_at entries k ≡ record { place = k; digest = digest_in x; op = op }
-    = ap (λ (b : List ℕ). let v : Vertex = record { place = k; digest = digest_in b; op = op_in b } in v) bytes
-    ∙ ap (λ (o : OpParts). let v : Vertex = record { place = k; digest = digest_in x; op = o } in v) reads in
-    ap (λ (vs : List Vertex). vs ++ (record { place = k; digest = digest_in x; op = op }) ∷ []) h
-    ∙ ap (λ (v : Vertex). map (vertex_at entries) places ++ v ∷ []) (sym same)
+pub vertices_more : (entries : List (List ℕ)) (k : ℕ) (x : List ℕ) (digest : Digest) (places : List ℕ) (sources : List Source)
+    → slice_get entries k ≡ Some x → digest ≡ digest_in x → map (vertex_of entries) sources ≡ map (vertex_at entries) places
+    → map (vertex_of entries) (sources ++ (record { place = k; digest = digest }) ∷ []) ≡ map (vertex_at entries) (places ++ k ∷ [])
+vertices_more entries k x digest places sources at is h =
+    let source : Source = record { place = k; digest = digest } in
+    let own : digest ≡ digest_in (get_or entries k []) = is ∙ ap digest_in (sym (get_or_from_slice_get entries k x [] at)) in
+    let same : vertex_of entries source ≡ vertex_at entries k
+    = ap (λ (d : Digest). let v : Vertex = record { place = k; digest = d; op = op_in (get_or entries k []) } in v) own in
+    map_push (vertex_of entries) sources source
+    ∙ ap (λ (vs : List Vertex). vs ++ vertex_of entries source ∷ []) h
+    ∙ ap (λ (v : Vertex). map (vertex_at entries) places ++ v ∷ []) same
     ∙ sym (map_push (vertex_at entries) places k)
+
+all_push : {X : Type 0} (P : X → Type 0) (xs : List X) (x : X) → AllByRecursion P xs → P x → AllByRecursion P (xs ++ x ∷ [])
+all_push P [] x h p = (p, tt)
+all_push P (y ∷ xs) x h p = (h.0, all_push P xs x h.1 p)
+
+pub sources_more : (entries : List (List ℕ)) (k : ℕ) (x : List ℕ) (digest : Digest) (op : OpParts) (sources : List Source)
+    → slice_get entries k ≡ Some x → op_at x ≡ Ok op → AllByRecursion (IsSource entries) sources
+    → AllByRecursion (IsSource entries) (sources ++ (record { place = k; digest = digest }) ∷ [])
+sources_more entries k x digest op sources at is h =
+    all_push (IsSource entries) sources (record { place = k; digest = digest }) h (record {
+      within = slice_get_within entries k x at;
+      is_op = subst (λ (b : List ℕ). IsOk (op_at b)) (sym (get_or_from_slice_get entries k x [] at)) (subst (λ (r : Result OpParts _). IsOk r) (sym is) refl);
+    })
+
+pub asked_more : (entries : List (List ℕ)) (k : ℕ) (x : List ℕ) (digest : Digest) (op : OpParts) (sources : List Source) (asked : List Asked) (one : Asked)
+    → slice_get entries k ≡ Some x → op_at x ≡ Ok op → AllZip Asks (map (vertex_of entries) sources) asked
+    → ((vertex : Vertex) → vertex.place ≡ k → vertex.op ≡ op → Asks vertex one)
+    → AllZip Asks (map (vertex_of entries) (sources ++ (record { place = k; digest = digest }) ∷ [])) (asked ++ one ∷ [])
+asked_more entries k x digest op sources asked one at is h asks =
+    let source : Source = record { place = k; digest = digest } in
+    subst (λ (vs : List Vertex). AllZip Asks vs (asked ++ one ∷ [])) (sym (map_push (vertex_of entries) sources source))
+    (all_zip_push Asks (map (vertex_of entries) sources) asked (vertex_of entries source) one h (asks (vertex_of entries source) refl (op_of_entry entries k x op at is)))
+
+-- the last entry, and those in front of it
+pub last_split : (def : List (List ℕ)) (place : ℕ) (x : List ℕ) → 1 ≤ length def → place ≡ length def - 1 → slice_get def place ≡ Some x
+    → (def ≡ take place def ++ x ∷ []) × (length (take place def) ≡ place)
+last_split def place x some is at =
+    (sym (take_all (place + 1) def (omega arith)) ∙ take_push def place x at, length-take-le place def (omega arith))
+
+pub has_last : (def : List (List ℕ)) (place : ℕ) → 1 ≤ length def → place ≡ length def - 1 → slice_get def place ≡ Some (get_or def place [])
+has_last def place some is = slice_get-get_or def place [] (omega arith)
+
+-- ---- the entries in front
+
+pub in_front : {X : Type 0} (xs : List X) (count k : ℕ) (x : X) → slice_get xs k ≡ Some x → k < count → slice_get (take count xs) k ≡ Some x
+in_front [] count k x e less = absurd (cc e)
+in_front (y ∷ xs) zero k x e less = absurd (omega arith)
+in_front (y ∷ xs) (suc count) zero x e less = e
+in_front (y ∷ xs) (suc count) (suc k) x e less = in_front xs count k x e (omega arith)
+
+pub take_front : {X : Type 0} (xs : List X) (count k : ℕ) → k ≤ count → take k (take count xs) ≡ take k xs
+take_front xs count zero le = refl
+take_front xs zero (suc k) le = absurd (omega arith)
+take_front [] (suc count) (suc k) le = refl
+take_front (x ∷ xs) (suc count) (suc k) le = ap (λ (ys : List _). x ∷ ys) (take_front xs count k (omega arith))
+
+map_same : {X : Type 0} (f g : ℕ → X) (ps : List ℕ) → ((n p : ℕ) → slice_get ps n ≡ Some p → f p ≡ g p) → map f ps ≡ map g ps
+map_same f g [] h = refl
+map_same f g (p ∷ ps) h = ap (λ (x : _). x ∷ map f ps) (h 0 p refl) ∙ ap (λ (xs : List _). g p ∷ xs) (map_same f g ps (λ n q e. h (suc n) q e))
+
+-- the vertices of the entries in front
+pub vertices_front : (entries : List (List ℕ)) (count : ℕ) (table : Table) → IsTable (digests_in (take count entries)) table
+    → map (vertex_at entries) table.places.items ≡ map (vertex_at (take count entries)) table.places.items
+vertices_front entries count table h =
+    map_same (vertex_at entries) (vertex_at (take count entries)) table.places.items (λ n p e.
+    let f = h.vertex n p e in
+    let within = slice_get_within (digests_in (take count entries)) p f.0 f.1.there in
+    let len = length-map (take count entries) digest_in in
+    let most = length-take count entries in
+    let less : p < count = omega (arith, within, len, most) in
+    ap (λ (b : List ℕ). let v : Vertex = record { place = p; digest = digest_in b; op = op_in b } in v) (sym (get_or-take count entries p [] less)))
 
 -- the digests are digests
 pub digests_more : (digests : List Digest) (x : Digest) → ((d : Digest) → Contains digests d → IsDigest d) → IsDigest x
@@ -84,7 +156,7 @@ digests_more digests x all is d c = elim (Contains-push_cases digests x d c) [ i
 
 -- the vertex of a number
 vertex_of_number : (entries : List (List ℕ)) (loading : Loading) (number place : ℕ) → IsLoaded entries loading
-    → slice_get loading.table.places.items number ≡ Some place → slice_get loading.vertices.items number ≡ Some (vertex_at entries place)
+    → slice_get loading.table.places.items number ≡ Some place → slice_get (vertices_in loading) number ≡ Some (vertex_at entries place)
 vertex_of_number entries loading number place h at =
     let within = slice_get_within loading.table.places.items number place at in
     let value = get_or_from_slice_get loading.table.places.items number place place at in
@@ -100,7 +172,7 @@ digest_at_place (x ∷ entries) zero d e = cc e
 digest_at_place (x ∷ entries) (suc place) d e = digest_at_place entries place d e
 
 -- the table finds the numbers of the vertices
-pub loaded_numbers : (entries : List (List ℕ)) (loading : Loading) → IsLoaded entries loading → Numbers (digests_in entries) loading.vertices.items loading.table
+pub loaded_numbers : (entries : List (List ℕ)) (loading : Loading) → IsLoaded entries loading → Numbers (digests_in entries) (vertices_in loading) loading.table
 loaded_numbers entries loading h = record {
   found = λ d n e.
       let f = h.table.found d n e in
@@ -109,8 +181,8 @@ loaded_numbers entries loading h = record {
   missing = λ d none c. let there = at_Contains (digests_in entries) d c in h.table.missing d there.0 none there.1;
   are_digests = h.digests;
   numbered = λ n v at.
-      let len : length loading.vertices.items ≡ length loading.table.places.items = ap length h.vertices ∙ length-map loading.table.places.items (vertex_at entries) in
-      let within = slice_get_within loading.vertices.items n v at in
+      let len : length (vertices_in loading) ≡ length loading.table.places.items = ap length h.vertices ∙ length-map loading.table.places.items (vertex_at entries) in
+      let within = slice_get_within (vertices_in loading) n v at in
       let p = get_or loading.table.places.items n 0 in
       let here : slice_get loading.table.places.items n ≡ Some p = slice_get-get_or loading.table.places.items n 0 (omega arith) in
       let f = h.table.vertex n p here in
@@ -119,7 +191,7 @@ loaded_numbers entries loading h = record {
 }
 
 -- they are the vertices of the entries
-pub loaded_vertices : (entries : List (List ℕ)) (loading : Loading) → IsLoaded entries loading → AreVertices entries loading.vertices.items
+pub loaded_vertices : (entries : List (List ℕ)) (loading : Loading) → IsLoaded entries loading → AreVertices entries (vertices_in loading)
 loaded_vertices entries loading h = record {
   places = loading.table.places.items;
   firsts = record {

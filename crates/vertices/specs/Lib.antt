@@ -1,7 +1,9 @@
+pub mod Asked
 pub mod Edges
 pub mod Entries
 pub mod Firsts
 pub mod Flags
+pub mod Kept
 pub mod Loaded
 pub mod Loading
 pub mod Numbered
@@ -10,4 +12,5 @@ pub mod Orders
 pub mod Outcomes
 pub mod Rows
 pub mod Sorting
+pub mod Sources
 pub mod Waiters

@@ -1,14 +1,23 @@
--- What holds while the entries of a definition are read (this project's own).
+-- What holds once the entries of a definition are read (this project's own).
 use Rattle.std.specs.Prelude.{◌≡◌, ℕ, List, map}
-use Rattle.std.specs.List.{Contains}
+use Rattle.std.specs.List.{AllByRecursion, AllZip, Contains}
 use Rattle.farm_base.specs.declared.digest.Digest.{Digest}
 use Rattle.farm_base.specs.Digests.{IsDigest}
 use Rattle.vertices.specs.declared.loading.Loading.{Loading}
+use Rattle.vertices.specs.declared.vertex.Vertex.{Vertex}
+use Rattle.vertices.specs.Asked.{Asks}
 use Rattle.vertices.specs.Firsts.{IsTable}
 use Rattle.vertices.specs.Loading.{digests_in, vertex_at}
+use Rattle.vertices.specs.Sources.{IsSource, vertex_of}
 
--- the table and the vertices of these entries
+-- the vertices that were made
+abbrev pub vertices_in : Loading → List Vertex
+vertices_in loading = map (vertex_of loading.entries) loading.sources.items
+
+-- the table and the vertices of these entries, and what is asked of them
 pub record IsLoaded (entries : List (List ℕ)) (loading : Loading) : Type 0 where
   pub table : IsTable (digests_in entries) loading.table
-  pub vertices : loading.vertices.items ≡ map (vertex_at entries) loading.table.places.items
+  pub vertices : vertices_in loading ≡ map (vertex_at entries) loading.table.places.items
   pub digests : (digest : Digest) → Contains (digests_in entries) digest → IsDigest digest
+  pub sources : AllByRecursion (IsSource loading.entries) loading.sources.items
+  pub asked : AllZip Asks (vertices_in loading) loading.asked.items

@@ -9,7 +9,7 @@ use Rattle.farm_base.specs.Digests.{digest_text}
 use Rattle.opsproto.specs.Scalars.{Text}
 use Rattle.opsproto.specs.declared.input.Input.{Input}
 use Rattle.opsproto.specs.declared.op.Kind.TheVariants.{Bare}
-use Rattle.opsproto.specs.Ops.{OpParts, op_at}
+use Rattle.opsproto.specs.Ops.{op_at, op_in}
 use Rattle.vertices.specs.declared.vertex.Vertex.{Vertex}
 use Rattle.vertices.specs.declared.refusal.LoadRefusal.{LoadRefusal}
 use Rattle.vertices.specs.declared.refusal.LoadRefusal.TheVariants as refusal
@@ -22,10 +22,6 @@ use Rattle.vertices.specs.Edges.{InputCheck, IsEdge, AreEdges, GoesTo}
 -- the SHA-256 of an entry's bytes (FIPS 180-4)
 abbrev pub digest_in : List ℕ → Digest
 digest_in bytes = record { 0 = sha256 bytes }
-
--- the op of an entry's bytes, where they are one
-abbrev pub op_in : List ℕ → OpParts
-op_in bytes = result_unwrap_or (op_at bytes) (record { inputs = []; kind = Bare; stripped = [] })
 
 -- the digests of entries
 abbrev pub digests_in : List (List ℕ) → List Digest

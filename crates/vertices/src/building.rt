@@ -3,17 +3,17 @@ ghost use Rattle.std.specs.List.{AllZip};
 ghost use Rattle.farm_base.specs.declared.digest.Digest.{Digest as SpecDigest};
 ghost use Rattle.vertices.specs.declared.vertex.Vertex.{Vertex as SpecVertex};
 ghost use Rattle.vertices.specs.Outcomes.{Each, Answers};
+ghost use Rattle.vertices.specs.Asked.{Asks};
 ghost use Rattle.vertices.specs.Edges.{AreEdges, Numbers, GoesTo, targets};
 ghost use Rattle.vertices.specs.Numbered.{AreNumbers, HasTargets};
 ghost use Rattle.vertices.specs.Orders.{IsOrder, IsCyclic};
 ghost use Rattle.vertices.specs.Loading.{VertexCheck};
 
+use super::asked::Asked;
 use super::edges::edges_of;
-use super::execs::check_kind;
 use super::ordering::order_of;
 use super::refusal::LoadRefusal;
 use super::table::Table;
-use super::vertex::Vertex;
 use farm_base::Items;
 use std::alloc::{AllocError, Global};
 
@@ -21,33 +21,34 @@ use std::alloc::{AllocError, Global};
 fn vertex_edges(
     alloc: Global,
     table: &Table,
-    vertex: &Vertex,
+    asked: &Asked,
 ) -> Result<Vec<(usize, u64)>, LoadRefusal>
-    ensures check { (digests : List SpecDigest) (all : List SpecVertex) → Numbers digests all table.now
-        → Answers (VertexCheck digests vertex.now) result }
-    ensures edges { (digests : List SpecDigest) (all : List SpecVertex) → Numbers digests all table.now
-        → IfOk result (λ edges. AreEdges all vertex.now.op.inputs edges.items) }
+    ensures check { (vertex : SpecVertex) (digests : List SpecDigest) (all : List SpecVertex) → Asks vertex asked.now
+        → Numbers digests all table.now → Answers (VertexCheck digests vertex) result }
+    ensures edges { (vertex : SpecVertex) (digests : List SpecDigest) (all : List SpecVertex) → Asks vertex asked.now
+        → Numbers digests all table.now → IfOk result (λ edges. AreEdges all vertex.op.inputs edges.items) }
 {
-    let inputs = vertex.op.inputs();
-    let edges = edges_of(alloc, table, vertex.place, inputs)?;
-    check_kind(vertex.place, inputs.len(), vertex.op.kind())?;
-    Ok(edges)
+    let edges = edges_of(alloc, table, asked.place, asked.inputs.as_slice())?;
+    match asked.fault {
+        Some(fault) => Err(fault),
+        None => Ok(edges),
+    }
 }
 
 /// Checks each vertex, and gives their edges.
 pub(crate) fn all_edges(
     alloc: Global,
     table: &Table,
-    vertices: &[Vertex],
+    all: &[Asked],
 ) -> Result<Vec<Items<(usize, u64)>>, LoadRefusal>
-    ensures check { (digests : List SpecDigest) (all : List SpecVertex) → Numbers digests all table.now
-        → Answers (Each (VertexCheck digests) vertices.now) result }
-    ensures edges { (digests : List SpecDigest) (all : List SpecVertex) → Numbers digests all table.now
-        → IfOk result (λ edges. AllZip (λ v es. AreEdges all v.op.inputs es) vertices.now edges.items) }
+    ensures check { (vertices : List SpecVertex) (digests : List SpecDigest) → AllZip Asks vertices all.now
+        → Numbers digests vertices table.now → Answers (Each (VertexCheck digests) vertices) result }
+    ensures edges { (vertices : List SpecVertex) (digests : List SpecDigest) → AllZip Asks vertices all.now
+        → Numbers digests vertices table.now → IfOk result (λ edges. AllZip (λ v es. AreEdges vertices v.op.inputs es) vertices edges.items) }
 {
-    let mut edges = Vec::with_capacity(alloc, vertices.len())?;
-    for vertex in vertices {
-        edges.push(Items::new(vertex_edges(alloc, table, vertex)?))?;
+    let mut edges = Vec::with_capacity(alloc, all.len())?;
+    for asked in all {
+        edges.push(Items::new(vertex_edges(alloc, table, asked)?))?;
     }
     Ok(edges)
 }

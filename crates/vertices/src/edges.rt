@@ -1,14 +1,18 @@
 ghost use Rattle.std.specs.Prelude.{◌≡◌, ◌<◌, List, IfOk, IfSome, IfNone, IsTrue, length};
 ghost use Rattle.farm_base.specs.declared.digest.Digest.{Digest as SpecDigest};
 ghost use Rattle.farm_base.specs.Digests.{IsDigest, digest_text, encode_lower};
+ghost use Rattle.std.specs.List.{AllZip};
+ghost use Rattle.opsproto.specs.Scalars.{Text};
+ghost use Rattle.opsproto.specs.declared.input.Input.{Input};
 ghost use Rattle.vertices.specs.declared.vertex.Vertex.{Vertex};
+ghost use Rattle.vertices.specs.Asked.{NamesAs};
 ghost use Rattle.vertices.specs.Outcomes.{Each, refused, Answers};
 ghost use Rattle.vertices.specs.Edges.{IsDigestText, InputCheck, IsEdge, AreEdges, Numbers};
 
+use super::asked::Named;
 use super::refusal::LoadRefusal;
 use super::table::Table;
 use farm_base::Digest;
-use opsproto::Input;
 use std::alloc::Global;
 
 /// The value of a lower-case digit, and some number for another byte. It has no branches, since digits come in no
@@ -52,7 +56,7 @@ fn spelled_digest(text: &str) -> Option<Digest>
 }
 
 /// The digest that a text spells. A good guess is checked faster than a text is parsed.
-fn named_digest(text: &str) -> Option<Digest>
+pub(crate) fn named_digest(text: &str) -> Option<Digest>
     ensures found { IfSome result (λ digest. IsDigest digest × (text.now ≡ digest_text digest)) }
     ensures none { IfNone result (¬ IsDigestText text.now) }
 {
@@ -64,24 +68,24 @@ fn named_digest(text: &str) -> Option<Digest>
     Some(digest)
 }
 
-/// The vertex that an input names, by its number, and the index of the output.
+/// The vertex that is named, by its number, and the index of the output.
 pub(crate) fn edge_of(
     table: &Table,
     place: usize,
-    input: &Input,
+    named: &Named,
 ) -> Result<(usize, u64), LoadRefusal>
-    ensures check { (digests : List SpecDigest) (vertices : List Vertex) → Numbers digests vertices table.now
-        → InputCheck digests place input.now (refused result) }
-    ensures edge { (digests : List SpecDigest) (vertices : List Vertex) → Numbers digests vertices table.now
-        → IfOk result (IsEdge vertices input.now) }
+    ensures check { (input : Input Text) (digests : List SpecDigest) (vertices : List Vertex) → NamesAs input named.now
+        → Numbers digests vertices table.now → InputCheck digests place input (refused result) }
+    ensures edge { (input : Input Text) (digests : List SpecDigest) (vertices : List Vertex) → NamesAs input named.now
+        → Numbers digests vertices table.now → IfOk result (IsEdge vertices input) }
 {
-    let Some(digest) = named_digest(input.digest.as_str()) else {
+    let Some(digest) = named.digest else {
         return Err(LoadRefusal::BadInputDigest(place));
     };
     let Some(number) = table.number(&digest) else {
         return Err(LoadRefusal::MissingInput(place));
     };
-    let Ok(index) = u64::try_from(input.index) else {
+    let Ok(index) = u64::try_from(named.index) else {
         return Err(LoadRefusal::NegativeIndex(place));
     };
     Ok((number, index))
@@ -92,16 +96,16 @@ pub(crate) fn edges_of(
     alloc: Global,
     table: &Table,
     place: usize,
-    inputs: &[Input],
+    all: &[Named],
 ) -> Result<Vec<(usize, u64)>, LoadRefusal>
-    ensures check { (digests : List SpecDigest) (vertices : List Vertex) → Numbers digests vertices table.now
-        → Answers (Each (InputCheck digests place) inputs.now) result }
-    ensures edges { (digests : List SpecDigest) (vertices : List Vertex) → Numbers digests vertices table.now
-        → IfOk result (λ edges. AreEdges vertices inputs.now edges.items) }
+    ensures check { (inputs : List (Input Text)) (digests : List SpecDigest) (vertices : List Vertex) → AllZip NamesAs inputs all.now
+        → Numbers digests vertices table.now → Answers (Each (InputCheck digests place) inputs) result }
+    ensures edges { (inputs : List (Input Text)) (digests : List SpecDigest) (vertices : List Vertex) → AllZip NamesAs inputs all.now
+        → Numbers digests vertices table.now → IfOk result (λ edges. AreEdges vertices inputs edges.items) }
 {
-    let mut edges = Vec::with_capacity(alloc, inputs.len())?;
-    for input in inputs {
-        edges.push(edge_of(table, place, input)?)?;
+    let mut edges = Vec::with_capacity(alloc, all.len())?;
+    for named in all {
+        edges.push(edge_of(table, place, named)?)?;
     }
     Ok(edges)
 }

@@ -1,28 +1,32 @@
 ghost use Rattle.std.specs.Prelude.{◌≡◌, ◌<◌, ℕ, List, length, slice_get, Some, IfOk};
 ghost use Rattle.vertices.specs.Loading.{GraphParts, IsGraph};
 
-use super::vertex::Vertex;
+use super::vertex::{Source, Vertex};
 use farm_base::Items;
+use opsproto::WireOp;
+use protowire::BodyList;
 use std::marker::Model;
 
 /// A graph without cycles, whose edges all name vertices of it. Its vertices have numbers from 0,
 /// by rising place.
 #[derive(Drop)]
 pub struct Graph {
-    pub(crate) vertices: Vec<Vertex>,
+    pub(crate) entries: BodyList,
+    pub(crate) sources: Vec<Source>,
     pub(crate) edges: Vec<Items<(usize, u64)>>,
     pub(crate) order: Vec<usize>,
     pub(crate) result: (usize, u64),
 }
 
 impl Model for Graph {
-    ghost use Rattle.vertices.specs.Loading.{GraphParts, IsGraph};
+    ghost use Rattle.vertices.specs.Loading.{GraphParts};
+    ghost use Rattle.vertices.specs.Kept.{parts, AreKept};
 
     ghost Value = { GraphParts };
 
-    ghost view = { λ g. record { vertices = g.vertices.items; edges = g.edges.items; order = g.order.items; result = g.result } };
+    ghost view = { λ g. parts g.entries g.sources.items g.edges.items g.order.items g.result };
 
-    ghost invariant = { λ g. IsGraph (record { vertices = g.vertices.items; edges = g.edges.items; order = g.order.items; result = g.result }) };
+    ghost invariant = { λ g. AreKept g.entries g.sources.items (parts g.entries g.sources.items g.edges.items g.order.items g.result) };
 }
 
 impl Graph {
@@ -32,15 +36,20 @@ impl Graph {
         ensures value { result ≡ length self.now.vertices }
         ensures graph { IsGraph self.now }
     {
-        self.vertices.len()
+        self.sources.len()
     }
 
     /// The vertex of a number.
-    pub fn vertex(&self, number: usize) -> &Vertex
+    pub fn vertex(&self, number: usize) -> Vertex<'_>
         requires { number < length self.now.vertices }
-        ensures { slice_get self.now.vertices number ≡ Some result.now }
+        ensures { slice_get self.now.vertices number ≡ Some result }
     {
-        &self.vertices[number]
+        let source = self.sources[number];
+        Vertex {
+            place: source.place,
+            digest: source.digest,
+            op: WireOp::new(self.entries.body(source.place)),
+        }
     }
 
     /// The edges of a vertex: for each of its inputs, in order, the number of the vertex that it

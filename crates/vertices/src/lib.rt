@@ -1,6 +1,7 @@
 //! The vertices of a definition: loading, checks, and the order in which they can be solved.
 #![tactic(auto)]
 
+mod asked;
 mod building;
 mod edges;
 mod entries;

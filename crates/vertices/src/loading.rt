@@ -1,70 +1,82 @@
-ghost use Rattle.std.specs.Prelude.{◌≡◌, ℕ, List, length, IfOk, IfSome, slice_get};
+ghost use Rattle.std.specs.Prelude.{◌≡◌, ◌≤◌, ℕ, List, length, take, IfOk, IfSome, slice_get};
 ghost use Rattle.vertices.specs.Outcomes.{Answers};
 ghost use Rattle.vertices.specs.Edges.{Numbers, IsEdge};
 ghost use Rattle.vertices.specs.Loading.{ReadChecks, GraphCheck, DefinitionCheck, IsGraph, IsGraphOf};
 
+use super::asked::{Asked, Named};
 use super::building::{all_edges, edge_order};
 use super::edges::edge_of;
 use super::graph::Graph;
 use super::reading::{digest_of, read_entry};
 use super::refusal::LoadRefusal;
 use super::table::Table;
-use super::vertex::Vertex;
-use farm_base::Items;
+use super::vertex::Source;
 use opsproto::{Definition, Input};
+use protowire::BodyList;
 use std::alloc::Global;
 
-/// The vertices of some entries, and the table of their digests.
+/// The vertices of some entries, with the table of their digests and what is asked of them.
 #[derive(Drop)]
 pub(crate) struct Loading {
+    pub(crate) entries: BodyList,
     pub(crate) table: Table,
-    pub(crate) vertices: Vec<Vertex>,
+    pub(crate) sources: Vec<Source>,
+    pub(crate) asked: Vec<Asked>,
 }
 
 impl Loading {
     ghost use Rattle.farm_base.specs.declared.digest.Digest.{Digest};
-    ghost use Rattle.vertices.specs.Loaded.{IsLoaded};
+    ghost use Rattle.vertices.specs.Loaded.{IsLoaded, vertices_in};
 
-    /// Reads each entry, and makes a vertex of the first one of each digest.
-    /// Each entry is dropped once it is read.
-    pub(crate) fn of(alloc: Global, entries: Vec<Items<u8>>) -> Result<Self, LoadRefusal>
-        ensures check { Answers (ReadChecks 0 entries.items) result }
-        ensures loaded { IfOk result (IsLoaded entries.items) }
+    /// Reads so many of the entries, and makes a vertex of the first one of each digest.
+    pub(crate) fn of(alloc: Global, entries: BodyList, count: usize) -> Result<Self, LoadRefusal>
+        requires { count ≤ length entries }
+        ensures check { Answers (ReadChecks 0 (take count entries)) result }
+        ensures entries { IfOk result (λ loading. loading.entries ≡ entries) }
+        ensures loaded { IfOk result (IsLoaded (take count entries)) }
     {
-        let mut table = Table::with_room(alloc, entries.len())?;
-        let mut vertices = Vec::with_capacity(alloc, entries.len())?;
-        let mut place = 0;
-        for entry in entries {
-            let op = read_entry(alloc, place, entry.as_slice())?;
-            let digest = digest_of(entry.as_slice());
+        let mut table = Table::with_room(alloc, count)?;
+        let mut sources = Vec::with_capacity(alloc, count)?;
+        let mut asked = Vec::with_capacity(alloc, count)?;
+        for place in 0..count {
+            let entry = entries.body(place);
+            let op = read_entry(alloc, place, entry)?;
+            let digest = digest_of(entry);
             if table.add(place, digest)? {
-                vertices.push(Vertex { place, digest, op })?;
+                sources.push(Source { place, digest })?;
+                asked.push(Asked::of(alloc, place, &op)?)?;
             }
-            place += 1;
         }
-        Ok(Loading { table, vertices })
+        Ok(Loading {
+            entries,
+            table,
+            sources,
+            asked,
+        })
     }
 
     /// The graph of the vertices, whose result the first of these inputs of the last entry names.
     fn graph(self, alloc: Global, place: usize, last: &[Input]) -> Result<Graph, LoadRefusal>
-        requires { (digests : List Digest) × Numbers digests self.vertices.items self.table }
-        ensures check { (digests : List Digest) → Numbers digests self.vertices.items self.table
-            → Answers (GraphCheck digests place self.vertices.items last.now) result }
-        ensures vertices { IfOk result (λ g. g.vertices ≡ self.vertices.items) }
+        requires loaded { (entries : List (List ℕ)) × IsLoaded entries self }
+        ensures check { (digests : List Digest) → Numbers digests (vertices_in self) self.table
+            → Answers (GraphCheck digests place (vertices_in self) last.now) result }
+        ensures vertices { IfOk result (λ g. g.vertices ≡ vertices_in self) }
         ensures graph { IfOk result IsGraph }
-        ensures result { IfOk result (λ g. IfSome (slice_get last.now 0) (λ input. IsEdge self.vertices.items input g.result)) }
+        ensures result { IfOk result (λ g. IfSome (slice_get last.now 0) (λ input. IsEdge (vertices_in self) input g.result)) }
     {
         let Some(input) = last.first() else {
             return Err(LoadRefusal::NoResult);
         };
-        let result = edge_of(&self.table, place, input)?;
-        let edges = all_edges(alloc, &self.table, self.vertices.as_slice())?;
+        let result = edge_of(&self.table, place, &Named::of(input))?;
+        let edges = all_edges(alloc, &self.table, self.asked.as_slice())?;
         let Some(order) = edge_order(alloc, edges.as_slice())? else {
             return Err(LoadRefusal::Cycle);
         };
-        let vertices = self.vertices;
+        let entries = self.entries;
+        let sources = self.sources;
         Ok(Graph {
-            vertices,
+            entries,
+            sources,
             edges,
             order,
             result,
@@ -81,12 +93,10 @@ pub fn load(alloc: Global, definition: Definition) -> Result<Graph, LoadRefusal>
     ensures check { Answers (DefinitionCheck definition.def) result }
     ensures graph { IfOk result (IsGraphOf definition.def) }
 {
-    let mut entries = definition.def.into_vec();
-    let Some(last) = entries.pop() else {
+    let Some(place) = definition.def.len().checked_sub(1) else {
         return Err(LoadRefusal::EmptyDefinition);
     };
-    let place = entries.len();
-    let loading = Loading::of(alloc, entries)?;
-    let op = read_entry(alloc, place, last.as_slice())?;
-    loading.graph(alloc, place, op.inputs())
+    let loading = Loading::of(alloc, definition.def, place)?;
+    let last = read_entry(alloc, place, loading.entries.body(place))?;
+    loading.graph(alloc, place, last.inputs())
 }

@@ -1,12 +1,19 @@
 use farm_base::Digest;
-use opsproto::Op;
+use opsproto::WireOp;
 
 /// A vertex of a graph.
 #[derive(Debug, Drop)]
-pub struct Vertex {
+pub struct Vertex<'a> {
     /// The place of its entry in the definition.
     pub place: usize,
     /// The SHA-256 of its entry's bytes.
     pub digest: Digest,
-    pub op: Op,
+    pub op: WireOp<'a>,
+}
+
+/// Where a vertex comes from: the place and the digest of its entry.
+#[derive(Clone, Copy)]
+pub(crate) struct Source {
+    pub place: usize,
+    pub digest: Digest,
 }

@@ -166,16 +166,15 @@ fn an_exec_op_is_written(rt: HostRuntime) -> Result<(), Fail> {
 fn definitions(rt: HostRuntime) -> Result<(), Fail> {
     let alloc = rt.alloc();
     // No entry; metadata and source, which are skipped; one entry; one that is cut.
-    assert_eq!(rt; read_definition(alloc, b"")?.def.as_slice().len(), 0);
+    assert_eq!(rt; read_definition(alloc, b"")?.def.len(), 0);
     assert_eq!(rt;
         read_definition(alloc, b"\x12\x00\x1a\x01\xff")?
             .def
-            .as_slice()
             .len(),
         0
     );
     let definition = read_definition(alloc, b"\x0a\x00\x0a\x01\x0a")?;
-    assert_eq!(rt; definition.def.as_slice().len(), 2);
+    assert_eq!(rt; definition.def.len(), 2);
     let bytes = write_definition(alloc, &definition)?;
     assert_eq!(rt; bytes.as_slice(), b"\x0a\x00\x0a\x01\x0a".as_slice());
     assert!(rt; matches!(&read_definition(alloc, b"\x0a"), Err(OpRefusal::Wire(_))));

@@ -8,5 +8,5 @@ pub returns-clause-read : goal.returns-clause-read
 returns-clause-read c = λ fits few.
     let text = c.put_entries.new.out.items in
     let spelled : text ≡ definition_text c.args.definition.now = grind (arith, common_steps) in
-    let valid = rw c.as_slice.ensures at c.in_ok-put_entries.ensures.valid in
+    let valid = c.in_ok-put_entries.ensures.valid in
     definition_again c.args.definition.now text spelled valid fits few

@@ -12,12 +12,12 @@ use Rattle.protowire.proofs.whole.copy_bodies.Goals as goal
 pub loop-rest-init : goal.loop-rest-init
 loop-rest-init c = record {
   within = omega arith;
-  so_far = ([], refl, c.new-copies.ensures.items ∙ sym (take_all c.args.most [] (omega arith)), nothing_taken c.args.number c.args.message.now);
+  so_far = ([], refl, c.in_ok-copies.ensures ∙ sym (take_all c.args.most [] (omega arith)), nothing_taken c.args.number c.args.message.now);
 }
 
 pub returns-in_err-found : goal.returns-in_err-found
 returns-in_err-found c =
-    let p = err_from_is_err_and c.from_residual.result c.from_residual.ensures.1 in
+    let p = err_from_is_err_and c.from_residual-in_err-found.result c.from_residual-in_err-found.ensures.1 in
     let f = c.loop-rest.invariant.so_far in
     let e = ends c.args.number c.in_err-found.field-0.0 f.0 c.loop-rest.rest.now (bodies_of c.args.number c.args.message.now) (grind arith) (sym c.in_err-found.ensures) f.3 in
     rw (p.1, p.2, e) (inr refl)
@@ -78,5 +78,5 @@ pub returns-else-count-most : goal.returns-else-count-most
 returns-else-count-most c =
     let f = c.loop-rest.invariant.so_far in
     let few : ltb c.args.most (length f.0) ≡ false = le-ltb _ _ (omega (arith, f.1)) in
-    let whole = c.shrink_to_fit.ensures.items ∙ f.2 ∙ all_taken c.args.most f.0 few in
+    let whole = c.shrink_to_fit.ensures ∙ f.2 ∙ all_taken c.args.most f.0 few in
     rw (is_done c.args.number f.0 c.loop-rest.rest.now (bodies_of c.args.number c.args.message.now) (grind arith) f.3, few, whole) refl

@@ -6,7 +6,7 @@ use Rattle.protowire.proofs.whole.copy_bodies.Given as goal
 abbrev pub invariant-loop-rest : goal.invariant-loop-rest
 invariant-loop-rest l = record {
   within : l.count + length l.rest ≤ length l.message;
-  so_far : (front : List (List ℕ)) × (length front ≡ l.count) × (l.copies.items ≡ take l.most front) × (with_bodies l.number front l.rest ≡ bodies_of l.number l.message);
+  so_far : (front : List (List ℕ)) × (length front ≡ l.count) × (l.copies ≡ take l.most front) × (with_bodies l.number front l.rest ≡ bodies_of l.number l.message);
 }
 
 abbrev pub decreases-loop-rest : goal.decreases-loop-rest

@@ -13,11 +13,12 @@ inputs_of-requires-2 c =
 
 pub returns : goal.returns
 returns c = record {
-  own = c.vertex.result.now;
+  own = c.vertex.result;
   inputs = c.in_ok-inputs.inputs.items;
   there = c.vertex.ensures;
   taken = subst (λ (es : List (ℕ × ℕ)). TakesKeys c.args.keys.now es c.in_ok-inputs.inputs.items)
       (sym (list_at-get c.args.graph.now.edges c.args.number c.inputs_of.result.now c.inputs_of.ensures)) c.in_ok-inputs.ensures;
-  key_is = c.key_of.ensures ∙ ap (λ (bytes : List ℕ). solver_key bytes c.as_slice.result.now) c.stripped.ensures.value
-      ∙ ap (solver_key c.vertex.result.now.op.stripped) c.as_slice.ensures.value;
+  key_is = c.key_of.ensures
+      ∙ ap (λ (bytes : List ℕ). solver_key bytes c.as_slice-2.result.now) (c.as_slice.ensures.value ∙ c.in_ok-stripped.ensures)
+      ∙ ap (solver_key c.vertex.result.op.stripped) c.as_slice-2.ensures.value;
 }

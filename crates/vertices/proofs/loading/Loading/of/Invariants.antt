@@ -1,19 +1,20 @@
-use Rattle.std.proofs.Common.{◌≡◌, drop, map, take, None}
-use Rattle.std.specs.List.{Contains}
+use Rattle.std.proofs.Common.{◌≡◌, map, take, None}
+use Rattle.std.specs.List.{AllByRecursion, AllZip, Contains}
 use Rattle.farm_base.specs.declared.digest.Digest.{Digest}
 use Rattle.farm_base.specs.Digests.{IsDigest}
+use Rattle.vertices.specs.Asked.{Asks}
 use Rattle.vertices.specs.Firsts.{IsTable}
 use Rattle.vertices.specs.Loading.{ReadChecks, digests_in, vertex_at}
+use Rattle.vertices.specs.Sources.{IsSource, vertex_of}
 use Rattle.vertices.proofs.loading.Loading.of.Given as goal
 
 -- the entries so far are read, and have their table and their vertices
-abbrev pub invariant-loop-entry : goal.invariant-loop-entry
-invariant-loop-entry l = record {
-  can_next : (goal.iterator-loop-entry).can_next l.entry-iterator;
-  is_finite : (goal.iterator-loop-entry).is_finite l.entry-iterator;
-  left : l.entry-iterator.rest.items ≡ drop l.place l.fn.entries.items;
-  reads : ReadChecks 0 (take l.place l.fn.entries.items) None;
-  table : IsTable (digests_in (take l.place l.fn.entries.items)) l.table;
-  vertices : l.vertices.items ≡ map (vertex_at l.fn.entries.items) l.table.places.items;
-  digests : (digest : Digest) → Contains (digests_in (take l.place l.fn.entries.items)) digest → IsDigest digest;
+abbrev pub invariant-loop-place : goal.invariant-loop-place
+invariant-loop-place l = record {
+  reads : ReadChecks 0 (take l.place l.fn.entries) None;
+  table : IsTable (digests_in (take l.place l.fn.entries)) l.table;
+  vertices : map (vertex_of l.fn.entries) l.sources.items ≡ map (vertex_at l.fn.entries) l.table.places.items;
+  digests : (digest : Digest) → Contains (digests_in (take l.place l.fn.entries)) digest → IsDigest digest;
+  sources : AllByRecursion (IsSource l.fn.entries) l.sources.items;
+  asked : AllZip Asks (map (vertex_of l.fn.entries) l.sources.items) l.asked.items;
 }

@@ -1,0 +1,59 @@
+ghost use Rattle.std.specs.Prelude.{◌≡◌, IfOk, IsOk, Ok};
+ghost use Rattle.opsproto.specs.Ops.{op_at};
+
+use super::op::Op;
+use super::raw::stripped_of;
+use super::read::read_op;
+use std::alloc::{AllocError, Global};
+use std::marker::Model;
+
+/// An op as the bytes that spell it. A contract sees the op.
+#[derive(Debug, Drop)]
+pub struct WireOp<'a> {
+    bytes: &'a [u8],
+}
+
+impl<'a> Model for WireOp<'a> {
+    ghost use Rattle.std.specs.Prelude.{IsOk};
+    ghost use Rattle.opsproto.specs.Ops.{OpParts, op_at, op_in};
+
+    ghost Value = { OpParts };
+
+    ghost view = { λ o. op_in o.bytes.now };
+
+    ghost invariant = { λ o. IsOk (op_at o.bytes.now) };
+}
+
+impl<'a> WireOp<'a> {
+    /// The op of these bytes, which the caller has found to be one.
+    pub fn new(bytes: &'a [u8]) -> Self
+        requires { IsOk (op_at bytes.now) }
+        ensures { op_at bytes.now ≡ Ok result }
+    {
+        WireOp { bytes }
+    }
+
+    pub fn bytes(&self) -> &'a [u8]
+        ensures { op_at result.now ≡ Ok self.now }
+    {
+        self.bytes
+    }
+
+    /// Its parts.
+    pub fn read(&self, alloc: Global) -> Result<Op, AllocError>
+        ensures { IfOk result (λ op. op ≡ self.now) }
+    {
+        // These bytes have no fault, so nothing but memory can lack.
+        read_op(alloc, self.bytes).map_err(|_| AllocError)
+    }
+
+    /// Its bytes without every field of its inputs' number.
+    pub fn stripped(&self, alloc: Global) -> Result<Vec<u8>, AllocError>
+        ensures { IfOk result (λ bytes. bytes.items ≡ self.now.stripped) }
+    {
+        match stripped_of(alloc, self.bytes) {
+            Ok(bytes) => Ok(bytes.into_vec()),
+            Err(_) => Err(AllocError),
+        }
+    }
+}
