@@ -4,7 +4,7 @@ use std::rt::Clock;
 use std::time::Instant;
 
 /// How often each piece of work is done. The least time counts.
-pub const ROUNDS: u32 = 5;
+pub const ROUNDS: u32 = 9;
 
 /// Seconds since an instant.
 pub fn seconds_since<R: Clock>(rt: &R, start: Instant) -> f64 {

@@ -5,7 +5,7 @@ use super::graphs::{chain, diamonds, large, wide};
 use opsproto::read_definition;
 use protowire::BodyList;
 use sha2::Sha256;
-use std::alloc::{AllocError, Global};
+use std::alloc::Global;
 use std::rt::Clock;
 use std::time::Instant;
 use vertices::{Graph, load};
@@ -14,54 +14,65 @@ fn graph_of(alloc: Global, bytes: &[u8]) -> anyhow::Result<Graph> {
     Ok(load(alloc, read_definition(alloc, bytes)?)?)
 }
 
-/// The least time from the bytes to the keys.
+/// The time from the bytes to the keys.
 fn solving<R: Clock + AllocGlobal>(rt: &R, bytes: &[u8]) -> anyhow::Result<f64> {
-    let mut least = f64::INFINITY;
-    for _ in 0..ROUNDS {
-        let start = Instant::now(rt)?;
-        let graph = graph_of(rt.alloc(), bytes)?;
-        let _keys = solverkeys::keys(rt.alloc(), &graph)?;
-        least = least.min(seconds_since(rt, start));
-    }
-    Ok(least)
-}
-
-/// The stripped bytes of each vertex.
-fn all_stripped(alloc: Global, graph: &Graph) -> Result<BodyList, AllocError> {
-    let mut all = BodyList::new(alloc);
-    for number in 0..graph.len() {
-        let stripped = graph.vertex(number).op.stripped(alloc)?;
-        all.push(&stripped)?;
-    }
-    Ok(all)
-}
-
-/// The least time of hashing what the keys need: each op's bytes, its stripped bytes, and its key's message.
-fn hashing<R: Clock + AllocGlobal>(rt: &R, bytes: &[u8]) -> anyhow::Result<f64> {
-    let definition = read_definition(rt.alloc(), bytes)?;
+    let start = Instant::now(rt)?;
     let graph = graph_of(rt.alloc(), bytes)?;
-    let stripped = all_stripped(rt.alloc(), &graph)?;
-    let message = vec![in rt.alloc(); 1u8; 33 + 40 * 16_000]?;
-    let mut least = f64::INFINITY;
-    for _ in 0..ROUNDS {
-        let start = Instant::now(rt)?;
-        for place in 0..definition.def.len() {
-            let _digest = <Sha256 as sha2::Digest>::digest(definition.def.body(place));
-        }
-        for number in 0..graph.len().min(stripped.len()) {
-            let inputs = graph.inputs_of(number).len().min(16_000);
-            let _stripped = <Sha256 as sha2::Digest>::digest(stripped.body(number));
-            let _key = <Sha256 as sha2::Digest>::digest(&message[..33 + 40 * inputs]);
-        }
-        least = least.min(seconds_since(rt, start));
-    }
-    Ok(least)
+    let _keys = solverkeys::keys(rt.alloc(), &graph)?;
+    Ok(seconds_since(rt, start))
 }
 
+/// The messages that the keys need hashed: each op's bytes, its stripped bytes, and its key's message.
+#[derive(Drop)]
+struct Messages {
+    ops: BodyList,
+    stripped: BodyList,
+    keys: BodyList,
+}
+
+fn needed_messages(alloc: Global, bytes: &[u8]) -> anyhow::Result<Messages> {
+    let graph = graph_of(alloc, bytes)?;
+    let key = vec![in alloc; 1u8; 33 + 40 * 16_000]?;
+    let mut stripped = BodyList::new(alloc);
+    let mut keys = BodyList::new(alloc);
+    for number in 0..graph.len() {
+        let inputs = graph.inputs_of(number).len().min(16_000);
+        stripped.push(&graph.vertex(number).op.stripped(alloc)?)?;
+        keys.push(&key[..33 + 40 * inputs])?;
+    }
+    let ops = read_definition(alloc, bytes)?.def;
+    Ok(Messages {
+        ops,
+        stripped,
+        keys,
+    })
+}
+
+fn hash_each(list: &BodyList) {
+    for place in 0..list.len() {
+        let _digest = <Sha256 as sha2::Digest>::digest(list.body(place));
+    }
+}
+
+/// The time of hashing them.
+fn hashing<R: Clock>(rt: &R, messages: &Messages) -> anyhow::Result<f64> {
+    let start = Instant::now(rt)?;
+    hash_each(&messages.ops);
+    hash_each(&messages.stripped);
+    hash_each(&messages.keys);
+    Ok(seconds_since(rt, start))
+}
+
+/// Measures both in turn, and answers the least time of the first.
 fn print<R: Print + Clock + AllocGlobal>(rt: &R, name: &str, bytes: &[u8]) -> anyhow::Result<f64> {
+    let messages = needed_messages(rt.alloc(), bytes)?;
+    let mut solve = f64::INFINITY;
+    let mut hash = f64::INFINITY;
+    for _ in 0..ROUNDS {
+        solve = solve.min(solving(rt, bytes)?);
+        hash = hash.min(hashing(rt, &messages)?);
+    }
     let size = f64::from(u32::try_from(bytes.len()).unwrap_or(u32::MAX));
-    let solve = solving(rt, bytes)?;
-    let hash = hashing(rt, bytes)?;
     let millis = solve * 1e3;
     let speed = size / solve / 1e6;
     let ratio = solve / hash;

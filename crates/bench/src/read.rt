@@ -2,78 +2,99 @@
 
 use super::clock::{ROUNDS, seconds_since};
 use super::graphs::chain;
-use opsproto::{read_definition, read_op};
+use opsproto::{Definition, read_definition, read_op};
 use sha2::Sha256;
 use std::rt::Clock;
 use std::time::Instant;
 
-/// The least time of reading a definition.
-fn reading<R: Clock + AllocGlobal>(rt: &R, bytes: &[u8]) -> anyhow::Result<f64> {
-    let mut least = f64::INFINITY;
-    for _ in 0..ROUNDS {
-        let start = Instant::now(rt)?;
-        let _definition = read_definition(rt.alloc(), bytes)?;
-        least = least.min(seconds_since(rt, start));
-    }
-    Ok(least)
+/// The least times of a round for a byte.
+#[derive(Clone, Copy)]
+struct Times {
+    read: f64,
+    ops: f64,
+    hash: f64,
 }
 
-/// The least time of reading the ops of a definition.
-fn reading_ops<R: Clock + AllocGlobal>(rt: &R, bytes: &[u8]) -> anyhow::Result<f64> {
+/// The time of reading the copies of a definition in turn, all of which are kept to the end.
+fn reading<R: Clock + AllocGlobal>(rt: &R, copies: &[Vec<u8>]) -> anyhow::Result<f64> {
+    let mut kept: Vec<Definition> = Vec::new(rt.alloc());
+    let start = Instant::now(rt)?;
+    for bytes in copies {
+        kept.push(read_definition(rt.alloc(), bytes)?)?;
+    }
+    Ok(seconds_since(rt, start))
+}
+
+/// The time of reading each op.
+fn reading_ops<R: Clock + AllocGlobal>(rt: &R, definition: &Definition) -> anyhow::Result<f64> {
+    let start = Instant::now(rt)?;
+    for place in 0..definition.def.len() {
+        let _op = read_op(rt.alloc(), definition.def.body(place))?;
+    }
+    Ok(seconds_since(rt, start))
+}
+
+/// The time of hashing the bytes once.
+fn hashing<R: Clock>(rt: &R, bytes: &[u8]) -> anyhow::Result<f64> {
+    let start = Instant::now(rt)?;
+    let _digest = <Sha256 as sha2::Digest>::digest(bytes);
+    Ok(seconds_since(rt, start))
+}
+
+/// Measures in turn, over so many copies of a definition of so many vertices.
+fn measured<R: Clock + AllocGlobal>(rt: &R, bytes: &Vec<u8>, copies: u32) -> anyhow::Result<Times> {
+    let mut all = Vec::new(rt.alloc());
+    for _ in 0..copies {
+        all.push(Vec::from_slice(rt.alloc(), bytes)?)?;
+    }
     let definition = read_definition(rt.alloc(), bytes)?;
-    let mut least = f64::INFINITY;
+    let size = f64::from(u32::try_from(bytes.len()).unwrap_or(u32::MAX));
+    let mut read = f64::INFINITY;
+    let mut ops = f64::INFINITY;
+    let mut hash = f64::INFINITY;
     for _ in 0..ROUNDS {
-        let start = Instant::now(rt)?;
-        for place in 0..definition.def.len() {
-            let _op = read_op(rt.alloc(), definition.def.body(place))?;
-        }
-        least = least.min(seconds_since(rt, start));
+        read = read.min(reading(rt, all.as_slice())? / f64::from(copies));
+        ops = ops.min(reading_ops(rt, &definition)?);
+        hash = hash.min(hashing(rt, bytes)?);
     }
-    Ok(least)
+    Ok(Times {
+        read: read / size,
+        ops: ops / size,
+        hash: hash / size,
+    })
 }
 
-/// The least time of hashing the bytes once.
-pub fn hashing<R: Clock>(rt: &R, bytes: &[u8]) -> anyhow::Result<f64> {
-    let mut least = f64::INFINITY;
-    for _ in 0..ROUNDS {
-        let start = Instant::now(rt)?;
-        let _digest = <Sha256 as sha2::Digest>::digest(bytes);
-        least = least.min(seconds_since(rt, start));
-    }
-    Ok(least)
-}
-
-/// Measures a definition of so many vertices, and answers the time for a byte.
+/// Prints what was measured, with the growth over the time for a byte of another size.
 fn print<R: Print + Clock + AllocGlobal>(
     rt: &R,
     count: usize,
     metadata: bool,
+    copies: u32,
     first: Option<f64>,
 ) -> anyhow::Result<f64> {
     let bytes = chain(rt.alloc(), count, metadata)?;
-    let size = f64::from(u32::try_from(bytes.len()).unwrap_or(u32::MAX));
-    let read = reading(rt, &bytes)?;
-    let hash = hashing(rt, &bytes)?;
-    let mebibytes = size / 1_048_576.0;
-    let a_byte = read / size;
-    let speed = size / read / 1e6;
-    let ratio = read / hash;
-    let ops = reading_ops(rt, &bytes)? / hash;
-    let growth = a_byte / first.unwrap_or(a_byte);
+    let times = measured(rt, &bytes, copies)?;
+    let mebibytes = f64::from(u32::try_from(bytes.len()).unwrap_or(u32::MAX)) / 1_048_576.0;
+    let speed = 1e-6 / times.read;
+    let ratio = times.read / times.hash;
+    let ops = times.ops / times.hash;
+    let growth = times.read / first.unwrap_or(times.read);
     println!(rt;
-        "read {mebibytes:.1} MiB, {count} vertices, metadata {metadata}: {speed:.0} MB/s, {ratio:.2} of hashing, growth {growth:.2}"
+        "read {copies} of {mebibytes:.1} MiB, metadata {metadata}: {speed:.0} MB/s, {ratio:.2} of hashing, its ops {ops:.2}, growth {growth:.2}"
     )?;
-    Ok(a_byte)
+    Ok(times.read)
 }
 
-/// Prints for definitions of about 1, 4 and 16 MiB, without metadata and with, how fast they are read, the
-/// ratio to hashing the same bytes, and the time for a byte against that at 1 MiB.
+/// Prints how fast definitions of about 1, 4 and 16 MiB are read, without metadata and with: the ratio to hashing the
+/// same bytes, and the growth of the time for a byte. So that the growth is that of the work and not of the memory
+/// which a processor keeps near, 16, 4 or 1 of them are read in turn. The last line of each is one small definition
+/// read again and again, near at hand.
 pub fn measure<R: Print + Clock + AllocGlobal>(rt: &R) -> anyhow::Result<()> {
-    let first = print(rt, 4_000, false, None)?;
-    print(rt, 16_000, false, Some(first))?;
-    print(rt, 64_000, false, Some(first))?;
-    let first = print(rt, 1_500, true, None)?;
-    print(rt, 6_000, true, Some(first))?;
-    print(rt, 24_000, true, Some(first))?;
+    for (count, metadata) in [(4_000, false), (1_500, true)] {
+        let first = print(rt, count, metadata, 16, None)?;
+        print(rt, 4 * count, metadata, 4, Some(first))?;
+        print(rt, 16 * count, metadata, 1, Some(first))?;
+        print(rt, count, metadata, 1, Some(first))?;
+    }
     Ok(())
 }

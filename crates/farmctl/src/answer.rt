@@ -49,12 +49,15 @@ fn push_key(alloc: Global, text: &mut String, digest: &Digest, key: &Key) -> Res
     text.push('\n')
 }
 
+/// The bytes of a vertex's line: `sha256:` and two times 64 digits, a space and the end of the line.
+const LINE: usize = 137;
+
 /// The lines of a graph's vertices, given their keys.
 fn lines(alloc: Global, graph: &Graph, keys: &[Key]) -> Result<String, AllocError>
     requires { length keys.now ≡ length graph.now.vertices }
     ensures { IfOk result (λ text. string_bytes text ≡ keys_text graph.now.vertices keys.now) }
 {
-    let mut text = String::new(alloc);
+    let mut text = String::with_capacity(alloc, graph.len().saturating_mul(LINE))?;
     for number in 0..graph.len() {
         let vertex = graph.vertex(number);
         push_key(alloc, &mut text, &vertex.digest, &keys[number])?;

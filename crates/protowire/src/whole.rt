@@ -23,11 +23,7 @@ fn body_held<'a>(number: u32, found: u32, value: Value<'a>) -> Option<&'a [u8]>
 }
 
 /// Adds a copy of a body, unless there are already so many.
-fn push_copy(
-    copies: &mut BodyList,
-    body: &[u8],
-    most: usize,
-) -> Result<(), AllocError>
+fn push_copy(copies: &mut BodyList, body: &[u8], most: usize) -> Result<(), AllocError>
     requires { length copies.old ≤ most }
     ensures { OnOk result (copies.new ≡ take most (copies.old ++ body.now ∷ [])) }
 {

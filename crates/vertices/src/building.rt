@@ -36,7 +36,7 @@ fn vertex_edges(
 }
 
 /// Checks each vertex, and gives their edges.
-pub(crate) fn all_edges(
+fn edges_of_each(
     alloc: Global,
     table: &Table,
     all: &[Asked],
@@ -51,6 +51,20 @@ pub(crate) fn all_edges(
         edges.push(Items::new(vertex_edges(alloc, table, asked)?))?;
     }
     Ok(edges)
+}
+
+/// The same, after which nothing needs the table and what is asked: their memory is given back.
+pub(crate) fn all_edges(
+    alloc: Global,
+    table: Table,
+    all: Vec<Asked>,
+) -> Result<Vec<Items<(usize, u64)>>, LoadRefusal>
+    ensures check { (vertices : List SpecVertex) (digests : List SpecDigest) → AllZip Asks vertices all.items
+        → Numbers digests vertices table → Answers (Each (VertexCheck digests) vertices) result }
+    ensures edges { (vertices : List SpecVertex) (digests : List SpecDigest) → AllZip Asks vertices all.items
+        → Numbers digests vertices table → IfOk result (λ edges. AllZip (λ v es. AreEdges vertices v.op.inputs es) vertices edges.items) }
+{
+    edges_of_each(alloc, &table, all.as_slice())
 }
 
 /// The numbers that edges go to.

@@ -68,7 +68,7 @@ impl Loading {
             return Err(LoadRefusal::NoResult);
         };
         let result = edge_of(&self.table, place, &Named::of(input))?;
-        let edges = all_edges(alloc, &self.table, self.asked.as_slice())?;
+        let edges = all_edges(alloc, self.table, self.asked)?;
         let Some(order) = edge_order(alloc, edges.as_slice())? else {
             return Err(LoadRefusal::Cycle);
         };

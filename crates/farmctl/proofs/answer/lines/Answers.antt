@@ -12,9 +12,9 @@ loop-number-preserved c =
     let keys = c.args.keys.now in
     let number = c.loop-number.number in
     let none : Key = record { 0 = record { 0 = [] } } in
-    let vertex : slice_get vertices number ≡ Some c.vertex.result.now = search rules in
+    let vertex : slice_get vertices number ≡ Some c.vertex-vertex.result = search rules in
     let inside : number < length keys = search rules in
-    let line = key_line c.vertex.result.now.digest (get_or keys number none) in
+    let line = key_line c.vertex-vertex.result.digest (get_or keys number none) in
     let pushed : string_bytes c.push_key.new.text ≡ string_bytes c.loop-number.text ++ line = c.in_ok-push_key.ensures in
     pushed ∙ ap (λ text. text ++ line) c.loop-number.invariant
-    ∙ sym (keys_text-next vertices keys number c.vertex.result.now (get_or keys number none) vertex (slice_get-get_or keys number none inside))
+    ∙ sym (keys_text-next vertices keys number c.vertex-vertex.result (get_or keys number none) vertex (slice_get-get_or keys number none inside))

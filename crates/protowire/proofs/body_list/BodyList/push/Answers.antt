@@ -9,9 +9,10 @@ pushed : (bytes body now ends ends_now : List ℕ) (end : ℕ) → AreEnds 0 end
     → AreEnds 0 ends_now (length now) × (pieces 0 ends_now now ≡ pieces 0 ends bytes ++ body ∷ [])
 pushed bytes body now ends ends_now end h is at more =
     let size : length now ≡ length bytes + length body = ap length is ∙ length-append bytes body in
-    let here : ends_now ≡ ends ++ (length bytes + length body) ∷ [] = more ∙ ap (λ (n : ℕ). ends ++ n ∷ []) (at ∙ size) in
-    (subst (λ (es : List ℕ). AreEnds 0 es (length now)) (sym here) (subst (λ (n : ℕ). AreEnds 0 (ends ++ (length bytes + length body) ∷ []) n) (sym size) (ends_push 0 ends (length bytes) (length body) h)),
-    ap (λ (es : List ℕ). pieces 0 es now) here ∙ ap (pieces 0 (ends ++ (length bytes + length body) ∷ [])) is ∙ pieces_push 0 ends bytes body h)
+    let here : ends_now ≡ ends ++ (length bytes + length body) ∷ [] = more ∙ ap (λ (n : ℕ). ends ++ n ∷ []) (at ∙ size) in (
+      subst (λ (es : List ℕ). AreEnds 0 es (length now)) (sym here) (subst (λ (n : ℕ). AreEnds 0 (ends ++ (length bytes + length body) ∷ []) n) (sym size) (ends_push 0 ends (length bytes) (length body) h)),
+      ap (λ (es : List ℕ). pieces 0 es now) here ∙ ap (pieces 0 (ends ++ (length bytes + length body) ∷ [])) is ∙ pieces_push 0 ends bytes body h,
+    )
 
 pub invariant_of-self-in_default : goal.invariant_of-self-in_default
 invariant_of-self-in_default c =

@@ -32,30 +32,30 @@ returns-in_err-edges-clause-check c = λ digests n.
     let first : ResultCheck digests c.args.place c.args.last.now None
     = result_check digests c.args.place c.args.last.now c.in-Some.input.now None (sym c.in-Some.ensures.value) (c.in_ok-result.ensures.check c.in-Some.input.now digests (vertices_in c.args.self) c.of.ensures n) in
     rw (p.1, p.2) (edges_answer digests c.args.place (vertices_in c.args.self) c.args.last.now e first
-    (c.in_err-edges.ensures.check (vertices_in c.args.self) digests (subst (λ (all : List Asked). AllZip Asks (vertices_in c.args.self) all) (sym c.as_slice.ensures.value) c.requires.loaded.1.asked) n))
+    (c.in_err-edges.ensures.check (vertices_in c.args.self) digests c.requires.loaded.1.asked n))
 
 pub edge_order-requires : goal.edge_order-requires
 edge_order-requires c =
     let digests = digests_in c.requires.loaded.0 in
     let n = loaded_numbers c.requires.loaded.0 c.args.self c.requires.loaded.1 in
     let vertices = vertices_in c.args.self in
-    let are : AllZip (λ v es. AreEdges vertices v.op.inputs es) vertices c.as_slice-2.result.now
-    = subst (λ (es : List (List (ℕ × ℕ))). AllZip (λ v es. AreEdges vertices v.op.inputs es) vertices es) (sym c.as_slice-2.ensures.value)
-    (c.in_ok-edges.ensures.edges vertices digests (subst (λ (all : List Asked). AllZip Asks vertices all) (sym c.as_slice.ensures.value) c.requires.loaded.1.asked) n) in
-    edge_within digests vertices c.args.self.table n c.as_slice-2.result.now are
+    let are : AllZip (λ v es. AreEdges vertices v.op.inputs es) vertices c.as_slice.result.now
+    = subst (λ (es : List (List (ℕ × ℕ))). AllZip (λ v es. AreEdges vertices v.op.inputs es) vertices es) (sym c.as_slice.ensures.value)
+    (c.in_ok-edges.ensures.edges vertices digests c.requires.loaded.1.asked n) in
+    edge_within digests vertices c.args.self.table n c.as_slice.result.now are
 
 pub returns-in_default-2-clause-check : goal.returns-in_default-2-clause-check
 returns-in_default-2-clause-check c = λ digests n.
     let vertices = vertices_in c.args.self in
-    let are : AllZip (λ v es. AreEdges vertices v.op.inputs es) vertices c.as_slice-2.result.now
-    = subst (λ (es : List (List (ℕ × ℕ))). AllZip (λ v es. AreEdges vertices v.op.inputs es) vertices es) (sym c.as_slice-2.ensures.value)
-    (c.in_ok-edges.ensures.edges vertices digests (subst (λ (all : List Asked). AllZip Asks vertices all) (sym c.as_slice.ensures.value) c.requires.loaded.1.asked) n) in
+    let are : AllZip (λ v es. AreEdges vertices v.op.inputs es) vertices c.as_slice.result.now
+    = subst (λ (es : List (List (ℕ × ℕ))). AllZip (λ v es. AreEdges vertices v.op.inputs es) vertices es) (sym c.as_slice.ensures.value)
+    (c.in_ok-edges.ensures.edges vertices digests c.requires.loaded.1.asked n) in
     let first : ResultCheck digests c.args.place c.args.last.now None
     = result_check digests c.args.place c.args.last.now c.in-Some.input.now None (sym c.in-Some.ensures.value) (c.in_ok-result.ensures.check c.in-Some.input.now digests vertices c.of.ensures n) in
     let each : Each (VertexCheck digests) vertices None
-    = c.in_ok-edges.ensures.check vertices digests (subst (λ (all : List Asked). AllZip Asks vertices all) (sym c.as_slice.ensures.value) c.requires.loaded.1.asked) n in
-    let cycle : IsCyclic vertices = cycle_same (GoesTo c.as_slice-2.result.now) (HasEdge vertices)
-    (edge_named digests vertices c.args.self.table n c.as_slice-2.result.now are) (at_none c.in_ok-order.field-0 _ c.in_ok-order.ensures.cyclic c.in_default-2.is) in
+    = c.in_ok-edges.ensures.check vertices digests c.requires.loaded.1.asked n in
+    let cycle : IsCyclic vertices = cycle_same (GoesTo c.as_slice.result.now) (HasEdge vertices)
+    (edge_named digests vertices c.args.self.table n c.as_slice.result.now are) (at_none c.in_ok-order.field-0 _ c.in_ok-order.ensures.cyclic c.in_default-2.is) in
     inr (inr (first, inr (each, (cycle, refl))))
 
 pub invariant_of-result : goal.invariant_of-result
@@ -65,18 +65,18 @@ invariant_of-result c =
     let vertices = vertices_in c.args.self in
     let edges = c.in_ok-edges.edges.items in
     let are : AllZip (λ v es. AreEdges vertices v.op.inputs es) vertices edges
-    = c.in_ok-edges.ensures.edges vertices digests (subst (λ (all : List Asked). AllZip Asks vertices all) (sym c.as_slice.ensures.value) c.requires.loaded.1.asked) n in
+    = c.in_ok-edges.ensures.edges vertices digests c.requires.loaded.1.asked n in
     let order = at_some c.in_ok-order.field-0 _ c.in-Some-2.order c.in_ok-order.ensures.order c.in-Some-2.is in
     let acyclic = at_some c.in_ok-order.field-0 _ c.in-Some-2.order c.in_ok-order.ensures.acyclic c.in-Some-2.is in
     let edge = c.in_ok-result.ensures.edge c.in-Some.input.now digests vertices c.of.ensures n in
     record {
       graph = record {
-      edges = are;
-      order = vertex_order digests vertices c.args.self.table n edges are c.in-Some-2.order.items
-          (subst (λ (es : List (List (ℕ × ℕ))). orders.IsOrder (λ a. a < length es) (GoesTo es) c.in-Some-2.order.items) c.as_slice-2.ensures.value order);
-      acyclic = λ cycle. acyclic (subst (λ (es : List (List (ℕ × ℕ))). orders.IsCyclic (GoesTo es)) (sym c.as_slice-2.ensures.value)
-          (cycle_same (HasEdge vertices) (GoesTo edges) (named_edge digests vertices c.args.self.table n edges are) cycle));
-      result = slice_get_within vertices c.in_ok-result.result.0 edge.vertex edge.there;
+        edges = are;
+        order = vertex_order digests vertices c.args.self.table n edges are c.in-Some-2.order.items
+            (subst (λ (es : List (List (ℕ × ℕ))). orders.IsOrder (λ a. a < length es) (GoesTo es) c.in-Some-2.order.items) c.as_slice.ensures.value order);
+        acyclic = λ cycle. acyclic (subst (λ (es : List (List (ℕ × ℕ))). orders.IsCyclic (GoesTo es)) (sym c.as_slice.ensures.value)
+            (cycle_same (HasEdge vertices) (GoesTo edges) (named_edge digests vertices c.args.self.table n edges are) cycle));
+        result = slice_get_within vertices c.in_ok-result.result.0 edge.vertex edge.there;
       };
       ops = c.requires.loaded.1.sources;
     }
@@ -86,16 +86,16 @@ returns-clause-check c = λ digests n.
     let vertices = vertices_in c.args.self in
     let edges = c.in_ok-edges.edges.items in
     let are : AllZip (λ v es. AreEdges vertices v.op.inputs es) vertices edges
-    = c.in_ok-edges.ensures.edges vertices digests (subst (λ (all : List Asked). AllZip Asks vertices all) (sym c.as_slice.ensures.value) c.requires.loaded.1.asked) n in
+    = c.in_ok-edges.ensures.edges vertices digests c.requires.loaded.1.asked n in
     let first : ResultCheck digests c.args.place c.args.last.now None
     = result_check digests c.args.place c.args.last.now c.in-Some.input.now None (sym c.in-Some.ensures.value) (c.in_ok-result.ensures.check c.in-Some.input.now digests vertices c.of.ensures n) in
     let each : Each (VertexCheck digests) vertices None
-    = c.in_ok-edges.ensures.check vertices digests (subst (λ (all : List Asked). AllZip Asks vertices all) (sym c.as_slice.ensures.value) c.requires.loaded.1.asked) n in
+    = c.in_ok-edges.ensures.check vertices digests c.requires.loaded.1.asked n in
     let acyclic = at_some c.in_ok-order.field-0 _ c.in-Some-2.order c.in_ok-order.ensures.acyclic c.in-Some-2.is in (
       first,
       (
         each,
-        λ cycle. acyclic (subst (λ (es : List (List (ℕ × ℕ))). orders.IsCyclic (GoesTo es)) (sym c.as_slice-2.ensures.value)
+        λ cycle. acyclic (subst (λ (es : List (List (ℕ × ℕ))). orders.IsCyclic (GoesTo es)) (sym c.as_slice.ensures.value)
             (cycle_same (HasEdge vertices) (GoesTo edges) (named_edge digests vertices c.args.self.table n edges are) cycle)),
       ),
     )
@@ -107,15 +107,15 @@ returns-clause-graph c =
     let vertices = vertices_in c.args.self in
     let edges = c.in_ok-edges.edges.items in
     let are : AllZip (λ v es. AreEdges vertices v.op.inputs es) vertices edges
-    = c.in_ok-edges.ensures.edges vertices digests (subst (λ (all : List Asked). AllZip Asks vertices all) (sym c.as_slice.ensures.value) c.requires.loaded.1.asked) n in
+    = c.in_ok-edges.ensures.edges vertices digests c.requires.loaded.1.asked n in
     let order = at_some c.in_ok-order.field-0 _ c.in-Some-2.order c.in_ok-order.ensures.order c.in-Some-2.is in
     let acyclic = at_some c.in_ok-order.field-0 _ c.in-Some-2.order c.in_ok-order.ensures.acyclic c.in-Some-2.is in
     let edge = c.in_ok-result.ensures.edge c.in-Some.input.now digests vertices c.of.ensures n in
     record {
       edges = are;
       order = vertex_order digests vertices c.args.self.table n edges are c.in-Some-2.order.items
-          (subst (λ (es : List (List (ℕ × ℕ))). orders.IsOrder (λ a. a < length es) (GoesTo es) c.in-Some-2.order.items) c.as_slice-2.ensures.value order);
-      acyclic = λ cycle. acyclic (subst (λ (es : List (List (ℕ × ℕ))). orders.IsCyclic (GoesTo es)) (sym c.as_slice-2.ensures.value)
+          (subst (λ (es : List (List (ℕ × ℕ))). orders.IsOrder (λ a. a < length es) (GoesTo es) c.in-Some-2.order.items) c.as_slice.ensures.value order);
+      acyclic = λ cycle. acyclic (subst (λ (es : List (List (ℕ × ℕ))). orders.IsCyclic (GoesTo es)) (sym c.as_slice.ensures.value)
           (cycle_same (HasEdge vertices) (GoesTo edges) (named_edge digests vertices c.args.self.table n edges are) cycle));
       result = slice_get_within vertices c.in_ok-result.result.0 edge.vertex edge.there;
     }

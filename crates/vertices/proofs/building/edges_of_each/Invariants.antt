@@ -6,7 +6,7 @@ use Rattle.vertices.specs.Asked.{Asks}
 use Rattle.vertices.specs.Outcomes.{Each}
 use Rattle.vertices.specs.Edges.{AreEdges, Numbers}
 use Rattle.vertices.specs.Loading.{VertexCheck}
-use Rattle.vertices.proofs.building.all_edges.Given as goal
+use Rattle.vertices.proofs.building.edges_of_each.Given as goal
 
 -- the vertices so far pass, and have their edges
 abbrev pub invariant-loop-asked : goal.invariant-loop-asked

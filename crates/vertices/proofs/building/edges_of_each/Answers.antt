@@ -12,7 +12,7 @@ use Rattle.vertices.specs.Loading.{VertexCheck}
 use Rattle.vertices.proofs.EntryLemmas.{take_push}
 use Rattle.vertices.proofs.CheckLemmas.{each_more, each_answers, all_zip_push}
 use Rattle.vertices.proofs.ZipLemmas.{all_zip_length, all_zip_back}
-use Rattle.vertices.proofs.building.all_edges.Goals as goal
+use Rattle.vertices.proofs.building.edges_of_each.Goals as goal
 
 pub returns-in_err-vertex_edges-clause-check : goal.returns-in_err-vertex_edges-clause-check
 returns-in_err-vertex_edges-clause-check c = λ vertices digests zip n.
