@@ -1,6 +1,6 @@
 //! What the bytes of an op mean, before anything is asked of its texts.
 
-ghost use Rattle.std.specs.Prelude.{◌≡◌, IfOk, length};
+ghost use Rattle.std.specs.Prelude.{◌≡◌, Some, IfOk, length};
 ghost use Rattle.protowire.specs.Fields.{message as joined};
 ghost use Rattle.protowire.specs.Seen.{entries, spelled_all, StandInRow};
 ghost use Rattle.protowire.specs.Reading.{Gives};
@@ -30,12 +30,23 @@ pub(crate) struct RawOp {
     pub stripped: Bytes,
 }
 
+fn member_kind(alloc: Global, number: u32, body: &[u8]) -> Result<Kind<Bytes>, WireRefusal>
+    ensures { Gives (λ v. v) result (kind_of (Some (number, body.now))) }
+{
+    match number {
+        EXEC => Ok(Kind::Exec(exec_of(alloc, body)?)),
+        _ => Ok(Kind::Opaque(number)),
+    }
+}
+
 fn kind_of(alloc: Global, fields: &[Field<'_>]) -> Result<Kind<Bytes>, WireRefusal>
     ensures { Gives (λ v. v) result (kind_of (last_member members (entries fields.now))) }
 {
+    if let Some((number, body)) = protowire::lone_member(fields, &MEMBERS) {
+        return member_kind(alloc, number, body);
+    }
     match protowire::last_member(alloc, fields, &MEMBERS)? {
-        Some((EXEC, body)) => Ok(Kind::Exec(exec_of(alloc, &body)?)),
-        Some((number, _)) => Ok(Kind::Opaque(number)),
+        Some((number, body)) => member_kind(alloc, number, &body),
         None => Ok(Kind::Bare),
     }
 }

@@ -44,6 +44,9 @@ fn cache_of(alloc: Global, message: &[u8]) -> Result<CacheOpt<Bytes>, WireRefusa
 fn cache_in(alloc: Global, fields: &[Field<'_>]) -> Result<Option<CacheOpt<Bytes>>, WireRefusal>
     ensures { Gives (λ v. v) result (optional_of cache_of (joined_body 20 (entries fields.now))) }
 {
+    if let Some(body) = protowire::lone_body(fields, 20) {
+        return Ok(Some(cache_of(alloc, body)?));
+    }
     match protowire::joined_body(alloc, fields, 20)? {
         Some(body) => Ok(Some(cache_of(alloc, &body)?)),
         None => Ok(None),
@@ -112,6 +115,9 @@ fn mounts_of(alloc: Global, fields: &[Field<'_>]) -> Result<Items<Mount<Bytes>>,
 fn meta_in(alloc: Global, fields: &[Field<'_>]) -> Result<Option<Meta<Bytes>>, WireRefusal>
     ensures { Gives (λ v. v) result (optional_of meta_of (joined_body 1 (entries fields.now))) }
 {
+    if let Some(body) = protowire::lone_body(fields, 1) {
+        return Ok(Some(meta_of(alloc, body)?));
+    }
     match protowire::joined_body(alloc, fields, 1)? {
         Some(body) => Ok(Some(meta_of(alloc, &body)?)),
         None => Ok(None),

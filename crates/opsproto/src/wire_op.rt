@@ -33,12 +33,6 @@ impl<'a> WireOp<'a> {
         WireOp { bytes }
     }
 
-    pub fn bytes(&self) -> &'a [u8]
-        ensures { op_at result.now ≡ Ok self.now }
-    {
-        self.bytes
-    }
-
     /// Its parts.
     pub fn read(&self, alloc: Global) -> Result<Op, AllocError>
         ensures { IfOk result (λ op. op ≡ self.now) }

@@ -17,7 +17,7 @@ pub use laws::{
     fields_are_determined, first_fault_decides, written_fields_are_fields,
     written_numbers_are_shortest,
 };
-pub use lookup::{bodies, body_in, joined_body, last_member, last_varint};
+pub use lookup::{bodies, body_in, joined_body, last_member, last_varint, lone_body, lone_member};
 pub use reading::fields;
 pub use refusal::WireRefusal;
 pub use whole::copy_bodies;

@@ -1,4 +1,4 @@
-ghost use Rattle.std.specs.Prelude.{◌≡◌, IfOk, map};
+ghost use Rattle.std.specs.Prelude.{◌≡◌, Some, IfOk, IfSome, map};
 ghost use Rattle.std.specs.Option.{option_map};
 ghost use Rattle.protowire.specs.Seen.{entry, entries};
 ghost use Rattle.protowire.specs.Lookups.{number_in, body_in, member_in, last_varint, bodies, joined_body, last_member};
@@ -79,6 +79,32 @@ pub fn joined_body(
         Some((_, body)) => Ok(Some(body)),
         None => Ok(None),
     }
+}
+
+/// The member that counts and its body, where just one field is a member's. Then nothing has to be joined, and the body
+/// is lent.
+pub fn lone_member<'a>(fields: &[Field<'a>], members: &[u32]) -> Option<(u32, &'a [u8])>
+    ensures { IfSome result (λ m. last_member members.now (entries fields.now) ≡ Some (m.0, m.1.now)) }
+{
+    let mut lone: Option<(u32, &'a [u8])> = None;
+    for field in fields {
+        let Some(body) = member_in(field, members) else {
+            continue;
+        };
+        if lone.is_some() {
+            return None;
+        }
+        lone = Some((field.number, body));
+    }
+    lone
+}
+
+/// The body of this number, where it has just one. It is lent, as nothing has to be joined.
+pub fn lone_body<'a>(fields: &[Field<'a>], number: u32) -> Option<&'a [u8]>
+    ensures { IfSome result (λ body. joined_body number (entries fields.now) ≡ Some body.now) }
+{
+    let (_, body) = lone_member(fields, &[number])?;
+    Some(body)
 }
 
 /// Of the members of a oneof, given by their numbers, the one that counts, and its body: the bodies

@@ -2,7 +2,7 @@ ghost use Rattle.std.specs.Prelude.{◌≡◌, ◌<◌, ℕ, length, All, IfOk};
 ghost use Rattle.vertices.specs.Loading.{IsGraph};
 ghost use Rattle.solverkeys.specs.GraphKeys.{AreKeys, TakesKeys, FollowsKeys};
 
-use super::key::key_of;
+use super::key::key_from;
 use farm_base::{Digest, Key};
 use std::alloc::{AllocError, Global};
 use vertices::Graph;
@@ -26,8 +26,8 @@ fn key_at(alloc: Global, graph: &Graph, keys: &[Key], number: usize) -> Result<K
     ensures { IfOk result (FollowsKeys graph.now keys.now number) }
 {
     let inputs = inputs_of(alloc, keys, graph.inputs_of(number))?;
-    let stripped = graph.vertex(number).op.stripped(alloc)?;
-    Ok(key_of(stripped.as_slice(), inputs.as_slice()))
+    let stripped = graph.stripped_digest(number);
+    Ok(key_from(&stripped, inputs.as_slice()))
 }
 
 /// The key and the index of each edge.

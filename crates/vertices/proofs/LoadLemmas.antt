@@ -75,11 +75,11 @@ op_of_entry entries k x op at is =
     ap op_in (get_or_from_slice_get entries k x [] at) ∙ ap (λ (r : Result OpParts _). result_unwrap_or r (record { inputs = []; kind = Bare; stripped = [] })) is
 
 -- a vertex more, where its digest is new
-pub vertices_more : (entries : List (List ℕ)) (k : ℕ) (x : List ℕ) (digest : Digest) (places : List ℕ) (sources : List Source)
+pub vertices_more : (entries : List (List ℕ)) (k : ℕ) (x : List ℕ) (digest stripped : Digest) (places : List ℕ) (sources : List Source)
     → slice_get entries k ≡ Some x → digest ≡ digest_in x → map (vertex_of entries) sources ≡ map (vertex_at entries) places
-    → map (vertex_of entries) (sources ++ (record { place = k; digest = digest }) ∷ []) ≡ map (vertex_at entries) (places ++ k ∷ [])
-vertices_more entries k x digest places sources at is h =
-    let source : Source = record { place = k; digest = digest } in
+    → map (vertex_of entries) (sources ++ (record { place = k; digest = digest; stripped = stripped }) ∷ []) ≡ map (vertex_at entries) (places ++ k ∷ [])
+vertices_more entries k x digest stripped places sources at is h =
+    let source : Source = record { place = k; digest = digest; stripped = stripped } in
     let own : digest ≡ digest_in (get_or entries k []) = is ∙ ap digest_in (sym (get_or_from_slice_get entries k x [] at)) in
     let same : vertex_of entries source ≡ vertex_at entries k
     = ap (λ (d : Digest). let v : Vertex = record { place = k; digest = d; op = op_in (get_or entries k []) } in v) own in
@@ -92,21 +92,22 @@ all_push : {X : Type 0} (P : X → Type 0) (xs : List X) (x : X) → AllByRecurs
 all_push P [] x h p = (p, tt)
 all_push P (y ∷ xs) x h p = (h.0, all_push P xs x h.1 p)
 
-pub sources_more : (entries : List (List ℕ)) (k : ℕ) (x : List ℕ) (digest : Digest) (op : OpParts) (sources : List Source)
-    → slice_get entries k ≡ Some x → op_at x ≡ Ok op → AllByRecursion (IsSource entries) sources
-    → AllByRecursion (IsSource entries) (sources ++ (record { place = k; digest = digest }) ∷ [])
-sources_more entries k x digest op sources at is h =
-    all_push (IsSource entries) sources (record { place = k; digest = digest }) h (record {
+pub sources_more : (entries : List (List ℕ)) (k : ℕ) (x : List ℕ) (digest stripped : Digest) (op : OpParts) (sources : List Source)
+    → slice_get entries k ≡ Some x → op_at x ≡ Ok op → stripped ≡ digest_in op.stripped → AllByRecursion (IsSource entries) sources
+    → AllByRecursion (IsSource entries) (sources ++ (record { place = k; digest = digest; stripped = stripped }) ∷ [])
+sources_more entries k x digest stripped op sources at is own h =
+    all_push (IsSource entries) sources (record { place = k; digest = digest; stripped = stripped }) h (record {
       within = slice_get_within entries k x at;
       is_op = subst (λ (b : List ℕ). IsOk (op_at b)) (sym (get_or_from_slice_get entries k x [] at)) (subst (λ (r : Result OpParts _). IsOk r) (sym is) refl);
+      stripped = own ∙ ap (λ (o : OpParts). digest_in o.stripped) (sym (op_of_entry entries k x op at is));
     })
 
-pub asked_more : (entries : List (List ℕ)) (k : ℕ) (x : List ℕ) (digest : Digest) (op : OpParts) (sources : List Source) (asked : List Asked) (one : Asked)
+pub asked_more : (entries : List (List ℕ)) (k : ℕ) (x : List ℕ) (digest stripped : Digest) (op : OpParts) (sources : List Source) (asked : List Asked) (one : Asked)
     → slice_get entries k ≡ Some x → op_at x ≡ Ok op → AllZip Asks (map (vertex_of entries) sources) asked
     → ((vertex : Vertex) → vertex.place ≡ k → vertex.op ≡ op → Asks vertex one)
-    → AllZip Asks (map (vertex_of entries) (sources ++ (record { place = k; digest = digest }) ∷ [])) (asked ++ one ∷ [])
-asked_more entries k x digest op sources asked one at is h asks =
-    let source : Source = record { place = k; digest = digest } in
+    → AllZip Asks (map (vertex_of entries) (sources ++ (record { place = k; digest = digest; stripped = stripped }) ∷ [])) (asked ++ one ∷ [])
+asked_more entries k x digest stripped op sources asked one at is h asks =
+    let source : Source = record { place = k; digest = digest; stripped = stripped } in
     subst (λ (vs : List Vertex). AllZip Asks vs (asked ++ one ∷ [])) (sym (map_push (vertex_of entries) sources source))
     (all_zip_push Asks (map (vertex_of entries) sources) asked (vertex_of entries source) one h (asks (vertex_of entries source) refl (op_of_entry entries k x op at is)))
 

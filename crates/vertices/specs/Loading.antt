@@ -1,6 +1,5 @@
 -- What a definition means as a graph (this project's own, over BuildKit's ops.proto).
 use Rattle.std.specs.Prelude.{◌≡◌, ℕ, ◌+◌, ◌-◌, ◌<◌, List, [], ◌∷◌, length, map, take, slice_index_or, slice_get, Option, Some, IsOk, IfSome}
-use Rattle.std.specs.Result.{result_unwrap_or}
 use Rattle.std.specs.List.{Contains, AllZip}
 use Rattle.std.specs.List.Sorted.{IsStrictlyIncreasing}
 use Rattle.sha2.specs.Sha256.{sha256}
@@ -8,7 +7,6 @@ use Rattle.farm_base.specs.declared.digest.Digest.{Digest}
 use Rattle.farm_base.specs.Digests.{digest_text}
 use Rattle.opsproto.specs.Scalars.{Text}
 use Rattle.opsproto.specs.declared.input.Input.{Input}
-use Rattle.opsproto.specs.declared.op.Kind.TheVariants.{Bare}
 use Rattle.opsproto.specs.Ops.{op_at, op_in}
 use Rattle.vertices.specs.declared.vertex.Vertex.{Vertex}
 use Rattle.vertices.specs.declared.refusal.LoadRefusal.{LoadRefusal}

@@ -1,8 +1,9 @@
 ghost use Rattle.std.specs.Prelude.{◌≡◌, ◌<◌, ℕ, List, length, slice_get, Some, IfOk};
-ghost use Rattle.vertices.specs.Loading.{GraphParts, IsGraph};
+ghost use Rattle.vertices.specs.declared.vertex.Vertex.{Vertex as SpecVertex};
+ghost use Rattle.vertices.specs.Loading.{GraphParts, IsGraph, digest_in};
 
 use super::vertex::{Source, Vertex};
-use farm_base::Items;
+use farm_base::{Digest, Items};
 use opsproto::WireOp;
 use protowire::BodyList;
 use std::marker::Model;
@@ -50,6 +51,14 @@ impl Graph {
             digest: source.digest,
             op: WireOp::new(self.entries.body(source.place)),
         }
+    }
+
+    /// The SHA-256 of the stripped bytes of a vertex's op.
+    pub fn stripped_digest(&self, number: usize) -> Digest
+        requires { number < length self.now.vertices }
+        ensures { (vertex : SpecVertex) → slice_get self.now.vertices number ≡ Some vertex → result ≡ digest_in vertex.op.stripped }
+    {
+        self.sources[number].stripped
     }
 
     /// The edges of a vertex: for each of its inputs, in order, the number of the vertex that it

@@ -43,7 +43,12 @@ impl Loading {
             let op = read_entry(alloc, place, entry)?;
             let digest = digest_of(entry);
             if table.add(place, digest)? {
-                sources.push(Source { place, digest })?;
+                let stripped = digest_of(op.stripped());
+                sources.push(Source {
+                    place,
+                    digest,
+                    stripped,
+                })?;
                 asked.push(Asked::of(alloc, place, &op)?)?;
             }
         }

@@ -11,9 +11,10 @@ pub struct Vertex<'a> {
     pub op: WireOp<'a>,
 }
 
-/// Where a vertex comes from: the place and the digest of its entry.
+/// Where a vertex comes from: the place and the digest of its entry, and the digest of its op's stripped bytes.
 #[derive(Clone, Copy)]
 pub(crate) struct Source {
     pub place: usize,
     pub digest: Digest,
+    pub stripped: Digest,
 }

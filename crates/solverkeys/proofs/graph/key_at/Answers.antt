@@ -1,10 +1,17 @@
-use Rattle.std.proofs.Common.{ℕ, ◌<◌, List, subst, sym, ap, ◌∙◌}
-use Rattle.std.specs.List.{All}
+use Rattle.std.proofs.Common.{◌≡◌, ℕ, zero, suc, ◌<◌, List, [], ◌∷◌, length, Some, refl, subst, sym, ap, ◌∙◌, arith}
+use Rattle.std.specs.List.{All, slice_get}
+use Rattle.farm_base.specs.declared.digest.Digest.{Digest}
 use Rattle.vertices.proofs.GraphLemmas.{list_at-get}
 use Rattle.solverkeys.specs.Keys.{solver_key}
 use Rattle.solverkeys.specs.GraphKeys.{TakesKeys}
 use Rattle.solverkeys.proofs.KeyLemmas.{edges_within}
 use Rattle.solverkeys.proofs.graph.key_at.Goals as goal
+
+-- what stands at a place within a list
+at_place : {X : Type 0} (xs : List X) (k : ℕ) → k < length xs → (x : X) × (slice_get xs k ≡ Some x)
+at_place [] k less = absurd (omega arith)
+at_place (x ∷ xs) zero less = (x, refl)
+at_place (x ∷ xs) (suc k) less = at_place xs k (omega arith)
 
 pub inputs_of-requires-2 : goal.inputs_of-requires-2
 inputs_of-requires-2 c =
@@ -12,13 +19,14 @@ inputs_of-requires-2 c =
     (edges_within c.args.graph.now c.args.number c.inputs_of.result.now c.requires.graph c.inputs_of.ensures)
 
 pub returns : goal.returns
-returns c = record {
-  own = c.vertex.result;
-  inputs = c.in_ok-inputs.inputs.items;
-  there = c.vertex.ensures;
-  taken = subst (λ (es : List (ℕ × ℕ)). TakesKeys c.args.keys.now es c.in_ok-inputs.inputs.items)
-      (sym (list_at-get c.args.graph.now.edges c.args.number c.inputs_of.result.now c.inputs_of.ensures)) c.in_ok-inputs.ensures;
-  key_is = c.key_of.ensures
-      ∙ ap (λ (bytes : List ℕ). solver_key bytes c.as_slice-2.result.now) (c.as_slice.ensures.value ∙ c.in_ok-stripped.ensures)
-      ∙ ap (solver_key c.vertex.result.op.stripped) c.as_slice-2.ensures.value;
-}
+returns c =
+    let vertex = at_place c.args.graph.now.vertices c.args.number c.requires.number in
+    record {
+      own = vertex.0;
+      inputs = c.in_ok-inputs.inputs.items;
+      there = vertex.1;
+      taken = subst (λ (es : List (ℕ × ℕ)). TakesKeys c.args.keys.now es c.in_ok-inputs.inputs.items)
+          (sym (list_at-get c.args.graph.now.edges c.args.number c.inputs_of.result.now c.inputs_of.ensures)) c.in_ok-inputs.ensures;
+      key_is = c.key_from.ensures vertex.0.op.stripped (ap (λ (d : Digest). d.0) (c.stripped_digest-stripped.ensures vertex.0 vertex.1))
+          ∙ ap (solver_key vertex.0.op.stripped) c.as_slice.ensures.value;
+    }

@@ -1,4 +1,4 @@
-use Rattle.std.proofs.Common.{◌≡◌, ◌+◌, Some, List, [], ◌∷◌, ◌++◌, sym, ap, ◌∙◌, take, subst}
+use Rattle.std.proofs.Common.{Some, List, [], ◌∷◌, ◌++◌, sym, ap, ◌∙◌, take, subst}
 use Rattle.std.specs.List.{AllZip}
 use Rattle.std.proofs.lemmas.Option.{slice_get-get_or}
 use Rattle.opsproto.specs.declared.input.Input.{Input}

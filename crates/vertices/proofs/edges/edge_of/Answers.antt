@@ -1,4 +1,4 @@
-use Rattle.std.proofs.Common.{◌≡◌, inl, inr, refl, sym, ap, ◌∙◌, subst, Option, Some, None}
+use Rattle.std.proofs.Common.{◌≡◌, inl, inr, refl, sym, ◌∙◌, subst, Option, None}
 use Rattle.std.specs.Option.{IfSome}
 use Rattle.std.specs.List.{Contains}
 use Rattle.farm_base.specs.declared.digest.Digest.{Digest}

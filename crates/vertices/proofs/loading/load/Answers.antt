@@ -1,4 +1,4 @@
-use Rattle.std.proofs.Common.{◌≡◌, ◌⊎◌, ◌-◌, ◌≤◌, ℕ, List, [], ◌∷◌, ◌++◌, length, take, get_or, Ok, Some, None, sym, ap, ◌∙◌, subst, arith}
+use Rattle.std.proofs.Common.{◌≡◌, ◌⊎◌, ◌-◌, ◌≤◌, ℕ, List, [], length, take, get_or, Ok, Some, sym, ap, ◌∙◌, subst, arith}
 use Rattle.std.specs.List.{slice_get}
 use Rattle.std.proofs.lemmas.Result.{err_from_is_err_and}
 use Rattle.opsproto.specs.Ops.{op_at}
@@ -7,7 +7,7 @@ use Rattle.opsproto.specs.declared.input.Input.{Input}
 use Rattle.vertices.specs.declared.refusal.LoadRefusal.TheVariants.{OutOfMemory}
 use Rattle.vertices.specs.Outcomes.{Answers}
 use Rattle.vertices.specs.Loaded.{vertices_in}
-use Rattle.vertices.specs.Loading.{digests_in, ReadCheck, ReadChecks, GraphCheck, DefinitionCheck}
+use Rattle.vertices.specs.Loading.{digests_in, ReadCheck, GraphCheck, DefinitionCheck}
 use Rattle.vertices.proofs.LoadLemmas.{last_split, has_last, entries_refused, last_refused, graph_answers, loaded_numbers, loaded_vertices, definition_vertices, definition_last, answers_weaker, graph_is}
 use Rattle.vertices.proofs.loading.load.Goals as goal
 

@@ -1,10 +1,5 @@
-use Rattle.std.proofs.Common.{◌≡◌, ℕ, List, Bool, cond, ltb, Result, Ok, Err, refl, sym, ap, ◌∙◌, true, false}
-use Rattle.std.specs.Result.{IsOk, result_unwrap_or}
-use Rattle.protowire.specs.declared.refusal.WireRefusal.{WireRefusal}
-use Rattle.protowire.specs.Fields.{Spelled, message}
-use Rattle.protowire.specs.Reading.{◌>>=◌, fields_of}
-use Rattle.opsproto.specs.declared.refusal.OpRefusal.{OpRefusal}
-use Rattle.opsproto.specs.Ops.{OpParts, op_at, op_in, op_of, kept, stripped_of}
+use Rattle.std.proofs.Common.{ap, ◌∙◌}
+use Rattle.opsproto.specs.Ops.{OpParts}
 use Rattle.opsproto.proofs.OpLemmas.{stripped_is}
 use Rattle.opsproto.proofs.wire_op.WireOp.stripped.Goals as goal
 

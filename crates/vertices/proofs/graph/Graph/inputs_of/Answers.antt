@@ -1,7 +1,6 @@
 use Rattle.std.proofs.Common.{◌≡◌, ℕ, List, length, map, Some, ap, sym, ◌∙◌, arith}
 use Rattle.std.specs.List.{slice_get}
 use Rattle.std.proofs.lemmas.Option.{slice_get-get_or}
-use Rattle.vertices.specs.declared.vertex.Vertex.{Vertex}
 use Rattle.vertices.specs.Edges.{AreEdges}
 use Rattle.vertices.specs.Sources.{vertex_of}
 use Rattle.vertices.specs.Loading.{GraphParts}

@@ -1,17 +1,13 @@
-use Rattle.std.proofs.Common.{◌≡◌, ◌<◌, ◌⊎◌, inl, inr, ℕ, List, length, Option, Some, None, refl, sym, subst}
+use Rattle.std.proofs.Common.{◌<◌, inl, inr, ℕ, List, length, Option, Some, None, refl, sym, subst}
 use Rattle.std.specs.List.{AllZip}
 use Rattle.std.proofs.lemmas.Option.{slice_get_within}
 use Rattle.std.proofs.lemmas.Result.{err_from_is_err_and}
-use Rattle.vertices.specs.declared.vertex.Vertex.{Vertex}
-use Rattle.vertices.specs.declared.refusal.LoadRefusal.TheVariants.{OutOfMemory}
 use Rattle.vertices.specs.Orders as orders
 use Rattle.vertices.specs.Outcomes.{Each}
 use Rattle.std.specs.Option.{IfSome}
 use Rattle.opsproto.specs.Scalars.{Text}
 use Rattle.opsproto.specs.declared.input.Input.{Input}
 use Rattle.vertices.specs.Edges.{IsEdge, AreEdges, GoesTo}
-use Rattle.vertices.specs.declared.asked.Asked.{Asked}
-use Rattle.vertices.specs.Asked.{Asks}
 use Rattle.vertices.specs.Loaded.{vertices_in}
 use Rattle.vertices.specs.Loading.{HasEdge, IsCyclic, ResultCheck, VertexCheck, digests_in}
 use Rattle.vertices.proofs.LoadLemmas.{loaded_numbers}

@@ -7,14 +7,12 @@ use Rattle.std.proofs.lemmas.Result.{err_from_is_err_and}
 use Rattle.farm_base.specs.declared.digest.Digest.{Digest}
 use Rattle.farm_base.specs.Digests.{IsDigest}
 use Rattle.opsproto.specs.Ops.{op_at}
-use Rattle.vertices.specs.declared.refusal.LoadRefusal.TheVariants.{OutOfMemory}
 use Rattle.vertices.specs.declared.asked.Asked.{Asked}
 use Rattle.vertices.specs.declared.vertex.Source.{Source}
 use Rattle.vertices.specs.Asked.{Asks}
 use Rattle.vertices.specs.Sources.{IsSource, vertex_of}
 use Rattle.vertices.specs.Firsts.{IsTable}
-use Rattle.vertices.specs.Loading.{digest_in, digests_in, vertex_at, ReadCheck, ReadChecks}
-use Rattle.vertices.proofs.EntryLemmas.{take_push}
+use Rattle.vertices.specs.Loading.{digest_in, digests_in, vertex_at, ReadChecks}
 use Rattle.vertices.proofs.LoadLemmas.{in_front, take_front, reads_more, digests_in-more, vertices_more, sources_more, asked_more, vertices_front, digests_more, entry_answers}
 use Rattle.vertices.proofs.loading.Loading.of.Goals as goal
 use Rattle.vertices.proofs.loading.Loading.of.Goals.{then-branch+in_ok-push+in_ok-of+in_ok-push-2, else-branch}
@@ -49,7 +47,7 @@ loop-place-preserved c =
             let places : c.add.new.self.places.items ≡ c.loop-place.table.places.items ++ k ∷ []
             = c.in_ok-add.ensures.places ∙ ap (λ (b : Bool). if b then c.loop-place.table.places.items ++ k ∷ [] else c.loop-place.table.places.items) w.if-branch.true in
             ap (λ (v : Vec Source Global). map (vertex_of entries) v.items) w.sources-is ∙ ap (map (vertex_of entries)) w.in_ok-push.ensures.items
-            ∙ vertices_more entries k x c.digest_of-digest.result c.loop-place.table.places.items c.loop-place.sources.items at digest c.loop-place.invariant.vertices
+            ∙ vertices_more entries k x c.digest_of-digest.result w.digest_of-stripped.result c.loop-place.table.places.items c.loop-place.sources.items at digest c.loop-place.invariant.vertices
             ∙ ap (map (vertex_at entries)) (sym places)
         | else-branch w ↦
             let places : c.add.new.self.places.items ≡ c.loop-place.table.places.items
@@ -60,15 +58,15 @@ loop-place-preserved c =
           (digests_more (digests_in (take k entries)) (digest_in x) c.loop-place.invariant.digests (subst IsDigest digest c.digest_of-digest.ensures.digest));
       sources = elim c.if-branch.branch [
         | then-branch+in_ok-push+in_ok-of+in_ok-push-2 w ↦ subst (AllByRecursion (IsSource entries)) (sym (ap (λ (v : Vec Source Global). v.items) w.sources-is ∙ w.in_ok-push.ensures.items))
-            (sources_more entries k x c.digest_of-digest.result c.in_ok-op.op c.loop-place.sources.items at op c.loop-place.invariant.sources)
+            (sources_more entries k x c.digest_of-digest.result w.digest_of-stripped.result c.in_ok-op.op c.loop-place.sources.items at op (w.digest_of-stripped.ensures.value ∙ ap digest_in w.stripped.ensures.value) c.loop-place.invariant.sources)
         | else-branch w ↦ subst (AllByRecursion (IsSource entries)) (sym (ap (λ (v : Vec Source Global). v.items) w.sources-is)) c.loop-place.invariant.sources
       ];
       asked = elim c.if-branch.branch [
         | then-branch+in_ok-push+in_ok-of+in_ok-push-2 w ↦
             subst (λ (ss : List Source). AllZip Asks (map (vertex_of entries) ss) c.if-branch.asked.items) (sym (ap (λ (v : Vec Source Global). v.items) w.sources-is ∙ w.in_ok-push.ensures.items))
-            (subst (AllZip Asks (map (vertex_of entries) (c.loop-place.sources.items ++ (record { place = k; digest = c.digest_of-digest.result }) ∷ [])))
+            (subst (AllZip Asks (map (vertex_of entries) (c.loop-place.sources.items ++ (record { place = k; digest = c.digest_of-digest.result; stripped = w.digest_of-stripped.result }) ∷ [])))
             (sym (ap (λ (v : Vec Asked Global). v.items) w.asked-is ∙ w.in_ok-push-2.ensures.items))
-            (asked_more entries k x c.digest_of-digest.result c.in_ok-op.op c.loop-place.sources.items c.loop-place.asked.items _ at op c.loop-place.invariant.asked w.in_ok-of.ensures))
+            (asked_more entries k x c.digest_of-digest.result w.digest_of-stripped.result c.in_ok-op.op c.loop-place.sources.items c.loop-place.asked.items _ at op c.loop-place.invariant.asked w.in_ok-of.ensures))
         | else-branch w ↦
             subst (λ (ss : List Source). AllZip Asks (map (vertex_of entries) ss) c.if-branch.asked.items) (sym (ap (λ (v : Vec Source Global). v.items) w.sources-is))
             (subst (AllZip Asks (map (vertex_of entries) c.loop-place.sources.items)) (sym (ap (λ (v : Vec Asked Global). v.items) w.asked-is)) c.loop-place.invariant.asked)
