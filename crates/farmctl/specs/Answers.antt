@@ -1,5 +1,5 @@
 -- What the program prints for a definition (this project's own).
-use Rattle.std.specs.Prelude.{◌≡◌, ⊤, ℕ, List, [], ◌∷◌, ◌++◌, length, codes, decimal, slice_get, Option, Some, None, Ok, Err}
+use Rattle.std.specs.Prelude.{◌≡◌, ⊤, ℕ, List, [], ◌∷◌, ◌++◌, length, map, codes, decimal, slice_get, Option, Some, None, Ok, Err}
 use Rattle.farm_base.specs.declared.digest.Digest.{Digest}
 use Rattle.farm_base.specs.declared.digest.Key.{Key}
 use Rattle.farm_base.specs.Digests.{digest_text, key_text}
@@ -30,11 +30,15 @@ check_text g = check_of g (slice_get g.vertices g.result.0)
 abbrev pub key_line : Digest → Key → List ℕ
 key_line d k = digest_text d ++ codes " " ++ key_text k ++ codes "\n"
 
--- what `keys` prints: a line for each vertex, by rising place
-abbrev pub keys_text : List Vertex → List Key → List ℕ
+-- the digests of vertices
+abbrev pub vertex_digests : List Vertex → List Digest
+vertex_digests vs = map (λ (v : Vertex). v.digest) vs
+
+-- a line for each digest, with its key
+abbrev pub keys_text : List Digest → List Key → List ℕ
 keys_text [] ks = []
-keys_text (v ∷ vs) [] = []
-keys_text (v ∷ vs) (k ∷ ks) = key_line v.digest k ++ keys_text vs ks
+keys_text (d ∷ ds) [] = []
+keys_text (d ∷ ds) (k ∷ ks) = key_line d k ++ keys_text ds ks
 
 -- the bytes spell a definition whose graph this is
 abbrev pub SpellsGraph : List ℕ → GraphParts → Type 0
@@ -47,9 +51,9 @@ IsNoGraph bytes (failure.Load e) = (d : Definition) × (definition_at bytes ≡ 
 IsNoGraph bytes (failure.Schedule e) = ⊥
 IsNoGraph bytes failure.Memory = ⊤
 
--- what `keys` prints of a graph
+-- what `keys` prints of a graph: a line for each vertex, by rising place
 abbrev pub AreListed : GraphParts → List ℕ → Type 0
-AreListed g text = (keys : List Key) × AreKeys g keys × (text ≡ keys_text g.vertices keys)
+AreListed g text = (keys : List Key) × AreKeys g keys × (text ≡ keys_text (vertex_digests g.vertices) keys)
 
 -- what is printed for bytes
 abbrev pub IsAnswer : Command → List ℕ → List ℕ → Type 0

@@ -1,7 +1,7 @@
 //! What the program answers for a file.
 ghost use Rattle.std.specs.Prelude.{◌≡◌, IfOk, IfErr, OnOk, List, ◌++◌, length};
 ghost use Rattle.std.specs.String.{string_bytes};
-ghost use Rattle.farmctl.specs.Answers.{result_text, check_text, key_line, keys_text, SpellsGraph, IsNoGraph, AreListed, IsRefused, IsAnswer};
+ghost use Rattle.farmctl.specs.Answers.{result_text, check_text, key_line, vertex_digests, keys_text, SpellsGraph, IsNoGraph, AreListed, IsRefused, IsAnswer};
 
 use super::command::Command;
 use super::failure::Failure;
@@ -52,24 +52,37 @@ fn push_key(alloc: Global, text: &mut String, digest: &Digest, key: &Key) -> Res
 /// The bytes of a vertex's line: `sha256:` and two times 64 digits, a space and the end of the line.
 const LINE: usize = 137;
 
-/// The lines of a graph's vertices, given their keys.
-fn lines(alloc: Global, graph: &Graph, keys: &[Key]) -> Result<String, AllocError>
-    requires { length keys.now ≡ length graph.now.vertices }
-    ensures { IfOk result (λ text. string_bytes text ≡ keys_text graph.now.vertices keys.now) }
+/// The digests of a graph's vertices.
+fn digests_of(alloc: Global, graph: &Graph) -> Result<Vec<Digest>, AllocError>
+    ensures { IfOk result (λ digests. digests.items ≡ vertex_digests graph.now.vertices) }
 {
-    let mut text = String::with_capacity(alloc, graph.len().saturating_mul(LINE))?;
+    let mut digests = Vec::with_capacity(alloc, graph.len())?;
     for number in 0..graph.len() {
-        let vertex = graph.vertex(number);
-        push_key(alloc, &mut text, &vertex.digest, &keys[number])?;
+        digests.push(graph.vertex(number).digest)?;
+    }
+    Ok(digests)
+}
+
+/// The lines of vertices, given their digests and their keys.
+fn lines(alloc: Global, digests: &[Digest], keys: &[Key]) -> Result<String, AllocError>
+    requires { length keys.now ≡ length digests.now }
+    ensures { IfOk result (λ text. string_bytes text ≡ keys_text digests.now keys.now) }
+{
+    let mut text = String::with_capacity(alloc, digests.len().saturating_mul(LINE))?;
+    for number in 0..digests.len() {
+        push_key(alloc, &mut text, &digests[number], &keys[number])?;
     }
     Ok(text)
 }
 
-fn listed(alloc: Global, graph: &Graph) -> Result<String, AllocError>
-    ensures { IfOk result (λ text. AreListed graph.now (string_bytes text)) }
+/// The lines of a graph's vertices. The graph is given back before they are made.
+fn listed(alloc: Global, graph: Graph) -> Result<String, AllocError>
+    ensures { IfOk result (λ text. AreListed graph (string_bytes text)) }
 {
-    let keys = solverkeys::keys(alloc, graph)?;
-    lines(alloc, graph, keys.as_slice())
+    let keys = solverkeys::keys(alloc, &graph)?;
+    let digests = digests_of(alloc, &graph)?;
+    drop(graph);
+    lines(alloc, digests.as_slice(), keys.as_slice())
 }
 
 /// The graph that the bytes of a file spell. The bytes are given back once they are read.
@@ -103,7 +116,7 @@ pub fn answer(alloc: Global, command: Command, bytes: Vec<u8>) -> Result<String,
         }
         Command::Keys => {
             let graph = graph_of(alloc, bytes)?;
-            let text = listed(alloc, &graph)?;
+            let text = listed(alloc, graph)?;
             Ok(text)
         }
         Command::Replay => replayed(alloc, bytes.as_slice()),
