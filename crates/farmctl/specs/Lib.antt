@@ -1,2 +1,4 @@
-pub mod Replays
+pub mod Acts
 pub mod Answers
+pub mod Failures
+pub mod Replays

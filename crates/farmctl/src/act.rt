@@ -1,4 +1,7 @@
 //! What the program does: reads, answers, prints.
+ghost use Rattle.std.specs.Prelude.{◌≡◌, ◌≢◌, ℕ, List};
+ghost use Rattle.std.specs.Io.KnownBytes.{Appends};
+ghost use Rattle.farmctl.specs.Acts.{AnswersAll};
 
 use super::answer::answer;
 use super::command::{Command, command_of};
@@ -20,7 +23,10 @@ pub const MEMORY: u8 = 3;
 pub const FAULT: u8 = 4;
 
 /// Writes a text, and answers the status, or that it could not be written.
-fn print<W: Write>(writer: &mut W, text: &str, status: u8) -> u8 {
+fn print<W: Write>(writer: &mut W, text: &str, status: u8) -> u8
+    ensures status { result ≢ 4 → result ≡ status }
+    ensures printed { result ≢ 4 → Appends (W.contents writer.old) (W.contents writer.new) text.now }
+{
     match writer.write_all(text.as_bytes()) {
         Ok(()) => match writer.flush() {
             Ok(()) => status,
@@ -30,7 +36,9 @@ fn print<W: Write>(writer: &mut W, text: &str, status: u8) -> u8 {
     }
 }
 
-fn print_failure<E: Write>(alloc: Global, failure: Failure, err: &mut E) -> u8 {
+fn print_failure<E: Write>(alloc: Global, failure: Failure, err: &mut E) -> u8
+    ensures { result ≢ 0 }
+{
     let status = match failure {
         Failure::Memory => MEMORY,
         _ => REFUSED,
@@ -41,7 +49,9 @@ fn print_failure<E: Write>(alloc: Global, failure: Failure, err: &mut E) -> u8 {
     }
 }
 
-fn print_unreadable<E: Write>(alloc: Global, name: &str, err: &mut E) -> u8 {
+fn print_unreadable<E: Write>(alloc: Global, name: &str, err: &mut E) -> u8
+    ensures { result ≢ 0 }
+{
     match format!(in alloc; "unreadable {name}\n") {
         Ok(line) => print(err, line.as_str(), REFUSED),
         Err(_) => print(err, "out of memory\n", MEMORY),
@@ -56,7 +66,10 @@ pub fn act<O: Write, E: Write>(
     files: Vec<(String, Option<Vec<u8>>)>,
     out: &mut O,
     err: &mut E,
-) -> u8 {
+) -> u8
+    // At status 0 the standard output has the answers of all files, one after the other.
+    ensures done { result ≡ 0 → (text : List ℕ) × AnswersAll command files.items text × Appends (O.contents out.old) (O.contents out.new) text }
+{
     let mut all = String::new(alloc);
     for (name, bytes) in files {
         let Some(bytes) = bytes else {

@@ -1,5 +1,8 @@
 //! Why a file has no answer.
-ghost use Rattle.std.specs.Prelude.{◌≡◌};
+ghost use Rattle.std.specs.Prelude.{◌≡◌, IfOk};
+ghost use Rattle.std.specs.String.{string_bytes};
+ghost use Rattle.farmctl.specs.Failures.{wire_name, read_text, load_text, schedule_text, failure_line};
+ghost use Rattle.vertices.specs.declared.refusal.LoadRefusal.TheVariants as load;
 ghost use Rattle.farmctl.specs.declared.failure.Failure.TheVariants as failure;
 
 use opsproto::OpRefusal;
@@ -29,7 +32,9 @@ impl From<AllocError> for Failure {
 }
 
 /// The name of a fault of the wire form.
-fn wire_name(refusal: WireRefusal) -> &'static str {
+fn wire_name(refusal: WireRefusal) -> &'static str
+    ensures { result.now ≡ wire_name refusal }
+{
     match refusal {
         WireRefusal::Truncated => "Truncated",
         WireRefusal::VarintTooLong => "VarintTooLong",
@@ -39,7 +44,9 @@ fn wire_name(refusal: WireRefusal) -> &'static str {
     }
 }
 
-fn read_text(alloc: Global, refusal: OpRefusal) -> Result<String, AllocError> {
+fn read_text(alloc: Global, refusal: OpRefusal) -> Result<String, AllocError>
+    ensures { IfOk result (λ text. string_bytes text ≡ read_text refusal) }
+{
     match refusal {
         OpRefusal::Wire(wire) => String::from_str(alloc, wire_name(wire)),
         OpRefusal::NotUtf8(number) => format!(in alloc; "NotUtf8 {number}"),
@@ -48,7 +55,18 @@ fn read_text(alloc: Global, refusal: OpRefusal) -> Result<String, AllocError> {
     }
 }
 
-fn load_text(alloc: Global, refusal: LoadRefusal) -> Result<String, AllocError> {
+fn sharing_text(alloc: Global, place: usize, value: i32) -> Result<String, AllocError>
+    ensures { IfOk result (λ text. string_bytes text ≡ load_text (load.UnknownSharing place value)) }
+{
+    let mut text = format!(in alloc; "UnknownSharing {place} ")?;
+    let value = value.to_string(alloc)?;
+    text.push_str(value.as_str())?;
+    Ok(text)
+}
+
+fn load_text(alloc: Global, refusal: LoadRefusal) -> Result<String, AllocError>
+    ensures { IfOk result (λ text. string_bytes text ≡ load_text refusal) }
+{
     match refusal {
         LoadRefusal::EmptyDefinition => String::from_str(alloc, "EmptyDefinition"),
         LoadRefusal::BadOp(place) => format!(in alloc; "BadOp {place}"),
@@ -63,16 +81,16 @@ fn load_text(alloc: Global, refusal: LoadRefusal) -> Result<String, AllocError> 
         LoadRefusal::NoRoot(place) => format!(in alloc; "NoRoot {place}"),
         LoadRefusal::BadMountInput(place) => format!(in alloc; "BadMountInput {place}"),
         LoadRefusal::NoCacheOpt(place) => format!(in alloc; "NoCacheOpt {place}"),
-        LoadRefusal::UnknownSharing(place, value) => {
-            format!(in alloc; "UnknownSharing {place} {value}")
-        }
+        LoadRefusal::UnknownSharing(place, value) => sharing_text(alloc, place, value),
         LoadRefusal::TooManyCacheMounts(place) => format!(in alloc; "TooManyCacheMounts {place}"),
         LoadRefusal::Cycle => String::from_str(alloc, "Cycle"),
         LoadRefusal::OutOfMemory => String::from_str(alloc, "OutOfMemory"),
     }
 }
 
-fn schedule_text(alloc: Global, refusal: ScheduleRefusal) -> Result<String, AllocError> {
+fn schedule_text(alloc: Global, refusal: ScheduleRefusal) -> Result<String, AllocError>
+    ensures { IfOk result (λ text. string_bytes text ≡ schedule_text refusal) }
+{
     match refusal {
         ScheduleRefusal::BadLine(number) => format!(in alloc; "BadLine {number}"),
         ScheduleRefusal::TooManyEvents => String::from_str(alloc, "TooManyEvents"),
@@ -83,7 +101,9 @@ fn schedule_text(alloc: Global, refusal: ScheduleRefusal) -> Result<String, Allo
 
 impl Failure {
     /// Its line: `refused`, the refusal's name and its numbers, or that memory ran out.
-    pub fn line(self, alloc: Global) -> Result<String, AllocError> {
+    pub fn line(self, alloc: Global) -> Result<String, AllocError>
+        ensures { IfOk result (λ text. string_bytes text ≡ failure_line self) }
+    {
         let refusal = match self {
             Failure::Read(refusal) => read_text(alloc, refusal)?,
             Failure::Load(refusal) => load_text(alloc, refusal)?,
