@@ -1,7 +1,9 @@
 //! What the program does: reads, answers, prints.
-ghost use Rattle.std.specs.Prelude.{◌≡◌, ◌≢◌, ℕ, List};
+ghost use Rattle.std.specs.Prelude.{◌≡◌, ◌≢◌, ◌++◌, ℕ, List, codes};
 ghost use Rattle.std.specs.Io.KnownBytes.{Appends};
-ghost use Rattle.farmctl.specs.Acts.{AnswersAll};
+ghost use Rattle.farmctl.specs.declared.failure.Failure.TheVariants as failures;
+ghost use Rattle.farmctl.specs.Failures.{failure_line};
+ghost use Rattle.farmctl.specs.Acts.{AnswersAll, FirstFault};
 
 use super::answer::answer;
 use super::command::{Command, command_of};
@@ -37,7 +39,9 @@ fn print<W: Write>(writer: &mut W, text: &str, status: u8) -> u8
 }
 
 fn print_failure<E: Write>(alloc: Global, failure: Failure, err: &mut E) -> u8
-    ensures { result ≢ 0 }
+    ensures not_done { result ≢ 0 }
+    ensures refused { result ≡ 1 → failure ≢ failures.Memory }
+    ensures printed { result ≡ 1 → Appends (E.contents err.old) (E.contents err.new) (failure_line failure) }
 {
     let status = match failure {
         Failure::Memory => MEMORY,
@@ -50,7 +54,8 @@ fn print_failure<E: Write>(alloc: Global, failure: Failure, err: &mut E) -> u8
 }
 
 fn print_unreadable<E: Write>(alloc: Global, name: &str, err: &mut E) -> u8
-    ensures { result ≢ 0 }
+    ensures not_done { result ≢ 0 }
+    ensures printed { result ≡ 1 → Appends (E.contents err.old) (E.contents err.new) (codes "unreadable " ++ name.now ++ codes "\n") }
 {
     match format!(in alloc; "unreadable {name}\n") {
         Ok(line) => print(err, line.as_str(), REFUSED),
@@ -69,6 +74,9 @@ pub fn act<O: Write, E: Write>(
 ) -> u8
     // At status 0 the standard output has the answers of all files, one after the other.
     ensures done { result ≡ 0 → (text : List ℕ) × AnswersAll command files.items text × Appends (O.contents out.old) (O.contents out.new) text }
+    // At status 1 the standard error has the line of the first fault, and nothing is printed to the standard output.
+    ensures refused { result ≡ 1 → (line : List ℕ) × FirstFault command files.items line × Appends (E.contents err.old) (E.contents err.new) line }
+    ensures quiet { result ≡ 1 → out.new ≡ out.old }
 {
     let mut all = String::new(alloc);
     for (name, bytes) in files {

@@ -1,11 +1,13 @@
-use Rattle.std.proofs.Common.{rules, ◌≡◌, ℕ, List, [], ◌∷◌, ◌++◌, Option, Some, String, Vec, refl, sym, ap, ◌∙◌, subst, append_assoc, append-nil}
+use Rattle.std.proofs.Common.{rules, ◌≡◌, ℕ, List, [], ◌∷◌, ◌++◌, Some, inl, inr, Vec, refl, sym, ap, ◌∙◌, subst, append_assoc, append-nil}
+use Rattle.std.specs.Prelude.{codes}
 use Rattle.std.specs.Option.{option_map}
-use Rattle.std.specs.List.{flat_map, AllZip}
+use Rattle.std.specs.List.{flat_map}
 use Rattle.std.specs.String.{string_bytes}
 use Rattle.std.specs.Global.{Global}
 use Rattle.std.specs.Io.KnownBytes.{Appends}
 use Rattle.std.proofs.lemmas.List.{nil_from_length}
 use Rattle.vertices.proofs.CheckLemmas.{all_zip_push}
+use Rattle.farmctl.specs.Failures.{failure_line}
 use Rattle.farmctl.specs.Acts.{File, AnswersFile, AnswersAll}
 use Rattle.farmctl.specs.declared.command.Command.{Command}
 use Rattle.farmctl.proofs.act.act.Goals as goal
@@ -24,6 +26,7 @@ pub loop-name-init : goal.loop-name-init
 loop-name-init g c = record {
   can_next = tt;
   is_finite = tt;
+  same = refl;
   so_far = ([], c.into_iter-name-iterator.ensures.into_iter_gives.0, ([], tt, c.new-all.ensures.bytes));
 }
 
@@ -37,6 +40,7 @@ loop-name-preserved g c =
     record {
       can_next = tt;
       is_finite = tt;
+      same = c.loop-name.invariant.same;
       so_far = (
         so_far.0 ++ file ∷ [],
         append_assoc so_far.0 (file ∷ []) c.next.new.self.rest.items ∙ ap (λ (fs : List File). so_far.0 ++ fs) (sym c.in-Some.ensures.steps.0) ∙ so_far.1,
@@ -45,16 +49,55 @@ loop-name-preserved g c =
       );
     }
 
-pub returns : goal.returns
-returns g c =
+pub returns-clause-done : goal.returns-clause-done
+returns-clause-done g c = λ zero.
     let so_far = c.loop-name.invariant.so_far in
     let rest = c.loop-name.name-iterator.rest in
     let none : rest.items ≡ [] = nil_from_length rest.items (sym rest.ok.0 ∙ c.in-None.ensures.steps.0) in
-    let all : so_far.0 ≡ c.args.files.items = sym (append-nil so_far.0) ∙ ap (λ (fs : List File). so_far.0 ++ fs) (sym none) ∙ so_far.1 in
-    record {
-      done = λ zero. (
-        string_bytes c.loop-name.all,
-        subst (λ (fs : List File). AnswersAll c.args.command fs (string_bytes c.loop-name.all)) all so_far.2,
-        subst (Appends (g.O.Write.contents c.args.out.now) (g.O.Write.contents c.print.new.writer)) c.as_str-2.ensures.value (c.print.ensures.printed (λ four. cc (zero, four))),
-      );
-    }
+    let all : so_far.0 ≡ c.args.files.items = sym (append-nil so_far.0) ∙ ap (λ (fs : List File). so_far.0 ++ fs) (sym none) ∙ so_far.1 in (
+      string_bytes c.loop-name.all,
+      subst (λ (fs : List File). AnswersAll c.args.command fs (string_bytes c.loop-name.all)) all so_far.2,
+      subst (Appends (g.O.Write.contents c.args.out.now) (g.O.Write.contents c.print.new.writer)) c.as_str-2.ensures.value (c.print.ensures.printed (λ four. cc (zero, four))),
+    )
+
+pub returns-clause-refused : goal.returns-clause-refused
+returns-clause-refused g c = λ one. absurd (let zero = c.print.ensures.status (λ four. cc (one, four)) in cc (one, zero))
+
+pub returns-clause-quiet : goal.returns-clause-quiet
+returns-clause-quiet g c = λ one. absurd (let zero = c.print.ensures.status (λ four. cc (one, four)) in cc (one, zero))
+
+pub returns-in_default-clause-refused : goal.returns-in_default-clause-refused
+returns-in_default-clause-refused g c = λ one.
+    let so_far = c.loop-name.invariant.so_far in
+    let line = codes "unreadable " ++ string_bytes c.in-Some.name ++ codes "\n" in (
+      line,
+      record {
+        before = so_far.0;
+        file = (c.in-Some.name, c.in-Some.bytes);
+        after = c.next.new.self.rest.items;
+        files_are = sym so_far.1 ∙ ap (λ (fs : List File). so_far.0 ++ fs) c.in-Some.ensures.steps.0;
+        answered = (string_bytes c.loop-name.all, so_far.2);
+        fault = inl (c.in_default.is, refl);
+      },
+      subst (λ (e : _). Appends (g.E.Write.contents e) (g.E.Write.contents c.print_unreadable.new.err) line) c.loop-name.invariant.same
+          (subst (λ (n : List ℕ). Appends (g.E.Write.contents c.loop-name.err) (g.E.Write.contents c.print_unreadable.new.err) (codes "unreadable " ++ n ++ codes "\n"))
+          c.as_str.ensures.value (c.print_unreadable.ensures.printed one)),
+    )
+
+pub returns-in-Err-clause-refused : goal.returns-in-Err-clause-refused
+returns-in-Err-clause-refused g c = λ one.
+    let so_far = c.loop-name.invariant.so_far in
+    let bytes : option_map (λ (v : Vec ℕ Global). v.items) c.in-Some.bytes ≡ Some c.in-Some-bytes.bytes.items
+    = ap (option_map (λ (v : Vec ℕ Global). v.items)) c.in-Some-bytes.is in (
+      failure_line c.in-Err.failure,
+      record {
+        before = so_far.0;
+        file = (c.in-Some.name, c.in-Some.bytes);
+        after = c.next.new.self.rest.items;
+        files_are = sym so_far.1 ∙ ap (λ (fs : List File). so_far.0 ++ fs) c.in-Some.ensures.steps.0;
+        answered = (string_bytes c.loop-name.all, so_far.2);
+        fault = inr (c.in-Some-bytes.bytes.items, c.in-Err.failure, bytes, c.in-Err.ensures.refused, refl);
+      },
+      subst (λ (e : _). Appends (g.E.Write.contents e) (g.E.Write.contents c.print_failure.new.err) (failure_line c.in-Err.failure)) c.loop-name.invariant.same
+          (c.print_failure.ensures.printed one),
+    )
