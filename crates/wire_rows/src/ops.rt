@@ -168,9 +168,7 @@ fn definitions(rt: HostRuntime) -> Result<(), Fail> {
     // No entry; metadata and source, which are skipped; one entry; one that is cut.
     assert_eq!(rt; read_definition(alloc, b"")?.def.len(), 0);
     assert_eq!(rt;
-        read_definition(alloc, b"\x12\x00\x1a\x01\xff")?
-            .def
-            .len(),
+        read_definition(alloc, b"\x12\x00\x1a\x01\xff")?.def.len(),
         0
     );
     let definition = read_definition(alloc, b"\x0a\x00\x0a\x01\x0a")?;
