@@ -1,5 +1,5 @@
 -- What the program does with its files (this project's own).
-use Rattle.std.specs.Prelude.{◌≡◌, ◌⊎◌, ℕ, List, ◌∷◌, ◌++◌, codes, Option, Some, None, option_map}
+use Rattle.std.specs.Prelude.{◌≡◌, ◌≢◌, ◌⊎◌, ℕ, List, ◌∷◌, ◌++◌, codes, Option, Some, None, option_map}
 use Rattle.std.specs.List.{flat_map, AllZip}
 use Rattle.std.specs.declared.vec.Vec.{Vec}
 use Rattle.std.specs.declared.alloc.Global.{Global}
@@ -7,6 +7,7 @@ use Rattle.std.specs.declared.string.String.{String}
 use Rattle.farmctl.specs.declared.command.Command.{Command}
 use Rattle.std.specs.String.{string_bytes}
 use Rattle.farmctl.specs.declared.failure.Failure.{Failure}
+use Rattle.farmctl.specs.declared.failure.Failure.TheVariants as failures
 use Rattle.farmctl.specs.Failures.{failure_line}
 use Rattle.farmctl.specs.Answers.{IsAnswer, IsRefused}
 
@@ -22,12 +23,12 @@ AnswersFile command file text = (bytes : List ℕ) × (option_map (λ (v : Vec �
 abbrev pub AnswersAll : Command → List File → List ℕ → Type 0
 AnswersAll command files text = (texts : List (List ℕ)) × AllZip (AnswersFile command) files texts × (text ≡ flat_map (λ (t : List ℕ). t) texts)
 
--- why there is no answer for a file, as a line: it could not be read, or it is refused
+-- why there is no answer for a file, as a line: it could not be read, or it is refused, and not for want of memory
 abbrev pub FaultsFile : Command → File → List ℕ → Type 0
 FaultsFile command file line =
     ((file.1 ≡ None) × (line ≡ codes "unreadable " ++ string_bytes file.0 ++ codes "\n"))
     ⊎ ((bytes : List ℕ) × (failure : Failure) × (option_map (λ (v : Vec ℕ Global). v.items) file.1 ≡ Some bytes)
-    × IsRefused command bytes failure × (line ≡ failure_line failure))
+    × IsRefused command bytes failure × (failure ≢ failures.Memory) × (line ≡ failure_line failure))
 
 -- the line of the first file without an answer
 pub record FirstFault (command : Command) (files : List File) (line : List ℕ) : Type 0 where

@@ -96,7 +96,7 @@ returns-in-Err-clause-refused g c = λ one.
         after = c.next.new.self.rest.items;
         files_are = sym so_far.1 ∙ ap (λ (fs : List File). so_far.0 ++ fs) c.in-Some.ensures.steps.0;
         answered = (string_bytes c.loop-name.all, so_far.2);
-        fault = inr (c.in-Some-bytes.bytes.items, c.in-Err.failure, bytes, c.in-Err.ensures.refused, refl);
+        fault = inr (c.in-Some-bytes.bytes.items, c.in-Err.failure, bytes, c.in-Err.ensures.refused, c.print_failure.ensures.refused one, refl);
       },
       subst (λ (e : _). Appends (g.E.Write.contents e) (g.E.Write.contents c.print_failure.new.err) (failure_line c.in-Err.failure)) c.loop-name.invariant.same
           (c.print_failure.ensures.printed one),
