@@ -10,14 +10,15 @@ use std::rt::Clock;
 use std::time::Instant;
 use vertices::{Graph, load};
 
-fn graph_of(alloc: Global, bytes: &[u8]) -> anyhow::Result<Graph> {
+fn graph_of(alloc: Global, bytes: Vec<u8>) -> anyhow::Result<Graph> {
     Ok(load(alloc, read_definition(alloc, bytes)?)?)
 }
 
 /// The time from the bytes to the keys.
 fn solving<R: Clock + AllocGlobal>(rt: &R, bytes: &[u8]) -> anyhow::Result<f64> {
+    let copy = Vec::from_slice(rt.alloc(), bytes)?;
     let start = Instant::now(rt)?;
-    let graph = graph_of(rt.alloc(), bytes)?;
+    let graph = graph_of(rt.alloc(), copy)?;
     let _keys = solverkeys::keys(rt.alloc(), &graph)?;
     Ok(seconds_since(rt, start))
 }
@@ -31,7 +32,7 @@ struct Messages {
 }
 
 fn needed_messages(alloc: Global, bytes: &[u8]) -> anyhow::Result<Messages> {
-    let graph = graph_of(alloc, bytes)?;
+    let graph = graph_of(alloc, Vec::from_slice(alloc, bytes)?)?;
     let key = vec![in alloc; 1u8; 33 + 40 * 16_000]?;
     let mut stripped = BodyList::new(alloc);
     let mut keys = BodyList::new(alloc);
@@ -40,7 +41,7 @@ fn needed_messages(alloc: Global, bytes: &[u8]) -> anyhow::Result<Messages> {
         stripped.push(&graph.vertex(number).op.stripped(alloc)?)?;
         keys.push(&key[..33 + 40 * inputs])?;
     }
-    let ops = read_definition(alloc, bytes)?.def;
+    let ops = read_definition(alloc, Vec::from_slice(alloc, bytes)?)?.def;
     Ok(Messages {
         ops,
         stripped,

@@ -35,7 +35,7 @@ fn main(rt: HostRuntime) -> anyhow::Result<()> {
 /// What comes of a chain of three vertices.
 fn small<R: Print + AllocGlobal>(rt: &R) -> anyhow::Result<()> {
     let bytes = graphs::chain(rt.alloc(), 3, true)?;
-    let definition = opsproto::read_definition(rt.alloc(), &bytes)?;
+    let definition = opsproto::read_definition(rt.alloc(), bytes)?;
     let entries = definition.def.len();
     let graph = vertices::load(rt.alloc(), definition)?;
     let keys = solverkeys::keys(rt.alloc(), &graph)?;

@@ -4,6 +4,7 @@ use super::clock::{ROUNDS, seconds_since};
 use super::graphs::chain;
 use opsproto::{Definition, read_definition, read_op};
 use sha2::Sha256;
+use std::alloc::{AllocError, Global};
 use std::rt::Clock;
 use std::time::Instant;
 
@@ -15,8 +16,17 @@ struct Times {
     hash: f64,
 }
 
-/// The time of reading the copies of a definition in turn, all of which are kept to the end.
-fn reading<R: Clock + AllocGlobal>(rt: &R, copies: &[Vec<u8>]) -> anyhow::Result<f64> {
+fn copies_of(alloc: Global, bytes: &[u8], copies: u32) -> Result<Vec<Vec<u8>>, AllocError> {
+    let mut all = Vec::new(alloc);
+    for _ in 0..copies {
+        all.push(Vec::from_slice(alloc, bytes)?)?;
+    }
+    Ok(all)
+}
+
+/// The time of reading so many copies of a definition in turn, all of which are kept to the end.
+fn reading<R: Clock + AllocGlobal>(rt: &R, bytes: &[u8], copies: u32) -> anyhow::Result<f64> {
+    let copies = copies_of(rt.alloc(), bytes, copies)?;
     let mut kept: Vec<Definition> = Vec::new(rt.alloc());
     let start = Instant::now(rt)?;
     for bytes in copies {
@@ -42,18 +52,14 @@ fn hashing<R: Clock>(rt: &R, bytes: &[u8]) -> anyhow::Result<f64> {
 }
 
 /// Measures in turn, over so many copies of a definition of so many vertices.
-fn measured<R: Clock + AllocGlobal>(rt: &R, bytes: &Vec<u8>, copies: u32) -> anyhow::Result<Times> {
-    let mut all = Vec::new(rt.alloc());
-    for _ in 0..copies {
-        all.push(Vec::from_slice(rt.alloc(), bytes)?)?;
-    }
-    let definition = read_definition(rt.alloc(), bytes)?;
+fn measured<R: Clock + AllocGlobal>(rt: &R, bytes: &[u8], copies: u32) -> anyhow::Result<Times> {
+    let definition = read_definition(rt.alloc(), Vec::from_slice(rt.alloc(), bytes)?)?;
     let size = f64::from(u32::try_from(bytes.len()).unwrap_or(u32::MAX));
     let mut read = f64::INFINITY;
     let mut ops = f64::INFINITY;
     let mut hash = f64::INFINITY;
     for _ in 0..ROUNDS {
-        read = read.min(reading(rt, all.as_slice())? / f64::from(copies));
+        read = read.min(reading(rt, bytes, copies)? / f64::from(copies));
         ops = ops.min(reading_ops(rt, &definition)?);
         hash = hash.min(hashing(rt, bytes)?);
     }

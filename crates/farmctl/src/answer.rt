@@ -85,17 +85,16 @@ fn listed(alloc: Global, graph: Graph) -> Result<String, AllocError>
     lines(alloc, digests.as_slice(), keys.as_slice())
 }
 
-/// The graph that the bytes of a file spell. The bytes are given back once they are read.
+/// The graph that the bytes of a file spell.
 fn graph_of(alloc: Global, bytes: Vec<u8>) -> Result<Graph, Failure>
     ensures found { IfOk result (SpellsGraph bytes.items) }
     ensures refused { IfErr result (IsNoGraph bytes.items) }
 {
-    let definition = match read_definition(alloc, bytes.as_slice()) {
+    let definition = match read_definition(alloc, bytes) {
         Err(OpRefusal::OutOfMemory) => return Err(Failure::Memory),
         Err(refusal) => return Err(Failure::Read(refusal)),
         Ok(definition) => definition,
     };
-    drop(bytes);
     match load(alloc, definition) {
         Err(LoadRefusal::OutOfMemory) => Err(Failure::Memory),
         Err(refusal) => Err(Failure::Load(refusal)),

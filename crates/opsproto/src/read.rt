@@ -45,16 +45,16 @@ pub fn read_op(alloc: Global, bytes: &[u8]) -> Result<Op, OpRefusal>
     Ok(Op::new(inputs, kind, raw.stripped))
 }
 
-/// Reads a definition. Its size comes first, then its form, then the number of its entries. Nothing but the entries
-/// takes memory: as much as the bytes, and a place for each entry.
+/// Reads a definition. Its size comes first, then its form, then the number of its entries. The definition keeps the
+/// bytes, so nothing but a place for each entry takes memory.
 #[tactic(auto, using(crate::proofs::ReadingLemmas::by_bodies))]
-pub fn read_definition(alloc: Global, bytes: &[u8]) -> Result<Definition, OpRefusal>
-    ensures { Gives (λ definition. definition) result (definition_at bytes.now) }
+pub fn read_definition(alloc: Global, bytes: Vec<u8>) -> Result<Definition, OpRefusal>
+    ensures { Gives (λ definition. definition) result (definition_at bytes.items) }
 {
     if bytes.len() > LIMIT {
         return Err(OpRefusal::TooLarge);
     }
-    let Some(def) = protowire::copy_bodies(alloc, bytes, DEF, ENTRIES)? else {
+    let Some(def) = protowire::take_bodies(alloc, bytes, DEF, ENTRIES)? else {
         return Err(OpRefusal::TooLarge);
     };
     Ok(Definition { def })

@@ -2,9 +2,9 @@ pub mod BodyLoop
 pub mod Bind
 pub mod FieldLaws
 pub mod FieldLoop
+pub mod SpanLemmas
 pub mod VarintLaws
 pub mod VarintLoop
 pub mod LookupLoop
 pub mod WritingLoop
 pub mod WritingLaws
-pub mod PieceLemmas

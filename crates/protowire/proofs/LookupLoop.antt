@@ -6,13 +6,13 @@ use Rattle.std.specs.List.{flat_map, cons_option, list_all}
 use Rattle.std.specs.Option.{option_map, option_eq}
 use Rattle.std.proofs.lemmas.Bool.{and_parts, cases_eq, eqb-true, eqb-false, eq-eqb, ne_eqb}
 use Rattle.std.proofs.lemmas.List.Concat.{flat_map-append}
-use Rattle.std.proofs.lemmas.List.{drop_more, take_more, append-nil, map_push}
+use Rattle.std.proofs.lemmas.List.{drop_more, take_more, append-nil, map_push, map-append, take-append-drop}
 use Rattle.std.proofs.lemmas.List.Elements.{filter_map-append}
 use Rattle.protowire.specs.declared.field.Field.{Field}
 use Rattle.protowire.specs.declared.field.Value.TheVariants as held
 use Rattle.protowire.specs.Fields.{Entry}
 use Rattle.protowire.specs.Seen.{entry, entries}
-use Rattle.protowire.specs.Lookups.{payload_body, bodies, Member, member_in, last_run, last_member, joined, joined_parts, joined_body}
+use Rattle.protowire.specs.Lookups.{payload_body, bodies, Member, member_in, members_in, lone, last_run, last_member, joined, joined_parts, joined_body}
 
 abbrev pub bodies_now : List (Bor (List ℕ)) → List (List ℕ)
 bodies_now bodies = map (λ body. body.now) bodies
@@ -87,7 +87,7 @@ last_run-push (m ∷ ms) x = run_pushed m ms x (list_all (has m.0) ms) refl (las
 abbrev pub no_field : Field
 no_field = record { number = 0; value = held.Varint 0; start = 0; end = 0 }
 
-members_more : (members : List ℕ) (fields : List Field) (i : ℕ) → i < length fields
+pub members_more : (members : List ℕ) (fields : List Field) (i : ℕ) → i < length fields
     → filter_map (member_in members) (entries (take (i + 1) fields)) ≡ filter_map (member_in members) (entries (take i fields)) ++ filter_map (member_in members) (entry (get_or fields i no_field) ∷ [])
 members_more members fields i lt =
     ap (λ fs. filter_map (member_in members) (entries fs)) (take_more fields i no_field lt)
@@ -105,6 +105,38 @@ pub skip_step : (members : List ℕ) (fields : List Field) (i : ℕ) → i < len
 skip_step members fields i lt is =
     let all : filter_map (member_in members) (entries (take (i + 1) fields)) ≡ filter_map (member_in members) (entries (take i fields)) = rw (members_more members fields i lt, is) (append-nil (filter_map (member_in members) (entries (take i fields)))) in
     ap last_run all
+
+-- ---- members of which there is one
+
+-- the items of a list with at most one
+abbrev pub listed : {X : Type 0} → Option X → List X
+listed found = cons_option found []
+
+-- one member is found for the first time
+pub first_step : (members : List ℕ) (fields : List Field) (i : ℕ) (m : Member) → i < length fields → member_in members (entry (get_or fields i no_field)) ≡ Some m
+    → members_in members (entries (take i fields)) ≡ [] → members_in members (entries (take (i + 1) fields)) ≡ m ∷ []
+first_step members fields i m lt is none = rw (members_more members fields i lt, is, none) refl
+
+-- a field that is no member
+pub same_step : (members : List ℕ) (fields : List Field) (i : ℕ) → i < length fields → member_in members (entry (get_or fields i no_field)) ≡ None
+    → members_in members (entries (take (i + 1) fields)) ≡ members_in members (entries (take i fields))
+same_step members fields i lt is = rw (members_more members fields i lt, is) (append-nil (members_in members (entries (take i fields))))
+
+-- a second member is found, so there are two at least
+pub second_step : (members : List ℕ) (fields : List Field) (i : ℕ) (a m : Member) → i < length fields → member_in members (entry (get_or fields i no_field)) ≡ Some m
+    → members_in members (entries (take i fields)) ≡ a ∷ [] → lone (members_in members (entries fields)) ≡ None
+second_step members fields i a m lt is one =
+    let front : members_in members (entries (take (i + 1) fields)) ≡ a ∷ m ∷ [] = rw (members_more members fields i lt, is, one) refl in
+    let split : fields ≡ take (i + 1) fields ++ drop (i + 1) fields = sym (take-append-drop (i + 1) fields) in
+    let all : members_in members (entries fields) ≡ members_in members (entries (take (i + 1) fields)) ++ members_in members (entries (drop (i + 1) fields)) =
+    ap (λ fs. members_in members (entries fs)) split
+    ∙ ap (filter_map (member_in members)) (map-append entry (take (i + 1) fields) (drop (i + 1) fields))
+    ∙ filter_map-append (member_in members) (entries (take (i + 1) fields)) (entries (drop (i + 1) fields)) in
+    rw (all, front) refl
+
+pub listed_lone : {X : Type 0} (found : Option X) (xs : List X) → xs ≡ listed found → found ≡ lone xs
+listed_lone None xs e = rw e refl
+listed_lone (Some x) xs e = rw e refl
 
 pub joins : (last : Option ℕ) (before : List ℕ) (n : ℕ) (body : List ℕ) → false ≡ not (option_eq eqb last (Some n)) → run_push (run_of last before) (n, body) ≡ Some (n, before ++ body)
 joins None before n body is = absurd cc
@@ -166,6 +198,15 @@ run_single k (b ∷ parts) =
 pub single : (k : ℕ) (es : List Entry) → last_member (k ∷ []) es ≡ option_map (λ body. (k, body)) (joined_body k es)
 unfolding pair
 single k es = ap last_run (single_members k es) ∙ run_single k (bodies k es)
+
+pub lone_single : (k : ℕ) (es : List Entry) → lone (members_in (k ∷ []) es) ≡ option_map (λ body. (k, body)) (lone (bodies k es))
+unfolding pair
+lone_single k es = ap (lone {X = Member}) (single_members k es) ∙ by_bodies (bodies k es)
+  where
+    by_bodies : (bs : List (List ℕ)) → lone {X = Member} (map (pair k) bs) ≡ option_map (pair k) (lone bs)
+    by_bodies [] = refl
+    by_bodies (b ∷ []) = refl
+    by_bodies (b ∷ (d ∷ bs)) = refl
 
 pub single_some : (k : ℕ) (m : Member) (found : Option (List ℕ)) → Some m ≡ option_map (λ b. (k, b)) found → Some m.1 ≡ found
 single_some k m None e = absurd cc

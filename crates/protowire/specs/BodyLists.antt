@@ -1,13 +1,12 @@
--- Byte strings that stand in one text, one after the other (this project's own).
-use Rattle.std.specs.Prelude.{◌≡◌, ℕ, ◌≤◌, List, [], ◌∷◌}
+-- Byte strings that stand in one text (this project's own).
+use Rattle.std.specs.Prelude.{◌≤◌, ℕ, List, map, All}
 use Rattle.std.specs.List.{slice_range}
+use Rattle.protowire.specs.declared.body_list.Span.{Span}
 
--- each ends where it starts or behind that, and the last at this place
-abbrev pub AreEnds : ℕ → List ℕ → ℕ → Type 0
-AreEnds from [] to = from ≡ to
-AreEnds from (end ∷ ends) to = (from ≤ end) × AreEnds end ends to
+-- each begins before it ends, and ends within so many bytes
+abbrev pub AreWithin : ℕ → List Span → Type 0
+AreWithin len spans = All (λ s. (s.start ≤ s.end) × (s.end ≤ len)) spans
 
--- the pieces of the text with these ends, the first from this place
-abbrev pub pieces : ℕ → List ℕ → List ℕ → List (List ℕ)
-pieces from [] text = []
-pieces from (end ∷ ends) text = slice_range text from end ∷ pieces end ends text
+-- what stands there
+abbrev pub pieces : List ℕ → List Span → List (List ℕ)
+pieces text spans = map (λ s. slice_range text s.start s.end) spans

@@ -67,6 +67,15 @@ Member = ℕ × List ℕ
 abbrev pub member_in : List ℕ → Entry → Option Member
 member_in members e = if list_any (λ m. m == e.number) members then option_map (λ body. (e.number, body)) (payload_body e.payload) else None
 
+-- the item of a list that has just one
+abbrev pub lone : {X : Type 0} → List X → Option X
+lone [] = None
+lone (x ∷ []) = Some x
+lone (x ∷ (y ∷ others)) = None
+
+abbrev pub members_in : List ℕ → List Entry → List Member
+members_in members es = filter_map (member_in members) es
+
 -- the longest end of the list that has one number alone, and its bodies joined
 abbrev pub last_run : List Member → Option Member
 last_run [] = None
@@ -75,4 +84,4 @@ last_run (m ∷ ms) = if list_all (λ x. x.0 == m.0) ms then Some (m.0, flat_map
 -- Of a oneof's members the last counts (proto3 encoding); its body is the joined bodies of the last
 -- unbroken run of that member among the oneof's members, other fields not counted as a break (this project's own).
 abbrev pub last_member : List ℕ → List Entry → Option Member
-last_member members es = last_run (filter_map (member_in members) es)
+last_member members es = last_run (members_in members es)

@@ -1,39 +1,33 @@
-ghost use Rattle.std.specs.Prelude.{◌≡◌, ◌<◌, Some, length, slice_get, IfOk};
-ghost use Rattle.protowire.specs.BodyLists.{AreEnds, pieces};
+ghost use Rattle.std.specs.Prelude.{◌≡◌, ◌<◌, Some, length, slice_get};
+ghost use Rattle.protowire.specs.BodyLists.{AreWithin, pieces};
 
 use farm_base::Copied;
 use std::alloc::{AllocError, Global};
 use std::marker::Model;
 
-/// Byte strings that share one allocation, such as the bodies of a repeated field. A contract sees the list of them.
+/// Where a byte string stands in a buffer.
+#[derive(Clone, Copy, Debug)]
+pub(crate) struct Span {
+    pub start: usize,
+    pub end: usize,
+}
+
+/// Byte strings that stand in one buffer, such as the bodies of a repeated field. A contract sees the list of them.
 #[derive(Debug, Drop)]
 pub struct BodyList {
-    bytes: Vec<u8>,
-    /// The place behind each.
-    ends: Vec<usize>,
+    buffer: Vec<u8>,
+    spans: Vec<Span>,
 }
 
 impl Model for BodyList {
     ghost use Rattle.std.specs.Prelude.{ℕ, List, length};
-    ghost use Rattle.protowire.specs.BodyLists.{AreEnds, pieces};
+    ghost use Rattle.protowire.specs.BodyLists.{AreWithin, pieces};
 
     ghost Value = { List (List ℕ) };
 
-    ghost view = { λ b. pieces 0 b.ends.items b.bytes.items };
+    ghost view = { λ b. pieces b.buffer.items b.spans.items };
 
-    ghost invariant = { λ b. AreEnds 0 b.ends.items (length b.bytes.items) };
-}
-
-/// The piece at a place, of the bytes with these ends of pieces.
-fn piece<'a>(bytes: &'a [u8], ends: &[usize], place: usize) -> &'a [u8]
-    requires ends { AreEnds 0 ends.now (length bytes.now) }
-    requires place { place < length ends.now }
-    ensures { slice_get (pieces 0 ends.now bytes.now) place ≡ Some result.now }
-{
-    match place.checked_sub(1) {
-        None => &bytes[..ends[place]],
-        Some(before) => &bytes[ends[before]..ends[place]],
-    }
+    ghost invariant = { λ b. AreWithin (length b.buffer.items) b.spans.items };
 }
 
 impl BodyList {
@@ -43,19 +37,17 @@ impl BodyList {
         ensures { result ≡ [] }
     {
         BodyList {
-            bytes: Vec::new(alloc),
-            ends: Vec::new(alloc),
+            buffer: Vec::new(alloc),
+            spans: Vec::new(alloc),
         }
     }
 
-    /// None yet, with room for so many that have so many bytes in all.
-    pub fn with_room(alloc: Global, count: usize, bytes: usize) -> Result<Self, AllocError>
-        ensures { IfOk result (λ bodies. bodies ≡ []) }
+    /// Those at these places of a buffer.
+    pub(crate) fn at(buffer: Vec<u8>, spans: Vec<Span>) -> Self
+        requires { AreWithin (length buffer.items) spans.items }
+        ensures { result ≡ pieces buffer.items spans.items }
     {
-        Ok(BodyList {
-            bytes: Vec::with_capacity(alloc, bytes)?,
-            ends: Vec::with_capacity(alloc, count)?,
-        })
+        BodyList { buffer, spans }
     }
 
     /// How many there are.
@@ -63,7 +55,7 @@ impl BodyList {
     pub fn len(&self) -> usize
         ensures { result ≡ length self.now }
     {
-        self.ends.len()
+        self.spans.len()
     }
 
     /// The one at a place.
@@ -71,7 +63,8 @@ impl BodyList {
         requires { place < length self.now }
         ensures { slice_get self.now place ≡ Some result.now }
     {
-        piece(self.bytes.as_slice(), self.ends.as_slice(), place)
+        let span = self.spans[place];
+        &self.buffer[span.start..span.end]
     }
 
     /// Adds a copy of one behind the others.
@@ -79,29 +72,22 @@ impl BodyList {
         ensures ok { OnOk result (self.new ≡ self.old ++ body.now ∷ []) }
         ensures err { OnErr result (self.new ≡ self.old) }
     {
-        let len = self.bytes.len();
-        self.bytes.extend_from_slice(body)?;
-        if let Err(failed) = self.ends.push(self.bytes.len()) {
-            self.bytes.truncate(len);
+        let start = self.buffer.len();
+        self.buffer.extend_from_slice(body)?;
+        let end = self.buffer.len();
+        if let Err(failed) = self.spans.push(Span { start, end }) {
+            self.buffer.truncate(start);
             return Err(failed.into());
         }
         Ok(())
-    }
-
-    /// Gives back the room that isn't used.
-    pub fn shrink_to_fit(&mut self)
-        ensures { self.new ≡ self.old }
-    {
-        self.bytes.shrink_to_fit();
-        self.ends.shrink_to_fit();
     }
 }
 
 impl Copied for BodyList {
     fn copy(&self, alloc: Global) -> Result<Self, AllocError> {
         Ok(BodyList {
-            bytes: Vec::from_slice(alloc, self.bytes.as_slice())?,
-            ends: Vec::from_slice(alloc, self.ends.as_slice())?,
+            buffer: Vec::from_slice(alloc, self.buffer.as_slice())?,
+            spans: Vec::from_slice(alloc, self.spans.as_slice())?,
         })
     }
 }

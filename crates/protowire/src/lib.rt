@@ -20,5 +20,5 @@ pub use laws::{
 pub use lookup::{bodies, body_in, joined_body, last_member, last_varint, lone_body, lone_member};
 pub use reading::fields;
 pub use refusal::WireRefusal;
-pub use whole::copy_bodies;
+pub use whole::take_bodies;
 pub use writing::{put_bytes, put_message, put_varint};

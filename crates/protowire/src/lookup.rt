@@ -1,7 +1,7 @@
 ghost use Rattle.std.specs.Prelude.{◌≡◌, Some, IfOk, IfSome, map};
 ghost use Rattle.std.specs.Option.{option_map};
 ghost use Rattle.protowire.specs.Seen.{entry, entries};
-ghost use Rattle.protowire.specs.Lookups.{number_in, body_in, member_in, last_varint, bodies, joined_body, last_member};
+ghost use Rattle.protowire.specs.Lookups.{number_in, body_in, member_in, members_in, lone, last_varint, bodies, joined_body, last_member};
 
 use super::field::{Field, Value};
 use std::alloc::{AllocError, Global};
@@ -84,7 +84,8 @@ pub fn joined_body(
 /// The member that counts and its body, where just one field is a member's. Then nothing has to be joined, and the body
 /// is lent.
 pub fn lone_member<'a>(fields: &[Field<'a>], members: &[u32]) -> Option<(u32, &'a [u8])>
-    ensures { IfSome result (λ m. last_member members.now (entries fields.now) ≡ Some (m.0, m.1.now)) }
+    ensures value { option_map (λ m. (m.0, m.1.now)) result ≡ lone (members_in members.now (entries fields.now)) }
+    ensures counts { IfSome result (λ m. last_member members.now (entries fields.now) ≡ Some (m.0, m.1.now)) }
 {
     let mut lone: Option<(u32, &'a [u8])> = None;
     for field in fields {
@@ -101,7 +102,8 @@ pub fn lone_member<'a>(fields: &[Field<'a>], members: &[u32]) -> Option<(u32, &'
 
 /// The body of this number, where it has just one. It is lent, as nothing has to be joined.
 pub fn lone_body<'a>(fields: &[Field<'a>], number: u32) -> Option<&'a [u8]>
-    ensures { IfSome result (λ body. joined_body number (entries fields.now) ≡ Some body.now) }
+    ensures value { option_map (λ body. body.now) result ≡ lone (bodies number (entries fields.now)) }
+    ensures counts { IfSome result (λ body. joined_body number (entries fields.now) ≡ Some body.now) }
 {
     let (_, body) = lone_member(fields, &[number])?;
     Some(body)

@@ -1,12 +1,13 @@
-//! The bodies of one number straight from a message's bytes, without a list of its fields.
+//! The bodies of one number straight from a message, without a list of its fields.
 
-ghost use Rattle.std.specs.Prelude.{◌≡◌, ◌≤◌, ◌++◌, ◌∷◌, [], length, take, OnOk};
+ghost use Rattle.std.specs.Prelude.{◌≡◌, ◌≤◌, ◌++◌, ◌∷◌, [], length, take, IfOk, IfSome, OnOk};
 ghost use Rattle.std.specs.Option.{option_map};
 ghost use Rattle.protowire.specs.Reading.{shown, Gives};
 ghost use Rattle.protowire.specs.Seen.{payload};
+ghost use Rattle.protowire.specs.BodyLists.{AreWithin, pieces};
 ghost use Rattle.protowire.specs.Lookups.{body_in, bodies_of, at_most};
 
-use super::body_list::BodyList;
+use super::body_list::{BodyList, Span};
 use super::field::Value;
 use super::reading::first_field;
 use super::refusal::WireRefusal;
@@ -22,42 +23,61 @@ fn body_held<'a>(number: u32, found: u32, value: Value<'a>) -> Option<&'a [u8]>
     }
 }
 
-/// Adds a copy of a body, unless there are already so many.
-fn push_copy(copies: &mut BodyList, body: &[u8], most: usize) -> Result<(), AllocError>
-    requires { length copies.old ≤ most }
-    ensures { OnOk result (copies.new ≡ take most (copies.old ++ body.now ∷ [])) }
+/// Adds a place, unless there are already so many.
+fn push_span(spans: &mut Vec<Span>, span: Span, most: usize) -> Result<(), AllocError>
+    requires { length spans.old.items ≤ most }
+    ensures { OnOk result (spans.new.items ≡ take most (spans.old.items ++ span ∷ [])) }
 {
-    if copies.len() < most {
-        copies.push(body)?;
+    if spans.len() < most {
+        spans.push(span)?;
     }
     Ok(())
 }
 
-/// Copies of the bodies of this number, in order, or None where there are more than so many. All of the message is
-/// read in any case. Nothing but the copies takes memory, no more than the message and a place for each.
-pub fn copy_bodies(
+/// Where the bodies of this number stand, or None where there are more than so many. All of the message is read in any
+/// case.
+fn body_spans(
     alloc: Global,
     message: &[u8],
     number: u32,
     most: usize,
-) -> Result<Option<BodyList>, WireRefusal>
-    ensures { Gives (λ found. found) result (shown (at_most most) (bodies_of number message.now)) }
+) -> Result<Option<Vec<Span>>, WireRefusal>
+    ensures value { Gives (option_map (λ spans. pieces message.now spans.items)) result (shown (at_most most) (bodies_of number message.now)) }
+    ensures within { IfOk result (λ found. IfSome found (λ spans. AreWithin (length message.now) spans.items)) }
 {
-    let mut copies = BodyList::with_room(alloc, 0, message.len())?;
+    let mut spans = Vec::new(alloc);
     let mut count = 0;
     let mut rest = message;
     while !rest.is_empty() {
         let (found, value, after) = first_field(rest)?;
         if let Some(body) = body_held(number, found, value) {
-            push_copy(&mut copies, body, most)?;
+            let end = message.len() - after.len();
+            let start = end - body.len();
+            push_span(&mut spans, Span { start, end }, most)?;
             count += 1;
         }
         rest = after;
     }
-    copies.shrink_to_fit();
+    spans.shrink_to_fit();
     if count > most {
         Ok(None)
     } else {
-        Ok(Some(copies))
+        Ok(Some(spans))
+    }
+}
+
+/// The bodies of this number, in order, or None where there are more than so many. All of the message is read in any
+/// case. The bodies stay where they stand in the message, so nothing but a place for each takes memory.
+pub fn take_bodies(
+    alloc: Global,
+    message: Vec<u8>,
+    number: u32,
+    most: usize,
+) -> Result<Option<BodyList>, WireRefusal>
+    ensures { Gives (λ found. found) result (shown (at_most most) (bodies_of number message.items)) }
+{
+    match body_spans(alloc, message.as_slice(), number, most)? {
+        None => Ok(None),
+        Some(spans) => Ok(Some(BodyList::at(message, spans))),
     }
 }

@@ -6,7 +6,7 @@ use std::alloc::{AllocError, Global};
 use std::{env, fs};
 
 /// How many vertices a definition has, its result and the result's solver key, or why it is none.
-fn line(alloc: Global, name: &str, bytes: &[u8]) -> Result<String, AllocError> {
+fn line(alloc: Global, name: &str, bytes: Vec<u8>) -> Result<String, AllocError> {
     let definition = match read_definition(alloc, bytes) {
         Ok(definition) => definition,
         Err(refusal) => return format!(in alloc; "{name} {refusal:?}"),
@@ -25,7 +25,7 @@ fn line(alloc: Global, name: &str, bytes: &[u8]) -> Result<String, AllocError> {
 fn main(rt: HostRuntime) -> anyhow::Result<()> {
     for name in env::args(&rt)?.skip(1) {
         let bytes = fs::read(&rt, &name)?;
-        let line = line(rt.alloc(), name.as_str(), &bytes)?;
+        let line = line(rt.alloc(), name.as_str(), bytes)?;
         println!(rt; "{line}")?;
     }
     Ok(())

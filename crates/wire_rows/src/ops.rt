@@ -162,19 +162,20 @@ fn an_exec_op_is_written(rt: HostRuntime) -> Result<(), Fail> {
     Ok(())
 }
 
+fn definition_of(alloc: Global, bytes: &[u8]) -> Result<Definition, OpRefusal> {
+    read_definition(alloc, Vec::from_slice(alloc, bytes)?)
+}
+
 #[test]
 fn definitions(rt: HostRuntime) -> Result<(), Fail> {
     let alloc = rt.alloc();
     // No entry; metadata and source, which are skipped; one entry; one that is cut.
-    assert_eq!(rt; read_definition(alloc, b"")?.def.len(), 0);
-    assert_eq!(rt;
-        read_definition(alloc, b"\x12\x00\x1a\x01\xff")?.def.len(),
-        0
-    );
-    let definition = read_definition(alloc, b"\x0a\x00\x0a\x01\x0a")?;
+    assert_eq!(rt; definition_of(alloc, b"")?.def.len(), 0);
+    assert_eq!(rt; definition_of(alloc, b"\x12\x00\x1a\x01\xff")?.def.len(), 0);
+    let definition = definition_of(alloc, b"\x0a\x00\x0a\x01\x0a")?;
     assert_eq!(rt; definition.def.len(), 2);
     let bytes = write_definition(alloc, &definition)?;
     assert_eq!(rt; bytes.as_slice(), b"\x0a\x00\x0a\x01\x0a".as_slice());
-    assert!(rt; matches!(&read_definition(alloc, b"\x0a"), Err(OpRefusal::Wire(_))));
+    assert!(rt; matches!(&definition_of(alloc, b"\x0a"), Err(OpRefusal::Wire(_))));
     Ok(())
 }
