@@ -1,2 +1,5 @@
 pub mod Contents
+pub mod Edits
 pub mod Farm
+pub mod Files
+pub mod Reading

@@ -1,6 +1,14 @@
-//! What a version of a slot holds.
+//! What a version of a slot holds: bytes, and the folder that they spell.
 #![tactic(auto)]
 
 mod content;
+mod edit;
+mod folder;
+mod reading;
+mod refusal;
+mod writing;
 
 pub use content::Content;
+pub use edit::Edit;
+pub use folder::Folder;
+pub use refusal::{EditRefusal, FolderRefusal};

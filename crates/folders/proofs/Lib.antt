@@ -1,0 +1,5 @@
+pub mod Bind
+pub mod FileLaws
+pub mod FileLoop
+pub mod FolderLaws
+pub mod Rising

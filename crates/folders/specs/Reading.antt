@@ -1,0 +1,65 @@
+-- Reading folder bytes from the left: the files, or the first fault.
+use Rattle.std.specs.Prelude.{◌≡◌, ◌⊎◌, ℕ, zero, suc, nat_lt, if◌then◌else◌, Bool, true, List, [], ◌∷◌, ◌++◌, length, take, drop, Option, Some, None, Result, Ok, Err}
+use Rattle.std.specs.Int.{w32, from_be_bytes}
+use Rattle.std.specs.Ordering.{is_lt}
+use Rattle.std.specs.Str.{is_utf8}
+use Rattle.folders.specs.declared.refusal.FolderRefusal.{FolderRefusal}
+use Rattle.folders.specs.declared.refusal.FolderRefusal.TheVariants.{Truncated, PathOrder, NotUtf8, TooLarge, OutOfMemory}
+use Rattle.folders.specs.Files.{Files, path_cmp, most_bytes}
+
+-- one step after another, up to the first fault
+infixl 10 ◌>>=◌
+abbrev pub ◌>>=◌ : {A B : Type 0} → Result A FolderRefusal → (A → Result B FolderRefusal) → Result B FolderRefusal
+(Ok x) >>= f = f x
+(Err e) >>= f = Err e
+
+-- a result, its value seen by view
+abbrev pub shown : {X Y : Type 0} → (X → Y) → Result X FolderRefusal → Result Y FolderRefusal
+shown view (Ok x) = Ok (view x)
+shown view (Err e) = Err e
+
+-- what was returned, its value seen by view, is what reading gives, unless memory ran out
+abbrev pub Gives : {X Y : Type 0} → (X → Y) → Result X FolderRefusal → Result Y FolderRefusal → Type 0
+Gives view (Ok x) read = read ≡ Ok (view x)
+Gives view (Err e) read = (e ≡ OutOfMemory) ⊎ (read ≡ Err e)
+
+-- four bytes are a number, big endian; what follows it
+abbrev pub number_at : List ℕ → Result (ℕ × List ℕ) FolderRefusal
+number_at text = if nat_lt (length text) 4 then Err Truncated else Ok (from_be_bytes w32 (take 4 text), drop 4 text)
+
+-- a length and that many bytes, and what follows them
+unfoldable pub sized_at : List ℕ → Result (List ℕ × List ℕ) FolderRefusal
+sized_at text = do
+  len ← number_at text
+  if nat_lt (length len.1) len.0 then Err Truncated else Ok (take len.0 len.1, drop len.0 len.1)
+
+-- whether a path is above the one before it, if there is one
+abbrev pub is_above : Option (List ℕ) → List ℕ → Bool
+is_above None path = true
+is_above (Some last) path = is_lt (path_cmp last path)
+
+-- a path, behind the one before it, and what follows it
+unfoldable pub path_at : Option (List ℕ) → List ℕ → Result (List ℕ × List ℕ) FolderRefusal
+path_at last text = do
+  path ← sized_at text
+  if is_utf8 path.0 then (if is_above last path.0 then Ok path else Err PathOrder) else Err NotUtf8
+
+-- a file, and what follows it
+unfoldable pub file_at : Option (List ℕ) → List ℕ → Result ((List ℕ × List ℕ) × List ℕ) FolderRefusal
+file_at last text = do
+  path ← path_at last text
+  content ← sized_at path.1
+  Ok ((path.0, content.0), content.1)
+
+-- the files of a text of at most so many bytes
+unfoldable pub files_in : ℕ → Option (List ℕ) → List ℕ → Result Files FolderRefusal
+files_in limit last [] = Ok []
+files_in zero last (b ∷ bs) = Ok []
+files_in (suc limit) last (b ∷ bs) = do
+  first ← file_at last (b ∷ bs)
+  others ← files_in limit (Some first.0.0) first.1
+  Ok (first.0 ∷ others)
+
+-- the folder that folder bytes spell, or their first fault: the size, then file by file from the left
+unfoldable pub folder_of : List ℕ → Result Files FolderRefusal
+folder_of text = if nat_lt most_bytes (length text) then Err TooLarge else files_in (length text) None text

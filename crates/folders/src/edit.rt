@@ -1,0 +1,25 @@
+ghost use Rattle.std.specs.Prelude.{◌≡◌, IfOk};
+
+use farm_base::{Copied, Items, Text};
+use std::alloc::{AllocError, Global};
+
+/// A change of one file of a folder.
+#[derive(Debug, Drop)]
+pub enum Edit {
+    /// The path has this content, whatever it had.
+    Put(Text, Items<u8>),
+    /// The path has no content. Where it has none, nothing changes.
+    Remove(Text),
+}
+
+impl Copied for Edit {
+    fn copy(&self, alloc: Global) -> Result<Self, AllocError> {
+        Ok(match self {
+            Edit::Put(path, content) => {
+                let content = Vec::from_slice(alloc, content.as_slice())?;
+                Edit::Put(path.copy(alloc)?, Items::new(content))
+            }
+            Edit::Remove(path) => Edit::Remove(path.copy(alloc)?),
+        })
+    }
+}

@@ -1,0 +1,59 @@
+ghost use Rattle.std.specs.Prelude.{◌≡◌};
+ghost use Rattle.folders.specs.declared.refusal.FolderRefusal.TheVariants as folder;
+ghost use Rattle.folders.specs.declared.refusal.EditRefusal.TheVariants as edit;
+
+use std::alloc::{AllocError, AllocFailed};
+use thiserror::Error;
+
+/// Why bytes are no folder bytes.
+#[derive(Clone, Copy, Debug, PartialEq, Eq, Error)]
+pub enum FolderRefusal {
+    /// The bytes end inside a file.
+    #[error("the bytes end inside a file")]
+    Truncated,
+    /// A path that isn't above the one before it.
+    #[error("a path out of order")]
+    PathOrder,
+    /// A path that isn't UTF-8.
+    #[error("a path that is no UTF-8")]
+    NotUtf8,
+    /// More than 16 MiB.
+    #[error("more than 16 MiB")]
+    TooLarge,
+    #[error("out of memory")]
+    OutOfMemory,
+}
+
+impl From<AllocError> for FolderRefusal {
+    ghost from_gives = { λ _ e. e ≡ folder.OutOfMemory };
+
+    fn from(_error: AllocError) -> FolderRefusal {
+        FolderRefusal::OutOfMemory
+    }
+}
+
+impl<T: Drop> From<AllocFailed<T>> for FolderRefusal {
+    ghost from_gives = { λ _ e. e ≡ folder.OutOfMemory };
+
+    fn from(_error: AllocFailed<T>) -> FolderRefusal {
+        FolderRefusal::OutOfMemory
+    }
+}
+
+/// Why edits weren't made.
+#[derive(Clone, Copy, Debug, PartialEq, Eq, Error)]
+pub enum EditRefusal {
+    /// The folder would have more than 16 MiB of folder bytes.
+    #[error("more than 16 MiB")]
+    TooLarge,
+    #[error("out of memory")]
+    OutOfMemory,
+}
+
+impl From<AllocError> for EditRefusal {
+    ghost from_gives = { λ _ e. e ≡ edit.OutOfMemory };
+
+    fn from(_error: AllocError) -> EditRefusal {
+        EditRefusal::OutOfMemory
+    }
+}
