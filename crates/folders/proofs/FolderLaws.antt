@@ -1,16 +1,19 @@
 -- The files that are read are those that the bytes spell.
-use Rattle.std.proofs.Common.{◌≡◌, ℕ, zero, suc, ◌+◌, ◌^◌, ◌<◌, ◌≤◌, List, [], ◌∷◌, ◌++◌, length, Option, Some, None, Result, Ok, Err, refl, sym, ap, subst, ◌∙◌, arith}
+use Rattle.std.proofs.Common.{ltb, false, ◌≡◌, ℕ, zero, suc, ◌+◌, ◌^◌, ◌<◌, ◌≤◌, List, [], ◌∷◌, ◌++◌, length, get_or, Option, Some, None, Result, Ok, Err, refl, sym, ap, subst, ◌∙◌, arith}
 use Rattle.std.specs.Int.{w32, to_be_bytes}
 use Rattle.std.specs.List.{AllByRecursion}
 use Rattle.std.specs.Map.{keys_of}
 use Rattle.std.specs.Str.{IsUtf8}
+use Rattle.std.specs.Prelude.{IfOk}
+use Rattle.std.proofs.lemmas.Bool.{ltb-false, le-ltb}
 use Rattle.std.proofs.lemmas.List.{length-append}
 use Rattle.folders.specs.declared.refusal.FolderRefusal.{FolderRefusal}
-use Rattle.folders.specs.Files.{Files, sized, file_bytes, folder_bytes}
-use Rattle.folders.specs.Reading.{◌>>=◌, file_at, files_in}
-use Rattle.folders.proofs.Bind.{bind_ok, ok_is}
+use Rattle.folders.specs.declared.refusal.FolderRefusal.TheVariants.{TooLarge}
+use Rattle.folders.specs.Files.{Files, sized, file_bytes, folder_bytes, most_bytes, IsFolder}
+use Rattle.folders.specs.Reading.{◌>>=◌, Gives, file_at, files_in, folder_of}
+use Rattle.folders.proofs.Bind.{bind_ok, guard_ok, ok_is}
 use Rattle.folders.proofs.FileLaws.{IsBytes, file_takes, file_again}
-use Rattle.folders.proofs.Rising.{RiseFrom}
+use Rattle.folders.proofs.Rising.{RiseFrom, sorted_from_rise, rise_from_sorted}
 
 -- the file at the front, and those behind it
 pub files_in_some : (limit : ℕ) (last : Option (List ℕ)) (text : List ℕ) → 1 ≤ length text
@@ -29,6 +32,20 @@ length-file_bytes file =
     let one : length (sized file.0) ≡ 4 + length file.0 = length-append (to_be_bytes w32 (length file.0)) file.0 in
     let two : length (sized file.1) ≡ 4 + length file.1 = length-append (to_be_bytes w32 (length file.1)) file.1 in
     omega (arith, length-append (sized file.0) (sized file.1))
+
+-- a file has its place in the folder bytes
+pub file_within : (files : Files) (i : ℕ) (file : List ℕ × List ℕ) → i < length files → (d : List ℕ × List ℕ) → file ≡ get_or files i d → length file.0 + length file.1 ≤ length (folder_bytes files)
+file_within [] i file lt d is = absurd (omega arith)
+file_within (f ∷ fs) zero file lt d is =
+    let count = length-append (file_bytes f) (folder_bytes fs) in
+    let len = length-file_bytes f in
+    let one : length file.0 ≡ length f.0 = ap (λ (x : List ℕ × List ℕ). length x.0) is in
+    let two : length file.1 ≡ length f.1 = ap (λ (x : List ℕ × List ℕ). length x.1) is in
+    omega arith
+file_within (f ∷ fs) (suc i) file lt d is =
+    let count = length-append (file_bytes f) (folder_bytes fs) in
+    let behind = file_within fs i file (omega arith) d is in
+    omega arith
 
 pub record FilesTook (last : Option (List ℕ)) (text : List ℕ) (files : Files) : Type 0 where
   pub parts : text ≡ folder_bytes files
@@ -68,3 +85,29 @@ files_again (suc limit) last (f ∷ fs) within small rise utf8 =
     let len = length-file_bytes f in
     files_in_some limit last (folder_bytes (f ∷ fs)) (omega arith)
     ∙ rw (file_again last f (folder_bytes fs) (omega arith) (omega arith) utf8.0 rise.0, files_again limit (Some f.0) fs (omega arith) (omega arith) rise.1 utf8.1) refl
+
+-- ---- the whole folder
+
+pub folder_took : (text : List ℕ) (files : Files) → IsBytes text → folder_of text ≡ Ok files → IsFolder files × (text ≡ folder_bytes files)
+unfolding folder_of
+folder_took text files fits e =
+    let g = guard_ok (ltb most_bytes (length text)) TooLarge (files_in (length text) None text) files e in
+    let small : length text ≤ most_bytes = ltb-false _ _ g.0 in
+    let t = files_take (length text) None text files (omega arith) fits g.1 in
+    let same : length text ≡ length (folder_bytes files) = ap length t.parts in
+    (record { rise = sorted_from_rise None (keys_of files) t.rise; utf8 = t.utf8; small = omega arith }, t.parts)
+
+pub folder_again : (files : Files) → IsFolder files → folder_of (folder_bytes files) ≡ Ok files
+unfolding folder_of
+folder_again files is =
+    let small : length (folder_bytes files) ≤ most_bytes = is.small in
+    let fine : ltb most_bytes (length (folder_bytes files)) ≡ false = le-ltb _ _ small in
+    rw fine (files_again (length (folder_bytes files)) None files (omega arith) (omega arith) (rise_from_sorted (keys_of files) is.rise) is.utf8)
+
+-- what reading gave, seen by view
+pub is_folder : {X : Type 0} (view : X → Files) (text : List ℕ) (r : Result X FolderRefusal) → IsBytes text → Gives view r (folder_of text) → IfOk r (λ x. IsFolder (view x) × (text ≡ folder_bytes (view x)))
+is_folder view text (Ok x) fits given = folder_took text (view x) fits given
+is_folder view text (Err d) fits given = tt
+
+pub gives_again : {X : Type 0} (view : X → Files) (r : Result X FolderRefusal) (text : List ℕ) (files : Files) → IsFolder files → text ≡ folder_bytes files → Gives view r (folder_of text) → Gives view r (Ok files)
+gives_again view r text files is spelled given = subst (λ (read : Result Files FolderRefusal). Gives view r read) (ap folder_of spelled ∙ folder_again files is) given

@@ -2,4 +2,5 @@ pub mod Bind
 pub mod FileLaws
 pub mod FileLoop
 pub mod FolderLaws
+pub mod Places
 pub mod Rising

@@ -1,15 +1,24 @@
-ghost use Rattle.std.specs.Prelude.{◌≡◌};
+ghost use Rattle.std.specs.Prelude.{◌≡◌, [], ℕ, List, Ok, IfOk, OnOk, OnErr};
+ghost use Rattle.std.specs.Option.{option_map};
+ghost use Rattle.folders.specs.Files.{Files, path_cmp, content_at, folder_bytes, IsFolder};
+ghost use Rattle.folders.specs.Reading.{Gives, folder_of};
 
-use farm_base::{Items, Text};
-use std::alloc::Global;
+use super::reading::read_files;
+use super::refusal::FolderRefusal;
+use super::writing::push_files;
+use farm_base::{Copied, Items, Text};
+use std::alloc::{AllocError, Global};
+use std::cmp::Ordering;
 use std::marker::Model;
 
-/// The files of a folder: the content of each path. Contracts see it as a finite map: the list of its paths, rising by their
-/// bytes, with the content of each. Its folder bytes are at most 16 MiB.
+/// The files of a folder: the content of each path.
+///
+/// Contracts see a finite map, as the list of the paths, rising by their bytes, with the content of each. A path is any
+/// UTF-8 text. The folder bytes are at most 16 MiB.
 #[derive(Debug, Drop)]
 pub struct Folder {
     files: Vec<(Text, Items<u8>)>,
-    /// How many folder bytes it has.
+    /// How many folder bytes there are.
     size: usize,
 }
 
@@ -24,9 +33,37 @@ impl Model for Folder {
     ghost invariant = { λ f. IsFolder f.files.items × (f.size ≡ length (folder_bytes f.files.items)) };
 }
 
-impl Folder {
-    ghost use Rattle.std.specs.Prelude.{[]};
+/// A copy of a file.
+fn copy_file(alloc: Global, file: &(Text, Items<u8>)) -> Result<(Text, Items<u8>), AllocError>
+    ensures { IfOk result (λ copy. copy ≡ file.now) }
+{
+    let path = file.0.copy(alloc)?;
+    let content = Vec::from_slice(alloc, file.1.as_slice())?;
+    Ok((path, Items::new(content)))
+}
 
+/// Copies of the files.
+fn copy_files(
+    alloc: Global,
+    files: &[(Text, Items<u8>)],
+) -> Result<Vec<(Text, Items<u8>)>, AllocError>
+    ensures { IfOk result (λ copies. copies.items ≡ files.now) }
+{
+    let mut copies = Vec::with_capacity(alloc, files.len())?;
+    for file in files {
+        copies.push(copy_file(alloc, file)?)?;
+    }
+    Ok(copies)
+}
+
+/// The order of a file's path and another path.
+fn compared(file: &(Text, Items<u8>), path: &str) -> Ordering
+    ensures { result ≡ path_cmp file.now.0 path.now }
+{
+    file.0.as_str().cmp(path)
+}
+
+impl Folder {
     /// The empty folder.
     pub fn new(alloc: Global) -> Self
         ensures { result ≡ [] }
@@ -35,5 +72,57 @@ impl Folder {
             files: Vec::new(alloc),
             size: 0,
         }
+    }
+
+    /// The folder that these folder bytes spell.
+    ///
+    /// For each file, by rising path: the length of the path (four bytes, big endian), the path, the length of the content
+    /// (four bytes, big endian), the content. A refusal is the first fault: more than 16 MiB, and then file by file a path
+    /// that ends early, that is no UTF-8, that isn't above the one before it, a content that ends early.
+    pub fn read(alloc: Global, bytes: &[u8]) -> Result<Self, FolderRefusal>
+        // What is read is spelled so.
+        ensures spelled { IfOk result (λ folder. bytes.now ≡ folder_bytes folder) }
+        ensures folder { IfOk result IsFolder }
+        // What is spelled so is read, unless memory runs out.
+        ensures only { (files : Files) → IsFolder files → bytes.now ≡ folder_bytes files → Gives (λ folder. folder) result (Ok files) }
+        // Which refusal it is: the first fault.
+        ensures exact { Gives (λ folder. folder) result (folder_of bytes.now) }
+    {
+        let files = read_files(alloc, bytes)?;
+        Ok(Folder {
+            files,
+            size: bytes.len(),
+        })
+    }
+
+    /// The folder bytes, which `read` reads back.
+    pub fn to_bytes(&self, alloc: Global) -> Result<Vec<u8>, AllocError>
+        ensures bytes { IfOk result (λ v. v.items ≡ folder_bytes self.now) }
+        ensures again { IfOk result (λ v. folder_of v.items ≡ Ok self.now) }
+        ensures folder { IsFolder self.now }
+    {
+        let mut bytes = Vec::with_capacity(alloc, self.size)?;
+        push_files(&mut bytes, self.files.as_slice())?;
+        Ok(bytes)
+    }
+
+    /// The content of a file, if there is one of this path. It takes no memory.
+    pub fn get(&self, path: &str) -> Option<&[u8]>
+        ensures { option_map (λ content. content.now) result ≡ content_at self.now path.now }
+    {
+        let files = self.files.as_slice();
+        match files.binary_search_by(|file| compared(file, path)) {
+            Ok(place) => Some(files[place].1.as_slice()),
+            Err(_) => None,
+        }
+    }
+}
+
+impl Copied for Folder {
+    fn copy(&self, alloc: Global) -> Result<Self, AllocError> {
+        Ok(Folder {
+            files: copy_files(alloc, self.files.as_slice())?,
+            size: self.size,
+        })
     }
 }

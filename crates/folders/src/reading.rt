@@ -1,11 +1,14 @@
 //! Reading folder bytes from the left.
 ghost use Rattle.std.specs.Prelude.{◌≡◌, None, length};
 ghost use Rattle.std.specs.Option.{option_copied};
-ghost use Rattle.folders.specs.Reading.{shown, Gives, number_at, sized_at, is_above, path_at, file_at, files_in};
+ghost use Rattle.folders.specs.Reading.{shown, Gives, number_at, sized_at, is_above, path_at, file_at, files_in, folder_of};
 
 use super::refusal::FolderRefusal;
 use farm_base::{Items, Text};
 use std::alloc::Global;
+
+/// The greatest size of folder bytes: 16 MiB.
+pub(crate) const MOST_BYTES: usize = 16 << 20;
 
 /// The number at the front, and what follows it.
 fn first_number(bytes: &[u8]) -> Result<(usize, &[u8]), FolderRefusal>
@@ -70,7 +73,7 @@ fn first_file<'a>(
 }
 
 /// All files of the bytes.
-pub(crate) fn files_of(alloc: Global, bytes: &[u8]) -> Result<Vec<(Text, Items<u8>)>, FolderRefusal>
+fn files_of(alloc: Global, bytes: &[u8]) -> Result<Vec<(Text, Items<u8>)>, FolderRefusal>
     ensures { Gives (λ v. v.items) result (files_in (length bytes.now) None bytes.now) }
 {
     let mut files = Vec::new(alloc);
@@ -86,4 +89,18 @@ pub(crate) fn files_of(alloc: Global, bytes: &[u8]) -> Result<Vec<(Text, Items<u
         rest = after;
     }
     Ok(files)
+}
+
+/// The files of the folder that the bytes spell.
+#[tactic(auto, unfolding(crate::specs::Reading::folder_of))]
+pub(crate) fn read_files(
+    alloc: Global,
+    bytes: &[u8],
+) -> Result<Vec<(Text, Items<u8>)>, FolderRefusal>
+    ensures { Gives (λ v. v.items) result (folder_of bytes.now) }
+{
+    if bytes.len() > MOST_BYTES {
+        return Err(FolderRefusal::TooLarge);
+    }
+    files_of(alloc, bytes)
 }
