@@ -3,4 +3,5 @@ pub mod FileLaws
 pub mod FileLoop
 pub mod FolderLaws
 pub mod Places
+pub mod Plans
 pub mod Rising

@@ -11,16 +11,16 @@ use Rattle.std.proofs.lemmas.List.Sorted.{searchable_from_sorted}
 use Rattle.std.proofs.lemmas.Map.Keys.{Less-from_sorted, sorted_tail}
 use Rattle.folders.specs.Files.{Files, path_cmp, content_at}
 
-abbrev Pair : Type 0
+abbrev pub Pair : Type 0
 Pair = List ℕ × List ℕ
 
 abbrev pub Rise : Files → Type 0
 Rise files = IsStrictlySortedBy path_cmp (keys_of files)
 
-reversed : (a b : List ℕ) (o : Ordering) → path_cmp a b ≡ o → path_cmp b a ≡ ordering_reverse o
+pub reversed : (a b : List ℕ) (o : Ordering) → path_cmp a b ≡ o → path_cmp b a ≡ ordering_reverse o
 reversed a b o e = nat_list_cmp_total.antisymm b a ∙ ap ordering_reverse e
 
-less_at : (files : Files) (i j : ℕ) (d : Pair) → Rise files → i < j → j < length files → path_cmp (get_or files i d).0 (get_or files j d).0 ≡ Less
+pub less_at : (files : Files) (i j : ℕ) (d : Pair) → Rise files → i < j → j < length files → path_cmp (get_or files i d).0 (get_or files j d).0 ≡ Less
 less_at files i j d up lt inside =
     let inside' : j < length (keys_of files) = omega (arith, length-map files (λ (f : Pair). f.0)) in
     let less = Less-from_sorted path_cmp (keys_of files) i j d.0 up lt inside' in

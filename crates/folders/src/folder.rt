@@ -1,10 +1,13 @@
-ghost use Rattle.std.specs.Prelude.{◌≡◌, [], ℕ, List, Ok, IfOk, OnOk, OnErr};
+ghost use Rattle.std.specs.Prelude.{◌≡◌, ◌<◌, [], ℕ, List, length, Ok, Err, IfOk, OnOk, OnErr};
 ghost use Rattle.std.specs.Option.{option_map};
-ghost use Rattle.folders.specs.Files.{Files, path_cmp, content_at, folder_bytes, IsFolder};
+ghost use Rattle.folders.specs.Files.{Files, path_cmp, content_at, folder_bytes, most_bytes, IsFolder};
+ghost use Rattle.folders.specs.Edits.{edited_all};
 ghost use Rattle.folders.specs.Reading.{Gives, folder_of};
 
+use super::applying::edited_files;
+use super::edit::Edit;
 use super::reading::read_files;
-use super::refusal::FolderRefusal;
+use super::refusal::{EditRefusal, FolderRefusal};
 use super::writing::push_files;
 use farm_base::{Copied, Items, Text};
 use std::alloc::{AllocError, Global};
@@ -104,6 +107,22 @@ impl Folder {
         let mut bytes = Vec::with_capacity(alloc, self.size)?;
         push_files(&mut bytes, self.files.as_slice())?;
         Ok(bytes)
+    }
+
+    /// Makes the edits, one after the other. A refusal changes nothing.
+    ///
+    /// The folder after all edits counts, not those in between: it is `TooLarge` where it would have more than 16 MiB of
+    /// folder bytes.
+    pub fn apply(&mut self, alloc: Global, edits: &[Edit]) -> Result<(), EditRefusal>
+        ensures ok { OnOk result (self.new ≡ edited_all self.old edits.now) }
+        ensures folder { IsFolder self.new }
+        ensures too_large { result ≡ Err EditRefusal.TooLarge → most_bytes < length (folder_bytes (edited_all self.old edits.now)) }
+        ensures err { OnErr result (self.new ≡ self.old) }
+    {
+        let (files, size) = edited_files(alloc, self.files.as_slice(), edits)?;
+        self.files = files;
+        self.size = size;
+        Ok(())
     }
 
     /// The content of a file, if there is one of this path. It takes no memory.

@@ -1,6 +1,7 @@
 //! What a version of a slot holds: bytes, and the folder that they spell.
 #![tactic(auto)]
 
+mod applying;
 mod content;
 mod edit;
 mod folder;

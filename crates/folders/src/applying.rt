@@ -1,0 +1,129 @@
+//! Editing the files of a folder.
+ghost use Rattle.std.specs.Prelude.{◌≡◌, ◌+◌, ◌<◌, ◌≤◌, length, IfOk, OnOk, IfSome, IfNone, Err};
+ghost use Rattle.std.specs.List.{AllByRecursion};
+ghost use Rattle.std.specs.List.Sorted.{IsStrictlySortedBy};
+ghost use Rattle.std.specs.Map.{keys_of};
+ghost use Rattle.std.specs.Str.{IsUtf8};
+ghost use Rattle.folders.specs.Edits.{edited, edited_all, lent};
+ghost use Rattle.folders.specs.Files.{path_cmp, file_bytes, folder_bytes, most_bytes, IsFolder};
+
+use super::edit::Edit;
+use super::reading::MOST_BYTES;
+use super::refusal::EditRefusal;
+use farm_base::{Items, Text};
+use std::alloc::{AllocError, Global};
+use std::collections::BTreeMap;
+
+/// Files by path, lent by a folder or by the edits that put them.
+type Plan<'a> = BTreeMap<&'a str, &'a [u8]>;
+
+/// The files of a folder.
+fn plan_of<'a>(alloc: Global, files: &'a [(Text, Items<u8>)]) -> Result<Plan<'a>, AllocError>
+    requires { IsStrictlySortedBy path_cmp (keys_of files.now) }
+    ensures { IfOk result (λ plan. lent plan ≡ files.now) }
+{
+    let mut plan = BTreeMap::new(alloc);
+    for (path, content) in files {
+        plan.insert(path.as_str(), content.as_slice())?;
+    }
+    Ok(plan)
+}
+
+/// Makes an edit.
+fn edit_one<'a>(plan: &mut Plan<'a>, edit: &'a Edit) -> Result<(), AllocError>
+    ensures { OnOk result (lent plan.new ≡ edited (lent plan.old) edit.now) }
+{
+    match edit {
+        Edit::Put(path, content) => {
+            plan.insert(path.as_str(), content.as_slice())?;
+        }
+        Edit::Remove(path) => {
+            plan.remove(path.as_str());
+        }
+    }
+    Ok(())
+}
+
+/// The files of a folder after some edits.
+fn edited_plan<'a>(
+    alloc: Global,
+    files: &'a [(Text, Items<u8>)],
+    edits: &'a [Edit],
+) -> Result<Plan<'a>, AllocError>
+    requires { IsStrictlySortedBy path_cmp (keys_of files.now) }
+    ensures { IfOk result (λ plan. lent plan ≡ edited_all files.now edits.now) }
+{
+    let mut plan = plan_of(alloc, files)?;
+    for edit in edits {
+        edit_one(&mut plan, edit)?;
+    }
+    Ok(plan)
+}
+
+/// So many folder bytes and those of one file more, where they are no more than may be.
+fn size_with(size: usize, path: &str, content: &[u8]) -> Option<usize>
+    requires { size ≤ most_bytes }
+    ensures sum { IfSome result (λ sum. sum ≡ size + length (file_bytes (path.now, content.now))) }
+    ensures small { IfSome result (λ sum. sum ≤ most_bytes) }
+    ensures large { IfNone result (most_bytes < size + length (file_bytes (path.now, content.now))) }
+{
+    let sum = (size + 8)
+        .checked_add(path.len())?
+        .checked_add(content.len())?;
+    if sum <= MOST_BYTES { Some(sum) } else { None }
+}
+
+/// How many folder bytes the files have, where they are no more than may be.
+fn size_of(plan: &Plan<'_>) -> Option<usize>
+    ensures size { IfSome result (λ size. size ≡ length (folder_bytes (lent plan.now))) }
+    ensures small { IfSome result (λ size. size ≤ most_bytes) }
+    ensures large { IfNone result (most_bytes < length (folder_bytes (lent plan.now))) }
+{
+    let mut size = 0;
+    for (path, content) in plan {
+        size = size_with(size, path, content)?;
+    }
+    Some(size)
+}
+
+/// A file of its own.
+fn file_of(alloc: Global, path: &str, content: &[u8]) -> Result<(Text, Items<u8>), AllocError>
+    ensures file { IfOk result (λ file. file ≡ (path.now, content.now)) }
+    ensures utf8 { IfOk result (λ file. IsUtf8 file.0) }
+{
+    let path = String::from_str(alloc, path)?;
+    let content = Vec::from_slice(alloc, content)?;
+    Ok((Text::new(path), Items::new(content)))
+}
+
+/// Copies of the files.
+fn files_of(alloc: Global, plan: &Plan<'_>) -> Result<Vec<(Text, Items<u8>)>, AllocError>
+    ensures files { IfOk result (λ files. files.items ≡ lent plan.now) }
+    ensures rise { IfOk result (λ files. IsStrictlySortedBy path_cmp (keys_of files.items)) }
+    ensures utf8 { IfOk result (λ files. AllByRecursion IsUtf8 (keys_of files.items)) }
+{
+    let mut files = Vec::with_capacity(alloc, plan.len())?;
+    for (path, content) in plan {
+        files.push(file_of(alloc, path, content)?)?;
+    }
+    Ok(files)
+}
+
+/// The files of a folder after some edits, and how many folder bytes they have.
+pub(crate) fn edited_files(
+    alloc: Global,
+    files: &[(Text, Items<u8>)],
+    edits: &[Edit],
+) -> Result<(Vec<(Text, Items<u8>)>, usize), EditRefusal>
+    requires { IsStrictlySortedBy path_cmp (keys_of files.now) }
+    ensures files { IfOk result (λ made. made.0.items ≡ edited_all files.now edits.now) }
+    ensures folder { IfOk result (λ made. IsFolder made.0.items) }
+    ensures size { IfOk result (λ made. made.1 ≡ length (folder_bytes made.0.items)) }
+    ensures too_large { result ≡ Err EditRefusal.TooLarge → most_bytes < length (folder_bytes (edited_all files.now edits.now)) }
+{
+    let plan = edited_plan(alloc, files, edits)?;
+    let Some(size) = size_of(&plan) else {
+        return Err(EditRefusal::TooLarge);
+    };
+    Ok((files_of(alloc, &plan)?, size))
+}
