@@ -1,5 +1,5 @@
 -- Where a path stands among the files.
-use Rattle.std.proofs.Common.{◌≡◌, ℕ, zero, suc, ◌+◌, ◌<◌, ◌≤◌, List, [], ◌∷◌, ◌⊎◌, true, false, length, get_or, Option, Some, None, Result, Ok, Err, Ordering, refl, sym, ◌∙◌, ap, inl, inr, arith}
+use Rattle.std.proofs.Common.{◌≡◌, ℕ, zero, suc, ◌+◌, ◌<◌, ◌≤◌, List, [], ◌∷◌, ◌⊎◌, true, false, length, get_or, Option, Some, None, Result, Ok, Err, Ordering, refl, sym, ◌∙◌, ap, subst, inl, inr, arith}
 use Rattle.std.specs.Prelude.{MatchResult}
 use Rattle.std.specs.List.Sorted.{IsStrictlySortedBy, IsSortedBy, IsSearchInRange, IsBinarySearchResult}
 use Rattle.std.specs.Map.{keys_of}
@@ -8,6 +8,7 @@ use Rattle.std.specs.declared.cmp.Ordering.TheVariants.{Less, Equal, Greater}
 use Rattle.std.specs.Cmp.Lexicographic.{nat_list_cmp_total}
 use Rattle.std.proofs.lemmas.List.{get_or-map, length-map}
 use Rattle.std.proofs.lemmas.List.Sorted.{searchable_from_sorted}
+use Rattle.std.proofs.lemmas.Result.{MatchResult-at_ok, MatchResult-at_err}
 use Rattle.std.proofs.lemmas.Map.Keys.{Less-from_sorted, sorted_tail}
 use Rattle.folders.specs.Files.{Files, path_cmp, content_at}
 
@@ -44,7 +45,7 @@ content_at-none [] path h = refl
 content_at-none (f ∷ fs) path h = rw (h 0 f (omega arith)) (content_at-none fs path (λ i d lt. h (suc i) d (omega arith)))
 
 -- what a binary search by the path finds
-pub searched : (path : List ℕ) (files : Files) (r : Result ℕ ℕ) → Rise files → IsSearchInRange r (length files) → IsBinarySearchResult (λ f. path_cmp f.0 path) files r
+searched : (path : List ℕ) (files : Files) (r : Result ℕ ℕ) → Rise files → IsSearchInRange r (length files) → IsBinarySearchResult (λ f. path_cmp f.0 path) files r
     → MatchResult r (λ k. (d : Pair) → content_at files path ≡ Some (get_or files k d).1) (λ k. content_at files path ≡ None)
 searched path files (Ok k) up inside at = λ d. content_at-place files path k d up inside (at d)
 searched path files (Err k) up inside parts =
@@ -56,3 +57,16 @@ searched path files (Err k) up inside parts =
   where
     split : (a b : ℕ) → (a < b) ⊎ (b ≤ a)
     split a b = grind arith
+
+-- the content at the place that is found
+pub place_found : (path : List ℕ) (files lent : Files) (r : Result ℕ ℕ) (k : ℕ) (d : Pair) → lent ≡ files → Rise files → IsSearchInRange r (length lent) → IsBinarySearchResult (λ f. path_cmp f.0 path) lent r → r ≡ Ok k
+    → content_at files path ≡ Some (get_or lent k d).1
+place_found path files lent r k d same up inside at is =
+    let found = searched path lent r (subst Rise (sym same) up) inside at in
+    ap (λ (fs : Files). content_at fs path) (sym same) ∙ MatchResult-at_ok (λ k. (d : Pair) → content_at lent path ≡ Some (get_or lent k d).1) (λ k. content_at lent path ≡ None) k is found d
+
+pub place_missed : (path : List ℕ) (files lent : Files) (r : Result ℕ ℕ) (k : ℕ) → lent ≡ files → Rise files → IsSearchInRange r (length lent) → IsBinarySearchResult (λ f. path_cmp f.0 path) lent r → r ≡ Err k
+    → content_at files path ≡ None
+place_missed path files lent r k same up inside at is =
+    let found = searched path lent r (subst Rise (sym same) up) inside at in
+    ap (λ (fs : Files). content_at fs path) (sym same) ∙ MatchResult-at_err (λ k. (d : Pair) → content_at lent path ≡ Some (get_or lent k d).1) (λ k. content_at lent path ≡ None) k is found

@@ -1,11 +1,14 @@
 -- Reading folder bytes from the left: the files, or the first fault.
-use Rattle.std.specs.Prelude.{◌≡◌, ◌⊎◌, ℕ, zero, suc, nat_lt, if◌then◌else◌, Bool, true, List, [], ◌∷◌, ◌++◌, length, take, drop, Option, Some, None, Result, Ok, Err}
+use Rattle.std.specs.Prelude.{◌≡◌, ◌⊎◌, ℕ, zero, suc, ◌<◌, ◌≤◌, nat_lt, if◌then◌else◌, Bool, true, List, [], ◌∷◌, ◌++◌, length, take, drop, Option, Some, None, Result, Ok, Err}
 use Rattle.std.specs.Int.{w32, from_be_bytes}
 use Rattle.std.specs.Ordering.{is_lt}
-use Rattle.std.specs.Str.{is_utf8}
+use Rattle.std.specs.List.{AllByRecursion}
+use Rattle.std.specs.List.Sorted.{IsStrictlySortedBy}
+use Rattle.std.specs.Map.{keys_of}
+use Rattle.std.specs.Str.{IsUtf8, is_utf8}
 use Rattle.folders.specs.declared.refusal.FolderRefusal.{FolderRefusal}
 use Rattle.folders.specs.declared.refusal.FolderRefusal.TheVariants.{Truncated, PathOrder, NotUtf8, TooLarge, OutOfMemory}
-use Rattle.folders.specs.Files.{Files, path_cmp, most_bytes}
+use Rattle.folders.specs.Files.{Files, path_cmp, folder_bytes, most_bytes}
 
 -- one step after another, up to the first fault
 infixl 10 ◌>>=◌
@@ -63,3 +66,21 @@ files_in (suc limit) last (b ∷ bs) = do
 -- the folder that folder bytes spell, or their first fault: the size, then file by file from the left
 unfoldable pub folder_of : List ℕ → Result Files FolderRefusal
 folder_of text = if nat_lt most_bytes (length text) then Err TooLarge else files_in (length text) None text
+
+-- the last of these paths, or else the one before them, if there is one
+abbrev pub last_path : Option (List ℕ) → Files → Option (List ℕ)
+last_path last [] = last
+last_path last (file ∷ files) = last_path (Some file.0) files
+
+-- files stand in front of the fault, and it is the fault of what follows them
+pub record FaultsBehind (text : List ℕ) (refusal : FolderRefusal) : Type 0 where
+  pub before : Files
+  pub rest : List ℕ
+  pub rise : IsStrictlySortedBy path_cmp (keys_of before)
+  pub utf8 : AllByRecursion IsUtf8 (keys_of before)
+  pub parts : text ≡ folder_bytes before ++ rest
+  pub fault : file_at (last_path None before) rest ≡ Err refusal
+
+-- why bytes are refused
+abbrev pub Faulted : List ℕ → FolderRefusal → Type 0
+Faulted text refusal = ((refusal ≡ TooLarge) × (most_bytes < length text)) ⊎ ((length text ≤ most_bytes) × FaultsBehind text refusal)
