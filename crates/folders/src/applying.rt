@@ -8,9 +8,9 @@ ghost use Rattle.folders.specs.Edits.{edited, edited_all, lent};
 ghost use Rattle.folders.specs.Files.{path_cmp, file_bytes, folder_bytes, most_bytes, IsFolder};
 
 use super::edit::Edit;
+use super::file::{File, file_of};
 use super::reading::MOST_BYTES;
 use super::refusal::EditRefusal;
-use farm_base::{Items, Text};
 use std::alloc::{AllocError, Global};
 use std::collections::BTreeMap;
 
@@ -18,7 +18,7 @@ use std::collections::BTreeMap;
 type Plan<'a> = BTreeMap<&'a str, &'a [u8]>;
 
 /// The files of a folder.
-fn plan_of<'a>(alloc: Global, files: &'a [(Text, Items<u8>)]) -> Result<Plan<'a>, AllocError>
+fn plan_of<'a>(alloc: Global, files: &'a [File]) -> Result<Plan<'a>, AllocError>
     requires { IsStrictlySortedBy path_cmp (keys_of files.now) }
     ensures { IfOk result (λ plan. lent plan ≡ files.now) }
 {
@@ -47,7 +47,7 @@ fn edit_one<'a>(plan: &mut Plan<'a>, edit: &'a Edit) -> Result<(), AllocError>
 /// The files of a folder after some edits.
 fn edited_plan<'a>(
     alloc: Global,
-    files: &'a [(Text, Items<u8>)],
+    files: &'a [File],
     edits: &'a [Edit],
 ) -> Result<Plan<'a>, AllocError>
     requires { IsStrictlySortedBy path_cmp (keys_of files.now) }
@@ -86,18 +86,8 @@ fn size_of(plan: &Plan<'_>) -> Option<usize>
     Some(size)
 }
 
-/// A file of its own.
-fn file_of(alloc: Global, path: &str, content: &[u8]) -> Result<(Text, Items<u8>), AllocError>
-    ensures file { IfOk result (λ file. file ≡ (path.now, content.now)) }
-    ensures utf8 { IfOk result (λ file. IsUtf8 file.0) }
-{
-    let path = String::from_str(alloc, path)?;
-    let content = Vec::from_slice(alloc, content)?;
-    Ok((Text::new(path), Items::new(content)))
-}
-
 /// Copies of the files.
-fn files_of(alloc: Global, plan: &Plan<'_>) -> Result<Vec<(Text, Items<u8>)>, AllocError>
+fn files_of_plan(alloc: Global, plan: &Plan<'_>) -> Result<Vec<File>, AllocError>
     ensures files { IfOk result (λ files. files.items ≡ lent plan.now) }
     ensures rise { IfOk result (λ files. IsStrictlySortedBy path_cmp (keys_of files.items)) }
     ensures utf8 { IfOk result (λ files. AllByRecursion IsUtf8 (keys_of files.items)) }
@@ -112,9 +102,9 @@ fn files_of(alloc: Global, plan: &Plan<'_>) -> Result<Vec<(Text, Items<u8>)>, Al
 /// The files of a folder after some edits, and how many folder bytes they have.
 pub(crate) fn edited_files(
     alloc: Global,
-    files: &[(Text, Items<u8>)],
+    files: &[File],
     edits: &[Edit],
-) -> Result<(Vec<(Text, Items<u8>)>, usize), EditRefusal>
+) -> Result<(Vec<File>, usize), EditRefusal>
     requires { IsStrictlySortedBy path_cmp (keys_of files.now) }
     ensures files { IfOk result (λ made. made.0.items ≡ edited_all files.now edits.now) }
     ensures folder { IfOk result (λ made. IsFolder made.0.items) }
@@ -125,5 +115,5 @@ pub(crate) fn edited_files(
     let Some(size) = size_of(&plan) else {
         return Err(EditRefusal::TooLarge);
     };
-    Ok((files_of(alloc, &plan)?, size))
+    Ok((files_of_plan(alloc, &plan)?, size))
 }

@@ -6,10 +6,11 @@ ghost use Rattle.folders.specs.Reading.{Gives, folder_of};
 
 use super::applying::edited_files;
 use super::edit::Edit;
+use super::file::{File, copy_files};
 use super::reading::read_files;
 use super::refusal::{EditRefusal, FolderRefusal};
 use super::writing::push_files;
-use farm_base::{Copied, Items, Text};
+use farm_base::Copied;
 use std::alloc::{AllocError, Global};
 use std::cmp::Ordering;
 use std::marker::Model;
@@ -20,7 +21,7 @@ use std::marker::Model;
 /// UTF-8 text. The folder bytes are at most 16 MiB.
 #[derive(Debug, Drop)]
 pub struct Folder {
-    files: Vec<(Text, Items<u8>)>,
+    files: Vec<File>,
     /// How many folder bytes there are.
     size: usize,
 }
@@ -36,31 +37,8 @@ impl Model for Folder {
     ghost invariant = { λ f. IsFolder f.files.items × (f.size ≡ length (folder_bytes f.files.items)) };
 }
 
-/// A copy of a file.
-fn copy_file(alloc: Global, file: &(Text, Items<u8>)) -> Result<(Text, Items<u8>), AllocError>
-    ensures { IfOk result (λ copy. copy ≡ file.now) }
-{
-    let path = file.0.copy(alloc)?;
-    let content = Vec::from_slice(alloc, file.1.as_slice())?;
-    Ok((path, Items::new(content)))
-}
-
-/// Copies of the files.
-fn copy_files(
-    alloc: Global,
-    files: &[(Text, Items<u8>)],
-) -> Result<Vec<(Text, Items<u8>)>, AllocError>
-    ensures { IfOk result (λ copies. copies.items ≡ files.now) }
-{
-    let mut copies = Vec::with_capacity(alloc, files.len())?;
-    for file in files {
-        copies.push(copy_file(alloc, file)?)?;
-    }
-    Ok(copies)
-}
-
 /// The order of a file's path and another path.
-fn compared(file: &(Text, Items<u8>), path: &str) -> Ordering
+fn compared(file: &File, path: &str) -> Ordering
     ensures { result ≡ path_cmp file.now.0 path.now }
 {
     file.0.as_str().cmp(path)

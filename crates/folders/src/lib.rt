@@ -4,6 +4,7 @@
 mod applying;
 mod content;
 mod edit;
+mod file;
 mod folder;
 mod laws;
 mod reading;

@@ -3,8 +3,8 @@ ghost use Rattle.std.specs.Prelude.{◌≡◌, None, length};
 ghost use Rattle.std.specs.Option.{option_copied};
 ghost use Rattle.folders.specs.Reading.{shown, Gives, number_at, sized_at, is_above, path_at, file_at, files_in, folder_of};
 
+use super::file::{File, file_of};
 use super::refusal::FolderRefusal;
-use farm_base::{Items, Text};
 use std::alloc::Global;
 
 /// The greatest size of folder bytes: 16 MiB.
@@ -73,7 +73,7 @@ fn first_file<'a>(
 }
 
 /// All files of the bytes.
-fn files_of(alloc: Global, bytes: &[u8]) -> Result<Vec<(Text, Items<u8>)>, FolderRefusal>
+fn files_of(alloc: Global, bytes: &[u8]) -> Result<Vec<File>, FolderRefusal>
     ensures { Gives (λ v. v.items) result (files_in (length bytes.now) None bytes.now) }
 {
     let mut files = Vec::new(alloc);
@@ -81,10 +81,7 @@ fn files_of(alloc: Global, bytes: &[u8]) -> Result<Vec<(Text, Items<u8>)>, Folde
     let mut rest = bytes;
     while !rest.is_empty() {
         let (path, content, after) = first_file(last, rest)?;
-        files.push((
-            Text::new(String::from_str(alloc, path)?),
-            Items::new(Vec::from_slice(alloc, content)?),
-        ))?;
+        files.push(file_of(alloc, path, content)?)?;
         last = Some(path);
         rest = after;
     }
@@ -93,10 +90,7 @@ fn files_of(alloc: Global, bytes: &[u8]) -> Result<Vec<(Text, Items<u8>)>, Folde
 
 /// The files of the folder that the bytes spell.
 #[tactic(auto, unfolding(crate::specs::Reading::folder_of))]
-pub(crate) fn read_files(
-    alloc: Global,
-    bytes: &[u8],
-) -> Result<Vec<(Text, Items<u8>)>, FolderRefusal>
+pub(crate) fn read_files(alloc: Global, bytes: &[u8]) -> Result<Vec<File>, FolderRefusal>
     ensures { Gives (λ v. v.items) result (folder_of bytes.now) }
 {
     if bytes.len() > MOST_BYTES {

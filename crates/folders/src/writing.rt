@@ -2,7 +2,7 @@
 ghost use Rattle.std.specs.Prelude.{◌≡◌, ◌<◌, ◌^◌, ◌++◌, length, OnOk};
 ghost use Rattle.folders.specs.Files.{sized, file_bytes, folder_bytes};
 
-use farm_base::{Items, Text};
+use super::file::File;
 use std::alloc::AllocError;
 
 /// Appends bytes behind their length.
@@ -16,7 +16,7 @@ fn push_sized(out: &mut Vec<u8>, bytes: &[u8]) -> Result<(), AllocError>
 }
 
 /// Appends the files, one after the other.
-pub(crate) fn push_files(out: &mut Vec<u8>, files: &[(Text, Items<u8>)]) -> Result<(), AllocError>
+pub(crate) fn push_files(out: &mut Vec<u8>, files: &[File]) -> Result<(), AllocError>
     requires { length (folder_bytes files.now) < 2 ^ 32 }
     ensures { OnOk result (out.new.items ≡ out.old.items ++ folder_bytes files.now) }
 {

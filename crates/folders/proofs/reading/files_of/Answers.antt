@@ -19,7 +19,7 @@ pub loop-last-preserved : goal.loop-last-preserved
 loop-last-preserved c =
     let text = c.args.bytes.now in
     let on = goes_on (files_in (length text) None text) c.loop-last.files.items (option_copied c.loop-last.last) c.loop-last.rest.now (c.in_ok-path.path.now, c.in_ok-path.content.now) c.in_ok-path.after.now c.loop-last.invariant (grind arith) (sym c.in_ok-path.ensures) in
-    rw (c.in_ok-push.ensures.items, c.new.ensures, c.new-in-loop-last.ensures, c.in_ok-from_str.ensures.ok, c.in_ok-from_slice.ensures.items) on
+    rw (c.in_ok-push.ensures.items, c.in_ok-file_of.ensures.file) on
 
 pub returns : goal.returns
 returns c =

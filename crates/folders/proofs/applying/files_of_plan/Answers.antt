@@ -2,7 +2,7 @@ use Rattle.std.proofs.Common.{sym, subst}
 use Rattle.folders.specs.Edits.{lent}
 use Rattle.folders.proofs.Places.{Rise}
 use Rattle.folders.proofs.Plans.{rise_lent, all_copied}
-use Rattle.folders.proofs.applying.files_of.Goals as goal
+use Rattle.folders.proofs.applying.files_of_plan.Goals as goal
 
 pub returns-clause-rise : goal.returns-clause-rise
 returns-clause-rise c =

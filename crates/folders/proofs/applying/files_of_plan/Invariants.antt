@@ -4,7 +4,7 @@ use Rattle.std.specs.Map.{keys_of}
 use Rattle.std.specs.Map.Iter.{deref_pair}
 use Rattle.std.specs.Str.{IsUtf8}
 use Rattle.folders.specs.Edits.{lent}
-use Rattle.folders.proofs.applying.files_of.Given as goal
+use Rattle.folders.proofs.applying.files_of_plan.Given as goal
 
 abbrev pub invariant-loop-path : goal.invariant-loop-path
 invariant-loop-path l = record {

@@ -1,0 +1,79 @@
+use folders::{Folder, FolderRefusal};
+use std::alloc::Global;
+use std::test::Fail;
+
+/// Bytes in hexadecimal, and why they are refused, if they are.
+const ROWS: [(&str, &str); 20] = [
+    ("", ""),
+    ("00000001610000000178", ""),
+    ("0000000000000000", ""),
+    // `a` before `ab`, and `z` before `é`.
+    ("0000000161000000000000000261620000000178", ""),
+    ("000000017a0000000000000002c3a900000000", ""),
+    ("0000000161000000017800000001610000000178", "PathOrder"),
+    ("0000000261620000000000000001610000000178", "PathOrder"),
+    // The order of a path comes before its content, and its characters before its order.
+    ("00000001620000000000000001610000", "PathOrder"),
+    ("00000002c3a90000000000000001800000", "NotUtf8"),
+    ("00000001ff00000000", "NotUtf8"),
+    ("00000001ff", "NotUtf8"),
+    ("00000002c080", "NotUtf8"),
+    ("00000003eda080", "NotUtf8"),
+    ("000000016100000001", "Truncated"),
+    ("0000000161000000", "Truncated"),
+    ("00000001", "Truncated"),
+    ("00000002ff", "Truncated"),
+    ("000000", "Truncated"),
+    ("ffffffff61", "Truncated"),
+    ("0000000161ffffffff78", "Truncated"),
+];
+
+fn shown(alloc: Global, bytes: &[u8]) -> Result<String, Fail> {
+    let mut text = String::new(alloc);
+    match Folder::read(alloc, bytes) {
+        Err(refusal) => write!(text, "{refusal:?}")?,
+        Ok(folder) => {
+            let again = folder.to_bytes(alloc)?;
+            if again.as_slice() != bytes {
+                text.push_str("other bytes")?;
+            }
+        }
+    }
+    Ok(text)
+}
+
+#[test]
+fn folders_and_faults(rt: HostRuntime) -> Result<(), Fail> {
+    for (bytes, wanted) in &ROWS {
+        let bytes = hex::decode(rt.alloc(), *bytes)?;
+        let text = shown(rt.alloc(), &bytes)?;
+        assert_eq!(rt; text.as_str(), *wanted);
+    }
+    Ok(())
+}
+
+#[test]
+fn each_front_of_a_folder(rt: HostRuntime) -> Result<(), Fail> {
+    let bytes = hex::decode(rt.alloc(), "00000001610000000178")?;
+    for len in 1..10 {
+        let refused = Folder::read(rt.alloc(), bytes.get(..len).ok_or("short")?);
+        assert!(rt; matches!(refused, Err(FolderRefusal::Truncated)));
+    }
+    let folder = Folder::read(rt.alloc(), &bytes)?;
+    assert_eq!(rt; folder.get("a"), Some(b"x".as_slice()));
+    assert_eq!(rt; folder.get(""), None);
+    assert_eq!(rt; folder.get("b"), None);
+    Ok(())
+}
+
+/// The size is looked at before all else, and 16 MiB may be.
+#[test]
+fn the_greatest_size(rt: HostRuntime) -> Result<(), Fail> {
+    let mut bytes = vec![in rt.alloc(); 0; 16 << 20]?;
+    let refused = Folder::read(rt.alloc(), &bytes);
+    assert!(rt; matches!(refused, Err(FolderRefusal::PathOrder)));
+    bytes.push(0)?;
+    let refused = Folder::read(rt.alloc(), &bytes);
+    assert!(rt; matches!(refused, Err(FolderRefusal::TooLarge)));
+    Ok(())
+}

@@ -1,0 +1,95 @@
+use farm_base::{Items, Text};
+use folders::{Edit, EditRefusal, Folder};
+use std::alloc::{AllocError, Global};
+use std::test::Fail;
+
+/// Edits of one folder, one row after the other: paths with the content that is put, or `None` where it is removed; and the
+/// folder bytes that come of them, in hexadecimal.
+const ROWS: [(&[(&str, Option<&str>)], &str); 7] = [
+    (&[("b", Some("x"))], "00000001620000000178"),
+    (&[("a", Some(""))], "00000001610000000000000001620000000178"),
+    (
+        &[("b", Some("yz"))],
+        "000000016100000000000000016200000002797a",
+    ),
+    (&[("c", None)], "000000016100000000000000016200000002797a"),
+    (
+        &[("c", Some("x")), ("c", Some("y")), ("c", None)],
+        "000000016100000000000000016200000002797a",
+    ),
+    (
+        &[("a", None), ("a", Some("w"))],
+        "00000001610000000177000000016200000002797a",
+    ),
+    (&[("b", None), ("a", None)], ""),
+];
+
+fn put(alloc: Global, path: &str, content: &[u8]) -> Result<Edit, AllocError> {
+    let path = Text::new(String::from_str(alloc, path)?);
+    let content = Vec::from_slice(alloc, content)?;
+    Ok(Edit::Put(path, Items::new(content)))
+}
+
+fn remove(alloc: Global, path: &str) -> Result<Edit, AllocError> {
+    Ok(Edit::Remove(Text::new(String::from_str(alloc, path)?)))
+}
+
+#[test]
+fn edits_of_a_folder(rt: HostRuntime) -> Result<(), Fail> {
+    let mut folder = Folder::new(rt.alloc());
+    for (row, wanted) in &ROWS {
+        let mut edits = Vec::new(rt.alloc());
+        for (path, content) in *row {
+            edits.push(match content {
+                Some(content) => put(rt.alloc(), path, content.as_bytes())?,
+                None => remove(rt.alloc(), path)?,
+            })?;
+        }
+        folder.apply(rt.alloc(), &edits)?;
+        let bytes = folder.to_bytes(rt.alloc())?;
+        let text = hex::encode(rt.alloc(), &bytes)?;
+        assert_eq!(rt; text.as_str(), *wanted);
+    }
+    Ok(())
+}
+
+/// A file whose folder bytes are so many.
+fn put_large(alloc: Global, size: usize) -> Result<Edit, Fail> {
+    let content = vec![in alloc; 0; size.saturating_sub(9)]?;
+    Ok(put(alloc, "b", &content)?)
+}
+
+/// The folder `{a: x}`.
+const SMALL: [u8; 10] = [0, 0, 0, 1, b'a', 0, 0, 0, 1, b'x'];
+
+#[test]
+fn edits_that_are_too_large(rt: HostRuntime) -> Result<(), Fail> {
+    let mut folder = Folder::read(rt.alloc(), &SMALL)?;
+    let edits = [put_large(rt.alloc(), (16 << 20) - 9)?];
+    let refused = folder.apply(rt.alloc(), &edits);
+    assert!(rt; matches!(refused, Err(EditRefusal::TooLarge)));
+    let bytes = folder.to_bytes(rt.alloc())?;
+    assert_eq!(rt; bytes.as_slice(), SMALL.as_slice());
+    Ok(())
+}
+
+#[test]
+fn edits_of_the_greatest_size(rt: HostRuntime) -> Result<(), Fail> {
+    let mut folder = Folder::read(rt.alloc(), &SMALL)?;
+    let edits = [put_large(rt.alloc(), (16 << 20) - 10)?];
+    folder.apply(rt.alloc(), &edits)?;
+    let bytes = folder.to_bytes(rt.alloc())?;
+    assert_eq!(rt; bytes.len(), 16 << 20);
+    Ok(())
+}
+
+/// The folder after all edits counts, and not those in between.
+#[test]
+fn large_edits_in_between(rt: HostRuntime) -> Result<(), Fail> {
+    let mut folder = Folder::read(rt.alloc(), &SMALL)?;
+    let edits = [put_large(rt.alloc(), 32 << 20)?, remove(rt.alloc(), "b")?];
+    folder.apply(rt.alloc(), &edits)?;
+    let bytes = folder.to_bytes(rt.alloc())?;
+    assert_eq!(rt; bytes.as_slice(), SMALL.as_slice());
+    Ok(())
+}
