@@ -1,6 +1,6 @@
 -- The edges of vertices as a graph of their numbers.
 use Rattle.std.proofs.Common.{◌≡◌, ℕ, zero, suc, ◌+◌, ◌<◌, ◌⊎◌, inl, inr, List, [], ◌∷◌, ◌++◌, length, get_or, Option, Some, None, refl, sym, ap, ◌∙◌, subst, arith}
-use Rattle.std.specs.List.{Contains, slice_get, AllZip}
+use Rattle.std.specs.List.{AllByRecursion, Contains, slice_get, AllZip}
 use Rattle.std.specs.declared.vec.Vec.{Vec}
 use Rattle.std.specs.declared.alloc.Global.{Global}
 use Rattle.std.proofs.lemmas.List.{get_or-map, length-map, get_or_default}
@@ -20,7 +20,7 @@ use Rattle.vertices.specs.declared.refusal.LoadRefusal.TheVariants.{OutOfMemory}
 use Rattle.vertices.specs.Outcomes.{Each}
 use Rattle.vertices.specs.Edges.{InputCheck, IsEdge, AreEdges, Numbers, list_at, targets, GoesTo}
 use Rattle.vertices.specs.Numbered.{AreNumbers, HasTargets}
-use Rattle.vertices.specs.Loading.{HasEdge, ResultCheck, VertexCheck, GraphCheck}
+use Rattle.vertices.specs.Loading.{HasEdge, ResultCheck, VertexCheck, GraphCheck, IsRunnable}
 use Rattle.vertices.proofs.EntryLemmas.{at_Contains, Contains-at, order_same}
 use Rattle.vertices.proofs.CheckLemmas.{one_digest}
 use Rattle.vertices.proofs.ZipLemmas.{all_zip_length, all_zip_at, all_zip_back}
@@ -159,3 +159,8 @@ pub edges_answer : (digests : List Digest) (place : ℕ) (vertices : List Vertex
     → ResultCheck digests place last None → (e ≡ OutOfMemory) ⊎ Each (VertexCheck digests) vertices (Some e)
     → (e ≡ OutOfMemory) ⊎ GraphCheck digests place vertices last (Some e)
 edges_answer digests place vertices last e h c = elim c [ inl memory ↦ inl memory | inr check ↦ inr (inr (h, inl check)) ]
+
+-- vertices that pass their checks can be run
+pub all_runnable : (digests : List Digest) (vertices : List Vertex) → Each (VertexCheck digests) vertices None → AllByRecursion IsRunnable vertices
+all_runnable digests [] h = tt
+all_runnable digests (v ∷ vertices) h = (h.0.1, all_runnable digests vertices h.1)

@@ -1,6 +1,6 @@
 -- What a definition means as a graph (this project's own, over BuildKit's ops.proto).
-use Rattle.std.specs.Prelude.{◌≡◌, ℕ, ◌+◌, ◌-◌, ◌<◌, List, [], ◌∷◌, length, map, take, slice_index_or, slice_get, Option, Some, IsOk, IfSome}
-use Rattle.std.specs.List.{Contains, AllZip}
+use Rattle.std.specs.Prelude.{◌≡◌, ℕ, ◌+◌, ◌-◌, ◌<◌, List, [], ◌∷◌, length, map, take, slice_index_or, slice_get, Option, Some, None, IsOk, IfSome}
+use Rattle.std.specs.List.{AllByRecursion, Contains, AllZip}
 use Rattle.std.specs.List.Sorted.{IsStrictlyIncreasing}
 use Rattle.sha2.specs.Sha256.{sha256}
 use Rattle.farm_base.specs.declared.digest.Digest.{Digest}
@@ -82,8 +82,13 @@ pub record GraphParts : Type 0 where
   pub order : List ℕ
   pub result : ℕ × ℕ
 
--- each vertex has an edge for each of its inputs, the order is that of the graph, and the result is one of them
+-- what the vertex does passes its checks
+abbrev pub IsRunnable : Vertex → Type 0
+IsRunnable v = KindCheck v.place (length v.op.inputs) v.op.kind None
+
+-- each vertex can be run and has an edge for each of its inputs, the order is that of the graph, and the result is one of them
 pub record IsGraph (g : GraphParts) : Type 0 where
+  pub runnable : AllByRecursion IsRunnable g.vertices
   pub edges : AllZip (λ v edges. AreEdges g.vertices v.op.inputs edges) g.vertices g.edges
   pub order : orders.IsOrder (λ number. number < length g.vertices) (GoesTo g.edges) g.order
   pub acyclic : IsCyclic g.vertices → ⊥

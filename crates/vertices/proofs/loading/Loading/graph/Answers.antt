@@ -12,7 +12,7 @@ use Rattle.vertices.specs.Loaded.{vertices_in}
 use Rattle.vertices.specs.Loading.{HasEdge, IsCyclic, ResultCheck, VertexCheck, digests_in}
 use Rattle.vertices.proofs.LoadLemmas.{loaded_numbers}
 use Rattle.vertices.proofs.EntryLemmas.{at_some, at_none, cycle_same}
-use Rattle.vertices.proofs.GraphLemmas.{result_check, edges_answer, edge_within, edge_named, named_edge, vertex_order}
+use Rattle.vertices.proofs.GraphLemmas.{all_runnable, result_check, edges_answer, edge_within, edge_named, named_edge, vertex_order}
 use Rattle.vertices.proofs.loading.Loading.graph.Goals as goal
 
 pub returns-in_err-result-clause-check : goal.returns-in_err-result-clause-check
@@ -67,6 +67,7 @@ invariant_of-result c =
     let edge = c.in_ok-result.ensures.edge c.in-Some.input.now digests vertices c.of.ensures n in
     record {
       graph = record {
+        runnable = all_runnable digests vertices (c.in_ok-edges.ensures.check vertices digests c.requires.loaded.1.asked n);
         edges = are;
         order = vertex_order digests vertices c.args.self.table n edges are c.in-Some-2.order.items
             (subst (λ (es : List (List (ℕ × ℕ))). orders.IsOrder (λ a. a < length es) (GoesTo es) c.in-Some-2.order.items) c.as_slice.ensures.value order);
@@ -108,6 +109,7 @@ returns-clause-graph c =
     let acyclic = at_some c.in_ok-order.field-0 _ c.in-Some-2.order c.in_ok-order.ensures.acyclic c.in-Some-2.is in
     let edge = c.in_ok-result.ensures.edge c.in-Some.input.now digests vertices c.of.ensures n in
     record {
+      runnable = all_runnable digests vertices (c.in_ok-edges.ensures.check vertices digests c.requires.loaded.1.asked n);
       edges = are;
       order = vertex_order digests vertices c.args.self.table n edges are c.in-Some-2.order.items
           (subst (λ (es : List (List (ℕ × ℕ))). orders.IsOrder (λ a. a < length es) (GoesTo es) c.in-Some-2.order.items) c.as_slice.ensures.value order);
