@@ -1,0 +1,4 @@
+pub mod AddingLemmas
+pub mod FolderLemmas
+pub mod MountLemmas
+pub mod ViewLemmas

@@ -1,0 +1,12 @@
+-- What comes into wants (this project's own).
+use Rattle.std.specs.Prelude.{◌↔◌, ◌⊎◌, List}
+use Rattle.std.specs.List.{Contains}
+use Rattle.farm_base.specs.declared.folder.FolderName.{FolderName}
+use Rattle.farm_base.specs.declared.want.Want.{Want}
+use Rattle.farm_base.specs.Wanted.{folders}
+use Rattle.cachemounts.specs.CacheWants.{to_write}
+
+-- the folders of the one fact come in, and those of the other are to be written
+pub record Adds (IsNew IsToWrite : FolderName → Type 0) (old new : List Want) : Type 0 where
+  pub wanted : (folder : FolderName) → Contains (folders new) folder ↔ (Contains (folders old) folder ⊎ IsNew folder)
+  pub written : (folder : FolderName) → Contains new (to_write folder) ↔ (Contains old (to_write folder) ⊎ IsToWrite folder)
