@@ -16,7 +16,7 @@ use std::alloc::{AllocError, Global};
 use vertices::Graph;
 
 /// For each cache mount of the vertex of a number, in order: its place among the vertex's mounts,
-/// and the place of its folder in the vertex's wants.
+/// and the place of its folder in the vertex's wants. Places count from 0.
 pub fn views(
     alloc: Global,
     graph: &Graph,

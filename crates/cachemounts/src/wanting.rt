@@ -18,10 +18,11 @@ use opsproto::Mount;
 use std::alloc::{AllocError, Global};
 use vertices::Graph;
 
-/// What the vertex of a number wants: the folders of its cache mounts. A folder is named by the
-/// cache option's ID, or the mount's dest where that is empty; by its sharing; and by the output
-/// that the mount's input takes, if it has one. Two mounts with one folder are one want, writable
-/// unless both are readonly. A vertex that isn't an exec op wants nothing.
+/// What the vertex of a number wants: the folders of its cache mounts, where the graph has these
+/// solver keys. A folder is named by the cache option's ID, or the mount's dest where that is empty;
+/// by its sharing; and by the output that the mount's input takes, if it has one. Mounts with one
+/// folder are one want, which is writable unless each of them is readonly. A vertex that isn't an
+/// exec op wants nothing.
 pub fn wants(alloc: Global, graph: &Graph, vertex: usize, keys: &[Key]) -> Result<Wants, AllocError>
     requires vertex { vertex < length graph.now.vertices }
     requires keys { AreKeys graph.now keys.now }

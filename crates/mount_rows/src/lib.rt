@@ -3,3 +3,5 @@
 
 #[cfg(test)]
 mod caches;
+#[cfg(test)]
+mod ops;
