@@ -1,5 +1,5 @@
 ghost use Rattle.std.specs.Prelude.{◌≡◌, ◌<◌, [], ℕ, List, length, Ok, Err, IfOk, OnOk, OnErr};
-ghost use Rattle.std.specs.Option.{option_map};
+ghost use Rattle.std.specs.Option.{option_copied};
 ghost use Rattle.folders.specs.Files.{Files, path_cmp, content_at, folder_bytes, most_bytes, IsFolder};
 ghost use Rattle.folders.specs.Edits.{edited_all};
 ghost use Rattle.folders.specs.Reading.{Gives, folder_of};
@@ -105,7 +105,7 @@ impl Folder {
 
     /// The content of a file, if there is one of this path. It takes no memory.
     pub fn get(&self, path: &str) -> Option<&[u8]>
-        ensures { option_map (λ content. content.now) result ≡ content_at self.now path.now }
+        ensures { option_copied result ≡ content_at self.now path.now }
     {
         let files = self.files.as_slice();
         match files.binary_search_by(|file| compared(file, path)) {
