@@ -1,5 +1,5 @@
 -- The first fault.
-use Rattle.std.proofs.Common.{◌≡◌, ◌⊎◌, inl, inr, ℕ, zero, suc, ◌+◌, ◌<◌, ◌≤◌, ltb, true, false, List, [], ◌∷◌, ◌++◌, length, Option, Some, None, Result, Ok, Err, refl, sym, ap, ◌∙◌, append_assoc, arith}
+use Rattle.std.proofs.Common.{◌≡◌, ◌⊎◌, inl, inr, ℕ, zero, suc, ◌+◌, ◌<◌, ◌≤◌, ltb, true, false, List, [], ◌∷◌, ◌++◌, length, Option, Some, None, Result, Ok, Err, refl, sym, ap, ◌∙◌, arith}
 use Rattle.std.specs.List.{AllByRecursion}
 use Rattle.std.specs.Map.{keys_of}
 use Rattle.std.specs.Str.{IsUtf8}
@@ -10,7 +10,7 @@ use Rattle.folders.specs.declared.refusal.FolderRefusal.TheVariants.{TooLarge}
 use Rattle.folders.specs.Files.{Files, file_bytes, folder_bytes, most_bytes, IsFolder}
 use Rattle.folders.specs.Reading.{◌>>=◌, file_at, files_in, folder_of, last_path, Faulted}
 use Rattle.folders.proofs.Bind.{bind_err, chosen, ok_is}
-use Rattle.folders.proofs.FileLaws.{IsBytes, file_takes}
+use Rattle.folders.proofs.FileLaws.{IsBytes, file_takes, parts_then}
 use Rattle.folders.proofs.FolderLaws.{length-file_bytes, folder_again}
 use Rattle.folders.proofs.Rising.{RiseFrom, sorted_from_rise}
 
@@ -41,7 +41,7 @@ fault_in (suc limit) last (b ∷ bs) d within fits e =
               rest = others.rest;
               rise = (t.above, others.rise);
               utf8 = (t.utf8, others.utf8);
-              parts = t.took.parts ∙ ap (λ (x : List ℕ). file_bytes s.0.0 ++ x) others.parts ∙ sym (append_assoc (file_bytes s.0.0) (folder_bytes others.before) others.rest);
+              parts = parts_then (b ∷ bs) (file_bytes s.0.0) s.0.1 (folder_bytes others.before) others.rest t.took.parts others.parts;
               fault = others.fault;
             }
         | inr x ↦ absurd (let g = x.2 in cc)
