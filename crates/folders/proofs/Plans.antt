@@ -1,5 +1,5 @@
 -- Files that a map lends.
-use Rattle.std.proofs.Common.{◌≡◌, ℕ, zero, suc, ◌+◌, ◌<◌, ◌≤◌, Bool, true, false, cond, List, [], ◌∷◌, ◌++◌, map, length, get_or, take, Ordering, refl, sym, ◌∙◌, ap, arith, add-one, Bor}
+use Rattle.std.proofs.Common.{◌≡◌, ℕ, zero, suc, ◌+◌, ◌<◌, Bool, true, false, cond, List, [], ◌∷◌, ◌++◌, map, length, get_or, take, Ordering, refl, sym, ◌∙◌, ap, arith, add-one, Bor}
 use Rattle.std.specs.BTreeMap.{insert_entry, is_at}
 use Rattle.std.specs.List.{AllByRecursion}
 use Rattle.std.specs.List.Sorted.{IsStrictlySortedBy}
@@ -10,7 +10,7 @@ use Rattle.std.specs.declared.cmp.Ordering.TheVariants.{Less, Equal, Greater}
 use Rattle.std.specs.Cmp.Lexicographic.{slice_cmp}
 use Rattle.std.specs.Str.{IsUtf8}
 use Rattle.std.proofs.lemmas.List.{append-nil}
-use Rattle.folders.specs.Files.{Files, path_cmp, file_bytes, folder_bytes}
+use Rattle.folders.specs.Files.{Files, path_cmp}
 use Rattle.folders.proofs.Places.{Rise, less_at, reversed}
 use Rattle.std.proofs.lemmas.Map.Keys.{sorted_tail}
 

@@ -1,5 +1,4 @@
 use Rattle.std.proofs.Common.{sym, ap, ◌∙◌}
-use Rattle.folders.specs.declared.edit.Edit.{Edit}
 use Rattle.folders.specs.Edits.{edited, lent}
 use Rattle.folders.proofs.Plans.{files_lent, lent-insert_entry, lent-remove_entry}
 use Rattle.folders.proofs.applying.edit_one.Goals as goal

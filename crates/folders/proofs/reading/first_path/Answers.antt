@@ -1,7 +1,6 @@
-use Rattle.std.proofs.Common.{true, false, Ok, List, ℕ, Result, sym, ap, subst, ◌∙◌, ◌≡◌}
+use Rattle.std.proofs.Common.{sym, ap, ◌∙◌}
 use Rattle.std.specs.Option.{option_copied}
-use Rattle.std.specs.Str.{IsUtf8}
-use Rattle.folders.specs.Reading.{sized_at, is_above}
+use Rattle.folders.specs.Reading.{is_above}
 use Rattle.folders.proofs.FileLaws.{path_no_text, path_falls, path_read}
 use Rattle.folders.proofs.reading.first_path.Goals as goal
 

@@ -1,4 +1,4 @@
-use Rattle.std.proofs.Common.{sym, ap, length, arith}
+use Rattle.std.proofs.Common.{ap, length, arith}
 use Rattle.folders.proofs.FolderLaws.{file_within}
 use Rattle.folders.proofs.writing.push_files.Goals as goal
 

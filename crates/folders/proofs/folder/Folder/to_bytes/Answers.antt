@@ -1,5 +1,3 @@
-use Rattle.std.proofs.Common.{Ok, sym, ap, ◌∙◌}
-use Rattle.folders.specs.Reading.{folder_of}
 use Rattle.folders.proofs.FolderLaws.{folder_again}
 use Rattle.folders.proofs.folder.Folder.to_bytes.Goals as goal
 
