@@ -50,7 +50,7 @@ pub fn graph_of(alloc: Global, ops: &[Vec<u8>]) -> Result<Graph, Fail> {
     }
     let result = result_of(alloc, ops.last().ok_or("no op")?)?;
     put_bytes(&mut bytes, 1, &result)?;
-    Ok(load(alloc, read_definition(alloc, &bytes)?)?)
+    Ok(load(alloc, read_definition(alloc, bytes)?)?)
 }
 
 /// A mount of the first output, or of none.
