@@ -1,4 +1,5 @@
 pub mod AddingLemmas
 pub mod FolderLemmas
 pub mod MountLemmas
+pub mod OneLemmas
 pub mod ViewLemmas
