@@ -67,7 +67,7 @@ files_in (suc limit) last (b ∷ bs) = do
 unfoldable pub folder_of : List ℕ → Result Files FolderRefusal
 folder_of text = if nat_lt most_bytes (length text) then Err TooLarge else files_in (length text) None text
 
--- the last of these paths, or else the one before them, if there is one
+-- the path of the last of these files, or else the one before them, if there is one
 abbrev pub last_path : Option (List ℕ) → Files → Option (List ℕ)
 last_path last [] = last
 last_path last (file ∷ files) = last_path (Some file.0) files
