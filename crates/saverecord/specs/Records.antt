@@ -1,0 +1,77 @@
+-- Reading a record from the left, up to its first fault.
+use Rattle.std.specs.Prelude.{ℕ, zero, suc, ◌-◌, ◌==◌, nat_lt, nat_eq, Bool, true, false, if◌then◌else◌, List, [], ◌∷◌, length, take, drop, Option, Some, None, Result, Ok, Err, codes}
+use Rattle.std.specs.Cmp.Lexicographic.{pointwise}
+use Rattle.std.specs.Int.{w32, w64}
+use Rattle.farm_base.specs.declared.number.NodeId.{NodeId}
+use Rattle.sha2.specs.Sha256.{sha256}
+use Rattle.saverecord.specs.declared.layout.Layout.{Layout}
+use Rattle.saverecord.specs.declared.layout.Layout.TheVariants.{First, Second, Third}
+use Rattle.saverecord.specs.declared.record.Record.{Record}
+use Rattle.saverecord.specs.declared.refusal.Flaw.TheVariants.{Trailing}
+use Rattle.saverecord.specs.declared.refusal.RecordRefusal.{RecordRefusal}
+use Rattle.saverecord.specs.declared.refusal.RecordRefusal.TheVariants.{Truncated, BadMagic, BadDigest}
+use Rattle.saverecord.specs.Layouts.{has_retired_nodes}
+use Rattle.saverecord.specs.Parts.{◌>>=◌, Part, passed, number_at}
+use Rattle.saverecord.specs.Entries.{Reader, counted_at, retired_node_at, node_life_at, retired_at, lease_at, line_at}
+
+-- a node, or 0 for none
+abbrev pub home_of : ℕ → Option NodeId
+home_of zero = None
+home_of (suc n) = Some (record { 0 = suc n })
+
+unfoldable pub home_at : List ℕ → Part (Option NodeId)
+home_at bytes = do
+  home ← number_at w32 0 1024 bytes
+  Ok (home_of home.0, home.1)
+
+-- a list of any length
+abbrev pub list_at : {X : Type 0} → Reader X → Layout → List ℕ → Part (List X)
+list_at read layout bytes = counted_at read layout 0 0xffff_ffff_ffff_ffff bytes
+
+-- the retired nodes, where the layout has them
+unfoldable pub retired_nodes_at : Layout → List ℕ → Part (List NodeId)
+retired_nodes_at layout bytes = if has_retired_nodes layout then list_at retired_node_at layout bytes else Ok ([], bytes)
+
+-- last ticket, home, lives, retired nodes, leases, retired slots and lines
+unfoldable pub body_at : Layout → List ℕ → Part Record
+body_at layout bytes = do
+  last ← number_at w64 0 0xffff_ffff_ffff_ffff bytes
+  home ← home_at last.1
+  lives ← list_at node_life_at layout home.1
+  retired_nodes ← retired_nodes_at layout lives.1
+  leases ← list_at lease_at layout retired_nodes.1
+  retired ← list_at retired_at layout leases.1
+  lines ← list_at line_at layout retired.1
+  Ok (record {
+    last = record { 0 = last.0 };
+    old_home = home.0;
+    lives = lives.0;
+    retired_nodes = retired_nodes.0;
+    leases = leases.0;
+    retired = retired.0;
+    lines = lines.0;
+  }, lines.1)
+
+-- all of the bytes
+unfoldable pub whole_body : Layout → List ℕ → Result Record RecordRefusal
+whole_body layout bytes = do
+  body ← body_at layout bytes
+  passed Trailing (length body.1 == 0) body.0
+
+-- the same bytes
+abbrev pub is_same : List ℕ → List ℕ → Bool
+is_same a b = pointwise nat_eq a b
+
+-- `BKFARM01`, `BKFARM02` or `BKFARM03`
+unfoldable pub layout_of : List ℕ → Result Layout RecordRefusal
+layout_of magic =
+    if is_same magic (codes "BKFARM01") then Ok First
+    else if is_same magic (codes "BKFARM02") then Ok Second
+    else if is_same magic (codes "BKFARM03") then Ok Third
+    else Err BadMagic
+
+-- the layout, and the bytes between magic and digest
+unfoldable pub opened : List ℕ → Part Layout
+opened bytes = if nat_lt (length bytes) 40 then Err Truncated else (do
+  layout ← layout_of (take 8 bytes)
+  if is_same (sha256 (take (length bytes - 32) bytes)) (drop (length bytes - 32) bytes) then Ok (layout, drop 8 (take (length bytes - 32) bytes)) else Err BadDigest)

@@ -1,0 +1,65 @@
+//! What is written of a record.
+ghost use Rattle.std.specs.Prelude.{◌≡◌, ◌++◌, OnOk, IfOk};
+ghost use Rattle.saverecord.specs.Spelling.{home_bytes, first_bytes, nodes_bytes, slots_bytes, record_bytes};
+
+use super::entry::put_counted;
+use super::record::Record;
+use farm_base::NodeId;
+use sha2::Sha256;
+use std::alloc::{AllocError, Global};
+
+/// The bytes with which a record of version 3 begins.
+pub(crate) const MAGIC: &[u8; 8] = b"BKFARM03";
+
+/// The node, or 0 for none.
+#[tactic(auto, unfolding(crate::specs::Spelling::home_bytes))]
+fn put_home(out: &mut Vec<u8>, home: Option<NodeId>) -> Result<(), AllocError>
+    ensures { OnOk result (out.new.items ≡ out.old.items ++ home_bytes home) }
+{
+    match home {
+        None => out.extend_from_slice(&0u32.to_be_bytes())?,
+        Some(node) => out.extend_from_slice(&node.0.to_be_bytes())?,
+    }
+    Ok(())
+}
+
+#[tactic(auto, unfolding(crate::specs::Spelling::first_bytes))]
+fn put_first(out: &mut Vec<u8>, record: &Record) -> Result<(), AllocError>
+    ensures { OnOk result (out.new.items ≡ out.old.items ++ first_bytes record.now) }
+{
+    out.extend_from_slice(&record.last.0.to_be_bytes())?;
+    put_home(out, record.old_home)
+}
+
+#[tactic(auto, unfolding(crate::specs::Spelling::nodes_bytes))]
+fn put_nodes(out: &mut Vec<u8>, record: &Record) -> Result<(), AllocError>
+    ensures { OnOk result (out.new.items ≡ out.old.items ++ nodes_bytes record.now) }
+{
+    put_counted(out, record.lives.as_slice())?;
+    put_counted(out, record.retired_nodes.as_slice())
+}
+
+#[tactic(auto, unfolding(crate::specs::Spelling::slots_bytes))]
+fn put_slots(out: &mut Vec<u8>, record: &Record) -> Result<(), AllocError>
+    ensures { OnOk result (out.new.items ≡ out.old.items ++ slots_bytes record.now) }
+{
+    put_counted(out, record.leases.as_slice())?;
+    put_counted(out, record.retired.as_slice())?;
+    put_counted(out, record.lines.as_slice())
+}
+
+impl Record {
+    /// The one text of a record, of version 3.
+    pub fn write(&self, alloc: Global) -> Result<Vec<u8>, AllocError>
+        ensures { IfOk result (λ v. v.items ≡ record_bytes self.now) }
+    {
+        let mut out = Vec::new(alloc);
+        out.extend_from_slice(MAGIC)?;
+        put_first(&mut out, self)?;
+    put_nodes(&mut out, self)?;
+    put_slots(&mut out, self)?;
+        let digest: [u8; 32] = <Sha256 as sha2::Digest>::digest(out.as_slice());
+        out.extend_from_slice(&digest)?;
+        Ok(out)
+    }
+}
