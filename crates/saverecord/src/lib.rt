@@ -10,6 +10,7 @@ mod record;
 mod slot;
 mod writing;
 mod refusal;
+mod relation;
 
 pub use record::{NodeLife, Record, SlotLine};
 pub use refusal::{Flaw, RecordRefusal};
