@@ -1,17 +1,20 @@
 -- Reading a record from the left, up to its first fault.
-use Rattle.std.specs.Prelude.{ℕ, zero, suc, ◌-◌, ◌==◌, nat_lt, nat_eq, Bool, true, false, if◌then◌else◌, List, [], ◌∷◌, length, take, drop, Option, Some, None, Result, Ok, Err, codes}
+use Rattle.std.specs.Prelude.{ℕ, zero, suc, insert, ◌-◌, ◌==◌, ◌&&◌, nat_lt, nat_eq, Bool, true, false, if◌then◌else◌, List, [], ◌∷◌, length, take, drop, Option, Some, None, Result, Ok, Err, codes}
 use Rattle.std.specs.Cmp.Lexicographic.{pointwise}
+use Rattle.std.specs.List.{list_any}
 use Rattle.std.specs.Int.{w32, w64}
 use Rattle.farm_base.specs.declared.number.NodeId.{NodeId}
 use Rattle.sha2.specs.Sha256.{sha256}
 use Rattle.saverecord.specs.declared.layout.Layout.{Layout}
 use Rattle.saverecord.specs.declared.layout.Layout.TheVariants.{First, Second, Third}
+use Rattle.saverecord.specs.declared.record.NodeLife.{NodeLife}
 use Rattle.saverecord.specs.declared.record.Record.{Record}
-use Rattle.saverecord.specs.declared.refusal.Flaw.TheVariants.{Trailing}
+use Rattle.saverecord.specs.declared.refusal.Flaw.TheVariants.{Trailing, Relation}
 use Rattle.saverecord.specs.declared.refusal.RecordRefusal.{RecordRefusal}
 use Rattle.saverecord.specs.declared.refusal.RecordRefusal.TheVariants.{Truncated, BadMagic, BadDigest}
 use Rattle.saverecord.specs.Layouts.{has_retired_nodes}
 use Rattle.saverecord.specs.Parts.{◌>>=◌, Part, passed, number_at}
+use Rattle.saverecord.specs.Relations.{agrees, is_at_home}
 use Rattle.saverecord.specs.Entries.{Reader, counted_at, retired_node_at, node_life_at, retired_at, lease_at, line_at}
 
 -- a node, or 0 for none
@@ -75,3 +78,37 @@ unfoldable pub opened : List ℕ → Part Layout
 opened bytes = if nat_lt (length bytes) 40 then Err Truncated else (do
   layout ← layout_of (take 8 bytes)
   if is_same (sha256 (take (length bytes - 32) bytes)) (drop (length bytes - 32) bytes) then Ok (layout, drop 8 (take (length bytes - 32) bytes)) else Err BadDigest)
+
+-- the place of the first life of a node above this one
+abbrev pub place_for : NodeId → List NodeLife → ℕ
+place_for node [] = 0
+place_for node (seen ∷ lives) = if nat_lt node.0 seen.node.0 then 0 else suc (place_for node lives)
+
+-- a life of the node is among these
+abbrev pub has_life : NodeId → List NodeLife → Bool
+has_life node lives = list_any (λ seen. seen.node.0 == node.0) lives
+
+-- life 1 of the node is added in its place, where none is among the lives
+unfoldable pub with_life : NodeId → List NodeLife → List NodeLife
+with_life node lives = if has_life node lives then lives else insert lives (place_for node lives) (record { node = node; life = record { 0 = 1 } })
+
+abbrev pub with_home : Option NodeId → List NodeLife → List NodeLife
+with_home None lives = lives
+with_home (Some node) lives = with_life node lives
+
+-- a record of version 1, whose home becomes the old home
+abbrev pub from_first : Record → Record
+from_first r = record r { lives = with_home r.old_home r.lives }
+
+-- the record, if its parts agree
+unfoldable pub judged : Layout → Record → Result Record RecordRefusal
+judged First r = passed Relation (agrees r && is_at_home r) (from_first r)
+judged Second r = passed Relation (agrees r) r
+judged Third r = passed Relation (agrees r) r
+
+-- a record of version 1, 2 or 3, or its first fault
+unfoldable pub record_of : List ℕ → Result Record RecordRefusal
+record_of bytes = do
+  parts ← opened bytes
+  body ← whole_body parts.0 parts.1
+  judged parts.0 body

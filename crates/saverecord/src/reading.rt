@@ -1,17 +1,18 @@
 //! Reading a record.
-ghost use Rattle.std.specs.Prelude.{◌≡◌, ◌≤◌, length};
+ghost use Rattle.std.specs.Prelude.{◌≡◌, ◌≤◌, length, IfOk};
 ghost use Rattle.saverecord.specs.Parts.{Gives};
-ghost use Rattle.saverecord.specs.Records.{home_of, home_at, list_at, retired_nodes_at, body_at, whole_body, layout_of, opened};
+ghost use Rattle.saverecord.specs.Records.{home_of, home_at, list_at, retired_nodes_at, body_at, whole_body, layout_of, opened, place_for, has_life, with_life, with_home, from_first, judged, record_of};
 
 use super::entry::{Entry, take_counted};
 use super::layout::Layout;
 use super::part::{take_u32, take_u64};
-use super::record::Record;
+use super::record::{NodeLife, Record};
 use super::refusal::{Flaw, RecordRefusal};
 use super::writing::MAGIC;
-use farm_base::{Items, NodeId, Ticket};
+use super::relation::{agrees, is_at_home};
+use farm_base::{Items, Life, NodeId, Ticket};
 use sha2::Sha256;
-use std::alloc::Global;
+use std::alloc::{AllocError, Global};
 
 /// The greatest node.
 const NODES: u32 = 1024;
@@ -129,4 +130,104 @@ fn open(bytes: &[u8]) -> Result<(Layout, &[u8]), RecordRefusal>
         return Err(RecordRefusal::BadDigest);
     }
     Ok((layout, &signed[8..]))
+}
+
+/// The place of the first life of a node above this one.
+fn place_for(node: NodeId, lives: &[NodeLife]) -> usize
+    ensures value { result ≡ place_for node lives.now }
+    ensures range { result ≤ length lives.now }
+{
+    for (i, seen) in lives.iter().enumerate() {
+        if node.0 < seen.node.0 {
+            return i;
+        }
+    }
+    lives.len()
+}
+
+fn has_life(node: NodeId, lives: &[NodeLife]) -> bool
+    ensures { result ≡ has_life node lives.now }
+{
+    lives.iter().any(|seen| seen.node == node)
+}
+
+/// Adds life 1 of the node in its place, where none is among the lives.
+#[tactic(auto, unfolding(crate::specs::Records::with_life))]
+fn with_life(node: NodeId, lives: Items<NodeLife>) -> Result<Items<NodeLife>, AllocError>
+    ensures { IfOk result (λ added. added ≡ with_life node lives) }
+{
+    let mut lives = lives.into_vec();
+    if !has_life(node, &lives) {
+        let place = place_for(node, &lives);
+        let life = Life(1);
+        lives.insert(place, NodeLife { node, life })?;
+    }
+    Ok(Items::new(lives))
+}
+
+fn with_home(home: Option<NodeId>, lives: Items<NodeLife>) -> Result<Items<NodeLife>, AllocError>
+    ensures { IfOk result (λ added. added ≡ with_home home lives) }
+{
+    match home {
+        None => Ok(lives),
+        Some(node) => with_life(node, lives),
+    }
+}
+
+/// A record of version 1, whose home becomes the old home.
+fn from_first(before: Record) -> Result<Record, AllocError>
+    ensures { IfOk result (λ r. r ≡ from_first before) }
+{
+    let Record {
+        last,
+        old_home,
+        lives,
+        retired_nodes,
+        leases,
+        retired,
+        lines,
+    } = before;
+    let lives = with_home(old_home, lives)?;
+    Ok(Record {
+        last,
+        old_home,
+        lives,
+        retired_nodes,
+        leases,
+        retired,
+        lines,
+    })
+}
+
+/// The record, if its parts agree.
+#[tactic(auto, unfolding(crate::specs::Records::judged))]
+fn judged(layout: Layout, read: Record) -> Result<Record, RecordRefusal>
+    ensures { Gives (λ r. r) result (judged layout read) }
+{
+    if !agrees(&read) {
+        return Err(RecordRefusal::NotCanonical(Flaw::Relation));
+    }
+    match layout {
+        Layout::First => {
+            if !is_at_home(&read) {
+                return Err(RecordRefusal::NotCanonical(Flaw::Relation));
+            }
+            Ok(from_first(read)?)
+        }
+        Layout::Second => Ok(read),
+        Layout::Third => Ok(read),
+    }
+}
+
+impl Record {
+    /// Reads a record of version 1, 2 or 3.
+    #[tactic(auto, unfolding(crate::specs::Records::record_of))]
+    pub fn read(alloc: Global, bytes: &[u8]) -> Result<Self, RecordRefusal>
+        // The first fault from the left decides.
+        ensures exact { Gives (λ r. r) result (record_of bytes.now) }
+    {
+        let (layout, body) = open(bytes)?;
+        let record = whole_body(alloc, layout, body)?;
+        judged(layout, record)
+    }
 }
