@@ -5,3 +5,4 @@ pub mod Entries
 pub mod Spelling
 pub mod Records
 pub mod Relations
+pub mod Keepers

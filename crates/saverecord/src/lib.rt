@@ -3,6 +3,7 @@
 
 mod entries;
 mod entry;
+mod keeper;
 mod layout;
 mod part;
 mod reading;
@@ -12,5 +13,6 @@ mod writing;
 mod refusal;
 mod relation;
 
+pub use keeper::{Keeper, KeeperRefusal, Kept, MemoryKeeper, SaveFault};
 pub use record::{NodeLife, Record, SlotLine};
 pub use refusal::{Flaw, RecordRefusal};

@@ -1,0 +1,32 @@
+-- Who keeps the bytes of a record, over saves that may fail.
+use Rattle.std.specs.Prelude.{◌≡◌, ◌⊎◌, ℕ, ◌+◌, ◌<◌, List, Option, Some, None, Bool, true, false, min}
+use Rattle.saverecord.specs.declared.keeper.Kept.{Kept}
+use Rattle.saverecord.specs.declared.keeper.Kept.TheVariants.{Old, New}
+
+-- the count of a device's failures rose, or stood at its greatest value
+abbrev pub HasFailed : ℕ → ℕ → Type 0
+HasFailed before after = (before < after) ⊎ (before ≡ 0xffff_ffff_ffff_ffff)
+
+-- one more, up to the greatest value of a count
+abbrev pub counted_up : ℕ → ℕ
+counted_up n = min (n + 1) 0xffff_ffff_ffff_ffff
+
+-- what a contract sees of a keeper in memory
+pub record Memory : Type 0 where
+  -- what a load gives
+  pub bytes : List ℕ
+  -- what the next save, which fails, leaves
+  pub armed : Option Kept
+  -- the saves that did not fail
+  pub saves : ℕ
+  -- the saves that did
+  pub failures : ℕ
+
+-- after a save of these bytes: the old or the new ones stand where it fails, and the new ones where it doesn't
+abbrev pub saved_by : Option Kept → Memory → List ℕ → Memory
+saved_by None m bytes = record m { bytes = bytes; saves = counted_up m.saves }
+saved_by (Some Old) m bytes = record m { armed = None; failures = counted_up m.failures }
+saved_by (Some New) m bytes = record m { bytes = bytes; armed = None; failures = counted_up m.failures }
+
+abbrev pub saved : Memory → List ℕ → Memory
+saved m bytes = saved_by m.armed m bytes
