@@ -1,2 +1,4 @@
 pub mod TextLemmas
 pub mod EntryLoop
+pub mod Fields
+pub mod SlotLaws
