@@ -2,3 +2,5 @@ pub mod TextLemmas
 pub mod EntryLoop
 pub mod Fields
 pub mod SlotLaws
+pub mod Rows
+pub mod EntryLaws

@@ -5,4 +5,5 @@ pub mod Entries
 pub mod Spelling
 pub mod Records
 pub mod Relations
+pub mod Fits
 pub mod Keepers
