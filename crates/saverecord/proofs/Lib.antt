@@ -4,3 +4,4 @@ pub mod Fields
 pub mod SlotLaws
 pub mod Rows
 pub mod EntryLaws
+pub mod PartLaws

@@ -1,0 +1,231 @@
+-- Each entry that is read is the one that was written, and what was written is read again.
+use Rattle.std.proofs.Common.{◌≡◌, ℕ, zero, suc, ◌+◌, ◌^◌, ◌<◌, ◌≤◌, Bool, true, false, cond, List, [], ◌∷◌, ◌++◌, length, Option, Some, None, Result, Ok, Err, refl, sym, ap, subst, ◌∙◌, append_assoc, arith}
+use Rattle.std.specs.Int.{w32, w64, to_be_bytes}
+use Rattle.std.specs.List.{AllByRecursion}
+use Rattle.std.specs.Option.{option_map}
+use Rattle.farm_base.specs.declared.digest.Digest.{Digest}
+use Rattle.farm_base.specs.declared.lease.Lease.{Lease}
+use Rattle.farm_base.specs.declared.message.LineVersion.{LineVersion}
+use Rattle.farm_base.specs.declared.number.NodeId.{NodeId}
+use Rattle.farm_base.specs.declared.number.Ticket.{Ticket}
+use Rattle.farm_base.specs.Slots.{SlotParts, slot_cmp}
+use Rattle.saverecord.specs.declared.layout.Layout.{Layout}
+use Rattle.saverecord.specs.declared.layout.Layout.TheVariants.{First, Second, Third}
+use Rattle.saverecord.specs.declared.record.NodeLife.{NodeLife}
+use Rattle.saverecord.specs.declared.record.SlotLine.{SlotLine}
+use Rattle.saverecord.specs.declared.refusal.Flaw.TheVariants.{Order}
+use Rattle.saverecord.specs.declared.refusal.RecordRefusal.{RecordRefusal}
+use Rattle.saverecord.specs.Layouts.{has_shared}
+use Rattle.saverecord.specs.Parts.{◌>>=◌, Part, passed, number_at, flag_at, digest_at}
+use Rattle.saverecord.specs.Slots.{is_slot_above, slot_after}
+use Rattle.saverecord.specs.Entries.{Reader, counted_at, is_above, node_at, positive_at, node_after, ticket_after, retired_node_at, node_life_at, retired_at, leased_at, tenure_at, lease_at, version_at, line_at}
+use Rattle.saverecord.specs.Spelling.{flag_bytes, slot_bytes, counted, node_bytes, node_life_bytes, leased_bytes, holder_bytes, lease_bytes, version_bytes, line_bytes}
+use Rattle.saverecord.specs.Fits.{IsNode, IsNodeLife, IsLease, IsVersion, IsSlotLine, IsTypedNode, IsTypedLife, IsTypedSlot, IsTypedLeased, IsTypedLease, IsTypedVersion, IsTypedLine}
+use Rattle.saverecord.proofs.Fields.{IsBytes, bind_ok, passed_ok, ok_is, Takes, Takes-then, wide32, wide64, number_takes, number_again, flag_takes, flag_again, digest_takes, digest_again}
+use Rattle.saverecord.proofs.SlotLaws.{slot_after_takes, slot_after_again}
+use Rattle.saverecord.proofs.Rows.{slot_tests, number_tests, sorted-from_row, row-from_sorted, numbers-from_row, row-from_numbers}
+use Rattle.saverecord.proofs.EntryLaws.{TakesEntry, TakesList, EntryTakes, EntryAgain, counted_takes, counted_again}
+
+abbrev greatest : ℕ
+greatest = 0xffff_ffff_ffff_ffff
+
+-- ---- numbers
+
+node_takes : (bytes : List ℕ) (n : NodeId) (rest : List ℕ) → IsBytes bytes → node_at bytes ≡ Ok (n, rest) → Takes bytes (node_bytes n) rest × IsNode n
+unfolding node_at
+node_takes bytes n rest fits e =
+    let a = bind_ok (number_at w32 1 1024 bytes) (λ node. Ok (record { 0 = node.0 }, node.1)) (n, rest) e in
+    let t = number_takes w32 (2 ^ 32) wide32 1 1024 bytes a.0.0 a.0.1 fits a.1 in
+    let made : NodeId × List ℕ = (record { 0 = a.0.0 }, a.0.1) in
+    subst (λ (x : NodeId × List ℕ). Takes bytes (node_bytes x.0) x.1 × IsNode x.0) (ok_is made (n, rest) a.2) (t.takes, (t.low_fits, t.high_fits))
+
+node_again : (n : NodeId) (rest : List ℕ) → IsNode n → node_at (node_bytes n ++ rest) ≡ Ok (n, rest)
+unfolding node_at
+node_again n rest fits = rw (number_again w32 (2 ^ 32) wide32 1 1024 n.0 rest (omega (arith, fits.1)) fits.0 fits.1) refl
+
+positive_takes : (bytes : List ℕ) (n : ℕ) (rest : List ℕ) → IsBytes bytes → positive_at bytes ≡ Ok (n, rest) → Takes bytes (to_be_bytes w64 n) rest × (1 ≤ n)
+unfolding positive_at
+positive_takes bytes n rest fits e =
+    let t = number_takes w64 (2 ^ 64) wide64 1 greatest bytes n rest fits e in
+    (t.takes, t.low_fits)
+
+positive_again : (n : ℕ) (rest : List ℕ) → n < 2 ^ 64 → 1 ≤ n → positive_at (to_be_bytes w64 n ++ rest) ≡ Ok (n, rest)
+unfolding positive_at
+positive_again n rest lt l = number_again w64 (2 ^ 64) wide64 1 greatest n rest lt l (omega arith)
+
+node_after_takes : (before : Option ℕ) (bytes : List ℕ) (n : NodeId) (rest : List ℕ) → IsBytes bytes → node_after before bytes ≡ Ok (n, rest)
+    → Takes bytes (node_bytes n) rest × IsNode n × (is_above before n.0 ≡ true)
+unfolding node_after
+node_after_takes before bytes n rest fits e =
+    let a = bind_ok (node_at bytes) (λ node. passed Order (is_above before node.0.0) node) (n, rest) e in
+    let p = passed_ok Order (is_above before a.0.0.0) a.0 (n, rest) a.2 in
+    let t = node_takes bytes a.0.0 a.0.1 fits a.1 in
+    subst (λ (x : NodeId × List ℕ). Takes bytes (node_bytes x.0) x.1 × IsNode x.0 × (is_above before x.0.0 ≡ true)) p.1 (t.0, t.1, p.0)
+
+node_after_again : (before : Option ℕ) (n : NodeId) (rest : List ℕ) → IsNode n → is_above before n.0 ≡ true → node_after before (node_bytes n ++ rest) ≡ Ok (n, rest)
+unfolding node_after
+node_after_again before n rest fits above = rw (node_again n rest fits, above) refl
+
+ticket_after_takes : (before : Option ℕ) (bytes : List ℕ) (t : Ticket) (rest : List ℕ) → IsBytes bytes → ticket_after before bytes ≡ Ok (t, rest)
+    → Takes bytes (to_be_bytes w64 t.0) rest × (1 ≤ t.0) × (is_above before t.0 ≡ true)
+unfolding ticket_after
+ticket_after_takes before bytes t rest fits e =
+    let a = bind_ok (positive_at bytes) (λ ticket. passed Order (is_above before ticket.0) (record { 0 = ticket.0 }, ticket.1)) (t, rest) e in
+    let made : Ticket × List ℕ = (record { 0 = a.0.0 }, a.0.1) in
+    let p = passed_ok Order (is_above before a.0.0) made (t, rest) a.2 in
+    let n = positive_takes bytes a.0.0 a.0.1 fits a.1 in
+    subst (λ (x : Ticket × List ℕ). Takes bytes (to_be_bytes w64 x.0.0) x.1 × (1 ≤ x.0.0) × (is_above before x.0.0 ≡ true)) p.1 (n.0, n.1, p.0)
+
+ticket_after_again : (before : Option ℕ) (t : Ticket) (rest : List ℕ) → t.0 < 2 ^ 64 → 1 ≤ t.0 → is_above before t.0 ≡ true → ticket_after before (to_be_bytes w64 t.0 ++ rest) ≡ Ok (t, rest)
+unfolding ticket_after
+ticket_after_again before t rest lt l above = rw (positive_again t.0 rest lt l, above) refl
+
+-- ---- nodes and lives
+
+abbrev pub node_key : NodeId → ℕ
+node_key n = n.0
+
+pub retired_node_takes : (layout : Layout) → EntryTakes retired_node_at layout node_bytes is_above node_key IsNode
+retired_node_takes layout before bytes n rest fits e =
+    let t = node_after_takes (option_map node_key before) bytes n rest fits e in
+    record { takes = t.0; above_it = t.2; fits = t.1 }
+
+pub retired_node_again : EntryAgain retired_node_at Third node_bytes is_above node_key IsNode IsTypedNode
+retired_node_again before n rest above fits typed = node_after_again (option_map node_key before) n rest fits above
+
+abbrev pub life_key : NodeLife → ℕ
+life_key x = x.node.0
+
+pub node_life_takes : (layout : Layout) → EntryTakes node_life_at layout node_life_bytes is_above life_key IsNodeLife
+unfolding node_life_at node_life_bytes
+node_life_takes layout before bytes x rest fits e =
+    let a = bind_ok (node_after (option_map life_key before) bytes) (λ node. positive_at node.1 >>= λ life. Ok (record { node = node.0; life = record { 0 = life.0 } }, life.1)) (x, rest) e in
+    let b = bind_ok (positive_at a.0.1) (λ life. Ok (record { node = a.0.0; life = record { 0 = life.0 } }, life.1)) (x, rest) a.2 in
+    let n = node_after_takes (option_map life_key before) bytes a.0.0 a.0.1 fits a.1 in
+    let l = positive_takes a.0.1 b.0.0 b.0.1 n.0.rest_fits b.1 in
+    let made : NodeLife × List ℕ = (record { node = a.0.0; life = record { 0 = b.0.0 } }, b.0.1) in
+    subst (λ (y : NodeLife × List ℕ). TakesEntry node_life_bytes is_above life_key IsNodeLife before bytes y.0 y.1) (ok_is made (x, rest) b.2)
+    (record { takes = Takes-then bytes (node_bytes a.0.0) a.0.1 (to_be_bytes w64 b.0.0) b.0.1 n.0 l.0; above_it = n.2; fits = record { node = n.1; life = l.1 } })
+
+pub node_life_again : EntryAgain node_life_at Third node_life_bytes is_above life_key IsNodeLife IsTypedLife
+unfolding node_life_at node_life_bytes
+node_life_again before x rest above fits typed =
+    ap (node_life_at Third before) (append_assoc (node_bytes x.node) (to_be_bytes w64 x.life.0) rest)
+    ∙ rw (node_after_again (option_map life_key before) x.node (to_be_bytes w64 x.life.0 ++ rest) fits.node above, positive_again x.life.0 rest typed fits.life) refl
+
+-- ---- slots
+
+abbrev pub slot_key : SlotParts → SlotParts
+slot_key s = s
+
+abbrev pub Any : {X : Type 0} → X → Type 0
+Any x = Unit {0}
+
+same_before : (before : Option SlotParts) → option_map slot_key before ≡ before
+same_before None = refl
+same_before (Some s) = refl
+
+pub retired_takes : (layout : Layout) → EntryTakes retired_at layout slot_bytes is_slot_above slot_key Any
+retired_takes layout before bytes s rest fits e =
+    let t = slot_after_takes layout before bytes s rest fits e in
+    record { takes = t.0; above_it = rw (same_before before) t.1; fits = tt }
+
+pub retired_again : EntryAgain retired_at Third slot_bytes is_slot_above slot_key Any IsTypedSlot
+retired_again before s rest above fits typed = slot_after_again before s rest typed.slot typed.id (subst (λ o. is_slot_above o s ≡ true) (same_before before) above)
+
+abbrev pub leased_key : SlotParts × Bool → SlotParts
+leased_key x = x.0
+
+pub leased_takes : (layout : Layout) → EntryTakes leased_at layout leased_bytes is_slot_above leased_key Any
+unfolding leased_at leased_bytes
+leased_takes layout before bytes x rest fits e =
+    let a = bind_ok (slot_after layout (option_map leased_key before) bytes) (λ slot. flag_at slot.1 >>= λ writable. Ok ((slot.0, writable.0), writable.1)) (x, rest) e in
+    let b = bind_ok (flag_at a.0.1) (λ writable. Ok ((a.0.0, writable.0), writable.1)) (x, rest) a.2 in
+    let s = slot_after_takes layout (option_map leased_key before) bytes a.0.0 a.0.1 fits a.1 in
+    let f = flag_takes a.0.1 b.0.0 b.0.1 s.0.rest_fits b.1 in
+    let held : SlotParts × Bool = (a.0.0, b.0.0) in
+    let made : (SlotParts × Bool) × List ℕ = (held, b.0.1) in
+    subst (λ (y : (SlotParts × Bool) × List ℕ). TakesEntry leased_bytes is_slot_above leased_key Any before bytes y.0 y.1) (ok_is made (x, rest) b.2)
+    (record { takes = Takes-then bytes (slot_bytes a.0.0) a.0.1 (flag_bytes b.0.0) b.0.1 s.0 f; above_it = s.1; fits = tt })
+
+pub leased_again : EntryAgain leased_at Third leased_bytes is_slot_above leased_key Any IsTypedLeased
+unfolding leased_at leased_bytes
+leased_again before x rest above fits typed =
+    ap (leased_at Third before) (append_assoc (slot_bytes x.0) (flag_bytes x.1) rest)
+    ∙ rw (slot_after_again (option_map leased_key before) x.0 (flag_bytes x.1 ++ rest) typed.slot typed.id above, flag_again x.1 rest) refl
+
+-- ---- versions and lines
+
+abbrev pub version_key : LineVersion → ℕ
+version_key v = v.ticket.0
+
+pub version_takes : (layout : Layout) → EntryTakes version_at layout version_bytes is_above version_key IsVersion
+unfolding version_at version_bytes
+version_takes layout before bytes v rest fits e =
+    let a = bind_ok (ticket_after (option_map version_key before) bytes) (λ ticket. digest_at ticket.1 >>= λ digest. Ok (record { ticket = ticket.0; digest = digest.0 }, digest.1)) (v, rest) e in
+    let b = bind_ok (digest_at a.0.1) (λ digest. Ok (record { ticket = a.0.0; digest = digest.0 }, digest.1)) (v, rest) a.2 in
+    let t = ticket_after_takes (option_map version_key before) bytes a.0.0 a.0.1 fits a.1 in
+    let d = digest_takes a.0.1 b.0.0 b.0.1 t.0.rest_fits b.1 in
+    let made : LineVersion × List ℕ = (record { ticket = a.0.0; digest = b.0.0 }, b.0.1) in
+    subst (λ (y : LineVersion × List ℕ). TakesEntry version_bytes is_above version_key IsVersion before bytes y.0 y.1) (ok_is made (v, rest) b.2)
+    (record { takes = Takes-then bytes (to_be_bytes w64 a.0.0.0) a.0.1 b.0.0.0 b.0.1 t.0 d; above_it = t.2; fits = t.1 })
+
+pub version_again : EntryAgain version_at Third version_bytes is_above version_key IsVersion IsTypedVersion
+unfolding version_at version_bytes
+version_again before v rest above fits typed =
+    ap (version_at Third before) (append_assoc (to_be_bytes w64 v.ticket.0) v.digest.0 rest)
+    ∙ rw (ticket_after_again (option_map version_key before) v.ticket (v.digest.0 ++ rest) typed.ticket fits above, digest_again v.digest rest typed.digest.0) refl
+
+abbrev pub line_key : SlotLine → SlotParts
+line_key l = l.slot
+
+pub line_takes : (layout : Layout) → EntryTakes line_at layout line_bytes is_slot_above line_key IsSlotLine
+unfolding line_at line_bytes
+line_takes layout before bytes l rest fits e =
+    let a = bind_ok (slot_after layout (option_map line_key before) bytes) (λ slot. counted_at version_at layout 1 greatest slot.1 >>= λ versions. Ok (record { slot = slot.0; versions = versions.0 }, versions.1)) (l, rest) e in
+    let b = bind_ok (counted_at version_at layout 1 greatest a.0.1) (λ versions. Ok (record { slot = a.0.0; versions = versions.0 }, versions.1)) (l, rest) a.2 in
+    let s = slot_after_takes layout (option_map line_key before) bytes a.0.0 a.0.1 fits a.1 in
+    let v = counted_takes version_at layout version_bytes is_above version_key IsVersion (version_takes layout) 1 greatest a.0.1 b.0.0 b.0.1 s.0.rest_fits b.1 in
+    let made : SlotLine × List ℕ = (record { slot = a.0.0; versions = b.0.0 }, b.0.1) in
+    subst (λ (y : SlotLine × List ℕ). TakesEntry line_bytes is_slot_above line_key IsSlotLine before bytes y.0 y.1) (ok_is made (l, rest) b.2)
+    (record {
+      takes = Takes-then bytes (slot_bytes a.0.0) a.0.1 (counted version_bytes b.0.0) b.0.1 s.0 v.takes;
+      above_it = s.1;
+      fits = record { some = v.low_fits; rise = numbers-from_row version_key b.0.0 v.row; versions = v.each };
+    })
+
+pub line_again : EntryAgain line_at Third line_bytes is_slot_above line_key IsSlotLine IsTypedLine
+unfolding line_at line_bytes
+line_again before l rest above fits typed =
+    ap (line_at Third before) (append_assoc (slot_bytes l.slot) (counted version_bytes l.versions) rest)
+    ∙ rw (slot_after_again (option_map line_key before) l.slot (counted version_bytes l.versions ++ rest) typed.slot.slot typed.slot.id above,
+      counted_again version_at Third version_bytes is_above version_key IsVersion IsTypedVersion version_again 1 greatest l.versions rest fits.some (let few = typed.few in omega arith) typed.few (row-from_numbers version_key l.versions fits.rise) fits.versions typed.versions) refl
+
+-- ---- leases
+
+abbrev pub ticket_key : Lease → ℕ
+ticket_key l = l.ticket.0
+
+-- whether a lease is a tenure, where the layout says so
+abbrev pub tenure_bytes : Layout → Bool → List ℕ
+tenure_bytes First tenure = []
+tenure_bytes Second tenure = flag_bytes tenure
+tenure_bytes Third tenure = flag_bytes tenure
+
+-- a lease in each layout
+unfoldable pub lease_bytes_in : Layout → Lease → List ℕ
+lease_bytes_in layout l = holder_bytes l ++ (flag_bytes l.shared ++ (tenure_bytes layout l.tenure ++ counted leased_bytes l.slots))
+
+pub lease_bytes-third : (l : Lease) → lease_bytes_in Third l ≡ lease_bytes l
+unfolding lease_bytes_in lease_bytes
+lease_bytes-third l = refl
+
+tenure_takes : (layout : Layout) (bytes : List ℕ) (b : Bool) (rest : List ℕ) → IsBytes bytes → tenure_at layout bytes ≡ Ok (b, rest) → Takes bytes (tenure_bytes layout b) rest
+unfolding tenure_at
+tenure_takes First bytes b rest fits e = subst (λ (x : Bool × List ℕ). Takes bytes [] x.1) (ok_is (false, bytes) (b, rest) e) (record { parts = refl; rest_fits = fits })
+tenure_takes Second bytes b rest fits e = flag_takes bytes b rest fits e
+tenure_takes Third bytes b rest fits e = flag_takes bytes b rest fits e
+
+tenure_again : (b : Bool) (rest : List ℕ) → tenure_at Third (flag_bytes b ++ rest) ≡ Ok (b, rest)
+unfolding tenure_at
+tenure_again b rest = flag_again b rest
