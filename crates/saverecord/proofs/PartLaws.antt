@@ -229,3 +229,89 @@ tenure_takes Third bytes b rest fits e = flag_takes bytes b rest fits e
 tenure_again : (b : Bool) (rest : List ℕ) → tenure_at Third (flag_bytes b ++ rest) ≡ Ok (b, rest)
 unfolding tenure_at
 tenure_again b rest = flag_again b rest
+
+abbrev made_lease : Ticket → NodeId → ℕ → ℕ → Bool → Bool → List (SlotParts × Bool) → Lease
+made_lease t n l a s u xs = record {
+  ticket = t;
+  node = n;
+  life = record { 0 = l };
+  ask = record { 0 = a };
+  shared = s;
+  tenure = u;
+  slots = xs;
+}
+
+-- what is read of a lease behind each of its parts
+module _ (layout : Layout) where
+  abbrev after_tenure : Ticket → NodeId → ℕ → ℕ → Bool → Bool × List ℕ → Part Lease
+  after_tenure t n l a s u = counted_at leased_at layout 0 16 u.1 >>= λ slots. Ok (made_lease t n l a s u.0 slots.0, slots.1)
+
+  abbrev after_shared : Ticket → NodeId → ℕ → ℕ → Bool × List ℕ → Part Lease
+  after_shared t n l a s = tenure_at layout s.1 >>= λ tenure. after_tenure t n l a s.0 tenure
+
+  abbrev after_ask : Ticket → NodeId → ℕ → ℕ × List ℕ → Part Lease
+  after_ask t n l a = flag_at a.1 >>= λ shared. after_shared t n l a.0 shared
+
+  abbrev after_life : Ticket → NodeId → ℕ × List ℕ → Part Lease
+  after_life t n l = positive_at l.1 >>= λ ask. after_ask t n l.0 ask
+
+  abbrev after_node : Ticket → NodeId × List ℕ → Part Lease
+  after_node t n = positive_at n.1 >>= λ life. after_life t n.0 life
+
+  abbrev after_ticket : Ticket × List ℕ → Part Lease
+  after_ticket t = node_at t.1 >>= λ node. after_node t.0 node
+
+  pub lease_takes : EntryTakes lease_at layout (lease_bytes_in layout) is_above ticket_key IsLease
+  unfolding lease_at lease_bytes_in holder_bytes
+  lease_takes before bytes x rest fits e =
+      let a = bind_ok (ticket_after (option_map ticket_key before) bytes) after_ticket (x, rest) e in
+      let b = bind_ok (node_at a.0.1) (after_node a.0.0) (x, rest) a.2 in
+      let c = bind_ok (positive_at b.0.1) (after_life a.0.0 b.0.0) (x, rest) b.2 in
+      let d = bind_ok (positive_at c.0.1) (after_ask a.0.0 b.0.0 c.0.0) (x, rest) c.2 in
+      let s = bind_ok (flag_at d.0.1) (after_shared a.0.0 b.0.0 c.0.0 d.0.0) (x, rest) d.2 in
+      let u = bind_ok (tenure_at layout s.0.1) (after_tenure a.0.0 b.0.0 c.0.0 d.0.0 s.0.0) (x, rest) s.2 in
+      let v = bind_ok (counted_at leased_at layout 0 16 u.0.1) (λ slots. Ok (made_lease a.0.0 b.0.0 c.0.0 d.0.0 s.0.0 u.0.0 slots.0, slots.1)) (x, rest) u.2 in
+      let ta = ticket_after_takes (option_map ticket_key before) bytes a.0.0 a.0.1 fits a.1 in
+      let tb = node_takes a.0.1 b.0.0 b.0.1 ta.0.rest_fits b.1 in
+      let tc = positive_takes b.0.1 c.0.0 c.0.1 tb.0.rest_fits c.1 in
+      let td = positive_takes c.0.1 d.0.0 d.0.1 tc.0.rest_fits d.1 in
+      let ts = flag_takes d.0.1 s.0.0 s.0.1 td.0.rest_fits s.1 in
+      let tu = tenure_takes layout s.0.1 u.0.0 u.0.1 ts.rest_fits u.1 in
+      let tv = counted_takes leased_at layout leased_bytes is_slot_above leased_key Any (leased_takes layout) 0 16 u.0.1 v.0.0 v.0.1 tu.rest_fits v.1 in
+      let cd = Takes-then b.0.1 (to_be_bytes w64 c.0.0) c.0.1 (to_be_bytes w64 d.0.0) d.0.1 tc.0 td.0 in
+      let bd = Takes-then a.0.1 (node_bytes b.0.0) b.0.1 (to_be_bytes w64 c.0.0 ++ to_be_bytes w64 d.0.0) d.0.1 tb.0 cd in
+      let ad = Takes-then bytes (to_be_bytes w64 a.0.0.0) a.0.1 (node_bytes b.0.0 ++ (to_be_bytes w64 c.0.0 ++ to_be_bytes w64 d.0.0)) d.0.1 ta.0 bd in
+      let uv = Takes-then s.0.1 (tenure_bytes layout u.0.0) u.0.1 (counted leased_bytes v.0.0) v.0.1 tu tv.takes in
+      let sv = Takes-then d.0.1 (flag_bytes s.0.0) s.0.1 (tenure_bytes layout u.0.0 ++ counted leased_bytes v.0.0) v.0.1 ts uv in
+      let whole = Takes-then bytes (to_be_bytes w64 a.0.0.0 ++ (node_bytes b.0.0 ++ (to_be_bytes w64 c.0.0 ++ to_be_bytes w64 d.0.0))) d.0.1 (flag_bytes s.0.0 ++ (tenure_bytes layout u.0.0 ++ counted leased_bytes v.0.0)) v.0.1 ad sv in
+      let made : Lease × List ℕ = (made_lease a.0.0 b.0.0 c.0.0 d.0.0 s.0.0 u.0.0 v.0.0, v.0.1) in
+      subst (λ (y : Lease × List ℕ). TakesEntry (lease_bytes_in layout) is_above ticket_key IsLease before bytes y.0 y.1) (ok_is made (x, rest) v.2)
+      (record {
+        takes = whole;
+        above_it = ta.2;
+        fits = record { ticket = ta.1; node = tb.1; life = tc.1; ask = td.1; few = tv.high_fits; rise = sorted-from_row is_slot_above slot_cmp slot_tests leased_key None v.0.0 tv.row };
+      })
+
+all_any : {X : Type 0} (xs : List X) → AllByRecursion Any xs
+all_any [] = tt
+all_any (x ∷ xs) = (tt, all_any xs)
+
+pub lease_again : EntryAgain lease_at Third lease_bytes is_above ticket_key IsLease IsTypedLease
+unfolding lease_at lease_bytes holder_bytes
+lease_again before l rest above fits typed =
+    let t = to_be_bytes w64 l.ticket.0 in
+    let n = node_bytes l.node in
+    let i = to_be_bytes w64 l.life.0 in
+    let a = to_be_bytes w64 l.ask.0 in
+    let s = flag_bytes l.shared in
+    let u = flag_bytes l.tenure in
+    let c = counted leased_bytes l.slots in
+    let tail = s ++ (u ++ (c ++ rest)) in
+    let after : (s ++ (u ++ c)) ++ rest ≡ tail = append_assoc s (u ++ c) rest ∙ ap (λ (x : List ℕ). s ++ x) (append_assoc u c rest) in
+    let front : (t ++ (n ++ (i ++ a))) ++ tail ≡ t ++ (n ++ (i ++ (a ++ tail))) = append_assoc t (n ++ (i ++ a)) tail ∙ ap (λ (x : List ℕ). t ++ x) (append_assoc n (i ++ a) tail ∙ ap (λ (x : List ℕ). n ++ x) (append_assoc i a tail)) in
+    let regrouped : lease_bytes l ++ rest ≡ t ++ (n ++ (i ++ (a ++ tail))) = append_assoc (t ++ (n ++ (i ++ a))) (s ++ (u ++ c)) rest ∙ ap (λ (x : List ℕ). (t ++ (n ++ (i ++ a))) ++ x) after ∙ front in
+    let few = fits.few in
+    ap (lease_at Third before) regrouped
+    ∙ rw (ticket_after_again (option_map ticket_key before) l.ticket (n ++ (i ++ (a ++ tail))) typed.ticket fits.ticket above, node_again l.node (i ++ (a ++ tail)) fits.node,
+      positive_again l.life.0 (a ++ tail) typed.life fits.life, positive_again l.ask.0 tail typed.ask fits.ask, flag_again l.shared (u ++ (c ++ rest)), tenure_again l.tenure (c ++ rest),
+      counted_again leased_at Third leased_bytes is_slot_above leased_key Any IsTypedLeased leased_again 0 16 l.slots rest (omega arith) few (omega arith) (row-from_sorted is_slot_above slot_cmp slot_tests leased_key l.slots fits.rise) (all_any l.slots) typed.slots) refl
