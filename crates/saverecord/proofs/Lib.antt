@@ -5,3 +5,4 @@ pub mod SlotLaws
 pub mod Rows
 pub mod EntryLaws
 pub mod PartLaws
+pub mod BodyLaws

@@ -292,7 +292,7 @@ module _ (layout : Layout) where
         fits = record { ticket = ta.1; node = tb.1; life = tc.1; ask = td.1; few = tv.high_fits; rise = sorted-from_row is_slot_above slot_cmp slot_tests leased_key None v.0.0 tv.row };
       })
 
-all_any : {X : Type 0} (xs : List X) → AllByRecursion Any xs
+pub all_any : {X : Type 0} (xs : List X) → AllByRecursion Any xs
 all_any [] = tt
 all_any (x ∷ xs) = (tt, all_any xs)
 
