@@ -6,3 +6,4 @@ pub mod Rows
 pub mod EntryLaws
 pub mod PartLaws
 pub mod BodyLaws
+pub mod RecordLaws

@@ -1,0 +1,111 @@
+-- A record of version 3 that is read is the one that was written, and what was written is read again.
+use Rattle.std.proofs.Common.{◌≡◌, ℕ, zero, suc, ◌+◌, ◌-◌, ◌^◌, ◌<◌, ◌≤◌, Bool, true, false, cond, ltb, ◌&&◌, List, [], ◌∷◌, ◌++◌, length, take, drop, Option, Some, None, Result, Ok, Err, refl, sym, ap, subst, ◌∙◌, append_assoc, arith}
+use Rattle.std.specs.Prelude.{codes}
+use Rattle.std.proofs.lemmas.Bool.{ltb-false, le-ltb, and_parts}
+use Rattle.std.proofs.lemmas.List.{take_at, drop_at, take-append-drop, length-append, length-take, length-drop, take-append-le}
+use Rattle.std.proofs.lemmas.Slice.Eq.{bytes_eq-Decides}
+use Rattle.sha2.specs.Sha256.{sha256}
+use Rattle.sha2.proofs.Facts256.{length-sha256}
+use Rattle.saverecord.specs.declared.layout.Layout.{Layout}
+use Rattle.saverecord.specs.declared.layout.Layout.TheVariants.{First, Second, Third}
+use Rattle.saverecord.specs.declared.record.Record.{Record}
+use Rattle.saverecord.specs.declared.refusal.Flaw.TheVariants.{Relation}
+use Rattle.saverecord.specs.declared.refusal.RecordRefusal.{RecordRefusal}
+use Rattle.saverecord.specs.declared.refusal.RecordRefusal.TheVariants.{Truncated, BadMagic, BadDigest}
+use Rattle.saverecord.specs.Parts.{◌>>=◌, Part, passed}
+use Rattle.saverecord.specs.Records.{whole_body, is_same, layout_of, opened, judged, record_of}
+use Rattle.saverecord.specs.Relations.{agrees}
+use Rattle.saverecord.specs.Spelling.{body_bytes, signed_bytes, record_bytes}
+use Rattle.saverecord.specs.Fits.{HasParts, IsRecord, IsTypedRecord}
+use Rattle.saverecord.proofs.Fields.{IsBytes, IsBytes-take, IsBytes-drop, bind_ok, passed_ok, ok_is, done}
+use Rattle.saverecord.proofs.BodyLaws.{body_bytes_in, body_bytes-third, whole_takes, whole_again}
+
+-- the same bytes
+same_bytes : (a b : List ℕ) → is_same a b ≡ true → a ≡ b
+same_bytes a b h = (bytes_eq-Decides a b).0 h
+
+same_itself : (a : List ℕ) → is_same a a ≡ true
+same_itself a = (bytes_eq-Decides a a).1 refl
+
+-- a test before a value, and a fault in its place
+chosen_ok : {A : Type 0} (b : Bool) (r : Result A RecordRefusal) (d : RecordRefusal) (x : A) → cond b r (Err d) ≡ Ok x → (b ≡ true) × (r ≡ Ok x)
+chosen_ok true r d x e = (refl, e)
+chosen_ok false r d x e = absurd cc
+
+not_short : {A : Type 0} (b : Bool) (r : Result A RecordRefusal) (d : RecordRefusal) (x : A) → cond b (Err d) r ≡ Ok x → (b ≡ false) × (r ≡ Ok x)
+not_short true r d x e = absurd cc
+not_short false r d x e = (refl, e)
+
+abbrev pub magic : List ℕ
+magic = codes "BKFARM03"
+
+third_magic : layout_of magic ≡ Ok Third
+unfolding layout_of
+third_magic = refl
+
+abbrev signed_of : List ℕ → List ℕ
+signed_of bytes = take (length bytes - 32) bytes
+
+-- what stands between magic and digest
+pub record Opens (bytes : List ℕ) (body : List ℕ) : Type 0 where
+  pub parts : bytes ≡ (take 8 bytes ++ body) ++ sha256 (take 8 bytes ++ body)
+  pub fits : IsBytes body
+
+pub opened_takes : (bytes : List ℕ) (layout : Layout) (body : List ℕ) → IsBytes bytes → opened bytes ≡ Ok (layout, body) → Opens bytes body × (layout_of (take 8 bytes) ≡ Ok layout)
+unfolding opened
+opened_takes bytes layout body fits e =
+    let g = not_short (ltb (length bytes) 40) (layout_of (take 8 bytes) >>= λ layout. cond (is_same (sha256 (signed_of bytes)) (drop (length bytes - 32) bytes)) (Ok (layout, drop 8 (signed_of bytes))) (Err BadDigest)) Truncated (layout, body) e in
+    let long : 40 ≤ length bytes = ltb-false _ _ g.0 in
+    let a = bind_ok (layout_of (take 8 bytes)) (λ layout. cond (is_same (sha256 (signed_of bytes)) (drop (length bytes - 32) bytes)) (Ok (layout, drop 8 (signed_of bytes))) (Err BadDigest)) (layout, body) g.1 in
+    let read : Part Layout = Ok (a.0, drop 8 (signed_of bytes)) in
+    let c = chosen_ok (is_same (sha256 (signed_of bytes)) (drop (length bytes - 32) bytes)) read BadDigest (layout, body) a.2 in
+    let same = same_bytes (sha256 (signed_of bytes)) (drop (length bytes - 32) bytes) c.0 in
+    let split : bytes ≡ signed_of bytes ++ drop (length bytes - 32) bytes = sym (take-append-drop (length bytes - 32) bytes) in
+    let len : length (signed_of bytes) ≡ length bytes - 32 = omega (arith, length-take (length bytes - 32) bytes) in
+    let front : take 8 bytes ≡ take 8 (signed_of bytes) = ap (take 8) split ∙ take-append-le 8 (signed_of bytes) (drop (length bytes - 32) bytes) (omega arith) in
+    let signed : signed_of bytes ≡ take 8 bytes ++ drop 8 (signed_of bytes) = sym (take-append-drop 8 (signed_of bytes)) ∙ ap (λ (x : List ℕ). x ++ drop 8 (signed_of bytes)) (sym front) in
+    let parts : bytes ≡ (take 8 bytes ++ drop 8 (signed_of bytes)) ++ sha256 (take 8 bytes ++ drop 8 (signed_of bytes)) = split ∙ ap (λ (x : List ℕ). signed_of bytes ++ x) (sym same) ∙ ap (λ (x : List ℕ). x ++ sha256 x) signed in
+    let made : Layout × List ℕ = (a.0, drop 8 (signed_of bytes)) in
+    subst (λ (y : Layout × List ℕ). Opens bytes y.1 × (layout_of (take 8 bytes) ≡ Ok y.0)) (ok_is made (layout, body) c.1)
+    (record { parts = parts; fits = IsBytes-drop 8 (signed_of bytes) (IsBytes-take (length bytes - 32) bytes fits) }, a.1)
+
+opened_again : (body : List ℕ) → opened ((magic ++ body) ++ sha256 (magic ++ body)) ≡ Ok (Third, body)
+unfolding opened
+opened_again body =
+    let signed = magic ++ body in
+    let bytes = signed ++ sha256 signed in
+    let digest = length-sha256 signed in
+    let len : length bytes ≡ length signed + 32 = omega (arith, length-append signed (sha256 signed), digest) in
+    let some : length signed ≡ 8 + length body = length-append magic body in
+    let long : ltb (length bytes) 40 ≡ false = le-ltb (length bytes) 40 (omega arith) in
+    let front : take 8 bytes ≡ magic = ap (take 8) (append_assoc magic body (sha256 signed)) ∙ take_at magic (body ++ sha256 signed) 8 refl in
+    let place : length bytes - 32 ≡ length signed = omega arith in
+    let first : take (length bytes - 32) bytes ≡ signed = take_at signed (sha256 signed) (length bytes - 32) (sym place) in
+    let last : drop (length bytes - 32) bytes ≡ sha256 signed = drop_at signed (sha256 signed) (length bytes - 32) (sym place) in
+    rw (long, front, third_magic, first, last, same_itself (sha256 signed), drop_at magic body 8 refl) refl
+
+judged_third : (r s : Record) → judged Third r ≡ Ok s → (agrees r ≡ true) × (r ≡ s)
+unfolding judged
+judged_third r s e = passed_ok Relation (agrees r) r s e
+
+judged_again : (r : Record) → agrees r ≡ true → judged Third r ≡ Ok r
+unfolding judged
+judged_again r h = rw h refl
+
+-- what is read is spelled so
+pub third_takes : (bytes : List ℕ) (r : Record) → IsBytes bytes → take 8 bytes ≡ magic → record_of bytes ≡ Ok r → bytes ≡ record_bytes r
+unfolding record_of
+third_takes bytes r fits is_third e =
+    let a = bind_ok (opened bytes) (λ parts. whole_body parts.0 parts.1 >>= λ body. judged parts.0 body) r e in
+    let b = bind_ok (whole_body a.0.0 a.0.1) (λ body. judged a.0.0 body) r a.2 in
+    let o = opened_takes bytes a.0.0 a.0.1 fits a.1 in
+    let layout : Third ≡ a.0.0 = ok_is Third a.0.0 (sym third_magic ∙ ap layout_of (sym is_third) ∙ o.1) in
+    let w = whole_takes a.0.0 a.0.1 b.0 o.0.fits b.1 in
+    let j = judged_third b.0 r (subst (λ l. judged l b.0 ≡ Ok r) (sym layout) b.2) in
+    let body : a.0.1 ≡ body_bytes r = w.0 ∙ ap (λ l. body_bytes_in l b.0) (sym layout) ∙ body_bytes-third b.0 ∙ ap body_bytes j.1 in
+    o.0.parts ∙ ap (λ (x : List ℕ). (x ++ a.0.1) ++ sha256 (x ++ a.0.1)) is_third ∙ ap (λ (x : List ℕ). (magic ++ x) ++ sha256 (magic ++ x)) body
+
+-- what is spelled so is read
+pub third_again : (r : Record) → IsRecord r → IsTypedRecord r → record_of (record_bytes r) ≡ Ok r
+unfolding record_of
+third_again r fits typed = rw (opened_again (body_bytes r), whole_again r fits.parts typed) (judged_again r fits.relations)
