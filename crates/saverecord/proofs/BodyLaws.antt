@@ -1,13 +1,12 @@
 -- The parts of a record that are read are those that were written, and what was written is read again.
-use Rattle.std.proofs.Common.{◌≡◌, ℕ, zero, suc, ◌+◌, ◌^◌, ◌<◌, ◌≤◌, Bool, true, false, cond, eqb, List, [], ◌∷◌, ◌++◌, length, map, Option, Some, None, Result, Ok, Err, refl, sym, ap, subst, ◌∙◌, append_assoc, arith}
+use Rattle.std.proofs.Common.{◌≡◌, ℕ, zero, suc, ◌^◌, ◌<◌, ◌≤◌, Bool, eqb, List, [], ◌++◌, length, Option, Some, None, Result, Ok, refl, sym, ap, subst, ◌∙◌, append_assoc, arith}
 use Rattle.std.specs.Int.{w32, w64, to_be_bytes}
 use Rattle.std.specs.List.{AllByRecursion}
-use Rattle.std.specs.List.Sorted.{IsStrictlyIncreasing, IsStrictlySortedBy}
+use Rattle.std.specs.List.Sorted.{IsStrictlySortedBy}
 use Rattle.std.proofs.lemmas.Bool.{eqb-true}
 use Rattle.std.proofs.lemmas.List.{append-nil, nil_from_length, map-id}
 use Rattle.farm_base.specs.declared.lease.Lease.{Lease}
 use Rattle.farm_base.specs.declared.number.NodeId.{NodeId}
-use Rattle.farm_base.specs.declared.number.Ticket.{Ticket}
 use Rattle.farm_base.specs.Slots.{SlotParts, slot_cmp}
 use Rattle.saverecord.specs.declared.layout.Layout.{Layout}
 use Rattle.saverecord.specs.declared.layout.Layout.TheVariants.{First, Second, Third}
@@ -18,13 +17,13 @@ use Rattle.saverecord.specs.declared.refusal.Flaw.TheVariants.{Trailing}
 use Rattle.saverecord.specs.declared.refusal.RecordRefusal.{RecordRefusal}
 use Rattle.saverecord.specs.Parts.{◌>>=◌, Part, passed, number_at}
 use Rattle.saverecord.specs.Slots.{is_slot_above}
-use Rattle.saverecord.specs.Entries.{Reader, is_above, counted_at, retired_node_at, node_life_at, retired_at, lease_at, line_at}
+use Rattle.saverecord.specs.Entries.{Reader, is_above, retired_node_at, node_life_at, retired_at, lease_at, line_at}
 use Rattle.saverecord.specs.Records.{home_of, home_at, list_at, retired_nodes_at, body_at, whole_body}
 use Rattle.saverecord.specs.Spelling.{slot_bytes, counted, node_bytes, node_life_bytes, lease_bytes, line_bytes, home_bytes, first_bytes, nodes_bytes, slots_bytes, body_bytes}
 use Rattle.saverecord.specs.Fits.{IsNode, IsHome, IsNodeLife, IsLease, IsSlotLine, HasParts, IsTypedNode, IsTypedLife, IsTypedSlot, IsTypedLease, IsTypedLine, IsTypedRecord}
 use Rattle.saverecord.proofs.Fields.{IsBytes, bind_ok, passed_ok, ok_is, Takes, Takes-then, wide32, wide64, number_takes, number_again}
-use Rattle.saverecord.proofs.Rows.{Row, slot_tests, number_tests, sorted-from_row, row-from_sorted, numbers-from_row, row-from_numbers}
-use Rattle.saverecord.proofs.EntryLaws.{TakesList, EntryTakes, EntryAgain, counted_takes, counted_again}
+use Rattle.saverecord.proofs.Rows.{Row, slot_tests, sorted-from_row, row-from_sorted, numbers-from_row, row-from_numbers}
+use Rattle.saverecord.proofs.EntryLaws.{EntryAgain, counted_takes, counted_again}
 use Rattle.saverecord.proofs.PartLaws.{node_key, life_key, slot_key, line_key, ticket_key, Any, all_any, retired_node_takes, retired_node_again, node_life_takes, node_life_again, retired_takes, retired_again, line_takes, line_again, lease_bytes_in, lease_bytes-third, lease_takes, lease_again}
 
 abbrev greatest : ℕ
@@ -147,19 +146,21 @@ module _ (layout : Layout) where
       let whole = Takes-then bytes (to_be_bytes w64 a.0.0 ++ home_bytes b.0.0) b.0.1 ((counted node_life_bytes c.0.0 ++ retired_nodes_bytes layout d.0.0) ++ (counted (lease_bytes_in layout) l.0.0 ++ (counted slot_bytes s.0.0 ++ counted line_bytes v.0.0))) v.0.1 ab cv in
       let made : Record × List ℕ = (made_record a.0.0 b.0.0 c.0.0 d.0.0 l.0.0 s.0.0 v.0.0, v.0.1) in
       let retired_rise : IsStrictlySortedBy slot_cmp s.0.0 = subst (IsStrictlySortedBy slot_cmp) (map-id s.0.0) (sorted-from_row is_slot_above slot_cmp slot_tests slot_key None s.0.0 ts.row) in
-      subst (λ (y : Record × List ℕ). Takes bytes (body_bytes_in layout y.0) y.1 × HasParts y.0) (ok_is made (r, rest) v.2)
-      (whole, record {
-        home = tb.1;
-        lives_rise = numbers-from_row life_key c.0.0 tc.row;
-        lives = tc.each;
-        nodes_rise = numbers-from_row node_key d.0.0 td.row;
-        nodes = td.each;
-        leases_rise = numbers-from_row ticket_key l.0.0 tl.row;
-        leases = tl.each;
-        retired_rise = retired_rise;
-        lines_rise = sorted-from_row is_slot_above slot_cmp slot_tests line_key None v.0.0 tv.row;
-        lines = tv.each;
-      })
+      subst (λ (y : Record × List ℕ). Takes bytes (body_bytes_in layout y.0) y.1 × HasParts y.0) (ok_is made (r, rest) v.2) (
+        whole,
+        record {
+          home = tb.1;
+          lives_rise = numbers-from_row life_key c.0.0 tc.row;
+          lives = tc.each;
+          nodes_rise = numbers-from_row node_key d.0.0 td.row;
+          nodes = td.each;
+          leases_rise = numbers-from_row ticket_key l.0.0 tl.row;
+          leases = tl.each;
+          retired_rise = retired_rise;
+          lines_rise = sorted-from_row is_slot_above slot_cmp slot_tests line_key None v.0.0 tv.row;
+          lines = tv.each;
+        },
+      )
 
   pub whole_takes : (bytes : List ℕ) (r : Record) → IsBytes bytes → whole_body layout bytes ≡ Ok r → (bytes ≡ body_bytes_in layout r) × HasParts r
   unfolding whole_body
@@ -193,12 +194,15 @@ body_again r rest fits typed =
     let small = typed.last in
     let retired_row : Row is_slot_above slot_key None r.retired = row-from_sorted is_slot_above slot_cmp slot_tests slot_key r.retired (subst (IsStrictlySortedBy slot_cmp) (sym (map-id r.retired)) fits.retired_rise) in
     ap (body_at Third) regrouped
-    ∙ rw (number_again w64 (2 ^ 64) wide64 0 greatest r.last.0 (h ++ (v ++ (g ++ tail))) small (omega arith) (omega arith), home_again r.old_home (v ++ (g ++ tail)) fits.home,
+    ∙ rw (
+      number_again w64 (2 ^ 64) wide64 0 greatest r.last.0 (h ++ (v ++ (g ++ tail))) small (omega arith) (omega arith),
+      home_again r.old_home (v ++ (g ++ tail)) fits.home,
       list_again node_life_at node_life_bytes is_above life_key IsNodeLife IsTypedLife node_life_again r.lives (g ++ tail) (row-from_numbers life_key r.lives fits.lives_rise) fits.lives typed.lives,
       list_again retired_node_at node_bytes is_above node_key IsNode IsTypedNode retired_node_again r.retired_nodes tail (row-from_numbers node_key r.retired_nodes fits.nodes_rise) fits.nodes typed.nodes,
       list_again lease_at lease_bytes is_above ticket_key IsLease IsTypedLease lease_again r.leases (s ++ (t ++ rest)) (row-from_numbers ticket_key r.leases fits.leases_rise) fits.leases typed.leases,
       list_again retired_at slot_bytes is_slot_above slot_key Any IsTypedSlot retired_again r.retired (t ++ rest) retired_row (all_any r.retired) typed.retired,
-      list_again line_at line_bytes is_slot_above line_key IsSlotLine IsTypedLine line_again r.lines rest (row-from_sorted is_slot_above slot_cmp slot_tests line_key r.lines fits.lines_rise) fits.lines typed.lines) refl
+      list_again line_at line_bytes is_slot_above line_key IsSlotLine IsTypedLine line_again r.lines rest (row-from_sorted is_slot_above slot_cmp slot_tests line_key r.lines fits.lines_rise) fits.lines typed.lines,
+    ) refl
 
 pub whole_again : (r : Record) → HasParts r → IsTypedRecord r → whole_body Third (body_bytes r) ≡ Ok r
 unfolding whole_body

@@ -1,17 +1,16 @@
 -- A part that is read is the part that was written, and what was written is read again.
-use Rattle.std.proofs.Common.{◌≡◌, ℕ, zero, suc, ◌+◌, ◌^◌, ◌<◌, ◌≤◌, Bool, true, false, cond, ltb, leb, ◌&&◌, List, [], ◌∷◌, ◌++◌, length, get_or, take, drop, Option, Some, None, Result, Ok, Err, refl, sym, ap, subst, ◌∙◌, append_assoc, arith, inl, inr}
+use Rattle.std.proofs.Common.{◌≡◌, ℕ, zero, suc, ◌+◌, ◌^◌, ◌<◌, ◌≤◌, Bool, true, false, cond, ltb, leb, ◌&&◌, List, [], ◌∷◌, ◌++◌, length, get_or, take, drop, Result, Ok, Err, refl, sym, ap, subst, ◌∙◌, append_assoc, arith, inl, inr}
 use Rattle.std.specs.Int.{Width, w32, w64, byte_len, from_be_bytes, to_be_bytes}
 use Rattle.std.specs.Str.{IsUtf8, is_utf8}
 use Rattle.std.proofs.lemmas.Bool.{cases_lt, ltb-false, le-ltb, leb-true, le-leb, and_parts}
 use Rattle.std.proofs.lemmas.List.{take_at, drop_at, take-append-drop, length-append, length-take, get_or-drop, get_or-take, get_or_past}
 use Rattle.std.proofs.lemmas.Nat.{be_bytes_4, be_bytes_8, from_be_bytes-to_be_bytes_4, from_be_bytes-to_be_bytes_8}
-use Rattle.std.proofs.lemmas.Str.{IsUtf8-from_is_utf8}
 use Rattle.farm_base.specs.declared.digest.Digest.{Digest}
 use Rattle.saverecord.specs.declared.refusal.Flaw.{Flaw}
 use Rattle.saverecord.specs.declared.refusal.Flaw.TheVariants.{Range}
 use Rattle.saverecord.specs.declared.refusal.RecordRefusal.{RecordRefusal}
-use Rattle.saverecord.specs.declared.refusal.RecordRefusal.TheVariants.{Truncated, NotCanonical}
-use Rattle.saverecord.specs.Parts.{◌>>=◌, Part, passed, front_at, number_at, flag_at, digest_at, text_of, id_at}
+use Rattle.saverecord.specs.declared.refusal.RecordRefusal.TheVariants.{Truncated}
+use Rattle.saverecord.specs.Parts.{◌>>=◌, passed, front_at, number_at, flag_at, digest_at, text_of, id_at}
 use Rattle.saverecord.specs.Spelling.{flag_bytes, id_bytes}
 use Rattle.saverecord.proofs.TextLemmas.{text_passes}
 

@@ -7,3 +7,4 @@ pub mod EntryLaws
 pub mod PartLaws
 pub mod BodyLaws
 pub mod RecordLaws
+pub mod FirstLaws

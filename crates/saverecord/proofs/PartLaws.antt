@@ -1,9 +1,8 @@
 -- Each entry that is read is the one that was written, and what was written is read again.
-use Rattle.std.proofs.Common.{◌≡◌, ℕ, zero, suc, ◌+◌, ◌^◌, ◌<◌, ◌≤◌, Bool, true, false, cond, List, [], ◌∷◌, ◌++◌, length, Option, Some, None, Result, Ok, Err, refl, sym, ap, subst, ◌∙◌, append_assoc, arith}
+use Rattle.std.proofs.Common.{◌≡◌, ℕ, ◌^◌, ◌<◌, ◌≤◌, Bool, true, false, List, [], ◌∷◌, ◌++◌, Option, Some, None, Ok, refl, ap, subst, ◌∙◌, append_assoc, arith}
 use Rattle.std.specs.Int.{w32, w64, to_be_bytes}
 use Rattle.std.specs.List.{AllByRecursion}
 use Rattle.std.specs.Option.{option_map}
-use Rattle.farm_base.specs.declared.digest.Digest.{Digest}
 use Rattle.farm_base.specs.declared.lease.Lease.{Lease}
 use Rattle.farm_base.specs.declared.message.LineVersion.{LineVersion}
 use Rattle.farm_base.specs.declared.number.NodeId.{NodeId}
@@ -14,17 +13,15 @@ use Rattle.saverecord.specs.declared.layout.Layout.TheVariants.{First, Second, T
 use Rattle.saverecord.specs.declared.record.NodeLife.{NodeLife}
 use Rattle.saverecord.specs.declared.record.SlotLine.{SlotLine}
 use Rattle.saverecord.specs.declared.refusal.Flaw.TheVariants.{Order}
-use Rattle.saverecord.specs.declared.refusal.RecordRefusal.{RecordRefusal}
-use Rattle.saverecord.specs.Layouts.{has_shared}
 use Rattle.saverecord.specs.Parts.{◌>>=◌, Part, passed, number_at, flag_at, digest_at}
 use Rattle.saverecord.specs.Slots.{is_slot_above, slot_after}
-use Rattle.saverecord.specs.Entries.{Reader, counted_at, is_above, node_at, positive_at, node_after, ticket_after, retired_node_at, node_life_at, retired_at, leased_at, tenure_at, lease_at, version_at, line_at}
+use Rattle.saverecord.specs.Entries.{counted_at, is_above, node_at, positive_at, node_after, ticket_after, retired_node_at, node_life_at, retired_at, leased_at, tenure_at, lease_at, version_at, line_at}
 use Rattle.saverecord.specs.Spelling.{flag_bytes, slot_bytes, counted, node_bytes, node_life_bytes, leased_bytes, holder_bytes, lease_bytes, version_bytes, line_bytes}
 use Rattle.saverecord.specs.Fits.{IsNode, IsNodeLife, IsLease, IsVersion, IsSlotLine, IsTypedNode, IsTypedLife, IsTypedSlot, IsTypedLeased, IsTypedLease, IsTypedVersion, IsTypedLine}
 use Rattle.saverecord.proofs.Fields.{IsBytes, bind_ok, passed_ok, ok_is, Takes, Takes-then, wide32, wide64, number_takes, number_again, flag_takes, flag_again, digest_takes, digest_again}
 use Rattle.saverecord.proofs.SlotLaws.{slot_after_takes, slot_after_again}
-use Rattle.saverecord.proofs.Rows.{slot_tests, number_tests, sorted-from_row, row-from_sorted, numbers-from_row, row-from_numbers}
-use Rattle.saverecord.proofs.EntryLaws.{TakesEntry, TakesList, EntryTakes, EntryAgain, counted_takes, counted_again}
+use Rattle.saverecord.proofs.Rows.{slot_tests, sorted-from_row, row-from_sorted, numbers-from_row, row-from_numbers}
+use Rattle.saverecord.proofs.EntryLaws.{TakesEntry, EntryTakes, EntryAgain, counted_takes, counted_again}
 
 abbrev greatest : ℕ
 greatest = 0xffff_ffff_ffff_ffff
@@ -198,8 +195,10 @@ pub line_again : EntryAgain line_at Third line_bytes is_slot_above line_key IsSl
 unfolding line_at line_bytes
 line_again before l rest above fits typed =
     ap (line_at Third before) (append_assoc (slot_bytes l.slot) (counted version_bytes l.versions) rest)
-    ∙ rw (slot_after_again (option_map line_key before) l.slot (counted version_bytes l.versions ++ rest) typed.slot.slot typed.slot.id above,
-      counted_again version_at Third version_bytes is_above version_key IsVersion IsTypedVersion version_again 1 greatest l.versions rest fits.some (let few = typed.few in omega arith) typed.few (row-from_numbers version_key l.versions fits.rise) fits.versions typed.versions) refl
+    ∙ rw (
+      slot_after_again (option_map line_key before) l.slot (counted version_bytes l.versions ++ rest) typed.slot.slot typed.slot.id above,
+      counted_again version_at Third version_bytes is_above version_key IsVersion IsTypedVersion version_again 1 greatest l.versions rest fits.some (let few = typed.few in omega arith) typed.few (row-from_numbers version_key l.versions fits.rise) fits.versions typed.versions,
+    ) refl
 
 -- ---- leases
 
@@ -312,6 +311,12 @@ lease_again before l rest above fits typed =
     let regrouped : lease_bytes l ++ rest ≡ t ++ (n ++ (i ++ (a ++ tail))) = append_assoc (t ++ (n ++ (i ++ a))) (s ++ (u ++ c)) rest ∙ ap (λ (x : List ℕ). (t ++ (n ++ (i ++ a))) ++ x) after ∙ front in
     let few = fits.few in
     ap (lease_at Third before) regrouped
-    ∙ rw (ticket_after_again (option_map ticket_key before) l.ticket (n ++ (i ++ (a ++ tail))) typed.ticket fits.ticket above, node_again l.node (i ++ (a ++ tail)) fits.node,
-      positive_again l.life.0 (a ++ tail) typed.life fits.life, positive_again l.ask.0 tail typed.ask fits.ask, flag_again l.shared (u ++ (c ++ rest)), tenure_again l.tenure (c ++ rest),
-      counted_again leased_at Third leased_bytes is_slot_above leased_key Any IsTypedLeased leased_again 0 16 l.slots rest (omega arith) few (omega arith) (row-from_sorted is_slot_above slot_cmp slot_tests leased_key l.slots fits.rise) (all_any l.slots) typed.slots) refl
+    ∙ rw (
+      ticket_after_again (option_map ticket_key before) l.ticket (n ++ (i ++ (a ++ tail))) typed.ticket fits.ticket above,
+      node_again l.node (i ++ (a ++ tail)) fits.node,
+      positive_again l.life.0 (a ++ tail) typed.life fits.life,
+      positive_again l.ask.0 tail typed.ask fits.ask,
+      flag_again l.shared (u ++ (c ++ rest)),
+      tenure_again l.tenure (c ++ rest),
+      counted_again leased_at Third leased_bytes is_slot_above leased_key Any IsTypedLeased leased_again 0 16 l.slots rest (omega arith) few (omega arith) (row-from_sorted is_slot_above slot_cmp slot_tests leased_key l.slots fits.rise) (all_any l.slots) typed.slots,
+    ) refl

@@ -1,23 +1,23 @@
 -- A record of version 3 that is read is the one that was written, and what was written is read again.
-use Rattle.std.proofs.Common.{◌≡◌, ℕ, zero, suc, ◌+◌, ◌-◌, ◌^◌, ◌<◌, ◌≤◌, Bool, true, false, cond, ltb, ◌&&◌, List, [], ◌∷◌, ◌++◌, length, take, drop, Option, Some, None, Result, Ok, Err, refl, sym, ap, subst, ◌∙◌, append_assoc, arith}
+use Rattle.std.proofs.Common.{◌≡◌, ℕ, ◌+◌, ◌-◌, ◌≤◌, Bool, true, false, cond, ltb, List, ◌++◌, length, take, drop, Result, Ok, Err, refl, sym, ap, subst, ◌∙◌, append_assoc, arith}
 use Rattle.std.specs.Prelude.{codes}
-use Rattle.std.proofs.lemmas.Bool.{ltb-false, le-ltb, and_parts}
-use Rattle.std.proofs.lemmas.List.{take_at, drop_at, take-append-drop, length-append, length-take, length-drop, take-append-le}
+use Rattle.std.proofs.lemmas.Bool.{ltb-false, le-ltb}
+use Rattle.std.proofs.lemmas.List.{take_at, drop_at, take-append-drop, length-append, length-take, take-append-le}
 use Rattle.std.proofs.lemmas.Slice.Eq.{bytes_eq-Decides}
 use Rattle.sha2.specs.Sha256.{sha256}
 use Rattle.sha2.proofs.Facts256.{length-sha256}
 use Rattle.saverecord.specs.declared.layout.Layout.{Layout}
-use Rattle.saverecord.specs.declared.layout.Layout.TheVariants.{First, Second, Third}
+use Rattle.saverecord.specs.declared.layout.Layout.TheVariants.{Third}
 use Rattle.saverecord.specs.declared.record.Record.{Record}
 use Rattle.saverecord.specs.declared.refusal.Flaw.TheVariants.{Relation}
 use Rattle.saverecord.specs.declared.refusal.RecordRefusal.{RecordRefusal}
-use Rattle.saverecord.specs.declared.refusal.RecordRefusal.TheVariants.{Truncated, BadMagic, BadDigest}
-use Rattle.saverecord.specs.Parts.{◌>>=◌, Part, passed}
+use Rattle.saverecord.specs.declared.refusal.RecordRefusal.TheVariants.{Truncated, BadDigest}
+use Rattle.saverecord.specs.Parts.{◌>>=◌, Part}
 use Rattle.saverecord.specs.Records.{whole_body, is_same, layout_of, opened, judged, record_of}
 use Rattle.saverecord.specs.Relations.{agrees}
-use Rattle.saverecord.specs.Spelling.{body_bytes, signed_bytes, record_bytes}
-use Rattle.saverecord.specs.Fits.{HasParts, IsRecord, IsTypedRecord}
-use Rattle.saverecord.proofs.Fields.{IsBytes, IsBytes-take, IsBytes-drop, bind_ok, passed_ok, ok_is, done}
+use Rattle.saverecord.specs.Spelling.{body_bytes, record_bytes}
+use Rattle.saverecord.specs.Fits.{IsRecord, IsTypedRecord}
+use Rattle.saverecord.proofs.Fields.{IsBytes, IsBytes-take, IsBytes-drop, bind_ok, passed_ok, ok_is}
 use Rattle.saverecord.proofs.BodyLaws.{body_bytes_in, body_bytes-third, whole_takes, whole_again}
 
 -- the same bytes

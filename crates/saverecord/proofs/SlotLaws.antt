@@ -1,18 +1,15 @@
 -- A slot that is read is the slot that was written, and what was written is read again.
-use Rattle.std.proofs.Common.{◌≡◌, ℕ, zero, suc, ◌+◌, ◌^◌, ◌<◌, ◌≤◌, Bool, true, false, cond, ltb, leb, eqb, ◌&&◌, List, [], ◌∷◌, ◌++◌, length, Option, Some, None, Result, Ok, Err, refl, sym, ap, subst, ◌∙◌, append_assoc, arith}
+use Rattle.std.proofs.Common.{◌≡◌, ℕ, zero, suc, ◌^◌, ◌<◌, ◌≤◌, Bool, true, false, cond, ltb, List, [], ◌∷◌, ◌++◌, length, Option, Some, None, Ok, refl, ap, subst, ◌∙◌, append_assoc, arith}
 use Rattle.std.specs.Int.{w32, w64, to_be_bytes}
 use Rattle.std.proofs.lemmas.Bool.{lt-ltb, le-leb}
 use Rattle.farm_base.specs.declared.folder.Base.{Base}
-use Rattle.farm_base.specs.declared.folder.FolderName.{FolderName}
 use Rattle.farm_base.specs.declared.folder.Mode.{Mode}
 use Rattle.farm_base.specs.declared.folder.Mode.TheVariants.{Shared, Private, Locked}
-use Rattle.farm_base.specs.declared.digest.Digest.{Digest}
 use Rattle.farm_base.specs.Names.{IsOutput, IsBase, IsSlot}
 use Rattle.farm_base.specs.Slots.{SlotParts, IsInstance}
 use Rattle.saverecord.specs.declared.layout.Layout.{Layout}
-use Rattle.saverecord.specs.declared.layout.Layout.TheVariants.{First, Second, Third}
+use Rattle.saverecord.specs.declared.layout.Layout.TheVariants.{Third}
 use Rattle.saverecord.specs.declared.refusal.Flaw.TheVariants.{Range, Order}
-use Rattle.saverecord.specs.declared.refusal.RecordRefusal.{RecordRefusal}
 use Rattle.saverecord.specs.Layouts.{has_shared}
 use Rattle.saverecord.specs.Parts.{◌>>=◌, Part, passed, number_at, flag_at, digest_at, id_at}
 use Rattle.saverecord.specs.Slots.{mode_of, mode_at, output_at, base_at, has_instance, slot_at, is_slot_above, slot_after}
@@ -117,8 +114,13 @@ slot_again s rest fits lt =
     let small = instance_small s.folder.mode s.instance fits.instance in
     let regrouped : slot_bytes s ++ rest ≡ m ++ (i ++ (b ++ (n ++ rest))) = append_assoc m (i ++ (b ++ n)) rest ∙ ap (λ (x : List ℕ). m ++ x) (append_assoc i (b ++ n) rest ∙ ap (λ (x : List ℕ). i ++ x) (append_assoc b n rest)) in
     ap (slot_at Third) regrouped
-    ∙ rw (mode_again s.folder.mode (i ++ (b ++ (n ++ rest))), id_again s.folder.id (b ++ (n ++ rest)) lt fits.folder.text, base_again s.folder.base (n ++ rest) fits.folder.base,
-      number_again w32 (2 ^ 32) wide32 0 0xffff_ffff s.instance rest (omega arith) (omega arith) (omega arith), instance_passes s.folder.mode s.instance fits.instance) refl
+    ∙ rw (
+      mode_again s.folder.mode (i ++ (b ++ (n ++ rest))),
+      id_again s.folder.id (b ++ (n ++ rest)) lt fits.folder.text,
+      base_again s.folder.base (n ++ rest) fits.folder.base,
+      number_again w32 (2 ^ 32) wide32 0 0xffff_ffff s.instance rest (omega arith) (omega arith) (omega arith),
+      instance_passes s.folder.mode s.instance fits.instance,
+    ) refl
 
 pub slot_after_takes : (layout : Layout) (before : Option SlotParts) (bytes : List ℕ) (s : SlotParts) (rest : List ℕ) → IsBytes bytes → slot_after layout before bytes ≡ Ok (s, rest)
     → Takes bytes (slot_bytes s) rest × (is_slot_above before s ≡ true)

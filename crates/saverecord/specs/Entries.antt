@@ -1,5 +1,5 @@
 -- Reading lists: a count, and so many entries, each read with the one before it in view.
-use Rattle.std.specs.Prelude.{ℕ, zero, suc, nat_lt, Bool, true, false, if◌then◌else◌, List, [], ◌∷◌, Option, Some, None, Result, Ok, Err}
+use Rattle.std.specs.Prelude.{ℕ, zero, suc, nat_lt, Bool, true, false, if◌then◌else◌, List, [], ◌∷◌, Option, Some, None, Ok}
 use Rattle.std.specs.Int.{w32, w64}
 use Rattle.std.specs.Option.{option_map}
 use Rattle.farm_base.specs.declared.lease.Lease.{Lease}
@@ -11,7 +11,6 @@ use Rattle.saverecord.specs.declared.layout.Layout.{Layout}
 use Rattle.saverecord.specs.declared.record.NodeLife.{NodeLife}
 use Rattle.saverecord.specs.declared.record.SlotLine.{SlotLine}
 use Rattle.saverecord.specs.declared.refusal.Flaw.TheVariants.{Order}
-use Rattle.saverecord.specs.declared.refusal.RecordRefusal.{RecordRefusal}
 use Rattle.saverecord.specs.Layouts.{has_shared}
 use Rattle.saverecord.specs.Parts.{◌>>=◌, Part, passed, number_at, flag_at, digest_at}
 use Rattle.saverecord.specs.Slots.{slot_after}
@@ -93,15 +92,18 @@ lease_at layout before bytes = do
   shared ← flag_at ask.1
   tenure ← tenure_at layout shared.1
   slots ← counted_at leased_at layout 0 16 tenure.1
-  Ok (record {
-    ticket = ticket.0;
-    node = node.0;
-    life = record { 0 = life.0 };
-    ask = record { 0 = ask.0 };
-    shared = shared.0;
-    tenure = tenure.0;
-    slots = slots.0;
-  }, slots.1)
+  Ok (
+    record {
+      ticket = ticket.0;
+      node = node.0;
+      life = record { 0 = life.0 };
+      ask = record { 0 = ask.0 };
+      shared = shared.0;
+      tenure = tenure.0;
+      slots = slots.0;
+    },
+    slots.1,
+  )
 
 unfoldable pub version_at : Reader LineVersion
 version_at layout before bytes = do

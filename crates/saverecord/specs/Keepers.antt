@@ -1,5 +1,5 @@
 -- Who keeps the bytes of a record, over saves that may fail.
-use Rattle.std.specs.Prelude.{◌≡◌, ◌⊎◌, ℕ, ◌+◌, ◌<◌, List, Option, Some, None, Bool, true, false, min}
+use Rattle.std.specs.Prelude.{◌≡◌, ◌⊎◌, ℕ, ◌+◌, ◌<◌, List, Option, Some, None, min}
 use Rattle.saverecord.specs.declared.keeper.Kept.{Kept}
 use Rattle.saverecord.specs.declared.keeper.Kept.TheVariants.{Old, New}
 

@@ -1,5 +1,5 @@
 -- Reading a record from the left, up to its first fault.
-use Rattle.std.specs.Prelude.{ℕ, zero, suc, insert, ◌-◌, ◌==◌, ◌&&◌, nat_lt, nat_eq, Bool, true, false, if◌then◌else◌, List, [], ◌∷◌, length, take, drop, Option, Some, None, Result, Ok, Err, codes}
+use Rattle.std.specs.Prelude.{ℕ, zero, suc, insert, ◌-◌, ◌==◌, ◌&&◌, nat_lt, nat_eq, Bool, if◌then◌else◌, List, [], ◌∷◌, length, take, drop, Option, Some, None, Result, Ok, Err, codes}
 use Rattle.std.specs.Cmp.Lexicographic.{pointwise}
 use Rattle.std.specs.List.{list_any}
 use Rattle.std.specs.Int.{w32, w64}
@@ -45,15 +45,18 @@ body_at layout bytes = do
   leases ← list_at lease_at layout retired_nodes.1
   retired ← list_at retired_at layout leases.1
   lines ← list_at line_at layout retired.1
-  Ok (record {
-    last = record { 0 = last.0 };
-    old_home = home.0;
-    lives = lives.0;
-    retired_nodes = retired_nodes.0;
-    leases = leases.0;
-    retired = retired.0;
-    lines = lines.0;
-  }, lines.1)
+  Ok (
+    record {
+      last = record { 0 = last.0 };
+      old_home = home.0;
+      lives = lives.0;
+      retired_nodes = retired_nodes.0;
+      leases = leases.0;
+      retired = retired.0;
+      lines = lines.0;
+    },
+    lines.1,
+  )
 
 -- all of the bytes
 unfoldable pub whole_body : Layout → List ℕ → Result Record RecordRefusal

@@ -5,11 +5,9 @@ use Rattle.farm_base.specs.declared.lease.Lease.{Lease}
 use Rattle.farm_base.specs.declared.message.LineVersion.{LineVersion}
 use Rattle.farm_base.specs.declared.number.NodeId.{NodeId}
 use Rattle.farm_base.specs.Folders.{folder_eq}
-use Rattle.farm_base.specs.Slots.{SlotParts, slot_eq}
+use Rattle.farm_base.specs.Slots.{SlotParts}
 use Rattle.protocol.specs.Names.{is_private, is_shared}
 use Rattle.protocol.specs.Ledger.{has_slot}
-use Rattle.saverecord.specs.declared.layout.Layout.{Layout}
-use Rattle.saverecord.specs.declared.layout.Layout.TheVariants.{First, Second, Third}
 use Rattle.saverecord.specs.declared.record.NodeLife.{NodeLife}
 use Rattle.saverecord.specs.declared.record.Record.{Record}
 use Rattle.saverecord.specs.declared.record.SlotLine.{SlotLine}

@@ -1,5 +1,5 @@
 -- Reading a slot: mode, id, base and instance. Each is judged as soon as it is whole, and then the order.
-use Rattle.std.specs.Prelude.{ℕ, zero, suc, nat_le, nat_lt, ◌^◌, ◌==◌, Bool, true, false, ◌&&◌, if◌then◌else◌, List, [], ◌∷◌, Option, Some, None, Result, Ok, Err}
+use Rattle.std.specs.Prelude.{ℕ, zero, suc, nat_le, nat_lt, ◌^◌, ◌==◌, Bool, true, ◌&&◌, if◌then◌else◌, List, [], ◌∷◌, Option, Some, None, Result, Ok, Err}
 use Rattle.std.specs.Int.{w32, w64}
 use Rattle.std.specs.Ordering.{is_lt}
 use Rattle.farm_base.specs.declared.folder.Base.{Base}

@@ -1,9 +1,10 @@
 //! What the lists of a record hold.
-ghost use Rattle.std.specs.Prelude.{◌≡◌, ◌++◌, Option, None, option_copied, OnOk};
+ghost use Rattle.std.specs.Prelude.{◌≡◌, ◌<◌, ◌^◌, ◌++◌, Option, None, option_copied, OnOk};
 ghost use Rattle.std.specs.Int.{w64};
 ghost use Rattle.std.specs.Option.{option_map};
 ghost use Rattle.saverecord.specs.Parts.{Gives};
 ghost use Rattle.saverecord.specs.Entries.{is_above, node_at, positive_at, node_after, ticket_after, tenure_at, retired_node_at, node_life_at, retired_at, leased_at, lease_at, version_at, line_at};
+ghost use Rattle.saverecord.specs.Fits.{IsTypedNode, IsTypedLife, IsTypedSlot, IsTypedLeased, IsTypedLease, IsTypedVersion, IsTypedLine};
 ghost use Rattle.saverecord.specs.Spelling.{flag_bytes, node_bytes, node_life_bytes, slot_bytes, leased_bytes, holder_bytes, lease_bytes, version_bytes, line_bytes};
 
 use super::entry::{Entry, put_counted, take_counted};
@@ -87,6 +88,8 @@ impl Entry for NodeId {
 
     ghost spells = { node_bytes };
 
+    ghost typed = { IsTypedNode };
+
     fn take<'a>(
         _alloc: Global,
         _layout: Layout,
@@ -107,6 +110,8 @@ impl Entry for NodeLife {
     ghost reads = { node_life_at };
 
     ghost spells = { node_life_bytes };
+
+    ghost typed = { IsTypedLife };
 
     fn take<'a>(
         _alloc: Global,
@@ -137,6 +142,8 @@ impl Entry for Slot {
 
     ghost spells = { slot_bytes };
 
+    ghost typed = { IsTypedSlot };
+
     fn take<'a>(
         alloc: Global,
         layout: Layout,
@@ -157,6 +164,8 @@ impl Entry for (Slot, bool) {
     ghost reads = { leased_at };
 
     ghost spells = { leased_bytes };
+
+    ghost typed = { IsTypedLeased };
 
     fn take<'a>(
         alloc: Global,
@@ -193,12 +202,16 @@ fn take_tenure(layout: Layout, bytes: &[u8]) -> Result<(bool, &[u8]), RecordRefu
 
 #[tactic(auto, unfolding(crate::specs::Spelling::holder_bytes))]
 fn put_holder(out: &mut Vec<u8>, lease: &Lease) -> Result<(), AllocError>
-    ensures { OnOk result (out.new.items ≡ out.old.items ++ holder_bytes lease.now) }
+    ensures spelled { OnOk result (out.new.items ≡ out.old.items ++ holder_bytes lease.now) }
+    ensures ticket { lease.now.ticket.0 < 2 ^ 64 }
+    ensures life { lease.now.life.0 < 2 ^ 64 }
+    ensures ask { lease.now.ask.0 < 2 ^ 64 }
 {
-    out.extend_from_slice(&lease.ticket.0.to_be_bytes())?;
+    let (ticket, life, ask) = (lease.ticket.0, lease.life.0, lease.ask.0);
+    out.extend_from_slice(&ticket.to_be_bytes())?;
     out.extend_from_slice(&lease.node.0.to_be_bytes())?;
-    out.extend_from_slice(&lease.life.0.to_be_bytes())?;
-    out.extend_from_slice(&lease.ask.0.to_be_bytes())?;
+    out.extend_from_slice(&life.to_be_bytes())?;
+    out.extend_from_slice(&ask.to_be_bytes())?;
     Ok(())
 }
 
@@ -207,6 +220,8 @@ impl Entry for Lease {
     ghost reads = { lease_at };
 
     ghost spells = { lease_bytes };
+
+    ghost typed = { IsTypedLease };
 
     fn take<'a>(
         alloc: Global,
@@ -247,6 +262,8 @@ impl Entry for LineVersion {
 
     ghost spells = { version_bytes };
 
+    ghost typed = { IsTypedVersion };
+
     fn take<'a>(
         _alloc: Global,
         _layout: Layout,
@@ -260,7 +277,7 @@ impl Entry for LineVersion {
 
     fn put(&self, out: &mut Vec<u8>) -> Result<(), AllocError> {
         out.extend_from_slice(&self.ticket.0.to_be_bytes())?;
-        out.extend_from_slice(&self.digest.0)?;
+        out.extend_from_slice(self.digest.bytes())?;
         Ok(())
     }
 }
@@ -270,6 +287,8 @@ impl Entry for SlotLine {
     ghost reads = { line_at };
 
     ghost spells = { line_bytes };
+
+    ghost typed = { IsTypedLine };
 
     fn take<'a>(
         alloc: Global,

@@ -2,6 +2,7 @@
 ghost use Rattle.std.specs.Prelude.{◌≡◌, ℕ, List, ◌++◌, None, option_copied, OnOk};
 ghost use Rattle.saverecord.specs.Parts.{Gives};
 ghost use Rattle.saverecord.specs.Entries.{Reader, each_at, counted_at};
+ghost use Rattle.saverecord.specs.Fits.{IsTypedList};
 ghost use Rattle.saverecord.specs.Spelling.{counted};
 
 use super::layout::Layout;
@@ -18,6 +19,9 @@ pub(crate) trait Entry: Drop + Sized {
     /// Its one spelling.
     ghost spells: { Self → List ℕ };
 
+    /// What its type says of it.
+    ghost typed: { Self → Type 0 };
+
     fn take<'a>(
         alloc: Global,
         layout: Layout,
@@ -27,7 +31,8 @@ pub(crate) trait Entry: Drop + Sized {
         ensures { Gives (λ x. (x.0, x.1.now)) result (reads layout (option_copied before.entry) bytes.now) };
 
     fn put(&self, out: &mut Vec<u8>) -> Result<(), AllocError>
-        ensures { OnOk result (out.new.items ≡ out.old.items ++ spells self.now) };
+        ensures spelled { OnOk result (out.new.items ≡ out.old.items ++ spells self.now) }
+        ensures typed { OnOk result (typed self.now) };
 }
 
 /// So many entries.
@@ -69,7 +74,8 @@ pub(crate) fn take_counted<X: Entry>(
 
 /// The count, and each entry.
 pub(crate) fn put_counted<X: Entry>(out: &mut Vec<u8>, entries: &[X]) -> Result<(), AllocError>
-    ensures { OnOk result (out.new.items ≡ out.old.items ++ counted X.spells entries.now) }
+    ensures spelled { OnOk result (out.new.items ≡ out.old.items ++ counted X.spells entries.now) }
+    ensures typed { OnOk result (IsTypedList X.typed entries.now) }
 {
     out.extend_from_slice(&(entries.len() as u64).to_be_bytes())?;
     for entry in entries {

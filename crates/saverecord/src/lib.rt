@@ -8,10 +8,10 @@ mod layout;
 mod part;
 mod reading;
 mod record;
-mod slot;
-mod writing;
 mod refusal;
 mod relation;
+mod slot;
+mod writing;
 
 pub use keeper::{Keeper, KeeperRefusal, Kept, MemoryKeeper, SaveFault};
 pub use record::{NodeLife, Record, SlotLine};

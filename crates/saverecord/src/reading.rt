@@ -1,5 +1,8 @@
 //! Reading a record.
-ghost use Rattle.std.specs.Prelude.{◌≡◌, ◌≤◌, length, IfOk};
+ghost use Rattle.std.specs.Prelude.{◌≡◌, ◌≤◌, length, take, codes, IfOk, Ok};
+ghost use Rattle.saverecord.specs.declared.record.Record.{Record};
+ghost use Rattle.saverecord.specs.Fits.{IsRecord, IsTypedRecord};
+ghost use Rattle.saverecord.specs.Spelling.{record_bytes};
 ghost use Rattle.saverecord.specs.Parts.{Gives};
 ghost use Rattle.saverecord.specs.Records.{home_of, home_at, list_at, retired_nodes_at, body_at, whole_body, layout_of, opened, place_for, has_life, with_life, with_home, from_first, judged, record_of};
 
@@ -8,8 +11,8 @@ use super::layout::Layout;
 use super::part::{take_u32, take_u64};
 use super::record::{NodeLife, Record};
 use super::refusal::{Flaw, RecordRefusal};
-use super::writing::MAGIC;
 use super::relation::{agrees, is_at_home};
+use super::writing::MAGIC;
 use farm_base::{Items, Life, NodeId, Ticket};
 use sha2::Sha256;
 use std::alloc::{AllocError, Global};
@@ -61,11 +64,7 @@ fn take_retired_nodes(
 }
 
 #[tactic(auto, unfolding(crate::specs::Records::body_at))]
-fn take_body(
-    alloc: Global,
-    layout: Layout,
-    bytes: &[u8],
-) -> Result<(Record, &[u8]), RecordRefusal>
+fn take_body(alloc: Global, layout: Layout, bytes: &[u8]) -> Result<(Record, &[u8]), RecordRefusal>
     ensures { Gives (λ x. (x.0, x.1.now)) result (body_at layout bytes.now) }
 {
     let (last, rest) = take_u64(bytes, 0, u64::MAX)?;
@@ -219,15 +218,28 @@ fn judged(layout: Layout, read: Record) -> Result<Record, RecordRefusal>
     }
 }
 
+/// The record that the bytes spell, or their first fault.
+#[tactic(auto, unfolding(crate::specs::Records::record_of))]
+fn record_of(alloc: Global, bytes: &[u8]) -> Result<Record, RecordRefusal>
+    ensures { Gives (λ r. r) result (record_of bytes.now) }
+{
+    let (layout, body) = open(bytes)?;
+    let record = whole_body(alloc, layout, body)?;
+    judged(layout, record)
+}
+
 impl Record {
     /// Reads a record of version 1, 2 or 3.
-    #[tactic(auto, unfolding(crate::specs::Records::record_of))]
     pub fn read(alloc: Global, bytes: &[u8]) -> Result<Self, RecordRefusal>
         // The first fault from the left decides.
         ensures exact { Gives (λ r. r) result (record_of bytes.now) }
+        // What is read can be written.
+        ensures fits { IfOk result IsRecord }
+        // Of version 3 just what is written is read.
+        ensures found { IfOk result (λ r. take 8 bytes.now ≡ codes "BKFARM03" → bytes.now ≡ record_bytes r) }
+        // What is written is read, unless memory runs out.
+        ensures only { (r : Record) → IsRecord r → IsTypedRecord r → bytes.now ≡ record_bytes r → Gives (λ x. x) result (Ok r) }
     {
-        let (layout, body) = open(bytes)?;
-        let record = whole_body(alloc, layout, body)?;
-        judged(layout, record)
+        record_of(alloc, bytes)
     }
 }

@@ -168,9 +168,8 @@ fn is_above_lines(lines: &[SlotLine], lease: &Lease) -> bool
 {
     let slots = lease.slots.as_slice();
     let ticket = lease.ticket.0;
-    lines
-        .iter()
-        .all(|line| !has_slot(slots, &line.slot) || is_above_line(ticket, line.versions.as_slice()))
+    lines.iter().all(|line| !has_slot(slots, &line.slot)
+        || is_above_line(ticket, line.versions.as_slice()))
 }
 
 #[tactic(auto, unfolding(crate::specs::Relations::fits_record))]

@@ -1,15 +1,15 @@
 //! Slots in a record.
-ghost use Rattle.std.specs.Prelude.{◌≡◌, ◌++◌, IsTrue, option_copied, OnOk, IfSome, IfNone, None, Some, ◌↔◌};
+ghost use Rattle.std.specs.Prelude.{◌≡◌, ◌<◌, ◌^◌, ◌++◌, length, IsTrue, option_copied, OnOk};
 ghost use Rattle.farm_base.specs.Slots.{IsInstance};
 ghost use Rattle.saverecord.specs.Parts.{Gives};
 ghost use Rattle.saverecord.specs.Slots.{mode_at, output_at, base_at, has_instance, slot_at, is_slot_above, slot_after};
-ghost use Rattle.saverecord.specs.Layouts.{has_shared};
+ghost use Rattle.saverecord.specs.Fits.{IsTypedSlot};
 ghost use Rattle.saverecord.specs.Spelling.{mode_bytes, id_bytes, base_bytes, slot_bytes};
 
 use super::layout::Layout;
 use super::part::{take_digest, take_flag, take_id, take_u32, take_u64};
 use super::refusal::{Flaw, RecordRefusal};
-use farm_base::{Base, FolderName, Index, Key, Mode, Slot};
+use farm_base::{Base, FolderName, Index, Key, Mode, Slot, is_slot};
 use std::alloc::{AllocError, Global};
 
 #[tactic(auto, unfolding(crate::specs::Slots::mode_at))]
@@ -71,11 +71,7 @@ fn has_instance(mode: Mode, instance: u32) -> bool
 }
 
 #[tactic(auto, unfolding(crate::specs::Slots::slot_at))]
-fn take_slot(
-    alloc: Global,
-    layout: Layout,
-    bytes: &[u8],
-) -> Result<(Slot, &[u8]), RecordRefusal>
+fn take_slot(alloc: Global, layout: Layout, bytes: &[u8]) -> Result<(Slot, &[u8]), RecordRefusal>
     ensures { Gives (λ x. (x.0, x.1.now)) result (slot_at layout bytes.now) }
 {
     let (mode, rest) = take_mode(layout, bytes)?;
@@ -148,7 +144,8 @@ fn put_mode(out: &mut Vec<u8>, mode: Mode) -> Result<(), AllocError>
 }
 
 fn put_id(out: &mut Vec<u8>, id: &str) -> Result<(), AllocError>
-    ensures { OnOk result (out.new.items ≡ out.old.items ++ id_bytes id.now) }
+    ensures spelled { OnOk result (out.new.items ≡ out.old.items ++ id_bytes id.now) }
+    ensures length { length id.now < 2 ^ 64 }
 {
     out.extend_from_slice(&(id.len() as u64).to_be_bytes())?;
     out.extend_from_slice(id.as_bytes())?;
@@ -157,8 +154,10 @@ fn put_id(out: &mut Vec<u8>, id: &str) -> Result<(), AllocError>
 
 #[tactic(auto, unfolding(crate::specs::Spelling::slot_bytes))]
 pub(crate) fn put_slot(out: &mut Vec<u8>, slot: &Slot) -> Result<(), AllocError>
-    ensures { OnOk result (out.new.items ≡ out.old.items ++ slot_bytes slot.now) }
+    ensures spelled { OnOk result (out.new.items ≡ out.old.items ++ slot_bytes slot.now) }
+    ensures typed { OnOk result (IsTypedSlot slot.now) }
 {
+    is_slot(slot);
     let folder = slot.folder();
     put_mode(out, folder.mode)?;
     put_id(out, folder.id.as_str())?;

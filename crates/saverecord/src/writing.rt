@@ -1,5 +1,7 @@
 //! What is written of a record.
-ghost use Rattle.std.specs.Prelude.{◌≡◌, ◌++◌, OnOk, IfOk};
+ghost use Rattle.std.specs.Prelude.{◌≡◌, ◌<◌, ◌^◌, ◌++◌, OnOk, IfOk, Ok};
+ghost use Rattle.saverecord.specs.Fits.{IsRecord, IsTypedList, IsTypedNode, IsTypedLife, IsTypedSlot, IsTypedLease, IsTypedLine, IsTypedRecord};
+ghost use Rattle.saverecord.specs.Records.{record_of};
 ghost use Rattle.saverecord.specs.Spelling.{home_bytes, first_bytes, nodes_bytes, slots_bytes, record_bytes};
 
 use super::entry::put_counted;
@@ -25,15 +27,19 @@ fn put_home(out: &mut Vec<u8>, home: Option<NodeId>) -> Result<(), AllocError>
 
 #[tactic(auto, unfolding(crate::specs::Spelling::first_bytes))]
 fn put_first(out: &mut Vec<u8>, record: &Record) -> Result<(), AllocError>
-    ensures { OnOk result (out.new.items ≡ out.old.items ++ first_bytes record.now) }
+    ensures spelled { OnOk result (out.new.items ≡ out.old.items ++ first_bytes record.now) }
+    ensures last { record.now.last.0 < 2 ^ 64 }
 {
-    out.extend_from_slice(&record.last.0.to_be_bytes())?;
+    let last = record.last.0;
+    out.extend_from_slice(&last.to_be_bytes())?;
     put_home(out, record.old_home)
 }
 
 #[tactic(auto, unfolding(crate::specs::Spelling::nodes_bytes))]
 fn put_nodes(out: &mut Vec<u8>, record: &Record) -> Result<(), AllocError>
-    ensures { OnOk result (out.new.items ≡ out.old.items ++ nodes_bytes record.now) }
+    ensures spelled { OnOk result (out.new.items ≡ out.old.items ++ nodes_bytes record.now) }
+    ensures lives { OnOk result (IsTypedList IsTypedLife record.now.lives) }
+    ensures nodes { OnOk result (IsTypedList IsTypedNode record.now.retired_nodes) }
 {
     put_counted(out, record.lives.as_slice())?;
     put_counted(out, record.retired_nodes.as_slice())
@@ -41,25 +47,39 @@ fn put_nodes(out: &mut Vec<u8>, record: &Record) -> Result<(), AllocError>
 
 #[tactic(auto, unfolding(crate::specs::Spelling::slots_bytes))]
 fn put_slots(out: &mut Vec<u8>, record: &Record) -> Result<(), AllocError>
-    ensures { OnOk result (out.new.items ≡ out.old.items ++ slots_bytes record.now) }
+    ensures spelled { OnOk result (out.new.items ≡ out.old.items ++ slots_bytes record.now) }
+    ensures leases { OnOk result (IsTypedList IsTypedLease record.now.leases) }
+    ensures retired { OnOk result (IsTypedList IsTypedSlot record.now.retired) }
+    ensures lines { OnOk result (IsTypedList IsTypedLine record.now.lines) }
 {
     put_counted(out, record.leases.as_slice())?;
     put_counted(out, record.retired.as_slice())?;
     put_counted(out, record.lines.as_slice())
 }
 
+/// The text of a record, of version 3.
+fn spelled(alloc: Global, record: &Record) -> Result<Vec<u8>, AllocError>
+    ensures spelled { IfOk result (λ v. v.items ≡ record_bytes record.now) }
+    ensures typed { OnOk result (IsTypedRecord record.now) }
+{
+    let mut out = Vec::new(alloc);
+    out.extend_from_slice(MAGIC)?;
+    put_first(&mut out, record)?;
+    put_nodes(&mut out, record)?;
+    put_slots(&mut out, record)?;
+    let digest: [u8; 32] = <Sha256 as sha2::Digest>::digest(out.as_slice());
+    out.extend_from_slice(&digest)?;
+    Ok(out)
+}
+
 impl Record {
     /// The one text of a record, of version 3.
     pub fn write(&self, alloc: Global) -> Result<Vec<u8>, AllocError>
-        ensures { IfOk result (λ v. v.items ≡ record_bytes self.now) }
+        requires { IsRecord self.now }
+        ensures spelled { IfOk result (λ v. v.items ≡ record_bytes self.now) }
+        // Reading it gives the record back.
+        ensures again { IfOk result (λ v. record_of v.items ≡ Ok self.now) }
     {
-        let mut out = Vec::new(alloc);
-        out.extend_from_slice(MAGIC)?;
-        put_first(&mut out, self)?;
-    put_nodes(&mut out, self)?;
-    put_slots(&mut out, self)?;
-        let digest: [u8; 32] = <Sha256 as sha2::Digest>::digest(out.as_slice());
-        out.extend_from_slice(&digest)?;
-        Ok(out)
+        spelled(alloc, self)
     }
 }

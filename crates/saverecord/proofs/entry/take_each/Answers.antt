@@ -1,4 +1,4 @@
-use Rattle.std.proofs.Common.{◌≡◌, ap, ◌∙◌, sym, subst, None, Ok, option_copied}
+use Rattle.std.proofs.Common.{◌≡◌, ap, ◌∙◌, sym, None, Ok, option_copied}
 use Rattle.saverecord.specs.Entries.{each_at}
 use Rattle.saverecord.proofs.EntryLoop.{last_of, goes_on, ends, is_done}
 use Rattle.saverecord.proofs.entry.take_each.Goals as goal

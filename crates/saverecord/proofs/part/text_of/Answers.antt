@@ -1,4 +1,4 @@
-use Rattle.std.proofs.Common.{◌≡◌, ℕ, List, Ok, ap, sym, ◌∙◌, inr}
+use Rattle.std.proofs.Common.{ℕ, List, Ok, ap, sym, ◌∙◌, inr}
 use Rattle.saverecord.proofs.TextLemmas.{text_passes, text_fails}
 use Rattle.saverecord.proofs.part.text_of.Goals as goal
 
