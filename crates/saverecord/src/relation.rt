@@ -173,25 +173,25 @@ fn is_above_lines(lines: &[SlotLine], lease: &Lease) -> bool
 }
 
 #[tactic(auto, unfolding(crate::specs::Relations::fits_record))]
-fn fits_record(record: &Record, lease: &Lease) -> bool
-    ensures { result ≡ fits_record record.now lease.now }
+fn fits_record(saved: &Record, lease: &Lease) -> bool
+    ensures { result ≡ fits_record saved.now lease.now }
 {
-    lives_there(record.lives.as_slice(), lease)
-        && !has_retired(record.retired.as_slice(), lease)
+    lives_there(saved.lives.as_slice(), lease)
+        && !has_retired(saved.retired.as_slice(), lease)
         && are_of_own_folders(lease.slots.as_slice())
         && fits_tenure(lease)
-        && !is_gone(record.retired_nodes.as_slice(), lease)
-        && is_above_lines(record.lines.as_slice(), lease)
+        && !is_gone(saved.retired_nodes.as_slice(), lease)
+        && is_above_lines(saved.lines.as_slice(), lease)
 }
 
-fn all_fit(record: &Record) -> bool
-    ensures { result ≡ list_all (fits_record record.now) record.now.leases }
+fn all_fit(saved: &Record) -> bool
+    ensures { result ≡ list_all (fits_record saved.now) saved.now.leases }
 {
-    record
+    saved
         .leases
         .as_slice()
         .iter()
-        .all(|lease| fits_record(record, lease))
+        .all(|lease| fits_record(saved, lease))
 }
 
 fn are_private(slots: &[Slot]) -> bool
@@ -202,14 +202,14 @@ fn are_private(slots: &[Slot]) -> bool
 
 /// Whether the parts of a record agree.
 #[tactic(auto, unfolding(crate::specs::Relations::agrees))]
-pub(crate) fn agrees(record: &Record) -> bool
-    ensures { result ≡ agrees record.now }
+pub(crate) fn agrees(saved: &Record) -> bool
+    ensures { result ≡ agrees saved.now }
 {
-    tickets_up_to(record.last.0, record.leases.as_slice())
-        && lines_up_to(record.last.0, record.lines.as_slice())
-        && are_private(record.retired.as_slice())
-        && all_fit(record)
-        && are_apart(record.leases.as_slice())
+    tickets_up_to(saved.last.0, saved.leases.as_slice())
+        && lines_up_to(saved.last.0, saved.lines.as_slice())
+        && are_private(saved.retired.as_slice())
+        && all_fit(saved)
+        && are_apart(saved.leases.as_slice())
 }
 
 fn is_home(home: Option<NodeId>, node: NodeId) -> bool
@@ -222,11 +222,11 @@ fn is_home(home: Option<NodeId>, node: NodeId) -> bool
 }
 
 /// Whether each lease of a record of version 1 whose wants have a SHARED folder is of the home.
-pub(crate) fn is_at_home(record: &Record) -> bool
-    ensures { result ≡ is_at_home record.now }
+pub(crate) fn is_at_home(saved: &Record) -> bool
+    ensures { result ≡ is_at_home saved.now }
 {
-    let home = record.old_home;
-    record
+    let home = saved.old_home;
+    saved
         .leases
         .as_slice()
         .iter()

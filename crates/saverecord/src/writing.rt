@@ -26,47 +26,47 @@ fn put_home(out: &mut Vec<u8>, home: Option<NodeId>) -> Result<(), AllocError>
 }
 
 #[tactic(auto, unfolding(crate::specs::Spelling::first_bytes))]
-fn put_first(out: &mut Vec<u8>, record: &Record) -> Result<(), AllocError>
-    ensures spelled { OnOk result (out.new.items ≡ out.old.items ++ first_bytes record.now) }
-    ensures last { record.now.last.0 < 2 ^ 64 }
+fn put_first(out: &mut Vec<u8>, saved: &Record) -> Result<(), AllocError>
+    ensures spelled { OnOk result (out.new.items ≡ out.old.items ++ first_bytes saved.now) }
+    ensures last { saved.now.last.0 < 2 ^ 64 }
 {
-    let last = record.last.0;
+    let last = saved.last.0;
     out.extend_from_slice(&last.to_be_bytes())?;
-    put_home(out, record.old_home)
+    put_home(out, saved.old_home)
 }
 
 #[tactic(auto, unfolding(crate::specs::Spelling::nodes_bytes))]
-fn put_nodes(out: &mut Vec<u8>, record: &Record) -> Result<(), AllocError>
-    ensures spelled { OnOk result (out.new.items ≡ out.old.items ++ nodes_bytes record.now) }
-    ensures lives { OnOk result (IsTypedList IsTypedLife record.now.lives) }
-    ensures nodes { OnOk result (IsTypedList IsTypedNode record.now.retired_nodes) }
+fn put_nodes(out: &mut Vec<u8>, saved: &Record) -> Result<(), AllocError>
+    ensures spelled { OnOk result (out.new.items ≡ out.old.items ++ nodes_bytes saved.now) }
+    ensures lives { OnOk result (IsTypedList IsTypedLife saved.now.lives) }
+    ensures nodes { OnOk result (IsTypedList IsTypedNode saved.now.retired_nodes) }
 {
-    put_counted(out, record.lives.as_slice())?;
-    put_counted(out, record.retired_nodes.as_slice())
+    put_counted(out, saved.lives.as_slice())?;
+    put_counted(out, saved.retired_nodes.as_slice())
 }
 
 #[tactic(auto, unfolding(crate::specs::Spelling::slots_bytes))]
-fn put_slots(out: &mut Vec<u8>, record: &Record) -> Result<(), AllocError>
-    ensures spelled { OnOk result (out.new.items ≡ out.old.items ++ slots_bytes record.now) }
-    ensures leases { OnOk result (IsTypedList IsTypedLease record.now.leases) }
-    ensures retired { OnOk result (IsTypedList IsTypedSlot record.now.retired) }
-    ensures lines { OnOk result (IsTypedList IsTypedLine record.now.lines) }
+fn put_slots(out: &mut Vec<u8>, saved: &Record) -> Result<(), AllocError>
+    ensures spelled { OnOk result (out.new.items ≡ out.old.items ++ slots_bytes saved.now) }
+    ensures leases { OnOk result (IsTypedList IsTypedLease saved.now.leases) }
+    ensures retired { OnOk result (IsTypedList IsTypedSlot saved.now.retired) }
+    ensures lines { OnOk result (IsTypedList IsTypedLine saved.now.lines) }
 {
-    put_counted(out, record.leases.as_slice())?;
-    put_counted(out, record.retired.as_slice())?;
-    put_counted(out, record.lines.as_slice())
+    put_counted(out, saved.leases.as_slice())?;
+    put_counted(out, saved.retired.as_slice())?;
+    put_counted(out, saved.lines.as_slice())
 }
 
 /// The text of a record, of version 3.
-fn spelled(alloc: Global, record: &Record) -> Result<Vec<u8>, AllocError>
-    ensures spelled { IfOk result (λ v. v.items ≡ record_bytes record.now) }
-    ensures typed { OnOk result (IsTypedRecord record.now) }
+fn spelled(alloc: Global, saved: &Record) -> Result<Vec<u8>, AllocError>
+    ensures spelled { IfOk result (λ v. v.items ≡ record_bytes saved.now) }
+    ensures typed { OnOk result (IsTypedRecord saved.now) }
 {
     let mut out = Vec::new(alloc);
     out.extend_from_slice(MAGIC)?;
-    put_first(&mut out, record)?;
-    put_nodes(&mut out, record)?;
-    put_slots(&mut out, record)?;
+    put_first(&mut out, saved)?;
+    put_nodes(&mut out, saved)?;
+    put_slots(&mut out, saved)?;
     let digest: [u8; 32] = <Sha256 as sha2::Digest>::digest(out.as_slice());
     out.extend_from_slice(&digest)?;
     Ok(out)
