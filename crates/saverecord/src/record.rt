@@ -1,4 +1,7 @@
-use farm_base::{Items, Lease, Life, LineVersion, NodeId, Slot, Ticket};
+ghost use Rattle.std.specs.Prelude.{◌≡◌, IfOk};
+
+use farm_base::{Copied, Items, Lease, Life, LineVersion, NodeId, Slot, Ticket};
+use std::alloc::{AllocError, Global};
 
 /// The greatest life seen of a node.
 #[derive(Clone, Copy, Debug, PartialEq, Eq)]
@@ -31,4 +34,34 @@ pub struct Record {
     pub retired: Items<Slot>,
     /// The lines that have a version, by rising slot.
     pub lines: Items<SlotLine>,
+}
+
+fn copied<T: Copy + Drop>(alloc: Global, items: &Items<T>) -> Result<Items<T>, AllocError>
+    ensures { IfOk result (λ copy. copy ≡ items.now) }
+{
+    let vec = Vec::from_slice(alloc, items.as_slice())?;
+    Ok(Items::new(vec))
+}
+
+impl Copied for SlotLine {
+    fn copy(&self, alloc: Global) -> Result<Self, AllocError> {
+        Ok(SlotLine {
+            slot: self.slot.copy(alloc)?,
+            versions: copied(alloc, &self.versions)?,
+        })
+    }
+}
+
+impl Copied for Record {
+    fn copy(&self, alloc: Global) -> Result<Self, AllocError> {
+        Ok(Record {
+            last: self.last,
+            old_home: self.old_home,
+            lives: copied(alloc, &self.lives)?,
+            retired_nodes: copied(alloc, &self.retired_nodes)?,
+            leases: self.leases.copy(alloc)?,
+            retired: self.retired.copy(alloc)?,
+            lines: self.lines.copy(alloc)?,
+        })
+    }
 }
