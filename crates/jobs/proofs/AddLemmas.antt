@@ -1,0 +1,287 @@
+-- What a graph adds to the submitted keys.
+use Rattle.std.proofs.Common.{◌≡◌, ℕ, zero, suc, ◌+◌, ◌-◌, ◌<◌, ◌⊎◌, replicate, inl, inr, Bool, true, false, List, [], ◌∷◌, ◌++◌, map, length, take, get_or, Option, Some, slice_get, refl, ap, sym, ◌∙◌, subst, arith, append-nil, append_assoc, if◌then◌else◌}
+use Rattle.std.specs.List.{list_any, AllZip, All, Contains}
+use Rattle.std.specs.List.Sorted.{IsStrictlyIncreasing}
+use Rattle.std.proofs.lemmas.Bool.{cases_Bool, cases_eq, cases_lt}
+use Rattle.std.proofs.lemmas.List.{take-append-le, take_all, length_push, get_or_append_left, get_or_push, length-append, length-replicate, length-map}
+use Rattle.std.proofs.lemmas.List.Elements.{Contains-get_or, Contains-append_left, Contains-push, Contains-push_cases}
+use Rattle.std.proofs.lemmas.Option.{slice_get_within, slice_get-get_or, get_or_from_slice_get}
+use Rattle.indexmap.specs.IndexSet.{insert_key}
+use Rattle.farm_base.specs.declared.digest.Key.{Key}
+use Rattle.vertices.specs.Flags.{flag_at}
+use Rattle.vertices.specs.Loading.{GraphParts, IsGraph}
+use Rattle.vertices.proofs.TableLemmas.{get_push_left, get_push_end}
+use Rattle.vertices.proofs.ZipLemmas.{all_zip_back}
+use Rattle.vertices.proofs.GraphLemmas.{list_at-get}
+use Rattle.solverkeys.proofs.KeyLemmas.{edges_within}
+use Rattle.solverkeys.specs.GraphKeys.{TakesKeys}
+use Rattle.jobs.specs.declared.entry.Entry.{Entry}
+use Rattle.jobs.specs.declared.entry.Progress.TheVariants.{Waiting}
+use Rattle.jobs.specs.declared.table.Table.{Table}
+use Rattle.jobs.specs.Adding.{BeginsWith, IsFront, IsEntryOf, IsKnown, IsNew, AreAdded, AddsKey, known, adds, IsAdding}
+use Rattle.jobs.specs.Reaching.{IsNeeded}
+use Rattle.jobs.specs.Tables.{key_eq, key_of, IsTable}
+use Rattle.indexmap.specs.IndexSet.{IsUnique}
+use Rattle.jobs.specs.Kept.{AreKept}
+use Rattle.jobs.specs.Marks.{MarksFail, MarksCalled, MarksLost, AreMarks, KeepsMarks}
+use Rattle.jobs.proofs.ProgressLemmas.{Grows, fails_grows, called_keeps}
+use Rattle.jobs.proofs.ReachLemmas.{flag_within}
+use Rattle.jobs.proofs.ReadyLemmas.{there}
+use Rattle.jobs.proofs.TableLemmas.{key_same}
+
+-- ---- one key
+
+none_any : (es : List Entry) (key : Key) → ((number : ℕ) (entry : Entry) → slice_get es number ≡ Some entry → entry.key ≡ key → ⊥) → list_any (key_eq key) (map key_of es) ≡ false
+none_any [] key none = refl
+none_any (x ∷ es) key none = elim (cases_Bool (key_eq key x.key)) [
+  | inl met ↦ absurd (none 0 x refl (sym (key_same key x.key met)))
+  | inr unmet ↦ rw unmet (none_any es key (λ n e at. none (suc n) e at))
+]
+
+-- a new key goes last
+pub key_last : (t : Table) → IsTable t → (key : Key) → ((number : ℕ) (entry : Entry) → slice_get t.entries.items number ≡ Some entry → entry.key ≡ key → ⊥)
+    → insert_key key_eq t.numbers.keys key ≡ t.numbers.keys ++ key ∷ []
+key_last t h key none =
+    let ks = t.numbers.keys in
+    let unmet : list_any (key_eq key) ks ≡ false = ap (list_any (key_eq key)) h.listed ∙ none_any t.entries.items key none in
+    ap (λ (b : Bool). if b then ks else ks ++ key ∷ []) unmet
+
+pub keys_push : (es : List Entry) (e : Entry) → map key_of (es ++ e ∷ []) ≡ map key_of es ++ e.key ∷ []
+keys_push [] e = refl
+keys_push (x ∷ es) e = ap (λ (ks : List Key). x.key ∷ ks) (keys_push es e)
+
+-- edges go to vertices that have keys
+pub edges_keys : (g : GraphParts) (keys : List Key) (n : ℕ) (edges : List (ℕ × ℕ)) → IsGraph g → slice_get g.edges n ≡ Some edges → length keys ≡ length g.vertices → All (λ edge. edge.0 < length keys) edges
+edges_keys g keys n edges h at count = subst (λ (size : ℕ). All (λ (edge : ℕ × ℕ). edge.0 < size) edges) (sym count) (edges_within g n edges h at)
+
+some_is : {A : Type 0} (x y : A) → ◌≡◌ {A = Option A} (Some x) (Some y) → x ≡ y
+some_is x y e = cc
+
+module _ (g : GraphParts) (keys : List Key) (number : ℕ) (key : Key) (d : Key) (within : number < length keys) (is : key ≡ get_or keys number d) where
+  key_there : slice_get keys number ≡ Some key
+  key_there = slice_get-get_or keys number d within ∙ ap (λ (z : _). Some z) (sym is)
+
+  pub key_known : (es : List Entry) → (n : ℕ) (e : Entry) → slice_get es n ≡ Some e → e.key ≡ key → AddsKey g keys number es es
+  key_known es n e at named = known (record { place = n; entry = e; at = at; key = key_there ∙ ap (λ (z : Key). Some z) (sym named) }) refl
+
+  pub key_added : (es new : List Entry) (edges : List (ℕ × ℕ)) (inputs : List (Key × ℕ)) → slice_get g.edges number ≡ Some edges → TakesKeys keys edges inputs
+      → ((n : ℕ) (e : Entry) → slice_get es n ≡ Some e → e.key ≡ key → ⊥) → new ≡ es ++ record { key = key; inputs = inputs; progress = Waiting } ∷ [] → AddsKey g keys number es new
+  key_added es new edges inputs at takes none new_is = adds (record { key = key; inputs = inputs; progress = Waiting })
+      (record { key = key_there; inputs = subst (λ (xs : List (ℕ × ℕ)). TakesKeys keys xs inputs) (sym (list_at-get g.edges number edges at)) takes; waiting = refl })
+      (λ k. none k.place k.entry k.at (some_is k.entry.key key (sym k.key ∙ key_there)))
+      new_is
+
+-- ---- all of them
+
+get_left : (xs ys : List Entry) (n : ℕ) (y : Entry) → slice_get xs n ≡ Some y → slice_get (xs ++ ys) n ≡ Some y
+get_left [] ys n y e = absurd (cc)
+get_left (x ∷ xs) ys zero y e = e
+get_left (x ∷ xs) ys (suc n) y e = get_left xs ys n y e
+
+append_cases : (xs ys : List Entry) (n : ℕ) (y : Entry) → slice_get (xs ++ ys) n ≡ Some y → (slice_get xs n ≡ Some y) ⊎ ((m : ℕ) × (slice_get ys m ≡ Some y))
+append_cases [] ys n y e = inr (n, e)
+append_cases (x ∷ xs) ys zero y e = inl e
+append_cases (x ∷ xs) ys (suc n) y e = append_cases xs ys n y e
+
+zip_push : {A B : Type 0} (R : A → B → Type 0) (xs : List A) (ys : List B) (x : A) (y : B) → AllZip R xs ys → R x y → AllZip R (xs ++ x ∷ []) (ys ++ y ∷ [])
+zip_push R [] [] x y h r = (r, tt)
+zip_push R [] (b ∷ ys) x y h r = absurd h
+zip_push R (a ∷ xs) [] x y h r = absurd h
+zip_push R (a ∷ xs) (b ∷ ys) x y h r = (h.0, zip_push R xs ys x y h.1 r)
+
+rising_push : (xs : List ℕ) (y : ℕ) → IsStrictlyIncreasing xs → ((x : ℕ) → Contains xs x → x < y) → IsStrictlyIncreasing (xs ++ y ∷ [])
+rising_push xs y rising below k within =
+    let len = length_push xs y in
+    elim (cases_lt (suc k) (length xs)) [
+      | inl less ↦
+          let a = get_or_append_left xs (y ∷ []) 0 k (omega arith) in
+          let b = get_or_append_left xs (y ∷ []) 0 (k + 1) (omega arith) in
+          let h = rising k (omega arith) in
+          omega arith
+      | inr more ↦
+          let end : length xs ≡ k + 1 = omega arith in
+          let a = get_or_append_left xs (y ∷ []) 0 k (omega arith) in
+          let b = get_or_push xs y 0 (k + 1) end in
+          let h = below (get_or xs k 0) (Contains-get_or xs k 0 (omega arith)) in
+          omega arith
+    ]
+
+module _ (g : GraphParts) (keys : List Key) (old : List Entry) where
+  pub adding_start : (new : List Entry) → new ≡ old → IsAdding g keys old 0 new
+  adding_start new same = record {
+    numbers = [];
+    added = [];
+    rising = λ k within. absurd (omega (arith, within));
+    below = λ n c. absurd (omega (arith, c.1));
+    only = λ n c. absurd (omega (arith, c.1));
+    whole = λ n less. absurd (omega (arith, less));
+    covered = λ n less. absurd (omega (arith, less));
+    entries = tt;
+    new_is = same ∙ sym (append-nil old);
+  }
+
+  -- a vertex that isn't needed adds nothing
+  pub adding_skips : (n : ℕ) (new now : List Entry) → IsAdding g keys old n new → (IsNeeded g n → ⊥) → now ≡ new → IsAdding g keys old (n + 1) now
+  adding_skips n new now h never same = rw same (record {
+    numbers = h.numbers;
+    added = h.added;
+    rising = h.rising;
+    below = λ m c. let less = h.below m c in omega (arith, less);
+    only = h.only;
+    whole = λ m less is. elim (cases_eq m n) [
+      | inl here ↦ absurd (never (subst (IsNeeded g) here is.needed))
+      | inr apart ↦ h.whole m (omega (arith, less, apart)) is
+    ];
+    covered = λ m less needed. elim (cases_eq m n) [
+      | inl here ↦ absurd (never (subst (IsNeeded g) here needed))
+      | inr apart ↦ h.covered m (omega (arith, less, apart)) needed
+    ];
+    entries = h.entries;
+    new_is = h.new_is;
+  })
+
+  -- a key that is known already is none of the new ones
+  not_new : (n : ℕ) (new : List Entry) → IsAdding g keys old n new → IsKnown g keys new n → IsNew g keys old n → ⊥
+  not_new n new h k is = elim (append_cases old h.added k.place k.entry (ap (λ (xs : List Entry). slice_get xs k.place) (sym h.new_is) ∙ k.at)) [
+    | inl before ↦ is.unknown (record { place = k.place; entry = k.entry; at = before; key = k.key })
+    | inr (m, at) ↦ (let z = all_zip_back (IsEntryOf g keys) h.numbers h.added m k.entry h.entries at in
+        let c : Contains h.numbers z.0 = (m, slice_get_within h.numbers m z.0 z.1, get_or_from_slice_get h.numbers m z.0 z.0 z.1) in
+        is.first z.0 (h.below z.0 c) (h.only z.0 c).needed (z.2.key ∙ sym k.key))
+  ]
+
+  known_more : (new : List Entry) (e : Entry) (n : ℕ) → IsKnown g keys new n → IsKnown g keys (new ++ e ∷ []) n
+  known_more new e n k = record { place = k.place; entry = k.entry; at = get_push_left new e k.place k.entry k.at; key = k.key }
+
+  -- a vertex that is needed adds its key where it is new
+  pub adding_adds : (n : ℕ) (new now : List Entry) → IsAdding g keys old n new → IsNeeded g n → AddsKey g keys n new now → IsAdding g keys old (n + 1) now
+  adding_adds n new now h needed (known k same) = rw same (record {
+    numbers = h.numbers;
+    added = h.added;
+    rising = h.rising;
+    below = λ m c. let less = h.below m c in omega (arith, less);
+    only = h.only;
+    whole = λ m less is. elim (cases_eq m n) [
+      | inl here ↦ absurd (not_new n new h k (subst (IsNew g keys old) here is))
+      | inr apart ↦ h.whole m (omega (arith, less, apart)) is
+    ];
+    covered = λ m less need. elim (cases_eq m n) [
+      | inl here ↦ subst (IsKnown g keys new) (sym here) k
+      | inr apart ↦ h.covered m (omega (arith, less, apart)) need
+    ];
+    entries = h.entries;
+    new_is = h.new_is;
+  })
+  adding_adds n new now h needed (adds entry is unknown now_is) =
+      let in_new : IsKnown g keys (new ++ entry ∷ []) n = record { place = length new; entry = entry; at = get_push_end new entry; key = is.key } in
+      let fresh : IsNew g keys old n = record {
+        needed = needed;
+        unknown = λ k. unknown (record { place = k.place; entry = k.entry; at = ap (λ (xs : List Entry). slice_get xs k.place) h.new_is ∙ get_left old h.added k.place k.entry k.at; key = k.key });
+        first = λ lower less need same. let k = h.covered lower less need in unknown (record { place = k.place; entry = k.entry; at = k.at; key = sym same ∙ k.key });
+      } in
+      rw now_is (record {
+        numbers = h.numbers ++ n ∷ [];
+        added = h.added ++ entry ∷ [];
+        rising = rising_push h.numbers n h.rising h.below;
+        below = λ m c. elim (Contains-push_cases h.numbers n m c) [ inl before ↦ (let less = h.below m before in omega (arith, less)) | inr last ↦ omega (arith, last) ];
+        only = λ m c. elim (Contains-push_cases h.numbers n m c) [ inl before ↦ h.only m before | inr last ↦ subst (IsNew g keys old) last fresh ];
+        whole = λ m less new_one. elim (cases_eq m n) [
+          | inl here ↦ subst (Contains (h.numbers ++ n ∷ [])) (sym here) (Contains-push h.numbers n)
+          | inr apart ↦ Contains-append_left h.numbers (n ∷ []) m (h.whole m (omega (arith, less, apart)) new_one)
+        ];
+        covered = λ m less need. elim (cases_eq m n) [
+          | inl here ↦ subst (IsKnown g keys (new ++ entry ∷ [])) (sym here) in_new
+          | inr apart ↦ known_more new entry m (h.covered m (omega (arith, less, apart)) need)
+        ];
+        entries = zip_push (IsEntryOf g keys) h.numbers h.added n entry h.entries is;
+        new_is = ap (λ (xs : List Entry). xs ++ entry ∷ []) h.new_is ∙ append_assoc old h.added (entry ∷ []);
+      })
+
+  -- at the end
+  pub adding_end : (n : ℕ) (new : List Entry) → IsAdding g keys old n new → length g.vertices < n + 1 → ((m : ℕ) → IsNeeded g m → m < length g.vertices) → AreAdded g keys old new
+  adding_end n new h past within = record {
+    numbers = h.numbers;
+    added = h.added;
+    rising = h.rising;
+    only = h.only;
+    whole = λ m is. h.whole m (let less = within m is.needed in omega (arith, less, past)) is;
+    entries = h.entries;
+    new_is = h.new_is;
+  }
+
+-- ---- fronts
+
+pub front_join : (one two three : Table) → IsFront one two → IsFront two three → IsFront one three
+front_join one two three h k = record {
+  keys = (h.keys.0 ++ k.keys.0, k.keys.1 ∙ ap (λ (xs : List Key). xs ++ k.keys.0) h.keys.1 ∙ append_assoc one.numbers.keys h.keys.0 k.keys.0);
+  entries = (h.entries.0 ++ k.entries.0, k.entries.1 ∙ ap (λ (xs : List Entry). xs ++ k.entries.0) h.entries.1 ∙ append_assoc one.entries.items h.entries.0 k.entries.0);
+}
+
+pub front_same : (t : Table) → IsFront t t
+front_same t = record { keys = ([], sym (append-nil t.numbers.keys)); entries = ([], sym (append-nil t.entries.items)) }
+
+-- the front that a list began with
+pub front_take : {A : Type 0} (old new : List A) → BeginsWith old new → take (length old) new ≡ old
+front_take old new (rest, is) = ap (take (length old)) is ∙ take-append-le (length old) old rest (omega arith) ∙ take_all (length old) old (omega arith)
+
+-- ---- marks of what was added
+
+-- an added entry waits
+added_waits : (g : GraphParts) (keys : List Key) (old new : List Entry) (h : AreAdded g keys old new) (n : ℕ) (e : Entry) → slice_get new n ≡ Some e → (slice_get old n ≡ Some e) ⊎ (e.progress ≡ Waiting)
+added_waits g keys old new h n e at = elim (append_cases old h.added n e (ap (λ (xs : List Entry). slice_get xs n) (sym h.new_is) ∙ at)) [
+  | inl before ↦ inl before
+  | inr (m, there) ↦ inr (all_zip_back (IsEntryOf g keys) h.numbers h.added m e h.entries there).2.waiting
+]
+
+stays : (old rest : List Entry) → Grows old (old ++ rest)
+stays old rest key entry s = record {
+  now = entry;
+  submitted = record { number = s.number; at = get_left old rest s.number entry s.at; named = s.named };
+  inputs = refl;
+  done = λ outputs done. done;
+  failed = λ fault failed. failed;
+}
+
+old_flag : (marks : List Bool) (n k : ℕ) → flag_at (marks ++ replicate k false) n ≡ true → flag_at marks n ≡ true
+old_flag [] n zero met = met
+old_flag [] zero (suc k) met = met
+old_flag [] (suc n) (suc k) met = absurd (let none = old_flag [] n k met in cc none)
+old_flag (m ∷ marks) zero k met = met
+old_flag (m ∷ marks) (suc n) k met = old_flag marks n k met
+
+new_flag : (marks rest : List Bool) (n : ℕ) → flag_at marks n ≡ true → flag_at (marks ++ rest) n ≡ true
+new_flag [] rest n met = absurd (cc met)
+new_flag (m ∷ marks) rest zero met = met
+new_flag (m ∷ marks) rest (suc n) met = new_flag marks rest n met
+
+-- the marks once those of the added keys are found
+pub added_marks : (g : GraphParts) (keys : List Key) (old new : List Entry) (marks between now : List Bool) → AreAdded g keys old new → AreMarks old marks
+    → between ≡ take (length new) marks ++ replicate (length new - length marks) false → (MarksFail new between → MarksFail new now) → KeepsMarks between now → MarksLost new now → length now ≡ length between
+    → AreMarks new now
+added_marks g keys old new marks between now h was is fail keeps lost same =
+    let longer : length new ≡ length old + length h.added = ap length h.new_is ∙ length-append old h.added in
+    let all : take (length new) marks ≡ marks = take_all (length new) marks (let c = was.count in omega (arith, c, longer)) in
+    let between_is : between ≡ marks ++ replicate (length new - length marks) false = is ∙ ap (λ (xs : List Bool). xs ++ replicate (length new - length marks) false) all in
+    let size : length between ≡ length new = (let a = ap length between_is in let b = length-append marks (replicate (length new - length marks) false) in let r = length-replicate (length new - length marks) false in let c = was.count in omega (arith, a, b, r, c, longer)) in
+    let grows : Grows old new = subst (Grows old) (sym h.new_is) (stays old h.added) in
+    let flag : (n : ℕ) → flag_at between n ≡ true → flag_at marks n ≡ true = λ n met. old_flag marks n (length new - length marks) (ap (λ (xs : List Bool). flag_at xs n) (sym between_is) ∙ met) in
+    let sound : MarksFail new between = λ n e at met. (let f = flag n met in let within = flag_within marks n f in
+    let o = there old n (let c = was.count in omega (arith, within, c)) in
+    let one : o.0 ≡ e = some_is o.0 e (sym (get_left old h.added n o.0 o.1) ∙ ap (λ (xs : List Entry). slice_get xs n) (sym h.new_is) ∙ at) in
+    fails_grows old new grows e.key (was.fail n e (o.1 ∙ ap (λ (z : Entry). Some z) one) f)) in
+    let noted : MarksCalled new between = λ n e fault at failed. elim (added_waits g keys old new h n e at) [
+      | inl before ↦ ap (λ (xs : List Bool). flag_at xs n) between_is ∙ new_flag marks (replicate (length new - length marks) false) n (was.called n e fault before failed)
+      | inr waits ↦ absurd (cc (waits, failed))
+    ] in
+    record { count = same ∙ size; fail = fail sound; called = called_keeps new between now keeps noted; lost = lost }
+
+-- what was taken back leaves the old table
+pub taken_back : (old grown now : Table) (marks : List Bool) → AreKept old marks → IsFront old grown → now.numbers.keys ≡ take (length old.entries.items) grown.numbers.keys → IsUnique key_eq now.numbers
+    → now.entries.items ≡ take (length old.entries.items) grown.entries.items → AreKept now marks
+taken_back old grown now marks h front ks unique es =
+    let same : now.entries.items ≡ old.entries.items = es ∙ front_take old.entries.items grown.entries.items front.entries in
+    let len : length old.numbers.keys ≡ length old.entries.items = ap length h.numbered.listed ∙ length-map old.entries.items key_of in
+    let same_keys : now.numbers.keys ≡ old.numbers.keys = ks ∙ ap (λ n. take n grown.numbers.keys) (sym len) ∙ front_take old.numbers.keys grown.numbers.keys front.keys in
+    record {
+      numbered = record { listed = same_keys ∙ h.numbered.listed ∙ ap (map key_of) (sym same); unique = unique };
+      marked = subst (λ (xs : List Entry). AreMarks xs marks) (sym same) h.marked;
+    }

@@ -1,0 +1,7 @@
+mod AddLemmas
+mod AnswerLemmas
+mod MarkLemmas
+mod ProgressLemmas
+mod ReachLemmas
+mod ReadyLemmas
+mod TableLemmas

@@ -1,0 +1,173 @@
+-- What a key's progress changes.
+use Rattle.std.proofs.Common.{◌≡◌, ◌≢◌, ℕ, zero, suc, ◌<◌, ◌⊎◌, inl, inr, Bool, true, false, List, [], ◌∷◌, ◌++◌, map, length, take, drop, set, Option, Some, slice_get, refl, ap, sym, ◌∙◌, subst, arith}
+use Rattle.std.specs.List.{Contains}
+use Rattle.std.proofs.lemmas.Bool.{cases_eq}
+use Rattle.std.proofs.lemmas.List.{length-set, get_or-set_same, get_or-set_other, take-append-le, take_all}
+use Rattle.std.proofs.lemmas.Option.{slice_get_within}
+use Rattle.farm_base.specs.declared.digest.Digest.{Digest}
+use Rattle.farm_base.specs.declared.digest.Key.{Key}
+use Rattle.vertices.specs.Flags.{flag_at}
+use Rattle.jobs.specs.declared.entry.Entry.{Entry}
+use Rattle.jobs.specs.declared.entry.Fault.{Fault}
+use Rattle.jobs.specs.declared.entry.Progress.{Progress}
+use Rattle.jobs.specs.declared.entry.Progress.TheVariants.{Out, Done, Failed}
+use Rattle.jobs.specs.Failing.{IsSubmitted, IsDone, LacksOutput, HasOutput, Fails, called, input_fails, input_lacks}
+use Rattle.jobs.specs.Marks.{MarksFail, MarksCalled, MarksLost, AreMarks, KeepsMarks}
+use Rattle.jobs.specs.Tables.{key_of}
+
+-- ---- places of a list
+
+some_is : {A : Type 0} (x y : A) → ◌≡◌ {A = Option A} (Some x) (Some y) → x ≡ y
+some_is x y e = cc
+
+pub get-set_same : {A : Type 0} (xs : List A) (n : ℕ) (x y : A) → slice_get xs n ≡ Some y → slice_get (set xs n x) n ≡ Some x
+get-set_same [] n x y h = absurd (cc)
+get-set_same (z ∷ xs) zero x y h = refl
+get-set_same (z ∷ xs) (suc n) x y h = get-set_same xs n x y h
+
+pub get-set_other : {A : Type 0} (xs : List A) (n m : ℕ) (x : A) → m ≢ n → slice_get (set xs n x) m ≡ slice_get xs m
+get-set_other [] n m x apart = refl
+get-set_other (y ∷ xs) zero zero x apart = absurd (apart refl)
+get-set_other (y ∷ xs) zero (suc m) x apart = refl
+get-set_other (y ∷ xs) (suc n) zero x apart = refl
+get-set_other (y ∷ xs) (suc n) (suc m) x apart = get-set_other xs n m x (λ e. apart (ap suc e))
+
+-- what stands in a list with one place set
+pub get_set_cases : {A : Type 0} (xs : List A) (n m : ℕ) (x was y : A) → slice_get xs n ≡ Some was → slice_get (set xs n x) m ≡ Some y → ((m ≡ n) × (x ≡ y)) ⊎ ((m ≢ n) × (slice_get xs m ≡ Some y))
+get_set_cases xs n m x was y there h = elim (cases_eq m n) [
+  | inl same ↦ inl (same, some_is x y (sym (get-set_same xs n x was there) ∙ ap (slice_get (set xs n x)) (sym same) ∙ h))
+  | inr apart ↦ inr (apart, sym (get-set_other xs n m x apart) ∙ h)
+]
+
+-- the keys stay where one entry keeps its key
+pub keys_set : (es : List Entry) (n : ℕ) (e x : Entry) → slice_get es n ≡ Some e → x.key ≡ e.key → map key_of (set es n x) ≡ map key_of es
+keys_set [] n e x at same = refl
+keys_set (y ∷ es) zero e x at same = (let is : y ≡ e = cc in ap (λ (k : Key). k ∷ map key_of es) (same ∙ sym (ap key_of is)))
+keys_set (y ∷ es) (suc n) e x at same = ap (λ (ks : List Key). y.key ∷ ks) (keys_set es n e x at same)
+
+-- a whole slice, written back
+pub whole : (xs ys : List Bool) (n : ℕ) → n ≡ length xs → length ys ≡ length xs → take n (ys ++ drop (length ys) xs) ≡ ys
+whole xs ys n is same = ap (λ k. take k (ys ++ drop (length ys) xs)) (is ∙ sym same) ∙ take-append-le (length ys) ys (drop (length ys) xs) (omega arith) ∙ take_all (length ys) ys (omega arith)
+
+-- ---- keys that grow
+
+-- what an entry that was submitted has become: its inputs stay, and so does its end
+pub record Stays (es : List Entry) (key : Key) (entry : Entry) : Type 0 where
+  pub now : Entry
+  pub submitted : IsSubmitted es key now
+  pub inputs : entry.inputs ≡ now.inputs
+  pub done : (outputs : List Digest) → entry.progress ≡ Done outputs → now.progress ≡ Done outputs
+  pub failed : (fault : Fault) → entry.progress ≡ Failed fault → now.progress ≡ Failed fault
+
+-- each entry stays
+abbrev pub Grows : List Entry → List Entry → Type 0
+Grows old new = (key : Key) (entry : Entry) → IsSubmitted old key entry → Stays new key entry
+
+pub done_grows : (old new : List Entry) → Grows old new → (key : Key) (outputs : List Digest) → IsDone old key outputs → IsDone new key outputs
+done_grows old new grows key outputs d =
+    let s = grows key d.entry d.submitted in
+    record { entry = s.now; submitted = s.submitted; done = s.done outputs d.done }
+
+pub lacks_grows : (old new : List Entry) → Grows old new → (input : Key × ℕ) → LacksOutput old input → LacksOutput new input
+lacks_grows old new grows input l = record { outputs = l.outputs; done = done_grows old new grows input.0 l.outputs l.done; missing = l.missing }
+
+pub has_grows : (old new : List Entry) → Grows old new → (input : Key × ℕ) (digest : Digest) → HasOutput old input digest → HasOutput new input digest
+has_grows old new grows input digest h = record { outputs = h.outputs; done = done_grows old new grows input.0 h.outputs h.done; there = h.there }
+
+-- what fails still does
+pub fails_grows : (old new : List Entry) → Grows old new → (key : Key) → Fails old key → Fails new key
+fails_grows old new grows key (called _ entry fault s failed) =
+    let t = grows key entry s in
+    called key t.now fault t.submitted (t.failed fault failed)
+fails_grows old new grows key (input_fails _ entry input s has f) =
+    let t = grows key entry s in
+    input_fails key t.now input t.submitted (subst (λ (xs : List (Key × ℕ)). Contains xs input) t.inputs has) (fails_grows old new grows input.0 f)
+fails_grows old new grows key (input_lacks _ entry input s has l) =
+    let t = grows key entry s in
+    input_lacks key t.now input t.submitted (subst (λ (xs : List (Key × ℕ)). Contains xs input) t.inputs has) (lacks_grows old new grows input l)
+
+-- ---- one key's progress
+
+module _ (es : List Entry) (n : ℕ) (e : Entry) (at : slice_get es n ≡ Some e) (to : Progress) where
+  abbrev pub moved : List Entry
+  moved = set es n (record e { progress = to })
+
+  pub moved_keys : map key_of moved ≡ map key_of es
+  moved_keys = keys_set es n e (record e { progress = to }) at refl
+
+  -- a key that was not at its end grows
+  pub moved_grows : ((outputs : List Digest) → e.progress ≡ Done outputs → ⊥) → ((fault : Fault) → e.progress ≡ Failed fault → ⊥) → Grows es moved
+  moved_grows not_done not_failed key entry s = elim (cases_eq s.number n) [
+    | inl same ↦ (let is : e ≡ entry = some_is e entry (sym at ∙ ap (slice_get es) (sym same) ∙ s.at) in
+        record {
+          now = record e { progress = to };
+          submitted = record { number = n; at = get-set_same es n (record e { progress = to }) e at; named = ap key_of is ∙ s.named };
+          inputs = ap (λ (x : Entry). x.inputs) (sym is);
+          done = λ outputs done. absurd (not_done outputs (ap (λ (x : Entry). x.progress) is ∙ done));
+          failed = λ fault failed. absurd (not_failed fault (ap (λ (x : Entry). x.progress) is ∙ failed));
+        })
+    | inr apart ↦ record {
+      now = entry;
+      submitted = record { number = s.number; at = get-set_other es n s.number (record e { progress = to }) apart ∙ s.at; named = s.named };
+      inputs = refl;
+      done = λ outputs done. done;
+      failed = λ fault failed. failed;
+    }
+  ]
+
+  -- the marks that there were still fail
+  pub moved_fail : Grows es moved → (marks : List Bool) → MarksFail es marks → MarksFail moved marks
+  moved_fail grows marks fail m f there met = elim (get_set_cases es n m (record e { progress = to }) e f at there) [
+    | inl same ↦ subst (λ (x : Entry). Fails moved x.key) same.1 (fails_grows es moved grows e.key (fail n e at (ap (flag_at marks) (sym same.0) ∙ met)))
+    | inr other ↦ fails_grows es moved grows f.key (fail m f other.1 met)
+  ]
+
+  -- each other key that was called failed is marked
+  pub moved_called : (marks : List Bool) → MarksCalled es marks → ((fault : Fault) → to ≡ Failed fault → flag_at marks n ≡ true) → MarksCalled moved marks
+  moved_called marks called_before here m f fault there failed = elim (get_set_cases es n m (record e { progress = to }) e f at there) [
+    | inl same ↦ ap (flag_at marks) same.0 ∙ here fault (ap (λ (x : Entry). x.progress) same.1 ∙ failed)
+    | inr other ↦ called_before m f fault other.1 failed
+  ]
+
+-- one mark more
+pub mark_keeps : (marks : List Bool) (n : ℕ) → n < length marks → KeepsMarks marks (set marks n true)
+mark_keeps marks n within m met = elim (cases_eq m n) [
+  | inl same ↦ ap (flag_at (set marks n true)) same ∙ get_or-set_same marks n true false within
+  | inr apart ↦ get_or-set_other marks n m true false apart ∙ met
+]
+
+pub mark_fails : (es : List Entry) (marks : List Bool) (n : ℕ) (e : Entry) → slice_get es n ≡ Some e → MarksFail es marks → Fails es e.key → MarksFail es (set marks n true)
+mark_fails es marks n e at before fails m f there met = elim (cases_eq m n) [
+  | inl same ↦ subst (λ (x : Entry). Fails es x.key) (some_is e f (sym at ∙ ap (slice_get es) (sym same) ∙ there)) fails
+  | inr apart ↦ before m f there (sym (get_or-set_other marks n m true false apart) ∙ met)
+]
+
+-- what is called failed stays marked where marks stay
+pub called_keeps : (es : List Entry) (old new : List Bool) → KeepsMarks old new → MarksCalled es old → MarksCalled es new
+called_keeps es old new keeps before m f fault there failed = keeps m (before m f fault there failed)
+
+-- the marks after a key that was out came to its end
+pub settled : (es now : List Entry) (n : ℕ) (e : Entry) (to : Progress) (old between new : List Bool) → slice_get es n ≡ Some e → e.progress ≡ Out → now ≡ set es n (record e { progress = to }) → AreMarks es old
+    → ((fault : Fault) × (to ≡ Failed fault) × (between ≡ set old n true)) ⊎ (((fault : Fault) → to ≡ Failed fault → ⊥) × (between ≡ old))
+    → (MarksFail now between → MarksFail now new) → KeepsMarks between new → MarksLost now new → length new ≡ length old → AreMarks now new
+settled es now n e to old between new at out now_is h marked fail keeps lost same =
+    let grows = moved_grows es n e at to (λ outputs done. cc (out, done)) (λ fault failed. cc (out, failed)) in
+    let within : n < length old = (let less = slice_get_within es n e at in omega (arith, less, h.count)) in
+    let still = moved_fail es n e at to grows old h.fail in
+    let moved_now = moved es n e at to in
+    let sound : MarksFail moved_now between = elim marked [
+      | inl f ↦ (let fails = called e.key (record e { progress = to }) f.0 (record { number = n; at = get-set_same es n (record e { progress = to }) e at; named = refl }) f.1 in
+          rw f.2 (mark_fails moved_now old n (record e { progress = to }) (get-set_same es n (record e { progress = to }) e at) still fails))
+      | inr f ↦ rw f.1 still
+    ] in
+    let noted : MarksCalled moved_now between = elim marked [
+      | inl f ↦ rw f.2 (moved_called es n e at to (set old n true) (called_keeps es old (set old n true) (mark_keeps old n within) h.called) (λ fault is. get_or-set_same old n true false within))
+      | inr f ↦ rw f.1 (moved_called es n e at to old h.called (λ fault is. absurd (f.0 fault is)))
+    ] in
+    let len : length moved_now ≡ length es = length-set es n (record e { progress = to }) in
+    record {
+      count = same ∙ h.count ∙ sym (ap length now_is ∙ len);
+      fail = fail (subst (λ (xs : List Entry). MarksFail xs between) (sym now_is) sound);
+      called = called_keeps now between new keeps (subst (λ (xs : List Entry). MarksCalled xs between) (sym now_is) noted);
+      lost = lost;
+    }

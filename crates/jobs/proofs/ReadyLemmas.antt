@@ -1,0 +1,212 @@
+-- Which keys are ready.
+use Rattle.std.proofs.Common.{◌≡◌, ℕ, zero, suc, ◌+◌, ◌<◌, inl, inr, Bool, true, false, not, List, [], ◌∷◌, ◌++◌, length, take, set, get_or, Option, Some, None, is_some, IfSome, IfNone, slice_get, refl, ap, sym, ◌∙◌, subst, arith}
+use Rattle.std.specs.Bool.{MatchBool}
+use Rattle.std.specs.List.{Contains, AllZip}
+use Rattle.std.proofs.lemmas.Bool.{cases_eq}
+use Rattle.std.proofs.lemmas.List.{length-set}
+use Rattle.std.proofs.lemmas.List.Elements.{Contains-get_or}
+use Rattle.std.proofs.lemmas.Option.{slice_get_within, get_or_from_slice_get, slice_get-get_or}
+use Rattle.farm_base.specs.declared.digest.Digest.{Digest}
+use Rattle.farm_base.specs.declared.digest.Key.{Key}
+use Rattle.vertices.specs.Flags.{flag_at}
+use Rattle.vertices.proofs.EntryLemmas.{take_push}
+use Rattle.jobs.specs.declared.entry.Entry.{Entry}
+use Rattle.jobs.specs.declared.entry.Progress.TheVariants.{Waiting, Out, Done}
+use Rattle.jobs.specs.declared.table.Table.{Table}
+use Rattle.jobs.specs.Failing.{HasOutput, AreThere, IsReady}
+use Rattle.jobs.specs.History.{IsFirstReady}
+use Rattle.jobs.specs.Kept.{AreKept}
+use Rattle.jobs.specs.Marks.{IsLost, is_marked, is_lacking, MarksLost, AreMarks}
+use Rattle.jobs.specs.Tables.{key_of, IsTable}
+use Rattle.jobs.proofs.MarkLemmas.{all_marked, distinct, one_entry, read_at}
+use Rattle.jobs.proofs.ProgressLemmas.{get_set_cases, moved_grows, moved_fail, moved_called}
+use Rattle.jobs.proofs.TableLemmas.{one_number}
+
+pub contains_from : {A : Type 0} (xs : List A) (k : ℕ) (x : A) → slice_get xs k ≡ Some x → Contains xs x
+contains_from xs k x e = (k, slice_get_within xs k x e, get_or_from_slice_get xs k x x e)
+
+pub at_from : {A : Type 0} (xs : List A) (x : A) → Contains xs x → (k : ℕ) × (slice_get xs k ≡ Some x)
+at_from xs x (k, lt, is) = (k, slice_get-get_or xs k x lt ∙ ap (λ (z : _). Some z) is)
+
+pub there : {A : Type 0} (xs : List A) (n : ℕ) → n < length xs → (x : A) × (slice_get xs n ≡ Some x)
+there [] n within = absurd (omega (arith, within))
+there (x ∷ xs) zero within = (x, refl)
+there (x ∷ xs) (suc n) within = there xs n (omega (arith, within))
+
+-- ---- the output that an input names
+
+module _ (t : Table) (h : IsTable t) (input : Key × ℕ) (n : ℕ) (e x : Entry) (at : slice_get t.entries.items n ≡ Some e) (named : e.key ≡ input.0) (read : x ≡ get_or t.entries.items n x) where
+  -- what is done is the entry's
+  done_at : (digest : Digest) (has : HasOutput t.entries.items input digest) → x.progress ≡ Done has.outputs
+  done_at digest has =
+      let s = has.done.submitted in
+      let same = one_entry t.entries.items (distinct t h) s.number n has.done.entry e s.at at (s.named ∙ sym named) in
+      ap (λ (y : Entry). y.progress) (sym (read_at t.entries.items n e x at read) ∙ sym same) ∙ has.done.done
+
+  pub none_undone : ((outputs : List Digest) → x.progress ≡ Done outputs → ⊥) → (digest : Digest) → HasOutput t.entries.items input digest → ⊥
+  none_undone never digest has = never has.outputs (done_at digest has)
+
+  pub none_lacking : (outputs list : List Digest) (r : Option Digest) → x.progress ≡ Done outputs → list ≡ outputs → r ≡ slice_get list input.1
+      → IfNone r ((digest : Digest) → HasOutput t.entries.items input digest → ⊥)
+  none_lacking outputs list (Some d) done same is = tt
+  none_lacking outputs list None done same is = λ digest has.
+      let both : Done outputs ≡ Done has.outputs = sym done ∙ done_at digest has in
+      let one : outputs ≡ has.outputs = cc in
+      let bad : None ≡ Some digest = is ∙ ap (λ (xs : List Digest). slice_get xs input.1) (same ∙ one) ∙ has.there in
+      cc bad
+
+-- ---- all inputs
+
+pub if_none : {A P : Type 0} (r : Option A) (b : Bool) → is_some r ≡ not b → b ≡ true → IfNone r P → P
+if_none None b is met h = h
+if_none (Some x) b is met h = absurd (cc (is, met))
+
+pub if_some : {A : Type 0} {P : A → Type 0} (r : Option A) (b : Bool) → is_some r ≡ not b → b ≡ false → IfSome r P → (x : A) × P x
+if_some None b is unmet h = absurd (cc (is, unmet))
+if_some (Some x) b is unmet h = (x, h)
+
+module _ (es : List Entry) (inputs : List (Key × ℕ)) where
+  -- one that isn't there
+  pub one_missing : (k : ℕ) (d : Key × ℕ) (r : Option Digest) (b : Bool) → k < length inputs → is_some r ≡ not b → b ≡ true
+      → IfNone r ((digest : Digest) → HasOutput es (get_or inputs k d) digest → ⊥) → AreThere es inputs → ⊥
+  one_missing k d r b within is met none all =
+      let has = all (get_or inputs k d) (Contains-get_or inputs k d within) in
+      if_none r b is met none has.0 has.1
+
+  abbrev pub ThereBelow : ℕ → Type 0
+  ThereBelow count = (k : ℕ) (input : Key × ℕ) → k < count → slice_get inputs k ≡ Some input → (digest : Digest) × HasOutput es input digest
+
+  -- one more that is there
+  pub one_more : (k : ℕ) (d : Key × ℕ) (r : Option Digest) (b : Bool) → ThereBelow k → is_some r ≡ not b → b ≡ false → IfSome r (HasOutput es (get_or inputs k d)) → ThereBelow (k + 1)
+  one_more k d r b below is unmet some j input lt e = elim (cases_eq j k) [
+    | inl same ↦ (let has = if_some {P = HasOutput es (get_or inputs k d)} r b is unmet some in
+        let one : get_or inputs k d ≡ input = get_or_from_slice_get inputs k input d (ap (slice_get inputs) (sym same) ∙ e) in
+        (has.0, subst (λ (i : Key × ℕ). HasOutput es i has.0) one has.1))
+    | inr apart ↦ below j input (omega (arith, lt, apart)) e
+  ]
+
+  -- all of them
+  pub all_there : (k : ℕ) → length inputs < k + 1 → ThereBelow k → AreThere es inputs
+  all_there k past below input has =
+      let a = at_from inputs input has in
+      below a.0 input (let within = slice_get_within inputs a.0 input a.1 in omega (arith, within, past)) a.1
+
+-- ---- one key
+
+-- a waiting key that isn't marked is ready where its inputs are there
+pub ready_there : (t : Table) (marks : List Bool) → AreKept t marks → (n : ℕ) (e x : Entry) (inputs : List (Key × ℕ)) → slice_get t.entries.items n ≡ Some e → x ≡ get_or t.entries.items n x
+    → x.progress ≡ Waiting → flag_at marks n ≡ false → inputs ≡ x.inputs → (r : Bool) → MatchBool r (AreThere t.entries.items inputs) (AreThere t.entries.items inputs → ⊥)
+    → MatchBool r (IsReady t.entries.items e) (IsReady t.entries.items e → ⊥)
+ready_there t marks h n e x inputs at read waiting unmarked same true all =
+    let is = read_at t.entries.items n e x at read in
+    let inputs_are : inputs ≡ e.inputs = same ∙ ap (λ (y : Entry). y.inputs) (sym is) in
+    record {
+      waiting = ap (λ (y : Entry). y.progress) is ∙ waiting;
+      not_failing = λ f.
+          let m = all_marked t.entries.items marks h.marked e.key f in
+          let one = one_number t.entries.items (distinct t h.numbered) m.number n m.entry e m.at at m.named in
+          let met : flag_at marks n ≡ true = ap (flag_at marks) (sym one) ∙ m.marked in
+          cc (met, unmarked);
+      inputs = subst (AreThere t.entries.items) inputs_are all;
+    }
+ready_there t marks h n e x inputs at read waiting unmarked same false none = λ r.
+    let is = read_at t.entries.items n e x at read in
+    let inputs_are : inputs ≡ e.inputs = same ∙ ap (λ (y : Entry). y.inputs) (sym is) in
+    none (subst (AreThere t.entries.items) (sym inputs_are) r.inputs)
+
+-- a key that isn't waiting is not
+pub not_waiting : (es : List Entry) (n : ℕ) (e x : Entry) → slice_get es n ≡ Some e → x ≡ get_or es n x → (x.progress ≡ Waiting → ⊥) → IsReady es e → ⊥
+not_waiting es n e x at read never r = never (ap (λ (y : Entry). y.progress) (sym (read_at es n e x at read)) ∙ r.waiting)
+
+-- ---- the first key
+
+abbrev pub NoneBelow : List Entry → ℕ → Type 0
+NoneBelow es n = (before : ℕ) (other : Entry) → before < n → slice_get es before ≡ Some other → IsReady es other → ⊥
+
+on_true : (P Q : Type 0) (b : Bool) → b ≡ true → MatchBool b P Q → P
+on_true P Q true e h = h
+on_true P Q false e h = absurd (cc e)
+
+on_false : (P Q : Type 0) (b : Bool) → b ≡ false → MatchBool b P Q → Q
+on_false P Q true e h = absurd (cc e)
+on_false P Q false e h = h
+
+pub first_found : (es : List Entry) (n : ℕ) (b : Bool) → n < length es → b ≡ true → ((entry : Entry) → slice_get es n ≡ Some entry → MatchBool b (IsReady es entry) (IsReady es entry → ⊥))
+    → NoneBelow es n → (entry : Entry) × IsFirstReady es n entry
+first_found es n b within met is below =
+    let e = there es n within in
+    (e.0, record { at = e.1; ready = on_true (IsReady es e.0) (IsReady es e.0 → ⊥) b met (is e.0 e.1); first = below })
+
+pub none_more : (es : List Entry) (n : ℕ) (b : Bool) → b ≡ false → ((entry : Entry) → slice_get es n ≡ Some entry → MatchBool b (IsReady es entry) (IsReady es entry → ⊥)) → NoneBelow es n → NoneBelow es (n + 1)
+none_more es n b unmet is below before other lt at = elim (cases_eq before n) [
+  | inl same ↦ on_false (IsReady es other) (IsReady es other → ⊥) b unmet (is other (ap (slice_get es) (sym same) ∙ at))
+  | inr apart ↦ below before other (omega (arith, lt, apart)) at
+]
+
+pub none_at_all : (es : List Entry) (n : ℕ) → length es < n + 1 → NoneBelow es n → (number : ℕ) (entry : Entry) → slice_get es number ≡ Some entry → IsReady es entry → ⊥
+none_at_all es n past below number entry at = below number entry (let within = slice_get_within es number entry at in omega (arith, within, past)) at
+
+-- ---- the outputs of a task
+
+zip_push : {A B : Type 0} (R : A → B → Type 0) (xs : List A) (ys : List B) (x : A) (y : B) → AllZip R xs ys → R x y → AllZip R (xs ++ x ∷ []) (ys ++ y ∷ [])
+zip_push R [] [] x y h r = (r, tt)
+zip_push R [] (b ∷ ys) x y h r = absurd h
+zip_push R (a ∷ xs) [] x y h r = absurd h
+zip_push R (a ∷ xs) (b ∷ ys) x y h r = (h.0, zip_push R xs ys x y h.1 r)
+
+-- one output more
+pub zip_more : (es : List Entry) (inputs : List (Key × ℕ)) (k : ℕ) (d : Key × ℕ) (outputs now : List Digest) (output : Digest) → k < length inputs → AllZip (HasOutput es) (take k inputs) outputs
+    → HasOutput es (get_or inputs k d) output → now ≡ outputs ++ output ∷ [] → AllZip (HasOutput es) (take (k + 1) inputs) now
+zip_more es inputs k d outputs now output within h has is =
+    let input = get_or inputs k d in
+    subst (λ (xs : List (Key × ℕ)). AllZip (HasOutput es) xs now) (sym (take_push inputs k input (slice_get-get_or inputs k d within)))
+    (subst (AllZip (HasOutput es) (take k inputs ++ input ∷ [])) (sym is) (zip_push (HasOutput es) (take k inputs) outputs input output h has))
+
+-- an input that is there has its output
+pub has_no_none : (es : List Entry) (inputs : List (Key × ℕ)) (k : ℕ) (d : Key × ℕ) → k < length inputs → AreThere es inputs → ((digest : Digest) → HasOutput es (get_or inputs k d) digest → ⊥) → ⊥
+has_no_none es inputs k d within all none =
+    let has = all (get_or inputs k d) (Contains-get_or inputs k d within) in
+    none has.0 has.1
+
+-- ---- a key is handed out
+
+module _ (es : List Entry) (marks : List Bool) (n : ℕ) (e : Entry) (at : slice_get es n ≡ Some e) where
+  abbrev after : List Entry
+  after = set es n (record e { progress = Out })
+
+  -- an input that never comes then didn't before
+  lost_before : (input : Key × ℕ) → IsLost after marks input → IsLost es marks input
+  lost_before input (is_marked m) = elim (get_set_cases es n m.number (record e { progress = Out }) e m.entry at m.at) [
+    | inl same ↦ is_marked (record { number = n; entry = e; at = at; named = ap key_of same.1 ∙ m.named; marked = ap (flag_at marks) (sym same.0) ∙ m.marked })
+    | inr other ↦ is_marked (record { number = m.number; entry = m.entry; at = other.1; named = m.named; marked = m.marked })
+  ]
+  lost_before input (is_lacking l) =
+      let s = l.done.submitted in
+      elim (get_set_cases es n s.number (record e { progress = Out }) e l.done.entry at s.at) [
+        | inl same ↦ (let bad : Out ≡ Done l.outputs = ap (λ (y : Entry). y.progress) same.1 ∙ l.done.done in absurd (cc bad))
+        | inr other ↦ is_lacking (record {
+          outputs = l.outputs;
+          done = record { entry = l.done.entry; submitted = record { number = s.number; at = other.1; named = s.named }; done = l.done.done };
+          missing = l.missing;
+        })
+      ]
+
+  marked_before : MarksLost es marks → MarksLost after marks
+  marked_before h m f there lost = elim (get_set_cases es n m (record e { progress = Out }) e f at there) [
+    | inl same ↦ (let inputs : f.inputs ≡ e.inputs = ap (λ (y : Entry). y.inputs) (sym same.1) in
+        ap (flag_at marks) same.0 ∙ h n e at
+        (record { input = lost.input; has = subst (λ (xs : List (Key × ℕ)). Contains xs lost.input) inputs lost.has; lost = lost_before lost.input lost.lost }))
+    | inr other ↦ h m f other.1 (record { input = lost.input; has = lost.has; lost = lost_before lost.input lost.lost })
+  ]
+
+  -- the marks stay right where a waiting key goes out
+  pub marks_out : (now : List Entry) → e.progress ≡ Waiting → now ≡ set es n (record e { progress = Out }) → AreMarks es marks → AreMarks now marks
+  marks_out now waiting now_is h =
+      let grows = moved_grows es n e at Out (λ outputs done. cc (waiting, done)) (λ fault failed. cc (waiting, failed)) in
+      let all : AreMarks after marks = record {
+        count = h.count ∙ sym (length-set es n (record e { progress = Out }));
+        fail = moved_fail es n e at Out grows marks h.fail;
+        called = moved_called es n e at Out marks h.called (λ fault is. absurd (cc is));
+        lost = marked_before h.lost;
+      } in
+      rw now_is all

@@ -1,0 +1,17 @@
+-- What a table of jobs is made of (this project's own).
+use Rattle.std.specs.Prelude.{ℕ, Bool, List}
+use Rattle.farm_base.specs.declared.digest.Key.{Key}
+use Rattle.jobs.specs.declared.entry.Entry.{Entry}
+use Rattle.jobs.specs.declared.table.Table.{Table}
+use Rattle.jobs.specs.History.{History}
+use Rattle.jobs.specs.Marks.{AreMarks}
+use Rattle.jobs.specs.Tables.{IsTable}
+
+-- the history of these jobs and keys
+abbrev pub history : List (Key × ℕ) → List Entry → History
+history jobs keys = record { jobs = jobs; keys = keys }
+
+-- each key has its number, and just those that fail are marked
+pub record AreKept (table : Table) (marks : List Bool) : Type 0 where
+  pub numbered : IsTable table
+  pub marked : AreMarks table.entries.items marks

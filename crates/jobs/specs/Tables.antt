@@ -1,0 +1,20 @@
+-- The numbers of submitted keys (this project's own).
+use Rattle.std.specs.Prelude.{◌≡◌, Bool, map}
+use Rattle.farm_base.specs.declared.digest.Key.{Key}
+use Rattle.farm_base.specs.Digests.{digest_eq}
+use Rattle.indexmap.specs.IndexSet.{IsUnique}
+use Rattle.jobs.specs.declared.entry.Entry.{Entry}
+use Rattle.jobs.specs.declared.table.Table.{Table}
+
+-- the same bytes
+abbrev pub key_eq : Key → Key → Bool
+key_eq a b = digest_eq a.0 b.0
+
+-- the key of an entry
+abbrev pub key_of : Entry → Key
+key_of entry = entry.key
+
+-- the numbers of the keys are those of their entries, and no key has two
+pub record IsTable (t : Table) : Type 0 where
+  pub listed : t.numbers.keys ≡ map key_of t.entries.items
+  pub unique : IsUnique key_eq t.numbers

@@ -1,0 +1,51 @@
+ghost use Rattle.std.specs.Prelude.{◌≡◌};
+ghost use Rattle.jobs.specs.declared.answer.JobsRefusal.TheVariants as refusal;
+
+use farm_base::Digest;
+use std::alloc::{AllocError, AllocFailed};
+use thiserror::Error;
+
+/// A job, by its number in the order of submission, from 0.
+#[derive(Clone, Copy, Debug, PartialEq, Eq)]
+pub struct JobId(pub usize);
+
+/// What a job has come to.
+#[derive(Clone, Copy, Debug, PartialEq, Eq)]
+pub enum Answer {
+    /// Its result isn't there yet.
+    Waiting,
+    /// Its result.
+    Output(Digest),
+    /// Its result never comes.
+    Failed,
+}
+
+/// Why a call was refused.
+#[derive(Clone, Copy, Debug, PartialEq, Eq, Error)]
+pub enum JobsRefusal {
+    #[error("the key isn't out")]
+    NotRunningKey,
+    #[error("no such job")]
+    NoSuchJob,
+    /// The result's key is done without the output of this index.
+    #[error("no output {0}")]
+    NoOutput(u64),
+    #[error("out of memory")]
+    OutOfMemory,
+}
+
+impl From<AllocError> for JobsRefusal {
+    ghost from_gives = { λ _ e. e ≡ refusal.OutOfMemory };
+
+    fn from(_error: AllocError) -> JobsRefusal {
+        JobsRefusal::OutOfMemory
+    }
+}
+
+impl<T: Drop> From<AllocFailed<T>> for JobsRefusal {
+    ghost from_gives = { λ _ e. e ≡ refusal.OutOfMemory };
+
+    fn from(_error: AllocFailed<T>) -> JobsRefusal {
+        JobsRefusal::OutOfMemory
+    }
+}

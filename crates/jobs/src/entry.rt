@@ -1,0 +1,40 @@
+use farm_base::{Digest, Items, Key, Why};
+
+/// Why a key has no outputs.
+#[derive(Clone, Copy, Debug, PartialEq, Eq)]
+pub enum Fault {
+    /// The execution ended with this status.
+    Exit(i32),
+    /// Its ask for a lease was denied.
+    Denied(Why),
+}
+
+/// How far a key has come.
+#[derive(Debug, Drop)]
+pub enum Progress {
+    /// It was submitted.
+    Waiting,
+    /// It was handed out.
+    Out,
+    /// It was handed out, and has these outputs.
+    Done(Items<Digest>),
+    /// It was handed out, and has no outputs.
+    Failed(Fault),
+}
+
+/// A key that was submitted.
+#[derive(Debug, Drop)]
+pub struct Entry {
+    pub key: Key,
+    /// For each of its inputs, in order, the key and the index of the output.
+    pub inputs: Items<(Key, u64)>,
+    pub progress: Progress,
+}
+
+/// A key that is handed out, to be solved.
+#[derive(Debug, Drop)]
+pub struct Task {
+    pub key: Key,
+    /// The outputs that its inputs name, in order.
+    pub inputs: Vec<Digest>,
+}

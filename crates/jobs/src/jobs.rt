@@ -1,0 +1,144 @@
+ghost use Rattle.std.specs.Prelude.{◌≡◌, ◌++◌, ◌∷◌, [], length, Some, None, slice_get, OnOk, OnErr, IfErr, IfNone, IfOk, IfSome};
+ghost use Rattle.jobs.specs.declared.entry.Entry.{Entry as SpecEntry};
+ghost use Rattle.jobs.specs.declared.entry.Progress.{Progress as SpecProgress};
+ghost use Rattle.jobs.specs.declared.entry.Progress.TheVariants.{Out, Done, Failed};
+ghost use Rattle.jobs.specs.declared.answer.JobsRefusal.TheVariants as refusal;
+ghost use Rattle.farm_base.specs.declared.digest.Key.{Key as SpecKey};
+ghost use Rattle.solverkeys.specs.GraphKeys.{AreKeys};
+ghost use Rattle.jobs.specs.Adding.{AreAdded};
+ghost use Rattle.jobs.specs.Failing.{IsSubmitted};
+ghost use Rattle.jobs.specs.History.{HasNoReady, IsAnswer, Moves, TakesFirst};
+
+use super::adding::extend;
+use super::answer::{Answer, JobId, JobsRefusal};
+use super::entry::{Fault, Progress, Task};
+use super::marking::{answer_of, settle};
+use super::reaching::reached;
+use super::ready::{first_ready, task_of};
+use super::table::Table;
+use farm_base::{Digest, Items, Key};
+use std::alloc::Global;
+use std::marker::Model;
+use vertices::Graph;
+
+/// The submitted jobs, and the keys that they depend on. Results are kept.
+#[derive(Drop)]
+pub struct Jobs {
+    /// For each job the key and the output index of its result.
+    results: Vec<(Key, u64)>,
+    table: Table,
+    /// For each key whether it fails.
+    marks: Vec<bool>,
+}
+
+impl Model for Jobs {
+    ghost use Rattle.jobs.specs.History.{History};
+    ghost use Rattle.jobs.specs.Kept.{history, AreKept};
+
+    ghost Value = { History };
+
+    ghost view = { λ j. history j.results.items j.table.entries.items };
+
+    ghost invariant = { λ j. AreKept j.table j.marks.items };
+}
+
+impl Jobs {
+    /// No jobs.
+    pub fn new(alloc: Global) -> Self
+        ensures jobs { result.jobs ≡ [] }
+        ensures keys { result.keys ≡ [] }
+    {
+        Jobs {
+            results: Vec::new(alloc),
+            table: Table::new(alloc),
+            marks: Vec::new(alloc),
+        }
+    }
+
+    /// Adds a job, and the keys that its result depends on. A key that is there already stands for both.
+    /// The keys are those of the graph.
+    pub fn submit(
+        &mut self,
+        alloc: Global,
+        graph: &Graph,
+        keys: &[Key],
+    ) -> Result<JobId, JobsRefusal>
+        requires { AreKeys graph.now keys.now }
+        ensures job { IfOk result (λ job. job.0 ≡ length self.old.jobs) }
+        ensures jobs { OnOk result ((key : SpecKey) → slice_get keys.now graph.now.result.0 ≡ Some key → self.new.jobs ≡ self.old.jobs ++ (key, graph.now.result.1) ∷ []) }
+        ensures keys { OnOk result (AreAdded graph.now keys.now self.old.keys self.new.keys) }
+        ensures refusal { IfErr result (λ refused. refused ≡ refusal.OutOfMemory) }
+        ensures err { OnErr result (self.new ≡ self.old) }
+    {
+        let reached = reached(alloc, graph)?;
+        let job = JobId(self.results.len());
+        let (result, index) = graph.result();
+        self.results.push((keys[result], index))?;
+        let flags = reached.as_slice();
+        match extend(alloc, &mut self.table, &mut self.marks, graph, keys, flags) {
+            Ok(()) => Ok(job),
+            Err(error) => {
+                self.results.pop();
+                Err(error.into())
+            }
+        }
+    }
+
+    /// Hands out the first ready key, by order of submission and then by place. A key whose hand-out
+    /// was refused stays ready.
+    pub fn take_ready(&mut self, alloc: Global) -> Result<Option<Task>, JobsRefusal>
+        ensures taken { IfOk result (λ answer. IfSome answer (λ task. TakesFirst self.old task.key task.inputs.items self.new)) }
+        ensures none { IfOk result (λ answer. IfNone answer (HasNoReady self.old)) }
+        ensures none_changes { IfOk result (λ answer. IfNone answer (self.new ≡ self.old)) }
+        ensures refusal { IfErr result (λ refused. refused ≡ refusal.OutOfMemory) }
+        ensures err { OnErr result (self.new ≡ self.old) }
+    {
+        let Some(number) = first_ready(&self.table, self.marks.as_slice()) else {
+            return Ok(None);
+        };
+        let task = task_of(alloc, &self.table, number)?;
+        self.table.set_progress(number, Progress::Out);
+        Ok(Some(task))
+    }
+
+    /// Takes the outputs of a key that is out.
+    pub fn done(&mut self, key: Key, outputs: Vec<Digest>) -> Result<(), JobsRefusal>
+        ensures ok { OnOk result (Moves self.old key Out (Done outputs.items) self.new) }
+        ensures refusal { IfErr result (λ refused. refused ≡ refusal.NotRunningKey) }
+        ensures only { OnErr result ((entry : SpecEntry) → IsSubmitted self.old.keys key entry → entry.progress ≡ Out → ⊥) }
+        ensures err { OnErr result (self.new ≡ self.old) }
+    {
+        let Some(number) = self.table.number_out(&key) else {
+            return Err(JobsRefusal::NotRunningKey);
+        };
+        let progress = Progress::Done(Items::new(outputs));
+        settle(&mut self.table, self.marks.as_mut_slice(), number, progress);
+        Ok(())
+    }
+
+    /// Notes that a key that is out has no outputs.
+    pub fn failed(&mut self, key: Key, fault: Fault) -> Result<(), JobsRefusal>
+        ensures ok { OnOk result (Moves self.old key Out (Failed fault) self.new) }
+        ensures refusal { IfErr result (λ refused. refused ≡ refusal.NotRunningKey) }
+        ensures only { OnErr result ((entry : SpecEntry) → IsSubmitted self.old.keys key entry → entry.progress ≡ Out → ⊥) }
+        ensures err { OnErr result (self.new ≡ self.old) }
+    {
+        let Some(number) = self.table.number_out(&key) else {
+            return Err(JobsRefusal::NotRunningKey);
+        };
+        let progress = Progress::Failed(fault);
+        settle(&mut self.table, self.marks.as_mut_slice(), number, progress);
+        Ok(())
+    }
+
+    /// What a job has come to. It takes no memory.
+    pub fn answer(&self, job: JobId) -> Result<Answer, JobsRefusal>
+        ensures missing { slice_get self.now.jobs job.0 ≡ None → result ≡ Err refusal.NoSuchJob }
+        ensures answer { (wanted : _) → slice_get self.now.jobs job.0 ≡ Some wanted → IsAnswer self.now.keys wanted result }
+    {
+        match self.results.get(job.0) {
+            Some(wanted) => answer_of(&self.table, self.marks.as_slice(), wanted),
+            None => Err(JobsRefusal::NoSuchJob),
+        }
+    }
+}

@@ -1,0 +1,15 @@
+//! Jobs that share one table of solver keys: which key can be solved next, and what each job comes to.
+#![tactic(auto)]
+
+mod adding;
+mod answer;
+mod entry;
+mod jobs;
+mod marking;
+mod reaching;
+mod ready;
+mod table;
+
+pub use answer::{Answer, JobId, JobsRefusal};
+pub use entry::{Entry, Fault, Progress, Task};
+pub use jobs::Jobs;

@@ -1,0 +1,104 @@
+ghost use Rattle.std.specs.Prelude.{◌≡◌, ◌<◌, ℕ, length, slice_get, Some, IfOk, IfSome, IfNone};
+ghost use Rattle.std.specs.Bool.{MatchBool};
+ghost use Rattle.std.specs.List.{AllZip};
+ghost use Rattle.farm_base.specs.declared.digest.Digest.{Digest as SpecDigest};
+ghost use Rattle.jobs.specs.declared.entry.Entry.{Entry as SpecEntry};
+ghost use Rattle.jobs.specs.Failing.{AreThere, HasOutput, IsReady};
+ghost use Rattle.jobs.specs.History.{IsFirstReady};
+ghost use Rattle.jobs.specs.Kept.{AreKept};
+ghost use Rattle.jobs.specs.Tables.{IsTable};
+
+use super::entry::{Progress, Task};
+use super::table::{Table, output_at};
+use farm_base::{Digest, Key};
+use std::alloc::{AllocError, Global};
+
+/// The output that an input names, where it is there.
+fn output_of(table: &Table, input: &(Key, u64)) -> Option<Digest>
+    requires { IsTable table.now }
+    ensures there { IfSome result (HasOutput table.now.entries.items input.now) }
+    ensures missing { IfNone result ((digest : SpecDigest) → HasOutput table.now.entries.items input.now digest → ⊥) }
+{
+    let number = table.number(&input.0)?;
+    match &table.entries[number].progress {
+        Progress::Done(outputs) => output_at(outputs.as_slice(), input.1).copied(),
+        _ => None,
+    }
+}
+
+/// Whether each input names an output that is there.
+fn are_there(table: &Table, inputs: &[(Key, u64)]) -> bool
+    requires { IsTable table.now }
+    ensures { MatchBool result (AreThere table.now.entries.items inputs.now) (AreThere table.now.entries.items inputs.now → ⊥) }
+{
+    for input in inputs {
+        if output_of(table, input).is_none() {
+            return false;
+        }
+    }
+    true
+}
+
+/// Whether the key of a number can be solved.
+fn is_ready(table: &Table, marks: &[bool], number: usize) -> bool
+    requires kept { AreKept table.now marks.now }
+    requires within { number < length table.now.entries.items }
+    ensures { (entry : SpecEntry) → slice_get table.now.entries.items number ≡ Some entry
+        → MatchBool result (IsReady table.now.entries.items entry) (IsReady table.now.entries.items entry → ⊥) }
+{
+    let entry = &table.entries[number];
+    match entry.progress {
+        Progress::Waiting => !marks[number] && are_there(table, entry.inputs.as_slice()),
+        _ => false,
+    }
+}
+
+/// The number of the first key that can be solved.
+pub(crate) fn first_ready(table: &Table, marks: &[bool]) -> Option<usize>
+    requires { AreKept table.now marks.now }
+    ensures found { IfSome result (λ number. (entry : SpecEntry) × IsFirstReady table.now.entries.items number entry) }
+    ensures none { IfNone result ((number : ℕ) (entry : SpecEntry) → slice_get table.now.entries.items number ≡ Some entry → IsReady table.now.entries.items entry → ⊥) }
+{
+    for number in 0..table.entries.len() {
+        if is_ready(table, marks, number) {
+            return Some(number);
+        }
+    }
+    None
+}
+
+/// The outputs that inputs name, which are there.
+fn outputs_of(
+    alloc: Global,
+    table: &Table,
+    inputs: &[(Key, u64)],
+) -> Result<Vec<Digest>, AllocError>
+    requires table { IsTable table.now }
+    requires there { AreThere table.now.entries.items inputs.now }
+    ensures { IfOk result (λ outputs. AllZip (HasOutput table.now.entries.items) inputs.now outputs.items) }
+{
+    let mut outputs = Vec::with_capacity(alloc, inputs.len())?;
+    for input in inputs {
+        match output_of(table, input) {
+            Some(output) => outputs.push(output)?,
+            None => unreachable!(),
+        }
+    }
+    Ok(outputs)
+}
+
+/// The key of a number, whose inputs are there, as it is handed out.
+pub(crate) fn task_of(alloc: Global, table: &Table, number: usize) -> Result<Task, AllocError>
+    requires table { IsTable table.now }
+    requires there { (entry : SpecEntry) × (slice_get table.now.entries.items number ≡ Some entry) × AreThere table.now.entries.items entry.inputs }
+    ensures key { IfOk result (λ task. (entry : SpecEntry) → slice_get table.now.entries.items number ≡ Some entry → entry.key ≡ task.key) }
+    ensures inputs { IfOk result (λ task. (entry : SpecEntry) → slice_get table.now.entries.items number ≡ Some entry
+        → AllZip (HasOutput table.now.entries.items) entry.inputs task.inputs.items) }
+{
+    let entry = &table.entries[number];
+    let inputs = outputs_of(alloc, table, entry.inputs.as_slice())?;
+    Ok(Task {
+        key: entry.key,
+        inputs,
+    })
+}

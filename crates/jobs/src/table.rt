@@ -1,0 +1,98 @@
+ghost use Rattle.std.specs.Prelude.{◌≡◌, ◌<◌, ◌++◌, ◌∷◌, ℕ, [], take, OnOk, IfSome, IfNone, length, slice_get, slice_set, Some, option_copied};
+ghost use Rattle.jobs.specs.declared.entry.Entry.{Entry as SpecEntry};
+ghost use Rattle.jobs.specs.declared.entry.Progress.TheVariants.{Out, Waiting};
+
+use super::entry::{Entry, Progress};
+use farm_base::{Digest, Items, Key};
+use indexmap::IndexSet;
+use std::alloc::{AllocError, Global};
+
+/// The submitted keys, in order.
+#[derive(Drop)]
+pub(crate) struct Table {
+    pub numbers: IndexSet<Key>,
+    pub entries: Vec<Entry>,
+}
+
+impl Table {
+    ghost use Rattle.jobs.specs.Failing.{IsSubmitted};
+    ghost use Rattle.indexmap.specs.IndexSet.{IsUnique};
+    ghost use Rattle.jobs.specs.Adding.{IsFront};
+    ghost use Rattle.jobs.specs.Tables.{IsTable, key_eq};
+
+    pub(crate) fn new(alloc: Global) -> Self
+        ensures table { IsTable result }
+        ensures entries { result.entries.items ≡ [] }
+    {
+        Table {
+            numbers: IndexSet::new(alloc),
+            entries: Vec::new(alloc),
+        }
+    }
+
+    /// The number of a key.
+    pub(crate) fn number(&self, key: &Key) -> Option<usize>
+        requires { IsTable self.now }
+        ensures found { IfSome result (λ number. (entry : SpecEntry) × (slice_get self.now.entries.items number ≡ Some entry) × (entry.key ≡ key.now)) }
+        ensures none { IfNone result ((number : ℕ) (entry : SpecEntry) → slice_get self.now.entries.items number ≡ Some entry → entry.key ≡ key.now → ⊥) }
+    {
+        self.numbers.get_index_of(key)
+    }
+
+    /// Adds a new key at the end.
+    pub(crate) fn push(&mut self, key: Key, inputs: Items<(Key, u64)>) -> Result<(), AllocError>
+        requires table { IsTable self.old }
+        requires new { (number : ℕ) (entry : SpecEntry) → slice_get self.old.entries.items number ≡ Some entry → entry.key ≡ key → ⊥ }
+        ensures front { IsFront self.old self.new }
+        ensures table { OnOk result (IsTable self.new) }
+        ensures entries { OnOk result (self.new.entries.items ≡ self.old.entries.items ++ record { key = key; inputs = inputs; progress = Waiting } ∷ []) }
+    {
+        self.numbers.insert_full(key)?;
+        self.entries.push(Entry {
+            key,
+            inputs,
+            progress: Progress::Waiting,
+        })?;
+        Ok(())
+    }
+
+    /// Takes back what was added to a table.
+    pub(crate) fn truncate(&mut self, count: usize)
+        ensures keys { self.new.numbers.keys ≡ take count self.old.numbers.keys }
+        ensures unique { IsUnique key_eq self.new.numbers }
+        ensures entries { self.new.entries.items ≡ take count self.old.entries.items }
+    {
+        self.numbers.truncate(count);
+        self.entries.truncate(count);
+    }
+
+    /// Sets how far the key of a number has come.
+    pub(crate) fn set_progress(&mut self, number: usize, progress: Progress)
+        requires { number < length self.old.entries.items }
+        ensures entries { (entry : SpecEntry) → slice_get self.old.entries.items number ≡ Some entry
+            → self.new.entries.items ≡ slice_set self.old.entries.items number (record entry { progress = progress }) }
+        ensures table { IsTable self.old → IsTable self.new }
+    {
+        self.entries[number].progress = progress;
+    }
+
+    /// The number of a key that is out.
+    pub(crate) fn number_out(&self, key: &Key) -> Option<usize>
+        requires { IsTable self.now }
+        ensures found { IfSome result (λ number. (entry : SpecEntry) × (slice_get self.now.entries.items number ≡ Some entry) × (entry.key ≡ key.now) × (entry.progress ≡ Out)) }
+        ensures none { IfNone result ((entry : SpecEntry) → IsSubmitted self.now.entries.items key.now entry → entry.progress ≡ Out → ⊥) }
+    {
+        let number = self.number(key)?;
+        match self.entries[number].progress {
+            Progress::Out => Some(number),
+            _ => None,
+        }
+    }
+}
+
+/// The output of an index.
+pub(crate) fn output_at(outputs: &[Digest], index: u64) -> Option<&Digest>
+    ensures { option_copied result ≡ slice_get outputs.now index }
+{
+    outputs.get(index as usize)
+}
