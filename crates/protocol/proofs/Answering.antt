@@ -1,5 +1,5 @@
 -- What is answered: a fitting ask is granted, and no record is ever bad.
-use Rattle.std.proofs.Common.{◌≡◌, ℕ, List, [], ◌∷◌, Bool, true, false, not, ◌&&◌, ◌||◌, Option, Some, None, Result, Ok, Err, refl, sym, ap, subst, inl, inr}
+use Rattle.std.proofs.Common.{◌≡◌, eqb, ℕ, List, [], ◌∷◌, Bool, true, false, not, ◌&&◌, ◌||◌, Option, Some, None, Result, Ok, Err, refl, sym, ap, subst, inl, inr}
 use Rattle.std.specs.List.{list_any}
 use Rattle.std.specs.Prelude.{⊤, nat_lt, if◌then◌else◌}
 use Rattle.protocol.specs.Lists.{In, nth, is_nil}
@@ -19,8 +19,9 @@ use Rattle.protocol.specs.Ledger.{Limits, Ledger, Lease, Work, begin_work, Give,
 use Rattle.protocol.specs.Nodes.{NodeAnswer, may_restart}
 use Rattle.protocol.specs.Replay.{Event, Tenure, Deliver, Begin, Finish, Abort, Resend, Nudge, Withdraw, Prune, Retire, RestartNode, RestartCoordinator, Forge, FailSave, Farm, Turn, settled, settles, coordinated, is_node, answered, at_node, node_does, restarts, delivered, step}
 use Rattle.protocol.specs.Replay as replay
-use Rattle.protocol.specs.Follows.{MayBeGranted, FittingAskIsGranted, IsRecordFault, NoRecordFault}
-use Rattle.protocol.proofs.Base.{cases_bool, in_right}
+use Rattle.protocol.specs.Follows.{MayBeGranted, NoneReady, OnlyItself, FittingAskIsGranted, IsRecordFault, NoRecordFault}
+use Rattle.protocol.proofs.Base.{cases_bool, in_right, from_any, and_both, node_is, life_is, ask_is, eqb_is}
+use Rattle.protocol.proofs.Parking.{newer_none, newer_was}
 
 -- ---- a fitting ask
 
@@ -38,17 +39,25 @@ given : (k : Limits) (p : Parked) (v : Work) → Granted k p v (decided Give k p
 unfolding gives
 given k p v = (refl, in_right (told.Granted (grant_of k.empty v.ledger.line (lease_for k v.ledger p))) v.sends (told.Granted (grant_of k.empty v.ledger.line (lease_for k v.ledger p)) ∷ []) (inl refl))
 
-acquired : (k : Limits) (p : Parked) (v : Work) → MayBeGranted k v.ledger p → Granted k p v (answering k p.node p.life (Acquire p.ask p.wants p.tenure) v)
-acquired k p v may =
+acquired : (k : Limits) (p : Parked) (v : Work) → NoneReady k v.ledger → OnlyItself v.ledger p → MayBeGranted k v.ledger p → Granted k p v (answering k p.node p.life (Acquire p.ask p.wants p.tenure) v)
+acquired k p v none only may =
+    let d : decision k v.ledger p ≡ Give = decision_gives k v.ledger p may in
     subst (λ o. Granted k p v (acquiring k o (is_parked v.ledger.parked p.node p.life p.ask) p v)) (sym may.new)
-    (subst (λ b. Granted k p v (acquiring k None b p v)) (sym may.unparked)
-    (subst (λ d. Granted k p v (decided d k p v)) (sym (decision_gives k v.ledger p may)) (given k p v)))
+    (elim (cases_bool (is_parked v.ledger.parked p.node p.life p.ask)) [
+      | inr f ↦ rw f (subst (λ x. Granted k p v (decided x k p v)) (sym d) (given k p v))
+      | inl t ↦ (let r = from_any (λ (x : Parked). (eqb x.node.0 p.node.0) && (eqb x.life.0 p.life.0) && (eqb x.ask.0 p.ask.0)) v.ledger.parked t in
+          let b = and_both ((eqb r.0.node.0 p.node.0) && (eqb r.0.life.0 p.life.0)) (eqb r.0.ask.0 p.ask.0) r.2 in
+          let c = and_both (eqb r.0.node.0 p.node.0) (eqb r.0.life.0 p.life.0) b.0 in
+          let is : r.0 ≡ p = only r.0 r.1 (node_is r.0.node p.node (eqb_is r.0.node.0 p.node.0 c.0)) (life_is r.0.life p.life (eqb_is r.0.life.0 p.life.0 c.1)) (ask_is r.0.ask p.ask (eqb_is r.0.ask.0 p.ask.0 b.1)) in
+          absurd (none r.0 r.1 (subst (λ z. decision k v.ledger z ≡ Give) (sym is) d)))
+    ])
 
 pub fitting_ask_is_granted : FittingAskIsGranted
 unfolding handled
-fitting_ask_is_granted k p w here current = λ may. rw (here, current) (elim (cases_bool (nat_lt (w.ledger.lives p.node.0) p.life.0)) [
-  | inl newer ↦ (let m : MayBeGranted k (newer_life k p.node p.life w).ledger p = rw newer at may in rw newer (acquired k p (newer_life k p.node p.life w) m))
-  | inr same ↦ (let m : MayBeGranted k w.ledger p = rw same at may in rw same (acquired k p w m))
+fitting_ask_is_granted k p w none only here current = λ may. rw (here, current) (elim (cases_bool (nat_lt (w.ledger.lives p.node.0) p.life.0)) [
+  | inl newer ↦ (let m : MayBeGranted k (newer_life k p.node p.life w).ledger p = rw newer at may in
+      rw newer (acquired k p (newer_life k p.node p.life w) (newer_none k p.node p.life w none) (λ r i. only r (newer_was k p.node p.life w r i)) m))
+  | inr same ↦ (let m : MayBeGranted k w.ledger p = rw same at may in rw same (acquired k p w none only m))
 ])
 
 -- ---- refusals

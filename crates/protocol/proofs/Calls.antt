@@ -1,21 +1,24 @@
 -- Each message and call of the coordinator follows the machine.
 use Rattle.std.proofs.Common.{◌≡◌, ◌≢◌, ℕ, suc, ◌+◌, ◌≤◌, List, [], ◌∷◌, ◌++◌, ◌⊎◌, Bool, true, false, not, ◌&&◌, ◌||◌, eqb, filter, Option, Some, None, slice_get, refl, sym, ◌∙◌, ap, subst, inl, inr, arith}
 use Rattle.std.specs.List.{find}
-use Rattle.std.specs.Prelude.{is_some}
+use Rattle.std.specs.Prelude.{is_some, nat_lt}
+use Rattle.std.proofs.lemmas.Bool.Decides.{nat_tests}
 use Rattle.protocol.specs.Lists.{In, put, is_nil}
 use Rattle.protocol.specs.Names.{Slot, slots_eq, is_private, is_shared, wants_shared, only_slot, Digest, NodeId, Life, Ticket, Want, leased_wants}
-use Rattle.protocol.specs.Machine.{Grant, News, Confirmed, LineVersion, Granted, Ending, Committed, Released, Withdrawn, Died, Message, Said, FromCoord, Parked, Machine, Has, Live, Retired, line, version_of, digest_for, slots_of, written, acquire, commit, release, MayEnd, Step, Ends, Parks, Stands, Says, Says_committed, Says_fenced, Says_denied, Says_recall}
+use Rattle.protocol.specs.Machine.{Grant, News, Confirmed, LineVersion, Granted, Ending, Committed, Released, Withdrawn, Died, Message, Said, ToCoord, FromCoord, Parked, Machine, Has, Live, Retired, line, version_of, digest_for, slots_of, written, acquire, commit, release, MayEnd, Step, Ends, Parks, Stands, Says, Says_committed, Says_fenced, Says_denied, Says_recall}
 use Rattle.farm_base.specs.declared.message.FromCoord.TheVariants as told
 use Rattle.farm_base.specs.declared.message.Request.{Request}
 use Rattle.farm_base.specs.declared.message.Request.TheVariants.{Hello, Acquire, Commit, Release}
 use Rattle.protocol.specs.declared.answer.CoordNote.{CoordNote}
 use Rattle.protocol.specs.declared.answer.CoordNote.TheVariants as note
-use Rattle.protocol.specs.Ledger.{Limits, Ledger, Work, Lease, says, notes, has_slot, is_saved, writable_slots, grant_of, Decision, Give, Deny, Wait, elsewhere, decision, lease_for, gives, denies, parks, retried, is_of, lease_of, is_parked, holds_wanted, recall, recalls, decided, acquiring, has_ticket, lease_under, without, ends, commits, place, confirmed, versions_of, on_all, is_its, may_commit, may_release, confirms, answered, committing, released, answering}
-use Rattle.protocol.specs.Follows.{lease_from, NoLease, Waits, Works, Goes_on}
+use Rattle.protocol.specs.Ledger.{Limits, Ledger, Work, Lease, begin_work, handled, says, notes, has_slot, is_saved, writable_slots, grant_of, Decision, Give, Deny, Wait, elsewhere, decision, lease_for, gives, denies, parks, retried, is_of, lease_of, is_parked, holds_wanted, recall, recalls, decided, acquiring, has_ticket, lease_under, without, ends, commits, place, confirmed, versions_of, on_all, is_its, may_commit, may_release, confirms, answered, committing, released, answering}
+use Rattle.protocol.specs.Follows.{lease_from, NoLease, Waits, Works, Goes_on, Agrees, CommitIsTaken}
 use Rattle.protocol.proofs.Base.{cases_bool, cases_nat, true_false, not_true, and_both, none_some, some_is, eqb_is, eqb_same, eqb_apart, eqb_not, slot_eq_same, node_is, life_is, ticket_is, from_any, in_filter, from_filter, in_append, in_right, in_one, put_same, put_other}
 use Rattle.protocol.proofs.Lines.{line-end}
-use Rattle.protocol.proofs.Steps.{Sound, same_grant}
+use Rattle.protocol.proofs.Steps.{Sound, Later, same_grant}
 use Rattle.protocol.proofs.Bulk.{EndsThose, end_those, Bare, ended_line, still_live, live_after, retired_before, retired_stays, retired_now}
+use Rattle.protocol.specs.Meaning.{Ended, MessageEnds, Of_older_life, By_commit, By_release, CoordMeans, Meant}
+use Rattle.protocol.proofs.Meanings.{ended_as, ended_more, was_live, those_put}
 use Rattle.protocol.proofs.Leases.{Core, core_of, agrees_from, lease_has, has_lease, writable-from, find_some, find_none, find_in, waits_give, waits_less, waits_push, no_grant}
 use Rattle.protocol.proofs.Following.{works_sound, slots_eq_is, slots_eq_same, Sent, F, notes_follows, says_follows, now_sound, grant_says, going, give_going, retried_follows}
 
@@ -105,24 +108,24 @@ bare_withdrawn s t = refl
 bare_died : Bare Died
 bare_died s t = refl
 
-module _ (k : Limits) (fits : k.instances ≤ 4096) (pool : List Message) (m : Machine) (sound : Sound k.empty m) (sent : Sent pool m) where
+module _ (k : Limits) (fits : k.instances ≤ 4096) (pool : List Message) (m : Machine) (sound : Sound k.empty m) (sent : Sent pool m) (P : (ℕ → Option Ending) → Type 0) where
   abbrev pub Fo : Work → Type 0
-  Fo w = F k fits pool m sound sent w
+  Fo w = F k fits pool m sound sent P w
 
   abbrev pub core_at : (w : Work) (f : Fo w) → Core k.empty f.machine w.ledger
   core_at w f = core_of k.empty pool f.machine w.ledger f.agrees
 
   pub sound_at : (w : Work) (f : Fo w) → Sound k.empty f.machine
-  sound_at w f = now_sound k fits pool m sound sent f.machine w.sends f.works
+  sound_at w f = now_sound k fits pool m sound sent P f.machine w.sends f.works
 
   pub retry : (w : Work) → Fo w → Fo (retried k w)
-  retry w f = retried_follows k fits pool m sound sent w f
+  retry w f = retried_follows k fits pool m sound sent P w f
 
   pub note_it : (n : CoordNote) (w : Work) → Fo w → Fo (notes n w)
-  note_it n w f = notes_follows k fits pool m sound sent n w f
+  note_it n w f = notes_follows k fits pool m sound sent P n w f
 
   pub say_it : (y : FromCoord) (w : Work) (f : Fo w) → Says k.empty pool f.machine y → Fo (says y w)
-  say_it y w f may = says_follows k fits pool m sound sent y w f may
+  say_it y w f may = says_follows k fits pool m sound sent P y w f may
 
   -- ---- Acquire
 
@@ -132,10 +135,12 @@ module _ (k : Limits) (fits : k.instances ≤ 4096) (pool : List Message) (m : M
   give_it : (p : Parked) (w : Work) → Fo w → In (acquire p.node p.life p.ask p.wants p.tenure) pool → w.ledger.gone p.node.0 ≡ false → NoLease w.ledger.live p → is_parked w.ledger.parked p.node p.life p.ask ≡ false → decision k w.ledger p ≡ Give → Fo (gives k p w)
   unfolding gives
   give_it p w f asked here none other e =
-      let g = give_going k fits pool m sound sent p w (going k fits pool m sound sent w f) asked here none e in
+      let g = give_going k fits pool m sound sent P p w (going k fits pool m sound sent P w f) asked here none e in
       record {
         machine = g.machine;
         works = g.works;
+        ended = g.ended;
+        granted = g.granted;
         agrees = agrees_from k.empty pool g.machine (gives k p w).ledger g.core g.parked f.agrees.asked
             (waits_give w.ledger.live (lease_for k w.ledger p) p w.ledger.parked refl refl refl other f.agrees.waits);
       }
@@ -174,6 +179,8 @@ module _ (k : Limits) (fits : k.instances ≤ 4096) (pool : List Message) (m : M
       record {
         machine = next;
         works = Goes_on b next w.sends f.works step;
+        ended = f.ended;
+        granted = f.granted;
         agrees = agrees_from k.empty pool next (record w.ledger { parked = ps ++ p ∷ [] })
             (record { live_made = core.live_made; live_kept = core.live_kept; retired_made = core.retired_made; retired_kept = core.retired_kept; lines = core.lines; last = core.last; ceiling = core.ceiling; old_home = core.old_home; gone = core.gone; lives = core.lives })
             refl
@@ -196,7 +203,7 @@ module _ (k : Limits) (fits : k.instances ≤ 4096) (pool : List Message) (m : M
   acquiring_it (Some h) b p w f asked here e i =
       let r = find_some (is_of p.node p.life p.ask) w.ledger.live h e in
       note_it (note.GrantedBefore (grant_of k.empty w.ledger.line h)) (says (told.Granted (grant_of k.empty w.ledger.line h)) w)
-      (say_it (told.Granted (grant_of k.empty w.ledger.line h)) w f (grant_says k fits pool m sound sent w f h r.0))
+      (say_it (told.Granted (grant_of k.empty w.ledger.line h)) w f (grant_says k fits pool m sound sent P w f h r.0))
   acquiring_it None true p w f asked here e i = note_it note.Parked w f
   acquiring_it None false p w f asked here e i = decided_it (decision k w.ledger p) p w f asked here (no_lease_from w.ledger.live p e) i refl
 
@@ -233,10 +240,11 @@ module _ (k : Limits) (fits : k.instances ≤ 4096) (pool : List Message) (m : M
   less_live test live g i = (from_filter (λ (h : Lease). not (test h)) g live i).0
 
   -- an end that retires nothing
-  pub plain_ends : (test : Lease → Bool) (y : Ending) (changed : Bool) (w : Work) (f : Fo w) → Bare y → y ≢ Withdrawn
+  pub plain_ends : (is : (ℕ → Option Ending) → Type 0) (test : Lease → Bool) (y : Ending) (changed : Bool) (w : Work) (f : Fo w) → Bare y → y ≢ Withdrawn
       → ((e : ℕ → Option Ending) (g : Grant) → In (Granted g) f.machine.made → picks test g ≡ true → MayEnd pool (record f.machine { ending = e }) g y)
-      → Fo (record w { ledger = record w.ledger { live = filter (λ h. not (test h)) w.ledger.live }; changed = changed })
-  plain_ends test y changed w f bare other may =
+      → ((e : ℕ → Option Ending) → EndsThose f.machine.ending e (picks test) y f.machine.made → is e)
+      → F k fits pool m sound sent is (record w { ledger = record w.ledger { live = filter (λ h. not (test h)) w.ledger.live }; changed = changed })
+  plain_ends is test y changed w f bare other may so =
       let r = end_all test y w f may in
       let b : Machine = f.machine in
       let sound' = sound_at w f in
@@ -244,6 +252,8 @@ module _ (k : Limits) (fits : k.instances ≤ 4096) (pool : List Message) (m : M
       record {
         machine = record b { ending = r.0 };
         works = r.1;
+        ended = so r.0 r.2;
+        granted = f.granted;
         agrees = agrees_from k.empty pool (record b { ending = r.0 }) (record w.ledger { live = filter (λ h. not (test h)) w.ledger.live })
             (bulk_core test y b w.ledger r.0 w.ledger.retired sound' core r.2 bare
             (λ s t. retired_stays k.empty b sound' r.0 (picks test) y r.2 s (core.retired_made s t))
@@ -253,12 +263,13 @@ module _ (k : Limits) (fits : k.instances ≤ 4096) (pool : List Message) (m : M
       }
 
   -- withdrawals, which retire the PRIVATE slots
-  pub withdrawn_ends : (test : Lease → Bool) (changed : Bool) (retired' : Slot → Bool) (w : Work) (f : Fo w) → ((g : Grant) → Live f.machine g → picks test g ≡ true → g.tenure ≡ false)
+  pub withdrawn_ends : (is : (ℕ → Option Ending) → Type 0) (test : Lease → Bool) (changed : Bool) (retired' : Slot → Bool) (w : Work) (f : Fo w) → ((g : Grant) → Live f.machine g → picks test g ≡ true → g.tenure ≡ false)
       → ((s : Slot) → retired' s ≡ true → (w.ledger.retired s ≡ true) ⊎ ((is_private s.folder.mode ≡ true) × ((h : Lease) × In h w.ledger.live × (test h ≡ true) × (has_slot h.slots s ≡ true))))
       → ((s : Slot) → w.ledger.retired s ≡ true → retired' s ≡ true)
       → ((s : Slot) (h : Lease) → is_private s.folder.mode ≡ true → In h w.ledger.live → test h ≡ true → has_slot h.slots s ≡ true → retired' s ≡ true)
-      → Fo (record w { ledger = record w.ledger { live = filter (λ h. not (test h)) w.ledger.live; retired = retired' }; changed = changed })
-  withdrawn_ends test changed retired' w f plain made old new =
+      → ((e : ℕ → Option Ending) → EndsThose f.machine.ending e (picks test) Withdrawn f.machine.made → is e)
+      → F k fits pool m sound sent is (record w { ledger = record w.ledger { live = filter (λ h. not (test h)) w.ledger.live; retired = retired' }; changed = changed })
+  withdrawn_ends is test changed retired' w f plain made old new so =
       let b : Machine = f.machine in
       let sound' = sound_at w f in
       let core = core_at w f in
@@ -267,6 +278,8 @@ module _ (k : Limits) (fits : k.instances ≤ 4096) (pool : List Message) (m : M
       record {
         machine = record b { ending = r.0 };
         works = r.1;
+        ended = so r.0 r.2;
+        granted = f.granted;
         agrees = agrees_from k.empty pool (record b { ending = r.0 }) (record w.ledger { live = filter (λ h. not (test h)) w.ledger.live; retired = retired' })
             (bulk_core test Withdrawn b w.ledger r.0 retired' sound' core r.2 bare_withdrawn
             (λ s t. elim (made s t) [
@@ -308,8 +321,9 @@ module _ (k : Limits) (fits : k.instances ≤ 4096) (pool : List Message) (m : M
   same_ticket b g h s l l' e = same_grant k.empty b s g h l.0 l'.0 (ap (λ (t : Ticket). t.0) e)
 
   -- the lease ends Committed, and each line gets its version
-  commit_it : (n : NodeId) (l : Life) (t : Ticket) (news : List News) (w : Work) (f : Fo w) (h : Lease) → In (commit n l t news) pool → lease_under w.ledger.live t ≡ Some h → may_commit n l news (Some h) ≡ true → Fo (commits t news w)
-  commit_it n l t news w f h asked e may =
+  pub commit_it : (is : (ℕ → Option Ending) → Type 0) (n : NodeId) (l : Life) (t : Ticket) (news : List News) (w : Work) (f : Fo w) (h : Lease) → In (commit n l t news) pool → lease_under w.ledger.live t ≡ Some h → may_commit n l news (Some h) ≡ true
+      → ((e : ℕ → Option Ending) → EndsThose f.machine.ending e (picks (has_ticket t)) (Committed news) f.machine.made → is e) → F k fits pool m sound sent is (commits t news w)
+  commit_it is n l t news w f h asked e may so =
       let r = lease_of_ticket w f t h e in
       let g = f.agrees.live_made h r.0 in
       let b1 = and_both (is_its n l h && slots_eq (slots_of news) (writable_slots h.slots)) (not (is_nil news)) may in
@@ -333,6 +347,9 @@ module _ (k : Limits) (fits : k.instances ≤ 4096) (pool : List Message) (m : M
       record {
         machine = next;
         works = Goes_on b next w.sends f.works step;
+        granted = f.granted;
+        ended = so next.ending (those_put k.empty b sound' g.0 y (picks (has_ticket t)) g.1 (ap (λ (z : Ticket). eqb g.0.ticket.0 z.0) (sym ticket) ∙ eqb_same g.0.ticket.0)
+            (λ x i z. eqb_is x.ticket.0 t.0 z ∙ ap (λ (z : Ticket). z.0) (sym ticket)));
         agrees = agrees_from k.empty pool next (commits t news w).ledger
             (record {
               live_made = λ x i. (let q = from_filter (λ (z : Lease). not (has_ticket t z)) x w.ledger.live i in
@@ -433,33 +450,201 @@ module _ (k : Limits) (fits : k.instances ≤ 4096) (pool : List Message) (m : M
       true_false (not (is_nil news) && on_all w.ledger.line t news) (rw (nil, on) refl) e) in
       note_it (note.Fenced t) (says (told.Fenced n l t) w) (say_it (told.Fenced n l t) w f (Says_fenced n l t news asked refused off))
 
-  committing_it : (b : Bool) (o : Option Lease) (n : NodeId) (l : Life) (t : Ticket) (news : List News) (w : Work) (f : Fo w) → In (commit n l t news) pool → lease_under w.ledger.live t ≡ o → may_commit n l news o ≡ b → Fo (committing k b n l t news w)
-  committing_it true None n l t news w f asked e may = (let bad : false ≡ true = may in cc)
-  committing_it true (Some h) n l t [] w f asked e may = (let b = and_both (is_its n l h && slots_eq (slots_of []) (writable_slots h.slots)) false may in let bad : false ≡ true = b.1 in cc)
-  committing_it true (Some h) n l t (x ∷ xs) w f asked e may =
-      let c = commit_it n l t (x ∷ xs) w f h asked e may in
-      note_it (note.Committed t) (retried k (confirms n l t (x ∷ xs) (commits t (x ∷ xs) w)))
-      (retry (confirms n l t (x ∷ xs) (commits t (x ∷ xs) w)) (confirm_it n l t x xs (commits t (x ∷ xs) w) c asked (now_on t x xs w.ledger.line)))
-  committing_it false o n l t news w f asked e may = answered_it (not (is_nil news) && on_all w.ledger.line t news) n l t news w f asked (ap (may_commit n l news) e ∙ may) refl
+-- ---- a message, and what it ends
 
-  released_it : (b : Bool) (o : Option Lease) (n : NodeId) (l : Life) (t : Ticket) (w : Work) (f : Fo w) → In (release n l t) pool → lease_under w.ledger.live t ≡ o → may_release n l o ≡ b → Fo (released k b t o w)
-  released_it b None n l t w f asked e may = f
-  released_it false (Some h) n l t w f asked e may = f
-  released_it true (Some h) n l t w f asked e may =
-      let r = lease_of_ticket w f t h e in
-      let its = its_is n l h may in
+module _ (k : Limits) (fits : k.instances ≤ 4096) (pool : List Message) (m : Machine) (sound : Sound k.empty m) (sent : Sent pool m) (y : ToCoord) where
+  -- what is so before the answer, and after one that was told so
+  abbrev pub Is : CoordNote → (ℕ → Option Ending) → Type 0
+  Is told = Meant m (MessageEnds m y told) told
+
+  abbrev pub At : CoordNote → Work → Type 0
+  At told w = F k fits pool m sound sent (Is told) w
+
+  later_at : (told : CoordNote) (w : Work) (f : At told w) → Later k.empty m f.machine
+  later_at told w f = (works_sound k.empty pool m f.machine w.sends sound f.works).0
+
+  -- what an answer that is no Committed and no Released ends, any ends
+  message_keeps : (told : CoordNote) (g : Grant) (z : Ending) → MessageEnds m y note.Nothing g z → MessageEnds m y told g z
+  message_keeps told g z (Of_older_life here newer node older) = Of_older_life here newer node older
+  message_keeps told g z (By_commit news r p) = (let bad : note.Nothing ≡ note.Committed g.ticket = p in cc)
+  message_keeps told g z (By_release r p) = (let bad : note.Nothing ≡ note.Released g.ticket = p in cc)
+
+  message_quiet : (told : CoordNote) (g : Grant) (z : Ending) → ((t : Ticket) → told ≢ note.Committed t) → ((t : Ticket) → told ≢ note.Released t) → MessageEnds m y told g z → MessageEnds m y note.Nothing g z
+  message_quiet told g z c r (Of_older_life here newer node older) = Of_older_life here newer node older
+  message_quiet told g z c r (By_commit news q p) = absurd (c g.ticket p)
+  message_quiet told g z c r (By_release q p) = absurd (r g.ticket p)
+
+  pub quiet_it : (told : CoordNote) (w : Work) → ((t : Ticket) → told ≢ note.Committed t) → ((t : Ticket) → told ≢ note.Released t) → CoordMeans m told → At note.Nothing w → At told w
+  quiet_it told w c r so f = record {
+    machine = f.machine;
+    works = f.works;
+    granted = f.granted;
+    ended = (ended_as m (MessageEnds m y note.Nothing) (MessageEnds m y told) f.machine.ending (message_keeps told) (λ g z h. message_quiet told g z c r h) f.ended.0, so);
+    agrees = f.agrees;
+  }
+
+  -- the live grant that an accepted Commit or Release names, and no other grant has its ticket
+  record Named (told : CoordNote) (w : Work) (f : At told w) (t : Ticket) : Type 0 where
+    pub grant : Grant
+    pub live : Live m grant
+    pub ticket : grant.ticket ≡ t
+    pub life : grant.life ≡ y.life
+    pub one : (g : Grant) → In (Granted g) f.machine.made → eqb g.ticket.0 t.0 ≡ true → g ≡ grant
+
+  named : (told : CoordNote) (w : Work) (f : At told w) (t : Ticket) (h : Lease) (g : Grant) → lease_under w.ledger.live t ≡ Some h → In (Granted g) m.made → g.ticket ≡ t → g.life ≡ y.life → Named told w f t
+  named told w f t h g e made ticket life =
+      let r = lease_of_ticket k fits pool m sound sent (Is told) w f t h e in
+      let x = f.agrees.live_made h r.0 in
+      let later = later_at told w f in
+      let sound' = sound_at k fits pool m sound sent (Is told) w f in
+      let at : x.0.ticket ≡ t = ap (λ (z : Lease). z.ticket) x.2 ∙ r.1 in
+      let same : x.0 ≡ g = same_grant k.empty f.machine sound' x.0 g x.1.0 (later.made (Granted g) made) (ap (λ (z : Ticket). z.0) (at ∙ sym ticket)) in
+      record {
+        grant = g;
+        live = was_live k.empty m f.machine g later made (subst (Live f.machine) same x.1);
+        ticket = ticket;
+        life = life;
+        one = λ z i q. same_grant k.empty f.machine sound' z g i (later.made (Granted g) made) (eqb_is z.ticket.0 t.0 q ∙ ap (λ (z : Ticket). z.0) (sym ticket));
+      }
+
+  -- the grant that is named ends besides those of older lives
+  named_ends : (w : Work) (f : At note.Nothing w) (t : Ticket) (told : CoordNote) (z : Ending) (e : ℕ → Option Ending) → Named note.Nothing w f t
+      → EndsThose f.machine.ending e (λ (g : Grant). has_ticket t (lease_from g)) z f.machine.made
+      → ((g : Grant) → g.ticket ≡ t → MessageEnds m y told g z)
+      → ((g : Grant) (x : Ending) → MessageEnds m y told g x → MessageEnds m y note.Nothing g x ⊎ ((g.ticket ≡ t) × (x ≡ z)))
+      → Ended m (MessageEnds m y told) e
+  named_ends w f t told z e n those here from =
+      let sound' = sound_at k fits pool m sound sent (Is note.Nothing) w f in
+      let later = later_at note.Nothing w f in
+      let test : Grant → Bool = λ (g : Grant). has_ticket t (lease_from g) in
+      ended_more k.empty m f.machine (MessageEnds m y note.Nothing) (MessageEnds m y told) e test z sound' later f.ended.0 those
+      (λ g l q. subst (λ (x : Grant). In (Granted x) m.made) (sym (n.one g l.0 q)) n.live.0)
+      (λ g l q. here g (ticket_is g.ticket t (eqb_is g.ticket.0 t.0 q)))
+      (message_keeps told)
+      (λ g x l h. elim (from g x h) [
+        | inl old ↦ inl old
+        | inr new ↦ inr (subst (λ (u : Ticket). eqb g.ticket.0 u.0 ≡ true) new.0 (eqb_same g.ticket.0), new.1)
+      ])
+      (λ g x l old q. young g x (ap (λ (u : Grant). u.life) (n.one g (later.made (Granted g) l.0) q) ∙ n.life) old)
+    where
+      young : (g : Grant) (x : Ending) → g.life ≡ y.life → MessageEnds m y note.Nothing g x → ⊥
+      young g x at (Of_older_life here newer node older) = (let same : g.life.0 ≡ y.life.0 = ap (λ (l : Life). l.0) at in absurd (omega arith))
+      young g x at (By_commit news r p) = (let bad : note.Nothing ≡ note.Committed g.ticket = p in cc)
+      young g x at (By_release r p) = (let bad : note.Nothing ≡ note.Released g.ticket = p in cc)
+
+  -- ---- Commit
+
+  commit_from : (t : Ticket) (news : List News) → y.request ≡ Commit t news → (g : Grant) (x : Ending) → MessageEnds m y (note.Committed t) g x → MessageEnds m y note.Nothing g x ⊎ ((g.ticket ≡ t) × (x ≡ Committed news))
+  commit_from t news at g x (Of_older_life here newer node older) = inl (Of_older_life here newer node older)
+  commit_from t news at g x (By_commit news' r p) = (let same : Commit t news ≡ Commit g.ticket news' = sym at ∙ r in
+      let one : news' ≡ news = cc in
+      let ticket : g.ticket ≡ t = cc in
+      inr (ticket, ap Committed one))
+  commit_from t news at g x (By_release r p) = (let bad : note.Committed t ≡ note.Released g.ticket = p in cc)
+
+  committing_it : (b : Bool) (o : Option Lease) (t : Ticket) (news : List News) (w : Work) (f : At note.Nothing w) → y.request ≡ Commit t news → In (commit y.node y.life t news) pool → lease_under w.ledger.live t ≡ o → may_commit y.node y.life news o ≡ b
+      → At (committing k b y.node y.life t news w).note (committing k b y.node y.life t news w)
+  committing_it true None t news w f at asked e may = (let bad : false ≡ true = may in cc)
+  committing_it true (Some h) t [] w f at asked e may = (let b = and_both (is_its y.node y.life h && slots_eq (slots_of []) (writable_slots h.slots)) false may in let bad : false ≡ true = b.1 in cc)
+  committing_it true (Some h) t (x ∷ xs) w f at asked e may =
+      let g = sent.commits y.node y.life t (x ∷ xs) asked in
+      let n = named note.Nothing w f t h g.0 e g.1 g.2 g.4 in
+      let told : CoordNote = note.Committed t in
+      let here : (z : Grant) → z.ticket ≡ t → MessageEnds m y told z (Committed (x ∷ xs)) =
+      λ z q. By_commit (x ∷ xs) (at ∙ ap (λ (u : Ticket). Commit u (x ∷ xs)) (sym q)) (ap note.Committed (sym q)) in
+      let c = commit_it k fits pool m sound sent (Is note.Nothing) (Is told) y.node y.life t (x ∷ xs) w f h asked e may
+      (λ i those. (named_ends w f t told (Committed (x ∷ xs)) i n those here (commit_from t (x ∷ xs) at), (n.grant, n.live, n.ticket))) in
+      note_it k fits pool m sound sent (Is told) told (retried k (confirms y.node y.life t (x ∷ xs) (commits t (x ∷ xs) w)))
+      (retry k fits pool m sound sent (Is told) (confirms y.node y.life t (x ∷ xs) (commits t (x ∷ xs) w))
+      (confirm_it k fits pool m sound sent (Is told) y.node y.life t x xs (commits t (x ∷ xs) w) c asked (now_on k fits pool m sound sent (Is told) t x xs w.ledger.line)))
+  committing_it false o t news w f at asked e may =
+      answered_quiet (not (is_nil news) && on_all w.ledger.line t news) (answered_it k fits pool m sound sent (Is note.Nothing) (not (is_nil news) && on_all w.ledger.line t news) y.node y.life t news w f asked (ap (may_commit y.node y.life news) e ∙ may) refl)
+    where
+      answered_quiet : (b : Bool) → At note.Nothing (answered b y.node y.life t news w) → At (answered b y.node y.life t news w).note (answered b y.node y.life t news w)
+      answered_quiet true f = quiet_it (note.CommittedBefore t) (answered true y.node y.life t news w) (λ u q. (let bad : note.CommittedBefore t ≡ note.Committed u = q in cc)) (λ u q. (let bad : note.CommittedBefore t ≡ note.Released u = q in cc)) tt f
+      answered_quiet false f = quiet_it (note.Fenced t) (answered false y.node y.life t news w) (λ u q. (let bad : note.Fenced t ≡ note.Committed u = q in cc)) (λ u q. (let bad : note.Fenced t ≡ note.Released u = q in cc)) tt f
+
+  -- ---- Release
+
+  release_from : (t : Ticket) → y.request ≡ Release t → (g : Grant) (x : Ending) → MessageEnds m y (note.Released t) g x → MessageEnds m y note.Nothing g x ⊎ ((g.ticket ≡ t) × (x ≡ Released))
+  release_from t at g x (Of_older_life here newer node older) = inl (Of_older_life here newer node older)
+  release_from t at g x (By_commit news r p) = (let bad : note.Released t ≡ note.Committed g.ticket = p in cc)
+  release_from t at g x (By_release r p) = (let same : Release t ≡ Release g.ticket = sym at ∙ r in let ticket : g.ticket ≡ t = cc in inr (ticket, refl))
+
+  released_it : (b : Bool) (o : Option Lease) (t : Ticket) (w : Work) (f : At note.Nothing w) → w.note ≡ note.Nothing → y.request ≡ Release t → In (release y.node y.life t) pool → lease_under w.ledger.live t ≡ o → may_release y.node y.life o ≡ b
+      → At (released k b t o w).note (released k b t o w)
+  released_it b None t w f quiet at asked e may = subst (λ n. At n w) (sym quiet) f
+  released_it false (Some h) t w f quiet at asked e may = subst (λ n. At n w) (sym quiet) f
+  released_it true (Some h) t w f quiet at asked e may =
+      let r = lease_of_ticket k fits pool m sound sent (Is note.Nothing) w f t h e in
+      let its = its_is k fits pool m sound sent (Is note.Nothing) y.node y.life h may in
       let g = f.agrees.live_made h r.0 in
-      note_it (note.Released t) (retried k (ends h w)) (retry (ends h w)
-      (plain_ends (has_ticket h.ticket) Released (w.changed || is_saved h) w f bare_released (λ q. (let bad : Released ≡ Withdrawn = q in cc))
-      (λ x y made t'. (let at : y.ticket.0 ≡ g.0.ticket.0 = eqb_is y.ticket.0 h.ticket.0 t' ∙ ap (λ (z : Lease). z.ticket.0) (sym g.2) in
-      let same : y ≡ g.0 = same_grant k.empty f.machine (sound_at w f) y g.0 made g.1.0 at in
-      let is : lease_from y ≡ h = ap lease_from same ∙ g.2 in
-      subst (λ (z : Lease). In (release z.node z.life z.ticket) pool) (sym is)
-      (subst (λ (z : NodeId). In (release z h.life h.ticket) pool) (sym its.0) (subst (λ (z : Life). In (release n z h.ticket) pool) (sym its.1) (subst (λ (z : Ticket). In (release n l z) pool) (sym r.1) asked)))))))
+      let s = sent.releases y.node y.life t asked in
+      let n = named note.Nothing w f t h s.0 e s.1 s.2 s.4 in
+      let told : CoordNote = note.Released t in
+      let here : (z : Grant) → z.ticket ≡ t → MessageEnds m y told z Released =
+      λ z q. By_release (at ∙ ap Release (sym q)) (ap note.Released (sym q)) in
+      note_it k fits pool m sound sent (Is told) told (retried k (ends h w)) (retry k fits pool m sound sent (Is told) (ends h w)
+      (plain_ends k fits pool m sound sent (Is note.Nothing) (Is told) (has_ticket h.ticket) Released (w.changed || is_saved h) w f bare_released (λ q. (let bad : Released ≡ Withdrawn = q in cc))
+      (λ x z made t'. (let same : z.ticket.0 ≡ g.0.ticket.0 = eqb_is z.ticket.0 h.ticket.0 t' ∙ ap (λ (u : Lease). u.ticket.0) (sym g.2) in
+      let one : z ≡ g.0 = same_grant k.empty f.machine (sound_at k fits pool m sound sent (Is note.Nothing) w f) z g.0 made g.1.0 same in
+      let is : lease_from z ≡ h = ap lease_from one ∙ g.2 in
+      subst (λ (u : Lease). In (release u.node u.life u.ticket) pool) (sym is)
+      (subst (λ (u : NodeId). In (release u h.life h.ticket) pool) (sym its.0) (subst (λ (u : Life). In (release y.node u h.ticket) pool) (sym its.1) (subst (λ (u : Ticket). In (release y.node y.life u) pool) (sym r.1) asked)))))
+      (λ i those. (named_ends w f t told Released i n (subst (λ (u : Ticket). EndsThose f.machine.ending i (λ (x : Grant). has_ticket u (lease_from x)) Released f.machine.made) r.1 those) here (release_from t at), (n.grant, n.live, n.ticket)))))
+
+  -- ---- Acquire
+
+  acquired_quiet : (o : Option Lease) (b : Bool) (p : Parked) (w : Work) → At note.Nothing (acquiring k o b p w) → At (acquiring k o b p w).note (acquiring k o b p w)
+  acquired_quiet (Some h) b p w f = quiet_it (note.GrantedBefore (grant_of k.empty w.ledger.line h)) (acquiring k (Some h) b p w) (λ u q. (let bad : note.GrantedBefore (grant_of k.empty w.ledger.line h) ≡ note.Committed u = q in cc)) (λ u q. (let bad : note.GrantedBefore (grant_of k.empty w.ledger.line h) ≡ note.Released u = q in cc)) tt f
+  acquired_quiet None true p w f = quiet_it note.Parked (acquiring k None true p w) (λ u q. (let bad : note.Parked ≡ note.Committed u = q in cc)) (λ u q. (let bad : note.Parked ≡ note.Released u = q in cc)) tt f
+  acquired_quiet None false p w f = decided_quiet (decision k w.ledger p) f
+    where
+      decided_quiet : (d : Decision) → At note.Nothing (decided d k p w) → At (decided d k p w).note (decided d k p w)
+      decided_quiet Give f = (let g : Grant = grant_of k.empty w.ledger.line (lease_for k w.ledger p) in quiet_it (note.Granted g) (decided Give k p w) (λ u q. (let bad : note.Granted g ≡ note.Committed u = q in cc)) (λ u q. (let bad : note.Granted g ≡ note.Released u = q in cc)) tt f)
+      decided_quiet (Deny why) f = quiet_it (note.Denied why) (decided (Deny why) k p w) (λ u q. (let bad : note.Denied why ≡ note.Committed u = q in cc)) (λ u q. (let bad : note.Denied why ≡ note.Released u = q in cc)) tt f
+      decided_quiet Wait f = quiet_it note.Parked (decided Wait k p w) (λ u q. (let bad : note.Parked ≡ note.Committed u = q in cc)) (λ u q. (let bad : note.Parked ≡ note.Released u = q in cc)) tt f
 
   -- a message of the life that is now the greatest
-  pub answering_it : (n : NodeId) (l : Life) (r : Request) (w : Work) (f : Fo w) → In (Said (record { node = n; life = l; request = r })) pool → w.ledger.gone n.0 ≡ false → Fo (answering k n l r w)
-  answering_it n l Hello w f asked here = f
-  answering_it n l (Acquire a wants tenure) w f asked here = acquiring_it (lease_of w.ledger.live n l a) (is_parked w.ledger.parked n l a) (record { node = n; life = l; ask = a; wants = wants; tenure = tenure }) w f asked here refl refl
-  answering_it n l (Commit t news) w f asked here = committing_it (may_commit n l news (lease_under w.ledger.live t)) (lease_under w.ledger.live t) n l t news w f asked refl refl
-  answering_it n l (Release t) w f asked here = released_it (may_release n l (lease_under w.ledger.live t)) (lease_under w.ledger.live t) n l t w f asked refl refl
+  answering_by : (r : Request) (w : Work) (f : At note.Nothing w) → w.note ≡ note.Nothing → y.request ≡ r → In (Said (record { node = y.node; life = y.life; request = r })) pool → w.ledger.gone y.node.0 ≡ false
+      → At (answering k y.node y.life r w).note (answering k y.node y.life r w)
+  answering_by Hello w f quiet at asked here = subst (λ n. At n w) (sym quiet) f
+  answering_by (Acquire a wants tenure) w f quiet at asked here =
+      let p : Parked = record { node = y.node; life = y.life; ask = a; wants = wants; tenure = tenure } in
+      acquired_quiet (lease_of w.ledger.live y.node y.life a) (is_parked w.ledger.parked y.node y.life a) p w
+      (acquiring_it k fits pool m sound sent (Is note.Nothing) (lease_of w.ledger.live y.node y.life a) (is_parked w.ledger.parked y.node y.life a) p w f asked here refl refl)
+  answering_by (Commit t news) w f quiet at asked here = committing_it (may_commit y.node y.life news (lease_under w.ledger.live t)) (lease_under w.ledger.live t) t news w f at asked refl refl
+  answering_by (Release t) w f quiet at asked here = released_it (may_release y.node y.life (lease_under w.ledger.live t)) (lease_under w.ledger.live t) t w f quiet at asked refl refl
+
+  pub answering_it : (w : Work) (f : At note.Nothing w) → w.note ≡ note.Nothing → In (Said y) pool → w.ledger.gone y.node.0 ≡ false → At (answering k y.node y.life y.request w).note (answering k y.node y.life y.request w)
+  answering_it w f quiet asked here = answering_by y.request w f quiet refl asked here
+
+-- ---- a rightful Commit
+
+lt_self : (a b : ℕ) → a ≡ b → nat_lt a b ≡ false
+lt_self a b e = grind (arith, nat_tests)
+
+module _ (k : Limits) (pool : List Message) (m : Machine) (sound : Sound k.empty m) (q : Ledger) (agrees : Agrees k.empty pool m q) where
+  may_now : (g : Grant) (news : List News) → Live m g → slots_of news ≡ written g.slots → news ≢ [] → may_commit g.node g.life news (lease_under q.live g.ticket) ≡ true
+  may_now g news live slots some =
+      let found = find_in (has_ticket g.ticket) q.live (lease_from g) (agrees.live_kept g live) (eqb_same g.ticket.0) in
+      let r = find_some (has_ticket g.ticket) q.live found.0 found.1 in
+      let x = agrees.live_made found.0 r.0 in
+      let same : x.0 ≡ g = same_grant k.empty m sound x.0 g x.1.0 live.0 (ap (λ (z : Lease). z.ticket.0) x.2 ∙ eqb_is found.0.ticket.0 g.ticket.0 r.1) in
+      let is : found.0 ≡ lease_from g = sym x.2 ∙ ap lease_from same in
+      let nodes = eqb_same g.node.0 in
+      let lifes = eqb_same g.life.0 in
+      let eqs : slots_eq (slots_of news) (writable_slots (lease_from g).slots) ≡ true = subst (λ z. slots_eq (slots_of news) z ≡ true) (slots ∙ sym (writable-from g.slots)) (slots_eq_same (slots_of news)) in
+      let nil = not_nil news some in
+      let yes' : may_commit g.node g.life news (Some (lease_from g)) ≡ true = rw (nodes, lifes, eqs, nil) refl in
+      ap (may_commit g.node g.life news) (found.1 ∙ ap Some is) ∙ yes'
+
+  pub commit_taken : CommitIsTaken k m q
+  unfolding handled
+  commit_taken g news live here life slots some =
+      let here' : q.gone g.node.0 ≡ false = ap (λ (f : ℕ → Bool). f g.node.0) agrees.gone ∙ here in
+      let at : q.lives g.node.0 ≡ g.life.0 = ap (λ (f : ℕ → ℕ). f g.node.0) agrees.lives ∙ life in
+      let old : nat_lt g.life.0 (q.lives g.node.0) ≡ false = lt_self g.life.0 (q.lives g.node.0) (sym at) in
+      let new : nat_lt (q.lives g.node.0) g.life.0 ≡ false = lt_self (q.lives g.node.0) g.life.0 at in
+      let may = may_now g news live slots some in
+      rw (here', old, new) (ap (λ b. (committing k b g.node g.life g.ticket news (begin_work q)).note) may)

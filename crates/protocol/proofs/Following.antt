@@ -4,7 +4,7 @@ use Rattle.std.proofs.lemmas.Bool.Decides.{nat_tests}
 use Rattle.std.specs.Prelude.{nat_lt}
 use Rattle.protocol.specs.Lists.{In}
 use Rattle.protocol.specs.Names.{Mode, Shared, Private, Locked, Slot, slot_eq, slots_eq, is_private, only_slot, IsInstance, Digest, NodeId, Life, Ask, Ticket, Want, FolderName, leased_wants, tenure_wants}
-use Rattle.protocol.specs.Machine.{Grant, GrantedSlot, News, Granted, Withdrawn, Message, FromCoord, Parked, Machine, Live, Free, Based, Answers, SameAsk, want_of, line, version_at, slots_of, Names, written, acquire, commit, IsPartOf, Ends_part, Keeps, Leaves, Step, Grants, Unparks, Steps, No_step, One_more, Says, Says_granted, Says_denied}
+use Rattle.protocol.specs.Machine.{Grant, GrantedSlot, News, Ending, Granted, Withdrawn, Message, FromCoord, Parked, Machine, Live, Free, Based, Answers, SameAsk, want_of, line, version_at, slots_of, Names, written, acquire, commit, release, IsPartOf, Ends_part, Keeps, Leaves, Step, Grants, Unparks, Steps, No_step, One_more, Says, Says_granted, Says_denied}
 use Rattle.farm_base.specs.declared.message.FromCoord.TheVariants as told
 use Rattle.farm_base.specs.declared.message.Why.{Why}
 use Rattle.protocol.specs.declared.answer.CoordNote.{CoordNote}
@@ -54,13 +54,13 @@ slots_eq_same [] = refl
 slots_eq_same (x ∷ xs) = (let p = slot_eq_same x in let q = slots_eq_same xs in rw (p, q) refl)
 
 -- what a decision to give says
-record Picked (a b c d : Bool) : Type 0 where
+pub record Picked (a b c d : Bool) : Type 0 where
   pub here : a ≡ false
   pub left : b ≡ false
   pub idle : c ≡ false
   pub below : d ≡ false
 
-pick_give : (a b c d : Bool) → pick a b c d ≡ Give → Picked a b c d
+pub pick_give : (a b c d : Bool) → pick a b c d ≡ Give → Picked a b c d
 pick_give true b c d e = cc
 pick_give false true c d e = cc
 pick_give false false true d e = cc
@@ -72,21 +72,26 @@ pub record Sent (pool : List Message) (m : Machine) : Type 0 where
   pub tenures : (n : NodeId) (l : Life) (a : Ask) (wants : List Want) (tenure : Bool) → In (acquire n l a wants tenure) pool → tenure ≡ true → (f : FolderName) × (wants ≡ tenure_wants f)
   pub commits : (n : NodeId) (l : Life) (t : Ticket) (news : List News) → In (commit n l t news) pool
       → (g : Grant) × In (Granted g) m.made × (g.ticket ≡ t) × (g.node ≡ n) × (g.life ≡ l) × (slots_of news ≡ written g.slots) × (news ≢ [])
+  pub releases : (n : NodeId) (l : Life) (t : Ticket) → In (release n l t) pool → (g : Grant) × In (Granted g) m.made × (g.ticket ≡ t) × (g.node ≡ n) × (g.life ≡ l)
 
-module _ (k : Limits) (fits : k.instances ≤ 4096) (pool : List Message) (m : Machine) (sound : Sound k.empty m) (sent : Sent pool m) where
+module _ (k : Limits) (fits : k.instances ≤ 4096) (pool : List Message) (m : Machine) (sound : Sound k.empty m) (sent : Sent pool m) (P : (ℕ → Option Ending) → Type 0) where
   abbrev pub F : Work → Type 0
-  F w = Follows k.empty pool m w
+  F w = Follows k.empty pool m P w
 
   pub now_sound : (b : Machine) (sends : List FromCoord) → Works k.empty pool m b sends → Sound k.empty b
   now_sound b sends works = (works_sound k.empty pool m b sends sound works).1
 
   -- ---- saying
 
+  pub more_sent : (g : Grant) (sends : List FromCoord) (y : FromCoord) → In (Granted g) m.made ⊎ In (told.Granted g) sends → In (Granted g) m.made ⊎ In (told.Granted g) (sends ++ y ∷ [])
+  more_sent g sends y (inl i) = inl i
+  more_sent g sends y (inr i) = inr (in_left (told.Granted g) sends (y ∷ []) i)
+
   pub notes_follows : (n : CoordNote) (w : Work) → F w → F (notes n w)
-  notes_follows n w f = record { machine = f.machine; works = f.works; agrees = f.agrees }
+  notes_follows n w f = record { machine = f.machine; works = f.works; ended = f.ended; granted = f.granted; agrees = f.agrees }
 
   pub says_follows : (y : FromCoord) (w : Work) (f : F w) → Says k.empty pool f.machine y → F (says y w)
-  says_follows y w f may = record { machine = f.machine; works = Speaks f.machine w.sends y f.works may; agrees = f.agrees }
+  says_follows y w f may = record { machine = f.machine; works = Speaks f.machine w.sends y f.works may; ended = f.ended; granted = λ g i. more_sent g w.sends y (f.granted g i); agrees = f.agrees }
 
   live_of_lease : (w : Work) (f : F w) (h : Lease) → In h w.ledger.live → (g : Grant) × Live f.machine g × (lease_from g ≡ h)
   live_of_lease w f h i = f.agrees.live_made h i
@@ -104,11 +109,13 @@ module _ (k : Limits) (fits : k.instances ≤ 4096) (pool : List Message) (m : M
   pub record Going (w : Work) : Type 0 where
     pub machine : Machine
     pub works : Works k.empty pool m machine w.sends
+    pub ended : P machine.ending
+    pub granted : (g : Grant) → In (Granted g) machine.made → In (Granted g) m.made ⊎ In (told.Granted g) w.sends
     pub core : Core k.empty machine w.ledger
     pub parked : w.ledger.parked ≡ machine.parked
 
   pub going : (w : Work) → F w → Going w
-  going w f = record { machine = f.machine; works = f.works; core = core_of k.empty pool f.machine w.ledger f.agrees; parked = f.agrees.parked }
+  going w f = record { machine = f.machine; works = f.works; ended = f.ended; granted = f.granted; core = core_of k.empty pool f.machine w.ledger f.agrees; parked = f.agrees.parked }
 
   -- a want that can be met
   abbrev IsMet : Machine → Ledger → Want → Type 0
@@ -224,6 +231,11 @@ module _ (k : Limits) (fits : k.instances ≤ 4096) (pool : List Message) (m : M
       record {
         machine = next;
         works = Speaks next w.sends (told.Granted g) (Goes_on b next w.sends going.works step) (Says_granted g (inl refl, new));
+        ended = going.ended;
+        granted = λ x i. elim i [
+          | inl e ↦ (let same : x ≡ g = cc in inr (in_right (told.Granted x) w.sends (told.Granted g ∷ []) (inl (ap told.Granted same))))
+          | inr j ↦ more_sent x w.sends (told.Granted g) (going.granted x j)
+        ];
         core = give_core b q g h (raised k q) now going.core below (lease-grant k.empty q.line h) (raised_covers q going.core.ceiling (not_false (nat_lt q.last k.greatest) picked.below));
         parked = going.parked;
       }
@@ -232,6 +244,8 @@ module _ (k : Limits) (fits : k.instances ≤ 4096) (pool : List Message) (m : M
   deny_going why p w g asked = record {
     machine = g.machine;
     works = Speaks g.machine w.sends (told.Denied p.node p.life p.ask why) g.works (Says_denied p.node p.life p.ask why p.wants p.tenure asked);
+    ended = g.ended;
+    granted = λ x i. more_sent x w.sends (told.Denied p.node p.life p.ask why) (g.granted x i);
     core = g.core;
     parked = g.parked;
   }
@@ -306,6 +320,20 @@ module _ (k : Limits) (fits : k.instances ≤ 4096) (pool : List Message) (m : M
   try-parked [] w = refl
   try-parked (p ∷ ps) w = try-parked ps (tried k p w) ∙ tried-parked p w
 
+  carried-note : (d : Decision) (p : Parked) (w : Work) → (carried_out d k p w).note ≡ w.note
+  unfolding gives
+  carried-note Give p w = refl
+  carried-note (Deny why) p w = refl
+  carried-note Wait p w = refl
+
+  tried-note : (p : Parked) (w : Work) → (tried k p w).note ≡ w.note
+  unfolding tried
+  tried-note p w = carried-note (decision k w.ledger p) p w
+
+  pub try-note : (ps : List Parked) (w : Work) → (try_all k ps w).note ≡ w.note
+  try-note [] w = refl
+  try-note (p ∷ ps) w = try-note ps (tried k p w) ∙ tried-note p w
+
   -- an ask that is not tried has no lease where it had none
   try_none : (ps : List Parked) (w : Work) (p : Parked) → is_parked ps p.node p.life p.ask ≡ false → NoLease w.ledger.live p → NoLease (try_all k ps w).ledger.live p
   try_none [] w p other none = none
@@ -365,6 +393,8 @@ module _ (k : Limits) (fits : k.instances ≤ 4096) (pool : List Message) (m : M
       record {
         machine = next;
         works = Goes_on g.machine next (try_all k ps w).sends g.works (Unparks stay part);
+        ended = g.ended;
+        granted = g.granted;
         agrees = agrees_from k.empty pool next (record (try_all k ps w).ledger { parked = stay })
             (record { live_made = g.core.live_made; live_kept = g.core.live_kept; retired_made = g.core.retired_made; retired_kept = g.core.retired_kept; lines = g.core.lines; last = g.core.last; ceiling = g.core.ceiling; old_home = g.core.old_home; gone = g.core.gone; lives = g.core.lives })
             refl

@@ -6,10 +6,16 @@ mod Acts
 mod Worlds
 mod Safety
 mod Bulk
+mod Meanings
 mod Leases
 mod Following
 mod Calls
 mod Others
 mod Moving
+mod Using
+mod Parking
+mod Saving
 mod Schedules
+mod Chronicles
 mod Answering
+mod Asking

@@ -101,7 +101,7 @@ first_is test [] k r e = none_some r e
 first_is test (s ∷ ss) k r e = first_by test s ss k r (test s) refl (first_is test ss (k + 1) r) e
 
 -- the same from the first on
-found : {A : Type 0} (test : AskState → Option A) (asks : List AskState) (r : ℕ × A) → first test asks 0 ≡ Some r → (s : AskState) × (nth asks r.0 ≡ Some s) × (test s ≡ Some r.1)
+pub found : {A : Type 0} (test : AskState → Option A) (asks : List AskState) (r : ℕ × A) → first test asks 0 ≡ Some r → (s : AskState) × (nth asks r.0 ≡ Some s) × (test s ≡ Some r.1)
 found test asks r e =
     let q = first_is test asks 0 r e in
     let n : suc q.0 ≡ r.0 = (let m : r.0 ≡ 0 + q.0 + 1 = q.2 in omega arith) in
@@ -113,7 +113,7 @@ under_is g t x y e = elim (cases_bool (eqb g.ticket.0 t.0)) [
   | inr b ↦ none_some y (rw b at e)
 ]
 
-held_is : (t : Ticket) (s : AskState) (h : Held) → held t s ≡ Some h → (s ≡ Holding h.wants h.grant h.recalled) × (h.grant.ticket ≡ t)
+pub held_is : (t : Ticket) (s : AskState) (h : Held) → held t s ≡ Some h → (s ≡ Holding h.wants h.grant h.recalled) × (h.grant.ticket ≡ t)
 held_is t (Open wants tenure) h e = none_some h e
 held_is t (Holding wants g r) h e = (let u = under_is g t (record { wants = wants; grant = g; recalled = r }) h e in
     (ap (λ (z : Held). Holding z.wants z.grant z.recalled) u.1, ap (λ (z : Held). z.grant.ticket) (sym u.1) ∙ u.0))
@@ -121,7 +121,7 @@ held_is t (Running wants g r) h e = none_some h e
 held_is t (Finished wants g news) h e = none_some h e
 held_is t (Over how) h e = none_some h e
 
-running_is : (t : Ticket) (s : AskState) (h : Held) → running t s ≡ Some h → (s ≡ Running h.wants h.grant h.recalled) × (h.grant.ticket ≡ t)
+pub running_is : (t : Ticket) (s : AskState) (h : Held) → running t s ≡ Some h → (s ≡ Running h.wants h.grant h.recalled) × (h.grant.ticket ≡ t)
 running_is t (Open wants tenure) h e = none_some h e
 running_is t (Holding wants g r) h e = none_some h e
 running_is t (Running wants g r) h e = (let u = under_is g t (record { wants = wants; grant = g; recalled = r }) h e in
@@ -129,14 +129,14 @@ running_is t (Running wants g r) h e = (let u = under_is g t (record { wants = w
 running_is t (Finished wants g news) h e = none_some h e
 running_is t (Over how) h e = none_some h e
 
-either_is : (t : Ticket) (s : AskState) (h : Held) → held_or_running t s ≡ Some h → (s ≡ Holding h.wants h.grant h.recalled) ⊎ (s ≡ Running h.wants h.grant h.recalled)
+pub either_is : (t : Ticket) (s : AskState) (h : Held) → held_or_running t s ≡ Some h → ((s ≡ Holding h.wants h.grant h.recalled) ⊎ (s ≡ Running h.wants h.grant h.recalled)) × (h.grant.ticket ≡ t)
 either_is t (Open wants tenure) h e = none_some h e
-either_is t (Holding wants g r) h e = inl (ap (λ (z : Held). Holding z.wants z.grant z.recalled) (under_is g t (record { wants = wants; grant = g; recalled = r }) h e).1)
-either_is t (Running wants g r) h e = inr (ap (λ (z : Held). Running z.wants z.grant z.recalled) (under_is g t (record { wants = wants; grant = g; recalled = r }) h e).1)
+either_is t (Holding wants g r) h e = (let u = under_is g t (record { wants = wants; grant = g; recalled = r }) h e in (inl (ap (λ (z : Held). Holding z.wants z.grant z.recalled) u.1), ap (λ (z : Held). z.grant.ticket) (sym u.1) ∙ u.0))
+either_is t (Running wants g r) h e = (let u = under_is g t (record { wants = wants; grant = g; recalled = r }) h e in (inr (ap (λ (z : Held). Running z.wants z.grant z.recalled) u.1), ap (λ (z : Held). z.grant.ticket) (sym u.1) ∙ u.0))
 either_is t (Finished wants g news) h e = none_some h e
 either_is t (Over how) h e = none_some h e
 
-finished_is : (t : Ticket) (s : AskState) (h : Sent) → finished t s ≡ Some h → (s ≡ Finished h.wants h.grant h.news) × (h.grant.ticket ≡ t)
+pub finished_is : (t : Ticket) (s : AskState) (h : Sent) → finished t s ≡ Some h → (s ≡ Finished h.wants h.grant h.news) × (h.grant.ticket ≡ t)
 finished_is t (Open wants tenure) h e = none_some h e
 finished_is t (Holding wants g r) h e = none_some h e
 finished_is t (Running wants g r) h e = none_some h e
@@ -151,7 +151,7 @@ recalled_if_is false s x e = none_some x e
 abbrev Recalls : Ticket → AskState → AskState → Type 0
 Recalls t s x = (wants : List Want) × (g : Grant) × (g.ticket ≡ t) × (((s ≡ Holding wants g false) × (x ≡ Holding wants g true)) ⊎ ((s ≡ Running wants g false) × (x ≡ Running wants g true)))
 
-recallable_is : (t : Ticket) (s x : AskState) → recallable t s ≡ Some x → Recalls t s x
+pub recallable_is : (t : Ticket) (s x : AskState) → recallable t s ≡ Some x → Recalls t s x
 recallable_is t (Open wants tenure) x e = none_some x e
 recallable_is t (Holding wants g r) x e =
     let u = recalled_if_is ((eqb g.ticket.0 t.0) && g.tenure && not r) (Holding wants g true) x e in
@@ -329,7 +329,7 @@ module _ (sha : List ℕ → Digest) (u : World) (n : NodeId) where
       let h : Held = r.1 in
       on_guard (in_use here.asks r.0 h.wants h.grant) _ _ (λ idle.
       does (release n here.life h.grant.ticket ∷ []) (record here { asks = set_nth here.asks r.0 (Over how.Other) })
-      (Gives_up h.wants h.grant h.recalled r.0 (elim (either_is t f.0 h f.2) [ inl is ↦ inl (f.1 ∙ ap Some is) | inr is ↦ inr (f.1 ∙ ap Some is) ]) (idle_from here.asks r.0 h.wants h.grant idle)))
+      (Gives_up h.wants h.grant h.recalled r.0 (elim (either_is t f.0 h f.2).0 [ inl is ↦ inl (f.1 ∙ ap Some is) | inr is ↦ inr (f.1 ∙ ap Some is) ]) (idle_from here.asks r.0 h.wants h.grant idle)))
 
   pub aborted_does : (size : ℕ) (t : Ticket) → OnAnswer (aborted (at size) t here)
   aborted_does size t = on_guard here.spent _ _ (λ up. aborting_does size t (first (held_or_running t) here.asks 0) refl)

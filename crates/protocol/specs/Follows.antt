@@ -1,8 +1,8 @@
 -- The ledger agrees with a machine that forgets nothing, and a farm's state with a world
 -- (docs/PROOFS.md, "From the replay to the world").
-use Rattle.std.specs.Prelude.{◌≡◌, ℕ, ◌≤◌, nat_lt, if◌then◌else◌, true, false, List, [], ◌∷◌, ◌++◌, ◌⊎◌, map, Option, Some, None, ⊤, Result, Ok, Err}
+use Rattle.std.specs.Prelude.{◌≡◌, ◌≢◌, ℕ, ◌≤◌, nat_lt, if◌then◌else◌, true, false, List, [], ◌∷◌, ◌++◌, ◌⊎◌, map, Option, Some, None, ⊤, Result, Ok, Err}
 use Rattle.protocol.specs.Lists.{In}
-use Rattle.farm_base.specs.declared.message.Request.TheVariants.{Acquire}
+use Rattle.farm_base.specs.declared.message.Request.TheVariants.{Acquire, Commit}
 use Rattle.farm_base.specs.declared.message.FromCoord.TheVariants as told
 use Rattle.protocol.specs.declared.answer.CoordNote.TheVariants as note
 use Rattle.protocol.specs.declared.answer.CoordRefusal.{CoordRefusal}
@@ -11,11 +11,12 @@ use Rattle.protocol.specs.declared.answer.EventRefusal.{EventRefusal}
 use Rattle.protocol.specs.declared.answer.EventRefusal.TheVariants as event
 use Rattle.protocol.specs.declared.answer.Outcome.{Outcome}
 use Rattle.protocol.specs.Names.{Slot, NodeId, Life, Ticket, Digest, leased_wants}
-use Rattle.protocol.specs.Machine.{Grant, Message, Said, acquire, ToCoord, FromCoord, Parked, Machine, Live, Retired, line, Step, Says}
-use Rattle.protocol.specs.Ledger.{Limits, Ledger, Lease, Work, begin_work, is_of, lease_of, is_parked, is_free, is_leased, all_taken, busy, elsewhere, grant_of, lease_for, newer_life, handled, withdrawn, retired, pruned, nudged, reread}
+use Rattle.protocol.specs.Machine.{Grant, Granted, News, Ending, written, slots_of, Message, Said, acquire, ToCoord, FromCoord, Parked, Machine, Live, Retired, line, Step, Says}
+use Rattle.protocol.specs.Ledger.{Limits, Ledger, Lease, Work, begin_work, is_of, lease_of, is_parked, is_free, is_leased, all_taken, busy, elsewhere, decision, Give, grant_of, lease_for, newer_life, handled, withdrawn, retired, pruned, nudged, reread, saves}
 use Rattle.protocol.specs.World.{World, Moves, start}
 use Rattle.protocol.specs.Safe.{Safe, SafeSince}
 use Rattle.protocol.specs.Replay.{Event, Farm, step, run, opening}
+use Rattle.protocol.specs.Meaning.{MessageEnds, WithdrawEnds, RetireEnds, RestartEnds, NoEnds, Meant, Means}
 
 -- the lease of a grant: what is kept of it
 abbrev pub lease_from : Grant → Lease
@@ -63,10 +64,13 @@ pub data Works (empty : Digest) (pool : List Message) (m : Machine) : Machine �
   Goes_on : (a b : Machine) (sends : List FromCoord) → Works empty pool m a sends → Step empty pool a b → Works empty pool m b sends
   Speaks : (a : Machine) (sends : List FromCoord) (y : FromCoord) → Works empty pool m a sends → Says empty pool a y → Works empty pool m a (sends ++ y ∷ [])
 
--- what the work comes to, the machine may do
-pub record Follows (empty : Digest) (pool : List Message) (m : Machine) (w : Work) : Type 0 where
+-- what the work comes to, the machine may do, and `is` holds of how tickets ended then
+pub record Follows (empty : Digest) (pool : List Message) (m : Machine) (is : (ℕ → Option Ending) → Type 0) (w : Work) : Type 0 where
   pub machine : Machine
   pub works : Works empty pool m machine w.sends
+  pub ended : is machine.ending
+  -- what is granted is sent
+  pub granted : (g : Grant) → In (Granted g) machine.made → In (Granted g) m.made ⊎ In (told.Granted g) w.sends
   pub agrees : Agrees empty pool machine w.ledger
 
 -- what the record holds after a failed save
@@ -76,10 +80,16 @@ KeptAgrees empty pool None (Some q) = ⊥
 KeptAgrees empty pool (Some m) None = ⊥
 KeptAgrees empty pool (Some m) (Some q) = Agrees empty pool m q
 
+-- the ledger that the record is of
+abbrev pub holds : Option Ledger → Ledger → Ledger
+holds None q = q
+holds (Some kept) q = kept
+
 -- a farm's state is that of the world
 pub record Shows (sha : List ℕ → Digest) (u : World) (s : Farm) : Type 0 where
   pub now : Agrees (sha []) u.pool u.machine s.ledger
   pub kept : KeptAgrees (sha []) u.pool u.down s.down
+  pub saved : s.saved ≡ saves (holds s.down s.ledger)
   pub pool : u.pool ≡ s.pool
   pub nodes : (n : ℕ) → u.nodes n ≡ s.nodes n
 
@@ -109,24 +119,36 @@ abbrev pub EveryScheduleStaysSafe : Type 0
 EveryScheduleStaysSafe = (sha : List ℕ → Digest) (k : Limits) → IsFarm sha k → (size : ℕ) (early late : List Event)
     → SafeBetween sha (run sha k early (opening sha size)) (run sha k (early ++ late) (opening sha size))
 
--- each event, from any world of a run that a farm is in, leads to a world that the farm is in then
+-- each event, from any world of a run that a farm is in, leads to a world that the farm is in then, and means what
+-- its outcome says
 abbrev pub EveryEventIsMoves : Type 0
 EveryEventIsMoves = (sha : List ℕ → Digest) (k : Limits) → IsFarm sha k → (u : World) → Moves sha (start sha) u → (s : Farm) → Shows sha u s → (e : Event)
-    → (v : World) × Moves sha u v × Shows sha v (step sha k s e).farm
+    → (v : World) × Moves sha u v × Shows sha v (step sha k s e).farm × Means u e (step sha k s e).outcome v
 
--- what a call comes to, the machine may do
-abbrev pub FollowsOk : Digest → List Message → Machine → Result Work CoordRefusal → Type 0
-FollowsOk empty pool m (Ok w) = Follows empty pool m w
-FollowsOk empty pool m (Err e) = ⊤
+-- what a call comes to, the machine may do, and it ends these
+abbrev pub FollowsOk : Digest → List Message → Machine → (Grant → Ending → Type 0) → Result Work CoordRefusal → Type 0
+FollowsOk empty pool m ends (Ok w) = Follows empty pool m (Meant m ends w.note) w
+FollowsOk empty pool m ends (Err e) = ⊤
+
+-- what is asked for rightly is accepted: the withdrawal of a live grant that is no tenure
+abbrev pub WithdrawIsTaken : Limits → Machine → Ledger → Type 0
+WithdrawIsTaken k m q = (g : Grant) → Live m g → g.tenure ≡ false → (w : Work) × (withdrawn k g.ticket (begin_work q) ≡ Ok w)
+
+-- and the Commit of a live grant, of its node's present life, with news for just its writable slots
+abbrev pub CommitIsTaken : Limits → Machine → Ledger → Type 0
+CommitIsTaken k m q = (g : Grant) (news : List News) → Live m g → m.gone g.node.0 ≡ false → m.lives g.node.0 ≡ g.life.0 → slots_of news ≡ written g.slots → news ≢ []
+    → (handled k (record { node = g.node; life = g.life; request = Commit g.ticket news }) (begin_work q)).note ≡ note.Committed g.ticket
 
 -- every decision on a ledger that agrees with the machine of a world of a run
 pub record EveryDecision (k : Limits) (pool : List Message) (m : Machine) (q : Ledger) : Type 0 where
-  pub message : (y : ToCoord) → In (Said y) pool → Follows k.empty pool m (handled k y (begin_work q))
-  pub withdraw : (t : Ticket) → FollowsOk k.empty pool m (withdrawn k t (begin_work q))
-  pub retire : (n : NodeId) → FollowsOk k.empty pool m (retired k n (begin_work q))
-  pub prune : (s : Slot) → FollowsOk k.empty pool m (pruned k s (begin_work q))
-  pub nudge : Follows k.empty pool m (nudged k (begin_work q))
-  pub restart : Follows k.empty pool m (record (begin_work q) { ledger = reread q; changed = true })
+  pub message : (y : ToCoord) → In (Said y) pool → Follows k.empty pool m (Meant m (MessageEnds m y (handled k y (begin_work q)).note) (handled k y (begin_work q)).note) (handled k y (begin_work q))
+  pub commit_taken : CommitIsTaken k m q
+  pub withdraw_taken : WithdrawIsTaken k m q
+  pub withdraw : (t : Ticket) → FollowsOk k.empty pool m (WithdrawEnds t) (withdrawn k t (begin_work q))
+  pub retire : (n : NodeId) → FollowsOk k.empty pool m (RetireEnds n) (retired k n (begin_work q))
+  pub prune : (s : Slot) → FollowsOk k.empty pool m NoEnds (pruned k s (begin_work q))
+  pub nudge : Follows k.empty pool m (Meant m NoEnds note.Nudged) (nudged k (begin_work q))
+  pub restart : Follows k.empty pool m (Meant m RestartEnds note.Nothing) (record (begin_work q) { ledger = reread q; changed = true })
 
 abbrev pub EveryDecisionFollows : Type 0
 EveryDecisionFollows = (sha : List ℕ → Digest) (k : Limits) → IsFarm sha k → (u : World) → Moves sha (start sha) u → (q : Ledger) → Agrees k.empty u.pool u.machine q → EveryDecision k u.pool u.machine q
@@ -135,11 +157,18 @@ EveryDecisionFollows = (sha : List ℕ → Digest) (k : Limits) → IsFarm sha k
 abbrev pub after_life : Limits → NodeId → Life → Work → Work
 after_life k n l w = if nat_lt (w.ledger.lives n.0) l.0 then newer_life k n l w else w
 
--- the rules let the ask be granted: it has no lease and isn't parked; another node isn't the old home of a tenure; an
+-- no parked ask could be granted
+abbrev pub NoneReady : Limits → Ledger → Type 0
+NoneReady k q = (p : Parked) → In p q.parked → decision k q p ≡ Give → ⊥
+
+-- where an ask of this name is parked, it is this one
+abbrev pub OnlyItself : Ledger → Parked → Type 0
+OnlyItself q p = (r : Parked) → In r q.parked → r.node ≡ p.node → r.life ≡ p.life → r.ask ≡ p.ask → r ≡ p
+
+-- the rules let the ask be granted: it has no lease; another node isn't the old home of a tenure; an
 -- instance is left of each PRIVATE folder; the slot of each other folder isn't leased; a ticket is left
 pub record MayBeGranted (k : Limits) (q : Ledger) (p : Parked) : Type 0 where
   pub new : lease_of q.live p.node p.life p.ask ≡ None
-  pub unparked : is_parked q.parked p.node p.life p.ask ≡ false
   pub here : elsewhere q p ≡ false
   pub left : all_taken k.instances (is_free q) (leased_wants p.tenure p.wants) ≡ false
   pub idle : busy (is_leased q) (leased_wants p.tenure p.wants) ≡ false
@@ -147,7 +176,7 @@ pub record MayBeGranted (k : Limits) (q : Ledger) (p : Parked) : Type 0 where
 
 -- an Acquire of a node that isn't retired, of no older life, that the rules let be granted, is granted in that call
 abbrev pub FittingAskIsGranted : Type 0
-FittingAskIsGranted = (k : Limits) (p : Parked) (w : Work) → w.ledger.gone p.node.0 ≡ false → nat_lt p.life.0 (w.ledger.lives p.node.0) ≡ false
+FittingAskIsGranted = (k : Limits) (p : Parked) (w : Work) → NoneReady k w.ledger → OnlyItself w.ledger p → w.ledger.gone p.node.0 ≡ false → nat_lt p.life.0 (w.ledger.lives p.node.0) ≡ false
     → let v : Work = after_life k p.node p.life w in
     let grant : Grant = grant_of k.empty v.ledger.line (lease_for k v.ledger p) in
     let y : ToCoord = record { node = p.node; life = p.life; request = Acquire p.ask p.wants p.tenure } in

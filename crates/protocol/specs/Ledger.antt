@@ -438,3 +438,19 @@ nudged k w = notes note.Nudged (nudge_all k w.ledger.live w)
 -- what the record has of a ledger: the leases that are saved, and of the tickets the ceiling
 abbrev pub reread : Ledger → Ledger
 reread q = record q { live = filter is_saved q.live; last = q.ceiling; parked = [] }
+
+-- what the record holds: no last ticket, no parked ask, and of the leases those that are saved
+pub record Saved : Type 0 where
+  pub live : List Lease
+  pub retired : Slot → Bool
+  pub gone : ℕ → Bool
+  pub line : Slot → List LineVersion
+  pub ceiling : ℕ
+  pub old_home : Option NodeId
+  pub lives : ℕ → ℕ
+
+abbrev pub saves : Ledger → Saved
+saves q = record { live = filter is_saved q.live; retired = q.retired; gone = q.gone; line = q.line; ceiling = q.ceiling; old_home = q.old_home; lives = q.lives }
+
+abbrev pub reads : Saved → Ledger
+reads r = record { live = r.live; retired = r.retired; gone = r.gone; line = r.line; last = r.ceiling; ceiling = r.ceiling; old_home = r.old_home; lives = r.lives; parked = [] }

@@ -6,4 +6,6 @@ pub mod Safe
 pub mod Ledger
 pub mod Nodes
 pub mod Replay
+pub mod Meaning
 pub mod Follows
+pub mod Chronicle

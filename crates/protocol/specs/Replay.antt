@@ -3,7 +3,7 @@ use Rattle.std.specs.Prelude.{ℕ, ◌+◌, Bool, true, false, ◌&&◌, nat_le,
 use Rattle.protocol.specs.Lists.{put, nth}
 use Rattle.protocol.specs.Names.{Slot, NodeId, Ticket, Digest, Want, FolderName}
 use Rattle.protocol.specs.Machine.{Message, Said, Told, Fetches, Blob, FromCoord}
-use Rattle.protocol.specs.Ledger.{Limits, Ledger, Work, begin_work, handled, withdrawn, retired, pruned, nudged, reread}
+use Rattle.protocol.specs.Ledger.{Limits, Ledger, Work, begin_work, handled, withdrawn, retired, pruned, nudged, Saved, saves, reads}
 use Rattle.protocol.specs.Ledger as ledger
 use Rattle.protocol.specs.World.{Node, first_node}
 use Rattle.protocol.specs.Nodes.{Place, Left, NodeWork, NodeAnswer, asked, asked_tenure, begun, finished_with, aborted, resent, restarted, may_restart, heard, fetched, brought, unless_spent}
@@ -41,6 +41,8 @@ pub record Farm : Type 0 where
   -- how many nodes there are
   pub size : ℕ
   pub ledger : Ledger
+  -- what the record holds
+  pub saved : Saved
   -- after a failed save: what the record holds
   pub down : Option Ledger
   -- the next save fails, and leaves this
@@ -50,7 +52,7 @@ pub record Farm : Type 0 where
   pub nodes : ℕ → Node
 
 abbrev pub opening : (List ℕ → Digest) → ℕ → Farm
-opening sha size = record { size = size; ledger = ledger.opening; down = None; armed = None; pool = []; nodes = λ n. first_node sha }
+opening sha size = record { size = size; ledger = ledger.opening; saved = saves ledger.opening; down = None; armed = None; pool = []; nodes = λ n. first_node sha }
 
 -- an event's farm, and its outcome
 pub record Turn : Type 0 where
@@ -69,15 +71,15 @@ done n sends s after = record { farm = after; outcome = Ok (record { note = n; f
 
 -- the coordinator
 
-abbrev pub after_work : Work → Farm → Turn
-after_work w s = done (note.Coord w.note) (map Told w.sends) s (record s { ledger = w.ledger; pool = s.pool ++ map Told w.sends })
+abbrev pub after_work : Saved → Work → Farm → Turn
+after_work saved w s = done (note.Coord w.note) (map Told w.sends) s (record s { ledger = w.ledger; saved = saved; pool = s.pool ++ map Told w.sends })
 
 -- the record is saved where it changed, and then all is sent; or the save fails, and nothing is sent
 abbrev pub settled : Bool → Option Survivor → Work → Farm → Turn
-settled false armed w s = after_work w s
-settled true None w s = after_work w s
+settled false armed w s = after_work s.saved w s
+settled true None w s = after_work (saves w.ledger) w s
 settled true (Some Old) w s = record { farm = record s { down = Some s.ledger; armed = None }; outcome = Err (refusal.Coord coord.SaveFault) }
-settled true (Some New) w s = record { farm = record s { down = Some w.ledger; armed = None }; outcome = Err (refusal.Coord coord.SaveFault) }
+settled true (Some New) w s = record { farm = record s { saved = saves w.ledger; down = Some w.ledger; armed = None }; outcome = Err (refusal.Coord coord.SaveFault) }
 
 abbrev pub settles : Result Work CoordRefusal → Farm → Turn
 settles (Err e) s = refused (refusal.Coord e) s
@@ -132,11 +134,7 @@ delivered sha k (Some (Told y)) s = node_does (told_to y) (λ p x. unless_spent 
 delivered sha k (Some (Fetches y)) s = node_does y.node (λ p x. unless_spent x (fetched y.from x (x.store y.digest))) s
 delivered sha k (Some (Blob n c)) s = node_does n (λ p x. unless_spent x (brought sha c x)) s
 
--- a restart reads the record
-abbrev pub record_of : Farm → Option Ledger → Ledger
-record_of s None = reread s.ledger
-record_of s (Some q) = reread q
-
+-- a restart reads the record and nothing else
 unfoldable pub step : (List ℕ → Digest) → Limits → Farm → Event → Turn
 step sha k s (Ask n wants) = node_does n (λ p x. asked k p wants x) s
 step sha k s (Tenure n folder) = node_does n (λ p x. asked_tenure k p folder x) s
@@ -150,7 +148,7 @@ step sha k s (Withdraw t) = coordinated s.down (withdrawn k t (begin_work s.ledg
 step sha k s (Prune slot) = coordinated s.down (pruned k slot (begin_work s.ledger)) s
 step sha k s (Retire n) = if is_node s n then coordinated s.down (retired k n (begin_work s.ledger)) s else refused refusal.NoSuchNode s
 step sha k s (RestartNode n) = if is_node s n then restarts k n s else refused refusal.NoSuchNode s
-step sha k s RestartCoordinator = done note.Restarted [] s (record s { ledger = record_of s s.down; down = None })
+step sha k s RestartCoordinator = done note.Restarted [] s (record s { ledger = reads s.saved; down = None })
 step sha k s (Forge n c) = node_does n (λ p x. unless_spent x (brought sha c x)) s
 step sha k s (FailSave survivor) = done note.Armed [] s (record s { armed = Some survivor })
 

@@ -2,6 +2,7 @@
 #![tactic(auto)]
 
 ghost use Rattle.protocol.specs.Follows.{EveryScheduleIsSafe, EveryScheduleStaysSafe, EveryEventIsMoves, EveryDecisionFollows, FittingAskIsGranted, NoRecordFault};
+ghost use Rattle.protocol.specs.Chronicle.{EveryScheduleHasAChronicle, EveryScheduleMeans, NoParkedAskIsReady, FittingMessageIsGranted, EveryFarmIsSaved, EveryRecordCovers, RestartReadsTheRecord};
 ghost use Rattle.protocol.specs.Safe.{EveryRunIsSafe, EveryRunStaysSafe};
 
 mod answer;
@@ -25,7 +26,16 @@ pub fn every_schedule_is_safe()
     ensures stays { EveryScheduleStaysSafe }
 {}
 
-/// Each event of a farm, from any world that it may be in, is a list of moves of the world.
+/// Every schedule has a chronicle: a world after each event, safe, led to by moves, in which the event meant what
+/// its outcome says. So what is withdrawn, by a call, a retirement, a newer life or a restart, is never committed
+/// later, and is on no line.
+pub fn every_schedule_means()
+    ensures chronicle { EveryScheduleHasAChronicle }
+    ensures headline { EveryScheduleMeans }
+{}
+
+/// Each event of a farm, from any world that it may be in, is a list of moves of the world, and means what its
+/// outcome says.
 pub fn every_event_is_moves()
     ensures { EveryEventIsMoves }
 {}
@@ -39,6 +49,23 @@ pub fn every_decision_follows()
 /// An ask that the rules let be granted is granted in that call.
 pub fn a_fitting_ask_is_granted()
     ensures { FittingAskIsGranted }
+{}
+
+/// So is each Acquire that is delivered in a run.
+pub fn a_fitting_message_is_granted()
+    ensures { FittingMessageIsGranted }
+{}
+
+/// In no farm of a run could a parked ask be granted: what frees a slot tries them again.
+pub fn no_parked_ask_is_ready()
+    ensures { NoParkedAskIsReady }
+{}
+
+/// The record is always what the ledger saves, covers all that was sent, and is all that a restart reads.
+pub fn every_record_is_enough()
+    ensures saved { EveryFarmIsSaved }
+    ensures covers { EveryRecordCovers }
+    ensures reads { RestartReadsTheRecord }
 {}
 
 /// No schedule meets a record that can't be read.
