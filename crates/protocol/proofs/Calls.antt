@@ -12,7 +12,7 @@ use Rattle.farm_base.specs.declared.message.Request.TheVariants.{Hello, Acquire,
 use Rattle.protocol.specs.declared.answer.CoordNote.{CoordNote}
 use Rattle.protocol.specs.declared.answer.CoordNote.TheVariants as note
 use Rattle.protocol.specs.Ledger.{Limits, Ledger, Work, Lease, begin_work, handled, says, notes, has_slot, is_saved, writable_slots, grant_of, Decision, Give, Deny, Wait, elsewhere, decision, lease_for, gives, denies, parks, retried, is_of, lease_of, is_parked, holds_wanted, recall, recalls, decided, acquiring, has_ticket, lease_under, without, ends, commits, place, confirmed, versions_of, on_all, is_its, may_commit, may_release, confirms, answered, committing, released, answering}
-use Rattle.protocol.specs.Follows.{lease_from, NoLease, Waits, Works, Goes_on, Agrees, CommitIsTaken}
+use Rattle.protocol.specs.Follows.{lease_from, NoLease, Waits, Works, Goes_on, Agrees}
 use Rattle.protocol.proofs.Base.{cases_bool, cases_nat, true_false, not_true, and_both, none_some, some_is, eqb_is, eqb_same, eqb_apart, eqb_not, slot_eq_same, node_is, life_is, ticket_is, from_any, in_filter, from_filter, in_append, in_right, in_one, put_same, put_other}
 use Rattle.protocol.proofs.Lines.{line-end}
 use Rattle.protocol.proofs.Steps.{Sound, Later, same_grant}
@@ -25,7 +25,7 @@ use Rattle.protocol.proofs.Following.{works_sound, slots_eq_is, slots_eq_same, S
 -- ---- places on a line
 
 -- the version of a ticket stands where its place says
-place_stands : (t : Ticket) (vs : List LineVersion) (k : ℕ) (x : ℕ × Digest) → place t vs k ≡ Some x → (j : ℕ) × (x.0 ≡ k + j + 1) × (slice_get vs j ≡ Some (record { ticket = t; digest = x.1 }))
+pub place_stands : (t : Ticket) (vs : List LineVersion) (k : ℕ) (x : ℕ × Digest) → place t vs k ≡ Some x → (j : ℕ) × (x.0 ≡ k + j + 1) × (slice_get vs j ≡ Some (record { ticket = t; digest = x.1 }))
 place_stands t [] k x e = none_some x e
 place_stands t (v ∷ vs) k x e = elim (cases_bool (eqb v.ticket.0 t.0)) [
   | inl b ↦ (let is : (k + 1, v.digest) ≡ x = some_is (k + 1, v.digest) x (rw b at e) in
@@ -49,18 +49,18 @@ place_found t (u ∷ vs) k v i e = elim (cases_bool (eqb u.ticket.0 t.0)) [
   ]
 ]
 
-some_test : {A : Type 0} (o : Option A) → is_some o ≡ true → (x : A) × (o ≡ Some x)
+pub some_test : {A : Type 0} (o : Option A) → is_some o ≡ true → (x : A) × (o ≡ Some x)
 some_test None h = (let bad : false ≡ true = h in cc)
 some_test (Some x) h = (x, refl)
 
 no_confirmed : {P : Type 0} (v : Confirmed) (vs : List Confirmed) → (v ∷ vs ≡ []) → P
 no_confirmed v vs e = cc
 
-is_nil_is : (news : List News) → is_nil news ≡ false → news ≢ []
+pub is_nil_is : (news : List News) → is_nil news ≡ false → news ≢ []
 is_nil_is [] h = (let bad : true ≡ false = h in cc)
 is_nil_is (x ∷ xs) h = λ e. (let bad : x ∷ xs ≡ [] = e in cc)
 
-not_nil : (news : List News) → news ≢ [] → is_nil news ≡ false
+pub not_nil : (news : List News) → news ≢ [] → is_nil news ≡ false
 not_nil [] h = absurd (h refl)
 not_nil (x ∷ xs) h = refl
 
@@ -618,33 +618,3 @@ module _ (k : Limits) (fits : k.instances ≤ 4096) (pool : List Message) (m : M
 
   pub answering_it : (w : Work) (f : At note.Nothing w) → w.note ≡ note.Nothing → In (Said y) pool → w.ledger.gone y.node.0 ≡ false → At (answering k y.node y.life y.request w).note (answering k y.node y.life y.request w)
   answering_it w f quiet asked here = answering_by y.request w f quiet refl asked here
-
--- ---- a rightful Commit
-
-lt_self : (a b : ℕ) → a ≡ b → nat_lt a b ≡ false
-lt_self a b e = grind (arith, nat_tests)
-
-module _ (k : Limits) (pool : List Message) (m : Machine) (sound : Sound k.empty m) (q : Ledger) (agrees : Agrees k.empty pool m q) where
-  may_now : (g : Grant) (news : List News) → Live m g → slots_of news ≡ written g.slots → news ≢ [] → may_commit g.node g.life news (lease_under q.live g.ticket) ≡ true
-  may_now g news live slots some =
-      let found = find_in (has_ticket g.ticket) q.live (lease_from g) (agrees.live_kept g live) (eqb_same g.ticket.0) in
-      let r = find_some (has_ticket g.ticket) q.live found.0 found.1 in
-      let x = agrees.live_made found.0 r.0 in
-      let same : x.0 ≡ g = same_grant k.empty m sound x.0 g x.1.0 live.0 (ap (λ (z : Lease). z.ticket.0) x.2 ∙ eqb_is found.0.ticket.0 g.ticket.0 r.1) in
-      let is : found.0 ≡ lease_from g = sym x.2 ∙ ap lease_from same in
-      let nodes = eqb_same g.node.0 in
-      let lifes = eqb_same g.life.0 in
-      let eqs : slots_eq (slots_of news) (writable_slots (lease_from g).slots) ≡ true = subst (λ z. slots_eq (slots_of news) z ≡ true) (slots ∙ sym (writable-from g.slots)) (slots_eq_same (slots_of news)) in
-      let nil = not_nil news some in
-      let yes' : may_commit g.node g.life news (Some (lease_from g)) ≡ true = rw (nodes, lifes, eqs, nil) refl in
-      ap (may_commit g.node g.life news) (found.1 ∙ ap Some is) ∙ yes'
-
-  pub commit_taken : CommitIsTaken k m q
-  unfolding handled
-  commit_taken g news live here life slots some =
-      let here' : q.gone g.node.0 ≡ false = ap (λ (f : ℕ → Bool). f g.node.0) agrees.gone ∙ here in
-      let at : q.lives g.node.0 ≡ g.life.0 = ap (λ (f : ℕ → ℕ). f g.node.0) agrees.lives ∙ life in
-      let old : nat_lt g.life.0 (q.lives g.node.0) ≡ false = lt_self g.life.0 (q.lives g.node.0) (sym at) in
-      let new : nat_lt (q.lives g.node.0) g.life.0 ≡ false = lt_self (q.lives g.node.0) g.life.0 at in
-      let may = may_now g news live slots some in
-      rw (here', old, new) (ap (λ b. (committing k b g.node g.life g.ticket news (begin_work q)).note) may)

@@ -4,7 +4,7 @@ use Rattle.std.proofs.lemmas.Bool.Decides.{nat_tests}
 use Rattle.std.specs.Prelude.{nat_lt}
 use Rattle.protocol.specs.Lists.{In}
 use Rattle.protocol.specs.Names.{Mode, Shared, Private, Locked, Slot, slot_eq, slots_eq, is_private, only_slot, IsInstance, Digest, NodeId, Life, Ask, Ticket, Want, FolderName, leased_wants, tenure_wants}
-use Rattle.protocol.specs.Machine.{Grant, GrantedSlot, News, Ending, Granted, Withdrawn, Message, FromCoord, Parked, Machine, Live, Free, Based, Answers, SameAsk, want_of, line, version_at, slots_of, Names, written, acquire, commit, release, IsPartOf, Ends_part, Keeps, Leaves, Step, Grants, Unparks, Steps, No_step, One_more, Says, Says_granted, Says_denied}
+use Rattle.protocol.specs.Machine.{Grant, GrantedSlot, News, Ending, Granted, Withdrawn, Message, FromCoord, Parked, Machine, Live, Free, Based, Answers, SameAsk, want_of, line, version_at, slots_of, Names, written, acquire, commit, release, IsPartOf, Ends_part, Keeps, Leaves, Step, Grants, Unparks, Steps, No_step, One_more, Says, Says_granted, Says_committed, Says_fenced, Says_denied, Says_recall}
 use Rattle.farm_base.specs.declared.message.FromCoord.TheVariants as told
 use Rattle.farm_base.specs.declared.message.Why.{Why}
 use Rattle.protocol.specs.declared.answer.CoordNote.{CoordNote}
@@ -21,6 +21,23 @@ works_sound empty pool a b sends sound (Goes_on c d ss works step) =
     let after = step_sound empty pool c b before.1 step in
     (later_trans empty a c b before.0 after.0, after.1)
 works_sound empty pool a b sends sound (Speaks c ss y works may) = works_sound empty pool a b ss sound works
+
+says_live : (empty : Digest) (pool : List Message) (m : Machine) (y : FromCoord) (g : Grant) → Says empty pool m y → y ≡ told.Granted g → Live m g
+says_live empty pool m y g (Says_granted h live) e = (let same : h ≡ g = cc in subst (Live m) same live)
+says_live empty pool m y g (Says_committed h versions made all some) e = absurd (cc)
+says_live empty pool m y g (Says_fenced n l t news i refused off) e = absurd (cc)
+says_live empty pool m y g (Says_denied n l a why wants tenure i) e = absurd (cc)
+says_live empty pool m y g (Says_recall h live tenure) e = absurd (cc)
+
+-- what is sent as granted was made
+pub works_made : (empty : Digest) (pool : List Message) (a b : Machine) (sends : List FromCoord) → Sound empty a → Works empty pool a b sends → (g : Grant) → In (told.Granted g) sends → In (Granted g) b.made
+works_made empty pool a b sends sound Begins_work g i = absurd i
+works_made empty pool a b sends sound (Goes_on c d ss works step) g i =
+    (step_sound empty pool c b (works_sound empty pool a c sends sound works).1 step).0.made (Granted g) (works_made empty pool a c sends sound works g i)
+works_made empty pool a b sends sound (Speaks c ss y works may) g i = elim (in_append (told.Granted g) ss (y ∷ []) i) [
+  | inl j ↦ works_made empty pool a b ss sound works g j
+  | inr j ↦ (says_live empty pool b y g may (sym (in_one (told.Granted g) y j))).0
+]
 
 -- the steps alone, as a record may hold them
 pub works_steps : (empty : Digest) (pool : List Message) (a b : Machine) (sends : List FromCoord) → Works empty pool a b sends → Steps empty pool a b

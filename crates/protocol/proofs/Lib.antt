@@ -11,10 +11,13 @@ mod Leases
 mod Following
 mod Calls
 mod Others
+mod Saying
 mod Moving
 mod Using
+mod Noting
 mod Parking
 mod Saving
+mod Deciding
 mod Schedules
 mod Chronicles
 mod Answering

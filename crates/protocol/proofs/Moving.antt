@@ -13,25 +13,25 @@ use Rattle.protocol.specs.declared.answer.NodeRefusal.{NodeRefusal}
 use Rattle.protocol.specs.Ledger.{Limits}
 use Rattle.protocol.specs.World.{AskState, Open, Holding, Running, Finished, Over, Node, World, keeps, learn_bases, learn_versions, keep, has_life, IsTenureOf, Asked_tenure, Held_tenure, Running_tenure, Finished_tenure, RunsTenure, Uses, Open_uses, Held_uses, Running_uses, Idle, Act, Asks, Asks_tenure, Asks_again, Greets, Takes, Gives_back, Begins, Finishes, Gives_up, Sends_commit, Learns, Drops, Is_denied, Is_recalled, Is_recalled_running, Stores, Asks_content, Sends_blob, Restarts, Stops, Node_moves, Moves, Still, Then}
 use Rattle.protocol.specs.Nodes.{NodeWork, NodeAnswer, guard, Place, wants_folder, is_tenure_of, is_home_of, uses, at_home, others_use, in_use, Held, Sent, first, first_of, under, held, running, held_or_running, finished, recalled_if, recallable, is_stored, all_stored, is_missing, others, fetches_of, fetches, is_base, asked, asked_tenure, beginning, begun, Left, news_of, stored, leaving, finishing, finished_with, aborting, aborted, again, all_again, resent, restarted, gives_back, granted, learned, dropped, denied, recalled, of_life, heard, fetched, brought, unless_spent}
-use Rattle.protocol.proofs.Base.{cases_bool, cases_nat, true_false, not_true, not_false, and_both, or_false, none_some, some_is, eqb_is, eqb_apart, folder_eq_same, digest_eq_is, life_is, ticket_is, in_append, from_map, any_in, any_none, from_any, put_same, put_other, nth_in}
+use Rattle.protocol.proofs.Base.{cases_bool, cases_nat, true_false, not_true, not_false, and_both, or_false, none_some, some_is, eqb_is, eqb_apart, folder_eq_same, digest_eq_is, life_is, ticket_is, in_append, in_one, from_map, any_in, any_none, from_any, put_same, put_other, nth_in}
 use Rattle.protocol.specs.Replay.{told_to}
 use Rattle.protocol.proofs.Following.{slots_eq_is}
 use Rattle.farm_base.proofs.NameLaws.{folder_exact}
 
 -- ---- what tests say
 
-all_in : {A : Type 0} (test : A → Bool) (xs : List A) → list_all test xs ≡ true → (x : A) → In x xs → test x ≡ true
+pub all_in : {A : Type 0} (test : A → Bool) (xs : List A) → list_all test xs ≡ true → (x : A) → In x xs → test x ≡ true
 all_in test [] h x i = absurd i
 all_in test (y ∷ ys) h x i = (let b = and_both (test y) (list_all test ys) h in elim i [ inl e ↦ subst (λ z. test z ≡ true) (sym e) b.0 | inr j ↦ all_in test ys b.1 x j ])
 
-wants_folder_in : (f : FolderName) (wants : List Want) → wants_folder f wants ≡ true → (w : Want) × In w wants × (w.folder ≡ f)
+pub wants_folder_in : (f : FolderName) (wants : List Want) → wants_folder f wants ≡ true → (w : Want) × In w wants × (w.folder ≡ f)
 wants_folder_in f wants h = (let r = from_any (λ (w : Want). folder_eq w.folder f) wants h in (r.0, r.1, folder_exact r.0.folder f r.2))
 
-wants_folder_is : (f : FolderName) (wants : List Want) (w : Want) → In w wants → w.folder ≡ f → wants_folder f wants ≡ true
+pub wants_folder_is : (f : FolderName) (wants : List Want) (w : Want) → In w wants → w.folder ≡ f → wants_folder f wants ≡ true
 wants_folder_is f wants w i e = any_in (λ (v : Want). folder_eq v.folder f) w wants i (subst (λ g. folder_eq w.folder g ≡ true) e (folder_eq_same w.folder))
 
 -- an element of a list, by its place
-get_from : {A : Type 0} (x : A) (xs : List A) → In x xs → (j : ℕ) × (slice_get xs j ≡ Some x)
+pub get_from : {A : Type 0} (x : A) (xs : List A) → In x xs → (j : ℕ) × (slice_get xs j ≡ Some x)
 get_from x [] i = absurd i
 get_from x (y ∷ ys) (inl e) = (0, ap Some (sym e))
 get_from x (y ∷ ys) (inr i) = (let r = get_from x ys i in (suc r.0, r.1))
@@ -44,14 +44,14 @@ home_runs f (Running wants g false) h = (let b = and_both g.tenure (wants_folder
 home_runs f (Finished wants g news) h = (let bad : false ≡ true = h in cc)
 home_runs f (Over how) h = (let bad : false ≡ true = h in cc)
 
-some_home : (f : FolderName) (asks : List AskState) → list_any (is_home_of f) asks ≡ true → RunsTenure asks f false
+pub some_home : (f : FolderName) (asks : List AskState) → list_any (is_home_of f) asks ≡ true → RunsTenure asks f false
 some_home f asks h =
     let r = from_any (is_home_of f) asks h in
     let o = home_runs f r.0 r.2 in
     let at = get_from r.0 asks r.1 in
     (suc at.0, o.0, o.1, o.2, at.1 ∙ ap Some o.3, o.4, o.5, o.6)
 
-tenure_test : (f : FolderName) (s : AskState) → IsTenureOf f s → is_tenure_of f s ≡ true
+pub tenure_test : (f : FolderName) (s : AskState) → IsTenureOf f s → is_tenure_of f s ≡ true
 tenure_test f s (Asked_tenure w wants i e) = wants_folder_is f wants w i e
 tenure_test f s (Held_tenure w wants g r i e t) = (let v = wants_folder_is f wants w i e in rw (t, v) refl)
 tenure_test f s (Running_tenure w wants g r i e t) = (let v = wants_folder_is f wants w i e in rw (t, v) refl)
@@ -74,7 +74,7 @@ others_none a wants (x ∷ xs) k h (suc j) s e ne =
     let o = or_false (not (eqb (k + 1) a) && list_any (λ (w : Want). uses w.folder x) wants) (others_use a wants xs (k + 1)) h in
     others_none a wants xs (k + 1) o.1 j s e (λ q. ne (let z : k + suc j + 1 ≡ k + 1 + j + 1 = omega arith in z ∙ q))
 
-idle_from : (asks : List AskState) (a : ℕ) (wants : List Want) (g : Grant) → in_use asks a wants g ≡ false → Idle asks a wants g
+pub idle_from : (asks : List AskState) (a : ℕ) (wants : List Want) (g : Grant) → in_use asks a wants g ≡ false → Idle asks a wants g
 idle_from asks a wants g h tenure w i zero s e ne u = none_some s e
 idle_from asks a wants g h tenure w i (suc b) s e ne u =
     let others : others_use a wants asks 0 ≡ false = rw tenure at h in
@@ -182,11 +182,40 @@ stored_ok sha (x ∷ xs) store d c e = elim (cases_bool (is_some (store (sha x.c
   ]
 ]
 
-stored_some : (o : Option (List ℕ)) → is_some o ≡ true → (c : List ℕ) × (o ≡ Some c)
+pub stored_some : (o : Option (List ℕ)) → is_some o ≡ true → (c : List ℕ) × (o ≡ Some c)
 stored_some None h = (let bad : false ≡ true = h in cc)
 stored_some (Some c) h = (c, refl)
 
 -- ---- reaching a world by a node's acts
+
+-- a node never speaks as the coordinator
+abbrev pub NoneTold : List Message → Type 0
+NoneTold sends = (z : FromCoord) → In (Told z) sends → ⊥
+
+not_told : (z : FromCoord) (y : Message) → (Told z ≡ y → ⊥) → In (Told z) (y ∷ []) → ⊥
+not_told z y other i = other (in_one (Told z) y i)
+
+act_tells : (sha : List ℕ → Digest) (pool : List Message) (n : NodeId) (x : Node) (sends : List Message) (x' : Node) → Act sha pool n x sends x' → NoneTold sends
+act_tells sha pool n x sends x' (Asks wants h) z i = not_told z _ (λ e. cc) i
+act_tells sha pool n x sends x' (Asks_tenure f h) z i = not_told z _ (λ e. cc) i
+act_tells sha pool n x sends x' (Asks_again b wants tenure e) z i = not_told z _ (λ e. cc) i
+act_tells sha pool n x sends x' Greets z i = not_told z _ (λ e. cc) i
+act_tells sha pool n x sends x' (Takes g wants tenure j p q e) z i = i
+act_tells sha pool n x sends x' (Gives_back g j p q o keep') z i = not_told z _ (λ e. cc) i
+act_tells sha pool n x sends x' (Begins wants g r a at all) z i = i
+act_tells sha pool n x sends x' (Finishes wants g r a news store at idle slots some ok) z i = not_told z _ (λ e. cc) i
+act_tells sha pool n x sends x' (Gives_up wants g r a at idle) z i = not_told z _ (λ e. cc) i
+act_tells sha pool n x sends x' (Sends_commit wants g a news at) z i = not_told z _ (λ e. cc) i
+act_tells sha pool n x sends x' (Learns wants g a news versions j at) z i = i
+act_tells sha pool n x sends x' (Drops wants g a news j at) z i = i
+act_tells sha pool n x sends x' (Is_denied a why wants tenure j at) z i = i
+act_tells sha pool n x sends x' (Is_recalled wants g a j at) z i = i
+act_tells sha pool n x sends x' (Is_recalled_running wants g a j at) z i = i
+act_tells sha pool n x sends x' (Stores c) z i = i
+act_tells sha pool n x sends x' (Asks_content other d) z i = not_told z _ (λ e. cc) i
+act_tells sha pool n x sends x' (Sends_blob other c) z i = not_told z _ (λ e. cc) i
+act_tells sha pool n x sends x' Restarts z i = not_told z _ (λ e. cc) i
+act_tells sha pool n x sends x' Stops z i = i
 
 -- a world that the node's acts lead to
 pub record Reached (sha : List ℕ → Digest) (u : World) (n : NodeId) (sends : List Message) (x : Node) : Type 0 where
@@ -196,6 +225,7 @@ pub record Reached (sha : List ℕ → Digest) (u : World) (n : NodeId) (sends :
   pub down : world.down ≡ u.down
   pub pool : world.pool ≡ u.pool ++ sends
   pub nodes : (j : ℕ) → world.nodes j ≡ put n.0 x u.nodes j
+  pub tells : NoneTold sends
 
 module _ (sha : List ℕ → Digest) (u : World) (n : NodeId) where
   abbrev pub here : Node
@@ -208,6 +238,7 @@ module _ (sha : List ℕ → Digest) (u : World) (n : NodeId) where
     machine = refl;
     down = refl;
     pool = sym (append-nil u.pool);
+    tells = λ z i. i;
     nodes = λ j. elim (cases_nat j n.0) [
       | inl e ↦ ap u.nodes e ∙ sym (ap (put n.0 here u.nodes) e ∙ put_same n.0 here u.nodes)
       | inr ne ↦ sym (put_other n.0 here u.nodes j ne)
@@ -227,6 +258,7 @@ module _ (sha : List ℕ → Digest) (u : World) (n : NodeId) where
         machine = r.machine;
         down = r.down;
         pool = ap (λ p. p ++ more) r.pool ∙ append_assoc u.pool sends more;
+        tells = λ z i. elim (in_append (Told z) sends more i) [ inl j ↦ r.tells z j | inr j ↦ act_tells sha (u.pool ++ sends) n x more y act z j ];
         nodes = λ j. elim (cases_nat j n.0) [
           | inl e ↦ ap (put n.0 y v.nodes) e ∙ put_same n.0 y v.nodes ∙ sym (ap (put n.0 y u.nodes) e ∙ put_same n.0 y u.nodes)
           | inr ne ↦ put_other n.0 y v.nodes j ne ∙ r.nodes j ∙ put_other n.0 x u.nodes j ne ∙ sym (put_other n.0 y u.nodes j ne)

@@ -447,6 +447,23 @@ module _ (k : Limits) (fits : k.instances ≤ 4096) (pool : List Message) (m : M
   OnOk so (Ok w) = so w
   OnOk so (Err e) = ⊤
 
+  -- a newer life tells nothing
+  pub retried-newer : (n : NodeId) (l : Life) (w : Work) → (newer_life k n l w).note ≡ w.note
+  unfolding newer_life
+  retried-newer n l w = elim (cases_bool (list_any (is_older n l) w.ledger.live || is_home n w.ledger.old_home)) [
+    | inl t ↦ rw t (retried-note k fits pool m sound sent Same (sees n l w))
+    | inr t ↦ rw t refl
+  ]
+
+  pub pruned_told : (s : Slot) (w : Work) → OnOk (λ v. v.note ≡ note.Pruned (record { 0 = w.ledger.last + 1 })) (pruned k s w)
+  pruned_told s w = elim (cases_bool (is_leased w.ledger s)) [
+    | inl t ↦ rw t tt
+    | inr idle ↦ rw idle (elim (cases_bool (is_nil (w.ledger.line s))) [
+      | inl t ↦ rw t tt
+      | inr some ↦ rw some (elim (cases_bool (nat_lt w.ledger.last k.greatest)) [ inl b ↦ rw b refl | inr b ↦ rw b tt ])
+    ])
+  ]
+
   withdrawing_told : (o : Option Lease) (w : Work) (t : Ticket) → lease_under w.ledger.live t ≡ o → OnOk (λ v. v.note ≡ note.Withdrawn t) (withdrawing k o w)
   withdrawing_told None w t e = tt
   withdrawing_told (Some h) w t e = elim (cases_bool h.tenure) [

@@ -161,7 +161,7 @@ module _ (k : Limits) (q : Ledger) where
   answering_saves n l (Commit t news) w a s = committing_saves (may_commit n l news (lease_under w.ledger.live t)) n l t news w s
   answering_saves n l (Release t) w a s = released_saves (may_release n l (lease_under w.ledger.live t)) t (lease_under w.ledger.live t) w a refl s
 
-  newer_saves : (n : NodeId) (l : Life) (w : Work) → Apart w.ledger → S (newer_life k n l w) × Apart (newer_life k n l w).ledger
+  pub newer_saves : (n : NodeId) (l : Life) (w : Work) → Apart w.ledger → S (newer_life k n l w) × Apart (newer_life k n l w).ledger
   unfolding newer_life
   newer_saves n l w a = elim (cases_bool (list_any (is_older n l) w.ledger.live || is_home n w.ledger.old_home)) [
     | inl t ↦ rw t (retried_saves (sees n l w) (λ c. no_case c), retried_apart (sees n l w) (sees_apart n l w a))

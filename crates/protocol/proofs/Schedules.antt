@@ -1,9 +1,9 @@
 -- Each event of the replay is a list of moves of the world, and so every schedule is safe.
-use Rattle.std.proofs.Common.{◌≡◌, ◌≢◌, ℕ, zero, suc, ◌≤◌, ◌⊎◌, List, [], ◌∷◌, ◌++◌, Bool, true, false, map, Option, Some, None, Result, Ok, Err, refl, sym, ◌∙◌, ap, subst, inl, inr, arith, append-nil, append_assoc}
+use Rattle.std.proofs.Common.{◌≡◌, ◌≢◌, ℕ, zero, suc, ◌+◌, ◌<◌, ◌≤◌, ◌⊎◌, List, [], ◌∷◌, ◌++◌, Bool, true, false, not, ◌&&◌, map, Option, Some, None, Result, Ok, Err, refl, sym, ◌∙◌, ap, subst, inl, inr, arith, append-nil, append_assoc}
 use Rattle.protocol.specs.Lists.{In, put, nth}
-use Rattle.protocol.specs.Names.{NodeId, Life, Digest, Want}
-use Rattle.protocol.specs.Machine.{Grant, Granted, ticket_of, Message, Said, Told, Fetches, Blob, ToCoord, FromCoord, acquire, commit, release, Machine, WasHeard, MayEnd, Ending, Committed, Released, Withdrawn, Died, Step, Steps, No_step, Grants, Ends, Prunes, Sees, Retires, Parks, Unparks, Raises, Says, Says_granted, Says_committed, Says_fenced, Says_denied, Says_recall}
-use Rattle.protocol.specs.Ledger.{Limits, Ledger, Work, begin_work, handled, withdrawn, retired, pruned, nudged, reread, Lease, Saved, saves, reads}
+use Rattle.protocol.specs.Names.{Slot, NodeId, Life, Digest, Want}
+use Rattle.protocol.specs.Machine.{Grant, Granted, ticket_of, Message, Said, Told, Fetches, Blob, ToCoord, FromCoord, acquire, commit, release, Machine, WasHeard, Live, line, LineVersion, MayEnd, Ending, Committed, Released, Withdrawn, Died, Step, Steps, No_step, Grants, Ends, Prunes, Sees, Retires, Parks, Unparks, Raises, Says, Says_granted, Says_committed, Says_fenced, Says_denied, Says_recall}
+use Rattle.protocol.specs.Ledger.{Limits, Ledger, Work, begin_work, grant_of, handled, withdrawn, retired, pruned, nudged, reread, Lease, Saved, saves, reads}
 use Rattle.protocol.specs.World.{AskState, Running, World, Node, Move, Machine_moves, Machine_says, Fails, Recovers, Moves, Still, Then, start}
 use Rattle.protocol.specs.Nodes.{NodeWork, NodeAnswer, Place, asked, asked_tenure, begun, finished_with, aborted, resent, restarted, may_restart, heard, fetched, brought, unless_spent}
 use Rattle.protocol.specs.Replay.{Event, Tenure, Deliver, Begin, Finish, Abort, Resend, Nudge, Withdraw, Prune, Retire, RestartNode, RestartCoordinator, Forge, FailSave, Farm, Turn, opening, refused, done, after_work, settled, settles, coordinated, is_node, moved, answered, at_node, node_does, restarts, told_to, delivered, step, run}
@@ -21,22 +21,33 @@ use Rattle.protocol.specs.declared.answer.EventNote.TheVariants as event_note
 use Rattle.protocol.specs.declared.answer.EventRefusal.{EventRefusal}
 use Rattle.protocol.specs.declared.answer.EventRefusal.TheVariants as refusal
 use Rattle.protocol.specs.Safe.{InUse}
-use Rattle.protocol.specs.Meaning.{Ended, MessageEnds, WithdrawEnds, RetireEnds, RestartEnds, NoEnds, EndsAt, recorded, Finds, BeginsAt, StopsAt, Used, CoordMeans, Meant, Did, Survives, Unchanged, Means}
+use Rattle.protocol.specs.Meaning.{Ended, MessageEnds, WithdrawEnds, RetireEnds, RestartEnds, NoEnds, EndsAt, recorded, Finds, message_adds, prune_adds, adds, BeginsAt, StopsAt, Used, CoordMeans, Meant, Asks, MessageMeans, CoordDid, Again, Carried, addressee, node_at, heard_at, NodeMeans, Did, Survives, Unchanged, Means}
+use Rattle.protocol.specs.Reasons.{CallBecause, message_decision, decision_at, Reaches, CoordBecause, NodeBecause, Because, Fair}
+use Rattle.farm_base.specs.declared.message.Request.TheVariants as request
+use Rattle.protocol.specs.declared.answer.NodeRefusal.{NodeRefusal}
+use Rattle.protocol.specs.declared.answer.NodeRefusal.TheVariants as node_refusal
 use Rattle.protocol.proofs.Meanings.{none_ended, ended_as}
+use Rattle.protocol.proofs.Deciding.{apart_of}
+use Rattle.protocol.proofs.Deciding as deciding
+use Rattle.protocol.proofs.Saying.{Grew}
+use Rattle.protocol.proofs.Leases.{core_of, grant-lease}
 use Rattle.protocol.proofs.Using.{Runs, Turned, NoGrant, Quiet, OneEach, one_each, OnNode, Begun, Stops, Aborts, asked_use, tenure_use, begun_use, finished_use, aborted_use, resent_use, heard_use, fetched_use, brought_use}
-use Rattle.std.specs.Prelude.{⊤}
+use Rattle.std.specs.Prelude.{⊤, nat_lt}
+use Rattle.std.proofs.lemmas.Bool.Decides.{nat_tests}
 use Rattle.protocol.specs.Follows.{Agrees, Works, Begins_work, Goes_on, Speaks, Follows, lease_from, KeptAgrees, holds, Shows, IsFarm, SafeAfter, SafeBetween, EveryScheduleIsSafe, EveryScheduleStaysSafe, EveryEventIsMoves, FollowsOk, EveryDecisionFollows}
-use Rattle.protocol.proofs.Base.{cases_bool, cases_nat, none_some, in_left, put_same, put_other, put_all, nth_in, node_is, in_map}
+use Rattle.protocol.proofs.Base.{cases_bool, cases_nat, true_false, not_true, and_both, none_some, some_is, in_left, put_same, put_other, nth_in, node_is, in_map, from_map}
 use Rattle.farm_base.specs.declared.message.FromCoord.TheVariants as message
 use Rattle.protocol.proofs.Steps.{Sound, same_grant, made_below}
 use Rattle.protocol.proofs.Saving.{Apart, SavesOk, saved_twice, handled_saves, withdrawn_saves, retired_saves, pruned_saves, nudged_saves}
 use Rattle.protocol.proofs.Invariant.{Inv}
 use Rattle.protocol.proofs.Worlds.{moves_inv, start_whole}
 use Rattle.protocol.proofs.Safety.{every_run_is_safe, every_run_stays_safe}
-use Rattle.protocol.proofs.Following.{Sent, works_steps}
+use Rattle.protocol.proofs.Following.{Sent, works_sound, works_made, works_steps}
 use Rattle.protocol.proofs.Others as others
 use Rattle.protocol.proofs.Calls as calls
-use Rattle.protocol.proofs.Moving.{Reached, OnAnswer, asked_does, tenure_does, begun_does, finished_does, aborted_does, resent_does, restarted_does, stops_does, spent_does, fetched_does, brought_does, heard_does}
+use Rattle.protocol.proofs.Saying as saying
+use Rattle.protocol.proofs.Noting as noting
+use Rattle.protocol.proofs.Moving.{NoneTold, Reached, OnAnswer, asked_does, tenure_does, begun_does, finished_does, aborted_does, resent_does, restarted_does, stops_does, spent_does, fetched_does, brought_does, heard_does}
 
 -- ---- more messages leave what was so
 
@@ -118,21 +129,38 @@ sent_in sha u inv = record {
   releases = λ n l t i. (let ok = inv.messages (release n l t) i in (ok.0, ok.1.0, ok.1.1, ok.1.2, ok.1.3));
 }
 
--- an event that is no restart finds the world's machine, and leaves no ends but a message's
-abbrev Plain : World → Event → EventNote → Type 0
-Plain u e said = (Finds u e ≡ u.machine) × ((g : Grant) (y : Ending) → EndsAt u e said g y → ⊥)
+-- a node's event finds the world's machine, ends nothing, adds nothing to a line, and is not the coordinator's
+pub record Plain (sha : List ℕ → Digest) (u : World) (s : Farm) (e : Event) (n : NodeId) (o : Option Message) : Type 0 where
+  pub finds : Finds u e ≡ u.machine
+  pub ends : (said : NodeNote) (g : Grant) (y : Ending) → EndsAt u e (event_note.Node said) g y → ⊥
+  pub adds : (said : NodeNote) (s : Slot) → adds (sha []) u.pool e (event_note.Node said) s ≡ []
+  pub coord : (said : NodeNote) (m : Machine) (sends : List Message) → CoordDid (sha []) u e (event_note.Node said) m sends
+  pub at : node_at u e ≡ Some n
+  pub heard : heard_at u e ≡ o
+  pub apart : Reaches u s e → ⊥
 
--- a message for a node ends no lease
-no_coord : (u : World) (number : ℕ) (n : NodeNote) (g : Grant) (y : Ending) → EndsAt u (Deliver number) (event_note.Node n) g y → ⊥
-no_coord u number n g y h = (let bad : event_note.Node n ≡ event_note.Coord h.0 = h.2 in cc)
+no_adds : (o : Option Message) (n : NodeNote) (s : Slot) → message_adds o (event_note.Node n) s ≡ []
+no_adds None n s = refl
+no_adds (Some (Said y)) n s = refl
+no_adds (Some (Told y)) n s = refl
+no_adds (Some (Fetches y)) n s = refl
+no_adds (Some (Blob m c)) n s = refl
+
+-- an event of the coordinator is for no node
+pub record ForCoord (u : World) (s : Farm) (e : Event) : Type 0 where
+  pub heard : (number : ℕ) → e ≡ Deliver number → nth u.pool number ≡ None → ⊥
+  pub node : (n : NodeId) → node_at u e ≡ Some n → ⊥
+  pub retires : (n : NodeId) → e ≡ Retire n → is_node s n ≡ false → ⊥
+  pub reaches : Reaches u s e
 
 module _ (sha : List ℕ → Digest) (k : Limits) (farm : IsFarm sha k) where
-  -- the world that the farm's next state is that of, and what the event's outcome means
-  pub record Next (u : World) (e : Event) (t : Turn) : Type 0 where
+  -- the world that the farm's next state is that of, what the event's outcome means, and that it is fair
+  pub record Next (u : World) (s : Farm) (e : Event) (t : Turn) : Type 0 where
     pub world : World
     pub moves : Moves sha u world
     pub shows : Shows sha world t.farm
-    pub means : Means u e t.outcome world
+    pub means : Means sha u e t.outcome world
+    pub fair : Fair k u s e t.outcome
 
   module _ (u : World) (run : Moves sha (start sha) u) (s : Farm) (shows : Shows sha u s) (e : Event) where
     inv : Inv sha u
@@ -146,29 +174,16 @@ module _ (sha : List ℕ → Digest) (k : Limits) (farm : IsFarm sha k) where
 
     -- its leases have tickets of their own
     apart_in : Apart s.ledger
-    apart_in = record {
-      unique = λ x y i j t.
-          (let a = shows.now.live_made x i in
-          let b = shows.now.live_made y j in
-          let same : a.0 ≡ b.0 = same_grant (sha []) u.machine inv.sound a.0 b.0 a.1.0 b.1.0 (ap (λ (z : Lease). z.ticket.0) a.2 ∙ t ∙ sym (ap (λ (z : Lease). z.ticket.0) b.2)) in
-          sym a.2 ∙ ap lease_from same ∙ b.2);
-      top = λ x i.
-          (let a = shows.now.live_made x i in
-          let le : ticket_of (Granted a.0) ≤ u.machine.last = made_below (sha []) u.machine inv.sound (Granted a.0) a.1.0 in
-          let at : a.0.ticket.0 ≡ x.ticket.0 = ap (λ (z : Lease). z.ticket.0) a.2 in
-          let last : s.ledger.last ≡ u.machine.last = shows.now.last in
-          let le' : a.0.ticket.0 ≤ u.machine.last = le in
-          omega arith);
-    }
+    apart_in = apart_of k.empty u.pool u.machine s.ledger sound_in agrees_in
 
     abbrev At : (Grant → Ending → Type 0) → CoordNote → Work → Type 0
     At ends told w = Follows k.empty u.pool u.machine (Meant u.machine ends told) w
 
-    same_world : Unchanged u e u
-    same_world = record { down = inl refl; machine = refl; pool = refl; asks = λ n. refl }
+    same_world : (r : EventRefusal) → Unchanged sha u e r u
+    same_world r = record { down = inl refl; machine = refl; pool = refl; nodes = λ n. inl refl }
 
-    refused_so : (r : EventRefusal) → Next u e (refused r s)
-    refused_so r = record { world = u; moves = Still u; shows = shows; means = same_world }
+    refused_so : (r : EventRefusal) → Because k u s e r → Next u s e (refused r s)
+    refused_so r why = record { world = u; moves = Still u; shows = shows; means = same_world r; fair = why }
 
     pub up_is : s.down ≡ None → u.down ≡ None
     up_is e = by u.down s.down e shows.kept
@@ -178,6 +193,14 @@ module _ (sha : List ℕ → Digest) (k : Limits) (farm : IsFarm sha k) where
         by (Some m) None e h = absurd h
         by (Some m) (Some q) e h = none_some q (sym e)
 
+    pub down_is : (q : Ledger) → s.down ≡ Some q → u.down ≢ None
+    down_is q e = by u.down s.down e shows.kept
+      where
+        by : (d : Option Machine) (o : Option Ledger) → o ≡ Some q → KeptAgrees (sha []) u.pool d o → d ≢ None
+        by None None e h = λ z. none_some q e
+        by None (Some x) e h = absurd h
+        by (Some m) o e h = λ z. none_some m (sym z)
+
     -- ---- the coordinator
 
     -- work that is done, and what is meant by it
@@ -185,23 +208,68 @@ module _ (sha : List ℕ → Digest) (k : Limits) (farm : IsFarm sha k) where
       pub finds : Finds u e ≡ u.machine
       pub follows : At (EndsAt u e told) w.note w
       pub tells : (c : CoordNote) → told ≡ event_note.Coord c → c ≡ w.note
-      pub did : (v : World) → Agrees (sha []) v.pool v.machine w.ledger → Did u e told v
+      pub grew : Grew k s.ledger (adds k.empty u.pool e told) w
+      pub again : (g : Grant) → Again (event_note.Coord w.note) g → Again told g
+      pub coord : (m : Machine) → Sound k.empty m → Agrees k.empty u.pool m w.ledger → CoordDid k.empty u e told m (map Told w.sends)
+      pub did : (v : World) → Did u e told v
+      pub node : (n : NodeNote) → told ≡ event_note.Node n → ⊥
       pub saves_all : w.changed ≡ false → saves w.ledger ≡ saves s.ledger
+
+    -- the Grant of a lease that is there is live
+    live_grant : (w : Work) (m : Machine) → Sound k.empty m → Agrees k.empty u.pool m w.ledger → (h : Lease) → In h w.ledger.live → Live m (grant_of k.empty w.ledger.line h)
+    live_grant w m sound agrees h i =
+        let r = agrees.live_made h i in
+        subst (Live m) (sym (ap (grant_of k.empty w.ledger.line) (sym r.2) ∙ grant-lease k.empty m w.ledger r.0 sound (core_of k.empty u.pool m w.ledger agrees) r.1)) r.1
+
+    not_made : (g : Grant) → s.ledger.last < g.ticket.0 → In (Granted g) u.machine.made → ⊥
+    not_made g above i =
+        let le : ticket_of (Granted g) ≤ u.machine.last = made_below k.empty u.machine sound_in (Granted g) i in
+        let le' : g.ticket.0 ≤ u.machine.last = le in
+        let last : s.ledger.last ≡ u.machine.last = agrees_in.last in
+        omega arith
+
+    -- what the work made of the machine
+    carried : (told : EventNote) (w : Work) (d : Done told w) → Carried k.empty u e told (map Told w.sends) d.follows.machine
+    carried told w d =
+        let f = d.follows in
+        let sound = (works_sound k.empty u.pool u.machine f.machine w.sends sound_in f.works).1 in
+        record {
+          ended = subst (λ z. Ended z (EndsAt u e told) f.machine.ending) (sym d.finds) f.ended.0;
+          granted = λ g i. elim (f.granted g i) [ inl old ↦ inl (subst (λ z. In (Granted g) z.made) (sym d.finds) old) | inr new ↦ inr (in_map Told (message.Granted g) w.sends new) ];
+          sent = λ g i.
+              (let j = told_in g w.sends i in
+              (
+                works_made k.empty u.pool u.machine f.machine w.sends sound_in f.works g j,
+                elim (d.grew.grants g j) [
+                  | inl above ↦ inl (λ old. not_made g above (subst (λ z. In (Granted g) z.made) d.finds old))
+                  | inr same ↦ inr (d.again g same.0, subst (Live f.machine) (sym same.1.2) (live_grant w f.machine sound f.agrees same.1.0 same.1.1))
+                ],
+              ));
+          lines = λ x. sym (f.agrees.lines x) ∙ d.grew.lines x ∙ ap (λ l. l ++ adds k.empty u.pool e told x) (agrees_in.lines x ∙ ap (λ z. line k.empty z x) (sym d.finds));
+          told = λ c p. subst (CoordMeans u.machine) (sym (d.tells c p)) f.ended.1;
+          did = d.coord f.machine sound f.agrees;
+        }
+      where
+        told_in : (g : Grant) (sends : List FromCoord) → In (Told (message.Granted g)) (map Told sends) → In (message.Granted g) sends
+        told_in g sends i = (let r = from_map Told (Told (message.Granted g)) sends i in
+            let same : message.Granted g ≡ r.0 = (let t : Told (message.Granted g) ≡ Told r.0 = r.2 in cc) in
+            subst (λ y. In y sends) (sym same) r.1)
 
     -- the world after the work
     abbrev after_world : Machine → Work → World
     after_world m w = record u { machine = m; pool = u.pool ++ map Told w.sends }
 
-    after_next : (saved : Saved) (told : EventNote) (w : Work) → saved ≡ saves w.ledger → Done told w → s.down ≡ None → Next u e (done told (map Told w.sends) s (record s { ledger = w.ledger; saved = saved; pool = s.pool ++ map Told w.sends }))
-    after_next saved told w kept d up' =
+    after_next : (saved : Saved) (told : EventNote) (w : Work) → saved ≡ saves w.ledger → Done told w → s.down ≡ None → ((r : EventRefusal) → Because k u s e r → ⊥) → Next u s e (done told (map Told w.sends) s (record s { ledger = w.ledger; saved = saved; pool = s.pool ++ map Told w.sends }))
+    after_next saved told w kept d up' fair =
         let f = subst (λ z. Follows z u.pool u.machine (Meant u.machine (EndsAt u e told) w.note) w) farm.empty d.follows in
         let up = up_is up' in
+        let m : Machine = d.follows.machine in
         let pool : List Message = u.pool ++ map Told w.sends in
-        let v : World = after_world f.machine w in
-        let now : Agrees (sha []) pool f.machine w.ledger = agrees_more (sha []) u.pool (map Told w.sends) f.machine w.ledger f.agrees in
+        let v : World = after_world m w in
+        let now : Agrees (sha []) pool m w.ledger = agrees_more (sha []) u.pool (map Told w.sends) m w.ledger (subst (λ z. Agrees z u.pool m w.ledger) farm.empty d.follows.agrees) in
         record {
           world = v;
-          moves = works_moves sha u f.machine w.sends up f.works;
+          moves = works_moves sha u m w.sends up (subst (λ z. Works z u.pool u.machine m w.sends) farm.empty d.follows.works);
           shows = record {
             now = now;
             kept = kept_more (sha []) u.pool (map Told w.sends) u.down s.down shows.kept;
@@ -210,46 +278,103 @@ module _ (sha : List ℕ → Digest) (k : Limits) (farm : IsFarm sha k) where
             nodes = shows.nodes;
           };
           means = record {
-            ended = subst (λ z. Ended z (EndsAt u e told) f.machine.ending) (sym d.finds) f.ended.0;
             sent = map Told w.sends;
             pool = refl;
-            granted = λ g i. elim (f.granted g i) [ inl old ↦ inl (subst (λ z. In (Granted g) z.made) (sym d.finds) old) | inr new ↦ inr (in_map Told (message.Granted g) w.sends new) ];
+            down = inl refl;
+            carried = subst (λ z. Carried z u e told (map Told w.sends) m) farm.empty (carried told w d);
+            node = λ n is. absurd (d.node n is);
+            others = λ j. inl refl;
             used = record { began = λ n g ws i. inl i; stopped = λ n g ws i. inl i };
-            told = λ c p. subst (CoordMeans u.machine) (sym (d.tells c p)) f.ended.1;
-            did = d.did v now;
+            did = d.did v;
           };
+          fair = fair;
         }
 
-    fails_next : (saved : Saved) (w : Work) (m : Machine) → Steps (sha []) u.pool u.machine m → Agrees (sha []) u.pool m w.ledger → saved ≡ saves w.ledger → Survives u e m → (armed : Option Survivor) (r : EventRefusal) → s.down ≡ None → Next u e (record { farm = record s { saved = saved; down = Some w.ledger; armed = armed }; outcome = Err r })
-    fails_next saved w m steps agrees same survives armed r up = record {
+    fails_next : (saved : Saved) (w : Work) (m : Machine) → Steps (sha []) u.pool u.machine m → Agrees (sha []) u.pool m w.ledger → saved ≡ saves w.ledger → Survives sha u e m → s.down ≡ None → Because k u s e (refusal.Coord coord.SaveFault) → Next u s e (record { farm = record s { saved = saved; down = Some w.ledger; armed = None }; outcome = Err (refusal.Coord coord.SaveFault) })
+    fails_next saved w m steps agrees same survives up why = record {
       world = record u { down = Some m };
       moves = Then u u (record u { down = Some m }) (Still u) (Fails m (up_is up) steps);
       shows = record { now = shows.now; kept = agrees; saved = same; pool = shows.pool; nodes = shows.nodes };
-      means = record { down = inr (m, refl, survives); machine = refl; pool = refl; asks = λ n. refl };
+      means = record { down = inr (refl, (m, refl, survives)); machine = refl; pool = refl; nodes = λ n. inl refl };
+      fair = why;
     }
 
     up_saved : s.down ≡ None → s.saved ≡ saves s.ledger
     up_saved up = shows.saved ∙ ap (λ d. saves (holds d s.ledger)) up
 
-    settled_next : (changed : Bool) (armed : Option Survivor) (w : Work) → w.changed ≡ changed → Done (event_note.Coord w.note) w → s.down ≡ None → Next u e (settled changed armed w s)
-    settled_next false armed w same d up = after_next s.saved (event_note.Coord w.note) w (up_saved up ∙ sym (d.saves_all same)) d up
-    settled_next true None w same d up = after_next (saves w.ledger) (event_note.Coord w.note) w refl d up
-    settled_next true (Some Old) w same d up = fails_next s.saved (begin_work s.ledger) u.machine (No_step u.machine) shows.now (up_saved up) (inl refl) None (refusal.Coord coord.SaveFault) up
-    settled_next true (Some New) w same d up =
-        let f = subst (λ z. Follows z u.pool u.machine (Meant u.machine (EndsAt u e (event_note.Coord w.note)) w.note) w) farm.empty d.follows in
-        fails_next (saves w.ledger) w f.machine (works_steps (sha []) u.pool u.machine f.machine w.sends f.works) f.agrees refl (inr (event_note.Coord w.note, subst (λ z. Ended z (EndsAt u e (event_note.Coord w.note)) f.machine.ending) refl f.ended.0)) None (refusal.Coord coord.SaveFault) up
+    -- what is accepted, nothing speaks against
+    taken : ForCoord u s e → s.down ≡ None → (w : Work) → decision_at k s e ≡ Some (Ok w) → ((r : CoordRefusal) → CallBecause k u.machine e r → ⊥) → ((s.armed ≡ None) ⊎ (w.changed ≡ false)) → (r : EventRefusal) → Because k u s e r → ⊥
+    taken for up w decided exact saved refusal.NoSuchMessage (number, is, none) = for.heard number is none
+    taken for up w decided exact saved refusal.NoSuchNode (n, inl at, none) = for.node n at
+    taken for up w decided exact saved refusal.NoSuchNode (n, inr is, none) = for.retires n is none
+    taken for up w decided exact saved (refusal.Node r) (n, at, here, why) = for.node n at
+    taken for up w decided exact saved (refusal.Coord r) (reaches, why) = by r why
+      where
+        decided_ok : Work → Option (Result Work CoordRefusal)
+        decided_ok a = Some (Ok a)
+
+        ok_is : (a b : Work) → decided_ok a ≡ decided_ok b → a ≡ b
+        ok_is a b e = cc
+
+        saved_so : (s.armed ≡ None) ⊎ (w.changed ≡ false) → CoordBecause k u s e coord.SaveFault → ⊥
+        saved_so (inl off) (down, armed, needs) = armed off
+        saved_so (inr same) (down, armed, needs) = true_false needs.0.changed needs.2 (ap (λ (z : Work). z.changed) (ok_is needs.0 w (sym needs.1 ∙ decided)) ∙ same)
+
+        by : (r : CoordRefusal) → CoordBecause k u s e r → ⊥
+        by coord.Down why = why (up_is up)
+        by coord.SaveFault why = saved_so saved why
+        by coord.BadRecord why = exact coord.BadRecord why.1
+        by coord.NotLive why = exact coord.NotLive why.1
+        by coord.SlotLeased why = exact coord.SlotLeased why.1
+        by coord.NoSuchSlot why = exact coord.NoSuchSlot why.1
+        by coord.TicketsSpent why = exact coord.TicketsSpent why.1
+        by coord.OutOfMemory why = exact coord.OutOfMemory why.1
+        by coord.LoadFault why = exact coord.LoadFault why.1
+        by coord.Tenure why = exact coord.Tenure why.1
+        by coord.TenureHeld why = exact coord.TenureHeld why.1
+        by coord.NodeRetired why = exact coord.NodeRetired why.1
+    taken for up w decided exact saved refusal.OutOfMemory why = why
+
+    settled_next : (changed : Bool) (armed : Option Survivor) (w : Work) → w.changed ≡ changed → s.armed ≡ armed → ForCoord u s e → decision_at k s e ≡ Some (Ok w) → ((r : CoordRefusal) → CallBecause k u.machine e r → ⊥) → Done (event_note.Coord w.note) w → s.down ≡ None → Next u s e (settled changed armed w s)
+    settled_next false armed w same at for decided exact d up = after_next s.saved (event_note.Coord w.note) w (up_saved up ∙ sym (d.saves_all same)) d up (taken for up w decided exact (inr same))
+    settled_next true None w same at for decided exact d up = after_next (saves w.ledger) (event_note.Coord w.note) w refl d up (taken for up w decided exact (inl at))
+    settled_next true (Some Old) w same at for decided exact d up = fails_next s.saved (begin_work s.ledger) u.machine (No_step u.machine) shows.now (up_saved up) (inl refl) up
+        (for.reaches, (up_is up, (λ none. none_some Old (sym none ∙ at)), (w, decided, same)))
+    settled_next true (Some New) w same at for decided exact d up =
+        fails_next (saves w.ledger) w d.follows.machine (works_steps (sha []) u.pool u.machine d.follows.machine w.sends (subst (λ z. Works z u.pool u.machine d.follows.machine w.sends) farm.empty d.follows.works))
+        (subst (λ z. Agrees z u.pool d.follows.machine w.ledger) farm.empty d.follows.agrees) refl
+        (inr (w.note, map Told w.sends, subst (λ z. Carried z u e (event_note.Coord w.note) (map Told w.sends) d.follows.machine) farm.empty (carried (event_note.Coord w.note) w d))) up
+        (for.reaches, (up_is up, (λ none. none_some New (sym none ∙ at)), (w, decided, same)))
 
     abbrev OnWork : Result Work CoordRefusal → Type 0
-    OnWork (Ok w) = Done (event_note.Coord w.note) w
-    OnWork (Err r) = ⊤
+    OnWork (Ok w) = Done (event_note.Coord w.note) w × ((r : CoordRefusal) → CallBecause k u.machine e r → ⊥)
+    OnWork (Err r) = CallBecause k u.machine e r
 
-    settles_next : (r : Result Work CoordRefusal) → OnWork r → s.down ≡ None → Next u e (settles r s)
-    settles_next (Err r) h up = refused_so (refusal.Coord r)
-    settles_next (Ok w) h up = settled_next w.changed s.armed w refl h up
+    -- no call is refused for being down, or for its save
+    abbrev Unsaved : Type 0
+    Unsaved = (CallBecause k u.machine e coord.Down → ⊥) × (CallBecause k u.machine e coord.SaveFault → ⊥)
 
-    coordinated_next : (d : Option Ledger) (r : Result Work CoordRefusal) → s.down ≡ d → OnWork r → Next u e (coordinated d r s)
-    coordinated_next (Some q) r up h = refused_so (refusal.Coord coord.Down)
-    coordinated_next None r up h = settles_next r h up
+    refusal_is : (r : CoordRefusal) → Unsaved → s.down ≡ None → CallBecause k u.machine e r → CoordBecause k u s e r
+    refusal_is coord.Down q up h = absurd (q.0 h)
+    refusal_is coord.SaveFault q up h = absurd (q.1 h)
+    refusal_is coord.BadRecord q up h = (up_is up, h)
+    refusal_is coord.NotLive q up h = (up_is up, h)
+    refusal_is coord.SlotLeased q up h = (up_is up, h)
+    refusal_is coord.NoSuchSlot q up h = (up_is up, h)
+    refusal_is coord.TicketsSpent q up h = (up_is up, h)
+    refusal_is coord.OutOfMemory q up h = (up_is up, h)
+    refusal_is coord.LoadFault q up h = (up_is up, h)
+    refusal_is coord.Tenure q up h = (up_is up, h)
+    refusal_is coord.TenureHeld q up h = (up_is up, h)
+    refusal_is coord.NodeRetired q up h = (up_is up, h)
+
+    settles_next : (r : Result Work CoordRefusal) → ForCoord u s e → decision_at k s e ≡ Some r → Unsaved → OnWork r → s.down ≡ None → Next u s e (settles r s)
+    settles_next (Err r) for decided q h up = refused_so (refusal.Coord r) (for.reaches, refusal_is r q up h)
+    settles_next (Ok w) for decided q h up = settled_next w.changed s.armed w refl refl for decided h.1 h.0 up
+
+    coordinated_next : (d : Option Ledger) (r : Result Work CoordRefusal) → s.down ≡ d → ForCoord u s e → decision_at k s e ≡ Some r → Unsaved → OnWork r → Next u s e (coordinated d r s)
+    coordinated_next (Some q) r up for decided unsaved h = refused_so (refusal.Coord coord.Down) (for.reaches, down_is q up)
+    coordinated_next None r up for decided unsaved h = settles_next r for decided unsaved h up
 
     -- ---- the nodes
 
@@ -291,7 +416,7 @@ module _ (sha : List ℕ → Digest) (k : Limits) (farm : IsFarm sha k) where
     -- what is meant by a node's answer
     record Acted (n : NodeId) (w : NodeWork) : Type 0 where
       pub reached : Reached sha u n w.sends w.node
-      pub plain : Plain u e (event_note.Node w.note)
+      pub means : NodeMeans sha (heard_at u e) e n (u.nodes n.0) w.note w.sends w.node
       pub used : Used u e reached.world
       pub did : Did u e (event_note.Node w.note) reached.world
 
@@ -304,67 +429,101 @@ module _ (sha : List ℕ → Digest) (k : Limits) (farm : IsFarm sha k) where
       nodes = λ j. r.nodes j ∙ put_both n w.node u.nodes s.nodes shows.nodes j;
     }
 
-    acted_next : (n : NodeId) (w : NodeWork) → Acted n w → Next u e (moved n w s)
-    acted_next n w a = record {
+    -- what a node's event carries of the machine: nothing
+    idle : (n : NodeId) (heard : Option Message) (p : Plain sha u s e n heard) (said : NodeNote) (sends : List Message) → NoneTold sends → Carried (sha []) u e (event_note.Node said) sends u.machine
+    idle n heard p said sends none = record {
+      ended = subst (λ z. Ended z (EndsAt u e (event_note.Node said)) u.machine.ending) (sym p.finds) (none_ended u.machine (EndsAt u e (event_note.Node said)) (λ g y l h. p.ends said g y h));
+      granted = λ g i. inl (subst (λ z. In (Granted g) z.made) (sym p.finds) i);
+      sent = λ g i. absurd (none (message.Granted g) i);
+      lines = λ x. ap (λ z. line (sha []) z x) (sym p.finds) ∙ sym (append-nil (line (sha []) (Finds u e) x)) ∙ ap (λ l. line (sha []) (Finds u e) x ++ l) (sym (p.adds said x));
+      told = λ c q. (let bad : event_note.Node said ≡ event_note.Coord c = q in cc);
+      did = p.coord said u.machine sends;
+    }
+
+    acted_next : (n : NodeId) (heard : Option Message) (p : Plain sha u s e n heard) (w : NodeWork) → Acted n w → ((r : EventRefusal) → Because k u s e r → ⊥) → Next u s e (moved n w s)
+    acted_next n heard p w a fair = record {
       world = a.reached.world;
       moves = a.reached.moves;
       shows = reached_shows n w a.reached;
       means = record {
-        ended = subst (λ z. Ended z (EndsAt u e (event_note.Node w.note)) a.reached.world.machine.ending) (sym a.plain.0)
-            (subst (λ (z : Machine). Ended u.machine (EndsAt u e (event_note.Node w.note)) z.ending) (sym a.reached.machine) (none_ended u.machine (EndsAt u e (event_note.Node w.note)) (λ g y l h. a.plain.1 g y h)));
         sent = w.sends;
         pool = a.reached.pool;
-        granted = λ g i. inl (subst (λ (z : Machine). In (Granted g) z.made) (a.reached.machine ∙ sym a.plain.0) i);
+        down = inl a.reached.down;
+        carried = subst (λ z. Carried (sha []) u e (event_note.Node w.note) w.sends z) (sym a.reached.machine) (idle n heard p w.note w.sends a.reached.tells);
+        node = λ said is. (
+          a.reached.machine,
+          (
+            n,
+            p.at,
+            subst (λ z. NodeMeans sha (heard_at u e) e n (u.nodes n.0) said w.sends z) (sym (here_after n w.sends w.node a.reached)) (subst (λ z. NodeMeans sha (heard_at u e) e n (u.nodes n.0) z w.sends w.node) (note_is w.note said is) a.means),
+          ),
+        );
+        others = λ j. elim (cases_nat j.0 n.0) [ inl same ↦ inr (p.at ∙ ap Some (sym (node_is j n same))) | inr ne ↦ inl (elsewhere_after n w.sends w.node a.reached j ne) ];
         used = a.used;
-        told = λ c p. (let bad : event_note.Node w.note ≡ event_note.Coord c = p in cc);
         did = a.did;
       };
+      fair = fair;
     }
+      where
+        note_is : (a b : NodeNote) → event_note.Node a ≡ event_note.Node b → a ≡ b
+        note_is a b e = cc
+
+    -- what a node accepts, nothing speaks against
+    node_taken : (n : NodeId) (heard : Option Message) (p : Plain sha u s e n heard) → is_node s n ≡ true → ((r : NodeRefusal) → NodeBecause k e (u.nodes n.0) r → ⊥) → (r : EventRefusal) → Because k u s e r → ⊥
+    node_taken n heard p here exact refusal.NoSuchMessage (number, is, none) = none_some n (ap addressee (sym none) ∙ subst (λ z. node_at u z ≡ Some n) is p.at)
+    node_taken n heard p here exact refusal.NoSuchNode (m, inl at, none) = true_false (is_node s n) here (ap (is_node s) (some_is n m (sym p.at ∙ at)) ∙ none)
+    node_taken n heard p here exact refusal.NoSuchNode (m, inr is, none) = none_some n (subst (λ z. node_at u z ≡ Some n) is p.at)
+    node_taken n heard p here exact (refusal.Node r) (m, at, there, why) = exact r (subst (λ (z : NodeId). NodeBecause k e (u.nodes z.0) r) (some_is m n (sym at ∙ p.at)) why)
+    node_taken n heard p here exact (refusal.Coord r) (reaches, why) = p.apart reaches
+    node_taken n heard p here exact refusal.OutOfMemory why = why
 
     abbrev OnAct : NodeId → NodeAnswer → Type 0
-    OnAct n (Ok w) = Acted n w
-    OnAct n (Err r) = ⊤
+    OnAct n (Ok w) = Acted n w × ((r : NodeRefusal) → NodeBecause k e (u.nodes n.0) r → ⊥)
+    OnAct n (Err r) = NodeBecause k e (u.nodes n.0) r
 
-    answered_next : (n : NodeId) (a : NodeAnswer) → OnAct n a → Next u e (answered n a s)
-    answered_next n (Err r) h = refused_so (refusal.Node r)
-    answered_next n (Ok w) h = acted_next n w h
+    answered_next : (n : NodeId) (heard : Option Message) (p : Plain sha u s e n heard) (a : NodeAnswer) → is_node s n ≡ true → OnAct n a → Next u s e (answered n a s)
+    answered_next n heard p (Err r) here h = refused_so (refusal.Node r) (n, p.at, here, h)
+    answered_next n heard p (Ok w) here h = acted_next n heard p w h.0 (node_taken n heard p here h.1)
 
-    at_node_next : (b : Bool) (n : NodeId) (a : NodeAnswer) → OnAct n a → Next u e (at_node b n a s)
-    at_node_next true n a h = answered_next n a h
-    at_node_next false n a h = refused_so refusal.NoSuchNode
+    at_node_next : (b : Bool) (n : NodeId) (heard : Option Message) (p : Plain sha u s e n heard) (a : NodeAnswer) → is_node s n ≡ b → OnAct n a → Next u s e (at_node b n a s)
+    at_node_next true n heard p a here h = answered_next n heard p a here h
+    at_node_next false n heard p a here h = refused_so refusal.NoSuchNode (n, inl p.at, here)
 
     -- what a node does at the world's node, it does at the farm's
-    node_next : (n : NodeId) (f : Place → Node → NodeAnswer) → OnAct n (f (record { node = n; nodes = s.size }) (u.nodes n.0)) → Next u e (node_does n f s)
-    node_next n f h = at_node_next (is_node s n) n (f (record { node = n; nodes = s.size }) (s.nodes n.0)) (subst (λ x. OnAct n (f (record { node = n; nodes = s.size }) x)) (shows.nodes n.0) h)
+    node_next : (n : NodeId) (heard : Option Message) (p : Plain sha u s e n heard) (f : Place → Node → NodeAnswer) → OnAct n (f (record { node = n; nodes = s.size }) (u.nodes n.0)) → Next u s e (node_does n f s)
+    node_next n heard p f h = at_node_next (is_node s n) n heard p (f (record { node = n; nodes = s.size }) (s.nodes n.0)) refl (subst (λ x. OnAct n (f (record { node = n; nodes = s.size }) x)) (shows.nodes n.0) h)
 
     one_here : (n : NodeId) → OneEach (u.nodes n.0).asks
     one_here n = one_each sha u inv n
 
-    -- both of an answer
-    act_of : (P : NodeWork → Type 0) (n : NodeId) (a : NodeAnswer) → OnAnswer sha u n a → OnNode (u.nodes n.0) (one_here n) P a → ((w : NodeWork) → a ≡ Ok w → (r : Reached sha u n w.sends w.node) → P w → Acted n w) → OnAct n a
-    act_of P n (Ok w) r p h = h w refl r p
-    act_of P n (Err x) r p h = tt
+    abbrev Exact : NodeId → Option Message → NodeAnswer → Type 0
+    Exact n heard a = noting.Exact sha k n s.size (u.nodes n.0) (one_here n) heard e a
+
+    -- all that is known of an answer
+    act_of : (P : NodeWork → Type 0) (n : NodeId) (heard : Option Message) (p : Plain sha u s e n heard) (a : NodeAnswer) → OnAnswer sha u n a → OnNode (u.nodes n.0) (one_here n) P a → Exact n heard a
+        → ((w : NodeWork) (r : Reached sha u n w.sends w.node) → P w → Used u e r.world × Did u e (event_note.Node w.note) r.world) → OnAct n a
+    act_of P n heard p (Ok w) r q x h = (
+      record { reached = r; means = subst (λ z. NodeMeans sha z e n (u.nodes n.0) w.note w.sends w.node) (sym p.heard) x.0; used = (h w r q).0; did = (h w r q).1 },
+      x.1,
+    )
+    act_of P n heard p (Err y) r q x h = x
 
     abbrev Still' : NodeId → NodeWork → Type 0
     Still' n w = Quiet (u.nodes n.0).asks w.node.asks
 
     -- an answer of a node that begins and ends no execution
-    quiet_act : (n : NodeId) (a : NodeAnswer) → ((x : NodeNote) → Plain u e (event_note.Node x)) → ((x : NodeNote) (v : World) → Did u e (event_note.Node x) v) → OnAnswer sha u n a → OnNode (u.nodes n.0) (one_here n) (Still' n) a → OnAct n a
-    quiet_act n a plain did r p = act_of (Still' n) n a r p (λ w is reached turned. record {
-      reached = reached;
-      plain = plain w.note;
-      used = used_after n w.sends w.node reached NoGrant NoGrant turned (λ g h. absurd h) (λ g h. absurd h);
-      did = did w.note reached.world;
-    })
+    quiet_act : (n : NodeId) (heard : Option Message) (p : Plain sha u s e n heard) (a : NodeAnswer) → ((x : NodeNote) (v : World) → Did u e (event_note.Node x) v) → OnAnswer sha u n a → OnNode (u.nodes n.0) (one_here n) (Still' n) a → Exact n heard a → OnAct n a
+    quiet_act n heard p a did r q x = act_of (Still' n) n heard p a r q x (λ w reached turned. (used_after n w.sends w.node reached NoGrant NoGrant turned (λ g h. absurd h) (λ g h. absurd h), did w.note reached.world))
 
     all_ok : (r : Result Work CoordRefusal) → others.OnOk k farm.instances u.pool u.machine sound_in (sent_in sha u inv) (λ w. ⊤) r
     all_ok (Ok w) = tt
     all_ok (Err x) = tt
 
-    others_ok : (ends : Grant → Ending → Type 0) (so : Work → Type 0) (r : Result Work CoordRefusal) → others.OnWork k farm.instances u.pool u.machine sound_in (sent_in sha u inv) ends r
-        → others.OnOk k farm.instances u.pool u.machine sound_in (sent_in sha u inv) so r → ((w : Work) → At ends w.note w → so w → (w.changed ≡ false → saves w.ledger ≡ saves s.ledger) → Done (event_note.Coord w.note) w) → SavesOk k s.ledger r → OnWork r
-    others_ok ends so (Ok w) f h d c = d w f h c
-    others_ok ends so (Err r) f h d c = tt
+    others_ok : (ends : Grant → Ending → Type 0) (so : Work → Type 0) (add : CoordNote → Slot → List LineVersion) (r : Result Work CoordRefusal) → others.OnWork k farm.instances u.pool u.machine sound_in (sent_in sha u inv) ends r
+        → others.OnOk k farm.instances u.pool u.machine sound_in (sent_in sha u inv) so r → ((w : Work) → At ends w.note w → so w → Grew k s.ledger (add w.note) w → (w.changed ≡ false → saves w.ledger ≡ saves s.ledger) → Done (event_note.Coord w.note) w)
+        → saying.GrewOk k s.ledger add r → SavesOk k s.ledger r → deciding.Exact k u.pool u.machine sound_in s.ledger agrees_in e r → OnWork r
+    others_ok ends so add (Ok w) f h d g c x = (d w f h g c, x)
+    others_ok ends so add (Err r) f h d g c x = x
 
     other_ends : (ends ends' : Grant → Ending → Type 0) (w : Work) → ((g : Grant) (y : Ending) → ends g y → ends' g y) → ((g : Grant) (y : Ending) → ends' g y → ends g y) → At ends w.note w → At ends' w.note w
     other_ends ends ends' w to from f = record { machine = f.machine; works = f.works; granted = f.granted; ended = (ended_as u.machine ends ends' f.machine.ending to from f.ended.0, f.ended.1); agrees = f.agrees }
@@ -377,42 +536,129 @@ module _ (sha : List ℕ → Digest) (k : Limits) (farm : IsFarm sha k) where
   said_is : (a b : ToCoord) → Some (Said a) ≡ Some (Said b) → a ≡ b
   said_is a b e = cc
 
-  said_next : (u : World) (run : Moves sha (start sha) u) (s : Farm) (shows : Shows sha u s) (number : ℕ) (y : ToCoord) → nth s.pool number ≡ Some (Said y) → Next u (Deliver number) (coordinated s.down (Ok (handled k y (begin_work s.ledger))) s)
+  lt_is : (a b : ℕ) → nat_lt a b ≡ true → a < b
+  lt_is a b h = grind (arith, nat_tests)
+
+  -- what the answer to a message says of the machine
+  note_means : (u : World) (run : Moves sha (start sha) u) (s : Farm) (shows : Shows sha u s) (number : ℕ) (y : ToCoord) (w : Work) (m : Machine) → Sound k.empty m → Agrees k.empty u.pool m w.ledger → (c : CoordNote) → saying.NoteSays k y s.ledger w c → MessageMeans k.empty y u.machine c m (map Told w.sends)
+  note_means u run s shows number y w m sound agrees = by
+    where
+      e : Event
+      e = Deliver number
+
+      live : (h : Lease) → In h w.ledger.live → Live m (grant_of k.empty w.ledger.line h)
+      live h i = live_grant u run s shows e w m sound agrees h i
+
+      asks : (g : Grant) (h : Lease) → g ≡ grant_of k.empty w.ledger.line h → (h.node ≡ y.node) × (h.life ≡ y.life) × ((wants : List Want) × (tenure : Bool) × (y.request ≡ request.Acquire h.ask wants tenure)) → Asks y g
+      asks g h is a = (
+        ap (λ (z : Grant). z.node) is ∙ a.0,
+        ap (λ (z : Grant). z.life) is ∙ a.1,
+        (a.2.0, a.2.1, a.2.2 ∙ ap (λ (z : Grant). request.Acquire z.ask a.2.0 a.2.1) (sym is)),
+      )
+
+      here : (f : ℕ → Bool) → f ≡ u.machine.gone → (b : Bool) → f y.node.0 ≡ b → u.machine.gone y.node.0 ≡ b
+      here f is b e = sym (ap (λ (z : ℕ → Bool). z y.node.0) is) ∙ e
+
+      by : (c : CoordNote) → saying.NoteSays k y s.ledger w c → MessageMeans k.empty y u.machine c m (map Told w.sends)
+      by (coord_note.Granted g) ((h, i, is, a, sent), above) = (asks g h is a, subst (Live m) (sym is) (live h i), not_made u run s shows e g above, in_map Told (message.Granted g) w.sends sent)
+      by (coord_note.GrantedBefore g) (h, i, is, a, sent) = (asks g h is a, subst (Live m) (sym is) (live h i), in_map Told (message.Granted g) w.sends sent)
+      by coord_note.Parked (p, i, a) = (p, subst (In p) agrees.parked i, a.0, a.1, a.2)
+      by (coord_note.Committed t) (news, is, (vs, sent)) = (news, is, (vs, in_map Told (message.Committed y.node y.life t vs) w.sends sent))
+      by (coord_note.CommittedBefore t) (news, is, on, (vs, sent)) = (
+        news,
+        is,
+        (on.0, λ x i. (let r = on.1 x i in (r.0, subst (In r.0) (agrees.lines x.slot) r.1, r.2))),
+        (vs, in_map Told (message.Committed y.node y.life t vs) w.sends sent),
+      )
+      by (coord_note.Fenced t) (news, is, sent) = (news, is, in_map Told (message.Fenced y.node y.life t) w.sends sent)
+      by (coord_note.Released t) is = is
+      by (coord_note.Denied why) (a, wants, tenure, is, sent) = (a, wants, tenure, is, in_map Told (message.Denied y.node y.life a why) w.sends sent)
+      by coord_note.OldLife (gone, lt, none) = (here s.ledger.gone (agrees_in u run s shows e).gone false gone, subst (λ (f : ℕ → ℕ). y.life.0 < f y.node.0) (agrees_in u run s shows e).lives lt, ap (map Told) none)
+      by coord_note.NodeRetired (gone, none) = (here s.ledger.gone (agrees_in u run s shows e).gone true gone, ap (map Told) none)
+      by coord_note.Nothing is = is
+      by (coord_note.Withdrawn t) is = is
+      by (coord_note.Pruned t) is = is
+      by (coord_note.Retired n) is = is
+      by coord_note.Nudged is = is
+
+  said_next : (u : World) (run : Moves sha (start sha) u) (s : Farm) (shows : Shows sha u s) (number : ℕ) (y : ToCoord) → nth s.pool number ≡ Some (Said y) → Next u s (Deliver number) (coordinated s.down (Ok (handled k y (begin_work s.ledger))) s)
   said_next u run s shows number y e =
+      let d : Event = Deliver number in
       let here : nth u.pool number ≡ Some (Said y) = ap (λ (p : List Message). nth p number) shows.pool ∙ e in
       let w : Work = handled k y (begin_work s.ledger) in
-      let f = others.handled_follows k farm.instances u.pool u.machine (sound_in u run s shows (Deliver number)) (sent_in sha u (inv u run s shows (Deliver number))) y s.ledger (agrees_in u run s shows (Deliver number)) (nth_in u.pool number (Said y) here) in
-      coordinated_next u run s shows (Deliver number) s.down (Ok w) refl (record {
+      let f = others.handled_follows k farm.instances u.pool u.machine (sound_in u run s shows d) (sent_in sha u (inv u run s shows d)) y s.ledger (agrees_in u run s shows d) (nth_in u.pool number (Said y) here) in
+      let says = saying.handled_says k y s.ledger (others.retried-newer k farm.instances u.pool u.machine (sound_in u run s shows d) (sent_in sha u (inv u run s shows d)) y.node y.life (begin_work s.ledger)) lt_is in
+      coordinated_next u run s shows d s.down (Ok w) refl
+      (record {
+        heard = λ m is none. none_some (Said y) (sym none ∙ ap (nth u.pool) (sym (deliver_is number m is)) ∙ here);
+        node = λ n at. none_some n (ap addressee (sym here) ∙ at);
+        retires = λ n is. (let bad : Deliver number ≡ Retire n = is in absurd (cc));
+        reaches = (y, here);
+      })
+      (ap (message_decision k s) e)
+      ((λ h. h), (λ h. h))
+      (record {
         finds = refl;
-        follows = other_ends u run s shows (Deliver number) (MessageEnds u.machine y w.note) (EndsAt u (Deliver number) (event_note.Coord w.note)) w
+        follows = other_ends u run s shows d (MessageEnds u.machine y w.note) (EndsAt u d (event_note.Coord w.note)) w
             (λ g z h. (w.note, y, refl, here, h))
             (λ g z h. subst (λ (x : ToCoord). MessageEnds u.machine x w.note g z) (said_is h.1 y (sym h.3 ∙ here)) (subst (λ c. MessageEnds u.machine h.1 c g z) (sym (coord_is w.note h.0 h.2)) h.4))
             f;
         tells = λ c p. sym (coord_is w.note c p);
-        did = λ v now. tt;
-        saves_all = handled_saves k s.ledger y (apart_in u run s shows (Deliver number));
-      })
+        grew = subst (λ o. Grew k s.ledger (message_adds o (event_note.Coord w.note)) w) (sym here) says.grew;
+        again = λ g h. h;
+        coord = λ m sound agrees x at. (w.note, refl, subst (λ (z : ToCoord). MessageMeans k.empty z u.machine w.note m (map Told w.sends)) (said_is y x (sym here ∙ at)) (note_means u run s shows number y w m sound agrees w.note says.says));
+        did = λ v. tt;
+        node = λ n is. (let bad : event_note.Coord w.note ≡ event_note.Node n = is in cc);
+        saves_all = handled_saves k s.ledger y (apart_in u run s shows d);
+      }, λ r h. none r h)
+    where
+      deliver_is : (a b : ℕ) → Deliver a ≡ Deliver b → a ≡ b
+      deliver_is a b e = cc
 
-  node_plain : (u : World) (number : ℕ) (x : NodeNote) → Plain u (Deliver number) (event_note.Node x)
-  node_plain u number x = (refl, λ g y h. (let bad : event_note.Node x ≡ event_note.Coord h.0 = h.2 in cc))
+      none : (r : CoordRefusal) → CallBecause k u.machine (Deliver number) r → ⊥
+      none r h = h
 
-  node_did : (u v : World) (number : ℕ) (x : NodeNote) → Did u (Deliver number) (event_note.Node x) v
-  node_did u v number x = tt
+  -- a message for a node
+  node_plain : (u : World) (s : Farm) (number : ℕ) (n : NodeId) (m : Message) → nth u.pool number ≡ Some m → addressee (Some m) ≡ Some n → Plain sha u s (Deliver number) n (Some m)
+  node_plain u s number n m here to = record {
+    finds = refl;
+    ends = λ said g y h. (let bad : event_note.Node said ≡ event_note.Coord h.0 = h.2 in cc);
+    adds = λ said x. no_adds (nth u.pool number) said x;
+    coord = λ said v sends y is. absurd (not_said y (some_is (Said y) m (sym is ∙ here)) to);
+    at = ap addressee here ∙ to;
+    heard = here;
+    apart = λ r. not_said r.0 (some_is (Said r.0) m (sym r.1 ∙ here)) to;
+  }
+    where
+      not_said : (y : ToCoord) → Said y ≡ m → addressee (Some m) ≡ Some n → ⊥
+      not_said y is to = none_some n (subst (λ z. addressee (Some z) ≡ Some n) (sym is) to)
 
-  delivered_next : (u : World) (run : Moves sha (start sha) u) (s : Farm) (shows : Shows sha u s) (o : Option Message) (number : ℕ) → nth s.pool number ≡ o → Next u (Deliver number) (delivered sha k o s)
-  delivered_next u run s shows None number e = refused_so u run s shows (Deliver number) refusal.NoSuchMessage
+  delivered_next : (u : World) (run : Moves sha (start sha) u) (s : Farm) (shows : Shows sha u s) (o : Option Message) (number : ℕ) → nth s.pool number ≡ o → Next u s (Deliver number) (delivered sha k o s)
+  delivered_next u run s shows None number e = refused_so u run s shows (Deliver number) refusal.NoSuchMessage (number, refl, ap (λ (p : List Message). nth p number) shows.pool ∙ e)
   delivered_next u run s shows (Some (Said y)) number e = said_next u run s shows number y e
   delivered_next u run s shows (Some (Told y)) number e =
       let i : In (Told y) u.pool = subst (In (Told y)) (sym shows.pool) (nth_in s.pool number (Told y) e) in
       let n : NodeId = told_to y in
-      node_next u run s shows (Deliver number) n (λ p x. unless_spent x (heard k p y x))
-      (quiet_act u run s shows (Deliver number) n _ (node_plain u number) (λ x v. node_did u v number x) (spent_does sha u n (heard k (record { node = n; nodes = s.size }) y (u.nodes n.0)) (heard_does sha u k s.size y i))
-      (heard_use (u.nodes n.0) (one_here u run s shows (Deliver number) n) k (record { node = n; nodes = s.size }) y))
-  delivered_next u run s shows (Some (Fetches y)) number e = node_next u run s shows (Deliver number) y.node (λ p x. unless_spent x (fetched y.from x (x.store y.digest)))
-      (quiet_act u run s shows (Deliver number) y.node _ (node_plain u number) (λ x v. node_did u v number x) (spent_does sha u y.node _ (fetched_does sha u y.node y.from ((u.nodes y.node.0).store y.digest)))
-      (fetched_use (u.nodes y.node.0) (one_here u run s shows (Deliver number) y.node) y.from ((u.nodes y.node.0).store y.digest)))
-  delivered_next u run s shows (Some (Blob n c)) number e = node_next u run s shows (Deliver number) n (λ p x. unless_spent x (brought sha c x))
-      (quiet_act u run s shows (Deliver number) n _ (node_plain u number) (λ x v. node_did u v number x) (spent_does sha u n _ (brought_does sha u n c)) (brought_use (u.nodes n.0) (one_here u run s shows (Deliver number) n) sha c))
+      let d : Event = Deliver number in
+      let p = node_plain u s number n (Told y) (ap (λ (p : List Message). nth p number) shows.pool ∙ e) refl in
+      node_next u run s shows d n (Some (Told y)) p (λ p x. unless_spent x (heard k p y x))
+      (quiet_act u run s shows d n (Some (Told y)) p _ (λ x v. tt) (spent_does sha u n (heard k (record { node = n; nodes = s.size }) y (u.nodes n.0)) (heard_does sha u k s.size y i))
+      (heard_use (u.nodes n.0) (one_here u run s shows d n) k (record { node = n; nodes = s.size }) y)
+      (noting.heard_exact sha k n s.size (u.nodes n.0) (one_here u run s shows d n) y number refl))
+  delivered_next u run s shows (Some (Fetches y)) number e =
+      let n : NodeId = y.node in
+      let d : Event = Deliver number in
+      let p = node_plain u s number n (Fetches y) (ap (λ (p : List Message). nth p number) shows.pool ∙ e) refl in
+      node_next u run s shows d n (Some (Fetches y)) p (λ p x. unless_spent x (fetched y.from x (x.store y.digest)))
+      (quiet_act u run s shows d n (Some (Fetches y)) p _ (λ x v. tt) (spent_does sha u n _ (fetched_does sha u n y.from ((u.nodes n.0).store y.digest)))
+      (fetched_use (u.nodes n.0) (one_here u run s shows d n) y.from ((u.nodes n.0).store y.digest))
+      (noting.fetched_exact sha k n s.size (u.nodes n.0) (one_here u run s shows d n) (Some (Fetches y)) y.from y.digest number))
+  delivered_next u run s shows (Some (Blob n c)) number e =
+      let d : Event = Deliver number in
+      let p = node_plain u s number n (Blob n c) (ap (λ (p : List Message). nth p number) shows.pool ∙ e) refl in
+      node_next u run s shows d n (Some (Blob n c)) p (λ p x. unless_spent x (brought sha c x))
+      (quiet_act u run s shows d n (Some (Blob n c)) p _ (λ x v. tt) (spent_does sha u n _ (brought_does sha u n c)) (brought_use (u.nodes n.0) (one_here u run s shows d n) sha c)
+      (noting.brought_exact sha k n s.size (u.nodes n.0) (one_here u run s shows d n) number c))
 
   -- ---- a restart of the coordinator
 
@@ -420,14 +666,41 @@ module _ (sha : List ℕ → Digest) (k : Limits) (farm : IsFarm sha k) where
   reread_saved : (q : Ledger) (r : Saved) → r ≡ saves q → r ≡ saves (reads r)
   reread_saved q r e = subst (λ z. z ≡ saves (reads z)) (sym e) (ap (λ l. record (saves q) { live = l }) (sym (saved_twice q.live)))
 
-  reread_next : (u : World) (run : Moves sha (start sha) u) (s : Farm) (shows : Shows sha u s) → s.down ≡ None → Next u RestartCoordinator (done event_note.Restarted [] s (record s { ledger = reads s.saved; down = None }))
+  -- nothing speaks against a restart of the coordinator
+  always : (u : World) (s : Farm) (r : EventRefusal) → Because k u s RestartCoordinator r → ⊥
+  always u s refusal.NoSuchMessage (number, is, none) = (let bad : RestartCoordinator ≡ Deliver number = is in cc)
+  always u s refusal.NoSuchNode (n, inl at, none) = none_some n at
+  always u s refusal.NoSuchNode (n, inr is, none) = (let bad : RestartCoordinator ≡ Retire n = is in cc)
+  always u s (refusal.Node r) (n, at, here, why) = none_some n at
+  always u s (refusal.Coord r) (reaches, why) = reaches
+  always u s refusal.OutOfMemory why = why
+
+  armed_always : (u : World) (s : Farm) (survivor : Survivor) (r : EventRefusal) → Because k u s (FailSave survivor) r → ⊥
+  armed_always u s survivor refusal.NoSuchMessage (number, is, none) = (let bad : FailSave survivor ≡ Deliver number = is in cc)
+  armed_always u s survivor refusal.NoSuchNode (n, inl at, none) = none_some n at
+  armed_always u s survivor refusal.NoSuchNode (n, inr is, none) = (let bad : FailSave survivor ≡ Retire n = is in cc)
+  armed_always u s survivor (refusal.Node r) (n, at, here, why) = none_some n at
+  armed_always u s survivor (refusal.Coord r) (reaches, why) = reaches
+  armed_always u s survivor refusal.OutOfMemory why = why
+
+  reread_next : (u : World) (run : Moves sha (start sha) u) (s : Farm) (shows : Shows sha u s) → s.down ≡ None → Next u s RestartCoordinator (done event_note.Restarted [] s (record s { ledger = reads s.saved; down = None }))
   reread_next u run s shows e =
       let same : s.saved ≡ saves s.ledger = up_saved u run s shows RestartCoordinator e in
       let f = others.reread_follows k farm.instances u.pool u.machine (sound_in u run s shows RestartCoordinator) (sent_in sha u (inv u run s shows RestartCoordinator)) s.ledger (agrees_in u run s shows RestartCoordinator) in
       let w : Ledger → Work = λ q. record (begin_work s.ledger) { ledger = q; changed = true } in
       let f' = subst (λ r. Follows k.empty u.pool u.machine (Meant u.machine RestartEnds coord_note.Nothing) (w (reads r))) (sym same) f in
       let next = after_next u run s shows RestartCoordinator s.saved event_note.Restarted (w (reads s.saved)) (reread_saved s.ledger s.saved same)
-      (record { finds = ap (recorded u.machine) (up_is u run s shows RestartCoordinator e); follows = f'; tells = λ c p. (let bad : event_note.Restarted ≡ event_note.Coord c = p in cc); did = λ v now. refl; saves_all = λ c. (let bad : true ≡ false = c in cc) }) e in
+      (record {
+        finds = ap (recorded u.machine) (up_is u run s shows RestartCoordinator e);
+        follows = f';
+        tells = λ c p. (let bad : event_note.Restarted ≡ event_note.Coord c = p in cc);
+        grew = record { lines = λ x. ap (λ (r : Saved). r.line x) same ∙ sym (append-nil (s.ledger.line x)); grants = λ g i. absurd i };
+        again = λ g h. absurd h;
+        coord = λ m sound agrees. refl;
+        did = λ v. tt;
+        node = λ n is. (let bad : event_note.Restarted ≡ event_note.Node n = is in cc);
+        saves_all = λ c. (let bad : true ≡ false = c in cc);
+      }) e (always u s) in
       record {
         world = next.world;
         moves = next.moves;
@@ -439,14 +712,15 @@ module _ (sha : List ℕ → Digest) (k : Limits) (farm : IsFarm sha k) where
           nodes = next.shows.nodes;
         };
         means = next.means;
+        fair = next.fair;
       }
 
   -- the record is what the coordinator is then
-  restart_next : (u : World) (run : Moves sha (start sha) u) (s : Farm) (shows : Shows sha u s) (d : Option Ledger) → s.down ≡ d → Next u RestartCoordinator (done event_note.Restarted [] s (record s { ledger = reads s.saved; down = None }))
+  restart_next : (u : World) (run : Moves sha (start sha) u) (s : Farm) (shows : Shows sha u s) (d : Option Ledger) → s.down ≡ d → Next u s RestartCoordinator (done event_note.Restarted [] s (record s { ledger = reads s.saved; down = None }))
   restart_next u run s shows None e = reread_next u run s shows e
   restart_next u run s shows (Some q) e = by u.down refl (subst (KeptAgrees (sha []) u.pool u.down) e shows.kept)
     where
-      by : (d : Option Machine) → u.down ≡ d → KeptAgrees (sha []) u.pool d (Some q) → Next u RestartCoordinator (done event_note.Restarted [] s (record s { ledger = reads s.saved; down = None }))
+      by : (d : Option Machine) → u.down ≡ d → KeptAgrees (sha []) u.pool d (Some q) → Next u s RestartCoordinator (done event_note.Restarted [] s (record s { ledger = reads s.saved; down = None }))
       by None h agrees = absurd agrees
       by (Some m) h agrees =
           let v : World = record u { machine = m; down = None } in
@@ -458,14 +732,23 @@ module _ (sha : List ℕ → Digest) (k : Limits) (farm : IsFarm sha k) where
             moves = moves_trans sha u v after.world moves after.moves;
             shows = after.shows;
             means = record {
-              ended = subst (λ z. Ended z RestartEnds after.world.machine.ending) (sym (ap (recorded u.machine) h)) after.means.ended;
               sent = after.means.sent;
               pool = after.means.pool;
-              granted = λ g i. subst (λ z. In (Granted g) z.made ⊎ In (Told (message.Granted g)) after.means.sent) (sym (ap (recorded u.machine) h)) (after.means.granted g i);
+              down = inr (refl, elim after.means.down [ inl same ↦ same | inr none ↦ none.1 ]);
+              carried = (let c = after.means.carried in let at = sym (ap (recorded u.machine) h) in record {
+                ended = subst (λ z. Ended z RestartEnds after.world.machine.ending) at c.ended;
+                granted = λ g i. subst (λ z. In (Granted g) z.made ⊎ In (Told (message.Granted g)) after.means.sent) at (c.granted g i);
+                sent = λ g i. (let r = c.sent g i in (r.0, elim r.1 [ inl new ↦ inl (subst (λ z. In (Granted g) z.made → ⊥) at new) | inr again ↦ absurd again.0 ]));
+                lines = λ x. c.lines x ∙ ap (λ z. line (sha []) z x ++ []) at;
+                told = λ n p. (let bad : event_note.Restarted ≡ event_note.Coord n = p in cc);
+                did = c.did;
+              });
+              node = λ n is. (let bad : event_note.Restarted ≡ event_note.Node n = is in cc);
+              others = after.means.others;
               used = record { began = after.means.used.began; stopped = after.means.used.stopped };
-              told = λ c p. (let bad : event_note.Restarted ≡ event_note.Coord c = p in cc);
-              did = after.means.did;
+              did = tt;
             };
+            fair = always u s;
           }
 
   -- ---- a restart of a node
@@ -474,16 +757,23 @@ module _ (sha : List ℕ → Digest) (k : Limits) (farm : IsFarm sha k) where
   no_run g ws (zero, r, i) = none_some (Running ws g r) i
   no_run g ws (suc a, r, i) = none_some (Running ws g r) i
 
-  restarts_next : (u : World) (run : Moves sha (start sha) u) (s : Farm) (shows : Shows sha u s) (n : NodeId) → Next u (RestartNode n) (restarts k n s)
-  restarts_next u run s shows n = elim (cases_bool (may_restart k (s.nodes n.0))) [
+  lt_not : (a b : ℕ) → nat_lt a b ≡ false → b ≤ a
+  lt_not a b h = grind (arith, nat_tests)
+
+  restart_plain : (u : World) (s : Farm) (n : NodeId) → Plain sha u s (RestartNode n) n None
+  restart_plain u s n = record { finds = refl; ends = λ said g y h. h; adds = λ said x. refl; coord = λ said m sends. tt; at = refl; heard = refl; apart = λ r. r }
+
+  restarts_next : (u : World) (run : Moves sha (start sha) u) (s : Farm) (shows : Shows sha u s) (n : NodeId) → is_node s n ≡ true → Next u s (RestartNode n) (restarts k n s)
+  restarts_next u run s shows n here = elim (cases_bool (may_restart k (s.nodes n.0))) [
     | inl t ↦ rw t (let w : NodeWork = restarted (record { node = n; nodes = s.size }) (s.nodes n.0) in
         let r : Reached sha u n w.sends w.node = subst (λ x. Reached sha u n (restarted (record { node = n; nodes = s.size }) x).sends (restarted (record { node = n; nodes = s.size }) x).node) (shows.nodes n.0) (restarted_does sha u n s.size) in
-        acted_next u run s shows (RestartNode n) n w (record {
+        let p = restart_plain u s n in
+        acted_next u run s shows (RestartNode n) n None p w (record {
           reached = r;
-          plain = (refl, λ g y h. h);
+          means = subst (λ x. NodeMeans sha None (RestartNode n) n (u.nodes n.0) (restarted (record { node = n; nodes = s.size }) x).note (restarted (record { node = n; nodes = s.size }) x).sends (restarted (record { node = n; nodes = s.size }) x).node) (shows.nodes n.0) (refl, refl, refl);
           used = used_after u run s shows (RestartNode n) n w.sends w.node r NoGrant (λ g. ⊤) (record { began = λ g ws i. absurd (no_run g ws i); stopped = λ g ws i. inr tt }) (λ g h. absurd h) (λ g h. refl);
           did = λ g ws i. no_run g ws (subst (λ (z : Node). Runs z.asks g ws) (here_after u run s shows (RestartNode n) n w.sends w.node r) i);
-        }))
+        }) (node_taken u run s shows (RestartNode n) n None p here (λ y h. not_last (u.nodes n.0) (ap (may_restart k) (shows.nodes n.0) ∙ t) y h)))
     | inr t ↦ rw t (let x : Node = record (s.nodes n.0) { spent = true } in
         let r : Reached sha u n [] x = subst (λ x. Reached sha u n [] (record x { spent = true })) (shows.nodes n.0) (stops_does sha u n) in
         let w : NodeWork = record { node = x; sends = []; note = node_note.Nothing } in
@@ -502,94 +792,166 @@ module _ (sha : List ℕ → Digest) (k : Limits) (farm : IsFarm sha k) where
             down = inl r.down;
             machine = r.machine;
             pool = r.pool ∙ append-nil u.pool;
-            asks = λ j. ap (λ (z : Node). z.asks) (r.nodes j) ∙ put_all (λ i (z : Node). z.asks ≡ (u.nodes i).asks) n.0 x u.nodes (sym (ap (λ (z : Node). z.asks) (shows.nodes n.0))) (λ i ne. refl) j;
+            nodes = λ j. elim (cases_nat j n.0) [
+              | inl same ↦ inr (ap RestartNode (node_is n (record { 0 = j }) (sym same)), ap r.world.nodes same ∙ here_after u run s shows (RestartNode n) n [] x r ∙ ap (λ (z : Node). record z { spent = true }) (sym (shows.nodes n.0)) ∙ ap (λ i. record (u.nodes i) { spent = true }) (sym same))
+              | inr ne ↦ inl (elsewhere_after u run s shows (RestartNode n) n [] x r (record { 0 = j }) ne)
+            ];
           };
+          fair = (n, refl, here, last (u.nodes n.0) (ap (may_restart k) (shows.nodes n.0) ∙ t));
         })
   ]
+    where
+      not_last : (x : Node) → may_restart k x ≡ true → (r : NodeRefusal) → NodeBecause k (RestartNode n) x r → ⊥
+      not_last x may node_refusal.LivesSpent (inl spent) = (let b = and_both (not x.spent) (nat_lt x.life.0 k.greatest) may in true_false x.spent spent (not_true x.spent b.0))
+      not_last x may node_refusal.LivesSpent (inr le) = (let b = and_both (not x.spent) (nat_lt x.life.0 k.greatest) may in let lt : x.life.0 < k.greatest = lt_is x.life.0 k.greatest b.1 in omega arith)
+      not_last x may r h = absurd h
+
+      last : (x : Node) → may_restart k x ≡ false → (x.spent ≡ true) ⊎ (k.greatest ≤ x.life.0)
+      last x may = elim (cases_bool x.spent) [ inl t ↦ inl t | inr f ↦ inr (lt_not x.life.0 k.greatest (rw f at may)) ]
+
+  retire_is : (a b : NodeId) → Retire a ≡ Retire b → a ≡ b
+  retire_is a b e = cc
+
+  next_ticket : (a b : ℕ) → a ≡ b → b < a + 1
+  next_ticket a b e = omega arith
 
   -- ---- each event
 
-  pub step_next : (u : World) → Moves sha (start sha) u → (s : Farm) → Shows sha u s → (e : Event) → Next u e (step sha k s e)
+  pub step_next : (u : World) → Moves sha (start sha) u → (s : Farm) → Shows sha u s → (e : Event) → Next u s e (step sha k s e)
   unfolding step
-  step_next u run s shows (replay.Ask n wants) = node_next u run s shows (replay.Ask n wants) n (λ p x. asked k p wants x)
-      (quiet_act u run s shows (replay.Ask n wants) n _ (λ x. (refl, λ g y h. h)) (λ x v. tt) (asked_does sha u n k s.size wants) (asked_use (u.nodes n.0) (one_here u run s shows (replay.Ask n wants) n) k (record { node = n; nodes = s.size }) wants))
-  step_next u run s shows (Tenure n f) = node_next u run s shows (Tenure n f) n (λ p x. asked_tenure k p f x)
-      (quiet_act u run s shows (Tenure n f) n _ (λ x. (refl, λ g y h. h)) (λ x v. tt) (tenure_does sha u n k s.size f) (tenure_use (u.nodes n.0) (one_here u run s shows (Tenure n f) n) k (record { node = n; nodes = s.size }) f))
+  step_next u run s shows (replay.Ask n wants) =
+      let e : Event = replay.Ask n wants in
+      let one = one_here u run s shows e n in
+      let p : Plain sha u s e n None = record { finds = refl; ends = λ said g y h. h; adds = λ said x. refl; coord = λ said m sends. tt; at = refl; heard = refl; apart = λ r. r } in
+      node_next u run s shows e n None p (λ p x. asked k p wants x)
+      (quiet_act u run s shows e n None p _ (λ x v. tt) (asked_does sha u n k s.size wants) (asked_use (u.nodes n.0) one k (record { node = n; nodes = s.size }) wants) (noting.asked_exact sha k n s.size (u.nodes n.0) one wants))
+  step_next u run s shows (Tenure n f) =
+      let e : Event = Tenure n f in
+      let one = one_here u run s shows e n in
+      let p : Plain sha u s e n None = record { finds = refl; ends = λ said g y h. h; adds = λ said x. refl; coord = λ said m sends. tt; at = refl; heard = refl; apart = λ r. r } in
+      node_next u run s shows e n None p (λ p x. asked_tenure k p f x)
+      (quiet_act u run s shows e n None p _ (λ x v. tt) (tenure_does sha u n k s.size f) (tenure_use (u.nodes n.0) one k (record { node = n; nodes = s.size }) f) (noting.tenure_exact sha k n s.size (u.nodes n.0) one f))
   step_next u run s shows (Deliver number) = delivered_next u run s shows (nth s.pool number) number refl
   step_next u run s shows (Begin n t) =
       let e : Event = Begin n t in
       let one = one_here u run s shows e n in
-      node_next u run s shows e n (λ p x. begun t x) (act_of u run s shows e (Begun (u.nodes n.0) one t) n (begun t (u.nodes n.0)) (begun_does sha u n t) (begun_use (u.nodes n.0) one t) (λ w is r b. record {
-        reached = r;
-        plain = (refl, λ g y h. h);
-        used = used_after u run s shows e n w.sends w.node r (λ g. g.ticket ≡ t) NoGrant b.1 (λ g h. (refl, h)) (λ g h. absurd h);
-        did = (ap event_note.Node b.0, (b.2.0, b.2.1, b.2.2, b.2.3, subst (λ (z : Node). Runs z.asks b.2.0 b.2.1) (sym (here_after u run s shows e n w.sends w.node r)) b.2.4));
-      }))
+      let p : Plain sha u s e n None = record { finds = refl; ends = λ said g y h. h; adds = λ said x. refl; coord = λ said m sends. tt; at = refl; heard = refl; apart = λ r. r } in
+      node_next u run s shows e n None p (λ p x. begun t x) (act_of u run s shows e (Begun (u.nodes n.0) one t) n None p (begun t (u.nodes n.0)) (begun_does sha u n t) (begun_use (u.nodes n.0) one t) (noting.begun_exact sha k n s.size (u.nodes n.0) one t) (λ w r b. (
+        used_after u run s shows e n w.sends w.node r (λ g. g.ticket ≡ t) NoGrant b.1 (λ g h. (refl, h)) (λ g h. absurd h),
+        (ap event_note.Node b.0, (b.2.0, b.2.1, b.2.2, b.2.3, subst (λ (z : Node). Runs z.asks b.2.0 b.2.1) (sym (here_after u run s shows e n w.sends w.node r)) b.2.4)),
+      )))
   step_next u run s shows (Finish n t lefts) =
       let e : Event = Finish n t lefts in
       let one = one_here u run s shows e n in
-      node_next u run s shows e n (λ p x. finished_with sha p t lefts x) (act_of u run s shows e (Stops (u.nodes n.0) one t) n (finished_with sha (record { node = n; nodes = s.size }) t lefts (u.nodes n.0)) (finished_does sha u n s.size t lefts) (finished_use (u.nodes n.0) one sha (record { node = n; nodes = s.size }) t lefts) (λ w is r b. record {
-        reached = r;
-        plain = (refl, λ g y h. h);
-        used = used_after u run s shows e n w.sends w.node r NoGrant (λ g. g.ticket ≡ t) b.1.0 (λ g h. absurd h) (λ g h. (refl, h));
-        did = (ap event_note.Node b.0, (b.1.1.0, b.1.1.1, b.1.1.2, b.1.1.3, λ i. b.1.1.4 (subst (λ (z : Node). Runs z.asks b.1.1.0 b.1.1.1) (here_after u run s shows e n w.sends w.node r) i)));
-      }))
+      let p : Plain sha u s e n None = record { finds = refl; ends = λ said g y h. h; adds = λ said x. refl; coord = λ said m sends. tt; at = refl; heard = refl; apart = λ r. r } in
+      node_next u run s shows e n None p (λ p x. finished_with sha p t lefts x) (act_of u run s shows e (Stops (u.nodes n.0) one t) n None p (finished_with sha (record { node = n; nodes = s.size }) t lefts (u.nodes n.0)) (finished_does sha u n s.size t lefts) (finished_use (u.nodes n.0) one sha (record { node = n; nodes = s.size }) t lefts) (noting.finished_exact sha k n s.size (u.nodes n.0) one t lefts) (λ w r b. (
+        used_after u run s shows e n w.sends w.node r NoGrant (λ g. g.ticket ≡ t) b.1.0 (λ g h. absurd h) (λ g h. (refl, h)),
+        (ap event_note.Node b.0, (b.1.1.0, b.1.1.1, b.1.1.2, b.1.1.3, λ i. b.1.1.4 (subst (λ (z : Node). Runs z.asks b.1.1.0 b.1.1.1) (here_after u run s shows e n w.sends w.node r) i))),
+      )))
   step_next u run s shows (Abort n t) =
       let e : Event = Abort n t in
       let one = one_here u run s shows e n in
-      node_next u run s shows e n (λ p x. aborted p t x) (act_of u run s shows e (Aborts (u.nodes n.0) one t) n (aborted (record { node = n; nodes = s.size }) t (u.nodes n.0)) (aborted_does sha u n s.size t) (aborted_use (u.nodes n.0) one (record { node = n; nodes = s.size }) t) (λ w is r b. record {
-        reached = r;
-        plain = (refl, λ g y h. h);
-        used = used_after u run s shows e n w.sends w.node r NoGrant (λ g. g.ticket ≡ t) b.1 (λ g h. absurd h) (λ g h. (refl, h));
-        did = (ap event_note.Node b.0, λ g ws h i. b.2 g ws h (subst (λ (z : Node). Runs z.asks g ws) (here_after u run s shows e n w.sends w.node r) i));
-      }))
-  step_next u run s shows (Resend n) = node_next u run s shows (Resend n) n (λ p x. resent k p x)
-      (quiet_act u run s shows (Resend n) n _ (λ x. (refl, λ g y h. h)) (λ x v. tt) (resent_does sha u n k s.size) (resent_use (u.nodes n.0) (one_here u run s shows (Resend n) n) k (record { node = n; nodes = s.size })))
-  step_next u run s shows Nudge = coordinated_next u run s shows Nudge s.down (Ok (nudged k (begin_work s.ledger))) refl (record {
-    tells = λ c p. sym (coord_is coord_note.Nudged c p);
-    finds = refl;
-    follows = others.nudged_follows k farm.instances u.pool u.machine (sound_in u run s shows Nudge) (sent_in sha u (inv u run s shows Nudge)) s.ledger (agrees_in u run s shows Nudge);
-    did = λ v now. tt;
-    saves_all = nudged_saves k s.ledger;
-  })
+      let p : Plain sha u s e n None = record { finds = refl; ends = λ said g y h. h; adds = λ said x. refl; coord = λ said m sends. tt; at = refl; heard = refl; apart = λ r. r } in
+      node_next u run s shows e n None p (λ p x. aborted p t x) (act_of u run s shows e (Aborts (u.nodes n.0) one t) n None p (aborted (record { node = n; nodes = s.size }) t (u.nodes n.0)) (aborted_does sha u n s.size t) (aborted_use (u.nodes n.0) one (record { node = n; nodes = s.size }) t) (noting.aborted_exact sha k n s.size (u.nodes n.0) one t) (λ w r b. (
+        used_after u run s shows e n w.sends w.node r NoGrant (λ g. g.ticket ≡ t) b.1 (λ g h. absurd h) (λ g h. (refl, h)),
+        (ap event_note.Node b.0, λ g ws h i. b.2 g ws h (subst (λ (z : Node). Runs z.asks g ws) (here_after u run s shows e n w.sends w.node r) i)),
+      )))
+  step_next u run s shows (Resend n) =
+      let e : Event = Resend n in
+      let one = one_here u run s shows e n in
+      let p : Plain sha u s e n None = record { finds = refl; ends = λ said g y h. h; adds = λ said x. refl; coord = λ said m sends. tt; at = refl; heard = refl; apart = λ r. r } in
+      node_next u run s shows e n None p (λ p x. resent k p x)
+      (quiet_act u run s shows e n None p _ (λ x v. tt) (resent_does sha u n k s.size) (resent_use (u.nodes n.0) one k (record { node = n; nodes = s.size })) (noting.resent_exact sha k n s.size (u.nodes n.0) one))
+  step_next u run s shows Nudge = coordinated_next u run s shows Nudge s.down (Ok (nudged k (begin_work s.ledger))) refl
+      (record { heard = λ m is. (let bad : Nudge ≡ Deliver m = is in absurd (cc)); node = λ n at. none_some n at; retires = λ n is. (let bad : Nudge ≡ Retire n = is in absurd (cc)); reaches = tt }) refl ((λ h. h), (λ h. h))
+      (record {
+        tells = λ c p. sym (coord_is coord_note.Nudged c p);
+        finds = refl;
+        follows = others.nudged_follows k farm.instances u.pool u.machine (sound_in u run s shows Nudge) (sent_in sha u (inv u run s shows Nudge)) s.ledger (agrees_in u run s shows Nudge);
+        grew = saying.nudged_grew k s.ledger;
+        again = λ g h. h;
+        coord = λ m sound agrees. refl;
+        did = λ v. tt;
+        node = λ n is. (let bad : event_note.Coord coord_note.Nudged ≡ event_note.Node n = is in cc);
+        saves_all = nudged_saves k s.ledger;
+      }, λ r h. h)
   step_next u run s shows (Withdraw t) =
       let e : Event = Withdraw t in
       let sound = sound_in u run s shows e in
       let sent = sent_in sha u (inv u run s shows e) in
       coordinated_next u run s shows e s.down (withdrawn k t (begin_work s.ledger)) refl
-      (others_ok u run s shows e (WithdrawEnds t) (λ w. w.note ≡ coord_note.Withdrawn t) (withdrawn k t (begin_work s.ledger))
+      (record { heard = λ m is. (let bad : Withdraw t ≡ Deliver m = is in absurd (cc)); node = λ n at. none_some n at; retires = λ n is. (let bad : Withdraw t ≡ Retire n = is in absurd (cc)); reaches = tt }) refl ((λ h. h), (λ h. h))
+      (others_ok u run s shows e (WithdrawEnds t) (λ w. w.note ≡ coord_note.Withdrawn t) (λ c x. []) (withdrawn k t (begin_work s.ledger))
       (others.withdrawn_follows k farm.instances u.pool u.machine sound sent t s.ledger (agrees_in u run s shows e)) (others.withdrawn_told k farm.instances u.pool u.machine sound sent t (begin_work s.ledger))
-      (λ w f told c. record { saves_all = c; finds = refl; follows = f; tells = λ c p. sym (coord_is w.note c p); did = λ v now. (ap event_note.Coord told, subst (CoordMeans u.machine) told f.ended.1) }) (withdrawn_saves k s.ledger t (apart_in u run s shows e)))
+      (λ w f told g c. record {
+        saves_all = c; finds = refl; follows = f; tells = λ c p. sym (coord_is w.note c p); grew = g; again = λ g h. h;
+        coord = λ m sound agrees. (ap event_note.Coord told, subst (CoordMeans u.machine) told f.ended.1);
+        did = λ v. tt; node = λ n is. (let bad : event_note.Coord w.note ≡ event_note.Node n = is in cc);
+      })
+      (saying.withdrawn_grew k s.ledger t) (withdrawn_saves k s.ledger t (apart_in u run s shows e)) (deciding.withdrawn_exact k u.pool u.machine sound s.ledger (agrees_in u run s shows e) t))
   step_next u run s shows (Prune slot) =
       let e : Event = Prune slot in
       let sound = sound_in u run s shows e in
       let sent = sent_in sha u (inv u run s shows e) in
       coordinated_next u run s shows e s.down (pruned k slot (begin_work s.ledger)) refl
-      (others_ok u run s shows e NoEnds (λ w. ⊤) (pruned k slot (begin_work s.ledger))
-      (others.pruned_follows k farm.instances u.pool u.machine sound sent slot s.ledger (agrees_in u run s shows e)) (all_ok u run s shows e (pruned k slot (begin_work s.ledger)))
-      (λ w f told c. record { saves_all = c; finds = refl; follows = f; tells = λ c p. sym (coord_is w.note c p); did = λ v now. tt }) (pruned_saves k s.ledger slot))
+      (record { heard = λ m is. (let bad : Prune slot ≡ Deliver m = is in absurd (cc)); node = λ n at. none_some n at; retires = λ n is. (let bad : Prune slot ≡ Retire n = is in absurd (cc)); reaches = tt }) refl ((λ h. h), (λ h. h))
+      (others_ok u run s shows e NoEnds (λ w. w.note ≡ coord_note.Pruned (record { 0 = s.ledger.last + 1 })) (λ c x. prune_adds k.empty slot (event_note.Coord c) x) (pruned k slot (begin_work s.ledger))
+      (others.pruned_follows k farm.instances u.pool u.machine sound sent slot s.ledger (agrees_in u run s shows e)) (others.pruned_told k farm.instances u.pool u.machine sound sent slot (begin_work s.ledger))
+      (λ w f told g c. record {
+        saves_all = c; finds = refl; follows = f; tells = λ c p. sym (coord_is w.note c p); grew = g; again = λ g h. h;
+        coord = λ m sound agrees. (record { 0 = s.ledger.last + 1 }, ap event_note.Coord told, next_ticket s.ledger.last u.machine.last (agrees_in u run s shows e).last);
+        did = λ v. tt; node = λ n is. (let bad : event_note.Coord w.note ≡ event_note.Node n = is in cc);
+      })
+      (saying.pruned_grew k s.ledger slot) (pruned_saves k s.ledger slot) (deciding.pruned_exact k u.pool u.machine sound s.ledger (agrees_in u run s shows e) slot))
   step_next u run s shows (Retire n) = elim (cases_bool (is_node s n)) [
     | inl t ↦ rw t (let e : Event = Retire n in
         let sound = sound_in u run s shows e in
         let sent = sent_in sha u (inv u run s shows e) in
         coordinated_next u run s shows e s.down (retired k n (begin_work s.ledger)) refl
-        (others_ok u run s shows e (RetireEnds n) (λ w. (w.note ≡ coord_note.Retired n) × (w.ledger.gone n.0 ≡ true)) (retired k n (begin_work s.ledger))
+        (record { heard = λ m is. (let bad : Retire n ≡ Deliver m = is in absurd (cc)); node = λ j at. none_some j at; retires = λ j is none. true_false (is_node s n) t (ap (is_node s) (retire_is n j is) ∙ none); reaches = t }) refl ((λ h. h), (λ h. h))
+        (others_ok u run s shows e (RetireEnds n) (λ w. (w.note ≡ coord_note.Retired n) × (w.ledger.gone n.0 ≡ true)) (λ c x. []) (retired k n (begin_work s.ledger))
         (others.retired_follows k farm.instances u.pool u.machine sound sent n s.ledger (agrees_in u run s shows e)) (others.retired_told k farm.instances u.pool u.machine sound sent n (begin_work s.ledger))
-        (λ w f told c. record { saves_all = c; finds = refl; follows = f; tells = λ c p. sym (coord_is w.note c p); did = λ v now. (ap event_note.Coord told.0, subst (CoordMeans u.machine) told.0 f.ended.1, sym (ap (λ (h : ℕ → Bool). h n.0) now.gone) ∙ told.1) }) (retired_saves k s.ledger n)))
-    | inr t ↦ rw t (refused_so u run s shows (Retire n) refusal.NoSuchNode)
+        (λ w f told g c. record {
+          saves_all = c; finds = refl; follows = f; tells = λ c p. sym (coord_is w.note c p); grew = g; again = λ g h. h;
+          coord = λ m sound agrees. (ap event_note.Coord told.0, subst (CoordMeans u.machine) told.0 f.ended.1, sym (ap (λ (h : ℕ → Bool). h n.0) agrees.gone) ∙ told.1);
+          did = λ v. tt; node = λ j is. (let bad : event_note.Coord w.note ≡ event_note.Node j = is in cc);
+        })
+        (saying.retired_grew k s.ledger n) (retired_saves k s.ledger n) (deciding.retired_exact k u.pool u.machine sound s.ledger (agrees_in u run s shows e) n)))
+    | inr t ↦ rw t (refused_so u run s shows (Retire n) refusal.NoSuchNode (n, inr refl, t))
   ]
   step_next u run s shows (RestartNode n) = elim (cases_bool (is_node s n)) [
-    | inl t ↦ rw t (restarts_next u run s shows n)
-    | inr t ↦ rw t (refused_so u run s shows (RestartNode n) refusal.NoSuchNode)
+    | inl t ↦ rw t (restarts_next u run s shows n t)
+    | inr t ↦ rw t (refused_so u run s shows (RestartNode n) refusal.NoSuchNode (n, inl refl, t))
   ]
   step_next u run s shows RestartCoordinator = restart_next u run s shows s.down refl
-  step_next u run s shows (Forge n c) = node_next u run s shows (Forge n c) n (λ p x. unless_spent x (brought sha c x))
-      (quiet_act u run s shows (Forge n c) n _ (λ x. (refl, λ g y h. h)) (λ x v. tt) (spent_does sha u n _ (brought_does sha u n c)) (brought_use (u.nodes n.0) (one_here u run s shows (Forge n c) n) sha c))
+  step_next u run s shows (Forge n c) =
+      let e : Event = Forge n c in
+      let one = one_here u run s shows e n in
+      let p : Plain sha u s e n None = record { finds = refl; ends = λ said g y h. h; adds = λ said x. refl; coord = λ said m sends. tt; at = refl; heard = refl; apart = λ r. r } in
+      node_next u run s shows e n None p (λ p x. unless_spent x (brought sha c x))
+      (quiet_act u run s shows e n None p _ (λ x v. tt) (spent_does sha u n _ (brought_does sha u n c)) (brought_use (u.nodes n.0) one sha c) (noting.forged_exact sha k n s.size (u.nodes n.0) one c))
   step_next u run s shows (FailSave survivor) = record {
     world = u;
     moves = Still u;
     shows = record { now = shows.now; kept = shows.kept; saved = shows.saved; pool = shows.pool; nodes = shows.nodes };
-    means = record { ended = none_ended u.machine NoEnds (λ g y l h. h); sent = []; pool = sym (append-nil u.pool); granted = λ g i. inl i; used = record { began = λ n g ws i. inl i; stopped = λ n g ws i. inl i }; told = λ c p. (let bad : event_note.Armed ≡ event_note.Coord c = p in cc); did = tt };
+    means = record {
+      sent = [];
+      pool = sym (append-nil u.pool);
+      down = inl refl;
+      carried = record {
+        ended = none_ended u.machine NoEnds (λ g y l h. h);
+        granted = λ g i. inl i;
+        sent = λ g i. absurd i;
+        lines = λ x. sym (append-nil (line (sha []) u.machine x));
+        told = λ c p. (let bad : event_note.Armed ≡ event_note.Coord c = p in cc);
+        did = tt;
+      };
+      node = λ n is. (let bad : event_note.Armed ≡ event_note.Node n = is in cc);
+      others = λ j. inl refl;
+      used = record { began = λ n g ws i. inl i; stopped = λ n g ws i. inl i };
+      did = tt;
+    };
+    fair = armed_always u s survivor;
   }
 
   -- a world that the events lead to
@@ -657,7 +1019,7 @@ every_schedule_stays_safe sha k farm size early late =
     })
 
 pub every_event_is_moves : EveryEventIsMoves
-every_event_is_moves sha k farm u moves s shows e = (let n = step_next sha k farm u moves s shows e in (n.world, n.moves, n.shows, n.means))
+every_event_is_moves sha k farm u moves s shows e = (let n = step_next sha k farm u moves s shows e in (n.world, n.moves, n.shows, n.means, n.fair))
 
 follows_ok : (k : Limits) (fits : k.instances ≤ 4096) (pool : List Message) (m : Machine) (sound : Sound k.empty m) (sent : Sent pool m) (ends : Grant → Ending → Type 0) (r : Result Work CoordRefusal) → others.OnWork k fits pool m sound sent ends r → FollowsOk k.empty pool m ends r
 follows_ok k fits pool m sound sent ends (Ok w) h = h
@@ -670,7 +1032,8 @@ every_decision_follows sha k farm u moves q agrees =
     let sent = sent_in sha u i in
     record {
       message = λ y asked. others.handled_follows k farm.instances u.pool u.machine sound sent y q agrees asked;
-      commit_taken = calls.commit_taken k u.pool u.machine sound q agrees;
+      commit_taken = deciding.commit_taken k u.pool u.machine sound q agrees;
+      release_taken = deciding.release_taken k u.pool u.machine sound q agrees;
       withdraw_taken = others.withdraw_taken k farm.instances u.pool u.machine sound sent q agrees;
       withdraw = λ t. follows_ok k farm.instances u.pool u.machine sound sent (WithdrawEnds t) (withdrawn k t (begin_work q)) (others.withdrawn_follows k farm.instances u.pool u.machine sound sent t q agrees);
       retire = λ n. follows_ok k farm.instances u.pool u.machine sound sent (RetireEnds n) (retired k n (begin_work q)) (others.retired_follows k farm.instances u.pool u.machine sound sent n q agrees);

@@ -75,7 +75,7 @@ held_idle : (wants : List Want) (h : Grant) (q : Bool) → NotRunning (Holding w
 held_idle wants h q ws g r e = (let bad : Holding wants h q ≡ Running ws g r = e in cc)
 
 -- the grant that an ask has
-abbrev GrantOf : AskState → Grant → Type 0
+abbrev pub GrantOf : AskState → Grant → Type 0
 GrantOf (Open ws b) g = ⊥
 GrantOf (Holding ws h r) g = h ≡ g
 GrantOf (Running ws h r) g = h ≡ g

@@ -1,24 +1,28 @@
 -- What is so of every schedule (docs/PROOFS.md, "The headline").
-use Rattle.std.specs.Prelude.{◌≡◌, ℕ, ◌+◌, ◌<◌, ◌≤◌, nat_lt, false, true, slice_get, List, [], ◌∷◌, ◌++◌, Option, Some, None, ⊤, Ok}
-use Rattle.protocol.specs.Lists.{In, nth}
+use Rattle.std.specs.Prelude.{◌≡◌, ◌≢◌, ℕ, ◌+◌, ◌<◌, ◌≤◌, ◌⊎◌, nat_lt, false, true, slice_get, List, [], ◌∷◌, ◌++◌, Option, Some, None, ⊤, Ok, Err}
+use Rattle.protocol.specs.Lists.{In, IsFrontOf, nth}
 use Rattle.protocol.specs.Names.{Slot, is_alone, NodeId, Life, Ticket, Digest}
 use Rattle.protocol.specs.Machine.{Grant, Confirmed, LineVersion, Message, Said, Told, ToCoord, Parked, Has}
 use Rattle.farm_base.specs.declared.message.Request.TheVariants.{Acquire}
 use Rattle.farm_base.specs.declared.message.FromCoord.TheVariants as told
+use Rattle.protocol.specs.declared.answer.CoordNote.{CoordNote}
 use Rattle.protocol.specs.declared.answer.CoordNote.TheVariants as coord
+use Rattle.protocol.specs.declared.answer.CoordRefusal.TheVariants as coord_refusal
+use Rattle.protocol.specs.declared.answer.EventRefusal.TheVariants as refusal
 use Rattle.protocol.specs.declared.answer.EventNote.TheVariants as note
 use Rattle.protocol.specs.declared.answer.Outcome.{Outcome}
 use Rattle.protocol.specs.Ledger.{Limits, Lease, is_saved, saves, Work, begin_work, grant_of, lease_for, handled}
 use Rattle.protocol.specs.World.{World, Moves, start}
-use Rattle.protocol.specs.Safe.{Safe, SafeSince}
+use Rattle.protocol.specs.Safe.{Held, Rising, Safe, SafeSince}
 use Rattle.protocol.specs.Replay.{Event, Deliver, Begin, Withdraw, Retire, RestartCoordinator, Farm, Turn, step, run, opening}
-use Rattle.protocol.specs.Meaning.{StopsAt, Means}
+use Rattle.protocol.specs.Meaning.{adds, StopsAt, Means}
+use Rattle.protocol.specs.Reasons.{Fair}
 use Rattle.protocol.specs.Follows.{IsFarm, Shows, holds, NoneReady, after_life, MayBeGranted}
 
 -- a world after each event, each led to from the one before by moves, meant by the event, shown by the farm and safe
 abbrev pub Chronicle : (List ℕ → Digest) → Limits → List Event → Farm → World → Type 0
 Chronicle sha k [] s u = ⊤
-Chronicle sha k (e ∷ es) s u = (v : World) × Moves sha u v × Means u e (step sha k s e).outcome v × Shows sha v (step sha k s e).farm × Safe sha v × SafeSince sha u v × Chronicle sha k es (step sha k s e).farm v
+Chronicle sha k (e ∷ es) s u = (v : World) × Moves sha u v × Means sha u e (step sha k s e).outcome v × Fair k u s e (step sha k s e).outcome × Shows sha v (step sha k s e).farm × Safe sha v × SafeSince sha u v × Chronicle sha k es (step sha k s e).farm v
 
 abbrev pub EveryScheduleHasAChronicle : Type 0
 EveryScheduleHasAChronicle = (sha : List ℕ → Digest) (k : Limits) → IsFarm sha k → (size : ℕ) (events : List Event) → Chronicle sha k events (opening sha size) (start sha)
@@ -37,6 +41,17 @@ GoesOn sha k n t (e ∷ es) s = ((g : Grant) (o : Outcome) → (step sha k s e).
 abbrev pub NoneShared : List Message → Ticket → Ticket → Type 0
 NoneShared pool t t' = (g g' : Grant) (s : Slot) → In (Told (told.Granted g)) pool → In (Told (told.Granted g')) pool → g.ticket ≡ t → g'.ticket ≡ t' → Has g s → Has g' s → is_alone s ≡ true → ⊥
 
+-- the answer to one more event names the version for the slot; or its save failed, and the record kept it
+abbrev pub Writes : (List ℕ → Digest) → Limits → Farm → Event → Slot → LineVersion → Type 0
+Writes sha k s e x v = ((o : Outcome) × ((step sha k s e).outcome ≡ Ok o) × In v (adds k.empty s.pool e o.note x))
+  ⊎ (((step sha k s e).outcome ≡ Err (refusal.Coord coord_refusal.SaveFault)) × ((told : CoordNote) × In v (adds k.empty s.pool e (note.Coord told) x)))
+
+-- each version that ever stands on a line is of such an event. As lines only grow at their end, they stand in the
+-- order of these events
+abbrev pub EveryVersionIsAnswered : Type 0
+EveryVersionIsAnswered = (sha : List ℕ → Digest) (k : Limits) → IsFarm sha k → (size : ℕ) (events : List Event) (x : Slot) (v : LineVersion) → In v ((run sha k events (opening sha size)).ledger.line x)
+    → (early late : List Event) × (e : Event) × (events ≡ early ++ e ∷ late) × Writes sha k (run sha k early (opening sha size)) e x v
+
 -- of a farm that a schedule led to, and one more event
 pub record Headline (sha : List ℕ → Digest) (k : Limits) (s : Farm) : Type 0 where
   pub withdrawn : (t : Ticket) (o : Outcome) → (step sha k s (Withdraw t)).outcome ≡ Ok o → StaysOut sha k (step sha k s (Withdraw t)).farm t
@@ -49,6 +64,16 @@ pub record Headline (sha : List ℕ → Digest) (k : Limits) (s : Farm) : Type 0
   pub alone : (n n' : NodeId) (t t' : Ticket) (late : List Event) (o o' : Outcome) → (step sha k s (Begin n t)).outcome ≡ Ok o → GoesOn sha k n t late (step sha k s (Begin n t)).farm
       → let after : Farm = run sha k late (step sha k s (Begin n t)).farm in
       (step sha k after (Begin n' t')).outcome ≡ Ok o' → NoneShared after.pool t t'
+  -- what was ever fenced is on no line
+  pub fenced : (n : NodeId) (l : Life) (t : Ticket) → In (Told (told.Fenced n l t)) s.pool → (late : List Event) (x : Slot) (v : LineVersion) → In v ((run sha k late s).ledger.line x) → v.ticket ≡ t → ⊥
+  -- each folder's versions form one line that only grows, with rising tickets
+  pub rising : (x : Slot) → Rising (s.ledger.line x)
+  pub grows : (late : List Event) (x : Slot) → IsFrontOf (s.ledger.line x) ((run sha k late s).ledger.line x)
+  -- by exactly what the answer names
+  pub answered : s.down ≡ None → (e : Event) (o : Outcome) → (step sha k s e).outcome ≡ Ok o → (x : Slot) → (step sha k s e).farm.ledger.line x ≡ s.ledger.line x ++ adds k.empty s.pool e o.note x
+  -- two nodes hold one content for a version, then or later, or the two contents are a collision
+  pub contents : (late : List Event) (n n' : NodeId) (x : Slot) (number : ℕ) (c c' : List ℕ) → Held (s.nodes n.0) x number c → Held ((run sha k late s).nodes n'.0) x number c'
+      → (c ≡ c') ⊎ ((c ≢ c') × (sha c ≡ sha c'))
   -- of each lease that the record doesn't have, where the coordinator restarts
   pub restarted : s.down ≡ None → (g : Lease) → In g s.ledger.live → is_saved g ≡ false → StaysOut sha k (step sha k s RestartCoordinator).farm g.ticket
 

@@ -2,7 +2,7 @@
 -- (docs/PROOFS.md, "From the replay to the world").
 use Rattle.std.specs.Prelude.{◌≡◌, ◌≢◌, ℕ, ◌≤◌, nat_lt, if◌then◌else◌, true, false, List, [], ◌∷◌, ◌++◌, ◌⊎◌, map, Option, Some, None, ⊤, Result, Ok, Err}
 use Rattle.protocol.specs.Lists.{In}
-use Rattle.farm_base.specs.declared.message.Request.TheVariants.{Acquire, Commit}
+use Rattle.farm_base.specs.declared.message.Request.TheVariants.{Acquire, Commit, Release}
 use Rattle.farm_base.specs.declared.message.FromCoord.TheVariants as told
 use Rattle.protocol.specs.declared.answer.CoordNote.TheVariants as note
 use Rattle.protocol.specs.declared.answer.CoordRefusal.{CoordRefusal}
@@ -17,6 +17,7 @@ use Rattle.protocol.specs.World.{World, Moves, start}
 use Rattle.protocol.specs.Safe.{Safe, SafeSince}
 use Rattle.protocol.specs.Replay.{Event, Farm, step, run, opening}
 use Rattle.protocol.specs.Meaning.{MessageEnds, WithdrawEnds, RetireEnds, RestartEnds, NoEnds, Meant, Means}
+use Rattle.protocol.specs.Reasons.{Fair}
 
 -- the lease of a grant: what is kept of it
 abbrev pub lease_from : Grant → Lease
@@ -120,10 +121,10 @@ EveryScheduleStaysSafe = (sha : List ℕ → Digest) (k : Limits) → IsFarm sha
     → SafeBetween sha (run sha k early (opening sha size)) (run sha k (early ++ late) (opening sha size))
 
 -- each event, from any world of a run that a farm is in, leads to a world that the farm is in then, and means what
--- its outcome says
+-- its outcome says; it is refused only with a reason, and accepted only without one
 abbrev pub EveryEventIsMoves : Type 0
 EveryEventIsMoves = (sha : List ℕ → Digest) (k : Limits) → IsFarm sha k → (u : World) → Moves sha (start sha) u → (s : Farm) → Shows sha u s → (e : Event)
-    → (v : World) × Moves sha u v × Shows sha v (step sha k s e).farm × Means u e (step sha k s e).outcome v
+    → (v : World) × Moves sha u v × Shows sha v (step sha k s e).farm × Means sha u e (step sha k s e).outcome v × Fair k u s e (step sha k s e).outcome
 
 -- what a call comes to, the machine may do, and it ends these
 abbrev pub FollowsOk : Digest → List Message → Machine → (Grant → Ending → Type 0) → Result Work CoordRefusal → Type 0
@@ -134,15 +135,21 @@ FollowsOk empty pool m ends (Err e) = ⊤
 abbrev pub WithdrawIsTaken : Limits → Machine → Ledger → Type 0
 WithdrawIsTaken k m q = (g : Grant) → Live m g → g.tenure ≡ false → (w : Work) × (withdrawn k g.ticket (begin_work q) ≡ Ok w)
 
--- and the Commit of a live grant, of its node's present life, with news for just its writable slots
+-- and the Commit of a live grant, of no older life of its node, with news for exactly its writable slots
 abbrev pub CommitIsTaken : Limits → Machine → Ledger → Type 0
-CommitIsTaken k m q = (g : Grant) (news : List News) → Live m g → m.gone g.node.0 ≡ false → m.lives g.node.0 ≡ g.life.0 → slots_of news ≡ written g.slots → news ≢ []
+CommitIsTaken k m q = (g : Grant) (news : List News) → Live m g → m.gone g.node.0 ≡ false → m.lives g.node.0 ≤ g.life.0 → slots_of news ≡ written g.slots → news ≢ []
     → (handled k (record { node = g.node; life = g.life; request = Commit g.ticket news }) (begin_work q)).note ≡ note.Committed g.ticket
+
+-- and its Release
+abbrev pub ReleaseIsTaken : Limits → Machine → Ledger → Type 0
+ReleaseIsTaken k m q = (g : Grant) → Live m g → m.gone g.node.0 ≡ false → m.lives g.node.0 ≤ g.life.0
+    → (handled k (record { node = g.node; life = g.life; request = Release g.ticket }) (begin_work q)).note ≡ note.Released g.ticket
 
 -- every decision on a ledger that agrees with the machine of a world of a run
 pub record EveryDecision (k : Limits) (pool : List Message) (m : Machine) (q : Ledger) : Type 0 where
   pub message : (y : ToCoord) → In (Said y) pool → Follows k.empty pool m (Meant m (MessageEnds m y (handled k y (begin_work q)).note) (handled k y (begin_work q)).note) (handled k y (begin_work q))
   pub commit_taken : CommitIsTaken k m q
+  pub release_taken : ReleaseIsTaken k m q
   pub withdraw_taken : WithdrawIsTaken k m q
   pub withdraw : (t : Ticket) → FollowsOk k.empty pool m (WithdrawEnds t) (withdrawn k t (begin_work q))
   pub retire : (n : NodeId) → FollowsOk k.empty pool m (RetireEnds n) (retired k n (begin_work q))

@@ -7,5 +7,6 @@ pub mod Ledger
 pub mod Nodes
 pub mod Replay
 pub mod Meaning
+pub mod Reasons
 pub mod Follows
 pub mod Chronicle

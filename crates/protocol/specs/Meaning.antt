@@ -1,20 +1,26 @@
 -- What an answered event means: of the world before it, u, and the world after it, v (docs/PROOFS.md,
 -- "What the notes mean").
-use Rattle.std.specs.Prelude.{◌≡◌, ℕ, ◌<◌, false, true, ◌⊎◌, Option, Some, None, ⊤, List, ◌++◌, Result, Ok, Err}
-use Rattle.protocol.specs.Lists.{In, nth}
-use Rattle.protocol.specs.Names.{Slot, is_private, NodeId, Ticket, Want}
-use Rattle.protocol.specs.Machine.{Grant, Granted, Message, Told, News, Ending, Committed, Released, Withdrawn, Died, Said, ToCoord, Machine, Has, Live}
+use Rattle.std.specs.Prelude.{◌≡◌, ◌≢◌, ℕ, ◌+◌, ◌<◌, Bool, false, true, if◌then◌else◌, ◌⊎◌, Option, Some, None, ⊤, List, [], ◌∷◌, ◌++◌, length, map, Result, Ok, Err}
+use Rattle.protocol.specs.Lists.{In, nth, set_nth}
+use Rattle.protocol.specs.Names.{Slot, slot_eq, is_private, NodeId, Life, Ask, Ticket, Digest, Want, tenure_wants}
+use Rattle.protocol.specs.Machine.{Grant, GrantedSlot, Granted, Message, Told, News, Confirmed, LineVersion, Ending, Committed, Released, Withdrawn, Died, Said, Fetches, Blob, ToCoord, Parked, Machine, Has, Live, line, version_of, digest_for, slots_of, written, hello, acquire, commit, release}
+use Rattle.farm_base.specs.declared.message.Request.{Request}
 use Rattle.farm_base.specs.declared.message.Request.TheVariants as request
 use Rattle.farm_base.specs.declared.message.FromCoord.TheVariants as message
+use Rattle.protocol.specs.declared.answer.How.TheVariants as how
 use Rattle.protocol.specs.declared.answer.CoordNote.{CoordNote}
 use Rattle.protocol.specs.declared.answer.CoordNote.TheVariants as coord
+use Rattle.protocol.specs.declared.answer.NodeNote.{NodeNote}
 use Rattle.protocol.specs.declared.answer.NodeNote.TheVariants as node
 use Rattle.protocol.specs.declared.answer.EventNote.{EventNote}
 use Rattle.protocol.specs.declared.answer.EventNote.TheVariants as note
+use Rattle.protocol.specs.declared.answer.CoordRefusal.TheVariants as coord_refusal
 use Rattle.protocol.specs.declared.answer.EventRefusal.{EventRefusal}
+use Rattle.protocol.specs.declared.answer.EventRefusal.TheVariants as refusal
 use Rattle.protocol.specs.declared.answer.Outcome.{Outcome}
-use Rattle.protocol.specs.World.{World}
-use Rattle.protocol.specs.Replay.{Event, Tenure, Deliver, Begin, Finish, Abort, Resend, Nudge, Withdraw, Prune, Retire, RestartNode, RestartCoordinator, Forge, FailSave}
+use Rattle.protocol.specs.World.{AskState, Open, Holding, Running, Finished, Over, Node, World, learn_bases, learn_versions, keep, has_life}
+use Rattle.protocol.specs.Nodes.{Left, news_of}
+use Rattle.protocol.specs.Replay.{Event, Tenure, Deliver, Begin, Finish, Abort, Resend, Nudge, Withdraw, Prune, Retire, RestartNode, RestartCoordinator, Forge, told_to}
 use Rattle.protocol.specs.Replay as replay
 use Rattle.protocol.specs.Safe.{InUse}
 
@@ -46,21 +52,11 @@ NoEnds g y = ⊥
 
 -- how an accepted event ends a live grant
 abbrev pub EndsAt : World → Event → EventNote → Grant → Ending → Type 0
-EndsAt u (replay.Ask n wants) said = NoEnds
-EndsAt u (Tenure n f) said = NoEnds
 EndsAt u (Deliver number) said = λ g y. (told : CoordNote) × (m : ToCoord) × (said ≡ note.Coord told) × (nth u.pool number ≡ Some (Said m)) × MessageEnds u.machine m told g y
-EndsAt u (Begin n t) said = NoEnds
-EndsAt u (Finish n t lefts) said = NoEnds
-EndsAt u (Abort n t) said = NoEnds
-EndsAt u (Resend n) said = NoEnds
-EndsAt u Nudge said = NoEnds
 EndsAt u (Withdraw t) said = WithdrawEnds t
-EndsAt u (Prune s) said = NoEnds
 EndsAt u (Retire n) said = RetireEnds n
-EndsAt u (RestartNode n) said = NoEnds
 EndsAt u RestartCoordinator said = RestartEnds
-EndsAt u (Forge n c) said = NoEnds
-EndsAt u (FailSave survivor) said = NoEnds
+EndsAt u e said = NoEnds
 
 -- the machine that an event finds: a restart finds what the record holds
 abbrev pub recorded : Machine → Option Machine → Machine
@@ -68,135 +64,248 @@ recorded m None = m
 recorded m (Some kept) = kept
 
 abbrev pub Finds : World → Event → Machine
-Finds u (replay.Ask n wants) = u.machine
-Finds u (Tenure n f) = u.machine
-Finds u (Deliver number) = u.machine
-Finds u (Begin n t) = u.machine
-Finds u (Finish n t lefts) = u.machine
-Finds u (Abort n t) = u.machine
-Finds u (Resend n) = u.machine
-Finds u Nudge = u.machine
-Finds u (Withdraw t) = u.machine
-Finds u (Prune s) = u.machine
-Finds u (Retire n) = u.machine
-Finds u (RestartNode n) = u.machine
 Finds u RestartCoordinator = recorded u.machine u.down
-Finds u (Forge n c) = u.machine
-Finds u (FailSave survivor) = u.machine
+Finds u e = u.machine
+
+-- ---- what lines gain
+
+-- the news of a Commit that was answered Committed
+abbrev pub commit_adds : List News → CoordNote → Slot → List LineVersion
+commit_adds news (coord.Committed t) s = version_of t (digest_for s news)
+commit_adds news told s = []
+
+abbrev pub request_adds : Request → CoordNote → Slot → List LineVersion
+request_adds (request.Commit t news) told s = commit_adds news told s
+request_adds r told s = []
+
+abbrev pub message_adds : Option Message → EventNote → Slot → List LineVersion
+message_adds (Some (Said y)) (note.Coord told) s = request_adds y.request told s
+message_adds o said s = []
+
+-- the empty content, in the slot that is pruned
+abbrev pub prune_adds : Digest → Slot → EventNote → Slot → List LineVersion
+prune_adds empty p (note.Coord (coord.Pruned t)) s = if slot_eq p s then record { ticket = t; digest = empty } ∷ [] else []
+prune_adds empty p said s = []
+
+-- what an accepted event adds to the line of a slot, `pool` having been sent
+abbrev pub adds : Digest → List Message → Event → EventNote → Slot → List LineVersion
+adds empty pool (Deliver number) said s = message_adds (nth pool number) said s
+adds empty pool (Prune p) said s = prune_adds empty p said s
+adds empty pool e said s = []
 
 -- ---- who is in use
 
 -- an accepted event that begins an execution of the node
 abbrev pub BeginsAt : Event → NodeId → Grant → Type 0
-BeginsAt (replay.Ask n wants) = λ n' g. ⊥
-BeginsAt (Tenure n f) = λ n' g. ⊥
-BeginsAt (Deliver number) = λ n' g. ⊥
 BeginsAt (Begin n t) = λ n' g. (n' ≡ n) × (g.ticket ≡ t)
-BeginsAt (Finish n t lefts) = λ n' g. ⊥
-BeginsAt (Abort n t) = λ n' g. ⊥
-BeginsAt (Resend n) = λ n' g. ⊥
-BeginsAt Nudge = λ n' g. ⊥
-BeginsAt (Withdraw t) = λ n' g. ⊥
-BeginsAt (Prune s) = λ n' g. ⊥
-BeginsAt (Retire n) = λ n' g. ⊥
-BeginsAt (RestartNode n) = λ n' g. ⊥
-BeginsAt RestartCoordinator = λ n' g. ⊥
-BeginsAt (Forge n c) = λ n' g. ⊥
-BeginsAt (FailSave survivor) = λ n' g. ⊥
+BeginsAt e = λ n' g. ⊥
 
 -- one that ends it
 abbrev pub StopsAt : Event → NodeId → Grant → Type 0
-StopsAt (replay.Ask n wants) = λ n' g. ⊥
-StopsAt (Tenure n f) = λ n' g. ⊥
-StopsAt (Deliver number) = λ n' g. ⊥
-StopsAt (Begin n t) = λ n' g. ⊥
 StopsAt (Finish n t lefts) = λ n' g. (n' ≡ n) × (g.ticket ≡ t)
 StopsAt (Abort n t) = λ n' g. (n' ≡ n) × (g.ticket ≡ t)
-StopsAt (Resend n) = λ n' g. ⊥
-StopsAt Nudge = λ n' g. ⊥
-StopsAt (Withdraw t) = λ n' g. ⊥
-StopsAt (Prune s) = λ n' g. ⊥
-StopsAt (Retire n) = λ n' g. ⊥
 StopsAt (RestartNode n) = λ n' g. n' ≡ n
-StopsAt RestartCoordinator = λ n' g. ⊥
-StopsAt (Forge n c) = λ n' g. ⊥
-StopsAt (FailSave survivor) = λ n' g. ⊥
+StopsAt e = λ n' g. ⊥
 
 -- no other execution begins or ends
 pub record Used (u : World) (e : Event) (v : World) : Type 0 where
   pub began : (n : NodeId) (g : Grant) (ws : List Want) → InUse v n g ws → InUse u n g ws ⊎ BeginsAt e n g
   pub stopped : (n : NodeId) (g : Grant) (ws : List Want) → InUse u n g ws → InUse v n g ws ⊎ StopsAt e n g
 
--- ---- what an answer says
+-- ---- what an answer of the coordinator says
 
 -- a live grant has the ticket
 abbrev pub IsLive : Machine → Ticket → Type 0
 IsLive m t = (g : Grant) × Live m g × (g.ticket ≡ t)
 
--- what an answer of the coordinator says of the machine before
+-- of the machine before
 abbrev pub CoordMeans : Machine → CoordNote → Type 0
-CoordMeans m (coord.Granted g) = ⊤
-CoordMeans m (coord.GrantedBefore g) = ⊤
-CoordMeans m coord.Parked = ⊤
 CoordMeans m (coord.Committed t) = IsLive m t
-CoordMeans m (coord.CommittedBefore t) = ⊤
-CoordMeans m (coord.Fenced t) = ⊤
 CoordMeans m (coord.Released t) = IsLive m t
-CoordMeans m (coord.Denied why) = ⊤
-CoordMeans m coord.OldLife = ⊤
-CoordMeans m coord.NodeRetired = ⊤
 CoordMeans m (coord.Withdrawn t) = IsLive m t
-CoordMeans m (coord.Pruned t) = ⊤
 CoordMeans m (coord.Retired n) = m.gone n.0 ≡ false
-CoordMeans m coord.Nudged = ⊤
-CoordMeans m coord.Nothing = ⊤
+CoordMeans m told = ⊤
 
 -- work that was told so: these ended, as its answer says
 abbrev pub Meant : Machine → (Grant → Ending → Type 0) → CoordNote → (ℕ → Option Ending) → Type 0
 Meant m ends told ending = Ended m ends ending × CoordMeans m told
 
--- what an accepted event did, and that it was told so
+-- the message is the grant's Acquire
+abbrev pub Asks : ToCoord → Grant → Type 0
+Asks y g = (g.node ≡ y.node) × (g.life ≡ y.life) × ((wants : List Want) × (tenure : Bool) × (y.request ≡ request.Acquire g.ask wants tenure))
+
+-- the ticket is on the line of each slot that the news name
+abbrev pub OnAll : Digest → Machine → Ticket → List News → Type 0
+OnAll empty m t news = (news ≢ []) × ((x : News) → In x news → (v : LineVersion) × In v (line empty m x.slot) × (v.ticket ≡ t))
+
+-- what the answer to a message says, m being the machine before, m' the machine after
+abbrev pub MessageMeans : Digest → ToCoord → Machine → CoordNote → Machine → List Message → Type 0
+MessageMeans empty y m (coord.Granted g) m' sends = Asks y g × Live m' g × (In (Granted g) m.made → ⊥) × In (Told (message.Granted g)) sends
+MessageMeans empty y m (coord.GrantedBefore g) m' sends = Asks y g × Live m' g × In (Told (message.Granted g)) sends
+MessageMeans empty y m coord.Parked m' sends = (p : Parked) × In p m'.parked × (p.node ≡ y.node) × (p.life ≡ y.life) × ((wants : List Want) × (tenure : Bool) × (y.request ≡ request.Acquire p.ask wants tenure))
+MessageMeans empty y m (coord.Committed t) m' sends = (news : List News) × (y.request ≡ request.Commit t news) × ((versions : List Confirmed) × In (Told (message.Committed y.node y.life t versions)) sends)
+MessageMeans empty y m (coord.CommittedBefore t) m' sends = (news : List News) × (y.request ≡ request.Commit t news) × OnAll empty m' t news × ((versions : List Confirmed) × In (Told (message.Committed y.node y.life t versions)) sends)
+-- what was ever fenced is on no line then or later: so says `Safe`
+MessageMeans empty y m (coord.Fenced t) m' sends = (news : List News) × (y.request ≡ request.Commit t news) × In (Told (message.Fenced y.node y.life t)) sends
+MessageMeans empty y m (coord.Released t) m' sends = y.request ≡ request.Release t
+MessageMeans empty y m (coord.Denied why) m' sends = (a : Ask) × (wants : List Want) × (tenure : Bool) × (y.request ≡ request.Acquire a wants tenure) × In (Told (message.Denied y.node y.life a why)) sends
+MessageMeans empty y m coord.OldLife m' sends = (m.gone y.node.0 ≡ false) × (y.life.0 < m.lives y.node.0) × (sends ≡ [])
+MessageMeans empty y m coord.NodeRetired m' sends = (m.gone y.node.0 ≡ true) × (sends ≡ [])
+MessageMeans empty y m coord.Nothing m' sends = (y.request ≡ request.Hello) ⊎ ((t : Ticket) × (y.request ≡ request.Release t))
+MessageMeans empty y m told m' sends = ⊥
+
+-- what the coordinator did at an accepted event
+abbrev pub CoordDid : Digest → World → Event → EventNote → Machine → List Message → Type 0
+CoordDid empty u (Deliver number) said m' sends = (y : ToCoord) → nth u.pool number ≡ Some (Said y) → (told : CoordNote) × (said ≡ note.Coord told) × MessageMeans empty y u.machine told m' sends
+CoordDid empty u Nudge said m' sends = said ≡ note.Coord coord.Nudged
+CoordDid empty u (Withdraw t) said m' sends = (said ≡ note.Coord (coord.Withdrawn t)) × IsLive u.machine t
+CoordDid empty u (Prune s) said m' sends = (t : Ticket) × (said ≡ note.Coord (coord.Pruned t)) × (u.machine.last < t.0)
+CoordDid empty u (Retire n) said m' sends = (said ≡ note.Coord (coord.Retired n)) × (u.machine.gone n.0 ≡ false) × (m'.gone n.0 ≡ true)
+CoordDid empty u RestartCoordinator said m' sends = said ≡ note.Restarted
+CoordDid empty u e said m' sends = ⊤
+
+-- a Grant that may be sent again: of an ask that was granted before, or at a nudge
+abbrev pub Again : EventNote → Grant → Type 0
+Again (note.Coord (coord.GrantedBefore g)) h = h ≡ g
+Again (note.Coord coord.Nudged) h = ⊤
+Again said h = ⊥
+
+-- what an accepted event made of the machine that it found, with what was sent
+pub record Carried (empty : Digest) (u : World) (e : Event) (said : EventNote) (sends : List Message) (m : Machine) : Type 0 where
+  pub ended : Ended (Finds u e) (EndsAt u e said) m.ending
+  -- what is granted is sent
+  pub granted : (g : Grant) → In (Granted g) m.made → In (Granted g) (Finds u e).made ⊎ In (Told (message.Granted g)) sends
+  -- what is sent as granted was made then, or is live and was sent again
+  pub sent : (g : Grant) → In (Told (message.Granted g)) sends → In (Granted g) m.made × ((In (Granted g) (Finds u e).made → ⊥) ⊎ (Again said g × Live m g))
+  -- each line gained what the event adds, and nothing else
+  pub lines : (s : Slot) → line empty m s ≡ line empty (Finds u e) s ++ adds empty u.pool e said s
+  pub told : (told : CoordNote) → said ≡ note.Coord told → CoordMeans u.machine told
+  pub did : CoordDid empty u e said m sends
+
+-- ---- what an answer of a node says
+
+-- the node that an event is for
+abbrev pub addressee : Option Message → Option NodeId
+addressee (Some (Told y)) = Some (told_to y)
+addressee (Some (Fetches y)) = Some y.node
+addressee (Some (Blob n c)) = Some n
+addressee o = None
+
+abbrev pub node_at : World → Event → Option NodeId
+node_at u (replay.Ask n wants) = Some n
+node_at u (Tenure n f) = Some n
+node_at u (Deliver number) = addressee (nth u.pool number)
+node_at u (Begin n t) = Some n
+node_at u (Finish n t lefts) = Some n
+node_at u (Abort n t) = Some n
+node_at u (Resend n) = Some n
+node_at u (RestartNode n) = Some n
+node_at u (Forge n c) = Some n
+node_at u e = None
+
+-- the message that an event delivers
+abbrev pub heard_at : World → Event → Option Message
+heard_at u (Deliver number) = nth u.pool number
+heard_at u e = None
+
+-- the event asks for these wants
+abbrev pub AsksFor : Event → List Want → Bool → Type 0
+AsksFor (replay.Ask n wants) = λ ws tenure. (ws ≡ wants) × (tenure ≡ false)
+AsksFor (Tenure n f) = λ ws tenure. (ws ≡ tenure_wants f) × (tenure ≡ true)
+AsksFor e = λ ws tenure. ⊥
+
+-- what an execution leaves
+abbrev pub lefts_at : Event → List Left
+lefts_at (Finish n t lefts) = lefts
+lefts_at e = []
+
+abbrev pub IsAsk : Node → ℕ → AskState → Type 0
+IsAsk x a s = nth x.asks a ≡ Some s
+
+-- nothing that was stored goes, and the contents are stored under their digests
+pub record Stored (sha : List ℕ → Digest) (contents : List (List ℕ)) (store store' : Digest → Option (List ℕ)) : Type 0 where
+  pub kept : (d : Digest) (c : List ℕ) → store d ≡ Some c → store' d ≡ Some c
+  pub named : (d : Digest) (c : List ℕ) → store' d ≡ Some c → (store d ≡ Some c) ⊎ (In c contents × (sha c ≡ d))
+  pub all : (c : List ℕ) → In c contents → (c' : List ℕ) × (store' (sha c) ≡ Some c')
+
+-- the node finished with nothing to write, or sent its news
+abbrev pub Leaves : (List ℕ → Digest) → List Left → NodeId → Node → Grant → List Want → ℕ → List Message → Node → Type 0
+Leaves sha [] n x g wants a sends x' = (sends ≡ release n x.life g.ticket ∷ []) × (x' ≡ record x { asks = set_nth x.asks a (Over how.Other) })
+Leaves sha (l ∷ ls) n x g wants a sends x' =
+    let news : List News = news_of sha (l ∷ ls) in
+    (sends ≡ commit n x.life g.ticket news ∷ []) × (slots_of news ≡ written g.slots)
+    × Stored sha (map (λ (z : Left). z.content) (l ∷ ls)) x.store x'.store × (x' ≡ record x { asks = set_nth x.asks a (Finished wants g news); store = x'.store })
+
+-- what the answer of a node says, x being the node before, x' the node after
+abbrev pub NodeMeans : (List ℕ → Digest) → Option Message → Event → NodeId → Node → NodeNote → List Message → Node → Type 0
+NodeMeans sha heard e n x (node.Asked a) sends x' = (wants : List Want) × (tenure : Bool) × AsksFor e wants tenure × (a.0 ≡ length x.asks + 1)
+    × (sends ≡ acquire n x.life a wants tenure ∷ []) × (x' ≡ record x { asks = x.asks ++ Open wants tenure ∷ [] })
+NodeMeans sha heard e n x (node.Begun t) sends x' = (a : ℕ) × (wants : List Want) × (g : Grant) × (r : Bool) × IsAsk x a (Holding wants g r) × (g.ticket ≡ t)
+    × ((u : GrantedSlot) → In u g.slots → (c : List ℕ) × (x.store u.digest ≡ Some c))
+    × (sends ≡ []) × (x' ≡ record x { asks = set_nth x.asks a (Running wants g r) })
+NodeMeans sha heard e n x (node.Finished t) sends x' = (a : ℕ) × (wants : List Want) × (g : Grant) × (r : Bool) × IsAsk x a (Running wants g r) × (g.ticket ≡ t) × Leaves sha (lefts_at e) n x g wants a sends x'
+NodeMeans sha heard e n x (node.Aborted t) sends x' = (a : ℕ) × (wants : List Want) × (g : Grant) × (r : Bool) × (IsAsk x a (Holding wants g r) ⊎ IsAsk x a (Running wants g r)) × (g.ticket ≡ t)
+    × (sends ≡ release n x.life t ∷ []) × (x' ≡ record x { asks = set_nth x.asks a (Over how.Other) })
+NodeMeans sha heard e n x node.Resent sends x' = In (hello n x.life) sends × (x' ≡ x)
+NodeMeans sha heard e n x (node.Life l) sends x' = (l.0 ≡ x.life.0 + 1) × (sends ≡ hello n l ∷ []) × (x' ≡ has_life x l.0)
+NodeMeans sha heard e n x (node.Took g) sends x' = (heard ≡ Some (Told (message.Granted g))) × (g.life ≡ x.life) × ((wants : List Want) × (tenure : Bool) × IsAsk x g.ask.0 (Open wants tenure)
+    × (x' ≡ record x { asks = set_nth x.asks g.ask.0 (Holding wants g false); known = learn_bases g.slots x.known }))
+NodeMeans sha heard e n x (node.GaveBack t) sends x' = (g : Grant) × (heard ≡ Some (Told (message.Granted g))) × (g.ticket ≡ t) × (g.life ≡ x.life) × (sends ≡ release n x.life t ∷ []) × (x' ≡ x)
+NodeMeans sha heard e n x (node.Learned t) sends x' = (l : Life) × (versions : List Confirmed) × (heard ≡ Some (Told (message.Committed n l t versions))) × (l ≡ x.life)
+    × ((a : ℕ) × (wants : List Want) × (g : Grant) × (news : List News) × IsAsk x a (Finished wants g news) × (g.ticket ≡ t) × (sends ≡ []) × (x' ≡ record x { asks = set_nth x.asks a (Over how.Committed); known = learn_versions versions x.known }))
+NodeMeans sha heard e n x (node.Dropped t) sends x' = (l : Life) × (heard ≡ Some (Told (message.Fenced n l t))) × (l ≡ x.life)
+    × ((a : ℕ) × (wants : List Want) × (g : Grant) × (news : List News) × IsAsk x a (Finished wants g news) × (g.ticket ≡ t) × (sends ≡ []) × (x' ≡ record x { asks = set_nth x.asks a (Over how.Fenced) }))
+NodeMeans sha heard e n x (node.Denied why) sends x' = (l : Life) × (a : Ask) × (heard ≡ Some (Told (message.Denied n l a why))) × (l ≡ x.life)
+    × ((wants : List Want) × (tenure : Bool) × IsAsk x a.0 (Open wants tenure) × (sends ≡ []) × (x' ≡ record x { asks = set_nth x.asks a.0 (Over (how.Denied why)) }))
+NodeMeans sha heard e n x (node.Recalled t) sends x' = (l : Life) × (heard ≡ Some (Told (message.Recall n l t))) × (l ≡ x.life)
+    × ((a : ℕ) × (wants : List Want) × (g : Grant) × (g.ticket ≡ t) × (sends ≡ []) × (
+        (IsAsk x a (Holding wants g false) × (x' ≡ record x { asks = set_nth x.asks a (Holding wants g true) }))
+      ⊎ (IsAsk x a (Running wants g false) × (x' ≡ record x { asks = set_nth x.asks a (Running wants g true) }))))
+NodeMeans sha heard e n x node.SentBlob sends x' = (from : NodeId) × (c : List ℕ) × (d : Digest) × (x.store d ≡ Some c) × (sends ≡ Blob from c ∷ []) × (x' ≡ x)
+NodeMeans sha heard e n x node.BlobTaken sends x' = (c : List ℕ) × ((heard ≡ Some (Blob n c)) ⊎ (e ≡ Forge n c)) × (x.store (sha c) ≡ None) × (sends ≡ []) × (x' ≡ record x { store = keep (sha c) c x.store })
+NodeMeans sha heard e n x node.OldLife sends x' = (sends ≡ []) × (x' ≡ x)
+NodeMeans sha heard e n x node.Nothing sends x' = (sends ≡ []) × (x' ≡ x)
+
+-- a node's answer leaves the machine
+abbrev pub NodeDid : (List ℕ → Digest) → World → Event → NodeNote → List Message → World → Type 0
+NodeDid sha u e told sends v = (v.machine ≡ u.machine) × ((n : NodeId) × (node_at u e ≡ Some n) × NodeMeans sha (heard_at u e) e n (u.nodes n.0) told sends (v.nodes n.0))
+
+-- who is in use then
 abbrev pub Did : World → Event → EventNote → World → Type 0
-Did u (replay.Ask n wants) said v = ⊤
-Did u (Tenure n f) said v = ⊤
-Did u (Deliver number) said v = ⊤
 Did u (Begin n t) said v = (said ≡ note.Node (node.Begun t)) × ((g : Grant) × (ws : List Want) × (g.ticket ≡ t) × (InUse u n g ws → ⊥) × InUse v n g ws)
 Did u (Finish n t lefts) said v = (said ≡ note.Node (node.Finished t)) × ((g : Grant) × (ws : List Want) × (g.ticket ≡ t) × InUse u n g ws × (InUse v n g ws → ⊥))
 -- of an execution, or of a grant that wasn't begun
 Did u (Abort n t) said v = (said ≡ note.Node (node.Aborted t)) × ((g : Grant) (ws : List Want) → g.ticket ≡ t → InUse v n g ws → ⊥)
-Did u (Resend n) said v = ⊤
-Did u Nudge said v = ⊤
-Did u (Withdraw t) said v = (said ≡ note.Coord (coord.Withdrawn t)) × IsLive u.machine t
-Did u (Prune s) said v = ⊤
-Did u (Retire n) said v = (said ≡ note.Coord (coord.Retired n)) × (u.machine.gone n.0 ≡ false) × (v.machine.gone n.0 ≡ true)
 Did u (RestartNode n) said v = (g : Grant) (ws : List Want) → InUse v n g ws → ⊥
-Did u RestartCoordinator said v = said ≡ note.Restarted
-Did u (Forge n c) said v = ⊤
-Did u (FailSave survivor) said v = ⊤
+Did u e said v = ⊤
 
 -- an accepted event
-pub record Answered (u : World) (e : Event) (said : EventNote) (v : World) : Type 0 where
-  pub ended : Ended (Finds u e) (EndsAt u e said) v.machine.ending
+pub record Answered (sha : List ℕ → Digest) (u : World) (e : Event) (said : EventNote) (v : World) : Type 0 where
   pub sent : List Message
   pub pool : v.pool ≡ u.pool ++ sent
-  -- what is granted is sent
-  pub granted : (g : Grant) → In (Granted g) v.machine.made → In (Granted g) (Finds u e).made ⊎ In (Told (message.Granted g)) sent
+  -- a coordinator that is down stays so until it restarts
+  pub down : (v.down ≡ u.down) ⊎ ((e ≡ RestartCoordinator) × (v.down ≡ None))
+  pub carried : Carried (sha []) u e said sent v.machine
+  pub node : (told : NodeNote) → said ≡ note.Node told → NodeDid sha u e told sent v
+  -- no other node changes
+  pub others : (j : NodeId) → (v.nodes j.0 ≡ u.nodes j.0) ⊎ (node_at u e ≡ Some j)
   pub used : Used u e v
-  pub told : (told : CoordNote) → said ≡ note.Coord told → CoordMeans u.machine told
   pub did : Did u e said v
 
--- what the record holds then is the machine before, or what the event would have made of it
-abbrev pub Survives : World → Event → Machine → Type 0
-Survives u e m = (m ≡ u.machine) ⊎ ((said : EventNote) × Ended u.machine (EndsAt u e said) m.ending)
+-- what the record holds after a refused event: the machine before, or what the event would have made of it
+abbrev pub Survives : (List ℕ → Digest) → World → Event → Machine → Type 0
+Survives sha u e m = (m ≡ u.machine) ⊎ ((told : CoordNote) × (sends : List Message) × Carried (sha []) u e (note.Coord told) sends m)
 
--- a refused event changes no lease, sends nothing, and leaves each node's asks; a save may have failed
-pub record Unchanged (u : World) (e : Event) (v : World) : Type 0 where
-  pub down : (v.down ≡ u.down) ⊎ ((m : Machine) × (v.down ≡ Some m) × Survives u e m)
+-- a refused event changes no lease, sends nothing, and leaves what each node keeps, asks and knows; where its save
+-- failed the coordinator is down
+pub record Unchanged (sha : List ℕ → Digest) (u : World) (e : Event) (r : EventRefusal) (v : World) : Type 0 where
+  pub down : (v.down ≡ u.down) ⊎ ((r ≡ refusal.Coord coord_refusal.SaveFault) × ((m : Machine) × (v.down ≡ Some m) × Survives sha u e m))
   pub machine : v.machine ≡ u.machine
   pub pool : v.pool ≡ u.pool
-  pub asks : (n : ℕ) → (v.nodes n).asks ≡ (u.nodes n).asks
+  -- a node whose greatest life is over is down for good
+  pub nodes : (n : ℕ) → (v.nodes n ≡ u.nodes n) ⊎ ((e ≡ RestartNode (record { 0 = n })) × (v.nodes n ≡ record (u.nodes n) { spent = true }))
 
 -- an event with this outcome, from the world before it to the world after it
-abbrev pub Means : World → Event → Result Outcome EventRefusal → World → Type 0
-Means u e (Ok o) v = Answered u e o.note v
-Means u e (Err r) v = Unchanged u e v
+abbrev pub Means : (List ℕ → Digest) → World → Event → Result Outcome EventRefusal → World → Type 0
+Means sha u e (Ok o) v = Answered sha u e o.note v
+Means sha u e (Err r) v = Unchanged sha u e r v

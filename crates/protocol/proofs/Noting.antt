@@ -1,0 +1,434 @@
+-- What a node's answers say, and when each of its refusals comes.
+use Rattle.std.proofs.Common.{◌≡◌, ◌≢◌, ℕ, zero, suc, ◌+◌, ◌≤◌, List, [], ◌∷◌, ◌++◌, ◌⊎◌, Bool, true, false, not, ◌&&◌, ◌||◌, eqb, length, map, Option, Some, None, slice_get, Ok, Err, refl, sym, ◌∙◌, ap, subst, inl, inr, arith}
+use Rattle.std.proofs.lemmas.Bool.Decides.{nat_tests}
+use Rattle.std.specs.List.{list_any, list_all}
+use Rattle.std.specs.Prelude.{nat_lt, is_some}
+use Rattle.protocol.specs.Lists.{In, nth, set_nth}
+use Rattle.protocol.specs.Names.{Shared, slots_eq, digest_eq, NodeId, Life, Ask, Ticket, Digest, Slot, Want, FolderName, wants_shared, tenure_wants}
+use Rattle.protocol.specs.Machine.{GrantedSlot, Confirmed, Grant, Message, Told, Fetches, Blob, FromCoord, slots_of, written}
+use Rattle.farm_base.specs.declared.message.FromCoord.TheVariants as told
+use Rattle.farm_base.specs.declared.message.Why.{Why}
+use Rattle.protocol.specs.declared.answer.How.TheVariants as how
+use Rattle.protocol.specs.declared.answer.NodeRefusal.{NodeRefusal}
+use Rattle.protocol.specs.declared.answer.NodeRefusal.TheVariants as refusal
+use Rattle.protocol.specs.declared.answer.NodeNote.{NodeNote}
+use Rattle.protocol.specs.declared.answer.NodeNote.TheVariants as note
+use Rattle.protocol.specs.Ledger.{Limits}
+use Rattle.protocol.specs.World.{AskState, Open, Holding, Running, Finished, Over, Node, keeps, keep, RunsTenure, IsTenureOf, Asked_tenure, Held_tenure, Running_tenure, Finished_tenure, Uses, Open_uses, Held_uses, Running_uses, Idle}
+use Rattle.protocol.specs.Nodes.{NodeWork, NodeAnswer, guard, Place, wants_folder, is_tenure_of, is_home_of, uses, at_home, others_use, in_use, Held, Sent, first, first_of, under, held, running, held_or_running, finished, recallable, is_stored, all_stored, is_base, asked, asked_tenure, beginning, begun, Left, news_of, stored, leaving, finishing, finished_with, aborting, aborted, resent, gives_back, granted, learned, dropped, denied, recalled, of_life, heard, fetched, brought, unless_spent, fetches}
+use Rattle.protocol.specs.Replay.{Event, Tenure, Deliver, Begin, Finish, Abort, Resend, Forge, told_to}
+use Rattle.protocol.specs.Replay as replay
+use Rattle.protocol.specs.Meaning.{Stored, NodeMeans}
+use Rattle.protocol.specs.Reasons.{HoldsUnder, RunsUnder, NodeBecause}
+use Rattle.protocol.proofs.Base.{cases_bool, cases_option, true_false, not_true, not_false, and_both, or_false, none_some, some_is, eqb_is, eqb_same, digest_eq_is, digest_eq_same, life_is, any_in, from_any, nth_in}
+use Rattle.protocol.proofs.Following.{slots_eq_is, slots_eq_same}
+use Rattle.protocol.proofs.Moving.{found, held_is, running_is, either_is, finished_is, recallable_is, all_in, some_home, wants_folder_in, wants_folder_is, tenure_test, idle_from, stored_some, get_from}
+use Rattle.protocol.proofs.Using.{GrantOf, OneEach}
+
+-- ---- what tests say, the other way round
+
+below_not : (a b : ℕ) → not (nat_lt a b) ≡ true → b ≤ a
+below_not a b h = grind (arith, nat_tests)
+
+below_is : (a b : ℕ) → not (nat_lt a b) ≡ false → b ≤ a → ⊥
+below_is a b h = λ le. grind (arith, nat_tests)
+
+not_all : {A : Type 0} (test : A → Bool) (xs : List A) → list_all test xs ≡ false → (x : A) × In x xs × (test x ≡ false)
+not_all test [] h = (let bad : true ≡ false = h in cc)
+not_all test (x ∷ xs) h = elim (cases_bool (test x)) [
+  | inl t ↦ (let r = not_all test xs (rw t at h) in (r.0, inr r.1, r.2))
+  | inr f ↦ (x, inl refl, f)
+]
+
+tenure_is : (f : FolderName) (s : AskState) → is_tenure_of f s ≡ true → IsTenureOf f s
+tenure_is f (Open wants tenure) h = (let b = and_both tenure (wants_folder f wants) h in let w = wants_folder_in f wants b.1 in subst (λ t. IsTenureOf f (Open wants t)) (sym b.0) (Asked_tenure w.0 wants w.1 w.2))
+tenure_is f (Holding wants g r) h = (let b = and_both g.tenure (wants_folder f wants) h in let w = wants_folder_in f wants b.1 in Held_tenure w.0 wants g r w.1 w.2 b.0)
+tenure_is f (Running wants g r) h = (let b = and_both g.tenure (wants_folder f wants) h in let w = wants_folder_in f wants b.1 in Running_tenure w.0 wants g r w.1 w.2 b.0)
+tenure_is f (Finished wants g news) h = (let b = and_both g.tenure (wants_folder f wants) h in let w = wants_folder_in f wants b.1 in Finished_tenure w.0 wants g news w.1 w.2 b.0)
+tenure_is f (Over how) h = (let bad : false ≡ true = h in cc)
+
+uses_is : (f : FolderName) (s : AskState) → uses f s ≡ true → Uses f s
+uses_is f (Open wants tenure) h = (let w = wants_folder_in f wants h in Open_uses w.0 wants tenure w.1 w.2)
+uses_is f (Holding wants g r) h = (let w = wants_folder_in f wants h in Held_uses w.0 wants g r w.1 w.2)
+uses_is f (Running wants g r) h = (let w = wants_folder_in f wants h in Running_uses w.0 wants g r w.1 w.2)
+uses_is f (Finished wants g news) h = (let bad : false ≡ true = h in cc)
+uses_is f (Over how) h = (let bad : false ≡ true = h in cc)
+
+home_is : (f : FolderName) (asks : List AskState) → RunsTenure asks f false → list_any (is_home_of f) asks ≡ true
+home_is f asks (a, wants, g, w, at, tenure, i, e) =
+    let is : is_home_of f (Running wants g false) ≡ true = (let v = wants_folder_is f wants w i e in rw (tenure, v) refl) in
+    any_in (is_home_of f) (Running wants g false) asks (nth_in asks a (Running wants g false) at) is
+
+-- an ask other than the a-th uses one of the folders
+others_some : (a : ℕ) (wants : List Want) (ss : List AskState) (k : ℕ) → others_use a wants ss k ≡ true → (j : ℕ) × (s : AskState) × (w : Want) × (slice_get ss j ≡ Some s) × (k + j + 1 ≢ a) × In w wants × (uses w.folder s ≡ true)
+others_some a wants [] k h = (let bad : false ≡ true = h in cc)
+others_some a wants (x ∷ xs) k h = elim (cases_bool (not (eqb (k + 1) a) && list_any (λ (w : Want). uses w.folder x) wants)) [
+  | inl t ↦ (let b = and_both (not (eqb (k + 1) a)) (list_any (λ (w : Want). uses w.folder x) wants) t in
+      let r = from_any (λ (w : Want). uses w.folder x) wants b.1 in
+      (0, x, r.0, refl, λ e. true_false (eqb (k + 1) a) (let at : k + 1 ≡ a = (let z : k + 1 ≡ k + 0 + 1 = omega arith in z ∙ e) in subst (λ z. eqb (k + 1) z ≡ true) at (eqb_same (k + 1))) (not_true (eqb (k + 1) a) b.0), r.1, r.2))
+  | inr f ↦ (let r = others_some a wants xs (k + 1) (rw f at h) in
+      (suc r.0, r.1, r.2, r.3, λ e. r.4 (let z : k + 1 + r.0 + 1 ≡ k + suc r.0 + 1 = omega arith in z ∙ e), r.5, r.6))
+]
+
+not_idle : (asks : List AskState) (a : ℕ) (wants : List Want) (g : Grant) → in_use asks a wants g ≡ true → Idle asks a wants g → ⊥
+not_idle asks a wants g h idle =
+    let b = and_both g.tenure (others_use a wants asks 0) h in
+    let r = others_some a wants asks 0 b.1 in
+    idle b.0 r.2 r.5 (suc r.0) r.1 r.3 (λ e. r.4 (let z : 0 + r.0 + 1 ≡ suc r.0 = omega arith in z ∙ e)) (uses_is r.2.folder r.1 r.6)
+
+first_none : {A : Type 0} (test : AskState → Option A) (ss : List AskState) (k : ℕ) → first test ss k ≡ None → (j : ℕ) (s : AskState) → slice_get ss j ≡ Some s → test s ≡ None
+first_none test [] k h j s e = none_some s e
+first_none {A} test (x ∷ xs) k h j s e = elim (cases_option (test x)) [
+  | inr v ↦ (let bad : Some (k + 1, v.0) ≡ None = rw v.1 at h in none_some (k + 1, v.0) (sym bad))
+  | inl none ↦ by j e none (first_none test xs (k + 1) (rw none at h))
+]
+  where
+    by : (j : ℕ) → slice_get (x ∷ xs) j ≡ Some s → test x ≡ None → ((j : ℕ) (s : AskState) → slice_get xs j ≡ Some s → test s ≡ None) → test s ≡ None
+    by zero e none rest = ap test (sym (some_is x s e)) ∙ none
+    by (suc j) e none rest = rest j s e
+
+none_at : {A : Type 0} (test : AskState → Option A) (asks : List AskState) → first test asks 0 ≡ None → (a : ℕ) (s : AskState) → nth asks a ≡ Some s → test s ≡ None
+none_at test asks h zero s e = none_some s e
+none_at test asks h (suc a) s e = first_none test asks 0 h a s e
+
+under_some : {A : Type 0} (g : Grant) (t : Ticket) (x : A) → g.ticket ≡ t → under g t x ≡ Some x
+under_some g t x e = (let same : eqb g.ticket.0 t.0 ≡ true = subst (λ (z : Ticket). eqb g.ticket.0 z.0 ≡ true) e (eqb_same g.ticket.0) in rw same refl)
+
+-- ---- contents
+
+keep_named : (d e : Digest) (c b : List ℕ) (store : Digest → Option (List ℕ)) → keep d c store e ≡ Some b → (store e ≡ Some b) ⊎ ((e ≡ d) × (b ≡ c))
+keep_named d e c b store h = elim (cases_bool (digest_eq e d)) [
+  | inl t ↦ (let is : Some c ≡ Some b = rw t at h in inr (digest_eq_is e d t, sym (some_is c b is)))
+  | inr f ↦ inl (rw f at h)
+]
+
+keep-same : (d : Digest) (c : List ℕ) (store : Digest → Option (List ℕ)) → keep d c store d ≡ Some c
+keep-same d c store = (let e = digest_eq_same d in rw e refl)
+
+-- what is stored stays where a content is kept under a digest that has none
+keep_kept : (d e : Digest) (c b : List ℕ) (store : Digest → Option (List ℕ)) → store d ≡ None → store e ≡ Some b → keep d c store e ≡ Some b
+keep_kept d e c b store none h = elim (cases_bool (digest_eq e d)) [
+  | inl t ↦ none_some b (sym none ∙ ap store (sym (digest_eq_is e d t)) ∙ h)
+  | inr f ↦ rw f h
+]
+
+not_some : (o : Option (List ℕ)) → is_some o ≡ false → o ≡ None
+not_some None h = refl
+not_some (Some c) h = (let bad : true ≡ false = h in cc)
+
+all_stored_so : (sha : List ℕ → Digest) (lefts : List Left) (store : Digest → Option (List ℕ)) → Stored sha (map (λ (z : Left). z.content) lefts) store (stored sha lefts store)
+all_stored_so sha [] store = record { kept = λ d c e. e; named = λ d c e. inl e; all = λ c i. absurd i }
+all_stored_so sha (x ∷ xs) store = elim (cases_bool (is_some (store (sha x.content)))) [
+  | inl t ↦ (let r = all_stored_so sha xs store in let old = stored_some (store (sha x.content)) t in rw t (record {
+    kept = r.kept;
+    named = λ d c e. elim (r.named d c e) [ inl o ↦ inl o | inr n ↦ inr (inr n.0, n.1) ];
+    all = λ c i. elim i [
+      | inl e ↦ (old.0, r.kept (sha c) old.0 (ap (λ z. store (sha z)) e ∙ old.1))
+      | inr j ↦ r.all c j
+    ];
+  }))
+  | inr f ↦ (let none = not_some (store (sha x.content)) f in
+      let store' : Digest → Option (List ℕ) = keep (sha x.content) x.content store in
+      let r = all_stored_so sha xs store' in rw f (record {
+    kept = λ d c e. r.kept d c (keep_kept (sha x.content) d x.content c store none e);
+    named = λ d c e. elim (r.named d c e) [
+      | inl o ↦ elim (keep_named (sha x.content) d x.content c store o) [ inl q ↦ inl q | inr q ↦ inr (inl q.1, ap sha q.1 ∙ sym q.0) ]
+      | inr n ↦ inr (inr n.0, n.1)
+    ];
+    all = λ c i. elim i [
+      | inl e ↦ (x.content, r.kept (sha c) x.content (ap (λ z. store' (sha z)) e ∙ keep-same (sha x.content) x.content store))
+      | inr j ↦ r.all c j
+    ];
+  }))
+]
+
+-- ---- answers
+
+module _ (sha : List ℕ → Digest) (k : Limits) (n : NodeId) (size : ℕ) (x : Node) (one : OneEach x.asks) where
+  abbrev at : Place
+  at = record { node = n; nodes = size }
+
+  abbrev Means : Option Message → Event → NodeWork → Type 0
+  Means d e w = NodeMeans sha d e n x w.note w.sends w.node
+
+  -- what is accepted means this, and nothing speaks against it; a refusal has its reason
+  abbrev pub Exact : Option Message → Event → NodeAnswer → Type 0
+  Exact d e (Ok w) = Means d e w × ((r : NodeRefusal) → NodeBecause k e x r → ⊥)
+  Exact d e (Err r) = NodeBecause k e x r
+
+  on_guard : (d : Option Message) (e : Event) (b : Bool) (r : NodeRefusal) (a : NodeAnswer) → (b ≡ true → NodeBecause k e x r) → (b ≡ false → Exact d e a) → Exact d e (guard b r a)
+  on_guard d e true r a h g = h refl
+  on_guard d e false r a h g = g refl
+
+  -- ---- asks
+
+  pub asked_exact : (wants : List Want) → Exact None (replay.Ask n wants) (asked k at wants x)
+  asked_exact wants =
+      let e : Event = replay.Ask n wants in
+      on_guard None e x.spent refusal.LivesSpent _ (λ down. down) (λ up. on_guard None e (not (at_home x.asks wants)) refusal.NotHomeHere _
+      (λ away. (let r = not_all (λ (w : Want). not (wants_shared w) || list_any (is_home_of w.folder) x.asks) wants (not_true (at_home x.asks wants) away) in
+      let o = or_false (not (wants_shared r.0)) (list_any (is_home_of r.0.folder) x.asks) r.2 in
+      (r.0, r.1, not_false (wants_shared r.0) o.0, λ runs. true_false (list_any (is_home_of r.0.folder) x.asks) (home_is r.0.folder x.asks runs) o.1)))
+      (λ home. on_guard None e (not (nat_lt (length x.asks) k.greatest)) refusal.AsksSpent _ (below_not (length x.asks) k.greatest)
+      (λ left. ((wants, false, (refl, refl), refl, refl, refl), none up home left))))
+    where
+      none : x.spent ≡ false → not (at_home x.asks wants) ≡ false → not (nat_lt (length x.asks) k.greatest) ≡ false → (r : NodeRefusal) → NodeBecause k (replay.Ask n wants) x r → ⊥
+      none up home left refusal.LivesSpent h = true_false x.spent h up
+      none up home left refusal.NotHomeHere (w, i, shared, away) =
+          (let t : (not (wants_shared w) || list_any (is_home_of w.folder) x.asks) ≡ true = all_in (λ (v : Want). not (wants_shared v) || list_any (is_home_of v.folder) x.asks) wants (not_false (at_home x.asks wants) home) w i in
+          away (some_home w.folder x.asks (rw shared at t)))
+      none up home left refusal.AsksSpent h = below_is (length x.asks) k.greatest left h
+      none up home left r h = h
+
+  pub tenure_exact : (f : FolderName) → Exact None (Tenure n f) (asked_tenure k at f x)
+  tenure_exact f =
+      let e : Event = Tenure n f in
+      let g : FolderName = record f { mode = Shared } in
+      on_guard None e x.spent refusal.LivesSpent _ (λ down. down) (λ up. on_guard None e (list_any (is_tenure_of g) x.asks) refusal.TenureHere _
+      (λ some. (let r = from_any (is_tenure_of g) x.asks some in let a = get_from r.0 x.asks r.1 in (suc a.0, r.0, a.1, tenure_is g r.0 r.2)))
+      (λ idle. on_guard None e (not (nat_lt (length x.asks) k.greatest)) refusal.AsksSpent _ (below_not (length x.asks) k.greatest)
+      (λ left. ((tenure_wants f, true, (refl, refl), refl, refl, refl), none up idle left))))
+    where
+      none : x.spent ≡ false → list_any (is_tenure_of (record f { mode = Shared })) x.asks ≡ false → not (nat_lt (length x.asks) k.greatest) ≡ false → (r : NodeRefusal) → NodeBecause k (Tenure n f) x r → ⊥
+      none up idle left refusal.LivesSpent h = true_false x.spent h up
+      none up idle left refusal.TenureHere (a, s, i, tenure) = true_false (list_any (is_tenure_of (record f { mode = Shared })) x.asks) (any_in (is_tenure_of (record f { mode = Shared })) s x.asks (nth_in x.asks a s i) (tenure_test (record f { mode = Shared }) s tenure)) idle
+      none up idle left refusal.AsksSpent h = below_is (length x.asks) k.greatest left h
+      none up idle left r h = h
+
+  -- ---- executions
+
+  holding_is : (wants wants' : List Want) (g g' : Grant) (r r' : Bool) → Holding wants g r ≡ Holding wants' g' r' → g ≡ g'
+  holding_is wants wants' g g' r r' e = cc
+
+  running_grant : (wants wants' : List Want) (g g' : Grant) (r r' : Bool) → Running wants g r ≡ Running wants' g' r' → g ≡ g'
+  running_grant wants wants' g g' r r' e = cc
+
+  running_wants : (wants wants' : List Want) (g g' : Grant) (r r' : Bool) → Running wants g r ≡ Running wants' g' r' → wants ≡ wants'
+  running_wants wants wants' g g' r r' e = cc
+
+  none_held : (t : Ticket) → first (held t) x.asks 0 ≡ None → (a : ℕ) (wants : List Want) (g : Grant) → HoldsUnder x t a wants g → ⊥
+  none_held t e a wants g (at, ticket) =
+      let h : Held = record { wants = wants; grant = g; recalled = at.0 } in
+      none_some h (sym (none_at (held t) x.asks e a (Holding wants g at.0) at.1) ∙ under_some g t h ticket)
+
+  none_running : (t : Ticket) → first (running t) x.asks 0 ≡ None → (a : ℕ) (wants : List Want) (g : Grant) → RunsUnder x t a wants g → ⊥
+  none_running t e a wants g (at, ticket) =
+      let h : Held = record { wants = wants; grant = g; recalled = at.0 } in
+      none_some h (sym (none_at (running t) x.asks e a (Running wants g at.0) at.1) ∙ under_some g t h ticket)
+
+  none_either : (t : Ticket) → first (held_or_running t) x.asks 0 ≡ None → (a : ℕ) (wants : List Want) (g : Grant) → HoldsUnder x t a wants g ⊎ RunsUnder x t a wants g → ⊥
+  none_either t e a wants g (inl (at, ticket)) =
+      (let h : Held = record { wants = wants; grant = g; recalled = at.0 } in
+      none_some h (sym (none_at (held_or_running t) x.asks e a (Holding wants g at.0) at.1) ∙ under_some g t h ticket))
+  none_either t e a wants g (inr (at, ticket)) =
+      (let h : Held = record { wants = wants; grant = g; recalled = at.0 } in
+      none_some h (sym (none_at (held_or_running t) x.asks e a (Running wants g at.0) at.1) ∙ under_some g t h ticket))
+
+  beginning_exact : (t : Ticket) (o : Option (ℕ × Held)) → first (held t) x.asks 0 ≡ o → x.spent ≡ false → Exact None (Begin n t) (beginning t x o)
+  beginning_exact t None e up = none_held t e
+  beginning_exact t (Some r) e up =
+      let f = found (held t) x.asks r e in
+      let h : Held = r.1 in
+      let is = held_is t f.0 h f.2 in
+      let at' : nth x.asks r.0 ≡ Some (Holding h.wants h.grant h.recalled) = f.1 ∙ ap Some is.0 in
+      on_guard None (Begin n t) (not (all_stored x h.grant.slots)) refusal.ContentsMissing _
+      (λ missing. (let m = not_all (λ (u : GrantedSlot). is_stored x u.digest) h.grant.slots (not_true (all_stored x h.grant.slots) missing) in
+      (r.0, h.wants, h.grant, m.0, ((h.recalled, at'), is.1), m.1, not_some (x.store m.0.digest) m.2)))
+      (λ all. (let stored' : (u : GrantedSlot) → In u h.grant.slots → (c : List ℕ) × (x.store u.digest ≡ Some c) = λ u i. stored_some (x.store u.digest) (all_in (λ (v : GrantedSlot). is_stored x v.digest) h.grant.slots (not_false (all_stored x h.grant.slots) all) u i) in
+      ((r.0, h.wants, h.grant, h.recalled, at', is.1, stored', refl, refl), none r.0 h at' is.1 stored')))
+    where
+      none : (a : ℕ) (h : Held) → nth x.asks a ≡ Some (Holding h.wants h.grant h.recalled) → h.grant.ticket ≡ t → ((u : GrantedSlot) → In u h.grant.slots → (c : List ℕ) × (x.store u.digest ≡ Some c)) → (r : NodeRefusal) → NodeBecause k (Begin n t) x r → ⊥
+      none a h at' ticket stored' refusal.LivesSpent z = true_false x.spent z up
+      none a h at' ticket stored' refusal.NoSuchTicket z = z a h.wants h.grant ((h.recalled, at'), ticket)
+      none a h at' ticket stored' refusal.ContentsMissing (b, wants, g, u, (holds, its), i, missing) =
+          (let same : a ≡ b = one a b (Holding h.wants h.grant h.recalled) (Holding wants g holds.0) h.grant g at' holds.1 refl refl (ticket ∙ sym its) in
+          let is : h.grant ≡ g = holding_is h.wants wants h.grant g h.recalled holds.0 (some_is (Holding h.wants h.grant h.recalled) (Holding wants g holds.0) (sym at' ∙ ap (nth x.asks) same ∙ holds.1)) in
+          let c = stored' u (subst (λ (z : Grant). In u z.slots) (sym is) i) in
+          none_some c.0 (sym missing ∙ c.1))
+      none a h at' ticket stored' r z = z
+
+  pub begun_exact : (t : Ticket) → Exact None (Begin n t) (begun t x)
+  begun_exact t = on_guard None (Begin n t) x.spent refusal.LivesSpent _ (λ down. down) (λ up. beginning_exact t (first (held t) x.asks 0) refl up)
+
+  slots-left : (lefts : List Left) → slots_of (news_of sha lefts) ≡ map (λ (z : Left). z.slot) lefts
+  slots-left [] = refl
+  slots-left (l ∷ ls) = (let r = slots-left ls in λ i. l.slot ∷ r i)
+
+  leaving_means : (t : Ticket) (lefts : List Left) (a : ℕ) (h : Held) → nth x.asks a ≡ Some (Running h.wants h.grant h.recalled) → h.grant.ticket ≡ t → slots_of (news_of sha lefts) ≡ written h.grant.slots → Means None (Finish n t lefts) (leaving sha at a h lefts x)
+  leaving_means t [] a h at' ticket slots = (a, h.wants, h.grant, h.recalled, at', refl, (refl, refl))
+  leaving_means t (l ∷ ls) a h at' ticket slots = (a, h.wants, h.grant, h.recalled, at', refl, (refl, slots, all_stored_so sha (l ∷ ls) x.store, refl))
+
+  finishing_exact : (t : Ticket) (lefts : List Left) (o : Option (ℕ × Held)) → first (running t) x.asks 0 ≡ o → x.spent ≡ false → Exact None (Finish n t lefts) (finishing sha at lefts x o)
+  finishing_exact t lefts None e up = none_running t e
+  finishing_exact t lefts (Some r) e up =
+      let f = found (running t) x.asks r e in
+      let h : Held = r.1 in
+      let is = running_is t f.0 h f.2 in
+      let at' : nth x.asks r.0 ≡ Some (Running h.wants h.grant h.recalled) = f.1 ∙ ap Some is.0 in
+      on_guard None (Finish n t lefts) (in_use x.asks r.0 h.wants h.grant) refusal.TenureInUse _
+      (λ used. (r.0, h.wants, h.grant, ((h.recalled, at'), is.1), not_idle x.asks r.0 h.wants h.grant used))
+      (λ idle. on_guard None (Finish n t lefts) (not (slots_eq (slots_of (news_of sha lefts)) (written h.grant.slots))) refusal.WrongNews _
+      (λ wrong. (r.0, h.wants, h.grant, ((h.recalled, at'), is.1), λ q. true_false (slots_eq (slots_of (news_of sha lefts)) (written h.grant.slots)) (subst (λ z. slots_eq (slots_of (news_of sha lefts)) z ≡ true) (slots-left lefts ∙ q) (slots_eq_same (slots_of (news_of sha lefts)))) (not_true (slots_eq (slots_of (news_of sha lefts)) (written h.grant.slots)) wrong)))
+      (λ slots. (let same = slots_eq_is (slots_of (news_of sha lefts)) (written h.grant.slots) (not_false (slots_eq (slots_of (news_of sha lefts)) (written h.grant.slots)) slots) in
+      (leaving_means t lefts r.0 h at' is.1 same, none r.0 h at' is.1 (idle_from x.asks r.0 h.wants h.grant idle) same))))
+    where
+      none : (a : ℕ) (h : Held) → nth x.asks a ≡ Some (Running h.wants h.grant h.recalled) → h.grant.ticket ≡ t → Idle x.asks a h.wants h.grant → slots_of (news_of sha lefts) ≡ written h.grant.slots → (r : NodeRefusal) → NodeBecause k (Finish n t lefts) x r → ⊥
+      none a h at' ticket idle slots refusal.LivesSpent z = true_false x.spent z up
+      none a h at' ticket idle slots refusal.NotRunning z = z a h.wants h.grant ((h.recalled, at'), ticket)
+      none a h at' ticket idle slots refusal.TenureInUse (b, wants, g, (runs, its), used) =
+          (let same : a ≡ b = one a b (Running h.wants h.grant h.recalled) (Running wants g runs.0) h.grant g at' runs.1 refl refl (ticket ∙ sym its) in
+          let is = some_is (Running h.wants h.grant h.recalled) (Running wants g runs.0) (sym at' ∙ ap (nth x.asks) same ∙ runs.1) in
+          used (subst (λ z. Idle x.asks z wants g) same (subst (λ z. Idle x.asks a z g) (running_wants h.wants wants h.grant g h.recalled runs.0 is) (subst (λ z. Idle x.asks a h.wants z) (running_grant h.wants wants h.grant g h.recalled runs.0 is) idle))))
+      none a h at' ticket idle slots refusal.WrongNews (b, wants, g, (runs, its), wrong) =
+          (let same : a ≡ b = one a b (Running h.wants h.grant h.recalled) (Running wants g runs.0) h.grant g at' runs.1 refl refl (ticket ∙ sym its) in
+          let is = some_is (Running h.wants h.grant h.recalled) (Running wants g runs.0) (sym at' ∙ ap (nth x.asks) same ∙ runs.1) in
+          wrong (sym (slots-left lefts) ∙ slots ∙ ap (λ (z : Grant). written z.slots) (running_grant h.wants wants h.grant g h.recalled runs.0 is)))
+      none a h at' ticket idle slots r z = z
+
+  pub finished_exact : (t : Ticket) (lefts : List Left) → Exact None (Finish n t lefts) (finished_with sha at t lefts x)
+  finished_exact t lefts = on_guard None (Finish n t lefts) x.spent refusal.LivesSpent _ (λ down. down) (λ up. finishing_exact t lefts (first (running t) x.asks 0) refl up)
+
+  aborting_exact : (t : Ticket) (o : Option (ℕ × Held)) → first (held_or_running t) x.asks 0 ≡ o → x.spent ≡ false → Exact None (Abort n t) (aborting at x o)
+  aborting_exact t None e up = none_either t e
+  aborting_exact t (Some r) e up =
+      let f = found (held_or_running t) x.asks r e in
+      let h : Held = r.1 in
+      let is = either_is t f.0 h f.2 in
+      let its : HoldsUnder x t r.0 h.wants h.grant ⊎ RunsUnder x t r.0 h.wants h.grant = elim is.0 [ inl q ↦ inl ((h.recalled, f.1 ∙ ap Some q), is.1) | inr q ↦ inr ((h.recalled, f.1 ∙ ap Some q), is.1) ] in
+      on_guard None (Abort n t) (in_use x.asks r.0 h.wants h.grant) refusal.TenureInUse _
+      (λ used. (r.0, h.wants, h.grant, its, not_idle x.asks r.0 h.wants h.grant used))
+      (λ idle. (
+        (r.0, h.wants, h.grant, h.recalled, elim is.0 [ inl q ↦ inl (f.1 ∙ ap Some q) | inr q ↦ inr (f.1 ∙ ap Some q) ], refl, refl, refl),
+        none r.0 h its (idle_from x.asks r.0 h.wants h.grant idle),
+      ))
+    where
+      -- the two asks are one
+      same_idle : (a b : ℕ) (s s' : AskState) (wants wants' : List Want) (g g' : Grant) → nth x.asks a ≡ Some s → nth x.asks b ≡ Some s' → GrantOf s g → GrantOf s' g' → g.ticket ≡ g'.ticket → (s ≡ s' → (wants ≡ wants') × (g ≡ g')) → Idle x.asks a wants g → Idle x.asks b wants' g'
+      same_idle a b s s' wants wants' g g' i j p q t parts idle =
+          (let same : a ≡ b = one a b s s' g g' i j p q t in
+          let is = parts (some_is s s' (sym i ∙ ap (nth x.asks) same ∙ j)) in
+          subst (λ z. Idle x.asks z wants' g') same (subst (λ z. Idle x.asks a z g') is.0 (subst (λ z. Idle x.asks a wants z) is.1 idle)))
+
+      hold_hold : (ws ws' : List Want) (g g' : Grant) (r r' : Bool) → Holding ws g r ≡ Holding ws' g' r' → (ws ≡ ws') × (g ≡ g')
+      hold_hold ws ws' g g' r r' e = (cc, holding_is ws ws' g g' r r' e)
+
+      run_run : (ws ws' : List Want) (g g' : Grant) (r r' : Bool) → Running ws g r ≡ Running ws' g' r' → (ws ≡ ws') × (g ≡ g')
+      run_run ws ws' g g' r r' e = (running_wants ws ws' g g' r r' e, running_grant ws ws' g g' r r' e)
+
+      hold_run : (ws ws' : List Want) (g g' : Grant) (r r' : Bool) → Holding ws g r ≡ Running ws' g' r' → (ws ≡ ws') × (g ≡ g')
+      hold_run ws ws' g g' r r' e = absurd (cc)
+
+      run_hold : (ws ws' : List Want) (g g' : Grant) (r r' : Bool) → Running ws g r ≡ Holding ws' g' r' → (ws ≡ ws') × (g ≡ g')
+      run_hold ws ws' g g' r r' e = absurd (cc)
+
+      none : (a : ℕ) (h : Held) → HoldsUnder x t a h.wants h.grant ⊎ RunsUnder x t a h.wants h.grant → Idle x.asks a h.wants h.grant → (r : NodeRefusal) → NodeBecause k (Abort n t) x r → ⊥
+      none a h its idle refusal.LivesSpent z = true_false x.spent z up
+      none a h its idle refusal.NoSuchTicket z = z a h.wants h.grant its
+      none a h (inl p) idle refusal.TenureInUse (b, wants, g, inl q, used) = used (same_idle a b (Holding h.wants h.grant p.0.0) (Holding wants g q.0.0) h.wants wants h.grant g p.0.1 q.0.1 refl refl (p.1 ∙ sym q.1) (hold_hold h.wants wants h.grant g p.0.0 q.0.0) idle)
+      none a h (inl p) idle refusal.TenureInUse (b, wants, g, inr q, used) = used (same_idle a b (Holding h.wants h.grant p.0.0) (Running wants g q.0.0) h.wants wants h.grant g p.0.1 q.0.1 refl refl (p.1 ∙ sym q.1) (hold_run h.wants wants h.grant g p.0.0 q.0.0) idle)
+      none a h (inr p) idle refusal.TenureInUse (b, wants, g, inl q, used) = used (same_idle a b (Running h.wants h.grant p.0.0) (Holding wants g q.0.0) h.wants wants h.grant g p.0.1 q.0.1 refl refl (p.1 ∙ sym q.1) (run_hold h.wants wants h.grant g p.0.0 q.0.0) idle)
+      none a h (inr p) idle refusal.TenureInUse (b, wants, g, inr q, used) = used (same_idle a b (Running h.wants h.grant p.0.0) (Running wants g q.0.0) h.wants wants h.grant g p.0.1 q.0.1 refl refl (p.1 ∙ sym q.1) (run_run h.wants wants h.grant g p.0.0 q.0.0) idle)
+      none a h its idle r z = z
+
+  pub aborted_exact : (t : Ticket) → Exact None (Abort n t) (aborted at t x)
+  aborted_exact t = on_guard None (Abort n t) x.spent refusal.LivesSpent _ (λ down. down) (λ up. aborting_exact t (first (held_or_running t) x.asks 0) refl up)
+
+  -- ---- what only a node that is down refuses
+
+  unless_exact : (d : Option Message) (e : Event) (w : NodeWork) → (x.spent ≡ true → NodeBecause k e x refusal.LivesSpent) → ((r : NodeRefusal) → NodeBecause k e x r → x.spent ≡ true) → Means d e w → Exact d e (unless_spent x w)
+  unless_exact d e w why only m = on_guard d e x.spent refusal.LivesSpent _ why (λ up. (m, λ r h. true_false x.spent (only r h) up))
+
+  deliver_spent : (number : ℕ) (r : NodeRefusal) → NodeBecause k (Deliver number) x r → x.spent ≡ true
+  deliver_spent number refusal.LivesSpent h = h
+  deliver_spent number r h = absurd h
+
+  forge_spent : (m : NodeId) (c : List ℕ) (r : NodeRefusal) → NodeBecause k (Forge m c) x r → x.spent ≡ true
+  forge_spent m c refusal.LivesSpent h = h
+  forge_spent m c r h = absurd h
+
+  resend_spent : (r : NodeRefusal) → NodeBecause k (Resend n) x r → x.spent ≡ true
+  resend_spent refusal.LivesSpent h = h
+  resend_spent r h = absurd h
+
+  pub resent_exact : Exact None (Resend n) (resent k at x)
+  resent_exact = on_guard None (Resend n) x.spent refusal.LivesSpent _ (λ down. down) (λ up. ((inl refl, refl), λ r h. true_false x.spent (resend_spent r h) up))
+
+  -- ---- messages
+
+  abbrev Heard : FromCoord → ℕ → NodeWork → Type 0
+  Heard y number w = Means (Some (Told y)) (Deliver number) w
+
+  gives_back_means : (g : Grant) (number : ℕ) (b : Bool) → g.life ≡ x.life → Heard (told.Granted g) number (gives_back at g b x)
+  gives_back_means g number true q = (refl, refl)
+  gives_back_means g number false q = (g, refl, refl, q, refl, refl)
+
+  granted_means : (g : Grant) (number : ℕ) (o : Option AskState) → nth x.asks g.ask.0 ≡ o → g.life ≡ x.life → Heard (told.Granted g) number (granted k at g x o)
+  granted_means g number None e q = gives_back_means g number false q
+  granted_means g number (Some (Open wants tenure)) e q = (refl, q, (wants, tenure, e, refl))
+  granted_means g number (Some (Holding wants h r)) e q = gives_back_means g number (keeps (Holding wants h r) g.ticket) q
+  granted_means g number (Some (Running wants h r)) e q = gives_back_means g number (keeps (Running wants h r) g.ticket) q
+  granted_means g number (Some (Finished wants h news)) e q = gives_back_means g number (keeps (Finished wants h news) g.ticket) q
+  granted_means g number (Some (Over how)) e q = gives_back_means g number false q
+
+  learned_means : (l : Life) (t : Ticket) (versions : List Confirmed) (number : ℕ) (o : Option (ℕ × Sent)) → first (finished t) x.asks 0 ≡ o → l ≡ x.life → Heard (told.Committed n l t versions) number (learned t versions x o)
+  learned_means l t versions number None e q = (refl, refl)
+  learned_means l t versions number (Some r) e q = (let f = found (finished t) x.asks r e in let is = finished_is t f.0 r.1 f.2 in
+      (l, versions, refl, q, (r.0, r.1.wants, r.1.grant, r.1.news, f.1 ∙ ap Some is.0, is.1, refl, refl)))
+
+  dropped_means : (l : Life) (t : Ticket) (number : ℕ) (o : Option (ℕ × Sent)) → first (finished t) x.asks 0 ≡ o → l ≡ x.life → Heard (told.Fenced n l t) number (dropped t x o)
+  dropped_means l t number None e q = (refl, refl)
+  dropped_means l t number (Some r) e q = (let f = found (finished t) x.asks r e in let is = finished_is t f.0 r.1 f.2 in
+      (l, refl, q, (r.0, r.1.wants, r.1.grant, r.1.news, f.1 ∙ ap Some is.0, is.1, refl, refl)))
+
+  denied_means : (l : Life) (a : Ask) (why : Why) (number : ℕ) (o : Option AskState) → nth x.asks a.0 ≡ o → l ≡ x.life → Heard (told.Denied n l a why) number (denied a why x o)
+  denied_means l a why number None e q = (refl, refl)
+  denied_means l a why number (Some (Open wants tenure)) e q = (l, a, refl, q, (wants, tenure, e, refl, refl))
+  denied_means l a why number (Some (Holding wants h r)) e q = (refl, refl)
+  denied_means l a why number (Some (Running wants h r)) e q = (refl, refl)
+  denied_means l a why number (Some (Finished wants h news)) e q = (refl, refl)
+  denied_means l a why number (Some (Over how)) e q = (refl, refl)
+
+  recalled_means : (l : Life) (t : Ticket) (number : ℕ) (o : Option (ℕ × AskState)) → first (recallable t) x.asks 0 ≡ o → l ≡ x.life → Heard (told.Recall n l t) number (recalled t x o)
+  recalled_means l t number None e q = (refl, refl)
+  recalled_means l t number (Some r) e q =
+      let f = found (recallable t) x.asks r e in
+      let o = recallable_is t f.0 r.1 f.2 in
+      (l, refl, q, (r.0, o.0, o.1, o.2, refl, elim o.3 [
+        | inl is ↦ inl (f.1 ∙ ap Some is.0, ap (λ z. record x { asks = set_nth x.asks r.0 z }) is.1)
+        | inr is ↦ inr (f.1 ∙ ap Some is.0, ap (λ z. record x { asks = set_nth x.asks r.0 z }) is.1)
+      ]))
+
+  of_life_means : (y : FromCoord) (l : Life) (number : ℕ) (w : NodeWork) → (l ≡ x.life → Heard y number w) → Heard y number (of_life l x w)
+  of_life_means y l number w h = elim (cases_bool (eqb l.0 x.life.0)) [
+    | inl t ↦ rw t (h (life_is l x.life (eqb_is l.0 x.life.0 t)))
+    | inr t ↦ rw t (refl, refl)
+  ]
+
+  pub heard_exact : (y : FromCoord) (number : ℕ) → told_to y ≡ n → Exact (Some (Told y)) (Deliver number) (unless_spent x (heard k at y x))
+  heard_exact y number to = unless_exact (Some (Told y)) (Deliver number) (heard k at y x) (λ h. h) (deliver_spent number) (by y to)
+    where
+      by : (y : FromCoord) → told_to y ≡ n → Heard y number (heard k at y x)
+      by (told.Granted g) to = of_life_means (told.Granted g) g.life number _ (granted_means g number (nth x.asks g.ask.0) refl)
+      by (told.Committed m l t versions) to = subst (λ z. Heard (told.Committed z l t versions) number (heard k at (told.Committed m l t versions) x)) (sym to) (of_life_means (told.Committed n l t versions) l number _ (learned_means l t versions number (first (finished t) x.asks 0) refl))
+      by (told.Fenced m l t) to = subst (λ z. Heard (told.Fenced z l t) number (heard k at (told.Fenced m l t) x)) (sym to) (of_life_means (told.Fenced n l t) l number _ (dropped_means l t number (first (finished t) x.asks 0) refl))
+      by (told.Denied m l a why) to = subst (λ z. Heard (told.Denied z l a why) number (heard k at (told.Denied m l a why) x)) (sym to) (of_life_means (told.Denied n l a why) l number _ (denied_means l a why number (nth x.asks a.0) refl))
+      by (told.Recall m l t) to = subst (λ z. Heard (told.Recall z l t) number (heard k at (told.Recall m l t) x)) (sym to) (of_life_means (told.Recall n l t) l number _ (recalled_means l t number (first (recallable t) x.asks 0) refl))
+
+  fetched_means : (d : Option Message) (from : NodeId) (digest : Digest) (number : ℕ) (o : Option (List ℕ)) → x.store digest ≡ o → Means d (Deliver number) (fetched from x o)
+  fetched_means d from digest number None e = (refl, refl)
+  fetched_means d from digest number (Some c) e = (from, c, digest, e, refl, refl)
+
+  pub fetched_exact : (d : Option Message) (from : NodeId) (digest : Digest) (number : ℕ) → Exact d (Deliver number) (unless_spent x (fetched from x (x.store digest)))
+  fetched_exact d from digest number = unless_exact d (Deliver number) (fetched from x (x.store digest)) (λ h. h) (deliver_spent number) (fetched_means d from digest number (x.store digest) refl)
+
+  brought_means : (d : Option Message) (e : Event) (c : List ℕ) → ((d ≡ Some (Blob n c)) ⊎ (e ≡ Forge n c)) → Means d e (brought sha c x)
+  brought_means d e c came = elim (cases_bool (not (is_stored x (sha c)) && list_any (is_base (sha c)) x.asks)) [
+    | inl t ↦ rw t (c, came, not_some (x.store (sha c)) (not_true (is_stored x (sha c)) (and_both (not (is_stored x (sha c))) (list_any (is_base (sha c)) x.asks) t).0), refl, refl)
+    | inr t ↦ rw t (refl, refl)
+  ]
+
+  pub brought_exact : (number : ℕ) (c : List ℕ) → Exact (Some (Blob n c)) (Deliver number) (unless_spent x (brought sha c x))
+  brought_exact number c = unless_exact (Some (Blob n c)) (Deliver number) (brought sha c x) (λ h. h) (deliver_spent number) (brought_means (Some (Blob n c)) (Deliver number) c (inl refl))
+
+  pub forged_exact : (c : List ℕ) → Exact None (Forge n c) (unless_spent x (brought sha c x))
+  forged_exact c = unless_exact None (Forge n c) (brought sha c x) (λ h. h) (forge_spent n c) (brought_means None (Forge n c) c (inr refl))
