@@ -1,25 +1,13 @@
--- What is answered: a fitting ask is granted, and no record is ever bad.
-use Rattle.std.proofs.Common.{◌≡◌, eqb, ℕ, List, [], ◌∷◌, Bool, true, false, not, ◌&&◌, ◌||◌, Option, Some, None, Result, Ok, Err, refl, sym, ap, subst, inl, inr}
-use Rattle.std.specs.List.{list_any}
-use Rattle.std.specs.Prelude.{⊤, nat_lt, if◌then◌else◌}
-use Rattle.protocol.specs.Lists.{In, nth, is_nil}
-use Rattle.protocol.specs.Names.{Slot, NodeId, Digest}
-use Rattle.protocol.specs.Machine.{Parked, Message, Said, Told, Fetches, Blob}
+-- A fitting ask is granted.
+use Rattle.std.proofs.Common.{◌≡◌, eqb, [], ◌∷◌, Bool, false, not, ◌&&◌, refl, sym, ap, subst, inl, inr}
+use Rattle.std.specs.Prelude.{nat_lt}
+use Rattle.protocol.specs.Lists.{In}
+use Rattle.protocol.specs.Machine.{Parked}
 use Rattle.farm_base.specs.declared.message.Request.TheVariants.{Acquire}
 use Rattle.farm_base.specs.declared.message.FromCoord.TheVariants as told
 use Rattle.protocol.specs.declared.answer.CoordNote.TheVariants as note
-use Rattle.protocol.specs.declared.answer.CoordRefusal.{CoordRefusal}
-use Rattle.protocol.specs.declared.answer.CoordRefusal.TheVariants as coord
-use Rattle.protocol.specs.declared.answer.EventRefusal.{EventRefusal}
-use Rattle.protocol.specs.declared.answer.EventRefusal.TheVariants as event
-use Rattle.protocol.specs.declared.answer.Survivor.{Survivor}
-use Rattle.protocol.specs.declared.answer.Survivor.TheVariants.{Old, New}
-use Rattle.protocol.specs.declared.answer.Outcome.{Outcome}
-use Rattle.protocol.specs.Ledger.{Limits, Ledger, Lease, Work, begin_work, Give, pick, decision, decided, acquiring, answering, gives, grant_of, lease_for, is_leased, is_parked, lease_under, newer_life, handled, withdrawing, withdrawn, withdraws, retried, notes, is_at, is_home, retired, pruned, nudged}
-use Rattle.protocol.specs.Nodes.{NodeAnswer, may_restart}
-use Rattle.protocol.specs.Replay.{Event, Tenure, Deliver, Begin, Finish, Abort, Resend, Nudge, Withdraw, Prune, Retire, RestartNode, RestartCoordinator, Forge, FailSave, Farm, Turn, settled, settles, coordinated, is_node, answered, at_node, node_does, restarts, delivered, step}
-use Rattle.protocol.specs.Replay as replay
-use Rattle.protocol.specs.Follows.{MayBeGranted, NoneReady, OnlyItself, FittingAskIsGranted, IsRecordFault, NoRecordFault}
+use Rattle.protocol.specs.Ledger.{Limits, Ledger, Work, Give, pick, decision, decided, acquiring, answering, gives, grant_of, lease_for, is_parked, newer_life, handled}
+use Rattle.protocol.specs.Follows.{MayBeGranted, NoneReady, OnlyItself, FittingAskIsGranted}
 use Rattle.protocol.proofs.Base.{cases_bool, in_right, from_any, and_both, node_is, life_is, ask_is, eqb_is}
 use Rattle.protocol.proofs.Parking.{newer_none, newer_was}
 
@@ -59,106 +47,3 @@ fitting_ask_is_granted k p w none only here current = λ may. rw (here, current)
       rw newer (acquired k p (newer_life k p.node p.life w) (newer_none k p.node p.life w none) (λ r i. only r (newer_was k p.node p.life w r i)) m))
   | inr same ↦ (let m : MayBeGranted k w.ledger p = rw same at may in rw same (acquired k p w none only m))
 ])
-
--- ---- refusals
-
--- a refusal that is the record's
-abbrev IsRecords : CoordRefusal → Type 0
-IsRecords coord.Down = ⊥
-IsRecords coord.SaveFault = ⊥
-IsRecords coord.BadRecord = ⊤
-IsRecords coord.NotLive = ⊥
-IsRecords coord.SlotLeased = ⊥
-IsRecords coord.NoSuchSlot = ⊥
-IsRecords coord.TicketsSpent = ⊥
-IsRecords coord.OutOfMemory = ⊥
-IsRecords coord.LoadFault = ⊤
-IsRecords coord.Tenure = ⊥
-IsRecords coord.TenureHeld = ⊥
-IsRecords coord.NodeRetired = ⊥
-
--- what the outcome is not
-abbrev Fine : Result Outcome EventRefusal → Type 0
-Fine (Ok o) = ⊤
-Fine (Err event.NoSuchMessage) = ⊤
-Fine (Err event.NoSuchNode) = ⊤
-Fine (Err (event.Node e)) = ⊤
-Fine (Err (event.Coord e)) = IsRecords e → ⊥
-Fine (Err event.OutOfMemory) = ⊤
-
-fine_is : (o : Result Outcome EventRefusal) → Fine o → IsRecordFault o → ⊥
-fine_is o h (inl e) = (let bad : Fine (Err (event.Coord coord.BadRecord)) = subst Fine e h in bad tt)
-fine_is o h (inr e) = (let bad : Fine (Err (event.Coord coord.LoadFault)) = subst Fine e h in bad tt)
-
-abbrev FineWork : Result Work CoordRefusal → Type 0
-FineWork (Ok w) = ⊤
-FineWork (Err e) = IsRecords e → ⊥
-
-fine_settled : (changed : Bool) (armed : Option Survivor) (w : Work) (s : Farm) → Fine (settled changed armed w s).outcome
-fine_settled false armed w s = tt
-fine_settled true None w s = tt
-fine_settled true (Some Old) w s = λ h. h
-fine_settled true (Some New) w s = λ h. h
-
-fine_coordinated : (d : Option Ledger) (r : Result Work CoordRefusal) (s : Farm) → FineWork r → Fine (coordinated d r s).outcome
-fine_coordinated (Some q) r s h = λ b. b
-fine_coordinated None (Err e) s h = h
-fine_coordinated None (Ok w) s h = fine_settled w.changed s.armed w s
-
-fine_if : (b : Bool) (e : CoordRefusal) (r : Result Work CoordRefusal) → (IsRecords e → ⊥) → FineWork r → FineWork (if b then Err e else r)
-fine_if true e r h g = h
-fine_if false e r h g = g
-
-fine_unless : (b : Bool) (e : CoordRefusal) (r : Result Work CoordRefusal) → (IsRecords e → ⊥) → FineWork r → FineWork (if b then r else Err e)
-fine_unless true e r h g = g
-fine_unless false e r h g = h
-
-fine_withdrawing : (k : Limits) (o : Option Lease) (w : Work) → FineWork (withdrawing k o w)
-fine_withdrawing k None w = λ h. h
-fine_withdrawing k (Some g) w = fine_if g.tenure coord.Tenure (Ok (notes (note.Withdrawn g.ticket) (retried k (withdraws g w)))) (λ h. h) tt
-
-fine_pruned : (k : Limits) (s : Slot) (w : Work) → FineWork (pruned k s w)
-fine_pruned k s w = fine_if (is_leased w.ledger s) coord.SlotLeased _ (λ h. h) (fine_if (is_nil (w.ledger.line s)) coord.NoSuchSlot _ (λ h. h) (fine_unless (nat_lt w.ledger.last k.greatest) coord.TicketsSpent _ (λ h. h) tt))
-
-fine_retired : (k : Limits) (n : NodeId) (w : Work) → FineWork (retired k n w)
-fine_retired k n w = fine_if (w.ledger.gone n.0) coord.NodeRetired _ (λ h. h) (fine_if (list_any (λ (g : Lease). is_at n g && g.tenure) w.ledger.live || is_home n w.ledger.old_home) coord.TenureHeld _ (λ h. h) tt)
-
-fine_answered : (n : NodeId) (a : NodeAnswer) (s : Farm) → Fine (answered n a s).outcome
-fine_answered n (Ok w) s = tt
-fine_answered n (Err e) s = tt
-
-fine_at : (b : Bool) (n : NodeId) (a : NodeAnswer) (s : Farm) → Fine (at_node b n a s).outcome
-fine_at true n a s = fine_answered n a s
-fine_at false n a s = tt
-
-fine_turn : (b : Bool) (x y : Turn) → Fine x.outcome → Fine y.outcome → Fine (if b then x else y).outcome
-fine_turn true x y h g = h
-fine_turn false x y h g = g
-
-fine_delivered : (sha : List ℕ → Digest) (k : Limits) (o : Option Message) (s : Farm) → Fine (delivered sha k o s).outcome
-fine_delivered sha k None s = tt
-fine_delivered sha k (Some (Said y)) s = fine_coordinated s.down (Ok (handled k y (begin_work s.ledger))) s tt
-fine_delivered sha k (Some (Told y)) s = fine_at (is_node s (replay.told_to y)) (replay.told_to y) _ s
-fine_delivered sha k (Some (Fetches y)) s = fine_at (is_node s y.node) y.node _ s
-fine_delivered sha k (Some (Blob n c)) s = fine_at (is_node s n) n _ s
-
-fine_step : (sha : List ℕ → Digest) (k : Limits) (s : Farm) (e : Event) → Fine (step sha k s e).outcome
-unfolding step
-fine_step sha k s (replay.Ask n wants) = fine_at (is_node s n) n _ s
-fine_step sha k s (Tenure n f) = fine_at (is_node s n) n _ s
-fine_step sha k s (Deliver number) = fine_delivered sha k (nth s.pool number) s
-fine_step sha k s (Begin n t) = fine_at (is_node s n) n _ s
-fine_step sha k s (Finish n t lefts) = fine_at (is_node s n) n _ s
-fine_step sha k s (Abort n t) = fine_at (is_node s n) n _ s
-fine_step sha k s (Resend n) = fine_at (is_node s n) n _ s
-fine_step sha k s Nudge = fine_coordinated s.down (Ok (nudged k (begin_work s.ledger))) s tt
-fine_step sha k s (Withdraw t) = fine_coordinated s.down (withdrawn k t (begin_work s.ledger)) s (fine_withdrawing k (lease_under s.ledger.live t) (begin_work s.ledger))
-fine_step sha k s (Prune slot) = fine_coordinated s.down (pruned k slot (begin_work s.ledger)) s (fine_pruned k slot (begin_work s.ledger))
-fine_step sha k s (Retire n) = fine_turn (is_node s n) _ _ (fine_coordinated s.down (retired k n (begin_work s.ledger)) s (fine_retired k n (begin_work s.ledger))) tt
-fine_step sha k s (RestartNode n) = fine_turn (is_node s n) _ _ (fine_turn (may_restart k (s.nodes n.0)) _ _ tt tt) tt
-fine_step sha k s RestartCoordinator = tt
-fine_step sha k s (Forge n c) = fine_at (is_node s n) n _ s
-fine_step sha k s (FailSave survivor) = tt
-
-pub no_record_fault : NoRecordFault
-no_record_fault sha k s e h = fine_is (step sha k s e).outcome (fine_step sha k s e) h

@@ -1,8 +1,8 @@
 -- An ask is always sent with the same wants.
-use Rattle.std.proofs.Common.{◌≡◌, ◌≢◌, ℕ, zero, suc, ◌+◌, ◌<◌, List, [], ◌∷◌, ◌++◌, ◌⊎◌, Bool, true, false, length, Option, Some, None, slice_get, refl, sym, ◌∙◌, ap, subst, inl, inr, arith}
-use Rattle.protocol.specs.Lists.{In, nth, put}
+use Rattle.std.proofs.Common.{◌≡◌, ℕ, zero, suc, ◌+◌, List, [], ◌∷◌, ◌++◌, ◌⊎◌, Bool, true, false, length, Some, slice_get, refl, sym, ◌∙◌, ap, subst, inl, inr, arith}
+use Rattle.protocol.specs.Lists.{In, nth}
 use Rattle.protocol.specs.Names.{NodeId, Life, Ask, Digest, Want, tenure_wants}
-use Rattle.protocol.specs.Machine.{Message, ToCoord, Told, Said, Fetches, Blob, Parked, hello, acquire, commit, release}
+use Rattle.protocol.specs.Machine.{Message, ToCoord, Told, Said, Fetches, Blob, acquire}
 use Rattle.farm_base.specs.declared.message.Request.{Request}
 use Rattle.farm_base.specs.declared.message.Request.TheVariants.{Hello, Acquire, Commit, Release}
 use Rattle.protocol.specs.World.{AskState, Open, Node, Act, Asks, Asks_tenure, Asks_again, Greets, Takes, Gives_back, Begins, Finishes, Gives_up, Sends_commit, Learns, Drops, Is_denied, Is_recalled, Is_recalled_running, Stores, Asks_content, Sends_blob, Restarts, Stops, World, Move, Node_moves, Machine_moves, Machine_says, Fails, Recovers, Moves, Still, Then, start}
@@ -10,7 +10,7 @@ use Rattle.protocol.specs.Ledger.{begin_work}
 use Rattle.protocol.specs.Replay.{run, opening}
 use Rattle.protocol.specs.Follows.{OnlyItself}
 use Rattle.protocol.specs.Chronicle.{FittingMessageIsGranted}
-use Rattle.protocol.proofs.Base.{in_append, in_one, in_left, none_some, some_is, nth_in}
+use Rattle.protocol.proofs.Base.{in_append, in_one, none_some, some_is, nth_in}
 use Rattle.protocol.proofs.Invariant.{Inv, Wanted, WasAsked}
 use Rattle.protocol.proofs.Worlds.{moves_inv, start_whole}
 use Rattle.protocol.proofs.Schedules.{from_opening}

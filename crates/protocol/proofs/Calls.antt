@@ -1,8 +1,7 @@
 -- Each message and call of the coordinator follows the machine.
 use Rattle.std.proofs.Common.{◌≡◌, ◌≢◌, ℕ, suc, ◌+◌, ◌≤◌, List, [], ◌∷◌, ◌++◌, ◌⊎◌, Bool, true, false, not, ◌&&◌, ◌||◌, eqb, filter, Option, Some, None, slice_get, refl, sym, ◌∙◌, ap, subst, inl, inr, arith}
 use Rattle.std.specs.List.{find}
-use Rattle.std.specs.Prelude.{is_some, nat_lt}
-use Rattle.std.proofs.lemmas.Bool.Decides.{nat_tests}
+use Rattle.std.specs.Prelude.{is_some}
 use Rattle.protocol.specs.Lists.{In, put, is_nil}
 use Rattle.protocol.specs.Names.{Slot, slots_eq, is_private, is_shared, wants_shared, only_slot, Digest, NodeId, Life, Ticket, Want, leased_wants}
 use Rattle.protocol.specs.Machine.{Grant, News, Confirmed, LineVersion, Granted, Ending, Committed, Released, Withdrawn, Died, Message, Said, ToCoord, FromCoord, Parked, Machine, Has, Live, Retired, line, version_of, digest_for, slots_of, written, acquire, commit, release, MayEnd, Step, Ends, Parks, Stands, Says, Says_committed, Says_fenced, Says_denied, Says_recall}
@@ -11,8 +10,8 @@ use Rattle.farm_base.specs.declared.message.Request.{Request}
 use Rattle.farm_base.specs.declared.message.Request.TheVariants.{Hello, Acquire, Commit, Release}
 use Rattle.protocol.specs.declared.answer.CoordNote.{CoordNote}
 use Rattle.protocol.specs.declared.answer.CoordNote.TheVariants as note
-use Rattle.protocol.specs.Ledger.{Limits, Ledger, Work, Lease, begin_work, handled, says, notes, has_slot, is_saved, writable_slots, grant_of, Decision, Give, Deny, Wait, elsewhere, decision, lease_for, gives, denies, parks, retried, is_of, lease_of, is_parked, holds_wanted, recall, recalls, decided, acquiring, has_ticket, lease_under, without, ends, commits, place, confirmed, versions_of, on_all, is_its, may_commit, may_release, confirms, answered, committing, released, answering}
-use Rattle.protocol.specs.Follows.{lease_from, NoLease, Waits, Works, Goes_on, Agrees}
+use Rattle.protocol.specs.Ledger.{Limits, Ledger, Work, Lease, says, notes, has_slot, is_saved, writable_slots, grant_of, Decision, Give, Deny, Wait, elsewhere, decision, lease_for, gives, denies, parks, retried, is_of, lease_of, is_parked, holds_wanted, recall, recalls, decided, acquiring, has_ticket, lease_under, without, ends, commits, place, confirmed, versions_of, on_all, is_its, may_commit, may_release, confirms, answered, committing, released, answering}
+use Rattle.protocol.specs.Follows.{lease_from, NoLease, Waits, Works, Goes_on}
 use Rattle.protocol.proofs.Base.{cases_bool, cases_nat, true_false, not_true, and_both, none_some, some_is, eqb_is, eqb_same, eqb_apart, eqb_not, slot_eq_same, node_is, life_is, ticket_is, from_any, in_filter, from_filter, in_append, in_right, in_one, put_same, put_other}
 use Rattle.protocol.proofs.Lines.{line-end}
 use Rattle.protocol.proofs.Steps.{Sound, Later, same_grant}

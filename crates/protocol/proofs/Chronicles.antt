@@ -1,8 +1,8 @@
 -- Chronicles of schedules, and what stays so.
-use Rattle.std.proofs.Common.{◌≡◌, ◌≢◌, ℕ, ◌+◌, ◌<◌, ◌≤◌, slice_get, List, [], ◌∷◌, ◌++◌, Bool, true, false, not, ◌⊎◌, Option, Some, None, Result, Ok, Err, refl, sym, ◌∙◌, ap, subst, inl, inr, arith}
+use Rattle.std.proofs.Common.{◌≡◌, ℕ, ◌<◌, ◌≤◌, slice_get, List, [], ◌∷◌, ◌++◌, Bool, true, false, ◌⊎◌, Option, Some, None, Result, Ok, Err, refl, sym, ◌∙◌, ap, subst, inl, inr, arith}
 use Rattle.protocol.specs.Lists.{In, IsFrontOf, nth}
-use Rattle.protocol.specs.Names.{Slot, is_alone, NodeId, Life, Ticket, Digest, Want}
-use Rattle.protocol.specs.Machine.{Grant, Granted, Confirmed, Told, Has, ticket_of, LineVersion, Ending, Withdrawn, Died, Message, Said, ToCoord, Machine, Live, line}
+use Rattle.protocol.specs.Names.{Slot, NodeId, Ticket, Digest, Want}
+use Rattle.protocol.specs.Machine.{Grant, Granted, Told, Has, ticket_of, LineVersion, Ending, Withdrawn, Died, Message, Said, ToCoord, Machine, Live, line}
 use Rattle.protocol.specs.declared.answer.CoordNote.{CoordNote}
 use Rattle.protocol.specs.declared.answer.CoordNote.TheVariants as coord
 use Rattle.protocol.specs.declared.answer.CoordRefusal.{CoordRefusal}
@@ -14,10 +14,10 @@ use Rattle.protocol.specs.declared.answer.Survivor.{Survivor}
 use Rattle.protocol.specs.declared.answer.Survivor.TheVariants.{Old, New}
 use Rattle.protocol.specs.Ledger.{Limits, Ledger, Lease, Saved, saves, reads, Work, is_saved, begin_work, handled}
 use Rattle.protocol.specs.World.{Running, Node, World, Move, Node_moves, Machine_moves, Machine_says, Fails, Recovers, Moves, Still, Then, start}
-use Rattle.protocol.specs.Safe.{IsWithdrawn, InUse, Held, Rising, Safe}
-use Rattle.protocol.specs.Replay.{Event, Deliver, Begin, Withdraw, Retire, RestartCoordinator, Farm, Turn, settled, coordinated, delivered, step, run, opening}
+use Rattle.protocol.specs.Safe.{IsWithdrawn, InUse, Held, Rising}
+use Rattle.protocol.specs.Replay.{Event, Deliver, Begin, Withdraw, Retire, RestartCoordinator, Farm, settled, coordinated, delivered, step, run, opening}
 use Rattle.protocol.specs.Follows.{lease_from, Agrees, KeptAgrees, holds, IsFarm, Shows}
-use Rattle.protocol.specs.Meaning.{EndsAt, Finds, recorded, adds, Carried, Answered, Means, Of_older_life}
+use Rattle.protocol.specs.Meaning.{Finds, recorded, adds, Carried, Answered, Means, Of_older_life}
 use Rattle.protocol.specs.Chronicle.{Chronicle, EveryScheduleHasAChronicle, StaysOut, GoesOn, NoneShared, Writes, EveryVersionIsAnswered, Headline, EveryScheduleMeans, EveryFarmIsSaved, Covered, EveryRecordCovers, RestartReadsTheRecord}
 use Rattle.protocol.proofs.Steps.{same_grant, made_below}
 use Rattle.protocol.proofs.Invariant.{Inv}

@@ -1,11 +1,11 @@
 -- When the coordinator refuses a call, and what it can't refuse.
-use Rattle.std.proofs.Common.{◌≡◌, ◌≢◌, ℕ, ◌+◌, ◌<◌, ◌≤◌, List, [], ◌∷◌, ◌++◌, ◌⊎◌, Bool, true, false, not, ◌&&◌, ◌||◌, eqb, Option, Some, None, Result, Ok, Err, refl, sym, ◌∙◌, ap, subst, inl, inr, arith}
+use Rattle.std.proofs.Common.{◌≡◌, ◌≢◌, ℕ, ◌+◌, ◌≤◌, List, [], ◌∷◌, ◌⊎◌, Bool, true, false, not, ◌&&◌, ◌||◌, eqb, Option, Some, None, Result, Ok, Err, refl, sym, ◌∙◌, ap, subst, inl, inr, arith}
 use Rattle.std.proofs.lemmas.Bool.Decides.{nat_tests}
 use Rattle.std.specs.List.{list_any}
 use Rattle.std.specs.Prelude.{nat_lt, if◌then◌else◌}
 use Rattle.protocol.specs.Lists.{In, is_nil}
 use Rattle.protocol.specs.Names.{Slot, slots_eq, NodeId, Life, Ticket, Digest}
-use Rattle.protocol.specs.Machine.{Grant, Granted, ticket_of, News, LineVersion, Message, Parked, Machine, Has, Live, Leased, line, slots_of, written}
+use Rattle.protocol.specs.Machine.{Grant, Granted, ticket_of, News, LineVersion, Message, Parked, Machine, Live, slots_of, written}
 use Rattle.farm_base.specs.declared.message.Request.{Request}
 use Rattle.farm_base.specs.declared.message.Request.TheVariants.{Commit, Release}
 use Rattle.protocol.specs.declared.answer.CoordNote.{CoordNote}
@@ -13,12 +13,12 @@ use Rattle.protocol.specs.declared.answer.CoordNote.TheVariants as note
 use Rattle.protocol.specs.declared.answer.CoordRefusal.{CoordRefusal}
 use Rattle.protocol.specs.declared.answer.CoordRefusal.TheVariants as refusal
 use Rattle.protocol.specs.Replay.{Event, Withdraw, Prune, Retire}
-use Rattle.protocol.specs.Ledger.{Limits, Ledger, Lease, Work, begin_work, has_slot, is_leased, writable_slots, Decision, Give, Deny, Wait, decision, gives, carried_out, tried, try_all, retried, has_ticket, lease_under, may_commit, may_release, committing, released, answering, is_older, sees, is_home, newer_life, handled, withdrawing, withdrawn, is_at, retired, pruned, notes, withdraws, goes, prunes}
+use Rattle.protocol.specs.Ledger.{Limits, Ledger, Lease, Work, begin_work, has_slot, is_leased, writable_slots, Decision, Give, Deny, Wait, decision, gives, carried_out, tried, try_all, retried, has_ticket, lease_under, may_commit, may_release, committing, released, answering, is_older, sees, is_home, newer_life, handled, withdrawing, withdrawn, is_at, retired, pruned, notes, withdraws, prunes}
 use Rattle.protocol.specs.Follows.{lease_from, Agrees, CommitIsTaken, ReleaseIsTaken}
 use Rattle.protocol.specs.Reasons.{CallBecause}
-use Rattle.protocol.proofs.Base.{cases_bool, true_false, and_both, or_false, none_some, some_is, eqb_is, eqb_same, node_is, ticket_is, any_in, from_any, any_none, in_left, in_filter}
+use Rattle.protocol.proofs.Base.{cases_bool, true_false, and_both, or_false, eqb_is, eqb_same, node_is, ticket_is, from_any, any_none, in_left, in_filter}
 use Rattle.protocol.proofs.Steps.{Sound, same_grant, made_below}
-use Rattle.protocol.proofs.Leases.{Core, core_of, not_leased, has_lease, writable-from, find_some, find_none, find_in}
+use Rattle.protocol.proofs.Leases.{core_of, not_leased, has_lease, writable-from, find_some, find_none, find_in}
 use Rattle.protocol.proofs.Following.{slots_eq_same}
 use Rattle.protocol.proofs.Calls.{not_nil}
 use Rattle.protocol.proofs.Saving.{Apart, newer_saves}

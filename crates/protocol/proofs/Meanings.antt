@@ -1,10 +1,10 @@
 -- How tickets ended, kept up through the steps of one event.
-use Rattle.std.proofs.Common.{◌≡◌, ◌≢◌, ℕ, List, ◌⊎◌, Bool, true, false, eqb, Option, Some, None, refl, sym, ◌∙◌, ap, subst, inl, inr}
+use Rattle.std.proofs.Common.{◌≡◌, ℕ, ◌⊎◌, Bool, true, Option, Some, refl, sym, ◌∙◌, ap, subst, inl, inr}
 use Rattle.protocol.specs.Lists.{In, put}
-use Rattle.protocol.specs.Names.{Ticket, Digest}
+use Rattle.protocol.specs.Names.{Digest}
 use Rattle.protocol.specs.Machine.{Grant, Ending, Granted, Machine, Live}
 use Rattle.protocol.specs.Meaning.{Ended}
-use Rattle.protocol.proofs.Base.{cases_option, cases_nat, none_some, some_is, true_false, eqb_is, eqb_same, put_same, put_other}
+use Rattle.protocol.proofs.Base.{cases_option, cases_nat, none_some, put_same, put_other}
 use Rattle.protocol.proofs.Steps.{Sound, Later, same_grant}
 use Rattle.protocol.proofs.Bulk.{EndsThose}
 

@@ -1,21 +1,18 @@
 -- What a node's answers say, and when each of its refusals comes.
-use Rattle.std.proofs.Common.{◌≡◌, ◌≢◌, ℕ, zero, suc, ◌+◌, ◌≤◌, List, [], ◌∷◌, ◌++◌, ◌⊎◌, Bool, true, false, not, ◌&&◌, ◌||◌, eqb, length, map, Option, Some, None, slice_get, Ok, Err, refl, sym, ◌∙◌, ap, subst, inl, inr, arith}
+use Rattle.std.proofs.Common.{◌≡◌, ◌≢◌, ℕ, zero, suc, ◌+◌, ◌≤◌, List, [], ◌∷◌, ◌⊎◌, Bool, true, false, not, ◌&&◌, ◌||◌, eqb, length, map, Option, Some, None, slice_get, Ok, Err, refl, sym, ◌∙◌, ap, subst, inl, inr, arith}
 use Rattle.std.proofs.lemmas.Bool.Decides.{nat_tests}
 use Rattle.std.specs.List.{list_any, list_all}
 use Rattle.std.specs.Prelude.{nat_lt, is_some}
 use Rattle.protocol.specs.Lists.{In, nth, set_nth}
-use Rattle.protocol.specs.Names.{Shared, slots_eq, digest_eq, NodeId, Life, Ask, Ticket, Digest, Slot, Want, FolderName, wants_shared, tenure_wants}
-use Rattle.protocol.specs.Machine.{GrantedSlot, Confirmed, Grant, Message, Told, Fetches, Blob, FromCoord, slots_of, written}
+use Rattle.protocol.specs.Names.{Shared, slots_eq, digest_eq, NodeId, Life, Ask, Ticket, Digest, Want, FolderName, wants_shared, tenure_wants}
+use Rattle.protocol.specs.Machine.{GrantedSlot, Confirmed, Grant, Message, Told, Blob, FromCoord, slots_of, written}
 use Rattle.farm_base.specs.declared.message.FromCoord.TheVariants as told
 use Rattle.farm_base.specs.declared.message.Why.{Why}
-use Rattle.protocol.specs.declared.answer.How.TheVariants as how
 use Rattle.protocol.specs.declared.answer.NodeRefusal.{NodeRefusal}
 use Rattle.protocol.specs.declared.answer.NodeRefusal.TheVariants as refusal
-use Rattle.protocol.specs.declared.answer.NodeNote.{NodeNote}
-use Rattle.protocol.specs.declared.answer.NodeNote.TheVariants as note
 use Rattle.protocol.specs.Ledger.{Limits}
 use Rattle.protocol.specs.World.{AskState, Open, Holding, Running, Finished, Over, Node, keeps, keep, RunsTenure, IsTenureOf, Asked_tenure, Held_tenure, Running_tenure, Finished_tenure, Uses, Open_uses, Held_uses, Running_uses, Idle}
-use Rattle.protocol.specs.Nodes.{NodeWork, NodeAnswer, guard, Place, wants_folder, is_tenure_of, is_home_of, uses, at_home, others_use, in_use, Held, Sent, first, first_of, under, held, running, held_or_running, finished, recallable, is_stored, all_stored, is_base, asked, asked_tenure, beginning, begun, Left, news_of, stored, leaving, finishing, finished_with, aborting, aborted, resent, gives_back, granted, learned, dropped, denied, recalled, of_life, heard, fetched, brought, unless_spent, fetches}
+use Rattle.protocol.specs.Nodes.{NodeWork, NodeAnswer, guard, Place, wants_folder, is_tenure_of, is_home_of, uses, at_home, others_use, in_use, Held, Sent, first, under, held, running, held_or_running, finished, recallable, is_stored, all_stored, is_base, asked, asked_tenure, beginning, begun, Left, news_of, stored, leaving, finishing, finished_with, aborting, aborted, resent, gives_back, granted, learned, dropped, denied, recalled, of_life, heard, fetched, brought, unless_spent}
 use Rattle.protocol.specs.Replay.{Event, Tenure, Deliver, Begin, Finish, Abort, Resend, Forge, told_to}
 use Rattle.protocol.specs.Replay as replay
 use Rattle.protocol.specs.Meaning.{Stored, NodeMeans}
@@ -130,16 +127,16 @@ all_stored_so sha (x ∷ xs) store = elim (cases_bool (is_some (store (sha x.con
   | inr f ↦ (let none = not_some (store (sha x.content)) f in
       let store' : Digest → Option (List ℕ) = keep (sha x.content) x.content store in
       let r = all_stored_so sha xs store' in rw f (record {
-    kept = λ d c e. r.kept d c (keep_kept (sha x.content) d x.content c store none e);
-    named = λ d c e. elim (r.named d c e) [
-      | inl o ↦ elim (keep_named (sha x.content) d x.content c store o) [ inl q ↦ inl q | inr q ↦ inr (inl q.1, ap sha q.1 ∙ sym q.0) ]
-      | inr n ↦ inr (inr n.0, n.1)
-    ];
-    all = λ c i. elim i [
-      | inl e ↦ (x.content, r.kept (sha c) x.content (ap (λ z. store' (sha z)) e ∙ keep-same (sha x.content) x.content store))
-      | inr j ↦ r.all c j
-    ];
-  }))
+        kept = λ d c e. r.kept d c (keep_kept (sha x.content) d x.content c store none e);
+        named = λ d c e. elim (r.named d c e) [
+          | inl o ↦ elim (keep_named (sha x.content) d x.content c store o) [ inl q ↦ inl q | inr q ↦ inr (inl q.1, ap sha q.1 ∙ sym q.0) ]
+          | inr n ↦ inr (inr n.0, n.1)
+        ];
+        all = λ c i. elim i [
+          | inl e ↦ (x.content, r.kept (sha c) x.content (ap (λ z. store' (sha z)) e ∙ keep-same (sha x.content) x.content store))
+          | inr j ↦ r.all c j
+        ];
+      }))
 ]
 
 -- ---- answers
@@ -392,11 +389,22 @@ module _ (sha : List ℕ → Digest) (k : Limits) (n : NodeId) (size : ℕ) (x :
   recalled_means l t number None e q = (refl, refl)
   recalled_means l t number (Some r) e q =
       let f = found (recallable t) x.asks r e in
-      let o = recallable_is t f.0 r.1 f.2 in
-      (l, refl, q, (r.0, o.0, o.1, o.2, refl, elim o.3 [
-        | inl is ↦ inl (f.1 ∙ ap Some is.0, ap (λ z. record x { asks = set_nth x.asks r.0 z }) is.1)
-        | inr is ↦ inr (f.1 ∙ ap Some is.0, ap (λ z. record x { asks = set_nth x.asks r.0 z }) is.1)
-      ]))
+      let o = recallable_is t f.0 r.1 f.2 in (
+        l,
+        refl,
+        q,
+        (
+          r.0,
+          o.0,
+          o.1,
+          o.2,
+          refl,
+          elim o.3 [
+            | inl is ↦ inl (f.1 ∙ ap Some is.0, ap (λ z. record x { asks = set_nth x.asks r.0 z }) is.1)
+            | inr is ↦ inr (f.1 ∙ ap Some is.0, ap (λ z. record x { asks = set_nth x.asks r.0 z }) is.1)
+          ],
+        ),
+      )
 
   of_life_means : (y : FromCoord) (l : Life) (number : ℕ) (w : NodeWork) → (l ≡ x.life → Heard y number w) → Heard y number (of_life l x w)
   of_life_means y l number w h = elim (cases_bool (eqb l.0 x.life.0)) [

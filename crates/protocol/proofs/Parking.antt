@@ -1,9 +1,9 @@
 -- No parked ask could be granted: what frees a slot tries them again.
-use Rattle.std.proofs.Common.{◌≡◌, ◌≢◌, ℕ, zero, suc, ◌+◌, ◌<◌, ◌≤◌, List, [], ◌∷◌, ◌++◌, ◌⊎◌, Bool, true, false, not, ◌&&◌, ◌||◌, eqb, filter, Option, Some, None, Result, Ok, Err, refl, sym, ◌∙◌, ap, subst, inl, inr, arith}
+use Rattle.std.proofs.Common.{◌≡◌, ℕ, zero, suc, ◌+◌, ◌≤◌, List, [], ◌∷◌, ◌++◌, Bool, true, false, not, ◌&&◌, ◌||◌, eqb, filter, Option, Some, None, Result, Ok, Err, refl, sym, ◌∙◌, ap, subst, inl, inr, arith}
 use Rattle.std.proofs.lemmas.Bool.Decides.{nat_tests}
 use Rattle.std.specs.List.{list_any, find}
 use Rattle.std.specs.Prelude.{⊤, nat_lt, if◌then◌else◌}
-use Rattle.protocol.specs.Lists.{In, is_nil, nth, put}
+use Rattle.protocol.specs.Lists.{In, is_nil, nth}
 use Rattle.protocol.specs.Names.{Slot, is_private, only_slot, NodeId, Life, Ticket, Digest, Want, FolderName, leased_wants}
 use Rattle.protocol.specs.Machine.{Message, Said, Told, Fetches, Blob, ToCoord, Parked, News, cleared}
 use Rattle.farm_base.specs.declared.message.Request.{Request}
@@ -15,14 +15,13 @@ use Rattle.protocol.specs.declared.answer.Survivor.TheVariants.{Old, New}
 use Rattle.protocol.specs.declared.answer.CoordNote.TheVariants as note
 use Rattle.protocol.specs.Ledger.{Limits, Ledger, Lease, Work, begin_work, has_slot, some_lease, is_leased, is_free, lowest, all_taken, busy, pick, another, elsewhere, Decision, Give, Deny, Wait, decision, lease_for, gives, carried_out, waits, tried, stays, try_all, waiting, retried, holds_wanted, recall, recalls, decided, acquiring, lease_of, is_parked, lease_under, may_commit, on_all, committing, may_release, released, answering, is_older, is_older_ask, sees, is_home, newer_life, handled, withdraws, withdrawing, withdrawn, is_at, retire_all, goes, retired, prunes, pruned, is_awaited, nudges, nudge_all, nudged, notes, reread}
 use Rattle.protocol.specs.Ledger as ledger
-use Rattle.protocol.specs.Nodes.{NodeAnswer, Place, may_restart}
-use Rattle.protocol.specs.World.{Node}
+use Rattle.protocol.specs.Nodes.{NodeAnswer, may_restart}
 use Rattle.protocol.specs.Replay.{Event, Tenure, Deliver, Begin, Finish, Abort, Resend, Nudge, Withdraw, Prune, Retire, RestartNode, RestartCoordinator, Forge, FailSave, Farm, Turn, opening, settled, coordinated, is_node, answered, at_node, node_does, restarts, delivered, step, run}
 use Rattle.protocol.specs.Replay as replay
 use Rattle.protocol.specs.Follows.{NoneReady}
 use Rattle.protocol.specs.Chronicle.{NoParkedAskIsReady}
-use Rattle.protocol.proofs.Base.{cases_bool, true_false, not_true, not_false, and_both, or_false, in_left, in_append, in_one, any_in, from_any, any_none, in_filter, from_filter, eqb_is, eqb_same}
-use Rattle.protocol.proofs.Following.{Picked, pick_give}
+use Rattle.protocol.proofs.Base.{cases_bool, true_false, not_true, and_both, or_false, in_left, in_append, in_one, any_in, from_any, any_none, in_filter, from_filter, eqb_is}
+use Rattle.protocol.proofs.Following.{pick_give}
 
 -- what the second ledger could grant, the first could
 pub record Fewer (q q' : Ledger) : Type 0 where

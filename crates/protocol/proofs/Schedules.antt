@@ -1,10 +1,10 @@
 -- Each event of the replay is a list of moves of the world, and so every schedule is safe.
-use Rattle.std.proofs.Common.{◌≡◌, ◌≢◌, ℕ, zero, suc, ◌+◌, ◌<◌, ◌≤◌, ◌⊎◌, List, [], ◌∷◌, ◌++◌, Bool, true, false, not, ◌&&◌, map, Option, Some, None, Result, Ok, Err, refl, sym, ◌∙◌, ap, subst, inl, inr, arith, append-nil, append_assoc}
+use Rattle.std.proofs.Common.{◌≡◌, ◌≢◌, ℕ, zero, suc, ◌+◌, ◌<◌, ◌≤◌, ◌⊎◌, List, [], ◌∷◌, ◌++◌, Bool, true, false, not, map, Option, Some, None, Result, Ok, Err, refl, sym, ◌∙◌, ap, subst, inl, inr, arith, append-nil, append_assoc}
 use Rattle.protocol.specs.Lists.{In, put, nth}
 use Rattle.protocol.specs.Names.{Slot, NodeId, Life, Digest, Want}
 use Rattle.protocol.specs.Machine.{Grant, Granted, ticket_of, Message, Said, Told, Fetches, Blob, ToCoord, FromCoord, acquire, commit, release, Machine, WasHeard, Live, line, LineVersion, MayEnd, Ending, Committed, Released, Withdrawn, Died, Step, Steps, No_step, Grants, Ends, Prunes, Sees, Retires, Parks, Unparks, Raises, Says, Says_granted, Says_committed, Says_fenced, Says_denied, Says_recall}
-use Rattle.protocol.specs.Ledger.{Limits, Ledger, Work, begin_work, grant_of, handled, withdrawn, retired, pruned, nudged, reread, Lease, Saved, saves, reads}
-use Rattle.protocol.specs.World.{AskState, Running, World, Node, Move, Machine_moves, Machine_says, Fails, Recovers, Moves, Still, Then, start}
+use Rattle.protocol.specs.Ledger.{Limits, Ledger, Work, begin_work, grant_of, handled, withdrawn, retired, pruned, nudged, Lease, Saved, saves, reads}
+use Rattle.protocol.specs.World.{Running, World, Node, Move, Machine_moves, Machine_says, Fails, Recovers, Moves, Still, Then, start}
 use Rattle.protocol.specs.Nodes.{NodeWork, NodeAnswer, Place, asked, asked_tenure, begun, finished_with, aborted, resent, restarted, may_restart, heard, fetched, brought, unless_spent}
 use Rattle.protocol.specs.Replay.{Event, Tenure, Deliver, Begin, Finish, Abort, Resend, Nudge, Withdraw, Prune, Retire, RestartNode, RestartCoordinator, Forge, FailSave, Farm, Turn, opening, refused, done, after_work, settled, settles, coordinated, is_node, moved, answered, at_node, node_does, restarts, told_to, delivered, step, run}
 use Rattle.protocol.specs.Replay as replay
@@ -34,17 +34,16 @@ use Rattle.protocol.proofs.Leases.{core_of, grant-lease}
 use Rattle.protocol.proofs.Using.{Runs, Turned, NoGrant, Quiet, OneEach, one_each, OnNode, Begun, Stops, Aborts, asked_use, tenure_use, begun_use, finished_use, aborted_use, resent_use, heard_use, fetched_use, brought_use}
 use Rattle.std.specs.Prelude.{⊤, nat_lt}
 use Rattle.std.proofs.lemmas.Bool.Decides.{nat_tests}
-use Rattle.protocol.specs.Follows.{Agrees, Works, Begins_work, Goes_on, Speaks, Follows, lease_from, KeptAgrees, holds, Shows, IsFarm, SafeAfter, SafeBetween, EveryScheduleIsSafe, EveryScheduleStaysSafe, EveryEventIsMoves, FollowsOk, EveryDecisionFollows}
+use Rattle.protocol.specs.Follows.{Agrees, Works, Begins_work, Goes_on, Speaks, Follows, KeptAgrees, holds, Shows, IsFarm, SafeAfter, SafeBetween, EveryScheduleIsSafe, EveryScheduleStaysSafe, EveryEventIsMoves, FollowsOk, EveryDecisionFollows}
 use Rattle.protocol.proofs.Base.{cases_bool, cases_nat, true_false, not_true, and_both, none_some, some_is, in_left, put_same, put_other, nth_in, node_is, in_map, from_map}
 use Rattle.farm_base.specs.declared.message.FromCoord.TheVariants as message
-use Rattle.protocol.proofs.Steps.{Sound, same_grant, made_below}
+use Rattle.protocol.proofs.Steps.{Sound, made_below}
 use Rattle.protocol.proofs.Saving.{Apart, SavesOk, saved_twice, handled_saves, withdrawn_saves, retired_saves, pruned_saves, nudged_saves}
 use Rattle.protocol.proofs.Invariant.{Inv}
 use Rattle.protocol.proofs.Worlds.{moves_inv, start_whole}
 use Rattle.protocol.proofs.Safety.{every_run_is_safe, every_run_stays_safe}
 use Rattle.protocol.proofs.Following.{Sent, works_sound, works_made, works_steps}
 use Rattle.protocol.proofs.Others as others
-use Rattle.protocol.proofs.Calls as calls
 use Rattle.protocol.proofs.Saying as saying
 use Rattle.protocol.proofs.Noting as noting
 use Rattle.protocol.proofs.Moving.{NoneTold, Reached, OnAnswer, asked_does, tenure_does, begun_does, finished_does, aborted_does, resent_does, restarted_does, stops_does, spent_does, fetched_does, brought_does, heard_does}
@@ -237,8 +236,7 @@ module _ (sha : List ℕ → Digest) (k : Limits) (farm : IsFarm sha k) where
           ended = subst (λ z. Ended z (EndsAt u e told) f.machine.ending) (sym d.finds) f.ended.0;
           granted = λ g i. elim (f.granted g i) [ inl old ↦ inl (subst (λ z. In (Granted g) z.made) (sym d.finds) old) | inr new ↦ inr (in_map Told (message.Granted g) w.sends new) ];
           sent = λ g i.
-              (let j = told_in g w.sends i in
-              (
+              (let j = told_in g w.sends i in (
                 works_made k.empty u.pool u.machine f.machine w.sends sound_in f.works g j,
                 elim (d.grew.grants g j) [
                   | inl above ↦ inl (λ old. not_made g above (subst (λ z. In (Granted g) z.made) d.finds old))
@@ -596,21 +594,23 @@ module _ (sha : List ℕ → Digest) (k : Limits) (farm : IsFarm sha k) where
         reaches = (y, here);
       })
       (ap (message_decision k s) e)
-      ((λ h. h), (λ h. h))
-      (record {
-        finds = refl;
-        follows = other_ends u run s shows d (MessageEnds u.machine y w.note) (EndsAt u d (event_note.Coord w.note)) w
-            (λ g z h. (w.note, y, refl, here, h))
-            (λ g z h. subst (λ (x : ToCoord). MessageEnds u.machine x w.note g z) (said_is h.1 y (sym h.3 ∙ here)) (subst (λ c. MessageEnds u.machine h.1 c g z) (sym (coord_is w.note h.0 h.2)) h.4))
-            f;
-        tells = λ c p. sym (coord_is w.note c p);
-        grew = subst (λ o. Grew k s.ledger (message_adds o (event_note.Coord w.note)) w) (sym here) says.grew;
-        again = λ g h. h;
-        coord = λ m sound agrees x at. (w.note, refl, subst (λ (z : ToCoord). MessageMeans k.empty z u.machine w.note m (map Told w.sends)) (said_is y x (sym here ∙ at)) (note_means u run s shows number y w m sound agrees w.note says.says));
-        did = λ v. tt;
-        node = λ n is. (let bad : event_note.Coord w.note ≡ event_note.Node n = is in cc);
-        saves_all = handled_saves k s.ledger y (apart_in u run s shows d);
-      }, λ r h. none r h)
+      ((λ h. h), (λ h. h)) (
+        record {
+          finds = refl;
+          follows = other_ends u run s shows d (MessageEnds u.machine y w.note) (EndsAt u d (event_note.Coord w.note)) w
+              (λ g z h. (w.note, y, refl, here, h))
+              (λ g z h. subst (λ (x : ToCoord). MessageEnds u.machine x w.note g z) (said_is h.1 y (sym h.3 ∙ here)) (subst (λ c. MessageEnds u.machine h.1 c g z) (sym (coord_is w.note h.0 h.2)) h.4))
+              f;
+          tells = λ c p. sym (coord_is w.note c p);
+          grew = subst (λ o. Grew k s.ledger (message_adds o (event_note.Coord w.note)) w) (sym here) says.grew;
+          again = λ g h. h;
+          coord = λ m sound agrees x at. (w.note, refl, subst (λ (z : ToCoord). MessageMeans k.empty z u.machine w.note m (map Told w.sends)) (said_is y x (sym here ∙ at)) (note_means u run s shows number y w m sound agrees w.note says.says));
+          did = λ v. tt;
+          node = λ n is. (let bad : event_note.Coord w.note ≡ event_note.Node n = is in cc);
+          saves_all = handled_saves k s.ledger y (apart_in u run s shows d);
+        },
+        λ r h. none r h,
+      )
     where
       deliver_is : (a b : ℕ) → Deliver a ≡ Deliver b → a ≡ b
       deliver_is a b e = cc
@@ -863,18 +863,20 @@ module _ (sha : List ℕ → Digest) (k : Limits) (farm : IsFarm sha k) where
       node_next u run s shows e n None p (λ p x. resent k p x)
       (quiet_act u run s shows e n None p _ (λ x v. tt) (resent_does sha u n k s.size) (resent_use (u.nodes n.0) one k (record { node = n; nodes = s.size })) (noting.resent_exact sha k n s.size (u.nodes n.0) one))
   step_next u run s shows Nudge = coordinated_next u run s shows Nudge s.down (Ok (nudged k (begin_work s.ledger))) refl
-      (record { heard = λ m is. (let bad : Nudge ≡ Deliver m = is in absurd (cc)); node = λ n at. none_some n at; retires = λ n is. (let bad : Nudge ≡ Retire n = is in absurd (cc)); reaches = tt }) refl ((λ h. h), (λ h. h))
-      (record {
-        tells = λ c p. sym (coord_is coord_note.Nudged c p);
-        finds = refl;
-        follows = others.nudged_follows k farm.instances u.pool u.machine (sound_in u run s shows Nudge) (sent_in sha u (inv u run s shows Nudge)) s.ledger (agrees_in u run s shows Nudge);
-        grew = saying.nudged_grew k s.ledger;
-        again = λ g h. h;
-        coord = λ m sound agrees. refl;
-        did = λ v. tt;
-        node = λ n is. (let bad : event_note.Coord coord_note.Nudged ≡ event_note.Node n = is in cc);
-        saves_all = nudged_saves k s.ledger;
-      }, λ r h. h)
+      (record { heard = λ m is. (let bad : Nudge ≡ Deliver m = is in absurd (cc)); node = λ n at. none_some n at; retires = λ n is. (let bad : Nudge ≡ Retire n = is in absurd (cc)); reaches = tt }) refl ((λ h. h), (λ h. h)) (
+        record {
+          tells = λ c p. sym (coord_is coord_note.Nudged c p);
+          finds = refl;
+          follows = others.nudged_follows k farm.instances u.pool u.machine (sound_in u run s shows Nudge) (sent_in sha u (inv u run s shows Nudge)) s.ledger (agrees_in u run s shows Nudge);
+          grew = saying.nudged_grew k s.ledger;
+          again = λ g h. h;
+          coord = λ m sound agrees. refl;
+          did = λ v. tt;
+          node = λ n is. (let bad : event_note.Coord coord_note.Nudged ≡ event_note.Node n = is in cc);
+          saves_all = nudged_saves k s.ledger;
+        },
+        λ r h. h,
+      )
   step_next u run s shows (Withdraw t) =
       let e : Event = Withdraw t in
       let sound = sound_in u run s shows e in
@@ -884,9 +886,15 @@ module _ (sha : List ℕ → Digest) (k : Limits) (farm : IsFarm sha k) where
       (others_ok u run s shows e (WithdrawEnds t) (λ w. w.note ≡ coord_note.Withdrawn t) (λ c x. []) (withdrawn k t (begin_work s.ledger))
       (others.withdrawn_follows k farm.instances u.pool u.machine sound sent t s.ledger (agrees_in u run s shows e)) (others.withdrawn_told k farm.instances u.pool u.machine sound sent t (begin_work s.ledger))
       (λ w f told g c. record {
-        saves_all = c; finds = refl; follows = f; tells = λ c p. sym (coord_is w.note c p); grew = g; again = λ g h. h;
+        saves_all = c;
+        finds = refl;
+        follows = f;
+        tells = λ c p. sym (coord_is w.note c p);
+        grew = g;
+        again = λ g h. h;
         coord = λ m sound agrees. (ap event_note.Coord told, subst (CoordMeans u.machine) told f.ended.1);
-        did = λ v. tt; node = λ n is. (let bad : event_note.Coord w.note ≡ event_note.Node n = is in cc);
+        did = λ v. tt;
+        node = λ n is. (let bad : event_note.Coord w.note ≡ event_note.Node n = is in cc);
       })
       (saying.withdrawn_grew k s.ledger t) (withdrawn_saves k s.ledger t (apart_in u run s shows e)) (deciding.withdrawn_exact k u.pool u.machine sound s.ledger (agrees_in u run s shows e) t))
   step_next u run s shows (Prune slot) =
@@ -898,9 +906,15 @@ module _ (sha : List ℕ → Digest) (k : Limits) (farm : IsFarm sha k) where
       (others_ok u run s shows e NoEnds (λ w. w.note ≡ coord_note.Pruned (record { 0 = s.ledger.last + 1 })) (λ c x. prune_adds k.empty slot (event_note.Coord c) x) (pruned k slot (begin_work s.ledger))
       (others.pruned_follows k farm.instances u.pool u.machine sound sent slot s.ledger (agrees_in u run s shows e)) (others.pruned_told k farm.instances u.pool u.machine sound sent slot (begin_work s.ledger))
       (λ w f told g c. record {
-        saves_all = c; finds = refl; follows = f; tells = λ c p. sym (coord_is w.note c p); grew = g; again = λ g h. h;
+        saves_all = c;
+        finds = refl;
+        follows = f;
+        tells = λ c p. sym (coord_is w.note c p);
+        grew = g;
+        again = λ g h. h;
         coord = λ m sound agrees. (record { 0 = s.ledger.last + 1 }, ap event_note.Coord told, next_ticket s.ledger.last u.machine.last (agrees_in u run s shows e).last);
-        did = λ v. tt; node = λ n is. (let bad : event_note.Coord w.note ≡ event_note.Node n = is in cc);
+        did = λ v. tt;
+        node = λ n is. (let bad : event_note.Coord w.note ≡ event_note.Node n = is in cc);
       })
       (saying.pruned_grew k s.ledger slot) (pruned_saves k s.ledger slot) (deciding.pruned_exact k u.pool u.machine sound s.ledger (agrees_in u run s shows e) slot))
   step_next u run s shows (Retire n) = elim (cases_bool (is_node s n)) [
@@ -912,9 +926,15 @@ module _ (sha : List ℕ → Digest) (k : Limits) (farm : IsFarm sha k) where
         (others_ok u run s shows e (RetireEnds n) (λ w. (w.note ≡ coord_note.Retired n) × (w.ledger.gone n.0 ≡ true)) (λ c x. []) (retired k n (begin_work s.ledger))
         (others.retired_follows k farm.instances u.pool u.machine sound sent n s.ledger (agrees_in u run s shows e)) (others.retired_told k farm.instances u.pool u.machine sound sent n (begin_work s.ledger))
         (λ w f told g c. record {
-          saves_all = c; finds = refl; follows = f; tells = λ c p. sym (coord_is w.note c p); grew = g; again = λ g h. h;
+          saves_all = c;
+          finds = refl;
+          follows = f;
+          tells = λ c p. sym (coord_is w.note c p);
+          grew = g;
+          again = λ g h. h;
           coord = λ m sound agrees. (ap event_note.Coord told.0, subst (CoordMeans u.machine) told.0 f.ended.1, sym (ap (λ (h : ℕ → Bool). h n.0) agrees.gone) ∙ told.1);
-          did = λ v. tt; node = λ j is. (let bad : event_note.Coord w.note ≡ event_note.Node j = is in cc);
+          did = λ v. tt;
+          node = λ j is. (let bad : event_note.Coord w.note ≡ event_note.Node j = is in cc);
         })
         (saying.retired_grew k s.ledger n) (retired_saves k s.ledger n) (deciding.retired_exact k u.pool u.machine sound s.ledger (agrees_in u run s shows e) n)))
     | inr t ↦ rw t (refused_so u run s shows (Retire n) refusal.NoSuchNode (n, inr refl, t))

@@ -1,10 +1,10 @@
 -- Which executions begin and end at a node's messages and calls.
-use Rattle.std.proofs.Common.{◌≡◌, ℕ, suc, List, [], ◌∷◌, ◌++◌, ◌⊎◌, Bool, true, false, not, ◌&&◌, ◌||◌, eqb, length, Option, Some, None, Ok, Err, refl, sym, ◌∙◌, ap, subst, inl, inr, arith}
+use Rattle.std.proofs.Common.{◌≡◌, ℕ, List, [], ◌∷◌, ◌++◌, ◌⊎◌, Bool, true, false, not, ◌&&◌, eqb, length, Option, Some, None, Ok, Err, refl, sym, ◌∙◌, ap, subst, inl, inr}
 use Rattle.std.specs.List.{list_any}
 use Rattle.std.specs.Prelude.{⊤, nat_lt}
-use Rattle.protocol.specs.Lists.{In, nth, set_nth}
+use Rattle.protocol.specs.Lists.{nth, set_nth}
 use Rattle.protocol.specs.Names.{Shared, slots_eq, NodeId, Life, Ask, Ticket, Digest, Want, FolderName, tenure_wants}
-use Rattle.protocol.specs.Machine.{Confirmed, Grant, Message, FromCoord, slots_of, written, Machine}
+use Rattle.protocol.specs.Machine.{Confirmed, Grant, FromCoord, slots_of, written}
 use Rattle.farm_base.specs.declared.message.FromCoord.TheVariants as told
 use Rattle.farm_base.specs.declared.message.Why.{Why}
 use Rattle.protocol.specs.declared.answer.How.TheVariants as how
@@ -13,7 +13,7 @@ use Rattle.protocol.specs.declared.answer.NodeNote.TheVariants as node_note
 use Rattle.protocol.specs.Ledger.{Limits}
 use Rattle.protocol.specs.World.{AskState, Open, Holding, Running, Finished, Over, Node, keeps, World}
 use Rattle.protocol.specs.Nodes.{NodeWork, NodeAnswer, guard, Place, is_tenure_of, at_home, in_use, Held, Sent, first, held, running, held_or_running, finished, recallable, is_stored, all_stored, is_base, asked, asked_tenure, beginning, begun, Left, news_of, leaving, finishing, finished_with, aborting, aborted, resent, gives_back, granted, learned, dropped, denied, recalled, of_life, heard, fetched, brought, unless_spent}
-use Rattle.protocol.proofs.Base.{cases_bool, cases_nat, some_is, none_some, nth_set_cases, nth-set_same, nth-set_other, nth-append, nth_push_cases}
+use Rattle.protocol.proofs.Base.{cases_bool, cases_nat, some_is, nth_set_cases, nth-set_same, nth-set_other, nth-append, nth_push_cases}
 use Rattle.protocol.proofs.Steps.{same_grant}
 use Rattle.protocol.proofs.Invariant.{Its, Inv}
 use Rattle.protocol.proofs.Moving.{found, held_is, running_is, either_is, finished_is, recallable_is}

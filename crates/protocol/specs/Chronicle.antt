@@ -1,5 +1,5 @@
 -- What is so of every schedule (docs/PROOFS.md, "The headline").
-use Rattle.std.specs.Prelude.{◌≡◌, ◌≢◌, ℕ, ◌+◌, ◌<◌, ◌≤◌, ◌⊎◌, nat_lt, false, true, slice_get, List, [], ◌∷◌, ◌++◌, Option, Some, None, ⊤, Ok, Err}
+use Rattle.std.specs.Prelude.{◌≡◌, ◌≢◌, ℕ, ◌+◌, ◌<◌, ◌≤◌, ◌⊎◌, nat_lt, false, true, slice_get, List, [], ◌∷◌, ◌++◌, Some, None, ⊤, Ok, Err}
 use Rattle.protocol.specs.Lists.{In, IsFrontOf, nth}
 use Rattle.protocol.specs.Names.{Slot, is_alone, NodeId, Life, Ticket, Digest}
 use Rattle.protocol.specs.Machine.{Grant, Confirmed, LineVersion, Message, Said, Told, ToCoord, Parked, Has}
@@ -14,7 +14,7 @@ use Rattle.protocol.specs.declared.answer.Outcome.{Outcome}
 use Rattle.protocol.specs.Ledger.{Limits, Lease, is_saved, saves, Work, begin_work, grant_of, lease_for, handled}
 use Rattle.protocol.specs.World.{World, Moves, start}
 use Rattle.protocol.specs.Safe.{Held, Rising, Safe, SafeSince}
-use Rattle.protocol.specs.Replay.{Event, Deliver, Begin, Withdraw, Retire, RestartCoordinator, Farm, Turn, step, run, opening}
+use Rattle.protocol.specs.Replay.{Event, Deliver, Begin, Withdraw, Retire, RestartCoordinator, Farm, step, run, opening}
 use Rattle.protocol.specs.Meaning.{adds, StopsAt, Means}
 use Rattle.protocol.specs.Reasons.{Fair}
 use Rattle.protocol.specs.Follows.{IsFarm, Shows, holds, NoneReady, after_life, MayBeGranted}
@@ -44,7 +44,7 @@ NoneShared pool t t' = (g g' : Grant) (s : Slot) → In (Told (told.Granted g)) 
 -- the answer to one more event names the version for the slot; or its save failed, and the record kept it
 abbrev pub Writes : (List ℕ → Digest) → Limits → Farm → Event → Slot → LineVersion → Type 0
 Writes sha k s e x v = ((o : Outcome) × ((step sha k s e).outcome ≡ Ok o) × In v (adds k.empty s.pool e o.note x))
-  ⊎ (((step sha k s e).outcome ≡ Err (refusal.Coord coord_refusal.SaveFault)) × ((told : CoordNote) × In v (adds k.empty s.pool e (note.Coord told) x)))
+    ⊎ (((step sha k s e).outcome ≡ Err (refusal.Coord coord_refusal.SaveFault)) × ((told : CoordNote) × In v (adds k.empty s.pool e (note.Coord told) x)))
 
 -- each version that ever stands on a line is of such an event. As lines only grow at their end, they stand in the
 -- order of these events

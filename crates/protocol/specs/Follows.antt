@@ -6,10 +6,6 @@ use Rattle.farm_base.specs.declared.message.Request.TheVariants.{Acquire, Commit
 use Rattle.farm_base.specs.declared.message.FromCoord.TheVariants as told
 use Rattle.protocol.specs.declared.answer.CoordNote.TheVariants as note
 use Rattle.protocol.specs.declared.answer.CoordRefusal.{CoordRefusal}
-use Rattle.protocol.specs.declared.answer.CoordRefusal.TheVariants as refusal
-use Rattle.protocol.specs.declared.answer.EventRefusal.{EventRefusal}
-use Rattle.protocol.specs.declared.answer.EventRefusal.TheVariants as event
-use Rattle.protocol.specs.declared.answer.Outcome.{Outcome}
 use Rattle.protocol.specs.Names.{Slot, NodeId, Life, Ticket, Digest, leased_wants}
 use Rattle.protocol.specs.Machine.{Grant, Granted, News, Ending, written, slots_of, Message, Said, acquire, ToCoord, FromCoord, Parked, Machine, Live, Retired, line, Step, Says}
 use Rattle.protocol.specs.Ledger.{Limits, Ledger, Lease, Work, begin_work, is_of, lease_of, is_parked, is_free, is_leased, all_taken, busy, elsewhere, decision, Give, grant_of, lease_for, newer_life, handled, withdrawn, retired, pruned, nudged, reread, saves}
@@ -188,10 +184,3 @@ FittingAskIsGranted = (k : Limits) (p : Parked) (w : Work) → NoneReady k w.led
     let grant : Grant = grant_of k.empty v.ledger.line (lease_for k v.ledger p) in
     let y : ToCoord = record { node = p.node; life = p.life; request = Acquire p.ask p.wants p.tenure } in
     MayBeGranted k v.ledger p → ((handled k y w).note ≡ note.Granted grant) × In (told.Granted grant) (handled k y w).sends
-
--- no event of a replay is refused as BadRecord or LoadFault
-abbrev pub IsRecordFault : Result Outcome EventRefusal → Type 0
-IsRecordFault o = (o ≡ Err (event.Coord refusal.BadRecord)) ⊎ (o ≡ Err (event.Coord refusal.LoadFault))
-
-abbrev pub NoRecordFault : Type 0
-NoRecordFault = (sha : List ℕ → Digest) (k : Limits) (s : Farm) (e : Event) → IsRecordFault (step sha k s e).outcome → ⊥

@@ -259,8 +259,8 @@ NodeMeans sha heard e n x (node.Denied why) sends x' = (l : Life) × (a : Ask) �
     × ((wants : List Want) × (tenure : Bool) × IsAsk x a.0 (Open wants tenure) × (sends ≡ []) × (x' ≡ record x { asks = set_nth x.asks a.0 (Over (how.Denied why)) }))
 NodeMeans sha heard e n x (node.Recalled t) sends x' = (l : Life) × (heard ≡ Some (Told (message.Recall n l t))) × (l ≡ x.life)
     × ((a : ℕ) × (wants : List Want) × (g : Grant) × (g.ticket ≡ t) × (sends ≡ []) × (
-        (IsAsk x a (Holding wants g false) × (x' ≡ record x { asks = set_nth x.asks a (Holding wants g true) }))
-      ⊎ (IsAsk x a (Running wants g false) × (x' ≡ record x { asks = set_nth x.asks a (Running wants g true) }))))
+    (IsAsk x a (Holding wants g false) × (x' ≡ record x { asks = set_nth x.asks a (Holding wants g true) }))
+    ⊎ (IsAsk x a (Running wants g false) × (x' ≡ record x { asks = set_nth x.asks a (Running wants g true) }))))
 NodeMeans sha heard e n x node.SentBlob sends x' = (from : NodeId) × (c : List ℕ) × (d : Digest) × (x.store d ≡ Some c) × (sends ≡ Blob from c ∷ []) × (x' ≡ x)
 NodeMeans sha heard e n x node.BlobTaken sends x' = (c : List ℕ) × ((heard ≡ Some (Blob n c)) ⊎ (e ≡ Forge n c)) × (x.store (sha c) ≡ None) × (sends ≡ []) × (x' ≡ record x { store = keep (sha c) c x.store })
 NodeMeans sha heard e n x node.OldLife sends x' = (sends ≡ []) × (x' ≡ x)

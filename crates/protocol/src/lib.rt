@@ -1,8 +1,8 @@
 //! The protocol of leases over unreliable messages: its definitions, and its safety.
 #![tactic(auto)]
 
-ghost use Rattle.protocol.specs.Follows.{EveryScheduleIsSafe, EveryScheduleStaysSafe, EveryEventIsMoves, EveryDecisionFollows, FittingAskIsGranted, NoRecordFault};
-ghost use Rattle.protocol.specs.Chronicle.{EveryScheduleHasAChronicle, EveryScheduleMeans, NoParkedAskIsReady, FittingMessageIsGranted, EveryFarmIsSaved, EveryRecordCovers, RestartReadsTheRecord};
+ghost use Rattle.protocol.specs.Follows.{EveryScheduleIsSafe, EveryScheduleStaysSafe, EveryEventIsMoves, EveryDecisionFollows, FittingAskIsGranted};
+ghost use Rattle.protocol.specs.Chronicle.{EveryScheduleHasAChronicle, EveryScheduleMeans, EveryVersionIsAnswered, NoParkedAskIsReady, FittingMessageIsGranted, EveryFarmIsSaved, EveryRecordCovers, RestartReadsTheRecord};
 ghost use Rattle.protocol.specs.Safe.{EveryRunIsSafe, EveryRunStaysSafe};
 
 mod answer;
@@ -27,15 +27,17 @@ pub fn every_schedule_is_safe()
 {}
 
 /// Every schedule has a chronicle: a world after each event, safe, led to by moves, in which the event meant what
-/// its outcome says. So what is withdrawn, by a call, a retirement, a newer life or a restart, is never committed
-/// later, and is on no line.
+/// its outcome says. So, in terms of events and answers alone: what is withdrawn, by a call, a retirement, a newer
+/// life or a restart, is never committed later and is on no line; each line grows by what the answers name, and by
+/// nothing else; no two executions share a PRIVATE or SHARED slot; two nodes hold one content for a version.
 pub fn every_schedule_means()
     ensures chronicle { EveryScheduleHasAChronicle }
     ensures headline { EveryScheduleMeans }
+    ensures versions { EveryVersionIsAnswered }
 {}
 
-/// Each event of a farm, from any world that it may be in, is a list of moves of the world, and means what its
-/// outcome says.
+/// Each event of a farm, from any world that it may be in, is a list of moves of the world, means what its outcome
+/// says, and is refused exactly where there is a reason to.
 pub fn every_event_is_moves()
     ensures { EveryEventIsMoves }
 {}
@@ -66,9 +68,4 @@ pub fn every_record_is_enough()
     ensures saved { EveryFarmIsSaved }
     ensures covers { EveryRecordCovers }
     ensures reads { RestartReadsTheRecord }
-{}
-
-/// No schedule meets a record that can't be read.
-pub fn no_record_is_bad()
-    ensures { NoRecordFault }
 {}

@@ -6,3 +6,6 @@ returns-clause-chronicle c = chronicles.every_schedule_has_a_chronicle
 
 pub returns-clause-headline : goal.returns-clause-headline
 returns-clause-headline c = chronicles.every_schedule_means
+
+pub returns-clause-versions : goal.returns-clause-versions
+returns-clause-versions c = chronicles.every_version_is_answered
