@@ -40,7 +40,7 @@ const SHARED: [(Call, &str); 14] = [
     (Call::Answer(0), "output 11"),
     (Call::Answer(1), "output 11"),
     (Call::Answer(2), "no such job"),
-    (Call::Done(1, &[12]), "the key isn't out"),
+    (Call::Done(1, &[12]), "the key is not being solved"),
     (Call::Submit(PLAIN), "job 2"),
 ];
 
