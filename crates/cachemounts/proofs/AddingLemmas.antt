@@ -1,4 +1,4 @@
--- What a folder more makes of wants.
+-- How one more folder changes wants.
 use Rattle.std.proofs.Common.{◌≡◌, ℕ, zero, suc, ◌+◌, ◌<◌, ◌⊎◌, inl, inr, Bool, true, false, List, [], ◌∷◌, ◌++◌, length, take, set, get_or, Some, refl, sym, ap, ◌∙◌, subst, arith}
 use Rattle.std.specs.Prelude.{IsTrue, not}
 use Rattle.std.specs.List.{Contains, slice_get, IsDistinct, list_any}
@@ -111,7 +111,7 @@ adds_read wants place want folder at same = record {
   written = λ other. (λ h. inl h, λ h. elim h [ inl old ↦ old | inr is ↦ absurd (cc is.1) ]);
 }
 
--- a want more
+-- one more want
 pub adds_pushed : (wants : List Want) (folder : FolderName) (writable : Bool)
     → Adds (λ other. folder ≡ other) (λ other. (folder ≡ other) × IsTrue writable) wants (wants ++ (record { folder = folder; writable = writable }) ∷ [])
 adds_pushed wants folder writable =
@@ -245,7 +245,7 @@ readonly_or_not : (readonly : Bool) → IsTrue (not readonly) → readonly ≡ f
 readonly_or_not true h = absurd (cc h)
 readonly_or_not false h = refl
 
--- what comes in with the folder of a mount comes in with the mount
+-- what the folder of a mount adds, the mount adds
 pub adds_mount : (outputs : List Base) (mount : Mount Text) (folder : FolderName) (old new : List Want) → HasFolder outputs mount folder
     → Adds (λ other. folder ≡ other) (λ other. (folder ≡ other) × IsTrue (not mount.readonly)) old new
     → Adds (HasFolder outputs mount) (λ other. HasFolder outputs mount other × (mount.readonly ≡ false)) old new

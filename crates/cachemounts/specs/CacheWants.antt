@@ -38,7 +38,7 @@ pub record IsWritten (outputs : List Base) (mounts : List (Mount Text)) (folder 
   pub folder_is : HasFolder outputs mount folder
   pub writable : mount.readonly ≡ false
 
--- just the folders of the cache mounts, to be written just where some mount isn't readonly
+-- exactly the folders of the cache mounts, writable exactly where some mount isn't readonly
 pub record AreWantsOf (outputs : List Base) (mounts : List (Mount Text)) (wants : List Want) : Type 0 where
   pub wanted : (folder : FolderName) → Contains (folders wants) folder ↔ IsWanted outputs mounts folder
   pub written : (folder : FolderName) → Contains wants (to_write folder) ↔ IsWritten outputs mounts folder

@@ -10,7 +10,7 @@ use std::alloc::{AllocError, Global};
 /// The mount type CACHE of ops.proto.
 const CACHE: i32 = 3;
 
-/// The folder of a mount, where it is a cache mount. Its vertex's inputs take these outputs.
+/// The folder of a mount, if it is a cache mount. The inputs of its vertex take these outputs.
 pub(crate) fn folder_of(
     alloc: Global,
     outputs: &[Base],

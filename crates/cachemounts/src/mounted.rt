@@ -66,7 +66,7 @@ fn is_graph(graph: &Graph)
     let _count = graph.len();
 }
 
-/// The output that each edge of a vertex takes, whose op has these inputs.
+/// The output that each edge of a vertex takes. These are the inputs of its op.
 fn outputs_of(
     alloc: Global,
     keys: &[Key],
@@ -83,7 +83,7 @@ fn outputs_of(
     Ok(outputs)
 }
 
-/// The output that an edge takes, which is that of this input.
+/// The output that an edge takes. It is the edge of this input.
 fn output_of(keys: &[Key], input: &Input, edge: (usize, u64)) -> Base
     requires { (vertices : List Vertex) × IsEdge vertices input.now edge × (length vertices ≡ length keys.now) }
     ensures { TakesOutput keys.now edge result }

@@ -33,7 +33,7 @@ pub fn views(
     views_of(alloc, mounted.outputs(), mounted.mounts(), wants.as_slice())
 }
 
-/// The views of some mounts of a vertex whose inputs take these outputs.
+/// The views of some mounts of a vertex. Its inputs take these outputs.
 fn views_of(
     alloc: Global,
     outputs: &[Base],

@@ -20,7 +20,7 @@ use vertices::Graph;
 
 /// What the vertex of a number wants: the folders of its cache mounts, where the graph has these
 /// solver keys. A folder is named by the cache option's ID, or the mount's dest where that is empty;
-/// by its sharing; and by the output that the mount's input takes, if it has one. Mounts with one
+/// by its sharing; and by the output that the mount's input takes, if it has one. Mounts of the same
 /// folder are one want, which is writable unless each of them is readonly. A vertex that isn't an
 /// exec op wants nothing.
 pub fn wants(alloc: Global, graph: &Graph, vertex: usize, keys: &[Key]) -> Result<Wants, AllocError>
@@ -32,7 +32,7 @@ pub fn wants(alloc: Global, graph: &Graph, vertex: usize, keys: &[Key]) -> Resul
     wants_of(alloc, mounted.outputs(), mounted.mounts())
 }
 
-/// Whether the wants need a home: one of them is SHARED.
+/// Whether one of the wants is SHARED, so that they need a home.
 pub fn needs_home(wants: &Wants) -> bool
     ensures { IsTrue result ↔ Any (λ want. want.folder.mode ≡ Shared) wants.now }
 {

@@ -140,7 +140,7 @@ module _ (g : GraphParts) (keys : List Key) (old : List Entry) where
     new_is = h.new_is;
   })
 
-  -- a key that is known already is none of the new ones
+  -- a key that is known already is not among the new ones
   not_new : (n : ℕ) (new : List Entry) → IsAdding g keys old n new → IsKnown g keys new n → IsNew g keys old n → ⊥
   not_new n new h k is = elim (append_cases old h.added k.place k.entry (ap (λ (xs : List Entry). slice_get xs k.place) (sym h.new_is) ∙ k.at)) [
     | inl before ↦ is.unknown (record { place = k.place; entry = k.entry; at = before; key = k.key })

@@ -1,4 +1,4 @@
--- What a job comes to, by the entry of its result's key.
+-- The answer of a job, by the entry of its result's key.
 use Rattle.std.proofs.Common.{◌≡◌, ℕ, Bool, true, false, List, get_or, length, ◌+◌, ◌<◌, arith, Option, Some, None, Result, Ok, Err, slice_get, refl, ap, sym, ◌∙◌, subst}
 use Rattle.std.proofs.lemmas.Option.{slice_get_within}
 use Rattle.farm_base.specs.declared.digest.Digest.{Digest}

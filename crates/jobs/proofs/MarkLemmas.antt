@@ -115,7 +115,7 @@ no_more false old new fewer same = (let e = ap open_count same in omega (arith, 
 pub first_look : (es : List Entry) (marks : List Bool) → HasLooked es marks marks false 0
 first_look es marks = record { fail = λ h. h; keeps = λ n h. h; fewer = tt; same = refl; looked = λ n e lt at h. absurd (omega (arith, lt)) }
 
--- a key more is marked
+-- one more key is marked
 pub look_marks : (es : List Entry) (old new now : List Bool) (marked is : Bool) (n : ℕ) (e : Entry) → HasLooked es old new marked n → slice_get es n ≡ Some e → n < length new
     → flag_at new n ≡ false → HasLost es new e.inputs → now ≡ set new n true → is ≡ true → HasLooked es old now is (n + 1)
 look_marks es old new now marked is n e h at within flag lost now_is is_true =
@@ -174,7 +174,7 @@ of_slice es marks e inputs same h = subst (HasLost es marks) (sym same) h
 pub to_slice : (es : List Entry) (marks : List Bool) (e : Entry) (inputs : List (Key × ℕ)) → inputs ≡ e.inputs → HasLost es marks inputs → HasLost es marks e.inputs
 to_slice es marks e inputs same h = subst (HasLost es marks) same h
 
--- an entry that isn't out is that of no key that is out
+-- an entry that isn't being solved is not the entry of a key that is
 pub not_out : (t : Table) → IsTable t → (key : Key) (n : ℕ) (e x : Entry) → slice_get t.entries.items n ≡ Some e → e.key ≡ key → x ≡ get_or t.entries.items n x → (x.progress ≡ Out → ⊥)
     → (entry : Entry) → IsSubmitted t.entries.items key entry → entry.progress ≡ Out → ⊥
 not_out t h key n e x at named read never entry s out =

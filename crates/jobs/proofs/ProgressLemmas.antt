@@ -51,7 +51,7 @@ whole xs ys n is same = ap (λ k. take k (ys ++ drop (length ys) xs)) (is ∙ sy
 
 -- ---- keys that grow
 
--- what an entry that was submitted has become: its inputs stay, and so does its end
+-- a submitted entry later: its inputs stay, and once it is done or failed it stays so
 pub record Stays (es : List Entry) (key : Key) (entry : Entry) : Type 0 where
   pub now : Entry
   pub submitted : IsSubmitted es key now
@@ -95,7 +95,7 @@ module _ (es : List Entry) (n : ℕ) (e : Entry) (at : slice_get es n ≡ Some e
   pub moved_keys : map key_of moved ≡ map key_of es
   moved_keys = keys_set es n e (record e { progress = to }) at refl
 
-  -- a key that was not at its end grows
+  -- entries grow where one that is neither done nor failed moves on
   pub moved_grows : ((outputs : List Digest) → e.progress ≡ Done outputs → ⊥) → ((fault : Fault) → e.progress ≡ Failed fault → ⊥) → Grows es moved
   moved_grows not_done not_failed key entry s = elim (cases_eq s.number n) [
     | inl same ↦ (let is : e ≡ entry = some_is e entry (sym at ∙ ap (slice_get es) (sym same) ∙ s.at) in
@@ -129,7 +129,7 @@ module _ (es : List Entry) (n : ℕ) (e : Entry) (at : slice_get es n ≡ Some e
     | inr other ↦ called_before m f fault other.1 failed
   ]
 
--- one mark more
+-- one more mark
 pub mark_keeps : (marks : List Bool) (n : ℕ) → n < length marks → KeepsMarks marks (set marks n true)
 mark_keeps marks n within m met = elim (cases_eq m n) [
   | inl same ↦ ap (flag_at (set marks n true)) same ∙ get_or-set_same marks n true false within
@@ -146,7 +146,7 @@ mark_fails es marks n e at before fails m f there met = elim (cases_eq m n) [
 pub called_keeps : (es : List Entry) (old new : List Bool) → KeepsMarks old new → MarksCalled es old → MarksCalled es new
 called_keeps es old new keeps before m f fault there failed = keeps m (before m f fault there failed)
 
--- the marks after a key that was out came to its end
+-- the marks after a key that was being solved is done or failed
 pub settled : (es now : List Entry) (n : ℕ) (e : Entry) (to : Progress) (old between new : List Bool) → slice_get es n ≡ Some e → e.progress ≡ Out → now ≡ set es n (record e { progress = to }) → AreMarks es old
     → ((fault : Fault) × (to ≡ Failed fault) × (between ≡ set old n true)) ⊎ (((fault : Fault) → to ≡ Failed fault → ⊥) × (between ≡ old))
     → (MarksFail now between → MarksFail now new) → KeepsMarks between new → MarksLost now new → length new ≡ length old → AreMarks now new

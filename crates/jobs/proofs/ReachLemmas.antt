@@ -16,7 +16,7 @@ use Rattle.vertices.proofs.EntryLemmas.{take_push}
 use Rattle.vertices.proofs.OrderLaws.{walk_join}
 use Rattle.jobs.specs.Reaching.{IsNeeded, AreReached, Reaching, IsReaching}
 
--- a flag more leaves one open flag less
+-- one more flag leaves one fewer open flag
 one_fewer : (flags : List Bool) (n : ℕ) → n < length flags → flag_at flags n ≡ false → open_count (set flags n true) + 1 ≡ open_count flags
 one_fewer flags n within unmet =
     let count : Bool → ℕ = λ flag. cond (cond flag false true) 1 0 in
@@ -45,7 +45,7 @@ module _ (old : List Bool) (todo : List ℕ) (es : List (ℕ × ℕ)) (new : Lis
   target_last : Contains (targets (es ++ e ∷ [])) e.0
   target_last = subst (λ (xs : List ℕ). Contains xs e.0) (sym (targets_push es e)) (Contains-push (targets es) e.0)
 
-  -- an edge more to what is flagged
+  -- one more edge, to a flagged vertex
   pub reach_old : flag_at new e.0 ≡ true → Reaching old todo (es ++ e ∷ []) new more
   reach_old met = record {
     count = h.count;
@@ -63,7 +63,7 @@ module _ (old : List Bool) (todo : List ℕ) (es : List (ℕ × ℕ)) (new : Lis
     | inr apart ↦ get_or-set_other new e.0 n true false apart ∙ met
   ]
 
-  -- an edge more to what wasn't
+  -- one more edge, to a vertex that wasn't flagged
   pub reach_new : e.0 < length new → Reaching old todo (es ++ e ∷ []) (set new e.0 true) (more ++ e.0 ∷ [])
   reach_new within =
       let here : flag_at (set new e.0 true) e.0 ≡ true = get_or-set_same new e.0 true false within in
@@ -89,12 +89,12 @@ module _ (old : List Bool) (todo : List ℕ) (es : List (ℕ × ℕ)) (new : Lis
         ];
       }
 
--- up to one edge more
+-- up to one more edge
 pub reach_more : (old : List Bool) (todo : List ℕ) (edges : List (ℕ × ℕ)) (k : ℕ) (e : ℕ × ℕ) (new : List Bool) (more : List ℕ) → slice_get edges k ≡ Some e
     → Reaching old todo (take k edges ++ e ∷ []) new more → Reaching old todo (take (k + 1) edges) new more
 reach_more old todo edges k e new more at h = subst (λ (es : List (ℕ × ℕ)). Reaching old todo es new more) (sym (take_push edges k e at)) h
 
--- a walk with one edge more
+-- a walk with one more edge
 walk_more : (g : GraphParts) (number input : ℕ) → IsNeeded g number → GoesTo g.edges number input → IsNeeded g input
 walk_more g number input w edge =
     let goes = GoesTo g.edges in
@@ -172,7 +172,7 @@ reach_end g flags todo h none =
     let i = subst (IsReaching g flags) none h in
     record { count = i.count; needed = i.needed; whole = λ m w. all_flagged g flags i w.0 g.result.0 m i.result w.1 }
 
--- one edge more, to a vertex that wasn't flagged
+-- one more edge, to a vertex that wasn't flagged
 pub reach_next : (old : List Bool) (todo : List ℕ) (edges : List (ℕ × ℕ)) (k : ℕ) (d : ℕ × ℕ) (new : List Bool) (more : List ℕ) (flags : List Bool) (items : List ℕ) → k < length edges → Reaching old todo (take k edges) new more
     → length more + open_count new ≡ length todo + open_count old → (get_or edges k d).0 < length new → flag_at new (get_or edges k d).0 ≡ false
     → flags ≡ set new (get_or edges k d).0 true → items ≡ more ++ (get_or edges k d).0 ∷ []

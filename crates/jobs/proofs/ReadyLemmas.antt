@@ -154,7 +154,7 @@ zip_push R [] (b ∷ ys) x y h r = absurd h
 zip_push R (a ∷ xs) [] x y h r = absurd h
 zip_push R (a ∷ xs) (b ∷ ys) x y h r = (h.0, zip_push R xs ys x y h.1 r)
 
--- one output more
+-- one more output
 pub zip_more : (es : List Entry) (inputs : List (Key × ℕ)) (k : ℕ) (d : Key × ℕ) (outputs now : List Digest) (output : Digest) → k < length inputs → AllZip (HasOutput es) (take k inputs) outputs
     → HasOutput es (get_or inputs k d) output → now ≡ outputs ++ output ∷ [] → AllZip (HasOutput es) (take (k + 1) inputs) now
 zip_more es inputs k d outputs now output within h has is =

@@ -8,7 +8,7 @@ use Rattle.jobs.specs.declared.entry.Entry.{Entry}
 use Rattle.jobs.specs.declared.entry.Progress.TheVariants.{Waiting, Done, Failed}
 
 module _ (keys : List Entry) where
-  -- the key was submitted, and stands so
+  -- the key was submitted, and has this progress
   pub record IsSubmitted (key : Key) (entry : Entry) : Type 0 where
     pub number : ℕ
     pub at : slice_get keys number ≡ Some entry
@@ -43,7 +43,7 @@ module _ (keys : List Entry) where
   abbrev pub AreThere : List (Key × ℕ) → Type 0
   AreThere inputs = (input : Key × ℕ) → Contains inputs input → (digest : Digest) × HasOutput input digest
 
-  -- an entry that is neither done, nor failing, nor out, and each of whose inputs names an output that is there
+  -- an entry that is neither done, nor failing, nor being solved, and each of whose inputs names an output that is there
   pub record IsReady (entry : Entry) : Type 0 where
     pub waiting : entry.progress ≡ Waiting
     pub not_failing : Fails entry.key → ⊥

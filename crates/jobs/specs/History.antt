@@ -1,4 +1,4 @@
--- What a table of jobs keeps for good, and what each job comes to (this project's own).
+-- What a table of jobs keeps for good, and the answer of each job (this project's own).
 use Rattle.std.specs.Prelude.{◌≡◌, ◌<◌, ℕ, List, Result, Ok, Err, Some, slice_get, slice_set}
 use Rattle.std.specs.List.{AllZip}
 use Rattle.farm_base.specs.declared.digest.Key.{Key}
@@ -18,7 +18,7 @@ pub record History : Type 0 where
   pub jobs : List (Key × ℕ)
   pub keys : List Entry
 
--- what the job with this result comes to: the named output, or that its key fails, or else waiting.
+-- the answer of the job with this result: the named output, or that its key fails, or else waiting.
 -- It is refused where the key is done without that output
 pub data IsAnswer (keys : List Entry) (wanted : Key × ℕ) (given : Result Answer JobsRefusal) : Type 0 where
   output : (digest : Digest) → HasOutput keys wanted digest → given ≡ Ok (answers.Output digest) → IsAnswer keys wanted given
@@ -41,7 +41,7 @@ pub record IsFirstReady (keys : List Entry) (number : ℕ) (entry : Entry) : Typ
   pub ready : IsReady keys entry
   pub first : (before : ℕ) (other : Entry) → before < number → slice_get keys before ≡ Some other → IsReady keys other → ⊥
 
--- the first ready key is handed out, with the outputs that its inputs name, in order, and is out from then on
+-- the first ready key is handed out, with the outputs that its inputs name, in order, and is being solved from then on
 pub record TakesFirst (old : History) (key : Key) (inputs : List Digest) (new : History) : Type 0 where
   pub number : ℕ
   pub entry : Entry

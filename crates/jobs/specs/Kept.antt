@@ -11,7 +11,7 @@ use Rattle.jobs.specs.Tables.{IsTable}
 abbrev pub history : List (Key × ℕ) → List Entry → History
 history jobs keys = record { jobs = jobs; keys = keys }
 
--- each key has its number, and just those that fail are marked
+-- each key has its number, and exactly the keys that fail are marked
 pub record AreKept (table : Table) (marks : List Bool) : Type 0 where
   pub numbered : IsTable table
   pub marked : AreMarks table.entries.items marks

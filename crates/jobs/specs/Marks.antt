@@ -42,7 +42,7 @@ module _ (keys : List Entry) (marks : List Bool) where
   abbrev pub MarksLost : Type 0
   MarksLost = (number : ℕ) (entry : Entry) → slice_get keys number ≡ Some entry → HasLost entry.inputs → flag_at marks number ≡ true
 
-  -- just the keys that fail are marked
+  -- exactly the keys that fail are marked
   pub record AreMarks : Type 0 where
     pub count : length marks ≡ length keys
     pub fail : MarksFail
@@ -53,7 +53,7 @@ module _ (keys : List Entry) (marks : List Bool) where
 abbrev pub KeepsMarks : List Bool → List Bool → Type 0
 KeepsMarks old new = (number : ℕ) → flag_at old number ≡ true → flag_at new number ≡ true
 
--- while each key is looked at once, so many of them so far: whether one was marked, and what holds
+-- while each key is looked at once, the first `count` so far: whether one was marked, and what holds
 -- while none was
 pub record HasLooked (keys : List Entry) (old new : List Bool) (marked : Bool) (count : ℕ) : Type 0 where
   pub fail : MarksFail keys old → MarksFail keys new

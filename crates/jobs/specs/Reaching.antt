@@ -10,7 +10,7 @@ use Rattle.vertices.specs.Orders.{Walk}
 abbrev pub IsNeeded : GraphParts → ℕ → Type 0
 IsNeeded g number = (n : ℕ) × Walk (GoesTo g.edges) g.result.0 number n
 
--- just these vertices are flagged
+-- exactly these vertices are flagged
 pub record AreReached (g : GraphParts) (flags : List Bool) : Type 0 where
   pub count : length flags ≡ length g.vertices
   pub needed : (number : ℕ) → flag_at flags number ≡ true → IsNeeded g number

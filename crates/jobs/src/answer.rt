@@ -9,10 +9,10 @@ use thiserror::Error;
 #[derive(Clone, Copy, Debug, PartialEq, Eq)]
 pub struct JobId(pub usize);
 
-/// What a job has come to.
+/// The answer of a job so far.
 #[derive(Clone, Copy, Debug, PartialEq, Eq)]
 pub enum Answer {
-    /// Its result isn't there yet.
+    /// Its result is not known yet.
     Waiting,
     /// Its result.
     Output(Digest),
@@ -23,11 +23,11 @@ pub enum Answer {
 /// Why a call was refused.
 #[derive(Clone, Copy, Debug, PartialEq, Eq, Error)]
 pub enum JobsRefusal {
-    #[error("the key isn't out")]
+    #[error("the key is not being solved")]
     NotRunningKey,
     #[error("no such job")]
     NoSuchJob,
-    /// The result's key is done without the output of this index.
+    /// The result's key is done, but has no output of this index.
     #[error("no output {0}")]
     NoOutput(u64),
     #[error("out of memory")]

@@ -9,7 +9,7 @@ pub enum Fault {
     Denied(Why),
 }
 
-/// How far a key has come.
+/// The progress of a key.
 #[derive(Debug, Drop)]
 pub enum Progress {
     /// It was submitted.

@@ -56,7 +56,7 @@ impl Jobs {
     }
 
     /// Adds a job, and the keys that its result depends on. A key that is there already stands for both.
-    /// The keys are those of the graph.
+    /// `keys` are the keys of the graph.
     pub fn submit(
         &mut self,
         alloc: Global,
@@ -101,7 +101,7 @@ impl Jobs {
         Ok(Some(task))
     }
 
-    /// Takes the outputs of a key that is out.
+    /// Takes the outputs of a key that is being solved.
     pub fn done(&mut self, key: Key, outputs: Vec<Digest>) -> Result<(), JobsRefusal>
         ensures ok { OnOk result (Moves self.old key Out (Done outputs.items) self.new) }
         ensures refusal { IfErr result (λ refused. refused ≡ refusal.NotRunningKey) }
@@ -116,7 +116,7 @@ impl Jobs {
         Ok(())
     }
 
-    /// Notes that a key that is out has no outputs.
+    /// Notes that a key that is being solved has failed.
     pub fn failed(&mut self, key: Key, fault: Fault) -> Result<(), JobsRefusal>
         ensures ok { OnOk result (Moves self.old key Out (Failed fault) self.new) }
         ensures refusal { IfErr result (λ refused. refused ≡ refusal.NotRunningKey) }
@@ -131,7 +131,7 @@ impl Jobs {
         Ok(())
     }
 
-    /// What a job has come to. It takes no memory.
+    /// The answer of a job. It takes no memory.
     pub fn answer(&self, job: JobId) -> Result<Answer, JobsRefusal>
         ensures missing { slice_get self.now.jobs job.0 ≡ None → result ≡ Err refusal.NoSuchJob }
         ensures answer { (wanted : _) → slice_get self.now.jobs job.0 ≡ Some wanted → IsAnswer self.now.keys wanted result }

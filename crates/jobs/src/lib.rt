@@ -1,4 +1,4 @@
-//! Jobs that share one table of solver keys: which key can be solved next, and what each job comes to.
+//! Jobs that share one table of solver keys: which key can be solved next, and the answer of each job.
 #![tactic(auto)]
 
 mod adding;

@@ -67,7 +67,7 @@ fn mark_once(table: &Table, marks: &mut [bool]) -> bool
     marked
 }
 
-/// Marks the keys that fail by their inputs.
+/// Marks the keys that fail because of their inputs.
 pub(crate) fn spread(table: &Table, marks: &mut [bool])
     requires table { IsTable table.now }
     requires count { length marks.old ≡ length table.now.entries.items }
@@ -78,7 +78,7 @@ pub(crate) fn spread(table: &Table, marks: &mut [bool])
     while mark_once(table, marks) {}
 }
 
-/// Sets how far a key that is out has come, and marks the keys that fail by that.
+/// Sets the progress of a key that is being solved, and marks the keys that fail because of it.
 pub(crate) fn settle(table: &mut Table, marks: &mut [bool], number: usize, progress: Progress)
     requires kept { AreKept table.old marks.old }
     requires out { (entry : SpecEntry) × (slice_get table.old.entries.items number ≡ Some entry) × (entry.progress ≡ Out) }
@@ -94,7 +94,7 @@ pub(crate) fn settle(table: &mut Table, marks: &mut [bool], number: usize, progr
     spread(table, marks);
 }
 
-/// What the job with this result has come to.
+/// The answer of the job with this result.
 pub(crate) fn answer_of(
     table: &Table,
     marks: &[bool],

@@ -13,7 +13,7 @@ use super::table::{Table, output_at};
 use farm_base::{Digest, Key};
 use std::alloc::{AllocError, Global};
 
-/// The output that an input names, where it is there.
+/// The output that an input names, if it is there.
 fn output_of(table: &Table, input: &(Key, u64)) -> Option<Digest>
     requires { IsTable table.now }
     ensures there { IfSome result (HasOutput table.now.entries.items input.now) }
@@ -67,7 +67,7 @@ pub(crate) fn first_ready(table: &Table, marks: &[bool]) -> Option<usize>
     None
 }
 
-/// The outputs that inputs name, which are there.
+/// The outputs that inputs name. All of them are there.
 fn outputs_of(
     alloc: Global,
     table: &Table,
@@ -87,7 +87,7 @@ fn outputs_of(
     Ok(outputs)
 }
 
-/// The key of a number, whose inputs are there, as it is handed out.
+/// The task of the key of a number. The outputs that its inputs name are there.
 pub(crate) fn task_of(alloc: Global, table: &Table, number: usize) -> Result<Task, AllocError>
     requires table { IsTable table.now }
     requires there { (entry : SpecEntry) × (slice_get table.now.entries.items number ≡ Some entry) × AreThere table.now.entries.items entry.inputs }

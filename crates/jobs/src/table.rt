@@ -56,7 +56,7 @@ impl Table {
         Ok(())
     }
 
-    /// Takes back what was added to a table.
+    /// Keeps the first `count` keys.
     pub(crate) fn truncate(&mut self, count: usize)
         ensures keys { self.new.numbers.keys ≡ take count self.old.numbers.keys }
         ensures unique { IsUnique key_eq self.new.numbers }
@@ -66,7 +66,7 @@ impl Table {
         self.entries.truncate(count);
     }
 
-    /// Sets how far the key of a number has come.
+    /// Sets the progress of the key of a number.
     pub(crate) fn set_progress(&mut self, number: usize, progress: Progress)
         requires { number < length self.old.entries.items }
         ensures entries { (entry : SpecEntry) → slice_get self.old.entries.items number ≡ Some entry
@@ -76,7 +76,7 @@ impl Table {
         self.entries[number].progress = progress;
     }
 
-    /// The number of a key that is out.
+    /// The number of a key that is being solved.
     pub(crate) fn number_out(&self, key: &Key) -> Option<usize>
         requires { IsTable self.now }
         ensures found { IfSome result (λ number. (entry : SpecEntry) × (slice_get self.now.entries.items number ≡ Some entry) × (entry.key ≡ key.now) × (entry.progress ≡ Out)) }

@@ -62,7 +62,7 @@ no_field = record { number = 0; value = held.Varint 0; start = 0; end = 0 }
 abbrev pub made : List (List ℕ) → Result Definition OpRefusal
 made bs = Ok (record { def = bs })
 
--- a definition of these entries, if they are not too many
+-- a definition of these entries, if there are not too many
 abbrev pub of_found : Option (List (List ℕ)) → Result Definition OpRefusal
 of_found None = Err TooLarge
 of_found (Some bs) = Ok (record { def = bs })

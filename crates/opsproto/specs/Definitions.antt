@@ -13,7 +13,7 @@ use Rattle.opsproto.specs.Ops.{limit}
 abbrev pub most_entries : ℕ
 most_entries = 65536
 
--- repeated bytes def = 1 (ops.proto); the size comes first, and the number of entries last
+-- repeated bytes def = 1 (ops.proto); the size is checked first, and the number of entries last
 unfoldable pub definition_at : List ℕ → Result Definition OpRefusal
 definition_at text = if nat_lt limit (length text) then Err TooLarge else (do
   es ← wire (entries_of text)

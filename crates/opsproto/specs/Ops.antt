@@ -30,11 +30,11 @@ abbrev pub kind_of : Option Member → Result (Kind Text) WireRefusal
 kind_of None = Ok Bare
 kind_of (Some m) = if m.0 == 2 then (exec_of m.1 >>= λ exec. Ok (Exec exec)) else Ok (Opaque m.0)
 
--- the fields of another number than the inputs' (this project's own)
+-- all fields but those of the inputs' number (this project's own)
 abbrev pub kept : List Spelled → List Spelled
 kept fs = filter (λ f. not (f.entry.number == 1)) fs
 
--- the bytes of those (this project's own)
+-- the bytes of those fields (this project's own)
 abbrev pub stripped_of : List ℕ → Result (List ℕ) WireRefusal
 stripped_of text = fields_of text >>= λ fs. Ok (message (kept fs))
 
@@ -57,7 +57,7 @@ op_checked op = do
   kind ← kind_checked op.kind
   Ok (record { inputs = inputs; kind = kind; stripped = op.stripped })
 
--- the forms of all messages come before any text
+-- the forms of all messages are checked before any text
 unfoldable pub op_read : List ℕ → Result OpParts OpRefusal
 op_read text = wire (op_of text) >>= op_checked
 
@@ -65,11 +65,11 @@ op_read text = wire (op_of text) >>= op_checked
 abbrev pub limit : ℕ
 limit = 16 * 2 ^ 20
 
--- the size comes before everything
+-- the size is checked first
 unfoldable pub op_at : List ℕ → Result OpParts OpRefusal
 op_at text = if nat_lt limit (length text) then Err TooLarge else op_read text
 
--- the op of some bytes, where they are one
+-- the op that some bytes spell, if they spell one
 abbrev pub op_in : List ℕ → OpParts
 op_in bytes = result_unwrap_or (op_at bytes) (record { inputs = []; kind = Bare; stripped = [] })
 

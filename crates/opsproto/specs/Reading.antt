@@ -1,4 +1,4 @@
--- What the bytes of a message mean (ops.proto), before anything is asked of its texts. The first fault
+-- What the bytes of a message mean (ops.proto), before its texts are checked. The first fault
 -- decides: the message's own form, then its fields in this order.
 use Rattle.std.specs.Prelude.{ℕ, List, [], ◌∷◌, map, Option, Some, None, Result, Ok}
 use Rattle.protowire.specs.declared.refusal.WireRefusal.{WireRefusal}

@@ -1,7 +1,7 @@
 use farm_base::{Copied, Text};
 use std::alloc::{AllocError, Global};
 
-/// An output of another op that an op takes. `T` is how its text is kept: while a message is read, as
+/// An output of another op, taken as input. `T` is how its text is kept: while a message is read, as
 /// bytes that may not be UTF-8.
 #[derive(Debug, Drop)]
 pub struct Input<T = Text> {

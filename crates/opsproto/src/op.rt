@@ -78,7 +78,7 @@ impl Op {
         &self.kind
     }
 
-    /// The op's bytes without every field of its inputs' number.
+    /// The op's bytes without the fields of the inputs' number.
     pub fn stripped(&self) -> &[u8]
         ensures value { result.now ≡ self.now.stripped }
         ensures kind { IsOp result.now self.now.kind }

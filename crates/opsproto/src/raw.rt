@@ -1,4 +1,4 @@
-//! What the bytes of an op mean, before anything is asked of its texts.
+//! What the bytes of an op mean, before its texts are checked.
 
 ghost use Rattle.std.specs.Prelude.{◌≡◌, Some, IfOk, length};
 ghost use Rattle.protowire.specs.Fields.{message as joined};
@@ -51,7 +51,7 @@ fn kind_of(alloc: Global, fields: &[Field<'_>]) -> Result<Kind<Bytes>, WireRefus
     }
 }
 
-/// The bytes of the fields of another number than the inputs'.
+/// The bytes of all fields but the inputs.
 fn stripped(alloc: Global, message: &[u8], fields: &[Field<'_>]) -> Result<Bytes, AllocError>
     requires { StandInRow 0 fields.now (length message.now) }
     ensures { IfOk result (λ bytes. bytes ≡ joined (kept (spelled_all message.now fields.now))) }

@@ -31,7 +31,7 @@ fn kind_checked(alloc: Global, kind: Kind<Bytes>) -> Result<Kind, OpRefusal>
     }
 }
 
-/// Reads an op. Its size comes first, then the forms of all its messages, then its texts.
+/// Reads an op. Its size is checked first, then the forms of all its messages, then its texts.
 #[tactic(auto, unfolding(crate::specs::Ops::op_at, crate::specs::Ops::op_read, crate::specs::Ops::op_checked))]
 pub fn read_op(alloc: Global, bytes: &[u8]) -> Result<Op, OpRefusal>
     ensures { Gives (λ op. op) result (op_at bytes.now) }
@@ -45,8 +45,8 @@ pub fn read_op(alloc: Global, bytes: &[u8]) -> Result<Op, OpRefusal>
     Ok(Op::new(inputs, kind, raw.stripped))
 }
 
-/// Reads a definition. Its size comes first, then its form, then the number of its entries. The definition keeps the
-/// bytes, so nothing but a place for each entry takes memory.
+/// Reads a definition. Its size is checked first, then its form, then the number of its entries. The definition keeps the
+/// bytes, so only the list of the places of its entries takes memory.
 #[tactic(auto, using(crate::proofs::ReadingLemmas::by_bodies))]
 pub fn read_definition(alloc: Global, bytes: Vec<u8>) -> Result<Definition, OpRefusal>
     ensures { Gives (λ definition. definition) result (definition_at bytes.items) }

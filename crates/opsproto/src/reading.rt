@@ -1,4 +1,4 @@
-//! What the bytes of a message mean, before anything is asked of its texts.
+//! What the bytes of a message mean, before its texts are checked.
 
 ghost use Rattle.std.specs.Prelude.{◌≡◌};
 ghost use Rattle.protowire.specs.Seen.{entries};

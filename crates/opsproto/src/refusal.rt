@@ -6,7 +6,7 @@ use protowire::WireRefusal;
 use std::alloc::{AllocError, AllocFailed};
 use thiserror::Error;
 
-/// Why bytes are no definition, or no op.
+/// Why bytes are not a definition, or not an op.
 #[derive(Clone, Copy, Debug, PartialEq, Eq, Error)]
 pub enum OpRefusal {
     /// A message's own form is broken: the message itself, or one that it holds.

@@ -25,7 +25,7 @@ impl<'a> Model for WireOp<'a> {
 }
 
 impl<'a> WireOp<'a> {
-    /// The op of these bytes, which the caller has found to be one.
+    /// The op that these bytes spell, as the caller has checked.
     pub fn new(bytes: &'a [u8]) -> Self
         requires { IsOk (op_at bytes.now) }
         ensures { op_at bytes.now ≡ Ok result }
@@ -37,11 +37,11 @@ impl<'a> WireOp<'a> {
     pub fn read(&self, alloc: Global) -> Result<Op, AllocError>
         ensures { IfOk result (λ op. op ≡ self.now) }
     {
-        // These bytes have no fault, so nothing but memory can lack.
+        // These bytes have no fault, so only memory can run out.
         read_op(alloc, self.bytes).map_err(|_| AllocError)
     }
 
-    /// Its bytes without every field of its inputs' number.
+    /// Its bytes without the fields of the inputs' number.
     pub fn stripped(&self, alloc: Global) -> Result<Vec<u8>, AllocError>
         ensures { IfOk result (λ bytes. bytes.items ≡ self.now.stripped) }
     {

@@ -63,7 +63,7 @@ pushed_some number e front body is = ap (push_found front) (sym is)
 pub pushed_none : (number : ℕ) (e : Entry) (front : List (List ℕ)) → no_body ≡ body_in number e → push_found front (body_in number e) ≡ front
 pushed_none number e front is = ap (push_found front) (sym is)
 
--- ---- the first so many
+-- ---- the first bodies, at most `most`
 
 pub take_pushed : (most : ℕ) (front : List (List ℕ)) (body : List ℕ) → take most (take most front ++ body ∷ []) ≡ take most (front ++ body ∷ [])
 take_pushed most front body = elim (cases_lt most (length front)) [

@@ -1,4 +1,4 @@
--- A field that is read is spelled so, and what is spelled so is read.
+-- A field is read exactly where the bytes spell it.
 use Rattle.std.proofs.Common.{◌≡◌, ℕ, zero, suc, ◌+◌, ◌-◌, ◌*◌, ◌/◌, ◌%◌, ◌<◌, ◌≤◌, ◌^◌, ltb, leb, eqb, true, false, ◌||◌, cond, List, [], ◌∷◌, ◌++◌, length, take, drop, Result, Ok, Err, refl, sym, ap, subst, ◌∙◌, append_assoc, arith, inl, inr}
 use Rattle.std.specs.List.{AllByRecursion}
 use Rattle.std.proofs.lemmas.Bool.{ltb-false, le-ltb, leb-false, lt-leb, eqb-true, eqb-false, ne_eqb, or_parts}
@@ -15,7 +15,7 @@ use Rattle.protowire.proofs.VarintLaws.{varint_at_took, varint_at_again}
 parts_then : (text a middle b rest : List ℕ) → text ≡ a ++ middle → middle ≡ b ++ rest → text ≡ (a ++ b) ++ rest
 parts_then text a middle b rest p q = p ∙ ap (λ (x : List ℕ). a ++ x) q ∙ sym (append_assoc a b rest)
 
--- ---- so many bytes
+-- ---- the first bytes
 
 pub front_took : (len : ℕ) (text body rest : List ℕ) → front_at len text ≡ Ok (body, rest) → (text ≡ body ++ rest) × (length body ≡ len)
 front_took len text body rest e =
@@ -234,7 +234,7 @@ fields_in_again (suc limit) (f ∷ fs) each fits =
     let others = fields_in_again limit fs each.1 (omega (arith, fits, count, long)) in
     fields_in_some limit (f.text ++ rest) (omega (arith, count, long)) ∙ rw (spelled_again f rest each.0, others) refl
 
--- what no more bytes allow, more don't change
+-- any two limits of at least the length give the same fields
 fields_in_same : (m n : ℕ) (text : List ℕ) → length text ≤ m → length text ≤ n → fields_in m text ≡ fields_in n text
 unfolding fields_in
 fields_in_same zero zero text a b = refl

@@ -106,7 +106,7 @@ skip_step members fields i lt is =
     let all : filter_map (member_in members) (entries (take (i + 1) fields)) ≡ filter_map (member_in members) (entries (take i fields)) = rw (members_more members fields i lt, is) (append-nil (filter_map (member_in members) (entries (take i fields)))) in
     ap last_run all
 
--- ---- members of which there is one
+-- ---- a list of exactly one member
 
 -- the items of a list with at most one
 abbrev pub listed : {X : Type 0} → Option X → List X
@@ -117,7 +117,7 @@ pub first_step : (members : List ℕ) (fields : List Field) (i : ℕ) (m : Membe
     → members_in members (entries (take i fields)) ≡ [] → members_in members (entries (take (i + 1) fields)) ≡ m ∷ []
 first_step members fields i m lt is none = rw (members_more members fields i lt, is, none) refl
 
--- a field that is no member
+-- a field that is not a member
 pub same_step : (members : List ℕ) (fields : List Field) (i : ℕ) → i < length fields → member_in members (entry (get_or fields i no_field)) ≡ None
     → members_in members (entries (take (i + 1) fields)) ≡ members_in members (entries (take i fields))
 same_step members fields i lt is = rw (members_more members fields i lt, is) (append-nil (members_in members (entries (take i fields))))

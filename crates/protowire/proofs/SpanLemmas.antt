@@ -11,7 +11,7 @@ use Rattle.protowire.specs.Reading.{field_at}
 use Rattle.protowire.specs.Lookups.{payload_body, body_in}
 use Rattle.protowire.proofs.FieldLaws.{field_took}
 
--- a place within so many bytes
+-- a place within `len` bytes
 abbrev pub IsWithin : ℕ → Span → Type 0
 IsWithin len s = (s.start ≤ s.end) × (s.end ≤ len)
 
@@ -110,7 +110,7 @@ stands text rest e after number body start end so_far read held is_end is_start 
       within = omega (arith, len, tail);
     }
 
--- one more place, of so many at most
+-- one more place, of at most `most`
 pub pieces_taken : (text : List ℕ) (most : ℕ) (old new : List Span) (s : Span) (front : List (List ℕ)) (body : List ℕ) → pieces text old ≡ take most front → slice_range text s.start s.end ≡ body
     → new ≡ take most (old ++ s ∷ []) → pieces text new ≡ take most (take most front ++ body ∷ [])
 pieces_taken text most old new s front body so_far is taken =

@@ -1,4 +1,4 @@
--- A varint that is read is spelled so, and what is spelled so is read.
+-- A varint is read exactly where the bytes spell it.
 use Rattle.std.proofs.Common.{◌≡◌, ℕ, zero, suc, ◌+◌, ◌*◌, ◌%◌, ◌<◌, ◌≤◌, ◌^◌, ltb, List, [], ◌∷◌, ◌++◌, length, Ok, Err, refl, sym, ap, subst, ◌∙◌, arith, inl, inr}
 use Rattle.std.proofs.lemmas.Bool.{ltb-true, ltb-false, lt-ltb, le-ltb}
 use Rattle.std.proofs.Math.Nat.{pow-suc}
@@ -8,7 +8,7 @@ use Rattle.protowire.specs.Varints.{number_of, AreGroups, IsVarint}
 use Rattle.protowire.specs.Reading.{◌>>=◌, varint_in, varint_at}
 use Rattle.protowire.proofs.Bind.{bind_ok, chosen, ok_is}
 
--- the bytes that reading took, of at most so many before the last
+-- the bytes that reading took, with at most `places` before the last
 pub record Took (places : ℕ) (text : List ℕ) (n : ℕ) (rest : List ℕ) : Type 0 where
   pub front : List ℕ
   pub parts : text ≡ front ++ rest

@@ -3,10 +3,10 @@ use Rattle.std.specs.Prelude.{◌≤◌, ℕ, List, map, All}
 use Rattle.std.specs.List.{slice_range}
 use Rattle.protowire.specs.declared.body_list.Span.{Span}
 
--- each begins before it ends, and ends within so many bytes
+-- no byte string ends before it begins, or after `len` bytes
 abbrev pub AreWithin : ℕ → List Span → Type 0
 AreWithin len spans = All (λ s. (s.start ≤ s.end) × (s.end ≤ len)) spans
 
--- what stands there
+-- the bytes at these places
 abbrev pub pieces : List ℕ → List Span → List (List ℕ)
 pieces text spans = map (λ s. slice_range text s.start s.end) spans

@@ -48,7 +48,7 @@ pub record IsField (f : Spelled) : Type 0 where
 abbrev pub message : List Spelled → List ℕ
 message fs = flat_map (λ f. f.text) fs
 
--- the text is the joining of one spelling per field, in order (proto3 encoding)
+-- the text is one spelling of each field, joined in order (proto3 encoding)
 pub record AreFields (text : List ℕ) (fs : List Spelled) : Type 0 where
   pub each : AllByRecursion IsField fs
   pub joined : text ≡ message fs

@@ -43,7 +43,7 @@ said fs = map (λ f. f.entry) fs
 abbrev pub bodies_of : ℕ → List ℕ → Result (List (List ℕ)) WireRefusal
 bodies_of number text = fields_of text >>= λ fs. Ok (bodies number (said fs))
 
--- these, if they are no more than so many
+-- these bodies, if there are at most `most`
 abbrev pub at_most : ℕ → List (List ℕ) → Option (List (List ℕ))
 at_most most bs = if nat_lt most (length bs) then None else Some bs
 
@@ -67,7 +67,7 @@ Member = ℕ × List ℕ
 abbrev pub member_in : List ℕ → Entry → Option Member
 member_in members e = if list_any (λ m. m == e.number) members then option_map (λ body. (e.number, body)) (payload_body e.payload) else None
 
--- the item of a list that has just one
+-- the item of a list that has exactly one
 abbrev pub lone : {X : Type 0} → List X → Option X
 lone [] = None
 lone (x ∷ []) = Some x

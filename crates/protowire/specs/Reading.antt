@@ -24,7 +24,7 @@ GivesUnless memory view (Err e) read = (e ≡ memory) ⊎ (read ≡ Err e)
 abbrev pub Gives : {X Y : Type 0} → (X → Y) → Result X WireRefusal → Result Y WireRefusal → Type 0
 Gives view returned read = GivesUnless OutOfMemory view returned read
 
--- The number at the front, and what follows it, where so many bytes may stand before its last one.
+-- The number at the front, and what follows it, where at most `places` bytes come before its last one.
 -- The tenth byte has one bit left.
 unfoldable pub varint_in : ℕ → List ℕ → Result (ℕ × List ℕ) WireRefusal
 varint_in places [] = Err Truncated
@@ -35,7 +35,7 @@ varint_in (suc places) (b ∷ bs) = if nat_lt b 128 then Ok (b, bs)
 unfoldable pub varint_at : List ℕ → Result (ℕ × List ℕ) WireRefusal
 varint_at text = varint_in 9 text
 
--- so many bytes, and what follows them
+-- the first `len` bytes, and what follows them
 abbrev pub front_at : ℕ → List ℕ → Result (List ℕ × List ℕ) WireRefusal
 front_at len text = if nat_lt (length text) len then Err Truncated else Ok (take len text, drop len text)
 
@@ -84,7 +84,7 @@ spelled_at text = do
   field ← field_at text
   Ok (record { entry = field.0; text = take (length text - length field.1) text }, field.1)
 
--- the fields of a text of at most so many bytes
+-- the fields of a text of at most `limit` bytes
 unfoldable pub fields_in : ℕ → List ℕ → Result (List Spelled) WireRefusal
 fields_in limit [] = Ok []
 fields_in zero (b ∷ bs) = Ok []

@@ -12,8 +12,8 @@ AreGroups [] = ⊥
 AreGroups (b ∷ []) = b < 128
 AreGroups (b ∷ c ∷ bs) = (128 ≤ b) × AreGroups (c ∷ bs)
 
--- a spelling of a number in at most ten bytes, also a longer one than it needs (proto3 encoding);
--- none is a number of 2^64 or more (this project's own: some decoders drop the bits past 64)
+-- a spelling of a number in at most ten bytes, not always the shortest one (proto3 encoding);
+-- no number of 2^64 or more has one (this project's own: some decoders drop the bits past 64)
 pub record IsVarint (text : List ℕ) (n : ℕ) : Type 0 where
   pub groups : AreGroups text
   pub short : length text ≤ 10

@@ -2,7 +2,7 @@
 use Rattle.protowire.specs.Fields.{varint, bytes, Spelled}
 use Rattle.std.specs.Prelude.{ℕ, zero, suc, ◌+◌, ◌*◌, ◌/◌, ◌%◌, nat_lt, if◌then◌else◌, List, [], ◌∷◌, ◌++◌, length}
 
--- seven bits a byte, least group first, with no group of 0 at the end, in at most so many bytes before the last
+-- seven bits a byte, least group first, with no group of 0 at the end, in at most `places` bytes before the last
 unfoldable pub minimal_in : ℕ → ℕ → List ℕ
 minimal_in zero n = n ∷ []
 minimal_in (suc places) n = if nat_lt n 128 then n ∷ [] else (n % 128 + 128) ∷ minimal_in places (n / 128)

@@ -42,7 +42,7 @@ impl BodyList {
         }
     }
 
-    /// Those at these places of a buffer.
+    /// The byte strings at these places of a buffer.
     pub(crate) fn at(buffer: Vec<u8>, spans: Vec<Span>) -> Self
         requires { AreWithin (length buffer.items) spans.items }
         ensures { result ≡ pieces buffer.items spans.items }
@@ -50,7 +50,7 @@ impl BodyList {
         BodyList { buffer, spans }
     }
 
-    /// How many there are.
+    /// The number of byte strings.
     #[allow(clippy::len_without_is_empty)]
     pub fn len(&self) -> usize
         ensures { result ≡ length self.now }
@@ -58,7 +58,7 @@ impl BodyList {
         self.spans.len()
     }
 
-    /// The one at a place.
+    /// The byte string at a place.
     pub fn body(&self, place: usize) -> &[u8]
         requires { place < length self.now }
         ensures { slice_get self.now place ≡ Some result.now }
@@ -67,7 +67,7 @@ impl BodyList {
         &self.buffer[span.start..span.end]
     }
 
-    /// Adds a copy of one behind the others.
+    /// Adds a copy of a byte string at the end.
     pub fn push(&mut self, body: &[u8]) -> Result<(), AllocError>
         ensures ok { OnOk result (self.new ≡ self.old ++ body.now ∷ []) }
         ensures err { OnErr result (self.new ≡ self.old) }

@@ -7,7 +7,7 @@ ghost use Rattle.protowire.specs.Fields.{Spelled, IsField, AreFields};
 ghost use Rattle.protowire.specs.Reading.{fields_of, Faulted};
 ghost use Rattle.protowire.specs.Writing.{minimal, spelled_varint, spelled_bytes};
 
-/// No text is the joining of two lists of fields.
+/// A message spells at most one list of fields.
 pub fn fields_are_determined()
     ensures { (text : List ℕ) (fs gs : List Spelled) → AreFields text fs → AreFields text gs → fs ≡ gs }
 {}

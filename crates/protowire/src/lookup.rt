@@ -81,7 +81,7 @@ pub fn joined_body(
     }
 }
 
-/// The member that counts and its body, where just one field is a member's. Then nothing has to be joined, and the body
+/// The member that counts and its body, where exactly one field is a member. Nothing has to be joined then, so the body
 /// is lent.
 pub fn lone_member<'a>(fields: &[Field<'a>], members: &[u32]) -> Option<(u32, &'a [u8])>
     ensures value { option_map (λ m. (m.0, m.1.now)) result ≡ lone (members_in members.now (entries fields.now)) }
@@ -100,7 +100,7 @@ pub fn lone_member<'a>(fields: &[Field<'a>], members: &[u32]) -> Option<(u32, &'
     lone
 }
 
-/// The body of this number, where it has just one. It is lent, as nothing has to be joined.
+/// The body of this number, where there is exactly one. It is lent, as nothing has to be joined.
 pub fn lone_body<'a>(fields: &[Field<'a>], number: u32) -> Option<&'a [u8]>
     ensures value { option_map (λ body. body.now) result ≡ lone (bodies number (entries fields.now)) }
     ensures counts { IfSome result (λ body. joined_body number (entries fields.now) ≡ Some body.now) }
@@ -110,7 +110,7 @@ pub fn lone_body<'a>(fields: &[Field<'a>], number: u32) -> Option<&'a [u8]>
 }
 
 /// Of the members of a oneof, given by their numbers, the one that counts, and its body: the bodies
-/// joined that stand behind the last field of another member.
+/// after the last field of another member, joined.
 pub fn last_member(
     alloc: Global,
     fields: &[Field<'_>],

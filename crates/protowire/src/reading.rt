@@ -11,10 +11,10 @@ use std::alloc::Global;
 /// Field numbers are below this one.
 const NUMBERS: u64 = 1 << 29;
 
-/// The fields of most messages are no more than this.
+/// Most messages have no more fields than this.
 const ROOM: usize = 8;
 
-/// So many bytes, and what follows them.
+/// The first `len` bytes, and what follows them.
 fn first_bytes(bytes: &[u8], len: u64) -> Result<(&[u8], &[u8]), WireRefusal>
     ensures { shown (λ x. (x.0.now, x.1.now)) result ≡ front_at len bytes.now }
 {
@@ -88,11 +88,11 @@ fn all_fields(alloc: Global, bytes: &[u8]) -> Result<Vec<Field<'_>>, WireRefusal
 
 /// The fields of a message, in order. Nothing but the list takes memory.
 pub fn fields(alloc: Global, bytes: &[u8]) -> Result<Vec<Field<'_>>, WireRefusal>
-    // The bytes are the joining of one spelling per field.
+    // The bytes are one spelling of each field, joined.
     ensures spelled { IfOk result (λ v. AreFields bytes.now (spelled_all bytes.now v.items)) }
-    // What is such a joining is read, unless memory runs out.
+    // Such bytes are read, unless memory runs out.
     ensures only { (fs : List Spelled) → AreFields bytes.now fs → Gives (λ v. spelled_all bytes.now v.items) result (Ok fs) }
-    // Which refusal it is: the first fault from the left.
+    // A refusal is the first fault from the left.
     ensures exact { Gives (λ v. spelled_all bytes.now v.items) result (fields_of bytes.now) }
     ensures placed { IfOk result (λ v. StandInRow 0 v.items (length bytes.now)) }
 {

@@ -4,20 +4,20 @@ ghost use Rattle.protowire.specs.declared.refusal.WireRefusal.TheVariants as ref
 use std::alloc::{AllocError, AllocFailed};
 use thiserror::Error;
 
-/// Why bytes are no message.
+/// Why bytes are not a message.
 #[derive(Clone, Copy, Debug, PartialEq, Eq, Error)]
 pub enum WireRefusal {
     /// The bytes end inside a field.
     #[error("the bytes end inside a field")]
     Truncated,
     /// A varint of more than ten bytes, or of 2^64 or more.
-    #[error("a varint that passes 64 bits")]
+    #[error("a varint of more than 64 bits")]
     VarintTooLong,
-    /// A wire type other than a varint, eight bytes, bytes of a length, and four bytes.
-    #[error("no wire type")]
+    /// A wire type other than 0, 1, 2 and 5.
+    #[error("unknown wire type")]
     BadWireType,
     /// A field number outside 1 to 2^29 - 1.
-    #[error("no field number")]
+    #[error("field number out of range")]
     BadFieldNumber,
     #[error("out of memory")]
     OutOfMemory,

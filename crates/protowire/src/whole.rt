@@ -13,7 +13,7 @@ use super::reading::first_field;
 use super::refusal::WireRefusal;
 use std::alloc::{AllocError, Global};
 
-/// The body that a field holds, if it was found to have this number.
+/// The body of a field, if `found` is this number and the field has a body.
 fn body_held<'a>(number: u32, found: u32, value: Value<'a>) -> Option<&'a [u8]>
     ensures { option_map (λ body. body.now) result ≡ body_in number (record { number = found; payload = payload value.entry }) }
 {
@@ -23,7 +23,7 @@ fn body_held<'a>(number: u32, found: u32, value: Value<'a>) -> Option<&'a [u8]>
     }
 }
 
-/// Adds a place, unless there are already so many.
+/// Adds a place, unless there are `most` already.
 fn push_span(spans: &mut Vec<Span>, span: Span, most: usize) -> Result<(), AllocError>
     requires { length spans.old.items ≤ most }
     ensures { OnOk result (spans.new.items ≡ take most (spans.old.items ++ span ∷ [])) }
@@ -34,7 +34,7 @@ fn push_span(spans: &mut Vec<Span>, span: Span, most: usize) -> Result<(), Alloc
     Ok(())
 }
 
-/// Where the bodies of this number stand, or None where there are more than so many. All of the message is read in any
+/// Where the bodies of this number stand, or None where there are more than `most`. The whole message is read in any
 /// case.
 fn body_spans(
     alloc: Global,
@@ -66,8 +66,8 @@ fn body_spans(
     }
 }
 
-/// The bodies of this number, in order, or None where there are more than so many. All of the message is read in any
-/// case. The bodies stay where they stand in the message, so nothing but a place for each takes memory.
+/// The bodies of this number, in order, or None where there are more than `most`. The whole message is read in any case.
+/// The bodies stay where they are in the message, so only the list of their places takes memory.
 pub fn take_bodies(
     alloc: Global,
     message: Vec<u8>,

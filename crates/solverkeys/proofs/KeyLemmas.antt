@@ -87,7 +87,7 @@ follows_shape g keys number key h known =
     let s = shapes_of g keys (list_at g.edges number) h.inputs h.taken known in
     (vertex h.own.op.stripped s.0, (h.own, h.there, refl, s.1), h.key_is ∙ ap (solver_key h.own.op.stripped) (sym s.2))
 
--- a key more, at the next number of the order
+-- one more key, at the next number of the order
 pub keys_more : (g : GraphParts) (keys : List Key) (k number : ℕ) (key : Key) → IsGraph g → slice_get g.order k ≡ Some number
     → length keys ≡ length g.vertices → FollowsKeys g keys number key
     → ((n : ℕ) → Contains (take k g.order) n → HasKey g keys n) → (n : ℕ) → Contains (take (k + 1) g.order) n → HasKey g (set keys number key) n

@@ -15,7 +15,7 @@ use Rattle.vertices.specs.Loading.{GraphParts}
 use Rattle.solverkeys.specs.GraphKeys.{IsShapeOf, AreShapesOf}
 use Rattle.solverkeys.specs.Shapes.{Shape, vertex, Inputs, no_inputs, input, shape_key, input_keys, HasIndexes, InputsHaveIndexes, Hashes, InputsHash, ShowCollision}
 
--- byte strings are one or two
+-- two byte strings are equal or not
 same_or_not : (xs ys : List ℕ) → (xs ≡ ys) ⊎ (xs ≢ ys)
 same_or_not xs ys =
     let case : (b : Bool) → bytes_eq xs ys ≡ b → (xs ≡ ys) ⊎ (xs ≢ ys)

@@ -18,7 +18,7 @@ pub fn keys(alloc: Global, graph: &Graph) -> Result<Vec<Key>, AllocError>
     Ok(keys)
 }
 
-/// The key of a vertex, where those that its edges go to have theirs.
+/// The key of a vertex, where the vertices that its edges go to have theirs.
 fn key_at(alloc: Global, graph: &Graph, keys: &[Key], number: usize) -> Result<Key, AllocError>
     requires graph { IsGraph graph.now }
     requires number { number < length graph.now.vertices }

@@ -32,7 +32,7 @@ module _ {X : Type 0} (C : X → Option LoadRefusal → Type 0) where
   each_fails (y ∷ xs) zero x e at h c = let same : x ≡ y = cc at in inl (subst (λ (z : X). C z (Some e)) same c)
   each_fails (y ∷ xs) (suc k) x e at h c = inr (h.0, each_fails xs k x e at h.1 c)
 
--- a text is that of one digest
+-- a text is the text of at most one digest
 pub one_digest : (a b : Digest) → IsDigest a → IsDigest b → digest_text a ≡ digest_text b → a ≡ b
 one_digest a b ha hb e =
     let digits : encode_lower a.0 ≡ encode_lower b.0 = append_cancel_left (codes "sha256:") (encode_lower a.0) (encode_lower b.0) e in
@@ -49,7 +49,7 @@ all_zip_push R [] (b ∷ ys) x y h r = absurd h
 all_zip_push R (a ∷ xs) [] x y h r = absurd h
 all_zip_push R (a ∷ xs) (b ∷ ys) x y h r = (h.0, all_zip_push R xs ys x y h.1 r)
 
--- the edges of one input more
+-- the edges of one more input
 pub edges_more : (vertices : List Vertex) (inputs : List (Input Text)) (k : ℕ) (x : Input Text) (edges : List (ℕ × ℕ)) (edge : ℕ × ℕ)
     → slice_get inputs k ≡ Some x → AreEdges vertices (take k inputs) edges → IsEdge vertices x edge
     → AreEdges vertices (take (k + 1) inputs) (edges ++ edge ∷ [])

@@ -56,7 +56,7 @@ length-digests_of (x ∷ entries) = ap suc (length-digests_of entries)
 
 -- ---- inputs that are resolved
 
--- an input more
+-- one more input
 pub resolved_more : (digests inputs : List Digest) (row : List ℕ) (k place : ℕ) (digest : Digest) → slice_get inputs k ≡ Some digest
     → IsFirstAt digests place digest → AreResolved digests (take k inputs) row → AreResolved digests (take (k + 1) inputs) (row ++ place ∷ [])
 resolved_more digests inputs row k place digest at first h =
@@ -76,7 +76,7 @@ resolved_more digests inputs row k place digest at first h =
       ];
     })
 
--- the row of a vertex has just the inputs that it names
+-- the row of a vertex has exactly the inputs that it names
 pub resolved_row : (entries : List Entry) (place : ℕ) (entry : Entry) (row : List ℕ) → slice_get entries place ≡ Some entry
     → IsFirstAt (digests_of entries) place entry.0 → AreResolved (digests_of entries) entry.1.items row → IsRowOf entries place row
 resolved_row entries place entry row at first h =
@@ -101,7 +101,7 @@ resolved_row entries place entry row at first h =
           subst (λ (q : ℕ). Contains row q) (first_once (digests_of entries) f.0 input n.digest f.2 n.first) (Contains-at row there.0 f.0 f.1);
     }
 
--- an entry that isn't the first with its digest is no vertex
+-- an entry that isn't the first with its digest is not a vertex
 pub no_vertex : (entries : List Entry) (place first : ℕ) (entry : Entry) → slice_get entries place ≡ Some entry
     → IsFirstAt (digests_of entries) first entry.0 → (first ≡ place → ⊥) → IsVertex entries place → ⊥
 no_vertex entries place first entry at is apart vertex =
@@ -143,7 +143,7 @@ row_at-push_end : (rows : List (Vec ℕ Global)) (row : Vec ℕ Global) → row_
 row_at-push_end [] row = refl
 row_at-push_end (r ∷ rows) row = row_at-push_end rows row
 
--- a row more
+-- one more row
 pub rows_more : (entries : List Entry) (place : ℕ) (rows new : List (Vec ℕ Global)) (row : Vec ℕ Global) → new ≡ rows ++ row ∷ []
     → IsRowOf entries place row.items → (LacksInput entries place → ⊥) → AreRowsOf entries place rows → AreRowsOf entries (place + 1) new
 rows_more entries place rows new row is fits known h =

@@ -74,7 +74,7 @@ pub op_of_entry : (entries : List (List ℕ)) (k : ℕ) (x : List ℕ) (op : OpP
 op_of_entry entries k x op at is =
     ap op_in (get_or_from_slice_get entries k x [] at) ∙ ap (λ (r : Result OpParts _). result_unwrap_or r (record { inputs = []; kind = Bare; stripped = [] })) is
 
--- a vertex more, where its digest is new
+-- one more vertex, where its digest is new
 pub vertices_more : (entries : List (List ℕ)) (k : ℕ) (x : List ℕ) (digest stripped : Digest) (places : List ℕ) (sources : List Source)
     → slice_get entries k ≡ Some x → digest ≡ digest_in x → map (vertex_of entries) sources ≡ map (vertex_at entries) places
     → map (vertex_of entries) (sources ++ (record { place = k; digest = digest; stripped = stripped }) ∷ []) ≡ map (vertex_at entries) (places ++ k ∷ [])

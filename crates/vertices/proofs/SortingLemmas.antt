@@ -128,7 +128,7 @@ look_ready vertices rows s r w todo adds placed h =
       ];
     }
 
--- a waiter more in the list of an input
+-- one more waiter in the list of an input
 pub record Adds_waiter (old new : List (Vec Waiter Global)) (input : ℕ) (w : Waiter) : Type 0 where
   pub there : row_at new input ≡ row_at old input ++ w ∷ []
   pub others : (other : ℕ) → (other ≡ input → ⊥) → row_at new other ≡ row_at old other
@@ -284,7 +284,7 @@ less_from_cmp x y e = elim (cases_order x y) [
   ]
 ]
 
--- a place more is placed
+-- one more place is placed
 pub fewer_open : (placed : List Bool) (p : ℕ) → p < length placed → flag_at placed p ≡ false → open_count (set placed p true) < open_count placed
 fewer_open placed p within open_flag =
     let count : Bool → ℕ = λ flag. cond (cond flag false true) 1 0 in

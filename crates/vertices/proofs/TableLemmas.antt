@@ -1,4 +1,4 @@
--- What a digest more makes of a table.
+-- How one more digest changes a table.
 use Rattle.std.proofs.Common.{◌≡◌, ℕ, suc, ◌+◌, ◌<◌, ◌⊎◌, inl, inr, Bool, true, false, cond, List, [], ◌∷◌, ◌++◌, length, get_or, Option, Some, None, refl, sym, ap, ◌∙◌, subst, arith}
 use Rattle.std.specs.List.{slice_get}
 use Rattle.std.specs.Option.{is_some}
@@ -11,7 +11,7 @@ use Rattle.farm_base.specs.declared.digest.Digest.{Digest}
 use Rattle.vertices.specs.declared.table.Table.{Table}
 use Rattle.vertices.specs.Firsts.{IsFirstAt, digest_eq, number_in, IsTable}
 
--- what stands in a list with one more stands there before, or is that one
+-- an item of a list with one more item is an item of the list, or the new one
 pub get_push_cases : {X : Type 0} (xs : List X) (y : X) (k : ℕ) (x : X) → slice_get (xs ++ y ∷ []) k ≡ Some x
     → ((k < length xs) × (slice_get xs k ≡ Some x)) ⊎ ((k ≡ length xs) × (y ≡ x))
 get_push_cases xs y k x e =
@@ -23,27 +23,27 @@ get_push_cases xs y k x e =
       | inr more ↦ let end : length xs ≡ k = omega arith in inr (sym end, sym (get_or_push xs y x k end) ∙ value)
     ]
 
--- what stands in a list stands there with one more
+-- an item of a list is an item of the list with one more
 pub get_push_left : {X : Type 0} (xs : List X) (y : X) (k : ℕ) (x : X) → slice_get xs k ≡ Some x → slice_get (xs ++ y ∷ []) k ≡ Some x
 get_push_left xs y k x e =
     let less = slice_get_within xs k x e in
     let len = length_push xs y in
     slice_get-get_or (xs ++ y ∷ []) k x (omega arith) ∙ ap (λ (z : _). Some z) (get_or_append_left xs (y ∷ []) x k less ∙ get_or_from_slice_get xs k x x e)
 
--- the one more
+-- the new item
 pub get_push_end : {X : Type 0} (xs : List X) (y : X) → slice_get (xs ++ y ∷ []) (length xs) ≡ Some y
 get_push_end xs y =
     let len = length_push xs y in
     slice_get-get_or (xs ++ y ∷ []) (length xs) y (omega arith) ∙ ap (λ (z : _). Some z) (get_or_push xs y y (length xs) refl)
 
--- equal digests are one
+-- digests that compare equal are equal
 pub digest_same : (a b : Digest) → digest_eq a b ≡ true → a ≡ b
 digest_same a b e = ap (λ (bytes : List ℕ). let d : Digest = record { 0 = bytes } in d) ((bytes_eq-Decides a.0 b.0).0 e)
 
 pub digest_apart : (a b : Digest) → digest_eq a b ≡ false → a ≡ b → ⊥
 digest_apart a b e same = let yes_it_is = (bytes_eq-Decides a.0 b.0).1 (ap (λ (d : Digest). d.0) same) in cc (e, yes_it_is)
 
--- the first stays the first with one more
+-- the first place stays the first with one more digest
 pub first_more : (digests : List Digest) (more : Digest) (place : ℕ) (digest : Digest) → IsFirstAt digests place digest → IsFirstAt (digests ++ more ∷ []) place digest
 first_more digests more place digest h = record {
   there = get_push_left digests more place digest h.there;
@@ -53,7 +53,7 @@ first_more digests more place digest h = record {
   ];
 }
 
--- the first place of a digest is one
+-- a digest has one first place
 pub first_once : (digests : List Digest) (p q : ℕ) (digest : Digest) → IsFirstAt digests p digest → IsFirstAt digests q digest → p ≡ q
 first_once digests p q digest h k = elim (cases_order p q) [
   | inl same ↦ same
@@ -91,7 +91,7 @@ rising_more xs y rising below k within =
           omega arith
     ]
 
--- a digest that isn't
+-- a digest that isn't in the table
 pub table_more : (digests : List Digest) (old new : Table) (more : Digest) → IsTable digests old → number_in old more ≡ None
     → new.places.items ≡ old.places.items ++ length digests ∷ []
     → ((d : Digest) → number_in new d ≡ cond (digest_eq more d) (Some (length old.places.items)) (number_in old d))

@@ -20,7 +20,7 @@ IsDigestText text = (digest : Digest) × IsDigest digest × (text ≡ digest_tex
 abbrev pub NamesOne : List Digest → List ℕ → Type 0
 NamesOne digests text = (digest : Digest) × Contains digests digest × (text ≡ digest_text digest)
 
--- what is asked of an input, where the vertices have these digests
+-- the checks of an input, where the vertices have these digests
 abbrev pub InputCheck : List Digest → ℕ → Input Text → Option LoadRefusal → Type 0
 InputCheck digests place input =
     Then (Needs (IsDigestText input.digest) (refusal.BadInputDigest place))

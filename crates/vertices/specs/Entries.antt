@@ -45,18 +45,18 @@ pub record AreResolved (digests inputs : List Digest) (row : List ℕ) : Type 0 
   pub count : length row ≡ length inputs
   pub each : (k : ℕ) (digest : Digest) → slice_get inputs k ≡ Some digest → (place : ℕ) × (slice_get row k ≡ Some place) × IsFirstAt digests place digest
 
--- one of the inputs stands nowhere
+-- one of the inputs is none of the digests
 pub record HasUnknown (digests inputs : List Digest) : Type 0 where
   pub digest : Digest
   pub named : Contains inputs digest
   pub missing : (place : ℕ) → slice_get digests place ≡ Some digest → ⊥
 
--- the row of a place has just the inputs that it names
+-- the row of a place has exactly the inputs that it names
 pub record IsRowOf (entries : List Entry) (place : ℕ) (row : List ℕ) : Type 0 where
   pub sound : (input : ℕ) → Contains row input → NamesInput entries place input
   pub whole : (input : ℕ) → NamesInput entries place input → Contains row input
 
--- so have the rows of so many places, none of which lacks an input
+-- so have the rows of the first `count` places, none of which lacks an input
 pub record AreRowsOf (entries : List Entry) (count : ℕ) (rows : List (Vec ℕ Global)) : Type 0 where
   pub length_is : length rows ≡ count
   pub each : (place : ℕ) → place < count → IsRowOf entries place (row_at rows place)

@@ -14,7 +14,7 @@ use Rattle.vertices.specs.Sources.{IsSource, vertex_of}
 abbrev pub vertices_in : Loading → List Vertex
 vertices_in loading = map (vertex_of loading.entries) loading.sources.items
 
--- the table and the vertices of these entries, and what is asked of them
+-- the table and the vertices of these entries, and what is to be checked of them
 pub record IsLoaded (entries : List (List ℕ)) (loading : Loading) : Type 0 where
   pub table : IsTable (digests_in entries) loading.table
   pub vertices : vertices_in loading ≡ map (vertex_at entries) loading.table.places.items

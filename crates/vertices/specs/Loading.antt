@@ -56,7 +56,7 @@ abbrev pub ResultCheck : List Digest → ℕ → List (Input Text) → Option Lo
 ResultCheck digests place [] = Fails refusal.NoResult
 ResultCheck digests place (input ∷ inputs) = InputCheck digests place input
 
--- what is asked of a vertex: its inputs in order, and then what it does
+-- the checks of a vertex: its inputs in order, and then what it does
 abbrev pub VertexCheck : List Digest → Vertex → Option LoadRefusal → Type 0
 VertexCheck digests v = Then (Each (InputCheck digests v.place) v.op.inputs) (KindCheck v.place (length v.op.inputs) v.op.kind)
 
@@ -94,7 +94,7 @@ pub record IsGraph (g : GraphParts) : Type 0 where
   pub acyclic : IsCyclic g.vertices → ⊥
   pub result : g.result.0 < length g.vertices
 
--- what is asked of vertices, where all have these digests, and of the inputs of the last entry, at its place
+-- the checks of vertices, where all have these digests, and of the inputs of the last entry, at its place
 abbrev pub GraphCheck : List Digest → ℕ → List Vertex → List (Input Text) → Option LoadRefusal → Type 0
 GraphCheck digests place vertices last =
     Then (ResultCheck digests place last) (Then (Each (VertexCheck digests) vertices) (Refuses (IsCyclic vertices) refusal.Cycle))
@@ -107,12 +107,12 @@ front def = take (length def - 1) def
 abbrev pub last_of : List (List ℕ) → List ℕ
 last_of def = slice_index_or def (length def - 1) []
 
--- the graph of the entries is asked for
+-- the checks of the vertices, and of the last entry
 abbrev pub VerticesCheck : List (List ℕ) → Option LoadRefusal → Type 0
 VerticesCheck def given =
     (vertices : List Vertex) × AreVertices (front def) vertices × GraphCheck (digests_in (front def)) (length (front def)) vertices (op_in (last_of def)).inputs given
 
--- what is asked of the entries of a definition, in this order
+-- the checks of the entries of a definition, in this order
 abbrev pub DefinitionCheck : List (List ℕ) → Option LoadRefusal → Type 0
 DefinitionCheck def = Then (Needs (0 < length def) refusal.EmptyDefinition) (Then (ReadChecks 0 def) (VerticesCheck def))
 

@@ -5,7 +5,7 @@ use Rattle.std.specs.declared.vec.Vec.{Vec}
 use Rattle.std.specs.declared.alloc.Global.{Global}
 use Rattle.vertices.specs.Edges.{targets}
 
--- just the numbers below a count
+-- exactly the numbers below a count
 pub record AreNumbers (numbers : List ℕ) (count : ℕ) : Type 0 where
   pub below : (number : ℕ) → Contains numbers number → number < count
   pub whole : (number : ℕ) → number < count → Contains numbers number

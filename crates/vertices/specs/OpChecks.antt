@@ -1,4 +1,4 @@
--- What is asked of an exec op (this project's own, over BuildKit's ops.proto).
+-- The checks of an exec op (this project's own, over BuildKit's ops.proto).
 use Rattle.std.specs.Prelude.{◌≡◌, ℕ, ℤ, pos, negsuc, ◌<◌, ◌≤◌, ◌≤ℤ◌, ◌<ℤ◌, List, length, map, Option, Some, None, IsSome, IfSome, codes}
 use Rattle.std.specs.Ordering.{int_eq}
 use Rattle.std.specs.List.{Contains, count_by}
@@ -20,16 +20,16 @@ IsCache mount = mount.mount_type ≡ pos 3
 abbrev pub IsSharing : ℤ → Type 0
 IsSharing sharing = (pos 0 ≤ℤ sharing) × (sharing ≤ℤ pos 2)
 
--- a mount's input is -1, for none, or the place of one of so many inputs
+-- a mount's input is -1, for none, or the place of one of `count` inputs
 abbrev pub IsMountInput : ℤ → ℕ → Type 0
 IsMountInput input count = (negsuc 0 ≤ℤ input) × (input <ℤ pos count)
 
--- what is asked of the cache option of a cache mount
+-- the check of the cache option of a cache mount
 abbrev pub CacheCheck : ℕ → Option (CacheOpt Text) → Option LoadRefusal → Type 0
 CacheCheck place None = Fails (refusal.NoCacheOpt place)
 CacheCheck place (Some cache) = Needs (IsSharing cache.sharing) (refusal.UnknownSharing place cache.sharing)
 
--- a mount whose type isn't CACHE has no such option to be asked for
+-- only a mount of the type CACHE has its cache option checked
 pub data SharingCheck (place : ℕ) (mount : Mount Text) (given : Option LoadRefusal) : Type 0 where
   no_cache : (IsCache mount → ⊥) → Passes given → SharingCheck place mount given
   is_cache : IsCache mount → CacheCheck place mount.cache given → SharingCheck place mount given
@@ -41,7 +41,7 @@ MountCheck place inputs mount = Then (Needs (IsMountInput mount.input inputs) (r
 abbrev pub cache_count : List (Mount Text) → ℕ
 cache_count mounts = count_by (λ mount. int_eq mount.mount_type (pos 3)) mounts
 
--- what is asked of an exec op at a place, with so many inputs
+-- the checks of an exec op at a place, of a vertex with `inputs` inputs
 abbrev pub ExecCheck : ℕ → ℕ → ExecOp Text → Option LoadRefusal → Type 0
 ExecCheck place inputs exec =
     Then (Needs (IsSome exec.meta) (refusal.NoMeta place))
@@ -51,7 +51,7 @@ ExecCheck place inputs exec =
     (Then (Each (MountCheck place inputs) exec.mounts)
     (Needs (cache_count exec.mounts ≤ 16) (refusal.TooManyCacheMounts place))))))
 
--- what is asked of what an op does
+-- the checks of what an op does
 abbrev pub KindCheck : ℕ → ℕ → Kind Text → Option LoadRefusal → Type 0
 KindCheck place inputs (Exec exec) = ExecCheck place inputs exec
 KindCheck place inputs (Opaque number) = Passes

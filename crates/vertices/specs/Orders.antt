@@ -24,7 +24,7 @@ module _ (IsVertex : ℕ → Type 0) (IsInput : ℕ → ℕ → Type 0) where
     pub lowest : TakesLowest places
 
 module _ (IsInput : ℕ → ℕ → Type 0) where
-  -- a walk of so many edges, each from a vertex to one of its inputs
+  -- a walk of this number of edges, each from a vertex to one of its inputs
   abbrev pub Walk : ℕ → ℕ → ℕ → Type 0
   Walk from to zero = from ≡ to
   Walk from to (suc n) = (input : ℕ) × IsInput from input × Walk input to n

@@ -19,7 +19,7 @@ pub(crate) struct Named {
     pub index: i64,
 }
 
-/// What is asked of a vertex: the inputs that it names, and the first fault of what it does.
+/// What is to be checked of a vertex: the inputs that it names, and the first fault of what it does.
 #[derive(Drop)]
 pub(crate) struct Asked {
     pub place: usize,
@@ -50,7 +50,7 @@ fn all_named(alloc: Global, inputs: &[Input]) -> Result<Vec<Named>, AllocError>
 }
 
 impl Asked {
-    /// What is asked of the vertex at a place.
+    /// What is to be checked of the vertex at a place.
     pub(crate) fn of(alloc: Global, place: usize, op: &Op) -> Result<Self, AllocError>
         ensures { IfOk result (λ asked. (vertex : Vertex) → vertex.place ≡ place → vertex.op ≡ op.now → Asks vertex asked) }
     {

@@ -53,7 +53,7 @@ fn edges_of_each(
     Ok(edges)
 }
 
-/// The same, after which nothing needs the table and what is asked: their memory is given back.
+/// The same, and gives back the memory of the table and of what was to be checked, which nothing needs afterwards.
 pub(crate) fn all_edges(
     alloc: Global,
     table: Table,

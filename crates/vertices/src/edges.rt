@@ -15,7 +15,7 @@ use super::table::Table;
 use farm_base::Digest;
 use std::alloc::Global;
 
-/// The value of a lower-case digit, and some number for another byte. It has no branches, since digits come in no
+/// The value of a lower-case digit, or any number for another byte. It has no branches, since digits come in no
 /// order that a processor could foresee.
 fn digit_value(digit: u8) -> u8
     ensures { result < 16 }
@@ -23,7 +23,7 @@ fn digit_value(digit: u8) -> u8
     (digit % 16 + 9 * (digit / 64)) % 16
 }
 
-/// The digest of 64 lower-case digits, and some digest for other bytes.
+/// The digest of 64 lower-case digits, or any digest for other bytes.
 fn guessed(digits: &[u8]) -> Digest {
     let mut bytes = [0; 32];
     if digits.len() == 64 {
@@ -42,7 +42,7 @@ fn are_digits_of(digits: &[u8], digest: &Digest) -> bool
     hex::encode_to_slice(digest.0, &mut written).is_ok() && written.as_slice() == digits
 }
 
-/// The digest that a text is found to spell. Not every digest is found.
+/// The digest that a text spells, if the quick guess is right.
 fn spelled_digest(text: &str) -> Option<Digest>
     ensures { IfSome result (λ digest. text.now ≡ digest_text digest) }
 {

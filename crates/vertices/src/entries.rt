@@ -12,8 +12,8 @@ use farm_base::Digest;
 use std::alloc::{AllocError, Global};
 
 /// The places of the entries in the order in which they can be solved: each place after its
-/// inputs, the lowest ready one first. Of entries with one digest the first stands; the others
-/// are no vertices, so their inputs aren't looked at and the answer doesn't have their places.
+/// inputs, the lowest ready one first. Of entries with one digest only the first is a vertex; the
+/// inputs of the others aren't looked at, and the answer doesn't have their places.
 pub fn order(alloc: Global, entries: &[(Digest, Vec<Digest>)]) -> Result<Vec<usize>, OrderRefusal>
     ensures order { IfOk result (λ places. IsOrder (IsVertex entries.now) (NamesInput entries.now) places.items) }
     ensures acyclic { OnOk result (¬ IsCyclic (NamesInput entries.now)) }
@@ -67,7 +67,7 @@ fn rows_of(
 }
 
 /// The places of the inputs of an entry, nothing where it isn't the first with its digest, and
-/// None where there is no entry for one of them.
+/// None where no entry has the digest of one of them.
 fn row_of(
     alloc: Global,
     place: usize,
@@ -88,7 +88,7 @@ fn row_of(
     }
 }
 
-/// The places of the vertices with these digests, or None where there is none for one of them.
+/// The places of the vertices with these digests, or None where no vertex has one of them.
 fn inputs_of(
     alloc: Global,
     inputs: &[Digest],

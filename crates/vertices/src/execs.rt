@@ -11,7 +11,7 @@ const CACHE: i32 = 3;
 /// The greatest number of cache mounts of a vertex.
 const CACHE_MOUNTS: usize = 16;
 
-/// Checks what a vertex does, where it has so many inputs.
+/// Checks what a vertex does, by its number of inputs.
 pub(crate) fn check_kind(place: usize, inputs: usize, kind: &Kind) -> Result<(), LoadRefusal>
     ensures { KindCheck place inputs kind.now (refused result) }
 {
@@ -89,7 +89,7 @@ fn check_mount(place: usize, inputs: usize, mount: &Mount) -> Result<(), LoadRef
     }
 }
 
-/// Whether a mount's input is none, or one of so many.
+/// Whether a mount has no input, or one of the vertex's.
 fn is_mount_input(input: i64, inputs: usize) -> bool
     ensures { IsTrue result ↔ IsMountInput input inputs }
 {

@@ -15,7 +15,7 @@ use opsproto::{Definition, Input};
 use protowire::BodyList;
 use std::alloc::Global;
 
-/// The vertices of some entries, with the table of their digests and what is asked of them.
+/// The vertices of some entries, with the table of their digests and what is to be checked of them.
 #[derive(Drop)]
 pub(crate) struct Loading {
     pub(crate) entries: BodyList,
@@ -28,7 +28,7 @@ impl Loading {
     ghost use Rattle.farm_base.specs.declared.digest.Digest.{Digest};
     ghost use Rattle.vertices.specs.Loaded.{IsLoaded, vertices_in};
 
-    /// Reads so many of the entries, and makes a vertex of the first one of each digest.
+    /// Reads the first `count` entries, and makes a vertex of the first one of each digest.
     pub(crate) fn of(alloc: Global, entries: BodyList, count: usize) -> Result<Self, LoadRefusal>
         requires { count ≤ length entries }
         ensures check { Answers (ReadChecks 0 (take count entries)) result }
@@ -60,7 +60,7 @@ impl Loading {
         })
     }
 
-    /// The graph of the vertices, whose result the first of these inputs of the last entry names.
+    /// The graph of the vertices. The first of these inputs, those of the last entry, names its result.
     fn graph(self, alloc: Global, place: usize, last: &[Input]) -> Result<Graph, LoadRefusal>
         requires loaded { (entries : List (List ℕ)) × IsLoaded entries self }
         ensures check { (digests : List Digest) → Numbers digests (vertices_in self) self.table

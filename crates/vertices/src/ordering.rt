@@ -38,7 +38,7 @@ fn first_open(inputs: &[usize], placed: &[bool], from: usize) -> Option<usize>
     None
 }
 
-/// So many empty lists.
+/// `count` empty lists.
 fn empty_lists(alloc: Global, count: usize) -> Result<Vec<Vec<Waiter>>, AllocError>
     ensures count { IfOk result (λ lists. length lists.items ≡ count) }
     ensures empty { IfOk result (λ lists. (input : ℕ) → row_at lists.items input ≡ []) }
@@ -95,7 +95,7 @@ impl Sorting {
         })
     }
 
-    /// Notes that the waiter is ready, or for which input it waits.
+    /// Notes that the waiter is ready, or which input it waits for.
     fn look(&mut self, rows: &[Vec<usize>], waiter: Waiter) -> Result<(), AllocError>
         requires inputs { HasInputsWithin rows.now }
         requires shape { HasShape rows.now self.old }

@@ -8,9 +8,9 @@ use thiserror::Error;
 /// Why there is no order.
 #[derive(Clone, Copy, Debug, PartialEq, Eq, Error)]
 pub enum OrderRefusal {
-    #[error("the entry at place {0} names an input that no entry is")]
+    #[error("no entry has the digest of an input of the entry at place {0}")]
     MissingInput(usize),
-    #[error("an entry that needs itself")]
+    #[error("an entry needs itself")]
     Cycle,
     #[error("out of memory")]
     OutOfMemory,
@@ -32,16 +32,16 @@ impl<T: Drop> From<AllocFailed<T>> for OrderRefusal {
     }
 }
 
-/// Why a definition is no graph. The numbers are places of its entries, from 0.
+/// Why a definition is not a graph. The numbers are places of its entries, from 0.
 #[derive(Clone, Copy, Debug, PartialEq, Eq, Error)]
 pub enum LoadRefusal {
-    #[error("no entry")]
+    #[error("no entries")]
     EmptyDefinition,
-    #[error("the entry at place {0} is no op")]
+    #[error("the entry at place {0} is not an op")]
     BadOp(usize),
     #[error("the last entry has no input")]
     NoResult,
-    #[error("an input of the entry at place {0} is no digest")]
+    #[error("an input of the entry at place {0} is not a digest")]
     BadInputDigest(usize),
     #[error("an input of the entry at place {0} names no vertex")]
     MissingInput(usize),
@@ -57,7 +57,7 @@ pub enum LoadRefusal {
     NoMounts(usize),
     #[error("the vertex at place {0} has no mount at `/`")]
     NoRoot(usize),
-    #[error("a mount of the vertex at place {0} names none of its inputs")]
+    #[error("a mount of the vertex at place {0} names an input that the vertex lacks")]
     BadMountInput(usize),
     #[error("a cache mount of the vertex at place {0} has no cache option")]
     NoCacheOpt(usize),
@@ -65,7 +65,7 @@ pub enum LoadRefusal {
     UnknownSharing(usize, i32),
     #[error("the vertex at place {0} has more than 16 cache mounts")]
     TooManyCacheMounts(usize),
-    #[error("a vertex that needs itself")]
+    #[error("a vertex needs itself")]
     Cycle,
     #[error("out of memory")]
     OutOfMemory,

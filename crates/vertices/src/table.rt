@@ -25,7 +25,7 @@ impl Table {
         }
     }
 
-    /// An empty table, with room for so many digests.
+    /// An empty table, with room for `expected` digests.
     pub(crate) fn with_room(alloc: Global, expected: usize) -> Result<Self, AllocError>
         ensures table { IfOk result (IsTable []) }
         ensures places { IfOk result (λ table. table.places.items ≡ []) }

@@ -9,7 +9,7 @@ none_yet : {X : Type 0} (f : X → Member) (found : Option X) → is_some found 
 none_yet f None e = refl
 none_yet f (Some x) e = absurd cc
 
--- where one was found already there is no lone one
+-- where a member was found already, the next one makes two
 not_lone : {X : Type 0} (f : X → Member) (found : Option X) (ms : List Member) → is_some found ≡ true → ((a : Member) → listed (option_map f found) ≡ a ∷ [] → lone ms ≡ None) → None ≡ lone ms
 not_lone f None ms e second = absurd cc
 not_lone f (Some x) ms e second = sym (second (f x) refl)

@@ -1,10 +1,12 @@
+//! Edits of folders, and the folder bytes after them, spelled by hand.
+
 use farm_base::{Items, Text};
 use folders::{Edit, EditRefusal, Folder};
 use std::alloc::{AllocError, Global};
 use std::test::Fail;
 
-/// Edits of one folder, one row after the other: paths with the content that is put, or `None` where it is removed; and the
-/// folder bytes that come of them, in hexadecimal.
+/// Edits of one folder, one row after the other: paths with the content that is put, or `None` where the file is removed;
+/// and the folder bytes after them, in hexadecimal.
 const ROWS: [(&[(&str, Option<&str>)], &str); 7] = [
     (&[("b", Some("x"))], "00000001620000000178"),
     (&[("a", Some(""))], "00000001610000000000000001620000000178"),
@@ -53,7 +55,7 @@ fn edits_of_a_folder(rt: HostRuntime) -> Result<(), Fail> {
     Ok(())
 }
 
-/// A file whose folder bytes are so many.
+/// The edit that puts a file `b` that takes `size` folder bytes.
 fn put_large(alloc: Global, size: usize) -> Result<Edit, Fail> {
     let content = vec![in alloc; 0; size.saturating_sub(9)]?;
     Ok(put(alloc, "b", &content)?)
@@ -62,34 +64,28 @@ fn put_large(alloc: Global, size: usize) -> Result<Edit, Fail> {
 /// The folder `{a: x}`.
 const SMALL: [u8; 10] = [0, 0, 0, 1, b'a', 0, 0, 0, 1, b'x'];
 
-#[test]
-fn edits_that_are_too_large(rt: HostRuntime) -> Result<(), Fail> {
-    let mut folder = Folder::read(rt.alloc(), &SMALL)?;
-    let edits = [put_large(rt.alloc(), (16 << 20) - 9)?];
-    let refused = folder.apply(rt.alloc(), &edits);
-    assert!(rt; matches!(refused, Err(EditRefusal::TooLarge)));
-    let bytes = folder.to_bytes(rt.alloc())?;
-    assert_eq!(rt; bytes.as_slice(), SMALL.as_slice());
-    Ok(())
-}
+/// How many folder bytes the file takes that is put beside `a`, whether it is then removed, whether the edits are
+/// refused, and the size of the folder after them. Only the folder after all edits must fit.
+const LARGE: [(usize, bool, bool, usize); 3] = [
+    ((16 << 20) - 9, false, true, 10),
+    ((16 << 20) - 10, false, false, 16 << 20),
+    (32 << 20, true, false, 10),
+];
 
 #[test]
-fn edits_of_the_greatest_size(rt: HostRuntime) -> Result<(), Fail> {
-    let mut folder = Folder::read(rt.alloc(), &SMALL)?;
-    let edits = [put_large(rt.alloc(), (16 << 20) - 10)?];
-    folder.apply(rt.alloc(), &edits)?;
-    let bytes = folder.to_bytes(rt.alloc())?;
-    assert_eq!(rt; bytes.len(), 16 << 20);
-    Ok(())
-}
-
-/// The folder after all edits counts, and not those in between.
-#[test]
-fn large_edits_in_between(rt: HostRuntime) -> Result<(), Fail> {
-    let mut folder = Folder::read(rt.alloc(), &SMALL)?;
-    let edits = [put_large(rt.alloc(), 32 << 20)?, remove(rt.alloc(), "b")?];
-    folder.apply(rt.alloc(), &edits)?;
-    let bytes = folder.to_bytes(rt.alloc())?;
-    assert_eq!(rt; bytes.as_slice(), SMALL.as_slice());
+fn large_edits(rt: HostRuntime) -> Result<(), Fail> {
+    for (size, removed, refused, wanted) in &LARGE {
+        let mut folder = Folder::read(rt.alloc(), &SMALL)?;
+        let mut edits = vec![in rt.alloc(); put_large(rt.alloc(), *size)?]?;
+        if *removed {
+            edits.push(remove(rt.alloc(), "b")?)?;
+        }
+        let result = folder.apply(rt.alloc(), &edits);
+        assert_eq!(rt; matches!(&result, Err(EditRefusal::TooLarge)), *refused);
+        assert_eq!(rt; result.is_ok(), !*refused);
+        let bytes = folder.to_bytes(rt.alloc())?;
+        assert!(rt; bytes.starts_with(&SMALL));
+        assert_eq!(rt; bytes.len(), *wanted);
+    }
     Ok(())
 }

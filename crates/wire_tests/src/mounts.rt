@@ -1,16 +1,18 @@
-use super::ops::{cached, caches, digest_text, graph_of, source};
+//! What vertices want for their cache mounts, worked out by hand.
+
+use super::build::{CACHED, digest_text, exec, graph_of};
 use cachemounts::{needs_home, views, wants};
 use farm_base::{Key, Wants};
-use opsproto::Input;
+use opsproto::{Input, Op, write_op};
 use std::alloc::{AllocError, Global};
 use std::test::Fail;
 use vertices::Graph;
 
 /// The sharing of a cache mount, and what its vertex wants.
-const SHARINGS: [(&str, &str); 3] = [
-    ("00", "shared:/go/pkg/mod true home 1-0"),
-    ("01", "private:/go/pkg/mod true 1-0"),
-    ("02", "locked:/go/pkg/mod true 1-0"),
+const SHARINGS: [(u8, &str); 3] = [
+    (0, "shared:/go/pkg/mod true home 1-0 "),
+    (1, "private:/go/pkg/mod true 1-0 "),
+    (2, "locked:/go/pkg/mod true 1-0 "),
 ];
 
 /// Each want and whether it is writable, and `home` if they need one.
@@ -27,7 +29,7 @@ fn shown_wants(alloc: Global, wants: &Wants) -> Result<String, AllocError> {
     Ok(text)
 }
 
-/// What the vertex of a number wants, and which want each of its cache mounts sees.
+/// What the vertex of a number wants, and for each of its cache mounts the place of the want that it sees.
 fn shown(alloc: Global, graph: &Graph, number: usize) -> Result<String, Fail> {
     let keys = solverkeys::keys(alloc, graph)?;
     if number >= graph.len() {
@@ -48,12 +50,24 @@ fn first_key(alloc: Global, graph: &Graph) -> Result<String, Fail> {
     Ok(key.to_text(alloc)?)
 }
 
+/// An exec op with these LOCKED cache mounts.
+fn locked(
+    alloc: Global,
+    inputs: Vec<Input>,
+    caches: &[(i64, &str, &str, bool)],
+) -> Result<Vec<u8>, AllocError> {
+    write_op(alloc, &Op::exec(alloc, inputs, &exec(alloc, caches, 2)?)?)
+}
+
 #[test]
 fn sharings(rt: HostRuntime) -> Result<(), Fail> {
     for (sharing, wanted) in &SHARINGS {
-        let graph = graph_of(rt.alloc(), &[cached(rt.alloc(), *sharing)?])?;
+        let mut op = hex::decode(rt.alloc(), CACHED)?;
+        op.pop();
+        op.push(*sharing)?;
+        let graph = graph_of(rt.alloc(), &[op])?;
         let text = shown(rt.alloc(), &graph, 0)?;
-        assert_eq!(rt; text.as_str().trim_end(), *wanted);
+        assert_eq!(rt; text.as_str(), *wanted);
     }
     Ok(())
 }
@@ -65,7 +79,7 @@ fn two_mounts_of_a_folder(rt: HostRuntime) -> Result<(), Fail> {
         (-1, "/a", "", false),
         (-1, "/c", "", true),
     ];
-    let op = caches(rt.alloc(), Vec::new(rt.alloc()), &mounts)?;
+    let op = locked(rt.alloc(), Vec::new(rt.alloc()), &mounts)?;
     let graph = graph_of(rt.alloc(), &[op])?;
     let text = shown(rt.alloc(), &graph, 0)?;
     assert_eq!(rt;
@@ -75,28 +89,23 @@ fn two_mounts_of_a_folder(rt: HostRuntime) -> Result<(), Fail> {
     Ok(())
 }
 
+/// The first vertex is a source op, which wants nothing; the second mounts its output 5.
 #[test]
 fn an_output_as_base(rt: HostRuntime) -> Result<(), Fail> {
     let alloc = rt.alloc();
-    let source = source(alloc)?;
+    let source = hex::decode(alloc, "1a00")?;
     let input = Input {
         digest: digest_text(alloc, &source)?,
         index: 5,
     };
     let mounts = [(0, "/a", "", false), (-1, "/a", "", false)];
-    let op = caches(alloc, vec![in alloc; input]?, &mounts)?;
+    let op = locked(alloc, vec![in alloc; input]?, &mounts)?;
     let graph = graph_of(alloc, &[source, op])?;
+    let nothing = shown(alloc, &graph, 0)?;
+    assert_eq!(rt; nothing.as_str(), "");
     let key = first_key(alloc, &graph)?;
     let text = shown(alloc, &graph, 1)?;
     let expected = format!(in alloc; "locked:/a true locked:/a@{key}.5 true 1-1 2-0 ")?;
     assert_eq!(rt; text.as_str(), expected.as_str());
-    Ok(())
-}
-
-#[test]
-fn no_exec_op(rt: HostRuntime) -> Result<(), Fail> {
-    let graph = graph_of(rt.alloc(), &[source(rt.alloc())?])?;
-    let text = shown(rt.alloc(), &graph, 0)?;
-    assert_eq!(rt; text.as_str(), "");
     Ok(())
 }

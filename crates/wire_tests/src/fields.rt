@@ -1,3 +1,5 @@
+//! Messages as lists of fields. Their bytes were spelled by hand from proto3's encoding.
+
 use protowire::{
     Value, bodies, fields, joined_body, last_member, last_varint, put_bytes, put_message,
     put_varint,

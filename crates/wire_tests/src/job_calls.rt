@@ -1,14 +1,15 @@
-//! Calls of a table of jobs, one after the other, and what each answers, as a text.
-use farm_base::{Digest, Key};
+//! Calls of jobs that share one table of keys. What they answer was worked out by hand; the digests of the ops are
+//! Python's hashlib's.
+
+use super::build::{digests, load};
+use farm_base::{Key, Why};
 use jobs::{Answer, Fault, JobId, Jobs, JobsRefusal, Task};
-use opsproto::read_definition;
 use std::alloc::{AllocError, Global};
 use std::test::Fail;
-use vertices::Graph;
 
 /// A call. Keys are named by the number of the take that gave them, from 0, and digests by one byte.
 #[derive(Clone, Copy)]
-pub(crate) enum Call {
+enum Call {
     /// A definition in hexadecimal is submitted.
     Submit(&'static str),
     Take,
@@ -17,24 +18,66 @@ pub(crate) enum Call {
     Answer(usize),
 }
 
+/// The op `1a00`, an exec op on its output 0, and the result.
+const PLAIN: &str =
+    "0a021a000a570a490a477368613235363a66646262363666393761663034346534623838623062623061343738396638663031346639386235336635666531313130326264313966343564353363343562120a0a030a017812031a012f0a4b0a490a477368613235363a38326435336137316339623639643131626266326630323939393130393534643763363133303734386133323933313166373066633438316332346536303137";
+
+/// The same, where the exec op's input has its index 0 written as `10 00`.
+const SPELLED: &str =
+    "0a021a000a590a4b0a477368613235363a666462623636663937616630343465346238386230626230613437383966386630313466393862353366356665313131303262643139663435643533633435621000120a0a030a017812031a012f0a4b0a490a477368613235363a66363966313537303762343062353965336539633334313133353732376139333766663339333065356130623030303733386135323736616133666135623431";
+
+/// Two jobs share the keys of both vertices, and a third comes when all is done.
+const SHARED: [(Call, &str); 14] = [
+    (Call::Submit(PLAIN), "job 0"),
+    (Call::Submit(SPELLED), "job 1"),
+    (Call::Take, "took"),
+    (Call::Take, "none"),
+    (Call::Done(0, &[10]), "ok"),
+    (Call::Take, "took 10"),
+    (Call::Take, "none"),
+    (Call::Answer(0), "waiting"),
+    (Call::Done(1, &[11]), "ok"),
+    (Call::Answer(0), "output 11"),
+    (Call::Answer(1), "output 11"),
+    (Call::Answer(2), "no such job"),
+    (Call::Done(1, &[12]), "the key is not being solved"),
+    (Call::Submit(PLAIN), "job 2"),
+];
+
+/// An input that failed fails each job that needs it, also one that comes later.
+const FAILED: [(Call, &str); 6] = [
+    (Call::Submit(PLAIN), "job 0"),
+    (Call::Take, "took"),
+    (Call::Failed(0, Fault::Denied(Why::TicketsSpent)), "ok"),
+    (Call::Take, "none"),
+    (Call::Submit(SPELLED), "job 1"),
+    (Call::Answer(1), "failed"),
+];
+
+/// An input without the output that is named fails the job.
+const LACKING: [(Call, &str); 5] = [
+    (Call::Submit(PLAIN), "job 0"),
+    (Call::Take, "took"),
+    (Call::Done(0, &[]), "ok"),
+    (Call::Take, "none"),
+    (Call::Answer(0), "failed"),
+];
+
+/// A result without the output that is named is refused.
+const NO_OUTPUT: [(Call, &str); 6] = [
+    (Call::Submit(PLAIN), "job 0"),
+    (Call::Take, "took"),
+    (Call::Done(0, &[10]), "ok"),
+    (Call::Take, "took 10"),
+    (Call::Done(1, &[]), "ok"),
+    (Call::Answer(0), "no output 0"),
+];
+
 /// A table of jobs, and the keys that were taken.
 #[derive(Drop)]
-pub(crate) struct Play {
+struct Play {
     jobs: Jobs,
     taken: Vec<Key>,
-}
-
-fn graph(alloc: Global, definition: &str) -> Result<Graph, Fail> {
-    let bytes = hex::decode(alloc, definition)?;
-    Ok(vertices::load(alloc, read_definition(alloc, bytes)?)?)
-}
-
-fn digests(alloc: Global, bytes: &[u8]) -> Result<Vec<Digest>, AllocError> {
-    let mut digests = Vec::with_capacity(alloc, bytes.len())?;
-    for byte in bytes {
-        digests.push(Digest([*byte; 32]))?;
-    }
-    Ok(digests)
 }
 
 /// `took`, and the first byte of each input's digest.
@@ -67,7 +110,7 @@ fn shown_end(alloc: Global, end: Result<(), JobsRefusal>) -> Result<String, Allo
 }
 
 impl Play {
-    pub(crate) fn new(alloc: Global) -> Self {
+    fn new(alloc: Global) -> Self {
         Play {
             jobs: Jobs::new(alloc),
             taken: Vec::new(alloc),
@@ -75,7 +118,7 @@ impl Play {
     }
 
     fn submit(&mut self, alloc: Global, definition: &str) -> Result<String, Fail> {
-        let graph = graph(alloc, definition)?;
+        let graph = load(alloc, hex::decode(alloc, definition)?)?;
         let keys = solverkeys::keys(alloc, &graph)?;
         let job = self.jobs.submit(alloc, &graph, keys.as_slice())?.0;
         Ok(format!(in alloc; "job {job}")?)
@@ -114,7 +157,7 @@ impl Play {
     }
 
     /// What the call answers.
-    pub(crate) fn call(&mut self, alloc: Global, call: Call) -> Result<String, Fail> {
+    fn call(&mut self, alloc: Global, call: Call) -> Result<String, Fail> {
         match call {
             Call::Submit(definition) => self.submit(alloc, definition),
             Call::Take => self.take(alloc),
@@ -123,4 +166,18 @@ impl Play {
             Call::Answer(job) => Ok(self.answer(alloc, job)?),
         }
     }
+}
+
+#[test]
+fn jobs_on_one_table(rt: HostRuntime) -> Result<(), Fail> {
+    let alloc = rt.alloc();
+    let rows: [&[(Call, &str)]; 4] = [&SHARED, &FAILED, &LACKING, &NO_OUTPUT];
+    for row in rows {
+        let mut play = Play::new(alloc);
+        for (call, expected) in row {
+            let answer = play.call(alloc, *call)?;
+            assert_eq!(rt; answer.as_str(), *expected);
+        }
+    }
+    Ok(())
 }

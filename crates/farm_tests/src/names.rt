@@ -1,8 +1,11 @@
+//! Texts of slots, folders and digests, and wants at their limits, worked out by hand. The digest is the SHA-256 of `abc`
+//! (FIPS 180-4).
+
 use farm_base::{Digest, FolderName, FolderRefusal, Slot, SlotRefusal, Want, Wants, WantsRefusal};
 use std::alloc::Global;
 use std::test::Fail;
 
-/// Texts, and whether each is some slot's.
+/// Texts, and whether each is a slot's.
 const SLOTS: [(&str, bool); 14] = [
     ("private:a%40b#64", true),
     ("private:a#4096", true),
@@ -63,7 +66,7 @@ fn texts_of_folders_and_digests(rt: HostRuntime) -> Result<(), Fail> {
     Ok(())
 }
 
-/// So many wants of folders that are named by numbers from the first on.
+/// `count` wants of folders that are named by numbers, from `first` down to 0.
 fn wants(alloc: Global, first: usize, count: usize) -> Result<Vec<Want>, Fail> {
     let mut wants = Vec::new(alloc);
     for number in 0..count {

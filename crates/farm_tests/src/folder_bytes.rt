@@ -1,3 +1,5 @@
+//! Folders as bytes, spelled by hand.
+
 use folders::{Folder, FolderRefusal};
 use std::alloc::Global;
 use std::test::Fail;
@@ -53,7 +55,7 @@ fn folders_and_faults(rt: HostRuntime) -> Result<(), Fail> {
 }
 
 #[test]
-fn each_front_of_a_folder(rt: HostRuntime) -> Result<(), Fail> {
+fn folders_cut_short(rt: HostRuntime) -> Result<(), Fail> {
     let bytes = hex::decode(rt.alloc(), "00000001610000000178")?;
     for len in 1..10 {
         let refused = Folder::read(rt.alloc(), bytes.get(..len).ok_or("short")?);
@@ -66,7 +68,7 @@ fn each_front_of_a_folder(rt: HostRuntime) -> Result<(), Fail> {
     Ok(())
 }
 
-/// The size is looked at before all else, and 16 MiB may be.
+/// The size is checked before all else, and 16 MiB is not too large.
 #[test]
 fn the_greatest_size(rt: HostRuntime) -> Result<(), Fail> {
     let mut bytes = vec![in rt.alloc(); 0; 16 << 20]?;

@@ -1,3 +1,5 @@
+//! Tickets at the end of a block and at the last one, worked out by hand.
+
 use farm_base::Ticket;
 use leases::TicketSource;
 use std::test::Fail;

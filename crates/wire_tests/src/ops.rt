@@ -1,14 +1,12 @@
-use farm_base::{Items, Text};
+//! Ops and definitions. Their bytes were spelled by hand from proto3's encoding.
+
+use super::build::{CACHED, exec, text};
 use opsproto::{
-    CacheOpt, Definition, ExecOp, Input, Kind, Meta, Mount, Op, OpRefusal, read_definition,
-    read_op, write_definition, write_exec, write_op,
+    Definition, ExecOp, Input, Kind, Op, OpRefusal, read_definition, read_op, write_definition,
+    write_exec, write_op,
 };
 use std::alloc::{AllocError, Global};
 use std::test::Fail;
-
-/// An exec op with the argument `x`, a root mount, and a cache mount at /go/pkg/mod with sharing 3.
-const CACHED: &str =
-    "12410a030a0178120e08ffffffffffffffffff011a012f122a08ffffffffffffffffff011a0b2f676f2f706b672f6d6f6420ffffffffffffffffff013003a201021003";
 
 /// Bytes in hexadecimal, and what `read_op` gives, shortened by `shown`.
 const ROWS: [(&str, &str); 21] = [
@@ -54,10 +52,6 @@ const ROWS: [(&str, &str); 21] = [
     ("5201ff", "bare"),
 ];
 
-fn text(alloc: Global, text: &str) -> Result<Text, AllocError> {
-    Ok(Text::new(String::from_str(alloc, text)?))
-}
-
 fn shown_exec(alloc: Global, exec: &ExecOp) -> Result<String, AllocError> {
     let mut shown = String::from_str(alloc, "exec")?;
     if let Some(meta) = &exec.meta {
@@ -102,49 +96,10 @@ fn ops(rt: HostRuntime) -> Result<(), Fail> {
     Ok(())
 }
 
-fn mount(alloc: Global, dest: &str, cached: bool) -> Result<Mount, AllocError> {
-    let cache = if cached {
-        Some(CacheOpt {
-            id: text(alloc, "")?,
-            sharing: 3,
-        })
-    } else {
-        None
-    };
-    Ok(Mount {
-        input: -1,
-        selector: text(alloc, "")?,
-        dest: text(alloc, dest)?,
-        output: if cached { -1 } else { 0 },
-        readonly: false,
-        mount_type: if cached { 3 } else { 0 },
-        cache,
-    })
-}
-
-fn cached(alloc: Global) -> Result<ExecOp, Fail> {
-    let meta = Meta {
-        args: Items::new(vec![in alloc; text(alloc, "x")?]?),
-        env: Items::new(Vec::new(alloc)),
-        cwd: text(alloc, "")?,
-        user: text(alloc, "")?,
-    };
-    let mounts = vec![in alloc;
-        mount(alloc, "/", false)?,
-        mount(alloc, "/go/pkg/mod", true)?,
-    ]?;
-    Ok(ExecOp {
-        meta: Some(meta),
-        mounts: Items::new(mounts),
-        network: 0,
-        security: 0,
-    })
-}
-
 #[test]
 fn an_exec_op_is_written(rt: HostRuntime) -> Result<(), Fail> {
     let alloc = rt.alloc();
-    let exec = cached(alloc)?;
+    let exec = exec(alloc, &[(-1, "/go/pkg/mod", "", false)], 3)?;
     let body = write_exec(alloc, &exec)?;
     let body = hex::encode(alloc, &body)?;
     assert_eq!(rt; body.as_str(), CACHED.strip_prefix("1241").ok_or("prefix")?);

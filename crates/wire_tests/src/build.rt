@@ -1,0 +1,113 @@
+//! The ops and graphs that the tests are about.
+
+use farm_base::{Digest, Items, Text};
+use opsproto::{CacheOpt, ExecOp, Meta, Mount, read_definition};
+use protowire::put_bytes;
+use sha2::Sha256;
+use std::alloc::{AllocError, Global};
+use std::test::Fail;
+use vertices::Graph;
+
+/// An exec op with the argument `x`, a root mount, and a cache mount at /go/pkg/mod with sharing 3.
+pub const CACHED: &str =
+    "12410a030a0178120e08ffffffffffffffffff011a012f122a08ffffffffffffffffff011a0b2f676f2f706b672f6d6f6420ffffffffffffffffff013003a201021003";
+
+pub fn text(alloc: Global, text: &str) -> Result<Text, AllocError> {
+    Ok(Text::new(String::from_str(alloc, text)?))
+}
+
+/// For each byte the digest of 32 of it.
+pub fn digests(alloc: Global, bytes: &[u8]) -> Result<Vec<Digest>, AllocError> {
+    let mut digests = Vec::with_capacity(alloc, bytes.len())?;
+    for byte in bytes {
+        digests.push(Digest([*byte; 32]))?;
+    }
+    Ok(digests)
+}
+
+/// The text of an op's digest.
+pub fn digest_text(alloc: Global, op: &[u8]) -> Result<Text, AllocError> {
+    let digest = Digest(<Sha256 as sha2::Digest>::digest(op));
+    Ok(Text::new(digest.to_text(alloc)?))
+}
+
+/// A mount that gives no output and isn't a cache mount.
+fn mount(alloc: Global, input: i64, dest: &str, readonly: bool) -> Result<Mount, AllocError> {
+    Ok(Mount {
+        input,
+        selector: text(alloc, "")?,
+        dest: text(alloc, dest)?,
+        output: -1,
+        readonly,
+        mount_type: 0,
+        cache: None,
+    })
+}
+
+/// The root mount, which gives output 0, and these cache mounts.
+fn mounts(
+    alloc: Global,
+    caches: &[(i64, &str, &str, bool)],
+    sharing: i32,
+) -> Result<Vec<Mount>, AllocError> {
+    let mut root = mount(alloc, -1, "/", false)?;
+    root.output = 0;
+    let mut mounts = vec![in alloc; root]?;
+    for (input, dest, id, readonly) in caches {
+        let mut cache = mount(alloc, *input, *dest, *readonly)?;
+        cache.mount_type = 3;
+        cache.cache = Some(CacheOpt {
+            id: text(alloc, *id)?,
+            sharing,
+        });
+        mounts.push(cache)?;
+    }
+    Ok(mounts)
+}
+
+/// The exec op that runs `x` with a root mount and these cache mounts, all of one sharing. Of each its input, its dest,
+/// its id, and whether it is readonly.
+pub fn exec(
+    alloc: Global,
+    caches: &[(i64, &str, &str, bool)],
+    sharing: i32,
+) -> Result<ExecOp, AllocError> {
+    let meta = Meta {
+        args: Items::new(vec![in alloc; text(alloc, "x")?]?),
+        env: Items::new(Vec::new(alloc)),
+        cwd: text(alloc, "")?,
+        user: text(alloc, "")?,
+    };
+    Ok(ExecOp {
+        meta: Some(meta),
+        mounts: Items::new(mounts(alloc, caches, sharing)?),
+        network: 0,
+        security: 0,
+    })
+}
+
+/// The graph that a definition's bytes spell.
+pub fn load(alloc: Global, bytes: Vec<u8>) -> Result<Graph, Fail> {
+    Ok(vertices::load(alloc, read_definition(alloc, bytes)?)?)
+}
+
+/// The entry that names an op's output 0 as the result.
+fn result_of(alloc: Global, op: &[u8]) -> Result<Vec<u8>, Fail> {
+    let digest = digest_text(alloc, op)?;
+    let mut input = Vec::new(alloc);
+    put_bytes(&mut input, 1, digest.as_str().as_bytes())?;
+    let mut entry = Vec::new(alloc);
+    put_bytes(&mut entry, 1, &input)?;
+    Ok(entry)
+}
+
+/// The graph of some ops, of which the last gives the result.
+pub fn graph_of(alloc: Global, ops: &[Vec<u8>]) -> Result<Graph, Fail> {
+    let mut bytes = Vec::new(alloc);
+    for op in ops {
+        put_bytes(&mut bytes, 1, op)?;
+    }
+    let result = result_of(alloc, ops.last().ok_or("no op")?)?;
+    put_bytes(&mut bytes, 1, &result)?;
+    load(alloc, bytes)
+}
