@@ -20,7 +20,7 @@ pub enum KeeperRefusal {
     OutOfMemory,
 }
 
-/// Keeps the bytes of a record. There are none until a record is saved.
+/// Keeps the bytes of a record. Empty bytes mean that no record was saved yet.
 pub trait Keeper: Drop {
     /// What a load gives.
     ghost kept: { Self → List ℕ };
