@@ -1,4 +1,4 @@
--- What the program's `==` and `cmp` say: equal values are one, and the orders are total.
+-- The program's `==` and `cmp`: equal values are the same, and the orders are total.
 use Rattle.std.proofs.Common.{◌≡◌, ℕ, true, eqb, eq-eqb, Ordering, refl, sym, ap, ◌∙◌}
 use Rattle.std.specs.Ordering.{nat_cmp, is_eq, ordering_then}
 use Rattle.std.specs.declared.cmp.Ordering.TheVariants.{Less, Equal, Greater}
@@ -25,7 +25,7 @@ use Rattle.farm_base.proofs.NameLaws.{folder_exact}
 use Rattle.farm_base.proofs.WantLemmas.{eq-by_cmp}
 pub use Rattle.farm_base.proofs.WantLemmas.{folder_total}
 
--- ---- the derived comparisons are the words
+-- ---- the derived comparisons are those of the definitions
 
 pub slot_eq-is : (a b : SlotParts) → slot_eq_impl.eq-value.it a b ≡ slot_eq a b
 slot_eq-is a b = refl
@@ -45,7 +45,7 @@ digest_eq-is a b = refl
 pub folder_eq-itself : (f : FolderName) → folder_eq f f ≡ true
 folder_eq-itself f = folder_laws.laws-law.refl f
 
--- equal digests are one
+-- equal digests are the same
 pub digest_exact : (a b : Digest) → digest_eq a b ≡ true → a ≡ b
 digest_exact a b h = let bytes = (bytes_eq-Decides a.0 b.0).0 h in λ j. record { 0 = bytes j }
 
@@ -53,7 +53,7 @@ digest_exact a b h = let bytes = (bytes_eq-Decides a.0 b.0).0 h in λ j. record 
 pub digest_eq-itself : (a : Digest) → digest_eq a a ≡ true
 digest_eq-itself a = (bytes_eq-Decides a.0 a.0).1 refl
 
--- equal slots are one
+-- equal slots are the same
 pub slot_exact : (a b : SlotParts) → slot_eq a b ≡ true → a ≡ b
 slot_exact a b h =
     let parts = and_parts (folder_eq a.folder b.folder) (eqb a.instance b.instance) h in
@@ -69,7 +69,7 @@ number_eq-itself n = eq-eqb n n refl
 pub slot_eq-itself : (a : SlotParts) → slot_eq a a ≡ true
 slot_eq-itself a = rw (folder_eq-itself a.folder, number_eq-itself a.instance) refl
 
--- equal versions are one
+-- equal versions are the same
 pub version_exact : (a b : Version) → version_eq a b ≡ true → a ≡ b
 version_exact a b h =
     let parts = and_parts (slot_eq a.slot b.slot) (eqb a.number b.number) h in
@@ -95,33 +95,33 @@ slot_equivalence = and_equiv (on_equiv (λ (s : SlotParts). s.folder) folder_equ
 pub digest_equivalence : IsEquivalence digest_eq
 digest_equivalence = on_equiv (λ (d : Digest). d.0) nat_list_eq_equiv
 
--- names are one or not
+-- two names are the same or not
 pub folder_decides : (f g : FolderName) → Decides (folder_eq f g) (f ≡ g)
 folder_decides f g = (folder_exact f g, λ e. ap (λ h. folder_eq f h) (sym e) ∙ folder_eq-itself f)
 
--- slots are one or not
+-- two slots are the same or not
 pub slot_decides : (a b : SlotParts) → Decides (slot_eq a b) (a ≡ b)
 slot_decides a b = (slot_exact a b, λ e. ap (λ s. slot_eq a s) (sym e) ∙ slot_eq-itself a)
 
--- digests are one or not
+-- two digests are the same or not
 pub digest_decides : (a b : Digest) → Decides (digest_eq a b) (a ≡ b)
 digest_decides a b = (digest_exact a b, λ e. ap (λ d. digest_eq a d) (sym e) ∙ digest_eq-itself a)
 
--- versions are one or not
+-- two versions are the same or not
 pub version_decides : (a b : Version) → Decides (version_eq a b) (a ≡ b)
 version_decides a b = (version_exact a b, λ e. ap (λ v. version_eq a v) (sym e) ∙ version_eq-itself a)
 
 -- ---- order
 
--- names are equal just where they tie
+-- names are equal exactly where they tie
 pub folder_eq-by_cmp : (f g : FolderName) → folder_eq f g ≡ is_eq (folder_cmp f g)
 folder_eq-by_cmp f g = eq-by_cmp f g
 
--- slots are equal just where they tie
+-- slots are equal exactly where they tie
 pub slot_eq-by_cmp : (a b : SlotParts) → slot_eq a b ≡ is_eq (slot_cmp a b)
 slot_eq-by_cmp a b = slot_laws.matches_eq-law a b
 
--- names that tie are one
+-- names that tie are the same
 pub folder_cmp-tie : (f g : FolderName) → folder_cmp f g ≡ Equal → f ≡ g
 folder_cmp-tie f g h = folder_exact f g (eq-by_cmp f g ∙ ap is_eq h)
 
@@ -129,7 +129,7 @@ folder_cmp-tie f g h = folder_exact f g (eq-by_cmp f g ∙ ap is_eq h)
 pub slot_total : IsTotalOrder slot_cmp
 slot_total = then_total (on_total (λ (s : SlotParts). s.folder) folder_total) (on_total (λ (s : SlotParts). s.instance) nat_cmp_total)
 
--- slots that tie are one
+-- slots that tie are the same
 pub slot_cmp-tie : (a b : SlotParts) → slot_cmp a b ≡ Equal → a ≡ b
 slot_cmp-tie a b h =
     let parts = both_tie (folder_cmp a.folder b.folder) (nat_cmp a.instance b.instance) h in

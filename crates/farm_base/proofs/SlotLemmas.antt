@@ -34,7 +34,7 @@ folder-lacks_hash f h =
     Lacks-append 35 (mode_text f.mode) (id_text f.id ++ base_text f.base) (mode-lacks_hash f.mode)
     (Lacks-append 35 (id_text f.id) (base_text f.base) (id-lacks 35 hash_mark f.id h.bytes) (base-lacks_hash f.base h.base))
 
--- a text without `#` is a SHARED or LOCKED slot's
+-- a text without `#` is that of a SHARED or LOCKED slot
 pub plain_parts : (text : List ℕ) (s : SlotParts) → IsSlot s → Lacks 35 text → text ≡ slot_text s
     → (text ≡ folder_text s.folder) × (0 ≡ s.instance)
 plain_parts text s h l e = by_mode s.folder.mode h.instance e
@@ -45,7 +45,7 @@ plain_parts text s h l e = by_mode s.folder.mode h.instance e
     by_mode Private i e = absurd (Lacks-middle 35 (folder_text s.folder) (decimal s.instance) (subst (Lacks 35) e l))
     by_mode Locked i e = (e ∙ append-nil (folder_text s.folder), sym i)
 
--- a text with `#` is a PRIVATE slot's
+-- a text with `#` is that of a PRIVATE slot
 pub marked_parts : (text folder instance : List ℕ) (s : SlotParts) → IsSlot s → text ≡ folder ++ 35 ∷ instance → Lacks 35 folder → text ≡ slot_text s
     → (folder ≡ folder_text s.folder) × (instance ≡ decimal s.instance) × IsInstance Private s.instance
 marked_parts text folder instance s h e l is = by_mode s.folder.mode h.instance is

@@ -73,7 +73,7 @@ IsBytes-push [] b h lt (suc i) = omega arith
 IsBytes-push (x ∷ xs) b h lt zero = h 0
 IsBytes-push (x ∷ xs) b h lt (suc i) = IsBytes-push xs b (λ j. h (suc j)) lt i
 
--- the digits of bytes have no byte that is no digit
+-- a byte that isn't a digit does not occur in the digits of bytes
 pub encode-lacks : (c : ℕ) → hex_digit_value c ≡ None → (xs : List ℕ) → IsBytes xs → Lacks c (encode_lower xs)
 unfolding encode_with
 encode-lacks c no_digit [] h = Lacks-nil c
@@ -87,13 +87,13 @@ encode-lacks c no_digit (x ∷ xs) h =
 own : IsNumeralModel (AllDigits 10) (digits_value 10)
 own = numerals_by_value (AllDigits 10) tells_digits
 
--- a number has digits alone
+-- a decimal consists of digits
 pub decimal-lacks : (c n : ℕ) → n < 2 ^ 64 → c < 48 → Lacks c (decimal n)
 decimal-lacks c n lt low i inside =
     let range = digit_at (decimal n) i (digits_decimal own n lt) inside in
     λ e. omega arith
 
--- the digits of bytes are those of no other bytes
+-- different bytes have different digits
 pub encode-injective : (xs ys : List ℕ) → IsBytes xs → IsBytes ys → encode_lower xs ≡ encode_lower ys → xs ≡ ys
 encode-injective xs ys hx hy e =
     decode_of-same (encode_lower xs) xs ys (decode_of-encode_lower xs hx) (ap decode_of e ∙ decode_of-encode_lower ys hy)

@@ -7,12 +7,12 @@ use Rattle.farm_base.specs.declared.folder.Mode.{Mode}
 use Rattle.farm_base.specs.declared.folder.Mode.TheVariants.{Shared, Private, Locked}
 use Rattle.farm_base.specs.Folders.{folder_eq, folder_cmp}
 
--- what a contract sees of a slot
+-- a slot, as contracts see it
 pub record SlotParts : Type 0 where
   pub folder : FolderName
   pub instance : ℕ
 
--- a SHARED or LOCKED folder has the instance 0 alone, a PRIVATE one 1 to 4,096
+-- a SHARED or LOCKED folder has only the instance 0, a PRIVATE one 1 to 4,096
 abbrev pub IsInstance : Mode → ℕ → Type 0
 IsInstance Shared n = n ≡ 0
 IsInstance Private n = (1 ≤ n) × (n ≤ 4096)

@@ -1,4 +1,4 @@
-//! Laws of texts and comparisons. A body whose proof needs one calls it.
+//! Laws of texts and comparisons. A function calls the laws that its proof needs.
 ghost use Rattle.std.specs.Prelude.{◌≡◌, true};
 ghost use Rattle.std.specs.Cmp.{IsTotalOrder};
 ghost use Rattle.std.specs.declared.cmp.Ordering.TheVariants.{Equal};
@@ -15,7 +15,7 @@ ghost use Rattle.farm_base.specs.Versions.{version_eq};
 use super::folder::{Base, FolderName};
 use super::slot::Slot;
 
-/// What each base of the program is.
+/// Each base of the program meets `IsOutput`.
 fn is_output(base: Base)
     ensures { IsOutput base }
 {
@@ -23,7 +23,7 @@ fn is_output(base: Base)
     let _index = base.index.get();
 }
 
-/// What each folder name of the program is.
+/// Each folder name of the program meets `IsName`.
 pub fn is_name(name: &FolderName)
     ensures { IsName name.now }
 {
@@ -33,7 +33,7 @@ pub fn is_name(name: &FolderName)
     }
 }
 
-/// What each slot of the program is.
+/// Each slot of the program meets `IsSlot`.
 pub fn is_slot(slot: &Slot)
     ensures { IsSlot slot.now }
 {
@@ -41,61 +41,61 @@ pub fn is_slot(slot: &Slot)
     let _instance = slot.instance();
 }
 
-/// No two digests have one text.
+/// No two digests have the same text.
 pub fn one_digest_per_text()
     ensures { (a b : Digest) → IsDigest a → IsDigest b → digest_text a ≡ digest_text b → a ≡ b }
 {}
 
-/// No two keys have one text.
+/// No two keys have the same text.
 pub fn one_key_per_text()
     ensures { (a b : Key) → IsDigest a.0 → IsDigest b.0 → key_text a ≡ key_text b → a ≡ b }
 {}
 
-/// No two folder names have one text.
+/// No two folder names have the same text.
 pub fn one_folder_per_text()
     ensures { (f g : FolderName) → IsName f → IsName g → folder_text f ≡ folder_text g → f ≡ g }
 {}
 
-/// No two slots have one text.
+/// No two slots have the same text.
 pub fn one_slot_per_text()
     ensures { (a b : SlotParts) → IsSlot a → IsSlot b → slot_text a ≡ slot_text b → a ≡ b }
 {}
 
-/// Two folder names are equal where `==` says so.
+/// Two folder names for which `==` holds are the same.
 pub fn equal_names_are_one()
     ensures { (f g : FolderName) → folder_eq f g ≡ true → f ≡ g }
 {}
 
-/// `==` of a folder name and itself.
+/// `==` holds of a folder name and itself.
 pub fn names_equal_themselves()
     ensures { (f : FolderName) → folder_eq f f ≡ true }
 {}
 
-/// `==` of slots says just where they are one.
+/// `==` holds of two slots exactly if they are the same.
 pub fn equal_slots_are_one()
     ensures one { (a b : SlotParts) → slot_eq a b ≡ true → a ≡ b }
     ensures itself { (a : SlotParts) → slot_eq a a ≡ true }
 {}
 
-/// `==` of versions says just where they are one.
+/// `==` holds of two versions exactly if they are the same.
 pub fn equal_versions_are_one()
     ensures one { (a b : Version) → version_eq a b ≡ true → a ≡ b }
     ensures itself { (a : Version) → version_eq a a ≡ true }
 {}
 
-/// `==` of digests says just where they are one.
+/// `==` holds of two digests exactly if they are the same.
 pub fn equal_digests_are_one()
     ensures one { (a b : Digest) → digest_eq a b ≡ true → a ≡ b }
     ensures itself { (a : Digest) → digest_eq a a ≡ true }
 {}
 
-/// Folder names have one order, in which only a name and itself tie.
+/// The order of folder names is total, and only equal names tie.
 pub fn folders_are_ordered()
     ensures total { IsTotalOrder folder_cmp }
     ensures ties { (f g : FolderName) → folder_cmp f g ≡ Equal → f ≡ g }
 {}
 
-/// Slots have one order, in which only a slot and itself tie.
+/// The order of slots is total, and only equal slots tie.
 pub fn slots_are_ordered()
     ensures total { IsTotalOrder slot_cmp }
     ensures ties { (a b : SlotParts) → slot_cmp a b ≡ Equal → a ≡ b }

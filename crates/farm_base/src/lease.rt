@@ -1,4 +1,4 @@
-//! What the coordinator keeps of an ask: the lease that it was granted, or the ask while it waits.
+//! What the coordinator keeps for an ask: the lease that was granted, or the ask while it waits.
 use super::copied::Copied;
 use super::items::Items;
 use super::number::{Ask, Life, NodeId, Ticket};

@@ -78,7 +78,7 @@ pub struct ToCoord {
     pub request: Request,
 }
 
-/// A lease as its holder is told of it.
+/// A lease, as its holder hears of it.
 #[derive(Debug, Drop)]
 pub struct Grant {
     pub ticket: Ticket,
@@ -98,7 +98,7 @@ pub struct Grant {
 pub enum Why {
     /// A PRIVATE folder has no instance left.
     InstancesSpent,
-    /// The greatest ticket was given.
+    /// The last ticket has been given.
     TicketsSpent,
 }
 

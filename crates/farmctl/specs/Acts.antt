@@ -23,7 +23,7 @@ AnswersFile command file text = (bytes : List ℕ) × (option_map (λ (v : Vec �
 abbrev pub AnswersAll : Command → List File → List ℕ → Type 0
 AnswersAll command files text = (texts : List (List ℕ)) × AllZip (AnswersFile command) files texts × (text ≡ flat_map (λ (t : List ℕ). t) texts)
 
--- why there is no answer for a file, as a line: it could not be read, or it is refused, and not for want of memory
+-- why there is no answer for a file, as a line: it could not be read, or it is refused for something other than memory
 abbrev pub FaultsFile : Command → File → List ℕ → Type 0
 FaultsFile command file line =
     ((file.1 ≡ None) × (line ≡ codes "unreadable " ++ string_bytes file.0 ++ codes "\n"))

@@ -51,7 +51,7 @@ IsNoGraph bytes (failure.Load e) = (d : Definition) × (definition_at bytes ≡ 
 IsNoGraph bytes (failure.Schedule e) = ⊥
 IsNoGraph bytes failure.Memory = ⊤
 
--- what `keys` prints of a graph: a line for each vertex, by rising place
+-- what `keys` prints for a graph: a line for each vertex, by rising place
 abbrev pub AreListed : GraphParts → List ℕ → Type 0
 AreListed g text = (keys : List Key) × AreKeys g keys × (text ≡ keys_text (vertex_digests g.vertices) keys)
 

@@ -20,7 +20,7 @@ wire_name wire.BadWireType = codes "BadWireType"
 wire_name wire.BadFieldNumber = codes "BadFieldNumber"
 wire_name wire.OutOfMemory = codes "OutOfMemory"
 
--- the name of a refusal, and its numbers; of one within another, the inner name
+-- the name of a refusal and its numbers; for a refusal within another, the inner name
 abbrev pub read_text : OpRefusal → List ℕ
 read_text (read.Wire inner) = wire_name inner
 read_text (read.NotUtf8 number) = codes "NotUtf8 " ++ decimal number

@@ -12,22 +12,22 @@ use Rattle.world.specs.Printing.{ArePrinted}
 use Rattle.farmctl.specs.declared.failure.Failure.{Failure}
 use Rattle.farmctl.specs.declared.failure.Failure.TheVariants as failure
 
--- the lines of events, the first of this number, in the farm
+-- the lines of events in the farm, the first with this number
 abbrev pub events_text : ℕ → List Event → Farm → List ℕ
 events_text number [] s = []
 events_text number (e ∷ es) s = outcome_text number (step content_digest farm_limits s e).outcome ++ events_text (number + 1) es (step content_digest farm_limits s e).farm
 
--- what is printed of a schedule: the lines of its events, and the lines of versions of the farm after them
+-- what is printed for a schedule: the lines of its events, and the lines of versions of the farm after them
 pub record IsReplayOf (setup : Setup) (events : List Event) (text : List ℕ) : Type 0 where
   pub lines : List ℕ
   pub printed : ArePrinted (run content_digest farm_limits events (opening content_digest setup.nodes)).ledger.line lines
   pub text_is : text ≡ events_text 1 events (opening content_digest setup.nodes) ++ lines
 
--- the bytes spell a schedule, and this is what is printed of it
+-- the bytes spell a schedule, and this is what is printed for it
 abbrev pub IsReplayed : List ℕ → List ℕ → Type 0
 IsReplayed bytes text = (setup : Setup) × (events : List said.Event) × schedule.IsSchedule bytes setup events × IsReplayOf setup (map event_of events) text
 
--- why the bytes spell no schedule: their first fault
+-- why the bytes don't spell a schedule: their first fault
 abbrev pub IsUnread : List ℕ → Failure → Type 0
 IsUnread bytes (failure.Read e) = ⊥
 IsUnread bytes (failure.Load e) = ⊥

@@ -17,14 +17,14 @@ use std::rt::Files;
 pub const DONE: u8 = 0;
 /// An input was refused, or can't be read.
 pub const REFUSED: u8 = 1;
-/// The words are no command.
+/// The words are not a command.
 pub const USAGE: u8 = 2;
 /// Memory ran out.
 pub const MEMORY: u8 = 3;
 /// The answer could not be written.
 pub const FAULT: u8 = 4;
 
-/// Writes a text, and answers the status, or that it could not be written.
+/// Writes a text, and returns the status, or `FAULT` if it can't be written.
 fn print<W: Write>(writer: &mut W, text: &str, status: u8) -> u8
     ensures status { result ≢ 4 → result ≡ status }
     ensures printed { result ≢ 4 → Appends (W.contents writer.old) (W.contents writer.new) text.now }
@@ -64,7 +64,7 @@ fn print_unreadable<E: Write>(alloc: Global, name: &str, err: &mut E) -> u8
 }
 
 /// Carries out a command on files, each with its bytes or `None` where it can't be read. Nothing is printed
-/// before all texts are made; the first fault decides. Answers the status of the program.
+/// before all texts are made; the first fault decides. Returns the status of the program.
 pub fn act<O: Write, E: Write>(
     alloc: Global,
     command: Command,
@@ -95,7 +95,7 @@ pub fn act<O: Write, E: Write>(
     print(out, all.as_str(), DONE)
 }
 
-/// Reads the words and the files that they name, and acts. Usage faults and help are `clap`'s texts.
+/// Reads the words and the files that they name, and acts. The texts of usage faults and help are `clap`'s.
 pub fn run<R: Files + Input + AllocGlobal, O: Write, E: Write>(
     rt: &R,
     words: &[String],

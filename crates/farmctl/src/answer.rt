@@ -28,7 +28,7 @@ fn result_line(alloc: Global, len: usize, digest: &Digest, index: u64) -> Result
     Ok(text)
 }
 
-/// How many vertices the graph has, and its result.
+/// The number of the graph's vertices, and its result.
 fn checked(alloc: Global, graph: &Graph) -> Result<String, AllocError>
     ensures { IfOk result (λ text. string_bytes text ≡ check_text graph.now) }
 {
@@ -49,7 +49,7 @@ fn push_key(alloc: Global, text: &mut String, digest: &Digest, key: &Key) -> Res
     text.push('\n')
 }
 
-/// The bytes of a vertex's line: `sha256:` and two times 64 digits, a space and the end of the line.
+/// The size of a vertex's line: `sha256:`, twice 64 digits, a space and a line feed.
 const LINE: usize = 137;
 
 /// The digests of a graph's vertices.
@@ -75,7 +75,7 @@ fn lines(alloc: Global, digests: &[Digest], keys: &[Key]) -> Result<String, Allo
     Ok(text)
 }
 
-/// The lines of a graph's vertices. The graph is given back before they are made.
+/// The lines of a graph's vertices. The graph's memory is freed before they are made.
 fn listed(alloc: Global, graph: Graph) -> Result<String, AllocError>
     ensures { IfOk result (λ text. AreListed graph (string_bytes text)) }
 {

@@ -10,7 +10,7 @@ pub enum Command {
     Check,
     /// Prints the solver key of each vertex.
     Keys,
-    /// Prints what each event of a schedule comes to, and the lines of versions.
+    /// Prints the result of each event of a schedule, and the lines of versions.
     Replay,
 }
 
@@ -46,7 +46,7 @@ fn farmctl<'a>(alloc: Global) -> Result<clap::Command<'a>, AllocError> {
     let replay = subcommand(
         alloc,
         "replay",
-        "Prints what each event of a schedule comes to, and the lines of versions",
+        "Prints the result of each event of a schedule, and the lines of versions",
         SCHEDULE,
     )?;
     clap::Command::new(alloc, "farmctl")
@@ -67,8 +67,8 @@ fn named(name: &str) -> Command {
     }
 }
 
-/// The command that the words spell, and the names of its files; with no words the replay of the standard
-/// input. An error is the usage fault, the help that was asked for, or want of memory.
+/// The command that the words spell, and the names of its files; without words, the replay of the standard
+/// input. An error is a usage fault, the help that was asked for, or out of memory.
 pub fn command_of<'a>(
     alloc: Global,
     words: &'a [String],

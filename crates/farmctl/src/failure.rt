@@ -14,11 +14,11 @@ use vertices::LoadRefusal;
 /// Why there is no answer for a file.
 #[derive(Clone, Copy, Debug, PartialEq, Eq)]
 pub enum Failure {
-    /// Its bytes are no definition.
+    /// Its bytes are not a definition.
     Read(OpRefusal),
-    /// Its definition is no graph.
+    /// Its definition is not a graph.
     Load(LoadRefusal),
-    /// Its bytes are no schedule.
+    /// Its bytes are not a schedule.
     Schedule(ScheduleRefusal),
     Memory,
 }

@@ -113,7 +113,7 @@ fn a_definition_cut_short(rt: HostRuntime) -> Result<(), Fail> {
     Ok(())
 }
 
-/// Words, the status of the program, and how what it prints begins.
+/// Words, the status of the program, and the beginning of what it prints.
 const WORDS: [(&[&str], u8, &str); 4] = [
     (
         &["check", "nowhere.llb"],
@@ -142,7 +142,7 @@ fn words_of_the_program(rt: HostRuntime) -> Result<(), Fail> {
     Ok(())
 }
 
-/// Schedules, their lines parted by semicolons, and lines that their replay prints. `EMPTY` and `ABC` stand for
+/// Schedules, their lines separated by semicolons, and lines that their replay prints. `EMPTY` and `ABC` stand for
 /// the digits of the SHA-256 of nothing and of `abc`.
 const REPLAYS: [(&str, &[&str]); 15] = [
     // Nothing happens.
@@ -337,7 +337,7 @@ fn what_schedules_come_to(rt: HostRuntime) -> Result<(), Fail> {
     Ok(())
 }
 
-/// Texts that are no schedules, and what is printed of each.
+/// Texts that are not schedules, and what is printed for each.
 const NO_SCHEDULES: [(&str, &str); 12] = [
     ("", "refused BadLine 1\n"),
     ("nodes 0", "refused BadLine 1\n"),
@@ -371,7 +371,7 @@ fn what_is_no_schedule(rt: HostRuntime) -> Result<(), Fail> {
     Ok(())
 }
 
-/// So many times a line, behind the line of one node.
+/// The setup of one node, and then `count` times a line.
 fn repeated(alloc: Global, line: &str, count: usize) -> Result<Vec<u8>, Fail> {
     let mut bytes = Vec::new(alloc);
     bytes.extend_from_slice(b"nodes 1\n")?;

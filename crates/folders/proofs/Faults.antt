@@ -67,6 +67,6 @@ folder_fault text d fits e =
           )
     ]
 
--- two folders of the same bytes are one
+-- two folders with the same bytes are the same
 pub one_folder : (one other : Files) → IsFolder one → IsFolder other → folder_bytes one ≡ folder_bytes other → one ≡ other
 one_folder one other is is' same = ok_is one other (sym (folder_again one is) ∙ ap folder_of same ∙ folder_again other is')

@@ -7,11 +7,11 @@ use Rattle.folders.specs.Reading.{◌>>=◌, file_at, files_in}
 use Rattle.folders.proofs.FileLaws.{file_shorter}
 use Rattle.folders.proofs.FolderLaws.{files_in_some, files_in_none}
 
--- what was read before, and what is still read
+-- the files that were read so far, followed by those that are left to read
 abbrev pub with_front : Files → Result Files FolderRefusal → Result Files FolderRefusal
 with_front front read = read >>= λ files. Ok (front ++ files)
 
--- with these files in front, the rest gives what the whole text does
+-- reading the whole text gives these files, followed by what reading the rest gives
 pub record IsOpen (total : Result Files FolderRefusal) (front : Files) (last : Option (List ℕ)) (rest : List ℕ) : Type 0 where
   pub limit : ℕ
   pub within : length rest ≤ limit

@@ -104,7 +104,7 @@ folder_again files is =
     let fine : ltb most_bytes (length (folder_bytes files)) ≡ false = le-ltb _ _ small in
     rw fine (files_again (length (folder_bytes files)) None files (omega arith) (omega arith) (rise_from_sorted (keys_of files) is.rise) is.utf8)
 
--- what reading gave, seen by view
+-- what reading gave, with view applied to it
 pub is_folder : {X : Type 0} (view : X → Files) (text : List ℕ) (r : Result X FolderRefusal) → IsBytes text → Gives view r (folder_of text) → IfOk r (λ x. IsFolder (view x) × (text ≡ folder_bytes (view x)))
 is_folder view text (Ok x) fits given = folder_took text (view x) fits given
 is_folder view text (Err d) fits given = tt

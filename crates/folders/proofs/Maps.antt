@@ -27,7 +27,7 @@ equal_is Less h = cc h
 equal_is Equal h = refl
 equal_is Greater h = cc h
 
--- a path that is equal to this one is in the same order to another
+-- equal paths compare the same way with any other path
 same_order : (a b c : List ℕ) (o : Ordering) → path_cmp b c ≡ o → is_eq (path_cmp a b) ≡ true → path_cmp a c ≡ o
 same_order a b c o e same = nat_list_cmp_total.congr a b c (equal_is (path_cmp a b) same) ∙ e
 
@@ -62,7 +62,7 @@ remove-content_at files path other up =
     lookup-remove_entry laws (is_at (path_cmp path)) (λ x y same. laws.congr path x y same) other files (IsDistinct-from_sorted path_cmp (keys_of files) up)
     ∙ ap (λ (b : Bool). cond b None (content_at files other)) (laws.symm path other ∙ is_eq-slice_cmp other path)
 
--- what holds of all paths and of this one holds after an edit
+-- a property of all paths and of the edit's path holds after the edit
 put_keeps : (P : List ℕ → Type 0) (files : Files) (path content : List ℕ) → AllByRecursion P (keys_of files) → P path → AllByRecursion P (keys_of (insert_entry path_cmp files path content))
 put_keeps P [] path content all here = (here, tt)
 put_keeps P (f ∷ fs) path content all here = by_order (path_cmp path f.0) (put_keeps P fs path content all.1 here)

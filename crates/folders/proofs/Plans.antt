@@ -55,7 +55,7 @@ insert_entry-last (f ∷ fs) (suc i) d up lt =
     let less : path_cmp f.0 (get_or fs i d).0 ≡ Less = less_at (f ∷ fs) 0 (suc i) d up (omega arith) lt in
     rw (reversed f.0 (get_or fs i d).0 Less less) (ap (λ (gs : Files). f ∷ gs) (insert_entry-last fs i d (sorted_tail path_cmp f.0 (keys_of fs) up) (omega arith)))
 
--- lent paths that rise are paths that rise
+-- if lent paths rise, so do the paths themselves
 rise_lent_above : (p : Lent) (es : List (Lent × Lent)) → AllByRecursion (λ q. lent_cmp p q ≡ Less) (keys_of es) → AllByRecursion (λ q. path_cmp p.now q ≡ Less) (keys_of (files_lent es))
 rise_lent_above p [] h = tt
 rise_lent_above p (e ∷ es) h = (h.0, rise_lent_above p es h.1)
@@ -65,16 +65,16 @@ unfolding IsStrictlySortedBy
 rise_lent [] h = tt
 rise_lent (e ∷ es) h = (rise_lent_above e.0 es h.0, rise_lent es h.1)
 
--- one path more that is UTF-8
+-- adding a path that is UTF-8
 pub utf8_push : (files : Files) (file : File) → AllByRecursion IsUtf8 (keys_of files) → IsUtf8 file.0 → AllByRecursion IsUtf8 (keys_of (files ++ file ∷ []))
 utf8_push [] file all here = (here, tt)
 utf8_push (f ∷ fs) file all here = (all.0, utf8_push fs file all.1 here)
 
--- where nothing is left
+-- when nothing is left
 pub all_copied : (files : Files) (rest : List (Lent × Lent)) (all : Files) → rest ≡ [] → files ++ files_lent rest ≡ all → files ≡ all
 all_copied files rest all none so_far = sym (append-nil files) ∙ ap (λ (es : List (Lent × Lent)). files ++ files_lent es) (sym none) ∙ so_far
 
--- one file more
+-- adding a file
 pub one_more : (files : Files) (i : ℕ) (file : File) (es : Files) (path content : List ℕ) → Rise files → i < length files → file ≡ get_or files i file → es ≡ take i files → path ≡ file.0 → content ≡ file.1
     → insert_entry path_cmp es path content ≡ take (i + 1) files
 one_more files i file es path content up lt is so_far p q =

@@ -38,7 +38,7 @@ folder_bytes files = flat_map file_bytes files
 abbrev pub most_bytes : ℕ
 most_bytes = 16 * 2 ^ 20
 
--- the paths rise strictly and are UTF-8, and the folder bytes are 16 MiB at most
+-- the paths rise strictly and are UTF-8, and there are at most 16 MiB of folder bytes
 pub record IsFolder (files : Files) : Type 0 where
   pub rise : IsStrictlySortedBy path_cmp (keys_of files)
   pub utf8 : AllByRecursion IsUtf8 (keys_of files)

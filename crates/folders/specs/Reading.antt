@@ -16,17 +16,17 @@ abbrev pub ◌>>=◌ : {A B : Type 0} → Result A FolderRefusal → (A → Resu
 (Ok x) >>= f = f x
 (Err e) >>= f = Err e
 
--- a result, its value seen by view
+-- a result, with view applied to its value
 abbrev pub shown : {X Y : Type 0} → (X → Y) → Result X FolderRefusal → Result Y FolderRefusal
 shown view (Ok x) = Ok (view x)
 shown view (Err e) = Err e
 
--- what was returned, its value seen by view, is what reading gives, unless memory ran out
+-- what was returned, with view applied to its value, is what reading gives, unless memory ran out
 abbrev pub Gives : {X Y : Type 0} → (X → Y) → Result X FolderRefusal → Result Y FolderRefusal → Type 0
 Gives view (Ok x) read = read ≡ Ok (view x)
 Gives view (Err e) read = (e ≡ OutOfMemory) ⊎ (read ≡ Err e)
 
--- four bytes are a number, big endian; what follows it
+-- a number of four bytes, big endian, and what follows it
 abbrev pub number_at : List ℕ → Result (ℕ × List ℕ) FolderRefusal
 number_at text = if nat_lt (length text) 4 then Err Truncated else Ok (from_be_bytes w32 (take 4 text), drop 4 text)
 
@@ -54,7 +54,7 @@ file_at last text = do
   content ← sized_at path.1
   Ok ((path.0, content.0), content.1)
 
--- the files of a text of at most so many bytes
+-- the files of a text of at most limit bytes
 unfoldable pub files_in : ℕ → Option (List ℕ) → List ℕ → Result Files FolderRefusal
 files_in limit last [] = Ok []
 files_in zero last (b ∷ bs) = Ok []
@@ -67,12 +67,12 @@ files_in (suc limit) last (b ∷ bs) = do
 unfoldable pub folder_of : List ℕ → Result Files FolderRefusal
 folder_of text = if nat_lt most_bytes (length text) then Err TooLarge else files_in (length text) None text
 
--- the path of the last of these files, or else the one before them, if there is one
+-- the path of the last of these files, or else the path before them, if there is one
 abbrev pub last_path : Option (List ℕ) → Files → Option (List ℕ)
 last_path last [] = last
 last_path last (file ∷ files) = last_path (Some file.0) files
 
--- files stand in front of the fault, and it is the fault of what follows them
+-- the text begins with the bytes of some files, and what follows them has the fault
 pub record FaultsBehind (text : List ℕ) (refusal : FolderRefusal) : Type 0 where
   pub before : Files
   pub rest : List ℕ

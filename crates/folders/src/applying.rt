@@ -60,7 +60,7 @@ fn edited_plan<'a>(
     Ok(plan)
 }
 
-/// So many folder bytes and those of one file more, where they are no more than may be.
+/// The size of the folder bytes with one more file, if it is within the limit.
 fn size_with(size: usize, path: &str, content: &[u8]) -> Option<usize>
     requires { size ≤ most_bytes }
     ensures sum { IfSome result (λ sum. sum ≡ size + length (file_bytes (path.now, content.now))) }
@@ -73,7 +73,7 @@ fn size_with(size: usize, path: &str, content: &[u8]) -> Option<usize>
     if sum <= MOST_BYTES { Some(sum) } else { None }
 }
 
-/// How many folder bytes the files have, where they are no more than may be.
+/// The size of the files' folder bytes, if it is within the limit.
 fn size_of(plan: &Plan<'_>) -> Option<usize>
     ensures size { IfSome result (λ size. size ≡ length (folder_bytes (lent plan.now))) }
     ensures small { IfSome result (λ size. size ≤ most_bytes) }
@@ -99,7 +99,7 @@ fn files_of_plan(alloc: Global, plan: &Plan<'_>) -> Result<Vec<File>, AllocError
     Ok(files)
 }
 
-/// The files of a folder after some edits, and how many folder bytes they have.
+/// The files of a folder after some edits, and the size of their folder bytes.
 pub(crate) fn edited_files(
     alloc: Global,
     files: &[File],

@@ -6,9 +6,9 @@ use std::alloc::{AllocError, Global};
 /// A change of one file of a folder.
 #[derive(Debug, Drop)]
 pub enum Edit {
-    /// The path has this content, whatever it had.
+    /// The path gets this content, whatever it had before.
     Put(Text, Items<u8>),
-    /// The path has no content. Where it has none, nothing changes.
+    /// The path loses its content. If it has none, nothing changes.
     Remove(Text),
 }
 

@@ -18,11 +18,11 @@ use std::marker::Model;
 /// The files of a folder: the content of each path.
 ///
 /// Contracts see a finite map, as the list of the paths, rising by their bytes, with the content of each. A path is any
-/// UTF-8 text. The folder bytes are at most 16 MiB.
+/// UTF-8 text. There are at most 16 MiB of folder bytes.
 #[derive(Debug, Drop)]
 pub struct Folder {
     files: Vec<File>,
-    /// How many folder bytes there are.
+    /// The size of the folder bytes.
     size: usize,
 }
 
@@ -59,14 +59,14 @@ impl Folder {
     ///
     /// For each file, by rising path: the length of the path (four bytes, big endian), the path, the length of the content
     /// (four bytes, big endian), the content. A refusal is the first fault: more than 16 MiB, and then file by file a path
-    /// that ends early, that is no UTF-8, that isn't above the one before it, a content that ends early.
+    /// that ends early, that isn't UTF-8, that isn't above the one before it, a content that ends early.
     pub fn read(alloc: Global, bytes: &[u8]) -> Result<Self, FolderRefusal>
-        // What is read is spelled so.
+        // The bytes that were read are those that spell the folder.
         ensures spelled { IfOk result (λ folder. bytes.now ≡ folder_bytes folder) }
         ensures folder { IfOk result IsFolder }
-        // What is spelled so is read, unless memory runs out.
+        // The bytes of any folder are read, unless memory runs out.
         ensures only { (files : Files) → IsFolder files → bytes.now ≡ folder_bytes files → Gives (λ folder. folder) result (Ok files) }
-        // Which refusal it is: the first fault.
+        // A refusal is the first fault.
         ensures exact { Gives (λ folder. folder) result (folder_of bytes.now) }
     {
         let files = read_files(alloc, bytes)?;
@@ -103,7 +103,7 @@ impl Folder {
         Ok(())
     }
 
-    /// The content of a file, if there is one of this path. It takes no memory.
+    /// The content of the file at this path, if there is one. It takes no memory.
     pub fn get(&self, path: &str) -> Option<&[u8]>
         ensures { option_copied result ≡ content_at self.now path.now }
     {

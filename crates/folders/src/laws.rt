@@ -1,4 +1,4 @@
-//! Laws of folders, which callers may rest on.
+//! Laws of folders that callers may rely on.
 ghost use Rattle.std.specs.Prelude.{◌≡◌, ℕ, List, Some, None, if◌then◌else◌, Ok, Err};
 ghost use Rattle.std.specs.List.Sorted.{IsStrictlySortedBy};
 ghost use Rattle.std.specs.Map.{keys_of};
@@ -10,7 +10,7 @@ ghost use Rattle.folders.specs.Edits.{edited};
 ghost use Rattle.folders.specs.Files.{Files, path_cmp, content_at, folder_bytes, IsFolder};
 ghost use Rattle.folders.specs.Reading.{folder_of, Faulted};
 
-/// Folder bytes are those of one folder, which they are read as.
+/// Folder bytes are those of exactly one folder, the one that is read from them.
 pub fn a_folder_has_one_spelling()
     ensures read { (text : List ℕ) (files : Files) → IsBytes text → folder_of text ≡ Ok files → text ≡ folder_bytes files }
     ensures folder { (text : List ℕ) (files : Files) → IsBytes text → folder_of text ≡ Ok files → IsFolder files }
@@ -18,12 +18,12 @@ pub fn a_folder_has_one_spelling()
     ensures one { (one other : Files) → IsFolder one → IsFolder other → folder_bytes one ≡ folder_bytes other → one ≡ other }
 {}
 
-/// A refusal is the fault of the first place where no file can be read, unless the bytes are too many.
+/// Unless there are too many bytes, a refusal is the fault at the first place where no file can be read.
 pub fn first_fault_decides()
     ensures { (text : List ℕ) (refusal : FolderRefusal) → IsBytes text → folder_of text ≡ Err refusal → Faulted text refusal }
 {}
 
-/// An edit changes what is at its path, and nothing else.
+/// An edit changes the content at its path, and nothing else.
 pub fn edits_change_one_path()
     ensures put { (files : Files) (path content other : List ℕ)
         → content_at (edited files (Edit.Put path content)) other ≡ (if bytes_eq other path then Some content else content_at files other) }

@@ -5,7 +5,7 @@ ghost use Rattle.folders.specs.declared.refusal.EditRefusal.TheVariants as edit;
 use std::alloc::{AllocError, AllocFailed};
 use thiserror::Error;
 
-/// Why bytes are no folder bytes.
+/// Why bytes are not those of a folder.
 #[derive(Clone, Copy, Debug, PartialEq, Eq, Error)]
 pub enum FolderRefusal {
     /// The bytes end inside a file.
@@ -15,7 +15,7 @@ pub enum FolderRefusal {
     #[error("a path out of order")]
     PathOrder,
     /// A path that isn't UTF-8.
-    #[error("a path that is no UTF-8")]
+    #[error("a path that is not UTF-8")]
     NotUtf8,
     /// More than 16 MiB.
     #[error("more than 16 MiB")]

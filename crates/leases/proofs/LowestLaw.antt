@@ -1,4 +1,4 @@
--- What the lowest free instance is.
+-- `lowest` is the lowest free instance.
 use Rattle.std.proofs.Common.{◌≡◌, ◌≢◌, ℕ, zero, suc, ◌+◌, ◌<◌, ◌≤◌, ◌⊎◌, Bool, true, false, refl, sym, ◌∙◌, subst, inl, inr, arith}
 use Rattle.protocol.specs.Names.{Slot, FolderName}
 use Rattle.protocol.specs.Ledger.{lowest}
@@ -8,7 +8,7 @@ use Rattle.leases.proofs.TableLemmas.{cases_bool, lowest-end, lowest-free, lowes
 cases_nat : (a b : ℕ) → (a ≡ b) ⊎ (a ≢ b)
 cases_nat a b = grind arith
 
--- the same from an instance on, of so many
+-- the same for the k instances from i on
 record IsLowestFrom (free : Slot → Bool) (f : FolderName) (i k : ℕ) : Type 0 where
   found : lowest free f i k ≢ 0 → (i ≤ lowest free f i k) × (lowest free f i k < i + k) × (free (record { folder = f; instance = lowest free f i k }) ≡ true)
   below : (j : ℕ) → i ≤ j → j < i + k → (lowest free f i k ≢ 0 → j < lowest free f i k) → free (record { folder = f; instance = j }) ≡ false

@@ -22,13 +22,13 @@ or_more true false m n w e h = e ∙ h
 or_more false true m n w e h = h
 or_more false false m n w e h = e ∙ h
 
--- one element more was looked at
+-- after looking at one more element
 pub marked_more : {A : Type 0} (test : A → Bool) (xs : List A) (k : ℕ) (d : A) (m n w : Bool) → k < length xs → n ≡ (test (get_or xs k d) || m)
     → (list_any test (drop k xs) || m) ≡ w → (list_any test (drop (k + 1) xs) || n) ≡ w
 marked_more test xs k d m n w inside e h =
     or_more (test (get_or xs k d)) (list_any test (drop (k + 1) xs)) m n w e (ap (λ ys. list_any test ys || m) (sym (drop-item xs k d inside)) ∙ h)
 
--- all were
+-- after looking at all of them
 pub marked_end : {A : Type 0} (test : A → Bool) (xs : List A) (k : ℕ) (m w : Bool) → length xs ≤ k → (list_any test (drop k xs) || m) ≡ w → m ≡ w
 marked_end test xs k m w past h = ap (λ ys. list_any test ys || m) (sym (drop_none xs k past)) ∙ h
 
@@ -43,6 +43,6 @@ by_mark true false z none e = refl
 by_mark false true z none e = refl
 by_mark false false z none e = sym e
 
--- an instance is free where it has no mark
+-- an instance is free if it has no mark
 pub free-unmarked : (free : Bool) (m : Bool) (n i : ℕ) → m ≡ (not free || get_or (replicate n false) i false) → free ≡ not m
 free-unmarked free m n i e = sym (by_mark free m (get_or (replicate n false) i false) (unmarked_at n i) e)

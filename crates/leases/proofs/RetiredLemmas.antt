@@ -14,7 +14,7 @@ or_comm true false = refl
 or_comm false true = refl
 or_comm false false = refl
 
--- a private slot more
+-- one more PRIVATE slot
 among_step : (p q r s t : Bool) → (q ≡ true → p ≡ s) → t ≡ (s && r) → (cond p (q || t) t) ≡ (s && (q || r))
 among_step true true r true t e h = refl
 among_step true true r false t e h = (let bad : true ≡ false = e refl in absurd (cc))
@@ -52,7 +52,7 @@ and_false : (b : Bool) → false ≡ (b && false)
 and_false true = refl
 and_false false = refl
 
--- and so of leases
+-- the same for a list of leases
 among_all : (leases : List Lease) (s : Slot) → among (all_private leases) s ≡ (is_private s.folder.mode && some_lease leases s)
 among_all [] s = and_false (is_private s.folder.mode)
 among_all (g ∷ leases) s =

@@ -1,4 +1,4 @@
--- Leases that may be live together: one more, and some fewer.
+-- Leases that may be live together: adding one, and removing some.
 use Rattle.std.proofs.Common.{◌≡◌, ◌≢◌, ℕ, zero, suc, ◌+◌, ◌<◌, List, [], ◌∷◌, ◌++◌, ◌⊎◌, Bool, true, false, not, ◌&&◌, ◌||◌, eqb, length, get_or, map, filter, Some, None, refl, sym, ◌∙◌, ap, subst, inl, inr, arith}
 use Rattle.std.specs.Prelude.{All, AllPairs}
 use Rattle.std.specs.List.{list_any, find, position_from, remove, AllByRecursion}
@@ -50,7 +50,7 @@ pub leased-filter : (tenure : Bool) (wants : List Want) → leased_wants tenure 
 leased-filter true wants = refl
 leased-filter false wants = refl
 
--- ---- some leases fewer
+-- ---- removing leases
 
 pub leases-filter : (p : Lease → Bool) (live : List Lease) → AreLeases live → AreLeases (filter p live)
 leases-filter p live h = record {
@@ -124,7 +124,7 @@ missing t (g ∷ live) from e = elim (cases_bool (eqb g.ticket.0 t.0)) [
   | inr other ↦ (let r = missing t live (from + 1) (rw other at e) in (rw other r.0, rw other (ap (λ xs. g ∷ xs) r.1)))
 ]
 
--- ---- one lease more
+-- ---- adding a lease
 
 lowest-none : (free : Slot → Bool) (f : FolderName) (i : ℕ) → lowest free f i zero ≡ 0
 unfolding lowest
@@ -161,7 +161,7 @@ not_true : (b : Bool) → not b ≡ true → b ≡ false
 not_true true h = (let bad : false ≡ true = h in cc)
 not_true false h = refl
 
--- what is free is not leased
+-- a free slot is not leased
 abbrev pub FreeIsOpen : (Slot → Bool) → List Lease → Type 0
 FreeIsOpen free live = (s : Slot) → free s ≡ true → some_lease live s ≡ false
 
@@ -185,7 +185,7 @@ want_open n free live w is_open left right = by (is_private w.folder.mode) refl
 abbrev pub slots_by : ℕ → (Slot → Bool) → List Want → List (Slot × Bool)
 slots_by n free ws = map (λ w. (slot_for n free w, w.writable)) ws
 
--- none of the slots of some wants that fit is leased
+-- if wants fit, none of the slots that they get is leased
 slots_apart : (n : ℕ) (free : Slot → Bool) (live : List Lease) (ws : List Want) → FreeIsOpen free live → all_taken n free ws ≡ false → busy (some_lease live) ws ≡ false
     → (s : Slot) → has_slot (slots_by n free ws) s ≡ true → some_lease live s ≡ false
 slots_apart n free live [] is_open taken not_busy s h = (let bad : false ≡ true = h in cc)
@@ -233,7 +233,7 @@ wants_filter p (w ∷ ws) h = elim (cases_bool (p w)) [
   | inr e ↦ rw e (wants_filter p ws h.1)
 ]
 
--- one lease more, for wants that fit
+-- adding a lease for wants that fit
 pub leases_more : (n : ℕ) (free : Slot → Bool) (live : List Lease) (wants : List Want) (g : Lease) → FreeIsOpen free live → IsWants wants
     → all_taken n free (leased_wants g.tenure wants) ≡ false → busy (some_lease live) (leased_wants g.tenure wants) ≡ false
     → g.slots ≡ slots_by n free (leased_wants g.tenure wants) → All (λ h. h.ticket.0 < g.ticket.0) live → AreLeases live → AreLeases (live ++ g ∷ [])
@@ -258,7 +258,7 @@ leases-push t n l a wants tenure ticket h sorted fits above =
     let both = fits_both _ _ fits in
     leases_more 4096 (is_free t) t.live wants (lease_for t n l a wants tenure ticket) (free_is_open t) sorted both.0 both.1 refl above h
 
--- the newest lease is that of its ticket
+-- looking up the newest lease's ticket finds it
 pub lease_under-push : (live : List Lease) (g : Lease) → All (λ h. h.ticket.0 < g.ticket.0) live → find (has_ticket g.ticket) (live ++ g ∷ []) ≡ Some g
 lease_under-push [] g above = (let same = eqb_same g.ticket.0 in rw same refl)
 lease_under-push (h ∷ live) g above =

@@ -6,18 +6,18 @@ use Rattle.farm_base.specs.declared.lease.Lease.{Lease}
 use Rattle.protocol.specs.Names.{Slot}
 use Rattle.protocol.specs.Ledger.{has_slot}
 
--- what a contract sees of a lease table
+-- a lease table, as contracts see it
 pub record Table : Type 0 where
   -- the leases, the oldest first
   pub live : List Lease
   -- the PRIVATE slots that are never granted again
   pub retired : List Slot
 
--- the first ticket is the lower
+-- the first lease has the lower ticket
 abbrev pub IsBefore : Lease → Lease → Type 0
 IsBefore g h = g.ticket.0 < h.ticket.0
 
--- no slot is in both
+-- no slot is in both leases
 abbrev pub AreApart : Lease → Lease → Type 0
 AreApart g h = (s : Slot) → has_slot g.slots s ≡ true → has_slot h.slots s ≡ false
 

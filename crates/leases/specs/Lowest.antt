@@ -9,7 +9,7 @@ pub record IsLowestFree (free : Slot → Bool) (f : FolderName) (i : ℕ) : Type
   pub is_free : free (record { folder = f; instance = i }) ≡ true
   pub below : (j : ℕ) → 1 ≤ j → j < i → free (record { folder = f; instance = j }) ≡ false
 
--- `lowest` is the lowest free instance of 1 to 4,096, and 0 just where none is free
+-- `lowest` is the lowest free instance of 1 to 4,096, and 0 exactly if none is free
 pub record LowestIsLowest (free : Slot → Bool) (f : FolderName) : Type 0 where
   pub found : lowest free f 1 4096 ≢ 0 → IsLowestFree free f (lowest free f 1 4096)
   pub none : lowest free f 1 4096 ≡ 0 → (j : ℕ) → 1 ≤ j → j ≤ 4096 → free (record { folder = f; instance = j }) ≡ false

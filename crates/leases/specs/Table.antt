@@ -1,4 +1,4 @@
--- What a lease table holds, and whether an ask fits in.
+-- What a lease table holds, and whether an ask fits.
 use Rattle.std.specs.Prelude.{Bool, true, false, not, ◌&&◌, List, [], map, filter, Option, Some, None}
 use Rattle.std.specs.List.{list_any, find, flat_map}
 use Rattle.farm_base.specs.declared.lease.Lease.{Lease}
@@ -26,7 +26,7 @@ first_fit true b = InstancesSpent
 first_fit false true = Busy
 first_fit false false = Fits
 
--- whether these wants fit in. A PRIVATE folder has 4,096 instances
+-- whether these wants fit. A PRIVATE folder has 4,096 instances
 abbrev pub fit_of : Table → Bool → List Want → Fit
 fit_of t tenure wants = first_fit (all_taken 4096 (is_free t) (leased_wants tenure wants)) (busy (is_leased t) (leased_wants tenure wants))
 
@@ -68,7 +68,7 @@ state_of t s = state_by (find (λ g. has_slot g.slots s) t.live) (among t.retire
 abbrev pub private_slots : List (Slot × Bool) → List Slot
 private_slots slots = map (λ x. x.0) (filter (λ x. is_private x.0.folder.mode) slots)
 
--- the same of the lease, if there is one
+-- the same for the lease, if there is one
 abbrev pub private_of : Option Lease → List Slot
 private_of None = []
 private_of (Some g) = private_slots g.slots

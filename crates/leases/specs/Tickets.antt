@@ -1,7 +1,7 @@
 -- Where tickets come from.
 use Rattle.std.specs.Prelude.{ℕ, ◌+◌, ◌==◌, if◌then◌else◌, min}
 
--- what a contract sees of a ticket source
+-- a ticket source, as contracts see it
 pub record Tickets : Type 0 where
   -- the ticket that was given last, or the one after which it began
   pub position : ℕ
@@ -12,6 +12,6 @@ pub record Tickets : Type 0 where
 abbrev pub raised : Tickets → ℕ
 raised t = if t.position == t.ceiling then min (t.ceiling + 64) 0xffff_ffff_ffff_ffff else t.ceiling
 
--- after the next ticket
+-- the source after it gave the next ticket
 abbrev pub advanced : Tickets → Tickets
 advanced t = record { position = t.position + 1; ceiling = raised t }

@@ -24,7 +24,7 @@ pub enum Fit {
     InstancesSpent,
 }
 
-/// What a slot is to new asks.
+/// The state of a slot, as new asks find it.
 #[derive(Clone, Copy, Debug, PartialEq, Eq)]
 pub enum SlotState {
     Free,
@@ -50,7 +50,7 @@ impl Model for LeaseTable {
     ghost invariant = { λ t. AreLeases t.leases.items };
 }
 
-/// How many places the marks of a folder's instances have.
+/// The number of marks for a folder's instances.
 const PLACES: usize = 4097;
 
 fn has_slot(slots: &[(Slot, bool)], slot: &Slot) -> bool
@@ -113,7 +113,7 @@ impl LeaseTable {
         mark_all(marks, folder, self.retired.as_slice());
     }
 
-    /// The lowest free instance of a PRIVATE folder, 0 where there is none.
+    /// The lowest free instance of a PRIVATE folder, or 0 if there is none.
     fn lowest(&self, folder: &FolderName) -> u32
         ensures value { result ≡ lowest (is_free self.now) folder.now 1 4096 }
         ensures range { result ≤ 4096 }
@@ -332,7 +332,7 @@ impl LeaseTable {
         Ok(())
     }
 
-    /// Ends the lease of a ticket, and gives it back. Its slots are free again.
+    /// Ends the lease of a ticket, and returns it. Its slots are free again.
     pub fn end(&mut self, ticket: Ticket) -> Option<Lease>
         ensures ended { result ≡ lease_under self.old.live ticket }
         ensures rest { self.new ≡ record self.old { live = without ticket self.old.live } }
@@ -340,7 +340,7 @@ impl LeaseTable {
         take_out(&mut self.leases, ticket)
     }
 
-    /// Withdraws the lease of a ticket, and gives it back. Its PRIVATE slots are never granted again.
+    /// Withdraws the lease of a ticket, and returns it. Its PRIVATE slots are never granted again.
     pub fn withdraw(&mut self, alloc: Global, ticket: Ticket) -> Result<Option<Lease>, AllocError>
         ensures ended { IfOk result (λ lease. lease ≡ lease_under self.old.live ticket) }
         ensures rest { OnOk result (self.new.live ≡ without ticket self.old.live) }
@@ -397,7 +397,7 @@ impl LeaseTable {
         self.leases.as_slice()
     }
 
-    /// Ends the leases of older lives of a node, and says how many. Their slots are free again.
+    /// Ends the leases of older lives of a node, and returns their number. Their slots are free again.
     pub fn end_lives_below(&mut self, node: NodeId, life: Life) -> usize
         ensures ended { result ≡ count_by (is_older node life) self.old.live }
         ensures rest { self.new ≡ record self.old { live = filter (λ g. not (is_older node life g)) self.old.live } }
@@ -408,7 +408,7 @@ impl LeaseTable {
     }
 }
 
-/// Takes the lease of a ticket out.
+/// Removes the lease of a ticket, and returns it.
 fn take_out(leases: &mut Vec<Lease>, ticket: Ticket) -> Option<Lease>
     requires { AllPairs IsBefore leases.old.items }
     ensures ended { result ≡ lease_under leases.old.items ticket }

@@ -1,4 +1,4 @@
-//! Which instances of a folder stand among some slots, in one pass.
+//! Which instances of a folder are among some slots, in one pass.
 ghost use Rattle.std.specs.Prelude.{◌≡◌, ℕ, ◌<◌, ◌||◌, length, false, slice_index_or};
 ghost use Rattle.protocol.specs.Names.{slot_eq};
 ghost use Rattle.protocol.specs.Ledger.{has_slot, some_lease};
@@ -7,7 +7,7 @@ ghost use Rattle.leases.specs.Table.{among};
 
 use farm_base::{FolderName, Lease, Slot};
 
-/// Marks the instance of a slot, where it is of the folder.
+/// Marks the instance of a slot, if the slot is of the folder.
 fn mark(marks: &mut [bool], folder: &FolderName, slot: &Slot)
     ensures { Marks marks.old marks.new folder.now (λ s. slot_eq slot.now s) }
 {
@@ -17,7 +17,7 @@ fn mark(marks: &mut [bool], folder: &FolderName, slot: &Slot)
     }
 }
 
-/// Marks the instances of a folder that a lease has.
+/// Marks the instances of a folder that a lease holds.
 fn mark_lease(marks: &mut [bool], folder: &FolderName, slots: &[(Slot, bool)])
     ensures { Marks marks.old marks.new folder.now (λ s. has_slot slots.now s) }
 {
@@ -26,7 +26,7 @@ fn mark_lease(marks: &mut [bool], folder: &FolderName, slots: &[(Slot, bool)])
     }
 }
 
-/// Marks the instances of a folder that some lease has.
+/// Marks the instances of a folder that any of these leases holds.
 pub(crate) fn mark_leased(marks: &mut [bool], folder: &FolderName, leases: &[Lease])
     ensures { Marks marks.old marks.new folder.now (λ s. some_lease leases.now s) }
 {

@@ -6,7 +6,7 @@ use std::alloc::{AllocError, Global};
 use std::marker::Model;
 use thiserror::Error;
 
-/// Gives each ticket once, in rising order. A block of tickets is saved before the first of it is used.
+/// Gives each ticket once, in rising order. A block of tickets is saved before its first ticket is used.
 #[derive(Debug, Drop)]
 pub struct TicketSource {
     position: u64,
@@ -50,7 +50,7 @@ impl TicketSource {
         Ticket(self.ceiling)
     }
 
-    /// The next ticket, and the ceiling that it needs.
+    /// The next ticket, and the ceiling that must be saved before it is used.
     pub fn peek(&self) -> Result<(Ticket, Ticket), TicketsSpent>
         ensures ticket { IfOk result (λ next. next.0.0 ≡ self.now.position + 1) }
         ensures ceiling { IfOk result (λ next. next.1.0 ≡ raised self.now) }

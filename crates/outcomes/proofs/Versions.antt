@@ -21,7 +21,7 @@ version_then [] k t d e f = cc
 version_then (v ∷ line) zero t d e f = ap (λ (x : LineVersion). x ∷ line) (version_is v t d e f)
 version_then (v ∷ line) (suc k) t d e f = version_then line k t d e f
 
--- a version is printed, and then those behind it
+-- a version is printed, and then those after it
 pub text_of_next : (line : List LineVersion) (k : ℕ) (t : Ticket) (d : Digest) → ticket_in line (k + 1) ≡ Some t → digest_in line (k + 1) ≡ Some d
     → flat_map version_text (enumerate_from (k + 1) (drop k line))
     ≡ version_text (k + 1, record { ticket = t; digest = d }) ++ flat_map version_text (enumerate_from (k + 1 + 1) (drop (k + 1) line))

@@ -1,4 +1,4 @@
--- What is printed of what an event did.
+-- What is printed about what an event did.
 use Rattle.std.specs.Prelude.{ℕ, List, ◌++◌, codes, decimal}
 use Rattle.std.specs.List.{flat_map}
 use Rattle.farm_base.specs.declared.message.Grant.{Grant}

@@ -19,7 +19,7 @@ abbrev pub answer_text : Result Outcome EventRefusal → List ℕ
 answer_text (Ok o) = note_text o.note ++ sent_text o.first o.sent
 answer_text (Err refusal) = codes "refused " ++ refusal_text refusal
 
--- the line of an event: its number, and what came of it
+-- the line of an event: its number, and its result
 abbrev pub outcome_text : ℕ → Result Outcome EventRefusal → List ℕ
 outcome_text number outcome = decimal number ++ codes " " ++ answer_text outcome ++ codes "\n"
 

@@ -35,7 +35,7 @@ node_refusal_text node.OutOfMemory = codes "OutOfMemory"
 node_refusal_text node.TenureHere = codes "TenureHere"
 node_refusal_text node.TenureInUse = codes "TenureInUse"
 
--- of an event: the name of the refusal within, where there is one
+-- of an event: the name of the refusal within it, if there is one
 abbrev pub refusal_text : EventRefusal → List ℕ
 refusal_text event.NoSuchMessage = codes "NoSuchMessage"
 refusal_text event.NoSuchNode = codes "NoSuchNode"

@@ -7,7 +7,7 @@ use farm_base::{Grant, GrantedSlot, Why};
 use protocol::{CoordNote, EventNote, NodeNote};
 use std::alloc::{AllocError, Global};
 
-/// Adds a word, or words, and a number.
+/// Adds some words and a number.
 pub(crate) fn push_number(
     alloc: Global,
     text: &mut String,
@@ -41,7 +41,7 @@ fn push_slots(alloc: Global, text: &mut String, slots: &[GrantedSlot]) -> Result
     Ok(())
 }
 
-/// Adds a word, or words, and a grant.
+/// Adds some words and a grant.
 fn push_grant(alloc: Global, text: &mut String, word: &str, grant: &Grant) -> Result<(), AllocError>
     ensures { OnOk result (string_bytes text.new ≡ string_bytes text.old ++ (word.now ++ grant_text grant.now)) }
 {

@@ -7,7 +7,7 @@ use super::refusal::refusal_name;
 use protocol::{EventRefusal, Outcome};
 use std::alloc::{AllocError, Global};
 
-/// Adds the numbers of the messages that were sent. The last one's may be above every `u64`.
+/// Adds the numbers of the messages that were sent. The last number may be above every `u64`.
 fn push_sent(alloc: Global, text: &mut String, first: u64, sent: u64) -> Result<(), AllocError>
     ensures { OnOk result (string_bytes text.new ≡ string_bytes text.old ++ sent_text first sent) }
 {
@@ -23,7 +23,7 @@ fn push_sent(alloc: Global, text: &mut String, first: u64, sent: u64) -> Result<
     text.push_str(last.as_str())
 }
 
-/// Adds what came of an event.
+/// Adds the result of an event.
 fn push_answer(
     alloc: Global,
     text: &mut String,

@@ -39,7 +39,7 @@ fn node_name(refusal: NodeRefusal) -> &'static str
     }
 }
 
-/// The name of the refusal, of the one within where there is one.
+/// The name of the refusal, or of the refusal within it.
 pub fn refusal_name(refusal: EventRefusal) -> &'static str
     ensures { result.now ≡ refusal_text refusal }
 {

@@ -10,7 +10,7 @@ use Rattle.saverecord.specs.declared.refusal.RecordRefusal.TheVariants.{OutOfMem
 use Rattle.saverecord.specs.Parts.{◌>>=◌, Part}
 use Rattle.saverecord.specs.Entries.{Reader, each_at}
 
--- what was read before, and what is still read
+-- the entries that were read so far, followed by those that are left to read
 abbrev pub with_front : {X : Type 0} → List X → Part (List X) → Part (List X)
 with_front front read = read >>= λ x. Ok (front ++ x.0, x.1)
 

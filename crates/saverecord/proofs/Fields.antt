@@ -59,7 +59,7 @@ pub record Takes (bytes text rest : List ℕ) : Type 0 where
 pub Takes-then : (a x b y c : List ℕ) → Takes a x b → Takes b y c → Takes a (x ++ y) c
 Takes-then a x b y c p q = record { parts = p.parts ∙ ap (λ (t : List ℕ). x ++ t) q.parts ∙ sym (append_assoc x y c); rest_fits = q.rest_fits }
 
--- ---- so many bytes
+-- ---- the first len bytes
 
 pub front_takes : (len : ℕ) (bytes front rest : List ℕ) → IsBytes bytes → front_at len bytes ≡ Ok (front, rest) → Takes bytes front rest × (length front ≡ len) × IsBytes front
 unfolding front_at

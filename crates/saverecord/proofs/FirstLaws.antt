@@ -26,7 +26,7 @@ use Rattle.saverecord.proofs.PartLaws.{life_key}
 use Rattle.saverecord.proofs.BodyLaws.{whole_takes}
 use Rattle.saverecord.proofs.RecordLaws.{opened_takes, third_takes, third_again}
 
--- ---- a life more
+-- ---- adding a life
 
 all_insert : {X : Type 0} (P : X → Type 0) (xs : List X) (k : ℕ) (y : X) → AllByRecursion P xs → P y → AllByRecursion P (insert xs k y)
 all_insert P [] zero y all here = (here, tt)

@@ -92,7 +92,7 @@ judged_again : (r : Record) → agrees r ≡ true → judged Third r ≡ Ok r
 unfolding judged
 judged_again r h = rw h refl
 
--- what is read is spelled so
+-- the bytes that were read are those that spell the record
 pub third_takes : (bytes : List ℕ) (r : Record) → IsBytes bytes → take 8 bytes ≡ magic → record_of bytes ≡ Ok r → bytes ≡ record_bytes r
 unfolding record_of
 third_takes bytes r fits is_third e =
@@ -105,7 +105,7 @@ third_takes bytes r fits is_third e =
     let body : a.0.1 ≡ body_bytes r = w.0 ∙ ap (λ l. body_bytes_in l b.0) (sym layout) ∙ body_bytes-third b.0 ∙ ap body_bytes j.1 in
     o.0.parts ∙ ap (λ (x : List ℕ). (x ++ a.0.1) ++ sha256 (x ++ a.0.1)) is_third ∙ ap (λ (x : List ℕ). (magic ++ x) ++ sha256 (magic ++ x)) body
 
--- what is spelled so is read
+-- the bytes that spell a record are read
 pub third_again : (r : Record) → IsRecord r → IsTypedRecord r → record_of (record_bytes r) ≡ Ok r
 unfolding record_of
 third_again r fits typed = rw (opened_again (body_bytes r), whole_again r fits.parts typed) (judged_again r fits.relations)

@@ -13,7 +13,7 @@ use Rattle.farm_base.proofs.CompareLaws.{slot_total}
 use Rattle.saverecord.specs.Entries.{is_above}
 use Rattle.saverecord.specs.Slots.{is_slot_above}
 
--- each key passes the test behind the one before it
+-- each key passes the test against the one before it
 abbrev pub Row : {X K : Type 0} → (Option K → K → Bool) → (X → K) → Option K → List X → Type 0
 Row above key before [] = Unit {0}
 Row above key before (x ∷ xs) = (above before (key x) ≡ true) × Row above key (Some (key x)) xs

@@ -1,4 +1,4 @@
--- Reading lists: a count, and so many entries, each read with the one before it in view.
+-- Reading lists: a count, and as many entries. How an entry is read may depend on the one before it.
 use Rattle.std.specs.Prelude.{ℕ, zero, suc, nat_lt, Bool, true, false, if◌then◌else◌, List, [], ◌∷◌, Option, Some, None, Ok}
 use Rattle.std.specs.Int.{w32, w64}
 use Rattle.std.specs.Option.{option_map}
@@ -15,11 +15,11 @@ use Rattle.saverecord.specs.Layouts.{has_shared}
 use Rattle.saverecord.specs.Parts.{◌>>=◌, Part, passed, number_at, flag_at, digest_at}
 use Rattle.saverecord.specs.Slots.{slot_after}
 
--- how an entry is read behind the one before it
+-- how an entry is read after the one before it
 abbrev pub Reader : Type 0 → Type 0
 Reader X = Layout → Option X → List ℕ → Part X
 
--- so many entries
+-- the given number of entries
 unfoldable pub each_at : {X : Type 0} → Reader X → Layout → Option X → ℕ → List ℕ → Part (List X)
 each_at read layout before zero bytes = Ok ([], bytes)
 each_at read layout before (suc n) bytes = do
@@ -27,7 +27,7 @@ each_at read layout before (suc n) bytes = do
   others ← each_at read layout (Some first.0) n first.1
   Ok (first.0 ∷ others.0, others.1)
 
--- a count from low to high, and so many entries
+-- a count from low to high, and as many entries
 unfoldable pub counted_at : {X : Type 0} → Reader X → Layout → ℕ → ℕ → List ℕ → Part (List X)
 counted_at read layout low high bytes = do
   count ← number_at w64 low high bytes
@@ -111,7 +111,7 @@ version_at layout before bytes = do
   digest ← digest_at ticket.1
   Ok (record { ticket = ticket.0; digest = digest.0 }, digest.1)
 
--- a slot, and its versions, of which there is one at least
+-- a slot, and its versions, at least one
 unfoldable pub line_at : Reader SlotLine
 line_at layout before bytes = do
   slot ← slot_after layout (option_map (λ line. line.slot) before) bytes

@@ -1,4 +1,4 @@
--- What has a spelling: what a record owes to be written, and what the types of the program say besides.
+-- What has a spelling: what a record has to meet to be written, and what the program's types guarantee besides.
 use Rattle.std.specs.Prelude.{◌≡◌, ◌<◌, ◌≤◌, ◌^◌, Bool, true, List, length, map, Option, Some, None}
 use Rattle.std.specs.List.{AllByRecursion}
 use Rattle.std.specs.List.Sorted.{IsStrictlyIncreasing, IsStrictlySortedBy}
@@ -13,7 +13,7 @@ use Rattle.saverecord.specs.declared.record.Record.{Record}
 use Rattle.saverecord.specs.declared.record.SlotLine.{SlotLine}
 use Rattle.saverecord.specs.Relations.{agrees}
 
--- ---- what is owed
+-- ---- what has to be met
 
 abbrev pub IsNode : NodeId → Type 0
 IsNode n = (1 ≤ n.0) × (n.0 ≤ 1024)
@@ -56,12 +56,12 @@ pub record HasParts (r : Record) : Type 0 where
   pub lines_rise : IsStrictlySortedBy slot_cmp (map (λ l. l.slot) r.lines)
   pub lines : AllByRecursion IsSlotLine r.lines
 
--- and they agree
+-- the parts are in order, and they agree
 pub record IsRecord (r : Record) : Type 0 where
   pub parts : HasParts r
   pub relations : agrees r ≡ true
 
--- ---- what the types say
+-- ---- what the types guarantee
 
 abbrev pub IsTypedNode : NodeId → Type 0
 IsTypedNode n = Unit {0}
@@ -91,7 +91,7 @@ pub record IsTypedLine (l : SlotLine) : Type 0 where
   pub few : length l.versions < 2 ^ 64
   pub versions : AllByRecursion IsTypedVersion l.versions
 
--- a list of which memory holds each
+-- a list that fits in memory, and P of each of its items
 abbrev pub IsTypedList : {X : Type 0} → (X → Type 0) → List X → Type 0
 IsTypedList P xs = (length xs < 2 ^ 64) × AllByRecursion P xs
 

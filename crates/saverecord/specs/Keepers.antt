@@ -3,7 +3,7 @@ use Rattle.std.specs.Prelude.{◌≡◌, ◌⊎◌, ℕ, ◌+◌, ◌<◌, List,
 use Rattle.saverecord.specs.declared.keeper.Kept.{Kept}
 use Rattle.saverecord.specs.declared.keeper.Kept.TheVariants.{Old, New}
 
--- the count of a device's failures rose, or stood at its greatest value
+-- the count of a device's failures rose, or was at its greatest value
 abbrev pub HasFailed : ℕ → ℕ → Type 0
 HasFailed before after = (before < after) ⊎ (before ≡ 0xffff_ffff_ffff_ffff)
 
@@ -11,18 +11,18 @@ HasFailed before after = (before < after) ⊎ (before ≡ 0xffff_ffff_ffff_ffff)
 abbrev pub counted_up : ℕ → ℕ
 counted_up n = min (n + 1) 0xffff_ffff_ffff_ffff
 
--- what a contract sees of a keeper in memory
+-- a keeper in memory, as contracts see it
 pub record Memory : Type 0 where
   -- what a load gives
   pub bytes : List ℕ
-  -- what the next save, which fails, leaves
+  -- if the next save is to fail, what it leaves
   pub armed : Option Kept
-  -- the saves that did not fail
+  -- the number of saves that did not fail
   pub saves : ℕ
-  -- the saves that did
+  -- the number of saves that failed
   pub failures : ℕ
 
--- after a save of these bytes: the old or the new ones stand where it fails, and the new ones where it doesn't
+-- after a save of these bytes: if it fails the old or the new ones are kept, and else the new ones
 abbrev pub saved_by : Option Kept → Memory → List ℕ → Memory
 saved_by None m bytes = record m { bytes = bytes; saves = counted_up m.saves }
 saved_by (Some Old) m bytes = record m { armed = None; failures = counted_up m.failures }

@@ -14,7 +14,7 @@ abbrev pub ◌>>=◌ : {A B : Type 0} → Result A RecordRefusal → (A → Resu
 (Ok x) >>= f = f x
 (Err e) >>= f = Err e
 
--- what was returned, its value seen by view, is what reading gives, unless memory ran out
+-- what was returned, with view applied to its value, is what reading gives, unless memory ran out
 abbrev pub Gives : {X Y : Type 0} → (X → Y) → Result X RecordRefusal → Result Y RecordRefusal → Type 0
 Gives view (Ok x) read = read ≡ Ok (view x)
 Gives view (Err e) read = (e ≡ OutOfMemory) ⊎ (read ≡ Err e)
@@ -27,7 +27,7 @@ Part X = Result (X × List ℕ) RecordRefusal
 abbrev pub passed : {X : Type 0} → Flaw → Bool → X → Result X RecordRefusal
 passed flaw test x = if test then Ok x else Err (NotCanonical flaw)
 
--- so many bytes
+-- the first len bytes
 unfoldable pub front_at : ℕ → List ℕ → Part (List ℕ)
 front_at len bytes = if nat_lt (length bytes) len then Err Truncated else Ok (take len bytes, drop len bytes)
 
@@ -54,7 +54,7 @@ digest_at bytes = do
 abbrev pub text_of : List ℕ → Result (List ℕ) RecordRefusal
 text_of bytes = passed Utf8 (is_utf8 bytes) bytes
 
--- a length, and so many bytes, which are UTF-8
+-- a length, and as many bytes, which are UTF-8
 unfoldable pub id_at : List ℕ → Part (List ℕ)
 id_at bytes = do
   len ← number_at w64 0 0xffff_ffff_ffff_ffff bytes

@@ -58,7 +58,7 @@ body_at layout bytes = do
     lines.1,
   )
 
--- all of the bytes
+-- the parts of a record that fill all the bytes
 unfoldable pub whole_body : Layout → List ℕ → Result Record RecordRefusal
 whole_body layout bytes = do
   body ← body_at layout bytes
@@ -91,7 +91,7 @@ place_for node (seen ∷ lives) = if nat_lt node.0 seen.node.0 then 0 else suc (
 abbrev pub has_life : NodeId → List NodeLife → Bool
 has_life node lives = list_any (λ seen. seen.node.0 == node.0) lives
 
--- life 1 of the node is added in its place, where none is among the lives
+-- life 1 of the node is added in its place, if the lives have none of the node
 unfoldable pub with_life : NodeId → List NodeLife → List NodeLife
 with_life node lives = if has_life node lives then lives else insert lives (place_for node lives) (record { node = node; life = record { 0 = 1 } })
 

@@ -35,7 +35,7 @@ lives_there lives l = list_any (λ seen. seen.node.0 == l.node.0 && seen.life.0 
 abbrev pub shares : Lease → Lease → Bool
 shares l m = list_any (λ x. has_slot m.slots x.0) l.slots
 
--- two leases are of one node, life and ask
+-- two leases have the same node, life and ask
 abbrev pub is_same_ask : Lease → Lease → Bool
 is_same_ask l m = l.node.0 == m.node.0 && (l.life.0 == m.life.0 && l.ask.0 == m.ask.0)
 
@@ -46,7 +46,7 @@ clash l m = shares l m || is_same_ask l m
 abbrev pub has_retired : List SlotParts → Lease → Bool
 has_retired retired l = list_any (λ s. has_slot l.slots s) retired
 
--- two slots are of one PRIVATE folder
+-- two slots are of the same PRIVATE folder
 abbrev pub is_same_private : SlotParts × Bool → SlotParts × Bool → Bool
 is_same_private a b = is_private a.0.folder.mode && folder_eq a.0.folder b.0.folder
 
@@ -76,7 +76,7 @@ is_above_line ticket versions = list_all (λ v. nat_lt v.ticket.0 ticket) versio
 abbrev pub is_above_lines : List SlotLine → Lease → Bool
 is_above_lines lines l = list_all (λ line. not (has_slot l.slots line.slot) || is_above_line l.ticket.0 line.versions) lines
 
--- what holds of each lease by itself
+-- what holds of each lease on its own
 unfoldable pub fits_record : Record → Lease → Bool
 fits_record r l = lives_there r.lives l && (not (has_retired r.retired l) && (no_two is_same_private l.slots && (fits_tenure l && (not (is_gone r.retired_nodes l) && is_above_lines r.lines l))))
 

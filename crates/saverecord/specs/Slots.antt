@@ -41,7 +41,7 @@ base_at bytes = do
     output ← output_at some.1
     Ok (Some output.0, output.1)) else Ok (None, some.1)
 
--- a SHARED or LOCKED folder has the instance 0 alone, a PRIVATE one 1 to 4,096
+-- a SHARED or LOCKED folder has only the instance 0, a PRIVATE one 1 to 4,096
 abbrev pub has_instance : Mode → ℕ → Bool
 has_instance Shared n = n == 0
 has_instance Private n = nat_le 1 n && nat_le n 4096

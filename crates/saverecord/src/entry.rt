@@ -13,13 +13,13 @@ use std::alloc::{AllocError, Global};
 
 /// An entry of a list.
 pub(crate) trait Entry: Drop + Sized {
-    /// How it is read behind the entry before it.
+    /// How it is read after the entry before it.
     ghost reads: { Reader Self };
 
     /// Its one spelling.
     ghost spells: { Self → List ℕ };
 
-    /// What its type says of it.
+    /// What its type guarantees.
     ghost typed: { Self → Type 0 };
 
     fn take<'a>(
@@ -35,7 +35,7 @@ pub(crate) trait Entry: Drop + Sized {
         ensures typed { OnOk result (typed self.now) };
 }
 
-/// So many entries.
+/// Reads `count` entries.
 fn take_each<X: Entry>(
     alloc: Global,
     layout: Layout,
@@ -57,7 +57,7 @@ fn take_each<X: Entry>(
     Ok((Items::new(entries), rest))
 }
 
-/// A count from low to high, and so many entries.
+/// Reads a count from `low` to `high`, and then as many entries.
 #[tactic(auto, unfolding(crate::specs::Entries::counted_at))]
 pub(crate) fn take_counted<X: Entry>(
     alloc: Global,
@@ -72,7 +72,7 @@ pub(crate) fn take_counted<X: Entry>(
     take_each(alloc, layout, count, rest)
 }
 
-/// The count, and each entry.
+/// Writes the count, and each entry.
 pub(crate) fn put_counted<X: Entry>(out: &mut Vec<u8>, entries: &[X]) -> Result<(), AllocError>
     ensures spelled { OnOk result (out.new.items ≡ out.old.items ++ counted X.spells entries.now) }
     ensures typed { OnOk result (IsTypedList X.typed entries.now) }

@@ -6,7 +6,7 @@ use std::alloc::Global;
 use std::marker::Model;
 use thiserror::Error;
 
-/// A save failed: the old bytes stand, or the new ones.
+/// A save failed: the old bytes are kept, or the new ones.
 #[derive(Clone, Copy, Debug, PartialEq, Eq, Error)]
 #[error("the record could not be saved")]
 pub struct SaveFault;
@@ -20,7 +20,7 @@ pub enum KeeperRefusal {
     OutOfMemory,
 }
 
-/// Keeps the bytes of a record. No bytes stand for no record yet.
+/// Keeps the bytes of a record. Empty bytes mean that no record was saved yet.
 pub trait Keeper: Drop {
     /// What a load gives.
     ghost kept: { Self → List ℕ };
@@ -28,7 +28,7 @@ pub trait Keeper: Drop {
     /// How often the device failed.
     ghost failed: { Self → ℕ };
 
-    /// Keeps these bytes in place of those before. It takes no memory.
+    /// Keeps these bytes in place of the earlier ones. It takes no memory.
     fn save(&mut self, bytes: Vec<u8>) -> Result<(), SaveFault>
         ensures ok { OnOk result (kept self.new ≡ bytes.items) }
         ensures fault { OnErr result ((kept self.new ≡ kept self.old) ⊎ (kept self.new ≡ bytes.items)) }
@@ -47,7 +47,7 @@ pub trait Keeper: Drop {
         ensures { result ≡ failed self.now };
 }
 
-/// What a save that fails leaves.
+/// What a failed save leaves.
 #[derive(Clone, Copy, Debug, PartialEq, Eq)]
 pub enum Kept {
     Old,
@@ -98,7 +98,7 @@ impl MemoryKeeper {
         self.saves
     }
 
-    /// The next save fails, and leaves this. A later call before it replaces this one.
+    /// Makes the next save fail and leave this. Until then a later call replaces this one.
     pub fn fail_next(&mut self, kept: Kept)
         ensures { self.new ≡ record self.old { armed = Some kept } }
     {

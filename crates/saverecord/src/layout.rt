@@ -1,7 +1,7 @@
 ghost use Rattle.std.specs.Prelude.{◌≡◌};
 ghost use Rattle.saverecord.specs.Layouts.{has_shared, has_retired_nodes};
 
-/// How the bytes of a record are laid out, which its magic says. The third alone is written.
+/// How the bytes of a record are laid out, by its magic. Only the third is written.
 #[derive(Clone, Copy, Debug)]
 pub enum Layout {
     First,
@@ -10,14 +10,14 @@ pub enum Layout {
 }
 
 impl Layout {
-    /// Whether it knows SHARED slots and tenures.
+    /// Whether it has SHARED slots and tenures.
     pub fn has_shared(self) -> bool
         ensures { result ≡ has_shared self }
     {
         !matches!(self, Layout::First)
     }
 
-    /// Whether it knows nodes that are gone for good.
+    /// Whether it has nodes that are gone for good.
     pub fn has_retired_nodes(self) -> bool
         ensures { result ≡ has_retired_nodes self }
     {

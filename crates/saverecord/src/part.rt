@@ -7,7 +7,7 @@ use super::refusal::{Flaw, RecordRefusal};
 use farm_base::{Digest, Text};
 use std::alloc::Global;
 
-/// So many bytes, and what follows them.
+/// The first `len` bytes, and what follows them.
 #[tactic(auto, unfolding(crate::specs::Parts::front_at))]
 fn take_front(bytes: &[u8], len: u64) -> Result<(&[u8], &[u8]), RecordRefusal>
     ensures { Gives (λ x. (x.0.now, x.1.now)) result (front_at len bytes.now) }
@@ -18,7 +18,7 @@ fn take_front(bytes: &[u8], len: u64) -> Result<(&[u8], &[u8]), RecordRefusal>
     Ok(bytes.split_at(len as usize))
 }
 
-/// A number of four bytes, from low to high.
+/// A number of four bytes, from `low` to `high`.
 #[tactic(auto, unfolding(crate::specs::Parts::front_at, crate::specs::Parts::number_at))]
 pub(crate) fn take_u32(bytes: &[u8], low: u32, high: u32) -> Result<(u32, &[u8]), RecordRefusal>
     ensures { Gives (λ x. (x.0, x.1.now)) result (number_at w32 low high bytes.now) }
@@ -33,7 +33,7 @@ pub(crate) fn take_u32(bytes: &[u8], low: u32, high: u32) -> Result<(u32, &[u8])
     Ok((number, rest))
 }
 
-/// A number of eight bytes, from low to high.
+/// A number of eight bytes, from `low` to `high`.
 #[tactic(auto, unfolding(crate::specs::Parts::front_at, crate::specs::Parts::number_at))]
 pub(crate) fn take_u64(bytes: &[u8], low: u64, high: u64) -> Result<(u64, &[u8]), RecordRefusal>
     ensures { Gives (λ x. (x.0, x.1.now)) result (number_at w64 low high bytes.now) }

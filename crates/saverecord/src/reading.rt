@@ -86,7 +86,7 @@ fn take_body(alloc: Global, layout: Layout, bytes: &[u8]) -> Result<(Record, &[u
     Ok((record, rest))
 }
 
-/// The parts of a record, all of the bytes.
+/// The parts of a record that fill all the bytes.
 #[tactic(auto, unfolding(crate::specs::Records::whole_body))]
 fn whole_body(alloc: Global, layout: Layout, bytes: &[u8]) -> Result<Record, RecordRefusal>
     ensures { Gives (λ r. r) result (whole_body layout bytes.now) }
@@ -150,7 +150,7 @@ fn has_life(node: NodeId, lives: &[NodeLife]) -> bool
     lives.iter().any(|seen| seen.node == node)
 }
 
-/// Adds life 1 of the node in its place, where none is among the lives.
+/// Adds life 1 of the node in its place, if the lives have none of the node.
 #[tactic(auto, unfolding(crate::specs::Records::with_life))]
 fn with_life(node: NodeId, lives: Items<NodeLife>) -> Result<Items<NodeLife>, AllocError>
     ensures { IfOk result (λ added. added ≡ with_life node lives) }
@@ -235,7 +235,7 @@ impl Record {
         ensures exact { Gives (λ r. r) result (record_of bytes.now) }
         // What is read can be written.
         ensures fits { IfOk result IsRecord }
-        // Of version 3 just what is written is read.
+        // Of version 3 only bytes that `write` gives are read.
         ensures found { IfOk result (λ r. take 8 bytes.now ≡ codes "BKFARM03" → bytes.now ≡ record_bytes r) }
         // What is written is read, unless memory runs out.
         ensures only { (r : Record) → IsRecord r → IsTypedRecord r → bytes.now ≡ record_bytes r → Gives (λ x. x) result (Ok r) }

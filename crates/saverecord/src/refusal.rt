@@ -19,12 +19,12 @@ pub enum Flaw {
     /// Bytes are left over before the digest.
     #[error("bytes left over")]
     Trailing,
-    /// The parts do not agree.
+    /// The parts do not agree with one another.
     #[error("parts that do not agree")]
     Relation,
 }
 
-/// Why bytes are no record. The first fault from the left decides.
+/// Why bytes are not a record. The first fault from the left decides.
 #[derive(Clone, Copy, Debug, PartialEq, Eq, Error)]
 pub enum RecordRefusal {
     /// The bytes end early.
@@ -36,7 +36,7 @@ pub enum RecordRefusal {
     /// The digest at the end is not that of the bytes before it.
     #[error("a wrong digest")]
     BadDigest,
-    /// The bytes are not what is written of any record.
+    /// No record is written as these bytes.
     #[error("not as it is written: {0}")]
     NotCanonical(Flaw),
     #[error("out of memory")]

@@ -114,7 +114,7 @@ fn has_same_private(slot: &(Slot, bool), others: &[(Slot, bool)]) -> bool
     others.iter().any(|other| is_same_private(slot, other))
 }
 
-/// Whether no two slots are of one PRIVATE folder.
+/// Whether no two slots are of the same PRIVATE folder.
 fn are_of_own_folders(slots: &[(Slot, bool)]) -> bool
     ensures { result ≡ no_two is_same_private slots.now }
 {

@@ -1,4 +1,4 @@
-//! What is written of a record.
+//! Writing a record.
 ghost use Rattle.std.specs.Prelude.{◌≡◌, ◌<◌, ◌^◌, ◌++◌, OnOk, IfOk, Ok};
 ghost use Rattle.saverecord.specs.Fits.{IsRecord, IsTypedList, IsTypedNode, IsTypedLife, IsTypedSlot, IsTypedLease, IsTypedLine, IsTypedRecord};
 ghost use Rattle.saverecord.specs.Records.{record_of};
@@ -13,7 +13,7 @@ use std::alloc::{AllocError, Global};
 /// The bytes with which a record of version 3 begins.
 pub(crate) const MAGIC: &[u8; 8] = b"BKFARM03";
 
-/// The node, or 0 for none.
+/// The number of the node, or 0 for none.
 #[tactic(auto, unfolding(crate::specs::Spelling::home_bytes))]
 fn put_home(out: &mut Vec<u8>, home: Option<NodeId>) -> Result<(), AllocError>
     ensures { OnOk result (out.new.items ≡ out.old.items ++ home_bytes home) }

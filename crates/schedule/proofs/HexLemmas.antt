@@ -1,4 +1,4 @@
--- Hexadecimal digits of which none is upper case.
+-- Hexadecimal digits without upper-case letters.
 use Rattle.std.proofs.Common.{◌≡◌, ℕ, zero, suc, ◌+◌, ◌*◌, ◌/◌, ◌%◌, ◌<◌, ◌≤◌, ◌==◌, Bool, true, false, ◌&&◌, ◌||◌, ◌⊎◌, inl, inr, List, [], ◌∷◌, length, slice_index, Option, Some, None, Result, Ok, Err, refl, sym, ap, ◌∙◌, arith}
 use Rattle.std.specs.Prelude.{if◌then◌else◌, nat_lt}
 use Rattle.std.specs.List.{list_any}
@@ -37,7 +37,7 @@ digit_is d lt = digits_below 16 d refl lt
 digit-not_upper : (d : ℕ) → d < 16 → is_ascii_uppercase (slice_index lower_digits d) ≡ false
 digit-not_upper d lt = rw (digit_is d lt) (grind (arith, nat_tests))
 
--- a digit that is no upper-case letter is that of its value
+-- a digit that isn't an upper-case letter is the one that its value is written as
 digit_back : (c v : ℕ) → hex_digit_value c ≡ Some v → is_ascii_uppercase c ≡ false → (v < 16) × (c ≡ slice_index lower_digits v)
 digit_back c v h low =
     let small : v < 16 = grind (arith, nat_tests) in
@@ -52,7 +52,7 @@ bind_ok : {A B : Type 0} (r : Result A FromHexError) (f : A → Result B FromHex
 bind_ok (Ok x) f y h = (x, refl, h)
 bind_ok (Err e) f y h = cc h
 
--- the value of a digit that read
+-- the value of a digit that was read
 digit_read : (c i : ℕ) (o : Option ℕ) (v : ℕ) → digit_or_error c i o ≡ Ok v → o ≡ Some v
 digit_read c i (Some w) v h = cc h
 digit_read c i None v h = cc h
@@ -61,7 +61,7 @@ or_parts : (a b : Bool) → (a || b) ≡ false → (a ≡ false) × (b ≡ false
 or_parts true b h = absurd (cc h)
 or_parts false b h = (refl, h)
 
--- digits that are no upper-case letters are those of the bytes that they decode to
+-- digits without upper-case letters are those of the bytes that they decode to
 lower_pairs : (i : ℕ) (s bytes : List ℕ) → decode_pairs i s ≡ Ok bytes → list_any is_ascii_uppercase s ≡ false → s ≡ encode_lower bytes
 unfolding decode_pairs encode_with
 lower_pairs i [] bytes h low = let e : [] ≡ bytes = cc h in ap encode_lower e
@@ -85,7 +85,7 @@ lower_pairs i (a ∷ b ∷ rest) bytes h low =
     let whole : a ∷ b ∷ rest ≡ encode_lower (p0.0 ∷ p3.0) = cc (x, y, others) in
     whole ∙ ap encode_lower e
 
--- what decodes with no upper-case letter is spelled so
+-- a text without upper-case letters that decodes is the digits of its bytes
 pub lower_spelled : (s bytes : List ℕ) → decode_of s ≡ Ok bytes → list_any is_ascii_uppercase s ≡ false → s ≡ encode_lower bytes
 lower_spelled s bytes h low =
     elim (cases_eq (length s % 2) 1) [
@@ -93,7 +93,7 @@ lower_spelled s bytes h low =
       | inr even ↦ lower_pairs 0 s bytes (sym (decode_of-even s (omega arith)) ∙ h) low
     ]
 
--- no digit of bytes is an upper-case letter
+-- the digits of bytes have no upper-case letters
 pub lower_no_upper : (bytes : List ℕ) → IsBytes bytes → list_any is_ascii_uppercase (encode_lower bytes) ≡ false
 unfolding encode_with
 lower_no_upper [] h = refl
@@ -104,7 +104,7 @@ lower_no_upper (b ∷ bytes) h =
     let rest = lower_no_upper bytes (λ i. h (suc i)) in
     rw (x, y) rest
 
--- what isn't read, although memory didn't run out, are no digits
+-- a text that isn't read, although memory didn't run out, is not the digits of bytes
 pub unread : (s bytes : List ℕ) (d : FromHexError) → (d ≡ OutOfMemory) ⊎ (decode_of s ≡ Err d) → hex_refusal d ≡ BadLine
     → IsBytes bytes → s ≡ encode_lower bytes → ⊥
 unread s bytes d (inl memory) bad h e = cc (ap hex_refusal memory, bad)

@@ -1,4 +1,4 @@
--- What the words behind a verb say.
+-- What the words after a verb say.
 use Rattle.std.proofs.Common.{◌≡◌, ℕ, ◌+◌, ◌<◌, ◌≤◌, true, false, Bool, List, [], ◌∷◌, map, length, get_or, Result, Err, Ordering, refl, sym, ◌∙◌, arith}
 use Rattle.std.specs.Prelude.{IsErrOf, ◌↔◌}
 use Rattle.std.specs.List.{All, IsDistinct, AllAdjacentBelow, IsAllAdjacentAnswer}
@@ -25,7 +25,7 @@ use Rattle.schedule.proofs.Spelling.{want_text-injective, left_text-injective}
 
 -- ---- wants
 
--- the wants that a line gives, where they make lawful ones
+-- the wants that a line gives, if they are lawful
 lawful_given : (ws : List (List ℕ)) (given wants : List Want) → All IsWant given → ws ≡ map want_text given → SpellWants ws wants
     → (length given ≤ 16) × IsDistinct folder_eq (folders given)
 lawful_given ws given wants each e h =
@@ -35,7 +35,7 @@ lawful_given ws given wants each e h =
     let distinct = distinct-permutation wants h.given (IsPermutation-sym h.given wants h.sorted) (distinct-from_sorted wants h.lawful.1) in
     rw same (omega arith, distinct)
 
--- wants that are refused make no lawful ones
+-- wants that are refused are not lawful
 pub unlawful : {T : Type 0} (r : Result T WantsRefusal) (d : WantsRefusal) (n : ℕ) (ws : List (List ℕ)) (given wants : List Want)
     → r ≡ Err d → wants_refusal d ≡ BadLine
     → (IsErrOf r TooManyWants ↔ (16 < n)) → (IsErrOf r SameFolderTwice ↔ ((n ≤ 16) × (IsDistinct folder_eq (folders given) → ⊥)))
@@ -85,7 +85,7 @@ pub rising : (lefts : List Left) (answer : Bool) → IsRising lefts answer → a
 rising lefts true h e = rising-from_answer lefts h
 rising lefts false h e = absurd (cc e)
 
--- what doesn't rise is said by no words
+-- no words say slots that don't rise
 pub not_rising : (ws : List (List ℕ)) (given lefts : List Left) (answer : Bool) → IsRising given answer → answer ≡ false
     → All IsLeft given → ws ≡ map left_text given → SpellLefts ws lefts → ⊥
 not_rising ws given lefts true h answered each e is = cc answered

@@ -1,4 +1,4 @@
--- Words and values, one each.
+-- Words and values, one value for each word.
 use Rattle.std.proofs.Common.{Bor, ◌≡◌, ℕ, zero, suc, ◌+◌, ◌-◌, ◌<◌, List, [], ◌∷◌, ◌++◌, map, take, drop, length, get_or, refl, ap, arith}
 use Rattle.std.specs.List.{All}
 use Rattle.std.proofs.lemmas.List.{take_more, map-append}
@@ -15,7 +15,7 @@ spelled_more text ws xs i d x lt so_far this =
     let back = map-append text xs (x ∷ []) in
     cc (more, front, back, so_far, this)
 
--- a word that no value spells is among no values' words
+-- a word that is not the text of a value is not among the words of values
 pub stuck_at : {X : Type 0} (text : X → List ℕ) (P : X → Type 0) (ws : List (Bor (List ℕ))) (xs : List X) (i : ℕ) (d : Bor (List ℕ))
     → i < length ws → ((x : X) → P x → (get_or ws i d).now ≡ text x → ⊥) → All P xs → texts ws ≡ map text xs → ⊥
 stuck_at text P [] xs i d lt none each e = absurd (omega arith)
@@ -24,7 +24,7 @@ stuck_at text P (w ∷ ws) (x ∷ xs) zero d lt none each e = none x (All-head P
 stuck_at text P (w ∷ ws) (x ∷ xs) (suc i) d lt none each e =
     stuck_at text P ws xs i d (omega arith) none (All-tail P x xs each) (cc e)
 
--- values of which no two have one text are determined by their texts
+-- if no two values have the same text, the texts determine the values
 pub map-injective : {X : Type 0} (text : X → List ℕ) (P : X → Type 0) → ((x y : X) → P x → P y → text x ≡ text y → x ≡ y)
     → (xs ys : List X) → All P xs → All P ys → map text xs ≡ map text ys → xs ≡ ys
 map-injective text P one [] [] hx hy e = refl
@@ -35,7 +35,7 @@ map-injective text P one (x ∷ xs) (y ∷ ys) hx hy e =
     let rest = map-injective text P one xs ys (All-tail P x xs hx) (All-tail P y ys hy) (cc e) in
     cc (this, rest)
 
--- the words behind the first
+-- the words after the first
 pub texts_behind : (ws : List (Bor (List ℕ))) (first : List ℕ) (others : List (List ℕ)) → texts ws ≡ first ∷ others
     → texts (take (length ws - 1) (drop 1 ws)) ≡ others
 texts_behind [] first others e = cc e

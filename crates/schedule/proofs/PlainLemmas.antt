@@ -1,4 +1,4 @@
--- Words have visible bytes of ASCII alone, so a line is parted just at its spaces.
+-- Words have only visible ASCII bytes, so a line splits exactly at its spaces.
 use Rattle.std.proofs.Common.{◌≡◌, ℕ, suc, ◌/◌, ◌%◌, ◌<◌, ◌^◌, ◌==◌, ◌&&◌, Bool, true, false, ltb, inl, inr, List, [], ◌∷◌, ◌++◌, map, Option, Some, None, slice_index, refl, sym, ap, ◌∙◌, subst, ltb-true, arith}
 use Rattle.std.specs.Prelude.{decimal}
 use Rattle.std.specs.List.{All, join_with_byte}
@@ -142,7 +142,7 @@ left_words lefts h = All-map IsWord left_text lefts (All-weaker IsLeft (λ l. Is
 no_space : (word : List ℕ) → IsWord word → All (λ b. (b == 32) ≡ false) word
 no_space word h = All-weaker IsVisible (λ b. (b == 32) ≡ false) (λ b visible. grind (arith, nat_tests)) word h
 
--- words that are joined by spaces are parted again
+-- splitting words that were joined by spaces gives them back
 pub words-joined : (w : List ℕ) (ws : List (List ℕ)) → All IsWord (w ∷ ws) → words (join_with_byte 32 (w ∷ ws)) ≡ w ∷ ws
 words-joined w [] h = slice_split_none (λ b. b == 32) w (no_space w (All-head IsWord w [] h))
 words-joined w (v ∷ ws) h =

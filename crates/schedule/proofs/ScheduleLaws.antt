@@ -69,14 +69,14 @@ parts_of front line more es some h =
     filter-append is_filled front (line ∷ more) ∙ ap (λ ls. filled front ++ ls) (filled-one line more some) in
     zip_parts (filled front) line (filled more) es (subst (λ ls. AllZip IsSpelled ls es) same h.spelled)
 
--- lines of events go on behind no line that is no event
+-- a line that is not an event can't stand among lines of events
 no_event_stops : (front : List (List ℕ)) (line : List ℕ) (more : List (List ℕ)) (es : List Event) → IsNoEventBehind front line
     → AreEvents (front ++ line ∷ more) es → ⊥
 no_event_stops front line more es fault h =
     let parts = parts_of front line more es fault.filled h in
     fault.unspelled parts.event parts.spelled
 
--- nor behind one event too many
+-- nor can one event too many
 too_many_stops : (front : List (List ℕ)) (line : List ℕ) (more : List (List ℕ)) (es : List Event) → IsTooManyBehind front line
     → AreEvents (front ++ line ∷ more) es → ⊥
 too_many_stops front line more es fault h =
@@ -100,14 +100,14 @@ fault_in_order [] line h = tt
 fault_in_order (first ∷ others) line (inl h) = (h.0, h.2.events, h.1, h.2.before)
 fault_in_order (first ∷ others) line (inr h) = (h.0, h.2.events, h.1, h.2.before)
 
--- no line in order stands behind a fault
+-- lines with a fault among them are not in order
 fault_stops : (front : List (List ℕ)) (line : List ℕ) (more : List (List ℕ)) → IsFault front line → AreInOrder (front ++ line ∷ more) → ⊥
 fault_stops [] line more (inl h) order = h order.0 order.2
 fault_stops [] line more (inr h) order = absurd h
 fault_stops (first ∷ others) line more (inl h) order = no_event_stops others line more order.1 h.2 order.3
 fault_stops (first ∷ others) line more (inr h) order = too_many_stops others line more order.1 h.2 order.3
 
--- a line isn't out of order and one too many
+-- a line can't both be bad and be one too many
 fault_is_one : (front : List (List ℕ)) (line : List ℕ) → IsBadBehind front line → BehindSetup IsTooManyBehind front line → ⊥
 fault_is_one [] line h k = absurd k
 fault_is_one (first ∷ others) line h k =
@@ -119,7 +119,7 @@ fault_is_one (first ∷ others) line h k =
 
 -- ---- two faults of one text
 
--- two lines of one text: one is before the other, or they are one
+-- two lines of one text: one is before the other, or they are the same
 data Places (a : List (List ℕ)) (x : List ℕ) (a' : List (List ℕ)) (x' : List ℕ) : Type 0 where
   First : (c : List (List ℕ)) (is : a' ≡ a ++ x ∷ c) → Places a x a' x'
   Same : (fronts : a ≡ a') (lines : x ≡ x') → Places a x a' x'

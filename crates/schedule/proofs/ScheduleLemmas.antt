@@ -136,7 +136,7 @@ line_here {all = all} road front t y r u w is step =
     let rest = drop-cons all (length front) w.now this.0 in
     sym (take-append-drop (length front) all) ∙ cc (so_far, rest, this.1)
 
--- a line that is refused makes the lines refused
+-- if a line is refused, so are the lines
 pub refused_here : (all : List (List ℕ)) (front : List (List ℕ)) (line : List ℕ) (behind : List (List ℕ)) (es : List Event) (number : ℕ) (r : ScheduleRefusal)
     → all ≡ front ++ line ∷ behind → AreEvents front es → number ≡ length front + 2 → IsLineRefused line number (length es) r → AreRefused all r
 refused_here all front line behind es number schedule.TooLarge split before place h = h
@@ -161,7 +161,7 @@ refused_here all front line behind es number schedule.OutOfMemory split before p
 
 -- ---- the whole
 
--- the lines behind a setup are refused, and so the text is
+-- if the lines after a setup are refused, so is the text
 pub refused_behind : (text first : List ℕ) (others : List (List ℕ)) (s : Setup) (r : ScheduleRefusal) → length text ≤ most_bytes
     → lines text ≡ first ∷ others → IsSetup first s → AreRefused others r → IsRefused text r
 refused_behind text first others s schedule.TooLarge small split setup h = absurd h
@@ -187,7 +187,7 @@ refused_behind text first others s schedule.TooManyEvents small split setup h = 
 )
 refused_behind text first others s schedule.OutOfMemory small split setup h = tt
 
--- a first line that is no setup
+-- a first line that is not a setup
 pub refused_first : (text first : List ℕ) (others : List (List ℕ)) → length text ≤ most_bytes → lines text ≡ first ∷ others
     → ((s : Setup) → IsSetup first s → ⊥) → IsRefused text (schedule.BadLine 1)
 refused_first text first others small split none = (

@@ -1,4 +1,4 @@
--- What the words of a line say is the event that the line spells.
+-- The words of a line say the event that the line spells.
 use Rattle.std.proofs.Common.{◌≡◌, ℕ, List, [], ◌∷◌, map, refl, sym, ap, ◌∙◌, subst, arith}
 use Rattle.std.specs.Prelude.{decimal}
 use Rattle.std.specs.List.{All, join_with_byte}
@@ -44,7 +44,7 @@ verb_word Withdraw = IsWord-from_test (verb_text Withdraw) refl
 verb_word Prune = IsWord-from_test (verb_text Prune) refl
 verb_word Retire = IsWord-from_test (verb_text Retire) refl
 
--- the words behind a verb
+-- the words after a verb
 said_words : (v : Verb) (ws : List (List ℕ)) (e : Event) → Says v ws e → All IsWord ws
 said_words Ask ws e h =
     let folders = subst (All IsWord) (sym h.spelled.text) (want_words h.spelled.given h.spelled.each) in
@@ -68,7 +68,7 @@ said_words Retire ws e h = subst (All IsWord) (sym h.text) (node_words h.node []
 
 -- ---- from the words to the line
 
--- what the line is that a verb and the words behind it make
+-- the line of a verb and the words after it
 abbrev pub line_of : Verb → List (List ℕ) → List ℕ
 line_of v ws = join_with_byte 32 (verb_text v ∷ ws)
 
@@ -114,7 +114,7 @@ pub record Saying (e : Event) : Type 0 where
   pub behind : List (List ℕ)
   pub says : Says verb behind e
 
--- a line that spells an event is made of a verb and words behind it that say it
+-- a line that spells an event is a verb and words after it that say the event
 said_by_text : (line : List ℕ) (e : Event) → IsEvent e → IsTextOf e line → (s : Saying e) × (line ≡ line_of s.verb s.behind)
 said_by_text line (event.Ask n wants) h text =
     let each = All-permutation IsWant wants text.0 (IsPermutation-sym text.0 wants text.1) h.1.0 in (

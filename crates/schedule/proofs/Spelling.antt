@@ -1,4 +1,4 @@
--- No two values have one text.
+-- No two values have the same text.
 use Rattle.std.proofs.Common.{◌≡◌, ℕ, Bool, true, false, List, ◌∷◌, ◌++◌, get_or, refl, sym, ap, arith}
 use Rattle.farm_base.specs.declared.folder.FolderName.{FolderName}
 use Rattle.farm_base.specs.declared.folder.Mode.{Mode}

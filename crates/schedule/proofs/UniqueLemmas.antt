@@ -105,7 +105,7 @@ below_each f [] x h (k, lt, e) = absurd (omega arith)
 below_each f (w ∷ ws) x h (zero, lt, e) = subst (λ (y : Want). folder_cmp f y.folder ≡ Less) e h.0
 below_each f (w ∷ ws) x h (suc k, lt, e) = below_each f ws x h.1 (k, omega arith, e)
 
--- two lists of rising folders with the same wants are one
+-- two lists with the same wants, both by rising folder, are equal
 sorted_same : (ws vs : List Want) → IsStrictlySortedBy folder_cmp (folders ws) → IsStrictlySortedBy folder_cmp (folders vs)
     → ((x : Want) → Contains ws x → Contains vs x) → ((x : Want) → Contains vs x → Contains ws x) → ws ≡ vs
 sorted_same [] [] hw hv there back = refl

@@ -1,4 +1,4 @@
--- The protocol's event that an event is.
+-- Maps an event to the protocol's event.
 use Rattle.std.specs.Prelude.{map}
 use Rattle.protocol.specs.Replay as replay
 use Rattle.folders.specs.Contents.{left_of}

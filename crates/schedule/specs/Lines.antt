@@ -1,4 +1,4 @@
--- The lines of a schedule's events. Each event has one line, but that its wants may stand in any order.
+-- The lines of a schedule's events. Each event has one line, except that its wants may stand in any order.
 use Rattle.std.specs.Prelude.{◌≡◌, ℕ, ◌<◌, ◌^◌, Bool, true, false, List, [], ◌∷◌, ◌++◌, map, codes, decimal, IsPermutation}
 use Rattle.std.specs.List.{All, join_with_byte}
 use Rattle.std.specs.List.Sorted.{IsStrictlySortedBy}
@@ -21,7 +21,7 @@ node_text node = decimal node.0
 abbrev pub ticket_text : Ticket → List ℕ
 ticket_text ticket = decimal ticket.0
 
--- what each node and each ticket of the program is
+-- holds of each node and each ticket of the program
 abbrev pub IsNode : NodeId → Type 0
 IsNode node = node.0 < 2 ^ 32
 
@@ -36,7 +36,7 @@ access_text false = codes "ro="
 abbrev pub want_text : Want → List ℕ
 want_text want = access_text want.writable ++ folder_text want.folder
 
--- what each want of the program is
+-- holds of each want of the program
 abbrev pub IsWant : Want → Type 0
 IsWant want = IsName want.folder
 
@@ -44,7 +44,7 @@ IsWant want = IsName want.folder
 abbrev pub Left : Type 0
 Left = SlotParts × List ℕ
 
--- no digit is `=`: so the last `=` parts the slot and the content's digits, which are lower case
+-- no digit is `=`, so the last `=` separates the slot from the content's digits, which are lower case
 abbrev pub left_text : Left → List ℕ
 left_text left = slot_text left.0 ++ 61 ∷ encode_lower left.1
 
@@ -80,11 +80,11 @@ event_words (Retire n) = codes "retire" ∷ node_text n ∷ []
 event_words (RestartNode n) = codes "restart" ∷ node_text n ∷ []
 event_words (Forge n content) = codes "forge" ∷ node_text n ∷ encode_lower content ∷ []
 
--- the words, parted by spaces
+-- the words, separated by spaces
 abbrev pub event_text : Event → List ℕ
 event_text e = join_with_byte 32 (event_words e)
 
--- what each event of a schedule is
+-- holds of each event of a schedule
 abbrev pub IsEvent : Event → Type 0
 IsEvent (Ask n wants) = IsNode n × AreWants wants
 IsEvent (Tenure n folder) = IsNode n × IsName folder × (folder.mode ≡ Shared)

@@ -35,7 +35,7 @@ pub record IsSetup (line : List ℕ) (setup : Setup) : Type 0 where
   pub few : setup.nodes ≤ most_nodes
   pub text : line ≡ codes "nodes " ++ decimal setup.nodes
 
--- each line that isn't empty spells an event, and there are as many as may be at most
+-- each line that isn't empty spells an event, and there are at most most_events
 pub record AreEvents (ls : List (List ℕ)) (events : List Event) : Type 0 where
   pub few : length events ≤ most_events
   pub spelled : AllZip IsSpelled (filled ls) events
@@ -50,7 +50,7 @@ pub record IsSchedule (text : List ℕ) (setup : Setup) (events : List Event) : 
   pub small : length text ≤ most_bytes
   pub say : Say (lines text) setup events
 
--- one of these lines, and the lines before it, of which this holds
+-- P holds of one of these lines and the lines before it
 pub record HasLine (ls : List (List ℕ)) (P : List (List ℕ) → List ℕ → Type 0) : Type 0 where
   pub front : List (List ℕ)
   pub line : List ℕ
@@ -58,7 +58,7 @@ pub record HasLine (ls : List (List ℕ)) (P : List (List ℕ) → List ℕ → 
   pub split : ls ≡ front ++ line ∷ behind
   pub holds : P front line
 
--- behind these lines of events stands one that spells no event, although one may come
+-- after these lines of events, where there is room for one more, a line spells none
 pub record IsNoEventBehind (others : List (List ℕ)) (line : List ℕ) : Type 0 where
   pub events : List Event
   pub before : AreEvents others events
@@ -66,19 +66,19 @@ pub record IsNoEventBehind (others : List (List ℕ)) (line : List ℕ) : Type 0
   pub filled : line ≢ []
   pub unspelled : (e : Event) → IsSpelled line e → ⊥
 
--- behind these lines of events stands one that would be one event too many
+-- after these lines of events a line would be one event too many
 pub record IsTooManyBehind (others : List (List ℕ)) (line : List ℕ) : Type 0 where
   pub events : List Event
   pub before : AreEvents others events
   pub full : length events ≡ most_events
   pub filled : line ≢ []
 
--- the first line is a setup, and of the others up to a line this holds
+-- the first line is a setup, and P holds of a line and the others before it
 abbrev pub BehindSetup : (List (List ℕ) → List ℕ → Type 0) → List (List ℕ) → List ℕ → Type 0
 BehindSetup P [] line = ⊥
 BehindSetup P (first ∷ others) line = (setup : Setup) × IsSetup first setup × P others line
 
--- the line is out of order, and those before it aren't
+-- the line can't be read, and those before it can
 abbrev pub IsBadBehind : List (List ℕ) → List ℕ → Type 0
 IsBadBehind [] line = (setup : Setup) → IsSetup line setup → ⊥
 IsBadBehind (first ∷ others) line = BehindSetup IsNoEventBehind (first ∷ others) line

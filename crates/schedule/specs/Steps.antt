@@ -1,4 +1,4 @@
--- How the lines of events are read, one behind the other.
+-- How the lines of events are read, one after the other.
 use Rattle.std.specs.Prelude.{◌≡◌, ◌≢◌, ℕ, ◌+◌, ◌<◌, ◌≤◌, List, [], ◌∷◌, ◌++◌, length}
 use Rattle.schedule.specs.declared.event.Event.{Event}
 use Rattle.schedule.specs.declared.refusal.ScheduleRefusal.{ScheduleRefusal}
@@ -17,14 +17,14 @@ pub record AddsLine (old : List Event) (line : List ℕ) (new : List Event) : Ty
   pub empty : line ≡ [] → new ≡ old
   pub filled : line ≢ [] → AddsEvent old line new
 
--- why lines of events are refused of which the first has the number 2
+-- why lines of events are refused; the first of them has the number 2
 abbrev pub AreRefused : List (List ℕ) → ScheduleRefusal → Type 0
 AreRefused ls TooLarge = ⊥
 AreRefused ls (BadLine number) = HasLine ls (λ front line. (number ≡ length front + 2) × IsNoEventBehind front line)
 AreRefused ls TooManyEvents = HasLine ls IsTooManyBehind
 AreRefused ls OutOfMemory = Unit {0}
 
--- why one line is refused, of this number, behind so many events
+-- why the line with this number is refused, after count events
 abbrev pub IsLineRefused : List ℕ → ℕ → ℕ → ScheduleRefusal → Type 0
 IsLineRefused line number count TooLarge = ⊥
 IsLineRefused line number count (BadLine n) = (n ≡ number) × (line ≢ []) × (count < most_events) × ((e : Event) → IsSpelled line e → ⊥)

@@ -1,4 +1,4 @@
--- What the words of a line say: a verb, and behind it what the verb takes.
+-- What the words of a line say: a verb, and after it what the verb takes.
 use Rattle.std.specs.Prelude.{◌≡◌, ℕ, ◌<◌, ◌^◌, ◌==◌, List, [], ◌∷◌, map, codes, decimal, IsPermutation}
 use Rattle.std.specs.List.{All, slice_split}
 use Rattle.std.specs.List.Sorted.{IsStrictlySortedBy}
@@ -22,7 +22,7 @@ use Rattle.schedule.specs.Lines.{node_text, ticket_text, want_text, left_text, l
 abbrev pub words : List ℕ → List (List ℕ)
 words line = slice_split (λ b. b == 32) line
 
--- words, without where they lie in memory
+-- the words as texts, wherever they lie in memory
 abbrev pub texts : List (Bor (List ℕ)) → List (List ℕ)
 texts ws = map (λ w. w.now) ws
 
@@ -41,7 +41,7 @@ verb_text Withdraw = codes "withdraw"
 verb_text Prune = codes "prune"
 verb_text Retire = codes "retire"
 
--- FOLDER..: the wants in order, which may stand in any order
+-- FOLDER..: the wants by rising folder, whose words may stand in any order
 pub record SpellWants (ws : List (List ℕ)) (wants : List Want) : Type 0 where
   pub given : List Want
   pub each : All IsWant given
@@ -55,7 +55,7 @@ pub record SpellLefts (ws : List (List ℕ)) (lefts : List Left) : Type 0 where
   pub text : ws ≡ map left_text lefts
   pub rising : IsStrictlySortedBy slot_cmp (left_slots lefts)
 
--- ---- what the words behind a verb say
+-- ---- what the words after a verb say
 
 -- N FOLDER..
 pub record Asks (ws : List (List ℕ)) (e : Event) : Type 0 where
@@ -140,7 +140,7 @@ pub record Prunes (ws : List (List ℕ)) (e : Event) : Type 0 where
   pub text : ws ≡ slot_text slot ∷ []
   pub event : e ≡ event.Prune slot
 
--- the words behind the verb say this event
+-- the words after the verb say this event
 abbrev pub Says : Verb → List (List ℕ) → Event → Type 0
 Says Ask = Asks
 Says Tenure = AsksTenure

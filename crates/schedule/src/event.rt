@@ -4,10 +4,10 @@ use farm_base::{Copied, FolderName, Items, NodeId, Slot, Ticket, Wants};
 use folders::Content;
 use std::alloc::{AllocError, Global};
 
-/// What a farm begins with.
+/// How a farm is set up.
 #[derive(Clone, Copy, Debug, PartialEq, Eq)]
 pub struct Setup {
-    /// How many nodes it has.
+    /// The number of its nodes.
     pub nodes: u32,
 }
 

@@ -6,7 +6,7 @@ ghost use Rattle.schedule.specs.declared.refusal.ScheduleRefusal.{ScheduleRefusa
 ghost use Rattle.schedule.specs.Lines.{IsSpelled};
 ghost use Rattle.schedule.specs.Schedules.{IsSchedule, IsRefused};
 
-/// A line spells one event at most.
+/// A line spells at most one event.
 pub fn a_line_spells_one_event()
     ensures { (line : List ℕ) (a b : Event) → IsSpelled line a → IsSpelled line b → a ≡ b }
 {}

@@ -133,7 +133,7 @@ fn words_of<'a>(alloc: Global, line: &'a str) -> Result<Vec<&'a str>, AllocError
     line.split(' ').collect(alloc)
 }
 
-/// The wants of these words, one each.
+/// The wants of these words, one for each word.
 fn each_want(alloc: Global, words: &[&str]) -> Result<Vec<Want>, LineRefusal>
     ensures spelled { IfOk result (λ wants. texts words.now ≡ map want_text wants.items) }
     ensures wants { IfOk result (λ wants. All IsWant wants.items) }
@@ -196,7 +196,7 @@ fn forge_of(alloc: Global, words: &[&str]) -> Result<Event, LineRefusal>
     Ok(Event::Forge(node, Content::of(bytes)))
 }
 
-/// What was left, by these words, one each.
+/// What was left, one item for each of these words.
 fn each_left(alloc: Global, words: &[&str]) -> Result<Vec<(Slot, Content)>, LineRefusal>
     ensures spelled { IfOk result (λ lefts. texts words.now ≡ map left_text lefts.items) }
     ensures lefts { IfOk result (λ lefts. All IsLeft lefts.items) }
@@ -223,7 +223,7 @@ fn is_below(one: &(Slot, Content), other: &(Slot, Content)) -> bool
     one.0.cmp(&other.0).is_lt()
 }
 
-/// What was left, by these words, with rising slots.
+/// What was left, one item for each of these words, with rising slots.
 fn lefts_of(alloc: Global, words: &[&str]) -> Result<Items<(Slot, Content)>, LineRefusal>
     ensures spelled { IfOk result (SpellLefts (texts words.now)) }
     ensures only { result ≡ Err LineRefusal.BadLine → (lefts : List Left) → SpellLefts (texts words.now) lefts → ⊥ }
@@ -249,7 +249,7 @@ fn finish_of(alloc: Global, words: &[&str]) -> Result<Event, LineRefusal>
     Ok(Event::Finish(node, ticket, lefts_of(alloc, lefts)?))
 }
 
-/// The event that the words behind a verb say.
+/// The event of a verb and the words after it.
 fn said_by(alloc: Global, verb: Verb, words: &[&str]) -> Result<Event, LineRefusal>
     ensures spelled { IfOk result (Says verb (texts words.now)) }
     ensures only { result ≡ Err LineRefusal.BadLine → (e : Event) → Says verb (texts words.now) e → ⊥ }

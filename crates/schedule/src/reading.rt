@@ -104,8 +104,8 @@ fn first_line(text: &[u8]) -> (&[u8], Option<&[u8]>)
 /// - `resend N`, `restart N`
 /// - `forge N HEX`
 ///
-/// Lines end with a line feed, which the last may lack, and one space parts the words of a line. Numbers are
-/// decimal without leading zeros, digits lower case. A refusal tells the first fault from the top.
+/// Lines end with a line feed, which the last may lack, and one space separates the words of a line. Numbers are
+/// decimal without leading zeros, hexadecimal digits lower case. A refusal is the first fault from the top.
 pub fn read_schedule(alloc: Global, bytes: &[u8]) -> Result<(Setup, Vec<Event>), ScheduleRefusal>
     ensures schedule { IfOk result (λ said. IsSchedule bytes.now said.0 said.1.items) }
     ensures refused { IfErr result (IsRefused bytes.now) }

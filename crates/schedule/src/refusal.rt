@@ -8,10 +8,10 @@ use hex::FromHexError;
 use std::alloc::{AllocError, AllocFailed};
 use thiserror::Error;
 
-/// Why a text is no schedule. Of several faults the first from the top is told.
+/// Why a text is not a schedule. Of several faults it is the first from the top.
 #[derive(Clone, Copy, Debug, PartialEq, Eq, Error)]
 pub enum ScheduleRefusal {
-    /// The line of this number, counted from 1.
+    /// The line with this number can't be read. Lines are counted from 1.
     #[error("line {0} can't be read")]
     BadLine(u64),
     #[error("more than 65,536 events")]
@@ -30,7 +30,7 @@ impl<T: Drop> From<AllocFailed<T>> for ScheduleRefusal {
     }
 }
 
-/// Why a line isn't read.
+/// Why a line can't be read.
 #[derive(Clone, Copy, Debug)]
 pub(crate) enum LineRefusal {
     BadLine,
@@ -38,7 +38,7 @@ pub(crate) enum LineRefusal {
 }
 
 impl LineRefusal {
-    /// The refusal of a schedule whose line of this number isn't read.
+    /// The refusal of a schedule, where the line with this number can't be read.
     pub(crate) fn at(self, number: u64) -> ScheduleRefusal
         ensures { result ≡ refusal_at self number }
     {

@@ -20,7 +20,7 @@ pub(crate) enum Verb {
     Retire,
 }
 
-/// The verb that a word is.
+/// Maps a word to its verb.
 pub(crate) fn verb_of(word: &str) -> Option<Verb>
     ensures found { IfSome result (λ verb. word.now ≡ verb_text verb) }
     ensures only { IfNone result ((verb : Verb) → word.now ≢ verb_text verb) }

@@ -100,7 +100,7 @@ fn has_upper(word: &[u8]) -> bool
     word.iter().any(|byte| byte.is_ascii_uppercase())
 }
 
-/// The bytes that a word's digits spell, which are lower case.
+/// The bytes that a word's lower-case digits spell.
 pub(crate) fn bytes_of(alloc: Global, word: &str) -> Result<Vec<u8>, LineRefusal>
     ensures spelled { IfOk result (λ bytes. word.now ≡ encode_lower bytes.items) }
     ensures bytes { IfOk result (λ bytes. IsBytes bytes.items) }
@@ -114,7 +114,7 @@ pub(crate) fn bytes_of(alloc: Global, word: &str) -> Result<Vec<u8>, LineRefusal
     Ok(bytes)
 }
 
-/// What is before the last of these bytes, and after it.
+/// The parts before and after the last occurrence of a character.
 fn last_split<'a>(text: &'a str, at: char) -> Option<(&'a str, &'a str)>
     requires { at < 128 }
     ensures found { IfSome result (λ parts. (text.now ≡ parts.0.now ++ at ∷ parts.1.now) × Lacks at parts.1.now) }
@@ -123,7 +123,7 @@ fn last_split<'a>(text: &'a str, at: char) -> Option<(&'a str, &'a str)>
     text.rsplit_once(at)
 }
 
-/// What was left in a slot, by a word.
+/// What was left in a slot, as a word spells it.
 pub(crate) fn left_of(alloc: Global, word: &str) -> Result<(Slot, Content), LineRefusal>
     ensures spelled { IfOk result (λ left. word.now ≡ left_text left) }
     ensures left { IfOk result IsLeft }

@@ -40,7 +40,7 @@ last_digest-push e [] v = refl
 last_digest-push e (x ∷ []) v = refl
 last_digest-push e (x ∷ y ∷ xs) v = last_digest-push e (y ∷ xs) v
 
--- a ticket on no version has no place
+-- a ticket that is not on the line has no place
 pub place-none : (t : Ticket) (xs : List LineVersion) (k : ℕ) → position_from (λ v. eqb v.ticket.0 t.0) (k + 1) xs ≡ None → place t xs k ≡ None
 place-none t [] k h = refl
 place-none t (v ∷ xs) k h = elim (cases_bool (eqb v.ticket.0 t.0)) [
@@ -95,7 +95,7 @@ append_nothing : (xs : List LineVersion) → xs ++ [] ≡ xs
 append_nothing [] = refl
 append_nothing (x ∷ xs) = ap (λ ys. x ∷ ys) (append_nothing xs)
 
--- the place of a ticket on a line stays with what a commit adds
+-- a commit leaves the place of a ticket that is on the line as it was
 pub place-with : (lines : List SlotLine) (o : Option Added) (s : Slot) (t : Ticket) (r : ℕ × Digest) → place t (line_at lines s) 0 ≡ Some r → place t (lines_with lines o s) 0 ≡ Some r
 place-with lines None s t r h = h
 place-with lines (Some a) s t r h = place-append t (line_at lines s) _ 0 r h
@@ -105,7 +105,7 @@ pub place-added : (lines : List SlotLine) (a : Added) (s : Slot) (t : Ticket) (d
     → place t (lines_with lines (Some a) s) 0 ≡ Some (length (line_at lines s) + 1, d)
 place-added lines a s t d none e h = rw h (place-end t (line_at lines s) (record { ticket = a.ticket; digest = d }) 0 none e ∙ ap (λ (n : ℕ). Some (n, d)) (omega arith))
 
--- a ticket that the commit is not of
+-- a ticket other than the commit's
 pub place-apart : (lines : List SlotLine) (a : Added) (s : Slot) (t : Ticket) → place t (line_at lines s) 0 ≡ None → a.ticket.0 ≢ t.0 → place t (lines_with lines (Some a) s) 0 ≡ None
 place-apart lines a s t none e = by (digest_for s (map news_of a.additions.items)) refl
   where
@@ -113,6 +113,6 @@ place-apart lines a s t none e = by (digest_for s (map news_of a.additions.items
     by None h = rw h (ap (λ (xs : List LineVersion). place t xs 0) (append_nothing (line_at lines s)) ∙ none)
     by (Some d) h = rw h (place-other t (line_at lines s) (record { ticket = a.ticket; digest = d }) 0 none e)
 
--- the digest that a commit adds is the last
+-- after a commit, the last digest is the one that it adds
 pub last_digest-with : (e : Digest) (lines : List SlotLine) (a : Added) (s : Slot) (d : Digest) → digest_for s (map news_of a.additions.items) ≡ Some d → last_digest e (lines_with lines (Some a) s) ≡ d
 last_digest-with e lines a s d h = rw h (last_digest-push e (line_at lines s) (record { ticket = a.ticket; digest = d }))

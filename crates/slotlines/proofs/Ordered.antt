@@ -1,4 +1,4 @@
--- Lines by rising slot: where a slot's line stands, and one line more.
+-- Lines by rising slot: the place of a slot's line, and adding a line.
 use mathlib.Core.Path.{fun_ext}
 use Rattle.std.proofs.Common.{◌≡◌, ◌≢◌, ℕ, zero, suc, ◌+◌, ◌<◌, ◌≤◌, List, [], ◌∷◌, ◌++◌, ◌⊎◌, true, false, not, length, get_or, Result, Ok, Err, Ordering, refl, sym, ◌∙◌, ap, subst, inl, inr, arith}
 use Rattle.std.proofs.Math.ListN.{set}
@@ -72,7 +72,7 @@ line_at-place (l ∷ ls) s (suc k) d up lt e =
     let other : slot_eq l.slot s ≡ false = apart l.slot s (ap (slot_cmp l.slot) (sym e) ∙ less) in
     rw other (line_at-place ls s k d (Rise-tail l ls up) (omega arith) e)
 
--- no line is the slot's
+-- the slot has no line
 abbrev NoLine : Slot → List SlotLine → Type 0
 NoLine s ls = All (λ l. slot_eq l.slot s ≡ false) ls
 
@@ -92,7 +92,7 @@ none_in_gap s ls k gap i d lt = elim (split i k) [
 pub line_at-gap : (ls : List SlotLine) (s : Slot) (k : ℕ) → IsGap s ls k → line_at ls s ≡ []
 line_at-gap ls s k gap = no_line s ls (none_in_gap s ls k gap)
 
--- ---- one line more
+-- ---- adding a line
 
 other_slot : (a b : Slot) → slot_eq a b ≡ false → (x : Slot) → slot_eq a x ≡ true → slot_eq b x ≡ false
 other_slot a b h x e = elim (cases_bool (slot_eq b x)) [
@@ -156,7 +156,7 @@ all_insert P (l ∷ ls) zero n all here (suc i) d lt = all i d (omega arith)
 all_insert P (l ∷ ls) (suc k) n all here zero d lt = all 0 d (omega arith)
 all_insert P (l ∷ ls) (suc k) n all here (suc i) d lt = all_insert P ls k n (λ j e h. all (suc j) e (omega arith)) here i d (omega arith)
 
--- a line that is inserted where the slot has none
+-- inserting the line of a slot that has none
 pub lines-insert : (ls : List SlotLine) (k : ℕ) (n : SlotLine) → AreLines ls → IsGap n.slot ls k → n.line ≢ [] → AreLines (insert ls k n)
 lines-insert ls k n h gap full = record { rise = rise_insert ls k n h.rise gap; filled = all_insert (λ l. l.line ≢ []) ls k n h.filled full }
 
@@ -206,7 +206,7 @@ is_nil-filled : (xs : List LineVersion) → xs ≢ [] → not (is_nil xs) ≡ tr
 is_nil-filled [] h = absurd (h refl)
 is_nil-filled (x ∷ xs) h = refl
 
--- a slot is among those of the lines just where its line has a version
+-- a slot is among those of the lines exactly if its line has a version
 pub slots-exact : (ls : List SlotLine) (s : Slot) → All (λ l. l.line ≢ []) ls → list_any (λ x. slot_eq x s) (slots ls) ≡ not (is_nil (line_at ls s))
 slots-exact [] s h = refl
 slots-exact (l ∷ ls) s h = elim (cases_bool (slot_eq l.slot s)) [

@@ -37,7 +37,7 @@ none_for s a (b ∷ rest) e h =
     let differ : slot_eq b.slot s ≡ false = other a.slot b.slot (All-head (λ b. slot_eq a.slot b.slot ≡ false) b rest h) s e in
     rw differ (none_for s a rest e (All-tail (λ b. slot_eq a.slot b.slot ≡ false) b rest h))
 
--- no slot is twice among these
+-- no slot occurs twice among these
 abbrev AreApart : List Addition → Type 0
 AreApart [] = Unit {0}
 AreApart (a ∷ rest) = All (λ b. slot_eq a.slot b.slot ≡ false) rest × AreApart rest
@@ -55,7 +55,7 @@ adds_all-at t (a ∷ rest) f s h =
       | inr e ↦ rw e refl
     ]
 
--- each addition in turn comes to what the commit adds
+-- adding one after the other gives the lines with what the commit adds
 pub adds_all-is : (ls : List SlotLine) (a : Added) → AreReady ls a.ticket a.additions.items → adds_all a.ticket a.additions.items (line_at ls) ≡ lines_with ls (Some a)
 adds_all-is ls a h = fun_ext (λ s. adds_all-at a.ticket a.additions.items (line_at ls) s (apart_of ls a.ticket a.additions.items h))
 
@@ -74,7 +74,7 @@ ready_more ls ms t a (b ∷ rest) e apart h =
       ready_more ls ms t a rest e (All-tail (λ b. slot_eq a.slot b.slot ≡ false) b rest apart) h.3,
     )
 
--- what is left to add is ready after one was added
+-- after one addition the remaining ones are still ready
 pub ready-next : (ls ms : List SlotLine) (t : Ticket) (a : Addition) (rest : List Addition) → line_at ms ≡ adds a.slot (record { ticket = t; digest = a.digest }) (line_at ls) → AreReady ls t (a ∷ rest) → AreReady ms t rest
 ready-next ls ms t a rest e h = ready_more ls ms t a rest e h.2 h.3
 

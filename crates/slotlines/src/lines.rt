@@ -60,7 +60,7 @@ fn empty_digest(alloc: Global) -> Digest
     Content::of(Vec::new(alloc)).digest()
 }
 
-/// The lines of the slots that have a version, by rising slot. Contracts see them as their list.
+/// The lines of the slots that have a version, by rising slot. Contracts see the list of the lines.
 #[derive(Debug, Drop)]
 pub struct Lines {
     lines: Vec<SlotLine>,
@@ -142,7 +142,7 @@ impl Lines {
     }
 }
 
-/// The place of a slot's line, or the one that it would have.
+/// The place of a slot's line, or the place where it would be inserted.
 fn place_of(lines: &[SlotLine], slot: &Slot) -> Result<usize, usize>
     requires { AreLines lines.now }
     ensures { MatchResult result (IsPlace slot.now lines.now) (IsGap slot.now lines.now) }
@@ -226,7 +226,7 @@ fn base_of(alloc: Global, lines: &Lines, added: &Option<Added>, slot: &Slot) -> 
     }
 }
 
-/// The slots of a lease, as its holder is told of them.
+/// The slots of a lease, as its holder hears of them.
 pub fn granted_slots(
     alloc: Global,
     lines: &Lines,
@@ -312,7 +312,7 @@ pub fn confirmed(
     Ok(versions)
 }
 
-/// Whether the ticket is on the line of each of these slots.
+/// Whether the line of each of these slots has the ticket.
 pub fn all_stand(lines: &Lines, ticket: Ticket, news: &[News]) -> bool
     ensures { result ≡ on_all (line_at lines.now) ticket news.now }
 {
@@ -334,7 +334,7 @@ fn room_for(alloc: Global, lines: &Lines, slot: &Slot) -> Result<Room, AllocErro
     }
 }
 
-/// What some news add to the lines, with room for it.
+/// What these news add to the lines, with room for it.
 pub fn additions(alloc: Global, lines: &Lines, news: &[News]) -> Result<Vec<Addition>, AllocError>
     ensures news { IfOk result (λ v. map news_of v.items ≡ news.now) }
     ensures room { IfOk result (λ v. All (HasRoom lines.now) v.items) }
@@ -386,7 +386,7 @@ fn insert_line(lines: &mut Vec<SlotLine>, place: usize, ticket: Ticket, addition
     lines.insert(place, SlotLine { slot, line }).unwrap();
 }
 
-/// Moves the lines into this room, where they have too little of their own.
+/// Moves the lines into this room if they have too little of their own.
 fn make_room(lines: &mut Vec<SlotLine>, room: Vec<SlotLine>, more: usize)
     requires empty { room.items ≡ [] }
     requires larger { vec_len lines.old + more ≤ vec_capacity room }

@@ -59,7 +59,7 @@ number_found t (v ∷ line) (suc k) from inside at before =
     let same : from + 1 + k ≡ from + suc k = omega arith in
     rw other (rest ∙ ap Some same)
 
--- a ticket that no version has is found nowhere
+-- a search for a ticket of no version finds nothing
 pub number_absent : (t : Ticket) (line : List LineVersion) (from : ℕ) → All (λ v. v.ticket.0 ≢ t.0) line
     → position_from (λ v. eqb v.ticket.0 t.0) from line ≡ None
 number_absent t [] from none = refl
@@ -107,7 +107,7 @@ differ_unless_tied a b o is other same =
     let tied : nat_cmp b b ≡ Equal = tied_itself nat_cmp_total b in
     other (sym is ∙ ap (λ x. nat_cmp x b) same ∙ tied)
 
--- where a search by the ticket leads
+-- the version at this place has the ticket
 pub record IsPlaceOf (t : Ticket) (line : List LineVersion) (k : ℕ) : Type 0 where
   pub inside : k < length line
   pub has : HoldsAt (Has t) line k
@@ -124,7 +124,7 @@ searched t line (Err k) up inside parts =
       | inr above ↦ differ_unless_tied _ _ Greater (p.1 i d (ltb-false i k above) lt) (λ e. cc e)
     ]
 
--- the same of the option that `ok` makes
+-- the same for the option that `ok` makes
 pub place_from_ok : (t : Ticket) (line : List LineVersion) (r : Result ℕ ℕ) (k : ℕ)
     → MatchResult r (IsPlaceOf t line) (λ _. All (λ v. v.ticket.0 ≢ t.0) line) → result_ok r ≡ Some k → IsPlaceOf t line k
 place_from_ok t line (Ok i) k h e = let same : i ≡ k = cc e in let P : ℕ → Type 0 = λ n. IsPlaceOf t line n in subst P same h
@@ -135,7 +135,7 @@ pub absent_from_ok : (t : Ticket) (line : List LineVersion) (r : Result ℕ ℕ)
 absent_from_ok t line (Ok i) h e = absurd (cc e)
 absent_from_ok t line (Err i) h e = h
 
--- ---- a version more
+-- ---- one more version
 
 pushed : (xs : List ℕ) (x : ℕ) → IsStrictlyIncreasing xs → ((i : ℕ) → i < length xs → get_or xs i 0 < x) → IsStrictlyIncreasing (xs ++ x ∷ [])
 pushed xs x up below k inside =

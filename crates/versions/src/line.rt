@@ -87,7 +87,7 @@ impl Line {
     }
 }
 
-/// Room for a version more on a line, made before the line changes. Contracts see how many versions it holds.
+/// Room for one more version on a line, made before the line changes. Contracts see how many versions it holds.
 #[derive(Debug, Drop)]
 pub struct Room {
     versions: Vec<LineVersion>,
@@ -105,7 +105,7 @@ impl Model for Room {
 }
 
 impl Line {
-    /// Room for the next version, which `push_into` uses where the line has none of its own.
+    /// Room for the next version. `push_into` uses it if the line has none of its own.
     pub fn room(&self, alloc: Global) -> Result<Room, AllocError>
         ensures { IfOk result (λ room. length self.now < room) }
     {
@@ -113,7 +113,7 @@ impl Line {
         Ok(Room { versions })
     }
 
-    /// Adds a version, taking no memory but the room that was made for it.
+    /// Adds a version, using only the room that was made for it.
     pub fn push_into(&mut self, room: Room, ticket: Ticket, digest: Digest)
         requires above { All (λ version. version.ticket.0 < ticket.0) self.old }
         requires room { length self.old < room }
@@ -124,7 +124,7 @@ impl Line {
     }
 }
 
-/// Moves the versions into this room, where they have none of their own.
+/// Moves the versions into this room if they have none of their own.
 fn make_room(versions: &mut Vec<LineVersion>, room: Vec<LineVersion>)
     requires empty { room.items ≡ [] }
     requires larger { vec_len versions.old < vec_capacity room }

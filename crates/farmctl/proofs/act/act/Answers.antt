@@ -16,7 +16,7 @@ joined_push : (ts : List (List ℕ)) (t : List ℕ) → flat_map (λ (x : List �
 joined_push [] t = append-nil t
 joined_push (x ∷ ts) t = ap (λ (text : List ℕ). x ++ text) (joined_push ts t) ∙ sym (append_assoc x (flat_map (λ (x : List ℕ). x) ts) t)
 
--- one file more
+-- one more file
 all_push : (command : Command) (files : List File) (file : File) (text more : List ℕ) → AnswersAll command files text → AnswersFile command file more
     → AnswersAll command (files ++ file ∷ []) (text ++ more)
 all_push command files file text more h is =
