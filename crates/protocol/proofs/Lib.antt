@@ -14,8 +14,9 @@ mod Others
 mod Moving
 mod Using
 mod Parking
-mod Saving
+pub mod Saving
 mod Schedules
 mod Chronicles
-mod Answering
+pub mod Answering
 mod Asking
+pub mod Refusals
