@@ -6,3 +6,4 @@ pub mod Sends
 pub mod OwnCalls
 pub mod Prunes
 pub mod OwnSends
+pub mod Recording

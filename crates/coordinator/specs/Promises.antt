@@ -1,13 +1,16 @@
--- What the rules promise of one message.
-use Rattle.std.specs.Prelude.{◌≡◌, Bool, false, List, None}
-use Rattle.folders.specs.Farm.{empty_digest, farm_limits}
+-- What the rules promise of one message or call.
+use Rattle.std.specs.Prelude.{◌≡◌, Bool, false, nat_lt, List, Result, Ok, Err}
+use Rattle.folders.specs.Farm.{farm_limits}
 use Rattle.farm_base.specs.declared.message.Request.TheVariants.{Acquire}
-use Rattle.protocol.specs.Lists.{IsFrontOf}
+use Rattle.farm_base.specs.declared.message.FromCoord.TheVariants as told
+use Rattle.protocol.specs.Lists.{In, IsFrontOf}
 use Rattle.protocol.specs.Names.{Slot, Ask, Want}
-use Rattle.protocol.specs.Machine.{LineVersion, ToCoord, Parked}
-use Rattle.protocol.specs.Ledger.{Ledger, Give, decision, lease_of, is_parked, grant_of, lease_for}
+use Rattle.protocol.specs.Machine.{Grant, LineVersion, FromCoord, ToCoord, Parked}
+use Rattle.protocol.specs.Ledger.{Ledger, Work, begin_work, saves, grant_of, lease_for}
+use Rattle.protocol.specs.Follows.{NoneReady, OnlyItself, MayBeGranted, after_life}
 use Rattle.protocol.specs.declared.answer.CoordNote.{CoordNote}
 use Rattle.protocol.specs.declared.answer.CoordNote.TheVariants as note
+use Rattle.protocol.specs.declared.answer.CoordRefusal.{CoordRefusal}
 
 -- no line loses or changes a version
 abbrev pub OnlyGrow : (Slot → List LineVersion) → (Slot → List LineVersion) → Type 0
@@ -17,15 +20,20 @@ OnlyGrow old new = (s : Slot) → IsFrontOf (old s) (new s)
 abbrev pub asked : ToCoord → Ask → List Want → Bool → Parked
 asked y ask wants tenure = record { node = y.node; life = y.life; ask = ask; wants = wants; tenure = tenure }
 
--- an ask of the node's present life that has no lease, does not wait, and may be granted
-pub record CanBeGranted (q : Ledger) (p : Parked) : Type 0 where
-  pub gone : q.gone p.node.0 ≡ false
-  pub life : p.life.0 ≡ q.lives p.node.0
-  pub lease : lease_of q.live p.node p.life p.ask ≡ None
-  pub parked : is_parked q.parked p.node p.life p.ask ≡ false
-  pub decision : decision farm_limits q p ≡ Give
+-- the grant of an ask, on this ledger
+abbrev pub granted : Ledger → Parked → Grant
+granted q p = grant_of farm_limits.empty q.line (lease_for farm_limits q p)
 
--- an ask that can be granted is granted in that call
-abbrev pub GrantsAtOnce : Ledger → ToCoord → CoordNote → Type 0
-GrantsAtOnce q y n = (ask : Ask) (wants : List Want) (tenure : Bool) → y.request ≡ Acquire ask wants tenure → CanBeGranted q (asked y ask wants tenure)
-    → n ≡ note.Granted (grant_of empty_digest q.line (lease_for farm_limits q (asked y ask wants tenure)))
+-- an ask that the rules let be granted is granted in that call, if the node isn't retired and the life isn't older,
+-- where no parked ask could be granted, and none of its name is parked but the ask itself
+abbrev pub GrantsAtOnce : Ledger → ToCoord → CoordNote → List FromCoord → Type 0
+GrantsAtOnce q y n sends = (ask : Ask) (wants : List Want) (tenure : Bool) → y.request ≡ Acquire ask wants tenure → NoneReady farm_limits q → OnlyItself q (asked y ask wants tenure)
+    → q.gone y.node.0 ≡ false → nat_lt y.life.0 (q.lives y.node.0) ≡ false
+    → let after : Ledger = (after_life farm_limits y.node y.life (begin_work q)).ledger in
+    let grant : Grant = granted after (asked y ask wants tenure) in
+    MayBeGranted farm_limits after (asked y ask wants tenure) → (n ≡ note.Granted grant) × In (told.Granted grant) sends
+
+-- what the record holds is as before, unless the work says that it changed
+abbrev pub ChangesAsTold : Ledger → Result Work CoordRefusal → Type 0
+ChangesAsTold q (Ok w) = w.changed ≡ false → saves w.ledger ≡ saves q
+ChangesAsTold q (Err e) = Unit {0}

@@ -16,7 +16,7 @@ ghost use Rattle.slotlines.specs.Additions.{IsReady};
 ghost use Rattle.coordinator.specs.Shown.{kept, shown};
 ghost use Rattle.slotlines.specs.Lines.{lines_with, added_count, line_shown};
 ghost use Rattle.coordinator.specs.Sound.{IsSound, IsRequest};
-ghost use Rattle.coordinator.specs.Promises.{OnlyGrow, GrantsAtOnce};
+ghost use Rattle.coordinator.specs.Promises.{OnlyGrow, GrantsAtOnce, ChangesAsTold};
 
 use super::draft::Draft;
 use super::state::State;
@@ -109,6 +109,7 @@ impl Coordinator {
     fn prepare(&self, alloc: Global, message: &ToCoord) -> Result<Prepared, AllocError>
         ensures work { IfOk result (λ p. shown (lines_with self.now.lines p.added) p.draft
             ≡ handled farm_limits message.now (begin_work (ledger self.now))) }
+        ensures told { IfOk result (λ p. ChangesAsTold (ledger self.now) (Ok (handled farm_limits message.now (begin_work (ledger self.now))))) }
         ensures sound { IfOk result (λ p. IsSound (kept (lines_with self.now.lines p.added) p.draft.state)) }
         ensures ready { IfOk result (λ p. IsReady self.now.lines p.added) }
         ensures empty { IfOk result (λ p. p.room.items ≡ []) }
@@ -168,7 +169,8 @@ impl Coordinator {
         ensures sends { IfOk result (λ h. h.sends ≡ (handled farm_limits message.now (begin_work (ledger self.old))).sends) }
         ensures note { IfOk result (λ h. h.note ≡ (handled farm_limits message.now (begin_work (ledger self.old))).note) }
         ensures grow { OnlyGrow (line_at self.old.lines) (line_at self.new.lines) }
-        ensures at_once { IfOk result (λ h. GrantsAtOnce (ledger self.old) message.now h.note) }
+        ensures at_once { IfOk result (λ h. GrantsAtOnce (ledger self.old) message.now h.note h.sends) }
+        ensures told { OnOk result (ChangesAsTold (ledger self.old) (Ok (handled farm_limits message.now (begin_work (ledger self.old))))) }
         ensures memory { IsOkUnless result CoordRefusal.OutOfMemory }
         ensures err { OnErr result (self.new ≡ self.old) }
     {
@@ -194,6 +196,7 @@ impl Coordinator {
     /// asks are tried. A tenure is never withdrawn.
     pub fn withdraw(&mut self, alloc: Global, ticket: Ticket) -> Result<Handled, CoordRefusal>
         ensures answer { Answers (withdrawn farm_limits ticket (begin_work (ledger self.old))) (ledger self.new) result }
+        ensures told { OnOk result (ChangesAsTold (ledger self.old) (withdrawn farm_limits ticket (begin_work (ledger self.old)))) }
         ensures lines { self.new.lines ≡ self.old.lines }
         ensures err { OnErr result (self.new ≡ self.old) }
     {
@@ -222,6 +225,7 @@ impl Coordinator {
     /// The holder of a tenure is never retired.
     pub fn retire(&mut self, alloc: Global, node: NodeId) -> Result<Handled, CoordRefusal>
         ensures answer { Answers (retired farm_limits node (begin_work (ledger self.old))) (ledger self.new) result }
+        ensures told { OnOk result (ChangesAsTold (ledger self.old) (retired farm_limits node (begin_work (ledger self.old)))) }
         ensures lines { self.new.lines ≡ self.old.lines }
         ensures err { OnErr result (self.new ≡ self.old) }
     {
@@ -268,6 +272,7 @@ impl Coordinator {
     /// Puts the empty content on the line of a slot, under a new ticket, in one step.
     pub fn prune(&mut self, alloc: Global, slot: &Slot) -> Result<Handled, CoordRefusal>
         ensures answer { Answers (pruned farm_limits slot.now (begin_work (ledger self.old))) (ledger self.new) result }
+        ensures told { OnOk result (ChangesAsTold (ledger self.old) (pruned farm_limits slot.now (begin_work (ledger self.old)))) }
         ensures grow { OnlyGrow (line_at self.old.lines) (line_at self.new.lines) }
         ensures err { OnErr result (self.new ≡ self.old) }
     {

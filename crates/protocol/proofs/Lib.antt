@@ -16,9 +16,10 @@ mod Moving
 mod Using
 mod Noting
 mod Parking
-mod Saving
+pub mod Saving
 mod Deciding
 mod Schedules
 mod Chronicles
-mod Answering
+pub mod Answering
 mod Asking
+pub mod Refusals

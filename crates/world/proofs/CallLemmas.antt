@@ -1,7 +1,7 @@
 -- What a call of the coordinator's own comes to in the farm.
 use Rattle.std.proofs.Common.{◌≡◌, ℕ, ◌≤◌, ◌++◌, List, length, map, None, Result, Ok, Err, refl, sym, ap, ◌∙◌, subst}
 use Rattle.protocol.specs.Machine.{Message, Told}
-use Rattle.protocol.specs.Ledger.{Ledger, Work}
+use Rattle.protocol.specs.Ledger.{Ledger, Work, saves}
 use Rattle.protocol.specs.Replay.{Farm, coordinated}
 use Rattle.protocol.specs.declared.answer.CoordRefusal.{CoordRefusal}
 use Rattle.protocol.specs.declared.answer.CoordRefusal.TheVariants as coord
@@ -10,6 +10,7 @@ use Rattle.protocol.specs.declared.answer.EventRefusal.TheVariants as refusal
 use Rattle.protocol.specs.declared.answer.Outcome.{Outcome}
 use Rattle.coordinator.specs.declared.coordinator.Handled.{Handled}
 use Rattle.coordinator.specs.Answers.{Answers}
+use Rattle.coordinator.specs.Promises.{ChangesAsTold}
 use Rattle.world.specs.Turns.{Came, first_number, from_coordinator}
 use Rattle.world.proofs.TurnLemmas.{came_worked}
 
@@ -19,11 +20,11 @@ sends_fit (Ok w) q h n a bound = subst (λ sends. length sends ≤ n) (sym a.0.s
 sends_fit (Err e) q h n a bound = absurd (cc)
 
 -- it did it
-pub call_done : (s : Farm) (r : Result Work CoordRefusal) (q : Ledger) (pool : List Message) (h : Handled) (o : Outcome) → s.down ≡ None → s.armed ≡ None → Answers r q (Ok h)
+pub call_done : (s : Farm) (r : Result Work CoordRefusal) (q : Ledger) (pool : List Message) (h : Handled) (o : Outcome) → s.down ≡ None → s.armed ≡ None → s.saved ≡ saves s.ledger → ChangesAsTold s.ledger r → Answers r q (Ok h)
     → pool ≡ s.pool ++ map Told h.sends → o ≡ record { note = note.Coord h.note; first = first_number (length s.pool) (length h.sends); sent = length h.sends }
-    → coordinated s.down r s ≡ record { farm = record s { ledger = q; pool = pool }; outcome = Ok o }
-call_done s (Ok w) q pool h o up safe a e f = came_worked s w q pool h.sends h.note o up safe a.0.ledger a.0.sends a.0.note e f
-call_done s (Err x) q pool h o up safe a e f = absurd (cc)
+    → coordinated s.down r s ≡ record { farm = record s { ledger = q; saved = saves q; pool = pool }; outcome = Ok o }
+call_done s (Ok w) q pool h o up safe kept told a e f = came_worked s w q pool h.sends h.note o up safe (λ same. told same ∙ sym kept) a.0.ledger a.0.sends a.0.note e f
+call_done s (Err x) q pool h o up safe kept told a e f = absurd (cc)
 
 refused_for : (s t : Farm) (e : CoordRefusal) → s.down ≡ None → t ≡ s → coordinated s.down (Err e) s ≡ record { farm = t; outcome = Err (refusal.Coord e) }
 refused_for s t e up same = ap (λ d. coordinated d (Err e) s) up ∙ (λ j. record { farm = sym same j; outcome = Err (refusal.Coord e) })

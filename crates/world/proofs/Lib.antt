@@ -5,3 +5,4 @@ mod TurnLemmas
 mod CallLemmas
 mod SafeLemmas
 mod OrderLemmas
+mod MeaningLemmas

@@ -9,7 +9,7 @@ use Rattle.protocol.specs.declared.answer.Survivor.{Survivor}
 use Rattle.protocol.specs.declared.answer.CoordNote.{CoordNote}
 use Rattle.protocol.specs.World.{Node}
 use Rattle.protocol.specs.Nodes.{Place, NodeAnswer, may_restart, restarted, unless_spent}
-use Rattle.protocol.specs.Ledger.{Ledger, Work}
+use Rattle.protocol.specs.Ledger.{Ledger, Work, Saved, saves}
 use Rattle.folders.specs.Contents.{content_digest}
 use Rattle.folders.specs.Farm.{farm_limits}
 use Rattle.protocol.specs.Replay.{Farm, Turn, first_sent, is_node, at, at_node, node_does, answered, done, moved, refused, restarts, delivered, coordinated, settled, after_work}
@@ -120,20 +120,20 @@ delivered_node s (to.FromCoord y) = refl
 delivered_node s (to.Fetch y) = refl
 delivered_node s (to.Blob n c) = refl
 
-settled_is : (b : Bool) (w : Work) (s : Farm) → settled b None w s ≡ after_work w s
-settled_is true w s = refl
-settled_is false w s = refl
+settled_is : (b : Bool) (w : Work) (s : Farm) → (b ≡ false → saves w.ledger ≡ s.saved) → settled b None w s ≡ after_work (saves w.ledger) w s
+settled_is true w s told = refl
+settled_is false w s told = ap (λ (r : Saved). after_work r w s) (sym (told refl))
 
 -- the coordinator did this work
 pub came_worked : (s : Farm) (w : Work) (ledger : Ledger) (pool : List Message) (sends : List FromCoord) (n : CoordNote) (o : Outcome) → s.down ≡ None → s.armed ≡ None
-    → ledger ≡ w.ledger → sends ≡ w.sends → n ≡ w.note
+    → (w.changed ≡ false → saves w.ledger ≡ s.saved) → ledger ≡ w.ledger → sends ≡ w.sends → n ≡ w.note
     → pool ≡ s.pool ++ map Told sends → o ≡ record { note = note.Coord n; first = first_number (length s.pool) (length sends); sent = length sends }
-    → coordinated s.down (Ok w) s ≡ record { farm = record s { ledger = ledger; pool = pool }; outcome = Ok o }
-came_worked s w ledger pool sends n o up safe e f g h i =
-    ap (λ (d : Option Ledger). coordinated d (Ok w) s) up ∙ ap (λ (a : Option Survivor). settled w.changed a w s) safe ∙ settled_is w.changed w s
-    ∙ sym (λ j. done (note.Coord (g j)) (map Told (f j)) s (record s { ledger = e j; pool = s.pool ++ map Told (f j) }))
-    ∙ ap (λ (p : List Message). done (note.Coord n) (map Told sends) s (record s { ledger = ledger; pool = p })) (sym h)
-    ∙ told Told s (record s { ledger = ledger; pool = pool }) (note.Coord n) sends o i
+    → coordinated s.down (Ok w) s ≡ record { farm = record s { ledger = ledger; saved = saves ledger; pool = pool }; outcome = Ok o }
+came_worked s w ledger pool sends n o up safe told_so e f g h i =
+    ap (λ (d : Option Ledger). coordinated d (Ok w) s) up ∙ ap (λ (a : Option Survivor). settled w.changed a w s) safe ∙ settled_is w.changed w s told_so
+    ∙ sym (λ j. done (note.Coord (g j)) (map Told (f j)) s (record s { ledger = e j; saved = saves (e j); pool = s.pool ++ map Told (f j) }))
+    ∙ ap (λ (p : List Message). done (note.Coord n) (map Told sends) s (record s { ledger = ledger; saved = saves ledger; pool = p })) (sym h)
+    ∙ told Told s (record s { ledger = ledger; saved = saves ledger; pool = pool }) (note.Coord n) sends o i
 
 pub came_as : (a b : Turn) (s t : Farm) (r : Result Outcome EventRefusal) → a ≡ b → Came a s t r → Came b s t r
 came_as a b s t r e h = subst (λ (z : Turn). Came z s t r) e h

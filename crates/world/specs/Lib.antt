@@ -4,3 +4,4 @@ pub mod Shown
 pub mod Setups
 pub mod Replays
 pub mod Printing
+pub mod Meanings

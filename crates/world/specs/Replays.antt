@@ -4,8 +4,13 @@ use Rattle.folders.specs.Contents.{content_digest}
 use Rattle.folders.specs.Farm.{farm_limits}
 use Rattle.protocol.specs.Replay.{Event, run, opening}
 use Rattle.protocol.specs.Follows.{SafeBetween}
+use Rattle.protocol.specs.Chronicle.{Headline}
 
 -- from each part of the schedule to each later one the farm stays safe
 abbrev pub StaysSafe : ℕ → List Event → Type 0
 StaysSafe size events = (early late rest : List Event) → events ≡ early ++ (late ++ rest)
     → SafeBetween content_digest (run content_digest farm_limits early (opening content_digest size)) (run content_digest farm_limits (early ++ late) (opening content_digest size))
+
+-- the headline holds after each part of the schedule
+abbrev pub KeepsHeadline : ℕ → List Event → Type 0
+KeepsHeadline size events = (early rest : List Event) → events ≡ early ++ rest → Headline content_digest farm_limits (run content_digest farm_limits early (opening content_digest size))

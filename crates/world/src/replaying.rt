@@ -1,16 +1,18 @@
-ghost use Rattle.std.specs.Prelude.{◌≡◌, ◌≤◌, ◌<◌, IfOk, OnOk, map, length};
+ghost use Rattle.std.specs.Prelude.{◌≡◌, ◌↔◌, ℕ, ◌≤◌, ◌<◌, IfOk, OnOk, map, length};
 ghost use Rattle.folders.specs.Contents.{content_digest};
 ghost use Rattle.folders.specs.Farm.{farm_limits};
+ghost use Rattle.protocol.specs.World.{start};
 ghost use Rattle.protocol.specs.Follows.{SafeAfter};
+ghost use Rattle.protocol.specs.Chronicle.{Chronicle};
 ghost use Rattle.protocol.specs.Replay.{opening, run, step};
 ghost use Rattle.schedule.specs.Events.{event_of};
 ghost use Rattle.world.specs.Setups.{IsSetup};
 ghost use Rattle.world.specs.Shown.{shown};
-ghost use Rattle.world.specs.Replays.{StaysSafe};
+ghost use Rattle.world.specs.Replays.{StaysSafe, KeepsHeadline};
 
-use super::world::{StartRefusal, World};
+use super::world::{World, is_setup};
 use farm_base::Copied;
-use protocol::{EventRefusal, every_schedule_is_safe};
+use protocol::{EventRefusal, every_schedule_is_safe, every_schedule_means};
 use schedule::{Event, Setup};
 use std::alloc::{AllocError, Global};
 use thiserror::Error;
@@ -44,25 +46,33 @@ impl World {
 }
 
 /// The farm after a whole schedule; refused events are events too. The farm is safe, and stays so from each
-/// part of the schedule to each later one: what `Safe` and `SafeSince` say is the headline of this project.
+/// part of the schedule to each later one. The schedule has a chronicle, in which each event means what it
+/// answers, and the headline of this project holds after each part of it.
 pub fn replay(alloc: Global, setup: Setup, events: &[Event]) -> Result<World, ReplayRefusal>
     ensures farm { IfOk result (λ w. shown w ≡ run content_digest farm_limits (map event_of events.now) (opening content_digest setup.nodes)) }
     ensures safe { IfOk result (λ w. SafeAfter content_digest (shown w)) }
     ensures stays { IfOk result (λ w. StaysSafe setup.nodes (map event_of events.now)) }
-    ensures setup { result ≡ Err ReplayRefusal.BadSetup → IsSetup setup → ⊥ }
-    ensures events { result ≡ Err ReplayRefusal.TooManyEvents → 65536 < length events.now }
+    ensures chronicle { IfOk result (λ w. Chronicle content_digest farm_limits (map event_of events.now) (opening content_digest setup.nodes) (start content_digest)) }
+    ensures headline { IfOk result (λ w. KeepsHeadline setup.nodes (map event_of events.now)) }
+
+    // A setup out of range is reported as such, also with too many events.
+    ensures setup { (result ≡ Err ReplayRefusal.BadSetup) ↔ (IsSetup setup → ⊥) }
+    ensures events { (result ≡ Err ReplayRefusal.TooManyEvents) ↔ (IsSetup setup × (65536 < length events.now)) }
+    ensures memory { (place : ℕ) → result ≡ Err (ReplayRefusal.OutOfMemory place) → IsSetup setup × (length events.now ≤ 65536) × (place ≤ length events.now) }
     ensures within { IfOk result (λ w. IsSetup setup) }
     ensures few { IfOk result (λ w. length events.now ≤ 65536) }
 {
-    let mut world = match World::start(alloc, setup) {
-        Ok(world) => world,
-        Err(StartRefusal::BadSetup) => return Err(ReplayRefusal::BadSetup),
-        Err(StartRefusal::OutOfMemory) => return Err(ReplayRefusal::OutOfMemory(0)),
-    };
+    if !is_setup(setup) {
+        return Err(ReplayRefusal::BadSetup);
+    }
     if events.len() > EVENTS {
         return Err(ReplayRefusal::TooManyEvents);
     }
+    let Ok(mut world) = World::start(alloc, setup) else {
+        return Err(ReplayRefusal::OutOfMemory(0));
+    };
     every_schedule_is_safe();
+    every_schedule_means();
     for place in 0..events.len() {
         if world.take(alloc, &events[place]).is_err() {
             return Err(ReplayRefusal::OutOfMemory(place as u64 + 1));

@@ -1,4 +1,4 @@
-ghost use Rattle.std.specs.Prelude.{Ok, None, ◌≡◌, IfOk, IfSome, map, length, is_some, option_map, option_copied};
+ghost use Rattle.std.specs.Prelude.{Ok, None, ◌≡◌, ◌↔◌, IsTrue, IfOk, IfSome, map, length, is_some, option_map, option_copied};
 ghost use Rattle.folders.specs.Contents.{content_digest};
 ghost use Rattle.folders.specs.Farm.{farm_limits};
 ghost use Rattle.protocol.specs.Lists.{nth};
@@ -9,6 +9,7 @@ ghost use Rattle.coordinator.specs.Held.{ledger};
 ghost use Rattle.nodecore.specs.Asks.{message_of};
 ghost use Rattle.nodecore.specs.Shown as core;
 ghost use Rattle.schedule.specs.Events.{event_of};
+ghost use Rattle.world.specs.Meanings.{MeansAsTold, GrantsAtOnce};
 ghost use Rattle.world.specs.Setups.{IsSetup};
 ghost use Rattle.world.specs.Tables.{called};
 ghost use Rattle.world.specs.Turns.{Came, FitsIn, from_node, from_coordinator, restarting, retiring};
@@ -20,7 +21,10 @@ use super::pool::{message_at, place_in, send_coordinator, send_node};
 use coordinator::Coordinator;
 use farm_base::{NodeId, Slot, Ticket};
 use nodecore::{Message, NodeCore};
-use protocol::{CoordRefusal, EventRefusal, NodeRefusal, Outcome};
+use protocol::{
+    CoordRefusal, EventRefusal, NodeRefusal, Outcome, a_fitting_message_is_granted,
+    every_event_is_moves,
+};
 use schedule::{Event, Setup};
 use std::alloc::Global;
 use thiserror::Error;
@@ -40,6 +44,13 @@ pub enum StartRefusal {
     BadSetup,
     #[error("out of memory")]
     OutOfMemory,
+}
+
+/// Whether a farm may begin with this.
+pub(crate) fn is_setup(setup: Setup) -> bool
+    ensures { IsTrue result ↔ IsSetup setup }
+{
+    1 <= setup.nodes && setup.nodes <= 1024
 }
 
 /// The event's refusal that a node's is.
@@ -67,9 +78,9 @@ impl World {
     pub fn start(alloc: Global, setup: Setup) -> Result<Self, StartRefusal>
         ensures farm { IfOk result (λ w. shown w ≡ opening content_digest setup.nodes) }
         ensures setup { IfOk result (λ w. IsSetup setup) }
-        ensures bad { result ≡ Err StartRefusal.BadSetup → IsSetup setup → ⊥ }
+        ensures bad { (result ≡ Err StartRefusal.BadSetup) ↔ (IsSetup setup → ⊥) }
     {
-        if setup.nodes < 1 || 1024 < setup.nodes {
+        if !is_setup(setup) {
             return Err(StartRefusal::BadSetup);
         }
         let Ok(nodes) = Nodes::start(alloc, setup.nodes) else {
@@ -261,10 +272,9 @@ impl World {
         }
     }
 
-    /// Carries out one event. What is refused changes nothing, but that a node whose greatest life is over is
-    /// down for good.
+    /// Carries out one event, by its kind.
     #[tactic(auto, unfolding(protocol::specs::Replay::step))]
-    pub fn step(&mut self, alloc: Global, event: Event) -> Result<Outcome, EventRefusal>
+    fn carry_out(&mut self, alloc: Global, event: Event) -> Result<Outcome, EventRefusal>
         ensures { Came (step content_digest farm_limits (shown self.old) (event_of event)) (shown self.old) (shown self.new) result }
     {
         match event {
@@ -284,5 +294,17 @@ impl World {
             Event::RestartNode(node) => self.restart(alloc, node),
             Event::Forge(node, content) => self.call(alloc, node, Call::Forge(content)),
         }
+    }
+
+    /// Carries out one event. What is refused changes nothing, but that a node whose greatest life is over is
+    /// down for good.
+    pub fn step(&mut self, alloc: Global, event: Event) -> Result<Outcome, EventRefusal>
+        ensures came { Came (step content_digest farm_limits (shown self.old) (event_of event)) (shown self.old) (shown self.new) result }
+        ensures meaning { MeansAsTold (shown self.old) (event_of event) result (shown self.new) }
+        ensures at_once { GrantsAtOnce (shown self.old) (event_of event) result (shown self.new) }
+    {
+        every_event_is_moves();
+        a_fitting_message_is_granted();
+        self.carry_out(alloc, event)
     }
 }

@@ -19,3 +19,9 @@ returns-clause-safe c =
 
 pub returns-clause-stays : goal.returns-clause-stays
 returns-clause-stays c = λ early late rest e. c.every_schedule_is_safe.ensures.stays content_digest farm_limits is_farm c.args.setup.nodes early late
+
+pub returns-clause-chronicle : goal.returns-clause-chronicle
+returns-clause-chronicle c = c.every_schedule_means.ensures.chronicle content_digest farm_limits is_farm c.args.setup.nodes (map event_of c.args.events.now)
+
+pub returns-clause-headline : goal.returns-clause-headline
+returns-clause-headline c = λ early rest e. c.every_schedule_means.ensures.headline content_digest farm_limits is_farm c.args.setup.nodes early

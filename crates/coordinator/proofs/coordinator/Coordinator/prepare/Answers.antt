@@ -6,6 +6,7 @@ use Rattle.coordinator.specs.Held.{Held, line_at, ledger}
 use Rattle.coordinator.specs.Shown.{shown, lines_with}
 use Rattle.coordinator.specs.Sound.{IsSound}
 use Rattle.coordinator.proofs.SoundWords.{sound-handled}
+use Rattle.coordinator.proofs.Recording.{handled-told}
 use Rattle.coordinator.proofs.coordinator.Coordinator.prepare.Goals as goal
 
 pub returns-clause-work : goal.returns-clause-work
@@ -24,3 +25,6 @@ returns-clause-sound c =
     ∙ ap (handled farm_limits c.args.message.now) (ap (λ (ls : List SlotLine). shown (line_at ls) c.in_ok-draft.draft) lines ∙ c.in_ok-draft.ensures.work) in
     let P : Work → Type 0 = λ w. IsSound w.ledger in
     subst P (sym work) (sound-handled farm_limits c.args.message.now (begin_work (ledger c.args.self.now)) (subst IsSound (ap ledger c.self.view_is) c.self.invariant) c.is_request.ensures)
+
+pub returns-clause-told : goal.returns-clause-told
+returns-clause-told c = handled-told c.args.message.now (ledger c.args.self.now) (subst IsSound (ap ledger c.self.view_is) c.self.invariant)

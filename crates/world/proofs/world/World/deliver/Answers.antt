@@ -113,6 +113,6 @@ returns-in-Ok c =
     let y : ToCoord = c.in-ToCoord.message in
     let here : nth (map message_of pool) c.args.number ≡ Some (Said y) = found_at pool c.reserve.new.self.items c.args.number c.in-Some.place c.index-2.result.now (message.ToCoord y) same c.in-Some.ensures.found inside (search rules) c.in-ToCoord.is in
     ap (λ o. delivered content_digest farm_limits o s) here
-    ∙ came_worked s (handled farm_limits y (begin_work s.ledger)) _ (map message_of c.send_coordinator.new.pool.items) c.in-Ok.handled.sends c.in-Ok.handled.note c.send_coordinator.result refl refl c.in-Ok.ensures.ledger c.in-Ok.ensures.sends c.in-Ok.ensures.note
+    ∙ came_worked s (handled farm_limits y (begin_work s.ledger)) _ (map message_of c.send_coordinator.new.pool.items) c.in-Ok.handled.sends c.in-Ok.handled.note c.send_coordinator.result refl refl c.in-Ok.ensures.told c.in-Ok.ensures.ledger c.in-Ok.ensures.sends c.in-Ok.ensures.note
     (c.send_coordinator.ensures.pool ∙ ap (λ (l : List sent.Message). map message_of l ++ map Told c.in-Ok.handled.sends) same)
     (c.send_coordinator.ensures.outcome ∙ ap (λ (k : ℕ). record { note = note.Coord c.in-Ok.handled.note; first = first_number k (length c.in-Ok.handled.sends); sent = length c.in-Ok.handled.sends }) (ap length same ∙ sym (count_of message_of pool)))

@@ -32,6 +32,6 @@ returns-in-Ok c =
     let same = c.reserve.ensures.items in
     let here : is_node s c.args.node ≡ true = search rules in
     ap (λ (b : Bool). if b then coordinated s.down r s else refused refusal.NoSuchNode s) here
-    ∙ call_done s r (ledger c.retire.new.self) (map message_of c.send_coordinator.new.pool.items) c.in-Ok.handled c.send_coordinator.result refl refl c.in-Ok.ensures.answer
+    ∙ call_done s r (ledger c.retire.new.self) (map message_of c.send_coordinator.new.pool.items) c.in-Ok.handled c.send_coordinator.result refl refl refl c.in-Ok.ensures.told c.in-Ok.ensures.answer
     (c.send_coordinator.ensures.pool ∙ ap (λ (l : List sent.Message). map message_of l ++ map Told c.in-Ok.handled.sends) same)
     (c.send_coordinator.ensures.outcome ∙ ap (λ (k : ℕ). record { note = note.Coord c.in-Ok.handled.note; first = first_number k (length c.in-Ok.handled.sends); sent = length c.in-Ok.handled.sends }) (ap length same ∙ sym (count_of message_of pool)))

@@ -1,4 +1,5 @@
 use Rattle.std.proofs.Common.{ap, map}
+use Rattle.protocol.specs.Ledger.{saves}
 use Rattle.protocol.specs.Replay.{opening}
 use Rattle.nodecore.specs.Asks.{message_of}
 use Rattle.folders.specs.Contents.{content_digest}
@@ -9,6 +10,7 @@ pub returns-clause-farm : goal.returns-clause-farm
 returns-clause-farm c = λ j. record (opening content_digest c.args.setup.nodes) {
   size = c.in-Ok.ensures.len j;
   ledger = c.start-2.ensures j;
+  saved = saves (c.start-2.ensures j);
   pool = ap (map message_of) c.new.ensures.items j;
   nodes = all_first c.args.setup.nodes c.in-Ok.nodes.cores.items c.in-Ok.ensures j;
 }

@@ -1,0 +1,53 @@
+-- Where a call doesn't say that the record changed, it is as before.
+use Rattle.std.proofs.Common.{◌≡◌, ◌<◌, ◌≤◌, suc, List, [], ◌∷◌, length, Result, Ok, Err, inl, inr, sym, ap, ◌∙◌, subst, arith}
+use Rattle.std.specs.Prelude.{All, AllPairs}
+use Rattle.folders.specs.Farm.{farm_limits}
+use Rattle.leases.specs.Leases.{IsBefore}
+use Rattle.protocol.specs.Lists.{In}
+use Rattle.protocol.specs.Names.{Slot, NodeId, Ticket}
+use Rattle.protocol.specs.Machine.{ToCoord}
+use Rattle.protocol.specs.Ledger.{Ledger, Lease, Work, begin_work, handled, withdrawn, retired, pruned}
+use Rattle.protocol.specs.declared.answer.CoordRefusal.{CoordRefusal}
+use Rattle.protocol.proofs.Saving as saving
+use Rattle.protocol.proofs.Saving.{Apart}
+use Rattle.coordinator.specs.Sound.{IsSound}
+use Rattle.coordinator.specs.Promises.{ChangesAsTold}
+use Rattle.coordinator.proofs.SoundWords.{AllPairs-head, AllPairs-tail}
+
+all_in : {A : Type 0} (P : A → Type 0) (xs : List A) → All P xs → (x : A) → In x xs → P x
+all_in P [] h x i = absurd i
+all_in P (y ∷ ys) h x (inl e) = subst P (sym e) (h 0 y (omega arith))
+all_in P (y ∷ ys) h x (inr i) = all_in P ys (λ k d inside. h (suc k) d (omega arith)) x i
+
+-- rising tickets are of one lease each
+own_tickets : (live : List Lease) → AllPairs IsBefore live → (x y : Lease) → In x live → In y live → x.ticket.0 ≡ y.ticket.0 → x ≡ y
+own_tickets [] h x y i j e = absurd i
+own_tickets (g ∷ live) h x y (inl i) (inl j) e = i ∙ sym j
+own_tickets (g ∷ live) h x y (inl i) (inr j) e =
+    let above : g.ticket.0 < y.ticket.0 = all_in (IsBefore g) live (AllPairs-head IsBefore g live h) y j in
+    let same : x.ticket.0 ≡ g.ticket.0 = ap (λ (z : Lease). z.ticket.0) i in
+    absurd (omega arith)
+own_tickets (g ∷ live) h x y (inr i) (inl j) e =
+    let above : g.ticket.0 < x.ticket.0 = all_in (IsBefore g) live (AllPairs-head IsBefore g live h) x i in
+    let same : y.ticket.0 ≡ g.ticket.0 = ap (λ (z : Lease). z.ticket.0) j in
+    absurd (omega arith)
+own_tickets (g ∷ live) h x y (inr i) (inr j) e = own_tickets live (AllPairs-tail IsBefore g live h) x y i j e
+
+apart_of : (q : Ledger) → IsSound q → Apart q
+apart_of q s = record { unique = own_tickets q.live s.leases.tickets; top = all_in (λ g. g.ticket.0 ≤ q.last) q.live s.given }
+
+told_of : (q : Ledger) (r : Result Work CoordRefusal) → saving.SavesOk farm_limits q r → ChangesAsTold q r
+told_of q (Ok w) h = h
+told_of q (Err e) h = tt
+
+pub handled-told : (y : ToCoord) (q : Ledger) → IsSound q → ChangesAsTold q (Ok (handled farm_limits y (begin_work q)))
+handled-told y q s = saving.handled_saves farm_limits q y (apart_of q s)
+
+pub withdrawn-told : (t : Ticket) (q : Ledger) → IsSound q → ChangesAsTold q (withdrawn farm_limits t (begin_work q))
+withdrawn-told t q s = told_of q (withdrawn farm_limits t (begin_work q)) (saving.withdrawn_saves farm_limits q t (apart_of q s))
+
+pub retired-told : (n : NodeId) (q : Ledger) → ChangesAsTold q (retired farm_limits n (begin_work q))
+retired-told n q = told_of q (retired farm_limits n (begin_work q)) (saving.retired_saves farm_limits q n)
+
+pub pruned-told : (s : Slot) (q : Ledger) → ChangesAsTold q (pruned farm_limits s (begin_work q))
+pruned-told s q = told_of q (pruned farm_limits s (begin_work q)) (saving.pruned_saves farm_limits q s)
