@@ -5,19 +5,19 @@ use Rattle.std.specs.List.{list_any, list_all}
 use Rattle.std.specs.Prelude.{nat_lt, is_some}
 use Rattle.protocol.specs.Lists.{In, nth, set_nth}
 use Rattle.protocol.specs.Names.{Shared, slots_eq, digest_eq, NodeId, Life, Ask, Ticket, Digest, Want, FolderName, wants_shared, tenure_wants}
-use Rattle.protocol.specs.Machine.{GrantedSlot, Confirmed, Grant, Message, Told, Blob, FromCoord, slots_of, written}
+use Rattle.protocol.specs.Machine.{GrantedSlot, Confirmed, Grant, Message, Told, Blob, FromCoord, hello, acquire, commit, slots_of, written}
 use Rattle.farm_base.specs.declared.message.FromCoord.TheVariants as told
 use Rattle.farm_base.specs.declared.message.Why.{Why}
 use Rattle.protocol.specs.declared.answer.NodeRefusal.{NodeRefusal}
 use Rattle.protocol.specs.declared.answer.NodeRefusal.TheVariants as refusal
 use Rattle.protocol.specs.Ledger.{Limits}
 use Rattle.protocol.specs.World.{AskState, Open, Holding, Running, Finished, Over, Node, keeps, keep, RunsTenure, IsTenureOf, Asked_tenure, Held_tenure, Running_tenure, Finished_tenure, Uses, Open_uses, Held_uses, Running_uses, Idle}
-use Rattle.protocol.specs.Nodes.{NodeWork, NodeAnswer, guard, Place, wants_folder, is_tenure_of, is_home_of, uses, at_home, others_use, in_use, Held, Sent, first, under, held, running, held_or_running, finished, recallable, is_stored, all_stored, is_base, asked, asked_tenure, beginning, begun, Left, news_of, stored, leaving, finishing, finished_with, aborting, aborted, resent, gives_back, granted, learned, dropped, denied, recalled, of_life, heard, fetched, brought, unless_spent}
+use Rattle.protocol.specs.Nodes.{NodeWork, NodeAnswer, guard, Place, wants_folder, is_tenure_of, is_home_of, uses, at_home, others_use, in_use, Held, Sent, first, under, held, running, held_or_running, finished, recallable, is_stored, all_stored, is_base, asked, asked_tenure, beginning, begun, Left, news_of, stored, leaving, finishing, finished_with, aborting, aborted, again, all_again, resent, gives_back, granted, learned, dropped, denied, recalled, of_life, heard, fetched, brought, unless_spent}
 use Rattle.protocol.specs.Replay.{Event, Tenure, Deliver, Begin, Finish, Abort, Resend, Forge, told_to}
 use Rattle.protocol.specs.Replay as replay
 use Rattle.protocol.specs.Meaning.{Stored, NodeMeans}
 use Rattle.protocol.specs.Reasons.{HoldsUnder, RunsUnder, NodeBecause}
-use Rattle.protocol.proofs.Base.{cases_bool, cases_option, true_false, not_true, not_false, and_both, or_false, none_some, some_is, eqb_is, eqb_same, digest_eq_is, digest_eq_same, life_is, any_in, from_any, nth_in}
+use Rattle.protocol.proofs.Base.{cases_bool, cases_option, true_false, not_true, not_false, and_both, or_false, none_some, some_is, eqb_is, eqb_same, digest_eq_is, digest_eq_same, life_is, any_in, from_any, nth_in, in_left, in_right}
 use Rattle.protocol.proofs.Following.{slots_eq_is, slots_eq_same}
 use Rattle.protocol.proofs.Moving.{found, held_is, running_is, either_is, finished_is, recallable_is, all_in, some_home, wants_folder_in, wants_folder_is, tenure_test, idle_from, stored_some, get_from}
 use Rattle.protocol.proofs.Using.{GrantOf, OneEach}
@@ -347,8 +347,31 @@ module _ (sha : List ℕ → Digest) (k : Limits) (n : NodeId) (size : ℕ) (x :
   resend_spent refusal.LivesSpent h = h
   resend_spent r h = absurd h
 
+  -- the i-th ask sends again what it has to
+  again_sent : (ss : List AskState) (i : ℕ) (j : ℕ) (s : AskState) (m : Message) → slice_get ss j ≡ Some s → In m (again k at x (record { 0 = i + j + 1 }) s) → In m (all_again k at x ss i)
+  again_sent [] i j s m e h = none_some s e
+  again_sent (y ∷ ys) i zero s m e h =
+      let here : In m (again k at x (record { 0 = i + 0 + 1 }) y) = subst (λ z. In m (again k at x (record { 0 = i + 0 + 1 }) z)) (sym (some_is y s e)) h in
+      let same : i + 0 + 1 ≡ i + 1 = omega arith in
+      in_left m _ (all_again k at x ys (i + 1)) (subst (λ z. In m (again k at x (record { 0 = z }) y)) same here)
+  again_sent (y ∷ ys) i (suc j) s m e h =
+      let same : i + suc j + 1 ≡ i + 1 + j + 1 = omega arith in
+      in_right m (again k at x (record { 0 = i + 1 }) y) _ (again_sent ys (i + 1) j s m e (subst (λ z. In m (again k at x (record { 0 = z }) s)) same h))
+
+  each_again : (a : ℕ) (s : AskState) (m : Message) → nth x.asks a ≡ Some s → In m (again k at x (record { 0 = a }) s) → In m (hello n x.life ∷ all_again k at x x.asks 0)
+  each_again zero s m e h = none_some s e
+  each_again (suc j) s m e h = (let same : suc j ≡ 0 + j + 1 = omega arith in inr (again_sent x.asks 0 j s m e (subst (λ z. In m (again k at x (record { 0 = z }) s)) same h)))
+
   pub resent_exact : Exact None (Resend n) (resent k at x)
-  resent_exact = on_guard None (Resend n) x.spent refusal.LivesSpent _ (λ down. down) (λ up. ((inl refl, refl), λ r h. true_false x.spent (resend_spent r h) up))
+  resent_exact = on_guard None (Resend n) x.spent refusal.LivesSpent _ (λ down. down) (λ up. (
+    (
+      inl refl,
+      λ a wants tenure e. each_again a (Open wants tenure) (acquire n x.life (record { 0 = a }) wants tenure) e (inl refl),
+      λ a wants g news e. each_again a (Finished wants g news) (commit n x.life g.ticket news) e (inl refl),
+      refl,
+    ),
+    λ r h. true_false x.spent (resend_spent r h) up,
+  ))
 
   -- ---- messages
 

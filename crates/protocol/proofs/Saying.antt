@@ -1,8 +1,9 @@
 -- What the coordinator's answers say of its ledger: what lines gain, which Grants are sent, and what each note tells.
 use Rattle.std.proofs.Common.{◌≡◌, ◌≢◌, ℕ, ◌+◌, ◌<◌, ◌≤◌, List, [], ◌∷◌, ◌++◌, ◌⊎◌, Bool, true, false, not, ◌&&◌, ◌||◌, eqb, Option, Some, None, is_some, Result, Ok, Err, refl, sym, ◌∙◌, ap, subst, inl, inr, arith, append-nil}
 use Rattle.std.specs.List.{list_any, find}
+use Rattle.std.proofs.lemmas.Bool.Decides.{nat_tests}
 use Rattle.std.specs.Prelude.{⊤, nat_lt, if◌then◌else◌}
-use Rattle.protocol.specs.Lists.{In, is_nil}
+use Rattle.protocol.specs.Lists.{In, put, is_nil}
 use Rattle.protocol.specs.Names.{Slot, slot_eq, NodeId, Life, Ask, Ticket, Want}
 use Rattle.protocol.specs.Machine.{Grant, News, Confirmed, LineVersion, FromCoord, ToCoord, Parked, version_of, digest_for}
 use Rattle.farm_base.specs.declared.message.Request.{Request}
@@ -14,10 +15,10 @@ use Rattle.protocol.specs.declared.answer.CoordRefusal.TheVariants as refusal
 use Rattle.protocol.specs.declared.answer.CoordNote.{CoordNote}
 use Rattle.protocol.specs.declared.answer.CoordNote.TheVariants as note
 use Rattle.protocol.specs.declared.answer.EventNote.TheVariants as event
-use Rattle.protocol.specs.Ledger.{Limits, Ledger, Lease, Work, begin_work, says, notes, is_leased, grant_of, Decision, Give, Deny, Wait, elsewhere, decision, lease_for, gives, denies, carried_out, tried, try_all, parks, retried, is_of, lease_of, is_parked, holds_wanted, recall, recalls, decided, acquiring, lease_under, ends, commits, place, versions_of, on_all, may_commit, confirms, committing, may_release, released, answering, is_older, sees, is_home, newer_life, handled, withdraws, withdrawing, withdrawn, is_at, goes, retired, prunes, pruned, is_awaited, nudges, nudge_all, nudged}
+use Rattle.protocol.specs.Ledger.{Limits, Ledger, Lease, Work, begin_work, says, notes, is_leased, grant_of, Decision, Give, Deny, Wait, elsewhere, decision, lease_for, gives, denies, carried_out, tried, stays, try_all, waiting, parks, retried, is_of, lease_of, is_parked, holds_wanted, recall, recalls, decided, acquiring, lease_under, ends, commits, place, versions_of, on_all, may_commit, confirms, committing, may_release, released, answering, is_older, is_older_ask, sees, is_home, newer_life, handled, withdraws, withdrawing, withdrawn, is_at, goes, retired, prunes, pruned, is_awaited, nudges, nudge_all, nudged}
 use Rattle.protocol.specs.Ledger as ledger
-use Rattle.protocol.specs.Meaning.{commit_adds, request_adds, prune_adds, Again}
-use Rattle.protocol.proofs.Base.{cases_bool, and_both, not_true, in_left, in_append, in_right, in_one, from_any, get_in, eqb_is, node_is, life_is, ask_is}
+use Rattle.protocol.specs.Meaning.{commit_adds, request_adds, prune_adds, heard_lives, Again}
+use Rattle.protocol.proofs.Base.{cases_bool, cases_nat, put_same, put_other, in_filter, and_both, not_true, in_left, in_append, in_right, in_one, from_any, get_in, eqb_is, node_is, life_is, ask_is}
 use Rattle.protocol.proofs.Leases.{find_some}
 use Rattle.protocol.proofs.Calls.{place_stands, some_test, is_nil_is}
 
@@ -37,84 +38,186 @@ no_confirmation n l t vs g e = cc
 grant_is : (g h : Grant) → told.Granted g ≡ told.Granted h → g ≡ h
 grant_is g h e = cc
 
--- ---- the lines as they were, and only Grants of tickets above the number sent
+-- what an event changes of a ledger
+pub record Change (q : Ledger) : Type 1 where
+  pub line : Slot → List LineVersion
+  pub lives : ℕ → ℕ
+  pub gone : ℕ → Bool
+  -- parked asks that are dropped unanswered
+  pub drops : Parked → Type 0
 
-pub record Grows (n : ℕ) (line : Slot → List LineVersion) (w : Work) : Type 0 where
-  pub last : n ≤ w.ledger.last
-  pub lines : w.ledger.line ≡ line
-  pub fresh : (g : Grant) → In (told.Granted g) w.sends → n < g.ticket.0
+-- the ask was granted or denied, and that is sent
+abbrev pub Served : Parked → List FromCoord → Type 0
+Served p sends = ((g : Grant) × In (told.Granted g) sends × (g.node ≡ p.node) × (g.life ≡ p.life) × (g.ask ≡ p.ask)) ⊎ ((why : Why) × In (told.Denied p.node p.life p.ask why) sends)
 
-begins : (q : Ledger) → Grows q.last q.line (begin_work q)
-begins q = record { last = omega arith; lines = refl; fresh = λ g i. absurd i }
+-- what work keeps of a ledger, up to a change, with only Grants of tickets above its last sent
+pub record Grows (q : Ledger) (c : Change q) (w : Work) : Type 0 where
+  pub last : q.last ≤ w.ledger.last
+  pub lines : w.ledger.line ≡ c.line
+  pub lives : w.ledger.lives ≡ c.lives
+  pub gone : w.ledger.gone ≡ c.gone
+  pub fresh : (g : Grant) → In (told.Granted g) w.sends → q.last < g.ticket.0
+  pub waits : (p : Parked) → In p q.parked → In p w.ledger.parked ⊎ (Served p w.sends ⊎ c.drops p)
 
-module _ (k : Limits) (n : ℕ) where
-  says_grows : (l : Slot → List LineVersion) (y : FromCoord) (w : Work) → ((g : Grant) → told.Granted g ≡ y → ⊥) → Grows n l w → Grows n l (says y w)
-  says_grows l y w other g = record {
+abbrev pub same : (q : Ledger) → Change q
+same q = record { line = q.line; lives = q.lives; gone = q.gone; drops = λ p. ⊥ }
+
+begins : (q : Ledger) → Grows q (same q) (begin_work q)
+begins q = record { last = omega arith; lines = refl; lives = refl; gone = refl; fresh = λ g i. absurd i; waits = λ p i. inl i }
+
+served_more : (p : Parked) (xs ys : List FromCoord) → Served p xs → Served p (xs ++ ys)
+served_more p xs ys (inl (g, i, n, l, a)) = inl (g, in_left (told.Granted g) xs ys i, n, l, a)
+served_more p xs ys (inr (why, i)) = inr (why, in_left (told.Denied p.node p.life p.ask why) xs ys i)
+
+module _ (k : Limits) (q : Ledger) where
+  -- more is sent
+  waits_more : (c : Change q) (w : Work) (ys : List FromCoord) → Grows q c w → (p : Parked) → In p q.parked → In p w.ledger.parked ⊎ (Served p (w.sends ++ ys) ⊎ c.drops p)
+  waits_more c w ys g p i = elim (g.waits p i) [ inl still ↦ inl still | inr gone ↦ elim gone [ inl served ↦ inr (inl (served_more p w.sends ys served)) | inr drops ↦ inr (inr drops) ] ]
+
+  says_grows : (c : Change q) (y : FromCoord) (w : Work) → ((g : Grant) → told.Granted g ≡ y → ⊥) → Grows q c w → Grows q c (says y w)
+  says_grows c y w other g = record {
     last = g.last;
     lines = g.lines;
+    lives = g.lives;
+    gone = g.gone;
     fresh = λ h i. elim (in_append (told.Granted h) w.sends (y ∷ []) i) [ inl j ↦ g.fresh h j | inr j ↦ absurd (other h (in_one (told.Granted h) y j)) ];
+    waits = waits_more c w (y ∷ []) g;
   }
 
-  gives_grows : (l : Slot → List LineVersion) (p : Parked) (w : Work) → Grows n l w → Grows n l (gives k p w)
+  gives_grows : (c : Change q) (p : Parked) (w : Work) → Grows q c w → Grows q c (gives k p w)
   unfolding gives
-  gives_grows l p w g =
+  gives_grows c p w g =
       let new : Grant = grant_of k.empty w.ledger.line (lease_for k w.ledger p) in
-      let le : n ≤ w.ledger.last = g.last in
+      let le : q.last ≤ w.ledger.last = g.last in
       record {
         last = omega arith;
         lines = g.lines;
+        lives = g.lives;
+        gone = g.gone;
         fresh = λ h i. elim (in_append (told.Granted h) w.sends (told.Granted new ∷ []) i) [
           | inl j ↦ g.fresh h j
           | inr j ↦ (let at : h.ticket.0 ≡ w.ledger.last + 1 = ap (λ (z : Grant). z.ticket.0) (grant_is h new (in_one (told.Granted h) (told.Granted new) j)) in omega arith)
         ];
+        waits = waits_more c w (told.Granted new ∷ []) g;
       }
 
-  carried_grows : (l : Slot → List LineVersion) (d : Decision) (p : Parked) (w : Work) → Grows n l w → Grows n l (carried_out d k p w)
-  carried_grows l Give p w g = gives_grows l p w g
-  carried_grows l (Deny why) p w g = says_grows l (told.Denied p.node p.life p.ask why) w (no_denial p.node p.life p.ask why) g
-  carried_grows l Wait p w g = g
+  carried_grows : (c : Change q) (d : Decision) (p : Parked) (w : Work) → Grows q c w → Grows q c (carried_out d k p w)
+  carried_grows c Give p w g = gives_grows c p w g
+  carried_grows c (Deny why) p w g = says_grows c (told.Denied p.node p.life p.ask why) w (no_denial p.node p.life p.ask why) g
+  carried_grows c Wait p w g = g
 
-  try_grows : (l : Slot → List LineVersion) (ps : List Parked) (w : Work) → Grows n l w → Grows n l (try_all k ps w)
+  try_grows : (c : Change q) (ps : List Parked) (w : Work) → Grows q c w → Grows q c (try_all k ps w)
   unfolding tried
-  try_grows l [] w g = g
-  try_grows l (p ∷ ps) w g = try_grows l ps (tried k p w) (carried_grows l (decision k w.ledger p) p w g)
+  try_grows c [] w g = g
+  try_grows c (p ∷ ps) w g = try_grows c ps (tried k p w) (carried_grows c (decision k w.ledger p) p w g)
 
-  retried_grows : (l : Slot → List LineVersion) (w : Work) → Grows n l w → Grows n l (retried k w)
+  -- what was sent stays sent
+  pub carried_sent : (d : Decision) (p : Parked) (v : Work) (m : FromCoord) → In m v.sends → In m (carried_out d k p v).sends
+  unfolding gives
+  carried_sent Give p v m i = in_left m v.sends _ i
+  carried_sent (Deny why) p v m i = in_left m v.sends _ i
+  carried_sent Wait p v m i = i
+
+  try_sent : (ps : List Parked) (v : Work) (m : FromCoord) → In m v.sends → In m (try_all k ps v).sends
+  unfolding tried
+  try_sent [] v m i = i
+  try_sent (p ∷ ps) v m i = try_sent ps (tried k p v) m (carried_sent (decision k v.ledger p) p v m i)
+
+  pub retried_sent : (v : Work) (m : FromCoord) → In m v.sends → In m (retried k v).sends
   unfolding retried
-  retried_grows l w g = (let r = try_grows l w.ledger.parked w g in record { last = r.last; lines = r.lines; fresh = r.fresh })
+  retried_sent v m i = try_sent v.ledger.parked v m i
 
-  recall_grows : (l : Slot → List LineVersion) (o : Option Lease) (w : Work) → Grows n l w → Grows n l (recall o w)
-  recall_grows l None w g = g
-  recall_grows l (Some h) w g = says_grows l (told.Recall h.node h.life h.ticket) w (no_recall h.node h.life h.ticket) g
+  -- an ask that is tried stays, or is answered
+  one_served : (d : Decision) (p : Parked) (w : Work) → ledger.waits d ≡ false → Served p (carried_out d k p w).sends
+  unfolding gives
+  one_served Give p w e = inl (grant_of k.empty w.ledger.line (lease_for k w.ledger p), in_right _ w.sends _ (inl refl), refl, refl, refl)
+  one_served (Deny why) p w e = inr (why, in_right _ w.sends _ (inl refl))
+  one_served Wait p w e = (let bad : true ≡ false = e in cc)
 
-  recalls_grows : (l : Slot → List LineVersion) (b : Bool) (p : Parked) (w : Work) → Grows n l w → Grows n l (recalls b p w)
-  recalls_grows l true p w g = recall_grows l (find (holds_wanted p) w.ledger.live) w g
-  recalls_grows l false p w g = g
+  later_served : (ps : List Parked) (w : Work) (p : Parked) → Served p w.sends → Served p (try_all k ps w).sends
+  later_served ps w p (inl (g, i, n, l, a)) = inl (g, try_sent ps w (told.Granted g) i, n, l, a)
+  later_served ps w p (inr (why, i)) = inr (why, try_sent ps w (told.Denied p.node p.life p.ask why) i)
 
-  newer_grows : (l : Slot → List LineVersion) (j : NodeId) (f : Life) (w : Work) → Grows n l w → Grows n l (newer_life k j f w)
+  all_served : (ps : List Parked) (w : Work) (p : Parked) → In p ps → In p (waiting k ps w) ⊎ Served p (try_all k ps w).sends
+  unfolding tried stays
+  all_served [] w p i = absurd i
+  all_served (r ∷ ps) w p i = elim (cases_bool (ledger.waits (decision k w.ledger r))) [
+    | inl t ↦ rw t (elim i [
+      | inl e ↦ inl (inl e)
+      | inr j ↦ elim (all_served ps (tried k r w) p j) [ inl x ↦ inl (inr x) | inr x ↦ inr x ]
+    ])
+    | inr t ↦ rw t (elim i [
+      | inl e ↦ inr (subst (λ z. Served z (try_all k ps (tried k r w)).sends) (sym e) (later_served ps (tried k r w) r (one_served (decision k w.ledger r) r w t)))
+      | inr j ↦ all_served ps (tried k r w) p j
+    ])
+  ]
+
+  retried_grows : (c : Change q) (w : Work) → Grows q c w → Grows q c (retried k w)
+  unfolding retried
+  retried_grows c w g = (let r = try_grows c w.ledger.parked w g in record {
+    last = r.last;
+    lines = r.lines;
+    lives = r.lives;
+    gone = r.gone;
+    fresh = r.fresh;
+    waits = λ p i. elim (g.waits p i) [
+      | inl still ↦ elim (all_served w.ledger.parked w p still) [ inl x ↦ inl x | inr x ↦ inr (inl x) ]
+      | inr gone ↦ elim gone [ inl served ↦ inr (inl (later_served w.ledger.parked w p served)) | inr drops ↦ inr (inr drops) ]
+    ];
+  })
+
+  recall_grows : (c : Change q) (o : Option Lease) (w : Work) → Grows q c w → Grows q c (recall o w)
+  recall_grows c None w g = g
+  recall_grows c (Some h) w g = says_grows c (told.Recall h.node h.life h.ticket) w (no_recall h.node h.life h.ticket) g
+
+  recalls_grows : (c : Change q) (b : Bool) (p : Parked) (w : Work) → Grows q c w → Grows q c (recalls b p w)
+  recalls_grows c true p w g = recall_grows c (find (holds_wanted p) w.ledger.live) w g
+  recalls_grows c false p w g = g
+
+  -- a newer life
+  abbrev pub Seen : NodeId → Life → Change q
+  Seen j f = record { line = q.line; lives = put j.0 f.0 q.lives; gone = q.gone; drops = λ p. (p.node ≡ j) × p.life.0 < f.0 }
+
+  seen_lt : (a b : ℕ) → nat_lt a b ≡ true → a < b
+  seen_lt a b h = grind (arith, nat_tests)
+
+  newer_grows : (j : NodeId) (f : Life) → Grows q (Seen j f) (newer_life k j f (begin_work q))
   unfolding newer_life
-  newer_grows l j f w g = elim (cases_bool (list_any (is_older j f) w.ledger.live || is_home j w.ledger.old_home)) [
-    | inl t ↦ rw t (retried_grows l (sees j f w) seen)
+  newer_grows j f = elim (cases_bool (list_any (is_older j f) q.live || is_home j q.old_home)) [
+    | inl t ↦ rw t (retried_grows (Seen j f) (sees j f (begin_work q)) seen)
     | inr t ↦ rw t seen
   ]
     where
-      seen : Grows n l (sees j f w)
-      seen = record { last = g.last; lines = g.lines; fresh = g.fresh }
+      seen : Grows q (Seen j f) (sees j f (begin_work q))
+      seen = record {
+        last = omega arith;
+        lines = refl;
+        lives = refl;
+        gone = refl;
+        fresh = λ g i. absurd i;
+        waits = λ p i. elim (cases_bool (is_older_ask j f p)) [
+          | inl t ↦ (let b = and_both (eqb p.node.0 j.0) (nat_lt p.life.0 f.0) t in inr (inr (node_is p.node j (eqb_is p.node.0 j.0 b.0), seen_lt p.life.0 f.0 b.1)))
+          | inr t ↦ inl (in_filter (λ (x : Parked). not (is_older_ask j f x)) p q.parked i (ap not t))
+        ];
+      }
 
--- ---- what a decision adds to the lines, and which Grants it sends
+-- ---- what a decision comes to
 
-pub record Grew (k : Limits) (q : Ledger) (add : Slot → List LineVersion) (w : Work) : Type 0 where
-  pub lines : (s : Slot) → w.ledger.line s ≡ q.line s ++ add s
+pub record Grew (k : Limits) (q : Ledger) (c : Change q) (w : Work) : Type 0 where
+  pub lines : (s : Slot) → w.ledger.line s ≡ c.line s
+  pub lives : (n : ℕ) → w.ledger.lives n ≡ c.lives n
+  pub gone : (n : ℕ) → w.ledger.gone n ≡ c.gone n
   pub grants : (g : Grant) → In (told.Granted g) w.sends → (q.last < g.ticket.0) ⊎ (Again (event.Coord w.note) g × ((h : Lease) × In h w.ledger.live × (g ≡ grant_of k.empty w.ledger.line h)))
+  pub waits : (p : Parked) → In p q.parked → In p w.ledger.parked ⊎ (Served p w.sends ⊎ c.drops p)
 
-abbrev Adds : Ledger → (Slot → List LineVersion) → (Slot → List LineVersion) → Type 0
-Adds q add line = (s : Slot) → line s ≡ q.line s ++ add s
-
-adds_nothing : (q : Ledger) → Adds q (λ s. []) q.line
-adds_nothing q s = sym (append-nil (q.line s))
-
-grew : (k : Limits) (q : Ledger) (add line : Slot → List LineVersion) (c : CoordNote) (w : Work) → Adds q add line → Grows q.last line w → Grew k q add (notes c w)
-grew k q add line c w adds g = record { lines = λ s. ap (λ (f : Slot → List LineVersion). f s) g.lines ∙ adds s; grants = λ h i. inl (g.fresh h i) }
+grew : (k : Limits) (q : Ledger) (c : Change q) (n : CoordNote) (w : Work) → Grows q c w → Grew k q c (notes n w)
+grew k q c n w g = record {
+  lines = λ s. ap (λ (f : Slot → List LineVersion). f s) g.lines;
+  lives = λ j. ap (λ (f : ℕ → ℕ). f j) g.lives;
+  gone = λ j. ap (λ (f : ℕ → Bool). f j) g.gone;
+  grants = λ h i. inl (g.fresh h i);
+  waits = g.waits;
+}
 
 -- ---- messages
 
@@ -147,38 +250,88 @@ module _ (k : Limits) (y : ToCoord) (q : Ledger) where
   NoteSays w (note.Retired n) = ⊥
   NoteSays w note.Nudged = ⊥
 
+  -- the life was heard
+  abbrev Heard : ℕ → ℕ
+  Heard = put y.node.0 y.life.0 q.lives
+
+  -- what a message that was answered so changes
+  abbrev pub Changes : CoordNote → Change q
+  Changes c = record { line = λ s. q.line s ++ request_adds y.request c s; lives = heard_lives y c q.lives; gone = q.gone; drops = λ p. (p.node ≡ y.node) × p.life.0 < y.life.0 }
+
   pub record Says (w : Work) : Type 0 where
-    pub grew : Grew k q (request_adds y.request w.note) w
+    pub grew : Grew k q (Changes w.note) w
     pub says : NoteSays w w.note
 
-  abbrev G : Work → Type 0
-  G w = Grows q.last q.line w
+  -- work after the step on the message's life
+  record G (w : Work) : Type 1 where
+    change : Change q
+    grows : Grows q change w
+    line : change.line ≡ q.line
+    lives : (n : ℕ) → change.lives n ≡ Heard n
+    gone : change.gone ≡ q.gone
+    drops : (p : Parked) → change.drops p → (p.node ≡ y.node) × p.life.0 < y.life.0
 
-  -- work of a message that adds nothing to a line
-  quiet : (c : CoordNote) (w : Work) → ((s : Slot) → request_adds y.request c s ≡ []) → G w → NoteSays (notes c w) c → Says (notes c w)
-  quiet c w none g says = record {
-    grew = record { lines = λ s. ap (λ (f : Slot → List LineVersion). f s) g.lines ∙ sym (append-nil (q.line s)) ∙ ap (λ l. q.line s ++ l) (sym (none s)); grants = λ h i. inl (g.fresh h i) };
+  -- one more step of that work
+  onward : (w v : Work) (g : G w) → (Grows q g.change w → Grows q g.change v) → G v
+  onward w v g f = record { change = g.change; grows = f g.grows; line = g.line; lives = g.lives; gone = g.gone; drops = g.drops }
+
+  left : (w : Work) (g : G w) (p : Parked) → In p q.parked → In p w.ledger.parked ⊎ (Served p w.sends ⊎ ((p.node ≡ y.node) × p.life.0 < y.life.0))
+  left w g p i = elim (g.grows.waits p i) [ inl still ↦ inl still | inr x ↦ elim x [ inl served ↦ inr (inl served) | inr d ↦ inr (inr (g.drops p d)) ] ]
+
+  -- a parked ask stays, is served, or is of an older life
+  abbrev Waits : Work → Type 0
+  Waits w = (p : Parked) → In p q.parked → In p w.ledger.parked ⊎ (Served p w.sends ⊎ ((p.node ≡ y.node) × p.life.0 < y.life.0))
+
+  -- work whose ledger is as after the step on the life, but for what is named
+  settle : (c : CoordNote) (w v : Work) → heard_lives y c q.lives ≡ Heard → G w → v.ledger.lives ≡ w.ledger.lives → v.ledger.gone ≡ w.ledger.gone → Waits v → ((s : Slot) → v.ledger.line s ≡ q.line s ++ request_adds y.request c s)
+      → ((g : Grant) → In (told.Granted g) v.sends → (q.last < g.ticket.0) ⊎ (Again (event.Coord c) g × ((h : Lease) × In h v.ledger.live × (g ≡ grant_of k.empty v.ledger.line h)))) → NoteSays (notes c v) c → Says (notes c v)
+  settle c w v heard g lives gone waits lines grants says = record {
+    grew = record {
+      lines = lines;
+      lives = λ n. ap (λ (f : ℕ → ℕ). f n) (lives ∙ g.grows.lives) ∙ g.lives n ∙ ap (λ (f : ℕ → ℕ). f n) (sym heard);
+      gone = λ n. ap (λ (f : ℕ → Bool). f n) (gone ∙ g.grows.gone ∙ g.gone);
+      grants = grants;
+      waits = waits;
+    };
     says = says;
   }
 
+  same_line : (c : CoordNote) (w : Work) → ((s : Slot) → request_adds y.request c s ≡ []) → G w → (s : Slot) → w.ledger.line s ≡ q.line s ++ request_adds y.request c s
+  same_line c w none g s = ap (λ (f : Slot → List LineVersion). f s) (g.grows.lines ∙ g.line) ∙ sym (append-nil (q.line s)) ∙ ap (λ l. q.line s ++ l) (sym (none s))
+
+  -- work of a message that adds nothing to a line
+  quiet : (c : CoordNote) (w : Work) → heard_lives y c q.lives ≡ Heard → ((s : Slot) → request_adds y.request c s ≡ []) → G w → NoteSays (notes c w) c → Says (notes c w)
+  quiet c w heard none g says = settle c w w heard g refl refl (left w g) (same_line c w none g) (λ h i. inl (g.grows.fresh h i)) says
+
   sent_last : (m : FromCoord) (w : Work) → In m (says m w).sends
   sent_last m w = in_right m w.sends (m ∷ []) (inl refl)
+
+  recall-same : (o : Option Lease) (w : Work) → (recall o w).ledger ≡ w.ledger
+  recall-same None w = refl
+  recall-same (Some h) w = refl
+
+  recalls-same : (b : Bool) (p : Parked) (w : Work) → (recalls b p w).ledger ≡ w.ledger
+  recalls-same true p w = recall-same (find (holds_wanted p) w.ledger.live) w
+  recalls-same false p w = refl
 
   decided_says : (d : Decision) (p : Parked) (w : Work) → AskedFor p.node p.life p.ask → ((c : CoordNote) (s : Slot) → request_adds y.request c s ≡ []) → G w → Says (decided d k p w)
   unfolding gives
   decided_says Give p w a none g =
       let h : Lease = lease_for k w.ledger p in
       let new : Grant = grant_of k.empty w.ledger.line h in
-      let le : q.last ≤ w.ledger.last = g.last in
-      quiet (note.Granted new) (gives k p w) (none (note.Granted new)) (gives_grows k q.last q.line p w g)
+      let le : q.last ≤ w.ledger.last = g.grows.last in
+      quiet (note.Granted new) (gives k p w) refl (none (note.Granted new)) (onward w (gives k p w) g (gives_grows k q g.change p w))
       ((h, in_right h w.ledger.live (h ∷ []) (inl refl), refl, a, in_right (told.Granted new) w.sends (told.Granted new ∷ []) (inl refl)), omega arith)
   decided_says (Deny why) p w a none g =
-      quiet (note.Denied why) (denies why p w) (none (note.Denied why)) (says_grows k q.last q.line (told.Denied p.node p.life p.ask why) w (no_denial p.node p.life p.ask why) g)
+      quiet (note.Denied why) (denies why p w) refl (none (note.Denied why)) (onward w (denies why p w) g (says_grows k q g.change (told.Denied p.node p.life p.ask why) w (no_denial p.node p.life p.ask why)))
       (p.ask, a.2.0, a.2.1, a.2.2, subst (λ (n : NodeId). In (told.Denied n y.life p.ask why) (denies why p w).sends) a.0 (subst (λ (l : Life). In (told.Denied p.node l p.ask why) (denies why p w).sends) a.1 (sent_last (told.Denied p.node p.life p.ask why) w)))
   decided_says Wait p w a none g =
       let v : Work = recalls (p.tenure && not (elsewhere w.ledger p)) p w in
-      let r = recalls_grows k q.last q.line (p.tenure && not (elsewhere w.ledger p)) p w g in
-      quiet note.Parked (parks (w.ledger.parked ++ p ∷ []) v) (none note.Parked) (record { last = r.last; lines = r.lines; fresh = r.fresh }) (p, in_right p w.ledger.parked (p ∷ []) (inl refl), a)
+      let r = onward w v g (recalls_grows k q g.change (p.tenure && not (elsewhere w.ledger p)) p w) in
+      let kept : v.ledger.parked ≡ w.ledger.parked = ap (λ (z : Ledger). z.parked) (recalls-same (p.tenure && not (elsewhere w.ledger p)) p w) in
+      quiet note.Parked (parks (w.ledger.parked ++ p ∷ []) v) refl (none note.Parked)
+      (onward v (parks (w.ledger.parked ++ p ∷ []) v) r (λ f. record { last = f.last; lines = f.lines; lives = f.lives; gone = f.gone; fresh = f.fresh; waits = λ x i. elim (f.waits x i) [ inl still ↦ inl (in_left x w.ledger.parked (p ∷ []) (subst (In x) kept still)) | inr gone ↦ inr gone ] }))
+      (p, in_right p w.ledger.parked (p ∷ []) (inl refl), a)
 
   -- an ask of these three names
   same_ask : (n : NodeId) (l : Life) (a : Ask) (n' : NodeId) (l' : Life) (a' : Ask) → ((eqb n.0 n'.0) && (eqb l.0 l'.0) && (eqb a.0 a'.0)) ≡ true → (n ≡ n') × (l ≡ l') × (a ≡ a')
@@ -194,19 +347,17 @@ module _ (k : Limits) (y : ToCoord) (q : Ledger) where
   acquiring_says (Some h) b p w e i a none g =
       let old : Grant = grant_of k.empty w.ledger.line h in
       let r = find_some (is_of p.node p.life p.ask) w.ledger.live h e in
-      record {
-        grew = record {
-          lines = λ s. ap (λ (f : Slot → List LineVersion). f s) g.lines ∙ sym (append-nil (q.line s)) ∙ ap (λ l. q.line s ++ l) (sym (none (note.GrantedBefore old) s));
-          grants = λ z j. elim (in_append (told.Granted z) w.sends (told.Granted old ∷ []) j) [
-            | inl x ↦ inl (g.fresh z x)
-            | inr x ↦ (let same : z ≡ old = grant_is z old (in_one (told.Granted z) (told.Granted old) x) in inr (same, (h, r.0, same)))
-          ];
-        };
-        says = (h, r.0, refl, asked_too p h.node h.life h.ask a (same_ask h.node h.life h.ask p.node p.life p.ask r.1), sent_last (told.Granted old) w);
-      }
+      settle (note.GrantedBefore old) w (says (told.Granted old) w) refl g refl refl
+      (λ x j. elim (left w g x j) [ inl still ↦ inl still | inr z ↦ elim z [ inl served ↦ inr (inl (served_more x w.sends (told.Granted old ∷ []) served)) | inr d ↦ inr (inr d) ] ])
+      (same_line (note.GrantedBefore old) w (none (note.GrantedBefore old)) g)
+      (λ z j. elim (in_append (told.Granted z) w.sends (told.Granted old ∷ []) j) [
+        | inl x ↦ inl (g.grows.fresh z x)
+        | inr x ↦ (let same : z ≡ old = grant_is z old (in_one (told.Granted z) (told.Granted old) x) in inr (same, (h, r.0, same)))
+      ])
+      (h, r.0, refl, asked_too p h.node h.life h.ask a (same_ask h.node h.life h.ask p.node p.life p.ask r.1), sent_last (told.Granted old) w)
   acquiring_says None true p w e i a none g =
       let r = from_any (λ (x : Parked). (eqb x.node.0 p.node.0) && (eqb x.life.0 p.life.0) && (eqb x.ask.0 p.ask.0)) w.ledger.parked i in
-      quiet note.Parked w (none note.Parked) g (r.0, r.1, asked_too p r.0.node r.0.life r.0.ask a (same_ask r.0.node r.0.life r.0.ask p.node p.life p.ask r.2))
+      quiet note.Parked w refl (none note.Parked) g (r.0, r.1, asked_too p r.0.node r.0.life r.0.ask a (same_ask r.0.node r.0.life r.0.ask p.node p.life p.ask r.2))
   acquiring_says None false p w e i a none g = decided_says (decision k w.ledger p) p w a none g
 
   -- ---- Commit
@@ -225,34 +376,23 @@ module _ (k : Limits) (y : ToCoord) (q : Ledger) where
   no_commit : (t : Ticket) (news : List News) (r : Request) → r ≡ Commit t news → (c : CoordNote) → ((s : Slot) → commit_adds news c s ≡ []) → (s : Slot) → request_adds r c s ≡ []
   no_commit t news r e c none s = ap (λ x. request_adds x c s) e ∙ none s
 
-  -- what was sent stays sent
-  carried_sent : (d : Decision) (p : Parked) (v : Work) (m : FromCoord) → In m v.sends → In m (carried_out d k p v).sends
-  unfolding gives
-  carried_sent Give p v m i = in_left m v.sends _ i
-  carried_sent (Deny why) p v m i = in_left m v.sends _ i
-  carried_sent Wait p v m i = i
-
-  try_sent : (ps : List Parked) (v : Work) (m : FromCoord) → In m v.sends → In m (try_all k ps v).sends
-  unfolding tried
-  try_sent [] v m i = i
-  try_sent (p ∷ ps) v m i = try_sent ps (tried k p v) m (carried_sent (decision k v.ledger p) p v m i)
-
-  retried_sent : (v : Work) (m : FromCoord) → In m v.sends → In m (retried k v).sends
-  unfolding retried
-  retried_sent v m i = try_sent v.ledger.parked v m i
-
   committing_says : (b : Bool) (t : Ticket) (news : List News) (w : Work) → y.request ≡ Commit t news → G w → Says (committing k b y.node y.life t news w)
   committing_says true t news w e g =
-      let line' : Slot → List LineVersion = λ s. q.line s ++ version_of t (digest_for s news) in
       let c : Work = commits t news w in
       let vs : List Confirmed = versions_of c.ledger.line t news in
       let m : FromCoord = told.Committed y.node y.life t vs in
-      let once : Grows q.last line' c = record { last = g.last; lines = λ i. λ s. g.lines i s ++ version_of t (digest_for s news); fresh = g.fresh } in
-      let told' = says_grows k q.last line' m c (no_confirmation y.node y.life t vs) once in
-      let all = retried_grows k q.last line' (confirms y.node y.life t news c) told' in
+      let more : Change q = record { line = λ s. g.change.line s ++ version_of t (digest_for s news); lives = g.change.lives; gone = g.change.gone; drops = g.change.drops } in
+      let once : Grows q more c = record { last = g.grows.last; lines = λ i. λ s. g.grows.lines i s ++ version_of t (digest_for s news); lives = g.grows.lives; gone = g.grows.gone; fresh = g.grows.fresh; waits = g.grows.waits } in
+      let all : Grows q more (retried k (confirms y.node y.life t news c)) = retried_grows k q more (confirms y.node y.life t news c) (says_grows k q more m c (no_confirmation y.node y.life t vs) once) in
       record {
-        grew = record { lines = λ s. ap (λ (f : Slot → List LineVersion). f s) all.lines ∙ ap (λ r. q.line s ++ request_adds r (note.Committed t) s) (sym e); grants = λ h i. inl (all.fresh h i) };
-        says = (news, e, (vs, retried_sent (confirms y.node y.life t news c) m (sent_last m c)));
+        grew = record {
+          lines = λ s. ap (λ (f : Slot → List LineVersion). f s) all.lines ∙ ap (λ (f : Slot → List LineVersion). f s ++ version_of t (digest_for s news)) g.line ∙ ap (λ r. q.line s ++ request_adds r (note.Committed t) s) (sym e);
+          lives = λ n. ap (λ (f : ℕ → ℕ). f n) all.lives ∙ g.lives n;
+          gone = λ n. ap (λ (f : ℕ → Bool). f n) (all.gone ∙ g.gone);
+          grants = λ h i. inl (all.fresh h i);
+          waits = λ p i. elim (all.waits p i) [ inl still ↦ inl still | inr x ↦ elim x [ inl served ↦ inr (inl served) | inr d ↦ inr (inr (g.drops p d)) ] ];
+        };
+        says = (news, e, (vs, retried_sent k q (confirms y.node y.life t news c) m (sent_last m c)));
       }
   committing_says false t news w e g = by (not (is_nil news) && on_all w.ledger.line t news) refl
     where
@@ -261,11 +401,11 @@ module _ (k : Limits) (y : ToCoord) (q : Ledger) where
           let both = and_both (not (is_nil news)) (on_all w.ledger.line t news) f in
           let vs : List Confirmed = versions_of w.ledger.line t news in
           let m : FromCoord = told.Committed y.node y.life t vs in
-          quiet (note.CommittedBefore t) (says m w) (no_commit t news y.request e (note.CommittedBefore t) (λ s. refl)) (says_grows k q.last q.line m w (no_confirmation y.node y.life t vs) g)
+          quiet (note.CommittedBefore t) (says m w) refl (no_commit t news y.request e (note.CommittedBefore t) (λ s. refl)) (onward w (says m w) g (says_grows k q g.change m w (no_confirmation y.node y.life t vs)))
           (news, e, (is_nil_is news (not_true (is_nil news) both.0), on_each w.ledger.line t news both.1), (vs, sent_last m w))
       by false f =
           let m : FromCoord = told.Fenced y.node y.life t in
-          quiet (note.Fenced t) (says m w) (no_commit t news y.request e (note.Fenced t) (λ s. refl)) (says_grows k q.last q.line m w (no_fence y.node y.life t) g) (news, e, sent_last m w)
+          quiet (note.Fenced t) (says m w) refl (no_commit t news y.request e (note.Fenced t) (λ s. refl)) (onward w (says m w) g (says_grows k q g.change m w (no_fence y.node y.life t))) (news, e, sent_last m w)
 
   -- ---- the whole message
 
@@ -274,16 +414,14 @@ module _ (k : Limits) (y : ToCoord) (q : Ledger) where
 
   -- work that has told nothing
   nothing_says : (w : Work) → w.note ≡ note.Nothing → Quiet y.request → G w → NoteSays w note.Nothing → Says w
-  nothing_says w e none g says = record {
-    grew = record { lines = λ s. ap (λ (f : Slot → List LineVersion). f s) g.lines ∙ sym (append-nil (q.line s)) ∙ ap (λ l. q.line s ++ l) (sym (none w.note s)); grants = λ h i. inl (g.fresh h i) };
-    says = subst (NoteSays w) (sym e) says;
-  }
+  nothing_says w e none g says = subst Says (λ i. notes (sym e i) w) (quiet note.Nothing w refl (none note.Nothing) g says)
 
   released_says : (b : Bool) (t : Ticket) (o : Option Lease) (w : Work) → y.request ≡ Release t → w.note ≡ note.Nothing → G w → Says (released k b t o w)
   released_says b t None w e quiet' g = nothing_says w quiet' (λ c s. ap (λ r. request_adds r c s) e) g (inr (t, e))
   released_says false t (Some h) w e quiet' g = nothing_says w quiet' (λ c s. ap (λ r. request_adds r c s) e) g (inr (t, e))
   released_says true t (Some h) w e quiet' g =
-      quiet (note.Released t) (retried k (ends h w)) (λ s. ap (λ r. request_adds r (note.Released t) s) e) (retried_grows k q.last q.line (ends h w) (record { last = g.last; lines = g.lines; fresh = g.fresh })) e
+      quiet (note.Released t) (retried k (ends h w)) refl (λ s. ap (λ r. request_adds r (note.Released t) s) e)
+      (onward w (retried k (ends h w)) g (λ f. retried_grows k q g.change (ends h w) (record { last = f.last; lines = f.lines; lives = f.lives; gone = f.gone; fresh = f.fresh; waits = f.waits }))) e
 
   answering_says : (r : Request) (w : Work) → y.request ≡ r → w.note ≡ note.Nothing → G w → Says (answering k y.node y.life r w)
   answering_says Hello w e quiet' g = nothing_says w quiet' (λ c s. ap (λ r. request_adds r c s) e) g (inl e)
@@ -299,61 +437,96 @@ module _ (k : Limits) (y : ToCoord) (q : Ledger) where
   commit_quiet (Commit t news) c none s = none news s
   commit_quiet (Release t) c none s = refl
 
-  pub handled_says : (newer-note : (newer_life k y.node y.life (begin_work q)).note ≡ note.Nothing) → ((a b : ℕ) → nat_lt a b ≡ true → a < b) → Says (handled k y (begin_work q))
+  -- what a message changes that is not heard
+  unheard : (c : CoordNote) → heard_lives y c q.lives ≡ q.lives → ((s : Slot) → request_adds y.request c s ≡ []) → NoteSays (notes c (begin_work q)) c → Says (notes c (begin_work q))
+  unheard c lives none says = record {
+    grew = record { lines = λ s. sym (append-nil (q.line s)) ∙ ap (λ l. q.line s ++ l) (sym (none s)); lives = λ n. ap (λ (f : ℕ → ℕ). f n) (sym lives); gone = λ n. refl; grants = λ g i. absurd i; waits = λ p i. inl i };
+    says = says;
+  }
+
+  lt : (a b : ℕ) → nat_lt a b ≡ true → a < b
+  lt a b h = grind (arith, nat_tests)
+
+  equal : (a b : ℕ) → nat_lt a b ≡ false → nat_lt b a ≡ false → b ≡ a
+  equal a b h g = grind (arith, nat_tests)
+
+  -- the life is the greatest already
+  heard_before : nat_lt y.life.0 (q.lives y.node.0) ≡ false → nat_lt (q.lives y.node.0) y.life.0 ≡ false → (n : ℕ) → q.lives n ≡ Heard n
+  heard_before old new n = elim (cases_nat n y.node.0) [
+    | inl e ↦ ap q.lives e ∙ equal y.life.0 (q.lives y.node.0) old new ∙ sym (ap Heard e ∙ put_same y.node.0 y.life.0 q.lives)
+    | inr ne ↦ sym (put_other y.node.0 y.life.0 q.lives n ne)
+  ]
+
+  pub handled_says : (newer_life k y.node y.life (begin_work q)).note ≡ note.Nothing → Says (handled k y (begin_work q))
   unfolding handled
-  handled_says newer-note lt = elim (cases_bool (q.gone y.node.0)) [
-    | inl t ↦ rw t (quiet note.NodeRetired (begin_work q) (commit_quiet y.request note.NodeRetired (λ news s. refl)) (begins q) (t, refl))
+  handled_says newer-note = elim (cases_bool (q.gone y.node.0)) [
+    | inl t ↦ rw t (unheard note.NodeRetired refl (commit_quiet y.request note.NodeRetired (λ news s. refl)) (t, refl))
     | inr here ↦ rw here (elim (cases_bool (nat_lt y.life.0 (q.lives y.node.0))) [
-      | inl t ↦ rw t (quiet note.OldLife (begin_work q) (commit_quiet y.request note.OldLife (λ news s. refl)) (begins q) (here, lt y.life.0 (q.lives y.node.0) t, refl))
+      | inl t ↦ rw t (unheard note.OldLife refl (commit_quiet y.request note.OldLife (λ news s. refl)) (here, lt y.life.0 (q.lives y.node.0) t, refl))
       | inr t ↦ rw t (elim (cases_bool (nat_lt (q.lives y.node.0) y.life.0)) [
-        | inl newer ↦ rw newer (answering_says y.request (newer_life k y.node y.life (begin_work q)) refl newer-note (newer_grows k q.last q.line y.node y.life (begin_work q) (begins q)))
-        | inr same ↦ rw same (answering_says y.request (begin_work q) refl refl (begins q))
+        | inl newer ↦ rw newer (answering_says y.request (newer_life k y.node y.life (begin_work q)) refl newer-note
+            (record { change = Seen k q y.node y.life; grows = newer_grows k q y.node y.life; line = refl; lives = λ n. refl; gone = refl; drops = λ p d. d }))
+        | inr current ↦ rw current (answering_says y.request (begin_work q) refl refl (record { change = same q; grows = begins q; line = refl; lives = heard_before t current; gone = refl; drops = λ p d. absurd d }))
       ])
     ])
   ]
 
 -- ---- calls
 
+-- what a call changes of a ledger: nothing but what is named
+abbrev pub pruning : Limits → (q : Ledger) → Slot → CoordNote → Change q
+pruning k q s c = record { line = λ x. q.line x ++ prune_adds k.empty s (event.Coord c) x; lives = q.lives; gone = q.gone; drops = λ p. ⊥ }
+
+abbrev pub retiring : (q : Ledger) → NodeId → Change q
+retiring q n = record { line = q.line; lives = q.lives; gone = put n.0 true q.gone; drops = λ p. p.node ≡ n }
+
 module _ (k : Limits) (q : Ledger) where
-  abbrev pub GrewOk : (CoordNote → Slot → List LineVersion) → Result Work CoordRefusal → Type 0
-  GrewOk add (Ok w) = Grew k q (add w.note) w
-  GrewOk add (Err e) = ⊤
+  abbrev pub GrewOk : (CoordNote → Change q) → Result Work CoordRefusal → Type 0
+  GrewOk c (Ok w) = Grew k q (c w.note) w
+  GrewOk c (Err e) = ⊤
 
-  grew_if : (b : Bool) (add : CoordNote → Slot → List LineVersion) (e : CoordRefusal) (r : Result Work CoordRefusal) → GrewOk add r → GrewOk add (if b then Err e else r)
-  grew_if true add e r h = tt
-  grew_if false add e r h = h
+  grew_if : (b : Bool) (c : CoordNote → Change q) (e : CoordRefusal) (r : Result Work CoordRefusal) → GrewOk c r → GrewOk c (if b then Err e else r)
+  grew_if true c e r h = tt
+  grew_if false c e r h = h
 
-  same_lines : (w : Work) → w.ledger.line ≡ q.line → w.ledger.last ≡ q.last → w.sends ≡ [] → Grows q.last q.line w
-  same_lines w l n s = record { last = (let e : w.ledger.last ≡ q.last = n in omega arith); lines = l; fresh = λ g i. absurd (subst (λ (z : List FromCoord). In (told.Granted g) z) s i) }
-
-  withdrawing_grew : (o : Option Lease) → GrewOk (λ c s. []) (withdrawing k o (begin_work q))
+  withdrawing_grew : (o : Option Lease) → GrewOk (λ c. same q) (withdrawing k o (begin_work q))
   withdrawing_grew None = tt
-  withdrawing_grew (Some h) = grew_if h.tenure (λ c s. []) refusal.Tenure (Ok (notes (note.Withdrawn h.ticket) (retried k (withdraws h (begin_work q)))))
-      (grew k q (λ s. []) q.line (note.Withdrawn h.ticket) (retried k (withdraws h (begin_work q))) (adds_nothing q) (retried_grows k q.last q.line (withdraws h (begin_work q)) (same_lines (withdraws h (begin_work q)) refl refl refl)))
+  withdrawing_grew (Some h) = grew_if h.tenure (λ c. same q) refusal.Tenure (Ok (notes (note.Withdrawn h.ticket) (retried k (withdraws h (begin_work q)))))
+      (grew k q (same q) (note.Withdrawn h.ticket) (retried k (withdraws h (begin_work q))) (retried_grows k q (same q) (withdraws h (begin_work q)) (record { last = omega arith; lines = refl; lives = refl; gone = refl; fresh = λ g i. absurd i; waits = λ p i. inl i })))
 
-  pub withdrawn_grew : (t : Ticket) → GrewOk (λ c s. []) (withdrawn k t (begin_work q))
+  pub withdrawn_grew : (t : Ticket) → GrewOk (λ c. same q) (withdrawn k t (begin_work q))
   withdrawn_grew t = withdrawing_grew (lease_under q.live t)
 
-  pub retired_grew : (n : NodeId) → GrewOk (λ c s. []) (retired k n (begin_work q))
-  retired_grew n = grew_if (q.gone n.0) (λ c s. []) refusal.NodeRetired _ (grew_if (list_any (λ (g : Lease). is_at n g && g.tenure) q.live || is_home n q.old_home) (λ c s. []) refusal.TenureHeld _ (by (list_any (is_at n) q.live)))
+  pub retired_grew : (n : NodeId) → GrewOk (λ c. retiring q n) (retired k n (begin_work q))
+  retired_grew n = grew_if (q.gone n.0) (λ c. retiring q n) refusal.NodeRetired _ (grew_if (list_any (λ (g : Lease). is_at n g && g.tenure) q.live || is_home n q.old_home) (λ c. retiring q n) refusal.TenureHeld _ (by (list_any (is_at n) q.live)))
     where
-      gone : Grows q.last q.line (goes n (begin_work q))
-      gone = same_lines (goes n (begin_work q)) refl refl refl
+      gone' : Grows q (retiring q n) (goes n (begin_work q))
+      gone' = record {
+        last = omega arith;
+        lines = refl;
+        lives = refl;
+        gone = refl;
+        fresh = λ g i. absurd i;
+        waits = λ p i. elim (cases_bool (eqb p.node.0 n.0)) [
+          | inl t ↦ inr (inr (node_is p.node n (eqb_is p.node.0 n.0 t)))
+          | inr t ↦ inl (in_filter (λ (x : Parked). not (eqb x.node.0 n.0)) p q.parked i (ap not t))
+        ];
+      }
 
-      by : (b : Bool) → Grew k q (λ s. []) (notes (note.Retired n) (if b then retried k (goes n (begin_work q)) else goes n (begin_work q)))
-      by true = grew k q (λ s. []) q.line (note.Retired n) (retried k (goes n (begin_work q))) (adds_nothing q) (retried_grows k q.last q.line (goes n (begin_work q)) gone)
-      by false = grew k q (λ s. []) q.line (note.Retired n) (goes n (begin_work q)) (adds_nothing q) gone
+      by : (b : Bool) → Grew k q (retiring q n) (notes (note.Retired n) (if b then retried k (goes n (begin_work q)) else goes n (begin_work q)))
+      by true = grew k q (retiring q n) (note.Retired n) (retried k (goes n (begin_work q))) (retried_grows k q (retiring q n) (goes n (begin_work q)) gone')
+      by false = grew k q (retiring q n) (note.Retired n) (goes n (begin_work q)) gone'
 
-  pub pruned_grew : (s : Slot) → GrewOk (λ c. prune_adds k.empty s (event.Coord c)) (pruned k s (begin_work q))
-  pruned_grew s = grew_if (is_leased q s) add refusal.SlotLeased _ (grew_if (is_nil (q.line s)) add refusal.NoSuchSlot _ (by (nat_lt q.last k.greatest)))
+  pub pruned_grew : (s : Slot) → GrewOk (pruning k q s) (pruned k s (begin_work q))
+  pruned_grew s = grew_if (is_leased q s) (pruning k q s) refusal.SlotLeased _ (grew_if (is_nil (q.line s)) (pruning k q s) refusal.NoSuchSlot _ (by (nat_lt q.last k.greatest)))
     where
-      add : CoordNote → Slot → List LineVersion
-      add c = prune_adds k.empty s (event.Coord c)
-
-      by : (b : Bool) → GrewOk (λ c. prune_adds k.empty s (event.Coord c)) (if b then Ok (notes (note.Pruned (record { 0 = q.last + 1 })) (prunes k s (begin_work q))) else Err refusal.TicketsSpent)
+      by : (b : Bool) → GrewOk (pruning k q s) (if b then Ok (notes (note.Pruned (record { 0 = q.last + 1 })) (prunes k s (begin_work q))) else Err refusal.TicketsSpent)
       by true = record {
         lines = λ x. elim (cases_bool (slot_eq s x)) [ inl e ↦ rw e refl | inr e ↦ rw e (sym (append-nil (q.line x))) ];
+        lives = λ n. refl;
+        gone = λ n. refl;
         grants = λ g i. absurd i;
+        waits = λ p i. inl i;
       }
       by false = tt
 
@@ -362,6 +535,22 @@ module _ (k : Limits) (q : Ledger) where
   record Nudges (w : Work) : Type 0 where
     pub ledger : w.ledger ≡ q
     pub grants : (g : Grant) → In (told.Granted g) w.sends → (h : Lease) × In h q.live × (g ≡ grant_of k.empty q.line h)
+
+  nudges_sent : (h : Lease) (w : Work) (m : FromCoord) → In m w.sends → In m (nudges k h w).sends
+  nudges_sent h w m i = elim (cases_bool (is_awaited w.ledger.parked h)) [
+    | inl t ↦ rw t (in_left m _ _ (in_left m w.sends _ i))
+    | inr t ↦ rw t (in_left m w.sends _ i)
+  ]
+
+  nudges_grant : (h : Lease) (w : Work) → In (told.Granted (grant_of k.empty w.ledger.line h)) (nudges k h w).sends
+  nudges_grant h w = elim (cases_bool (is_awaited w.ledger.parked h)) [
+    | inl t ↦ rw t (in_left (told.Granted (grant_of k.empty w.ledger.line h)) _ _ (in_right (told.Granted (grant_of k.empty w.ledger.line h)) w.sends _ (inl refl)))
+    | inr t ↦ rw t (in_right (told.Granted (grant_of k.empty w.ledger.line h)) w.sends _ (inl refl))
+  ]
+
+  all_sent : (hs : List Lease) (w : Work) (m : FromCoord) → In m w.sends → In m (nudge_all k hs w).sends
+  all_sent [] w m i = i
+  all_sent (h ∷ hs) w m i = all_sent hs (nudges k h w) m (nudges_sent h w m i)
 
   nudges_one : (h : Lease) (w : Work) → In h q.live → Nudges w → Nudges (nudges k h w)
   nudges_one h w i n = elim (cases_bool (is_awaited w.ledger.parked h)) [
@@ -385,11 +574,26 @@ module _ (k : Limits) (q : Ledger) where
   nudges_all [] w all n = n
   nudges_all (h ∷ hs) w all n = nudges_all hs (nudges k h w) (λ x i. all x (inr i)) (nudges_one h w (all h (inl refl)) n)
 
-  pub nudged_grew : Grew k q (λ s. []) (nudged k (begin_work q))
+  every_lease : (hs : List Lease) (w : Work) → ((h : Lease) → In h hs → In h q.live) → Nudges w → (h : Lease) → In h hs → In (told.Granted (grant_of k.empty q.line h)) (nudge_all k hs w).sends
+  every_lease [] w all n h i = absurd i
+  every_lease (x ∷ hs) w all n h (inl e) = all_sent hs (nudges k x w) _ (subst (λ (z : Ledger). In (told.Granted (grant_of k.empty z.line h)) (nudges k x w).sends) n.ledger (subst (λ (z : Lease). In (told.Granted (grant_of k.empty w.ledger.line z)) (nudges k x w).sends) (sym e) (nudges_grant x w)))
+  every_lease (x ∷ hs) w all n h (inr i) = every_lease hs (nudges k x w) (λ z j. all z (inr j)) (nudges_one x w (all x (inl refl)) n) h i
+
+  none_yet : Nudges (begin_work q)
+  none_yet = record { ledger = refl; grants = λ g i. absurd i }
+
+  -- the Grant of each lease is sent
+  pub nudged_sends : (h : Lease) → In h q.live → In (told.Granted (grant_of k.empty q.line h)) (nudged k (begin_work q)).sends
+  nudged_sends h i = every_lease q.live (begin_work q) (λ h i. i) none_yet h i
+
+  pub nudged_grew : Grew k q (same q) (nudged k (begin_work q))
   nudged_grew =
       let w : Work = nudge_all k q.live (begin_work q) in
-      let n = nudges_all q.live (begin_work q) (λ h i. i) (record { ledger = refl; grants = λ g i. absurd i }) in
+      let n = nudges_all q.live (begin_work q) (λ h i. i) none_yet in
       record {
-        lines = λ s. ap (λ (z : Ledger). z.line s) n.ledger ∙ sym (append-nil (q.line s));
+        lines = λ s. ap (λ (z : Ledger). z.line s) n.ledger;
+        lives = λ j. ap (λ (z : Ledger). z.lives j) n.ledger;
+        gone = λ j. ap (λ (z : Ledger). z.gone j) n.ledger;
         grants = λ g i. (let r = n.grants g i in inr (tt, (r.0, subst (λ (z : Ledger). In r.0 z.live) (sym n.ledger) r.1, r.2 ∙ ap (λ (z : Ledger). grant_of k.empty z.line r.0) (sym n.ledger))));
+        waits = λ p i. inl (subst (λ (z : Ledger). In p z.parked) (sym n.ledger) i);
       }

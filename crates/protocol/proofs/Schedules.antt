@@ -2,7 +2,7 @@
 use Rattle.std.proofs.Common.{◌≡◌, ◌≢◌, ℕ, zero, suc, ◌+◌, ◌<◌, ◌≤◌, ◌⊎◌, List, [], ◌∷◌, ◌++◌, Bool, true, false, not, map, Option, Some, None, Result, Ok, Err, refl, sym, ◌∙◌, ap, subst, inl, inr, arith, append-nil, append_assoc}
 use Rattle.protocol.specs.Lists.{In, put, nth}
 use Rattle.protocol.specs.Names.{Slot, NodeId, Life, Digest, Want}
-use Rattle.protocol.specs.Machine.{Grant, Granted, ticket_of, Message, Said, Told, Fetches, Blob, ToCoord, FromCoord, acquire, commit, release, Machine, WasHeard, Live, line, LineVersion, MayEnd, Ending, Committed, Released, Withdrawn, Died, Step, Steps, No_step, Grants, Ends, Prunes, Sees, Retires, Parks, Unparks, Raises, Says, Says_granted, Says_committed, Says_fenced, Says_denied, Says_recall}
+use Rattle.protocol.specs.Machine.{Parked, Grant, Granted, ticket_of, Message, Said, Told, Fetches, Blob, ToCoord, FromCoord, acquire, commit, release, Machine, WasHeard, Live, line, MayEnd, Ending, Committed, Released, Withdrawn, Died, Step, Steps, No_step, Grants, Ends, Prunes, Sees, Retires, Parks, Unparks, Raises, Says, Says_granted, Says_committed, Says_fenced, Says_denied, Says_recall}
 use Rattle.protocol.specs.Ledger.{Limits, Ledger, Work, begin_work, grant_of, handled, withdrawn, retired, pruned, nudged, Lease, Saved, saves, reads}
 use Rattle.protocol.specs.World.{Running, World, Node, Move, Machine_moves, Machine_says, Fails, Recovers, Moves, Still, Then, start}
 use Rattle.protocol.specs.Nodes.{NodeWork, NodeAnswer, Place, asked, asked_tenure, begun, finished_with, aborted, resent, restarted, may_restart, heard, fetched, brought, unless_spent}
@@ -21,7 +21,7 @@ use Rattle.protocol.specs.declared.answer.EventNote.TheVariants as event_note
 use Rattle.protocol.specs.declared.answer.EventRefusal.{EventRefusal}
 use Rattle.protocol.specs.declared.answer.EventRefusal.TheVariants as refusal
 use Rattle.protocol.specs.Safe.{InUse}
-use Rattle.protocol.specs.Meaning.{Ended, MessageEnds, WithdrawEnds, RetireEnds, RestartEnds, NoEnds, EndsAt, recorded, Finds, message_adds, prune_adds, adds, BeginsAt, StopsAt, Used, CoordMeans, Meant, Asks, MessageMeans, CoordDid, Again, Carried, addressee, node_at, heard_at, NodeMeans, Did, Survives, Unchanged, Means}
+use Rattle.protocol.specs.Meaning.{Ended, MessageEnds, WithdrawEnds, RetireEnds, RestartEnds, NoEnds, EndsAt, recorded, Finds, message_adds, message_lives, lives_at, IsAnswered, DropsAt, adds, BeginsAt, StopsAt, Used, CoordMeans, Meant, Asks, MessageMeans, CoordDid, Again, Carried, addressee, node_at, heard_at, NodeMeans, Did, Survives, Unchanged, Means}
 use Rattle.protocol.specs.Reasons.{CallBecause, message_decision, decision_at, Reaches, CoordBecause, NodeBecause, Because, Fair}
 use Rattle.farm_base.specs.declared.message.Request.TheVariants as request
 use Rattle.protocol.specs.declared.answer.NodeRefusal.{NodeRefusal}
@@ -34,7 +34,7 @@ use Rattle.protocol.proofs.Leases.{core_of, grant-lease}
 use Rattle.protocol.proofs.Using.{Runs, Turned, NoGrant, Quiet, OneEach, one_each, OnNode, Begun, Stops, Aborts, asked_use, tenure_use, begun_use, finished_use, aborted_use, resent_use, heard_use, fetched_use, brought_use}
 use Rattle.std.specs.Prelude.{⊤, nat_lt}
 use Rattle.std.proofs.lemmas.Bool.Decides.{nat_tests}
-use Rattle.protocol.specs.Follows.{Agrees, Works, Begins_work, Goes_on, Speaks, Follows, KeptAgrees, holds, Shows, IsFarm, SafeAfter, SafeBetween, EveryScheduleIsSafe, EveryScheduleStaysSafe, EveryEventIsMoves, FollowsOk, EveryDecisionFollows}
+use Rattle.protocol.specs.Follows.{lease_from, Agrees, Works, Begins_work, Goes_on, Speaks, Follows, KeptAgrees, holds, Shows, IsFarm, SafeAfter, SafeBetween, EveryScheduleIsSafe, EveryScheduleStaysSafe, EveryEventIsMoves, FollowsOk, EveryDecisionFollows}
 use Rattle.protocol.proofs.Base.{cases_bool, cases_nat, true_false, not_true, and_both, none_some, some_is, in_left, put_same, put_other, nth_in, node_is, in_map, from_map}
 use Rattle.farm_base.specs.declared.message.FromCoord.TheVariants as message
 use Rattle.protocol.proofs.Steps.{Sound, made_below}
@@ -133,6 +133,7 @@ pub record Plain (sha : List ℕ → Digest) (u : World) (s : Farm) (e : Event) 
   pub finds : Finds u e ≡ u.machine
   pub ends : (said : NodeNote) (g : Grant) (y : Ending) → EndsAt u e (event_note.Node said) g y → ⊥
   pub adds : (said : NodeNote) (s : Slot) → adds (sha []) u.pool e (event_note.Node said) s ≡ []
+  pub lives : (said : NodeNote) (f : ℕ → ℕ) (n : ℕ) → lives_at u.pool e (event_note.Node said) f n ≡ f n
   pub coord : (said : NodeNote) (m : Machine) (sends : List Message) → CoordDid (sha []) u e (event_note.Node said) m sends
   pub at : node_at u e ≡ Some n
   pub heard : heard_at u e ≡ o
@@ -144,6 +145,13 @@ no_adds (Some (Said y)) n s = refl
 no_adds (Some (Told y)) n s = refl
 no_adds (Some (Fetches y)) n s = refl
 no_adds (Some (Blob m c)) n s = refl
+
+no_lives : (o : Option Message) (n : NodeNote) (f : ℕ → ℕ) (j : ℕ) → message_lives o (event_note.Node n) f j ≡ f j
+no_lives None n f j = refl
+no_lives (Some (Said y)) n f j = refl
+no_lives (Some (Told y)) n f j = refl
+no_lives (Some (Fetches y)) n f j = refl
+no_lives (Some (Blob m c)) n f j = refl
 
 -- an event of the coordinator is for no node
 pub record ForCoord (u : World) (s : Farm) (e : Event) : Type 0 where
@@ -203,11 +211,15 @@ module _ (sha : List ℕ → Digest) (k : Limits) (farm : IsFarm sha k) where
     -- ---- the coordinator
 
     -- work that is done, and what is meant by it
-    record Done (told : EventNote) (w : Work) : Type 0 where
+    record Done (told : EventNote) (w : Work) (change : saying.Change s.ledger) : Type 0 where
       pub finds : Finds u e ≡ u.machine
       pub follows : At (EndsAt u e told) w.note w
       pub tells : (c : CoordNote) → told ≡ event_note.Coord c → c ≡ w.note
-      pub grew : Grew k s.ledger (adds k.empty u.pool e told) w
+      pub grew : Grew k s.ledger change w
+      pub line : (x : Slot) → change.line x ≡ s.ledger.line x ++ adds k.empty u.pool e told x
+      pub lives : (n : ℕ) → change.lives n ≡ lives_at u.pool e told s.ledger.lives n
+      pub gone : (n : ℕ) → (change.gone n ≡ s.ledger.gone n) ⊎ (e ≡ Retire (record { 0 = n }))
+      pub drops : (p : Parked) → change.drops p → DropsAt u.pool e p
       pub again : (g : Grant) → Again (event_note.Coord w.note) g → Again told g
       pub coord : (m : Machine) → Sound k.empty m → Agrees k.empty u.pool m w.ledger → CoordDid k.empty u e told m (map Told w.sends)
       pub did : (v : World) → Did u e told v
@@ -228,8 +240,8 @@ module _ (sha : List ℕ → Digest) (k : Limits) (farm : IsFarm sha k) where
         omega arith
 
     -- what the work made of the machine
-    carried : (told : EventNote) (w : Work) (d : Done told w) → Carried k.empty u e told (map Told w.sends) d.follows.machine
-    carried told w d =
+    carried : (told : EventNote) (w : Work) (c : saying.Change s.ledger) (d : Done told w c) → Carried k.empty u e told (map Told w.sends) d.follows.machine
+    carried told w c d =
         let f = d.follows in
         let sound = (works_sound k.empty u.pool u.machine f.machine w.sends sound_in f.works).1 in
         record {
@@ -243,11 +255,24 @@ module _ (sha : List ℕ → Digest) (k : Limits) (farm : IsFarm sha k) where
                   | inr same ↦ inr (d.again g same.0, subst (Live f.machine) (sym same.1.2) (live_grant w f.machine sound f.agrees same.1.0 same.1.1))
                 ],
               ));
-          lines = λ x. sym (f.agrees.lines x) ∙ d.grew.lines x ∙ ap (λ l. l ++ adds k.empty u.pool e told x) (agrees_in.lines x ∙ ap (λ z. line k.empty z x) (sym d.finds));
-          told = λ c p. subst (CoordMeans u.machine) (sym (d.tells c p)) f.ended.1;
+          waits = λ p i. elim (d.grew.waits p (subst (In p) (sym agrees_in.parked) (subst (λ z. In p z.parked) d.finds i))) [
+            | inl still ↦ inl (subst (In p) f.agrees.parked still)
+            | inr left ↦ elim left [ inl served ↦ inr (inl (answered_so p w.sends served)) | inr drops ↦ inr (inr (d.drops p drops)) ]
+          ];
+          gone = λ n. elim (d.gone n) [
+            | inl same ↦ inl (sym (ap (λ (z : ℕ → Bool). z n) f.agrees.gone) ∙ d.grew.gone n ∙ same ∙ ap (λ (z : ℕ → Bool). z n) agrees_in.gone ∙ ap (λ (z : Machine). z.gone n) (sym d.finds))
+            | inr retires ↦ inr retires
+          ];
+          lives = λ n. sym (ap (λ (z : ℕ → ℕ). z n) f.agrees.lives) ∙ d.grew.lives n ∙ d.lives n ∙ ap (λ (z : ℕ → ℕ). lives_at u.pool e told z n) (agrees_in.lives ∙ ap (λ (z : Machine). z.lives) (sym d.finds));
+          lines = λ x. sym (f.agrees.lines x) ∙ d.grew.lines x ∙ d.line x ∙ ap (λ l. l ++ adds k.empty u.pool e told x) (agrees_in.lines x ∙ ap (λ z. line k.empty z x) (sym d.finds));
+          told = λ n p. subst (CoordMeans u.machine) (sym (d.tells n p)) f.ended.1;
           did = d.coord f.machine sound f.agrees;
         }
       where
+        answered_so : (p : Parked) (sends : List FromCoord) → saying.Served p sends → IsAnswered p (map Told sends)
+        answered_so p sends (inl (g, i, n, l, a)) = inl (g, in_map Told (message.Granted g) sends i, n, l, a)
+        answered_so p sends (inr (why, i)) = inr (why, in_map Told (message.Denied p.node p.life p.ask why) sends i)
+
         told_in : (g : Grant) (sends : List FromCoord) → In (Told (message.Granted g)) (map Told sends) → In (message.Granted g) sends
         told_in g sends i = (let r = from_map Told (Told (message.Granted g)) sends i in
             let same : message.Granted g ≡ r.0 = (let t : Told (message.Granted g) ≡ Told r.0 = r.2 in cc) in
@@ -257,8 +282,8 @@ module _ (sha : List ℕ → Digest) (k : Limits) (farm : IsFarm sha k) where
     abbrev after_world : Machine → Work → World
     after_world m w = record u { machine = m; pool = u.pool ++ map Told w.sends }
 
-    after_next : (saved : Saved) (told : EventNote) (w : Work) → saved ≡ saves w.ledger → Done told w → s.down ≡ None → ((r : EventRefusal) → Because k u s e r → ⊥) → Next u s e (done told (map Told w.sends) s (record s { ledger = w.ledger; saved = saved; pool = s.pool ++ map Told w.sends }))
-    after_next saved told w kept d up' fair =
+    after_next : (saved : Saved) (told : EventNote) (w : Work) (c : saying.Change s.ledger) → saved ≡ saves w.ledger → Done told w c → s.down ≡ None → ((r : EventRefusal) → Because k u s e r → ⊥) → Next u s e (done told (map Told w.sends) s (record s { ledger = w.ledger; saved = saved; pool = s.pool ++ map Told w.sends }))
+    after_next saved told w c kept d up' fair =
         let f = subst (λ z. Follows z u.pool u.machine (Meant u.machine (EndsAt u e told) w.note) w) farm.empty d.follows in
         let up = up_is up' in
         let m : Machine = d.follows.machine in
@@ -279,7 +304,7 @@ module _ (sha : List ℕ → Digest) (k : Limits) (farm : IsFarm sha k) where
             sent = map Told w.sends;
             pool = refl;
             down = inl refl;
-            carried = subst (λ z. Carried z u e told (map Told w.sends) m) farm.empty (carried told w d);
+            carried = subst (λ z. Carried z u e told (map Told w.sends) m) farm.empty (carried told w c d);
             node = λ n is. absurd (d.node n is);
             others = λ j. inl refl;
             used = record { began = λ n g ws i. inl i; stopped = λ n g ws i. inl i };
@@ -333,20 +358,20 @@ module _ (sha : List ℕ → Digest) (k : Limits) (farm : IsFarm sha k) where
         by coord.NodeRetired why = exact coord.NodeRetired why.1
     taken for up w decided exact saved refusal.OutOfMemory why = why
 
-    settled_next : (changed : Bool) (armed : Option Survivor) (w : Work) → w.changed ≡ changed → s.armed ≡ armed → ForCoord u s e → decision_at k s e ≡ Some (Ok w) → ((r : CoordRefusal) → CallBecause k u.machine e r → ⊥) → Done (event_note.Coord w.note) w → s.down ≡ None → Next u s e (settled changed armed w s)
-    settled_next false armed w same at for decided exact d up = after_next s.saved (event_note.Coord w.note) w (up_saved up ∙ sym (d.saves_all same)) d up (taken for up w decided exact (inr same))
-    settled_next true None w same at for decided exact d up = after_next (saves w.ledger) (event_note.Coord w.note) w refl d up (taken for up w decided exact (inl at))
-    settled_next true (Some Old) w same at for decided exact d up = fails_next s.saved (begin_work s.ledger) u.machine (No_step u.machine) shows.now (up_saved up) (inl refl) up
+    settled_next : (changed : Bool) (armed : Option Survivor) (w : Work) (c : saying.Change s.ledger) → w.changed ≡ changed → s.armed ≡ armed → ForCoord u s e → decision_at k s e ≡ Some (Ok w) → ((r : CoordRefusal) → CallBecause k u.machine e r → ⊥) → Done (event_note.Coord w.note) w c → s.down ≡ None → Next u s e (settled changed armed w s)
+    settled_next false armed w c same at for decided exact d up = after_next s.saved (event_note.Coord w.note) w c (up_saved up ∙ sym (d.saves_all same)) d up (taken for up w decided exact (inr same))
+    settled_next true None w c same at for decided exact d up = after_next (saves w.ledger) (event_note.Coord w.note) w c refl d up (taken for up w decided exact (inl at))
+    settled_next true (Some Old) w c same at for decided exact d up = fails_next s.saved (begin_work s.ledger) u.machine (No_step u.machine) shows.now (up_saved up) (inl refl) up
         (for.reaches, (up_is up, (λ none. none_some Old (sym none ∙ at)), (w, decided, same)))
-    settled_next true (Some New) w same at for decided exact d up =
+    settled_next true (Some New) w c same at for decided exact d up =
         fails_next (saves w.ledger) w d.follows.machine (works_steps (sha []) u.pool u.machine d.follows.machine w.sends (subst (λ z. Works z u.pool u.machine d.follows.machine w.sends) farm.empty d.follows.works))
         (subst (λ z. Agrees z u.pool d.follows.machine w.ledger) farm.empty d.follows.agrees) refl
-        (inr (w.note, map Told w.sends, subst (λ z. Carried z u e (event_note.Coord w.note) (map Told w.sends) d.follows.machine) farm.empty (carried (event_note.Coord w.note) w d))) up
+        (inr (w.note, map Told w.sends, subst (λ z. Carried z u e (event_note.Coord w.note) (map Told w.sends) d.follows.machine) farm.empty (carried (event_note.Coord w.note) w c d))) up
         (for.reaches, (up_is up, (λ none. none_some New (sym none ∙ at)), (w, decided, same)))
 
-    abbrev OnWork : Result Work CoordRefusal → Type 0
-    OnWork (Ok w) = Done (event_note.Coord w.note) w × ((r : CoordRefusal) → CallBecause k u.machine e r → ⊥)
-    OnWork (Err r) = CallBecause k u.machine e r
+    abbrev OnWork : (CoordNote → saying.Change s.ledger) → Result Work CoordRefusal → Type 0
+    OnWork c (Ok w) = Done (event_note.Coord w.note) w (c w.note) × ((r : CoordRefusal) → CallBecause k u.machine e r → ⊥)
+    OnWork c (Err r) = CallBecause k u.machine e r
 
     -- no call is refused for being down, or for its save
     abbrev Unsaved : Type 0
@@ -366,13 +391,13 @@ module _ (sha : List ℕ → Digest) (k : Limits) (farm : IsFarm sha k) where
     refusal_is coord.TenureHeld q up h = (up_is up, h)
     refusal_is coord.NodeRetired q up h = (up_is up, h)
 
-    settles_next : (r : Result Work CoordRefusal) → ForCoord u s e → decision_at k s e ≡ Some r → Unsaved → OnWork r → s.down ≡ None → Next u s e (settles r s)
-    settles_next (Err r) for decided q h up = refused_so (refusal.Coord r) (for.reaches, refusal_is r q up h)
-    settles_next (Ok w) for decided q h up = settled_next w.changed s.armed w refl refl for decided h.1 h.0 up
+    settles_next : (c : CoordNote → saying.Change s.ledger) (r : Result Work CoordRefusal) → ForCoord u s e → decision_at k s e ≡ Some r → Unsaved → OnWork c r → s.down ≡ None → Next u s e (settles r s)
+    settles_next c (Err r) for decided q h up = refused_so (refusal.Coord r) (for.reaches, refusal_is r q up h)
+    settles_next c (Ok w) for decided q h up = settled_next w.changed s.armed w (c w.note) refl refl for decided h.1 h.0 up
 
-    coordinated_next : (d : Option Ledger) (r : Result Work CoordRefusal) → s.down ≡ d → ForCoord u s e → decision_at k s e ≡ Some r → Unsaved → OnWork r → Next u s e (coordinated d r s)
-    coordinated_next (Some q) r up for decided unsaved h = refused_so (refusal.Coord coord.Down) (for.reaches, down_is q up)
-    coordinated_next None r up for decided unsaved h = settles_next r for decided unsaved h up
+    coordinated_next : (c : CoordNote → saying.Change s.ledger) (d : Option Ledger) (r : Result Work CoordRefusal) → s.down ≡ d → ForCoord u s e → decision_at k s e ≡ Some r → Unsaved → OnWork c r → Next u s e (coordinated d r s)
+    coordinated_next c (Some q) r up for decided unsaved h = refused_so (refusal.Coord coord.Down) (for.reaches, down_is q up)
+    coordinated_next c None r up for decided unsaved h = settles_next c r for decided unsaved h up
 
     -- ---- the nodes
 
@@ -433,6 +458,9 @@ module _ (sha : List ℕ → Digest) (k : Limits) (farm : IsFarm sha k) where
       ended = subst (λ z. Ended z (EndsAt u e (event_note.Node said)) u.machine.ending) (sym p.finds) (none_ended u.machine (EndsAt u e (event_note.Node said)) (λ g y l h. p.ends said g y h));
       granted = λ g i. inl (subst (λ z. In (Granted g) z.made) (sym p.finds) i);
       sent = λ g i. absurd (none (message.Granted g) i);
+      waits = λ q i. inl (subst (λ (z : Machine). In q z.parked) p.finds i);
+      gone = λ j. inl (ap (λ (z : Machine). z.gone j) (sym p.finds));
+      lives = λ j. ap (λ (z : Machine). z.lives j) (sym p.finds) ∙ sym (p.lives said (Finds u e).lives j);
       lines = λ x. ap (λ z. line (sha []) z x) (sym p.finds) ∙ sym (append-nil (line (sha []) (Finds u e) x)) ∙ ap (λ l. line (sha []) (Finds u e) x ++ l) (sym (p.adds said x));
       told = λ c q. (let bad : event_note.Node said ≡ event_note.Coord c = q in cc);
       did = p.coord said u.machine sends;
@@ -517,11 +545,11 @@ module _ (sha : List ℕ → Digest) (k : Limits) (farm : IsFarm sha k) where
     all_ok (Ok w) = tt
     all_ok (Err x) = tt
 
-    others_ok : (ends : Grant → Ending → Type 0) (so : Work → Type 0) (add : CoordNote → Slot → List LineVersion) (r : Result Work CoordRefusal) → others.OnWork k farm.instances u.pool u.machine sound_in (sent_in sha u inv) ends r
-        → others.OnOk k farm.instances u.pool u.machine sound_in (sent_in sha u inv) so r → ((w : Work) → At ends w.note w → so w → Grew k s.ledger (add w.note) w → (w.changed ≡ false → saves w.ledger ≡ saves s.ledger) → Done (event_note.Coord w.note) w)
-        → saying.GrewOk k s.ledger add r → SavesOk k s.ledger r → deciding.Exact k u.pool u.machine sound_in s.ledger agrees_in e r → OnWork r
-    others_ok ends so add (Ok w) f h d g c x = (d w f h g c, x)
-    others_ok ends so add (Err r) f h d g c x = x
+    others_ok : (ends : Grant → Ending → Type 0) (so : Work → Type 0) (change : CoordNote → saying.Change s.ledger) (r : Result Work CoordRefusal) → others.OnWork k farm.instances u.pool u.machine sound_in (sent_in sha u inv) ends r
+        → others.OnOk k farm.instances u.pool u.machine sound_in (sent_in sha u inv) so r → ((w : Work) → At ends w.note w → so w → Grew k s.ledger (change w.note) w → (w.changed ≡ false → saves w.ledger ≡ saves s.ledger) → Done (event_note.Coord w.note) w (change w.note))
+        → saying.GrewOk k s.ledger change r → SavesOk k s.ledger r → deciding.Exact k u.pool u.machine sound_in s.ledger agrees_in e r → OnWork change r
+    others_ok ends so change (Ok w) f h d g c x = (d w f h g c, x)
+    others_ok ends so change (Err r) f h d g c x = x
 
     other_ends : (ends ends' : Grant → Ending → Type 0) (w : Work) → ((g : Grant) (y : Ending) → ends g y → ends' g y) → ((g : Grant) (y : Ending) → ends' g y → ends g y) → At ends w.note w → At ends' w.note w
     other_ends ends ends' w to from f = record { machine = f.machine; works = f.works; granted = f.granted; ended = (ended_as u.machine ends ends' f.machine.ending to from f.ended.0, f.ended.1); agrees = f.agrees }
@@ -585,8 +613,8 @@ module _ (sha : List ℕ → Digest) (k : Limits) (farm : IsFarm sha k) where
       let here : nth u.pool number ≡ Some (Said y) = ap (λ (p : List Message). nth p number) shows.pool ∙ e in
       let w : Work = handled k y (begin_work s.ledger) in
       let f = others.handled_follows k farm.instances u.pool u.machine (sound_in u run s shows d) (sent_in sha u (inv u run s shows d)) y s.ledger (agrees_in u run s shows d) (nth_in u.pool number (Said y) here) in
-      let says = saying.handled_says k y s.ledger (others.retried-newer k farm.instances u.pool u.machine (sound_in u run s shows d) (sent_in sha u (inv u run s shows d)) y.node y.life (begin_work s.ledger)) lt_is in
-      coordinated_next u run s shows d s.down (Ok w) refl
+      let says = saying.handled_says k y s.ledger (others.retried-newer k farm.instances u.pool u.machine (sound_in u run s shows d) (sent_in sha u (inv u run s shows d)) y.node y.life (begin_work s.ledger)) in
+      coordinated_next u run s shows d (saying.Changes k y s.ledger) s.down (Ok w) refl
       (record {
         heard = λ m is none. none_some (Said y) (sym none ∙ ap (nth u.pool) (sym (deliver_is number m is)) ∙ here);
         node = λ n at. none_some n (ap addressee (sym here) ∙ at);
@@ -602,7 +630,11 @@ module _ (sha : List ℕ → Digest) (k : Limits) (farm : IsFarm sha k) where
               (λ g z h. subst (λ (x : ToCoord). MessageEnds u.machine x w.note g z) (said_is h.1 y (sym h.3 ∙ here)) (subst (λ c. MessageEnds u.machine h.1 c g z) (sym (coord_is w.note h.0 h.2)) h.4))
               f;
           tells = λ c p. sym (coord_is w.note c p);
-          grew = subst (λ o. Grew k s.ledger (message_adds o (event_note.Coord w.note)) w) (sym here) says.grew;
+          grew = says.grew;
+          line = λ x. ap (λ o. s.ledger.line x ++ message_adds o (event_note.Coord w.note) x) (sym here);
+          lives = λ n. ap (λ o. message_lives o (event_note.Coord w.note) s.ledger.lives n) (sym here);
+          gone = λ n. inl refl;
+          drops = λ p left. (y, here, left.0, left.1);
           again = λ g h. h;
           coord = λ m sound agrees x at. (w.note, refl, subst (λ (z : ToCoord). MessageMeans k.empty z u.machine w.note m (map Told w.sends)) (said_is y x (sym here ∙ at)) (note_means u run s shows number y w m sound agrees w.note says.says));
           did = λ v. tt;
@@ -624,6 +656,7 @@ module _ (sha : List ℕ → Digest) (k : Limits) (farm : IsFarm sha k) where
     finds = refl;
     ends = λ said g y h. (let bad : event_note.Node said ≡ event_note.Coord h.0 = h.2 in cc);
     adds = λ said x. no_adds (nth u.pool number) said x;
+    lives = λ said f j. no_lives (nth u.pool number) said f j;
     coord = λ said v sends y is. absurd (not_said y (some_is (Said y) m (sym is ∙ here)) to);
     at = ap addressee here ∙ to;
     heard = here;
@@ -689,12 +722,22 @@ module _ (sha : List ℕ → Digest) (k : Limits) (farm : IsFarm sha k) where
       let f = others.reread_follows k farm.instances u.pool u.machine (sound_in u run s shows RestartCoordinator) (sent_in sha u (inv u run s shows RestartCoordinator)) s.ledger (agrees_in u run s shows RestartCoordinator) in
       let w : Ledger → Work = λ q. record (begin_work s.ledger) { ledger = q; changed = true } in
       let f' = subst (λ r. Follows k.empty u.pool u.machine (Meant u.machine RestartEnds coord_note.Nothing) (w (reads r))) (sym same) f in
-      let next = after_next u run s shows RestartCoordinator s.saved event_note.Restarted (w (reads s.saved)) (reread_saved s.ledger s.saved same)
+      let next = after_next u run s shows RestartCoordinator s.saved event_note.Restarted (w (reads s.saved)) (record { line = s.ledger.line; lives = s.ledger.lives; gone = s.ledger.gone; drops = λ p. ⊤ }) (reread_saved s.ledger s.saved same)
       (record {
         finds = ap (recorded u.machine) (up_is u run s shows RestartCoordinator e);
         follows = f';
         tells = λ c p. (let bad : event_note.Restarted ≡ event_note.Coord c = p in cc);
-        grew = record { lines = λ x. ap (λ (r : Saved). r.line x) same ∙ sym (append-nil (s.ledger.line x)); grants = λ g i. absurd i };
+        grew = record {
+          lines = λ x. ap (λ (r : Saved). r.line x) same;
+          lives = λ n. ap (λ (r : Saved). r.lives n) same;
+          gone = λ n. ap (λ (r : Saved). r.gone n) same;
+          grants = λ g i. absurd i;
+          waits = λ p i. inr (inr tt);
+        };
+        line = λ x. sym (append-nil (s.ledger.line x));
+        lives = λ n. refl;
+        gone = λ n. inl refl;
+        drops = λ p left. tt;
         again = λ g h. absurd h;
         coord = λ m sound agrees. refl;
         did = λ v. tt;
@@ -739,6 +782,9 @@ module _ (sha : List ℕ → Digest) (k : Limits) (farm : IsFarm sha k) where
                 ended = subst (λ z. Ended z RestartEnds after.world.machine.ending) at c.ended;
                 granted = λ g i. subst (λ z. In (Granted g) z.made ⊎ In (Told (message.Granted g)) after.means.sent) at (c.granted g i);
                 sent = λ g i. (let r = c.sent g i in (r.0, elim r.1 [ inl new ↦ inl (subst (λ z. In (Granted g) z.made → ⊥) at new) | inr again ↦ absurd again.0 ]));
+                waits = λ p i. inr (inr tt);
+                gone = λ j. elim (c.gone j) [ inl same ↦ inl (same ∙ ap (λ (z : Machine). z.gone j) at) | inr retires ↦ inr retires ];
+                lives = λ j. c.lives j ∙ ap (λ (z : Machine). z.lives j) at;
                 lines = λ x. c.lines x ∙ ap (λ z. line (sha []) z x ++ []) at;
                 told = λ n p. (let bad : event_note.Restarted ≡ event_note.Coord n = p in cc);
                 did = c.did;
@@ -761,7 +807,7 @@ module _ (sha : List ℕ → Digest) (k : Limits) (farm : IsFarm sha k) where
   lt_not a b h = grind (arith, nat_tests)
 
   restart_plain : (u : World) (s : Farm) (n : NodeId) → Plain sha u s (RestartNode n) n None
-  restart_plain u s n = record { finds = refl; ends = λ said g y h. h; adds = λ said x. refl; coord = λ said m sends. tt; at = refl; heard = refl; apart = λ r. r }
+  restart_plain u s n = record { finds = refl; ends = λ said g y h. h; adds = λ said x. refl; lives = λ said f j. refl; coord = λ said m sends. tt; at = refl; heard = refl; apart = λ r. r }
 
   restarts_next : (u : World) (run : Moves sha (start sha) u) (s : Farm) (shows : Shows sha u s) (n : NodeId) → is_node s n ≡ true → Next u s (RestartNode n) (restarts k n s)
   restarts_next u run s shows n here = elim (cases_bool (may_restart k (s.nodes n.0))) [
@@ -809,6 +855,16 @@ module _ (sha : List ℕ → Digest) (k : Limits) (farm : IsFarm sha k) where
       last : (x : Node) → may_restart k x ≡ false → (x.spent ≡ true) ⊎ (k.greatest ≤ x.life.0)
       last x may = elim (cases_bool x.spent) [ inl t ↦ inl t | inr f ↦ inr (lt_not x.life.0 k.greatest (rw f at may)) ]
 
+  -- a nudge sends the Grant of each live grant
+  nudged_live : (u : World) (run : Moves sha (start sha) u) (s : Farm) (shows : Shows sha u s) (g : Grant) → Live u.machine g → In (message.Granted g) (nudged k (begin_work s.ledger)).sends
+  nudged_live u run s shows g live =
+      let agrees = agrees_in u run s shows Nudge in
+      subst (λ z. In (message.Granted z) (nudged k (begin_work s.ledger)).sends) (grant-lease k.empty u.machine s.ledger g (sound_in u run s shows Nudge) (core_of k.empty u.pool u.machine s.ledger agrees) live)
+      (saying.nudged_sends k s.ledger (lease_from g) (agrees.live_kept g live))
+
+  retires_only : (s : Farm) (n : NodeId) (j : ℕ) → (put n.0 true s.ledger.gone j ≡ s.ledger.gone j) ⊎ (Retire n ≡ Retire (record { 0 = j }))
+  retires_only s n j = elim (cases_nat j n.0) [ inl e ↦ inr (ap Retire (node_is n (record { 0 = j }) (sym e))) | inr ne ↦ inl (put_other n.0 true s.ledger.gone j ne) ]
+
   retire_is : (a b : NodeId) → Retire a ≡ Retire b → a ≡ b
   retire_is a b e = cc
 
@@ -822,20 +878,20 @@ module _ (sha : List ℕ → Digest) (k : Limits) (farm : IsFarm sha k) where
   step_next u run s shows (replay.Ask n wants) =
       let e : Event = replay.Ask n wants in
       let one = one_here u run s shows e n in
-      let p : Plain sha u s e n None = record { finds = refl; ends = λ said g y h. h; adds = λ said x. refl; coord = λ said m sends. tt; at = refl; heard = refl; apart = λ r. r } in
+      let p : Plain sha u s e n None = record { finds = refl; ends = λ said g y h. h; adds = λ said x. refl; lives = λ said f j. refl; coord = λ said m sends. tt; at = refl; heard = refl; apart = λ r. r } in
       node_next u run s shows e n None p (λ p x. asked k p wants x)
       (quiet_act u run s shows e n None p _ (λ x v. tt) (asked_does sha u n k s.size wants) (asked_use (u.nodes n.0) one k (record { node = n; nodes = s.size }) wants) (noting.asked_exact sha k n s.size (u.nodes n.0) one wants))
   step_next u run s shows (Tenure n f) =
       let e : Event = Tenure n f in
       let one = one_here u run s shows e n in
-      let p : Plain sha u s e n None = record { finds = refl; ends = λ said g y h. h; adds = λ said x. refl; coord = λ said m sends. tt; at = refl; heard = refl; apart = λ r. r } in
+      let p : Plain sha u s e n None = record { finds = refl; ends = λ said g y h. h; adds = λ said x. refl; lives = λ said f j. refl; coord = λ said m sends. tt; at = refl; heard = refl; apart = λ r. r } in
       node_next u run s shows e n None p (λ p x. asked_tenure k p f x)
       (quiet_act u run s shows e n None p _ (λ x v. tt) (tenure_does sha u n k s.size f) (tenure_use (u.nodes n.0) one k (record { node = n; nodes = s.size }) f) (noting.tenure_exact sha k n s.size (u.nodes n.0) one f))
   step_next u run s shows (Deliver number) = delivered_next u run s shows (nth s.pool number) number refl
   step_next u run s shows (Begin n t) =
       let e : Event = Begin n t in
       let one = one_here u run s shows e n in
-      let p : Plain sha u s e n None = record { finds = refl; ends = λ said g y h. h; adds = λ said x. refl; coord = λ said m sends. tt; at = refl; heard = refl; apart = λ r. r } in
+      let p : Plain sha u s e n None = record { finds = refl; ends = λ said g y h. h; adds = λ said x. refl; lives = λ said f j. refl; coord = λ said m sends. tt; at = refl; heard = refl; apart = λ r. r } in
       node_next u run s shows e n None p (λ p x. begun t x) (act_of u run s shows e (Begun (u.nodes n.0) one t) n None p (begun t (u.nodes n.0)) (begun_does sha u n t) (begun_use (u.nodes n.0) one t) (noting.begun_exact sha k n s.size (u.nodes n.0) one t) (λ w r b. (
         used_after u run s shows e n w.sends w.node r (λ g. g.ticket ≡ t) NoGrant b.1 (λ g h. (refl, h)) (λ g h. absurd h),
         (ap event_note.Node b.0, (b.2.0, b.2.1, b.2.2, b.2.3, subst (λ (z : Node). Runs z.asks b.2.0 b.2.1) (sym (here_after u run s shows e n w.sends w.node r)) b.2.4)),
@@ -843,7 +899,7 @@ module _ (sha : List ℕ → Digest) (k : Limits) (farm : IsFarm sha k) where
   step_next u run s shows (Finish n t lefts) =
       let e : Event = Finish n t lefts in
       let one = one_here u run s shows e n in
-      let p : Plain sha u s e n None = record { finds = refl; ends = λ said g y h. h; adds = λ said x. refl; coord = λ said m sends. tt; at = refl; heard = refl; apart = λ r. r } in
+      let p : Plain sha u s e n None = record { finds = refl; ends = λ said g y h. h; adds = λ said x. refl; lives = λ said f j. refl; coord = λ said m sends. tt; at = refl; heard = refl; apart = λ r. r } in
       node_next u run s shows e n None p (λ p x. finished_with sha p t lefts x) (act_of u run s shows e (Stops (u.nodes n.0) one t) n None p (finished_with sha (record { node = n; nodes = s.size }) t lefts (u.nodes n.0)) (finished_does sha u n s.size t lefts) (finished_use (u.nodes n.0) one sha (record { node = n; nodes = s.size }) t lefts) (noting.finished_exact sha k n s.size (u.nodes n.0) one t lefts) (λ w r b. (
         used_after u run s shows e n w.sends w.node r NoGrant (λ g. g.ticket ≡ t) b.1.0 (λ g h. absurd h) (λ g h. (refl, h)),
         (ap event_note.Node b.0, (b.1.1.0, b.1.1.1, b.1.1.2, b.1.1.3, λ i. b.1.1.4 (subst (λ (z : Node). Runs z.asks b.1.1.0 b.1.1.1) (here_after u run s shows e n w.sends w.node r) i))),
@@ -851,7 +907,7 @@ module _ (sha : List ℕ → Digest) (k : Limits) (farm : IsFarm sha k) where
   step_next u run s shows (Abort n t) =
       let e : Event = Abort n t in
       let one = one_here u run s shows e n in
-      let p : Plain sha u s e n None = record { finds = refl; ends = λ said g y h. h; adds = λ said x. refl; coord = λ said m sends. tt; at = refl; heard = refl; apart = λ r. r } in
+      let p : Plain sha u s e n None = record { finds = refl; ends = λ said g y h. h; adds = λ said x. refl; lives = λ said f j. refl; coord = λ said m sends. tt; at = refl; heard = refl; apart = λ r. r } in
       node_next u run s shows e n None p (λ p x. aborted p t x) (act_of u run s shows e (Aborts (u.nodes n.0) one t) n None p (aborted (record { node = n; nodes = s.size }) t (u.nodes n.0)) (aborted_does sha u n s.size t) (aborted_use (u.nodes n.0) one (record { node = n; nodes = s.size }) t) (noting.aborted_exact sha k n s.size (u.nodes n.0) one t) (λ w r b. (
         used_after u run s shows e n w.sends w.node r NoGrant (λ g. g.ticket ≡ t) b.1 (λ g h. absurd h) (λ g h. (refl, h)),
         (ap event_note.Node b.0, λ g ws h i. b.2 g ws h (subst (λ (z : Node). Runs z.asks g ws) (here_after u run s shows e n w.sends w.node r) i)),
@@ -859,18 +915,22 @@ module _ (sha : List ℕ → Digest) (k : Limits) (farm : IsFarm sha k) where
   step_next u run s shows (Resend n) =
       let e : Event = Resend n in
       let one = one_here u run s shows e n in
-      let p : Plain sha u s e n None = record { finds = refl; ends = λ said g y h. h; adds = λ said x. refl; coord = λ said m sends. tt; at = refl; heard = refl; apart = λ r. r } in
+      let p : Plain sha u s e n None = record { finds = refl; ends = λ said g y h. h; adds = λ said x. refl; lives = λ said f j. refl; coord = λ said m sends. tt; at = refl; heard = refl; apart = λ r. r } in
       node_next u run s shows e n None p (λ p x. resent k p x)
       (quiet_act u run s shows e n None p _ (λ x v. tt) (resent_does sha u n k s.size) (resent_use (u.nodes n.0) one k (record { node = n; nodes = s.size })) (noting.resent_exact sha k n s.size (u.nodes n.0) one))
-  step_next u run s shows Nudge = coordinated_next u run s shows Nudge s.down (Ok (nudged k (begin_work s.ledger))) refl
+  step_next u run s shows Nudge = coordinated_next u run s shows Nudge (λ c. saying.same s.ledger) s.down (Ok (nudged k (begin_work s.ledger))) refl
       (record { heard = λ m is. (let bad : Nudge ≡ Deliver m = is in absurd (cc)); node = λ n at. none_some n at; retires = λ n is. (let bad : Nudge ≡ Retire n = is in absurd (cc)); reaches = tt }) refl ((λ h. h), (λ h. h)) (
         record {
           tells = λ c p. sym (coord_is coord_note.Nudged c p);
           finds = refl;
           follows = others.nudged_follows k farm.instances u.pool u.machine (sound_in u run s shows Nudge) (sent_in sha u (inv u run s shows Nudge)) s.ledger (agrees_in u run s shows Nudge);
           grew = saying.nudged_grew k s.ledger;
+          line = λ x. sym (append-nil (s.ledger.line x));
+          lives = λ n. refl;
+          gone = λ n. inl refl;
+          drops = λ p left. left;
           again = λ g h. h;
-          coord = λ m sound agrees. refl;
+          coord = λ m sound agrees. (refl, λ g live. in_map Told (message.Granted g) (nudged k (begin_work s.ledger)).sends (nudged_live u run s shows g live));
           did = λ v. tt;
           node = λ n is. (let bad : event_note.Coord coord_note.Nudged ≡ event_note.Node n = is in cc);
           saves_all = nudged_saves k s.ledger;
@@ -881,9 +941,9 @@ module _ (sha : List ℕ → Digest) (k : Limits) (farm : IsFarm sha k) where
       let e : Event = Withdraw t in
       let sound = sound_in u run s shows e in
       let sent = sent_in sha u (inv u run s shows e) in
-      coordinated_next u run s shows e s.down (withdrawn k t (begin_work s.ledger)) refl
+      coordinated_next u run s shows e (λ c. saying.same s.ledger) s.down (withdrawn k t (begin_work s.ledger)) refl
       (record { heard = λ m is. (let bad : Withdraw t ≡ Deliver m = is in absurd (cc)); node = λ n at. none_some n at; retires = λ n is. (let bad : Withdraw t ≡ Retire n = is in absurd (cc)); reaches = tt }) refl ((λ h. h), (λ h. h))
-      (others_ok u run s shows e (WithdrawEnds t) (λ w. w.note ≡ coord_note.Withdrawn t) (λ c x. []) (withdrawn k t (begin_work s.ledger))
+      (others_ok u run s shows e (WithdrawEnds t) (λ w. w.note ≡ coord_note.Withdrawn t) (λ c. saying.same s.ledger) (withdrawn k t (begin_work s.ledger))
       (others.withdrawn_follows k farm.instances u.pool u.machine sound sent t s.ledger (agrees_in u run s shows e)) (others.withdrawn_told k farm.instances u.pool u.machine sound sent t (begin_work s.ledger))
       (λ w f told g c. record {
         saves_all = c;
@@ -891,6 +951,10 @@ module _ (sha : List ℕ → Digest) (k : Limits) (farm : IsFarm sha k) where
         follows = f;
         tells = λ c p. sym (coord_is w.note c p);
         grew = g;
+        line = λ x. sym (append-nil (s.ledger.line x));
+        lives = λ n. refl;
+        gone = λ n. inl refl;
+        drops = λ p left. left;
         again = λ g h. h;
         coord = λ m sound agrees. (ap event_note.Coord told, subst (CoordMeans u.machine) told f.ended.1);
         did = λ v. tt;
@@ -901,9 +965,9 @@ module _ (sha : List ℕ → Digest) (k : Limits) (farm : IsFarm sha k) where
       let e : Event = Prune slot in
       let sound = sound_in u run s shows e in
       let sent = sent_in sha u (inv u run s shows e) in
-      coordinated_next u run s shows e s.down (pruned k slot (begin_work s.ledger)) refl
+      coordinated_next u run s shows e (saying.pruning k s.ledger slot) s.down (pruned k slot (begin_work s.ledger)) refl
       (record { heard = λ m is. (let bad : Prune slot ≡ Deliver m = is in absurd (cc)); node = λ n at. none_some n at; retires = λ n is. (let bad : Prune slot ≡ Retire n = is in absurd (cc)); reaches = tt }) refl ((λ h. h), (λ h. h))
-      (others_ok u run s shows e NoEnds (λ w. w.note ≡ coord_note.Pruned (record { 0 = s.ledger.last + 1 })) (λ c x. prune_adds k.empty slot (event_note.Coord c) x) (pruned k slot (begin_work s.ledger))
+      (others_ok u run s shows e NoEnds (λ w. w.note ≡ coord_note.Pruned (record { 0 = s.ledger.last + 1 })) (saying.pruning k s.ledger slot) (pruned k slot (begin_work s.ledger))
       (others.pruned_follows k farm.instances u.pool u.machine sound sent slot s.ledger (agrees_in u run s shows e)) (others.pruned_told k farm.instances u.pool u.machine sound sent slot (begin_work s.ledger))
       (λ w f told g c. record {
         saves_all = c;
@@ -911,6 +975,10 @@ module _ (sha : List ℕ → Digest) (k : Limits) (farm : IsFarm sha k) where
         follows = f;
         tells = λ c p. sym (coord_is w.note c p);
         grew = g;
+        line = λ x. refl;
+        lives = λ n. refl;
+        gone = λ n. inl refl;
+        drops = λ p left. left;
         again = λ g h. h;
         coord = λ m sound agrees. (record { 0 = s.ledger.last + 1 }, ap event_note.Coord told, next_ticket s.ledger.last u.machine.last (agrees_in u run s shows e).last);
         did = λ v. tt;
@@ -921,9 +989,9 @@ module _ (sha : List ℕ → Digest) (k : Limits) (farm : IsFarm sha k) where
     | inl t ↦ rw t (let e : Event = Retire n in
         let sound = sound_in u run s shows e in
         let sent = sent_in sha u (inv u run s shows e) in
-        coordinated_next u run s shows e s.down (retired k n (begin_work s.ledger)) refl
+        coordinated_next u run s shows e (λ c. saying.retiring s.ledger n) s.down (retired k n (begin_work s.ledger)) refl
         (record { heard = λ m is. (let bad : Retire n ≡ Deliver m = is in absurd (cc)); node = λ j at. none_some j at; retires = λ j is none. true_false (is_node s n) t (ap (is_node s) (retire_is n j is) ∙ none); reaches = t }) refl ((λ h. h), (λ h. h))
-        (others_ok u run s shows e (RetireEnds n) (λ w. (w.note ≡ coord_note.Retired n) × (w.ledger.gone n.0 ≡ true)) (λ c x. []) (retired k n (begin_work s.ledger))
+        (others_ok u run s shows e (RetireEnds n) (λ w. (w.note ≡ coord_note.Retired n) × (w.ledger.gone n.0 ≡ true)) (λ c. saying.retiring s.ledger n) (retired k n (begin_work s.ledger))
         (others.retired_follows k farm.instances u.pool u.machine sound sent n s.ledger (agrees_in u run s shows e)) (others.retired_told k farm.instances u.pool u.machine sound sent n (begin_work s.ledger))
         (λ w f told g c. record {
           saves_all = c;
@@ -931,6 +999,10 @@ module _ (sha : List ℕ → Digest) (k : Limits) (farm : IsFarm sha k) where
           follows = f;
           tells = λ c p. sym (coord_is w.note c p);
           grew = g;
+          line = λ x. sym (append-nil (s.ledger.line x));
+          lives = λ n. refl;
+          gone = λ j. retires_only s n j;
+          drops = λ p left. left;
           again = λ g h. h;
           coord = λ m sound agrees. (ap event_note.Coord told.0, subst (CoordMeans u.machine) told.0 f.ended.1, sym (ap (λ (h : ℕ → Bool). h n.0) agrees.gone) ∙ told.1);
           did = λ v. tt;
@@ -947,7 +1019,7 @@ module _ (sha : List ℕ → Digest) (k : Limits) (farm : IsFarm sha k) where
   step_next u run s shows (Forge n c) =
       let e : Event = Forge n c in
       let one = one_here u run s shows e n in
-      let p : Plain sha u s e n None = record { finds = refl; ends = λ said g y h. h; adds = λ said x. refl; coord = λ said m sends. tt; at = refl; heard = refl; apart = λ r. r } in
+      let p : Plain sha u s e n None = record { finds = refl; ends = λ said g y h. h; adds = λ said x. refl; lives = λ said f j. refl; coord = λ said m sends. tt; at = refl; heard = refl; apart = λ r. r } in
       node_next u run s shows e n None p (λ p x. unless_spent x (brought sha c x))
       (quiet_act u run s shows e n None p _ (λ x v. tt) (spent_does sha u n _ (brought_does sha u n c)) (brought_use (u.nodes n.0) one sha c) (noting.forged_exact sha k n s.size (u.nodes n.0) one c))
   step_next u run s shows (FailSave survivor) = record {
@@ -962,6 +1034,9 @@ module _ (sha : List ℕ → Digest) (k : Limits) (farm : IsFarm sha k) where
         ended = none_ended u.machine NoEnds (λ g y l h. h);
         granted = λ g i. inl i;
         sent = λ g i. absurd i;
+        waits = λ p i. inl i;
+        gone = λ j. inl refl;
+        lives = λ j. refl;
         lines = λ x. sym (append-nil (line (sha []) u.machine x));
         told = λ c p. (let bad : event_note.Armed ≡ event_note.Coord c = p in cc);
         did = tt;

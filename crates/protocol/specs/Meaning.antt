@@ -1,12 +1,13 @@
 -- What an answered event means: of the world before it, u, and the world after it, v (docs/PROOFS.md,
 -- "What the notes mean").
 use Rattle.std.specs.Prelude.{◌≡◌, ◌≢◌, ℕ, ◌+◌, ◌<◌, Bool, false, true, if◌then◌else◌, ◌⊎◌, Option, Some, None, ⊤, List, [], ◌∷◌, ◌++◌, length, map, Result, Ok, Err}
-use Rattle.protocol.specs.Lists.{In, nth, set_nth}
+use Rattle.protocol.specs.Lists.{In, put, nth, set_nth}
 use Rattle.protocol.specs.Names.{Slot, slot_eq, is_private, NodeId, Life, Ask, Ticket, Digest, Want, tenure_wants}
 use Rattle.protocol.specs.Machine.{Grant, GrantedSlot, Granted, Message, Told, News, Confirmed, LineVersion, Ending, Committed, Released, Withdrawn, Died, Said, Fetches, Blob, ToCoord, Parked, Machine, Has, Live, line, version_of, digest_for, slots_of, written, hello, acquire, commit, release}
 use Rattle.farm_base.specs.declared.message.Request.{Request}
 use Rattle.farm_base.specs.declared.message.Request.TheVariants as request
 use Rattle.farm_base.specs.declared.message.FromCoord.TheVariants as message
+use Rattle.farm_base.specs.declared.message.Why.{Why}
 use Rattle.protocol.specs.declared.answer.How.TheVariants as how
 use Rattle.protocol.specs.declared.answer.CoordNote.{CoordNote}
 use Rattle.protocol.specs.declared.answer.CoordNote.TheVariants as coord
@@ -93,6 +94,36 @@ adds empty pool (Deliver number) said s = message_adds (nth pool number) said s
 adds empty pool (Prune p) said s = prune_adds empty p said s
 adds empty pool e said s = []
 
+-- ---- what is kept of nodes and asks
+
+-- the life of a message that was heard is the greatest of its node
+abbrev pub heard_lives : ToCoord → CoordNote → (ℕ → ℕ) → ℕ → ℕ
+heard_lives y coord.OldLife lives = lives
+heard_lives y coord.NodeRetired lives = lives
+heard_lives y told lives = put y.node.0 y.life.0 lives
+
+abbrev pub message_lives : Option Message → EventNote → (ℕ → ℕ) → ℕ → ℕ
+message_lives (Some (Said y)) (note.Coord told) lives = heard_lives y told lives
+message_lives o said lives = lives
+
+-- the greatest lives after an accepted event
+abbrev pub lives_at : List Message → Event → EventNote → (ℕ → ℕ) → ℕ → ℕ
+lives_at pool (Deliver number) said lives = message_lives (nth pool number) said lives
+lives_at pool e said lives = lives
+
+-- the ask was granted or denied, and that was sent
+abbrev pub IsAnswered : Parked → List Message → Type 0
+IsAnswered p sends = ((g : Grant) × In (Told (message.Granted g)) sends × (g.node ≡ p.node) × (g.life ≡ p.life) × (g.ask ≡ p.ask))
+    ⊎ ((why : Why) × In (Told (message.Denied p.node p.life p.ask why)) sends)
+
+-- a parked ask that an event drops unanswered: of an older life of the message's node, of a node that retires, and all
+-- at a restart of the coordinator
+abbrev pub DropsAt : List Message → Event → Parked → Type 0
+DropsAt pool (Deliver number) = λ p. (y : ToCoord) × (nth pool number ≡ Some (Said y)) × (p.node ≡ y.node) × p.life.0 < y.life.0
+DropsAt pool (Retire n) = λ p. p.node ≡ n
+DropsAt pool RestartCoordinator = λ p. ⊤
+DropsAt pool e = λ p. ⊥
+
 -- ---- who is in use
 
 -- an accepted event that begins an execution of the node
@@ -157,7 +188,7 @@ MessageMeans empty y m told m' sends = ⊥
 -- what the coordinator did at an accepted event
 abbrev pub CoordDid : Digest → World → Event → EventNote → Machine → List Message → Type 0
 CoordDid empty u (Deliver number) said m' sends = (y : ToCoord) → nth u.pool number ≡ Some (Said y) → (told : CoordNote) × (said ≡ note.Coord told) × MessageMeans empty y u.machine told m' sends
-CoordDid empty u Nudge said m' sends = said ≡ note.Coord coord.Nudged
+CoordDid empty u Nudge said m' sends = (said ≡ note.Coord coord.Nudged) × ((g : Grant) → Live u.machine g → In (Told (message.Granted g)) sends)
 CoordDid empty u (Withdraw t) said m' sends = (said ≡ note.Coord (coord.Withdrawn t)) × IsLive u.machine t
 CoordDid empty u (Prune s) said m' sends = (t : Ticket) × (said ≡ note.Coord (coord.Pruned t)) × (u.machine.last < t.0)
 CoordDid empty u (Retire n) said m' sends = (said ≡ note.Coord (coord.Retired n)) × (u.machine.gone n.0 ≡ false) × (m'.gone n.0 ≡ true)
@@ -177,6 +208,11 @@ pub record Carried (empty : Digest) (u : World) (e : Event) (said : EventNote) (
   pub granted : (g : Grant) → In (Granted g) m.made → In (Granted g) (Finds u e).made ⊎ In (Told (message.Granted g)) sends
   -- what is sent as granted was made then, or is live and was sent again
   pub sent : (g : Grant) → In (Told (message.Granted g)) sends → In (Granted g) m.made × ((In (Granted g) (Finds u e).made → ⊥) ⊎ (Again said g × Live m g))
+  -- a parked ask stays until it is answered or dropped
+  pub waits : (p : Parked) → In p (Finds u e).parked → In p m.parked ⊎ (IsAnswered p sends ⊎ DropsAt u.pool e p)
+  -- nodes retire by their retirement alone, and lives are those of messages that were heard
+  pub gone : (n : ℕ) → (m.gone n ≡ (Finds u e).gone n) ⊎ (e ≡ Retire (record { 0 = n }))
+  pub lives : (n : ℕ) → m.lives n ≡ lives_at u.pool e said (Finds u e).lives n
   -- each line gained what the event adds, and nothing else
   pub lines : (s : Slot) → line empty m s ≡ line empty (Finds u e) s ++ adds empty u.pool e said s
   pub told : (told : CoordNote) → said ≡ note.Coord told → CoordMeans u.machine told
@@ -246,7 +282,10 @@ NodeMeans sha heard e n x (node.Begun t) sends x' = (a : ℕ) × (wants : List W
 NodeMeans sha heard e n x (node.Finished t) sends x' = (a : ℕ) × (wants : List Want) × (g : Grant) × (r : Bool) × IsAsk x a (Running wants g r) × (g.ticket ≡ t) × Leaves sha (lefts_at e) n x g wants a sends x'
 NodeMeans sha heard e n x (node.Aborted t) sends x' = (a : ℕ) × (wants : List Want) × (g : Grant) × (r : Bool) × (IsAsk x a (Holding wants g r) ⊎ IsAsk x a (Running wants g r)) × (g.ticket ≡ t)
     × (sends ≡ release n x.life t ∷ []) × (x' ≡ record x { asks = set_nth x.asks a (Over how.Other) })
-NodeMeans sha heard e n x node.Resent sends x' = In (hello n x.life) sends × (x' ≡ x)
+NodeMeans sha heard e n x node.Resent sends x' = In (hello n x.life) sends
+    × ((a : ℕ) (wants : List Want) (tenure : Bool) → IsAsk x a (Open wants tenure) → In (acquire n x.life (record { 0 = a }) wants tenure) sends)
+    × ((a : ℕ) (wants : List Want) (g : Grant) (news : List News) → IsAsk x a (Finished wants g news) → In (commit n x.life g.ticket news) sends)
+    × (x' ≡ x)
 NodeMeans sha heard e n x (node.Life l) sends x' = (l.0 ≡ x.life.0 + 1) × (sends ≡ hello n l ∷ []) × (x' ≡ has_life x l.0)
 NodeMeans sha heard e n x (node.Took g) sends x' = (heard ≡ Some (Told (message.Granted g))) × (g.life ≡ x.life) × ((wants : List Want) × (tenure : Bool) × IsAsk x g.ask.0 (Open wants tenure)
     × (x' ≡ record x { asks = set_nth x.asks g.ask.0 (Holding wants g false); known = learn_bases g.slots x.known }))
