@@ -1,8 +1,9 @@
 -- Chronicles of schedules, and what stays so.
-use Rattle.std.proofs.Common.{◌≡◌, ℕ, ◌<◌, ◌≤◌, slice_get, List, [], ◌∷◌, ◌++◌, Bool, true, false, ◌⊎◌, Option, Some, None, Result, Ok, Err, refl, sym, ◌∙◌, ap, subst, inl, inr, arith}
+use Rattle.std.proofs.Common.{◌≡◌, ℕ, ◌<◌, ◌≤◌, slice_get, List, [], ◌∷◌, ◌++◌, Bool, true, false, ◌⊎◌, Option, Some, None, Result, Ok, Err, refl, sym, ◌∙◌, ap, subst, inl, inr, arith, append-nil}
+use Rattle.std.specs.Prelude.{⊤, if◌then◌else◌}
 use Rattle.protocol.specs.Lists.{In, IsFrontOf, nth}
 use Rattle.protocol.specs.Names.{Slot, NodeId, Ticket, Digest, Want}
-use Rattle.protocol.specs.Machine.{Grant, Granted, Told, Has, ticket_of, LineVersion, Ending, Withdrawn, Died, Message, Said, ToCoord, Machine, Live, line}
+use Rattle.protocol.specs.Machine.{Grant, Granted, Told, Has, ticket_of, LineVersion, Ending, Withdrawn, Died, Message, Said, ToCoord, Machine, Live, line, Fetches, Blob}
 use Rattle.protocol.specs.declared.answer.CoordNote.{CoordNote}
 use Rattle.protocol.specs.declared.answer.CoordNote.TheVariants as coord
 use Rattle.protocol.specs.declared.answer.CoordRefusal.{CoordRefusal}
@@ -12,30 +13,44 @@ use Rattle.protocol.specs.declared.answer.EventRefusal.{EventRefusal}
 use Rattle.protocol.specs.declared.answer.Outcome.{Outcome}
 use Rattle.protocol.specs.declared.answer.Survivor.{Survivor}
 use Rattle.protocol.specs.declared.answer.Survivor.TheVariants.{Old, New}
-use Rattle.protocol.specs.Ledger.{Limits, Ledger, Lease, Saved, saves, reads, Work, is_saved, begin_work, handled}
+use Rattle.protocol.specs.Ledger.{Limits, Ledger, Lease, Saved, saves, reads, Work, is_saved, begin_work, handled, withdrawn, retired, pruned, nudged}
 use Rattle.protocol.specs.World.{Running, Node, World, Move, Node_moves, Machine_moves, Machine_says, Fails, Recovers, Moves, Still, Then, start}
 use Rattle.protocol.specs.Safe.{IsWithdrawn, InUse, Held, Rising}
-use Rattle.protocol.specs.Replay.{Event, Deliver, Begin, Withdraw, Retire, RestartCoordinator, Farm, settled, coordinated, delivered, step, run, opening}
+use Rattle.protocol.specs.Replay.{Event, Deliver, Begin, Withdraw, Retire, RestartCoordinator, Farm, settled, coordinated, delivered, step, run, opening, Tenure, Finish, Abort, Resend, Nudge, Prune, RestartNode, Forge, FailSave, Turn, refused, is_node, at_node, restarts, told_to}
+use Rattle.protocol.specs.Replay as replay
+use Rattle.protocol.specs.Nodes.{NodeAnswer, may_restart}
+use Rattle.protocol.specs.declared.answer.CoordRefusal.TheVariants as coord_refusal
+use Rattle.protocol.specs.declared.answer.EventRefusal.TheVariants as refusal
+use Rattle.protocol.proofs.Saying as saying
 use Rattle.protocol.specs.Follows.{lease_from, Agrees, KeptAgrees, holds, IsFarm, Shows}
-use Rattle.protocol.specs.Meaning.{Finds, recorded, adds, Carried, Answered, Means, Of_older_life}
-use Rattle.protocol.specs.Chronicle.{Chronicle, EveryScheduleHasAChronicle, StaysOut, GoesOn, NoneShared, Writes, EveryVersionIsAnswered, Headline, EveryScheduleMeans, EveryFarmIsSaved, Covered, EveryRecordCovers, RestartReadsTheRecord}
+use Rattle.protocol.specs.Meaning.{message_adds, Finds, recorded, adds, Carried, Answered, Means, Of_older_life}
+use Rattle.protocol.specs.Chronicle.{unarmed, ChronicleFrom, EveryScheduleHasAChronicle, StaysOut, GoesOn, NoneShared, Writes, EveryVersionIsAnswered, Headline, EveryScheduleMeans, EveryFarmIsSaved, Covered, EveryRecordCovers, RestartReadsTheRecord}
 use Rattle.protocol.proofs.Steps.{same_grant, made_below}
 use Rattle.protocol.proofs.Invariant.{Inv}
 use Rattle.protocol.proofs.Using.{Runs}
 use Rattle.farm_base.specs.declared.message.FromCoord.TheVariants as told
-use Rattle.protocol.proofs.Base.{none_some, some_is, in_left, in_append}
+use Rattle.protocol.proofs.Base.{cases_bool, none_some, some_is, in_left, in_append}
 use Rattle.protocol.proofs.Worlds.{Whole, moves_inv, start_whole}
 use Rattle.protocol.proofs.Safety.{every_run_is_safe, every_run_stays_safe}
 use Rattle.protocol.proofs.Others.{unsaved_ends}
-use Rattle.protocol.proofs.Schedules.{moves_trans, step_next, run_next, from_opening, opening_shows, up_is}
+use Rattle.protocol.proofs.Schedules.{handled_grew, moves_trans, step_next, run_next, from_opening, opening_shows, up_is}
 
 module _ (sha : List ℕ → Digest) (k : Limits) (farm : IsFarm sha k) where
-  chronicle : (events : List Event) (s : Farm) (u : World) → Moves sha (start sha) u → Shows sha u s → Chronicle sha k events s u
-  chronicle [] s u moves shows = tt
-  chronicle (e ∷ es) s u moves shows =
+  chronicle : (events : List Event) (s : Farm) (u : World) (earlier : List World) → Moves sha (start sha) u → ((w : World) → In w (u ∷ earlier) → Moves sha (start sha) w × Moves sha w u) → Shows sha u s → ChronicleFrom sha k events s u earlier
+  chronicle [] s u earlier moves all shows = tt
+  chronicle (e ∷ es) s u earlier moves all shows =
       let n = step_next sha k farm u moves s shows e in
-      let all : Moves sha (start sha) n.world = moves_trans sha (start sha) u n.world moves n.moves in
-      (n.world, n.moves, n.means, n.fair, n.shows, every_run_is_safe sha n.world all, every_run_stays_safe sha u n.world moves n.moves, chronicle es (step sha k s e).farm n.world all n.shows)
+      let here : Moves sha (start sha) n.world = moves_trans sha (start sha) u n.world moves n.moves in
+      let since : (w : World) → In w (u ∷ earlier) → Moves sha (start sha) w × Moves sha w n.world = λ w i. (let m = all w i in (m.0, moves_trans sha w u n.world m.1 n.moves)) in (
+        n.world,
+        n.moves,
+        n.means,
+        n.fair,
+        n.shows,
+        every_run_is_safe sha n.world here,
+        λ w i. every_run_stays_safe sha w n.world (since w i).0 (since w i).1,
+        chronicle es (step sha k s e).farm n.world (u ∷ earlier) here (λ w i. elim i [ inl e ↦ subst (λ z. Moves sha (start sha) z × Moves sha z n.world) (sym e) (here, Still n.world) | inr j ↦ since w j ]) n.shows,
+      )
 
   -- an accepted event's meaning
   accepted : (u v : World) (e : Event) (r : Result Outcome EventRefusal) (o : Outcome) → r ≡ Ok o → Means sha u e r v → Answered sha u e o.note v
@@ -196,9 +211,96 @@ module _ (sha : List ℕ → Digest) (k : Limits) (farm : IsFarm sha k) where
   added : (u : World) (s : Farm) (shows : Shows sha u s) (e : Event) (said : EventNote) (x : Slot) (v : LineVersion) → In v (adds (sha []) u.pool e said x) → In v (adds k.empty s.pool e said x)
   added u s shows e said x v i = subst (λ d. In v (adds d s.pool e said x)) (sym farm.empty) (subst (λ p. In v (adds (sha []) p e said x)) shows.pool i)
 
-  one_event : (u : World) (s : Farm) (shows : Shows sha u s) (e : Event) (w : World) (r : Result Outcome EventRefusal) → (step sha k s e).outcome ≡ r → Means sha u e r w → (x : Slot) (v : LineVersion) → Stands w x v → Stands u x v ⊎ Writes sha k s e x v
-  one_event u s shows e w (Ok o) ok a x v (inl i) = elim (before u e o.note a.sent w.machine x v a.carried i) [ inl old ↦ inl old | inr new ↦ inr (inl (o, ok, added u s shows e o.note x v new)) ]
-  one_event u s shows e w (Ok o) ok a x v (inr i) = elim a.down [
+  -- what the record's lines are
+  saved_line : (u : World) (s : Farm) → Shows sha u s → (x : Slot) → s.saved.line x ≡ line (sha []) (recorded u.machine u.down) x
+  saved_line u s shows x = by u.down s.down refl refl shows.kept
+    where
+      by : (d : Option Machine) (o : Option Ledger) → u.down ≡ d → s.down ≡ o → KeptAgrees (sha []) u.pool d o → s.saved.line x ≡ line (sha []) (recorded u.machine u.down) x
+      by None None e f h = ap (λ (r : Saved). r.line x) (shows.saved ∙ ap (λ o. saves (holds o s.ledger)) f) ∙ shows.now.lines x ∙ sym (ap (λ d. line (sha []) (recorded u.machine d) x) e)
+      by None (Some q) e f h = absurd h
+      by (Some m) None e f h = absurd h
+      by (Some m) (Some q) e f h = ap (λ (r : Saved). r.line x) (shows.saved ∙ ap (λ o. saves (holds o s.ledger)) f) ∙ h.lines x ∙ sym (ap (λ d. line (sha []) (recorded u.machine d) x) e)
+
+  -- ---- what a save that failed kept
+
+  -- a version that stood in the farm, or in its record
+  abbrev Stood : Farm → Slot → LineVersion → Type 0
+  Stood s x v = In v (s.ledger.line x) ⊎ In v (s.saved.line x)
+
+  abbrev Kept : Farm → Event → (Farm → Turn) → Slot → LineVersion → Type 0
+  Kept s e turn x v = (turn s).outcome ≡ Err (refusal.Coord coord_refusal.SaveFault) → In v ((turn s).farm.saved.line x)
+      → Stood s x v ⊎ ((o : Outcome) × ((turn (unarmed s)).outcome ≡ Ok o) × In v (adds k.empty s.pool e o.note x))
+
+  -- each line that the work leaves is the one before with what the event adds
+  abbrev Lines : Farm → Event → Result Work CoordRefusal → Type 0
+  Lines s e (Ok w) = (x : Slot) → w.ledger.line x ≡ s.ledger.line x ++ adds k.empty s.pool e (note.Coord w.note) x
+  Lines s e (Err r) = ⊤
+
+  settled_kept : (s : Farm) (e : Event) (w : Work) (b : Bool) (a : Option Survivor) (x : Slot) (v : LineVersion) → Lines s e (Ok w) → (settled b a w s).outcome ≡ Err (refusal.Coord coord_refusal.SaveFault) → In v ((settled b a w s).farm.saved.line x)
+      → Stood s x v ⊎ ((o : Outcome) × ((settled b None w (unarmed s)).outcome ≡ Ok o) × In v (adds k.empty s.pool e o.note x))
+  settled_kept s e w false a x v lines fault i = inl (inr i)
+  settled_kept s e w true None x v lines fault i = (let bad : ◌≡◌ {A = Result Outcome EventRefusal} (settled true None w s).outcome (Err (refusal.Coord coord_refusal.SaveFault)) = fault in cc)
+  settled_kept s e w true (Some Old) x v lines fault i = inl (inr i)
+  settled_kept s e w true (Some New) x v lines fault i = elim (in_append v (s.ledger.line x) (adds k.empty s.pool e (note.Coord w.note) x) (subst (In v) (lines x) i)) [
+    | inl old ↦ inl (inl old)
+    | inr new ↦ inr (_, refl, new)
+  ]
+
+  coordinated_kept : (s : Farm) (e : Event) (d : Option Ledger) (r : Result Work CoordRefusal) (x : Slot) (v : LineVersion) → Lines s e r → Kept s e (λ t. coordinated d r t) x v
+  coordinated_kept s e (Some q) r x v lines fault i = inl (inr i)
+  coordinated_kept s e None (Err r) x v lines fault i = inl (inr i)
+  coordinated_kept s e None (Ok w) x v lines fault i = settled_kept s e w w.changed s.armed x v lines fault i
+
+  at_node_kept : (b : Bool) (n : NodeId) (a : NodeAnswer) (s : Farm) (x : Slot) (v : LineVersion) → In v ((at_node b n a s).farm.saved.line x) → Stood s x v
+  at_node_kept true n (Ok w) s x v i = inr i
+  at_node_kept true n (Err r) s x v i = inr i
+  at_node_kept false n a s x v i = inr i
+
+  restarts_kept : (n : NodeId) (s : Farm) (x : Slot) (v : LineVersion) → In v ((restarts k n s).farm.saved.line x) → Stood s x v
+  restarts_kept n s x v = elim (cases_bool (may_restart k (s.nodes n.0))) [ inl t ↦ rw t (λ i. inr i) | inr t ↦ rw t (λ i. inr i) ]
+
+  of_lines : (s : Farm) (e : Event) (change : CoordNote → saying.Change s.ledger) (r : Result Work CoordRefusal) → saying.GrewOk k s.ledger change r → ((c : CoordNote) (x : Slot) → (change c).line x ≡ s.ledger.line x ++ adds k.empty s.pool e (note.Coord c) x) → Lines s e r
+  of_lines s e change (Ok w) g same = λ x. g.lines x ∙ same w.note x
+  of_lines s e change (Err r) g same = tt
+
+  delivered_kept : (u : World) → Moves sha (start sha) u → (s : Farm) → Shows sha u s → (number : ℕ) (o : Option Message) (x : Slot) (v : LineVersion) → nth s.pool number ≡ o → Kept s (Deliver number) (λ t. delivered sha k o t) x v
+  delivered_kept u moves s shows number None x v here fault i = inl (inr i)
+  delivered_kept u moves s shows number (Some (Said y)) x v here fault i =
+      coordinated_kept s (Deliver number) s.down (Ok (handled k y (begin_work s.ledger))) x v
+      (λ z. (handled_grew sha k farm u moves s shows y).lines z ∙ ap (λ o. s.ledger.line z ++ message_adds o (note.Coord (handled k y (begin_work s.ledger)).note) z) (sym here)) fault i
+  delivered_kept u moves s shows number (Some (Told y)) x v here fault i = inl (at_node_kept (is_node s (told_to y)) (told_to y) _ s x v i)
+  delivered_kept u moves s shows number (Some (Fetches y)) x v here fault i = inl (at_node_kept (is_node s y.node) y.node _ s x v i)
+  delivered_kept u moves s shows number (Some (Blob n c)) x v here fault i = inl (at_node_kept (is_node s n) n _ s x v i)
+
+  retire_kept : (b : Bool) (n : NodeId) (s : Farm) (x : Slot) (v : LineVersion) → Kept s (Retire n) (λ t. if b then coordinated s.down (retired k n (begin_work s.ledger)) t else refused refusal.NoSuchNode t) x v
+  retire_kept true n s x v fault i = coordinated_kept s (Retire n) s.down (retired k n (begin_work s.ledger)) x v (of_lines s (Retire n) (λ c. saying.retiring s.ledger n) (retired k n (begin_work s.ledger)) (saying.retired_grew k s.ledger n) (λ c z. sym (append-nil (s.ledger.line z)))) fault i
+  retire_kept false n s x v fault i = inl (inr i)
+
+  kept_by : (u : World) → Moves sha (start sha) u → (s : Farm) → Shows sha u s → (e : Event) (x : Slot) (v : LineVersion) → Kept s e (λ t. step sha k t e) x v
+  unfolding step
+  kept_by u moves s shows (replay.Ask n wants) x v fault i = inl (at_node_kept (is_node s n) n _ s x v i)
+  kept_by u moves s shows (Tenure n f) x v fault i = inl (at_node_kept (is_node s n) n _ s x v i)
+  kept_by u moves s shows (Deliver number) x v fault i = delivered_kept u moves s shows number (nth s.pool number) x v refl fault i
+  kept_by u moves s shows (Begin n t) x v fault i = inl (at_node_kept (is_node s n) n _ s x v i)
+  kept_by u moves s shows (Finish n t lefts) x v fault i = inl (at_node_kept (is_node s n) n _ s x v i)
+  kept_by u moves s shows (Abort n t) x v fault i = inl (at_node_kept (is_node s n) n _ s x v i)
+  kept_by u moves s shows (Resend n) x v fault i = inl (at_node_kept (is_node s n) n _ s x v i)
+  kept_by u moves s shows Nudge x v fault i = coordinated_kept s Nudge s.down (Ok (nudged k (begin_work s.ledger))) x v (λ z. (saying.nudged_grew k s.ledger).lines z ∙ sym (append-nil (s.ledger.line z))) fault i
+  kept_by u moves s shows (Withdraw t) x v fault i = coordinated_kept s (Withdraw t) s.down (withdrawn k t (begin_work s.ledger)) x v (of_lines s (Withdraw t) (λ c. saying.same s.ledger) (withdrawn k t (begin_work s.ledger)) (saying.withdrawn_grew k s.ledger t) (λ c z. sym (append-nil (s.ledger.line z)))) fault i
+  kept_by u moves s shows (Prune p) x v fault i = coordinated_kept s (Prune p) s.down (pruned k p (begin_work s.ledger)) x v (of_lines s (Prune p) (saying.pruning k s.ledger p) (pruned k p (begin_work s.ledger)) (saying.pruned_grew k s.ledger p) (λ c z. refl)) fault i
+  kept_by u moves s shows (Retire n) x v fault i = retire_kept (is_node s n) n s x v fault i
+  kept_by u moves s shows (RestartNode n) x v fault i = elim (cases_bool (is_node s n)) [ inl t ↦ inl (restarts_kept n s x v (rw t at i)) | inr t ↦ inl (inr (rw t at i)) ]
+  kept_by u moves s shows RestartCoordinator x v fault i = inl (inr i)
+  kept_by u moves s shows (Forge n c) x v fault i = inl (at_node_kept (is_node s n) n _ s x v i)
+  kept_by u moves s shows (FailSave survivor) x v fault i = inl (inr i)
+
+  stood : (u : World) (s : Farm) → Shows sha u s → (x : Slot) (v : LineVersion) → Stood s x v → Stands u x v
+  stood u s shows x v (inl i) = inl (subst (In v) (shows.now.lines x) i)
+  stood u s shows x v (inr i) = inr (subst (In v) (saved_line u s shows x) i)
+
+  one_event : (u : World) → Moves sha (start sha) u → (s : Farm) (shows : Shows sha u s) (e : Event) (w : World) → Shows sha w (step sha k s e).farm → (r : Result Outcome EventRefusal) → (step sha k s e).outcome ≡ r → Means sha u e r w → (x : Slot) (v : LineVersion) → Stands w x v → Stands u x v ⊎ Writes sha k s e x v
+  one_event u moves s shows e w after (Ok o) ok a x v (inl i) = elim (before u e o.note a.sent w.machine x v a.carried i) [ inl old ↦ inl old | inr new ↦ inr (inl (o, ok, added u s shows e o.note x v new)) ]
+  one_event u moves s shows e w after (Ok o) ok a x v (inr i) = elim a.down [
     | inl same ↦ by u.down refl same
     | inr restarted ↦ now (subst (λ d. In v (line (sha []) (recorded w.machine d) x)) restarted.1 i)
   ]
@@ -209,18 +311,13 @@ module _ (sha : List ℕ → Digest) (k : Limits) (farm : IsFarm sha k) where
       by : (d : Option Machine) → u.down ≡ d → w.down ≡ u.down → Stands u x v ⊎ Writes sha k s e x v
       by None up same = now (subst (λ d. In v (line (sha []) (recorded w.machine d) x)) (same ∙ up) i)
       by (Some m) down same = inl (inr (subst (λ d. In v (line (sha []) (recorded u.machine d) x)) (sym down) (subst (λ d. In v (line (sha []) (recorded w.machine d) x)) (same ∙ down) i)))
-  one_event u s shows e w (Err r) ok same x v (inl i) = inl (inl (subst (λ m. In v (line (sha []) m x)) same.machine i))
-  one_event u s shows e w (Err r) ok same x v (inr i) = elim same.down [
+  one_event u moves s shows e w after (Err r) ok same x v (inl i) = inl (inl (subst (λ m. In v (line (sha []) m x)) same.machine i))
+  one_event u moves s shows e w after (Err r) ok same x v (inr i) = elim same.down [
     | inl down ↦ inl (inr (subst (λ m. In v (line (sha []) (recorded m u.down) x)) same.machine (subst (λ d. In v (line (sha []) (recorded w.machine d) x)) down i)))
-    | inr failed ↦ (let m : Machine = failed.1.0 in
-        let j : In v (line (sha []) m x) = subst (λ d. In v (line (sha []) (recorded w.machine d) x)) failed.1.1 i in
-        elim failed.1.2 [
-          | inl old ↦ inl (inl (subst (λ m. In v (line (sha []) m x)) old j))
-          | inr new ↦ elim (before u e (note.Coord new.0) new.1 m x v new.2 j) [
-            | inl old ↦ inl old
-            | inr more ↦ inr (inr (ok ∙ ap Err failed.0, (new.0, added u s shows e (note.Coord new.0) x v more)))
-          ]
-        ])
+    | inr failed ↦ elim (kept_by u moves s shows e x v (ok ∙ ap Err failed.0) (subst (In v) (sym (saved_line w (step sha k s e).farm after x)) i)) [
+      | inl old ↦ inl (stood u s shows x v old)
+      | inr new ↦ inr (inr (ok ∙ ap Err failed.0, new))
+    ]
   ]
 
   all_events : (events : List Event) (u : World) → Moves sha (start sha) u → (s : Farm) → Shows sha u s → (x : Slot) (v : LineVersion) → In v ((run sha k events s).ledger.line x) → Stands u x v ⊎ Of events s x v
@@ -228,7 +325,7 @@ module _ (sha : List ℕ → Digest) (k : Limits) (farm : IsFarm sha k) where
   all_events (e ∷ es) u moves s shows x v i =
       let n = step_next sha k farm u moves s shows e in
       elim (all_events es n.world (moves_trans sha (start sha) u n.world moves n.moves) (step sha k s e).farm n.shows x v i) [
-        | inl stands ↦ elim (one_event u s shows e n.world (step sha k s e).outcome refl n.means x v stands) [
+        | inl stands ↦ elim (one_event u moves s shows e n.world n.shows (step sha k s e).outcome refl n.means x v stands) [
           | inl old ↦ inl old
           | inr new ↦ inr ([], es, e, refl, new)
         ]
@@ -299,7 +396,8 @@ module _ (sha : List ℕ → Digest) (k : Limits) (farm : IsFarm sha k) where
       named m x g y is e = subst (λ (z : Lease). m.ending z.ticket.0 ≡ Some y) is e
 
 pub every_schedule_has_a_chronicle : EveryScheduleHasAChronicle
-every_schedule_has_a_chronicle sha k farm size events = chronicle sha k farm events (opening sha size) (start sha) (Still (start sha)) (opening_shows sha k farm size)
+every_schedule_has_a_chronicle sha k farm size events =
+    chronicle sha k farm events (opening sha size) (start sha) [] (Still (start sha)) (λ w i. elim i [ inl e ↦ subst (λ z. Moves sha (start sha) z × Moves sha z (start sha)) (sym e) (Still (start sha), Still (start sha)) | inr none ↦ absurd none ]) (opening_shows sha k farm size)
 
 pub every_version_is_answered : EveryVersionIsAnswered
 every_version_is_answered sha k farm size events x v i = elim (all_events sha k farm events (start sha) (Still (start sha)) (opening sha size) (opening_shows sha k farm size) x v i) [

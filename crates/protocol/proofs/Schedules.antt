@@ -607,6 +607,11 @@ module _ (sha : List ℕ → Digest) (k : Limits) (farm : IsFarm sha k) where
       by (coord_note.Retired n) is = is
       by coord_note.Nudged is = is
 
+  -- what a message changes of the ledger
+  pub handled_grew : (u : World) (run : Moves sha (start sha) u) (s : Farm) (shows : Shows sha u s) (y : ToCoord) → Grew k s.ledger (saying.Changes k y s.ledger (handled k y (begin_work s.ledger)).note) (handled k y (begin_work s.ledger))
+  handled_grew u run s shows y =
+      (saying.handled_says k y s.ledger (others.retried-newer k farm.instances u.pool u.machine (sound_in u run s shows Nudge) (sent_in sha u (inv u run s shows Nudge)) y.node y.life (begin_work s.ledger))).grew
+
   said_next : (u : World) (run : Moves sha (start sha) u) (s : Farm) (shows : Shows sha u s) (number : ℕ) (y : ToCoord) → nth s.pool number ≡ Some (Said y) → Next u s (Deliver number) (coordinated s.down (Ok (handled k y (begin_work s.ledger))) s)
   said_next u run s shows number y e =
       let d : Event = Deliver number in

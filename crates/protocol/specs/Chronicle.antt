@@ -5,7 +5,6 @@ use Rattle.protocol.specs.Names.{Slot, is_alone, NodeId, Life, Ticket, Digest}
 use Rattle.protocol.specs.Machine.{Grant, Confirmed, LineVersion, Message, Said, Told, ToCoord, Parked, Has}
 use Rattle.farm_base.specs.declared.message.Request.TheVariants.{Acquire}
 use Rattle.farm_base.specs.declared.message.FromCoord.TheVariants as told
-use Rattle.protocol.specs.declared.answer.CoordNote.{CoordNote}
 use Rattle.protocol.specs.declared.answer.CoordNote.TheVariants as coord
 use Rattle.protocol.specs.declared.answer.CoordRefusal.TheVariants as coord_refusal
 use Rattle.protocol.specs.declared.answer.EventRefusal.TheVariants as refusal
@@ -19,10 +18,15 @@ use Rattle.protocol.specs.Meaning.{adds, StopsAt, Means}
 use Rattle.protocol.specs.Reasons.{Fair}
 use Rattle.protocol.specs.Follows.{IsFarm, Shows, holds, NoneReady, after_life, MayBeGranted}
 
--- a world after each event, each led to from the one before by moves, meant by the event, shown by the farm and safe
+-- from here on a world after each event: led to by moves from the one before, u, meant by the event, fair, shown by the
+-- farm, safe, and safe since each earlier one
+abbrev pub ChronicleFrom : (List ℕ → Digest) → Limits → List Event → Farm → World → List World → Type 0
+ChronicleFrom sha k [] s u earlier = ⊤
+ChronicleFrom sha k (e ∷ es) s u earlier = (v : World) × Moves sha u v × Means sha u e (step sha k s e).outcome v × Fair k u s e (step sha k s e).outcome × Shows sha v (step sha k s e).farm
+    × Safe sha v × ((w : World) → In w (u ∷ earlier) → SafeSince sha w v) × ChronicleFrom sha k es (step sha k s e).farm v (u ∷ earlier)
+
 abbrev pub Chronicle : (List ℕ → Digest) → Limits → List Event → Farm → World → Type 0
-Chronicle sha k [] s u = ⊤
-Chronicle sha k (e ∷ es) s u = (v : World) × Moves sha u v × Means sha u e (step sha k s e).outcome v × Fair k u s e (step sha k s e).outcome × Shows sha v (step sha k s e).farm × Safe sha v × SafeSince sha u v × Chronicle sha k es (step sha k s e).farm v
+Chronicle sha k events s u = ChronicleFrom sha k events s u []
 
 abbrev pub EveryScheduleHasAChronicle : Type 0
 EveryScheduleHasAChronicle = (sha : List ℕ → Digest) (k : Limits) → IsFarm sha k → (size : ℕ) (events : List Event) → Chronicle sha k events (opening sha size) (start sha)
@@ -41,10 +45,17 @@ GoesOn sha k n t (e ∷ es) s = ((g : Grant) (o : Outcome) → (step sha k s e).
 abbrev pub NoneShared : List Message → Ticket → Ticket → Type 0
 NoneShared pool t t' = (g g' : Grant) (s : Slot) → In (Told (told.Granted g)) pool → In (Told (told.Granted g')) pool → g.ticket ≡ t → g'.ticket ≡ t' → Has g s → Has g' s → is_alone s ≡ true → ⊥
 
--- the answer to one more event names the version for the slot; or its save failed, and the record kept it
+-- the farm with no failure armed
+abbrev pub unarmed : Farm → Farm
+unarmed s = record s { armed = None }
+
+-- the answer to one more event names the version for the slot
+abbrev pub NamesVersion : (List ℕ → Digest) → Limits → Farm → Event → Slot → LineVersion → Type 0
+NamesVersion sha k s e x v = (o : Outcome) × ((step sha k s e).outcome ≡ Ok o) × In v (adds k.empty s.pool e o.note x)
+
+-- or its save failed, and its answer would have named it without that failure: the record kept it
 abbrev pub Writes : (List ℕ → Digest) → Limits → Farm → Event → Slot → LineVersion → Type 0
-Writes sha k s e x v = ((o : Outcome) × ((step sha k s e).outcome ≡ Ok o) × In v (adds k.empty s.pool e o.note x))
-    ⊎ (((step sha k s e).outcome ≡ Err (refusal.Coord coord_refusal.SaveFault)) × ((told : CoordNote) × In v (adds k.empty s.pool e (note.Coord told) x)))
+Writes sha k s e x v = NamesVersion sha k s e x v ⊎ (((step sha k s e).outcome ≡ Err (refusal.Coord coord_refusal.SaveFault)) × NamesVersion sha k (unarmed s) e x v)
 
 -- each version that ever stands on a line is of such an event. As lines only grow at their end, they stand in the
 -- order of these events
