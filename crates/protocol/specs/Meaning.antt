@@ -27,7 +27,7 @@ use Rattle.protocol.specs.Safe.{InUse}
 
 -- ---- what ended
 
--- of the live grants just these ended, each so, and no other ticket's ending changed
+-- of the live grants exactly these ended, each so, and no other ticket's ending changed
 pub record Ended (m : Machine) (ends : Grant → Ending → Type 0) (ending : ℕ → Option Ending) : Type 0 where
   pub all : (g : Grant) (y : Ending) → Live m g → ends g y → ending g.ticket.0 ≡ Some y
   pub only : (t : ℕ) → (ending t ≡ m.ending t) ⊎ ((g : Grant) × (y : Ending) × Live m g × ends g y × (g.ticket.0 ≡ t) × (ending t ≡ Some y))
