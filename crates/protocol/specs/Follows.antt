@@ -36,12 +36,12 @@ abbrev pub Waits : List Lease → List Parked → Type 0
 Waits live [] = ⊤
 Waits live (p ∷ ps) = NoLease live p × (is_parked ps p.node p.life p.ask ≡ false) × Waits live ps
 
--- the ledger keeps just what the machine knows that is still of use, these messages having been sent
+-- the ledger keeps exactly what is still of use of the machine, these messages having been sent
 pub record Agrees (empty : Digest) (pool : List Message) (m : Machine) (q : Ledger) : Type 0 where
-  -- the leases are just the live grants
+  -- the leases are exactly the live grants
   pub live_made : (h : Lease) → In h q.live → (g : Grant) × Live m g × (lease_from g ≡ h)
   pub live_kept : (g : Grant) → Live m g → In (lease_from g) q.live
-  -- the retired slots are just those
+  -- the retired slots are exactly the machine's
   pub retired_made : (s : Slot) → q.retired s ≡ true → Retired m s
   pub retired_kept : (s : Slot) → Retired m s → q.retired s ≡ true
   pub lines : (s : Slot) → q.line s ≡ line empty m s
@@ -61,7 +61,7 @@ pub data Works (empty : Digest) (pool : List Message) (m : Machine) : Machine �
   Goes_on : (a b : Machine) (sends : List FromCoord) → Works empty pool m a sends → Step empty pool a b → Works empty pool m b sends
   Speaks : (a : Machine) (sends : List FromCoord) (y : FromCoord) → Works empty pool m a sends → Says empty pool a y → Works empty pool m a (sends ++ y ∷ [])
 
--- what the work comes to, the machine may do, and `is` holds of how tickets ended then
+-- the machine may do what the work did, and `is` holds of how tickets ended then
 pub record Follows (empty : Digest) (pool : List Message) (m : Machine) (is : (ℕ → Option Ending) → Type 0) (w : Work) : Type 0 where
   pub machine : Machine
   pub works : Works empty pool m machine w.sends
@@ -122,12 +122,12 @@ abbrev pub EveryEventIsMoves : Type 0
 EveryEventIsMoves = (sha : List ℕ → Digest) (k : Limits) → IsFarm sha k → (u : World) → Moves sha (start sha) u → (s : Farm) → Shows sha u s → (e : Event)
     → (v : World) × Moves sha u v × Shows sha v (step sha k s e).farm × Means sha u e (step sha k s e).outcome v × Fair k u s e (step sha k s e).outcome
 
--- what a call comes to, the machine may do, and it ends these
+-- the machine may do what an accepted call did, and it ends these
 abbrev pub FollowsOk : Digest → List Message → Machine → (Grant → Ending → Type 0) → Result Work CoordRefusal → Type 0
 FollowsOk empty pool m ends (Ok w) = Follows empty pool m (Meant m ends w.note) w
 FollowsOk empty pool m ends (Err e) = ⊤
 
--- what is asked for rightly is accepted: the withdrawal of a live grant that is no tenure
+-- what is asked for rightly is accepted: the withdrawal of a live grant, unless it is a tenure
 abbrev pub WithdrawIsTaken : Limits → Machine → Ledger → Type 0
 WithdrawIsTaken k m q = (g : Grant) → Live m g → g.tenure ≡ false → (w : Work) × (withdrawn k g.ticket (begin_work q) ≡ Ok w)
 

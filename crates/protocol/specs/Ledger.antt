@@ -44,7 +44,7 @@ pub record Ledger : Type 0 where
 abbrev pub opening : Ledger
 opening = record { live = []; retired = λ s. false; gone = λ n. false; line = λ s. []; last = 0; ceiling = 0; old_home = None; lives = λ n. 0; parked = [] }
 
--- what an event comes to: the ledger after it, what is sent, whether the record changed, and what is told of it
+-- the result of an event: the ledger after it, what is sent, whether the record changed, and the note
 pub record Work : Type 0 where
   pub ledger : Ledger
   pub sends : List FromCoord
@@ -74,7 +74,7 @@ is_leased q s = some_lease q.live s
 abbrev pub is_free : Ledger → Slot → Bool
 is_free q s = not (some_lease q.live s) && not (q.retired s)
 
--- the lowest free instance of a folder from i on, of so many; 0 where there is none
+-- the lowest free instance of a folder among the k from i on; 0 where there is none
 unfoldable pub lowest : (Slot → Bool) → FolderName → ℕ → ℕ → ℕ
 lowest free f i zero = 0
 lowest free f i (suc k) = if free (record { folder = f; instance = i }) then i else lowest free f (i + 1) k
@@ -292,7 +292,7 @@ on_all line t (x ∷ xs) = is_some (place t (line x.slot) 0) && on_all line t xs
 abbrev pub is_its : NodeId → Life → Lease → Bool
 is_its n l g = (g.node.0 == n.0) && (g.life.0 == l.0)
 
--- the lease is this node's and life's, and the slots are one or more and just its writable ones
+-- the lease is of this node and life, and the slots are one or more and exactly its writable ones
 abbrev pub may_commit : NodeId → Life → List News → Option Lease → Bool
 may_commit n l news None = false
 may_commit n l news (Some g) = is_its n l g && slots_eq (slots_of news) (writable_slots g.slots) && not (is_nil news)

@@ -162,7 +162,7 @@ MayEnd pool m g Released = In (release g.node g.life g.ticket) pool
 MayEnd pool m g Withdrawn = g.tenure ≡ false
 MayEnd pool m g Died = (l : Life) × WasHeard pool g.node l × (g.life.0 < l.0) × (m.gone g.node.0 ≡ false)
 
--- an old home that is this node is no more
+-- clears the old home if it is this node
 abbrev pub cleared : NodeId → Option NodeId → Option NodeId
 cleared n None = None
 cleared n (Some h) = if h.0 == n.0 then None else Some h

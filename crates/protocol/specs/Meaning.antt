@@ -44,7 +44,7 @@ WithdrawEnds t g y = (g.ticket ≡ t) × (y ≡ Withdrawn)
 abbrev pub RetireEnds : NodeId → Grant → Ending → Type 0
 RetireEnds n g y = (g.node ≡ n) × (y ≡ Withdrawn)
 
--- the record has no lease without a PRIVATE slot that is no tenure
+-- the record has a lease only if it has a PRIVATE slot or is a tenure
 abbrev pub RestartEnds : Grant → Ending → Type 0
 RestartEnds g y = (g.tenure ≡ false) × ((s : Slot) → Has g s → is_private s.folder.mode ≡ false) × (y ≡ Withdrawn)
 

@@ -15,7 +15,7 @@ use Rattle.protocol.specs.declared.answer.NodeNote.TheVariants as note
 use Rattle.protocol.specs.declared.answer.NodeRefusal.{NodeRefusal}
 use Rattle.protocol.specs.declared.answer.NodeRefusal.TheVariants as refusal
 
--- what a call comes to: the node after it, what it sends, and what is told of it
+-- the result of a call: the node after it, what it sends, and the note
 pub record NodeWork : Type 0 where
   pub node : Node
   pub sends : List Message
@@ -153,7 +153,7 @@ all_stored x slots = list_all (λ u. is_stored x u.digest) slots
 abbrev pub is_missing : Limits → Node → GrantedSlot → Bool
 is_missing k x u = not (digest_eq u.digest k.empty) && not (is_stored x u.digest)
 
--- the numbers from i on, so many
+-- the k numbers from i on
 abbrev pub nodes_from : ℕ → ℕ → List NodeId
 nodes_from i zero = []
 nodes_from i (suc k) = record { 0 = i } ∷ nodes_from (i + 1) k
