@@ -8,16 +8,19 @@ use Rattle.std.proofs.lemmas.List.{length-append}
 use Rattle.folders.specs.declared.refusal.FolderRefusal.{FolderRefusal}
 use Rattle.folders.specs.declared.refusal.FolderRefusal.TheVariants.{TooLarge}
 use Rattle.folders.specs.Files.{Files, file_bytes, folder_bytes, most_bytes, IsFolder}
-use Rattle.folders.specs.Reading.{◌>>=◌, file_at, files_in, folder_of, last_path, Faulted}
-use Rattle.folders.proofs.Bind.{bind_err, chosen, ok_is}
-use Rattle.folders.proofs.FileLaws.{IsBytes, file_takes, parts_then}
+use Rattle.codec.specs.Steps.{◌>>=◌}
+use Rattle.folders.specs.Reading.{file_at, files_in, folder_of, last_path, Faulted}
+use Rattle.codec.proofs.Fronts.{parts_then}
+use Rattle.codec.proofs.Steps.{bind_err, chosen, err_is, ok_is}
+use Rattle.farm_base.specs.Digests.{IsBytes}
+use Rattle.folders.proofs.FileLaws.{file_takes}
 use Rattle.folders.proofs.FolderLaws.{length-file_bytes, folder_again}
 use Rattle.folders.proofs.Rising.{RiseFrom, sorted_from_rise}
 
 record FaultsFrom (last : Option (List ℕ)) (text : List ℕ) (refusal : FolderRefusal) : Type 0 where
   before : Files
   rest : List ℕ
-  rise : RiseFrom last (keys_of before)
+  rise : RiseFrom last before
   utf8 : AllByRecursion IsUtf8 (keys_of before)
   parts : text ≡ folder_bytes before ++ rest
   fault : file_at (last_path last before) rest ≡ Err refusal
@@ -51,19 +54,16 @@ fault_in (suc limit) last (b ∷ bs) d within fits e =
 abbrev refused : FolderRefusal → Result Files FolderRefusal
 refused d = Err d
 
-refusal_is : (c d : FolderRefusal) → refused c ≡ refused d → c ≡ d
-refusal_is c d e = cc
-
 pub folder_fault : (text : List ℕ) (d : FolderRefusal) → IsBytes text → folder_of text ≡ Err d → Faulted text d
 unfolding folder_of
 folder_fault text d fits e =
     elim (chosen (ltb most_bytes (length text)) (refused TooLarge) (files_in (length text) None text) (refused d) e) [
-      | inl large ↦ inl (sym (refusal_is TooLarge d large.1), ltb-true most_bytes (length text) large.0)
+      | inl large ↦ inl (sym (err_is TooLarge d large.1), ltb-true most_bytes (length text) large.0)
       | inr small ↦
           let f = fault_in (length text) None text d (omega arith) fits small.1 in
           inr (
             ltb-false most_bytes (length text) small.0,
-            record { before = f.before; rest = f.rest; rise = sorted_from_rise None (keys_of f.before) f.rise; utf8 = f.utf8; parts = f.parts; fault = f.fault },
+            record { before = f.before; rest = f.rest; rise = sorted_from_rise None f.before f.rise; utf8 = f.utf8; parts = f.parts; fault = f.fault },
           )
     ]
 

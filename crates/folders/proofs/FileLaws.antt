@@ -1,89 +1,49 @@
 -- What is read is the spelling of a value, and the spelling of a value is read.
-use Rattle.std.proofs.Common.{◌≡◌, ℕ, ◌+◌, ◌-◌, ◌^◌, ◌<◌, ◌≤◌, true, false, ltb, cond, List, ◌++◌, length, get_or, take, drop, Option, Result, Ok, Err, refl, sym, ap, subst, ◌∙◌, append_assoc, arith, inl, inr}
+use Rattle.std.proofs.Common.{◌≡◌, ℕ, ◌^◌, ◌<◌, true, false, cond, List, ◌++◌, length, Option, Result, Ok, Err, refl, sym, ap, subst, ◌∙◌, append_assoc, arith}
 use Rattle.std.specs.Int.{w32, from_be_bytes, to_be_bytes}
 use Rattle.std.specs.Str.{IsUtf8, is_utf8}
-use Rattle.std.proofs.lemmas.Bool.{cases_lt, ltb-false, le-ltb, false_from_ne_true}
-use Rattle.std.proofs.lemmas.List.{take_at, drop_at, take-append-drop, length-append, length-take, length-drop, get_or-drop, get_or-take, get_or_past}
-use Rattle.std.proofs.lemmas.Nat.{be_bytes_4, from_be_bytes-to_be_bytes_4}
+use Rattle.std.proofs.lemmas.Bool.{false_from_ne_true}
+use Rattle.std.proofs.lemmas.List.{length-append}
+use Rattle.std.proofs.lemmas.Nat.{from_be_bytes-to_be_bytes_4}
 use Rattle.std.proofs.lemmas.Str.{IsUtf8-from_is_utf8, is_utf8-from_IsUtf8}
+use Rattle.codec.specs.Steps.{◌>>=◌, front_or}
+use Rattle.codec.proofs.Fronts.{Takes, Takes-then, front_took, front_takes, front_again, front_of_length, wide32}
+use Rattle.codec.proofs.Steps.{bind_ok, passed_ok, ok_is}
+use Rattle.farm_base.specs.Digests.{IsBytes}
 use Rattle.folders.specs.declared.refusal.FolderRefusal.{FolderRefusal}
 use Rattle.folders.specs.declared.refusal.FolderRefusal.TheVariants.{Truncated, PathOrder, NotUtf8}
 use Rattle.folders.specs.Files.{sized, file_bytes}
-use Rattle.folders.specs.Reading.{◌>>=◌, number_at, sized_at, is_above, path_at, file_at}
-use Rattle.folders.proofs.Bind.{bind_ok, guard_ok, passed_ok, ok_is, pair_parts}
-
-abbrev pub IsBytes : List ℕ → Type 0
-IsBytes bytes = (i : ℕ) → get_or bytes i 0 < 256
-
-IsBytes-drop : (n : ℕ) (bytes : List ℕ) → IsBytes bytes → IsBytes (drop n bytes)
-IsBytes-drop n bytes h i = rw get_or-drop (h (n + i))
-
-IsBytes-take : (n : ℕ) (bytes : List ℕ) → IsBytes bytes → IsBytes (take n bytes)
-IsBytes-take n bytes h i =
-    elim (cases_lt i n) [
-      | inl lt ↦ rw (get_or-take n bytes i 0 lt) (h i)
-      | inr le ↦ rw (get_or_past (take n bytes) i 0 (omega (arith, length-take n bytes))) (omega arith)
-    ]
-
--- what a reader took from the front
-pub record Takes (bytes text rest : List ℕ) : Type 0 where
-  pub parts : bytes ≡ text ++ rest
-  pub rest_fits : IsBytes rest
-
--- two parts, one behind the other
-pub parts_then : (text a middle b rest : List ℕ) → text ≡ a ++ middle → middle ≡ b ++ rest → text ≡ (a ++ b) ++ rest
-parts_then text a middle b rest p q = p ∙ ap (λ (x : List ℕ). a ++ x) q ∙ sym (append_assoc a b rest)
-
-Takes-then : (a x b y c : List ℕ) → Takes a x b → Takes b y c → Takes a (x ++ y) c
-Takes-then a x b y c p q = record { parts = parts_then a x b y c p.parts q.parts; rest_fits = q.rest_fits }
-
-abbrev read_ok : {A : Type 0} → A → Result A FolderRefusal
-read_ok x = Ok x
+use Rattle.folders.specs.Reading.{number_at, sized_at, is_above, path_at, file_at}
 
 -- ---- a number
 
-below : (bytes : List ℕ) → IsBytes bytes → from_be_bytes w32 bytes < 2 ^ 32
-below bytes fits = omega (arith, fits 0, fits 1, fits 2, fits 3)
-
 number_takes : (bytes : List ℕ) (n : ℕ) (rest : List ℕ) → IsBytes bytes → number_at bytes ≡ Ok (n, rest) → Takes bytes (to_be_bytes w32 n) rest
 number_takes bytes n rest fits e =
-    let g = guard_ok (ltb (length bytes) 4) Truncated (Ok (from_be_bytes w32 (take 4 bytes), drop 4 bytes)) (n, rest) e in
-    let long : 4 ≤ length bytes = ltb-false _ _ g.0 in
-    let p = pair_parts (from_be_bytes w32 (take 4 bytes)) n (drop 4 bytes) rest (ok_is (from_be_bytes w32 (take 4 bytes), drop 4 bytes) (n, rest) g.1) in
-    let front : to_be_bytes w32 n ≡ take 4 bytes = rw (← p.0) (be_bytes_4 (take 4 bytes) _ (omega (arith, length-take 4 bytes)) (IsBytes-take 4 bytes fits) refl) in
-    record { parts = sym (take-append-drop 4 bytes) ∙ ap (λ (x : List ℕ). x ++ drop 4 bytes) (sym front) ∙ ap (λ (x : List ℕ). to_be_bytes w32 n ++ x) p.1; rest_fits = rw (← p.1) (IsBytes-drop 4 bytes fits) }
+    let s = bind_ok (front_or Truncated 4 bytes) (λ front. Ok (from_be_bytes w32 front.0, front.1)) (n, rest) e in
+    let t = front_takes Truncated 4 bytes s.0.0 s.0.1 fits s.1 in
+    subst (λ (x : ℕ × List ℕ). Takes bytes (to_be_bytes w32 x.0) x.1) (ok_is {E = FolderRefusal} (from_be_bytes w32 s.0.0, s.0.1) (n, rest) s.2)
+    (subst (λ (x : List ℕ). Takes bytes x s.0.1) (sym (wide32.back s.0.0 t.1 t.2)) t.0)
 
 number_front : (front rest : List ℕ) → length front ≡ 4 → number_at (front ++ rest) ≡ Ok (from_be_bytes w32 front, rest)
-number_front front rest len =
-    let long : ltb (length (front ++ rest)) 4 ≡ false = le-ltb _ _ (omega (arith, length-append front rest)) in
-    rw (long, take_at front rest 4 len, drop_at front rest 4 len) refl
+number_front front rest len = rw (front_of_length Truncated 4 front rest len) refl
 
 number_again : (n : ℕ) (rest : List ℕ) → n < 2 ^ 32 → number_at (to_be_bytes w32 n ++ rest) ≡ Ok (n, rest)
-number_again n rest lt =
-    let Read : Type 0 = ℕ × List ℕ in
-    number_front (to_be_bytes w32 n) rest refl ∙ ap (λ (k : ℕ). read_ok {A = Read} (k, rest)) (from_be_bytes-to_be_bytes_4 n lt)
+number_again n rest lt = number_front (to_be_bytes w32 n) rest refl ∙ ap (λ (k : ℕ). let read : Result (ℕ × List ℕ) FolderRefusal = Ok (k, rest) in read) (from_be_bytes-to_be_bytes_4 n lt)
 
 -- ---- bytes behind their length
 
 sized_takes : (bytes body rest : List ℕ) → IsBytes bytes → sized_at bytes ≡ Ok (body, rest) → Takes bytes (sized body) rest
 unfolding sized_at
 sized_takes bytes body rest fits e =
-    let b = bind_ok (number_at bytes) (λ n. cond (ltb (length n.1) n.0) (Err Truncated) (Ok (take n.0 n.1, drop n.0 n.1))) (body, rest) e in
-    let n = b.0 in
-    let t = number_takes bytes n.0 n.1 fits b.1 in
-    let g = guard_ok (ltb (length n.1) n.0) Truncated (Ok (take n.0 n.1, drop n.0 n.1)) (body, rest) b.2 in
-    let long : n.0 ≤ length n.1 = ltb-false _ _ g.0 in
-    let len : length (take n.0 n.1) ≡ n.0 = omega (arith, length-take n.0 n.1) in
-    let second : Takes n.1 (take n.0 n.1) (drop n.0 n.1) = record { parts = sym (take-append-drop n.0 n.1); rest_fits = IsBytes-drop n.0 n.1 t.rest_fits } in
-    let both = Takes-then bytes (to_be_bytes w32 n.0) n.1 (take n.0 n.1) (drop n.0 n.1) t second in
-    let whole : Takes bytes (sized (take n.0 n.1)) (drop n.0 n.1) = subst (λ (k : ℕ). Takes bytes (to_be_bytes w32 k ++ take n.0 n.1) (drop n.0 n.1)) (sym len) both in
-    subst (λ (p : List ℕ × List ℕ). Takes bytes (sized p.0) p.1) (ok_is (take n.0 n.1, drop n.0 n.1) (body, rest) g.1) whole
+    let b = bind_ok (number_at bytes) (λ n. front_or Truncated n.0 n.1) (body, rest) e in
+    let t = number_takes bytes b.0.0 b.0.1 fits b.1 in
+    let f = front_takes Truncated b.0.0 b.0.1 body rest t.rest_fits b.2 in
+    let both = Takes-then bytes (to_be_bytes w32 b.0.0) b.0.1 body rest t f.0 in
+    subst (λ (k : ℕ). Takes bytes (to_be_bytes w32 k ++ body) rest) (sym f.1) both
 
 sized_again : (body rest : List ℕ) → length body < 2 ^ 32 → sized_at (sized body ++ rest) ≡ Ok (body, rest)
 unfolding sized_at
-sized_again body rest lt =
-    let long : ltb (length (body ++ rest)) (length body) ≡ false = le-ltb _ _ (omega (arith, length-append body rest)) in
-    rw (number_again (length body) (body ++ rest) lt, long, take_at body rest (length body) refl, drop_at body rest (length body) refl) refl
+sized_again body rest lt = rw (number_again (length body) (body ++ rest) lt) (front_again Truncated body rest)
 
 -- ---- a path
 
@@ -99,7 +59,7 @@ path_takes last bytes path rest fits e =
     let u = passed_ok (is_utf8 b.0.0) NotUtf8 (cond (is_above last b.0.0) (Ok b.0) (Err PathOrder)) (path, rest) b.2 in
     let a = passed_ok (is_above last b.0.0) PathOrder (Ok b.0) (path, rest) u.1 in
     let made : PathTook last bytes b.0.0 b.0.1 = record { took = sized_takes bytes b.0.0 b.0.1 fits b.1; utf8 = IsUtf8-from_is_utf8 b.0.0 u.0; above = a.0 } in
-    subst (λ (p : List ℕ × List ℕ). PathTook last bytes p.0 p.1) (ok_is b.0 (path, rest) a.1) made
+    subst (λ (p : List ℕ × List ℕ). PathTook last bytes p.0 p.1) (ok_is {E = FolderRefusal} b.0 (path, rest) a.1) made
 
 -- ---- a file
 
@@ -117,7 +77,7 @@ file_takes last bytes file rest fits e =
     let q = sized_takes b.0.1 d.0.0 d.0.1 p.took.rest_fits d.1 in
     let made : FileTook last bytes (b.0.0, d.0.0) d.0.1 = record { took = Takes-then bytes (sized b.0.0) b.0.1 (sized d.0.0) d.0.1 p.took q; utf8 = p.utf8; above = p.above } in
     let Read : Type 0 = (List ℕ × List ℕ) × List ℕ in
-    subst (λ (x : Read). FileTook last bytes x.0 x.1) (ok_is {A = Read} ((b.0.0, d.0.0), d.0.1) (file, rest) d.2) made
+    subst (λ (x : Read). FileTook last bytes x.0 x.1) (ok_is {A = Read} {E = FolderRefusal} ((b.0.0, d.0.0), d.0.1) (file, rest) d.2) made
 
 pub file_again : (last : Option (List ℕ)) (file : List ℕ × List ℕ) (rest : List ℕ) → length file.0 < 2 ^ 32 → length file.1 < 2 ^ 32 → IsUtf8 file.0 → is_above last file.0 ≡ true
     → file_at last (file_bytes file ++ rest) ≡ Ok (file, rest)
@@ -131,16 +91,12 @@ file_again last file rest path_fits content_fits utf8 above =
 pub sized_shorter : (text body rest : List ℕ) → sized_at text ≡ Ok (body, rest) → length rest < length text
 unfolding sized_at
 sized_shorter text body rest e =
-    let b = bind_ok (number_at text) (λ n. cond (ltb (length n.1) n.0) (Err Truncated) (Ok (take n.0 n.1, drop n.0 n.1))) (body, rest) e in
-    let n = b.0 in
-    let f = guard_ok (ltb (length text) 4) Truncated (Ok (from_be_bytes w32 (take 4 text), drop 4 text)) n b.1 in
-    let long : 4 ≤ length text = ltb-false _ _ f.0 in
-    let p = pair_parts (from_be_bytes w32 (take 4 text)) n.0 (drop 4 text) n.1 (ok_is (from_be_bytes w32 (take 4 text), drop 4 text) n f.1) in
-    let g = guard_ok (ltb (length n.1) n.0) Truncated (Ok (take n.0 n.1, drop n.0 n.1)) (body, rest) b.2 in
-    let q = pair_parts (take n.0 n.1) body (drop n.0 n.1) rest (ok_is (take n.0 n.1, drop n.0 n.1) (body, rest) g.1) in
-    let one : length n.1 ≡ length text - 4 = ap length (sym p.1) ∙ length-drop 4 text in
-    let two : length rest ≡ length n.1 - n.0 = ap length (sym q.1) ∙ length-drop n.0 n.1 in
-    omega arith
+    let b = bind_ok (number_at text) (λ n. front_or Truncated n.0 n.1) (body, rest) e in
+    let s = bind_ok (front_or Truncated 4 text) (λ front. Ok (from_be_bytes w32 front.0, front.1)) b.0 b.1 in
+    let one = front_took Truncated 4 text s.0.0 s.0.1 s.1 in
+    let two = front_took Truncated b.0.0 b.0.1 body rest b.2 in
+    let same : s.0.1 ≡ b.0.1 = ap (λ (x : ℕ × List ℕ). x.1) (ok_is {E = FolderRefusal} (from_be_bytes w32 s.0.0, s.0.1) b.0 s.2) in
+    omega (arith, one.1, ap length one.0, length-append s.0.0 s.0.1, ap length two.0, length-append body rest, ap length same)
 
 pub file_shorter : (last : Option (List ℕ)) (text : List ℕ) (file : List ℕ × List ℕ) (rest : List ℕ) → file_at last text ≡ Ok (file, rest) → length rest < length text
 unfolding file_at path_at
@@ -152,9 +108,9 @@ file_shorter last text file rest e =
     let a = passed_ok (is_above last s.0.0) PathOrder (Ok s.0) b.0 u.1 in
     let d = bind_ok (sized_at b.0.1) (λ content. Ok ((b.0.0, content.0), content.1)) (file, rest) b.2 in
     let one : length s.0.1 < length text = sized_shorter text s.0.0 s.0.1 s.1 in
-    let same : length s.0.1 ≡ length b.0.1 = ap (λ (p : List ℕ × List ℕ). length p.1) (ok_is s.0 b.0 a.1) in
+    let same : length s.0.1 ≡ length b.0.1 = ap (λ (p : List ℕ × List ℕ). length p.1) (ok_is {E = FolderRefusal} s.0 b.0 a.1) in
     let two : length d.0.1 < length b.0.1 = sized_shorter b.0.1 d.0.0 d.0.1 d.1 in
-    let end : length d.0.1 ≡ length rest = ap (λ (x : Read). length x.1) (ok_is {A = Read} ((b.0.0, d.0.0), d.0.1) (file, rest) d.2) in
+    let end : length d.0.1 ≡ length rest = ap (λ (x : Read). length x.1) (ok_is {A = Read} {E = FolderRefusal} ((b.0.0, d.0.0), d.0.1) (file, rest) d.2) in
     omega arith
 
 -- why a path is refused

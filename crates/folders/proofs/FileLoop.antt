@@ -3,7 +3,8 @@ use Rattle.std.proofs.Common.{◌≡◌, ℕ, zero, suc, ◌≤◌, List, [], �
 use Rattle.std.proofs.lemmas.List.{append-nil, nil_from_length}
 use Rattle.folders.specs.declared.refusal.FolderRefusal.{FolderRefusal}
 use Rattle.folders.specs.Files.{Files}
-use Rattle.folders.specs.Reading.{◌>>=◌, file_at, files_in}
+use Rattle.codec.specs.Steps.{◌>>=◌}
+use Rattle.folders.specs.Reading.{file_at, files_in}
 use Rattle.folders.proofs.FileLaws.{file_shorter}
 use Rattle.folders.proofs.FolderLaws.{files_in_some, files_in_none}
 

@@ -10,9 +10,11 @@ use Rattle.std.proofs.lemmas.List.{length-append}
 use Rattle.folders.specs.declared.refusal.FolderRefusal.{FolderRefusal}
 use Rattle.folders.specs.declared.refusal.FolderRefusal.TheVariants.{TooLarge}
 use Rattle.folders.specs.Files.{Files, sized, file_bytes, folder_bytes, most_bytes, IsFolder}
-use Rattle.folders.specs.Reading.{◌>>=◌, Gives, file_at, files_in, folder_of}
-use Rattle.folders.proofs.Bind.{bind_ok, guard_ok, ok_is}
-use Rattle.folders.proofs.FileLaws.{IsBytes, file_takes, file_again}
+use Rattle.codec.specs.Steps.{◌>>=◌}
+use Rattle.folders.specs.Reading.{Gives, file_at, files_in, folder_of}
+use Rattle.codec.proofs.Steps.{bind_ok, guard_ok, ok_is}
+use Rattle.farm_base.specs.Digests.{IsBytes}
+use Rattle.folders.proofs.FileLaws.{file_takes, file_again}
 use Rattle.folders.proofs.Rising.{RiseFrom, sorted_from_rise, rise_from_sorted}
 
 -- the file at the front, and those behind it
@@ -49,13 +51,10 @@ file_within (f ∷ fs) (suc i) file lt d is =
 
 pub record FilesTook (last : Option (List ℕ)) (text : List ℕ) (files : Files) : Type 0 where
   pub parts : text ≡ folder_bytes files
-  pub rise : RiseFrom last (keys_of files)
+  pub rise : RiseFrom last files
   pub utf8 : AllByRecursion IsUtf8 (keys_of files)
 
-abbrev ok_files : Files → Result Files FolderRefusal
-ok_files files = Ok files
-
-no_files : (last : Option (List ℕ)) (files : Files) → ok_files [] ≡ ok_files files → FilesTook last [] files
+no_files : (last : Option (List ℕ)) (files : Files) → ◌≡◌ {A = Result Files FolderRefusal} (Ok []) (Ok files) → FilesTook last [] files
 no_files last files e = subst (FilesTook last []) (ok_is [] files e) (record { parts = refl; rise = tt; utf8 = tt })
 
 pub files_take : (limit : ℕ) (last : Option (List ℕ)) (text : List ℕ) (files : Files) → length text ≤ limit → IsBytes text → files_in limit last text ≡ Ok files → FilesTook last text files
@@ -73,7 +72,7 @@ files_take (suc limit) last (b ∷ bs) files within fits e =
     subst (FilesTook last (b ∷ bs)) (ok_is (a.0.0 ∷ o.0) files o.2)
     (record { parts = t.took.parts ∙ ap (λ (x : List ℕ). file_bytes a.0.0 ++ x) u.parts; rise = (t.above, u.rise); utf8 = (t.utf8, u.utf8) })
 
-pub files_again : (limit : ℕ) (last : Option (List ℕ)) (files : Files) → length (folder_bytes files) ≤ limit → length (folder_bytes files) < 2 ^ 32 → RiseFrom last (keys_of files) → AllByRecursion IsUtf8 (keys_of files)
+pub files_again : (limit : ℕ) (last : Option (List ℕ)) (files : Files) → length (folder_bytes files) ≤ limit → length (folder_bytes files) < 2 ^ 32 → RiseFrom last files → AllByRecursion IsUtf8 (keys_of files)
     → files_in limit last (folder_bytes files) ≡ Ok files
 files_again limit last [] within small rise utf8 = files_in_none limit last
 files_again zero last (f ∷ fs) within small rise utf8 =
@@ -95,14 +94,14 @@ folder_took text files fits e =
     let small : length text ≤ most_bytes = ltb-false _ _ g.0 in
     let t = files_take (length text) None text files (omega arith) fits g.1 in
     let same : length text ≡ length (folder_bytes files) = ap length t.parts in
-    (record { rise = sorted_from_rise None (keys_of files) t.rise; utf8 = t.utf8; small = omega arith }, t.parts)
+    (record { rise = sorted_from_rise None files t.rise; utf8 = t.utf8; small = omega arith }, t.parts)
 
 pub folder_again : (files : Files) → IsFolder files → folder_of (folder_bytes files) ≡ Ok files
 unfolding folder_of
 folder_again files is =
     let small : length (folder_bytes files) ≤ most_bytes = is.small in
     let fine : ltb most_bytes (length (folder_bytes files)) ≡ false = le-ltb _ _ small in
-    rw fine (files_again (length (folder_bytes files)) None files (omega arith) (omega arith) (rise_from_sorted (keys_of files) is.rise) is.utf8)
+    rw fine (files_again (length (folder_bytes files)) None files (omega arith) (omega arith) (rise_from_sorted files is.rise) is.utf8)
 
 -- what reading gave, with view applied to it
 pub is_folder : {X : Type 0} (view : X → Files) (text : List ℕ) (r : Result X FolderRefusal) → IsBytes text → Gives view r (folder_of text) → IfOk r (λ x. IsFolder (view x) × (text ≡ folder_bytes (view x)))

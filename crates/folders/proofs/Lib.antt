@@ -1,4 +1,3 @@
-pub mod Bind
 pub mod FileLaws
 pub mod FileLoop
 pub mod FolderLaws

@@ -1,40 +1,31 @@
 -- Reading folder bytes from the left: the files, or the first fault.
-use Rattle.std.specs.Prelude.{◌≡◌, ◌⊎◌, ℕ, zero, suc, ◌<◌, ◌≤◌, nat_lt, if◌then◌else◌, Bool, true, List, [], ◌∷◌, ◌++◌, length, take, drop, Option, Some, None, Result, Ok, Err}
+use Rattle.std.specs.Prelude.{◌≡◌, ◌⊎◌, ℕ, zero, suc, ◌<◌, ◌≤◌, nat_lt, if◌then◌else◌, Bool, true, List, [], ◌∷◌, ◌++◌, length, Option, Some, None, Result, Ok, Err}
 use Rattle.std.specs.Int.{w32, from_be_bytes}
 use Rattle.std.specs.Ordering.{is_lt}
 use Rattle.std.specs.List.{AllByRecursion}
 use Rattle.std.specs.List.Sorted.{IsStrictlySortedBy}
 use Rattle.std.specs.Map.{keys_of}
 use Rattle.std.specs.Str.{IsUtf8, is_utf8}
+use Rattle.codec.specs.Steps.{◌>>=◌, GivesUnless, front_or}
 use Rattle.folders.specs.declared.refusal.FolderRefusal.{FolderRefusal}
 use Rattle.folders.specs.declared.refusal.FolderRefusal.TheVariants.{Truncated, PathOrder, NotUtf8, TooLarge, OutOfMemory}
 use Rattle.folders.specs.Files.{Files, path_cmp, folder_bytes, most_bytes}
 
--- one step after another, up to the first fault
-infixl 10 ◌>>=◌
-abbrev pub ◌>>=◌ : {A B : Type 0} → Result A FolderRefusal → (A → Result B FolderRefusal) → Result B FolderRefusal
-(Ok x) >>= f = f x
-(Err e) >>= f = Err e
-
--- a result, with view applied to its value
-abbrev pub shown : {X Y : Type 0} → (X → Y) → Result X FolderRefusal → Result Y FolderRefusal
-shown view (Ok x) = Ok (view x)
-shown view (Err e) = Err e
-
 -- what was returned, with view applied to its value, is what reading gives, unless memory ran out
 abbrev pub Gives : {X Y : Type 0} → (X → Y) → Result X FolderRefusal → Result Y FolderRefusal → Type 0
-Gives view (Ok x) read = read ≡ Ok (view x)
-Gives view (Err e) read = (e ≡ OutOfMemory) ⊎ (read ≡ Err e)
+Gives view returned read = GivesUnless OutOfMemory view returned read
 
 -- a number of four bytes, big endian, and what follows it
 abbrev pub number_at : List ℕ → Result (ℕ × List ℕ) FolderRefusal
-number_at text = if nat_lt (length text) 4 then Err Truncated else Ok (from_be_bytes w32 (take 4 text), drop 4 text)
+number_at text = do
+  front ← front_or Truncated 4 text
+  Ok (from_be_bytes w32 front.0, front.1)
 
 -- a length and that many bytes, and what follows them
 unfoldable pub sized_at : List ℕ → Result (List ℕ × List ℕ) FolderRefusal
 sized_at text = do
   len ← number_at text
-  if nat_lt (length len.1) len.0 then Err Truncated else Ok (take len.0 len.1, drop len.0 len.1)
+  front_or Truncated len.0 len.1
 
 -- whether a path is above the one before it, if there is one
 abbrev pub is_above : Option (List ℕ) → List ℕ → Bool

@@ -1,7 +1,8 @@
 //! Reading folder bytes from the left.
 ghost use Rattle.std.specs.Prelude.{◌≡◌, None, length};
 ghost use Rattle.std.specs.Option.{option_copied};
-ghost use Rattle.folders.specs.Reading.{shown, Gives, number_at, sized_at, is_above, path_at, file_at, files_in, folder_of};
+ghost use Rattle.codec.specs.Steps.{shown};
+ghost use Rattle.folders.specs.Reading.{Gives, number_at, sized_at, is_above, path_at, file_at, files_in, folder_of};
 
 use super::file::{File, file_of};
 use super::refusal::FolderRefusal;

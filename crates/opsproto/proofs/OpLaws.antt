@@ -7,10 +7,11 @@ use Rattle.std.proofs.lemmas.Bool.{le-ltb}
 use Rattle.std.proofs.lemmas.List.{append-nil}
 use Rattle.protowire.specs.declared.refusal.WireRefusal.{WireRefusal}
 use Rattle.protowire.specs.Fields.{Spelled, IsField, message, AreFields}
-use Rattle.protowire.specs.Reading.{◌>>=◌, fields_of}
+use Rattle.codec.specs.Steps.{◌>>=◌}
+use Rattle.protowire.specs.Reading.{fields_of}
 use Rattle.protowire.specs.Lookups.{Member, member_in, bodies, last_run, last_member}
 use Rattle.protowire.specs.Writing.{bytes_field, spelled_bytes}
-use Rattle.protowire.proofs.Bind.{bind_ok, ok_is}
+use Rattle.codec.proofs.Steps.{bind_ok, ok_is}
 use Rattle.protowire.proofs.FieldLaws.{fields_again}
 use Rattle.protowire.proofs.WritingLaws.{bytes_is_field}
 use Rattle.opsproto.specs.declared.refusal.OpRefusal.{OpRefusal}

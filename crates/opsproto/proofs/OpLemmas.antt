@@ -6,9 +6,10 @@ use Rattle.std.specs.Result.{IsOk, result_unwrap_or}
 use Rattle.std.proofs.lemmas.Bool.{cases_Bool, eqb-true}
 use Rattle.protowire.specs.declared.refusal.WireRefusal.{WireRefusal}
 use Rattle.protowire.specs.Fields.{Entry, Spelled, IsField, message, AreFields}
-use Rattle.protowire.specs.Reading.{◌>>=◌, fields_of}
+use Rattle.codec.specs.Steps.{◌>>=◌}
+use Rattle.protowire.specs.Reading.{fields_of}
 use Rattle.protowire.specs.Lookups.{Member, member_in, bodies, last_run, last_member}
-use Rattle.protowire.proofs.Bind.{bind_ok, ok_is}
+use Rattle.codec.proofs.Steps.{bind_ok, ok_is}
 use Rattle.protowire.proofs.FieldLaws.{fields_took, fields_again}
 use Rattle.opsproto.specs.declared.refusal.OpRefusal.{OpRefusal}
 use Rattle.opsproto.specs.declared.refusal.OpRefusal.TheVariants.{TooLarge}

@@ -4,7 +4,8 @@ use Rattle.std.specs.Prelude.{unwrap_or}
 use Rattle.std.specs.List.{last_or}
 use Rattle.protowire.specs.declared.refusal.WireRefusal.{WireRefusal}
 use Rattle.protowire.specs.Fields.{Entry, Spelled}
-use Rattle.protowire.specs.Reading.{◌>>=◌, fields_of, shown}
+use Rattle.codec.specs.Steps.{◌>>=◌, shown}
+use Rattle.protowire.specs.Reading.{fields_of}
 use Rattle.protowire.specs.Lookups.{bodies, bodies_of, at_most}
 use Rattle.opsproto.specs.Scalars.{text_in}
 use Rattle.protowire.specs.declared.field.Field.{Field}

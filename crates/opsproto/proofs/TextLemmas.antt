@@ -4,7 +4,7 @@ use Rattle.std.specs.Str.{IsUtf8, is_utf8}
 use Rattle.std.proofs.lemmas.Str.{IsUtf8-from_is_utf8, is_utf8-from_IsUtf8}
 use Rattle.std.proofs.lemmas.Bool.{false_from_ne_true}
 use Rattle.std.proofs.lemmas.List.{drop_more, drop_all, append-nil}
-use Rattle.protowire.specs.Reading.{◌>>=◌}
+use Rattle.codec.specs.Steps.{◌>>=◌}
 use Rattle.opsproto.specs.declared.refusal.OpRefusal.{OpRefusal}
 use Rattle.opsproto.specs.declared.refusal.OpRefusal.TheVariants.{NotUtf8}
 use Rattle.opsproto.specs.Texts.{text_checked, each_checked}

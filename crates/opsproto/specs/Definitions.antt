@@ -1,6 +1,6 @@
 -- The meaning of a definition's bytes (ops.proto).
 use Rattle.std.specs.Prelude.{ℕ, nat_lt, if◌then◌else◌, List, length, Result, Ok, Err}
-use Rattle.protowire.specs.Reading.{◌>>=◌}
+use Rattle.codec.specs.Steps.{◌>>=◌}
 use Rattle.protowire.specs.Lookups.{bodies}
 use Rattle.opsproto.specs.declared.refusal.OpRefusal.{OpRefusal}
 use Rattle.opsproto.specs.declared.refusal.OpRefusal.TheVariants.{TooLarge}

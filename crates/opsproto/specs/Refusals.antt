@@ -1,6 +1,6 @@
 -- Refusals of definitions and ops.
 use Rattle.std.specs.Prelude.{Result, Ok, Err}
-use Rattle.protowire.specs.Reading.{GivesUnless}
+use Rattle.codec.specs.Steps.{GivesUnless}
 use Rattle.protowire.specs.declared.refusal.WireRefusal.{WireRefusal}
 use Rattle.protowire.specs.declared.refusal.WireRefusal.TheVariants.{Truncated, VarintTooLong, BadWireType, BadFieldNumber, OutOfMemory}
 use Rattle.opsproto.specs.declared.refusal.OpRefusal.{OpRefusal}

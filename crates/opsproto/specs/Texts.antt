@@ -1,7 +1,7 @@
 -- Texts have to be UTF-8 (proto3 encoding). The first one that isn't decides, in the order of the fields.
 use Rattle.std.specs.Prelude.{ℕ, if◌then◌else◌, List, [], ◌∷◌, Option, Some, None, Result, Ok, Err}
 use Rattle.std.specs.Str.{is_utf8}
-use Rattle.protowire.specs.Reading.{◌>>=◌}
+use Rattle.codec.specs.Steps.{◌>>=◌}
 use Rattle.opsproto.specs.declared.refusal.OpRefusal.{OpRefusal}
 use Rattle.opsproto.specs.declared.refusal.OpRefusal.TheVariants.{NotUtf8}
 use Rattle.opsproto.specs.declared.input.Input.{Input}

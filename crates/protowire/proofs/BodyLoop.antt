@@ -5,7 +5,8 @@ use Rattle.std.proofs.lemmas.Bool.{cases_lt, ltb-false}
 use Rattle.std.proofs.lemmas.List.{append-nil, nil_from_length, take_all, take_at, take-append-le, length-take-le}
 use Rattle.protowire.specs.declared.refusal.WireRefusal.{WireRefusal}
 use Rattle.protowire.specs.Fields.{Entry, Spelled}
-use Rattle.protowire.specs.Reading.{◌>>=◌, field_at, spelled_at, fields_in, fields_of}
+use Rattle.codec.specs.Steps.{◌>>=◌}
+use Rattle.protowire.specs.Reading.{field_at, spelled_at, fields_in, fields_of}
 use Rattle.protowire.specs.Lookups.{body_in, bodies, said, bodies_of}
 use Rattle.protowire.proofs.FieldLaws.{fields_of_some}
 

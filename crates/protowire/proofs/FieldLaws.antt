@@ -1,34 +1,17 @@
 -- A field is read exactly where the bytes spell it.
-use Rattle.std.proofs.Common.{◌≡◌, ℕ, zero, suc, ◌+◌, ◌-◌, ◌*◌, ◌/◌, ◌%◌, ◌<◌, ◌≤◌, ◌^◌, ltb, leb, eqb, true, false, ◌||◌, cond, List, [], ◌∷◌, ◌++◌, length, take, drop, Result, Ok, Err, refl, sym, ap, subst, ◌∙◌, append_assoc, arith, inl, inr}
+use Rattle.std.proofs.Common.{◌≡◌, ℕ, zero, suc, ◌+◌, ◌-◌, ◌*◌, ◌/◌, ◌%◌, ◌<◌, ◌≤◌, ◌^◌, leb, eqb, true, false, ◌||◌, cond, List, [], ◌∷◌, ◌++◌, length, take, Result, Ok, Err, refl, sym, ap, subst, ◌∙◌, append_assoc, arith, inl, inr}
 use Rattle.std.specs.List.{AllByRecursion}
-use Rattle.std.proofs.lemmas.Bool.{ltb-false, le-ltb, leb-false, lt-leb, eqb-true, eqb-false, ne_eqb, or_parts}
-use Rattle.std.proofs.lemmas.List.{take-append-drop, take_at, drop_at, length-append, length-take}
+use Rattle.std.proofs.lemmas.Bool.{leb-false, lt-leb, eqb-true, eqb-false, ne_eqb, or_parts}
+use Rattle.std.proofs.lemmas.List.{take_at, length-append}
 use Rattle.protowire.specs.declared.refusal.WireRefusal.{WireRefusal}
 use Rattle.protowire.specs.declared.refusal.WireRefusal.TheVariants.{Truncated, BadWireType, BadFieldNumber}
 use Rattle.protowire.specs.Varints.{IsVarint}
 use Rattle.protowire.specs.Fields.{Payload, varint, eight, bytes, four, Entry, Spelled, wire_type, IsPayload, IsField, message, AreFields}
-use Rattle.protowire.specs.Reading.{◌>>=◌, varint_at, front_at, number_payload, eight_payload, bytes_payload, four_payload, payload_at, field_at, spelled_at, fields_in, fields_of, Faulted}
-use Rattle.protowire.proofs.Bind.{bind_ok, bind_err, guard_ok, chosen, ok_is, pair_parts}
+use Rattle.codec.specs.Steps.{◌>>=◌}
+use Rattle.protowire.specs.Reading.{varint_at, front_at, number_payload, fixed_payload, bytes_payload, payload_at, field_at, spelled_at, fields_in, fields_of, Faulted}
+use Rattle.codec.proofs.Fronts.{parts_then, front_took, front_again, front_of_length}
+use Rattle.codec.proofs.Steps.{bind_ok, bind_err, guard_ok, chosen, ok_is, pair_parts}
 use Rattle.protowire.proofs.VarintLaws.{varint_at_took, varint_at_again}
-
--- two parts, one behind the other
-parts_then : (text a middle b rest : List ℕ) → text ≡ a ++ middle → middle ≡ b ++ rest → text ≡ (a ++ b) ++ rest
-parts_then text a middle b rest p q = p ∙ ap (λ (x : List ℕ). a ++ x) q ∙ sym (append_assoc a b rest)
-
--- ---- the first bytes
-
-pub front_took : (len : ℕ) (text body rest : List ℕ) → front_at len text ≡ Ok (body, rest) → (text ≡ body ++ rest) × (length body ≡ len)
-front_took len text body rest e =
-    let g = guard_ok (ltb (length text) len) Truncated (Ok (take len text, drop len text)) (body, rest) e in
-    let long : len ≤ length text = ltb-false _ _ g.0 in
-    let made = ok_is {E = WireRefusal} (take len text, drop len text) (body, rest) g.1 in
-    let p = pair_parts (take len text) body (drop len text) rest made in
-    (rw (← p.0, ← p.1) (sym (take-append-drop len text)), rw (← p.0) (omega (arith, length-take len text)))
-
-pub front_again : (body rest : List ℕ) → front_at (length body) (body ++ rest) ≡ Ok (body, rest)
-front_again body rest =
-    let long = le-ltb (length (body ++ rest)) (length body) (omega (arith, length-append body rest)) in
-    rw (long, take_at body rest (length body) refl, drop_at body rest (length body) refl) refl
 
 -- ---- what a field holds
 
@@ -47,26 +30,20 @@ held_varint text p rest e =
     subst (λ (x : Payload × List ℕ). Held 0 text x.0 x.1) (ok_is {E = WireRefusal} (varint s.0.0, s.0.1) (p, rest) s.2)
     (record { front = t.0; parts = t.2; is_payload = t.1; is_type = refl })
 
-held_eight : (text : List ℕ) (p : Payload) (rest : List ℕ) → eight_payload text ≡ Ok (p, rest) → Held 1 text p rest
-held_eight text p rest e =
-    let s = bind_ok (front_at 8 text) (λ body. Ok (eight, body.1)) (p, rest) e in
-    let t = front_took 8 text s.0.0 s.0.1 s.1 in
-    subst (λ (x : Payload × List ℕ). Held 1 text x.0 x.1) (ok_is {E = WireRefusal} (eight, s.0.1) (p, rest) s.2)
-    (record { front = s.0.0; parts = t.0; is_payload = t.1; is_type = refl })
-
-held_four : (text : List ℕ) (p : Payload) (rest : List ℕ) → four_payload text ≡ Ok (p, rest) → Held 5 text p rest
-held_four text p rest e =
-    let s = bind_ok (front_at 4 text) (λ body. Ok (four, body.1)) (p, rest) e in
-    let t = front_took 4 text s.0.0 s.0.1 s.1 in
-    subst (λ (x : Payload × List ℕ). Held 5 text x.0 x.1) (ok_is {E = WireRefusal} (four, s.0.1) (p, rest) s.2)
-    (record { front = s.0.0; parts = t.0; is_payload = t.1; is_type = refl })
+held_fixed : (type len : ℕ) (held : Payload) (text : List ℕ) (p : Payload) (rest : List ℕ) → type ≡ wire_type held → ((front : List ℕ) → length front ≡ len → IsPayload held front)
+    → fixed_payload len held text ≡ Ok (p, rest) → Held type text p rest
+held_fixed type len held text p rest is fixed e =
+    let s = bind_ok (front_at len text) (λ body. Ok (held, body.1)) (p, rest) e in
+    let t = front_took Truncated len text s.0.0 s.0.1 s.1 in
+    subst (λ (x : Payload × List ℕ). Held type text x.0 x.1) (ok_is {E = WireRefusal} (held, s.0.1) (p, rest) s.2)
+    (record { front = s.0.0; parts = t.0; is_payload = fixed s.0.0 t.1; is_type = is })
 
 held_bytes : (text : List ℕ) (p : Payload) (rest : List ℕ) → bytes_payload text ≡ Ok (p, rest) → Held 2 text p rest
 held_bytes text p rest e =
     let s = bind_ok (varint_at text) (λ len. front_at len.0 len.1 >>= λ body. Ok (bytes body.0, body.1)) (p, rest) e in
     let u = bind_ok (front_at s.0.0 s.0.1) (λ body. Ok (bytes body.0, body.1)) (p, rest) s.2 in
     let t = varint_at_took text s.0.0 s.0.1 s.1 in
-    let b = front_took s.0.0 s.0.1 u.0.0 u.0.1 u.1 in
+    let b = front_took Truncated s.0.0 s.0.1 u.0.0 u.0.1 u.1 in
     let size : IsVarint t.0 (length u.0.0) = subst (λ (n : ℕ). IsVarint t.0 n) (sym b.1) t.1 in
     subst (λ (x : Payload × List ℕ). Held 2 text x.0 x.1) (ok_is {E = WireRefusal} (bytes u.0.0, u.0.1) (p, rest) u.2)
     (record {
@@ -83,17 +60,17 @@ pub payload_took : (type : ℕ) (text : List ℕ) (p : Payload) (rest : List ℕ
 unfolding payload_at
 payload_took type text p rest e =
     let last : Result (Payload × List ℕ) WireRefusal = Err BadWireType in
-    let by_five = cond (eqb type 5) (four_payload text) last in
+    let by_five = cond (eqb type 5) (fixed_payload 4 four text) last in
     let by_two = cond (eqb type 2) (bytes_payload text) by_five in
-    let by_one = cond (eqb type 1) (eight_payload text) by_two in
+    let by_one = cond (eqb type 1) (fixed_payload 8 eight text) by_two in
     elim (chosen (eqb type 0) (number_payload text) by_one (Ok (p, rest)) e) [
       | inl a ↦ of_type 0 type text p rest a.0 (held_varint text p rest a.1)
-      | inr a' ↦ elim (chosen (eqb type 1) (eight_payload text) by_two (Ok (p, rest)) a'.1) [
-        | inl b ↦ of_type 1 type text p rest b.0 (held_eight text p rest b.1)
+      | inr a' ↦ elim (chosen (eqb type 1) (fixed_payload 8 eight text) by_two (Ok (p, rest)) a'.1) [
+        | inl b ↦ of_type 1 type text p rest b.0 (held_fixed 1 8 eight text p rest refl (λ front len. len) b.1)
         | inr b' ↦ elim (chosen (eqb type 2) (bytes_payload text) by_five (Ok (p, rest)) b'.1) [
           | inl c ↦ of_type 2 type text p rest c.0 (held_bytes text p rest c.1)
-          | inr c' ↦ elim (chosen (eqb type 5) (four_payload text) last (Ok (p, rest)) c'.1) [
-            | inl d ↦ of_type 5 type text p rest d.0 (held_four text p rest d.1)
+          | inr c' ↦ elim (chosen (eqb type 5) (fixed_payload 4 four text) last (Ok (p, rest)) c'.1) [
+            | inl d ↦ of_type 5 type text p rest d.0 (held_fixed 5 4 four text p rest refl (λ front len. len) d.1)
             | inr d' ↦ absurd (let g = d'.1 in cc)
           ]
         ]
@@ -103,11 +80,11 @@ payload_took type text p rest e =
 pub payload_again : (p : Payload) (front rest : List ℕ) → IsPayload p front → payload_at (wire_type p) (front ++ rest) ≡ Ok (p, rest)
 unfolding payload_at
 payload_again (varint n) front rest is = rw (varint_at_again front n rest is) refl
-payload_again eight front rest is = rw (ap (λ (k : ℕ). front_at k (front ++ rest)) (sym is) ∙ front_again front rest) refl
+payload_again eight front rest is = rw (front_of_length Truncated 8 front rest is) refl
 payload_again (bytes body) front rest is =
     let regrouped : front ++ rest ≡ is.0 ++ (body ++ rest) = ap (λ (x : List ℕ). x ++ rest) is.2 ∙ append_assoc is.0 body rest in
-    ap (payload_at 2) regrouped ∙ rw (varint_at_again is.0 (length body) (body ++ rest) is.1, front_again body rest) refl
-payload_again four front rest is = rw (ap (λ (k : ℕ). front_at k (front ++ rest)) (sym is) ∙ front_again front rest) refl
+    ap (payload_at 2) regrouped ∙ rw (varint_at_again is.0 (length body) (body ++ rest) is.1, front_again Truncated body rest) refl
+payload_again four front rest is = rw (front_of_length Truncated 4 front rest is) refl
 
 -- ---- a field
 

@@ -8,7 +8,8 @@ use Rattle.protowire.specs.declared.refusal.WireRefusal.{WireRefusal}
 use Rattle.protowire.specs.declared.refusal.WireRefusal.TheVariants as refusal
 use Rattle.protowire.specs.declared.field.Field.{Field}
 use Rattle.protowire.specs.Fields.{Entry, Spelled, AreFields}
-use Rattle.protowire.specs.Reading.{◌>>=◌, Gives, field_at, spelled_at, fields_in, fields_of}
+use Rattle.codec.specs.Steps.{◌>>=◌}
+use Rattle.protowire.specs.Reading.{Gives, field_at, spelled_at, fields_in, fields_of}
 use Rattle.protowire.specs.Seen.{spelled_all, StandInRow}
 use Rattle.protowire.proofs.FieldLaws.{field_took, fields_of_some, fields_took}
 

@@ -1,5 +1,4 @@
 pub mod BodyLoop
-pub mod Bind
 pub mod FieldLaws
 pub mod FieldLoop
 pub mod SpanLemmas

@@ -5,8 +5,9 @@ use Rattle.std.proofs.Math.Nat.{pow-suc}
 use Rattle.protowire.specs.declared.refusal.WireRefusal.{WireRefusal}
 use Rattle.protowire.specs.declared.refusal.WireRefusal.TheVariants.{VarintTooLong}
 use Rattle.protowire.specs.Varints.{number_of, AreGroups, IsVarint}
-use Rattle.protowire.specs.Reading.{◌>>=◌, varint_in, varint_at}
-use Rattle.protowire.proofs.Bind.{bind_ok, chosen, ok_is}
+use Rattle.codec.specs.Steps.{◌>>=◌}
+use Rattle.protowire.specs.Reading.{varint_in, varint_at}
+use Rattle.codec.proofs.Steps.{bind_ok, chosen, ok_is}
 
 -- the bytes that reading took, with at most `places` before the last
 pub record Took (places : ℕ) (text : List ℕ) (n : ℕ) (rest : List ℕ) : Type 0 where

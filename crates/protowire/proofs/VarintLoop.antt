@@ -5,7 +5,8 @@ use Rattle.std.proofs.lemmas.List.{drop_more, drop_all, take_rest}
 use Rattle.std.proofs.Math.Nat.{mul_comm}
 use Rattle.protowire.specs.declared.refusal.WireRefusal.{WireRefusal}
 use Rattle.protowire.specs.declared.refusal.WireRefusal.TheVariants.{Truncated, VarintTooLong}
-use Rattle.protowire.specs.Reading.{◌>>=◌, varint_in}
+use Rattle.codec.specs.Steps.{◌>>=◌}
+use Rattle.protowire.specs.Reading.{varint_in}
 
 -- the groups that were read, and the number that is still read
 abbrev pub with_low : ℕ → ℕ → Result (ℕ × List ℕ) WireRefusal → Result (ℕ × List ℕ) WireRefusal

@@ -4,7 +4,8 @@ use Rattle.std.specs.List.{flat_map, last_or, list_any, list_all}
 use Rattle.std.specs.Option.{option_map}
 use Rattle.protowire.specs.declared.refusal.WireRefusal.{WireRefusal}
 use Rattle.protowire.specs.Fields.{Payload, varint, eight, bytes, four, Entry, Spelled}
-use Rattle.protowire.specs.Reading.{◌>>=◌, fields_of}
+use Rattle.codec.specs.Steps.{◌>>=◌}
+use Rattle.protowire.specs.Reading.{fields_of}
 
 -- the number of a varint, and of nothing else
 abbrev pub payload_number : Payload → Option ℕ

@@ -1,26 +1,12 @@
 -- Reading a message from the left: its fields, or the first fault.
-use Rattle.std.specs.Prelude.{◌≡◌, ◌⊎◌, ℕ, zero, suc, ◌+◌, ◌-◌, ◌*◌, ◌/◌, ◌%◌, ◌^◌, ◌||◌, ◌==◌, nat_lt, nat_le, if◌then◌else◌, List, [], ◌∷◌, ◌++◌, length, take, drop, Result, Ok, Err}
+use Rattle.std.specs.Prelude.{◌≡◌, ℕ, zero, suc, ◌+◌, ◌-◌, ◌*◌, ◌/◌, ◌%◌, ◌^◌, ◌||◌, ◌==◌, nat_lt, nat_le, if◌then◌else◌, List, [], ◌∷◌, ◌++◌, length, take, Result, Ok, Err}
 use Rattle.protowire.specs.declared.refusal.WireRefusal.{WireRefusal}
 use Rattle.protowire.specs.declared.refusal.WireRefusal.TheVariants.{Truncated, VarintTooLong, BadWireType, BadFieldNumber, OutOfMemory}
 use Rattle.std.specs.List.{AllByRecursion}
+use Rattle.codec.specs.Steps.{◌>>=◌, GivesUnless, front_or}
 use Rattle.protowire.specs.Fields.{Payload, varint, eight, bytes, four, Entry, Spelled, IsField, message}
 
--- one step after another, up to the first fault
-infixl 10 ◌>>=◌
-abbrev pub ◌>>=◌ : {A B E : Type 0} → Result A E → (A → Result B E) → Result B E
-(Ok x) >>= f = f x
-(Err e) >>= f = Err e
-
--- a result, its value seen by view
-abbrev pub shown : {X Y E : Type 0} → (X → Y) → Result X E → Result Y E
-shown view (Ok x) = Ok (view x)
-shown view (Err e) = Err e
-
 -- what was returned, its value seen by view, is what reading gives, unless memory ran out
-abbrev pub GivesUnless : {X Y E : Type 0} → E → (X → Y) → Result X E → Result Y E → Type 0
-GivesUnless memory view (Ok x) read = read ≡ Ok (view x)
-GivesUnless memory view (Err e) read = (e ≡ memory) ⊎ (read ≡ Err e)
-
 abbrev pub Gives : {X Y : Type 0} → (X → Y) → Result X WireRefusal → Result Y WireRefusal → Type 0
 Gives view returned read = GivesUnless OutOfMemory view returned read
 
@@ -37,7 +23,7 @@ varint_at text = varint_in 9 text
 
 -- the first `len` bytes, and what follows them
 abbrev pub front_at : ℕ → List ℕ → Result (List ℕ × List ℕ) WireRefusal
-front_at len text = if nat_lt (length text) len then Err Truncated else Ok (take len text, drop len text)
+front_at len text = front_or Truncated len text
 
 -- what a field of each wire type holds, and what follows it (proto3 encoding)
 abbrev pub number_payload : List ℕ → Result (Payload × List ℕ) WireRefusal
@@ -45,29 +31,25 @@ number_payload text = do
   number ← varint_at text
   Ok (varint number.0, number.1)
 
-abbrev pub eight_payload : List ℕ → Result (Payload × List ℕ) WireRefusal
-eight_payload text = do
-  body ← front_at 8 text
-  Ok (eight, body.1)
-
 abbrev pub bytes_payload : List ℕ → Result (Payload × List ℕ) WireRefusal
 bytes_payload text = do
   len ← varint_at text
   body ← front_at len.0 len.1
   Ok (bytes body.0, body.1)
 
-abbrev pub four_payload : List ℕ → Result (Payload × List ℕ) WireRefusal
-four_payload text = do
-  body ← front_at 4 text
-  Ok (four, body.1)
+-- eight or four bytes, which are skipped
+abbrev pub fixed_payload : ℕ → Payload → List ℕ → Result (Payload × List ℕ) WireRefusal
+fixed_payload len payload text = do
+  body ← front_at len text
+  Ok (payload, body.1)
 
 -- what a field of this wire type holds; there is no type 3, 4, 6 or 7 (groups are left out: this project's own)
 unfoldable pub payload_at : ℕ → List ℕ → Result (Payload × List ℕ) WireRefusal
 payload_at type text =
     if type == 0 then number_payload text
-    else if type == 1 then eight_payload text
+    else if type == 1 then fixed_payload 8 eight text
     else if type == 2 then bytes_payload text
-    else if type == 5 then four_payload text
+    else if type == 5 then fixed_payload 4 four text
     else Err BadWireType
 
 -- the tag, then the number, then the wire type, then the value

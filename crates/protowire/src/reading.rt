@@ -1,5 +1,6 @@
 ghost use Rattle.std.specs.Prelude.{◌≡◌, List, length, IfOk, Ok};
-ghost use Rattle.protowire.specs.Reading.{shown, front_at, payload_at, field_at, fields_of, Gives};
+ghost use Rattle.codec.specs.Steps.{shown};
+ghost use Rattle.protowire.specs.Reading.{front_at, payload_at, field_at, fields_of, Gives};
 ghost use Rattle.protowire.specs.Fields.{Spelled, AreFields};
 ghost use Rattle.protowire.specs.Seen.{payload, spelled_all, StandInRow};
 

@@ -1,5 +1,6 @@
 ghost use Rattle.std.specs.Prelude.{◌≡◌};
-ghost use Rattle.protowire.specs.Reading.{shown, varint_at};
+ghost use Rattle.codec.specs.Steps.{shown};
+ghost use Rattle.protowire.specs.Reading.{varint_at};
 
 use super::refusal::WireRefusal;
 

@@ -2,7 +2,8 @@
 
 ghost use Rattle.std.specs.Prelude.{◌≡◌, ◌≤◌, ◌++◌, ◌∷◌, [], length, take, IfOk, IfSome, OnOk};
 ghost use Rattle.std.specs.Option.{option_map};
-ghost use Rattle.protowire.specs.Reading.{shown, Gives};
+ghost use Rattle.codec.specs.Steps.{shown};
+ghost use Rattle.protowire.specs.Reading.{Gives};
 ghost use Rattle.protowire.specs.Seen.{payload};
 ghost use Rattle.protowire.specs.BodyLists.{AreWithin, pieces};
 ghost use Rattle.protowire.specs.Lookups.{body_in, bodies_of, at_most};

@@ -15,14 +15,19 @@ use Rattle.saverecord.specs.declared.record.Record.{Record}
 use Rattle.saverecord.specs.declared.record.SlotLine.{SlotLine}
 use Rattle.saverecord.specs.declared.refusal.Flaw.TheVariants.{Trailing}
 use Rattle.saverecord.specs.declared.refusal.RecordRefusal.{RecordRefusal}
-use Rattle.saverecord.specs.Parts.{◌>>=◌, Part, passed, number_at}
+use Rattle.codec.specs.Steps.{◌>>=◌}
+use Rattle.saverecord.specs.Parts.{Part, passed, number_at}
 use Rattle.saverecord.specs.Slots.{is_slot_above}
 use Rattle.saverecord.specs.Entries.{Reader, is_above, retired_node_at, node_life_at, retired_at, lease_at, line_at}
 use Rattle.saverecord.specs.Records.{home_of, home_at, list_at, retired_nodes_at, body_at, whole_body}
 use Rattle.saverecord.specs.Spelling.{slot_bytes, counted, node_bytes, node_life_bytes, lease_bytes, line_bytes, home_bytes, first_bytes, nodes_bytes, slots_bytes, body_bytes}
 use Rattle.saverecord.specs.Fits.{IsNode, IsHome, IsNodeLife, IsLease, IsSlotLine, HasParts, IsTypedNode, IsTypedLife, IsTypedSlot, IsTypedLease, IsTypedLine, IsTypedRecord}
-use Rattle.saverecord.proofs.Fields.{IsBytes, bind_ok, passed_ok, ok_is, Takes, Takes-then, wide32, wide64, number_takes, number_again}
-use Rattle.saverecord.proofs.Rows.{Row, slot_tests, sorted-from_row, row-from_sorted, numbers-from_row, row-from_numbers}
+use Rattle.codec.proofs.Fronts.{Takes, Takes-then, wide32, wide64}
+use Rattle.codec.proofs.Steps.{bind_ok, ok_is}
+use Rattle.farm_base.specs.Digests.{IsBytes}
+use Rattle.saverecord.proofs.Fields.{passed_ok, number_takes, number_again}
+use Rattle.lists.proofs.Rising.{Row, sorted-from_row, row-from_sorted}
+use Rattle.saverecord.proofs.Rows.{slot_tests, numbers-from_row, row-from_numbers}
 use Rattle.saverecord.proofs.EntryLaws.{EntryAgain, counted_takes, counted_again}
 use Rattle.saverecord.proofs.PartLaws.{node_key, life_key, slot_key, line_key, ticket_key, Any, all_any, retired_node_takes, retired_node_again, node_life_takes, node_life_again, retired_takes, retired_again, line_takes, line_again, lease_bytes_in, lease_bytes-third, lease_takes, lease_again}
 
@@ -37,7 +42,7 @@ home_takes bytes o rest fits e =
     let a = bind_ok (number_at w32 0 1024 bytes) (λ home. Ok (home_of home.0, home.1)) (o, rest) e in
     let t = number_takes w32 (2 ^ 32) wide32 0 1024 bytes a.0.0 a.0.1 fits a.1 in
     let made : Option NodeId × List ℕ = (home_of a.0.0, a.0.1) in
-    subst (λ (x : Option NodeId × List ℕ). Takes bytes (home_bytes x.0) x.1 × IsHome x.0) (ok_is made (o, rest) a.2) (by_number a.0.0 a.0.1 t.takes t.high_fits)
+    subst (λ (x : Option NodeId × List ℕ). Takes bytes (home_bytes x.0) x.1 × IsHome x.0) (ok_is {E = RecordRefusal} made (o, rest) a.2) (by_number a.0.0 a.0.1 t.takes t.high_fits)
   where
     by_number : (n : ℕ) (after : List ℕ) → Takes bytes (to_be_bytes w32 n) after → n ≤ 1024 → Takes bytes (home_bytes (home_of n)) after × IsHome (home_of n)
     by_number zero after t le = (t, tt)
@@ -67,7 +72,7 @@ record TakesNodes (layout : Layout) (bytes : List ℕ) (ns : List NodeId) (rest 
 
 no_nodes_take : (layout : Layout) (bytes : List ℕ) (ns : List NodeId) (rest : List ℕ) → IsBytes bytes → retired_nodes_bytes layout [] ≡ [] → (let p : Part (List NodeId) = Ok ([], bytes) in p) ≡ Ok (ns, rest) → TakesNodes layout bytes ns rest
 no_nodes_take layout bytes ns rest fits none e =
-    subst (λ (x : List NodeId × List ℕ). TakesNodes layout bytes x.0 x.1) (ok_is ([], bytes) (ns, rest) e)
+    subst (λ (x : List NodeId × List ℕ). TakesNodes layout bytes x.0 x.1) (ok_is {E = RecordRefusal} ([], bytes) (ns, rest) e)
     (record { takes = record { parts = ap (λ (x : List ℕ). x ++ bytes) (sym none); rest_fits = fits }; row = tt; each = tt })
 
 nodes_take : (layout : Layout) (bytes : List ℕ) (ns : List NodeId) (rest : List ℕ) → IsBytes bytes → retired_nodes_at layout bytes ≡ Ok (ns, rest) → TakesNodes layout bytes ns rest
@@ -146,7 +151,7 @@ module _ (layout : Layout) where
       let whole = Takes-then bytes (to_be_bytes w64 a.0.0 ++ home_bytes b.0.0) b.0.1 ((counted node_life_bytes c.0.0 ++ retired_nodes_bytes layout d.0.0) ++ (counted (lease_bytes_in layout) l.0.0 ++ (counted slot_bytes s.0.0 ++ counted line_bytes v.0.0))) v.0.1 ab cv in
       let made : Record × List ℕ = (made_record a.0.0 b.0.0 c.0.0 d.0.0 l.0.0 s.0.0 v.0.0, v.0.1) in
       let retired_rise : IsStrictlySortedBy slot_cmp s.0.0 = subst (IsStrictlySortedBy slot_cmp) (map-id s.0.0) (sorted-from_row is_slot_above slot_cmp slot_tests slot_key None s.0.0 ts.row) in
-      subst (λ (y : Record × List ℕ). Takes bytes (body_bytes_in layout y.0) y.1 × HasParts y.0) (ok_is made (r, rest) v.2) (
+      subst (λ (y : Record × List ℕ). Takes bytes (body_bytes_in layout y.0) y.1 × HasParts y.0) (ok_is {E = RecordRefusal} made (r, rest) v.2) (
         whole,
         record {
           home = tb.1;

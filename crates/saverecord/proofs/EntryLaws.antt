@@ -4,12 +4,17 @@ use Rattle.std.specs.Int.{w64, to_be_bytes}
 use Rattle.std.specs.List.{flat_map, AllByRecursion}
 use Rattle.std.specs.Option.{option_map}
 use Rattle.std.proofs.lemmas.List.Concat.{flat_map-cons}
+use Rattle.saverecord.specs.declared.refusal.RecordRefusal.{RecordRefusal}
 use Rattle.saverecord.specs.declared.layout.Layout.{Layout}
-use Rattle.saverecord.specs.Parts.{◌>>=◌, number_at}
+use Rattle.codec.specs.Steps.{◌>>=◌}
+use Rattle.saverecord.specs.Parts.{number_at}
 use Rattle.saverecord.specs.Entries.{Reader, each_at, counted_at}
 use Rattle.saverecord.specs.Spelling.{counted}
-use Rattle.saverecord.proofs.Fields.{IsBytes, bind_ok, ok_is, Takes, Takes-then, wide64, number_takes, number_again}
-use Rattle.saverecord.proofs.Rows.{Row}
+use Rattle.codec.proofs.Fronts.{Takes, Takes-then, wide64}
+use Rattle.codec.proofs.Steps.{bind_ok, ok_is}
+use Rattle.farm_base.specs.Digests.{IsBytes}
+use Rattle.saverecord.proofs.Fields.{number_takes, number_again}
+use Rattle.lists.proofs.Rising.{Row}
 
 -- an entry that was read
 pub record TakesEntry {X K : Type 0} (spell : X → List ℕ) (above : Option K → K → Bool) (key : X → K) (P : X → Type 0) (before : Option X) (bytes : List ℕ) (x : X) (rest : List ℕ) : Type 0 where
@@ -40,7 +45,7 @@ module _ {X K : Type 0} (read : Reader X) (layout : Layout) (spell : X → List 
       → TakesEach spell above key P before n bytes xs rest
   unfolding each_at
   each_takes entry before zero bytes xs rest fits e =
-      subst (λ (y : List X × List ℕ). TakesEach spell above key P before 0 bytes y.0 y.1) (ok_is ([], bytes) (xs, rest) e)
+      subst (λ (y : List X × List ℕ). TakesEach spell above key P before 0 bytes y.0 y.1) (ok_is {E = RecordRefusal} ([], bytes) (xs, rest) e)
       (record { takes = record { parts = refl; rest_fits = fits }; len = refl; row = tt; each = tt })
   each_takes entry before (suc n) bytes xs rest fits e =
       let a = bind_ok (read layout before bytes) (λ first. each_at read layout (Some first.0) n first.1 >>= λ others. Ok (first.0 ∷ others.0, others.1)) (xs, rest) e in
@@ -49,7 +54,7 @@ module _ {X K : Type 0} (read : Reader X) (layout : Layout) (spell : X → List 
       let others = each_takes entry (Some a.0.0) n a.0.1 b.0.0 b.0.1 first.takes.rest_fits b.1 in
       let both = Takes-then bytes (spell a.0.0) a.0.1 (flat_map spell b.0.0) b.0.1 first.takes others.takes in
       let made : List X × List ℕ = (a.0.0 ∷ b.0.0, b.0.1) in
-      subst (λ (y : List X × List ℕ). TakesEach spell above key P before (suc n) bytes y.0 y.1) (ok_is made (xs, rest) b.2)
+      subst (λ (y : List X × List ℕ). TakesEach spell above key P before (suc n) bytes y.0 y.1) (ok_is {E = RecordRefusal} made (xs, rest) b.2)
       (record { takes = rw flat_map-cons both; len = ap suc others.len; row = (first.above_it, others.row); each = (first.fits, others.each) })
 
   pub counted_takes : EntryTakes → (low high : ℕ) (bytes : List ℕ) (xs : List X) (rest : List ℕ) → IsBytes bytes → counted_at read layout low high bytes ≡ Ok (xs, rest)

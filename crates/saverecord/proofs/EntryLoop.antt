@@ -7,7 +7,8 @@ use Rattle.std.specs.List.{slice_get}
 use Rattle.saverecord.specs.declared.layout.Layout.{Layout}
 use Rattle.saverecord.specs.declared.refusal.RecordRefusal.{RecordRefusal}
 use Rattle.saverecord.specs.declared.refusal.RecordRefusal.TheVariants.{OutOfMemory}
-use Rattle.saverecord.specs.Parts.{◌>>=◌, Part}
+use Rattle.codec.specs.Steps.{◌>>=◌}
+use Rattle.saverecord.specs.Parts.{Part}
 use Rattle.saverecord.specs.Entries.{Reader, each_at}
 
 -- the entries that were read so far, followed by those that are left to read

@@ -1,100 +1,35 @@
 -- A part that is read is the part that was written, and what was written is read again.
-use Rattle.std.proofs.Common.{◌≡◌, ℕ, zero, suc, ◌+◌, ◌^◌, ◌<◌, ◌≤◌, Bool, true, false, cond, ltb, leb, ◌&&◌, List, [], ◌∷◌, ◌++◌, length, get_or, take, drop, Result, Ok, Err, refl, sym, ap, subst, ◌∙◌, append_assoc, arith, inl, inr}
-use Rattle.std.specs.Int.{Width, w32, w64, byte_len, from_be_bytes, to_be_bytes}
+use Rattle.std.proofs.Common.{◌≡◌, ℕ, zero, suc, ◌^◌, ◌<◌, ◌≤◌, Bool, true, false, leb, ◌&&◌, List, [], ◌∷◌, ◌++◌, length, Ok, refl, sym, ap, subst, ◌∙◌, append_assoc, arith}
+use Rattle.std.specs.Int.{Width, w64, byte_len, from_be_bytes, to_be_bytes}
 use Rattle.std.specs.Str.{IsUtf8, is_utf8}
-use Rattle.std.proofs.lemmas.Bool.{cases_lt, ltb-false, le-ltb, leb-true, le-leb, and_parts}
-use Rattle.std.proofs.lemmas.List.{take_at, drop_at, take-append-drop, length-append, length-take, get_or-drop, get_or-take, get_or_past}
-use Rattle.std.proofs.lemmas.Nat.{be_bytes_4, be_bytes_8, from_be_bytes-to_be_bytes_4, from_be_bytes-to_be_bytes_8}
+use Rattle.std.proofs.lemmas.Bool.{leb-true, le-leb, and_parts}
+use Rattle.codec.specs.Steps.{◌>>=◌}
+use Rattle.codec.proofs.Fronts.{IsBytes-rest, Takes, Takes-then, front_takes as front_takes_or, front_of_length, IsWide, wide64}
+use Rattle.codec.proofs.Steps.{bind_ok, ok_is}
+use Rattle.farm_base.specs.Digests.{IsBytes}
 use Rattle.farm_base.specs.declared.digest.Digest.{Digest}
 use Rattle.saverecord.specs.declared.refusal.Flaw.{Flaw}
 use Rattle.saverecord.specs.declared.refusal.Flaw.TheVariants.{Range}
 use Rattle.saverecord.specs.declared.refusal.RecordRefusal.{RecordRefusal}
 use Rattle.saverecord.specs.declared.refusal.RecordRefusal.TheVariants.{Truncated}
-use Rattle.saverecord.specs.Parts.{◌>>=◌, passed, front_at, number_at, flag_at, digest_at, text_of, id_at}
+use Rattle.saverecord.specs.Parts.{passed, front_at, number_at, flag_at, digest_at, text_of, id_at}
 use Rattle.saverecord.specs.Spelling.{flag_bytes, id_bytes}
 use Rattle.saverecord.proofs.TextLemmas.{text_passes}
-
-abbrev pub IsBytes : List ℕ → Type 0
-IsBytes bytes = (i : ℕ) → get_or bytes i 0 < 256
-
-pub IsBytes-drop : (n : ℕ) (bytes : List ℕ) → IsBytes bytes → IsBytes (drop n bytes)
-IsBytes-drop n bytes h i = rw get_or-drop (h (n + i))
-
-pub IsBytes-take : (n : ℕ) (bytes : List ℕ) → IsBytes bytes → IsBytes (take n bytes)
-IsBytes-take n bytes h i =
-    elim (cases_lt i n) [
-      | inl lt ↦ rw (get_or-take n bytes i 0 lt) (h i)
-      | inr le ↦ rw (get_or_past (take n bytes) i 0 (omega (arith, length-take n bytes))) (omega arith)
-    ]
-
-pub IsBytes-rest : (b : ℕ) (bytes : List ℕ) → IsBytes (b ∷ bytes) → IsBytes bytes
-IsBytes-rest b bytes h i = h (suc i)
-
--- the value of a step that did not fail
-pub bind_ok : {A B : Type 0} (r : Result A RecordRefusal) (f : A → Result B RecordRefusal) (y : B) → (r >>= f) ≡ Ok y → (x : A) × (r ≡ Ok x) × (f x ≡ Ok y)
-bind_ok (Ok x) f y e = (x, refl, e)
-bind_ok (Err d) f y e = absurd cc
-
--- a test that did not fail
-pub guard_ok : {A : Type 0} (b : Bool) (d : RecordRefusal) (x y : A) → cond b (Err d) (Ok x) ≡ Ok y → (b ≡ false) × (x ≡ y)
-guard_ok true d x y e = absurd cc
-guard_ok false d x y e = (refl, cc)
 
 -- a test that was passed
 pub passed_ok : {A : Type 0} (flaw : Flaw) (b : Bool) (x y : A) → passed flaw b x ≡ Ok y → (b ≡ true) × (x ≡ y)
 passed_ok flaw true x y e = (refl, cc)
 passed_ok flaw false x y e = absurd cc
 
-abbrev pub done : {A : Type 0} → A → Result A RecordRefusal
-done x = Ok x
-
-pub ok_is : {A : Type 0} (x y : A) → done x ≡ done y → x ≡ y
-ok_is x y e = cc
-
--- what a reader took from the front
-pub record Takes (bytes text rest : List ℕ) : Type 0 where
-  pub parts : bytes ≡ text ++ rest
-  pub rest_fits : IsBytes rest
-
-pub Takes-then : (a x b y c : List ℕ) → Takes a x b → Takes b y c → Takes a (x ++ y) c
-Takes-then a x b y c p q = record { parts = p.parts ∙ ap (λ (t : List ℕ). x ++ t) q.parts ∙ sym (append_assoc x y c); rest_fits = q.rest_fits }
-
--- ---- the first len bytes
-
 pub front_takes : (len : ℕ) (bytes front rest : List ℕ) → IsBytes bytes → front_at len bytes ≡ Ok (front, rest) → Takes bytes front rest × (length front ≡ len) × IsBytes front
 unfolding front_at
-front_takes len bytes front rest fits e =
-    let g = guard_ok (ltb (length bytes) len) Truncated (take len bytes, drop len bytes) (front, rest) e in
-    let long : len ≤ length bytes = ltb-false _ _ g.0 in
-    subst (λ (p : List ℕ × List ℕ). Takes bytes p.0 p.1 × (length p.0 ≡ len) × IsBytes p.0) g.1
-    (record { parts = sym (take-append-drop len bytes); rest_fits = IsBytes-drop len bytes fits }, omega (arith, length-take len bytes), IsBytes-take len bytes fits)
+front_takes len bytes front rest fits e = front_takes_or Truncated len bytes front rest fits e
 
-pub front_again : (front rest : List ℕ) → front_at (length front) (front ++ rest) ≡ Ok (front, rest)
+pub front_again : (len : ℕ) (front rest : List ℕ) → length front ≡ len → front_at len (front ++ rest) ≡ Ok (front, rest)
 unfolding front_at
-front_again front rest =
-    let long = le-ltb (length (front ++ rest)) (length front) (omega (arith, length-append front rest)) in
-    rw (long, take_at front rest (length front) refl, drop_at front rest (length front) refl) refl
+front_again len front rest is = front_of_length Truncated len front rest is
 
 -- ---- numbers
-
-pub record IsWide (w : Width) (limit : ℕ) : Type 0 where
-  pub len : (n : ℕ) → length (to_be_bytes w n) ≡ byte_len w
-  pub back : (bytes : List ℕ) → length bytes ≡ byte_len w → IsBytes bytes → to_be_bytes w (from_be_bytes w bytes) ≡ bytes
-  pub again : (n : ℕ) → n < limit → from_be_bytes w (to_be_bytes w n) ≡ n
-
-pub wide32 : IsWide w32 (2 ^ 32)
-wide32 = record {
-  len = λ n. refl;
-  back = λ bytes len fits. be_bytes_4 bytes _ len fits refl;
-  again = λ n lt. from_be_bytes-to_be_bytes_4 n lt;
-}
-
-pub wide64 : IsWide w64 (2 ^ 64)
-wide64 = record {
-  len = λ n. refl;
-  back = λ bytes len fits. be_bytes_8 bytes _ len fits refl;
-  again = λ n lt. from_be_bytes-to_be_bytes_8 n lt;
-}
 
 -- a number that was read
 pub record TakesNumber (w : Width) (low high : ℕ) (bytes : List ℕ) (n : ℕ) (rest : List ℕ) : Type 0 where
@@ -118,17 +53,15 @@ number_takes w limit wide low high bytes n rest fits e =
 pub number_again : (w : Width) (limit : ℕ) (wide : IsWide w limit) (low high n : ℕ) (rest : List ℕ) → n < limit → low ≤ n → n ≤ high → number_at w low high (to_be_bytes w n ++ rest) ≡ Ok (n, rest)
 unfolding number_at
 number_again w limit wide low high n rest lt l h =
-    let len = wide.len n in
-    let front : front_at (byte_len w) (to_be_bytes w n ++ rest) ≡ Ok (to_be_bytes w n, rest) = subst (λ k. front_at k (to_be_bytes w n ++ rest) ≡ Ok (to_be_bytes w n, rest)) len (front_again (to_be_bytes w n) rest) in
-    rw (front, wide.again n lt, le-leb low n l, le-leb n high h) refl
+    rw (front_again (byte_len w) (to_be_bytes w n) rest (wide.len n), wide.again n lt, le-leb low n l, le-leb n high h) refl
 
 -- ---- flags, digests and ids
 
 pub flag_takes : (bytes : List ℕ) (b : Bool) (rest : List ℕ) → IsBytes bytes → flag_at bytes ≡ Ok (b, rest) → Takes bytes (flag_bytes b) rest
 unfolding flag_at
 flag_takes [] b rest fits e = absurd cc
-flag_takes (zero ∷ bytes) b rest fits e = subst (λ (x : Bool × List ℕ). Takes (0 ∷ bytes) (flag_bytes x.0) x.1) (ok_is (false, bytes) (b, rest) e) (record { parts = refl; rest_fits = IsBytes-rest 0 bytes fits })
-flag_takes (suc zero ∷ bytes) b rest fits e = subst (λ (x : Bool × List ℕ). Takes (1 ∷ bytes) (flag_bytes x.0) x.1) (ok_is (true, bytes) (b, rest) e) (record { parts = refl; rest_fits = IsBytes-rest 1 bytes fits })
+flag_takes (zero ∷ bytes) b rest fits e = subst (λ (x : Bool × List ℕ). Takes (0 ∷ bytes) (flag_bytes x.0) x.1) (ok_is {E = RecordRefusal} (false, bytes) (b, rest) e) (record { parts = refl; rest_fits = IsBytes-rest 0 bytes fits })
+flag_takes (suc zero ∷ bytes) b rest fits e = subst (λ (x : Bool × List ℕ). Takes (1 ∷ bytes) (flag_bytes x.0) x.1) (ok_is {E = RecordRefusal} (true, bytes) (b, rest) e) (record { parts = refl; rest_fits = IsBytes-rest 1 bytes fits })
 flag_takes (suc (suc n) ∷ bytes) b rest fits e = absurd cc
 
 pub flag_again : (b : Bool) (rest : List ℕ) → flag_at (flag_bytes b ++ rest) ≡ Ok (b, rest)
@@ -142,11 +75,11 @@ digest_takes bytes d rest fits e =
     let s = bind_ok (front_at 32 bytes) (λ front. Ok (record { 0 = front.0 }, front.1)) (d, rest) e in
     let t = front_takes 32 bytes s.0.0 s.0.1 fits s.1 in
     let made : Digest × List ℕ = (record { 0 = s.0.0 }, s.0.1) in
-    subst (λ (x : Digest × List ℕ). Takes bytes x.0.0 x.1) (ok_is made (d, rest) s.2) t.0
+    subst (λ (x : Digest × List ℕ). Takes bytes x.0.0 x.1) (ok_is {E = RecordRefusal} made (d, rest) s.2) t.0
 
 pub digest_again : (d : Digest) (rest : List ℕ) → length d.0 ≡ 32 → digest_at (d.0 ++ rest) ≡ Ok (d, rest)
 unfolding digest_at
-digest_again d rest len = rw (subst (λ k. front_at k (d.0 ++ rest) ≡ Ok (d.0, rest)) len (front_again d.0 rest)) refl
+digest_again d rest len = rw (front_again 32 d.0 rest len) refl
 
 pub id_takes : (bytes id rest : List ℕ) → IsBytes bytes → id_at bytes ≡ Ok (id, rest) → Takes bytes (id_bytes id) rest
 unfolding id_at
@@ -159,10 +92,10 @@ id_takes bytes id rest fits e =
     let same = (passed_ok _ (is_utf8 b.0.0) b.0.0 c.0 c.1).1 in
     let both = Takes-then bytes (to_be_bytes w64 a.0.0) a.0.1 b.0.0 b.0.1 n.takes f.0 in
     let whole : Takes bytes (id_bytes b.0.0) b.0.1 = subst (λ (k : ℕ). Takes bytes (to_be_bytes w64 k ++ b.0.0) b.0.1) (sym f.1) both in
-    subst (λ (p : List ℕ × List ℕ). Takes bytes (id_bytes p.0) p.1) (ok_is (c.0, b.0.1) (id, rest) c.2) (subst (λ (t : List ℕ). Takes bytes (id_bytes t) b.0.1) same whole)
+    subst (λ (p : List ℕ × List ℕ). Takes bytes (id_bytes p.0) p.1) (ok_is {E = RecordRefusal} (c.0, b.0.1) (id, rest) c.2) (subst (λ (t : List ℕ). Takes bytes (id_bytes t) b.0.1) same whole)
 
 pub id_again : (id rest : List ℕ) → length id < 2 ^ 64 → IsUtf8 id → id_at (id_bytes id ++ rest) ≡ Ok (id, rest)
 unfolding id_at
 id_again id rest lt utf8 =
     ap id_at (append_assoc (to_be_bytes w64 (length id)) id rest)
-    ∙ rw (number_again w64 (2 ^ 64) wide64 0 0xffff_ffff_ffff_ffff (length id) (id ++ rest) lt (omega arith) (omega arith), front_again id rest, text_passes id utf8) refl
+    ∙ rw (number_again w64 (2 ^ 64) wide64 0 0xffff_ffff_ffff_ffff (length id) (id ++ rest) lt (omega arith) (omega arith), front_again (length id) id rest refl, text_passes id utf8) refl

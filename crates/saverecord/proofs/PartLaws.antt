@@ -8,19 +8,25 @@ use Rattle.farm_base.specs.declared.message.LineVersion.{LineVersion}
 use Rattle.farm_base.specs.declared.number.NodeId.{NodeId}
 use Rattle.farm_base.specs.declared.number.Ticket.{Ticket}
 use Rattle.farm_base.specs.Slots.{SlotParts, slot_cmp}
+use Rattle.saverecord.specs.declared.refusal.RecordRefusal.{RecordRefusal}
 use Rattle.saverecord.specs.declared.layout.Layout.{Layout}
 use Rattle.saverecord.specs.declared.layout.Layout.TheVariants.{First, Second, Third}
 use Rattle.saverecord.specs.declared.record.NodeLife.{NodeLife}
 use Rattle.saverecord.specs.declared.record.SlotLine.{SlotLine}
 use Rattle.saverecord.specs.declared.refusal.Flaw.TheVariants.{Order}
-use Rattle.saverecord.specs.Parts.{◌>>=◌, Part, passed, number_at, flag_at, digest_at}
+use Rattle.codec.specs.Steps.{◌>>=◌}
+use Rattle.saverecord.specs.Parts.{Part, passed, number_at, flag_at, digest_at}
 use Rattle.saverecord.specs.Slots.{is_slot_above, slot_after}
 use Rattle.saverecord.specs.Entries.{counted_at, is_above, node_at, positive_at, node_after, ticket_after, retired_node_at, node_life_at, retired_at, leased_at, tenure_at, lease_at, version_at, line_at}
 use Rattle.saverecord.specs.Spelling.{flag_bytes, slot_bytes, counted, node_bytes, node_life_bytes, leased_bytes, holder_bytes, lease_bytes, version_bytes, line_bytes}
 use Rattle.saverecord.specs.Fits.{IsNode, IsNodeLife, IsLease, IsVersion, IsSlotLine, IsTypedNode, IsTypedLife, IsTypedSlot, IsTypedLeased, IsTypedLease, IsTypedVersion, IsTypedLine}
-use Rattle.saverecord.proofs.Fields.{IsBytes, bind_ok, passed_ok, ok_is, Takes, Takes-then, wide32, wide64, number_takes, number_again, flag_takes, flag_again, digest_takes, digest_again}
+use Rattle.codec.proofs.Fronts.{Takes, Takes-then, wide32, wide64}
+use Rattle.codec.proofs.Steps.{bind_ok, ok_is}
+use Rattle.farm_base.specs.Digests.{IsBytes}
+use Rattle.saverecord.proofs.Fields.{passed_ok, number_takes, number_again, flag_takes, flag_again, digest_takes, digest_again}
 use Rattle.saverecord.proofs.SlotLaws.{slot_after_takes, slot_after_again}
-use Rattle.saverecord.proofs.Rows.{slot_tests, sorted-from_row, row-from_sorted, numbers-from_row, row-from_numbers}
+use Rattle.lists.proofs.Rising.{sorted-from_row, row-from_sorted}
+use Rattle.saverecord.proofs.Rows.{slot_tests, numbers-from_row, row-from_numbers}
 use Rattle.saverecord.proofs.EntryLaws.{TakesEntry, EntryTakes, EntryAgain, counted_takes, counted_again}
 
 abbrev greatest : ℕ
@@ -34,7 +40,7 @@ node_takes bytes n rest fits e =
     let a = bind_ok (number_at w32 1 1024 bytes) (λ node. Ok (record { 0 = node.0 }, node.1)) (n, rest) e in
     let t = number_takes w32 (2 ^ 32) wide32 1 1024 bytes a.0.0 a.0.1 fits a.1 in
     let made : NodeId × List ℕ = (record { 0 = a.0.0 }, a.0.1) in
-    subst (λ (x : NodeId × List ℕ). Takes bytes (node_bytes x.0) x.1 × IsNode x.0) (ok_is made (n, rest) a.2) (t.takes, (t.low_fits, t.high_fits))
+    subst (λ (x : NodeId × List ℕ). Takes bytes (node_bytes x.0) x.1 × IsNode x.0) (ok_is {E = RecordRefusal} made (n, rest) a.2) (t.takes, (t.low_fits, t.high_fits))
 
 node_again : (n : NodeId) (rest : List ℕ) → IsNode n → node_at (node_bytes n ++ rest) ≡ Ok (n, rest)
 unfolding node_at
@@ -101,7 +107,7 @@ node_life_takes layout before bytes x rest fits e =
     let n = node_after_takes (option_map life_key before) bytes a.0.0 a.0.1 fits a.1 in
     let l = positive_takes a.0.1 b.0.0 b.0.1 n.0.rest_fits b.1 in
     let made : NodeLife × List ℕ = (record { node = a.0.0; life = record { 0 = b.0.0 } }, b.0.1) in
-    subst (λ (y : NodeLife × List ℕ). TakesEntry node_life_bytes is_above life_key IsNodeLife before bytes y.0 y.1) (ok_is made (x, rest) b.2)
+    subst (λ (y : NodeLife × List ℕ). TakesEntry node_life_bytes is_above life_key IsNodeLife before bytes y.0 y.1) (ok_is {E = RecordRefusal} made (x, rest) b.2)
     (record { takes = Takes-then bytes (node_bytes a.0.0) a.0.1 (to_be_bytes w64 b.0.0) b.0.1 n.0 l.0; above_it = n.2; fits = record { node = n.1; life = l.1 } })
 
 pub node_life_again : EntryAgain node_life_at Third node_life_bytes is_above life_key IsNodeLife IsTypedLife
@@ -142,7 +148,7 @@ leased_takes layout before bytes x rest fits e =
     let f = flag_takes a.0.1 b.0.0 b.0.1 s.0.rest_fits b.1 in
     let held : SlotParts × Bool = (a.0.0, b.0.0) in
     let made : (SlotParts × Bool) × List ℕ = (held, b.0.1) in
-    subst (λ (y : (SlotParts × Bool) × List ℕ). TakesEntry leased_bytes is_slot_above leased_key Any before bytes y.0 y.1) (ok_is made (x, rest) b.2)
+    subst (λ (y : (SlotParts × Bool) × List ℕ). TakesEntry leased_bytes is_slot_above leased_key Any before bytes y.0 y.1) (ok_is {E = RecordRefusal} made (x, rest) b.2)
     (record { takes = Takes-then bytes (slot_bytes a.0.0) a.0.1 (flag_bytes b.0.0) b.0.1 s.0 f; above_it = s.1; fits = tt })
 
 pub leased_again : EntryAgain leased_at Third leased_bytes is_slot_above leased_key Any IsTypedLeased
@@ -164,7 +170,7 @@ version_takes layout before bytes v rest fits e =
     let t = ticket_after_takes (option_map version_key before) bytes a.0.0 a.0.1 fits a.1 in
     let d = digest_takes a.0.1 b.0.0 b.0.1 t.0.rest_fits b.1 in
     let made : LineVersion × List ℕ = (record { ticket = a.0.0; digest = b.0.0 }, b.0.1) in
-    subst (λ (y : LineVersion × List ℕ). TakesEntry version_bytes is_above version_key IsVersion before bytes y.0 y.1) (ok_is made (v, rest) b.2)
+    subst (λ (y : LineVersion × List ℕ). TakesEntry version_bytes is_above version_key IsVersion before bytes y.0 y.1) (ok_is {E = RecordRefusal} made (v, rest) b.2)
     (record { takes = Takes-then bytes (to_be_bytes w64 a.0.0.0) a.0.1 b.0.0.0 b.0.1 t.0 d; above_it = t.2; fits = t.1 })
 
 pub version_again : EntryAgain version_at Third version_bytes is_above version_key IsVersion IsTypedVersion
@@ -184,7 +190,7 @@ line_takes layout before bytes l rest fits e =
     let s = slot_after_takes layout (option_map line_key before) bytes a.0.0 a.0.1 fits a.1 in
     let v = counted_takes version_at layout version_bytes is_above version_key IsVersion (version_takes layout) 1 greatest a.0.1 b.0.0 b.0.1 s.0.rest_fits b.1 in
     let made : SlotLine × List ℕ = (record { slot = a.0.0; versions = b.0.0 }, b.0.1) in
-    subst (λ (y : SlotLine × List ℕ). TakesEntry line_bytes is_slot_above line_key IsSlotLine before bytes y.0 y.1) (ok_is made (l, rest) b.2)
+    subst (λ (y : SlotLine × List ℕ). TakesEntry line_bytes is_slot_above line_key IsSlotLine before bytes y.0 y.1) (ok_is {E = RecordRefusal} made (l, rest) b.2)
     (record {
       takes = Takes-then bytes (slot_bytes a.0.0) a.0.1 (counted version_bytes b.0.0) b.0.1 s.0 v.takes;
       above_it = s.1;
@@ -221,7 +227,7 @@ lease_bytes-third l = refl
 
 tenure_takes : (layout : Layout) (bytes : List ℕ) (b : Bool) (rest : List ℕ) → IsBytes bytes → tenure_at layout bytes ≡ Ok (b, rest) → Takes bytes (tenure_bytes layout b) rest
 unfolding tenure_at
-tenure_takes First bytes b rest fits e = subst (λ (x : Bool × List ℕ). Takes bytes [] x.1) (ok_is (false, bytes) (b, rest) e) (record { parts = refl; rest_fits = fits })
+tenure_takes First bytes b rest fits e = subst (λ (x : Bool × List ℕ). Takes bytes [] x.1) (ok_is {E = RecordRefusal} (false, bytes) (b, rest) e) (record { parts = refl; rest_fits = fits })
 tenure_takes Second bytes b rest fits e = flag_takes bytes b rest fits e
 tenure_takes Third bytes b rest fits e = flag_takes bytes b rest fits e
 
@@ -284,7 +290,7 @@ module _ (layout : Layout) where
       let sv = Takes-then d.0.1 (flag_bytes s.0.0) s.0.1 (tenure_bytes layout u.0.0 ++ counted leased_bytes v.0.0) v.0.1 ts uv in
       let whole = Takes-then bytes (to_be_bytes w64 a.0.0.0 ++ (node_bytes b.0.0 ++ (to_be_bytes w64 c.0.0 ++ to_be_bytes w64 d.0.0))) d.0.1 (flag_bytes s.0.0 ++ (tenure_bytes layout u.0.0 ++ counted leased_bytes v.0.0)) v.0.1 ad sv in
       let made : Lease × List ℕ = (made_lease a.0.0 b.0.0 c.0.0 d.0.0 s.0.0 u.0.0 v.0.0, v.0.1) in
-      subst (λ (y : Lease × List ℕ). TakesEntry (lease_bytes_in layout) is_above ticket_key IsLease before bytes y.0 y.1) (ok_is made (x, rest) v.2)
+      subst (λ (y : Lease × List ℕ). TakesEntry (lease_bytes_in layout) is_above ticket_key IsLease before bytes y.0 y.1) (ok_is {E = RecordRefusal} made (x, rest) v.2)
       (record {
         takes = whole;
         above_it = ta.2;

@@ -12,12 +12,16 @@ use Rattle.saverecord.specs.declared.record.Record.{Record}
 use Rattle.saverecord.specs.declared.refusal.Flaw.TheVariants.{Relation}
 use Rattle.saverecord.specs.declared.refusal.RecordRefusal.{RecordRefusal}
 use Rattle.saverecord.specs.declared.refusal.RecordRefusal.TheVariants.{Truncated, BadDigest}
-use Rattle.saverecord.specs.Parts.{◌>>=◌, Part}
+use Rattle.codec.specs.Steps.{◌>>=◌}
+use Rattle.saverecord.specs.Parts.{Part}
 use Rattle.saverecord.specs.Records.{whole_body, is_same, layout_of, opened, judged, record_of}
 use Rattle.saverecord.specs.Relations.{agrees}
 use Rattle.saverecord.specs.Spelling.{body_bytes, record_bytes}
 use Rattle.saverecord.specs.Fits.{IsRecord, IsTypedRecord}
-use Rattle.saverecord.proofs.Fields.{IsBytes, IsBytes-take, IsBytes-drop, bind_ok, passed_ok, ok_is}
+use Rattle.codec.proofs.Fronts.{IsBytes-take, IsBytes-drop}
+use Rattle.codec.proofs.Steps.{bind_ok, ok_is}
+use Rattle.farm_base.specs.Digests.{IsBytes}
+use Rattle.saverecord.proofs.Fields.{passed_ok}
 use Rattle.saverecord.proofs.BodyLaws.{body_bytes_in, body_bytes-third, whole_takes, whole_again}
 
 -- the same bytes
@@ -66,7 +70,7 @@ opened_takes bytes layout body fits e =
     let signed : signed_of bytes ≡ take 8 bytes ++ drop 8 (signed_of bytes) = sym (take-append-drop 8 (signed_of bytes)) ∙ ap (λ (x : List ℕ). x ++ drop 8 (signed_of bytes)) (sym front) in
     let parts : bytes ≡ (take 8 bytes ++ drop 8 (signed_of bytes)) ++ sha256 (take 8 bytes ++ drop 8 (signed_of bytes)) = split ∙ ap (λ (x : List ℕ). signed_of bytes ++ x) (sym same) ∙ ap (λ (x : List ℕ). x ++ sha256 x) signed in
     let made : Layout × List ℕ = (a.0, drop 8 (signed_of bytes)) in
-    subst (λ (y : Layout × List ℕ). Opens bytes y.1 × (layout_of (take 8 bytes) ≡ Ok y.0)) (ok_is made (layout, body) c.1)
+    subst (λ (y : Layout × List ℕ). Opens bytes y.1 × (layout_of (take 8 bytes) ≡ Ok y.0)) (ok_is {E = RecordRefusal} made (layout, body) c.1)
     (record { parts = parts; fits = IsBytes-drop 8 (signed_of bytes) (IsBytes-take (length bytes - 32) bytes fits) }, a.1)
 
 opened_again : (body : List ℕ) → opened ((magic ++ body) ++ sha256 (magic ++ body)) ≡ Ok (Third, body)
@@ -99,7 +103,7 @@ third_takes bytes r fits is_third e =
     let a = bind_ok (opened bytes) (λ parts. whole_body parts.0 parts.1 >>= λ body. judged parts.0 body) r e in
     let b = bind_ok (whole_body a.0.0 a.0.1) (λ body. judged a.0.0 body) r a.2 in
     let o = opened_takes bytes a.0.0 a.0.1 fits a.1 in
-    let layout : Third ≡ a.0.0 = ok_is Third a.0.0 (sym third_magic ∙ ap layout_of (sym is_third) ∙ o.1) in
+    let layout : Third ≡ a.0.0 = ok_is {E = RecordRefusal} Third a.0.0 (sym third_magic ∙ ap layout_of (sym is_third) ∙ o.1) in
     let w = whole_takes a.0.0 a.0.1 b.0 o.0.fits b.1 in
     let j = judged_third b.0 r (subst (λ l. judged l b.0 ≡ Ok r) (sym layout) b.2) in
     let body : a.0.1 ≡ body_bytes r = w.0 ∙ ap (λ l. body_bytes_in l b.0) (sym layout) ∙ body_bytes-third b.0 ∙ ap body_bytes j.1 in

@@ -7,14 +7,19 @@ use Rattle.farm_base.specs.declared.folder.Mode.{Mode}
 use Rattle.farm_base.specs.declared.folder.Mode.TheVariants.{Shared, Private, Locked}
 use Rattle.farm_base.specs.Names.{IsOutput, IsBase, IsSlot}
 use Rattle.farm_base.specs.Slots.{SlotParts, IsInstance}
+use Rattle.saverecord.specs.declared.refusal.RecordRefusal.{RecordRefusal}
 use Rattle.saverecord.specs.declared.layout.Layout.{Layout}
 use Rattle.saverecord.specs.declared.layout.Layout.TheVariants.{Third}
 use Rattle.saverecord.specs.declared.refusal.Flaw.TheVariants.{Range, Order}
 use Rattle.saverecord.specs.Layouts.{has_shared}
-use Rattle.saverecord.specs.Parts.{◌>>=◌, Part, passed, number_at, flag_at, digest_at, id_at}
+use Rattle.codec.specs.Steps.{◌>>=◌}
+use Rattle.saverecord.specs.Parts.{Part, passed, number_at, flag_at, digest_at, id_at}
 use Rattle.saverecord.specs.Slots.{mode_of, mode_at, output_at, base_at, has_instance, slot_at, is_slot_above, slot_after}
 use Rattle.saverecord.specs.Spelling.{flag_bytes, mode_bytes, id_bytes, base_bytes, slot_bytes}
-use Rattle.saverecord.proofs.Fields.{IsBytes, IsBytes-rest, bind_ok, passed_ok, ok_is, Takes, Takes-then, wide32, wide64, number_takes, number_again, flag_takes, flag_again, digest_takes, digest_again, id_takes, id_again}
+use Rattle.codec.proofs.Fronts.{IsBytes-rest, Takes, Takes-then, wide32, wide64}
+use Rattle.codec.proofs.Steps.{bind_ok, ok_is}
+use Rattle.farm_base.specs.Digests.{IsBytes}
+use Rattle.saverecord.proofs.Fields.{passed_ok, number_takes, number_again, flag_takes, flag_again, digest_takes, digest_again, id_takes, id_again}
 
 mode_takes : (layout : Layout) (bytes : List ℕ) (m : Mode) (rest : List ℕ) → IsBytes bytes → mode_at layout bytes ≡ Ok (m, rest) → Takes bytes (mode_bytes m) rest
 unfolding mode_at
@@ -22,10 +27,10 @@ mode_takes layout [] m rest fits e = absurd cc
 mode_takes layout (zero ∷ bytes) m rest fits e =
     let s = bind_ok (mode_of layout 0) (λ mode. Ok (mode, bytes)) (m, rest) e in
     let p = passed_ok Range (has_shared layout) Shared s.0 s.1 in
-    subst (λ (x : Mode × List ℕ). Takes (0 ∷ bytes) (mode_bytes x.0) x.1) (ok_is (s.0, bytes) (m, rest) s.2)
+    subst (λ (x : Mode × List ℕ). Takes (0 ∷ bytes) (mode_bytes x.0) x.1) (ok_is {E = RecordRefusal} (s.0, bytes) (m, rest) s.2)
     (subst (λ mode. Takes (0 ∷ bytes) (mode_bytes mode) bytes) p.1 (record { parts = refl; rest_fits = IsBytes-rest 0 bytes fits }))
-mode_takes layout (suc zero ∷ bytes) m rest fits e = subst (λ (x : Mode × List ℕ). Takes (1 ∷ bytes) (mode_bytes x.0) x.1) (ok_is (Private, bytes) (m, rest) e) (record { parts = refl; rest_fits = IsBytes-rest 1 bytes fits })
-mode_takes layout (suc (suc zero) ∷ bytes) m rest fits e = subst (λ (x : Mode × List ℕ). Takes (2 ∷ bytes) (mode_bytes x.0) x.1) (ok_is (Locked, bytes) (m, rest) e) (record { parts = refl; rest_fits = IsBytes-rest 2 bytes fits })
+mode_takes layout (suc zero ∷ bytes) m rest fits e = subst (λ (x : Mode × List ℕ). Takes (1 ∷ bytes) (mode_bytes x.0) x.1) (ok_is {E = RecordRefusal} (Private, bytes) (m, rest) e) (record { parts = refl; rest_fits = IsBytes-rest 1 bytes fits })
+mode_takes layout (suc (suc zero) ∷ bytes) m rest fits e = subst (λ (x : Mode × List ℕ). Takes (2 ∷ bytes) (mode_bytes x.0) x.1) (ok_is {E = RecordRefusal} (Locked, bytes) (m, rest) e) (record { parts = refl; rest_fits = IsBytes-rest 2 bytes fits })
 mode_takes layout (suc (suc (suc n)) ∷ bytes) m rest fits e = absurd cc
 
 mode_again : (m : Mode) (rest : List ℕ) → mode_at Third (mode_bytes m ++ rest) ≡ Ok (m, rest)
@@ -68,9 +73,9 @@ base_takes bytes o rest fits e =
     by_flag true after t h =
         let u = bind_ok (output_at after) (λ output. Ok (Some output.0, output.1)) (o, rest) h in
         let v = output_takes after u.0.0 u.0.1 t.rest_fits u.1 in
-        subst (λ (x : Option Base × List ℕ). Takes bytes (base_bytes x.0) x.1) (ok_is (Some u.0.0, u.0.1) (o, rest) u.2)
+        subst (λ (x : Option Base × List ℕ). Takes bytes (base_bytes x.0) x.1) (ok_is {E = RecordRefusal} (Some u.0.0, u.0.1) (o, rest) u.2)
         (Takes-then bytes (1 ∷ []) after (u.0.0.key.0.0 ++ to_be_bytes w64 u.0.0.index) u.0.1 t v)
-    by_flag false after t h = subst (λ (x : Option Base × List ℕ). Takes bytes (base_bytes x.0) x.1) (ok_is (None, after) (o, rest) h) t
+    by_flag false after t h = subst (λ (x : Option Base × List ℕ). Takes bytes (base_bytes x.0) x.1) (ok_is {E = RecordRefusal} (None, after) (o, rest) h) t
 
 base_again : (o : Option Base) (rest : List ℕ) → IsBase o → base_at (base_bytes o ++ rest) ≡ Ok (o, rest)
 unfolding base_at

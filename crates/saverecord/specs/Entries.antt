@@ -12,7 +12,8 @@ use Rattle.saverecord.specs.declared.record.NodeLife.{NodeLife}
 use Rattle.saverecord.specs.declared.record.SlotLine.{SlotLine}
 use Rattle.saverecord.specs.declared.refusal.Flaw.TheVariants.{Order}
 use Rattle.saverecord.specs.Layouts.{has_shared}
-use Rattle.saverecord.specs.Parts.{◌>>=◌, Part, passed, number_at, flag_at, digest_at}
+use Rattle.codec.specs.Steps.{◌>>=◌}
+use Rattle.saverecord.specs.Parts.{Part, passed, number_at, flag_at, digest_at}
 use Rattle.saverecord.specs.Slots.{slot_after}
 
 -- how an entry is read after the one before it

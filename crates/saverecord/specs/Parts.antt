@@ -1,23 +1,17 @@
 -- Reading from the left: what stands there and the bytes after it, or the first fault.
-use Rattle.std.specs.Prelude.{◌≡◌, ◌⊎◌, ℕ, zero, suc, nat_le, nat_lt, Bool, true, false, ◌&&◌, if◌then◌else◌, List, [], ◌∷◌, length, take, drop, Result, Ok, Err}
+use Rattle.std.specs.Prelude.{ℕ, zero, suc, nat_le, Bool, true, false, ◌&&◌, if◌then◌else◌, List, [], ◌∷◌, Result, Ok, Err}
 use Rattle.std.specs.Int.{Width, w64, byte_len, from_be_bytes}
 use Rattle.std.specs.Str.{is_utf8}
+use Rattle.codec.specs.Steps.{◌>>=◌, GivesUnless, front_or}
 use Rattle.farm_base.specs.declared.digest.Digest.{Digest}
 use Rattle.saverecord.specs.declared.refusal.Flaw.{Flaw}
 use Rattle.saverecord.specs.declared.refusal.Flaw.TheVariants.{Range, Utf8}
 use Rattle.saverecord.specs.declared.refusal.RecordRefusal.{RecordRefusal}
 use Rattle.saverecord.specs.declared.refusal.RecordRefusal.TheVariants.{Truncated, NotCanonical, OutOfMemory}
 
--- one step after another, up to the first fault
-infixl 10 ◌>>=◌
-abbrev pub ◌>>=◌ : {A B : Type 0} → Result A RecordRefusal → (A → Result B RecordRefusal) → Result B RecordRefusal
-(Ok x) >>= f = f x
-(Err e) >>= f = Err e
-
 -- what was returned, with view applied to its value, is what reading gives, unless memory ran out
 abbrev pub Gives : {X Y : Type 0} → (X → Y) → Result X RecordRefusal → Result Y RecordRefusal → Type 0
-Gives view (Ok x) read = read ≡ Ok (view x)
-Gives view (Err e) read = (e ≡ OutOfMemory) ⊎ (read ≡ Err e)
+Gives view returned read = GivesUnless OutOfMemory view returned read
 
 -- a value and the bytes after it, or the fault
 abbrev pub Part : Type 0 → Type 0
@@ -29,7 +23,7 @@ passed flaw test x = if test then Ok x else Err (NotCanonical flaw)
 
 -- the first len bytes
 unfoldable pub front_at : ℕ → List ℕ → Part (List ℕ)
-front_at len bytes = if nat_lt (length bytes) len then Err Truncated else Ok (take len bytes, drop len bytes)
+front_at len bytes = front_or Truncated len bytes
 
 -- a number from low to high, big endian
 unfoldable pub number_at : Width → ℕ → ℕ → List ℕ → Part ℕ

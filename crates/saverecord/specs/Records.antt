@@ -13,7 +13,8 @@ use Rattle.saverecord.specs.declared.refusal.Flaw.TheVariants.{Trailing, Relatio
 use Rattle.saverecord.specs.declared.refusal.RecordRefusal.{RecordRefusal}
 use Rattle.saverecord.specs.declared.refusal.RecordRefusal.TheVariants.{Truncated, BadMagic, BadDigest}
 use Rattle.saverecord.specs.Layouts.{has_retired_nodes}
-use Rattle.saverecord.specs.Parts.{◌>>=◌, Part, passed, number_at}
+use Rattle.codec.specs.Steps.{◌>>=◌}
+use Rattle.saverecord.specs.Parts.{Part, passed, number_at}
 use Rattle.saverecord.specs.Relations.{agrees, is_at_home}
 use Rattle.saverecord.specs.Entries.{Reader, counted_at, retired_node_at, node_life_at, retired_at, lease_at, line_at}
 

@@ -11,7 +11,8 @@ use Rattle.saverecord.specs.declared.refusal.Flaw.TheVariants.{Range, Order}
 use Rattle.saverecord.specs.declared.refusal.RecordRefusal.{RecordRefusal}
 use Rattle.saverecord.specs.declared.refusal.RecordRefusal.TheVariants.{Truncated, NotCanonical}
 use Rattle.saverecord.specs.Layouts.{has_shared}
-use Rattle.saverecord.specs.Parts.{◌>>=◌, Part, passed, number_at, flag_at, digest_at, id_at}
+use Rattle.codec.specs.Steps.{◌>>=◌}
+use Rattle.saverecord.specs.Parts.{Part, passed, number_at, flag_at, digest_at, id_at}
 
 -- 0 SHARED, 1 PRIVATE, 2 LOCKED
 abbrev pub mode_of : Layout → ℕ → Result Mode RecordRefusal

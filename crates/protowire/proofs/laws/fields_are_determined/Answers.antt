@@ -1,6 +1,6 @@
 use Rattle.std.proofs.Common.{sym, ◌∙◌}
 use Rattle.protowire.specs.declared.refusal.WireRefusal.{WireRefusal}
-use Rattle.protowire.proofs.Bind.{ok_is}
+use Rattle.codec.proofs.Steps.{ok_is}
 use Rattle.protowire.proofs.FieldLaws.{fields_again}
 use Rattle.protowire.proofs.laws.fields_are_determined.Goals as goal
 
