@@ -10,8 +10,8 @@ use Rattle.protocol.specs.declared.answer.EventNote.{EventNote}
 use Rattle.protocol.specs.declared.answer.EventNote.TheVariants as note
 use Rattle.protocol.specs.declared.answer.EventRefusal.{EventRefusal}
 use Rattle.protocol.specs.declared.answer.Outcome.{Outcome}
-use Rattle.protocol.specs.declared.answer.Survivor.{Survivor}
-use Rattle.protocol.specs.declared.answer.Survivor.TheVariants.{Old, New}
+use Rattle.protocol.specs.declared.answer.Kept.{Kept}
+use Rattle.protocol.specs.declared.answer.Kept.TheVariants.{Old, New}
 use Rattle.protocol.specs.Ledger.{Limits, Ledger, Lease, Saved, saves, reads, Work, is_saved, begin_work, handled}
 use Rattle.protocol.specs.World.{Running, Node, World, Move, Node_moves, Machine_moves, Machine_says, Fails, Recovers, Moves, Still, Then, start}
 use Rattle.protocol.specs.Safe.{IsWithdrawn, InUse, Held, Rising}
@@ -76,7 +76,7 @@ module _ (sha : List ℕ → Digest) (k : Limits) (farm : IsFarm sha k) where
   coord_told None (Err x) s o e = cc
   coord_told None (Ok w) s o e = by w.changed s.armed e
     where
-      by : (b : Bool) (a : Option Survivor) → (settled b a w s).outcome ≡ Ok o → (c : CoordNote) × (o.note ≡ note.Coord c)
+      by : (b : Bool) (a : Option Kept) → (settled b a w s).outcome ≡ Ok o → (c : CoordNote) × (o.note ≡ note.Coord c)
       by false a e = (w.note, same e)
         where
           same : (settled false a w s).outcome ≡ Ok o → o.note ≡ note.Coord w.note
