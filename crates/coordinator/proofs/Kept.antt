@@ -10,8 +10,8 @@ use Rattle.protocol.specs.Ledger.{Ledger, begin_work, handled}
 use Rattle.protocol.specs.Follows.{after_life}
 use Rattle.protocol.specs.declared.answer.CoordNote.TheVariants as note
 use Rattle.protocol.proofs.Answering.{fitting_ask_is_granted}
-use Rattle.slotlines.specs.declared.lines.Added.{Added}
-use Rattle.slotlines.specs.declared.lines.SlotLine.{SlotLine}
+use Rattle.versions.specs.declared.lines.Added.{Added}
+use Rattle.versions.specs.declared.lines.SlotLine.{SlotLine}
 use Rattle.coordinator.specs.Held.{line_at}
 use Rattle.coordinator.specs.Shown.{lines_with}
 use Rattle.coordinator.specs.Promises.{OnlyGrow, asked, granted, GrantsAtOnce}

@@ -13,7 +13,7 @@ use Rattle.protocol.specs.declared.answer.CoordNote.TheVariants as note
 use Rattle.protocol.specs.declared.answer.CoordRefusal.{CoordRefusal}
 use Rattle.protocol.specs.declared.answer.CoordRefusal.TheVariants as refusal
 use Rattle.protocol.specs.Ledger.{Limits, Lease, Work, without, lease_under, has_ticket, retried, notes, withdraws, withdrawing, withdrawn, is_at, is_home, goes, retired}
-use Rattle.slotlines.proofs.LineWords.{eqb_is, eqb_same}
+use Rattle.protocol.proofs.Base.{eqb_is, eqb_same}
 use Rattle.coordinator.specs.Held.{is_among}
 use Rattle.coordinator.specs.Shown.{saved_under, withdraws_under}
 use Rattle.coordinator.specs.Sound.{IsSound}

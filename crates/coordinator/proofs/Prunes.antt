@@ -1,10 +1,10 @@
 -- What a prune does: to the lines, and that a ledger keeps to its rules.
 use mathlib.Core.Path.{fun_ext}
-use Rattle.std.proofs.Common.{◌≡◌, zero, suc, ◌+◌, ◌<◌, ◌≤◌, List, [], ◌∷◌, ◌++◌, Bool, true, false, ◌||◌, cond, nat_lt, get_or, map, Some, None, Ok, Err, refl, sym, ◌∙◌, ap, subst, arith, append-nil}
+use Rattle.std.proofs.Common.{◌≡◌, ◌+◌, ◌<◌, ◌≤◌, List, [], ◌∷◌, ◌++◌, Bool, true, false, cond, nat_lt, get_or, map, Some, None, Ok, Err, refl, sym, ◌∙◌, ap, subst, arith, append-nil}
 use Rattle.std.specs.Prelude.{All}
 use Rattle.std.specs.List.{list_any}
 use Rattle.std.specs.Result.{result_err}
-use Rattle.std.proofs.lemmas.List.Elements.{All-push}
+use Rattle.std.proofs.lemmas.List.Elements.{All-cons, All-push}
 use Rattle.farm_base.proofs.CompareLaws as laws
 use Rattle.protocol.specs.Lists.{is_nil}
 use Rattle.protocol.specs.Names.{Slot, slot_eq, Ticket, Digest}
@@ -13,11 +13,12 @@ use Rattle.protocol.specs.declared.answer.CoordNote.TheVariants as note
 use Rattle.protocol.specs.declared.answer.CoordRefusal.{CoordRefusal}
 use Rattle.protocol.specs.declared.answer.CoordRefusal.TheVariants as refusal
 use Rattle.protocol.specs.Ledger.{Limits, Ledger, Work, has_slot, is_leased, notes, prunes, pruned}
-use Rattle.slotlines.specs.declared.lines.Addition.{Addition}
-use Rattle.slotlines.specs.declared.lines.Added.{Added}
-use Rattle.slotlines.specs.declared.lines.SlotLine.{SlotLine}
-use Rattle.slotlines.specs.Additions.{HasRoom, IsAbove, AreReady}
-use Rattle.slotlines.specs.Lines.{line_at, lines_with, news_of}
+use Rattle.versions.specs.declared.lines.Addition.{Addition}
+use Rattle.versions.specs.declared.lines.Added.{Added}
+use Rattle.versions.specs.declared.lines.SlotLine.{SlotLine}
+use Rattle.versions.specs.Additions.{HasRoom, IsAbove, AreReady}
+use Rattle.versions.specs.Lines.{line_at, lines_with, news_of}
+use Rattle.protocol.proofs.Base.{or_false}
 use Rattle.coordinator.specs.Sound.{IsSound}
 
 -- what passes three tests
@@ -62,17 +63,9 @@ ready-one lines t (a ∷ b ∷ adds) s d e room above = absurd (cc)
 
 -- ---- what a ledger keeps to
 
-one_more : {A : Type 0} (test : A → Bool) (x : A) (xs : List A) → test x ≡ false → All (λ y. test y ≡ false) xs → All (λ y. test y ≡ false) (x ∷ xs)
-one_more test x xs here rest zero d inside = here
-one_more test x xs here rest (suc k) d inside = rest k d (omega arith)
-
-or_none : (a b : Bool) → (a || b) ≡ false → (a ≡ false) × (b ≡ false)
-or_none true b h = (let bad : true ≡ false = h in absurd (cc bad))
-or_none false b h = (refl, h)
-
 none_has : {A : Type 0} (test : A → Bool) (xs : List A) → list_any test xs ≡ false → All (λ x. test x ≡ false) xs
 none_has test [] h k d inside = absurd (omega (arith, inside))
-none_has test (x ∷ xs) h k d inside = (let both = or_none (test x) (list_any test xs) h in one_more test x xs both.0 (none_has test xs both.1) k d inside)
+none_has test (x ∷ xs) h k d inside = (let both = or_false (test x) (list_any test xs) h in All-cons (λ y. test y ≡ false) x xs both.0 (none_has test xs both.1) k d inside)
 
 -- what holds of a line and of a new version holds of the line with it
 line_all : (P : LineVersion → Type 0) (b : Bool) (xs : List LineVersion) (v : LineVersion) → All P xs → (b ≡ true → P v) → All P (cond b (xs ++ v ∷ []) xs)

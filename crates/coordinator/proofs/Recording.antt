@@ -1,5 +1,5 @@
 -- Where a call doesn't say that the record changed, it is as before.
-use Rattle.std.proofs.Common.{◌≡◌, ◌<◌, ◌≤◌, suc, List, [], ◌∷◌, length, Result, Ok, Err, inl, inr, sym, ap, ◌∙◌, subst, arith}
+use Rattle.std.proofs.Common.{◌≡◌, ◌<◌, ◌≤◌, suc, List, [], ◌∷◌, Result, Ok, Err, inl, inr, sym, ap, ◌∙◌, subst, arith}
 use Rattle.std.specs.Prelude.{All, AllPairs}
 use Rattle.folders.specs.Farm.{farm_limits}
 use Rattle.leases.specs.Leases.{IsBefore}
@@ -12,7 +12,7 @@ use Rattle.protocol.proofs.Saving as saving
 use Rattle.protocol.proofs.Saving.{Apart}
 use Rattle.coordinator.specs.Sound.{IsSound}
 use Rattle.coordinator.specs.Promises.{ChangesAsTold}
-use Rattle.coordinator.proofs.SoundWords.{AllPairs-head, AllPairs-tail}
+use Rattle.leases.proofs.TableLemmas.{AllPairs-head, AllPairs-tail}
 
 all_in : {A : Type 0} (P : A → Type 0) (xs : List A) → All P xs → (x : A) → In x xs → P x
 all_in P [] h x i = absurd i

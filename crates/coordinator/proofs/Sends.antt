@@ -1,24 +1,24 @@
 -- How many messages one message makes the coordinator send.
-use Rattle.std.proofs.Common.{◌≡◌, ℕ, ◌+◌, ◌≤◌, Bool, true, false, not, ◌&&◌, ◌||◌, cond, nat_lt, List, [], ◌∷◌, ◌++◌, length, filter, Option, Some, None, arith, length-append}
+use Rattle.std.proofs.Common.{◌≡◌, ℕ, ◌+◌, ◌≤◌, Bool, true, false, not, ◌&&◌, ◌||◌, cond, nat_lt, List, [], ◌∷◌, length, filter, Option, Some, None, arith}
+use Rattle.std.proofs.lemmas.List.{length_push}
 use Rattle.std.specs.List.{find, list_any}
 use Rattle.farm_base.specs.declared.message.Request.{Request}
 use Rattle.farm_base.specs.declared.message.Request.TheVariants.{Hello, Acquire, Commit, Release}
 use Rattle.farm_base.specs.declared.message.FromCoord.TheVariants as told
 use Rattle.protocol.specs.Lists.{is_nil}
 use Rattle.protocol.specs.Names.{NodeId, Life, Ticket}
-use Rattle.protocol.specs.Machine.{FromCoord, ToCoord, Parked, News}
-use Rattle.protocol.specs.Ledger.{Limits, Ledger, Work, Lease, Decision, Give, Deny, Wait, begin_work, decision, gives, denies, carried_out, waits, tried, stays, try_all, waiting, retried, recall, recalls, elsewhere, holds_wanted, decided, lease_of, is_parked, grant_of, acquiring, may_commit, may_release, lease_under, commits, confirms, answered, committing, on_all, released, ends, answering, is_older, is_older_ask, is_home, sees, newer_life, handled}
+use Rattle.protocol.specs.Machine.{ToCoord, Parked, News}
+use Rattle.protocol.specs.Ledger.{Limits, Ledger, Work, Lease, begin_work, decision, gives, denies, carried_out, waits, tried, stays, try_all, waiting, retried, recall, recalls, elsewhere, holds_wanted, decided, lease_of, is_parked, grant_of, acquiring, may_commit, may_release, lease_under, commits, confirms, answered, committing, on_all, released, ends, answering, is_older, is_older_ask, is_home, sees, newer_life, handled}
+use Rattle.protocol.specs.declared.answer.Decision.{Decision}
+use Rattle.protocol.specs.declared.answer.Decision.TheVariants.{Give, Deny, Wait}
 
 -- one message more
-one_more : (ys : List FromCoord) (y : FromCoord) → length (ys ++ y ∷ []) ≡ length ys + 1
-one_more ys y = length-append ys (y ∷ [])
-
 gives_one : (k : Limits) (p : Parked) (w : Work) → length (gives k p w).sends ≡ length w.sends + 1
 unfolding gives
-gives_one k p w = one_more w.sends _
+gives_one k p w = length_push w.sends _
 
 denies_one : (k : Limits) (why : _) (p : Parked) (w : Work) → length (denies why p w).sends ≡ length w.sends + 1
-denies_one k why p w = one_more w.sends _
+denies_one k why p w = length_push w.sends _
 
 at_most_one : (b : Bool) → cond b 1 0 ≤ 1
 at_most_one true = omega arith
@@ -56,7 +56,7 @@ retried_few k w = all_few k w.ledger.parked w
 
 recall_few : (o : Option Lease) (w : Work) → length (recall o w).sends ≤ length w.sends + 1
 recall_few None w = omega arith
-recall_few (Some g) w = omega (arith, one_more w.sends (told.Recall g.node g.life g.ticket))
+recall_few (Some g) w = omega (arith, length_push w.sends (told.Recall g.node g.life g.ticket))
 
 recalls_few : (b : Bool) (p : Parked) (w : Work) → length (recalls b p w).sends ≤ length w.sends + 1
 recalls_few true p w = recall_few (find (holds_wanted p) w.ledger.live) w
@@ -68,20 +68,20 @@ decided_few (Deny why) k p w = omega (arith, denies_one k why p w)
 decided_few Wait k p w = recalls_few (p.tenure && not (elsewhere w.ledger p)) p w
 
 acquiring_few : (k : Limits) (o : Option Lease) (b : Bool) (p : Parked) (w : Work) → length (acquiring k o b p w).sends ≤ length w.sends + 1
-acquiring_few k (Some g) b p w = omega (arith, one_more w.sends (told.Granted (grant_of k.empty w.ledger.line g)))
+acquiring_few k (Some g) b p w = omega (arith, length_push w.sends (told.Granted (grant_of k.empty w.ledger.line g)))
 acquiring_few k None true p w = omega arith
 acquiring_few k None false p w = decided_few (decision k w.ledger p) k p w
 
 -- Commit and Release
 
 answered_few : (b : Bool) (n : NodeId) (l : Life) (t : Ticket) (news : List News) (w : Work) → length (answered b n l t news w).sends ≡ length w.sends + 1
-answered_few true n l t news w = one_more w.sends _
-answered_few false n l t news w = one_more w.sends _
+answered_few true n l t news w = length_push w.sends _
+answered_few false n l t news w = length_push w.sends _
 
 committing_few : (k : Limits) (b : Bool) (n : NodeId) (l : Life) (t : Ticket) (news : List News) (w : Work) → length (committing k b n l t news w).sends ≤ weight w + 1
 committing_few k true n l t news w =
     let v = confirms n l t news (commits t news w) in
-    let said : length v.sends ≡ length w.sends + 1 = one_more w.sends _ in
+    let said : length v.sends ≡ length w.sends + 1 = length_push w.sends _ in
     omega (arith, retried_few k v, said)
 committing_few k false n l t news w = omega (arith, answered_few (not (is_nil news) && on_all w.ledger.line t news) n l t news w)
 

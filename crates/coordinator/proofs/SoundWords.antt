@@ -1,61 +1,35 @@
 -- What a ledger keeps to, over all that a message does.
-use Rattle.std.proofs.Common.{◌≡◌, ℕ, zero, suc, ◌+◌, ◌<◌, ◌≤◌, List, [], ◌∷◌, ◌++◌, Bool, true, false, not, ◌&&◌, ◌||◌, get_or, map, filter, Option, Some, None, refl, sym, ◌∙◌, ap, subst, inl, inr, arith}
+use Rattle.std.proofs.Common.{◌≡◌, ℕ, ◌+◌, ◌<◌, ◌≤◌, List, [], ◌∷◌, ◌++◌, Bool, true, false, not, ◌&&◌, ◌||◌, get_or, map, filter, Option, Some, None, refl, sym, ◌∙◌, ap, subst, inl, inr, arith}
 use Rattle.std.specs.Prelude.{All, AllPairs, nat_lt}
 use Rattle.std.specs.List.{list_any, find, AllByRecursion}
 use Rattle.std.specs.List.Sorted.{IsStrictlySortedBy}
 use Rattle.std.specs.Ordering.{is_eq}
 use Rattle.std.specs.declared.cmp.Ordering.TheVariants.{Less}
-use Rattle.std.proofs.lemmas.List.Elements.{All-filter, All-push}
+use Rattle.std.proofs.lemmas.List.Elements.{All-head, All-tail, All-cons, All-nil, All-filter, All-push}
 use Rattle.farm_base.specs.Slots.{slot_cmp}
 use Rattle.farm_base.specs.Wanted.{IsWants}
 use Rattle.farm_base.specs.declared.message.Request.{Request}
 use Rattle.farm_base.specs.declared.message.Request.TheVariants.{Hello, Acquire, Commit, Release}
 use Rattle.farm_base.proofs.CompareLaws as laws
 use Rattle.leases.specs.Leases.{AreApart, Rises}
-use Rattle.leases.proofs.TableLemmas.{leases-filter, leases_more, FreeIsOpen}
+use Rattle.leases.proofs.TableLemmas.{AllPairs-head, AllPairs-tail, leases-filter, leases_more, FreeIsOpen}
 use Rattle.protocol.specs.Names.{Slot, slot_eq, slots_eq, NodeId, Life, Ticket, Digest}
 use Rattle.protocol.specs.Lists.{is_nil}
 use Rattle.protocol.specs.Machine.{News, LineVersion, Parked, ToCoord, slots_of, digest_for, version_of}
-use Rattle.protocol.specs.Ledger.{Limits, Ledger, Lease, Work, Decision, Give, Deny, Wait, pick, elsewhere, is_free, some_lease, has_slot, writable_slots, decision, gives, lease_for, carried_out, tried, stays, try_all, waiting, parks, retried, recall, recalls, holds_wanted, decided, acquiring, has_ticket, lease_under, lease_of, is_parked, without, ends, commits, confirms, may_commit, may_release, is_its, on_all, answered, committing, released, answering, is_older, is_older_ask, sees, newer_life, is_home, handled}
-use Rattle.slotlines.specs.declared.lines.Addition.{Addition}
-use Rattle.slotlines.specs.declared.lines.SlotLine.{SlotLine}
+use Rattle.protocol.specs.Ledger.{Limits, Ledger, Lease, Work, pick, elsewhere, is_free, some_lease, has_slot, writable_slots, decision, gives, lease_for, carried_out, tried, stays, try_all, waiting, parks, retried, recall, recalls, holds_wanted, decided, acquiring, has_ticket, lease_under, lease_of, is_parked, without, ends, commits, confirms, may_commit, may_release, is_its, on_all, answered, committing, released, answering, is_older, is_older_ask, sees, newer_life, is_home, handled}
+use Rattle.protocol.specs.declared.answer.Decision.{Decision}
+use Rattle.protocol.specs.declared.answer.Decision.TheVariants.{Give, Deny, Wait}
+use Rattle.versions.specs.declared.lines.Addition.{Addition}
+use Rattle.versions.specs.declared.lines.SlotLine.{SlotLine}
 use Rattle.coordinator.specs.Held.{line_at}
-use Rattle.slotlines.specs.Lines.{news_of}
-use Rattle.slotlines.specs.Additions.{HasRoom, IsAbove, AreReady}
+use Rattle.versions.specs.Lines.{news_of}
+use Rattle.versions.specs.Additions.{HasRoom, IsAbove, AreReady}
 use Rattle.coordinator.specs.Sound.{IsOpen, IsSound, IsRequest}
-use Rattle.slotlines.proofs.LineWords.{cases_bool, eqb_is}
+use Rattle.protocol.proofs.Base.{cases_bool, true_false, not_true, and_both, or_false, eqb_is}
 use Rattle.coordinator.proofs.StateWords.{decision-is}
 use Rattle.coordinator.proofs.Trying.{tried-is, retried-is}
 
-true_false : {P : Type 0} (b : Bool) → b ≡ true → b ≡ false → P
-true_false b t f = let bad : true ≡ false = sym t ∙ f in cc
-
-and_both : (a b : Bool) → (a && b) ≡ true → (a ≡ true) × (b ≡ true)
-and_both true b h = (refl, h)
-and_both false b h = cc
-
-or_false : (a b : Bool) → (a || b) ≡ false → (a ≡ false) × (b ≡ false)
-or_false true b h = (let bad : true ≡ false = h in cc)
-or_false false b h = (refl, h)
-
-not_true : (b : Bool) → not b ≡ true → b ≡ false
-not_true true h = (let bad : false ≡ true = h in cc)
-not_true false h = refl
-
 -- ---- all of a list
-
-All-tail : {A : Type 0} (P : A → Type 0) (x : A) (xs : List A) → All P (x ∷ xs) → All P xs
-All-tail P x xs h k d inside = h (suc k) d (omega arith)
-
-All-head : {A : Type 0} (P : A → Type 0) (x : A) (xs : List A) → All P (x ∷ xs) → P x
-All-head P x xs h = h 0 x (omega arith)
-
-All-cons : {A : Type 0} (P : A → Type 0) (x : A) (xs : List A) → P x → All P xs → All P (x ∷ xs)
-All-cons P x xs here rest zero d inside = here
-All-cons P x xs here rest (suc k) d inside = rest k d (omega arith)
-
-All-nil : {A : Type 0} (P : A → Type 0) → All P []
-All-nil P k d inside = absurd (omega arith)
 
 All-more : {A : Type 0} (P Q : A → Type 0) (xs : List A) → ((x : A) → P x → Q x) → All P xs → All Q xs
 All-more P Q xs f h k d inside = f (get_or xs k d) (h k d inside)
@@ -170,12 +144,6 @@ flipped g h apart s has = elim (cases_bool (has_slot g.slots s)) [
   | inl e ↦ true_false (has_slot h.slots s) has (apart s e)
   | inr e ↦ e
 ]
-
-pub AllPairs-head : {A : Type 0} (R : A → A → Type 0) (x : A) (xs : List A) → AllPairs R (x ∷ xs) → All (R x) xs
-AllPairs-head R x xs h k d inside = h 0 (suc k) d (omega arith) (omega arith)
-
-pub AllPairs-tail : {A : Type 0} (R : A → A → Type 0) (x : A) (xs : List A) → AllPairs R (x ∷ xs) → AllPairs R xs
-AllPairs-tail R x xs h i j d lt inside = h (suc i) (suc j) d (omega arith) (omega arith)
 
 -- the other leases have no slot of the ticket's
 others_apart : (t : Ticket) (live : List Lease) (g : Lease) → AllPairs AreApart live → find (has_ticket t) live ≡ Some g → All (λ h. AreApart h g) (without t live)

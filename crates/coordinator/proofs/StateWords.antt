@@ -11,10 +11,11 @@ use Rattle.leases.specs.Table.{first_fit}
 use Rattle.protocol.specs.Lists.{put}
 use Rattle.protocol.specs.Names.{slots_eq, leased_wants}
 use Rattle.protocol.specs.Machine.{News, slots_of, Parked}
-use Rattle.protocol.specs.Ledger.{Limits, Ledger, Give, Deny, Wait, pick, decision, elsewhere, all_taken, busy, is_free, is_leased}
-use Rattle.coordinator.specs.declared.state.SeenLife.{SeenLife}
+use Rattle.protocol.specs.Ledger.{Limits, Ledger, pick, decision, elsewhere, all_taken, busy, is_free, is_leased}
+use Rattle.protocol.specs.declared.answer.Decision.TheVariants.{Give, Deny, Wait}
+use Rattle.farm_base.specs.declared.lease.NodeLife.{NodeLife}
 use Rattle.coordinator.specs.Held.{life_at}
-use Rattle.slotlines.proofs.LineWords.{eqb_same, eqb_apart}
+use Rattle.protocol.proofs.Base.{eqb_same, eqb_apart}
 
 cases_nat : (a b : ℕ) → (a ≡ b) ⊎ (a ≢ b)
 cases_nat a b = grind arith
@@ -80,7 +81,7 @@ decision-tickets k q p e h same = decision-is k q p ∙ picks_last _ _ _ _ e h (
 
 -- ---- lives
 
-life_at-set : (ls : List SeenLife) (node : NodeId) (life : Life) (n : ℕ) → life_at (filter (λ s. not (eqb s.node.0 node.0)) ls ++ record { node = node; life = life } ∷ []) n ≡ put node.0 life.0 (life_at ls) n
+life_at-set : (ls : List NodeLife) (node : NodeId) (life : Life) (n : ℕ) → life_at (filter (λ s. not (eqb s.node.0 node.0)) ls ++ record { node = node; life = life } ∷ []) n ≡ put node.0 life.0 (life_at ls) n
 life_at-set [] node life n = elim (cases_nat n node.0) [
   | inl e ↦ (let t : eqb node.0 n ≡ true = subst (λ (z : ℕ). eqb node.0 z ≡ true) (sym e) (eqb_same node.0) in let u : eqb n node.0 ≡ true = subst (λ (z : ℕ). eqb n z ≡ true) e (eqb_same n) in rw (t, u) refl)
   | inr ne ↦ (let t : eqb node.0 n ≡ false = eqb_apart node.0 n (λ h. ne (sym h)) in let u : eqb n node.0 ≡ false = eqb_apart n node.0 ne in rw (t, u) refl)
@@ -99,7 +100,7 @@ life_at-set (l ∷ ls) node life n = elim (cases_nat l.node.0 node.0) [
 ]
 
 -- the life of a node that is set anew
-pub set-life : (ls : List SeenLife) (node : NodeId) (life : Life) → life_at (filter (λ s. not (eqb s.node.0 node.0)) ls ++ record { node = node; life = life } ∷ []) ≡ put node.0 life.0 (life_at ls)
+pub set-life : (ls : List NodeLife) (node : NodeId) (life : Life) → life_at (filter (λ s. not (eqb s.node.0 node.0)) ls ++ record { node = node; life = life } ∷ []) ≡ put node.0 life.0 (life_at ls)
 set-life ls node life = fun_ext (life_at-set ls node life)
 
 -- ---- the slots of news

@@ -7,9 +7,11 @@ use Rattle.std.proofs.lemmas.Bool.Decides.{nat_tests}
 use Rattle.protocol.specs.Names.{NodeId, Life, Ticket}
 use Rattle.protocol.specs.declared.answer.CoordNote.TheVariants as note
 use Rattle.protocol.specs.Machine.{Parked, ToCoord}
-use Rattle.protocol.specs.Ledger.{Limits, Work, Decision, Give, Deny, Wait, decision, carried_out, waits, tried, stays, try_all, waiting, retried, parks, gives, notes, Lease, acquiring, decided, is_older, is_home, newer_life, sees, may_release, released, ends, lease_under, has_ticket, without, answering, handled}
+use Rattle.protocol.specs.Ledger.{Limits, Work, decision, carried_out, waits, tried, stays, try_all, waiting, retried, parks, gives, notes, Lease, acquiring, decided, is_older, is_home, newer_life, sees, may_release, released, ends, lease_under, has_ticket, without, answering, handled}
+use Rattle.protocol.specs.declared.answer.Decision.{Decision}
+use Rattle.protocol.specs.declared.answer.Decision.TheVariants.{Give, Deny, Wait}
 use Rattle.coordinator.specs.Shown.{ended, saved_under}
-use Rattle.slotlines.proofs.LineWords.{cases_bool, eqb_is}
+use Rattle.protocol.proofs.Base.{cases_bool, eqb_is}
 
 pub tried-is : (k : Limits) (p : Parked) (w : Work) (d : Decision) → decision k w.ledger p ≡ d → tried k p w ≡ carried_out d k p w
 unfolding tried

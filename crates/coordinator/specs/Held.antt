@@ -5,9 +5,9 @@ use Rattle.protocol.specs.Names.{Slot, NodeId}
 use Rattle.protocol.specs.Machine.{Parked}
 use Rattle.protocol.specs.Ledger.{Lease, Ledger}
 use Rattle.leases.specs.Table.{among}
-pub use Rattle.slotlines.specs.Lines.{line_at}
-use Rattle.slotlines.specs.declared.lines.SlotLine.{SlotLine}
-use Rattle.coordinator.specs.declared.state.SeenLife.{SeenLife}
+pub use Rattle.versions.specs.Lines.{line_at}
+use Rattle.versions.specs.declared.lines.SlotLine.{SlotLine}
+use Rattle.farm_base.specs.declared.lease.NodeLife.{NodeLife}
 
 -- the ledger, as lists
 pub record Held : Type 0 where
@@ -18,11 +18,11 @@ pub record Held : Type 0 where
   pub last : ℕ
   pub ceiling : ℕ
   pub old_home : Option NodeId
-  pub lives : List SeenLife
+  pub lives : List NodeLife
   pub parked : List Parked
 
 -- the greatest life seen of a node
-abbrev pub life_at : List SeenLife → ℕ → ℕ
+abbrev pub life_at : List NodeLife → ℕ → ℕ
 life_at [] n = 0
 life_at (l ∷ ls) n = if l.node.0 == n then l.life.0 else life_at ls n
 

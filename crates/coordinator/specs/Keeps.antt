@@ -1,6 +1,6 @@
 -- What a coordinator keeps, by its fields.
 use Rattle.std.specs.Prelude.{List}
-use Rattle.slotlines.specs.declared.lines.SlotLine.{SlotLine}
+use Rattle.versions.specs.declared.lines.SlotLine.{SlotLine}
 use Rattle.coordinator.specs.declared.state.State.{State}
 use Rattle.coordinator.specs.Held.{Held, line_at}
 use Rattle.coordinator.specs.Shown.{kept}

@@ -2,12 +2,10 @@
 use Rattle.std.specs.Prelude.{Bool, true, false, ◌||◌, List, Option, Some, None}
 use Rattle.protocol.specs.Names.{Ticket}
 use Rattle.protocol.specs.Machine.{FromCoord}
-use Rattle.protocol.specs.Ledger.{Ledger, Work, begin_work, Lease, is_saved, without, lease_under, Decision, Give, Deny, Wait}
+use Rattle.protocol.specs.Ledger.{Ledger, Work, begin_work, Lease, is_saved, without, lease_under}
 use Rattle.leases.specs.Table.{among, retires_some}
-pub use Rattle.slotlines.specs.Lines.{LineOf, lines_with}
+pub use Rattle.versions.specs.Lines.{LineOf, lines_with}
 use Rattle.coordinator.specs.declared.state.State.{State}
-use Rattle.coordinator.specs.declared.state.Verdict.{Verdict}
-use Rattle.coordinator.specs.declared.state.Verdict.TheVariants as verdict
 use Rattle.coordinator.specs.declared.draft.Draft.{Draft}
 use Rattle.coordinator.specs.Held.{life_at, is_among}
 
@@ -55,8 +53,3 @@ withdraws_under t w = record w {
 -- a lease ends, if there is one, and the record has its versions
 abbrev pub ended_committed : Ticket → Work → Work
 ended_committed t w = record w { ledger = record w.ledger { live = without t w.ledger.live }; changed = true }
-
-abbrev pub as_decision : Verdict → Decision
-as_decision verdict.Give = Give
-as_decision (verdict.Deny why) = Deny why
-as_decision verdict.Wait = Wait

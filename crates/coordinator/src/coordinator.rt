@@ -12,9 +12,9 @@ ghost use Rattle.protocol.specs.Ledger.{Work, opening, begin_work, handled, with
 ghost use Rattle.std.specs.Result.{result_err};
 ghost use Rattle.coordinator.specs.Answers.{Answers};
 ghost use Rattle.coordinator.specs.Held.{line_at, ledger};
-ghost use Rattle.slotlines.specs.Additions.{IsReady};
+ghost use Rattle.versions.specs.Additions.{IsReady};
 ghost use Rattle.coordinator.specs.Shown.{kept, shown};
-ghost use Rattle.slotlines.specs.Lines.{lines_with, added_count, line_shown};
+ghost use Rattle.versions.specs.Lines.{lines_with, added_count, line_shown};
 ghost use Rattle.coordinator.specs.Sound.{IsSound, IsRequest};
 ghost use Rattle.coordinator.specs.Promises.{OnlyGrow, GrantsAtOnce, ChangesAsTold};
 
@@ -23,10 +23,9 @@ use super::state::State;
 use farm_base::{FromCoord, Items, NodeId, Request, Slot, Ticket, ToCoord};
 use leases::{LeaseTable, SlotState, TicketSource};
 use protocol::{CoordNote, CoordRefusal};
-use slotlines::{Added, Lines, SlotLine};
 use std::alloc::{AllocError, Global};
 use std::marker::Model;
-use versions::Line;
+use versions::{Added, Line, Lines, SlotLine};
 
 /// The coordinator of a farm, which decides who may use which slot, and keeps the lines of versions.
 /// Contracts see what it keeps.

@@ -8,19 +8,19 @@ ghost use Rattle.protocol.specs.Ledger.{decision, decided, sees, is_older, is_ho
 ghost use Rattle.coordinator.specs.Held.{line_at};
 ghost use Rattle.coordinator.specs.Shown.{LineOf, kept, shown, lines_with, ended, ended_committed};
 ghost use Rattle.coordinator.specs.Sound.{IsSound};
-ghost use Rattle.slotlines.specs.Additions.{IsReady};
+ghost use Rattle.versions.specs.Additions.{IsReady};
 
 use super::state::{
-    State, Verdict, cleared, drop_older_asks, grant_of, is_among, is_home, is_parked, is_saved,
+    State, cleared, drop_older_asks, grant_of, is_among, is_home, is_parked, is_saved,
     is_some_saved, seen_life, set_life,
 };
 use farm_base::{
     Copied, FromCoord, Grant, Items, Life, News, NodeId, Parked, Request, Ticket, ToCoord, Why,
 };
-use protocol::CoordNote;
-use slotlines::{Added, Lines, additions, all_stand, confirmed};
+use protocol::{CoordNote, Decision};
 use std::alloc::{AllocError, Global};
 use std::mem;
+use versions::{Added, Lines, additions, all_stand, confirmed};
 
 /// The state that an event leaves, and what it sends and tells.
 #[derive(Debug, Drop)]
@@ -92,15 +92,15 @@ impl Draft {
         ensures waits { IfOk result (λ waits. waits ≡ stays farm_limits p.now (shown (lines_with lines.now added.now) self.old)) }
     {
         match self.state.decide(p) {
-            Verdict::Give => {
+            Decision::Give => {
                 self.give(alloc, lines, added, p)?;
                 Ok(false)
             }
-            Verdict::Deny(why) => {
+            Decision::Deny(why) => {
                 self.deny(p, why)?;
                 Ok(false)
             }
-            Verdict::Wait => Ok(true),
+            Decision::Wait => Ok(true),
         }
     }
 
@@ -168,15 +168,15 @@ impl Draft {
             ≡ decided (decision farm_limits (kept (lines_with lines.now added.now) self.old.state) p) farm_limits p (shown (lines_with lines.now added.now) self.old)) }
     {
         match self.state.decide(&p) {
-            Verdict::Give => {
+            Decision::Give => {
                 let grant = self.give(alloc, lines, added, &p)?;
                 self.note = CoordNote::Granted(grant);
             }
-            Verdict::Deny(why) => {
+            Decision::Deny(why) => {
                 self.deny(&p, why)?;
                 self.note = CoordNote::Denied(why);
             }
-            Verdict::Wait => {
+            Decision::Wait => {
                 self.recall(&p)?;
                 self.state.parked.push(p)?;
                 self.note = CoordNote::Parked;

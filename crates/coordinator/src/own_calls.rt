@@ -4,8 +4,8 @@ ghost use Rattle.std.specs.List.{list_any};
 ghost use Rattle.std.specs.Result.{result_err};
 ghost use Rattle.folders.specs.Farm.{empty_digest, farm_limits};
 ghost use Rattle.protocol.specs.Ledger.{begin_work, withdrawn, pruned, retired, retried, goes, holds_wanted, is_awaited, nudges, nudge_all};
-ghost use Rattle.slotlines.specs.Additions.{HasRoom, IsReady};
-ghost use Rattle.slotlines.specs.Lines.{lines_with, news_of};
+ghost use Rattle.versions.specs.Additions.{HasRoom, IsReady};
+ghost use Rattle.versions.specs.Lines.{lines_with, news_of};
 ghost use Rattle.coordinator.specs.Held.{line_at};
 ghost use Rattle.coordinator.specs.Shown.{LineOf, having_said, kept, shown, withdraws_under};
 ghost use Rattle.coordinator.specs.Sound.{IsSound};
@@ -16,8 +16,8 @@ use farm_base::{Copied, Digest, FromCoord, Lease, News, NodeId, Parked, Slot, Ti
 use folders::Content;
 use leases::holds_wanted;
 use protocol::{CoordNote, CoordRefusal};
-use slotlines::{Added, Addition, Lines, additions};
 use std::alloc::{AllocError, Global};
+use versions::{Added, Addition, Lines, additions};
 
 /// Whether an ask is for the tenure that the lease is.
 fn asks_for(p: &Parked, lease: &Lease) -> bool

@@ -9,43 +9,30 @@ ghost use Rattle.protocol.specs.Lists.{put};
 ghost use Rattle.protocol.specs.Machine.{slots_of, cleared};
 ghost use Rattle.protocol.specs.Ledger.{decision, elsewhere, grant_of, is_saved, is_parked, is_older_ask, is_home, writable_slots, may_commit, may_release, lease_under};
 ghost use Rattle.coordinator.specs.Held.{life_at, is_among};
-ghost use Rattle.coordinator.specs.Shown.{LineOf, kept, as_decision, lines_with, saved_under};
+ghost use Rattle.coordinator.specs.Shown.{LineOf, kept, lines_with, saved_under};
 
 use farm_base::{
-    Ask, Copied, Grant, Items, Lease, Life, Mode, News, NodeId, Parked, Slot, Ticket, Why, copy_all,
+    Ask, Copied, Grant, Items, Lease, Life, Mode, News, NodeId, NodeLife, Parked, Slot, Ticket,
+    Why, copy_all,
 };
 use leases::{Fit, LeaseTable, TicketSource};
-use slotlines::{Added, Lines, granted_slots};
+use protocol::Decision;
 use std::alloc::{AllocError, Global};
-
-/// The greatest life seen of a node.
-#[derive(Clone, Copy, Debug, PartialEq, Eq)]
-pub struct SeenLife {
-    pub node: NodeId,
-    pub life: Life,
-}
+use versions::{Added, Lines, granted_slots};
 
 /// All that the coordinator keeps but the lines.
 #[derive(Debug, Drop)]
 pub struct State {
     pub table: LeaseTable,
     pub tickets: TicketSource,
-    pub lives: Vec<SeenLife>,
+    pub lives: Vec<NodeLife>,
     pub gone: Vec<NodeId>,
     pub old_home: Option<NodeId>,
     pub parked: Vec<Parked>,
 }
 
-/// What is done with an ask.
-#[derive(Clone, Copy, Debug, PartialEq, Eq)]
-pub enum Verdict {
-    Give,
-    Deny(Why),
-    Wait,
-}
-
 /// The greatest life seen of a node, 0 where none was.
-pub(crate) fn seen_life(lives: &[SeenLife], node: NodeId) -> u64
+pub(crate) fn seen_life(lives: &[NodeLife], node: NodeId) -> u64
     ensures { result ≡ life_at lives.now node.0 }
 {
     for seen in lives {
@@ -56,7 +43,7 @@ pub(crate) fn seen_life(lives: &[SeenLife], node: NodeId) -> u64
     0
 }
 
-fn drop_life(lives: &mut Vec<SeenLife>, node: NodeId)
+fn drop_life(lives: &mut Vec<NodeLife>, node: NodeId)
     ensures { lives.new.items ≡ filter (λ seen. not (seen.node.0 == node.0)) lives.old.items }
 {
     lives.retain(|seen| seen.node != node);
@@ -64,14 +51,14 @@ fn drop_life(lives: &mut Vec<SeenLife>, node: NodeId)
 
 /// Keeps the life as the node's greatest.
 pub(crate) fn set_life(
-    lives: &mut Vec<SeenLife>,
+    lives: &mut Vec<NodeLife>,
     node: NodeId,
     life: Life,
 ) -> Result<(), AllocError>
     ensures { OnOk result (life_at lives.new.items ≡ put node.0 life.0 (life_at lives.old.items)) }
 {
     drop_life(lives, node);
-    lives.push(SeenLife { node, life })?;
+    lives.push(NodeLife { node, life })?;
     Ok(())
 }
 
@@ -223,21 +210,21 @@ impl State {
     }
 
     /// What is done with an ask.
-    pub(crate) fn decide(&self, p: &Parked) -> Verdict
-        ensures decision { (line : LineOf) → as_decision result ≡ decision farm_limits (kept line self.now) p.now }
-        ensures fits { result ≡ Verdict.Give → fit_of self.now.table p.now.tenure p.now.wants ≡ Fit.Fits }
-        ensures room { result ≡ Verdict.Give → self.now.tickets.position ≢ u64.MAX }
+    pub(crate) fn decide(&self, p: &Parked) -> Decision
+        ensures decision { (line : LineOf) → result ≡ decision farm_limits (kept line self.now) p.now }
+        ensures fits { result ≡ Decision.Give → fit_of self.now.table p.now.tenure p.now.wants ≡ Fit.Fits }
+        ensures room { result ≡ Decision.Give → self.now.tickets.position ≢ u64.MAX }
     {
         if self.is_elsewhere(p) {
-            return Verdict::Wait;
+            return Decision::Wait;
         }
         match self.table.fits(&p.wants, p.tenure) {
-            Fit::InstancesSpent => Verdict::Deny(Why::InstancesSpent),
-            Fit::Busy => Verdict::Wait,
+            Fit::InstancesSpent => Decision::Deny(Why::InstancesSpent),
+            Fit::Busy => Decision::Wait,
             Fit::Fits => {
                 match self.tickets.peek() {
-                    Ok(_) => Verdict::Give,
-                    Err(_) => Verdict::Deny(Why::TicketsSpent),
+                    Ok(_) => Decision::Give,
+                    Err(_) => Decision::Deny(Why::TicketsSpent),
                 }
             }
         }

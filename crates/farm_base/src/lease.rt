@@ -21,6 +21,13 @@ pub struct Lease {
     pub slots: Items<(Slot, bool)>,
 }
 
+/// The greatest life seen of a node.
+#[derive(Clone, Copy, Debug, PartialEq, Eq)]
+pub struct NodeLife {
+    pub node: NodeId,
+    pub life: Life,
+}
+
 /// An ask that waits for a slot or a tenure.
 #[derive(Debug, Drop)]
 pub struct Parked {

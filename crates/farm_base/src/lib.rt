@@ -26,7 +26,7 @@ pub use laws::{
     folders_are_ordered, is_name, is_slot, names_equal_themselves, one_digest_per_text,
     one_folder_per_text, one_key_per_text, one_slot_per_text, slots_are_ordered,
 };
-pub use lease::{Lease, Parked};
+pub use lease::{Lease, NodeLife, Parked};
 pub use message::{
     Confirmed, Fetch, FromCoord, Grant, GrantedSlot, LineVersion, News, Request, ToCoord, Version,
     Why,

@@ -2,7 +2,7 @@
 use Rattle.std.specs.Prelude.{◌≡◌, ⊤, ℕ, ◌+◌, List, [], ◌∷◌, ◌++◌, map}
 use Rattle.folders.specs.Contents.{content_digest}
 use Rattle.folders.specs.Farm.{farm_limits}
-use Rattle.outcomes.specs.Printing.{outcome_text}
+use Rattle.schedule.specs.Printing.{outcome_text}
 use Rattle.protocol.specs.Replay.{Event, Farm, step, run, opening}
 use Rattle.schedule.specs.declared.event.Event as said
 use Rattle.schedule.specs.declared.event.Setup.{Setup}

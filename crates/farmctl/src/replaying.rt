@@ -3,7 +3,7 @@ ghost use Rattle.std.specs.Prelude.{◌≡◌, ◌++◌, IfOk, IfErr, OnOk, map}
 ghost use Rattle.std.specs.String.{string_bytes};
 ghost use Rattle.folders.specs.Contents.{content_digest};
 ghost use Rattle.folders.specs.Farm.{farm_limits};
-ghost use Rattle.outcomes.specs.Printing.{outcome_text};
+ghost use Rattle.schedule.specs.Printing.{outcome_text};
 ghost use Rattle.protocol.specs.Replay.{run, step};
 ghost use Rattle.schedule.specs.Events.{event_of};
 ghost use Rattle.world.specs.Shown.{shown};

@@ -1,12 +1,10 @@
 -- `lowest` is the lowest free instance.
-use Rattle.std.proofs.Common.{◌≡◌, ◌≢◌, ℕ, zero, suc, ◌+◌, ◌<◌, ◌≤◌, ◌⊎◌, Bool, true, false, refl, sym, ◌∙◌, subst, inl, inr, arith}
+use Rattle.std.proofs.Common.{◌≡◌, ◌≢◌, ℕ, zero, suc, ◌+◌, ◌<◌, ◌≤◌, Bool, true, false, refl, sym, ◌∙◌, subst, inl, inr, arith}
 use Rattle.protocol.specs.Names.{Slot, FolderName}
 use Rattle.protocol.specs.Ledger.{lowest}
 use Rattle.leases.specs.Lowest.{LowestIsLowest}
-use Rattle.leases.proofs.TableLemmas.{cases_bool, lowest-end, lowest-free, lowest-taken}
-
-cases_nat : (a b : ℕ) → (a ≡ b) ⊎ (a ≢ b)
-cases_nat a b = grind arith
+use Rattle.protocol.proofs.Base.{cases_bool, cases_nat}
+use Rattle.leases.proofs.TableLemmas.{lowest-end, lowest-free, lowest-taken}
 
 -- the same for the k instances from i on
 record IsLowestFrom (free : Slot → Bool) (f : FolderName) (i k : ℕ) : Type 0 where

@@ -1,20 +1,11 @@
 -- Marks added in one pass over a list.
-use Rattle.std.proofs.Common.{◌≡◌, ℕ, zero, suc, ◌+◌, ◌<◌, ◌≤◌, List, [], ◌∷◌, Bool, true, false, not, ◌||◌, length, get_or, drop, refl, sym, ◌∙◌, ap, arith, add-one, drop-cons}
+use Rattle.std.proofs.Common.{◌≡◌, ℕ, zero, suc, ◌+◌, ◌<◌, ◌≤◌, List, ◌∷◌, Bool, true, false, not, ◌||◌, length, get_or, drop, refl, sym, ◌∙◌, ap, add-one, drop-cons}
+use Rattle.std.proofs.Math.ListN.{drop_of_length-le}
 use Rattle.std.specs.Prelude.{replicate}
 use Rattle.std.specs.List.{list_any}
 
 pub drop-item : {A : Type 0} (xs : List A) (i : ℕ) (d : A) → i < length xs → drop i xs ≡ get_or xs i d ∷ drop (i + 1) xs
 drop-item xs i d h = rw add-one (drop-cons xs i d h)
-
-pub drop_all : {A : Type 0} (xs : List A) → drop (length xs) xs ≡ []
-drop_all [] = refl
-drop_all (x ∷ xs) = drop_all xs
-
-pub drop_none : {A : Type 0} (xs : List A) (k : ℕ) → length xs ≤ k → drop k xs ≡ []
-drop_none [] zero h = refl
-drop_none [] (suc k) h = refl
-drop_none (x ∷ xs) zero h = absurd (omega arith)
-drop_none (x ∷ xs) (suc k) h = drop_none xs k (omega arith)
 
 or_more : (t r m n w : Bool) → n ≡ (t || m) → ((t || r) || m) ≡ w → (r || n) ≡ w
 or_more true true m n w e h = h
@@ -30,7 +21,7 @@ marked_more test xs k d m n w inside e h =
 
 -- after looking at all of them
 pub marked_end : {A : Type 0} (test : A → Bool) (xs : List A) (k : ℕ) (m w : Bool) → length xs ≤ k → (list_any test (drop k xs) || m) ≡ w → m ≡ w
-marked_end test xs k m w past h = ap (λ ys. list_any test ys || m) (sym (drop_none xs k past)) ∙ h
+marked_end test xs k m w past h = ap (λ ys. list_any test ys || m) (sym (drop_of_length-le xs past)) ∙ h
 
 unmarked_at : (n i : ℕ) → get_or (replicate n false) i false ≡ false
 unmarked_at zero i = refl

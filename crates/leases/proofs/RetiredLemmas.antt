@@ -1,18 +1,13 @@
 -- The PRIVATE slots that are never granted again.
 use mathlib.Core.Path.{fun_ext}
-use Rattle.std.proofs.Common.{◌≡◌, List, [], ◌∷◌, ◌++◌, Bool, true, false, ◌&&◌, ◌||◌, cond, map, filter, Option, Some, None, refl, ◌∙◌, ap}
+use Rattle.std.proofs.Common.{◌≡◌, List, [], ◌∷◌, ◌++◌, Bool, true, false, ◌&&◌, ◌||◌, cond, map, filter, Option, Some, None, refl, sym, ◌∙◌, ap}
+use Rattle.std.proofs.Math.Bool.{or_comm, or-false, and-false, and-or_distrib_left}
 use Rattle.std.proofs.lemmas.List.Folds.{list_any-append}
 use Rattle.farm_base.proofs.CompareLaws as laws
 use Rattle.farm_base.specs.declared.lease.Lease.{Lease}
 use Rattle.protocol.specs.Names.{Slot, slot_eq, is_private}
 use Rattle.protocol.specs.Ledger.{has_slot, some_lease, retire_all}
 use Rattle.leases.specs.Table.{among, private_slots, private_of, all_private, retires_some}
-
-or_comm : (a b : Bool) → (a || b) ≡ (b || a)
-or_comm true true = refl
-or_comm true false = refl
-or_comm false true = refl
-or_comm false false = refl
 
 -- one more PRIVATE slot
 among_step : (p q r s t : Bool) → (q ≡ true → p ≡ s) → t ≡ (s && r) → (cond p (q || t) t) ≡ (s && (q || r))
@@ -33,40 +28,24 @@ mapped false x xs = refl
 
 -- the PRIVATE slots of a lease are its slots that are PRIVATE
 among_private : (slots : List (Slot × Bool)) (s : Slot) → among (private_slots slots) s ≡ (is_private s.folder.mode && has_slot slots s)
-among_private [] s = none (is_private s.folder.mode)
-  where
-    none : (b : Bool) → false ≡ (b && false)
-    none true = refl
-    none false = refl
+among_private [] s = sym (and-false (is_private s.folder.mode))
 among_private (x ∷ xs) s =
     ap (λ (ys : List Slot). among ys s) (mapped (is_private x.0.folder.mode) x (filter (λ (y : Slot × Bool). is_private y.0.folder.mode) xs))
     ∙ picks (is_private x.0.folder.mode) x.0 (private_slots xs) s
     ∙ among_step (is_private x.0.folder.mode) (slot_eq x.0 s) (has_slot xs s) (is_private s.folder.mode) (among (private_slots xs) s)
     (λ e. ap (λ (z : Slot). is_private z.folder.mode) (laws.slot_exact x.0 s e)) (among_private xs s)
 
-and_or : (p a b : Bool) → ((p && a) || (p && b)) ≡ (p && (a || b))
-and_or true a b = refl
-and_or false a b = refl
-
-and_false : (b : Bool) → false ≡ (b && false)
-and_false true = refl
-and_false false = refl
-
 -- the same for a list of leases
 among_all : (leases : List Lease) (s : Slot) → among (all_private leases) s ≡ (is_private s.folder.mode && some_lease leases s)
-among_all [] s = and_false (is_private s.folder.mode)
+among_all [] s = sym (and-false (is_private s.folder.mode))
 among_all (g ∷ leases) s =
     list_any-append (λ x. slot_eq x s) (private_slots g.slots) (all_private leases)
     ∙ (λ j. among_private g.slots s j || among_all leases s j)
-    ∙ and_or (is_private s.folder.mode) (has_slot g.slots s) (some_lease leases s)
-
-or_false : (b : Bool) → (b || false) ≡ b
-or_false true = refl
-or_false false = refl
+    ∙ sym (and-or_distrib_left (is_private s.folder.mode) (has_slot g.slots s) (some_lease leases s))
 
 -- a withdrawn lease retires them
 retired_at : (o : Option Lease) (retired : List Slot) (s : Slot) → among (retired ++ private_of o) s ≡ retires_some o (among retired) s
-retired_at None retired s = list_any-append (λ x. slot_eq x s) retired [] ∙ or_false (among retired s)
+retired_at None retired s = list_any-append (λ x. slot_eq x s) retired [] ∙ or-false (among retired s)
 retired_at (Some g) retired s =
     list_any-append (λ x. slot_eq x s) retired (private_slots g.slots)
     ∙ ap (λ (b : Bool). among retired s || b) (among_private g.slots s)

@@ -1,14 +1,13 @@
 -- Leases that may be live together: adding one, and removing some.
-use Rattle.std.proofs.Common.{◌≡◌, ◌≢◌, ℕ, zero, suc, ◌+◌, ◌<◌, List, [], ◌∷◌, ◌++◌, ◌⊎◌, Bool, true, false, not, ◌&&◌, ◌||◌, eqb, length, get_or, map, filter, Some, None, refl, sym, ◌∙◌, ap, subst, inl, inr, arith}
+use Rattle.std.proofs.Common.{◌≡◌, ◌≢◌, ℕ, zero, suc, ◌+◌, ◌<◌, List, [], ◌∷◌, ◌++◌, Bool, true, false, not, ◌&&◌, eqb, length, get_or, map, filter, Some, None, refl, sym, ◌∙◌, ap, subst, inl, inr, arith}
 use Rattle.std.specs.Prelude.{All, AllPairs}
 use Rattle.std.specs.List.{list_any, find, position_from, remove, AllByRecursion}
 use Rattle.std.specs.List.Sorted.{IsStrictlySortedBy}
 use Rattle.std.specs.Ordering.{ordering_then, nat_cmp}
 use Rattle.std.specs.declared.cmp.Ordering.TheVariants.{Less}
-use Rattle.std.proofs.lemmas.List.Elements.{All-filter, All-push}
+use Rattle.std.proofs.lemmas.List.Elements.{All-filter, All-push, All-tail}
 use Rattle.std.proofs.lemmas.List.Kept.{AllPairs-filter}
 use Rattle.std.proofs.lemmas.List.Quantifiers.{all_pairs_push}
-use Rattle.std.proofs.lemmas.Bool.Decides.{nat_tests}
 use Rattle.farm_base.specs.Folders.{folder_cmp}
 use Rattle.farm_base.specs.Slots.{slot_cmp}
 use Rattle.farm_base.specs.Wanted.{folders, IsWants}
@@ -16,33 +15,10 @@ use Rattle.farm_base.specs.declared.lease.Lease.{Lease}
 use Rattle.farm_base.proofs.CompareLaws as laws
 use Rattle.protocol.specs.Names.{Slot, slot_eq, is_private, only_slot, FolderName, NodeId, Life, Ask, Ticket, Want, leased_wants}
 use Rattle.protocol.specs.Ledger.{has_slot, some_lease, lowest, slot_for, all_taken, busy, without, has_ticket}
+use Rattle.protocol.proofs.Base.{cases_bool, true_false, and_both, or_false, eqb_same, eqb_apart, eqb_is}
 use Rattle.leases.specs.Leases.{Table, AreLeases, AreApart, IsBefore, Rises}
 use Rattle.leases.specs.Table.{takes, is_free, fit_of, first_fit, lease_for}
 use Rattle.leases.specs.declared.lease_table.Fit.TheVariants.{Fits}
-
-pub cases_bool : (b : Bool) → (b ≡ true) ⊎ (b ≡ false)
-cases_bool true = inl refl
-cases_bool false = inr refl
-
-pub true_false : {P : Type 0} (b : Bool) → b ≡ true → b ≡ false → P
-true_false b t f = let bad : true ≡ false = sym t ∙ f in cc
-
-and_both : (a b : Bool) → (a && b) ≡ true → (a ≡ true) × (b ≡ true)
-and_both true b h = (refl, h)
-and_both false b h = cc
-
-or_false : (a b : Bool) → (a || b) ≡ false → (a ≡ false) × (b ≡ false)
-or_false true b h = (let bad : true ≡ false = h in cc)
-or_false false b h = (refl, h)
-
-eqb_same : (a : ℕ) → eqb a a ≡ true
-eqb_same a = grind (arith, nat_tests)
-
-eqb_apart : (a b : ℕ) → a ≢ b → eqb a b ≡ false
-eqb_apart a b h = grind (arith, nat_tests)
-
-eqb_is : (a b : ℕ) → eqb a b ≡ true → a ≡ b
-eqb_is a b h = grind (arith, nat_tests)
 
 -- ---- the wants of which a lease takes slots
 
@@ -59,14 +35,11 @@ leases-filter p live h = record {
   slots = All-filter p Rises live h.slots;
 }
 
-AllPairs-tail : {A : Type 0} (R : A → A → Type 0) (x : A) (xs : List A) → AllPairs R (x ∷ xs) → AllPairs R xs
+pub AllPairs-tail : {A : Type 0} (R : A → A → Type 0) (x : A) (xs : List A) → AllPairs R (x ∷ xs) → AllPairs R xs
 AllPairs-tail R x xs h i j d lt inside = h (suc i) (suc j) d (omega arith) (omega arith)
 
-AllPairs-head : {A : Type 0} (R : A → A → Type 0) (x : A) (xs : List A) → AllPairs R (x ∷ xs) → All (R x) xs
+pub AllPairs-head : {A : Type 0} (R : A → A → Type 0) (x : A) (xs : List A) → AllPairs R (x ∷ xs) → All (R x) xs
 AllPairs-head R x xs h k d inside = h 0 (suc k) d (omega arith) (omega arith)
-
-All-tail : {A : Type 0} (P : A → Type 0) (x : A) (xs : List A) → All P (x ∷ xs) → All P xs
-All-tail P x xs h k d inside = h (suc k) d (omega arith)
 
 -- no later lease has the ticket
 later : (t : Ticket) (g : Lease) (live : List Lease) → g.ticket.0 ≡ t.0 → All (IsBefore g) live → without t live ≡ live

@@ -11,8 +11,8 @@ use Rattle.protocol.specs.declared.answer.EventNote.{EventNote}
 use Rattle.protocol.specs.declared.answer.EventNote.TheVariants as note
 use Rattle.protocol.specs.declared.answer.EventRefusal.{EventRefusal}
 use Rattle.protocol.specs.declared.answer.Outcome.{Outcome}
-use Rattle.protocol.specs.declared.answer.Survivor.{Survivor}
-use Rattle.protocol.specs.declared.answer.Survivor.TheVariants.{Old, New}
+use Rattle.protocol.specs.declared.answer.Kept.{Kept}
+use Rattle.protocol.specs.declared.answer.Kept.TheVariants.{Old, New}
 use Rattle.protocol.specs.Ledger.{Limits, Ledger, Lease, Saved, saves, reads, Work, is_saved, begin_work, handled, withdrawn, retired, pruned, nudged}
 use Rattle.protocol.specs.World.{Running, Node, World, Move, Node_moves, Machine_moves, Machine_says, Fails, Recovers, Moves, Still, Then, start}
 use Rattle.protocol.specs.Safe.{IsWithdrawn, InUse, Held, Rising}
@@ -91,7 +91,7 @@ module _ (sha : List ℕ → Digest) (k : Limits) (farm : IsFarm sha k) where
   coord_told None (Err x) s o e = cc
   coord_told None (Ok w) s o e = by w.changed s.armed e
     where
-      by : (b : Bool) (a : Option Survivor) → (settled b a w s).outcome ≡ Ok o → (c : CoordNote) × (o.note ≡ note.Coord c)
+      by : (b : Bool) (a : Option Kept) → (settled b a w s).outcome ≡ Ok o → (c : CoordNote) × (o.note ≡ note.Coord c)
       by false a e = (w.note, same e)
         where
           same : (settled false a w s).outcome ≡ Ok o → o.note ≡ note.Coord w.note
@@ -227,8 +227,8 @@ module _ (sha : List ℕ → Digest) (k : Limits) (farm : IsFarm sha k) where
   abbrev Stood : Farm → Slot → LineVersion → Type 0
   Stood s x v = In v (s.ledger.line x) ⊎ In v (s.saved.line x)
 
-  abbrev Kept : Farm → Event → (Farm → Turn) → Slot → LineVersion → Type 0
-  Kept s e turn x v = (turn s).outcome ≡ Err (refusal.Coord coord_refusal.SaveFault) → In v ((turn s).farm.saved.line x)
+  abbrev KeptBy : Farm → Event → (Farm → Turn) → Slot → LineVersion → Type 0
+  KeptBy s e turn x v = (turn s).outcome ≡ Err (refusal.Coord coord_refusal.SaveFault) → In v ((turn s).farm.saved.line x)
       → Stood s x v ⊎ ((o : Outcome) × ((turn (unarmed s)).outcome ≡ Ok o) × In v (adds k.empty s.pool e o.note x))
 
   -- each line that the work leaves is the one before with what the event adds
@@ -236,7 +236,7 @@ module _ (sha : List ℕ → Digest) (k : Limits) (farm : IsFarm sha k) where
   Lines s e (Ok w) = (x : Slot) → w.ledger.line x ≡ s.ledger.line x ++ adds k.empty s.pool e (note.Coord w.note) x
   Lines s e (Err r) = ⊤
 
-  settled_kept : (s : Farm) (e : Event) (w : Work) (b : Bool) (a : Option Survivor) (x : Slot) (v : LineVersion) → Lines s e (Ok w) → (settled b a w s).outcome ≡ Err (refusal.Coord coord_refusal.SaveFault) → In v ((settled b a w s).farm.saved.line x)
+  settled_kept : (s : Farm) (e : Event) (w : Work) (b : Bool) (a : Option Kept) (x : Slot) (v : LineVersion) → Lines s e (Ok w) → (settled b a w s).outcome ≡ Err (refusal.Coord coord_refusal.SaveFault) → In v ((settled b a w s).farm.saved.line x)
       → Stood s x v ⊎ ((o : Outcome) × ((settled b None w (unarmed s)).outcome ≡ Ok o) × In v (adds k.empty s.pool e o.note x))
   settled_kept s e w false a x v lines fault i = inl (inr i)
   settled_kept s e w true None x v lines fault i = (let bad : ◌≡◌ {A = Result Outcome EventRefusal} (settled true None w s).outcome (Err (refusal.Coord coord_refusal.SaveFault)) = fault in cc)
@@ -246,7 +246,7 @@ module _ (sha : List ℕ → Digest) (k : Limits) (farm : IsFarm sha k) where
     | inr new ↦ inr (_, refl, new)
   ]
 
-  coordinated_kept : (s : Farm) (e : Event) (d : Option Ledger) (r : Result Work CoordRefusal) (x : Slot) (v : LineVersion) → Lines s e r → Kept s e (λ t. coordinated d r t) x v
+  coordinated_kept : (s : Farm) (e : Event) (d : Option Ledger) (r : Result Work CoordRefusal) (x : Slot) (v : LineVersion) → Lines s e r → KeptBy s e (λ t. coordinated d r t) x v
   coordinated_kept s e (Some q) r x v lines fault i = inl (inr i)
   coordinated_kept s e None (Err r) x v lines fault i = inl (inr i)
   coordinated_kept s e None (Ok w) x v lines fault i = settled_kept s e w w.changed s.armed x v lines fault i
@@ -263,7 +263,7 @@ module _ (sha : List ℕ → Digest) (k : Limits) (farm : IsFarm sha k) where
   of_lines s e change (Ok w) g same = λ x. g.lines x ∙ same w.note x
   of_lines s e change (Err r) g same = tt
 
-  delivered_kept : (u : World) → Moves sha (start sha) u → (s : Farm) → Shows sha u s → (number : ℕ) (o : Option Message) (x : Slot) (v : LineVersion) → nth s.pool number ≡ o → Kept s (Deliver number) (λ t. delivered sha k o t) x v
+  delivered_kept : (u : World) → Moves sha (start sha) u → (s : Farm) → Shows sha u s → (number : ℕ) (o : Option Message) (x : Slot) (v : LineVersion) → nth s.pool number ≡ o → KeptBy s (Deliver number) (λ t. delivered sha k o t) x v
   delivered_kept u moves s shows number None x v here fault i = inl (inr i)
   delivered_kept u moves s shows number (Some (Said y)) x v here fault i =
       coordinated_kept s (Deliver number) s.down (Ok (handled k y (begin_work s.ledger))) x v
@@ -272,11 +272,11 @@ module _ (sha : List ℕ → Digest) (k : Limits) (farm : IsFarm sha k) where
   delivered_kept u moves s shows number (Some (Fetches y)) x v here fault i = inl (at_node_kept (is_node s y.node) y.node _ s x v i)
   delivered_kept u moves s shows number (Some (Blob n c)) x v here fault i = inl (at_node_kept (is_node s n) n _ s x v i)
 
-  retire_kept : (b : Bool) (n : NodeId) (s : Farm) (x : Slot) (v : LineVersion) → Kept s (Retire n) (λ t. if b then coordinated s.down (retired k n (begin_work s.ledger)) t else refused refusal.NoSuchNode t) x v
+  retire_kept : (b : Bool) (n : NodeId) (s : Farm) (x : Slot) (v : LineVersion) → KeptBy s (Retire n) (λ t. if b then coordinated s.down (retired k n (begin_work s.ledger)) t else refused refusal.NoSuchNode t) x v
   retire_kept true n s x v fault i = coordinated_kept s (Retire n) s.down (retired k n (begin_work s.ledger)) x v (of_lines s (Retire n) (λ c. saying.retiring s.ledger n) (retired k n (begin_work s.ledger)) (saying.retired_grew k s.ledger n) (λ c z. sym (append-nil (s.ledger.line z)))) fault i
   retire_kept false n s x v fault i = inl (inr i)
 
-  kept_by : (u : World) → Moves sha (start sha) u → (s : Farm) → Shows sha u s → (e : Event) (x : Slot) (v : LineVersion) → Kept s e (λ t. step sha k t e) x v
+  kept_by : (u : World) → Moves sha (start sha) u → (s : Farm) → Shows sha u s → (e : Event) (x : Slot) (v : LineVersion) → KeptBy s e (λ t. step sha k t e) x v
   unfolding step
   kept_by u moves s shows (replay.Ask n wants) x v fault i = inl (at_node_kept (is_node s n) n _ s x v i)
   kept_by u moves s shows (Tenure n f) x v fault i = inl (at_node_kept (is_node s n) n _ s x v i)
@@ -292,7 +292,7 @@ module _ (sha : List ℕ → Digest) (k : Limits) (farm : IsFarm sha k) where
   kept_by u moves s shows (RestartNode n) x v fault i = elim (cases_bool (is_node s n)) [ inl t ↦ inl (restarts_kept n s x v (rw t at i)) | inr t ↦ inl (inr (rw t at i)) ]
   kept_by u moves s shows RestartCoordinator x v fault i = inl (inr i)
   kept_by u moves s shows (Forge n c) x v fault i = inl (at_node_kept (is_node s n) n _ s x v i)
-  kept_by u moves s shows (FailSave survivor) x v fault i = inl (inr i)
+  kept_by u moves s shows (FailSave kept) x v fault i = inl (inr i)
 
   stood : (u : World) (s : Farm) → Shows sha u s → (x : Slot) (v : LineVersion) → Stood s x v → Stands u x v
   stood u s shows x v (inl i) = inl (subst (In v) (shows.now.lines x) i)

@@ -10,8 +10,8 @@ use Rattle.farm_base.specs.declared.message.Request.{Request}
 use Rattle.farm_base.specs.declared.message.Request.TheVariants.{Hello, Acquire, Commit, Release}
 use Rattle.protocol.specs.declared.answer.CoordRefusal.{CoordRefusal}
 use Rattle.protocol.specs.declared.answer.CoordRefusal.TheVariants as coord
-use Rattle.protocol.specs.declared.answer.Survivor.{Survivor}
-use Rattle.protocol.specs.declared.answer.Survivor.TheVariants.{Old, New}
+use Rattle.protocol.specs.declared.answer.Kept.{Kept}
+use Rattle.protocol.specs.declared.answer.Kept.TheVariants.{Old, New}
 use Rattle.protocol.specs.declared.answer.CoordNote.TheVariants as note
 use Rattle.protocol.specs.Ledger.{Limits, Ledger, Lease, Work, begin_work, has_slot, some_lease, is_leased, is_free, lowest, all_taken, busy, pick, another, elsewhere, Decision, Give, Deny, Wait, decision, lease_for, gives, carried_out, waits, tried, stays, try_all, waiting, retried, holds_wanted, recall, recalls, decided, acquiring, lease_of, is_parked, lease_under, may_commit, on_all, committing, may_release, released, answering, is_older, is_older_ask, sees, is_home, newer_life, handled, withdraws, withdrawing, withdrawn, is_at, retire_all, goes, retired, prunes, pruned, is_awaited, nudges, nudge_all, nudged, notes, reread}
 use Rattle.protocol.specs.Ledger as ledger
@@ -291,7 +291,7 @@ module _ (k : Limits) where
 
   -- ---- events
 
-  settled_none : (changed : Bool) (armed : Option Survivor) (w : Work) (s : Farm) → N w → NoneReady k s.ledger → NoneReady k (settled changed armed w s).farm.ledger
+  settled_none : (changed : Bool) (armed : Option Kept) (w : Work) (s : Farm) → N w → NoneReady k s.ledger → NoneReady k (settled changed armed w s).farm.ledger
   settled_none false armed w s none old = none
   settled_none true None w s none old = none
   settled_none true (Some Old) w s none old = old
@@ -333,7 +333,7 @@ module _ (k : Limits) where
   step_none sha s (RestartNode n) old = elim (cases_bool (is_node s n)) [ inl t ↦ rw t (restarts_none n s old) | inr t ↦ rw t old ]
   step_none sha s RestartCoordinator old = λ p i e. absurd i
   step_none sha s (Forge n c) old = at_node_none (is_node s n) n _ s old
-  step_none sha s (FailSave survivor) old = old
+  step_none sha s (FailSave kept) old = old
 
   run_none : (sha : List ℕ → Digest) (events : List Event) (s : Farm) → NoneReady k s.ledger → NoneReady k (run sha k events s).ledger
   run_none sha [] s old = old

@@ -8,8 +8,8 @@ use Rattle.protocol.specs.World.{Running, World, Node, Move, Machine_moves, Mach
 use Rattle.protocol.specs.Nodes.{NodeWork, NodeAnswer, Place, asked, asked_tenure, begun, finished_with, aborted, resent, restarted, may_restart, heard, fetched, brought, unless_spent}
 use Rattle.protocol.specs.Replay.{Event, Tenure, Deliver, Begin, Finish, Abort, Resend, Nudge, Withdraw, Prune, Retire, RestartNode, RestartCoordinator, Forge, FailSave, Farm, Turn, opening, refused, done, after_work, settled, settles, coordinated, is_node, moved, answered, at_node, node_does, restarts, told_to, delivered, step, run}
 use Rattle.protocol.specs.Replay as replay
-use Rattle.protocol.specs.declared.answer.Survivor.{Survivor}
-use Rattle.protocol.specs.declared.answer.Survivor.TheVariants.{Old, New}
+use Rattle.protocol.specs.declared.answer.Kept.{Kept}
+use Rattle.protocol.specs.declared.answer.Kept.TheVariants.{Old, New}
 use Rattle.protocol.specs.declared.answer.CoordRefusal.{CoordRefusal}
 use Rattle.protocol.specs.declared.answer.CoordRefusal.TheVariants as coord
 use Rattle.protocol.specs.declared.answer.CoordNote.{CoordNote}
@@ -358,7 +358,7 @@ module _ (sha : List ℕ → Digest) (k : Limits) (farm : IsFarm sha k) where
         by coord.NodeRetired why = exact coord.NodeRetired why.1
     taken for up w decided exact saved refusal.OutOfMemory why = why
 
-    settled_next : (changed : Bool) (armed : Option Survivor) (w : Work) (c : saying.Change s.ledger) → w.changed ≡ changed → s.armed ≡ armed → ForCoord u s e → decision_at k s e ≡ Some (Ok w) → ((r : CoordRefusal) → CallBecause k u.machine e r → ⊥) → Done (event_note.Coord w.note) w c → s.down ≡ None → Next u s e (settled changed armed w s)
+    settled_next : (changed : Bool) (armed : Option Kept) (w : Work) (c : saying.Change s.ledger) → w.changed ≡ changed → s.armed ≡ armed → ForCoord u s e → decision_at k s e ≡ Some (Ok w) → ((r : CoordRefusal) → CallBecause k u.machine e r → ⊥) → Done (event_note.Coord w.note) w c → s.down ≡ None → Next u s e (settled changed armed w s)
     settled_next false armed w c same at for decided exact d up = after_next s.saved (event_note.Coord w.note) w c (up_saved up ∙ sym (d.saves_all same)) d up (taken for up w decided exact (inr same))
     settled_next true None w c same at for decided exact d up = after_next (saves w.ledger) (event_note.Coord w.note) w c refl d up (taken for up w decided exact (inl at))
     settled_next true (Some Old) w c same at for decided exact d up = fails_next s.saved (begin_work s.ledger) u.machine (No_step u.machine) shows.now (up_saved up) (inl refl) up
@@ -713,13 +713,13 @@ module _ (sha : List ℕ → Digest) (k : Limits) (farm : IsFarm sha k) where
   always u s (refusal.Coord r) (reaches, why) = reaches
   always u s refusal.OutOfMemory why = why
 
-  armed_always : (u : World) (s : Farm) (survivor : Survivor) (r : EventRefusal) → Because k u s (FailSave survivor) r → ⊥
-  armed_always u s survivor refusal.NoSuchMessage (number, is, none) = (let bad : FailSave survivor ≡ Deliver number = is in cc)
-  armed_always u s survivor refusal.NoSuchNode (n, inl at, none) = none_some n at
-  armed_always u s survivor refusal.NoSuchNode (n, inr is, none) = (let bad : FailSave survivor ≡ Retire n = is in cc)
-  armed_always u s survivor (refusal.Node r) (n, at, here, why) = none_some n at
-  armed_always u s survivor (refusal.Coord r) (reaches, why) = reaches
-  armed_always u s survivor refusal.OutOfMemory why = why
+  armed_always : (u : World) (s : Farm) (kept : Kept) (r : EventRefusal) → Because k u s (FailSave kept) r → ⊥
+  armed_always u s kept refusal.NoSuchMessage (number, is, none) = (let bad : FailSave kept ≡ Deliver number = is in cc)
+  armed_always u s kept refusal.NoSuchNode (n, inl at, none) = none_some n at
+  armed_always u s kept refusal.NoSuchNode (n, inr is, none) = (let bad : FailSave kept ≡ Retire n = is in cc)
+  armed_always u s kept (refusal.Node r) (n, at, here, why) = none_some n at
+  armed_always u s kept (refusal.Coord r) (reaches, why) = reaches
+  armed_always u s kept refusal.OutOfMemory why = why
 
   reread_next : (u : World) (run : Moves sha (start sha) u) (s : Farm) (shows : Shows sha u s) → s.down ≡ None → Next u s RestartCoordinator (done event_note.Restarted [] s (record s { ledger = reads s.saved; down = None }))
   reread_next u run s shows e =
@@ -1027,7 +1027,7 @@ module _ (sha : List ℕ → Digest) (k : Limits) (farm : IsFarm sha k) where
       let p : Plain sha u s e n None = record { finds = refl; ends = λ said g y h. h; adds = λ said x. refl; lives = λ said f j. refl; coord = λ said m sends. tt; at = refl; heard = refl; apart = λ r. r } in
       node_next u run s shows e n None p (λ p x. unless_spent x (brought sha c x))
       (quiet_act u run s shows e n None p _ (λ x v. tt) (spent_does sha u n _ (brought_does sha u n c)) (brought_use (u.nodes n.0) one sha c) (noting.forged_exact sha k n s.size (u.nodes n.0) one c))
-  step_next u run s shows (FailSave survivor) = record {
+  step_next u run s shows (FailSave kept) = record {
     world = u;
     moves = Still u;
     shows = record { now = shows.now; kept = shows.kept; saved = shows.saved; pool = shows.pool; nodes = shows.nodes };
@@ -1051,7 +1051,7 @@ module _ (sha : List ℕ → Digest) (k : Limits) (farm : IsFarm sha k) where
       used = record { began = λ n g ws i. inl i; stopped = λ n g ws i. inl i };
       did = tt;
     };
-    fair = armed_always u s survivor;
+    fair = armed_always u s kept;
   }
 
   -- a world that the events lead to

@@ -15,6 +15,8 @@ use Rattle.protocol.specs.declared.answer.CoordNote.{CoordNote}
 use Rattle.protocol.specs.declared.answer.CoordNote.TheVariants as note
 use Rattle.protocol.specs.declared.answer.CoordRefusal.{CoordRefusal}
 use Rattle.protocol.specs.declared.answer.CoordRefusal.TheVariants as refusal
+pub use Rattle.protocol.specs.declared.answer.Decision.{Decision}
+pub use Rattle.protocol.specs.declared.answer.Decision.TheVariants.{Give, Deny, Wait}
 
 -- the numbers that bound a farm, and the digest of the empty content
 pub record Limits : Type 0 where
@@ -125,11 +127,6 @@ grant_of empty line g = record {
 }
 
 -- deciding an ask
-
-pub data Decision : Type 0 where
-  Give : Decision
-  Deny : (why : Why) → Decision
-  Wait : Decision
 
 -- the first that applies: another node is the old home; no instance is left; a slot is leased; no ticket is left
 abbrev pub pick : Bool → Bool → Bool → Bool → Decision

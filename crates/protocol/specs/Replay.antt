@@ -8,8 +8,8 @@ use Rattle.protocol.specs.Ledger as ledger
 use Rattle.protocol.specs.World.{Node, first_node}
 use Rattle.protocol.specs.Nodes.{Place, Left, NodeWork, NodeAnswer, asked, asked_tenure, begun, finished_with, aborted, resent, restarted, may_restart, heard, fetched, brought, unless_spent}
 use Rattle.farm_base.specs.declared.message.FromCoord.TheVariants as told
-use Rattle.protocol.specs.declared.answer.Survivor.{Survivor}
-use Rattle.protocol.specs.declared.answer.Survivor.TheVariants.{Old, New}
+use Rattle.protocol.specs.declared.answer.Kept.{Kept}
+use Rattle.protocol.specs.declared.answer.Kept.TheVariants.{Old, New}
 use Rattle.protocol.specs.declared.answer.CoordRefusal.{CoordRefusal}
 use Rattle.protocol.specs.declared.answer.CoordRefusal.TheVariants as coord
 use Rattle.protocol.specs.declared.answer.NodeRefusal.TheVariants as node
@@ -34,7 +34,7 @@ pub data Event : Type 0 where
   RestartNode : (node : NodeId) → Event
   RestartCoordinator : Event
   Forge : (node : NodeId) (content : List ℕ) → Event
-  FailSave : (survivor : Survivor) → Event
+  FailSave : (kept : Kept) → Event
 
 -- a farm between two events
 pub record Farm : Type 0 where
@@ -46,7 +46,7 @@ pub record Farm : Type 0 where
   -- after a failed save: what the record holds
   pub down : Option Ledger
   -- the next save fails, and leaves this
-  pub armed : Option Survivor
+  pub armed : Option Kept
   -- every message ever sent, in order of sending
   pub pool : List Message
   pub nodes : ℕ → Node
@@ -75,7 +75,7 @@ abbrev pub after_work : Saved → Work → Farm → Turn
 after_work saved w s = done (note.Coord w.note) (map Told w.sends) s (record s { ledger = w.ledger; saved = saved; pool = s.pool ++ map Told w.sends })
 
 -- the record is saved where it changed, and then all is sent; or the save fails, and nothing is sent
-abbrev pub settled : Bool → Option Survivor → Work → Farm → Turn
+abbrev pub settled : Bool → Option Kept → Work → Farm → Turn
 settled false armed w s = after_work s.saved w s
 settled true None w s = after_work (saves w.ledger) w s
 settled true (Some Old) w s = record { farm = record s { down = Some s.ledger; armed = None }; outcome = Err (refusal.Coord coord.SaveFault) }
@@ -150,7 +150,7 @@ step sha k s (Retire n) = if is_node s n then coordinated s.down (retired k n (b
 step sha k s (RestartNode n) = if is_node s n then restarts k n s else refused refusal.NoSuchNode s
 step sha k s RestartCoordinator = done note.Restarted [] s (record s { ledger = reads s.saved; down = None })
 step sha k s (Forge n c) = node_does n (λ p x. unless_spent x (brought sha c x)) s
-step sha k s (FailSave survivor) = done note.Armed [] s (record s { armed = Some survivor })
+step sha k s (FailSave kept) = done note.Armed [] s (record s { armed = Some kept })
 
 -- the farm after a whole schedule
 abbrev pub run : (List ℕ → Digest) → Limits → List Event → Farm → Farm

@@ -102,6 +102,15 @@ pub enum NodeRefusal {
     TenureInUse,
 }
 
+/// What is done with an ask.
+#[derive(Clone, Copy, Debug, PartialEq, Eq)]
+pub enum Decision {
+    Give,
+    Deny(Why),
+    /// It waits for a slot, or for another node's tenure to end.
+    Wait,
+}
+
 /// How an ask came to its end.
 #[derive(Clone, Copy, Debug, PartialEq, Eq)]
 pub enum How {
@@ -114,7 +123,7 @@ pub enum How {
 
 /// What a record holds after a save that failed.
 #[derive(Clone, Copy, Debug, PartialEq, Eq)]
-pub enum Survivor {
+pub enum Kept {
     /// What it held before.
     Old,
     /// What was to be saved.

@@ -8,7 +8,8 @@ ghost use Rattle.protocol.specs.Safe.{EveryRunIsSafe, EveryRunStaysSafe};
 mod answer;
 
 pub use answer::{
-    CoordNote, CoordRefusal, EventNote, EventRefusal, How, NodeNote, NodeRefusal, Outcome, Survivor,
+    CoordNote, CoordRefusal, Decision, EventNote, EventRefusal, How, Kept, NodeNote, NodeRefusal,
+    Outcome,
 };
 
 /// Every run of the world is safe, and stays so from any world to any later one: whatever is sent, lost,

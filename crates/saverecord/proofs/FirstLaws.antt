@@ -10,7 +10,7 @@ use Rattle.farm_base.specs.declared.number.NodeId.{NodeId}
 use Rattle.protocol.specs.Names.{is_private}
 use Rattle.saverecord.specs.declared.layout.Layout.{Layout}
 use Rattle.saverecord.specs.declared.layout.Layout.TheVariants.{First, Second, Third}
-use Rattle.saverecord.specs.declared.record.NodeLife.{NodeLife}
+use Rattle.farm_base.specs.declared.lease.NodeLife.{NodeLife}
 use Rattle.saverecord.specs.declared.record.Record.{Record}
 use Rattle.saverecord.specs.declared.refusal.Flaw.TheVariants.{Relation}
 use Rattle.saverecord.specs.declared.refusal.RecordRefusal.{RecordRefusal}

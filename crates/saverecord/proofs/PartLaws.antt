@@ -11,9 +11,10 @@ use Rattle.farm_base.specs.Slots.{SlotParts, slot_cmp}
 use Rattle.saverecord.specs.declared.refusal.RecordRefusal.{RecordRefusal}
 use Rattle.saverecord.specs.declared.layout.Layout.{Layout}
 use Rattle.saverecord.specs.declared.layout.Layout.TheVariants.{First, Second, Third}
-use Rattle.saverecord.specs.declared.record.NodeLife.{NodeLife}
-use Rattle.saverecord.specs.declared.record.SlotLine.{SlotLine}
+use Rattle.farm_base.specs.declared.lease.NodeLife.{NodeLife}
+use Rattle.versions.specs.declared.lines.SlotLine.{SlotLine}
 use Rattle.saverecord.specs.declared.refusal.Flaw.TheVariants.{Order}
+use Rattle.versions.specs.Line.{IsLine}
 use Rattle.codec.specs.Steps.{◌>>=◌}
 use Rattle.saverecord.specs.Parts.{Part, passed, number_at, flag_at, digest_at}
 use Rattle.saverecord.specs.Slots.{is_slot_above, slot_after}
@@ -179,17 +180,23 @@ version_again before v rest above fits typed =
     ap (version_at Third before) (append_assoc (to_be_bytes w64 v.ticket.0) v.digest.0 rest)
     ∙ rw (ticket_after_again (option_map version_key before) v.ticket (v.digest.0 ++ rest) typed.ticket fits above, digest_again v.digest rest typed.digest.0) refl
 
+-- the versions that are read make a line
+pub versions_rise : (layout : Layout) (low high : ℕ) (bytes : List ℕ) (versions : List LineVersion) (rest : List ℕ) → IsBytes bytes
+    → counted_at version_at layout low high bytes ≡ Ok (versions, rest) → IsLine versions
+versions_rise layout low high bytes versions rest fits e =
+    numbers-from_row version_key versions (counted_takes version_at layout version_bytes is_above version_key IsVersion (version_takes layout) low high bytes versions rest fits e).row
+
 abbrev pub line_key : SlotLine → SlotParts
 line_key l = l.slot
 
 pub line_takes : (layout : Layout) → EntryTakes line_at layout line_bytes is_slot_above line_key IsSlotLine
 unfolding line_at line_bytes
 line_takes layout before bytes l rest fits e =
-    let a = bind_ok (slot_after layout (option_map line_key before) bytes) (λ slot. counted_at version_at layout 1 greatest slot.1 >>= λ versions. Ok (record { slot = slot.0; versions = versions.0 }, versions.1)) (l, rest) e in
-    let b = bind_ok (counted_at version_at layout 1 greatest a.0.1) (λ versions. Ok (record { slot = a.0.0; versions = versions.0 }, versions.1)) (l, rest) a.2 in
+    let a = bind_ok (slot_after layout (option_map line_key before) bytes) (λ slot. counted_at version_at layout 1 greatest slot.1 >>= λ versions. Ok (record { slot = slot.0; line = versions.0 }, versions.1)) (l, rest) e in
+    let b = bind_ok (counted_at version_at layout 1 greatest a.0.1) (λ versions. Ok (record { slot = a.0.0; line = versions.0 }, versions.1)) (l, rest) a.2 in
     let s = slot_after_takes layout (option_map line_key before) bytes a.0.0 a.0.1 fits a.1 in
     let v = counted_takes version_at layout version_bytes is_above version_key IsVersion (version_takes layout) 1 greatest a.0.1 b.0.0 b.0.1 s.0.rest_fits b.1 in
-    let made : SlotLine × List ℕ = (record { slot = a.0.0; versions = b.0.0 }, b.0.1) in
+    let made : SlotLine × List ℕ = (record { slot = a.0.0; line = b.0.0 }, b.0.1) in
     subst (λ (y : SlotLine × List ℕ). TakesEntry line_bytes is_slot_above line_key IsSlotLine before bytes y.0 y.1) (ok_is {E = RecordRefusal} made (l, rest) b.2)
     (record {
       takes = Takes-then bytes (slot_bytes a.0.0) a.0.1 (counted version_bytes b.0.0) b.0.1 s.0 v.takes;
@@ -200,10 +207,10 @@ line_takes layout before bytes l rest fits e =
 pub line_again : EntryAgain line_at Third line_bytes is_slot_above line_key IsSlotLine IsTypedLine
 unfolding line_at line_bytes
 line_again before l rest above fits typed =
-    ap (line_at Third before) (append_assoc (slot_bytes l.slot) (counted version_bytes l.versions) rest)
+    ap (line_at Third before) (append_assoc (slot_bytes l.slot) (counted version_bytes l.line) rest)
     ∙ rw (
-      slot_after_again (option_map line_key before) l.slot (counted version_bytes l.versions ++ rest) typed.slot.slot typed.slot.id above,
-      counted_again version_at Third version_bytes is_above version_key IsVersion IsTypedVersion version_again 1 greatest l.versions rest fits.some (let few = typed.few in omega arith) typed.few (row-from_numbers version_key l.versions fits.rise) fits.versions typed.versions,
+      slot_after_again (option_map line_key before) l.slot (counted version_bytes l.line ++ rest) typed.slot.slot typed.slot.id above,
+      counted_again version_at Third version_bytes is_above version_key IsVersion IsTypedVersion version_again 1 greatest l.line rest fits.some (let few = typed.few in omega arith) typed.few (row-from_numbers version_key l.line fits.rise) fits.versions typed.versions,
     ) refl
 
 -- ---- leases

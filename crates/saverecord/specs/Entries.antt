@@ -8,8 +8,8 @@ use Rattle.farm_base.specs.declared.number.NodeId.{NodeId}
 use Rattle.farm_base.specs.declared.number.Ticket.{Ticket}
 use Rattle.farm_base.specs.Slots.{SlotParts}
 use Rattle.saverecord.specs.declared.layout.Layout.{Layout}
-use Rattle.saverecord.specs.declared.record.NodeLife.{NodeLife}
-use Rattle.saverecord.specs.declared.record.SlotLine.{SlotLine}
+use Rattle.farm_base.specs.declared.lease.NodeLife.{NodeLife}
+use Rattle.versions.specs.declared.lines.SlotLine.{SlotLine}
 use Rattle.saverecord.specs.declared.refusal.Flaw.TheVariants.{Order}
 use Rattle.saverecord.specs.Layouts.{has_shared}
 use Rattle.codec.specs.Steps.{◌>>=◌}
@@ -117,4 +117,4 @@ unfoldable pub line_at : Reader SlotLine
 line_at layout before bytes = do
   slot ← slot_after layout (option_map (λ line. line.slot) before) bytes
   versions ← counted_at version_at layout 1 0xffff_ffff_ffff_ffff slot.1
-  Ok (record { slot = slot.0; versions = versions.0 }, versions.1)
+  Ok (record { slot = slot.0; line = versions.0 }, versions.1)

@@ -8,9 +8,9 @@ use Rattle.farm_base.specs.declared.number.NodeId.{NodeId}
 use Rattle.farm_base.specs.Digests.{IsDigest}
 use Rattle.farm_base.specs.Names.{IsSlot}
 use Rattle.farm_base.specs.Slots.{SlotParts, slot_cmp}
-use Rattle.saverecord.specs.declared.record.NodeLife.{NodeLife}
+use Rattle.farm_base.specs.declared.lease.NodeLife.{NodeLife}
 use Rattle.saverecord.specs.declared.record.Record.{Record}
-use Rattle.saverecord.specs.declared.record.SlotLine.{SlotLine}
+use Rattle.versions.specs.declared.lines.SlotLine.{SlotLine}
 use Rattle.saverecord.specs.Relations.{agrees}
 
 -- ---- what has to be met
@@ -39,9 +39,9 @@ abbrev pub IsVersion : LineVersion → Type 0
 IsVersion v = 1 ≤ v.ticket.0
 
 pub record IsSlotLine (l : SlotLine) : Type 0 where
-  pub some : 1 ≤ length l.versions
-  pub rise : IsStrictlyIncreasing (map (λ v. v.ticket.0) l.versions)
-  pub versions : AllByRecursion IsVersion l.versions
+  pub some : 1 ≤ length l.line
+  pub rise : IsStrictlyIncreasing (map (λ v. v.ticket.0) l.line)
+  pub versions : AllByRecursion IsVersion l.line
 
 -- the ranges and orders of a record's parts
 pub record HasParts (r : Record) : Type 0 where
@@ -88,8 +88,8 @@ pub record IsTypedVersion (v : LineVersion) : Type 0 where
 
 pub record IsTypedLine (l : SlotLine) : Type 0 where
   pub slot : IsTypedSlot l.slot
-  pub few : length l.versions < 2 ^ 64
-  pub versions : AllByRecursion IsTypedVersion l.versions
+  pub few : length l.line < 2 ^ 64
+  pub versions : AllByRecursion IsTypedVersion l.line
 
 -- a list that fits in memory, and P of each of its items
 abbrev pub IsTypedList : {X : Type 0} → (X → Type 0) → List X → Type 0

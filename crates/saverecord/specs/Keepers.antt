@@ -1,7 +1,7 @@
 -- Who keeps the bytes of a record, over saves that may fail.
 use Rattle.std.specs.Prelude.{◌≡◌, ◌⊎◌, ℕ, ◌+◌, ◌<◌, List, Option, Some, None, min}
-use Rattle.saverecord.specs.declared.keeper.Kept.{Kept}
-use Rattle.saverecord.specs.declared.keeper.Kept.TheVariants.{Old, New}
+use Rattle.protocol.specs.declared.answer.Kept.{Kept}
+use Rattle.protocol.specs.declared.answer.Kept.TheVariants.{Old, New}
 
 -- the count of a device's failures rose, or was at its greatest value
 abbrev pub HasFailed : ℕ → ℕ → Type 0

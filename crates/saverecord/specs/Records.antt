@@ -7,7 +7,7 @@ use Rattle.farm_base.specs.declared.number.NodeId.{NodeId}
 use Rattle.sha2.specs.Sha256.{sha256}
 use Rattle.saverecord.specs.declared.layout.Layout.{Layout}
 use Rattle.saverecord.specs.declared.layout.Layout.TheVariants.{First, Second, Third}
-use Rattle.saverecord.specs.declared.record.NodeLife.{NodeLife}
+use Rattle.farm_base.specs.declared.lease.NodeLife.{NodeLife}
 use Rattle.saverecord.specs.declared.record.Record.{Record}
 use Rattle.saverecord.specs.declared.refusal.Flaw.TheVariants.{Trailing, Relation}
 use Rattle.saverecord.specs.declared.refusal.RecordRefusal.{RecordRefusal}

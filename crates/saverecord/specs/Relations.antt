@@ -8,9 +8,9 @@ use Rattle.farm_base.specs.Folders.{folder_eq}
 use Rattle.farm_base.specs.Slots.{SlotParts}
 use Rattle.protocol.specs.Names.{is_private, is_shared}
 use Rattle.protocol.specs.Ledger.{has_slot}
-use Rattle.saverecord.specs.declared.record.NodeLife.{NodeLife}
+use Rattle.farm_base.specs.declared.lease.NodeLife.{NodeLife}
 use Rattle.saverecord.specs.declared.record.Record.{Record}
-use Rattle.saverecord.specs.declared.record.SlotLine.{SlotLine}
+use Rattle.versions.specs.declared.lines.SlotLine.{SlotLine}
 
 -- the test holds of no two, in their order
 abbrev pub no_two : {X : Type 0} → (X → X → Bool) → List X → Bool
@@ -25,7 +25,7 @@ abbrev pub versions_up_to : ℕ → List LineVersion → Bool
 versions_up_to last versions = list_all (λ v. nat_le v.ticket.0 last) versions
 
 abbrev pub lines_up_to : ℕ → List SlotLine → Bool
-lines_up_to last lines = list_all (λ line. versions_up_to last line.versions) lines
+lines_up_to last lines = list_all (λ line. versions_up_to last line.line) lines
 
 -- the lease's life is that of its node
 abbrev pub lives_there : List NodeLife → Lease → Bool
@@ -74,7 +74,7 @@ is_above_line ticket versions = list_all (λ v. nat_lt v.ticket.0 ticket) versio
 
 -- the lease's ticket is above all on the lines of its slots
 abbrev pub is_above_lines : List SlotLine → Lease → Bool
-is_above_lines lines l = list_all (λ line. not (has_slot l.slots line.slot) || is_above_line l.ticket.0 line.versions) lines
+is_above_lines lines l = list_all (λ line. not (has_slot l.slots line.slot) || is_above_line l.ticket.0 line.line) lines
 
 -- what holds of each lease on its own
 unfoldable pub fits_record : Record → Lease → Bool

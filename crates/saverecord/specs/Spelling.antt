@@ -10,9 +10,9 @@ use Rattle.farm_base.specs.declared.message.LineVersion.{LineVersion}
 use Rattle.farm_base.specs.declared.number.NodeId.{NodeId}
 use Rattle.farm_base.specs.Slots.{SlotParts}
 use Rattle.sha2.specs.Sha256.{sha256}
-use Rattle.saverecord.specs.declared.record.NodeLife.{NodeLife}
+use Rattle.farm_base.specs.declared.lease.NodeLife.{NodeLife}
 use Rattle.saverecord.specs.declared.record.Record.{Record}
-use Rattle.saverecord.specs.declared.record.SlotLine.{SlotLine}
+use Rattle.versions.specs.declared.lines.SlotLine.{SlotLine}
 
 -- four bytes
 abbrev pub number32 : ℕ → List ℕ
@@ -71,7 +71,7 @@ version_bytes v = number64 v.ticket.0 ++ v.digest.0
 
 -- the slot, and its versions
 unfoldable pub line_bytes : SlotLine → List ℕ
-line_bytes l = slot_bytes l.slot ++ counted version_bytes l.versions
+line_bytes l = slot_bytes l.slot ++ counted version_bytes l.line
 
 -- 0 for none
 unfoldable pub home_bytes : Option NodeId → List ℕ

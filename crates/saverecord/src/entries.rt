@@ -10,11 +10,11 @@ ghost use Rattle.saverecord.specs.Spelling.{flag_bytes, node_bytes, node_life_by
 use super::entry::{Entry, put_counted, take_counted};
 use super::layout::Layout;
 use super::part::{take_digest, take_flag, take_u32, take_u64};
-use super::record::{NodeLife, SlotLine};
 use super::refusal::{Flaw, RecordRefusal};
 use super::slot::{put_slot, take_slot_after};
-use farm_base::{Ask, Lease, Life, LineVersion, NodeId, Slot, Ticket};
+use farm_base::{Ask, Lease, Life, LineVersion, NodeId, NodeLife, Slot, Ticket};
 use std::alloc::{AllocError, Global};
+use versions::{Line, SlotLine};
 
 /// The greatest node.
 const NODES: u32 = 1024;
@@ -302,11 +302,12 @@ impl Entry for SlotLine {
             Err(refusal) => return Err(refusal),
         };
         let (versions, rest) = take_counted(alloc, layout, 1, u64::MAX, rest)?;
-        Ok((SlotLine { slot, versions }, rest))
+        let line = Line::of(versions.into_vec());
+        Ok((SlotLine { slot, line }, rest))
     }
 
     fn put(&self, out: &mut Vec<u8>) -> Result<(), AllocError> {
         put_slot(out, &self.slot)?;
-        put_counted(out, self.versions.as_slice())
+        put_counted(out, self.line.versions())
     }
 }

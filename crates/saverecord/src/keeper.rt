@@ -2,6 +2,7 @@
 ghost use Rattle.std.specs.Prelude.{◌≡◌, ◌≢◌, ◌⊎◌, ◌≤◌, ℕ, List, [], IfOk, OnOk, OnErr, IsOk, ◌↔◌, Some, None};
 ghost use Rattle.saverecord.specs.Keepers.{HasFailed, saved};
 
+use protocol::Kept;
 use std::alloc::Global;
 use std::marker::Model;
 use thiserror::Error;
@@ -45,13 +46,6 @@ pub trait Keeper: Drop {
     /// How often the device failed. The count stays at its greatest value.
     fn failures(&self) -> u64
         ensures { result ≡ failed self.now };
-}
-
-/// What a failed save leaves.
-#[derive(Clone, Copy, Debug, PartialEq, Eq)]
-pub enum Kept {
-    Old,
-    New,
 }
 
 /// Keeps the bytes in memory. It fails only where it was told to.

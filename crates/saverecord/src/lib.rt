@@ -13,6 +13,9 @@ mod relation;
 mod slot;
 mod writing;
 
-pub use keeper::{Keeper, KeeperRefusal, Kept, MemoryKeeper, SaveFault};
-pub use record::{NodeLife, Record, SlotLine};
+pub use farm_base::NodeLife;
+pub use keeper::{Keeper, KeeperRefusal, MemoryKeeper, SaveFault};
+pub use protocol::Kept;
+pub use record::Record;
 pub use refusal::{Flaw, RecordRefusal};
+pub use versions::SlotLine;

@@ -9,11 +9,11 @@ ghost use Rattle.saverecord.specs.Records.{home_of, home_at, list_at, retired_no
 use super::entry::{Entry, take_counted};
 use super::layout::Layout;
 use super::part::{take_u32, take_u64};
-use super::record::{NodeLife, Record};
+use super::record::Record;
 use super::refusal::{Flaw, RecordRefusal};
 use super::relation::{agrees, is_at_home};
 use super::writing::MAGIC;
-use farm_base::{Items, Life, NodeId, Ticket};
+use farm_base::{Items, Life, NodeId, NodeLife, Ticket};
 use sha2::Sha256;
 use std::alloc::{AllocError, Global};
 

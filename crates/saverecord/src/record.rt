@@ -1,21 +1,8 @@
 ghost use Rattle.std.specs.Prelude.{◌≡◌, IfOk};
 
-use farm_base::{Copied, Items, Lease, Life, LineVersion, NodeId, Slot, Ticket};
+use farm_base::{Copied, Items, Lease, NodeId, NodeLife, Slot, Ticket};
 use std::alloc::{AllocError, Global};
-
-/// The greatest life seen of a node.
-#[derive(Clone, Copy, Debug, PartialEq, Eq)]
-pub struct NodeLife {
-    pub node: NodeId,
-    pub life: Life,
-}
-
-/// The versions of a slot, from number 1 on.
-#[derive(Debug, Drop)]
-pub struct SlotLine {
-    pub slot: Slot,
-    pub versions: Items<LineVersion>,
-}
+use versions::SlotLine;
 
 /// What a coordinator has saved.
 #[derive(Debug, Drop)]
@@ -41,15 +28,6 @@ fn copied<T: Copy + Drop>(alloc: Global, items: &Items<T>) -> Result<Items<T>, A
 {
     let vec = Vec::from_slice(alloc, items.as_slice())?;
     Ok(Items::new(vec))
-}
-
-impl Copied for SlotLine {
-    fn copy(&self, alloc: Global) -> Result<Self, AllocError> {
-        Ok(SlotLine {
-            slot: self.slot.copy(alloc)?,
-            versions: copied(alloc, &self.versions)?,
-        })
-    }
 }
 
 impl Copied for Record {

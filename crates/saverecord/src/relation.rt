@@ -5,8 +5,9 @@ ghost use Rattle.protocol.specs.Names.{is_private, is_shared};
 ghost use Rattle.protocol.specs.Ledger.{has_slot};
 ghost use Rattle.saverecord.specs.Relations.{no_two, tickets_up_to, versions_up_to, lines_up_to, lives_there, shares, is_same_ask, clash, has_retired, is_same_private, is_tenured, some_shared, fits_tenure, is_gone, is_above_line, is_above_lines, fits_record, agrees, is_home, is_at_home};
 
-use super::record::{NodeLife, Record, SlotLine};
-use farm_base::{Lease, LineVersion, Mode, NodeId, Slot};
+use super::record::Record;
+use farm_base::{Lease, LineVersion, Mode, NodeId, NodeLife, Slot};
+use versions::SlotLine;
 
 fn is_private(mode: Mode) -> bool
     ensures { result ≡ is_private mode }
@@ -37,7 +38,7 @@ fn lines_up_to(last: u64, lines: &[SlotLine]) -> bool
 {
     lines
         .iter()
-        .all(|line| versions_up_to(last, line.versions.as_slice()))
+        .all(|line| versions_up_to(last, line.line.versions()))
 }
 
 fn tickets_up_to(last: u64, leases: &[Lease]) -> bool
@@ -169,7 +170,7 @@ fn is_above_lines(lines: &[SlotLine], lease: &Lease) -> bool
     let slots = lease.slots.as_slice();
     let ticket = lease.ticket.0;
     lines.iter().all(|line| !has_slot(slots, &line.slot)
-        || is_above_line(ticket, line.versions.as_slice()))
+        || is_above_line(ticket, line.line.versions()))
 }
 
 #[tactic(auto, unfolding(crate::specs::Relations::fits_record))]

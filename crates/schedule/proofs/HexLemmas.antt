@@ -1,5 +1,5 @@
 -- Hexadecimal digits without upper-case letters.
-use Rattle.std.proofs.Common.{◌≡◌, ℕ, zero, suc, ◌+◌, ◌*◌, ◌/◌, ◌%◌, ◌<◌, ◌≤◌, ◌==◌, Bool, true, false, ◌&&◌, ◌||◌, ◌⊎◌, inl, inr, List, [], ◌∷◌, length, slice_index, Option, Some, None, Result, Ok, Err, refl, sym, ap, ◌∙◌, arith}
+use Rattle.std.proofs.Common.{◌≡◌, ℕ, zero, suc, ◌+◌, ◌*◌, ◌/◌, ◌%◌, ◌<◌, ◌≤◌, ◌==◌, Bool, true, false, ◌&&◌, ◌⊎◌, inl, inr, List, [], ◌∷◌, length, slice_index, Option, Some, None, Result, Ok, Err, refl, sym, ap, ◌∙◌, arith}
 use Rattle.std.specs.Prelude.{if◌then◌else◌, nat_lt}
 use Rattle.std.specs.List.{list_any}
 use Rattle.std.specs.Char.{is_ascii_uppercase}
@@ -9,6 +9,7 @@ use Rattle.hex.specs.Hex.{IsBytes, decode_of, decode_pairs, digit_or_error, hex_
 use Rattle.hex.specs.declared.error.FromHexError.{FromHexError}
 use Rattle.hex.specs.declared.error.FromHexError.TheVariants.{OutOfMemory}
 use Rattle.hex.proofs.HexLemmas.{decode_of-even, decode_of-odd, decode_of-encode_lower}
+use Rattle.protocol.proofs.Base.{or_false}
 use Rattle.schedule.specs.Refusals.{hex_refusal}
 use Rattle.schedule.specs.declared.refusal.LineRefusal.TheVariants.{BadLine}
 
@@ -57,10 +58,6 @@ digit_read : (c i : ℕ) (o : Option ℕ) (v : ℕ) → digit_or_error c i o ≡
 digit_read c i (Some w) v h = cc h
 digit_read c i None v h = cc h
 
-or_parts : (a b : Bool) → (a || b) ≡ false → (a ≡ false) × (b ≡ false)
-or_parts true b h = absurd (cc h)
-or_parts false b h = (refl, h)
-
 -- digits without upper-case letters are those of the bytes that they decode to
 lower_pairs : (i : ℕ) (s bytes : List ℕ) → decode_pairs i s ≡ Ok bytes → list_any is_ascii_uppercase s ≡ false → s ≡ encode_lower bytes
 unfolding decode_pairs encode_with
@@ -71,8 +68,8 @@ lower_pairs i (a ∷ b ∷ rest) bytes h low =
     let p1 = bind_ok (value_at a i) _ p0.0 p0.1 in
     let p2 = bind_ok (value_at b (i + 1)) _ p0.0 p1.2 in
     let p3 = bind_ok (decode_pairs (i + 2) rest) _ bytes p0.2 in
-    let lows = or_parts (is_ascii_uppercase a) (list_any is_ascii_uppercase (b ∷ rest)) low in
-    let lows' = or_parts (is_ascii_uppercase b) (list_any is_ascii_uppercase rest) lows.1 in
+    let lows = or_false (is_ascii_uppercase a) (list_any is_ascii_uppercase (b ∷ rest)) low in
+    let lows' = or_false (is_ascii_uppercase b) (list_any is_ascii_uppercase rest) lows.1 in
     let da = digit_back a p1.0 (digit_read a i (hex_digit_value a) p1.0 p1.1) lows.0 in
     let db = digit_back b p2.0 (digit_read b (i + 1) (hex_digit_value b) p2.0 p2.1) lows'.0 in
     let byte : p1.0 * 16 + p2.0 ≡ p0.0 = cc p2.2 in

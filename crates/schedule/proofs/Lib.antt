@@ -2,6 +2,7 @@ pub mod HexLemmas
 pub mod LineLemmas
 pub mod ListLemmas
 pub mod PlainLemmas
+mod PrintedVersions
 pub mod ScheduleLaws
 pub mod ScheduleLemmas
 pub mod SpelledLemmas

@@ -1,5 +1,8 @@
 pub mod Events
 pub mod Lines
+pub mod Notes
+pub mod Printing
+pub mod RefusalNames
 pub mod Refusals
 pub mod Schedules
 pub mod Steps

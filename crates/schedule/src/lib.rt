@@ -1,15 +1,22 @@
-//! Schedules: the events of a farm, and the text that spells them.
+//! The language of schedules: the text that spells a farm's events, and the text of what came of them.
 #![tactic(auto)]
 
 mod event;
 mod laws;
 mod line;
+mod note;
+mod outcome;
 mod reading;
 mod refusal;
+mod refusal_names;
+mod slot_line;
 mod verb;
 mod word;
 
 pub use event::{Event, Setup};
 pub use laws::{a_line_spells_one_event, a_text_says_one_thing};
+pub use outcome::print_outcome;
 pub use reading::read_schedule;
 pub use refusal::ScheduleRefusal;
+pub use refusal_names::refusal_name;
+pub use slot_line::print_line;

@@ -1,1 +1,4 @@
 pub mod LineLemmas
+pub mod LineWords
+pub mod Ordered
+pub mod Pushing

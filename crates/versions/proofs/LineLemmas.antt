@@ -6,7 +6,7 @@ use Rattle.std.specs.List.{HoldsAt, position_from}
 use Rattle.std.specs.List.Sorted.{IsStrictlyIncreasing, IsSortedBy, IsSearchInRange, IsBinarySearchResult}
 use Rattle.std.specs.Ordering.{nat_cmp, is_lt}
 use Rattle.std.specs.declared.cmp.Ordering.TheVariants.{Less, Equal, Greater}
-use Rattle.std.proofs.lemmas.Bool.{eqb-true, cases_Bool}
+use Rattle.std.proofs.lemmas.Bool.{cases_Bool}
 use Rattle.std.proofs.lemmas.Bool.Decides.{nat_tests}
 use borrow.Author.Tests.{ltb-true, ltb-false}
 use Rattle.std.proofs.lemmas.Cmp.{nat_cmp_total, tied_itself}
@@ -16,7 +16,8 @@ use Rattle.std.proofs.lemmas.List.Sorted.{searchable_from_sorted}
 use Rattle.std.proofs.lemmas.Map.Lookups.{exact_unsigned}
 use Rattle.farm_base.specs.declared.message.LineVersion.{LineVersion}
 use Rattle.farm_base.specs.declared.number.Ticket.{Ticket}
-use Rattle.versions.specs.Lines.{IsLine, tickets, ticket_in, number_in}
+use Rattle.protocol.proofs.Base.{eqb_apart}
+use Rattle.versions.specs.Line.{IsLine, tickets, ticket_in, number_in}
 
 -- the version has the ticket
 abbrev pub Has : Ticket → LineVersion → Type 0
@@ -38,13 +39,6 @@ no_place t (v ∷ line) none (suc zero) e =
     none 0 v (omega arith) (ap (λ (x : Ticket). x.0) same)
 no_place t (v ∷ line) none (suc (suc k)) e = no_place t line (λ i d inside. none (suc i) d (omega arith)) (suc k) e
 
-not_equal : (m n : ℕ) → m ≢ n → eqb m n ≡ false
-not_equal m n differ =
-    elim (cases_Bool (eqb m n)) [
-      | inl same ↦ absurd (differ (eqb-true m n same))
-      | inr other ↦ other
-    ]
-
 number_found : (t : Ticket) (line : List LineVersion) (k from : ℕ) → k < length line → HoldsAt (Has t) line k
     → ((i : ℕ) (d : LineVersion) → i < k → (get_or line i d).ticket.0 ≢ t.0)
     → position_from (λ v. eqb v.ticket.0 t.0) from line ≡ Some (from + k)
@@ -54,7 +48,7 @@ number_found t (v ∷ line) zero from inside at before =
     let same : from ≡ from + 0 = omega arith in
     rw first (ap Some same)
 number_found t (v ∷ line) (suc k) from inside at before =
-    let other : eqb v.ticket.0 t.0 ≡ false = not_equal v.ticket.0 t.0 (before 0 v (omega arith)) in
+    let other : eqb v.ticket.0 t.0 ≡ false = eqb_apart v.ticket.0 t.0 (before 0 v (omega arith)) in
     let rest = number_found t line k (from + 1) (omega arith) (λ d. at d) (λ i d lt. before (suc i) d (omega arith)) in
     let same : from + 1 + k ≡ from + suc k = omega arith in
     rw other (rest ∙ ap Some same)
@@ -64,7 +58,7 @@ pub number_absent : (t : Ticket) (line : List LineVersion) (from : ℕ) → All 
     → position_from (λ v. eqb v.ticket.0 t.0) from line ≡ None
 number_absent t [] from none = refl
 number_absent t (v ∷ line) from none =
-    let other : eqb v.ticket.0 t.0 ≡ false = not_equal v.ticket.0 t.0 (none 0 v (omega arith)) in
+    let other : eqb v.ticket.0 t.0 ≡ false = eqb_apart v.ticket.0 t.0 (none 0 v (omega arith)) in
     rw other (number_absent t line (from + 1) (λ i d inside. none (suc i) d (omega arith)))
 
 -- ---- rising tickets

@@ -1,1 +1,4 @@
+pub mod Additions
+pub mod Line
 pub mod Lines
+pub mod Ordered

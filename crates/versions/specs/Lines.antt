@@ -1,33 +1,35 @@
--- The line of versions of one slot.
-use Rattle.std.specs.Prelude.{ℕ, zero, suc, nat_eq, List, map, Option, None, slice_get}
-use Rattle.std.specs.List.{position_from}
-use Rattle.std.specs.List.Sorted.{IsStrictlyIncreasing}
-use Rattle.std.specs.Option.{option_map}
-use Rattle.farm_base.specs.declared.digest.Digest.{Digest}
-use Rattle.farm_base.specs.declared.message.LineVersion.{LineVersion}
-use Rattle.farm_base.specs.declared.number.Ticket.{Ticket}
+-- The lines of slots, and what contracts see of what a commit adds to them.
+use Rattle.std.specs.Prelude.{ℕ, if◌then◌else◌, List, [], ◌∷◌, ◌++◌, map, Option, Some, None}
+use Rattle.std.specs.Vec.{vec_len}
+use Rattle.protocol.specs.Names.{Slot, slot_eq}
+use Rattle.protocol.specs.Machine.{LineVersion, News, digest_for, version_of}
+use Rattle.versions.specs.declared.lines.Addition.{Addition}
+use Rattle.versions.specs.declared.lines.Added.{Added}
+use Rattle.versions.specs.declared.lines.SlotLine.{SlotLine}
 
--- the tickets of some versions
-abbrev pub tickets : List LineVersion → List ℕ
-tickets line = map (λ version. version.ticket.0) line
+-- the line of each slot
+abbrev pub LineOf : Type 0
+LineOf = Slot → List LineVersion
 
--- a line: each ticket is above the one before it
-abbrev pub IsLine : List LineVersion → Type 0
-IsLine line = IsStrictlyIncreasing (tickets line)
+-- the line of a slot
+abbrev pub line_at : List SlotLine → Slot → List LineVersion
+line_at [] s = []
+line_at (l ∷ ls) s = if slot_eq l.slot s then l.line else line_at ls s
 
--- the version of a number, counted from 1
-abbrev pub version_in : List LineVersion → ℕ → Option LineVersion
-version_in line zero = None
-version_in line (suc k) = slice_get line k
+-- the line, if it has a version
+abbrev pub line_shown : List LineVersion → Option (List LineVersion)
+line_shown [] = None
+line_shown (v ∷ vs) = Some (v ∷ vs)
 
--- the ticket of the version of a number
-abbrev pub ticket_in : List LineVersion → ℕ → Option Ticket
-ticket_in line number = option_map (λ version. version.ticket) (version_in line number)
+abbrev pub news_of : Addition → News
+news_of a = record { slot = a.slot; digest = a.digest }
 
--- the digest of the version of a number
-abbrev pub digest_in : List LineVersion → ℕ → Option Digest
-digest_in line number = option_map (λ version. version.digest) (version_in line number)
+-- the lines with what a commit adds
+abbrev pub lines_with : List SlotLine → Option Added → LineOf
+lines_with lines None s = line_at lines s
+lines_with lines (Some a) s = line_at lines s ++ version_of a.ticket (digest_for s (map news_of a.additions.items))
 
--- the number of the first version with a ticket, counted from 1
-abbrev pub number_in : List LineVersion → Ticket → Option ℕ
-number_in line ticket = position_from (λ version. nat_eq version.ticket.0 ticket.0) 1 line
+-- how many lines a commit adds to
+abbrev pub added_count : Option Added → ℕ
+added_count None = 0
+added_count (Some a) = vec_len a.additions

@@ -1,6 +1,8 @@
-//! The line of versions of one slot.
+//! The line of versions of a slot, the lines of all slots, and what a commit adds to them.
 #![tactic(auto)]
 
 mod line;
+mod lines;
 
 pub use line::{Line, Room};
+pub use lines::{Added, Addition, Lines, SlotLine, additions, all_stand, confirmed, granted_slots};

@@ -1,6 +1,6 @@
 ghost use Rattle.std.specs.Prelude.{◌≡◌, ◌≢◌, ℕ, ◌<◌, ◌^◌, [], ◌∷◌, ◌++◌, length, vec_len, All, IfOk, IfSome, IfNone, OnOk, OnErr};
 ghost use Rattle.std.specs.Vec.{vec_capacity};
-ghost use Rattle.versions.specs.Lines.{IsLine, version_in, ticket_in, digest_in, number_in};
+ghost use Rattle.versions.specs.Line.{IsLine, version_in, ticket_in, digest_in, number_in};
 
 use farm_base::{Copied, Digest, LineVersion, Ticket};
 use std::alloc::{AllocError, Global};
@@ -15,7 +15,7 @@ pub struct Line {
 impl Model for Line {
     ghost use Rattle.std.specs.Prelude.{List};
     ghost use Rattle.farm_base.specs.declared.message.LineVersion.{LineVersion};
-    ghost use Rattle.versions.specs.Lines.{IsLine};
+    ghost use Rattle.versions.specs.Line.{IsLine};
 
     ghost Value = { List LineVersion };
 
@@ -32,6 +32,20 @@ impl Line {
         Line {
             versions: Vec::new(alloc),
         }
+    }
+
+    /// The line of these versions, without taking memory.
+    pub fn of(versions: Vec<LineVersion>) -> Self
+        requires { IsLine versions.items }
+        ensures { result ≡ versions.items }
+    {
+        Line { versions }
+    }
+
+    pub fn versions(&self) -> &[LineVersion]
+        ensures { result.now ≡ self.now }
+    {
+        self.versions.as_slice()
     }
 
     /// The number of the last version, 0 where there is none.

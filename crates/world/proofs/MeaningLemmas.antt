@@ -15,7 +15,7 @@ use Rattle.protocol.specs.Follows.{Shows, EveryEventIsMoves, MayBeGranted, after
 use Rattle.protocol.specs.Chronicle.{FittingMessageIsGranted}
 use Rattle.protocol.specs.Meaning.{Means}
 use Rattle.protocol.specs.Reasons.{Fair}
-use Rattle.protocol.specs.declared.answer.Survivor.{Survivor}
+use Rattle.protocol.specs.declared.answer.Kept.{Kept}
 use Rattle.protocol.specs.declared.answer.CoordNote.TheVariants as coord
 use Rattle.protocol.specs.declared.answer.EventNote.TheVariants as note
 use Rattle.protocol.specs.declared.answer.EventRefusal.{EventRefusal}
@@ -62,7 +62,7 @@ unfolding step
 delivery_tells s number y up safe here =
     let w : Work = handled farm_limits y (begin_work s.ledger) in
     let is : step content_digest farm_limits s (Deliver number) ≡ settled w.changed None w s =
-    ap (λ (m : Option Message). delivered content_digest farm_limits m s) here ∙ ap (λ (d : Option Ledger). coordinated d (Ok w) s) up ∙ ap (λ (a : Option Survivor). settled w.changed a w s) safe in
+    ap (λ (m : Option Message). delivered content_digest farm_limits m s) here ∙ ap (λ (d : Option Ledger). coordinated d (Ok w) s) up ∙ ap (λ (a : Option Kept). settled w.changed a w s) safe in
     subst (Tells s w) (sym is) (settled_tells w.changed w s)
 
 ok_is : (o p : Outcome) → ◌≡◌ {A = Result Outcome EventRefusal} (Ok o) (Ok p) → o ≡ p

@@ -5,7 +5,7 @@ use Rattle.std.proofs.lemmas.Bool.{eqb-true}
 use Rattle.protocol.specs.Lists.{put}
 use Rattle.protocol.specs.Names.{NodeId}
 use Rattle.protocol.specs.Machine.{Message, Told, FromCoord}
-use Rattle.protocol.specs.declared.answer.Survivor.{Survivor}
+use Rattle.protocol.specs.declared.answer.Kept.{Kept}
 use Rattle.protocol.specs.declared.answer.CoordNote.{CoordNote}
 use Rattle.protocol.specs.World.{Node}
 use Rattle.protocol.specs.Nodes.{Place, NodeAnswer, may_restart, restarted, unless_spent}
@@ -130,7 +130,7 @@ pub came_worked : (s : Farm) (w : Work) (ledger : Ledger) (pool : List Message) 
     → pool ≡ s.pool ++ map Told sends → o ≡ record { note = note.Coord n; first = first_number (length s.pool) (length sends); sent = length sends }
     → coordinated s.down (Ok w) s ≡ record { farm = record s { ledger = ledger; saved = saves ledger; pool = pool }; outcome = Ok o }
 came_worked s w ledger pool sends n o up safe told_so e f g h i =
-    ap (λ (d : Option Ledger). coordinated d (Ok w) s) up ∙ ap (λ (a : Option Survivor). settled w.changed a w s) safe ∙ settled_is w.changed w s told_so
+    ap (λ (d : Option Ledger). coordinated d (Ok w) s) up ∙ ap (λ (a : Option Kept). settled w.changed a w s) safe ∙ settled_is w.changed w s told_so
     ∙ sym (λ j. done (note.Coord (g j)) (map Told (f j)) s (record s { ledger = e j; saved = saves (e j); pool = s.pool ++ map Told (f j) }))
     ∙ ap (λ (p : List Message). done (note.Coord n) (map Told sends) s (record s { ledger = ledger; saved = saves ledger; pool = p })) (sym h)
     ∙ told Told s (record s { ledger = ledger; saved = saves ledger; pool = pool }) (note.Coord n) sends o i

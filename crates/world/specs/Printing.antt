@@ -6,7 +6,7 @@ use Rattle.farm_base.specs.Slots.{slot_cmp}
 use Rattle.protocol.specs.Lists.{is_nil}
 use Rattle.protocol.specs.Names.{Slot, slot_eq}
 use Rattle.protocol.specs.Machine.{LineVersion}
-use Rattle.outcomes.specs.Printing.{line_text}
+use Rattle.schedule.specs.Printing.{line_text}
 
 -- the texts of these slots' lines, one after another
 abbrev pub lines_of : (Slot → List LineVersion) → List Slot → List ℕ

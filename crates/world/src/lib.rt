@@ -11,9 +11,8 @@ mod world;
 
 pub use laws::lines_have_one_text;
 pub use nodecore::{Message, ToNode};
-pub use outcomes::print_outcome;
 pub use printing::print_lines;
 pub use protocol::{EventNote, EventRefusal, Outcome};
 pub use replaying::{ReplayRefusal, replay};
-pub use schedule::{Event, ScheduleRefusal, Setup, read_schedule};
+pub use schedule::{Event, ScheduleRefusal, Setup, print_outcome, read_schedule};
 pub use world::{StartRefusal, World};

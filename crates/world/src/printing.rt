@@ -1,6 +1,6 @@
 ghost use Rattle.std.specs.Prelude.{◌≡◌, ◌++◌, IfOk, OnOk};
 ghost use Rattle.std.specs.String.{string_bytes};
-ghost use Rattle.outcomes.specs.Printing.{line_text};
+ghost use Rattle.schedule.specs.Printing.{line_text};
 ghost use Rattle.world.specs.Printing.{ArePrinted, lines_of};
 ghost use Rattle.coordinator.specs.Held.{ledger};
 ghost use Rattle.world.specs.Shown.{shown};
@@ -8,7 +8,7 @@ ghost use Rattle.world.specs.Shown.{shown};
 use super::world::World;
 use coordinator::Coordinator;
 use farm_base::Slot;
-use outcomes::print_line;
+use schedule::print_line;
 use std::alloc::{AllocError, Global};
 use versions::Line;
 

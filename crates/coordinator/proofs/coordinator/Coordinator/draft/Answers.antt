@@ -2,7 +2,7 @@ use Rattle.std.proofs.Common.{◌≡◌, List, false, ap, sym, ◌∙◌, subst}
 use Rattle.protocol.specs.declared.answer.CoordNote.TheVariants as note
 use Rattle.protocol.specs.Machine.{FromCoord}
 use Rattle.protocol.specs.Ledger.{Ledger, Work}
-use Rattle.slotlines.specs.declared.lines.SlotLine.{SlotLine}
+use Rattle.versions.specs.declared.lines.SlotLine.{SlotLine}
 use Rattle.coordinator.specs.Held.{Held, line_at, ledger}
 use Rattle.coordinator.specs.Shown.{LineOf, kept}
 use Rattle.coordinator.specs.Sound.{IsSound}

@@ -1,7 +1,7 @@
 use Rattle.std.proofs.Common.{◌≡◌, List, ap, sym, ◌∙◌, subst}
 use Rattle.folders.specs.Farm.{farm_limits}
 use Rattle.protocol.specs.Ledger.{Work, begin_work, handled}
-use Rattle.slotlines.specs.declared.lines.SlotLine.{SlotLine}
+use Rattle.versions.specs.declared.lines.SlotLine.{SlotLine}
 use Rattle.coordinator.specs.Held.{Held, line_at, ledger}
 use Rattle.coordinator.specs.Shown.{shown, lines_with}
 use Rattle.coordinator.specs.Sound.{IsSound}

@@ -1,7 +1,7 @@
 use Rattle.std.proofs.Common.{◌≡◌, List, Ok, ap, sym, ◌∙◌}
 use Rattle.folders.specs.Farm.{farm_limits}
 use Rattle.protocol.specs.Ledger.{pruned}
-use Rattle.slotlines.specs.declared.lines.SlotLine.{SlotLine}
+use Rattle.versions.specs.declared.lines.SlotLine.{SlotLine}
 use Rattle.coordinator.specs.Held.{Held, line_at}
 use Rattle.coordinator.specs.Shown.{shown, lines_with}
 use Rattle.coordinator.proofs.coordinator.Coordinator.pruning.Goals as goal

@@ -2,7 +2,7 @@ use Rattle.std.proofs.Common.{◌≡◌, List, ap, ◌∙◌}
 use Rattle.std.specs.Result.{result_err}
 use Rattle.folders.specs.Farm.{farm_limits}
 use Rattle.protocol.specs.Ledger.{Work, retired}
-use Rattle.slotlines.specs.declared.lines.SlotLine.{SlotLine}
+use Rattle.versions.specs.declared.lines.SlotLine.{SlotLine}
 use Rattle.coordinator.specs.Held.{Held, line_at}
 use Rattle.coordinator.specs.Shown.{shown}
 use Rattle.coordinator.proofs.coordinator.Coordinator.retirement.Goals as goal

@@ -6,7 +6,7 @@ use Rattle.coordinator.specs.Shown.{LineOf, shown, kept, lines_with}
 use Rattle.coordinator.specs.Sound.{IsSound}
 use Rattle.protocol.specs.Machine.{News, digest_for, version_of}
 use Rattle.protocol.specs.Ledger.{Work, retried, notes, lease_under, may_commit, commits, confirms, committing, without}
-use Rattle.slotlines.specs.declared.lines.Added.{Added}
+use Rattle.versions.specs.declared.lines.Added.{Added}
 use Rattle.coordinator.proofs.SoundWords.{sound-commits, ready-commit}
 use Rattle.coordinator.proofs.draft.Draft.commit.Goals as goal
 

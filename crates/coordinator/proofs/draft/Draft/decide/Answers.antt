@@ -1,7 +1,8 @@
 use Rattle.std.proofs.Common.{ap, ◌∙◌}
 use Rattle.folders.specs.Farm.{farm_limits}
 use Rattle.protocol.specs.declared.answer.CoordNote.TheVariants as note
-use Rattle.protocol.specs.Ledger.{Decision, notes, decided}
+use Rattle.protocol.specs.Ledger.{notes, decided}
+use Rattle.protocol.specs.declared.answer.Decision.{Decision}
 use Rattle.coordinator.specs.Shown.{LineOf, shown, lines_with}
 use Rattle.coordinator.proofs.draft.Draft.decide.Goals as goal
 

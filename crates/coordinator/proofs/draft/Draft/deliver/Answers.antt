@@ -2,7 +2,7 @@ use Rattle.std.proofs.Common.{◌≡◌, ◌<◌, ◌≤◌, true, false, List, 
 use Rattle.folders.specs.Farm.{farm_limits}
 use Rattle.protocol.specs.Names.{NodeId}
 use Rattle.protocol.specs.Machine.{ToCoord}
-use Rattle.coordinator.specs.declared.state.SeenLife.{SeenLife}
+use Rattle.farm_base.specs.declared.lease.NodeLife.{NodeLife}
 use Rattle.coordinator.specs.Held.{line_at, is_among, life_at}
 use Rattle.coordinator.specs.Shown.{LineOf, shown}
 use Rattle.coordinator.specs.Sound.{IsSound}
@@ -23,7 +23,7 @@ returns-then-message-seen-clause-work c =
     let y : ToCoord = c.args.message.now in
     let w : Work = shown (line_at c.args.lines.now) c.args.self.now in
     let gone : w.ledger.gone y.node.0 ≡ false = ap (λ (xs : List NodeId). is_among xs y.node.0) (sym c.as_slice.ensures.value) ∙ sym c.is_among.ensures ∙ c.if-is_among.false in
-    let seen : c.seen_life-seen.result ≡ w.ledger.lives y.node.0 = c.seen_life-seen.ensures ∙ ap (λ (xs : List SeenLife). life_at xs y.node.0) c.as_slice-2.ensures.value in
+    let seen : c.seen_life-seen.result ≡ w.ledger.lives y.node.0 = c.seen_life-seen.ensures ∙ ap (λ (xs : List NodeLife). life_at xs y.node.0) c.as_slice-2.ensures.value in
     let older : y.life.0 < c.seen_life-seen.result = c.if-message-seen.true in
     sym (handled-old farm_limits y w gone (omega arith))
 
@@ -38,7 +38,7 @@ returns-then-seen-message-clause-work c =
     let y : ToCoord = c.args.message.now in
     let w : Work = shown (line_at c.args.lines.now) c.args.self.now in
     let gone : w.ledger.gone y.node.0 ≡ false = ap (λ (xs : List NodeId). is_among xs y.node.0) (sym c.as_slice.ensures.value) ∙ sym c.is_among.ensures ∙ c.if-is_among.false in
-    let seen : c.seen_life-seen.result ≡ w.ledger.lives y.node.0 = c.seen_life-seen.ensures ∙ ap (λ (xs : List SeenLife). life_at xs y.node.0) c.as_slice-2.ensures.value in
+    let seen : c.seen_life-seen.result ≡ w.ledger.lives y.node.0 = c.seen_life-seen.ensures ∙ ap (λ (xs : List NodeLife). life_at xs y.node.0) c.as_slice-2.ensures.value in
     let newer : c.seen_life-seen.result < y.life.0 = c.if-seen-message.true in
     c.in_ok-added.ensures.work ∙ ap (answering farm_limits y.node y.life y.request) c.in_ok-begin_life.ensures ∙ sym (handled-new farm_limits y w gone (omega arith))
 
@@ -47,7 +47,7 @@ returns-clause-work c =
     let y : ToCoord = c.args.message.now in
     let w : Work = shown (line_at c.args.lines.now) c.args.self.now in
     let gone : w.ledger.gone y.node.0 ≡ false = ap (λ (xs : List NodeId). is_among xs y.node.0) (sym c.as_slice.ensures.value) ∙ sym c.is_among.ensures ∙ c.if-is_among.false in
-    let seen : c.seen_life-seen.result ≡ w.ledger.lives y.node.0 = c.seen_life-seen.ensures ∙ ap (λ (xs : List SeenLife). life_at xs y.node.0) c.as_slice-2.ensures.value in
+    let seen : c.seen_life-seen.result ≡ w.ledger.lives y.node.0 = c.seen_life-seen.ensures ∙ ap (λ (xs : List NodeLife). life_at xs y.node.0) c.as_slice-2.ensures.value in
     let high : c.seen_life-seen.result ≤ y.life.0 = c.if-message-seen.false in
     let low : y.life.0 ≤ c.seen_life-seen.result = c.if-seen-message.false in
     c.in_ok-added-2.ensures.work ∙ sym (handled-same farm_limits y w gone (omega arith) (omega arith))

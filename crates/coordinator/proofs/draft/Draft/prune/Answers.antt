@@ -4,8 +4,8 @@ use Rattle.leases.specs.Tickets.{Tickets, advanced}
 use Rattle.protocol.specs.Names.{slot_eq, Ticket}
 use Rattle.protocol.specs.declared.answer.CoordNote.TheVariants as note
 use Rattle.protocol.specs.Ledger.{Work}
-use Rattle.slotlines.specs.declared.lines.Added.{Added}
-use Rattle.slotlines.specs.Lines.{line_at, lines_with}
+use Rattle.versions.specs.declared.lines.Added.{Added}
+use Rattle.versions.specs.Lines.{line_at, lines_with}
 use Rattle.coordinator.specs.Shown.{LineOf, kept, shown}
 use Rattle.coordinator.specs.Sound.{IsSound}
 use Rattle.coordinator.proofs.Prunes.{pruning, lines-one, ready-one, above-last, sound-prunes}

@@ -1,6 +1,7 @@
 use Rattle.std.proofs.Common.{sym, ◌∙◌}
 use Rattle.folders.specs.Farm.{farm_limits}
-use Rattle.protocol.specs.Ledger.{Give, Deny, Wait}
+use Rattle.protocol.specs.Ledger.{}
+use Rattle.protocol.specs.declared.answer.Decision.TheVariants.{Give, Deny, Wait}
 use Rattle.coordinator.specs.Shown.{LineOf, shown, lines_with}
 use Rattle.coordinator.proofs.Trying.{tried-is, stays-is}
 use Rattle.coordinator.proofs.draft.Draft.try_ask.Goals as goal

@@ -1,3 +1,0 @@
-pub mod LineWords
-pub mod Ordered
-pub mod Pushing

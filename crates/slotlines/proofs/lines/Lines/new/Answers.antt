@@ -1,7 +1,0 @@
-use Rattle.std.proofs.Common.{sym, subst}
-use Rattle.slotlines.specs.Ordered.{AreLines}
-use Rattle.slotlines.proofs.Ordered.{lines-none}
-use Rattle.slotlines.proofs.lines.Lines.new.Goals as goal
-
-pub invariant_of-result : goal.invariant_of-result
-invariant_of-result c = subst AreLines (sym c.new.ensures.items) lines-none

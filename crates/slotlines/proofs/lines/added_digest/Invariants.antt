@@ -1,7 +1,0 @@
-use Rattle.std.proofs.Common.{◌≡◌, drop, map}
-use Rattle.protocol.specs.Machine.{digest_for}
-use Rattle.slotlines.specs.Lines.{news_of}
-use Rattle.slotlines.proofs.lines.added_digest.Given as goal
-
-abbrev pub invariant-loop-addition : goal.invariant-loop-addition
-invariant-loop-addition l = digest_for l.slot (map news_of l.additions) ≡ digest_for l.slot (map news_of (drop l.addition-index l.additions))

@@ -1,8 +1,0 @@
-use Rattle.std.proofs.Common.{◌≡◌, take, map}
-use Rattle.std.specs.Prelude.{All}
-use Rattle.slotlines.specs.Additions.{HasRoom}
-use Rattle.slotlines.specs.Lines.{news_of}
-use Rattle.slotlines.proofs.lines.additions.Given as goal
-
-abbrev pub invariant-loop-x : goal.invariant-loop-x
-invariant-loop-x l = record { news : map news_of l.additions.items ≡ take l.x-index l.news; room : All (HasRoom l.lines) l.additions.items }

@@ -1,8 +1,0 @@
-use Rattle.std.proofs.Common.{◌≡◌, take, map}
-use Rattle.folders.specs.Farm.{empty_digest}
-use Rattle.protocol.specs.Ledger.{granted_slot}
-use Rattle.slotlines.specs.Lines.{lines_with}
-use Rattle.slotlines.proofs.lines.granted_slots.Given as goal
-
-abbrev pub invariant-loop-held : goal.invariant-loop-held
-invariant-loop-held l = l.granted.items ≡ map (granted_slot empty_digest (lines_with l.lines l.added)) (take l.held-index l.slots)
