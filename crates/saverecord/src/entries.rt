@@ -13,11 +13,8 @@ use super::part::{take_digest, take_flag, take_u32, take_u64};
 use super::record::{NodeLife, SlotLine};
 use super::refusal::{Flaw, RecordRefusal};
 use super::slot::{put_slot, take_slot_after};
-use farm_base::{Ask, Lease, Life, LineVersion, NodeId, Slot, Ticket};
+use farm_base::{Ask, Lease, Life, LineVersion, NODES, NodeId, Slot, Ticket};
 use std::alloc::{AllocError, Global};
-
-/// The greatest node.
-const NODES: u32 = 1024;
 
 /// The most slots of a lease.
 const SLOTS: u64 = 16;
