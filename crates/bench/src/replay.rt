@@ -1,8 +1,7 @@
 //! Replays of schedules, against their length.
 
 use super::clock::{ROUNDS, seconds_since};
-use farm_base::{FolderName, Items, NodeId, Slot, Ticket, Want, Wants};
-use folders::Content;
+use farm_base::{Content, FolderName, Items, NodeId, Slot, Ticket, Want, Wants};
 use std::alloc::Global;
 use std::rt::Clock;
 use std::time::Instant;

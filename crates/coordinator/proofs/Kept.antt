@@ -1,6 +1,6 @@
 -- What the rules promise of one message is kept.
 use Rattle.std.proofs.Common.{◌≡◌, List, [], None, Some, Option, refl, sym, subst, append-nil}
-use Rattle.folders.specs.Farm.{farm_limits}
+use Rattle.protocol.specs.Farm.{farm_limits}
 use Rattle.farm_base.specs.declared.message.Request.TheVariants.{Acquire}
 use Rattle.farm_base.specs.declared.message.FromCoord.TheVariants as told
 use Rattle.protocol.specs.Lists.{In}

@@ -3,7 +3,7 @@ ghost use Rattle.std.specs.List.{list_any};
 ghost use Rattle.std.specs.List.Sorted.{IsStrictlySortedBy};
 ghost use Rattle.std.specs.Vec.{vec_capacity};
 ghost use Rattle.farm_base.specs.Slots.{slot_cmp};
-ghost use Rattle.folders.specs.Farm.{farm_limits};
+ghost use Rattle.protocol.specs.Farm.{farm_limits};
 ghost use Rattle.leases.specs.Table.{state_of};
 ghost use Rattle.protocol.specs.Lists.{is_nil};
 ghost use Rattle.protocol.specs.Names.{slot_eq, NodeId, Slot, Ticket};

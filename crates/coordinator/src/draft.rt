@@ -1,7 +1,8 @@
 //! An event as it is worked out, on a copy of the state.
 ghost use Rattle.std.specs.Prelude.{if◌then◌else◌, ◌++◌, ◌∷◌, [], ◌≡◌, ◌≢◌, ◌≤◌, ◌&&◌, All, IfOk, OnOk, not, false, true, is_some, ◌||◌, Some, nat_lt};
 ghost use Rattle.std.specs.List.{find, list_any};
-ghost use Rattle.folders.specs.Farm.{empty_digest, farm_limits};
+ghost use Rattle.farm_base.specs.Contents.{empty_digest};
+ghost use Rattle.protocol.specs.Farm.{farm_limits};
 ghost use Rattle.leases.specs.Table.{fit_of};
 ghost use Rattle.leases.specs.declared.lease_table.Fit.{Fit};
 ghost use Rattle.protocol.specs.Ledger.{decision, decided, sees, is_older, is_home, ends, without, Lease, lease_for, grant_of, gives, denies, tried, stays, retried, elsewhere, recall, recalls, holds_wanted, acquiring, lease_of, is_parked, confirms, committing, may_commit, may_release, lease_under, released, newer_life, answering, handled};

@@ -2,7 +2,8 @@
 ghost use Rattle.std.specs.Prelude.{◌≡◌, ◌∷◌, [], ◌&&◌, if◌then◌else◌, nat_lt, map, All, IfOk, OnOk, Ok, None};
 ghost use Rattle.std.specs.List.{list_any};
 ghost use Rattle.std.specs.Result.{result_err};
-ghost use Rattle.folders.specs.Farm.{empty_digest, farm_limits};
+ghost use Rattle.farm_base.specs.Contents.{empty_digest};
+ghost use Rattle.protocol.specs.Farm.{farm_limits};
 ghost use Rattle.protocol.specs.Ledger.{begin_work, withdrawn, pruned, retired, retried, goes, holds_wanted, is_awaited, nudges, nudge_all};
 ghost use Rattle.versions.specs.Additions.{HasRoom, IsReady};
 ghost use Rattle.versions.specs.Lines.{lines_with, news_of};
@@ -12,8 +13,7 @@ ghost use Rattle.coordinator.specs.Sound.{IsSound};
 
 use super::draft::Draft;
 use super::state::{State, add_gone, drop_asks_of, grant_of, is_among, is_home, is_some_saved};
-use farm_base::{Copied, Digest, FromCoord, Lease, News, NodeId, Parked, Slot, Ticket};
-use folders::Content;
+use farm_base::{Copied, FromCoord, Lease, News, NodeId, Parked, Slot, Ticket, empty_digest};
 use leases::holds_wanted;
 use protocol::{CoordNote, CoordRefusal};
 use std::alloc::{AllocError, Global};
@@ -212,14 +212,6 @@ impl Draft {
         self.note = CoordNote::Pruned(ticket);
         Ok(Some(Added { ticket, additions }))
     }
-}
-
-/// The digest of the empty content.
-#[tactic(auto, unfolding(folders::specs::Farm::empty_digest))]
-fn empty_digest(alloc: Global) -> Digest
-    ensures { result ≡ empty_digest }
-{
-    Content::of(Vec::new(alloc)).digest()
 }
 
 /// What a prune adds to the line of a slot: the empty content.

@@ -1,6 +1,7 @@
 //! What the coordinator keeps beside the lines.
 ghost use Rattle.std.specs.Prelude.{◌≡◌, ◌≢◌, ℕ, ◌<◌, ◌==◌, ◌&&◌, true, IfOk, OnOk, filter, not, List, option_copied};
-ghost use Rattle.folders.specs.Farm.{empty_digest, farm_limits};
+ghost use Rattle.farm_base.specs.Contents.{empty_digest};
+ghost use Rattle.protocol.specs.Farm.{farm_limits};
 ghost use Rattle.leases.specs.Table.{fit_of};
 ghost use Rattle.leases.specs.Tickets.{Tickets};
 ghost use Rattle.std.specs.List.{list_any};

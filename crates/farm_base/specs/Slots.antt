@@ -5,6 +5,7 @@ use Rattle.std.specs.Ordering.{nat_cmp, ordering_then}
 use Rattle.farm_base.specs.declared.folder.FolderName.{FolderName}
 use Rattle.farm_base.specs.declared.folder.Mode.{Mode}
 use Rattle.farm_base.specs.declared.folder.Mode.TheVariants.{Shared, Private, Locked}
+use Rattle.farm_base.specs.declared.limits.TheConstants.{INSTANCES}
 use Rattle.farm_base.specs.Folders.{folder_eq, folder_cmp}
 
 -- a slot, as contracts see it
@@ -15,7 +16,7 @@ pub record SlotParts : Type 0 where
 -- a SHARED or LOCKED folder has only the instance 0, a PRIVATE one 1 to 4,096
 abbrev pub IsInstance : Mode → ℕ → Type 0
 IsInstance Shared n = n ≡ 0
-IsInstance Private n = (1 ≤ n) × (n ≤ 4096)
+IsInstance Private n = (1 ≤ n) × (n ≤ INSTANCES)
 IsInstance Locked n = n ≡ 0
 
 -- the same folder and instance

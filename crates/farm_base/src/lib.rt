@@ -1,6 +1,7 @@
 //! Names, numbers, texts and messages of the build farm.
 #![tactic(auto)]
 
+mod content;
 mod copied;
 mod digest;
 mod escape;
@@ -8,6 +9,7 @@ mod folder;
 mod items;
 mod laws;
 mod lease;
+mod limits;
 mod message;
 mod name;
 mod number;
@@ -17,6 +19,7 @@ mod slot;
 mod text;
 mod want;
 
+pub use content::{Content, empty_digest};
 pub use copied::Copied;
 pub use digest::{BadDigestText, Digest, Key, are_bytes};
 pub use folder::{Base, FolderName, Index, Mode};
@@ -27,6 +30,7 @@ pub use laws::{
     one_folder_per_text, one_key_per_text, one_slot_per_text, slots_are_ordered,
 };
 pub use lease::{Lease, NodeLife, Parked};
+pub use limits::{EVENTS, GREATEST, INSTANCES, NODES};
 pub use message::{
     Confirmed, Fetch, FromCoord, Grant, GrantedSlot, LineVersion, News, Request, ToCoord, Version,
     Why,

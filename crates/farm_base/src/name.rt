@@ -10,6 +10,7 @@ ghost use Rattle.farm_base.specs.declared.folder.Mode.{Mode};
 use super::digest::{Key, lower_digits};
 use super::escape::{id_of, push_id};
 use super::folder::{Base, FolderName, Index, Mode};
+use super::limits::INSTANCES;
 use super::reading::{after, number, split};
 use super::refusal::{FolderRefusal, SlotRefusal};
 use super::slot::Slot;
@@ -116,7 +117,7 @@ fn instance_of(text: &str) -> Option<u32>
     ensures only { IfNone result ((n : ℕ) → IsInstance Mode.Private n → text.now ≢ decimal n) }
 {
     let instance = number(text)?;
-    if 1 <= instance && instance <= 4096 {
+    if 1 <= instance && instance <= INSTANCES as u64 {
         Some(instance as u32)
     } else {
         None

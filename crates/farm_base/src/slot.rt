@@ -3,6 +3,7 @@ ghost use Rattle.farm_base.specs.Slots.{IsInstance};
 
 use super::copied::Copied;
 use super::folder::{FolderName, Mode};
+use super::limits::INSTANCES;
 use std::alloc::{AllocError, Global};
 use std::marker::Model;
 
@@ -26,16 +27,13 @@ impl Model for Slot {
 }
 
 impl Slot {
-    /// The greatest instance of a PRIVATE folder.
-    pub const INSTANCES: u32 = 4096;
-
     /// Whether a folder of this mode has this instance.
     pub fn has_instance(mode: Mode, instance: u32) -> bool
         ensures { IsTrue result ↔ IsInstance mode instance }
     {
         match mode {
             Mode::Shared => instance == 0,
-            Mode::Private => 1 <= instance && instance <= Self::INSTANCES,
+            Mode::Private => 1 <= instance && instance <= INSTANCES,
             Mode::Locked => instance == 0,
         }
     }

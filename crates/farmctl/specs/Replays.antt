@@ -1,7 +1,7 @@
 -- What the program prints for a schedule (this project's own).
 use Rattle.std.specs.Prelude.{◌≡◌, ⊤, ℕ, ◌+◌, List, [], ◌∷◌, ◌++◌, map}
-use Rattle.folders.specs.Contents.{content_digest}
-use Rattle.folders.specs.Farm.{farm_limits}
+use Rattle.farm_base.specs.Contents.{content_digest}
+use Rattle.protocol.specs.Farm.{farm_limits}
 use Rattle.schedule.specs.Printing.{outcome_text}
 use Rattle.protocol.specs.Replay.{Event, Farm, step, run, opening}
 use Rattle.schedule.specs.declared.event.Event as said

@@ -1,8 +1,8 @@
 //! What `replay` answers for a schedule.
 ghost use Rattle.std.specs.Prelude.{◌≡◌, ◌++◌, IfOk, IfErr, OnOk, map};
 ghost use Rattle.std.specs.String.{string_bytes};
-ghost use Rattle.folders.specs.Contents.{content_digest};
-ghost use Rattle.folders.specs.Farm.{farm_limits};
+ghost use Rattle.farm_base.specs.Contents.{content_digest};
+ghost use Rattle.protocol.specs.Farm.{farm_limits};
 ghost use Rattle.schedule.specs.Printing.{outcome_text};
 ghost use Rattle.protocol.specs.Replay.{run, step};
 ghost use Rattle.schedule.specs.Events.{event_of};

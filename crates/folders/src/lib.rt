@@ -1,8 +1,7 @@
-//! What a version of a slot holds: bytes, and the folder that they spell.
+//! The folder that the bytes of a version spell.
 #![tactic(auto)]
 
 mod applying;
-mod content;
 mod edit;
 mod file;
 mod folder;
@@ -11,8 +10,8 @@ mod reading;
 mod refusal;
 mod writing;
 
-pub use content::Content;
 pub use edit::Edit;
+pub use farm_base::Content;
 pub use folder::Folder;
 pub use laws::{a_folder_has_one_spelling, edits_change_one_path, first_fault_decides};
 pub use refusal::{EditRefusal, FolderRefusal};

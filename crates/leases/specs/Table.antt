@@ -1,6 +1,7 @@
 -- What a lease table holds, and whether an ask fits.
 use Rattle.std.specs.Prelude.{Bool, true, false, not, ◌&&◌, List, [], map, filter, Option, Some, None}
 use Rattle.std.specs.List.{list_any, find, flat_map}
+use Rattle.farm_base.specs.declared.limits.TheConstants.{INSTANCES}
 use Rattle.farm_base.specs.declared.lease.Lease.{Lease}
 use Rattle.protocol.specs.Names.{Slot, slot_eq, is_private, only_slot, NodeId, Life, Ask, Ticket, Want, any_shared, wants_shared, leased_wants}
 use Rattle.protocol.specs.Ledger.{has_slot, some_lease, slot_for, all_taken, busy, retires}
@@ -28,7 +29,7 @@ first_fit false false = Fits
 
 -- whether these wants fit. A PRIVATE folder has 4,096 instances
 abbrev pub fit_of : Table → Bool → List Want → Fit
-fit_of t tenure wants = first_fit (all_taken 4096 (is_free t) (leased_wants tenure wants)) (busy (is_leased t) (leased_wants tenure wants))
+fit_of t tenure wants = first_fit (all_taken INSTANCES (is_free t) (leased_wants tenure wants)) (busy (is_leased t) (leased_wants tenure wants))
 
 -- a lease takes a slot for the want
 abbrev pub takes : Bool → Want → Bool
@@ -37,7 +38,7 @@ takes false w = not (wants_shared w)
 
 -- the slots that these wants get, and whether each may be written
 abbrev pub slots_of : Table → List Want → List (Slot × Bool)
-slots_of t wants = map (λ w. (slot_for 4096 (is_free t) w, w.writable)) wants
+slots_of t wants = map (λ w. (slot_for INSTANCES (is_free t) w, w.writable)) wants
 
 -- the lease that an ask gets
 abbrev pub lease_for : Table → NodeId → Life → Ask → List Want → Bool → Ticket → Lease

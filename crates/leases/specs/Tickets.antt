@@ -1,5 +1,6 @@
 -- Where tickets come from.
 use Rattle.std.specs.Prelude.{ℕ, ◌+◌, ◌==◌, if◌then◌else◌, min}
+use Rattle.farm_base.specs.declared.limits.TheConstants.{GREATEST}
 
 -- a ticket source, as contracts see it
 pub record Tickets : Type 0 where
@@ -8,9 +9,9 @@ pub record Tickets : Type 0 where
   -- the last ticket of the block that is saved
   pub ceiling : ℕ
 
--- the ceiling that the next ticket needs: at the ceiling a block of 64 tickets is added, up to 2 ^ 64 - 1
+-- the ceiling that the next ticket needs: at the ceiling a block of 64 tickets is added, up to the greatest
 abbrev pub raised : Tickets → ℕ
-raised t = if t.position == t.ceiling then min (t.ceiling + 64) 0xffff_ffff_ffff_ffff else t.ceiling
+raised t = if t.position == t.ceiling then min (t.ceiling + 64) GREATEST else t.ceiling
 
 -- the source after it gave the next ticket
 abbrev pub advanced : Tickets → Tickets

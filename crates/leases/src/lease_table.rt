@@ -1,5 +1,6 @@
 ghost use Rattle.std.specs.Prelude.{if◌then◌else◌, ◌≡◌, ◌≢◌, ℕ, ◌≤◌, ◌<◌, true, false, not, [], ◌∷◌, ◌++◌, filter, map, count_by, ◌&&◌, All, AllPairs, IfOk, IfSome, OnOk, OnErr, option_copied};
 ghost use Rattle.std.specs.List.{find, list_any, position_from};
+ghost use Rattle.farm_base.specs.declared.limits.TheConstants.{INSTANCES};
 ghost use Rattle.farm_base.specs.Wanted.{IsWants};
 ghost use Rattle.protocol.specs.Names.{leased_wants, wants_shared, any_shared, is_private, only_slot};
 ghost use Rattle.protocol.specs.Ledger.{has_slot, some_lease, lowest, slot_for, all_taken, busy, lease_of, lease_under, without, is_older, has_ticket, is_at, retire_all};
@@ -9,7 +10,8 @@ ghost use Rattle.leases.specs.Table.{among, is_leased, is_free, fit_of, lease_fo
 
 use super::marks::{mark_all, mark_leased};
 use farm_base::{
-    Ask, Copied, FolderName, Items, Lease, Life, Mode, NodeId, Slot, Ticket, Want, Wants, copy_all,
+    Ask, Copied, FolderName, INSTANCES, Items, Lease, Life, Mode, NodeId, Slot, Ticket, Want,
+    Wants, copy_all,
 };
 use std::alloc::{AllocError, Global};
 use std::marker::Model;
@@ -115,12 +117,12 @@ impl LeaseTable {
 
     /// The lowest free instance of a PRIVATE folder, or 0 if there is none.
     fn lowest(&self, folder: &FolderName) -> u32
-        ensures value { result ≡ lowest (is_free self.now) folder.now 1 4096 }
-        ensures range { result ≤ 4096 }
+        ensures value { result ≡ lowest (is_free self.now) folder.now 1 INSTANCES }
+        ensures range { result ≤ INSTANCES }
     {
         let mut marks = [false; PLACES];
         self.mark_taken(&mut marks, folder);
-        for instance in 1..Slot::INSTANCES + 1 {
+        for instance in 1..INSTANCES + 1 {
             if !marks[instance as usize] {
                 return instance;
             }
@@ -130,7 +132,7 @@ impl LeaseTable {
 
     /// Whether a PRIVATE folder of these wants has no instance left.
     fn all_taken(&self, wants: &[Want], tenure: bool) -> bool
-        ensures { result ≡ all_taken 4096 (is_free self.now) (filter (takes tenure) wants.now) }
+        ensures { result ≡ all_taken INSTANCES (is_free self.now) (filter (takes tenure) wants.now) }
     {
         wants
             .iter()
@@ -241,8 +243,8 @@ impl LeaseTable {
 
     /// The slot that a want gets.
     fn slot_for(&self, alloc: Global, want: &Want) -> Result<Slot, AllocError>
-        requires { is_private want.now.folder.mode ≡ true → lowest (is_free self.now) want.now.folder 1 4096 ≢ 0 }
-        ensures { IfOk result (λ slot. slot ≡ slot_for 4096 (is_free self.now) want.now) }
+        requires { is_private want.now.folder.mode ≡ true → lowest (is_free self.now) want.now.folder 1 INSTANCES ≢ 0 }
+        ensures { IfOk result (λ slot. slot ≡ slot_for INSTANCES (is_free self.now) want.now) }
     {
         let instance = match want.folder.mode {
             Mode::Shared => 0,
@@ -259,7 +261,7 @@ impl LeaseTable {
         wants: &[Want],
         tenure: bool,
     ) -> Result<Vec<(Slot, bool)>, AllocError>
-        requires { all_taken 4096 (is_free self.now) (filter (takes tenure) wants.now) ≡ false }
+        requires { all_taken INSTANCES (is_free self.now) (filter (takes tenure) wants.now) ≡ false }
         ensures { IfOk result (λ slots. slots.items ≡ slots_of self.now (filter (takes tenure) wants.now)) }
     {
         let mut slots = Vec::with_capacity(alloc, wants.len())?;

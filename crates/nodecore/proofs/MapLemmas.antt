@@ -10,7 +10,7 @@ use Rattle.farm_base.specs.Slots.{slot_eq}
 use Rattle.farm_base.specs.Versions.{version_eq}
 use Rattle.farm_base.specs.declared.message.Version.{Version}
 use Rattle.farm_base.proofs.CompareLaws.{slot_equivalence}
-use Rattle.folders.specs.Contents.{content_digest}
+use Rattle.farm_base.specs.Contents.{content_digest}
 use Rattle.protocol.specs.Names.{Slot, Digest, slots_eq}
 use Rattle.protocol.specs.Nodes.{Left, stored, news_of}
 use Rattle.protocol.specs.World.{keep, learn, learn_versions, learn_bases}

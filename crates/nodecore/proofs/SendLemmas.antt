@@ -5,8 +5,8 @@ use Rattle.std.specs.List.{list_any}
 use Rattle.farm_base.specs.declared.digest.Digest.{Digest}
 use Rattle.farm_base.specs.declared.message.FromCoord.{FromCoord}
 use Rattle.farm_base.specs.declared.message.FromCoord.TheVariants as coord
-use Rattle.folders.specs.Contents.{content_digest}
-use Rattle.folders.specs.Farm.{farm_limits}
+use Rattle.farm_base.specs.Contents.{content_digest}
+use Rattle.protocol.specs.Farm.{farm_limits}
 use Rattle.protocol.specs.Lists.{nth}
 use Rattle.protocol.specs.Names.{NodeId, Ticket, Ask}
 use Rattle.protocol.specs.Ledger.{Limits}

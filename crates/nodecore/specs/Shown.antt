@@ -9,9 +9,9 @@ use Rattle.protocol.specs.Names.{Slot, Digest}
 use Rattle.protocol.specs.Machine.{GrantedSlot, Confirmed}
 use Rattle.farm_base.specs.declared.message.Version.{Version}
 use Rattle.protocol.specs.Nodes.{NodeWork, NodeAnswer, Place, heard, fetched, brought}
-use Rattle.folders.specs.Contents.{content_digest}
-pub use Rattle.folders.specs.Contents.{left_of}
-use Rattle.folders.specs.Farm.{farm_limits}
+use Rattle.farm_base.specs.Contents.{content_digest}
+pub use Rattle.protocol.specs.Nodes.{left_of}
+use Rattle.protocol.specs.Farm.{farm_limits}
 use Rattle.nodecore.specs.declared.message.ToNode.{ToNode}
 use Rattle.nodecore.specs.declared.message.ToNode.TheVariants.{FromCoord, Fetch, Blob}
 use Rattle.protocol.specs.declared.answer.NodeRefusal.{NodeRefusal}

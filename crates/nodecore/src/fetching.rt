@@ -1,22 +1,14 @@
 ghost use Rattle.std.specs.Prelude.{◌≡◌, ◌++◌, IfOk, OnOk, map};
 ghost use Rattle.protocol.specs.Nodes.{fetches, fetches_of, is_missing};
-ghost use Rattle.folders.specs.Farm.{empty_digest, farm_limits};
+ghost use Rattle.farm_base.specs.Contents.{empty_digest};
+ghost use Rattle.protocol.specs.Farm.{farm_limits};
 ghost use Rattle.nodecore.specs.Asks.{message_of};
 ghost use Rattle.nodecore.specs.Shown.{shown, place};
 
 use super::message::{Message, ToNode};
 use super::node_core::NodeCore;
-use farm_base::{Digest, Fetch, GrantedSlot, NodeId};
-use folders::Content;
+use farm_base::{Digest, Fetch, GrantedSlot, NodeId, empty_digest};
 use std::alloc::{AllocError, Global};
-
-/// The digest of the empty content, which every node has.
-#[tactic(auto, unfolding(folders::specs::Farm::empty_digest))]
-fn empty_digest(alloc: Global) -> Digest
-    ensures { result ≡ empty_digest }
-{
-    Content::of(Vec::new(alloc)).digest()
-}
 
 impl NodeCore {
     /// Adds a Fetch of the digest to each other node.

@@ -1,10 +1,10 @@
 ghost use Rattle.std.specs.Prelude.{◌≡◌, ◌+◌, ◌<◌, [], List, Bool, false, IfOk, Some, slice_get, vec_len};
 ghost use Rattle.protocol.specs.Names.{Want};
-ghost use Rattle.folders.specs.Farm.{farm_limits};
+ghost use Rattle.protocol.specs.Farm.{farm_limits};
 ghost use Rattle.nodecore.specs.declared.asks.KeptAsk.{KeptAsk};
 ghost use Rattle.protocol.specs.Lists.{nth};
 ghost use Rattle.protocol.specs.Nodes.{heard, unless_spent, brought, denied, dropped, fetched, finished, gives_back, granted, takes, learned, first, recallable, recalled};
-ghost use Rattle.folders.specs.Contents.{content_digest};
+ghost use Rattle.farm_base.specs.Contents.{content_digest};
 ghost use Rattle.nodecore.specs.Asks.{life_of};
 ghost use Rattle.nodecore.specs.Shown.{shown, place, work_of, message_work, Does, Answers};
 
@@ -13,9 +13,9 @@ use super::kept::{bases, confirmed, learn};
 use super::message::{Message, NodeDone, ToNode};
 use super::node_core::NodeCore;
 use farm_base::{
-    Ask, Confirmed, Copied, Digest, FromCoord, Grant, Items, Life, NodeId, Request, Ticket, Why,
+    Ask, Confirmed, Content, Copied, Digest, FromCoord, Grant, Items, Life, NodeId, Request,
+    Ticket, Why,
 };
-use folders::Content;
 use protocol::{How, NodeNote, NodeRefusal};
 use std::alloc::{AllocError, Global};
 

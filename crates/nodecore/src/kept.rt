@@ -4,11 +4,10 @@ ghost use Rattle.protocol.specs.Machine.{slots_of, written};
 ghost use Rattle.protocol.specs.Names.{slots_eq};
 ghost use Rattle.protocol.specs.Nodes.{news_of, stored};
 ghost use Rattle.protocol.specs.World.{keep, learn};
-ghost use Rattle.folders.specs.Contents.{content_digest};
+ghost use Rattle.farm_base.specs.Contents.{content_digest};
 ghost use Rattle.nodecore.specs.Shown.{base_of, known_in, learn_all, left_of, store_in, version_of};
 
-use farm_base::{Confirmed, Copied, Digest, GrantedSlot, Items, News, Slot, Version};
-use folders::Content;
+use farm_base::{Confirmed, Content, Copied, Digest, GrantedSlot, Items, News, Slot, Version};
 use indexmap::IndexMap;
 use std::alloc::{AllocError, Global};
 

@@ -1,5 +1,4 @@
-use farm_base::{Fetch, FromCoord, Grant, Items, NodeId, Ticket, ToCoord};
-use folders::Content;
+use farm_base::{Content, Fetch, FromCoord, Grant, Items, NodeId, Ticket, ToCoord};
 use protocol::{How, NodeNote};
 
 /// A message to a node.

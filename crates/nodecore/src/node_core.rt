@@ -3,8 +3,8 @@ ghost use Rattle.protocol.specs.Lists.{nth};
 ghost use Rattle.protocol.specs.Machine.{Said};
 ghost use Rattle.protocol.specs.World.{first_node};
 ghost use Rattle.protocol.specs.Nodes.{Held, finished_with, leaving, aborted, all_stored, asked, asked_tenure, begun, gives_up, may_restart, opens, restarted};
-ghost use Rattle.folders.specs.Contents.{content_digest};
-ghost use Rattle.folders.specs.Farm.{farm_limits};
+ghost use Rattle.farm_base.specs.Contents.{content_digest};
+ghost use Rattle.protocol.specs.Farm.{farm_limits};
 ghost use Rattle.nodecore.specs.declared.asks.KeptAsk.{KeptAsk};
 ghost use Rattle.nodecore.specs.declared.asks.Stage.{Stage};
 ghost use Rattle.nodecore.specs.Asks.{message_of, told_state, AreOver};
@@ -16,10 +16,9 @@ use super::asks::{
 use super::kept::{fits, news_of, store_all};
 use super::message::{AskState, Message, NodeDone};
 use farm_base::{
-    Ask, Copied, Digest, FolderName, GrantedSlot, Items, Life, Mode, NodeId, Request, Slot, Ticket,
-    ToCoord, Version, Want, Wants,
+    Ask, Content, Copied, Digest, FolderName, GREATEST, GrantedSlot, Items, Life, Mode, NodeId,
+    Request, Slot, Ticket, ToCoord, Version, Want, Wants,
 };
-use folders::Content;
 use indexmap::IndexMap;
 use protocol::{How, NodeNote, NodeRefusal};
 use std::alloc::{AllocError, Global};
@@ -179,7 +178,7 @@ impl NodeCore {
         if !at_home(self.asks.as_slice(), wants.as_slice()) {
             return Err(NodeRefusal::NotHomeHere);
         }
-        if self.asks.len() as u64 == u64::MAX {
+        if self.asks.len() as u64 == GREATEST {
             return Err(NodeRefusal::AsksSpent);
         }
         let Ok(done) = self.open(alloc, wants, false) else {
@@ -204,7 +203,7 @@ impl NodeCore {
         if has_tenure(self.asks.as_slice(), &folder) {
             return Err(NodeRefusal::TenureHere);
         }
-        if self.asks.len() as u64 == u64::MAX {
+        if self.asks.len() as u64 == GREATEST {
             return Err(NodeRefusal::AsksSpent);
         }
         let Ok(wants) = one_want(alloc, folder) else {
@@ -353,7 +352,7 @@ impl NodeCore {
         ensures only { OnErr result ((result ≡ Err NodeRefusal.LivesSpent) ⊎ (result ≡ Err NodeRefusal.OutOfMemory)) }
         ensures place { place self.new ≡ place self.old }
     {
-        if self.spent || self.life.0 == u64::MAX {
+        if self.spent || self.life.0 == GREATEST {
             self.spent = true;
             return Err(NodeRefusal::LivesSpent);
         }

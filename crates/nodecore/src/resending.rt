@@ -1,6 +1,6 @@
 //! What a node says again.
 ghost use Rattle.std.specs.Prelude.{◌≡◌, ◌∷◌, Bool, List, IfOk, map};
-ghost use Rattle.folders.specs.Farm.{farm_limits};
+ghost use Rattle.protocol.specs.Farm.{farm_limits};
 ghost use Rattle.protocol.specs.Names.{Ask, Want};
 ghost use Rattle.protocol.specs.Machine.{hello};
 ghost use Rattle.protocol.specs.Nodes.{again, all_again, resent};

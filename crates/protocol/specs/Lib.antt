@@ -4,6 +4,7 @@ pub mod Machine
 pub mod World
 pub mod Safe
 pub mod Ledger
+pub mod Farm
 pub mod Nodes
 pub mod Replay
 pub mod Meaning

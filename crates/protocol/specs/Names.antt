@@ -1,10 +1,9 @@
 -- The names that the protocol is about, and tests of them that compute (docs/PROTOCOL.md, "Names").
-use Rattle.std.specs.Prelude.{Bool, true, false, not, ◌&&◌, ◌||◌, nat_eq, List, [], ◌∷◌, filter}
+use Rattle.std.specs.Prelude.{Bool, true, false, not, ◌&&◌, ◌||◌, List, [], ◌∷◌, filter}
 use Rattle.std.specs.List.{list_any}
-use Rattle.std.specs.Cmp.Lexicographic.{pointwise}
-use Rattle.farm_base.specs.Folders.{folder_eq}
 use Rattle.farm_base.specs.Slots.{SlotParts}
-pub use Rattle.farm_base.specs.Slots.{IsInstance}
+pub use Rattle.farm_base.specs.Slots.{IsInstance, slot_eq}
+pub use Rattle.farm_base.specs.Digests.{digest_eq}
 pub use Rattle.farm_base.specs.declared.folder.Mode.{Mode}
 pub use Rattle.farm_base.specs.declared.folder.Mode.TheVariants.{Shared, Private, Locked}
 pub use Rattle.farm_base.specs.declared.folder.FolderName.{FolderName}
@@ -31,14 +30,6 @@ is_private Locked = false
 -- a slot that two executions never share: of a PRIVATE or SHARED folder
 abbrev pub is_alone : Slot → Bool
 is_alone s = is_private s.folder.mode || is_shared s.folder.mode
-
--- the same slot
-abbrev pub slot_eq : Slot → Slot → Bool
-slot_eq a b = folder_eq a.folder b.folder && nat_eq a.instance b.instance
-
--- the same digest
-abbrev pub digest_eq : Digest → Digest → Bool
-digest_eq a b = pointwise nat_eq a.0 b.0
 
 abbrev pub slots_eq : List Slot → List Slot → Bool
 slots_eq [] [] = true

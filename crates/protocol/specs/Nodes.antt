@@ -208,6 +208,10 @@ pub record Left : Type 0 where
   pub slot : Slot
   pub content : List ℕ
 
+-- the same, as the program has it
+abbrev pub left_of : Slot × List ℕ → Left
+left_of x = record { slot = x.0; content = x.1 }
+
 abbrev pub news_of : (List ℕ → Digest) → List Left → List News
 news_of sha lefts = map (λ x. record { slot = x.slot; digest = sha x.content }) lefts
 

@@ -2,6 +2,7 @@
 use Rattle.std.specs.Prelude.{ℕ, zero, suc, nat_lt, Bool, true, false, if◌then◌else◌, List, [], ◌∷◌, Option, Some, None, Ok}
 use Rattle.std.specs.Int.{w32, w64}
 use Rattle.std.specs.Option.{option_map}
+use Rattle.farm_base.specs.declared.limits.TheConstants.{NODES}
 use Rattle.farm_base.specs.declared.lease.Lease.{Lease}
 use Rattle.farm_base.specs.declared.message.LineVersion.{LineVersion}
 use Rattle.farm_base.specs.declared.number.NodeId.{NodeId}
@@ -42,7 +43,7 @@ is_above (Some before) n = nat_lt before n
 -- a node, 1 to 1,024
 unfoldable pub node_at : List ℕ → Part NodeId
 node_at bytes = do
-  node ← number_at w32 1 1024 bytes
+  node ← number_at w32 1 NODES bytes
   Ok (record { 0 = node.0 }, node.1)
 
 -- a ticket, a life or an ask: they begin at 1

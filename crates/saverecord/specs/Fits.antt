@@ -2,6 +2,7 @@
 use Rattle.std.specs.Prelude.{◌≡◌, ◌<◌, ◌≤◌, ◌^◌, Bool, true, List, length, map, Option, Some, None}
 use Rattle.std.specs.List.{AllByRecursion}
 use Rattle.std.specs.List.Sorted.{IsStrictlyIncreasing, IsStrictlySortedBy}
+use Rattle.farm_base.specs.declared.limits.TheConstants.{NODES}
 use Rattle.farm_base.specs.declared.lease.Lease.{Lease}
 use Rattle.farm_base.specs.declared.message.LineVersion.{LineVersion}
 use Rattle.farm_base.specs.declared.number.NodeId.{NodeId}
@@ -16,7 +17,7 @@ use Rattle.saverecord.specs.Relations.{agrees}
 -- ---- what has to be met
 
 abbrev pub IsNode : NodeId → Type 0
-IsNode n = (1 ≤ n.0) × (n.0 ≤ 1024)
+IsNode n = (1 ≤ n.0) × (n.0 ≤ NODES)
 
 abbrev pub IsHome : Option NodeId → Type 0
 IsHome None = Unit {0}

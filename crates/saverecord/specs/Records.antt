@@ -3,6 +3,7 @@ use Rattle.std.specs.Prelude.{ℕ, zero, suc, insert, ◌-◌, ◌==◌, ◌&&�
 use Rattle.std.specs.Cmp.Lexicographic.{pointwise}
 use Rattle.std.specs.List.{list_any}
 use Rattle.std.specs.Int.{w32, w64}
+use Rattle.farm_base.specs.declared.limits.TheConstants.{NODES}
 use Rattle.farm_base.specs.declared.number.NodeId.{NodeId}
 use Rattle.sha2.specs.Sha256.{sha256}
 use Rattle.saverecord.specs.declared.layout.Layout.{Layout}
@@ -25,7 +26,7 @@ home_of (suc n) = Some (record { 0 = suc n })
 
 unfoldable pub home_at : List ℕ → Part (Option NodeId)
 home_at bytes = do
-  home ← number_at w32 0 1024 bytes
+  home ← number_at w32 0 NODES bytes
   Ok (home_of home.0, home.1)
 
 -- a list of any length

@@ -2,6 +2,7 @@
 use Rattle.std.specs.Prelude.{ℕ, zero, suc, nat_le, nat_lt, ◌^◌, ◌==◌, Bool, true, ◌&&◌, if◌then◌else◌, List, [], ◌∷◌, Option, Some, None, Result, Ok, Err}
 use Rattle.std.specs.Int.{w32, w64}
 use Rattle.std.specs.Ordering.{is_lt}
+use Rattle.farm_base.specs.declared.limits.TheConstants.{INSTANCES}
 use Rattle.farm_base.specs.declared.folder.Base.{Base}
 use Rattle.farm_base.specs.declared.folder.Mode.{Mode}
 use Rattle.farm_base.specs.declared.folder.Mode.TheVariants.{Shared, Private, Locked}
@@ -45,7 +46,7 @@ base_at bytes = do
 -- a SHARED or LOCKED folder has only the instance 0, a PRIVATE one 1 to 4,096
 abbrev pub has_instance : Mode → ℕ → Bool
 has_instance Shared n = n == 0
-has_instance Private n = nat_le 1 n && nat_le n 4096
+has_instance Private n = nat_le 1 n && nat_le n INSTANCES
 has_instance Locked n = n == 0
 
 unfoldable pub slot_at : Layout → List ℕ → Part SlotParts

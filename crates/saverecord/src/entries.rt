@@ -12,12 +12,9 @@ use super::layout::Layout;
 use super::part::{take_digest, take_flag, take_u32, take_u64};
 use super::refusal::{Flaw, RecordRefusal};
 use super::slot::{put_slot, take_slot_after};
-use farm_base::{Ask, Lease, Life, LineVersion, NodeId, NodeLife, Slot, Ticket};
+use farm_base::{Ask, Lease, Life, LineVersion, NODES, NodeId, NodeLife, Slot, Ticket};
 use std::alloc::{AllocError, Global};
 use versions::{Line, SlotLine};
-
-/// The greatest node.
-const NODES: u32 = 1024;
 
 /// The most slots of a lease.
 const SLOTS: u64 = 16;

@@ -13,12 +13,9 @@ use super::record::Record;
 use super::refusal::{Flaw, RecordRefusal};
 use super::relation::{agrees, is_at_home};
 use super::writing::MAGIC;
-use farm_base::{Items, Life, NodeId, NodeLife, Ticket};
+use farm_base::{Items, Life, NODES, NodeId, NodeLife, Ticket};
 use sha2::Sha256;
 use std::alloc::{AllocError, Global};
-
-/// The greatest node.
-const NODES: u32 = 1024;
 
 fn home_of(number: u32) -> Option<NodeId>
     ensures { result ≡ home_of number }

@@ -8,7 +8,7 @@ use Rattle.schedule.specs.declared.event.Setup.{Setup}
 use Rattle.schedule.specs.declared.refusal.ScheduleRefusal.{ScheduleRefusal}
 use Rattle.schedule.specs.declared.refusal.ScheduleRefusal.TheVariants.{BadLine, TooManyEvents, OutOfMemory, TooLarge}
 use Rattle.schedule.specs.Lines.{IsSpelled}
-use Rattle.schedule.specs.Schedules.{lines, most_events, is_filled, filled, IsSetup, AreEvents, Say, IsSchedule, HasLine, IsNoEventBehind, IsTooManyBehind, BehindSetup, IsBadBehind, IsRefused}
+use Rattle.schedule.specs.Schedules.{lines, EVENTS, is_filled, filled, IsSetup, AreEvents, Say, IsSchedule, HasLine, IsNoEventBehind, IsTooManyBehind, BehindSetup, IsBadBehind, IsRefused}
 use Rattle.schedule.proofs.UniqueLemmas.{spelled_same}
 
 -- ---- events
@@ -82,7 +82,7 @@ too_many_stops : (front : List (List ℕ)) (line : List ℕ) (more : List (List 
 too_many_stops front line more es fault h =
     let parts = parts_of front line more es fault.filled h in
     let same = zip_same (filled front) parts.before fault.events parts.zip fault.before.spelled in
-    let full : length parts.before ≡ most_events = ap length same ∙ fault.full in
+    let full : length parts.before ≡ EVENTS = ap length same ∙ fault.full in
     let whole = ap length parts.whole ∙ length-append parts.before (parts.event ∷ parts.after) in
     let few = h.few in
     omega arith

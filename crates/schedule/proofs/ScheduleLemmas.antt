@@ -23,7 +23,7 @@ use Rattle.schedule.specs.declared.refusal.ScheduleRefusal.TheVariants as schedu
 use Rattle.schedule.specs.Lines.{IsSpelled}
 use Rattle.schedule.specs.Words.{texts}
 use Rattle.schedule.specs.Refusals.{refusal_at}
-use Rattle.schedule.specs.Schedules.{lines, most_bytes, most_events, is_filled, filled, IsSetup, AreEvents, IsRefused}
+use Rattle.schedule.specs.Schedules.{lines, most_bytes, EVENTS, is_filled, filled, IsSetup, AreEvents, IsRefused}
 use Rattle.schedule.specs.Steps.{AddsLine, AreRefused, IsLineRefused}
 
 -- ---- one line
@@ -33,7 +33,7 @@ not_empty [] h = λ e. cc h
 not_empty (b ∷ line) h = λ e. cc e
 
 pub line_refused : {X : Type 0} (r : Result X LineRefusal) (refusal : LineRefusal) (line : List ℕ) (number count : ℕ) → r ≡ Err refusal
-    → line ≢ [] → count < most_events → (r ≡ Err BadLine → (e : Event) → IsSpelled line e → ⊥)
+    → line ≢ [] → count < EVENTS → (r ≡ Err BadLine → (e : Event) → IsSpelled line e → ⊥)
     → IsLineRefused line number count (refusal_at refusal number)
 line_refused r BadLine line number count is some room none = (refl, some, room, none is)
 line_refused r OutOfMemory line number count is some room none = tt

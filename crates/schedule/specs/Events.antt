@@ -1,7 +1,7 @@
 -- Maps an event to the protocol's event.
 use Rattle.std.specs.Prelude.{map}
 use Rattle.protocol.specs.Replay as replay
-use Rattle.folders.specs.Contents.{left_of}
+use Rattle.protocol.specs.Nodes.{left_of}
 use Rattle.schedule.specs.declared.event.Event.{Event}
 use Rattle.schedule.specs.declared.event.Event.TheVariants as event
 

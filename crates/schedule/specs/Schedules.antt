@@ -1,6 +1,7 @@
 -- What the text of a schedule says: a farm's setup and its events, or the first fault from the top.
 use Rattle.std.specs.Prelude.{◌≡◌, ◌≢◌, ℕ, ◌+◌, ◌*◌, ◌^◌, ◌<◌, ◌≤◌, ◌==◌, Bool, true, false, List, [], ◌∷◌, ◌++◌, length, filter, codes, decimal}
 use Rattle.std.specs.List.{AllZip, slice_split}
+pub use Rattle.farm_base.specs.declared.limits.TheConstants.{EVENTS, NODES}
 use Rattle.schedule.specs.declared.event.Event.{Event}
 use Rattle.schedule.specs.declared.event.Setup.{Setup}
 use Rattle.schedule.specs.declared.refusal.ScheduleRefusal.{ScheduleRefusal}
@@ -10,12 +11,6 @@ use Rattle.schedule.specs.Lines.{IsSpelled}
 -- 16 MiB
 abbrev pub most_bytes : ℕ
 most_bytes = 16 * 2 ^ 20
-
-abbrev pub most_events : ℕ
-most_events = 65536
-
-abbrev pub most_nodes : ℕ
-most_nodes = 1024
 
 -- the lines of a text: what stands between its line feeds
 abbrev pub lines : List ℕ → List (List ℕ)
@@ -32,12 +27,12 @@ filled ls = filter is_filled ls
 -- `nodes N`
 pub record IsSetup (line : List ℕ) (setup : Setup) : Type 0 where
   pub some : 1 ≤ setup.nodes
-  pub few : setup.nodes ≤ most_nodes
+  pub few : setup.nodes ≤ NODES
   pub text : line ≡ codes "nodes " ++ decimal setup.nodes
 
--- each line that isn't empty spells an event, and there are at most most_events
+-- each line that isn't empty spells an event, and there are at most EVENTS
 pub record AreEvents (ls : List (List ℕ)) (events : List Event) : Type 0 where
-  pub few : length events ≤ most_events
+  pub few : length events ≤ EVENTS
   pub spelled : AllZip IsSpelled (filled ls) events
 
 -- the lines say the setup, and these events
@@ -62,7 +57,7 @@ pub record HasLine (ls : List (List ℕ)) (P : List (List ℕ) → List ℕ → 
 pub record IsNoEventBehind (others : List (List ℕ)) (line : List ℕ) : Type 0 where
   pub events : List Event
   pub before : AreEvents others events
-  pub room : length events < most_events
+  pub room : length events < EVENTS
   pub filled : line ≢ []
   pub unspelled : (e : Event) → IsSpelled line e → ⊥
 
@@ -70,7 +65,7 @@ pub record IsNoEventBehind (others : List (List ℕ)) (line : List ℕ) : Type 0
 pub record IsTooManyBehind (others : List (List ℕ)) (line : List ℕ) : Type 0 where
   pub events : List Event
   pub before : AreEvents others events
-  pub full : length events ≡ most_events
+  pub full : length events ≡ EVENTS
   pub filled : line ≢ []
 
 -- the first line is a setup, and P holds of a line and the others before it

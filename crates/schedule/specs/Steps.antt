@@ -4,12 +4,12 @@ use Rattle.schedule.specs.declared.event.Event.{Event}
 use Rattle.schedule.specs.declared.refusal.ScheduleRefusal.{ScheduleRefusal}
 use Rattle.schedule.specs.declared.refusal.ScheduleRefusal.TheVariants.{BadLine, TooManyEvents, OutOfMemory, TooLarge}
 use Rattle.schedule.specs.Lines.{IsSpelled}
-use Rattle.schedule.specs.Schedules.{most_events, HasLine, IsNoEventBehind, IsTooManyBehind}
+use Rattle.schedule.specs.Schedules.{EVENTS, HasLine, IsNoEventBehind, IsTooManyBehind}
 
 -- the events before a line and after it: a line that isn't empty adds its own
 pub record AddsEvent (old : List Event) (line : List ℕ) (new : List Event) : Type 0 where
   pub event : Event
-  pub room : length old < most_events
+  pub room : length old < EVENTS
   pub spelled : IsSpelled line event
   pub added : new ≡ old ++ event ∷ []
 
@@ -27,6 +27,6 @@ AreRefused ls OutOfMemory = Unit {0}
 -- why the line with this number is refused, after count events
 abbrev pub IsLineRefused : List ℕ → ℕ → ℕ → ScheduleRefusal → Type 0
 IsLineRefused line number count TooLarge = ⊥
-IsLineRefused line number count (BadLine n) = (n ≡ number) × (line ≢ []) × (count < most_events) × ((e : Event) → IsSpelled line e → ⊥)
-IsLineRefused line number count TooManyEvents = (line ≢ []) × (most_events ≤ count)
+IsLineRefused line number count (BadLine n) = (n ≡ number) × (line ≢ []) × (count < EVENTS) × ((e : Event) → IsSpelled line e → ⊥)
+IsLineRefused line number count TooManyEvents = (line ≢ []) × (EVENTS ≤ count)
 IsLineRefused line number count OutOfMemory = Unit {0}

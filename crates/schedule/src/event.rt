@@ -1,7 +1,6 @@
 ghost use Rattle.std.specs.Prelude.{◌≡◌, IfOk};
 
-use farm_base::{Copied, FolderName, Items, NodeId, Slot, Ticket, Wants};
-use folders::Content;
+use farm_base::{Content, Copied, FolderName, Items, NodeId, Slot, Ticket, Wants};
 use std::alloc::{AllocError, Global};
 
 /// How a farm is set up.

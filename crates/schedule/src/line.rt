@@ -13,8 +13,7 @@ use super::refusal::LineRefusal;
 use super::verb::{Verb, verb_of};
 use super::word::{bytes_of, folder_of, left_of, node_of, slot_of, ticket_of, want_of};
 use farm_base::reading::number;
-use farm_base::{Items, Mode, Slot, Want, Wants};
-use folders::Content;
+use farm_base::{Content, Items, Mode, Slot, Want, Wants};
 use std::alloc::{AllocError, Global};
 
 /// `deliver K`.

@@ -9,14 +9,11 @@ use super::event::{Event, Setup};
 use super::line::event_of;
 use super::refusal::ScheduleRefusal;
 use farm_base::reading::{after, number};
+use farm_base::{EVENTS, NODES};
 use std::alloc::Global;
 
 /// The greatest size of a text: 16 MiB.
 const MOST_BYTES: usize = 16 << 20;
-
-const MOST_EVENTS: usize = 65_536;
-
-const MOST_NODES: u64 = 1024;
 
 /// The setup that a line spells.
 fn setup_of(line: &[u8]) -> Option<Setup>
@@ -27,7 +24,8 @@ fn setup_of(line: &[u8]) -> Option<Setup>
         return None;
     };
     let nodes = number(after(text, "nodes ")?)?;
-    if 1 <= nodes && nodes <= MOST_NODES {
+    let most = NODES as u64;
+    if 1 <= nodes && nodes <= most {
         Some(Setup {
             nodes: nodes as u32,
         })
@@ -49,7 +47,7 @@ fn push_event(
     if line.is_empty() {
         return Ok(());
     }
-    if events.len() >= MOST_EVENTS {
+    if events.len() >= EVENTS {
         return Err(ScheduleRefusal::TooManyEvents);
     }
     match event_of(alloc, line) {

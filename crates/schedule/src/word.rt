@@ -15,9 +15,9 @@ ghost use Rattle.schedule.specs.Lines.{node_text, ticket_text, want_text, left_t
 use super::refusal::LineRefusal;
 use farm_base::reading::{after, number};
 use farm_base::{
-    FolderName, FolderRefusal, NodeId, Slot, SlotRefusal, Ticket, Want, are_bytes, is_name, is_slot,
+    Content, FolderName, FolderRefusal, NodeId, Slot, SlotRefusal, Ticket, Want, are_bytes,
+    is_name, is_slot,
 };
-use folders::Content;
 use std::alloc::Global;
 
 /// The node of a word.

@@ -4,7 +4,7 @@ ghost use Rattle.std.specs.List.{list_any};
 ghost use Rattle.std.specs.List.Sorted.{IsStrictlySortedBy};
 ghost use Rattle.std.specs.Vec.{vec_capacity};
 ghost use Rattle.farm_base.specs.Slots.{slot_cmp};
-ghost use Rattle.folders.specs.Farm.{empty_digest};
+ghost use Rattle.farm_base.specs.Contents.{empty_digest};
 ghost use Rattle.protocol.specs.Lists.{is_nil};
 ghost use Rattle.protocol.specs.Names.{slot_eq};
 ghost use Rattle.protocol.specs.Machine.{digest_for};
@@ -15,8 +15,7 @@ ghost use Rattle.versions.specs.Ordered.{AreLines, IsPlace, IsGap, slots};
 ghost use Rattle.versions.specs.Lines.{lines_with, news_of, added_count};
 
 use super::line::{Line, Room};
-use farm_base::{Confirmed, Copied, Digest, GrantedSlot, News, Slot, Ticket};
-use folders::Content;
+use farm_base::{Confirmed, Copied, Digest, GrantedSlot, News, Slot, Ticket, empty_digest};
 use std::alloc::{AllocError, Global};
 use std::cmp::Ordering;
 use std::marker::Model;
@@ -59,14 +58,6 @@ pub struct Added {
 struct Base {
     number: u64,
     digest: Digest,
-}
-
-/// The digest of the empty content.
-#[tactic(auto, unfolding(folders::specs::Farm::empty_digest))]
-fn empty_digest(alloc: Global) -> Digest
-    ensures { result ≡ empty_digest }
-{
-    Content::of(Vec::new(alloc)).digest()
 }
 
 /// The lines of the slots that have a version, by rising slot. Contracts see the list of the lines.

@@ -1,6 +1,7 @@
 -- A call makes a node send one message at most.
 use Rattle.std.proofs.Common.{◌≡◌, ℕ, ◌≤◌, suc, Bool, true, false, not, ◌&&◌, nat_lt, List, [], ◌∷◌, length, Option, Some, None, Ok, refl, ap, ◌∙◌, subst, arith, map, if◌then◌else◌}
-use Rattle.folders.specs.Contents.{content_digest, left_of}
+use Rattle.farm_base.specs.Contents.{content_digest}
+use Rattle.protocol.specs.Nodes.{left_of}
 use Rattle.protocol.specs.Machine.{slots_of, written}
 use Rattle.protocol.specs.Names.{Ticket, Want, Shared, slots_eq, tenure_wants}
 use Rattle.protocol.specs.World.{Node, Running, keep}
@@ -8,7 +9,7 @@ use Rattle.protocol.specs.Nodes.{Place, Left, Held, NodeWork, NodeAnswer, guard,
 use Rattle.protocol.specs.declared.answer.NodeRefusal.{NodeRefusal}
 use Rattle.protocol.specs.declared.answer.NodeRefusal.TheVariants as refusal
 use Rattle.protocol.specs.declared.answer.NodeNote.TheVariants as note
-use Rattle.folders.specs.Farm.{farm_limits}
+use Rattle.protocol.specs.Farm.{farm_limits}
 use Rattle.std.specs.List.{list_any}
 use Rattle.nodecore.specs.declared.message.Message as sent
 use Rattle.nodecore.specs.declared.message.NodeDone.{NodeDone}

@@ -1,8 +1,8 @@
 -- What an event came to is what it means.
 use Rattle.std.proofs.Common.{◌≡◌, ℕ, Bool, true, false, List, ◌++◌, map, Option, Some, None, Result, Ok, Err, refl, sym, ap, ◌∙◌, subst}
 use Rattle.std.specs.Prelude.{nat_lt}
-use Rattle.folders.specs.Contents.{content_digest}
-use Rattle.folders.specs.Farm.{farm_limits}
+use Rattle.farm_base.specs.Contents.{content_digest}
+use Rattle.protocol.specs.Farm.{farm_limits}
 use Rattle.farm_base.specs.declared.message.Request.TheVariants.{Acquire}
 use Rattle.farm_base.specs.declared.message.FromCoord.TheVariants as told
 use Rattle.protocol.specs.Lists.{In, nth}

@@ -1,7 +1,8 @@
 -- The limits of a farm are those of its contents.
 use Rattle.std.proofs.Common.{arith, refl}
-use Rattle.folders.specs.Contents.{content_digest}
-use Rattle.folders.specs.Farm.{farm_limits, empty_digest}
+use Rattle.farm_base.specs.Contents.{content_digest}
+use Rattle.protocol.specs.Farm.{farm_limits}
+use Rattle.farm_base.specs.Contents.{empty_digest}
 use Rattle.protocol.specs.Follows.{IsFarm}
 
 pub is_farm : IsFarm content_digest farm_limits

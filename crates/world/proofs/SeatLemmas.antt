@@ -11,11 +11,11 @@ use Rattle.protocol.specs.Names.{NodeId}
 use Rattle.protocol.specs.World.{Node, first_node}
 use Rattle.protocol.specs.Nodes.{Place, NodeAnswer, may_restart, restarted}
 use Rattle.protocol.specs.declared.answer.NodeRefusal.TheVariants as refusal
-use Rattle.folders.specs.Farm.{farm_limits}
+use Rattle.protocol.specs.Farm.{farm_limits}
 use Rattle.protocol.specs.declared.answer.NodeRefusal.{NodeRefusal}
 use Rattle.nodecore.specs.declared.message.NodeDone.{NodeDone}
 use Rattle.protocol.proofs.Base.{nth_set_cases, nth-set_same, nth-set_other, nth_push_cases}
-use Rattle.folders.specs.Contents.{content_digest}
+use Rattle.farm_base.specs.Contents.{content_digest}
 use Rattle.nodecore.specs.declared.node_core.NodeCore.{NodeCore}
 use Rattle.nodecore.specs.Shown.{shown, place, work_of, Answers}
 use Rattle.world.specs.Tables.{node_at, shown_or_first, seat, IsSeated, AreSeated, AreFirstOf, AreFirst, OnlyNode, Restarts}

@@ -1,7 +1,7 @@
 -- What is promised of one event of a world.
 use Rattle.std.specs.Prelude.{◌≡◌, ℕ, nat_lt, false, List, Some, IfOk, OnOk, IsOkUnless, Result, Err, ⊤}
-use Rattle.folders.specs.Contents.{content_digest}
-use Rattle.folders.specs.Farm.{farm_limits}
+use Rattle.farm_base.specs.Contents.{content_digest}
+use Rattle.protocol.specs.Farm.{farm_limits}
 use Rattle.farm_base.specs.declared.message.Request.TheVariants.{Acquire}
 use Rattle.farm_base.specs.declared.message.FromCoord.TheVariants as told
 use Rattle.protocol.specs.Lists.{In, nth}

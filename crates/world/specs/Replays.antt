@@ -1,7 +1,7 @@
 -- What is promised of a schedule.
 use Rattle.std.specs.Prelude.{◌≡◌, ℕ, List, ◌++◌}
-use Rattle.folders.specs.Contents.{content_digest}
-use Rattle.folders.specs.Farm.{farm_limits}
+use Rattle.farm_base.specs.Contents.{content_digest}
+use Rattle.protocol.specs.Farm.{farm_limits}
 use Rattle.protocol.specs.Replay.{Event, run, opening}
 use Rattle.protocol.specs.Follows.{SafeBetween}
 use Rattle.protocol.specs.Chronicle.{Headline}

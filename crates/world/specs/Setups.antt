@@ -1,8 +1,9 @@
 -- How many nodes a farm may have.
 use Rattle.std.specs.Prelude.{◌≤◌}
+use Rattle.farm_base.specs.declared.limits.TheConstants.{NODES}
 use Rattle.schedule.specs.declared.event.Setup.{Setup}
 
--- 1 to 1,024
+-- from 1 on
 pub record IsSetup (s : Setup) : Type 0 where
   pub least : 1 ≤ s.nodes
-  pub greatest : s.nodes ≤ 1024
+  pub greatest : s.nodes ≤ NODES

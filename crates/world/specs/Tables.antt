@@ -1,7 +1,8 @@
 -- The nodes of a farm by their numbers, and what an event asks of one.
 use Rattle.std.specs.Prelude.{◌≡◌, ℕ, Bool, true, false, ◌&&◌, nat_le, List, length, map, All, Option, Some, None, Result, Ok, Err}
-use Rattle.folders.specs.Contents.{content_digest, left_of}
-use Rattle.folders.specs.Farm.{farm_limits}
+use Rattle.farm_base.specs.Contents.{content_digest}
+use Rattle.protocol.specs.Nodes.{left_of}
+use Rattle.protocol.specs.Farm.{farm_limits}
 use Rattle.protocol.specs.Lists.{nth, put}
 use Rattle.protocol.specs.Names.{NodeId}
 use Rattle.protocol.specs.World.{Node, first_node}

@@ -1,6 +1,6 @@
 -- What an event of the world comes to.
 use Rattle.std.specs.Prelude.{◌≡◌, ℕ, zero, suc, ◌+◌, ◌<◌, ◌≤◌, true, if◌then◌else◌, length, Result, Ok, Err}
-use Rattle.folders.specs.Farm.{farm_limits}
+use Rattle.protocol.specs.Farm.{farm_limits}
 use Rattle.protocol.specs.Names.{NodeId}
 use Rattle.protocol.specs.Ledger.{handled, retired, begin_work}
 use Rattle.protocol.specs.Replay.{Farm, Turn, is_node, at, restarts, coordinated, refused}

@@ -2,8 +2,7 @@ ghost use Rattle.nodecore.specs.Shown.{shown, place, Answers};
 ghost use Rattle.world.specs.Tables.{called};
 ghost use Rattle.std.specs.Prelude.{◌≡◌};
 
-use farm_base::{FolderName, Items, NodeId, Slot, Ticket, Wants};
-use folders::Content;
+use farm_base::{Content, FolderName, Items, NodeId, Slot, Ticket, Wants};
 use nodecore::{NodeCore, NodeDone, ToNode};
 use protocol::NodeRefusal;
 use std::alloc::Global;

@@ -1,6 +1,7 @@
 ghost use Rattle.std.specs.Prelude.{◌≡◌, ◌↔◌, ℕ, ◌≤◌, ◌<◌, IfOk, OnOk, map, length};
-ghost use Rattle.folders.specs.Contents.{content_digest};
-ghost use Rattle.folders.specs.Farm.{farm_limits};
+ghost use Rattle.farm_base.specs.Contents.{content_digest};
+ghost use Rattle.farm_base.specs.declared.limits.TheConstants.{EVENTS};
+ghost use Rattle.protocol.specs.Farm.{farm_limits};
 ghost use Rattle.protocol.specs.World.{start};
 ghost use Rattle.protocol.specs.Follows.{SafeAfter};
 ghost use Rattle.protocol.specs.Chronicle.{Chronicle};
@@ -11,14 +12,11 @@ ghost use Rattle.world.specs.Shown.{shown};
 ghost use Rattle.world.specs.Replays.{StaysSafe, KeepsHeadline};
 
 use super::world::{World, is_setup};
-use farm_base::Copied;
+use farm_base::{Copied, EVENTS};
 use protocol::{EventRefusal, every_schedule_is_safe, every_schedule_means};
 use schedule::{Event, Setup};
 use std::alloc::{AllocError, Global};
 use thiserror::Error;
-
-/// The greatest number of events in a schedule.
-pub const EVENTS: usize = 65_536;
 
 /// Why a schedule is not replayed.
 #[derive(Clone, Copy, Debug, PartialEq, Eq, Error)]
@@ -57,10 +55,10 @@ pub fn replay(alloc: Global, setup: Setup, events: &[Event]) -> Result<World, Re
 
     // A setup out of range is reported as such, also with too many events.
     ensures setup { (result ≡ Err ReplayRefusal.BadSetup) ↔ (IsSetup setup → ⊥) }
-    ensures events { (result ≡ Err ReplayRefusal.TooManyEvents) ↔ (IsSetup setup × (65536 < length events.now)) }
-    ensures memory { (place : ℕ) → result ≡ Err (ReplayRefusal.OutOfMemory place) → IsSetup setup × (length events.now ≤ 65536) × (place ≤ length events.now) }
+    ensures events { (result ≡ Err ReplayRefusal.TooManyEvents) ↔ (IsSetup setup × (EVENTS < length events.now)) }
+    ensures memory { (place : ℕ) → result ≡ Err (ReplayRefusal.OutOfMemory place) → IsSetup setup × (length events.now ≤ EVENTS) × (place ≤ length events.now) }
     ensures within { IfOk result (λ w. IsSetup setup) }
-    ensures few { IfOk result (λ w. length events.now ≤ 65536) }
+    ensures few { IfOk result (λ w. length events.now ≤ EVENTS) }
 {
     if !is_setup(setup) {
         return Err(ReplayRefusal::BadSetup);

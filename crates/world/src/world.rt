@@ -1,6 +1,6 @@
 ghost use Rattle.std.specs.Prelude.{Ok, None, ◌≡◌, ◌↔◌, IsTrue, IfOk, IfSome, map, length, is_some, option_map, option_copied};
-ghost use Rattle.folders.specs.Contents.{content_digest};
-ghost use Rattle.folders.specs.Farm.{farm_limits};
+ghost use Rattle.farm_base.specs.Contents.{content_digest};
+ghost use Rattle.protocol.specs.Farm.{farm_limits};
 ghost use Rattle.protocol.specs.Lists.{nth};
 ghost use Rattle.protocol.specs.Ledger.{begin_work, withdrawn, pruned, nudged};
 ghost use Rattle.protocol.specs.Replay.{opening, step, node_does, is_node, delivered, coordinated};
@@ -19,7 +19,7 @@ use super::call::Call;
 use super::nodes::{Nodes, told_node};
 use super::pool::{message_at, place_in, send_coordinator, send_node};
 use coordinator::Coordinator;
-use farm_base::{NodeId, Slot, Ticket};
+use farm_base::{NODES, NodeId, Slot, Ticket};
 use nodecore::{Message, NodeCore};
 use protocol::{
     CoordRefusal, EventRefusal, NodeRefusal, Outcome, a_fitting_message_is_granted,
@@ -50,7 +50,7 @@ pub enum StartRefusal {
 pub(crate) fn is_setup(setup: Setup) -> bool
     ensures { IsTrue result ↔ IsSetup setup }
 {
-    1 <= setup.nodes && setup.nodes <= 1024
+    1 <= setup.nodes && setup.nodes <= NODES
 }
 
 /// The event's refusal that a node's is.

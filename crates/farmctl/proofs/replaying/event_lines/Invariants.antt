@@ -1,8 +1,8 @@
 use Rattle.std.proofs.Common.{◌≡◌, ◌+◌, ◌++◌, ◌<◌, ◌^◌, length, map}
 use Rattle.std.specs.String.{string_bytes}
 use Rattle.std.specs.Vec.Iter.{into_iter_items, into_iter_len}
-use Rattle.folders.specs.Contents.{content_digest}
-use Rattle.folders.specs.Farm.{farm_limits}
+use Rattle.farm_base.specs.Contents.{content_digest}
+use Rattle.protocol.specs.Farm.{farm_limits}
 use Rattle.protocol.specs.Replay.{run}
 use Rattle.schedule.specs.Events.{event_of}
 use Rattle.world.specs.Shown.{shown}

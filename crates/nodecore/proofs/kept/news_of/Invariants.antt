@@ -1,5 +1,5 @@
 use Rattle.std.proofs.Common.{◌≡◌, ◌++◌, drop, map}
-use Rattle.folders.specs.Contents.{content_digest}
+use Rattle.farm_base.specs.Contents.{content_digest}
 use Rattle.protocol.specs.Nodes.{news_of}
 use Rattle.nodecore.specs.Shown.{left_of}
 use Rattle.nodecore.proofs.kept.news_of.Given as goal

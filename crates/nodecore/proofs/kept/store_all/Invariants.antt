@@ -1,6 +1,6 @@
 use Rattle.std.proofs.Common.{◌≡◌, ◌+◌, ◌≤◌, length, map, vec_len}
 use Rattle.indexmap.specs.IndexMap.{spare}
-use Rattle.folders.specs.Contents.{content_digest}
+use Rattle.farm_base.specs.Contents.{content_digest}
 use Rattle.protocol.specs.Nodes.{stored}
 use Rattle.nodecore.specs.Shown.{left_of, store_in}
 use Rattle.nodecore.proofs.kept.store_all.Given as goal

@@ -1,7 +1,7 @@
 use Rattle.std.proofs.Common.{◌≡◌, [], List, drop, map, ap, sym, ◌∙◌, subst, arith}
 use Rattle.std.proofs.lemmas.Grind.{common_steps}
-use Rattle.folders.specs.Contents.{content_digest}
-use Rattle.folders.specs.Farm.{farm_limits}
+use Rattle.farm_base.specs.Contents.{content_digest}
+use Rattle.protocol.specs.Farm.{farm_limits}
 use Rattle.protocol.specs.Follows.{SafeAfter}
 use Rattle.protocol.specs.Replay.{opening, run}
 use Rattle.schedule.specs.declared.event.Event.{Event}

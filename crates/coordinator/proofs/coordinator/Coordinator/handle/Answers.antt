@@ -1,5 +1,5 @@
 use Rattle.std.proofs.Common.{◌≡◌, List, sym, ap, ◌∙◌, subst}
-use Rattle.folders.specs.Farm.{farm_limits}
+use Rattle.protocol.specs.Farm.{farm_limits}
 use Rattle.protocol.specs.Machine.{ToCoord, FromCoord}
 use Rattle.protocol.specs.Ledger.{Ledger, Work, begin_work, handled}
 use Rattle.protocol.specs.declared.answer.CoordNote.{CoordNote}

@@ -1,5 +1,5 @@
 use Rattle.std.proofs.Common.{◌≡◌, length, ap, arith}
-use Rattle.folders.specs.Farm.{farm_limits}
+use Rattle.protocol.specs.Farm.{farm_limits}
 use Rattle.coordinator.specs.Held.{Held, ledger}
 use Rattle.coordinator.proofs.Sends.{handled_few}
 use Rattle.coordinator.proofs.coordinator.Coordinator.most_sends.Goals as goal

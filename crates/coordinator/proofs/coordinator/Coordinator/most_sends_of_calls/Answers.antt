@@ -1,5 +1,5 @@
 use Rattle.std.proofs.Common.{◌≡◌, length, ap, arith}
-use Rattle.folders.specs.Farm.{farm_limits}
+use Rattle.protocol.specs.Farm.{farm_limits}
 use Rattle.coordinator.specs.Held.{Held, ledger}
 use Rattle.coordinator.proofs.OwnSends.{withdrawn_few, retired_few, pruned_none}
 use Rattle.coordinator.proofs.coordinator.Coordinator.most_sends_of_calls.Goals as goal

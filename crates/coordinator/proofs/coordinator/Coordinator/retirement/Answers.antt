@@ -1,6 +1,6 @@
 use Rattle.std.proofs.Common.{◌≡◌, List, ap, ◌∙◌}
 use Rattle.std.specs.Result.{result_err}
-use Rattle.folders.specs.Farm.{farm_limits}
+use Rattle.protocol.specs.Farm.{farm_limits}
 use Rattle.protocol.specs.Ledger.{Work, retired}
 use Rattle.versions.specs.declared.lines.SlotLine.{SlotLine}
 use Rattle.coordinator.specs.Held.{Held, line_at}

@@ -1,5 +1,5 @@
 use Rattle.std.proofs.Common.{◌≡◌, false, List, ap, sym, ◌∙◌}
-use Rattle.folders.specs.Farm.{farm_limits}
+use Rattle.protocol.specs.Farm.{farm_limits}
 use Rattle.protocol.specs.Machine.{Parked}
 use Rattle.protocol.specs.Ledger.{Work, decision, decided, lease_of, is_parked}
 use Rattle.coordinator.specs.Shown.{LineOf, shown, lines_with}

@@ -1,5 +1,5 @@
 use Rattle.std.proofs.Common.{ap, sym, ◌∙◌, subst}
-use Rattle.folders.specs.Farm.{farm_limits}
+use Rattle.protocol.specs.Farm.{farm_limits}
 use Rattle.coordinator.specs.Held.{line_at}
 use Rattle.coordinator.specs.Shown.{LineOf, shown}
 use Rattle.coordinator.specs.Sound.{IsSound}

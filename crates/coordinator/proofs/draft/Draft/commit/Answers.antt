@@ -1,5 +1,5 @@
 use Rattle.std.proofs.Common.{◌≡◌, true, Bool, List, Some, ◌++◌, refl, ap, sym, ◌∙◌, subst}
-use Rattle.folders.specs.Farm.{farm_limits}
+use Rattle.protocol.specs.Farm.{farm_limits}
 use Rattle.protocol.specs.declared.answer.CoordNote.TheVariants as note
 use Rattle.coordinator.specs.Held.{line_at}
 use Rattle.coordinator.specs.Shown.{LineOf, shown, kept, lines_with}

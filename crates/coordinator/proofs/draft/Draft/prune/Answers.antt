@@ -1,5 +1,6 @@
 use Rattle.std.proofs.Common.{◌≡◌, ◌+◌, ◌++◌, ◌∷◌, [], true, cond, Some, Ok, ap, sym, ◌∙◌, subst, refl}
-use Rattle.folders.specs.Farm.{empty_digest, farm_limits}
+use Rattle.farm_base.specs.Contents.{empty_digest}
+use Rattle.protocol.specs.Farm.{farm_limits}
 use Rattle.leases.specs.Tickets.{Tickets, advanced}
 use Rattle.protocol.specs.Names.{slot_eq, Ticket}
 use Rattle.protocol.specs.declared.answer.CoordNote.TheVariants as note

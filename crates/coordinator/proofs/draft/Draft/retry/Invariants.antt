@@ -1,7 +1,7 @@
 use Rattle.std.proofs.Common.{◌≡◌, ◌++◌, drop}
 use Rattle.std.specs.Prelude.{All}
 use Rattle.farm_base.specs.Wanted.{IsWants}
-use Rattle.folders.specs.Farm.{farm_limits}
+use Rattle.protocol.specs.Farm.{farm_limits}
 use Rattle.protocol.specs.Ledger.{try_all, waiting}
 use Rattle.coordinator.specs.Shown.{kept, shown, lines_with}
 use Rattle.coordinator.specs.Sound.{IsSound}

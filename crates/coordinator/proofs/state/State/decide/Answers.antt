@@ -1,5 +1,5 @@
 use Rattle.std.proofs.Common.{◌≡◌, true, false, refl, sym, ◌∙◌}
-use Rattle.folders.specs.Farm.{farm_limits}
+use Rattle.protocol.specs.Farm.{farm_limits}
 use Rattle.coordinator.specs.Shown.{kept}
 use Rattle.coordinator.proofs.StateWords.{decision-elsewhere, decision-instances, decision-busy, decision-give, decision-tickets}
 use Rattle.coordinator.proofs.state.State.decide.Goals as goal

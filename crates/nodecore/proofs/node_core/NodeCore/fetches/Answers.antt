@@ -1,6 +1,6 @@
 use Rattle.std.proofs.Common.{rules, ◌≡◌, ◌<◌, ◌+◌, suc, ◌∷◌, [], ◌++◌, List, true, false, length, drop, map, get_or, ap, sym, ◌∙◌, append_assoc, append-nil, arith}
 use Rattle.std.proofs.Math.Seq.{drop-cons}
-use Rattle.folders.specs.Farm.{farm_limits}
+use Rattle.protocol.specs.Farm.{farm_limits}
 use Rattle.protocol.specs.Machine.{Message, GrantedSlot}
 use Rattle.protocol.specs.Nodes.{fetches, fetches_of, is_missing}
 use Rattle.nodecore.specs.Asks.{message_of}

@@ -1,5 +1,5 @@
 use Rattle.std.proofs.Common.{◌≡◌, ◌++◌, drop, map}
-use Rattle.folders.specs.Farm.{farm_limits}
+use Rattle.protocol.specs.Farm.{farm_limits}
 use Rattle.protocol.specs.Nodes.{fetches}
 use Rattle.nodecore.specs.Asks.{message_of}
 use Rattle.nodecore.specs.Shown.{shown, place}

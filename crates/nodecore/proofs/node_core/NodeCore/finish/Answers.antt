@@ -4,7 +4,7 @@ use Rattle.protocol.specs.Nodes.{running, in_use}
 use Rattle.nodecore.specs.declared.asks.KeptAsk.{KeptAsk}
 use Rattle.nodecore.specs.declared.asks.Stage.TheVariants as stage
 use Rattle.nodecore.specs.Asks.{shown_ask, slots_in}
-use Rattle.folders.specs.Contents.{content_digest}
+use Rattle.farm_base.specs.Contents.{content_digest}
 use Rattle.protocol.specs.Machine.{GrantedSlot, slots_of, written}
 use Rattle.protocol.specs.Names.{Slot, slots_eq}
 use Rattle.protocol.specs.Nodes.{news_of}

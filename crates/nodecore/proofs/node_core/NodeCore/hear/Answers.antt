@@ -1,7 +1,7 @@
 use Rattle.std.proofs.Common.{rules, ◌≡◌, ◌==◌, true, List, ap, sym, ◌∙◌, subst}
 use Rattle.farm_base.specs.declared.message.FromCoord.{FromCoord}
 use Rattle.farm_base.specs.declared.message.FromCoord.TheVariants as coord
-use Rattle.folders.specs.Farm.{farm_limits}
+use Rattle.protocol.specs.Farm.{farm_limits}
 use Rattle.protocol.specs.Names.{Life}
 use Rattle.protocol.specs.Machine.{Confirmed}
 use Rattle.protocol.specs.Nodes.{NodeWork, heard, learned, dropped, recalled, first, finished, recallable}

@@ -2,7 +2,7 @@ use Rattle.std.proofs.Common.{◌≡◌, ◌+◌, ◌<◌, ◌∷◌, [], ℕ, L
 use Rattle.std.proofs.lemmas.Grind.{common_steps}
 use Rattle.std.proofs.lemmas.List.{length-map}
 use Rattle.std.proofs.lemmas.Option.{get_or_from_slice_get}
-use Rattle.folders.specs.Contents.{content_digest}
+use Rattle.farm_base.specs.Contents.{content_digest}
 use Rattle.protocol.specs.Names.{Slot, Digest}
 use Rattle.protocol.specs.Machine.{News, commit}
 use Rattle.protocol.specs.World.{Finished}

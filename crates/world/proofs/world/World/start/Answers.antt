@@ -2,7 +2,7 @@ use Rattle.std.proofs.Common.{ap, map}
 use Rattle.protocol.specs.Ledger.{saves}
 use Rattle.protocol.specs.Replay.{opening}
 use Rattle.nodecore.specs.Asks.{message_of}
-use Rattle.folders.specs.Contents.{content_digest}
+use Rattle.farm_base.specs.Contents.{content_digest}
 use Rattle.world.proofs.SeatLemmas.{all_first}
 use Rattle.world.proofs.world.World.start.Goals as goal
 

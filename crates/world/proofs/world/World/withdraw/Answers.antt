@@ -1,6 +1,6 @@
 use Rattle.std.proofs.Common.{◌≤◌, length, arith}
 use Rattle.std.proofs.lemmas.Grind.{common_steps}
-use Rattle.folders.specs.Farm.{farm_limits}
+use Rattle.protocol.specs.Farm.{farm_limits}
 use Rattle.protocol.specs.Ledger.{begin_work, withdrawn}
 use Rattle.coordinator.specs.Held.{ledger}
 use Rattle.world.proofs.CallLemmas.{sends_fit}

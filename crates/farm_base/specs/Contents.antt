@@ -1,14 +1,12 @@
 -- What a version of a slot holds: any bytes, known by their digest.
-use Rattle.std.specs.Prelude.{ℕ, List}
+use Rattle.std.specs.Prelude.{ℕ, List, []}
 use Rattle.sha2.specs.Sha256.{sha256}
 use Rattle.farm_base.specs.declared.digest.Digest.{Digest}
-use Rattle.protocol.specs.Names.{Slot}
-use Rattle.protocol.specs.Nodes.{Left}
 
 -- the digest of a content: SHA-256, as FIPS 180-4 defines it in section 6.2, of its bytes
 abbrev pub content_digest : List ℕ → Digest
 content_digest bytes = record { 0 = sha256 bytes }
 
--- what an execution leaves in a slot
-abbrev pub left_of : Slot × List ℕ → Left
-left_of x = record { slot = x.0; content = x.1 }
+-- the digest of the empty content
+unfoldable pub empty_digest : Digest
+empty_digest = content_digest []

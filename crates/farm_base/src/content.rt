@@ -1,8 +1,9 @@
 ghost use Rattle.std.specs.Prelude.{◌≡◌};
 ghost use Rattle.farm_base.specs.Digests.{IsBytes, IsDigest};
-ghost use Rattle.folders.specs.Contents.{content_digest};
+ghost use Rattle.farm_base.specs.Contents.{content_digest, empty_digest};
 
-use farm_base::{Copied, Digest, are_bytes};
+use super::copied::Copied;
+use super::digest::{Digest, are_bytes};
 use sha2::Sha256;
 use std::alloc::{AllocError, Global};
 use std::marker::Model;
@@ -16,7 +17,7 @@ pub struct Content {
 
 impl Model for Content {
     ghost use Rattle.std.specs.Prelude.{◌≡◌, ℕ, List};
-    ghost use Rattle.folders.specs.Contents.{content_digest};
+    ghost use Rattle.farm_base.specs.Contents.{content_digest};
 
     ghost Value = { List ℕ };
 
@@ -50,6 +51,14 @@ impl Content {
         are_bytes(bytes);
         bytes
     }
+}
+
+/// The digest of the empty content.
+#[tactic(auto, unfolding(crate::specs::Contents::empty_digest))]
+pub fn empty_digest(alloc: Global) -> Digest
+    ensures { result ≡ empty_digest }
+{
+    Content::of(Vec::new(alloc)).digest()
 }
 
 impl Copied for Content {
