@@ -19,8 +19,8 @@ use Rattle.farm_base.proofs.CompareLaws.{folder_equivalence, folder_decides}
 use Rattle.farm_base.proofs.NameLaws.{folder_exact}
 use Rattle.opsproto.specs.Scalars.{Text}
 use Rattle.opsproto.specs.declared.exec.Mount.{Mount}
+use Rattle.lists.proofs.Places.{take_push}
 use Rattle.vertices.specs.OpChecks.{cache_count}
-use Rattle.vertices.proofs.EntryLemmas.{take_push}
 use Rattle.cachemounts.specs.Adding.{Adds}
 use Rattle.cachemounts.specs.CacheFolders.{HasFolder}
 use Rattle.cachemounts.proofs.FolderLemmas.{one_folder}

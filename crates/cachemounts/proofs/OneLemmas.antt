@@ -1,9 +1,7 @@
 -- A vertex has one list of wants.
 use Rattle.std.proofs.Common.{◌≡◌, ℕ, zero, suc, ◌⊎◌, inl, inr, Bool, true, false, List, [], ◌∷◌, refl, sym, ap, ◌∙◌, subst, arith}
-use Rattle.std.specs.List.{AllByRecursion, Contains}
+use Rattle.std.specs.List.{Contains}
 use Rattle.std.specs.List.Sorted.{IsStrictlySortedBy}
-use Rattle.std.specs.Ordering.{ordering_reverse}
-use Rattle.std.specs.declared.cmp.Ordering.TheVariants.{Less}
 use Rattle.std.proofs.lemmas.Bool.{cases_Bool}
 use Rattle.farm_base.specs.declared.digest.Key.{Key}
 use Rattle.farm_base.specs.declared.folder.Base.{Base}
@@ -14,59 +12,14 @@ use Rattle.farm_base.specs.Wanted.{folders, IsWants}
 use Rattle.farm_base.proofs.CompareLaws.{folder_total}
 use Rattle.opsproto.specs.Scalars.{Text}
 use Rattle.opsproto.specs.declared.exec.Mount.{Mount}
+use Rattle.lists.proofs.Places.{Contains-cases}
+use Rattle.lists.proofs.Rising.{behind, same_rising}
 use Rattle.vertices.specs.Loading.{GraphParts}
-use Rattle.vertices.proofs.SortingLemmas.{Contains-cases}
 use Rattle.cachemounts.specs.CacheWants.{to_write, AreWantsOf, AreWants}
 use Rattle.cachemounts.proofs.MountLemmas.{one_has}
 
--- a folder isn't below one that is below it
-not_below_both : (one other : FolderName) → folder_cmp one other ≡ Less → folder_cmp other one ≡ Less → ⊥
-not_below_both one other h k =
-    let turned = folder_total.antisymm one other in
-    let greater : Less ≡ ordering_reverse Less = sym h ∙ turned ∙ ap ordering_reverse k in
-    cc greater
-
-below_each : (folder : FolderName) (wants : List Want) (want : Want) → AllByRecursion (λ other. folder_cmp folder other ≡ Less) (folders wants)
-    → Contains wants want → folder_cmp folder want.folder ≡ Less
-below_each folder [] want all (k, less, is) = absurd (omega arith)
-below_each folder (w ∷ wants) want all (zero, less, is) = subst (λ (x : Want). folder_cmp folder x.folder ≡ Less) is all.0
-below_each folder (w ∷ wants) want all (suc k, less, is) = below_each folder wants want all.1 (k, omega arith, is)
-
--- wants that rise, and have the same elements, are the same
-rising_same : (one other : List Want) → IsStrictlySortedBy folder_cmp (folders one) → IsStrictlySortedBy folder_cmp (folders other)
-    → ((want : Want) → Contains one want → Contains other want) → ((want : Want) → Contains other want → Contains one want) → one ≡ other
-unfolding IsStrictlySortedBy
-rising_same [] [] h k to from = refl
-rising_same [] (y ∷ other) h k to from = let c = from y (0, omega arith, refl) in absurd (omega (arith, c.1))
-rising_same (x ∷ one) [] h k to from = let c = to x (0, omega arith, refl) in absurd (omega (arith, c.1))
-rising_same (x ∷ one) (y ∷ other) h k to from =
-    let same : x ≡ y = first (Contains-cases y other x (to x (0, omega arith, refl))) (Contains-cases x one y (from y (0, omega arith, refl))) in
-    let rest : one ≡ other = rising_same one other h.1 k.1
-    (λ want c. elim (Contains-cases y other want (to want (later x one want c))) [
-      | inl is ↦
-          let below : folder_cmp x.folder want.folder ≡ Less = below_each x.folder one want h.0 c in
-          let itself : x ≡ want = same ∙ is in
-          let own : folder_cmp want.folder want.folder ≡ Less = subst (λ (w : Want). folder_cmp w.folder want.folder ≡ Less) itself below in
-          absurd (not_below_both want.folder want.folder own own)
-      | inr there ↦ there
-    ])
-    (λ want c. elim (Contains-cases x one want (from want (later y other want c))) [
-      | inl is ↦
-          let below : folder_cmp y.folder want.folder ≡ Less = below_each y.folder other want k.0 c in
-          let itself : y ≡ want = sym same ∙ is in
-          let own : folder_cmp want.folder want.folder ≡ Less = subst (λ (w : Want). folder_cmp w.folder want.folder ≡ Less) itself below in
-          absurd (not_below_both want.folder want.folder own own)
-      | inr there ↦ there
-    ]) in
-    ap (λ (w : Want). w ∷ one) same ∙ ap (λ (ws : List Want). y ∷ ws) rest
-  where
-    later : (first : Want) (wants : List Want) (want : Want) → Contains wants want → Contains (first ∷ wants) want
-    later first wants want (n, less, is) = (suc n, omega arith, is)
-
-    first : (y ≡ x) ⊎ Contains other x → (x ≡ y) ⊎ Contains one y → x ≡ y
-    first (inl is) more = sym is
-    first (inr there) (inl is) = is
-    first (inr there) (inr back) = absurd (not_below_both x.folder y.folder (below_each x.folder one y h.0 back) (below_each y.folder other x k.0 there))
+abbrev folder_of : Want → FolderName
+folder_of want = want.folder
 
 -- a want of a folder, where there is one
 want_of : (wants : List Want) (folder : FolderName) → Contains (folders wants) folder → (want : Want) × Contains wants want × (want.folder ≡ folder)
@@ -91,11 +44,7 @@ one_want (w ∷ wants) want other rising here there same =
     by (λ d e. one_want wants want other rising.1 d e same) (Contains-cases w wants want here) (Contains-cases w wants other there)
   where
     apart : (a b : Want) → w ≡ a → Contains wants b → a.folder ≡ b.folder → ⊥
-    apart a b is c e =
-        let below : folder_cmp w.folder b.folder ≡ Less = below_each w.folder wants b rising.0 c in
-        let itself : w.folder ≡ b.folder = ap (λ (x : Want). x.folder) is ∙ e in
-        let own : folder_cmp b.folder b.folder ≡ Less = subst (λ (f : FolderName). folder_cmp f b.folder ≡ Less) itself below in
-        not_below_both b.folder b.folder own own
+    apart a b is c e = behind folder_cmp folder_total folder_of w wants b rising.0 c (ap folder_of is ∙ e)
 
     by : (Contains wants want → Contains wants other → want ≡ other) → (w ≡ want) ⊎ Contains wants want → (w ≡ other) ⊎ Contains wants other → want ≡ other
     by later (inl a) (inl b) = sym a ∙ b
@@ -136,6 +85,6 @@ one_wants g keys number one other rises climbs h k =
     let same = one_has g keys number h.outputs k.outputs h.mounts k.mounts h.has k.has in
     let also : AreWantsOf k.outputs k.mounts one
     = subst (λ (os : List Base). AreWantsOf os k.mounts one) same.0 (subst (λ (ms : List (Mount Text)). AreWantsOf h.outputs ms one) same.1 h.wants_are) in
-    rising_same one other rises.1 climbs.1
+    same_rising folder_cmp folder_total folder_of one other rises.1 climbs.1
     (goes_over k.outputs k.mounts one other rises also k.wants_are)
     (goes_over k.outputs k.mounts other one climbs k.wants_are also)

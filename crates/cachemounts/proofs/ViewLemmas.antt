@@ -1,38 +1,19 @@
 -- One more view.
-use Rattle.std.proofs.Common.{◌≡◌, ℕ, zero, suc, ◌+◌, ◌<◌, inl, inr, List, [], ◌∷◌, ◌++◌, length, take, get_or, Some, refl, sym, ◌∙◌, subst, arith}
+use Rattle.std.proofs.Common.{◌≡◌, ℕ, zero, suc, ◌+◌, ◌<◌, inl, inr, List, [], ◌∷◌, ◌++◌, length, take, Some, refl, sym, ◌∙◌, subst, arith}
 use Rattle.std.specs.List.{Contains, slice_get}
 use Rattle.std.specs.List.Sorted.{IsStrictlyIncreasing}
-use Rattle.std.proofs.lemmas.Bool.{cases_lt}
-use Rattle.std.proofs.lemmas.List.{get_or_append_left, get_or_push, length_push, map_push, length-take-le}
-use Rattle.std.proofs.lemmas.List.Elements.{Contains-push, Contains-push_cases, Contains-append_left, Contains-get_or}
+use Rattle.std.proofs.lemmas.List.{map_push, length-take-le}
+use Rattle.std.proofs.lemmas.List.Elements.{Contains-push, Contains-push_cases, Contains-append_left}
 use Rattle.std.proofs.lemmas.Option.{slice_get_within}
 use Rattle.farm_base.specs.declared.folder.Base.{Base}
 use Rattle.farm_base.specs.declared.want.Want.{Want}
 use Rattle.opsproto.specs.Scalars.{Text}
 use Rattle.opsproto.specs.declared.exec.Mount.{Mount}
+use Rattle.lists.proofs.Places.{take_push, get_push_cases, get_push_left, get_push_end}
+use Rattle.lists.proofs.Rising.{rising_push}
 use Rattle.vertices.specs.OpChecks.{IsCache}
-use Rattle.vertices.proofs.EntryLemmas.{take_push}
-use Rattle.vertices.proofs.TableLemmas.{get_push_cases, get_push_left, get_push_end}
 use Rattle.cachemounts.specs.CacheFolders.{HasFolder}
 use Rattle.cachemounts.specs.CacheViews.{IsView, AreViewsOf, mount_places}
-
--- numbers that rise, with a greater one at their end
-pub rising_push : (xs : List ℕ) (y : ℕ) → IsStrictlyIncreasing xs → ((x : ℕ) → Contains xs x → x < y) → IsStrictlyIncreasing (xs ++ y ∷ [])
-rising_push xs y rising below k within =
-    let len = length_push xs y in
-    elim (cases_lt (suc k) (length xs)) [
-      | inl less ↦
-          let a = get_or_append_left xs (y ∷ []) 0 k (omega arith) in
-          let b = get_or_append_left xs (y ∷ []) 0 (k + 1) (omega arith) in
-          let h = rising k (omega arith) in
-          omega arith
-      | inr more ↦
-          let end : length xs ≡ k + 1 = omega arith in
-          let a = get_or_append_left xs (y ∷ []) 0 k (omega arith) in
-          let b = get_or_push xs y 0 (k + 1) end in
-          let h = below (get_or xs k 0) (Contains-get_or xs k 0 (omega arith)) in
-          omega arith
-    ]
 
 -- a place is that of a view
 place_view : (views : List (ℕ × ℕ)) (x : ℕ) → Contains (mount_places views) x → (view : ℕ × ℕ) × Contains views view × (view.0 ≡ x)

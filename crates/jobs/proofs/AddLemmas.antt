@@ -1,16 +1,16 @@
 -- What a graph adds to the submitted keys.
-use Rattle.std.proofs.Common.{◌≡◌, ℕ, zero, suc, ◌+◌, ◌-◌, ◌<◌, ◌⊎◌, replicate, inl, inr, Bool, true, false, List, [], ◌∷◌, ◌++◌, map, length, take, get_or, Option, Some, slice_get, refl, ap, sym, ◌∙◌, subst, arith, append-nil, append_assoc, if◌then◌else◌}
-use Rattle.std.specs.List.{list_any, AllZip, All, Contains}
-use Rattle.std.specs.List.Sorted.{IsStrictlyIncreasing}
-use Rattle.std.proofs.lemmas.Bool.{cases_Bool, cases_eq, cases_lt}
-use Rattle.std.proofs.lemmas.List.{take-append-le, take_all, length_push, get_or_append_left, get_or_push, length-append, length-replicate, length-map}
-use Rattle.std.proofs.lemmas.List.Elements.{Contains-get_or, Contains-append_left, Contains-push, Contains-push_cases}
+use Rattle.std.proofs.Common.{◌≡◌, ℕ, zero, suc, ◌+◌, ◌-◌, ◌<◌, ◌⊎◌, replicate, inl, inr, Bool, true, false, List, [], ◌∷◌, ◌++◌, map, length, take, get_or, Some, slice_get, refl, ap, sym, ◌∙◌, subst, arith, append-nil, append_assoc, if◌then◌else◌}
+use Rattle.std.specs.List.{list_any, All, Contains}
+use Rattle.std.proofs.lemmas.Bool.{cases_Bool, cases_eq}
+use Rattle.std.proofs.lemmas.List.{take-append-le, take_all, length-append, length-replicate, length-map}
+use Rattle.std.proofs.lemmas.List.Elements.{Contains-append_left, Contains-push, Contains-push_cases}
 use Rattle.std.proofs.lemmas.Option.{slice_get_within, slice_get-get_or, get_or_from_slice_get}
 use Rattle.indexmap.specs.IndexSet.{insert_key}
 use Rattle.farm_base.specs.declared.digest.Key.{Key}
+use Rattle.lists.proofs.Places.{AllZip-push, get_push_left, get_push_end, at_place, some_is}
+use Rattle.lists.proofs.Rising.{rising_push}
 use Rattle.vertices.specs.Flags.{flag_at}
 use Rattle.vertices.specs.Loading.{GraphParts, IsGraph}
-use Rattle.vertices.proofs.TableLemmas.{get_push_left, get_push_end}
 use Rattle.vertices.proofs.ZipLemmas.{all_zip_back}
 use Rattle.vertices.proofs.GraphLemmas.{list_at-get}
 use Rattle.solverkeys.proofs.KeyLemmas.{edges_within}
@@ -26,7 +26,6 @@ use Rattle.jobs.specs.Kept.{AreKept}
 use Rattle.jobs.specs.Marks.{MarksFail, MarksCalled, MarksLost, AreMarks, KeepsMarks}
 use Rattle.jobs.proofs.ProgressLemmas.{Grows, fails_grows, called_keeps}
 use Rattle.jobs.proofs.ReachLemmas.{flag_within}
-use Rattle.jobs.proofs.ReadyLemmas.{there}
 use Rattle.jobs.proofs.TableLemmas.{key_same}
 
 -- ---- one key
@@ -54,9 +53,6 @@ keys_push (x ∷ es) e = ap (λ (ks : List Key). x.key ∷ ks) (keys_push es e)
 pub edges_keys : (g : GraphParts) (keys : List Key) (n : ℕ) (edges : List (ℕ × ℕ)) → IsGraph g → slice_get g.edges n ≡ Some edges → length keys ≡ length g.vertices → All (λ edge. edge.0 < length keys) edges
 edges_keys g keys n edges h at count = subst (λ (size : ℕ). All (λ (edge : ℕ × ℕ). edge.0 < size) edges) (sym count) (edges_within g n edges h at)
 
-some_is : {A : Type 0} (x y : A) → ◌≡◌ {A = Option A} (Some x) (Some y) → x ≡ y
-some_is x y e = cc
-
 module _ (g : GraphParts) (keys : List Key) (number : ℕ) (key : Key) (d : Key) (within : number < length keys) (is : key ≡ get_or keys number d) where
   key_there : slice_get keys number ≡ Some key
   key_there = slice_get-get_or keys number d within ∙ ap (λ (z : _). Some z) (sym is)
@@ -82,29 +78,6 @@ append_cases : (xs ys : List Entry) (n : ℕ) (y : Entry) → slice_get (xs ++ y
 append_cases [] ys n y e = inr (n, e)
 append_cases (x ∷ xs) ys zero y e = inl e
 append_cases (x ∷ xs) ys (suc n) y e = append_cases xs ys n y e
-
-zip_push : {A B : Type 0} (R : A → B → Type 0) (xs : List A) (ys : List B) (x : A) (y : B) → AllZip R xs ys → R x y → AllZip R (xs ++ x ∷ []) (ys ++ y ∷ [])
-zip_push R [] [] x y h r = (r, tt)
-zip_push R [] (b ∷ ys) x y h r = absurd h
-zip_push R (a ∷ xs) [] x y h r = absurd h
-zip_push R (a ∷ xs) (b ∷ ys) x y h r = (h.0, zip_push R xs ys x y h.1 r)
-
-rising_push : (xs : List ℕ) (y : ℕ) → IsStrictlyIncreasing xs → ((x : ℕ) → Contains xs x → x < y) → IsStrictlyIncreasing (xs ++ y ∷ [])
-rising_push xs y rising below k within =
-    let len = length_push xs y in
-    elim (cases_lt (suc k) (length xs)) [
-      | inl less ↦
-          let a = get_or_append_left xs (y ∷ []) 0 k (omega arith) in
-          let b = get_or_append_left xs (y ∷ []) 0 (k + 1) (omega arith) in
-          let h = rising k (omega arith) in
-          omega arith
-      | inr more ↦
-          let end : length xs ≡ k + 1 = omega arith in
-          let a = get_or_append_left xs (y ∷ []) 0 k (omega arith) in
-          let b = get_or_push xs y 0 (k + 1) end in
-          let h = below (get_or xs k 0) (Contains-get_or xs k 0 (omega arith)) in
-          omega arith
-    ]
 
 module _ (g : GraphParts) (keys : List Key) (old : List Entry) where
   pub adding_start : (new : List Entry) → new ≡ old → IsAdding g keys old 0 new
@@ -192,7 +165,7 @@ module _ (g : GraphParts) (keys : List Key) (old : List Entry) where
           | inl here ↦ subst (IsKnown g keys (new ++ entry ∷ [])) (sym here) in_new
           | inr apart ↦ known_more new entry m (h.covered m (omega (arith, less, apart)) need)
         ];
-        entries = zip_push (IsEntryOf g keys) h.numbers h.added n entry h.entries is;
+        entries = AllZip-push (IsEntryOf g keys) h.numbers h.added n entry h.entries is;
         new_is = ap (λ (xs : List Entry). xs ++ entry ∷ []) h.new_is ∙ append_assoc old h.added (entry ∷ []);
       })
 
@@ -265,7 +238,7 @@ added_marks g keys old new marks between now h was is fail keeps lost same =
     let grows : Grows old new = subst (Grows old) (sym h.new_is) (stays old h.added) in
     let flag : (n : ℕ) → flag_at between n ≡ true → flag_at marks n ≡ true = λ n met. old_flag marks n (length new - length marks) (ap (λ (xs : List Bool). flag_at xs n) (sym between_is) ∙ met) in
     let sound : MarksFail new between = λ n e at met. (let f = flag n met in let within = flag_within marks n f in
-    let o = there old n (let c = was.count in omega (arith, within, c)) in
+    let o = at_place old n (let c = was.count in omega (arith, within, c)) in
     let one : o.0 ≡ e = some_is o.0 e (sym (get_left old h.added n o.0 o.1) ∙ ap (λ (xs : List Entry). slice_get xs n) (sym h.new_is) ∙ at) in
     fails_grows old new grows e.key (was.fail n e (o.1 ∙ ap (λ (z : Entry). Some z) one) f)) in
     let noted : MarksCalled new between = λ n e fault at failed. elim (added_waits g keys old new h n e at) [

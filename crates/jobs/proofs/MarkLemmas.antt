@@ -6,6 +6,7 @@ use Rattle.std.specs.List.{Contains, IsDistinct}
 use Rattle.std.proofs.lemmas.Bool.{cases_eq}
 use Rattle.std.proofs.lemmas.List.{get_or-set_same, get_or-set_other}
 use Rattle.std.proofs.lemmas.Option.{slice_get_within, get_or_from_slice_get, slice_get_read}
+use Rattle.lists.proofs.Places.{some_is}
 use Rattle.farm_base.specs.declared.digest.Digest.{Digest}
 use Rattle.farm_base.specs.declared.digest.Key.{Key}
 use Rattle.vertices.specs.Flags.{flag_at}
@@ -24,9 +25,6 @@ use Rattle.jobs.proofs.TableLemmas.{one_number}
 -- an entry that was read at its number
 pub read_at : (es : List Entry) (n : ℕ) (e x : Entry) → slice_get es n ≡ Some e → x ≡ get_or es n x → e ≡ x
 read_at es n e x at read = sym (read ∙ get_or_from_slice_get es n e x at)
-
-some_is : {A : Type 0} (x y : A) → ◌≡◌ {A = Option A} (Some x) (Some y) → x ≡ y
-some_is x y e = cc
 
 -- a key has one entry
 pub one_entry : (es : List Entry) → IsDistinct key_eq (map key_of es) → (n m : ℕ) (e f : Entry) → slice_get es n ≡ Some e → slice_get es m ≡ Some f → e.key ≡ f.key → e ≡ f

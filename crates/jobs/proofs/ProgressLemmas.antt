@@ -1,9 +1,10 @@
 -- What a key's progress changes.
-use Rattle.std.proofs.Common.{◌≡◌, ◌≢◌, ℕ, zero, suc, ◌<◌, ◌⊎◌, inl, inr, Bool, true, false, List, [], ◌∷◌, ◌++◌, map, length, take, drop, set, Option, Some, slice_get, refl, ap, sym, ◌∙◌, subst, arith}
+use Rattle.std.proofs.Common.{◌≡◌, ℕ, zero, suc, ◌<◌, ◌⊎◌, inl, inr, Bool, true, false, List, [], ◌∷◌, ◌++◌, map, length, take, drop, set, Some, slice_get, refl, ap, sym, ◌∙◌, subst, arith}
 use Rattle.std.specs.List.{Contains}
 use Rattle.std.proofs.lemmas.Bool.{cases_eq}
 use Rattle.std.proofs.lemmas.List.{length-set, get_or-set_same, get_or-set_other, take-append-le, take_all}
 use Rattle.std.proofs.lemmas.Option.{slice_get_within}
+use Rattle.lists.proofs.Places.{get-set_same, get-set_other, get_set_cases, some_is}
 use Rattle.farm_base.specs.declared.digest.Digest.{Digest}
 use Rattle.farm_base.specs.declared.digest.Key.{Key}
 use Rattle.vertices.specs.Flags.{flag_at}
@@ -14,30 +15,6 @@ use Rattle.jobs.specs.declared.entry.Progress.TheVariants.{Out, Done, Failed}
 use Rattle.jobs.specs.Failing.{IsSubmitted, IsDone, LacksOutput, HasOutput, Fails, called, input_fails, input_lacks}
 use Rattle.jobs.specs.Marks.{MarksFail, MarksCalled, MarksLost, AreMarks, KeepsMarks}
 use Rattle.jobs.specs.Tables.{key_of}
-
--- ---- places of a list
-
-some_is : {A : Type 0} (x y : A) → ◌≡◌ {A = Option A} (Some x) (Some y) → x ≡ y
-some_is x y e = cc
-
-pub get-set_same : {A : Type 0} (xs : List A) (n : ℕ) (x y : A) → slice_get xs n ≡ Some y → slice_get (set xs n x) n ≡ Some x
-get-set_same [] n x y h = absurd (cc)
-get-set_same (z ∷ xs) zero x y h = refl
-get-set_same (z ∷ xs) (suc n) x y h = get-set_same xs n x y h
-
-pub get-set_other : {A : Type 0} (xs : List A) (n m : ℕ) (x : A) → m ≢ n → slice_get (set xs n x) m ≡ slice_get xs m
-get-set_other [] n m x apart = refl
-get-set_other (y ∷ xs) zero zero x apart = absurd (apart refl)
-get-set_other (y ∷ xs) zero (suc m) x apart = refl
-get-set_other (y ∷ xs) (suc n) zero x apart = refl
-get-set_other (y ∷ xs) (suc n) (suc m) x apart = get-set_other xs n m x (λ e. apart (ap suc e))
-
--- what stands in a list with one place set
-pub get_set_cases : {A : Type 0} (xs : List A) (n m : ℕ) (x was y : A) → slice_get xs n ≡ Some was → slice_get (set xs n x) m ≡ Some y → ((m ≡ n) × (x ≡ y)) ⊎ ((m ≢ n) × (slice_get xs m ≡ Some y))
-get_set_cases xs n m x was y there h = elim (cases_eq m n) [
-  | inl same ↦ inl (same, some_is x y (sym (get-set_same xs n x was there) ∙ ap (slice_get (set xs n x)) (sym same) ∙ h))
-  | inr apart ↦ inr (apart, sym (get-set_other xs n m x apart) ∙ h)
-]
 
 -- the keys stay where one entry keeps its key
 pub keys_set : (es : List Entry) (n : ℕ) (e x : Entry) → slice_get es n ≡ Some e → x.key ≡ e.key → map key_of (set es n x) ≡ map key_of es

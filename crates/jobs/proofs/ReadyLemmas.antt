@@ -1,5 +1,5 @@
 -- Which keys are ready.
-use Rattle.std.proofs.Common.{◌≡◌, ℕ, zero, suc, ◌+◌, ◌<◌, inl, inr, Bool, true, false, not, List, [], ◌∷◌, ◌++◌, length, take, set, get_or, Option, Some, None, is_some, IfSome, IfNone, slice_get, refl, ap, sym, ◌∙◌, subst, arith}
+use Rattle.std.proofs.Common.{◌≡◌, ℕ, ◌+◌, ◌<◌, inl, inr, Bool, true, false, not, List, [], ◌∷◌, ◌++◌, length, take, set, get_or, Option, Some, None, is_some, IfSome, IfNone, slice_get, ap, sym, ◌∙◌, subst, arith}
 use Rattle.std.specs.Bool.{MatchBool}
 use Rattle.std.specs.List.{Contains, AllZip}
 use Rattle.std.proofs.lemmas.Bool.{cases_eq}
@@ -8,8 +8,8 @@ use Rattle.std.proofs.lemmas.List.Elements.{Contains-get_or}
 use Rattle.std.proofs.lemmas.Option.{slice_get_within, get_or_from_slice_get, slice_get-get_or}
 use Rattle.farm_base.specs.declared.digest.Digest.{Digest}
 use Rattle.farm_base.specs.declared.digest.Key.{Key}
+use Rattle.lists.proofs.Places.{AllZip-push, at_Contains, at_place, take_push, get_set_cases}
 use Rattle.vertices.specs.Flags.{flag_at}
-use Rattle.vertices.proofs.EntryLemmas.{take_push}
 use Rattle.jobs.specs.declared.entry.Entry.{Entry}
 use Rattle.jobs.specs.declared.entry.Progress.TheVariants.{Waiting, Out, Done}
 use Rattle.jobs.specs.declared.table.Table.{Table}
@@ -19,19 +19,8 @@ use Rattle.jobs.specs.Kept.{AreKept}
 use Rattle.jobs.specs.Marks.{IsLost, is_marked, is_lacking, MarksLost, AreMarks}
 use Rattle.jobs.specs.Tables.{key_of, IsTable}
 use Rattle.jobs.proofs.MarkLemmas.{all_marked, distinct, one_entry, read_at}
-use Rattle.jobs.proofs.ProgressLemmas.{get_set_cases, moved_grows, moved_fail, moved_called}
+use Rattle.jobs.proofs.ProgressLemmas.{moved_grows, moved_fail, moved_called}
 use Rattle.jobs.proofs.TableLemmas.{one_number}
-
-pub contains_from : {A : Type 0} (xs : List A) (k : ℕ) (x : A) → slice_get xs k ≡ Some x → Contains xs x
-contains_from xs k x e = (k, slice_get_within xs k x e, get_or_from_slice_get xs k x x e)
-
-pub at_from : {A : Type 0} (xs : List A) (x : A) → Contains xs x → (k : ℕ) × (slice_get xs k ≡ Some x)
-at_from xs x (k, lt, is) = (k, slice_get-get_or xs k x lt ∙ ap (λ (z : _). Some z) is)
-
-pub there : {A : Type 0} (xs : List A) (n : ℕ) → n < length xs → (x : A) × (slice_get xs n ≡ Some x)
-there [] n within = absurd (omega (arith, within))
-there (x ∷ xs) zero within = (x, refl)
-there (x ∷ xs) (suc n) within = there xs n (omega (arith, within))
 
 -- ---- the output that an input names
 
@@ -88,7 +77,7 @@ module _ (es : List Entry) (inputs : List (Key × ℕ)) where
   -- all of them
   pub all_there : (k : ℕ) → length inputs < k + 1 → ThereBelow k → AreThere es inputs
   all_there k past below input has =
-      let a = at_from inputs input has in
+      let a = at_Contains inputs input has in
       below a.0 input (let within = slice_get_within inputs a.0 input a.1 in omega (arith, within, past)) a.1
 
 -- ---- one key
@@ -134,7 +123,7 @@ on_false P Q false e h = h
 pub first_found : (es : List Entry) (n : ℕ) (b : Bool) → n < length es → b ≡ true → ((entry : Entry) → slice_get es n ≡ Some entry → MatchBool b (IsReady es entry) (IsReady es entry → ⊥))
     → NoneBelow es n → (entry : Entry) × IsFirstReady es n entry
 first_found es n b within met is below =
-    let e = there es n within in
+    let e = at_place es n within in
     (e.0, record { at = e.1; ready = on_true (IsReady es e.0) (IsReady es e.0 → ⊥) b met (is e.0 e.1); first = below })
 
 pub none_more : (es : List Entry) (n : ℕ) (b : Bool) → b ≡ false → ((entry : Entry) → slice_get es n ≡ Some entry → MatchBool b (IsReady es entry) (IsReady es entry → ⊥)) → NoneBelow es n → NoneBelow es (n + 1)
@@ -148,19 +137,13 @@ none_at_all es n past below number entry at = below number entry (let within = s
 
 -- ---- the outputs of a task
 
-zip_push : {A B : Type 0} (R : A → B → Type 0) (xs : List A) (ys : List B) (x : A) (y : B) → AllZip R xs ys → R x y → AllZip R (xs ++ x ∷ []) (ys ++ y ∷ [])
-zip_push R [] [] x y h r = (r, tt)
-zip_push R [] (b ∷ ys) x y h r = absurd h
-zip_push R (a ∷ xs) [] x y h r = absurd h
-zip_push R (a ∷ xs) (b ∷ ys) x y h r = (h.0, zip_push R xs ys x y h.1 r)
-
 -- one more output
 pub zip_more : (es : List Entry) (inputs : List (Key × ℕ)) (k : ℕ) (d : Key × ℕ) (outputs now : List Digest) (output : Digest) → k < length inputs → AllZip (HasOutput es) (take k inputs) outputs
     → HasOutput es (get_or inputs k d) output → now ≡ outputs ++ output ∷ [] → AllZip (HasOutput es) (take (k + 1) inputs) now
 zip_more es inputs k d outputs now output within h has is =
     let input = get_or inputs k d in
     subst (λ (xs : List (Key × ℕ)). AllZip (HasOutput es) xs now) (sym (take_push inputs k input (slice_get-get_or inputs k d within)))
-    (subst (AllZip (HasOutput es) (take k inputs ++ input ∷ [])) (sym is) (zip_push (HasOutput es) (take k inputs) outputs input output h has))
+    (subst (AllZip (HasOutput es) (take k inputs ++ input ∷ [])) (sym is) (AllZip-push (HasOutput es) (take k inputs) outputs input output h has))
 
 -- an input that is there has its output
 pub has_no_none : (es : List Entry) (inputs : List (Key × ℕ)) (k : ℕ) (d : Key × ℕ) → k < length inputs → AreThere es inputs → ((digest : Digest) → HasOutput es (get_or inputs k d) digest → ⊥) → ⊥

@@ -47,10 +47,10 @@ module _ {X K : Type 0} (c : K → K → Ordering) (total : IsTotalOrder c) (key
   below_each k (y ∷ xs) x all (zero, less, is) = subst (λ (z : X). c k (key z) ≡ Less) is all.0
   below_each k (y ∷ xs) x all (suc n, less, is) = below_each k xs x all.1 (n, omega arith, is)
 
-  -- an element behind the first is not the first
-  behind : (y : X) (xs : List X) (x : X) → AllByRecursion (λ other. c (key y) other ≡ Less) (map key xs) → Contains xs x → y ≡ x → ⊥
+  -- an element behind the first has another key
+  pub behind : (y : X) (xs : List X) (x : X) → AllByRecursion (λ other. c (key y) other ≡ Less) (map key xs) → Contains xs x → key y ≡ key x → ⊥
   behind y xs x all there is =
-      let itself : c (key x) (key x) ≡ Less = subst (λ (z : X). c (key z) (key x) ≡ Less) is (below_each (key y) xs x all there) in
+      let itself : c (key x) (key x) ≡ Less = subst (λ (k : K). c k (key x) ≡ Less) is (below_each (key y) xs x all there) in
       never_below_both (key x) (key x) itself itself
 
   -- two such lists with the same elements are the same
@@ -63,8 +63,8 @@ module _ {X K : Type 0} (c : K → K → Ordering) (total : IsTotalOrder c) (key
   same_rising (x ∷ xs) (y ∷ ys) h k to from =
       let same : x ≡ y = first (Contains-cases y ys x (to x (Contains-head x xs))) (Contains-cases x xs y (from y (Contains-head y ys))) in
       let rest : xs ≡ ys = same_rising xs ys h.1 k.1
-      (λ z there. elim (Contains-cases y ys z (to z (Contains-tail x xs z there))) [ inl is ↦ absurd (behind x xs z h.0 there (same ∙ is)) | inr found ↦ found ])
-      (λ z there. elim (Contains-cases x xs z (from z (Contains-tail y ys z there))) [ inl is ↦ absurd (behind y ys z k.0 there (sym same ∙ is)) | inr found ↦ found ]) in
+      (λ z there. elim (Contains-cases y ys z (to z (Contains-tail x xs z there))) [ inl is ↦ absurd (behind x xs z h.0 there (ap key (same ∙ is))) | inr found ↦ found ])
+      (λ z there. elim (Contains-cases x xs z (from z (Contains-tail y ys z there))) [ inl is ↦ absurd (behind y ys z k.0 there (ap key (sym same ∙ is))) | inr found ↦ found ]) in
       ap (λ (z : X). z ∷ xs) same ∙ ap (λ (zs : List X). y ∷ zs) rest
     where
       first : (y ≡ x) ⊎ Contains ys x → (x ≡ y) ⊎ Contains xs y → x ≡ y

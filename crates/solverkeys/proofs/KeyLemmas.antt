@@ -6,9 +6,9 @@ use Rattle.std.proofs.lemmas.List.{length-set, get_or-set_same, get_or-set_other
 use Rattle.std.proofs.lemmas.List.Elements.{Contains-push_cases, All-weaker, All-contains_itself}
 use Rattle.std.proofs.lemmas.Option.{slice_get-get_or, slice_get_within, get_or_from_slice_get}
 use Rattle.farm_base.specs.declared.digest.Key.{Key}
+use Rattle.lists.proofs.Places.{take_push, at_Contains}
 use Rattle.vertices.specs.Edges.{IsEdge, AreEdges, list_at}
 use Rattle.vertices.specs.Loading.{GraphParts, IsGraph}
-use Rattle.vertices.proofs.EntryLemmas.{take_push, at_Contains}
 use Rattle.vertices.proofs.GraphLemmas.{edge_target, list_at-get}
 use Rattle.vertices.proofs.ZipLemmas.{all_zip_length, all_zip_back}
 use Rattle.solverkeys.specs.Keys.{solver_key}

@@ -1,12 +1,11 @@
 -- Two shapes with one key are one shape, or show a collision.
-use Rattle.std.proofs.Common.{◌≡◌, ◌≢◌, ℕ, ◌<◌, ◌^◌, ◌⊎◌, inl, inr, Bool, true, false, List, [], ◌∷◌, ◌++◌, length, refl, sym, ap, ◌∙◌, arith, length-append}
+use Rattle.std.proofs.Common.{◌≡◌, ◌≢◌, ℕ, ◌<◌, ◌^◌, ◌⊎◌, inl, inr, List, [], ◌∷◌, ◌++◌, length, refl, sym, ap, ◌∙◌, arith, length-append}
 use Rattle.std.specs.List.{flat_map}
 use Rattle.std.specs.Int.{w64, to_be_bytes, from_be_bytes}
-use Rattle.std.specs.Str.{bytes_eq}
-use Rattle.std.proofs.lemmas.Slice.Eq.{bytes_eq-Decides}
 use Rattle.std.proofs.lemmas.Nat.{from_be_bytes-to_be_bytes_8}
 use Rattle.sha2.specs.Sha256.{sha256}
 use Rattle.sha2.proofs.Facts256.{length-sha256}
+use Rattle.lists.proofs.Places.{cases_list}
 use Rattle.farm_base.specs.declared.digest.Key.{Key}
 use Rattle.solverkeys.specs.Keys.{input_bytes, key_message}
 use Rattle.vertices.specs.declared.vertex.Vertex.{Vertex}
@@ -14,16 +13,6 @@ use Rattle.vertices.specs.Edges.{list_at}
 use Rattle.vertices.specs.Loading.{GraphParts}
 use Rattle.solverkeys.specs.GraphKeys.{IsShapeOf, AreShapesOf}
 use Rattle.solverkeys.specs.Shapes.{Shape, vertex, Inputs, no_inputs, input, shape_key, input_keys, HasIndexes, InputsHaveIndexes, Hashes, InputsHash, ShowCollision}
-
--- two byte strings are equal or not
-same_or_not : (xs ys : List ℕ) → (xs ≡ ys) ⊎ (xs ≢ ys)
-same_or_not xs ys =
-    let case : (b : Bool) → bytes_eq xs ys ≡ b → (xs ≡ ys) ⊎ (xs ≢ ys)
-    = λ b. elim b as (λ v. bytes_eq xs ys ≡ v → (xs ≡ ys) ⊎ (xs ≢ ys)) [
-      | true ↦ λ e. inl ((bytes_eq-Decides xs ys).0 e)
-      | false ↦ λ e. inr (λ same. let yes = (bytes_eq-Decides xs ys).1 same in cc (e, yes))
-    ] in
-    case (bytes_eq xs ys) refl
 
 -- lists of one length in front: both parts are the same
 pub parts_same : (a b x y : List ℕ) → length a ≡ length b → a ++ x ≡ b ++ y → (a ≡ b) × (x ≡ y)
@@ -82,12 +71,12 @@ mutual
   pub one_or_collision : (a b : Shape) → HasIndexes a → HasIndexes b → (shape_key a).0.0 ≡ (shape_key b).0.0
       → (a ≡ b) ⊎ ShowCollision a b
   one_or_collision (vertex s i) (vertex t j) h k e =
-      elim (same_or_not (key_message s (input_keys i)) (key_message t (input_keys j))) [
+      elim (cases_list (key_message s (input_keys i)) (key_message t (input_keys j))) [
         | inr d ↦ inr (shown (vertex s i) (vertex t j) _ _ (inr (inl refl)) (inr (inl refl)) d e)
         | inl m ↦
             let tails : sha256 s ++ flat_map input_bytes (input_keys i) ≡ sha256 t ++ flat_map input_bytes (input_keys j) = cc in
             let parts = parts_same (sha256 s) (sha256 t) _ _ (length-sha256 s ∙ sym (length-sha256 t)) tails in
-            elim (same_or_not s t) [
+            elim (cases_list s t) [
               | inr d ↦ inr (shown (vertex s i) (vertex t j) s t (inl refl) (inl refl) d parts.0)
               | inl st ↦ elim (inputs_one_or_collision i j h k parts.1) [
                 | inl ij ↦ inl cc

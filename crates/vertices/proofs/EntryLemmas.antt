@@ -6,26 +6,17 @@ use Rattle.std.specs.List.{Contains, slice_get}
 use Rattle.std.specs.declared.vec.Vec.{Vec}
 use Rattle.std.specs.declared.alloc.Global.{Global}
 use Rattle.std.proofs.lemmas.Bool.{cases_lt}
-use Rattle.std.proofs.lemmas.List.{take_more, map_push, length_push}
+use Rattle.std.proofs.lemmas.List.{map_push, length_push}
 use Rattle.std.proofs.lemmas.Option.{slice_get-get_or, slice_get_within, get_or_from_slice_get}
 use Rattle.farm_base.specs.declared.digest.Digest.{Digest}
+use Rattle.lists.proofs.Places.{Contains-at, at_Contains, take_push, get_push_cases, get_push_left, get_push_end}
 use Rattle.vertices.specs.Rows.{row_at, AreRows, HasInput}
 use Rattle.vertices.specs.Orders.{IsReady, IsOrder, Walk, IsCyclic}
 use Rattle.vertices.specs.declared.table.Table.{Table}
 use Rattle.vertices.specs.Firsts.{IsFirstAt, IsTable, number_in}
 use Rattle.vertices.specs.Entries.{Entry, digests_of, named_at, IsVertex, NamesInput, LacksInput, AreResolved, HasUnknown, IsRowOf, AreRowsOf}
 use Rattle.vertices.proofs.RowLemmas.{row_within}
-use Rattle.vertices.proofs.TableLemmas.{get_push_cases, get_push_left, get_push_end, first_once}
-
--- ---- places
-
--- what is at a place is contained
-pub Contains-at : {X : Type 0} (xs : List X) (k : ℕ) (x : X) → slice_get xs k ≡ Some x → Contains xs x
-Contains-at xs k x e = (k, slice_get_within xs k x e, get_or_from_slice_get xs k x x e)
-
--- what is contained is at some place
-pub at_Contains : {X : Type 0} (xs : List X) (x : X) → Contains xs x → (k : ℕ) × (slice_get xs k ≡ Some x)
-at_Contains xs x (k, lt, is) = (k, slice_get-get_or xs k x lt ∙ ap (λ (y : _). Some y) is)
+use Rattle.vertices.proofs.TableLemmas.{first_once}
 
 -- the digest of an entry
 pub digest_at : (entries : List Entry) (place : ℕ) (entry : Entry) → slice_get entries place ≡ Some entry → slice_get (digests_of entries) place ≡ Some entry.0
@@ -40,10 +31,6 @@ named_of [] zero entry e = absurd (cc e)
 named_of [] (suc place) entry e = absurd (cc e)
 named_of (x ∷ entries) zero entry e = let same : x ≡ entry = cc e in ap (λ (y : Entry). y.1.items) same
 named_of (x ∷ entries) (suc place) entry e = named_of entries place entry e
-
--- a list up to one place more
-pub take_push : {X : Type 0} (xs : List X) (k : ℕ) (x : X) → slice_get xs k ≡ Some x → take (k + 1) xs ≡ take k xs ++ x ∷ []
-take_push xs k x e = take_more xs k x (slice_get_within xs k x e) ∙ ap (λ (y : _). take k xs ++ y ∷ []) (get_or_from_slice_get xs k x x e)
 
 -- the digests of some more entries
 pub digests_more : (entries : List Entry) (k : ℕ) (entry : Entry) → slice_get entries k ≡ Some entry

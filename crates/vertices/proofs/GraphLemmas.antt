@@ -10,6 +10,8 @@ use Rattle.std.proofs.lemmas.Option.{slice_get-get_or, slice_get_within, get_or_
 use Rattle.farm_base.specs.declared.digest.Digest.{Digest}
 use Rattle.opsproto.specs.Scalars.{Text}
 use Rattle.opsproto.specs.declared.input.Input.{Input}
+use Rattle.farm_base.proofs.NameLaws.{digest_text-injective}
+use Rattle.lists.proofs.Places.{at_Contains, Contains-at}
 use Rattle.vertices.specs.declared.vertex.Vertex.{Vertex}
 use Rattle.vertices.specs.declared.table.Table.{Table}
 use Rattle.vertices.specs.Firsts.{number_in}
@@ -21,8 +23,7 @@ use Rattle.vertices.specs.Outcomes.{Each}
 use Rattle.vertices.specs.Edges.{InputCheck, IsEdge, AreEdges, Numbers, list_at, targets, GoesTo}
 use Rattle.vertices.specs.Numbered.{AreNumbers, HasTargets}
 use Rattle.vertices.specs.Loading.{HasEdge, ResultCheck, VertexCheck, GraphCheck, IsRunnable}
-use Rattle.vertices.proofs.EntryLemmas.{at_Contains, Contains-at, order_same}
-use Rattle.vertices.proofs.CheckLemmas.{one_digest}
+use Rattle.vertices.proofs.EntryLemmas.{order_same}
 use Rattle.vertices.proofs.ZipLemmas.{all_zip_length, all_zip_at, all_zip_back}
 
 -- ---- lists of lists
@@ -91,7 +92,7 @@ module _ (digests : List Digest) (vertices : List Vertex) (table : Table) (n : N
       let here = n.numbered b h.target h.to in
       let da = n.are_digests e.2.vertex.digest (n.listed e.2.vertex.digest e.0.0 there) in
       let db = n.are_digests h.target.digest (n.listed h.target.digest b here) in
-      let same : e.2.vertex.digest ≡ h.target.digest = one_digest e.2.vertex.digest h.target.digest da db (sym e.2.named ∙ h.named) in
+      let same : e.2.vertex.digest ≡ h.target.digest = digest_text-injective e.2.vertex.digest h.target.digest da db (sym e.2.named ∙ h.named) in
       let number : e.0.0 ≡ b = let f : number_in table e.2.vertex.digest ≡ number_in table h.target.digest = ap (number_in table) same in cc (f, there, here) in
       subst (λ (m : ℕ). GoesTo edges a m) number
       (subst (λ (xs : List (ℕ × ℕ)). Contains (targets xs) e.0.0) (sym (list_at-get edges a es.0 es.1)) (edge_target es.0 i.0 e.0 e.1))

@@ -10,6 +10,7 @@ use Rattle.farm_base.specs.declared.digest.Digest.{Digest}
 use Rattle.farm_base.specs.Digests.{IsDigest}
 use Rattle.opsproto.specs.Ops.{OpParts, op_at, op_in}
 use Rattle.opsproto.specs.declared.op.Kind.TheVariants.{Bare}
+use Rattle.lists.proofs.Places.{take_push, Contains-at, at_Contains, get_push_end, AllZip-push}
 use Rattle.vertices.specs.declared.vertex.Vertex.{Vertex}
 use Rattle.vertices.specs.declared.refusal.LoadRefusal.{LoadRefusal}
 use Rattle.vertices.specs.declared.refusal.LoadRefusal.TheVariants.{OutOfMemory}
@@ -27,9 +28,7 @@ use Rattle.opsproto.specs.declared.input.Input.{Input}
 use Rattle.opsproto.specs.Scalars.{Text}
 use Rattle.vertices.specs.Loading.{GraphParts, IsGraph, IsGraphOf, front, last_of, GraphCheck, VerticesCheck, DefinitionCheck, digest_in, digests_in, vertex_at, AreVertices, ReadCheck, ReadChecks}
 use Rattle.vertices.specs.Loaded.{IsLoaded, vertices_in}
-use Rattle.vertices.proofs.EntryLemmas.{take_push, Contains-at, at_Contains}
-use Rattle.vertices.proofs.CheckLemmas.{all_zip_push}
-use Rattle.vertices.proofs.TableLemmas.{first_once, get_push_end}
+use Rattle.vertices.proofs.TableLemmas.{first_once}
 
 -- ---- checks of entries by place
 
@@ -109,7 +108,7 @@ pub asked_more : (entries : List (List ℕ)) (k : ℕ) (x : List ℕ) (digest st
 asked_more entries k x digest stripped op sources asked one at is h asks =
     let source : Source = record { place = k; digest = digest; stripped = stripped } in
     subst (λ (vs : List Vertex). AllZip Asks vs (asked ++ one ∷ [])) (sym (map_push (vertex_of entries) sources source))
-    (all_zip_push Asks (map (vertex_of entries) sources) asked (vertex_of entries source) one h (asks (vertex_of entries source) refl (op_of_entry entries k x op at is)))
+    (AllZip-push Asks (map (vertex_of entries) sources) asked (vertex_of entries source) one h (asks (vertex_of entries source) refl (op_of_entry entries k x op at is)))
 
 -- the last entry, and those in front of it
 pub last_split : (def : List (List ℕ)) (place : ℕ) (x : List ℕ) → 1 ≤ length def → place ≡ length def - 1 → slice_get def place ≡ Some x

@@ -1,5 +1,5 @@
 -- What each change keeps while vertices are put into order.
-use Rattle.std.proofs.Common.{◌≡◌, ℕ, zero, suc, ◌<◌, ◌⊎◌, inl, inr, Bool, true, false, cond, List, [], ◌∷◌, ◌++◌, length, take, get_or, set, map, replicate, refl, sym, ap, ◌∙◌, subst, arith, Some}
+use Rattle.std.proofs.Common.{◌≡◌, ℕ, ◌<◌, ◌⊎◌, inl, inr, Bool, true, false, cond, List, [], ◌∷◌, ◌++◌, length, take, get_or, set, map, replicate, refl, sym, ap, ◌∙◌, subst, arith, Some}
 use Rattle.std.specs.List.{Contains, All, slice_get}
 use Rattle.std.specs.declared.cmp.Ordering.{Ordering}
 use Rattle.std.specs.declared.cmp.Ordering.TheVariants.{Less, Equal, Greater}
@@ -10,7 +10,7 @@ use Rattle.std.specs.BTreeMap.{is_at}
 use Rattle.std.specs.BTreeSet.{BTreeSet, contains, Updates}
 use Rattle.std.specs.declared.vec.Vec.{Vec}
 use Rattle.std.specs.declared.alloc.Global.{Global}
-use Rattle.std.proofs.lemmas.Bool.{cases_eq, cases_lt, cases_order, cases_Bool}
+use Rattle.std.proofs.lemmas.Bool.{cases_eq, cases_lt, cases_order, cases_Bool, false_from_ne_true}
 use Rattle.std.proofs.lemmas.Cmp.{nat_cmp_total}
 use Rattle.std.proofs.lemmas.Map.Lookups.{exact_unsigned}
 use Rattle.std.proofs.lemmas.Map.Views.{btree_set_contains_iff}
@@ -18,6 +18,7 @@ use Rattle.std.proofs.lemmas.List.{get_or-replicate, length-replicate, get_or-ma
 use Rattle.std.proofs.lemmas.List.Elements.{All-map, All-weaker, All-contains_itself, Contains-append_left, Contains-push, Contains-push_cases, All-contains}
 use Rattle.std.proofs.lemmas.List.Sums.{sum_by-set}
 use Rattle.std.proofs.lemmas.Option.{slice_get-get_or, slice_get_within, get_or_from_slice_get}
+use Rattle.lists.proofs.Places.{Contains-head, Contains-tail, Contains-cases}
 use Rattle.vertices.specs.declared.ordering.Waiter.{Waiter}
 use Rattle.vertices.specs.declared.ordering.Sorting.{Sorting}
 use Rattle.vertices.specs.Orders.{IsReady, IsLowestReady, TakesLowest}
@@ -60,23 +61,8 @@ Adds-updates old new x u =
       there = (iff new x).0 u.1;
     }
 
--- what is in a list with a head
-pub Contains-head : {X : Type 0} (x : X) (xs : List X) → Contains (x ∷ xs) x
-Contains-head x xs = (0, omega arith, refl)
-
-pub Contains-tail : {X : Type 0} (y : X) (xs : List X) (x : X) → Contains xs x → Contains (y ∷ xs) x
-Contains-tail y xs x (k, lt, is) = (suc k, omega arith, is)
-
-pub Contains-cases : {X : Type 0} (y : X) (xs : List X) (x : X) → Contains (y ∷ xs) x → (y ≡ x) ⊎ Contains xs x
-Contains-cases y xs x (zero, lt, is) = inl is
-Contains-cases y xs x (suc k, lt, is) = inr (k, omega arith, is)
-
 Contains-none : {X : Type 0} (x : X) → Contains [] x → ⊥
 Contains-none x (k, lt, is) = omega arith
-
--- a flag that can't be true is false
-not_true : (b : Bool) → (b ≡ true → ⊥) → b ≡ false
-not_true b never = elim (cases_Bool b) [ inl met ↦ absurd (never met) | inr e ↦ e ]
 
 -- a flag has one value
 one_flag : (b : Bool) → b ≡ true → b ≡ false → ⊥
@@ -303,7 +289,7 @@ put vertices rows s t p puts h =
     let old_ready : (q : ℕ) → Contains t.ready.keys q → Contains s.ready.keys q
     = λ q c. subst (λ (ks : List ℕ). Contains ks q) (sym puts.keys) (Contains-tail p t.ready.keys q c) in
     let not_in : (i : ℕ) → flag_at s.placed.items i ≡ false → Contains before i → ⊥ = λ i f c. one_flag _ (h.flagged i c) f in
-    let unflagged : flag_at s.placed.items p ≡ false = not_true _ (λ e. ready.new (h.placed p e)) in
+    let unflagged : flag_at s.placed.items p ≡ false = false_from_ne_true _ (λ e. ready.new (h.placed p e)) in
     let apart_of : (i : ℕ) → flag_at t.placed.items i ≡ false → i ≡ p → ⊥
     = λ i f same. one_flag _ puts.flag (subst (λ (x : ℕ). flag_at t.placed.items x ≡ false) same f) in
     let old_flag : (i : ℕ) → flag_at t.placed.items i ≡ false → flag_at s.placed.items i ≡ false
@@ -368,7 +354,7 @@ waiters_fewer n old input row within none all i x c =
 -- the flag of a ready place isn't set
 pub ready_open : (vertices : List ℕ) (rows : List (Vec ℕ Global)) (s : Sorting) (p : ℕ) → Contains s.ready.keys p
     → IsSorting vertices rows s [] → flag_at s.placed.items p ≡ false
-ready_open vertices rows s p there h = not_true _ (λ e. (h.ready p there).new (h.placed p e))
+ready_open vertices rows s p there h = false_from_ne_true _ (λ e. (h.ready p there).new (h.placed p e))
 
 -- ---- no place is ready
 

@@ -1,44 +1,18 @@
 -- How one more digest changes a table.
-use Rattle.std.proofs.Common.{◌≡◌, ℕ, suc, ◌+◌, ◌<◌, ◌⊎◌, inl, inr, Bool, true, false, cond, List, [], ◌∷◌, ◌++◌, length, get_or, Option, Some, None, refl, sym, ap, ◌∙◌, subst, arith}
+use Rattle.std.proofs.Common.{◌≡◌, ℕ, suc, ◌+◌, ◌<◌, inl, inr, Bool, true, false, cond, List, [], ◌∷◌, ◌++◌, length, get_or, Option, Some, None, refl, sym, ap, ◌∙◌, subst, arith}
 use Rattle.std.specs.List.{slice_get}
 use Rattle.std.specs.Option.{is_some}
 use Rattle.std.specs.List.Sorted.{IsStrictlyIncreasing}
 use Rattle.std.proofs.lemmas.Bool.{cases_lt, cases_order, cases_Bool}
 use Rattle.std.proofs.lemmas.List.{get_or_append_left, get_or_push, length_push}
-use Rattle.std.proofs.lemmas.Option.{slice_get-get_or, slice_get_within, get_or_from_slice_get}
+use Rattle.std.proofs.lemmas.Option.{slice_get-get_or, slice_get_within}
 use Rattle.std.proofs.lemmas.Slice.Eq.{bytes_eq-Decides}
 use Rattle.farm_base.specs.declared.digest.Digest.{Digest}
 use Rattle.vertices.specs.declared.table.Table.{Table}
-use Rattle.vertices.specs.Firsts.{IsFirstAt, digest_eq, number_in, IsTable}
-
--- an item of a list with one more item is an item of the list, or the new one
-pub get_push_cases : {X : Type 0} (xs : List X) (y : X) (k : ℕ) (x : X) → slice_get (xs ++ y ∷ []) k ≡ Some x
-    → ((k < length xs) × (slice_get xs k ≡ Some x)) ⊎ ((k ≡ length xs) × (y ≡ x))
-get_push_cases xs y k x e =
-    let within = slice_get_within (xs ++ y ∷ []) k x e in
-    let value = get_or_from_slice_get (xs ++ y ∷ []) k x x e in
-    let len = length_push xs y in
-    elim (cases_lt k (length xs)) [
-      | inl less ↦ inl (less, slice_get-get_or xs k x less ∙ ap (λ (z : _). Some z) (sym (get_or_append_left xs (y ∷ []) x k less) ∙ value))
-      | inr more ↦ let end : length xs ≡ k = omega arith in inr (sym end, sym (get_or_push xs y x k end) ∙ value)
-    ]
-
--- an item of a list is an item of the list with one more
-pub get_push_left : {X : Type 0} (xs : List X) (y : X) (k : ℕ) (x : X) → slice_get xs k ≡ Some x → slice_get (xs ++ y ∷ []) k ≡ Some x
-get_push_left xs y k x e =
-    let less = slice_get_within xs k x e in
-    let len = length_push xs y in
-    slice_get-get_or (xs ++ y ∷ []) k x (omega arith) ∙ ap (λ (z : _). Some z) (get_or_append_left xs (y ∷ []) x k less ∙ get_or_from_slice_get xs k x x e)
-
--- the new item
-pub get_push_end : {X : Type 0} (xs : List X) (y : X) → slice_get (xs ++ y ∷ []) (length xs) ≡ Some y
-get_push_end xs y =
-    let len = length_push xs y in
-    slice_get-get_or (xs ++ y ∷ []) (length xs) y (omega arith) ∙ ap (λ (z : _). Some z) (get_or_push xs y y (length xs) refl)
-
--- digests that compare equal are equal
-pub digest_same : (a b : Digest) → digest_eq a b ≡ true → a ≡ b
-digest_same a b e = ap (λ (bytes : List ℕ). let d : Digest = record { 0 = bytes } in d) ((bytes_eq-Decides a.0 b.0).0 e)
+use Rattle.farm_base.proofs.CompareLaws.{digest_exact}
+use Rattle.farm_base.specs.Digests.{digest_eq}
+use Rattle.lists.proofs.Places.{get_push_cases, get_push_left, get_push_end}
+use Rattle.vertices.specs.Firsts.{IsFirstAt, number_in, IsTable}
 
 pub digest_apart : (a b : Digest) → digest_eq a b ≡ false → a ≡ b → ⊥
 digest_apart a b e same = let yes_it_is = (bytes_eq-Decides a.0 b.0).1 (ap (λ (d : Digest). d.0) same) in cc (e, yes_it_is)
@@ -115,7 +89,7 @@ table_more digests old new more h none places numbers =
       found = λ d v e. elim (cases_Bool (digest_eq more d)) [
         | inl t ↦
             let is : m ≡ v = let f = numbered d true t in cc (f, e) in
-            let same = digest_same more d t in (
+            let same = digest_exact more d t in (
               length digests,
               subst (λ (k : ℕ). slice_get new.places.items k ≡ Some (length digests)) is at_end,
               subst (λ (x : Digest). IsFirstAt (digests ++ more ∷ []) (length digests) x) same here,
@@ -135,7 +109,7 @@ table_more digests old new more h none places numbers =
         | inl was ↦
             let f = h.vertex v p was.1 in
             let apart : digest_eq more f.0 ≡ false = elim (cases_Bool (digest_eq more f.0)) [
-              | inl t ↦ absurd (let same : number_in old more ≡ number_in old f.0 = ap (number_in old) (digest_same more f.0 t) in let is = f.2 in cc (same, is, none))
+              | inl t ↦ absurd (let same : number_in old more ≡ number_in old f.0 = ap (number_in old) (digest_exact more f.0 t) in let is = f.2 in cc (same, is, none))
               | inr e ↦ e
             ] in
             (f.0, first_more digests more p f.0 f.1, numbered f.0 false apart ∙ f.2)

@@ -1,19 +1,15 @@
 -- The vertices of a list of digests: of equal digests the first stands (this project's own).
-use Rattle.std.specs.Prelude.{◌≡◌, ℕ, ◌<◌, Bool, List, Option, Some, None, slice_get, nat_eq}
-use Rattle.std.specs.Cmp.Lexicographic.{pointwise}
+use Rattle.std.specs.Prelude.{◌≡◌, ℕ, ◌<◌, List, Option, Some, None, slice_get}
 use Rattle.std.specs.HashMap.{get}
 use Rattle.std.specs.List.Sorted.{IsStrictlyIncreasing}
 use Rattle.farm_base.specs.declared.digest.Digest.{Digest}
+use Rattle.farm_base.specs.Digests.{digest_eq}
 use Rattle.vertices.specs.declared.table.Table.{Table}
 
 -- the digest stands at this place, and at none before
 pub record IsFirstAt (digests : List Digest) (place : ℕ) (digest : Digest) : Type 0 where
   pub there : slice_get digests place ≡ Some digest
   pub earlier : (other : ℕ) → other < place → slice_get digests other ≡ Some digest → ⊥
-
--- whether two digests have the same bytes
-abbrev pub digest_eq : Digest → Digest → Bool
-digest_eq one other = pointwise nat_eq one.0 other.0
 
 -- the number of the vertex with this digest
 abbrev pub number_in : Table → Digest → Option ℕ

@@ -1,8 +1,7 @@
 use Rattle.std.proofs.Common.{ℕ, List, take, get_or, refl, sym, subst, arith}
 use Rattle.std.proofs.lemmas.Option.{slice_get-get_or, slice_get_read}
+use Rattle.lists.proofs.Places.{take_push, AllZip-push}
 use Rattle.vertices.specs.Edges.{IsEdge}
-use Rattle.vertices.proofs.CheckLemmas.{all_zip_push}
-use Rattle.vertices.proofs.EntryLemmas.{take_push}
 use Rattle.vertices.proofs.ZipLemmas.{all_zip_length}
 use Rattle.cachemounts.specs.CacheFolders.{TakesOutput, TakesOutputs}
 use Rattle.cachemounts.proofs.MountLemmas.{edge_at}
@@ -34,4 +33,4 @@ loop-place-preserved c =
     let edge = get_or edges k (0, 0) in
     subst (λ (es : List (ℕ × ℕ)). TakesOutputs keys es c.push.new.self.items) (sym (take_push edges k edge (slice_get-get_or edges k (0, 0) c.loop-place-test.true)))
     (subst (TakesOutputs keys _) (sym c.in_ok-push.ensures.items)
-    (all_zip_push (TakesOutput keys) (take k edges) c.loop-place.outputs.items edge c.output_of.result c.loop-place.invariant c.output_of.ensures))
+    (AllZip-push (TakesOutput keys) (take k edges) c.loop-place.outputs.items edge c.output_of.result c.loop-place.invariant c.output_of.ensures))

@@ -1,8 +1,8 @@
 use Rattle.std.proofs.Common.{ℕ, ◌+◌, Vec, length, take, refl, sym, subst}
 use Rattle.std.specs.Global.{Global}
 use Rattle.std.proofs.lemmas.Option.{slice_get_read, MatchOption-at_some, MatchOption-at_none}
+use Rattle.lists.proofs.Places.{Contains-at}
 use Rattle.vertices.specs.OpChecks.{IsCache}
-use Rattle.vertices.proofs.EntryLemmas.{Contains-at}
 use Rattle.cachemounts.specs.CacheFolders.{HasFolder}
 use Rattle.cachemounts.specs.CacheViews.{AreViewsOf}
 use Rattle.cachemounts.specs.Checked.{IsChecked}

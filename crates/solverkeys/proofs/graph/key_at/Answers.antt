@@ -1,17 +1,12 @@
-use Rattle.std.proofs.Common.{◌≡◌, ℕ, zero, suc, ◌<◌, List, [], ◌∷◌, length, Some, refl, subst, sym, ap, ◌∙◌, arith}
-use Rattle.std.specs.List.{All, slice_get}
+use Rattle.std.proofs.Common.{ℕ, ◌<◌, List, subst, sym, ap, ◌∙◌}
+use Rattle.std.specs.List.{All}
 use Rattle.farm_base.specs.declared.digest.Digest.{Digest}
+use Rattle.lists.proofs.Places.{at_place}
 use Rattle.vertices.proofs.GraphLemmas.{list_at-get}
 use Rattle.solverkeys.specs.Keys.{solver_key}
 use Rattle.solverkeys.specs.GraphKeys.{TakesKeys}
 use Rattle.solverkeys.proofs.KeyLemmas.{edges_within}
 use Rattle.solverkeys.proofs.graph.key_at.Goals as goal
-
--- what stands at a place within a list
-at_place : {X : Type 0} (xs : List X) (k : ℕ) → k < length xs → (x : X) × (slice_get xs k ≡ Some x)
-at_place [] k less = absurd (omega arith)
-at_place (x ∷ xs) zero less = (x, refl)
-at_place (x ∷ xs) (suc k) less = at_place xs k (omega arith)
 
 pub inputs_of-requires-2 : goal.inputs_of-requires-2
 inputs_of-requires-2 c =

@@ -3,10 +3,9 @@ use Rattle.std.specs.List.{AllZip}
 use Rattle.std.proofs.lemmas.Option.{slice_get-get_or}
 use Rattle.opsproto.specs.declared.input.Input.{Input}
 use Rattle.opsproto.specs.Scalars.{Text}
+use Rattle.lists.proofs.Places.{take_push, AllZip-push}
 use Rattle.vertices.specs.declared.asked.Named.{Named}
 use Rattle.vertices.specs.Asked.{NamesAs}
-use Rattle.vertices.proofs.EntryLemmas.{take_push}
-use Rattle.vertices.proofs.CheckLemmas.{all_zip_push}
 use Rattle.vertices.proofs.asked.all_named.Goals as goal
 
 pub loop-input-preserved : goal.loop-input-preserved
@@ -17,4 +16,4 @@ loop-input-preserved c =
     let at = slice_get-get_or inputs k x c.loop-input-test.true ∙ ap (λ (m : Input Text). Some m) (sym c.input-item.is) in
     subst (λ (xs : List (Input Text)). AllZip NamesAs xs c.push.new.self.items) (sym (take_push inputs k x at))
     (subst (λ (ns : List Named). AllZip NamesAs (take k inputs ++ x ∷ []) ns) (sym c.in_ok-push.ensures.items)
-    (all_zip_push NamesAs (take k inputs) c.loop-input.all.items x c.of.result c.loop-input.invariant c.of.ensures))
+    (AllZip-push NamesAs (take k inputs) c.loop-input.all.items x c.of.result c.loop-input.invariant c.of.ensures))

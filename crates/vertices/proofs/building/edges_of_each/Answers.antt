@@ -3,14 +3,14 @@ use Rattle.std.specs.List.{AllZip}
 use Rattle.std.proofs.lemmas.List.{take_all}
 use Rattle.std.proofs.lemmas.Option.{slice_get-get_or}
 use Rattle.std.proofs.lemmas.Result.{err_from_is_err_and}
+use Rattle.lists.proofs.Places.{take_push, AllZip-push}
 use Rattle.vertices.specs.declared.asked.Asked.{Asked}
 use Rattle.vertices.specs.declared.vertex.Vertex.{Vertex}
 use Rattle.vertices.specs.Asked.{Asks}
 use Rattle.vertices.specs.Outcomes.{Each}
 use Rattle.vertices.specs.Edges.{AreEdges}
 use Rattle.vertices.specs.Loading.{VertexCheck}
-use Rattle.vertices.proofs.EntryLemmas.{take_push}
-use Rattle.vertices.proofs.CheckLemmas.{each_more, each_answers, all_zip_push}
+use Rattle.vertices.proofs.CheckLemmas.{each_more, each_answers}
 use Rattle.vertices.proofs.ZipLemmas.{all_zip_length, all_zip_back}
 use Rattle.vertices.proofs.building.edges_of_each.Goals as goal
 
@@ -35,7 +35,7 @@ loop-asked-preserved c =
           let x = all_zip_back Asks vertices c.args.all.now k c.asked-item.result zip at in
           subst (λ (vs : List Vertex). AllZip (λ v es. AreEdges vertices v.op.inputs es) vs c.push.new.self.items) (sym (take_push vertices k x.0 x.1))
           (subst (λ (es : List (List (ℕ × ℕ))). AllZip (λ v es. AreEdges vertices v.op.inputs es) (take k vertices ++ x.0 ∷ []) es) (sym c.in_ok-push.ensures.items)
-          (all_zip_push (λ v es. AreEdges vertices v.op.inputs es) (take k vertices) c.loop-asked.edges.items x.0 c.new.result
+          (AllZip-push (λ v es. AreEdges vertices v.op.inputs es) (take k vertices) c.loop-asked.edges.items x.0 c.new.result
           (c.loop-asked.invariant.edges vertices digests zip n)
           (subst (AreEdges vertices x.0.op.inputs) (sym c.new.ensures) (c.in_ok-vertex_edges.ensures.edges x.0 digests vertices x.2 n))));
     }

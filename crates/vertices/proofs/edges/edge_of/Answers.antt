@@ -3,8 +3,8 @@ use Rattle.std.specs.Option.{IfSome}
 use Rattle.std.specs.List.{Contains}
 use Rattle.farm_base.specs.declared.digest.Digest.{Digest}
 use Rattle.farm_base.specs.Digests.{IsDigest, digest_text}
+use Rattle.farm_base.proofs.NameLaws.{digest_text-injective}
 use Rattle.vertices.specs.Firsts.{number_in}
-use Rattle.vertices.proofs.CheckLemmas.{one_digest}
 use Rattle.vertices.proofs.edges.edge_of.Goals as goal
 
 pub returns-in_default-number-clause-check : goal.returns-in_default-number-clause-check
@@ -17,7 +17,7 @@ returns-in_default-number-clause-check c = λ input digests vertices names n.
       (digest, found.0, found.1),
       inl (
         λ named.
-            let same : named.0 ≡ digest = one_digest named.0 digest (n.are_digests named.0 named.1) found.0 (sym named.2 ∙ found.1) in
+            let same : named.0 ≡ digest = digest_text-injective named.0 digest (n.are_digests named.0 named.1) found.0 (sym named.2 ∙ found.1) in
             n.missing digest none (subst (Contains digests) same named.1),
         refl,
       ),

@@ -7,12 +7,13 @@ use Rattle.std.specs.declared.alloc.Global.{Global}
 use Rattle.std.specs.Vec.{with_item}
 use Rattle.std.proofs.lemmas.List.{length-set, get_or-set_same, get_or-set_other}
 use Rattle.std.proofs.lemmas.List.Elements.{All-contains, All-weaker, All-contains_itself}
+use Rattle.lists.proofs.Places.{Contains-head, Contains-tail}
 use Rattle.vertices.specs.declared.ordering.Waiter.{Waiter}
 use Rattle.vertices.specs.declared.ordering.Sorting.{Sorting}
 use Rattle.vertices.specs.Rows.{row_at}
 use Rattle.vertices.specs.Sorting.{IsSorting, open_count}
 use Rattle.vertices.proofs.RowLemmas.{row_at-read, row_at-set_other}
-use Rattle.vertices.proofs.SortingLemmas.{Puts, put, fewer_open, ready_open, less_from_cmp, waiters_fewer, Contains-head, Contains-tail}
+use Rattle.vertices.proofs.SortingLemmas.{Puts, put, fewer_open, ready_open, less_from_cmp, waiters_fewer}
 use Rattle.vertices.proofs.ordering.Sorting.step.Goals as goal
 
 pub index_mut-requires : goal.index_mut-requires

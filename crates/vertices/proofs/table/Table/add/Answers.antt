@@ -1,6 +1,7 @@
 use Rattle.std.proofs.Common.{ℕ, Some, cond, [], ◌∷◌, ◌++◌, sym, ap, ◌∙◌}
 use Rattle.vertices.specs.declared.table.Table.{Table}
-use Rattle.vertices.specs.Firsts.{digest_eq, number_in}
+use Rattle.farm_base.specs.Digests.{digest_eq}
+use Rattle.vertices.specs.Firsts.{number_in}
 use Rattle.vertices.proofs.TableLemmas.{table_more, not_some}
 use Rattle.vertices.proofs.table.Table.add.Goals as goal
 
