@@ -13,6 +13,7 @@ use Rattle.farm_base.specs.Slots.{slot_cmp}
 use Rattle.farm_base.specs.Wanted.{folders, IsWants}
 use Rattle.farm_base.specs.declared.lease.Lease.{Lease}
 use Rattle.farm_base.proofs.CompareLaws as laws
+use Rattle.protocol.proofs.Leases as instances
 use Rattle.protocol.specs.Names.{Slot, slot_eq, is_private, only_slot, FolderName, NodeId, Life, Ask, Ticket, Want, leased_wants}
 use Rattle.protocol.specs.Ledger.{has_slot, some_lease, lowest, slot_for, all_taken, busy, without, has_ticket}
 use Rattle.protocol.proofs.Base.{cases_bool, true_false, and_both, or_false, eqb_same, eqb_apart, eqb_is}
@@ -99,34 +100,22 @@ missing t (g ∷ live) from e = elim (cases_bool (eqb g.ticket.0 t.0)) [
 
 -- ---- adding a lease
 
-lowest-none : (free : Slot → Bool) (f : FolderName) (i : ℕ) → lowest free f i zero ≡ 0
-unfolding lowest
-lowest-none free f i = refl
-
 pub lowest-end : (free : Slot → Bool) (f : FolderName) (i k : ℕ) → k ≡ 0 → lowest free f i k ≡ 0
-lowest-end free f i k e = ap (lowest free f i) e ∙ lowest-none free f i
-
-suc_free : (free : Slot → Bool) (f : FolderName) (i k : ℕ) → free (record { folder = f; instance = i }) ≡ true → lowest free f i (suc k) ≡ i
-unfolding lowest
-suc_free free f i k e = rw e refl
-
-suc_taken : (free : Slot → Bool) (f : FolderName) (i k : ℕ) → free (record { folder = f; instance = i }) ≡ false → lowest free f i (suc k) ≡ lowest free f (i + 1) k
-unfolding lowest
-suc_taken free f i k e = rw e refl
+lowest-end free f i k e = ap (lowest free f i) e ∙ instances.lowest-none free f i
 
 pub lowest-free : (free : Slot → Bool) (f : FolderName) (i k : ℕ) → 0 < k → free (record { folder = f; instance = i }) ≡ true → lowest free f i k ≡ i
 lowest-free free f i zero h e = absurd (omega arith)
-lowest-free free f i (suc k) h e = suc_free free f i k e
+lowest-free free f i (suc k) h e = instances.lowest-free free f i k e
 
 pub lowest-taken : (free : Slot → Bool) (f : FolderName) (i k j : ℕ) → k ≡ suc j → free (record { folder = f; instance = i }) ≡ false → lowest free f i k ≡ lowest free f (i + 1) j
-lowest-taken free f i k j h e = ap (lowest free f i) h ∙ suc_taken free f i j e
+lowest-taken free f i k j h e = ap (lowest free f i) h ∙ instances.lowest-taken free f i j e
 
 -- the lowest free instance is free
 pub lowest_is_free : (free : Slot → Bool) (f : FolderName) (k i : ℕ) → lowest free f i k ≢ 0 → free (record { folder = f; instance = lowest free f i k }) ≡ true
-lowest_is_free free f zero i h = absurd (h (lowest-none free f i))
+lowest_is_free free f zero i h = absurd (h (instances.lowest-none free f i))
 lowest_is_free free f (suc k) i h = elim (cases_bool (free (record { folder = f; instance = i }))) [
-  | inl e ↦ subst (λ (z : ℕ). free (record { folder = f; instance = z }) ≡ true) (sym (suc_free free f i k e)) e
-  | inr e ↦ (let is : lowest free f i (suc k) ≡ lowest free f (i + 1) k = suc_taken free f i k e in
+  | inl e ↦ subst (λ (z : ℕ). free (record { folder = f; instance = z }) ≡ true) (sym (instances.lowest-free free f i k e)) e
+  | inr e ↦ (let is : lowest free f i (suc k) ≡ lowest free f (i + 1) k = instances.lowest-taken free f i k e in
       subst (λ (z : ℕ). free (record { folder = f; instance = z }) ≡ true) (sym is) (lowest_is_free free f k (i + 1) (λ z. h (is ∙ z))))
 ]
 

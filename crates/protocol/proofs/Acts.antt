@@ -6,7 +6,8 @@ use Rattle.protocol.specs.Machine.{GrantedSlot, Grant, News, Confirmed, Granted,
 use Rattle.farm_base.specs.declared.message.FromCoord.TheVariants as told
 use Rattle.protocol.specs.declared.answer.How.TheVariants as how
 use Rattle.protocol.specs.World.{AskState, Open, Holding, Running, Finished, Over, Node, keeps, learn, learn_bases, learn_versions, keep, has_life, RunsTenure, Uses, Open_uses, Held_uses, Running_uses, Idle, Act, Asks, Asks_tenure, Asks_again, Greets, Takes, Gives_back, Begins, Finishes, Gives_up, Sends_commit, Learns, Drops, Is_denied, Is_recalled, Is_recalled_running, Stores, Asks_content, Sends_blob, Restarts, Stops, World}
-use Rattle.protocol.proofs.Base.{cases_bool, cases_nat, eqb_is, slot_eq_is, digest_eq_is, in_one, some_is, none_some, nth-set_same, nth-set_other, nth_set_cases, nth-append, nth-push, nth_push_cases}
+use Rattle.farm_base.proofs.CompareLaws.{digest_exact}
+use Rattle.protocol.proofs.Base.{cases_bool, cases_nat, eqb_is, slot_eq_is, in_one, some_is, none_some, nth-set_same, nth-set_other, nth_set_cases, nth-append, nth-push, nth_push_cases}
 use Rattle.protocol.proofs.Invariant.{Wanted, spent, WasAsked, Spent, ForTenure, Its, StateOk, WantsNow, for_tenure, HasTenure, AtHome, NodeOk, WasGiven, MessageOk, Inv, Ahead, ahead_refl}
 
 -- ---- what is known
@@ -45,7 +46,7 @@ versions_ok empty m t (v ∷ vs) known all ok =
 
 pub keep_ok : (sha : List ℕ → Digest) (c : List ℕ) (store : Digest → Option (List ℕ)) → ((d : Digest) (c' : List ℕ) → store d ≡ Some c' → sha c' ≡ d) → (d : Digest) (c' : List ℕ) → keep (sha c) c store d ≡ Some c' → sha c' ≡ d
 keep_ok sha c store ok d c' h = elim (cases_bool (digest_eq d (sha c))) [
-  | inl e ↦ (let is : keep (sha c) c store d ≡ Some c = rw e in ap sha (some_is c' c (sym h ∙ is)) ∙ sym (digest_eq_is d (sha c) e))
+  | inl e ↦ (let is : keep (sha c) c store d ≡ Some c = rw e in ap sha (some_is c' c (sym h ∙ is)) ∙ sym (digest_exact d (sha c) e))
   | inr e ↦ (let is : keep (sha c) c store d ≡ store d = rw e in ok d c' (sym is ∙ h))
 ]
 
@@ -166,10 +167,10 @@ runs_has asks f r h = (h.0, h.1, h.2, r, h.3, h.4, h.5, h.6, h.7)
 
 -- ---- a node that acts in a world under the invariant
 
-open_not_running : (wants : List Want) (t : Bool) → NotRunning (Open wants t)
+pub open_not_running : (wants : List Want) (t : Bool) → NotRunning (Open wants t)
 open_not_running wants t ws g r e = cc
 
-held_not_running : (wants : List Want) (h : Grant) (q : Bool) → NotRunning (Holding wants h q)
+pub held_not_running : (wants : List Want) (h : Grant) (q : Bool) → NotRunning (Holding wants h q)
 held_not_running wants h q ws g r e = cc
 
 finished_not_running : (wants : List Want) (h : Grant) (news : List News) → NotRunning (Finished wants h news)

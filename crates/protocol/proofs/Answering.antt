@@ -9,16 +9,13 @@ use Rattle.protocol.specs.declared.answer.CoordNote.TheVariants as note
 use Rattle.protocol.specs.Ledger.{Limits, Ledger, Work, Give, pick, decision, decided, acquiring, answering, gives, grant_of, lease_for, is_parked, newer_life, handled}
 use Rattle.protocol.specs.Follows.{MayBeGranted, NoneReady, OnlyItself, FittingAskIsGranted}
 use Rattle.protocol.proofs.Base.{cases_bool, in_right, from_any, and_both, node_is, life_is, ask_is, eqb_is}
-use Rattle.protocol.proofs.Parking.{newer_none, newer_was}
+use Rattle.protocol.proofs.Parking.{picks, newer_none, newer_was}
 
 -- ---- a fitting ask
 
-pick_gives : (a b c d : Bool) → a ≡ false → b ≡ false → c ≡ false → d ≡ false → pick a b c d ≡ Give
-pick_gives a b c d p q r s = rw (p, q, r, s) refl
-
 decision_gives : (k : Limits) (q : Ledger) (p : Parked) → MayBeGranted k q p → decision k q p ≡ Give
 unfolding decision
-decision_gives k q p may = pick_gives _ _ _ _ may.here may.left may.idle (ap not may.ticket)
+decision_gives k q p may = picks _ _ _ _ may.here may.left may.idle (ap not may.ticket)
 
 abbrev Granted : Limits → Parked → Work → Work → Type 0
 Granted k p v w = (w.note ≡ note.Granted (grant_of k.empty v.ledger.line (lease_for k v.ledger p))) × In (told.Granted (grant_of k.empty v.ledger.line (lease_for k v.ledger p))) w.sends

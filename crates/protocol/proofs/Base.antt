@@ -9,6 +9,7 @@ use Rattle.farm_base.specs.Folders.{folder_eq, base_eq}
 use Rattle.farm_base.specs.Modes.{mode_index}
 use Rattle.farm_base.specs.declared.folder.Base.{Base}
 use Rattle.farm_base.proofs.NameLaws.{folder_exact}
+use Rattle.lists.proofs.Places.{get_push_end, get-set_same, get-set_other}
 use Rattle.protocol.specs.Lists.{In, IsFrontOf, put, nth, set_nth}
 use Rattle.protocol.specs.Names.{Slot, slot_eq, digest_eq, Digest, FolderName, NodeId, Life, Ask, Ticket}
 
@@ -128,9 +129,6 @@ bytes_same xs = (bytes_eq-Decides xs xs).1 refl
 pub digest_eq_same : (d : Digest) → digest_eq d d ≡ true
 digest_eq_same d = bytes_same d.0
 
-pub digest_eq_is : (a b : Digest) → digest_eq a b ≡ true → a ≡ b
-digest_eq_is a b h = digest_is a b ((bytes_eq-Decides a.0 b.0).0 h)
-
 base_same : (b : Base) → base_eq b b ≡ true
 base_same b = (let p = bytes_same b.key.0.0 in let q = eqb_same b.index in rw (p, q) refl)
 
@@ -159,10 +157,6 @@ get-append [] ys j v h = cc
 get-append (x ∷ xs) ys zero v h = h
 get-append (x ∷ xs) ys (suc j) v h = get-append xs ys j v h
 
-pub get-push : {A : Type 0} (xs : List A) (x : A) → slice_get (xs ++ x ∷ []) (length xs) ≡ Some x
-get-push [] x = refl
-get-push (y ∷ xs) x = get-push xs x
-
 -- an element of a list with one more at its end
 pub get_push_cases : {A : Type 0} (xs : List A) (x : A) (j : ℕ) (v : A) → slice_get (xs ++ x ∷ []) j ≡ Some v → (slice_get xs j ≡ Some v) ⊎ ((j ≡ length xs) × (v ≡ x))
 get_push_cases [] x zero v h = inr (refl, (cc))
@@ -178,18 +172,6 @@ get_in (x ∷ xs) (suc j) v h = inr (get_in xs j v h)
 pub nth_in : {A : Type 0} (xs : List A) (k : ℕ) (v : A) → nth xs k ≡ Some v → In v xs
 nth_in xs zero v h = none_some v h
 nth_in xs (suc k) v h = get_in xs k v h
-
-get-set_same : {A : Type 0} (xs : List A) (j : ℕ) (x v : A) → slice_get xs j ≡ Some v → slice_get (set xs j x) j ≡ Some x
-get-set_same [] j x v h = none_some v h
-get-set_same (y ∷ xs) zero x v h = refl
-get-set_same (y ∷ xs) (suc j) x v h = get-set_same xs j x v h
-
-get-set_other : {A : Type 0} (xs : List A) (i j : ℕ) (x : A) → j ≢ i → slice_get (set xs i x) j ≡ slice_get xs j
-get-set_other [] i j x ne = refl
-get-set_other (y ∷ xs) zero zero x ne = absurd (ne refl)
-get-set_other (y ∷ xs) zero (suc j) x ne = refl
-get-set_other (y ∷ xs) (suc i) zero x ne = refl
-get-set_other (y ∷ xs) (suc i) (suc j) x ne = get-set_other xs i j x (λ e. ne (ap suc e))
 
 -- the place that was set, where there was one
 pub nth-set_same : {A : Type 0} (xs : List A) (k : ℕ) (x v : A) → nth xs k ≡ Some v → nth (set_nth xs k x) k ≡ Some x
@@ -215,7 +197,7 @@ nth-append xs ys zero v h = none_some v h
 nth-append xs ys (suc k) v h = get-append xs ys k v h
 
 pub nth-push : {A : Type 0} (xs : List A) (x : A) → nth (xs ++ x ∷ []) (suc (length xs)) ≡ Some x
-nth-push xs x = get-push xs x
+nth-push xs x = get_push_end xs x
 
 pub nth_push_cases : {A : Type 0} (xs : List A) (x : A) (k : ℕ) (v : A) → nth (xs ++ x ∷ []) k ≡ Some v → (nth xs k ≡ Some v) ⊎ ((k ≡ length xs + 1) × (v ≡ x))
 nth_push_cases xs x zero v h = none_some v h

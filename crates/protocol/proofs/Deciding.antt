@@ -20,6 +20,7 @@ use Rattle.protocol.proofs.Base.{cases_bool, true_false, and_both, or_false, eqb
 use Rattle.protocol.proofs.Steps.{Sound, same_grant, made_below}
 use Rattle.protocol.proofs.Leases.{core_of, not_leased, has_lease, writable-from, find_some, find_none, find_in}
 use Rattle.protocol.proofs.Following.{slots_eq_same}
+use Rattle.protocol.proofs.Others.{or_cases}
 use Rattle.protocol.proofs.Calls.{not_nil}
 use Rattle.protocol.proofs.Saving.{Apart, newer_saves}
 
@@ -48,10 +49,6 @@ le_not a b h = grind (arith, nat_tests)
 
 not_lt_self : (a : ℕ) → nat_lt a a ≡ false
 not_lt_self a = grind (arith, nat_tests)
-
-or_true : (a b : Bool) → (a || b) ≡ true → (a ≡ true) ⊎ (b ≡ true)
-or_true true b h = inl refl
-or_true false b h = inr h
 
 both_true : (a b : Bool) → a ≡ true → b ≡ true → (a && b) ≡ true
 both_true a b p q = rw (p, q) refl
@@ -129,7 +126,7 @@ module _ (k : Limits) (pool : List Message) (m : Machine) (sound : Sound k.empty
       let held : Lease → Bool = λ (g : Lease). is_at n g && g.tenure in
       on_test (Retire n) (q.gone n.0) refusal.NodeRetired _ (λ gone. sym (ap (λ (f : ℕ → Bool). f n.0) agrees.gone) ∙ gone)
       (λ here. on_test (Retire n) (list_any (λ (g : Lease). is_at n g && g.tenure) q.live || is_home n q.old_home) refusal.TenureHeld _
-      (λ held. elim (or_true (list_any (λ (g : Lease). is_at n g && g.tenure) q.live) (is_home n q.old_home) held) [
+      (λ held. elim (or_cases (list_any (λ (g : Lease). is_at n g && g.tenure) q.live) (is_home n q.old_home) held) [
         | inl some ↦ (let r = from_any (λ (g : Lease). is_at n g && g.tenure) q.live some in
             let b = and_both (is_at n r.0) r.0.tenure r.2 in
             let g = agrees.live_made r.0 r.1 in

@@ -7,7 +7,7 @@ mod Worlds
 mod Safety
 mod Bulk
 mod Meanings
-mod Leases
+pub mod Leases
 mod Following
 mod Calls
 mod Others

@@ -13,7 +13,8 @@ use Rattle.protocol.specs.declared.answer.NodeRefusal.{NodeRefusal}
 use Rattle.protocol.specs.Ledger.{Limits}
 use Rattle.protocol.specs.World.{AskState, Open, Holding, Running, Finished, Over, Node, World, keeps, learn_bases, learn_versions, keep, has_life, IsTenureOf, Asked_tenure, Held_tenure, Running_tenure, Finished_tenure, RunsTenure, Uses, Open_uses, Held_uses, Running_uses, Idle, Act, Asks, Asks_tenure, Asks_again, Greets, Takes, Gives_back, Begins, Finishes, Gives_up, Sends_commit, Learns, Drops, Is_denied, Is_recalled, Is_recalled_running, Stores, Asks_content, Sends_blob, Restarts, Stops, Node_moves, Moves, Still, Then}
 use Rattle.protocol.specs.Nodes.{NodeWork, NodeAnswer, guard, Place, wants_folder, is_tenure_of, is_home_of, uses, at_home, others_use, in_use, Held, Sent, first, first_of, under, held, running, held_or_running, finished, recalled_if, recallable, is_stored, all_stored, is_missing, others, fetches_of, fetches, is_base, asked, asked_tenure, beginning, begun, Left, news_of, stored, leaving, finishing, finished_with, aborting, aborted, again, all_again, resent, restarted, gives_back, granted, learned, dropped, denied, recalled, of_life, heard, fetched, brought, unless_spent}
-use Rattle.protocol.proofs.Base.{cases_bool, cases_nat, true_false, not_true, not_false, and_both, or_false, none_some, some_is, eqb_is, eqb_apart, folder_eq_same, digest_eq_is, life_is, ticket_is, in_append, in_one, from_map, any_in, any_none, from_any, put_same, put_other, nth_in}
+use Rattle.farm_base.proofs.CompareLaws.{digest_exact}
+use Rattle.protocol.proofs.Base.{cases_bool, cases_nat, true_false, not_true, not_false, and_both, or_false, none_some, some_is, eqb_is, eqb_apart, folder_eq_same, life_is, ticket_is, in_append, in_one, from_map, any_in, any_none, from_any, put_same, put_other, nth_in}
 use Rattle.protocol.specs.Replay.{told_to}
 use Rattle.protocol.proofs.Following.{slots_eq_is}
 use Rattle.farm_base.proofs.NameLaws.{folder_exact}
@@ -176,7 +177,7 @@ stored_ok sha (x ∷ xs) store d c e = elim (cases_bool (is_some (store (sha x.c
     | inr same ↦ inr same
     | inl old ↦ elim (cases_bool (digest_eq d (sha x.content))) [
       | inl q ↦ (let is : keep (sha x.content) x.content store d ≡ Some x.content = rw q in
-          inr (ap sha (some_is c x.content (sym old ∙ is)) ∙ sym (digest_eq_is d (sha x.content) q)))
+          inr (ap sha (some_is c x.content (sym old ∙ is)) ∙ sym (digest_exact d (sha x.content) q)))
       | inr q ↦ (let is : keep (sha x.content) x.content store d ≡ store d = rw q in inl (sym is ∙ old))
     ]
   ]

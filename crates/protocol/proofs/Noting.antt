@@ -17,7 +17,8 @@ use Rattle.protocol.specs.Replay.{Event, Tenure, Deliver, Begin, Finish, Abort, 
 use Rattle.protocol.specs.Replay as replay
 use Rattle.protocol.specs.Meaning.{Stored, NodeMeans}
 use Rattle.protocol.specs.Reasons.{HoldsUnder, RunsUnder, NodeBecause}
-use Rattle.protocol.proofs.Base.{cases_bool, cases_option, true_false, not_true, not_false, and_both, or_false, none_some, some_is, eqb_is, eqb_same, digest_eq_is, digest_eq_same, life_is, any_in, from_any, nth_in, in_left, in_right}
+use Rattle.farm_base.proofs.CompareLaws.{digest_exact}
+use Rattle.protocol.proofs.Base.{cases_bool, cases_option, true_false, not_true, not_false, and_both, or_false, none_some, some_is, eqb_is, eqb_same, digest_eq_same, life_is, any_in, from_any, nth_in, in_left, in_right}
 use Rattle.protocol.proofs.Following.{slots_eq_is, slots_eq_same}
 use Rattle.protocol.proofs.Moving.{found, held_is, running_is, either_is, finished_is, recallable_is, all_in, some_home, wants_folder_in, wants_folder_is, tenure_test, idle_from, stored_some, get_from}
 use Rattle.protocol.proofs.Using.{GrantOf, OneEach}
@@ -95,7 +96,7 @@ under_some g t x e = (let same : eqb g.ticket.0 t.0 ≡ true = subst (λ (z : Ti
 
 keep_named : (d e : Digest) (c b : List ℕ) (store : Digest → Option (List ℕ)) → keep d c store e ≡ Some b → (store e ≡ Some b) ⊎ ((e ≡ d) × (b ≡ c))
 keep_named d e c b store h = elim (cases_bool (digest_eq e d)) [
-  | inl t ↦ (let is : Some c ≡ Some b = rw t at h in inr (digest_eq_is e d t, sym (some_is c b is)))
+  | inl t ↦ (let is : Some c ≡ Some b = rw t at h in inr (digest_exact e d t, sym (some_is c b is)))
   | inr f ↦ inl (rw f at h)
 ]
 
@@ -105,7 +106,7 @@ keep-same d c store = (let e = digest_eq_same d in rw e refl)
 -- what is stored stays where a content is kept under a digest that has none
 keep_kept : (d e : Digest) (c b : List ℕ) (store : Digest → Option (List ℕ)) → store d ≡ None → store e ≡ Some b → keep d c store e ≡ Some b
 keep_kept d e c b store none h = elim (cases_bool (digest_eq e d)) [
-  | inl t ↦ none_some b (sym none ∙ ap store (sym (digest_eq_is e d t)) ∙ h)
+  | inl t ↦ none_some b (sym none ∙ ap store (sym (digest_exact e d t)) ∙ h)
   | inr f ↦ rw f h
 ]
 

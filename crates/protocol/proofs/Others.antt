@@ -23,7 +23,7 @@ use Rattle.protocol.proofs.Bulk.{EndsThose}
 use Rattle.protocol.proofs.Calls as calls
 use Rattle.protocol.proofs.Calls.{Fo, picks}
 
-or_cases : (a b : Bool) → (a || b) ≡ true → (a ≡ true) ⊎ (b ≡ true)
+pub or_cases : (a b : Bool) → (a || b) ≡ true → (a ≡ true) ⊎ (b ≡ true)
 or_cases true b h = inl refl
 or_cases false b h = inr h
 

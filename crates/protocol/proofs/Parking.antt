@@ -67,7 +67,7 @@ any_less test test' xs more e = elim (cases_bool (list_any test xs)) [
   | inr f ↦ f
 ]
 
-picks : (a b c d : Bool) → a ≡ false → b ≡ false → c ≡ false → d ≡ false → pick a b c d ≡ Give
+pub picks : (a b c d : Bool) → a ≡ false → b ≡ false → c ≡ false → d ≡ false → pick a b c d ≡ Give
 picks a b c d p q r s = rw (p, q, r, s) refl
 
 pub less_ready : (k : Limits) (q q' : Ledger) (p : Parked) → Fewer q q' → decision k q' p ≡ Give → decision k q p ≡ Give

@@ -7,6 +7,7 @@ use Rattle.protocol.specs.Machine.{Grant, News, LineVersion, Confirmed, Ending, 
 use Rattle.farm_base.specs.declared.message.FromCoord.TheVariants as told
 use Rattle.protocol.specs.World.{AskState, Running, World, start}
 use Rattle.protocol.specs.Safe.{InUse, Held, IsWithdrawn, OnALine, Rising, Falling, Safe, EveryRunIsSafe, EveryRunStaysSafe}
+use Rattle.lists.proofs.Places.{cases_list}
 use Rattle.protocol.proofs.Base.{cases_nat, cases_bool, order_cases, in_one, in_append, from_map, get_in, some_is, slot_path}
 use Rattle.protocol.proofs.Lines.{Below, below_in, one_made, line_source, added_ticket, added_cases_one}
 use Rattle.protocol.proofs.Steps.{names_later, same_grant, older_gone, live_apart}
@@ -41,18 +42,6 @@ line_rising empty s e (x ∷ xs) b h =
           let at : d.0.ticket.0 ≡ ticket_of x = d.1 in
           omega arith)))
     ]
-
-cases_list : (xs ys : List ℕ) → (xs ≡ ys) ⊎ (xs ≢ ys)
-cases_list [] [] = inl refl
-cases_list [] (y ∷ ys) = inr (λ e. (let bad : [] ≡ y ∷ ys = e in cc))
-cases_list (x ∷ xs) [] = inr (λ e. (let bad : x ∷ xs ≡ [] = e in cc))
-cases_list (x ∷ xs) (y ∷ ys) = elim (cases_nat x y) [
-  | inr n ↦ inr (λ e. n (let same : x ∷ xs ≡ y ∷ ys = e in cc))
-  | inl p ↦ elim (cases_list xs ys) [
-    | inl q ↦ inl (cc)
-    | inr n ↦ inr (λ e. n (let same : x ∷ xs ≡ y ∷ ys = e in cc))
-  ]
-]
 
 -- a version has one digest on one line
 one_digest : (empty : Digest) (vs : List LineVersion) (k : ℕ) (d d' : Digest) → Names empty vs k d → Names empty vs k d' → d ≡ d'

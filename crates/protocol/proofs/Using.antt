@@ -14,6 +14,7 @@ use Rattle.protocol.specs.Ledger.{Limits}
 use Rattle.protocol.specs.World.{AskState, Open, Holding, Running, Finished, Over, Node, keeps, World}
 use Rattle.protocol.specs.Nodes.{NodeWork, NodeAnswer, guard, Place, is_tenure_of, at_home, in_use, Held, Sent, first, held, running, held_or_running, finished, recallable, is_stored, all_stored, is_base, asked, asked_tenure, beginning, begun, Left, news_of, leaving, finishing, finished_with, aborting, aborted, resent, gives_back, granted, learned, dropped, denied, recalled, of_life, heard, fetched, brought, unless_spent}
 use Rattle.protocol.proofs.Base.{cases_bool, cases_nat, some_is, nth_set_cases, nth-set_same, nth-set_other, nth-append, nth_push_cases}
+use Rattle.protocol.proofs.Acts.{open_not_running, held_not_running}
 use Rattle.protocol.proofs.Steps.{same_grant}
 use Rattle.protocol.proofs.Invariant.{Its, Inv}
 use Rattle.protocol.proofs.Moving.{found, held_is, running_is, either_is, finished_is, recallable_is}
@@ -68,12 +69,6 @@ turned_set asks a old new begins stops at here gone = record {
 quiet_set : (asks : List AskState) (a : ℕ) (old new : AskState) → nth asks a ≡ Some old → NotRunning old → NotRunning new → Quiet asks (set_nth asks a new)
 quiet_set asks a old new at p q = turned_set asks a old new NoGrant NoGrant at (λ g ws r e. absurd (q ws g r e)) (λ g ws r e. absurd (p ws g r e))
 
-open_idle : (wants : List Want) (t : Bool) → NotRunning (Open wants t)
-open_idle wants t ws g r e = (let bad : Open wants t ≡ Running ws g r = e in cc)
-
-held_idle : (wants : List Want) (h : Grant) (q : Bool) → NotRunning (Holding wants h q)
-held_idle wants h q ws g r e = (let bad : Holding wants h q ≡ Running ws g r = e in cc)
-
 -- the grant that an ask has
 abbrev pub GrantOf : AskState → Grant → Type 0
 GrantOf (Open ws b) g = ⊥
@@ -119,10 +114,10 @@ module _ (x : Node) (one : OneEach x.asks) where
   -- ---- calls
 
   pub asked_use : (k : Limits) (at : Place) (wants : List Want) → OnNode Still (asked k at wants x)
-  asked_use k at wants = on_guard Still x.spent _ _ (λ a. on_guard Still (not (at_home x.asks wants)) _ _ (λ b. on_guard Still (not (nat_lt (length x.asks) k.greatest)) _ _ (λ c. quiet_push x.asks (Open wants false) (open_idle wants false))))
+  asked_use k at wants = on_guard Still x.spent _ _ (λ a. on_guard Still (not (at_home x.asks wants)) _ _ (λ b. on_guard Still (not (nat_lt (length x.asks) k.greatest)) _ _ (λ c. quiet_push x.asks (Open wants false) (open_not_running wants false))))
 
   pub tenure_use : (k : Limits) (at : Place) (f : FolderName) → OnNode Still (asked_tenure k at f x)
-  tenure_use k at f = on_guard Still x.spent _ _ (λ a. on_guard Still (list_any (is_tenure_of (record f { mode = Shared })) x.asks) _ _ (λ b. on_guard Still (not (nat_lt (length x.asks) k.greatest)) _ _ (λ c. quiet_push x.asks (Open (tenure_wants f) true) (open_idle (tenure_wants f) true))))
+  tenure_use k at f = on_guard Still x.spent _ _ (λ a. on_guard Still (list_any (is_tenure_of (record f { mode = Shared })) x.asks) _ _ (λ b. on_guard Still (not (nat_lt (length x.asks) k.greatest)) _ _ (λ c. quiet_push x.asks (Open (tenure_wants f) true) (open_not_running (tenure_wants f) true))))
 
   -- the execution of the ticket begins
   abbrev pub Begun : Ticket → NodeWork → Type 0
@@ -140,13 +135,13 @@ module _ (x : Node) (one : OneEach x.asks) where
         refl,
         turned_set x.asks r.0 (Holding h.wants h.grant h.recalled) new (λ g. g.ticket ≡ t) NoGrant at
             (λ g ws q e. (let same : Running h.wants h.grant h.recalled ≡ Running ws g q = e in let one : h.grant ≡ g = cc in inr (ap (λ (z : Grant). z.ticket) (sym one) ∙ is.1)))
-            (λ g ws q e. absurd (held_idle h.wants h.grant h.recalled ws g q e)),
+            (λ g ws q e. absurd (held_not_running h.wants h.grant h.recalled ws g q e)),
         (
           h.grant,
           h.wants,
           is.1,
           λ i. (let same : r.0 ≡ i.0 = one r.0 i.0 (Holding h.wants h.grant h.recalled) (Running h.wants h.grant i.1) h.grant h.grant at i.2 refl refl refl in
-              held_idle h.wants h.grant h.recalled h.wants h.grant i.1 (some_is (Holding h.wants h.grant h.recalled) (Running h.wants h.grant i.1) (sym at ∙ ap (nth x.asks) same ∙ i.2))),
+              held_not_running h.wants h.grant h.recalled h.wants h.grant i.1 (some_is (Holding h.wants h.grant h.recalled) (Running h.wants h.grant i.1) (sym at ∙ ap (nth x.asks) same ∙ i.2))),
           (r.0, h.recalled, nth-set_same x.asks r.0 new (Holding h.wants h.grant h.recalled) at),
         ),
       ))
@@ -215,7 +210,7 @@ module _ (x : Node) (one : OneEach x.asks) where
       on_guard (Aborts t) (in_use x.asks r.0 h.wants h.grant) _ _ (λ idle. elim is.0 [
         | inl q ↦ (let here : nth x.asks r.0 ≡ Some (Holding h.wants h.grant h.recalled) = f.1 ∙ ap Some q in (
           ap node_note.Aborted is.1,
-          turned_set x.asks r.0 (Holding h.wants h.grant h.recalled) (Over how.Other) NoGrant (λ g. g.ticket ≡ t) here (λ g ws b z. absurd (over ws g b z)) (λ g ws b z. absurd (held_idle h.wants h.grant h.recalled ws g b z)),
+          turned_set x.asks r.0 (Holding h.wants h.grant h.recalled) (Over how.Other) NoGrant (λ g. g.ticket ≡ t) here (λ g ws b z. absurd (over ws g b z)) (λ g ws b z. absurd (held_not_running h.wants h.grant h.recalled ws g b z)),
           none_left r.0 (Holding h.wants h.grant h.recalled) (Over how.Other) h.grant t here refl is.1 over,
         ))
         | inr q ↦ (let here : nth x.asks r.0 ≡ Some (Running h.wants h.grant h.recalled) = f.1 ∙ ap Some q in (
@@ -242,7 +237,7 @@ module _ (x : Node) (one : OneEach x.asks) where
 
   granted_use : (k : Limits) (at : Place) (g : Grant) (o : Option AskState) → nth x.asks g.ask.0 ≡ o → OnWork (granted k at g x o)
   granted_use k at g None e = give_back_use at g false
-  granted_use k at g (Some (Open wants tenure)) e = quiet_set x.asks g.ask.0 (Open wants tenure) (Holding wants g false) e (open_idle wants tenure) (held_idle wants g false)
+  granted_use k at g (Some (Open wants tenure)) e = quiet_set x.asks g.ask.0 (Open wants tenure) (Holding wants g false) e (open_not_running wants tenure) (held_not_running wants g false)
   granted_use k at g (Some (Holding wants h r)) e = give_back_use at g (keeps (Holding wants h r) g.ticket)
   granted_use k at g (Some (Running wants h r)) e = give_back_use at g (keeps (Running wants h r) g.ticket)
   granted_use k at g (Some (Finished wants h news)) e = give_back_use at g (keeps (Finished wants h news) g.ticket)
@@ -263,7 +258,7 @@ module _ (x : Node) (one : OneEach x.asks) where
 
   denied_use : (a : Ask) (why : Why) (o : Option AskState) → nth x.asks a.0 ≡ o → OnWork (denied a why x o)
   denied_use a why None e = quiet_same x.asks
-  denied_use a why (Some (Open wants tenure)) e = quiet_set x.asks a.0 (Open wants tenure) (Over (how.Denied why)) e (open_idle wants tenure) (λ ws g q z. (let bad : Over (how.Denied why) ≡ Running ws g q = z in cc))
+  denied_use a why (Some (Open wants tenure)) e = quiet_set x.asks a.0 (Open wants tenure) (Over (how.Denied why)) e (open_not_running wants tenure) (λ ws g q z. (let bad : Over (how.Denied why) ≡ Running ws g q = z in cc))
   denied_use a why (Some (Holding wants h r)) e = quiet_same x.asks
   denied_use a why (Some (Running wants h r)) e = quiet_same x.asks
   denied_use a why (Some (Finished wants h news)) e = quiet_same x.asks
@@ -275,7 +270,7 @@ module _ (x : Node) (one : OneEach x.asks) where
       let f = found (recallable t) x.asks r e in
       let o = recallable_is t f.0 r.1 f.2 in
       elim o.3 [
-        | inl is ↦ subst (λ z. Quiet x.asks (set_nth x.asks r.0 z)) (sym is.1) (quiet_set x.asks r.0 (Holding o.0 o.1 false) (Holding o.0 o.1 true) (f.1 ∙ ap Some is.0) (held_idle o.0 o.1 false) (held_idle o.0 o.1 true))
+        | inl is ↦ subst (λ z. Quiet x.asks (set_nth x.asks r.0 z)) (sym is.1) (quiet_set x.asks r.0 (Holding o.0 o.1 false) (Holding o.0 o.1 true) (f.1 ∙ ap Some is.0) (held_not_running o.0 o.1 false) (held_not_running o.0 o.1 true))
         | inr is ↦ subst (λ z. Quiet x.asks (set_nth x.asks r.0 z)) (sym is.1) (turned_set x.asks r.0 (Running o.0 o.1 false) (Running o.0 o.1 true) NoGrant NoGrant (f.1 ∙ ap Some is.0)
             (λ g ws q z. (let same : Running o.0 o.1 true ≡ Running ws g q = z in let a : o.0 ≡ ws = cc in let b : o.1 ≡ g = cc in inl (false, ap (λ l. Running l o.1 false) a ∙ ap (λ h. Running ws h false) b)))
             (λ g ws q z. (let same : Running o.0 o.1 false ≡ Running ws g q = z in let a : o.0 ≡ ws = cc in let b : o.1 ≡ g = cc in inl (true, ap (λ l. Running l o.1 true) a ∙ ap (λ h. Running ws h true) b))))
