@@ -3,17 +3,22 @@ use Rattle.std.proofs.Common.{◌≡◌, ℕ, zero, suc, ◌+◌, ◌<◌, ◌�
 use Rattle.std.specs.Cmp.{IsTotalOrder}
 use Rattle.std.specs.List.{AllByRecursion, Contains}
 use Rattle.std.specs.List.Sorted.{IsStrictlyIncreasing, IsStrictlySortedBy}
-use Rattle.std.specs.Ordering.{is_lt, ordering_reverse}
+use Rattle.std.specs.Ordering.{is_lt, nat_cmp, ordering_reverse}
 use Rattle.std.specs.declared.cmp.Ordering.TheVariants.{Less, Equal, Greater}
 use Rattle.std.proofs.lemmas.Bool.{cases_lt}
 use Rattle.std.proofs.lemmas.List.{get_or_append_left, get_or_push, length_push}
 use Rattle.std.proofs.lemmas.List.Elements.{Contains-get_or}
+use Rattle.std.proofs.lemmas.Map.Keys.{IsStrictlyIncreasing-from_sorted}
 use Rattle.lists.proofs.Places.{Contains-cases, Contains-head, Contains-tail}
 
 pub less-from_is_lt : (o : Ordering) → is_lt o ≡ true → o ≡ Less
 less-from_is_lt Less h = refl
 less-from_is_lt Equal h = absurd cc
 less-from_is_lt Greater h = absurd cc
+
+pub less-from_cmp : (a b : ℕ) → nat_cmp a b ≡ Less → a < b
+unfolding IsStrictlySortedBy
+less-from_cmp a b h = (IsStrictlyIncreasing-from_sorted (a ∷ b ∷ []) ((h, tt), ((tt, tt)))) 0 (omega arith)
 
 -- numbers that rise, with a greater one at their end
 pub rising_push : (xs : List ℕ) (y : ℕ) → IsStrictlyIncreasing xs → ((x : ℕ) → Contains xs x → x < y) → IsStrictlyIncreasing (xs ++ y ∷ [])

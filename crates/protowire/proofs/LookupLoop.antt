@@ -4,6 +4,8 @@ use Rattle.std.specs.Prelude.{filter_map}
 use Rattle.std.specs.Global.{Vec}
 use Rattle.std.specs.List.{flat_map, cons_option, list_all}
 use Rattle.std.specs.Option.{option_map, option_eq}
+use Rattle.std.proofs.Math.Bool.{and-true}
+use Rattle.std.proofs.lemmas.List.Folds.{list_all-append}
 use Rattle.std.proofs.lemmas.Bool.{and_parts, cases_eq, eqb-true, eqb-false, eq-eqb, ne_eqb}
 use Rattle.std.proofs.lemmas.List.Concat.{flat_map-append}
 use Rattle.std.proofs.lemmas.List.{drop_more, take_more, append-nil, map_push, map-append, take-append-drop}
@@ -37,13 +39,8 @@ run_push (Some r) m = cond (eqb r.0 m.0) (Some (r.0, r.1 ++ m.1)) (Some m)
 abbrev has : ℕ → Member → Bool
 has number m = eqb m.0 number
 
-and_assoc : (a b c : Bool) → ((a && b) && c) ≡ (a && (b && c))
-and_assoc true b c = refl
-and_assoc false b c = refl
-
 list_all-push : {X : Type 0} (p : X → Bool) (xs : List X) (x : X) → list_all p (xs ++ x ∷ []) ≡ (list_all p xs && p x)
-list_all-push p [] x = elim (p x) as (λ b. (b && true) ≡ b) [ true ↦ refl | false ↦ refl ]
-list_all-push p (y ∷ xs) x = ap (λ b. p y && b) (list_all-push p xs x) ∙ sym (and_assoc (p y) (list_all p xs) (p x))
+list_all-push p xs x = list_all-append p xs (x ∷ []) ∙ ap (λ b. list_all p xs && b) (and-true (p x))
 
 -- the run of members that all have one number
 all_one : (k : ℕ) (m : Member) (ms : List Member) → list_all (has k) (m ∷ ms) ≡ true → last_run (m ∷ ms) ≡ Some (k, flat_map (λ x. x.1) (m ∷ ms))

@@ -4,6 +4,7 @@ use Rattle.std.specs.Prelude.{IfOk, OnOk, codes}
 use Rattle.std.specs.Global.{Vec}
 use Rattle.std.specs.declared.alloc.AllocError.{AllocError}
 use Rattle.std.specs.List.{list_any, list_all, AllByRecursion, insert}
+use Rattle.std.proofs.Math.Bool.{or-true}
 use Rattle.std.proofs.lemmas.Bool.{ltb-false, lt-ltb, and_parts, or_parts, eqb-false}
 use Rattle.farm_base.specs.declared.lease.Lease.{Lease}
 use Rattle.farm_base.specs.declared.number.NodeId.{NodeId}
@@ -38,17 +39,13 @@ all_insert P [] (suc k) y all here = (here, tt)
 all_insert P (x ∷ xs) zero y all here = (here, all)
 all_insert P (x ∷ xs) (suc k) y all here = (all.0, all_insert P xs k y all.1 here)
 
-or_right : (a : Bool) → (a || true) ≡ true
-or_right true = refl
-or_right false = refl
-
 or_kept : (a b c : Bool) → (b ≡ true → c ≡ true) → (a || b) ≡ true → (a || c) ≡ true
 or_kept true b c more h = refl
 or_kept false b c more h = more h
 
 any_insert : {X : Type 0} (p : X → Bool) (xs : List X) (k : ℕ) (y : X) → list_any p xs ≡ true → list_any p (insert xs k y) ≡ true
 any_insert p [] k y h = absurd cc
-any_insert p (x ∷ xs) zero y h = rw h (or_right (p y))
+any_insert p (x ∷ xs) zero y h = rw h (or-true (p y))
 any_insert p (x ∷ xs) (suc k) y h = or_kept (p x) (list_any p xs) (list_any p (insert xs k y)) (any_insert p xs k y) h
 
 abbrev new_life : NodeId → NodeLife

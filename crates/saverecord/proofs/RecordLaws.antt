@@ -1,5 +1,5 @@
 -- A record of version 3 that is read is the one that was written, and what was written is read again.
-use Rattle.std.proofs.Common.{◌≡◌, ℕ, ◌+◌, ◌-◌, ◌≤◌, Bool, true, false, cond, ltb, List, ◌++◌, length, take, drop, Result, Ok, Err, refl, sym, ap, subst, ◌∙◌, append_assoc, arith}
+use Rattle.std.proofs.Common.{◌≡◌, ℕ, ◌+◌, ◌-◌, ◌≤◌, true, false, cond, ltb, List, ◌++◌, length, take, drop, Ok, Err, refl, sym, ap, subst, ◌∙◌, append_assoc, arith}
 use Rattle.std.specs.Prelude.{codes}
 use Rattle.std.proofs.lemmas.Bool.{ltb-false, le-ltb}
 use Rattle.std.proofs.lemmas.List.{take_at, drop_at, take-append-drop, length-append, length-take, take-append-le}
@@ -19,7 +19,7 @@ use Rattle.saverecord.specs.Relations.{agrees}
 use Rattle.saverecord.specs.Spelling.{body_bytes, record_bytes}
 use Rattle.saverecord.specs.Fits.{IsRecord, IsTypedRecord}
 use Rattle.codec.proofs.Fronts.{IsBytes-take, IsBytes-drop}
-use Rattle.codec.proofs.Steps.{bind_ok, ok_is}
+use Rattle.codec.proofs.Steps.{bind_ok, guard_ok, ok_is, passed_ok as test_ok}
 use Rattle.farm_base.specs.Digests.{IsBytes}
 use Rattle.saverecord.proofs.Fields.{passed_ok}
 use Rattle.saverecord.proofs.BodyLaws.{body_bytes_in, body_bytes-third, whole_takes, whole_again}
@@ -30,15 +30,6 @@ same_bytes a b h = (bytes_eq-Decides a b).0 h
 
 same_itself : (a : List ℕ) → is_same a a ≡ true
 same_itself a = (bytes_eq-Decides a a).1 refl
-
--- a test before a value, and a fault in its place
-chosen_ok : {A : Type 0} (b : Bool) (r : Result A RecordRefusal) (d : RecordRefusal) (x : A) → cond b r (Err d) ≡ Ok x → (b ≡ true) × (r ≡ Ok x)
-chosen_ok true r d x e = (refl, e)
-chosen_ok false r d x e = absurd cc
-
-not_short : {A : Type 0} (b : Bool) (r : Result A RecordRefusal) (d : RecordRefusal) (x : A) → cond b (Err d) r ≡ Ok x → (b ≡ false) × (r ≡ Ok x)
-not_short true r d x e = absurd cc
-not_short false r d x e = (refl, e)
 
 abbrev pub magic : List ℕ
 magic = codes "BKFARM03"
@@ -58,11 +49,11 @@ pub record Opens (bytes : List ℕ) (body : List ℕ) : Type 0 where
 pub opened_takes : (bytes : List ℕ) (layout : Layout) (body : List ℕ) → IsBytes bytes → opened bytes ≡ Ok (layout, body) → Opens bytes body × (layout_of (take 8 bytes) ≡ Ok layout)
 unfolding opened
 opened_takes bytes layout body fits e =
-    let g = not_short (ltb (length bytes) 40) (layout_of (take 8 bytes) >>= λ layout. cond (is_same (sha256 (signed_of bytes)) (drop (length bytes - 32) bytes)) (Ok (layout, drop 8 (signed_of bytes))) (Err BadDigest)) Truncated (layout, body) e in
+    let g = guard_ok (ltb (length bytes) 40) Truncated (layout_of (take 8 bytes) >>= λ layout. cond (is_same (sha256 (signed_of bytes)) (drop (length bytes - 32) bytes)) (Ok (layout, drop 8 (signed_of bytes))) (Err BadDigest)) (layout, body) e in
     let long : 40 ≤ length bytes = ltb-false _ _ g.0 in
     let a = bind_ok (layout_of (take 8 bytes)) (λ layout. cond (is_same (sha256 (signed_of bytes)) (drop (length bytes - 32) bytes)) (Ok (layout, drop 8 (signed_of bytes))) (Err BadDigest)) (layout, body) g.1 in
     let read : Part Layout = Ok (a.0, drop 8 (signed_of bytes)) in
-    let c = chosen_ok (is_same (sha256 (signed_of bytes)) (drop (length bytes - 32) bytes)) read BadDigest (layout, body) a.2 in
+    let c = test_ok (is_same (sha256 (signed_of bytes)) (drop (length bytes - 32) bytes)) BadDigest read (layout, body) a.2 in
     let same = same_bytes (sha256 (signed_of bytes)) (drop (length bytes - 32) bytes) c.0 in
     let split : bytes ≡ signed_of bytes ++ drop (length bytes - 32) bytes = sym (take-append-drop (length bytes - 32) bytes) in
     let len : length (signed_of bytes) ≡ length bytes - 32 = omega (arith, length-take (length bytes - 32) bytes) in

@@ -1,27 +1,23 @@
 -- The tests of rows: each entry is above the one before it.
-use Rattle.std.proofs.Common.{◌≡◌, ℕ, ◌<◌, List, [], ◌∷◌, map, None, refl, sym, ap, arith}
+use Rattle.std.proofs.Common.{ℕ, List, map, None, refl, sym, ap}
 use Rattle.std.specs.Ordering.{nat_cmp, is_lt}
 use Rattle.std.specs.Cmp.{nat_cmp_is}
-use Rattle.std.specs.List.Sorted.{IsStrictlyIncreasing, IsStrictlySortedBy}
+use Rattle.std.specs.List.Sorted.{IsStrictlyIncreasing}
 use Rattle.std.specs.declared.cmp.Ordering.TheVariants.{Less}
 use Rattle.std.proofs.lemmas.Bool.{lt-ltb, ltb-true}
 use Rattle.std.proofs.lemmas.Cmp.{nat_cmp_total}
 use Rattle.std.proofs.lemmas.Map.Keys.{IsStrictlyIncreasing-from_sorted, sorted_from_strictly_increasing}
-use Rattle.lists.proofs.Rising.{Row, Tests, less-from_is_lt, sorted-from_row, row-from_sorted}
+use Rattle.lists.proofs.Rising.{Row, Tests, less-from_cmp, less-from_is_lt, sorted-from_row, row-from_sorted}
 use Rattle.farm_base.specs.Slots.{slot_cmp}
 use Rattle.farm_base.proofs.CompareLaws.{slot_total}
 use Rattle.saverecord.specs.Entries.{is_above}
 use Rattle.saverecord.specs.Slots.{is_slot_above}
 
-less-from_sorted : (a b : ℕ) → nat_cmp a b ≡ Less → a < b
-unfolding IsStrictlySortedBy
-less-from_sorted a b h = (IsStrictlyIncreasing-from_sorted (a ∷ b ∷ []) ((h, tt), ((tt, tt)))) 0 (omega arith)
-
 pub number_tests : Tests is_above nat_cmp
 number_tests = record {
   first = λ k. refl;
   to_less = λ b k h. sym (nat_cmp_is b k Less (ltb-true b k h));
-  from_less = λ b k h. lt-ltb b k (less-from_sorted b k h);
+  from_less = λ b k h. lt-ltb b k (less-from_cmp b k h);
   trans = nat_cmp_total.trans;
 }
 

@@ -127,12 +127,6 @@ in_front (y ∷ xs) zero k x e less = absurd (omega arith)
 in_front (y ∷ xs) (suc count) zero x e less = e
 in_front (y ∷ xs) (suc count) (suc k) x e less = in_front xs count k x e (omega arith)
 
-pub take_front : {X : Type 0} (xs : List X) (count k : ℕ) → k ≤ count → take k (take count xs) ≡ take k xs
-take_front xs count zero le = refl
-take_front xs zero (suc k) le = absurd (omega arith)
-take_front [] (suc count) (suc k) le = refl
-take_front (x ∷ xs) (suc count) (suc k) le = ap (λ (ys : List _). x ∷ ys) (take_front xs count k (omega arith))
-
 map_same : {X : Type 0} (f g : ℕ → X) (ps : List ℕ) → ((n p : ℕ) → slice_get ps n ≡ Some p → f p ≡ g p) → map f ps ≡ map g ps
 map_same f g [] h = refl
 map_same f g (p ∷ ps) h = ap (λ (x : _). x ∷ map f ps) (h 0 p refl) ∙ ap (λ (xs : List _). g p ∷ xs) (map_same f g ps (λ n q e. h (suc n) q e))

@@ -5,12 +5,11 @@ use Rattle.std.specs.declared.cmp.Ordering.{Ordering}
 use Rattle.std.specs.declared.cmp.Ordering.TheVariants.{Less, Equal, Greater}
 use Rattle.std.specs.Ordering.{nat_cmp, is_eq}
 use Rattle.std.specs.Bool.{OnTrue, OnFalse}
-use Rattle.std.specs.Cmp.{nat_cmp_is}
 use Rattle.std.specs.BTreeMap.{is_at}
 use Rattle.std.specs.BTreeSet.{BTreeSet, contains, Updates}
 use Rattle.std.specs.declared.vec.Vec.{Vec}
 use Rattle.std.specs.declared.alloc.Global.{Global}
-use Rattle.std.proofs.lemmas.Bool.{cases_eq, cases_lt, cases_order, cases_Bool, false_from_ne_true}
+use Rattle.std.proofs.lemmas.Bool.{cases_eq, cases_lt, cases_Bool, false_from_ne_true}
 use Rattle.std.proofs.lemmas.Cmp.{nat_cmp_total}
 use Rattle.std.proofs.lemmas.Map.Lookups.{exact_unsigned}
 use Rattle.std.proofs.lemmas.Map.Views.{btree_set_contains_iff}
@@ -259,16 +258,6 @@ pub record Puts (old new : Sorting) (p : ℕ) : Type 0 where
   pub flag : flag_at new.placed.items p ≡ true
   pub flags : (q : ℕ) → (q ≡ p → ⊥) → flag_at new.placed.items q ≡ flag_at old.placed.items q
   pub waiting : (q : ℕ) → (q ≡ p → ⊥) → row_at new.waiting.items q ≡ row_at old.waiting.items q
-
--- what compares less is less
-pub less_from_cmp : (x y : ℕ) → nat_cmp x y ≡ Less → x < y
-less_from_cmp x y e = elim (cases_order x y) [
-  | inl same ↦ absurd (let h : nat_cmp x y ≡ Equal = sym (nat_cmp_is x y Equal same) in cc (h, e))
-  | inr apart ↦ elim apart [
-    | inl less ↦ less
-    | inr more ↦ absurd (let h : nat_cmp x y ≡ Greater = sym (nat_cmp_is x y Greater more) in cc (h, e))
-  ]
-]
 
 -- one more place is placed
 pub fewer_open : (placed : List Bool) (p : ℕ) → p < length placed → flag_at placed p ≡ false → open_count (set placed p true) < open_count placed

@@ -1,7 +1,7 @@
 use Rattle.std.proofs.Common.{◌≡◌, ℕ, ◌+◌, Bool, Some, None, Ok, List, [], ◌∷◌, ◌++◌, length, map, take, sym, ap, ◌∙◌, subst, arith, if◌then◌else◌, Vec}
 use Rattle.std.specs.Global.{Global}
 use Rattle.std.specs.List.{AllByRecursion, AllZip, slice_get, Contains}
-use Rattle.std.proofs.lemmas.List.{length-map, length-take-le}
+use Rattle.std.proofs.lemmas.List.{length-map, length-take-le, take-take}
 use Rattle.std.proofs.lemmas.Option.{slice_get_within}
 use Rattle.std.proofs.lemmas.Result.{err_from_is_err_and}
 use Rattle.farm_base.specs.declared.digest.Digest.{Digest}
@@ -13,7 +13,7 @@ use Rattle.vertices.specs.Asked.{Asks}
 use Rattle.vertices.specs.Sources.{IsSource, vertex_of}
 use Rattle.vertices.specs.Firsts.{IsTable}
 use Rattle.vertices.specs.Loading.{digest_in, digests_in, vertex_at, ReadChecks}
-use Rattle.vertices.proofs.LoadLemmas.{in_front, take_front, reads_more, digests_in-more, vertices_more, sources_more, asked_more, vertices_front, digests_more, entry_answers}
+use Rattle.vertices.proofs.LoadLemmas.{in_front, reads_more, digests_in-more, vertices_more, sources_more, asked_more, vertices_front, digests_more, entry_answers}
 use Rattle.vertices.proofs.loading.Loading.of.Goals as goal
 use Rattle.vertices.proofs.loading.Loading.of.Goals.{then-branch+in_ok-push+in_ok-of+in_ok-push-2, else-branch}
 
@@ -23,7 +23,7 @@ returns-in_err-op-clause-check c =
     let k = c.loop-place.place in
     let front = take c.args.count c.args.entries in
     let at : slice_get front k ≡ Some c.body-entry.result.now = in_front c.args.entries c.args.count k c.body-entry.result.now c.body-entry.ensures c.loop-place-test.true in
-    let reads : ReadChecks 0 (take k front) None = subst (λ (es : List (List ℕ)). ReadChecks 0 es None) (sym (take_front c.args.entries c.args.count k (omega (arith, c.loop-place-test.true)))) c.loop-place.invariant.reads in
+    let reads : ReadChecks 0 (take k front) None = subst (λ (es : List (List ℕ)). ReadChecks 0 es None) (sym (take-take k c.args.count c.args.entries (omega (arith, c.loop-place-test.true)))) c.loop-place.invariant.reads in
     rw (p.1, p.2) (entry_answers front k c.body-entry.result.now c.in_err-op.field-0.0 at reads c.in_err-op.ensures.check)
 
 pub loop-place-preserved : goal.loop-place-preserved

@@ -13,7 +13,8 @@ use Rattle.vertices.specs.declared.ordering.Sorting.{Sorting}
 use Rattle.vertices.specs.Rows.{row_at}
 use Rattle.vertices.specs.Sorting.{IsSorting, open_count}
 use Rattle.vertices.proofs.RowLemmas.{row_at-read, row_at-set_other}
-use Rattle.vertices.proofs.SortingLemmas.{Puts, put, fewer_open, ready_open, less_from_cmp, waiters_fewer}
+use Rattle.lists.proofs.Rising.{less-from_cmp}
+use Rattle.vertices.proofs.SortingLemmas.{Puts, put, fewer_open, ready_open, waiters_fewer}
 use Rattle.vertices.proofs.ordering.Sorting.step.Goals as goal
 
 pub index_mut-requires : goal.index_mut-requires
@@ -70,7 +71,7 @@ returns-clause-sorting c =
     } in
     let puts : Puts s t p = record {
       keys = c.in-Some.ensures.removal;
-      above = λ q h. less_from_cmp p q (All-contains (λ k. nat_cmp p k ≡ Less) c.pop_first.new.self.keys q c.in-Some.ensures.all_above h);
+      above = λ q h. less-from_cmp p q (All-contains (λ k. nat_cmp p k ≡ Less) c.pop_first.new.self.keys q c.in-Some.ensures.all_above h);
       order = c.in_ok-push.ensures.items;
       flag = get_or-set_same s.placed.items p true false (omega (arith, c.requires.shape.placed));
       flags = λ q apart. get_or-set_other s.placed.items p q true false apart;
