@@ -32,8 +32,8 @@ pub use laws::{
 pub use lease::{Lease, NodeLife, Parked};
 pub use limits::{EVENTS, GREATEST, INSTANCES, NODES};
 pub use message::{
-    Confirmed, Fetch, FromCoord, Grant, GrantedSlot, LineVersion, News, Request, ToCoord, Version,
-    Why,
+    Confirmed, Fetch, FromCoord, Grant, GrantedSlot, LineVersion, Message, News, Request, ToCoord,
+    ToNode, Version, Why,
 };
 pub use number::{Ask, Life, NodeId, Ticket};
 pub use refusal::{FolderRefusal, SlotRefusal};

@@ -1,4 +1,5 @@
 //! What the nodes and the coordinator tell each other.
+use super::content::Content;
 use super::copied::Copied;
 use super::digest::Digest;
 use super::items::Items;
@@ -141,6 +142,22 @@ pub struct Fetch {
     /// The node that asks.
     pub from: NodeId,
     pub digest: Digest,
+}
+
+/// A message to a node.
+#[derive(Debug, Drop)]
+pub enum ToNode {
+    FromCoord(FromCoord),
+    Fetch(Fetch),
+    /// A content that the node has asked for.
+    Blob { node: NodeId, content: Content },
+}
+
+/// A message of the farm.
+#[derive(Debug, Drop)]
+pub enum Message {
+    ToCoord(ToCoord),
+    ToNode(ToNode),
 }
 
 impl Copied for Version {

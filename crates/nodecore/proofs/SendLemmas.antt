@@ -13,8 +13,8 @@ use Rattle.protocol.specs.Ledger.{Limits}
 use Rattle.protocol.specs.Machine.{Message, Grant, GrantedSlot, Confirmed, Why}
 use Rattle.protocol.specs.World.{AskState, Node, Open, Holding, Running, Finished, Over, keeps}
 use Rattle.protocol.specs.Nodes.{NodeWork, Place, Sent, nodes_from, fetches, fetches_of, is_missing, is_stored, is_base, gives_back, granted, learned, dropped, denied, recalled, first, finished, recallable, fetched, heard}
-use Rattle.nodecore.specs.declared.message.ToNode.{ToNode}
-use Rattle.nodecore.specs.declared.message.ToNode.TheVariants.{FromCoord as Told, Fetch, Blob}
+use Rattle.farm_base.specs.declared.message.ToNode.{ToNode}
+use Rattle.farm_base.specs.declared.message.ToNode.TheVariants.{FromCoord as Told, Fetch, Blob}
 use Rattle.nodecore.specs.Shown.{message_work, granted_slots}
 use Rattle.nodecore.specs.Asks.{slots_told}
 use Rattle.nodecore.proofs.FetchLemmas.{fetches_slot, fetches_end, is_other}

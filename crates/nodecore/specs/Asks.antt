@@ -1,18 +1,14 @@
--- What contracts see of the asks and messages of a node.
+-- What contracts see of the asks of a node.
 use Rattle.std.specs.Prelude.{◌≡◌, ℕ, ◌<◌, ◌≤◌, Bool, true, false, List, [], length, Some, slice_get}
 use Rattle.protocol.specs.Names.{Want, Life}
 use Rattle.farm_base.specs.declared.message.FromCoord as FromCoord
 use Rattle.farm_base.specs.declared.message.FromCoord.TheVariants as coord
-use Rattle.protocol.specs.Machine.{Grant, GrantedSlot, Message, Said, Told, Fetches}
-use Rattle.protocol.specs.Machine as machine
+use Rattle.protocol.specs.Machine.{Grant, GrantedSlot}
 use Rattle.protocol.specs.World.{AskState, Open, Holding, Running, Finished, Over}
 use Rattle.nodecore.specs.declared.asks.KeptAsk.{KeptAsk}
 use Rattle.nodecore.specs.declared.asks.KeptAsk.TheVariants as kept
 use Rattle.nodecore.specs.declared.asks.Stage.{Stage}
 use Rattle.nodecore.specs.declared.asks.Stage.TheVariants as stage
-use Rattle.nodecore.specs.declared.message.Message as sent
-use Rattle.nodecore.specs.declared.message.Message.TheVariants.{ToCoord, ToNode}
-use Rattle.nodecore.specs.declared.message.ToNode.TheVariants.{FromCoord, Fetch, Blob}
 use Rattle.nodecore.specs.declared.message.AskState as state
 use Rattle.nodecore.specs.declared.message.AskState.TheVariants as told
 
@@ -66,13 +62,6 @@ abbrev pub recalls : KeptAsk → KeptAsk
 recalls (kept.Open wants tenure) = kept.Open wants tenure
 recalls (kept.Granted wants g r s) = kept.Granted wants g true s
 recalls (kept.Over how) = kept.Over how
-
--- the protocol's message
-abbrev pub message_of : sent.Message → Message
-message_of (ToCoord m) = Said m
-message_of (ToNode (FromCoord m)) = Told m
-message_of (ToNode (Fetch m)) = Fetches m
-message_of (ToNode (Blob n c)) = machine.Blob n c
 
 -- how an ask stands, as callers are told
 abbrev pub told_state : AskState → state.AskState

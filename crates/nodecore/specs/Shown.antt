@@ -8,17 +8,17 @@ use Rattle.protocol.specs.World.{Node, learn}
 use Rattle.protocol.specs.Names.{Slot, Digest}
 use Rattle.protocol.specs.Machine.{GrantedSlot, Confirmed}
 use Rattle.farm_base.specs.declared.message.Version.{Version}
-use Rattle.protocol.specs.Nodes.{NodeWork, NodeAnswer, Place, heard, fetched, brought}
+use Rattle.protocol.specs.Nodes.{NodeWork, NodeAnswer, Place, received}
 use Rattle.farm_base.specs.Contents.{content_digest}
 pub use Rattle.protocol.specs.Nodes.{left_of}
 use Rattle.protocol.specs.Farm.{farm_limits}
-use Rattle.nodecore.specs.declared.message.ToNode.{ToNode}
-use Rattle.nodecore.specs.declared.message.ToNode.TheVariants.{FromCoord, Fetch, Blob}
+use Rattle.farm_base.specs.declared.message.ToNode.{ToNode}
+use Rattle.farm_base.specs.declared.message.ToNode.TheVariants.{FromCoord, Fetch, Blob}
 use Rattle.protocol.specs.declared.answer.NodeRefusal.{NodeRefusal}
 use Rattle.protocol.specs.declared.answer.NodeRefusal.TheVariants.{OutOfMemory}
 use Rattle.nodecore.specs.declared.message.NodeDone.{NodeDone}
 use Rattle.nodecore.specs.declared.node_core.NodeCore.{NodeCore}
-use Rattle.nodecore.specs.Asks.{shown_ask, message_of, slots_told}
+use Rattle.nodecore.specs.Asks.{shown_ask, slots_told}
 
 -- the contents of a map
 abbrev pub store_in : {S : Type 0} → IndexMap Digest (List ℕ) S → Digest → Option (List ℕ)
@@ -57,7 +57,7 @@ place x = record { node = x.node; nodes = x.nodes }
 
 -- the work that was done, between these nodes
 abbrev pub work_of : Node → NodeDone → NodeWork
-work_of new done = record { node = new; sends = map message_of done.sends; note = done.note }
+work_of new done = record { node = new; sends = done.sends; note = done.note }
 
 -- the call did this work. Where memory ran out it did nothing
 abbrev pub Does : NodeWork → Node → Node → Result NodeDone AllocError → Type 0
@@ -81,9 +81,7 @@ content_of x v = content_at x (x.known v.slot v.number)
 
 -- what a message comes to
 abbrev pub message_work : Place → Node → ToNode → NodeWork
-message_work at x (FromCoord m) = heard farm_limits at m x
-message_work at x (Fetch m) = fetched m.from x (x.store m.digest)
-message_work at x (Blob n c) = brought content_digest c x
+message_work at x m = received content_digest farm_limits at m x
 
 -- the slots of the lease that the message grants, none where it grants no lease
 abbrev pub granted_slots : ToNode → List GrantedSlot

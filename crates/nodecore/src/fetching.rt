@@ -2,18 +2,16 @@ ghost use Rattle.std.specs.Prelude.{◌≡◌, ◌++◌, IfOk, OnOk, map};
 ghost use Rattle.protocol.specs.Nodes.{fetches, fetches_of, is_missing};
 ghost use Rattle.farm_base.specs.Contents.{empty_digest};
 ghost use Rattle.protocol.specs.Farm.{farm_limits};
-ghost use Rattle.nodecore.specs.Asks.{message_of};
 ghost use Rattle.nodecore.specs.Shown.{shown, place};
 
-use super::message::{Message, ToNode};
 use super::node_core::NodeCore;
-use farm_base::{Digest, Fetch, GrantedSlot, NodeId, empty_digest};
+use farm_base::{Digest, Fetch, GrantedSlot, Message, NodeId, ToNode, empty_digest};
 use std::alloc::{AllocError, Global};
 
 impl NodeCore {
     /// Adds a Fetch of the digest to each other node.
     fn push_fetches(&self, sends: &mut Vec<Message>, digest: Digest) -> Result<(), AllocError>
-        ensures { OnOk result (map message_of sends.new.items ≡ map message_of sends.old.items ++ fetches_of (place self.now) digest) }
+        ensures { OnOk result (sends.new.items ≡ sends.old.items ++ fetches_of (place self.now) digest) }
     {
         for number in 0..self.nodes {
             let node = NodeId(number + 1);
@@ -42,7 +40,7 @@ impl NodeCore {
         alloc: Global,
         slots: &[GrantedSlot],
     ) -> Result<Vec<Message>, AllocError>
-        ensures { IfOk result (λ sends. map message_of sends.items ≡ fetches farm_limits (place self.now) (shown self.now) slots.now) }
+        ensures { IfOk result (λ sends. sends.items ≡ fetches farm_limits (place self.now) (shown self.now) slots.now) }
     {
         let empty = empty_digest(alloc);
         let mut sends = Vec::new(alloc);

@@ -10,11 +10,11 @@ ghost use Rattle.nodecore.specs.Shown.{shown, place, work_of, message_work, Does
 
 use super::asks::{KeptAsk, any_base, finished_place, recallable_place};
 use super::kept::{bases, confirmed, learn};
-use super::message::{Message, NodeDone, ToNode};
+use super::message::NodeDone;
 use super::node_core::NodeCore;
 use farm_base::{
-    Ask, Confirmed, Content, Copied, Digest, FromCoord, Grant, Items, Life, NodeId, Request,
-    Ticket, Why,
+    Ask, Confirmed, Content, Copied, Digest, FromCoord, Grant, Items, Life, Message, NodeId,
+    Request, Ticket, ToNode, Why,
 };
 use protocol::{How, NodeNote, NodeRefusal};
 use std::alloc::{AllocError, Global};

@@ -10,5 +10,6 @@ mod node_core;
 mod resending;
 mod sending;
 
-pub use message::{AskState, Message, NodeDone, ToNode};
+pub use farm_base::{Message, ToNode};
+pub use message::{AskState, NodeDone};
 pub use node_core::NodeCore;

@@ -1,21 +1,5 @@
-use farm_base::{Content, Fetch, FromCoord, Grant, Items, NodeId, Ticket, ToCoord};
+use farm_base::{Grant, Items, Message, Ticket};
 use protocol::{How, NodeNote};
-
-/// A message to a node.
-#[derive(Debug, Drop)]
-pub enum ToNode {
-    FromCoord(FromCoord),
-    Fetch(Fetch),
-    /// A content that the node has asked for.
-    Blob { node: NodeId, content: Content },
-}
-
-/// A message of the farm.
-#[derive(Debug, Drop)]
-pub enum Message {
-    ToCoord(ToCoord),
-    ToNode(ToNode),
-}
 
 /// What a call did, and what the node sends.
 #[derive(Debug, Drop)]

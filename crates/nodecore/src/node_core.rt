@@ -7,17 +7,17 @@ ghost use Rattle.farm_base.specs.Contents.{content_digest};
 ghost use Rattle.protocol.specs.Farm.{farm_limits};
 ghost use Rattle.nodecore.specs.declared.asks.KeptAsk.{KeptAsk};
 ghost use Rattle.nodecore.specs.declared.asks.Stage.{Stage};
-ghost use Rattle.nodecore.specs.Asks.{message_of, told_state, AreOver};
+ghost use Rattle.nodecore.specs.Asks.{told_state, AreOver};
 
 use super::asks::{
     KeptAsk, Stage, at_home, has_tenure, held_or_running_place, held_place, in_use, over_from,
     running_place,
 };
 use super::kept::{fits, news_of, store_all};
-use super::message::{AskState, Message, NodeDone};
+use super::message::{AskState, NodeDone};
 use farm_base::{
-    Ask, Content, Copied, Digest, FolderName, GREATEST, GrantedSlot, Items, Life, Mode, NodeId,
-    Request, Slot, Ticket, ToCoord, Version, Want, Wants,
+    Ask, Content, Copied, Digest, FolderName, GREATEST, GrantedSlot, Items, Life, Message, Mode,
+    NodeId, Request, Slot, Ticket, ToCoord, Version, Want, Wants,
 };
 use indexmap::IndexMap;
 use protocol::{How, NodeNote, NodeRefusal};
@@ -30,7 +30,7 @@ fn one_message(
     life: Life,
     request: Request,
 ) -> Result<Items<Message>, AllocError>
-    ensures { IfOk result (λ sends. map message_of sends ≡ Said (record { node = node; life = life; request = request }) ∷ []) }
+    ensures { IfOk result (λ sends. sends ≡ Said (record { node = node; life = life; request = request }) ∷ []) }
 {
     let mut sends = Vec::new(alloc);
     sends.push(Message::ToCoord(ToCoord {
@@ -140,7 +140,7 @@ impl NodeCore {
 
     /// One message to the coordinator.
     pub(crate) fn say(&self, alloc: Global, request: Request) -> Result<Items<Message>, AllocError>
-        ensures { IfOk result (λ sends. map message_of sends ≡ Said (record { node = self.now.node; life = self.now.life; request = request }) ∷ []) }
+        ensures { IfOk result (λ sends. sends ≡ Said (record { node = self.now.node; life = self.now.life; request = request }) ∷ []) }
     {
         one_message(alloc, self.node, self.life, request)
     }

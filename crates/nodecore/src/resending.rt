@@ -4,13 +4,13 @@ ghost use Rattle.protocol.specs.Farm.{farm_limits};
 ghost use Rattle.protocol.specs.Names.{Ask, Want};
 ghost use Rattle.protocol.specs.Machine.{hello};
 ghost use Rattle.protocol.specs.Nodes.{again, all_again, resent};
-ghost use Rattle.nodecore.specs.Asks.{message_of, shown_ask, shown_stage};
+ghost use Rattle.nodecore.specs.Asks.{shown_ask, shown_stage};
 ghost use Rattle.nodecore.specs.Shown.{place, shown, Answers};
 
 use super::asks::{KeptAsk, Stage};
-use super::message::{Message, NodeDone};
+use super::message::NodeDone;
 use super::node_core::NodeCore;
-use farm_base::{Ask, Copied, Grant, Items, Request};
+use farm_base::{Ask, Copied, Grant, Items, Message, Request};
 use protocol::{NodeNote, NodeRefusal};
 use std::alloc::{AllocError, Global};
 
@@ -22,7 +22,7 @@ impl NodeCore {
         grant: &Grant,
         stage: &Stage,
     ) -> Result<Vec<Message>, AllocError>
-        ensures { (ask : Ask) (wants : List Want) (recalled : Bool) → IfOk result (λ sends. map message_of sends.items
+        ensures { (ask : Ask) (wants : List Want) (recalled : Bool) → IfOk result (λ sends. sends.items
             ≡ again farm_limits (place self.now) (shown self.now) ask (shown_stage wants grant.now recalled stage.now)) }
     {
         match stage {
@@ -40,7 +40,7 @@ impl NodeCore {
 
     /// What an ask sends again.
     fn again(&self, alloc: Global, ask: Ask, kept: &KeptAsk) -> Result<Vec<Message>, AllocError>
-        ensures { IfOk result (λ sends. map message_of sends.items
+        ensures { IfOk result (λ sends. sends.items
             ≡ again farm_limits (place self.now) (shown self.now) ask (shown_ask kept.now)) }
     {
         match kept {
@@ -59,7 +59,7 @@ impl NodeCore {
 
     /// A Hello, and what each ask sends again.
     fn all_again(&self, alloc: Global) -> Result<Vec<Message>, AllocError>
-        ensures { IfOk result (λ sends. map message_of sends.items
+        ensures { IfOk result (λ sends. sends.items
             ≡ hello self.now.node self.now.life ∷ all_again farm_limits (place self.now) (shown self.now) (shown self.now).asks 0) }
     {
         let mut sends = self.say(alloc, Request::Hello)?.into_vec();

@@ -2,9 +2,8 @@
 ghost use Rattle.std.specs.Prelude.{◌≡◌, ◌<◌, ◌≤◌, length};
 ghost use Rattle.nodecore.specs.Shown.{granted_slots, message_work, place, shown};
 
-use super::message::ToNode;
 use super::node_core::NodeCore;
-use farm_base::{FromCoord, GrantedSlot};
+use farm_base::{FromCoord, GrantedSlot, ToNode};
 
 /// The slots of the lease that a message grants.
 fn granted_slots(message: &ToNode) -> &[GrantedSlot]

@@ -2,7 +2,8 @@
 use Rattle.std.proofs.Common.{◌≡◌, ℕ, zero, suc, ◌+◌, List, [], ◌∷◌, ◌++◌, ◌⊎◌, Bool, true, false, length, Some, slice_get, refl, sym, ◌∙◌, ap, subst, inl, inr, arith}
 use Rattle.protocol.specs.Lists.{In, nth}
 use Rattle.protocol.specs.Names.{NodeId, Life, Ask, Digest, Want, tenure_wants}
-use Rattle.protocol.specs.Machine.{Message, ToCoord, Told, Said, Fetches, Blob, acquire}
+use Rattle.protocol.specs.Machine.{Message, ToCoord, Told, Said, acquire}
+use Rattle.farm_base.specs.declared.message.Message.TheVariants as to
 use Rattle.farm_base.specs.declared.message.Request.{Request}
 use Rattle.farm_base.specs.declared.message.Request.TheVariants.{Hello, Acquire, Commit, Release}
 use Rattle.protocol.specs.World.{AskState, Open, Node, Act, Asks, Asks_tenure, Asks_again, Greets, Takes, Gives_back, Begins, Finishes, Gives_up, Sends_commit, Learns, Drops, Is_denied, Is_recalled, Is_recalled_running, Stores, Asks_content, Sends_blob, Restarts, Stops, World, Move, Node_moves, Machine_moves, Machine_says, Fails, Recovers, Moves, Still, Then, start}
@@ -69,10 +70,8 @@ by_request (Commit t news) = false
 by_request (Release t) = false
 
 abbrev is_acquire : Message → Bool
-is_acquire (Said y) = by_request y.request
-is_acquire (Told y) = false
-is_acquire (Fetches y) = false
-is_acquire (Blob n c) = false
+is_acquire (to.ToCoord y) = by_request y.request
+is_acquire (to.ToNode y) = false
 
 other_message : {P : Type 0} (m : NodeId) (l : Life) (a : Ask) (ws : List Want) (t : Bool) (y : Message) → is_acquire y ≡ false → In (acquire m l a ws t) (y ∷ []) → P
 other_message m l a ws t y other i = (let bad : true ≡ false = ap is_acquire (in_one (acquire m l a ws t) y i) ∙ other in cc)

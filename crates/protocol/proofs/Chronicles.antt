@@ -1,6 +1,8 @@
 -- Chronicles of schedules, and what stays so.
 use Rattle.std.proofs.Common.{◌≡◌, ℕ, ◌<◌, ◌≤◌, slice_get, List, [], ◌∷◌, ◌++◌, Bool, true, false, ◌⊎◌, Option, Some, None, Result, Ok, Err, refl, sym, ◌∙◌, ap, subst, inl, inr, arith, append-nil}
 use Rattle.std.specs.Prelude.{⊤, if◌then◌else◌}
+use Rattle.farm_base.specs.declared.message.Message.TheVariants as to
+use Rattle.farm_base.specs.declared.message.ToNode.TheVariants as to_node
 use Rattle.protocol.specs.Lists.{In, IsFrontOf, nth}
 use Rattle.protocol.specs.Names.{Slot, NodeId, Ticket, Digest, Want}
 use Rattle.protocol.specs.Machine.{Grant, Granted, Told, Has, ticket_of, LineVersion, Ending, Withdrawn, Died, Message, Said, ToCoord, Machine, Live, line, Fetches, Blob}
@@ -265,12 +267,12 @@ module _ (sha : List ℕ → Digest) (k : Limits) (farm : IsFarm sha k) where
 
   delivered_kept : (u : World) → Moves sha (start sha) u → (s : Farm) → Shows sha u s → (number : ℕ) (o : Option Message) (x : Slot) (v : LineVersion) → nth s.pool number ≡ o → KeptBy s (Deliver number) (λ t. delivered sha k o t) x v
   delivered_kept u moves s shows number None x v here fault i = inl (inr i)
-  delivered_kept u moves s shows number (Some (Said y)) x v here fault i =
+  delivered_kept u moves s shows number (Some (to.ToCoord y)) x v here fault i =
       coordinated_kept s (Deliver number) s.down (Ok (handled k y (begin_work s.ledger))) x v
       (λ z. (handled_grew sha k farm u moves s shows y).lines z ∙ ap (λ o. s.ledger.line z ++ message_adds o (note.Coord (handled k y (begin_work s.ledger)).note) z) (sym here)) fault i
-  delivered_kept u moves s shows number (Some (Told y)) x v here fault i = inl (at_node_kept (is_node s (told_to y)) (told_to y) _ s x v i)
-  delivered_kept u moves s shows number (Some (Fetches y)) x v here fault i = inl (at_node_kept (is_node s y.node) y.node _ s x v i)
-  delivered_kept u moves s shows number (Some (Blob n c)) x v here fault i = inl (at_node_kept (is_node s n) n _ s x v i)
+  delivered_kept u moves s shows number (Some (to.ToNode (to_node.FromCoord y))) x v here fault i = inl (at_node_kept (is_node s (told_to y)) (told_to y) _ s x v i)
+  delivered_kept u moves s shows number (Some (to.ToNode (to_node.Fetch y))) x v here fault i = inl (at_node_kept (is_node s y.node) y.node _ s x v i)
+  delivered_kept u moves s shows number (Some (to.ToNode (to_node.Blob n c))) x v here fault i = inl (at_node_kept (is_node s n) n _ s x v i)
 
   retire_kept : (b : Bool) (n : NodeId) (s : Farm) (x : Slot) (v : LineVersion) → KeptBy s (Retire n) (λ t. if b then coordinated s.down (retired k n (begin_work s.ledger)) t else refused refusal.NoSuchNode t) x v
   retire_kept true n s x v fault i = coordinated_kept s (Retire n) s.down (retired k n (begin_work s.ledger)) x v (of_lines s (Retire n) (λ c. saying.retiring s.ledger n) (retired k n (begin_work s.ledger)) (saying.retired_grew k s.ledger n) (λ c z. sym (append-nil (s.ledger.line z)))) fault i

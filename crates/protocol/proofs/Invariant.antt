@@ -4,6 +4,8 @@ use Rattle.std.specs.Prelude.{⊤}
 use Rattle.protocol.specs.Lists.{In, nth}
 use Rattle.protocol.specs.Names.{Slot, NodeId, Life, Ticket, Digest, Want, FolderName, wants_shared, tenure_wants}
 use Rattle.protocol.specs.Machine.{Grant, News, Confirmed, Ending, Committed, Released, Withdrawn, Died, Granted, Message, Said, Told, Fetches, Blob, ToCoord, FromCoord, acquire, WasHeard, Machine, Answers, line, written, slots_of, Names, Stands}
+use Rattle.farm_base.specs.declared.message.Message.TheVariants as to
+use Rattle.farm_base.specs.declared.message.ToNode.TheVariants as to_node
 use Rattle.farm_base.specs.declared.message.Request.{Request}
 use Rattle.farm_base.specs.declared.message.Request.TheVariants.{Hello, Acquire, Commit, Release}
 use Rattle.farm_base.specs.declared.message.FromCoord.TheVariants as told
@@ -96,10 +98,10 @@ ToldOk empty m (told.Denied n l a why) = ⊤
 ToldOk empty m (told.Recall n l t) = ⊤
 
 abbrev pub MessageOk : Digest → Machine → (ℕ → Node) → Message → Type 0
-MessageOk empty m nodes (Said y) = RequestOk m (nodes y.node.0) y.node y.life y.request
-MessageOk empty m nodes (Told y) = ToldOk empty m y
-MessageOk empty m nodes (Fetches y) = ⊤
-MessageOk empty m nodes (Blob n c) = ⊤
+MessageOk empty m nodes (to.ToCoord y) = RequestOk m (nodes y.node.0) y.node y.life y.request
+MessageOk empty m nodes (to.ToNode (to_node.FromCoord y)) = ToldOk empty m y
+MessageOk empty m nodes (to.ToNode (to_node.Fetch y)) = ⊤
+MessageOk empty m nodes (to.ToNode (to_node.Blob n c)) = ⊤
 
 -- what an ending says of the node
 abbrev pub Fate : (ℕ → Node) → Grant → Ending → Type 0
@@ -148,10 +150,10 @@ told_later empty m m' (told.Denied n l a why) later h = tt
 told_later empty m m' (told.Recall n l t) later h = tt
 
 pub message_later : (empty : Digest) (m m' : Machine) (nodes nodes' : ℕ → Node) (x : Message) → Later empty m m' → ((n : ℕ) → Ahead (nodes n) (nodes' n)) → MessageOk empty m nodes x → MessageOk empty m' nodes' x
-message_later empty m m' nodes nodes' (Said y) later ahead h = request_later empty m m' (nodes y.node.0) (nodes' y.node.0) y.node y.life y.request later (ahead y.node.0) h
-message_later empty m m' nodes nodes' (Told y) later ahead h = told_later empty m m' y later h
-message_later empty m m' nodes nodes' (Fetches y) later ahead h = tt
-message_later empty m m' nodes nodes' (Blob n c) later ahead h = tt
+message_later empty m m' nodes nodes' (to.ToCoord y) later ahead h = request_later empty m m' (nodes y.node.0) (nodes' y.node.0) y.node y.life y.request later (ahead y.node.0) h
+message_later empty m m' nodes nodes' (to.ToNode (to_node.FromCoord y)) later ahead h = told_later empty m m' y later h
+message_later empty m m' nodes nodes' (to.ToNode (to_node.Fetch y)) later ahead h = tt
+message_later empty m m' nodes nodes' (to.ToNode (to_node.Blob n c)) later ahead h = tt
 
 pub fate_later : (nodes nodes' : ℕ → Node) (g : Grant) (y : Ending) → ((n : ℕ) → Ahead (nodes n) (nodes' n)) → Fate nodes g y → Fate nodes' g y
 fate_later nodes nodes' g (Committed news) ahead h = (ahead g.node.0).spent g h

@@ -6,6 +6,7 @@ use Rattle.std.specs.Prelude.{⊤, nat_lt, if◌then◌else◌}
 use Rattle.protocol.specs.Lists.{In, is_nil, nth}
 use Rattle.protocol.specs.Names.{Slot, is_private, only_slot, NodeId, Life, Ticket, Digest, Want, FolderName, leased_wants}
 use Rattle.protocol.specs.Machine.{Message, Said, Told, Fetches, Blob, ToCoord, Parked, News, cleared}
+use Rattle.farm_base.specs.declared.message.Message.TheVariants as to
 use Rattle.farm_base.specs.declared.message.Request.{Request}
 use Rattle.farm_base.specs.declared.message.Request.TheVariants.{Hello, Acquire, Commit, Release}
 use Rattle.protocol.specs.declared.answer.CoordRefusal.{CoordRefusal}
@@ -309,10 +310,8 @@ module _ (k : Limits) where
 
   delivered_none : (sha : List ℕ → Digest) (o : Option Message) (s : Farm) → NoneReady k s.ledger → NoneReady k (delivered sha k o s).farm.ledger
   delivered_none sha None s old = old
-  delivered_none sha (Some (Said y)) s old = coordinated_none s.down (Ok (handled k y (begin_work s.ledger))) s (handled_none y (begin_work s.ledger) old) old
-  delivered_none sha (Some (Told y)) s old = at_node_none (is_node s (replay.told_to y)) (replay.told_to y) _ s old
-  delivered_none sha (Some (Fetches y)) s old = at_node_none (is_node s y.node) y.node _ s old
-  delivered_none sha (Some (Blob n c)) s old = at_node_none (is_node s n) n _ s old
+  delivered_none sha (Some (to.ToCoord y)) s old = coordinated_none s.down (Ok (handled k y (begin_work s.ledger))) s (handled_none y (begin_work s.ledger) old) old
+  delivered_none sha (Some (to.ToNode y)) s old = at_node_none (is_node s (replay.receiver y)) (replay.receiver y) _ s old
 
   restarts_none : (n : NodeId) (s : Farm) → NoneReady k s.ledger → NoneReady k (restarts k n s).farm.ledger
   restarts_none n s old = elim (cases_bool (may_restart k (s.nodes n.0))) [ inl t ↦ rw t old | inr t ↦ rw t old ]

@@ -3,6 +3,8 @@ use Rattle.std.proofs.Common.{◌≡◌, ◌≢◌, ℕ, zero, suc, ◌+◌, ◌
 use Rattle.protocol.specs.Lists.{In, put, nth}
 use Rattle.protocol.specs.Names.{Slot, NodeId, Life, Digest, Want}
 use Rattle.protocol.specs.Machine.{Parked, Grant, Granted, ticket_of, Message, Said, Told, Fetches, Blob, ToCoord, FromCoord, acquire, commit, release, Machine, WasHeard, Live, line, MayEnd, Ending, Committed, Released, Withdrawn, Died, Step, Steps, No_step, Grants, Ends, Prunes, Sees, Retires, Parks, Unparks, Raises, Says, Says_granted, Says_committed, Says_fenced, Says_denied, Says_recall}
+use Rattle.farm_base.specs.declared.message.Message.TheVariants as to
+use Rattle.farm_base.specs.declared.message.ToNode.TheVariants as to_node
 use Rattle.protocol.specs.Ledger.{Limits, Ledger, Work, begin_work, grant_of, handled, withdrawn, retired, pruned, nudged, Lease, Saved, saves, reads}
 use Rattle.protocol.specs.World.{Running, World, Node, Move, Machine_moves, Machine_says, Fails, Recovers, Moves, Still, Then, start}
 use Rattle.protocol.specs.Nodes.{NodeWork, NodeAnswer, Place, asked, asked_tenure, begun, finished_with, aborted, resent, restarted, may_restart, heard, fetched, brought, unless_spent}
@@ -141,17 +143,15 @@ pub record Plain (sha : List ℕ → Digest) (u : World) (s : Farm) (e : Event) 
 
 no_adds : (o : Option Message) (n : NodeNote) (s : Slot) → message_adds o (event_note.Node n) s ≡ []
 no_adds None n s = refl
-no_adds (Some (Said y)) n s = refl
-no_adds (Some (Told y)) n s = refl
-no_adds (Some (Fetches y)) n s = refl
-no_adds (Some (Blob m c)) n s = refl
+no_adds (Some (to.ToCoord y)) n s = refl
+no_adds (Some (to.ToNode y)) n s = refl
 
 no_lives : (o : Option Message) (n : NodeNote) (f : ℕ → ℕ) (j : ℕ) → message_lives o (event_note.Node n) f j ≡ f j
 no_lives None n f j = refl
-no_lives (Some (Said y)) n f j = refl
-no_lives (Some (Told y)) n f j = refl
-no_lives (Some (Fetches y)) n f j = refl
-no_lives (Some (Blob m c)) n f j = refl
+no_lives (Some (to.ToCoord y)) n f j = refl
+no_lives (Some (to.ToNode (to_node.FromCoord y))) n f j = refl
+no_lives (Some (to.ToNode (to_node.Fetch y))) n f j = refl
+no_lives (Some (to.ToNode (to_node.Blob m c))) n f j = refl
 
 -- an event of the coordinator is for no node
 pub record ForCoord (u : World) (s : Farm) (e : Event) : Type 0 where
@@ -673,8 +673,8 @@ module _ (sha : List ℕ → Digest) (k : Limits) (farm : IsFarm sha k) where
 
   delivered_next : (u : World) (run : Moves sha (start sha) u) (s : Farm) (shows : Shows sha u s) (o : Option Message) (number : ℕ) → nth s.pool number ≡ o → Next u s (Deliver number) (delivered sha k o s)
   delivered_next u run s shows None number e = refused_so u run s shows (Deliver number) refusal.NoSuchMessage (number, refl, ap (λ (p : List Message). nth p number) shows.pool ∙ e)
-  delivered_next u run s shows (Some (Said y)) number e = said_next u run s shows number y e
-  delivered_next u run s shows (Some (Told y)) number e =
+  delivered_next u run s shows (Some (to.ToCoord y)) number e = said_next u run s shows number y e
+  delivered_next u run s shows (Some (to.ToNode (to_node.FromCoord y))) number e =
       let i : In (Told y) u.pool = subst (In (Told y)) (sym shows.pool) (nth_in s.pool number (Told y) e) in
       let n : NodeId = told_to y in
       let d : Event = Deliver number in
@@ -683,7 +683,7 @@ module _ (sha : List ℕ → Digest) (k : Limits) (farm : IsFarm sha k) where
       (quiet_act u run s shows d n (Some (Told y)) p _ (λ x v. tt) (spent_does sha u n (heard k (record { node = n; nodes = s.size }) y (u.nodes n.0)) (heard_does sha u k s.size y i))
       (heard_use (u.nodes n.0) (one_here u run s shows d n) k (record { node = n; nodes = s.size }) y)
       (noting.heard_exact sha k n s.size (u.nodes n.0) (one_here u run s shows d n) y number refl))
-  delivered_next u run s shows (Some (Fetches y)) number e =
+  delivered_next u run s shows (Some (to.ToNode (to_node.Fetch y))) number e =
       let n : NodeId = y.node in
       let d : Event = Deliver number in
       let p = node_plain u s number n (Fetches y) (ap (λ (p : List Message). nth p number) shows.pool ∙ e) refl in
@@ -691,7 +691,7 @@ module _ (sha : List ℕ → Digest) (k : Limits) (farm : IsFarm sha k) where
       (quiet_act u run s shows d n (Some (Fetches y)) p _ (λ x v. tt) (spent_does sha u n _ (fetched_does sha u n y.from ((u.nodes n.0).store y.digest)))
       (fetched_use (u.nodes n.0) (one_here u run s shows d n) y.from ((u.nodes n.0).store y.digest))
       (noting.fetched_exact sha k n s.size (u.nodes n.0) (one_here u run s shows d n) (Some (Fetches y)) y.from y.digest number))
-  delivered_next u run s shows (Some (Blob n c)) number e =
+  delivered_next u run s shows (Some (to.ToNode (to_node.Blob n c))) number e =
       let d : Event = Deliver number in
       let p = node_plain u s number n (Blob n c) (ap (λ (p : List Message). nth p number) shows.pool ∙ e) refl in
       node_next u run s shows d n (Some (Blob n c)) p (λ p x. unless_spent x (brought sha c x))

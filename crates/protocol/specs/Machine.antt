@@ -14,6 +14,10 @@ pub use Rattle.farm_base.specs.declared.message.Why.{Why}
 pub use Rattle.farm_base.specs.declared.message.ToCoord.{ToCoord}
 pub use Rattle.farm_base.specs.declared.message.FromCoord.{FromCoord}
 pub use Rattle.farm_base.specs.declared.message.Fetch.{Fetch}
+pub use Rattle.farm_base.specs.declared.message.ToNode.{ToNode}
+pub use Rattle.farm_base.specs.declared.message.Message.{Message}
+use Rattle.farm_base.specs.declared.message.Message.TheVariants as to
+use Rattle.farm_base.specs.declared.message.ToNode.TheVariants as to_node
 pub use Rattle.farm_base.specs.declared.lease.Parked.{Parked}
 
 -- how a grant ended
@@ -32,12 +36,20 @@ abbrev pub ticket_of : Made → ℕ
 ticket_of (Granted g) = g.ticket.0
 ticket_of (Pruned t s) = t.0
 
--- a message: to the coordinator, to a node, and the two that nodes send each other
-pub data Message : Type 0 where
-  Said : (message : ToCoord) → Message
-  Told : (message : FromCoord) → Message
-  Fetches : (message : Fetch) → Message
-  Blob : (node : NodeId) (content : List ℕ) → Message
+-- a message to the coordinator
+abbrev pub Said : ToCoord → Message
+Said y = to.ToCoord y
+
+-- a message of the coordinator to a node
+abbrev pub Told : FromCoord → Message
+Told y = to.ToNode (to_node.FromCoord y)
+
+-- the two that nodes send each other
+abbrev pub Fetches : Fetch → Message
+Fetches y = to.ToNode (to_node.Fetch y)
+
+abbrev pub Blob : NodeId → List ℕ → Message
+Blob n c = to.ToNode (to_node.Blob n c)
 
 abbrev pub hello : NodeId → Life → Message
 hello n l = Said (record { node = n; life = l; request = request.Hello })

@@ -4,6 +4,7 @@ use Rattle.std.specs.Prelude.{◌≡◌, ◌≢◌, ℕ, ◌+◌, ◌<◌, Bool,
 use Rattle.protocol.specs.Lists.{In, put, nth, set_nth}
 use Rattle.protocol.specs.Names.{Slot, slot_eq, is_private, NodeId, Life, Ask, Ticket, Digest, Want, tenure_wants}
 use Rattle.protocol.specs.Machine.{Grant, GrantedSlot, Granted, Message, Told, News, Confirmed, LineVersion, Ending, Committed, Released, Withdrawn, Died, Said, Fetches, Blob, ToCoord, Parked, Machine, Has, Live, line, version_of, digest_for, slots_of, written, hello, acquire, commit, release}
+use Rattle.farm_base.specs.declared.message.Message.TheVariants as to
 use Rattle.farm_base.specs.declared.message.Request.{Request}
 use Rattle.farm_base.specs.declared.message.Request.TheVariants as request
 use Rattle.farm_base.specs.declared.message.FromCoord.TheVariants as message
@@ -21,7 +22,7 @@ use Rattle.protocol.specs.declared.answer.EventRefusal.TheVariants as refusal
 use Rattle.protocol.specs.declared.answer.Outcome.{Outcome}
 use Rattle.protocol.specs.World.{AskState, Open, Holding, Running, Finished, Over, Node, World, learn_bases, learn_versions, keep, has_life}
 use Rattle.protocol.specs.Nodes.{Left, news_of}
-use Rattle.protocol.specs.Replay.{Event, Tenure, Deliver, Begin, Finish, Abort, Resend, Nudge, Withdraw, Prune, Retire, RestartNode, RestartCoordinator, Forge, told_to}
+use Rattle.protocol.specs.Replay.{Event, Tenure, Deliver, Begin, Finish, Abort, Resend, Nudge, Withdraw, Prune, Retire, RestartNode, RestartCoordinator, Forge, receiver}
 use Rattle.protocol.specs.Replay as replay
 use Rattle.protocol.specs.Safe.{InUse}
 
@@ -80,7 +81,7 @@ request_adds (request.Commit t news) told s = commit_adds news told s
 request_adds r told s = []
 
 abbrev pub message_adds : Option Message → EventNote → Slot → List LineVersion
-message_adds (Some (Said y)) (note.Coord told) s = request_adds y.request told s
+message_adds (Some (to.ToCoord y)) (note.Coord told) s = request_adds y.request told s
 message_adds o said s = []
 
 -- the empty content, in the slot that is pruned
@@ -103,7 +104,7 @@ heard_lives y coord.NodeRetired lives = lives
 heard_lives y told lives = put y.node.0 y.life.0 lives
 
 abbrev pub message_lives : Option Message → EventNote → (ℕ → ℕ) → ℕ → ℕ
-message_lives (Some (Said y)) (note.Coord told) lives = heard_lives y told lives
+message_lives (Some (to.ToCoord y)) (note.Coord told) lives = heard_lives y told lives
 message_lives o said lives = lives
 
 -- the greatest lives after an accepted event
@@ -222,9 +223,7 @@ pub record Carried (empty : Digest) (u : World) (e : Event) (said : EventNote) (
 
 -- the node that an event is for
 abbrev pub addressee : Option Message → Option NodeId
-addressee (Some (Told y)) = Some (told_to y)
-addressee (Some (Fetches y)) = Some y.node
-addressee (Some (Blob n c)) = Some n
+addressee (Some (to.ToNode y)) = Some (receiver y)
 addressee o = None
 
 abbrev pub node_at : World → Event → Option NodeId

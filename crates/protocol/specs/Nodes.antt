@@ -4,7 +4,8 @@ use Rattle.std.specs.List.{list_any, list_all, flat_map}
 use Rattle.farm_base.specs.Folders.{folder_eq}
 use Rattle.protocol.specs.Lists.{nth, set_nth}
 use Rattle.protocol.specs.Names.{Slot, Shared, slots_eq, digest_eq, NodeId, Life, Ask, Ticket, Digest, Want, FolderName, wants_shared, tenure_wants}
-use Rattle.protocol.specs.Machine.{News, GrantedSlot, Confirmed, Grant, Message, Fetches, Blob, FromCoord, hello, acquire, commit, release, written, slots_of}
+use Rattle.protocol.specs.Machine.{News, GrantedSlot, Confirmed, Grant, Message, ToNode, Fetches, Blob, FromCoord, hello, acquire, commit, release, written, slots_of}
+use Rattle.farm_base.specs.declared.message.ToNode.TheVariants as to_node
 use Rattle.protocol.specs.Ledger.{Limits}
 use Rattle.protocol.specs.World.{AskState, Open, Holding, Running, Finished, Over, Node, keeps, learn_bases, learn_versions, keep, has_life}
 use Rattle.farm_base.specs.declared.message.FromCoord.TheVariants as told
@@ -336,6 +337,12 @@ brought sha c x =
     if not (is_stored x (sha c)) && list_any (is_base (sha c)) x.asks
     then record { node = record x { store = keep (sha c) c x.store }; sends = []; note = note.BlobTaken }
     else nothing x
+
+-- what a message comes to
+abbrev pub received : (List ℕ → Digest) → Limits → Place → ToNode → Node → NodeWork
+received sha k at (to_node.FromCoord y) x = heard k at y x
+received sha k at (to_node.Fetch y) x = fetched y.from x (x.store y.digest)
+received sha k at (to_node.Blob n c) x = brought sha c x
 
 -- a node that is down for good answers LivesSpent to all
 abbrev pub unless_spent : Node → NodeWork → NodeAnswer

@@ -3,6 +3,7 @@ use Rattle.std.specs.Prelude.{◌≡◌, ◌≢◌, ℕ, ◌≤◌, Bool, true, 
 use Rattle.protocol.specs.Lists.{In, nth}
 use Rattle.protocol.specs.Names.{Shared, NodeId, Ticket, Want, wants_shared}
 use Rattle.protocol.specs.Machine.{Grant, GrantedSlot, Message, Said, ToCoord, Machine, Live, Leased, line, written}
+use Rattle.farm_base.specs.declared.message.Message.TheVariants as to
 use Rattle.protocol.specs.declared.answer.CoordRefusal.{CoordRefusal}
 use Rattle.protocol.specs.declared.answer.CoordRefusal.TheVariants as coord
 use Rattle.protocol.specs.declared.answer.NodeRefusal.{NodeRefusal}
@@ -32,7 +33,7 @@ CallBecause k m e r = ⊥
 
 -- what the coordinator decides at an event
 abbrev pub message_decision : Limits → Farm → Option Message → Option (Result Work CoordRefusal)
-message_decision k s (Some (Said y)) = Some (Ok (handled k y (begin_work s.ledger)))
+message_decision k s (Some (to.ToCoord y)) = Some (Ok (handled k y (begin_work s.ledger)))
 message_decision k s o = None
 
 abbrev pub decision_at : Limits → Farm → Event → Option (Result Work CoordRefusal)

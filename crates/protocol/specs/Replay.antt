@@ -2,11 +2,13 @@
 use Rattle.std.specs.Prelude.{ℕ, ◌+◌, Bool, true, false, ◌&&◌, nat_le, if◌then◌else◌, List, [], ◌∷◌, ◌++◌, length, map, Option, Some, None, Result, Ok, Err}
 use Rattle.protocol.specs.Lists.{put, nth}
 use Rattle.protocol.specs.Names.{Slot, NodeId, Ticket, Digest, Want, FolderName}
-use Rattle.protocol.specs.Machine.{Message, Said, Told, Fetches, Blob, FromCoord}
+use Rattle.protocol.specs.Machine.{Message, ToNode, Told, FromCoord}
+use Rattle.farm_base.specs.declared.message.Message.TheVariants as to
+use Rattle.farm_base.specs.declared.message.ToNode.TheVariants as to_node
 use Rattle.protocol.specs.Ledger.{Limits, Ledger, Work, begin_work, handled, withdrawn, retired, pruned, nudged, Saved, saves, reads}
 use Rattle.protocol.specs.Ledger as ledger
 use Rattle.protocol.specs.World.{Node, first_node}
-use Rattle.protocol.specs.Nodes.{Place, Left, NodeWork, NodeAnswer, asked, asked_tenure, begun, finished_with, aborted, resent, restarted, may_restart, heard, fetched, brought, unless_spent}
+use Rattle.protocol.specs.Nodes.{Place, Left, NodeWork, NodeAnswer, asked, asked_tenure, begun, finished_with, aborted, resent, restarted, may_restart, received, brought, unless_spent}
 use Rattle.farm_base.specs.declared.message.FromCoord.TheVariants as told
 use Rattle.protocol.specs.declared.answer.Kept.{Kept}
 use Rattle.protocol.specs.declared.answer.Kept.TheVariants.{Old, New}
@@ -127,12 +129,16 @@ told_to (told.Fenced n l t) = n
 told_to (told.Denied n l a why) = n
 told_to (told.Recall n l t) = n
 
+-- the node that a message is for
+abbrev pub receiver : ToNode → NodeId
+receiver (to_node.FromCoord y) = told_to y
+receiver (to_node.Fetch y) = y.node
+receiver (to_node.Blob n c) = n
+
 abbrev pub delivered : (List ℕ → Digest) → Limits → Option Message → Farm → Turn
 delivered sha k None s = refused refusal.NoSuchMessage s
-delivered sha k (Some (Said y)) s = coordinated s.down (Ok (handled k y (begin_work s.ledger))) s
-delivered sha k (Some (Told y)) s = node_does (told_to y) (λ p x. unless_spent x (heard k p y x)) s
-delivered sha k (Some (Fetches y)) s = node_does y.node (λ p x. unless_spent x (fetched y.from x (x.store y.digest))) s
-delivered sha k (Some (Blob n c)) s = node_does n (λ p x. unless_spent x (brought sha c x)) s
+delivered sha k (Some (to.ToCoord y)) s = coordinated s.down (Ok (handled k y (begin_work s.ledger))) s
+delivered sha k (Some (to.ToNode y)) s = node_does (receiver y) (λ p x. unless_spent x (received sha k p y x)) s
 
 -- a restart reads the record and nothing else
 unfoldable pub step : (List ℕ → Digest) → Limits → Farm → Event → Turn

@@ -11,9 +11,7 @@ use Rattle.protocol.specs.declared.answer.NodeRefusal.TheVariants as refusal
 use Rattle.protocol.specs.declared.answer.NodeNote.TheVariants as note
 use Rattle.protocol.specs.Farm.{farm_limits}
 use Rattle.std.specs.List.{list_any}
-use Rattle.nodecore.specs.declared.message.Message as sent
 use Rattle.nodecore.specs.declared.message.NodeDone.{NodeDone}
-use Rattle.nodecore.specs.Asks.{message_of}
 use Rattle.nodecore.specs.Shown.{work_of}
 use Rattle.world.specs.declared.call.Call.{Call}
 use Rattle.world.specs.declared.call.Call.TheVariants as call
@@ -75,13 +73,9 @@ called_few (call.Finish t lefts) p x w h =
 called_few (call.Abort t) p x w h = aborts_few p x (first (held_or_running t) x.asks 0) w (guarded x.spent refusal.LivesSpent (aborting p x (first (held_or_running t) x.asks 0)) w h)
 called_few (call.Forge content) p x w h = one (brought content_digest content x) w (brings_few content x) (guarded x.spent refusal.LivesSpent (Ok (brought content_digest content x)) w h)
 
-count_is : (sends : List sent.Message) → length (map message_of sends) ≡ length sends
-count_is [] = refl
-count_is (x ∷ xs) = ap suc (count_is xs)
-
 pub few : (c : Call) (p : Place) (x y : Node) (d : NodeDone) → called c p x ≡ Ok (work_of y d) → length d.sends ≤ 1
-few c p x y d h = (let n : length (map message_of d.sends) ≤ 1 = called_few c p x (work_of y d) h in omega (arith, n, count_is d.sends))
+few c p x y d h = called_few c p x (work_of y d) h
 
 -- a node sends what the message comes to
 pub heard_count : (x y : Node) (w : NodeWork) (d : NodeDone) → unless_spent x w ≡ Ok (work_of y d) → length w.sends ≡ length d.sends
-heard_count x y w d h = ap (λ (u : NodeWork). length u.sends) (ok_is w (work_of y d) (guarded x.spent refusal.LivesSpent (Ok w) (work_of y d) h)) ∙ count_is d.sends
+heard_count x y w d h = ap (λ (u : NodeWork). length u.sends) (ok_is w (work_of y d) (guarded x.spent refusal.LivesSpent (Ok w) (work_of y d) h))

@@ -2,6 +2,7 @@
 use Rattle.std.proofs.Common.{◌≡◌, ℕ, suc, ◌==◌, Bool, true, false, if◌then◌else◌, List, [], ◌∷◌, ◌++◌, length, map, Option, Some, None, Result, Ok, Err, refl, sym, ap, ◌∙◌, subst}
 use mathlib.Core.Path.{fun_ext}
 use Rattle.std.proofs.lemmas.Bool.{eqb-true}
+use Rattle.std.proofs.lemmas.List.{length-map}
 use Rattle.protocol.specs.Lists.{put}
 use Rattle.protocol.specs.Names.{NodeId}
 use Rattle.protocol.specs.Machine.{Message, Told, FromCoord}
@@ -21,13 +22,11 @@ use Rattle.protocol.specs.declared.answer.EventRefusal.{EventRefusal}
 use Rattle.protocol.specs.declared.answer.EventRefusal.TheVariants as refusal
 use Rattle.protocol.specs.declared.answer.Outcome.{Outcome}
 use Rattle.nodecore.specs.declared.message.NodeDone.{NodeDone}
-use Rattle.nodecore.specs.declared.message.Message.TheVariants as sent
-use Rattle.nodecore.specs.declared.message.ToNode.{ToNode}
-use Rattle.nodecore.specs.declared.message.ToNode.TheVariants as to
-use Rattle.nodecore.specs.Asks.{message_of}
+use Rattle.farm_base.specs.declared.message.ToNode.{ToNode}
 use Rattle.nodecore.specs.Shown.{work_of, message_work, Answers}
 use Rattle.world.specs.Turns.{Came, first_number, from_node, restarting}
-use Rattle.world.specs.Tables.{told_node, Restarts}
+use Rattle.protocol.specs.Replay.{receiver}
+use Rattle.world.specs.Tables.{Restarts}
 
 put_here : (b : Bool) (v w x : Node) → v ≡ w → (b ≡ true → x ≡ w) → (if b then v else x) ≡ x
 put_here true v w x e h = e ∙ sym (h refl)
@@ -37,19 +36,13 @@ put_here false v w x e h = refl
 pub put_same : (f : ℕ → Node) (n : ℕ) (v : Node) → v ≡ f n → put n v f ≡ f
 put_same f n v e = fun_ext (λ m. put_here (m == n) v (f n) (f m) e (λ p. ap f (eqb-true m n p)))
 
-first_is : {A : Type 0} (f : A → Message) (s : Farm) (sends : List A) → first_sent s (map f sends) ≡ first_number (length s.pool) (length sends)
-first_is f s [] = refl
-first_is f s (x ∷ xs) = refl
+first_is : (s : Farm) (sends : List Message) → first_sent s sends ≡ first_number (length s.pool) (length sends)
+first_is s [] = refl
+first_is s (x ∷ xs) = refl
 
-pub count_of : {A : Type 0} (f : A → Message) (sends : List A) → length (map f sends) ≡ length sends
-count_of f [] = refl
-count_of f (x ∷ xs) = ap suc (count_of f xs)
-
-told : {A : Type 0} (f : A → Message) (s t : Farm) (n : EventNote) (sends : List A) (o : Outcome) → o ≡ record { note = n; first = first_number (length s.pool) (length sends); sent = length sends }
-    → done n (map f sends) s t ≡ record { farm = t; outcome = Ok o }
-told f s t n sends o e =
-    let is : record { note = n; first = first_sent s (map f sends); sent = length (map f sends) } ≡ o = (λ j. record { note = n; first = first_is f s sends j; sent = count_of f sends j }) ∙ sym e in
-    ap (λ (u : Outcome). record { farm = t; outcome = Ok u }) is
+told : (s t : Farm) (n : EventNote) (sends : List Message) (o : Outcome) → o ≡ record { note = n; first = first_number (length s.pool) (length sends); sent = length sends }
+    → done n sends s t ≡ record { farm = t; outcome = Ok o }
+told s t n sends o e = ap (λ (u : Outcome). record { farm = t; outcome = Ok u }) ((λ j. record { note = n; first = first_is s sends j; sent = length sends }) ∙ sym e)
 
 -- the node isn't there
 pub came_none : (s t : Farm) (n : NodeId) (f : Place → Node → NodeAnswer) → is_node s n ≡ false → t ≡ s → Came (node_does n f s) s t (Err refusal.NoSuchNode)
@@ -57,11 +50,11 @@ came_none s t n f none same = ap (λ (b : Bool). at_node b n (f (at s n) (s.node
 
 -- the node did it
 pub came_done : (s t : Farm) (n : NodeId) (f : Place → Node → NodeAnswer) (y : Node) (d : NodeDone) (o : Outcome) → is_node s n ≡ true → f (at s n) (s.nodes n.0) ≡ Ok (work_of y d)
-    → t ≡ record s { nodes = put n.0 y s.nodes; pool = s.pool ++ map message_of d.sends }
+    → t ≡ record s { nodes = put n.0 y s.nodes; pool = s.pool ++ d.sends }
     → o ≡ record { note = note.Node d.note; first = first_number (length s.pool) (length d.sends); sent = length d.sends } → Came (node_does n f s) s t (Ok o)
 came_done s t n f y d o here answer after outcome =
     ap (λ (b : Bool). at_node b n (f (at s n) (s.nodes n.0)) s) here ∙ ap (λ (a : NodeAnswer). answered n a s) answer
-    ∙ ap (λ (u : Farm). done (note.Node d.note) (map message_of d.sends) s u) (sym after) ∙ told message_of s t (note.Node d.note) d.sends o outcome
+    ∙ ap (λ (u : Farm). done (note.Node d.note) d.sends s u) (sym after) ∙ told s t (note.Node d.note) d.sends o outcome
 
 refused_as : (s t : Farm) (n : NodeId) (f : Place → Node → NodeAnswer) (e : NodeRefusal) → is_node s n ≡ true → f (at s n) (s.nodes n.0) ≡ Err e → t ≡ s → node_does n f s ≡ record { farm = t; outcome = Err (refusal.Node e) }
 refused_as s t n f e here answer same =
@@ -115,11 +108,6 @@ came_stopped s t n y node.TenureInUse here a same after = absurd a
 abbrev pub hears : ToNode → Place → Node → NodeAnswer
 hears m p x = unless_spent x (message_work p x m)
 
-pub delivered_node : (s : Farm) (m : ToNode) → delivered content_digest farm_limits (Some (message_of (sent.ToNode m))) s ≡ node_does (told_node m) (hears m) s
-delivered_node s (to.FromCoord y) = refl
-delivered_node s (to.Fetch y) = refl
-delivered_node s (to.Blob n c) = refl
-
 settled_is : (b : Bool) (w : Work) (s : Farm) → (b ≡ false → saves w.ledger ≡ s.saved) → settled b None w s ≡ after_work (saves w.ledger) w s
 settled_is true w s told = refl
 settled_is false w s told = ap (λ (r : Saved). after_work r w s) (sym (told refl))
@@ -130,10 +118,11 @@ pub came_worked : (s : Farm) (w : Work) (ledger : Ledger) (pool : List Message) 
     → pool ≡ s.pool ++ map Told sends → o ≡ record { note = note.Coord n; first = first_number (length s.pool) (length sends); sent = length sends }
     → coordinated s.down (Ok w) s ≡ record { farm = record s { ledger = ledger; saved = saves ledger; pool = pool }; outcome = Ok o }
 came_worked s w ledger pool sends n o up safe told_so e f g h i =
+    let count : length sends ≡ length (map Told sends) = sym (length-map sends Told) in
     ap (λ (d : Option Ledger). coordinated d (Ok w) s) up ∙ ap (λ (a : Option Kept). settled w.changed a w s) safe ∙ settled_is w.changed w s told_so
     ∙ sym (λ j. done (note.Coord (g j)) (map Told (f j)) s (record s { ledger = e j; saved = saves (e j); pool = s.pool ++ map Told (f j) }))
     ∙ ap (λ (p : List Message). done (note.Coord n) (map Told sends) s (record s { ledger = ledger; saved = saves ledger; pool = p })) (sym h)
-    ∙ told Told s (record s { ledger = ledger; saved = saves ledger; pool = pool }) (note.Coord n) sends o i
+    ∙ told s (record s { ledger = ledger; saved = saves ledger; pool = pool }) (note.Coord n) (map Told sends) o (i ∙ (λ j. record { note = note.Coord n; first = first_number (length s.pool) (count j); sent = count j }))
 
 pub came_as : (a b : Turn) (s t : Farm) (r : Result Outcome EventRefusal) → a ≡ b → Came a s t r → Came b s t r
 came_as a b s t r e h = subst (λ (z : Turn). Came z s t r) e h

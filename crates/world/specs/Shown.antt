@@ -3,7 +3,6 @@ use Rattle.std.specs.Prelude.{length, map, None}
 use Rattle.protocol.specs.Ledger.{saves}
 use Rattle.protocol.specs.Replay.{Farm}
 use Rattle.coordinator.specs.Held.{ledger}
-use Rattle.nodecore.specs.Asks.{message_of}
 use Rattle.world.specs.declared.world.World.{World}
 use Rattle.world.specs.Tables.{node_at}
 
@@ -15,6 +14,6 @@ shown w = record {
   saved = saves (ledger w.coordinator);
   down = None;
   armed = None;
-  pool = map message_of w.pool.items;
+  pool = w.pool.items;
   nodes = node_at w.nodes.cores.items;
 }

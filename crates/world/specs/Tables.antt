@@ -8,11 +8,8 @@ use Rattle.protocol.specs.Names.{NodeId}
 use Rattle.protocol.specs.World.{Node, first_node}
 use Rattle.protocol.specs.Nodes.{Place, NodeAnswer, may_restart, restarted, asked, asked_tenure, begun, finished_with, aborted, brought, unless_spent}
 use Rattle.nodecore.specs.declared.node_core.NodeCore.{NodeCore}
-use Rattle.protocol.specs.Replay.{told_to}
 use Rattle.protocol.specs.declared.answer.NodeRefusal.{NodeRefusal}
 use Rattle.protocol.specs.declared.answer.NodeRefusal.TheVariants as refusal
-use Rattle.nodecore.specs.declared.message.ToNode.{ToNode}
-use Rattle.nodecore.specs.declared.message.ToNode.TheVariants.{FromCoord, Fetch, Blob}
 use Rattle.nodecore.specs.declared.message.NodeDone.{NodeDone}
 use Rattle.nodecore.specs.Shown.{shown, place, work_of}
 use Rattle.world.specs.declared.call.Call.{Call}
@@ -63,12 +60,6 @@ pub record AreFirstOf (all so_far : ℕ) (cores : List NodeCore) : Type 0 where
 
 abbrev pub AreFirst : ℕ → List NodeCore → Type 0
 AreFirst count cores = AreFirstOf count count cores
-
--- the node that a message is for
-abbrev pub told_node : ToNode → NodeId
-told_node (FromCoord m) = told_to m
-told_node (Fetch m) = m.node
-told_node (Blob n c) = n
 
 -- a restart came to this: a new life, or the last one is over for good
 abbrev pub Restarts : Place → Node → Node → Result NodeDone NodeRefusal → Type 0

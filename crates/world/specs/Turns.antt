@@ -6,14 +6,14 @@ use Rattle.protocol.specs.Ledger.{handled, retired, begin_work}
 use Rattle.protocol.specs.Replay.{Farm, Turn, is_node, at, restarts, coordinated, refused}
 use Rattle.protocol.specs.declared.answer.CoordRefusal.{CoordRefusal}
 use Rattle.protocol.specs.declared.answer.CoordRefusal.TheVariants as coord
-use Rattle.nodecore.specs.declared.message.Message.{Message}
-use Rattle.nodecore.specs.declared.message.Message.TheVariants.{ToCoord, ToNode}
+use Rattle.farm_base.specs.declared.message.Message.{Message}
+use Rattle.farm_base.specs.declared.message.Message.TheVariants.{ToCoord, ToNode}
 use Rattle.nodecore.specs.Shown.{message_work}
-use Rattle.world.specs.Tables.{told_node}
 use Rattle.protocol.specs.declared.answer.NodeRefusal.{NodeRefusal}
 use Rattle.protocol.specs.declared.answer.NodeRefusal.TheVariants as node
 use Rattle.protocol.specs.declared.answer.EventRefusal.{EventRefusal}
 use Rattle.protocol.specs.declared.answer.EventRefusal.TheVariants as refusal
+use Rattle.protocol.specs.Replay.{receiver}
 use Rattle.protocol.specs.declared.answer.Outcome.{Outcome}
 
 -- the number of the first of so many messages that are sent next, 0 where none is
@@ -35,7 +35,7 @@ from_node e = refusal.Node e
 -- there is room for what the message makes its receiver send; a room that is no machine's number isn't looked at
 abbrev pub FitsIn : Farm → Message → ℕ → Type 0
 FitsIn s (ToCoord y) room = length (handled farm_limits y (begin_work s.ledger)).sends ≤ room
-FitsIn s (ToNode m) room = is_node s (told_node m) ≡ true → room < 0xffff_ffff_ffff_ffff → length (message_work (at s (told_node m)) (s.nodes (told_node m).0) m).sends ≤ room
+FitsIn s (ToNode m) room = is_node s (receiver m) ≡ true → room < 0xffff_ffff_ffff_ffff → length (message_work (at s (receiver m)) (s.nodes (receiver m).0) m).sends ≤ room
 
 -- the event's refusal that the coordinator's is
 abbrev pub from_coordinator : CoordRefusal → EventRefusal

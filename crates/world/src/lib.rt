@@ -9,8 +9,8 @@ mod printing;
 mod replaying;
 mod world;
 
+pub use farm_base::{Message, ToNode};
 pub use laws::lines_have_one_text;
-pub use nodecore::{Message, ToNode};
 pub use printing::print_lines;
 pub use protocol::{EventNote, EventRefusal, Outcome};
 pub use replaying::{ReplayRefusal, replay};

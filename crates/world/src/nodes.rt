@@ -2,7 +2,8 @@
 ghost use Rattle.std.specs.Prelude.{◌≡◌, ◌+◌, ◌<◌, length, IfOk, IfSome, IfNone, is_some};
 ghost use Rattle.protocol.specs.Nodes.{unless_spent};
 ghost use Rattle.nodecore.specs.Shown.{shown, place, message_work, Answers};
-ghost use Rattle.world.specs.Tables.{node_at, has, seat, called, AreSeated, AreFirst, OnlyNode, Restarts, told_node};
+ghost use Rattle.protocol.specs.Replay.{receiver};
+ghost use Rattle.world.specs.Tables.{node_at, has, seat, called, AreSeated, AreFirst, OnlyNode, Restarts};
 
 use super::call::{Call, answer};
 use farm_base::{FromCoord, NodeId};
@@ -42,8 +43,8 @@ fn first_cores(alloc: Global, count: u32) -> Result<Vec<NodeCore>, AllocError>
 }
 
 /// The node that a message is for.
-pub(crate) fn told_node(message: &ToNode) -> NodeId
-    ensures { result ≡ told_node message.now }
+pub(crate) fn receiver(message: &ToNode) -> NodeId
+    ensures { result ≡ receiver message.now }
 {
     match message {
         ToNode::FromCoord(FromCoord::Granted(grant)) => grant.node,
@@ -96,13 +97,13 @@ impl Nodes {
         alloc: Global,
         message: &ToNode,
     ) -> Option<Result<NodeDone, NodeRefusal>>
-        ensures answer { IfSome result (Answers (unless_spent (node_at self.old.cores.items (told_node message.now).0) (message_work (seat self.old.cores.items (told_node message.now)) (node_at self.old.cores.items (told_node message.now).0) message.now))
-            (node_at self.old.cores.items (told_node message.now).0) (node_at self.new.cores.items (told_node message.now).0)) }
-        ensures others { OnlyNode (told_node message.now) self.old.cores.items self.new.cores.items }
+        ensures answer { IfSome result (Answers (unless_spent (node_at self.old.cores.items (receiver message.now).0) (message_work (seat self.old.cores.items (receiver message.now)) (node_at self.old.cores.items (receiver message.now).0) message.now))
+            (node_at self.old.cores.items (receiver message.now).0) (node_at self.new.cores.items (receiver message.now).0)) }
+        ensures others { OnlyNode (receiver message.now) self.old.cores.items self.new.cores.items }
         ensures none { IfNone result (self.new.cores.items ≡ self.old.cores.items) }
-        ensures exact { is_some result ≡ has self.old.cores.items (told_node message.now) }
+        ensures exact { is_some result ≡ has self.old.cores.items (receiver message.now) }
     {
-        let place = place_of(self.cores.as_slice(), told_node(message))?;
+        let place = place_of(self.cores.as_slice(), receiver(message))?;
         Some(self.cores[place].handle(alloc, message))
     }
 

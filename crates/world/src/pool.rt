@@ -3,7 +3,6 @@ ghost use Rattle.std.specs.Prelude.{◌≡◌, ◌≤◌, ◌+◌, ◌++◌, ◌
 ghost use Rattle.std.specs.Vec.{vec_capacity};
 ghost use Rattle.protocol.specs.Machine.{Told};
 ghost use Rattle.protocol.specs.Lists.{nth};
-ghost use Rattle.nodecore.specs.Asks.{message_of};
 ghost use Rattle.world.specs.Turns.{first_number};
 ghost use Rattle.protocol.specs.declared.answer.EventNote.TheVariants as note;
 
@@ -16,7 +15,7 @@ use protocol::{EventNote, Outcome};
 pub(crate) fn place_in(pool: &[Message], number: u64) -> Option<usize>
     ensures found { IfSome result (λ place. number ≡ place + 1) }
     ensures inside { IfSome result (λ place. place < length pool.now) }
-    ensures none { IfNone result (nth (map message_of pool.now) number ≡ None) }
+    ensures none { IfNone result (nth pool.now number ≡ None) }
 {
     if 1 <= number && number <= pool.len() as u64 {
         Some(number as usize - 1)
@@ -27,7 +26,7 @@ pub(crate) fn place_in(pool: &[Message], number: u64) -> Option<usize>
 
 /// The message of a number.
 pub(crate) fn message_at(pool: &[Message], number: u64) -> Option<&Message>
-    ensures { option_map message_of (option_copied result) ≡ nth (map message_of pool.now) number }
+    ensures { option_copied result ≡ nth pool.now number }
 {
     let place = place_in(pool, number)?;
     Some(&pool[place])
@@ -43,7 +42,7 @@ fn first_number(pool: &[Message], count: usize) -> u64
 /// Adds what the coordinator sends.
 fn add_all(pool: &mut Vec<Message>, sends: Vec<FromCoord>)
     requires { vec_len pool.old + vec_len sends ≤ vec_capacity pool.old }
-    ensures { map message_of pool.new.items ≡ map message_of pool.old.items ++ map Told sends.items }
+    ensures { pool.new.items ≡ pool.old.items ++ map Told sends.items }
 {
     for message in sends {
         pool.push_reserved(Message::ToNode(ToNode::FromCoord(message)));
@@ -53,7 +52,7 @@ fn add_all(pool: &mut Vec<Message>, sends: Vec<FromCoord>)
 /// Sends what a node sends, in the room that is there, and tells what it did.
 pub(crate) fn send_node(pool: &mut Vec<Message>, done: NodeDone) -> Outcome
     requires { vec_len pool.old + length done.sends ≤ vec_capacity pool.old }
-    ensures pool { map message_of pool.new.items ≡ map message_of pool.old.items ++ map message_of done.sends }
+    ensures pool { pool.new.items ≡ pool.old.items ++ done.sends }
     ensures outcome { result ≡ record { note = note.Node done.note; first = first_number (length pool.old.items) (length done.sends); sent = length done.sends } }
 {
     let NodeDone { note, sends } = done;
@@ -71,7 +70,7 @@ pub(crate) fn send_node(pool: &mut Vec<Message>, done: NodeDone) -> Outcome
 /// Sends what the coordinator sends, in the room that is there, and tells what it did.
 pub(crate) fn send_coordinator(pool: &mut Vec<Message>, handled: Handled) -> Outcome
     requires { vec_len pool.old + length handled.sends ≤ vec_capacity pool.old }
-    ensures pool { map message_of pool.new.items ≡ map message_of pool.old.items ++ map Told handled.sends }
+    ensures pool { pool.new.items ≡ pool.old.items ++ map Told handled.sends }
     ensures outcome { result ≡ record { note = note.Coord handled.note; first = first_number (length pool.old.items) (length handled.sends); sent = length handled.sends } }
 {
     let Handled { sends, note } = handled;

@@ -6,7 +6,6 @@ ghost use Rattle.protocol.specs.Ledger.{begin_work, withdrawn, pruned, nudged};
 ghost use Rattle.protocol.specs.Replay.{opening, step, node_does, is_node, delivered, coordinated};
 ghost use Rattle.protocol.specs.Nodes.{resent};
 ghost use Rattle.coordinator.specs.Held.{ledger};
-ghost use Rattle.nodecore.specs.Asks.{message_of};
 ghost use Rattle.nodecore.specs.Shown as core;
 ghost use Rattle.schedule.specs.Events.{event_of};
 ghost use Rattle.world.specs.Meanings.{MeansAsTold, GrantsAtOnce};
@@ -16,7 +15,7 @@ ghost use Rattle.world.specs.Turns.{Came, FitsIn, from_node, from_coordinator, r
 ghost use Rattle.world.specs.Shown.{shown};
 
 use super::call::Call;
-use super::nodes::{Nodes, told_node};
+use super::nodes::{Nodes, receiver};
 use super::pool::{message_at, place_in, send_coordinator, send_node};
 use coordinator::Coordinator;
 use farm_base::{NODES, NodeId, Slot, Ticket};
@@ -109,7 +108,7 @@ impl World {
 
     /// The message of this number, from 1 on.
     pub fn message(&self, number: u64) -> Option<&Message>
-        ensures { option_map message_of (option_copied result) ≡ nth (shown self.now).pool number }
+        ensures { option_copied result ≡ nth (shown self.now).pool number }
     {
         message_at(self.pool.as_slice(), number)
     }
@@ -143,7 +142,7 @@ impl World {
     {
         match message {
             Message::ToCoord(_) => self.coordinator.most_sends(),
-            Message::ToNode(message) => match self.nodes.get(told_node(message)) {
+            Message::ToNode(message) => match self.nodes.get(receiver(message)) {
                 None => 0,
                 Some(core) => core.most_sends(message),
             },

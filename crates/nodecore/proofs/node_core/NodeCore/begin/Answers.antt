@@ -3,7 +3,7 @@ use Rattle.std.specs.List.{position}
 use Rattle.protocol.specs.World.{Running}
 use Rattle.protocol.specs.Nodes.{held, all_stored}
 use Rattle.nodecore.specs.declared.asks.Stage.TheVariants as stage
-use Rattle.nodecore.specs.Asks.{shown_ask, slots_in, at_stage, message_of}
+use Rattle.nodecore.specs.Asks.{shown_ask, slots_in, at_stage}
 use Rattle.nodecore.specs.Shown.{shown}
 use Rattle.nodecore.proofs.FirstLemmas.{FirstAt, picks, some_first, none_first}
 use Rattle.nodecore.proofs.KeptLemmas.{held_at, read_at}
@@ -35,7 +35,7 @@ returns-clause-answer c =
     let here : all_stored (shown c.args.self.now) f.what.grant.slots ≡ true = ap (all_stored (shown c.args.self.now)) (sym slots) ∙ sym c.has_all.ensures ∙ search rules in
     let written = read_at (held_at c.args.ticket c.args.self.now.asks.items c.in-Some.place f) c.index_mut.result.now (search rules) in
     let next : Running f.what.wants f.what.grant f.what.recalled ≡ shown_ask c.come_to.new.self = sym (ap shown_ask (c.come_to.ensures ∙ ap (at_stage stage.Running) written)) in
-    let quiet : [] ≡ map message_of c.new-2.result = sym (ap (map message_of) (c.new-2.ensures ∙ c.new.ensures.items)) in
+    let quiet : [] ≡ c.new-2.result = sym ((c.new-2.ensures ∙ c.new.ensures.items)) in
     begins c.args.ticket (shown c.args.self.now) _ (c.in-Some.place + 1) f.what _ c.if-self.false (f.found (c.in-Some.place + 1) (omega arith)) here quiet
     (becomes_shown (shown c.args.self.now) c.args.self.now.asks.items c.in-Some.place c.come_to.new.self _ refl next)
 

@@ -3,7 +3,6 @@ use Rattle.std.proofs.Math.Seq.{drop-cons}
 use Rattle.protocol.specs.Farm.{farm_limits}
 use Rattle.protocol.specs.Machine.{Message, GrantedSlot}
 use Rattle.protocol.specs.Nodes.{fetches, fetches_of, is_missing}
-use Rattle.nodecore.specs.Asks.{message_of}
 use Rattle.nodecore.specs.Shown.{shown, place}
 use Rattle.nodecore.proofs.FetchLemmas.{fetches_slot, fetches_end}
 use Rattle.nodecore.proofs.MapLemmas.{drop_end}
@@ -18,7 +17,7 @@ loop-slot-preserved c =
     let x = shown c.args.self.now in
     let slot = c.slot-item.result in
     let rest = fetches farm_limits at x (drop (i + 1) slots) in
-    let sent = map message_of c.loop-slot.sends.items in
+    let sent = c.loop-slot.sends.items in
     let inside : i < length slots = search rules in
     let here : get_or slots i slot ≡ slot = search rules in
     let next : suc i ≡ i + 1 = search arith in
@@ -26,21 +25,21 @@ loop-slot-preserved c =
     elim c.if-is_missing.branch [
       | then-is_missing+in_ok-push_fetches w ↦
           let missing : is_missing farm_limits x slot ≡ true = search rules in
-          let items : map message_of c.if-is_missing.sends.items ≡ sent ++ fetches_of at slot.digest = ap (λ v. map message_of v.items) w.sends-is ∙ w.in_ok-push_fetches.ensures in
+          let items : c.if-is_missing.sends.items ≡ sent ++ fetches_of at slot.digest = ap (λ v. v.items) w.sends-is ∙ w.in_ok-push_fetches.ensures in
           ap (λ (m : List Message). m ++ rest) items
           ∙ append_assoc sent (fetches_of at slot.digest) rest
           ∙ sym (ap (λ (m : List Message). sent ++ m) (ap (λ (s : List GrantedSlot). fetches farm_limits at x s) parts ∙ fetches_slot farm_limits at x slot (drop (i + 1) slots) true missing))
           ∙ c.loop-slot.invariant
       | else-is_missing w ↦
           let there : is_missing farm_limits x slot ≡ false = search rules in
-          ap (λ v. map message_of v.items ++ rest) w.sends-is
+          ap (λ v. v.items ++ rest) w.sends-is
           ∙ sym (ap (λ (m : List Message). sent ++ m) (ap (λ (s : List GrantedSlot). fetches farm_limits at x s) parts ∙ fetches_slot farm_limits at x slot (drop (i + 1) slots) false there))
           ∙ c.loop-slot.invariant
     ]
 
 pub returns : goal.returns
 returns c =
-    let sent = map message_of c.loop-slot.sends.items in
+    let sent = c.loop-slot.sends.items in
     let slots = c.args.slots.now in
     let none : drop c.loop-slot.slot-index slots ≡ [] = drop_end slots c.loop-slot.slot-index (omega arith) in
     sym (append-nil sent)

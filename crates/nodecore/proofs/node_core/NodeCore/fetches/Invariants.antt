@@ -1,9 +1,8 @@
 use Rattle.std.proofs.Common.{◌≡◌, ◌++◌, drop, map}
 use Rattle.protocol.specs.Farm.{farm_limits}
 use Rattle.protocol.specs.Nodes.{fetches}
-use Rattle.nodecore.specs.Asks.{message_of}
 use Rattle.nodecore.specs.Shown.{shown, place}
 use Rattle.nodecore.proofs.node_core.NodeCore.fetches.Given as goal
 
 abbrev pub invariant-loop-slot : goal.invariant-loop-slot
-invariant-loop-slot l = map message_of l.sends.items ++ fetches farm_limits (place l.self) (shown l.self) (drop l.slot-index l.slots) ≡ fetches farm_limits (place l.self) (shown l.self) l.slots
+invariant-loop-slot l = l.sends.items ++ fetches farm_limits (place l.self) (shown l.self) (drop l.slot-index l.slots) ≡ fetches farm_limits (place l.self) (shown l.self) l.slots

@@ -9,7 +9,7 @@ use Rattle.protocol.specs.World.{Finished}
 use Rattle.protocol.specs.Nodes.{news_of, stored}
 use Rattle.nodecore.specs.declared.asks.KeptAsk.TheVariants as kept
 use Rattle.nodecore.specs.declared.asks.Stage.TheVariants as stage
-use Rattle.nodecore.specs.Asks.{shown_ask, at_stage, message_of}
+use Rattle.nodecore.specs.Asks.{shown_ask, at_stage}
 use Rattle.nodecore.specs.Shown.{shown, place, left_of, store_in}
 use Rattle.nodecore.proofs.MapLemmas.{same_store}
 use Rattle.nodecore.proofs.NodeLemmas.{left_work, set_shown}
@@ -28,7 +28,7 @@ returns-clause-work c = λ h get ticket.
     let next : Finished h.wants h.grant c.in_ok-news.news ≡ shown_ask c.come_to.new.self = sym (ap shown_ask (c.come_to.ensures ∙ ap (at_stage (stage.Finished c.in_ok-news.news)) old)) in
     let contents : stored content_digest (map left_of c.args.lefts.items) (store_in c.args.self.now.contents) ≡ store_in c.store_all.new.contents =
     sym (c.store_all.ensures ∙ ap (λ (s : Digest → Option (List ℕ)). stored content_digest (map left_of c.args.lefts.items) s) (same_store c.args.self.now.contents c.reserve.new.self c.in_ok-reserve.ensures.entries)) in
-    let sends : commit c.args.self.now.node c.args.self.now.life c.args.ticket c.in_ok-news.news ∷ [] ≡ map message_of c.in_ok-sends.sends =
+    let sends : commit c.args.self.now.node c.args.self.now.life c.args.ticket c.in_ok-news.news ∷ [] ≡ c.in_ok-sends.sends =
     sym (c.in_ok-sends.ensures ∙ ap (λ (n : List News). commit c.args.self.now.node c.args.self.now.life c.args.ticket n ∷ []) c.in_ok-copy.ensures) in
     left_work (place c.args.self.now) c.args.ticket (c.args.index + 1) h (map left_of c.args.lefts.items) c.in_ok-news.news (shown c.args.self.now) _ _ _ some ticket news
     (set_shown c.args.self.now.asks.items c.args.index c.come_to.new.self (Finished h.wants h.grant c.in_ok-news.news) next) contents sends

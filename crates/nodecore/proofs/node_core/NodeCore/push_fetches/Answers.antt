@@ -1,7 +1,5 @@
 use Rattle.std.proofs.Common.{rules, ◌≡◌, ◌<◌, ◌+◌, ◌∷◌, [], ◌++◌, List, true, false, map, ap, sym, ◌∙◌, append_assoc}
-use Rattle.std.proofs.lemmas.List.{map-append}
 use Rattle.protocol.specs.Machine.{Message}
-use Rattle.nodecore.specs.Asks.{message_of}
 use Rattle.nodecore.specs.Shown.{place}
 use Rattle.nodecore.proofs.FetchLemmas.{fetches_above, fetches-next, fetch_to, is_other}
 use Rattle.nodecore.proofs.node_core.NodeCore.push_fetches.Goals as goal
@@ -17,14 +15,14 @@ loop-number-preserved c =
     elim c.if-ne.branch [
       | then-ne+in_ok-push w ↦
           let other : is_other at (record { 0 = i + 1 }) ≡ true = search rules in
-          let items = ap (map message_of) (ap (λ v. v.items) w.sends-is ∙ w.in_ok-push.ensures.items) ∙ map-append message_of c.loop-number.sends.items _ in
+          let items = ap (λ v. v.items) w.sends-is ∙ w.in_ok-push.ensures.items in
           ap (λ (m : List Message). m ++ fetches_above at digest (i + 1) n) items
-          ∙ append_assoc (map message_of c.loop-number.sends.items) (fetch_to at digest (record { 0 = i + 1 }) ∷ []) (fetches_above at digest (i + 1) n)
-          ∙ sym (ap (λ (m : List Message). map message_of c.loop-number.sends.items ++ m) (fetches-next at digest i n true less other))
+          ∙ append_assoc c.loop-number.sends.items (fetch_to at digest (record { 0 = i + 1 }) ∷ []) (fetches_above at digest (i + 1) n)
+          ∙ sym (ap (λ (m : List Message). c.loop-number.sends.items ++ m) (fetches-next at digest i n true less other))
           ∙ c.loop-number.invariant
       | else-ne w ↦
           let same : is_other at (record { 0 = i + 1 }) ≡ false = search rules in
-          ap (λ v. map message_of v.items ++ fetches_above at digest (i + 1) n) w.sends-is
-          ∙ sym (ap (λ (m : List Message). map message_of c.loop-number.sends.items ++ m) (fetches-next at digest i n false less same))
+          ap (λ v. v.items ++ fetches_above at digest (i + 1) n) w.sends-is
+          ∙ sym (ap (λ (m : List Message). c.loop-number.sends.items ++ m) (fetches-next at digest i n false less same))
           ∙ c.loop-number.invariant
     ]

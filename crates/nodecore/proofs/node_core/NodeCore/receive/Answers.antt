@@ -1,7 +1,7 @@
 use Rattle.std.proofs.Common.{rules, ◌≡◌, ap, sym, subst}
 use Rattle.protocol.specs.Nodes.{NodeWork}
-use Rattle.nodecore.specs.declared.message.ToNode.{ToNode}
-use Rattle.nodecore.specs.declared.message.ToNode.TheVariants.{Blob}
+use Rattle.farm_base.specs.declared.message.ToNode.{ToNode}
+use Rattle.farm_base.specs.declared.message.ToNode.TheVariants.{Blob}
 use Rattle.nodecore.specs.Shown.{shown, place, Does, message_work}
 use Rattle.nodecore.proofs.node_core.NodeCore.receive.Goals as goal
 

@@ -8,7 +8,7 @@ use Rattle.protocol.specs.World.{Holding, learn_bases}
 use Rattle.protocol.specs.Nodes.{fetches}
 use Rattle.protocol.specs.declared.answer.NodeNote.TheVariants as note
 use Rattle.nodecore.specs.declared.asks.KeptAsk.TheVariants as kept
-use Rattle.nodecore.specs.Asks.{shown_ask, message_of, holds}
+use Rattle.nodecore.specs.Asks.{shown_ask, holds}
 use Rattle.nodecore.specs.Shown.{shown, place, base_of, known_in, learn_all}
 use Rattle.nodecore.proofs.MapLemmas.{bases_learned, same_known}
 use Rattle.nodecore.proofs.NodeLemmas.{set_shown}
@@ -29,8 +29,8 @@ returns-clause-work c = λ wants tenure get number.
     let known : learn_bases grant.slots (known_in c.args.self.now.versions) ≡ known_in c.learn.new.known =
     bases_learned grant.slots (known_in c.args.self.now.versions)
     ∙ sym (c.learn.ensures ∙ (λ j. learn_all (bases j) (same_known c.args.self.now.versions c.reserve.new.self c.reserve.ensures.entries j))) in
-    let sends : fetches farm_limits (place c.args.self.now) x grant.slots ≡ map message_of c.new.result =
-    sym (ap (map message_of) c.new.ensures ∙ c.in_ok-sends.ensures ∙ ap (λ (us : List GrantedSlot). fetches farm_limits (place c.args.self.now) x us) c.as_slice.ensures) in
+    let sends : fetches farm_limits (place c.args.self.now) x grant.slots ≡ c.new.result =
+    sym (c.new.ensures ∙ c.in_ok-sends.ensures ∙ ap (λ (us : List GrantedSlot). fetches farm_limits (place c.args.self.now) x us) c.as_slice.ensures) in
     let kept_asks : set_nth (map shown_ask asks) grant.ask.0 (Holding wants grant false) ≡ map shown_ask (set asks i c.hold.new.self) =
     ap (λ (a : ℕ). set_nth (map shown_ask asks) a (Holding wants grant false)) number ∙ set_shown asks i c.hold.new.self (Holding wants grant false) next in
     λ j. record { node = record x { asks = kept_asks j; known = known j }; sends = sends j; note = note.Took (sym c.in_ok-told.ensures j) }

@@ -6,7 +6,6 @@ use Rattle.nodecore.specs.declared.node_core.NodeCore.{NodeCore}
 use Rattle.nodecore.specs.Shown.{Answers}
 use Rattle.world.specs.Tables.{called, seat, node_at}
 use Rattle.protocol.specs.declared.answer.EventRefusal.{EventRefusal}
-use Rattle.nodecore.specs.Asks.{message_of}
 use Rattle.world.specs.Turns.{Came}
 use Rattle.world.specs.Shown.{shown}
 use Rattle.world.proofs.FewLemmas.{few}
@@ -31,7 +30,7 @@ returns-in-Err c =
     let here : is_node s n ≡ true = sym c.in-Some.ensures.exact in
     let answer : Answers (called c.args.call (seat cores n) (node_at cores n.0)) (node_at cores n.0) (node_at new n.0) (Err c.in-Err.refusal) =
     subst (Answers (called c.args.call (seat cores n) (node_at cores n.0)) (node_at cores n.0) (node_at new n.0)) c.in-Err.is c.in-Some.ensures.answer in
-    let t : Farm = record s { size = length new; nodes = node_at new; pool = map message_of c.reserve.new.self.items } in
+    let t : Farm = record s { size = length new; nodes = node_at new; pool = c.reserve.new.self.items } in
     subst (λ (e : EventRefusal). Came (node_does n (called c.args.call) s) s t (Err e)) (sym c.from_node.ensures)
     (came_refused s t n (called c.args.call) (node_at new n.0) c.in-Err.refusal here answer
-    (unmoved s n (length new) (node_at new) (map message_of c.reserve.new.self.items) c.in-Some.ensures.others.size c.in-Some.ensures.others.nodes (ap (map message_of) c.reserve.ensures.items)))
+    (unmoved s n (length new) (node_at new) c.reserve.new.self.items c.in-Some.ensures.others.size c.in-Some.ensures.others.nodes c.reserve.ensures.items))

@@ -10,17 +10,17 @@ use Rattle.protocol.specs.Ledger.{handled, begin_work}
 use Rattle.protocol.specs.Replay.{Farm, is_node, node_does, delivered}
 use Rattle.protocol.specs.declared.answer.EventRefusal.{EventRefusal}
 use Rattle.nodecore.specs.declared.node_core.NodeCore.{NodeCore}
-use Rattle.nodecore.specs.declared.message.Message as sent
-use Rattle.nodecore.specs.declared.message.Message.TheVariants as message
-use Rattle.nodecore.specs.declared.message.ToNode.{ToNode}
-use Rattle.nodecore.specs.Asks.{message_of}
+use Rattle.farm_base.specs.declared.message.Message as sent
+use Rattle.farm_base.specs.declared.message.Message.TheVariants as message
+use Rattle.farm_base.specs.declared.message.ToNode.{ToNode}
 use Rattle.nodecore.specs.Shown.{Answers, message_work}
-use Rattle.world.specs.Tables.{seat, node_at, told_node}
+use Rattle.world.specs.Tables.{seat, node_at}
 use Rattle.world.specs.Turns.{Came, FitsIn, first_number, from_node}
 use Rattle.world.specs.Shown.{shown}
 use Rattle.world.proofs.FewLemmas.{heard_count}
 use Rattle.world.proofs.PoolLemmas.{found_at, same_read}
-use Rattle.world.proofs.TurnLemmas.{hears, delivered_node, came_none, came_done, came_refused, came_worked, unmoved, came_as, count_of}
+use Rattle.world.proofs.TurnLemmas.{hears, came_none, came_done, came_refused, came_worked, unmoved, came_as}
+use Rattle.protocol.specs.Replay.{receiver}
 use Rattle.world.proofs.world.World.deliver.Goals as goal
 
 pub returns-in_default-hear : goal.returns-in_default-hear
@@ -30,14 +30,14 @@ returns-in_default-hear c =
     let inside : c.in-Some.place < length pool = omega (arith, c.in-Some.ensures.inside) in
     let same : c.reserve.new.self.items ≡ pool = c.reserve.ensures.items in
     let m : ToNode = c.in-ToNode.message in
-    let n : NodeId = told_node m in
+    let n : NodeId = receiver m in
     let cores : List NodeCore = c.args.self.now.nodes.cores.items in
     let new : List NodeCore = c.hear.new.self.cores.items in
-    let here : nth (map message_of pool) c.args.number ≡ Some (message_of (message.ToNode m)) = found_at pool c.reserve.new.self.items c.args.number c.in-Some.place c.index-2.result.now (message.ToNode m) same c.in-Some.ensures.found inside (search rules) c.in-ToNode.is in
-    let is : delivered content_digest farm_limits (nth (map message_of pool) c.args.number) s ≡ node_does n (hears m) s = ap (λ o. delivered content_digest farm_limits o s) here ∙ delivered_node s m in
+    let here : nth pool c.args.number ≡ Some (message.ToNode m) = found_at pool c.reserve.new.self.items c.args.number c.in-Some.place c.index-2.result.now (message.ToNode m) same c.in-Some.ensures.found inside (search rules) c.in-ToNode.is in
+    let is : delivered content_digest farm_limits (nth pool c.args.number) s ≡ node_does n (hears m) s = ap (λ o. delivered content_digest farm_limits o s) here in
     let kept : new ≡ cores = c.in_default-hear.ensures.none in
-    let t : Farm = record s { size = length new; nodes = node_at new; pool = map message_of c.reserve.new.self.items } in
-    let unchanged : t ≡ s = λ j. record s { size = length (kept j); nodes = node_at (kept j); pool = map message_of (same j) } in
+    let t : Farm = record s { size = length new; nodes = node_at new; pool = c.reserve.new.self.items } in
+    let unchanged : t ≡ s = λ j. record s { size = length (kept j); nodes = node_at (kept j); pool = (same j) } in
     is ∙ came_none s t n (hears m) (sym c.in_default-hear.ensures.exact) unchanged
 
 pub send_node-requires : goal.send_node-requires
@@ -47,11 +47,11 @@ send_node-requires c =
     let inside : c.in-Some.place < length pool = omega (arith, c.in-Some.ensures.inside) in
     let same : c.reserve.new.self.items ≡ pool = c.reserve.ensures.items in
     let m : ToNode = c.in-ToNode.message in
-    let n : NodeId = told_node m in
+    let n : NodeId = receiver m in
     let cores : List NodeCore = c.args.self.now.nodes.cores.items in
     let new : List NodeCore = c.hear.new.self.cores.items in
-    let here : nth (map message_of pool) c.args.number ≡ Some (message_of (message.ToNode m)) = found_at pool c.reserve.new.self.items c.args.number c.in-Some.place c.index-2.result.now (message.ToNode m) same c.in-Some.ensures.found inside (search rules) c.in-ToNode.is in
-    let is : delivered content_digest farm_limits (nth (map message_of pool) c.args.number) s ≡ node_does n (hears m) s = ap (λ o. delivered content_digest farm_limits o s) here ∙ delivered_node s m in
+    let here : nth pool c.args.number ≡ Some (message.ToNode m) = found_at pool c.reserve.new.self.items c.args.number c.in-Some.place c.index-2.result.now (message.ToNode m) same c.in-Some.ensures.found inside (search rules) c.in-ToNode.is in
+    let is : delivered content_digest farm_limits (nth pool c.args.number) s ≡ node_does n (hears m) s = ap (λ o. delivered content_digest farm_limits o s) here in
     let there : is_node s n ≡ true = sym c.in-Some-hear.ensures.exact in
     let answer : Answers (hears m (seat cores n) (node_at cores n.0)) (node_at cores n.0) (node_at new n.0) (Ok c.in-Ok-answer.done) =
     subst (Answers (hears m (seat cores n) (node_at cores n.0)) (node_at cores n.0) (node_at new n.0)) c.in-Ok-answer.is c.in-Some-hear.ensures.answer in
@@ -70,19 +70,19 @@ returns-in-Err-answer c =
     let inside : c.in-Some.place < length pool = omega (arith, c.in-Some.ensures.inside) in
     let same : c.reserve.new.self.items ≡ pool = c.reserve.ensures.items in
     let m : ToNode = c.in-ToNode.message in
-    let n : NodeId = told_node m in
+    let n : NodeId = receiver m in
     let cores : List NodeCore = c.args.self.now.nodes.cores.items in
     let new : List NodeCore = c.hear.new.self.cores.items in
-    let here : nth (map message_of pool) c.args.number ≡ Some (message_of (message.ToNode m)) = found_at pool c.reserve.new.self.items c.args.number c.in-Some.place c.index-2.result.now (message.ToNode m) same c.in-Some.ensures.found inside (search rules) c.in-ToNode.is in
-    let is : delivered content_digest farm_limits (nth (map message_of pool) c.args.number) s ≡ node_does n (hears m) s = ap (λ o. delivered content_digest farm_limits o s) here ∙ delivered_node s m in
+    let here : nth pool c.args.number ≡ Some (message.ToNode m) = found_at pool c.reserve.new.self.items c.args.number c.in-Some.place c.index-2.result.now (message.ToNode m) same c.in-Some.ensures.found inside (search rules) c.in-ToNode.is in
+    let is : delivered content_digest farm_limits (nth pool c.args.number) s ≡ node_does n (hears m) s = ap (λ o. delivered content_digest farm_limits o s) here in
     let there : is_node s n ≡ true = sym c.in-Some-hear.ensures.exact in
     let answer : Answers (hears m (seat cores n) (node_at cores n.0)) (node_at cores n.0) (node_at new n.0) (Err c.in-Err-answer.refusal) =
     subst (Answers (hears m (seat cores n) (node_at cores n.0)) (node_at cores n.0) (node_at new n.0)) c.in-Err-answer.is c.in-Some-hear.ensures.answer in
-    let t : Farm = record s { size = length new; nodes = node_at new; pool = map message_of c.reserve.new.self.items } in
-    subst (λ (e : EventRefusal). Came (delivered content_digest farm_limits (nth (map message_of pool) c.args.number) s) s t (Err e)) (sym c.from_node.ensures)
-    (came_as (node_does n (hears m) s) (delivered content_digest farm_limits (nth (map message_of pool) c.args.number) s) s t (Err (from_node c.in-Err-answer.refusal)) (sym is)
+    let t : Farm = record s { size = length new; nodes = node_at new; pool = c.reserve.new.self.items } in
+    subst (λ (e : EventRefusal). Came (delivered content_digest farm_limits (nth pool c.args.number) s) s t (Err e)) (sym c.from_node.ensures)
+    (came_as (node_does n (hears m) s) (delivered content_digest farm_limits (nth pool c.args.number) s) s t (Err (from_node c.in-Err-answer.refusal)) (sym is)
     (came_refused s t n (hears m) (node_at new n.0) c.in-Err-answer.refusal there answer
-    (unmoved s n (length new) (node_at new) (map message_of c.reserve.new.self.items) c.in-Some-hear.ensures.others.size c.in-Some-hear.ensures.others.nodes (ap (map message_of) same))))
+    (unmoved s n (length new) (node_at new) c.reserve.new.self.items c.in-Some-hear.ensures.others.size c.in-Some-hear.ensures.others.nodes same)))
 
 pub returns-in-Ok-answer : goal.returns-in-Ok-answer
 returns-in-Ok-answer c =
@@ -91,18 +91,18 @@ returns-in-Ok-answer c =
     let inside : c.in-Some.place < length pool = omega (arith, c.in-Some.ensures.inside) in
     let same : c.reserve.new.self.items ≡ pool = c.reserve.ensures.items in
     let m : ToNode = c.in-ToNode.message in
-    let n : NodeId = told_node m in
+    let n : NodeId = receiver m in
     let cores : List NodeCore = c.args.self.now.nodes.cores.items in
     let new : List NodeCore = c.hear.new.self.cores.items in
-    let here : nth (map message_of pool) c.args.number ≡ Some (message_of (message.ToNode m)) = found_at pool c.reserve.new.self.items c.args.number c.in-Some.place c.index-2.result.now (message.ToNode m) same c.in-Some.ensures.found inside (search rules) c.in-ToNode.is in
-    let is : delivered content_digest farm_limits (nth (map message_of pool) c.args.number) s ≡ node_does n (hears m) s = ap (λ o. delivered content_digest farm_limits o s) here ∙ delivered_node s m in
+    let here : nth pool c.args.number ≡ Some (message.ToNode m) = found_at pool c.reserve.new.self.items c.args.number c.in-Some.place c.index-2.result.now (message.ToNode m) same c.in-Some.ensures.found inside (search rules) c.in-ToNode.is in
+    let is : delivered content_digest farm_limits (nth pool c.args.number) s ≡ node_does n (hears m) s = ap (λ o. delivered content_digest farm_limits o s) here in
     let there : is_node s n ≡ true = sym c.in-Some-hear.ensures.exact in
     let answer : Answers (hears m (seat cores n) (node_at cores n.0)) (node_at cores n.0) (node_at new n.0) (Ok c.in-Ok-answer.done) =
     subst (Answers (hears m (seat cores n) (node_at cores n.0)) (node_at cores n.0) (node_at new n.0)) c.in-Ok-answer.is c.in-Some-hear.ensures.answer in
-    let t : Farm = record s { size = length new; nodes = node_at new; pool = map message_of c.send_node.new.pool.items } in
+    let t : Farm = record s { size = length new; nodes = node_at new; pool = c.send_node.new.pool.items } in
     is ∙ came_done s t n (hears m) (node_at new n.0) c.in-Ok-answer.done c.send_node.result there answer
-    (λ j. record s { size = c.in-Some-hear.ensures.others.size j; nodes = c.in-Some-hear.ensures.others.nodes j; pool = (c.send_node.ensures.pool ∙ ap (λ (l : List sent.Message). map message_of l ++ map message_of c.in-Ok-answer.done.sends) same) j })
-    (c.send_node.ensures.outcome ∙ ap (λ (k : ℕ). record { note = note.Node c.in-Ok-answer.done.note; first = first_number k (length c.in-Ok-answer.done.sends); sent = length c.in-Ok-answer.done.sends }) (ap length same ∙ sym (count_of message_of pool)))
+    (λ j. record s { size = c.in-Some-hear.ensures.others.size j; nodes = c.in-Some-hear.ensures.others.nodes j; pool = (c.send_node.ensures.pool ∙ ap (λ (l : List sent.Message). l ++ c.in-Ok-answer.done.sends) same) j })
+    (c.send_node.ensures.outcome ∙ ap (λ (k : ℕ). record { note = note.Node c.in-Ok-answer.done.note; first = first_number k (length c.in-Ok-answer.done.sends); sent = length c.in-Ok-answer.done.sends }) (ap length same))
 
 pub returns-in-Ok : goal.returns-in-Ok
 returns-in-Ok c =
@@ -111,8 +111,8 @@ returns-in-Ok c =
     let inside : c.in-Some.place < length pool = omega (arith, c.in-Some.ensures.inside) in
     let same : c.reserve.new.self.items ≡ pool = c.reserve.ensures.items in
     let y : ToCoord = c.in-ToCoord.message in
-    let here : nth (map message_of pool) c.args.number ≡ Some (Said y) = found_at pool c.reserve.new.self.items c.args.number c.in-Some.place c.index-2.result.now (message.ToCoord y) same c.in-Some.ensures.found inside (search rules) c.in-ToCoord.is in
+    let here : nth pool c.args.number ≡ Some (Said y) = found_at pool c.reserve.new.self.items c.args.number c.in-Some.place c.index-2.result.now (message.ToCoord y) same c.in-Some.ensures.found inside (search rules) c.in-ToCoord.is in
     ap (λ o. delivered content_digest farm_limits o s) here
-    ∙ came_worked s (handled farm_limits y (begin_work s.ledger)) _ (map message_of c.send_coordinator.new.pool.items) c.in-Ok.handled.sends c.in-Ok.handled.note c.send_coordinator.result refl refl c.in-Ok.ensures.told c.in-Ok.ensures.ledger c.in-Ok.ensures.sends c.in-Ok.ensures.note
-    (c.send_coordinator.ensures.pool ∙ ap (λ (l : List sent.Message). map message_of l ++ map Told c.in-Ok.handled.sends) same)
-    (c.send_coordinator.ensures.outcome ∙ ap (λ (k : ℕ). record { note = note.Coord c.in-Ok.handled.note; first = first_number k (length c.in-Ok.handled.sends); sent = length c.in-Ok.handled.sends }) (ap length same ∙ sym (count_of message_of pool)))
+    ∙ came_worked s (handled farm_limits y (begin_work s.ledger)) _ c.send_coordinator.new.pool.items c.in-Ok.handled.sends c.in-Ok.handled.note c.send_coordinator.result refl refl c.in-Ok.ensures.told c.in-Ok.ensures.ledger c.in-Ok.ensures.sends c.in-Ok.ensures.note
+    (c.send_coordinator.ensures.pool ∙ ap (λ (l : List sent.Message). l ++ map Told c.in-Ok.handled.sends) same)
+    (c.send_coordinator.ensures.outcome ∙ ap (λ (k : ℕ). record { note = note.Coord c.in-Ok.handled.note; first = first_number k (length c.in-Ok.handled.sends); sent = length c.in-Ok.handled.sends }) (ap length same))

@@ -10,12 +10,10 @@ use Rattle.protocol.specs.declared.answer.CoordRefusal.{CoordRefusal}
 use Rattle.protocol.specs.declared.answer.EventNote.TheVariants as note
 use Rattle.protocol.specs.declared.answer.EventRefusal.TheVariants as refusal
 use Rattle.coordinator.specs.Held.{ledger}
-use Rattle.nodecore.specs.declared.message.Message as sent
-use Rattle.nodecore.specs.Asks.{message_of}
+use Rattle.farm_base.specs.declared.message.Message as sent
 use Rattle.world.specs.Shown.{shown}
 use Rattle.world.specs.Turns.{first_number}
 use Rattle.world.proofs.CallLemmas.{sends_fit, call_done}
-use Rattle.world.proofs.TurnLemmas.{count_of}
 use Rattle.world.proofs.world.World.retire.Goals as goal
 
 pub send_coordinator-requires : goal.send_coordinator-requires
@@ -32,6 +30,6 @@ returns-in-Ok c =
     let same = c.reserve.ensures.items in
     let here : is_node s c.args.node ≡ true = search rules in
     ap (λ (b : Bool). if b then coordinated s.down r s else refused refusal.NoSuchNode s) here
-    ∙ call_done s r (ledger c.retire.new.self) (map message_of c.send_coordinator.new.pool.items) c.in-Ok.handled c.send_coordinator.result refl refl refl c.in-Ok.ensures.told c.in-Ok.ensures.answer
-    (c.send_coordinator.ensures.pool ∙ ap (λ (l : List sent.Message). map message_of l ++ map Told c.in-Ok.handled.sends) same)
-    (c.send_coordinator.ensures.outcome ∙ ap (λ (k : ℕ). record { note = note.Coord c.in-Ok.handled.note; first = first_number k (length c.in-Ok.handled.sends); sent = length c.in-Ok.handled.sends }) (ap length same ∙ sym (count_of message_of pool)))
+    ∙ call_done s r (ledger c.retire.new.self) c.send_coordinator.new.pool.items c.in-Ok.handled c.send_coordinator.result refl refl refl c.in-Ok.ensures.told c.in-Ok.ensures.answer
+    (c.send_coordinator.ensures.pool ∙ ap (λ (l : List sent.Message). l ++ map Told c.in-Ok.handled.sends) same)
+    (c.send_coordinator.ensures.outcome ∙ ap (λ (k : ℕ). record { note = note.Coord c.in-Ok.handled.note; first = first_number k (length c.in-Ok.handled.sends); sent = length c.in-Ok.handled.sends }) (ap length same))

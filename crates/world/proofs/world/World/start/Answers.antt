@@ -1,7 +1,6 @@
 use Rattle.std.proofs.Common.{ap, map}
 use Rattle.protocol.specs.Ledger.{saves}
 use Rattle.protocol.specs.Replay.{opening}
-use Rattle.nodecore.specs.Asks.{message_of}
 use Rattle.farm_base.specs.Contents.{content_digest}
 use Rattle.world.proofs.SeatLemmas.{all_first}
 use Rattle.world.proofs.world.World.start.Goals as goal
@@ -11,6 +10,6 @@ returns-clause-farm c = λ j. record (opening content_digest c.args.setup.nodes)
   size = c.in-Ok.ensures.len j;
   ledger = c.start-2.ensures j;
   saved = saves (c.start-2.ensures j);
-  pool = ap (map message_of) c.new.ensures.items j;
+  pool = c.new.ensures.items j;
   nodes = all_first c.args.setup.nodes c.in-Ok.nodes.cores.items c.in-Ok.ensures j;
 }
