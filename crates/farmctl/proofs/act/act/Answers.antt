@@ -6,7 +6,7 @@ use Rattle.std.specs.String.{string_bytes}
 use Rattle.std.specs.Global.{Global}
 use Rattle.std.specs.Io.KnownBytes.{Appends}
 use Rattle.std.proofs.lemmas.List.{nil_from_length}
-use Rattle.vertices.proofs.CheckLemmas.{all_zip_push}
+use Rattle.lists.proofs.Places.{AllZip-push}
 use Rattle.farmctl.specs.Failures.{failure_line}
 use Rattle.farmctl.specs.Acts.{File, AnswersFile, AnswersAll}
 use Rattle.farmctl.specs.declared.command.Command.{Command}
@@ -20,7 +20,7 @@ joined_push (x ∷ ts) t = ap (λ (text : List ℕ). x ++ text) (joined_push ts 
 all_push : (command : Command) (files : List File) (file : File) (text more : List ℕ) → AnswersAll command files text → AnswersFile command file more
     → AnswersAll command (files ++ file ∷ []) (text ++ more)
 all_push command files file text more h is =
-    (h.0 ++ more ∷ [], all_zip_push (AnswersFile command) files h.0 file more h.1 is, ap (λ (t : List ℕ). t ++ more) h.2 ∙ sym (joined_push h.0 more))
+    (h.0 ++ more ∷ [], AllZip-push (AnswersFile command) files h.0 file more h.1 is, ap (λ (t : List ℕ). t ++ more) h.2 ∙ sym (joined_push h.0 more))
 
 pub loop-name-init : goal.loop-name-init
 loop-name-init g c = record {
