@@ -19,7 +19,7 @@ use Rattle.protocol.specs.declared.answer.CoordRefusal.TheVariants as coord_refu
 use Rattle.protocol.specs.declared.answer.EventRefusal.{EventRefusal}
 use Rattle.protocol.specs.declared.answer.EventRefusal.TheVariants as refusal
 use Rattle.protocol.specs.declared.answer.Outcome.{Outcome}
-use Rattle.protocol.specs.World.{AskState, Open, Holding, Running, Finished, Over, Node, World, learn_bases, learn_versions, keep, has_life}
+use Rattle.protocol.specs.World.{KeptAsk, Open, Holding, Running, Finished, Over, Node, World, learn_bases, learn_versions, keep, has_life}
 use Rattle.protocol.specs.Nodes.{Left, news_of}
 use Rattle.protocol.specs.Replay.{Event, Tenure, Deliver, Begin, Finish, Abort, Resend, Nudge, Withdraw, Prune, Retire, RestartNode, RestartCoordinator, Forge, receiver}
 use Rattle.protocol.specs.Replay as replay
@@ -218,7 +218,7 @@ abbrev pub lefts_at : Event → List Left
 lefts_at (Finish n t lefts) = lefts
 lefts_at e = []
 
-abbrev pub IsAsk : Node → ℕ → AskState → Type 0
+abbrev pub IsAsk : Node → ℕ → KeptAsk → Type 0
 IsAsk x a s = nth x.asks a ≡ Some s
 
 -- nothing that was stored goes, and the contents are stored under their digests
@@ -233,7 +233,7 @@ Leaves sha [] n x g wants a sends x' = (sends ≡ release n x.life g.ticket ∷ 
 Leaves sha (l ∷ ls) n x g wants a sends x' =
     let news : List News = news_of sha (l ∷ ls) in
     (sends ≡ commit n x.life g.ticket news ∷ []) × (slots_of news ≡ written g.slots)
-    × Stored sha (map (λ (z : Left). z.content) (l ∷ ls)) x.store x'.store × (x' ≡ record x { asks = set_nth x.asks a (Finished wants g news); store = x'.store })
+    × Stored sha (map (λ (z : Left). z.1) (l ∷ ls)) x.store x'.store × (x' ≡ record x { asks = set_nth x.asks a (Finished wants g news); store = x'.store })
 
 -- what the answer of a node says, x being the node before, x' the node after
 abbrev pub NodeMeans : (List ℕ → Digest) → Option Message → Event → NodeId → Node → NodeNote → List Message → Node → Type 0
