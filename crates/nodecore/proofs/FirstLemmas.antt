@@ -1,5 +1,5 @@
 -- The first ask that a test picks.
-use Rattle.std.proofs.Common.{◌≡◌, ℕ, ◌+◌, ◌<◌, Bool, cond, List, [], ◌∷◌, map, refl, ap, subst, sym, ◌∙◌, Option, Some, None, is_some, length, get_or, add-one, arith}
+use Rattle.std.proofs.Common.{◌≡◌, ℕ, ◌+◌, ◌<◌, Bool, cond, List, [], ◌∷◌, refl, ap, subst, sym, ◌∙◌, Option, Some, None, is_some, length, get_or, add-one, arith}
 use Rattle.std.proofs.lemmas.Iterator.Adapters.{position_from-zero}
 use Rattle.std.specs.List.{position, position_from}
 use Rattle.protocol.specs.declared.ask.KeptAsk.{KeptAsk}

@@ -3,7 +3,7 @@
 use Rattle.std.specs.Prelude.{◌≡◌, ◌≢◌, ℕ, ◌+◌, ◌<◌, Bool, false, true, if◌then◌else◌, ◌⊎◌, Option, Some, None, ⊤, List, [], ◌∷◌, ◌++◌, length, map, Result, Ok, Err}
 use Rattle.protocol.specs.Lists.{In, nth, set_nth}
 use Rattle.protocol.specs.Names.{Slot, slot_eq, is_private, NodeId, Life, Ask, Ticket, Digest, Want, tenure_wants}
-use Rattle.protocol.specs.Machine.{Grant, GrantedSlot, Granted, Message, Told, News, Confirmed, LineVersion, Ending, Committed, Released, Withdrawn, Died, Said, Fetches, Blob, ToCoord, Parked, Machine, Has, Live, line, version_of, digest_for, slots_of, written, hello, acquire, commit, release}
+use Rattle.protocol.specs.Machine.{Grant, GrantedSlot, Granted, Message, Told, News, Confirmed, LineVersion, Ending, Committed, Released, Withdrawn, Died, Said, Blob, ToCoord, Parked, Machine, Has, Live, line, version_of, digest_for, slots_of, written, hello, acquire, commit, release}
 use Rattle.farm_base.specs.declared.message.Message.TheVariants as to
 use Rattle.farm_base.specs.declared.message.Request.{Request}
 use Rattle.farm_base.specs.declared.message.Request.TheVariants as request

@@ -1,5 +1,4 @@
 -- Maps an event to the protocol's event.
-use Rattle.std.specs.Prelude.{map}
 use Rattle.protocol.specs.Replay as replay
 use Rattle.schedule.specs.declared.event.Event.{Event}
 use Rattle.schedule.specs.declared.event.Event.TheVariants as event

@@ -1,5 +1,5 @@
 -- A call makes a node send one message at most.
-use Rattle.std.proofs.Common.{◌≡◌, ℕ, ◌≤◌, suc, Bool, true, false, not, ◌&&◌, nat_lt, List, [], ◌∷◌, length, Option, Some, None, Ok, refl, ap, ◌∙◌, subst, arith, map, if◌then◌else◌}
+use Rattle.std.proofs.Common.{◌≡◌, ℕ, ◌≤◌, Bool, true, false, not, ◌&&◌, nat_lt, List, [], ◌∷◌, length, Option, Some, None, Ok, ap, subst, arith, if◌then◌else◌}
 use Rattle.farm_base.specs.Contents.{content_digest}
 use Rattle.protocol.specs.Machine.{slots_of, written}
 use Rattle.protocol.specs.Names.{Ticket, Want, Shared, slots_eq, tenure_wants}

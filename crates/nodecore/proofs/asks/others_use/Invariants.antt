@@ -1,4 +1,4 @@
-use Rattle.std.proofs.Common.{◌≡◌, drop, map}
+use Rattle.std.proofs.Common.{◌≡◌, drop}
 use Rattle.protocol.specs.Nodes.{others_use}
 use Rattle.nodecore.proofs.asks.others_use.Given as goal
 

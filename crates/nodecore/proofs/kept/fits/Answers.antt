@@ -1,4 +1,4 @@
-use Rattle.std.proofs.Common.{◌≡◌, [], List, map, drop, ap, sym, ◌∙◌, arith}
+use Rattle.std.proofs.Common.{◌≡◌, [], List, drop, ap, sym, ◌∙◌, arith}
 use Rattle.farm_base.specs.Contents.{content_digest}
 use Rattle.protocol.specs.Machine.{GrantedSlot, slots_of, written}
 use Rattle.protocol.specs.Names.{slots_eq}

@@ -1,8 +1,7 @@
-use Rattle.std.proofs.Common.{◌∷◌, [], ℕ, List, Option, map, is_some, ap, sym, ◌∙◌, arith, length-append}
+use Rattle.std.proofs.Common.{ℕ, List, Option, is_some, ap, sym, ◌∙◌, arith, length-append}
 use Rattle.std.specs.Prelude.{if◌then◌else◌}
 use Rattle.farm_base.specs.Contents.{content_digest}
 use Rattle.protocol.specs.Names.{Digest}
-use Rattle.protocol.specs.Nodes.{stored}
 use Rattle.protocol.specs.World.{keep}
 use Rattle.nodecore.specs.Shown.{store_in}
 use Rattle.nodecore.proofs.MapLemmas.{stored-push}

@@ -1,4 +1,4 @@
-use Rattle.std.proofs.Common.{◌≡◌, ◌+◌, ◌≤◌, length, map, vec_len}
+use Rattle.std.proofs.Common.{◌≡◌, ◌+◌, ◌≤◌, length, vec_len}
 use Rattle.indexmap.specs.IndexMap.{spare}
 use Rattle.farm_base.specs.Contents.{content_digest}
 use Rattle.protocol.specs.Nodes.{stored}

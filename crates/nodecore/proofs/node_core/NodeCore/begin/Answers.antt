@@ -1,4 +1,4 @@
-use Rattle.std.proofs.Common.{◌≡◌, List, ◌+◌, [], map, true, false, None, Some, refl, ap, sym, ◌∙◌, rules, arith}
+use Rattle.std.proofs.Common.{◌≡◌, List, ◌+◌, [], true, false, None, Some, refl, ap, sym, ◌∙◌, rules, arith}
 use Rattle.std.specs.List.{position}
 use Rattle.protocol.specs.declared.ask.KeptAsk.TheVariants.{Running}
 use Rattle.protocol.specs.Nodes.{held, all_stored}
