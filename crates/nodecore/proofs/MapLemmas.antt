@@ -15,7 +15,7 @@ use Rattle.protocol.specs.Names.{Slot, Digest, slots_eq}
 use Rattle.protocol.specs.Nodes.{Left, stored, news_of}
 use Rattle.protocol.specs.World.{keep, learn, learn_versions, learn_bases}
 use Rattle.protocol.specs.Machine.{Confirmed, GrantedSlot, slots_of}
-use Rattle.nodecore.specs.Shown.{store_in, known_in, learn_all, version_of, base_of, left_of}
+use Rattle.nodecore.specs.Shown.{store_in, known_in, learn_all, version_of, base_of}
 use Rattle.nodecore.proofs.NodeLemmas.{keep_shown}
 
 -- what an Ok promises
@@ -50,12 +50,12 @@ stores m n d c e p h =
     rw absent (keep_shown m n d c h ∙ ap (λ (z : Digest). keep z c (store_in m)) e)
 
 pub stored-push : (sha : List ℕ → Digest) (xs : List Left) (x : Left) (store : Digest → Option (List ℕ))
-    → stored sha (xs ++ x ∷ []) store ≡ (if is_some (stored sha xs store (sha x.content)) then stored sha xs store else keep (sha x.content) x.content (stored sha xs store))
+    → stored sha (xs ++ x ∷ []) store ≡ (if is_some (stored sha xs store (sha x.1)) then stored sha xs store else keep (sha x.1) x.1 (stored sha xs store))
 stored-push sha [] x store = refl
-stored-push sha (y ∷ ys) x store = elim (is_some (store (sha y.content))) as (λ b. (if b then stored sha (ys ++ x ∷ []) store else stored sha (ys ++ x ∷ []) (keep (sha y.content) y.content store))
-    ≡ (if is_some ((if b then stored sha ys store else stored sha ys (keep (sha y.content) y.content store)) (sha x.content)) then (if b then stored sha ys store else stored sha ys (keep (sha y.content) y.content store)) else keep (sha x.content) x.content (if b then stored sha ys store else stored sha ys (keep (sha y.content) y.content store)))) [
+stored-push sha (y ∷ ys) x store = elim (is_some (store (sha y.1))) as (λ b. (if b then stored sha (ys ++ x ∷ []) store else stored sha (ys ++ x ∷ []) (keep (sha y.1) y.1 store))
+    ≡ (if is_some ((if b then stored sha ys store else stored sha ys (keep (sha y.1) y.1 store)) (sha x.1)) then (if b then stored sha ys store else stored sha ys (keep (sha y.1) y.1 store)) else keep (sha x.1) x.1 (if b then stored sha ys store else stored sha ys (keep (sha y.1) y.1 store)))) [
       | true ↦ stored-push sha ys x store
-      | false ↦ stored-push sha ys x (keep (sha y.content) y.content store)
+      | false ↦ stored-push sha ys x (keep (sha y.1) y.1 store)
     ]
 
 -- a map with the same entries
@@ -77,7 +77,7 @@ not_zero : (n : ℕ) → false ≡ eqb (suc n) 0
 not_zero n = grind (arith, common_steps)
 
 -- nothing is left to leave
-pub fits_end : (rest : List (Slot × List ℕ)) → slots_eq (slots_of (news_of content_digest (map left_of rest))) [] ≡ eqb (length rest) 0
+pub fits_end : (rest : List Left) → slots_eq (slots_of (news_of content_digest rest)) [] ≡ eqb (length rest) 0
 fits_end [] = refl
 fits_end (x ∷ xs) = not_zero (length xs)
 

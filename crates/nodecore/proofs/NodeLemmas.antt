@@ -1,5 +1,5 @@
 -- What calls come to.
-use Rattle.std.proofs.Common.{◌≡◌, ℕ, ◌+◌, ◌<◌, Bool, true, false, not, nat_lt, List, [], ◌∷◌, length, map, refl, ap, sym, ◌∙◌, add-one, arith, cond, is_some, Option, Some, None, Ok, Err}
+use Rattle.std.proofs.Common.{◌≡◌, ℕ, ◌+◌, ◌<◌, Bool, true, false, not, nat_lt, List, [], ◌∷◌, length, refl, ap, sym, ◌∙◌, add-one, arith, cond, is_some, Option, Some, None, Ok, Err}
 use mathlib.Core.Path.{fun_ext}
 use Rattle.std.specs.List.{list_any}
 use Rattle.indexmap.specs.IndexMap.{IndexMap, get}
@@ -7,33 +7,32 @@ use Rattle.farm_base.specs.Digests.{digest_eq}
 use Rattle.farm_base.specs.Contents.{content_digest}
 use Rattle.std.proofs.Math.ListN.{set}
 use Rattle.std.proofs.lemmas.Grind.{common_steps}
-use Rattle.std.proofs.lemmas.List.{map-set}
 use Rattle.std.proofs.lemmas.Cmp.{nat_list_eq_equiv}
 use Rattle.protocol.specs.Lists.{set_nth}
 use Rattle.protocol.specs.Names.{Ticket, Digest, slots_eq}
 use Rattle.protocol.specs.Machine.{Message, News, commit, slots_of, written}
-use Rattle.protocol.specs.World.{AskState, Node, Running, Finished, keep}
+use Rattle.protocol.specs.World.{Node, keep}
+use Rattle.protocol.specs.declared.ask.KeptAsk.{KeptAsk}
+use Rattle.protocol.specs.declared.ask.KeptAsk.TheVariants.{Running, Finished}
 use Rattle.protocol.specs.Nodes.{NodeAnswer, NodeWork, Place, Held, guard, first, held, held_or_running, begun, beginning, all_stored, becomes, aborted, aborting, in_use, gives_up, brought, is_base, running, Left, stored, leaving, leaves, news_of, finishing, finished_with}
 use Rattle.protocol.specs.declared.answer.NodeNote.TheVariants as note
 use Rattle.protocol.specs.declared.answer.NodeRefusal.{NodeRefusal}
 use Rattle.protocol.specs.declared.answer.NodeRefusal.TheVariants as refusal
-use Rattle.nodecore.specs.declared.asks.KeptAsk.{KeptAsk}
-use Rattle.nodecore.specs.Asks.{shown_ask}
 
 -- a test that refuses nothing
 pub passes : {b : Bool} (e : NodeRefusal) (r : NodeAnswer) → b ≡ false → guard b e r ≡ r
 passes e r h = rw h refl
 
 -- one more ask can be made
-pub has_room : (asks : List KeptAsk) → length asks < 0xffff_ffff_ffff_ffff → not (nat_lt (length (map shown_ask asks)) 0xffff_ffff_ffff_ffff) ≡ false
+pub has_room : (asks : List KeptAsk) → length asks < 0xffff_ffff_ffff_ffff → not (nat_lt (length asks) 0xffff_ffff_ffff_ffff) ≡ false
 has_room asks h = grind (arith, common_steps)
 
 -- another ask stands at a place
-pub set_shown : (asks : List KeptAsk) (i : ℕ) (k : KeptAsk) (s : AskState) → s ≡ shown_ask k → set_nth (map shown_ask asks) (i + 1) s ≡ map shown_ask (set asks i k)
-set_shown asks i k s e = rw add-one (ap (set (map shown_ask asks) i) e ∙ sym (map-set shown_ask asks i k))
+pub set_at : (asks : List KeptAsk) (i : ℕ) (k s : KeptAsk) → s ≡ k → set_nth asks (i + 1) s ≡ set asks i k
+set_at asks i k s e = rw add-one (ap (set asks i) e)
 
-pub becomes_shown : (x : Node) (asks : List KeptAsk) (i : ℕ) (k : KeptAsk) (s : AskState) → x.asks ≡ map shown_ask asks → s ≡ shown_ask k → becomes (i + 1) s x ≡ record x { asks = map shown_ask (set asks i k) }
-becomes_shown x asks i k s is e = ap (λ (l : List AskState). record x { asks = l }) (ap (λ (l : List AskState). set_nth l (i + 1) s) is ∙ set_shown asks i k s e)
+pub becomes_at : (x : Node) (asks : List KeptAsk) (i : ℕ) (k s : KeptAsk) → x.asks ≡ asks → s ≡ k → becomes (i + 1) s x ≡ record x { asks = set asks i k }
+becomes_at x asks i k s is e = ap (λ (l : List KeptAsk). record x { asks = l }) (ap (λ (l : List KeptAsk). set_nth l (i + 1) s) is ∙ set_at asks i k s e)
 
 -- begin
 
@@ -107,7 +106,7 @@ pub leaves_some : (at : Place) (a : ℕ) (h : Held) (lefts : List Left) (x : Nod
 leaves_some at a h [] x e = absurd (omega (arith, e))
 leaves_some at a h (l ∷ ls) x e = refl
 
-pub left_work : (at : Place) (t : Ticket) (a : ℕ) (h : Held) (lefts : List Left) (news : List News) (x : Node) (asks : List AskState) (store : Digest → Option (List ℕ)) (sends : List Message) → 0 < length lefts
+pub left_work : (at : Place) (t : Ticket) (a : ℕ) (h : Held) (lefts : List Left) (news : List News) (x : Node) (asks : List KeptAsk) (store : Digest → Option (List ℕ)) (sends : List Message) → 0 < length lefts
     → h.grant.ticket ≡ t → news ≡ news_of content_digest lefts → set_nth x.asks a (Finished h.wants h.grant news) ≡ asks → stored content_digest lefts x.store ≡ store → commit at.node x.life t news ∷ [] ≡ sends
     → leaving content_digest at a h lefts x ≡ record { node = record x { asks = asks; store = store }; sends = sends; note = note.Finished t }
 left_work at t a h lefts news x asks store sends some ticket is asked stored_as said =

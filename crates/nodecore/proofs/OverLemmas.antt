@@ -5,14 +5,13 @@ use Rattle.std.specs.List.{position, position_from}
 use Rattle.std.proofs.lemmas.Iterator.Adapters.{position_from-zero}
 use Rattle.std.proofs.lemmas.List.{length-set, length_push}
 use Rattle.protocol.proofs.Base.{nth_set_cases, get_push_cases, cases_nat}
-use Rattle.nodecore.specs.declared.asks.KeptAsk.{KeptAsk}
-use Rattle.std.proofs.Common.{is_some}
 use Rattle.protocol.specs.Names.{Ticket}
-use Rattle.protocol.specs.Nodes.{held, running, held_or_running, finished, recallable}
-use Rattle.nodecore.specs.declared.asks.KeptAsk.TheVariants as kept
-use Rattle.nodecore.specs.Asks.{shown_ask, is_over, at_stage, holds, recalls, AreOver}
-use Rattle.nodecore.specs.declared.asks.Stage.{Stage}
-use Rattle.protocol.specs.Machine.{Grant}
+use Rattle.protocol.specs.declared.answer.How.{How}
+use Rattle.protocol.specs.declared.ask.KeptAsk.{KeptAsk}
+use Rattle.protocol.specs.declared.ask.KeptAsk.TheVariants.{Open, Holding, Running, Finished, Over}
+use Rattle.nodecore.specs.declared.asks.Sought.{Sought}
+use Rattle.nodecore.specs.declared.asks.Sought.TheVariants as sought
+use Rattle.nodecore.specs.Asks.{is_over, is_sought, AreOver}
 use Rattle.std.proofs.lemmas.Option.{slice_get_read}
 
 over_tail : (n : ℕ) (x : KeptAsk) (xs : List KeptAsk) → AreOver (suc n) (x ∷ xs) → AreOver n xs
@@ -79,52 +78,25 @@ over_push n asks x h = record {
   ];
 }
 
-pub no_held : (t : Ticket) (x : KeptAsk) → is_over x ≡ true → is_some (held t (shown_ask x)) ≡ false
-no_held t (kept.Open w b) e = absurd (cc)
-no_held t (kept.Granted w g r s) e = absurd (cc)
-no_held t (kept.Over how) e = refl
+-- no ask that is over is sought
+pub not_sought : (what : Sought) (t : Ticket) (x : KeptAsk) → is_over x ≡ true → is_sought what t x ≡ false
+not_sought what t (Open w b) e = absurd (cc)
+not_sought what t (Holding w g r) e = absurd (cc)
+not_sought what t (Running w g r) e = absurd (cc)
+not_sought what t (Finished w g news) e = absurd (cc)
+not_sought sought.Held t (Over how) e = refl
+not_sought sought.Running t (Over how) e = refl
+not_sought sought.HeldOrRunning t (Over how) e = refl
+not_sought sought.Finished t (Over how) e = refl
+not_sought sought.Recallable t (Over how) e = refl
 
-pub no_running : (t : Ticket) (x : KeptAsk) → is_over x ≡ true → is_some (running t (shown_ask x)) ≡ false
-no_running t (kept.Open w b) e = absurd (cc)
-no_running t (kept.Granted w g r s) e = absurd (cc)
-no_running t (kept.Over how) e = refl
+stays_over : (f : KeptAsk → KeptAsk) → ((how : How) → f (Over how) ≡ Over how) → (x : KeptAsk) → is_over x ≡ true → is_over (f x) ≡ true
+stays_over f keeps (Open w b) e = absurd (cc)
+stays_over f keeps (Holding w g r) e = absurd (cc)
+stays_over f keeps (Running w g r) e = absurd (cc)
+stays_over f keeps (Finished w g news) e = absurd (cc)
+stays_over f keeps (Over how) e = ap is_over (keeps how)
 
-pub no_held_or_running : (t : Ticket) (x : KeptAsk) → is_over x ≡ true → is_some (held_or_running t (shown_ask x)) ≡ false
-no_held_or_running t (kept.Open w b) e = absurd (cc)
-no_held_or_running t (kept.Granted w g r s) e = absurd (cc)
-no_held_or_running t (kept.Over how) e = refl
-
-pub no_finished : (t : Ticket) (x : KeptAsk) → is_over x ≡ true → is_some (finished t (shown_ask x)) ≡ false
-no_finished t (kept.Open w b) e = absurd (cc)
-no_finished t (kept.Granted w g r s) e = absurd (cc)
-no_finished t (kept.Over how) e = refl
-
-pub no_recallable : (t : Ticket) (x : KeptAsk) → is_over x ≡ true → is_some (recallable t (shown_ask x)) ≡ false
-no_recallable t (kept.Open w b) e = absurd (cc)
-no_recallable t (kept.Granted w g r s) e = absurd (cc)
-no_recallable t (kept.Over how) e = refl
-
-staged_over : (s : Stage) (x : KeptAsk) → is_over x ≡ true → is_over (at_stage s x) ≡ true
-staged_over s (kept.Open w b) e = absurd (cc)
-staged_over s (kept.Granted w g r old) e = absurd (cc)
-staged_over s (kept.Over how) e = refl
-
-held_over : (g : Grant) (x : KeptAsk) → is_over x ≡ true → is_over (holds g x) ≡ true
-held_over g (kept.Open w b) e = absurd (cc)
-held_over g (kept.Granted w old r s) e = absurd (cc)
-held_over g (kept.Over how) e = refl
-
-recalled_over : (x : KeptAsk) → is_over x ≡ true → is_over (recalls x) ≡ true
-recalled_over (kept.Open w b) e = absurd (cc)
-recalled_over (kept.Granted w g r s) e = absurd (cc)
-recalled_over (kept.Over how) e = refl
-
--- an ask at a place that comes to a stage, is granted or is recalled
-pub over_staged : (n : ℕ) (asks : List KeptAsk) (i : ℕ) (s : Stage) (old new : KeptAsk) → AreOver n asks → i < length asks → old ≡ get_or asks i old → new ≡ at_stage s old → AreOver n (set asks i new)
-over_staged n asks i s old new h lt at is = over_set n asks i old new h (slice_get_read asks (length asks) i old refl lt at) (λ o. ap is_over is ∙ staged_over s old o)
-
-pub over_held : (n : ℕ) (asks : List KeptAsk) (i : ℕ) (g : Grant) (old new : KeptAsk) → AreOver n asks → i < length asks → old ≡ get_or asks i old → new ≡ holds g old → AreOver n (set asks i new)
-over_held n asks i g old new h lt at is = over_set n asks i old new h (slice_get_read asks (length asks) i old refl lt at) (λ o. ap is_over is ∙ held_over g old o)
-
-pub over_recalled : (n : ℕ) (asks : List KeptAsk) (i : ℕ) (old new : KeptAsk) → AreOver n asks → i < length asks → old ≡ get_or asks i old → new ≡ recalls old → AreOver n (set asks i new)
-over_recalled n asks i old new h lt at is = over_set n asks i old new h (slice_get_read asks (length asks) i old refl lt at) (λ o. ap is_over is ∙ recalled_over old o)
+-- an ask at a place changes so, and what is over stays as it is
+pub over_changed : (f : KeptAsk → KeptAsk) (n : ℕ) (asks : List KeptAsk) (i : ℕ) (old new : KeptAsk) → ((how : How) → f (Over how) ≡ Over how) → AreOver n asks → i < length asks → old ≡ get_or asks i old → new ≡ f old → AreOver n (set asks i new)
+over_changed f n asks i old new keeps h lt at is = over_set n asks i old new h (slice_get_read asks (length asks) i old refl lt at) (λ o. ap is_over is ∙ stays_over f keeps old o)

@@ -11,7 +11,9 @@ use Rattle.protocol.specs.Lists.{nth}
 use Rattle.protocol.specs.Names.{NodeId, Ticket, Ask}
 use Rattle.protocol.specs.Ledger.{Limits}
 use Rattle.protocol.specs.Machine.{Message, Grant, GrantedSlot, Confirmed, Why}
-use Rattle.protocol.specs.World.{AskState, Node, Open, Holding, Running, Finished, Over, keeps}
+use Rattle.protocol.specs.World.{Node, keeps}
+use Rattle.protocol.specs.declared.ask.KeptAsk.{KeptAsk}
+use Rattle.protocol.specs.declared.ask.KeptAsk.TheVariants.{Open, Holding, Running, Finished, Over}
 use Rattle.protocol.specs.Nodes.{NodeWork, Place, Sent, nodes_from, fetches, fetches_of, is_missing, is_stored, is_base, gives_back, granted, learned, dropped, denied, recalled, first, finished, recallable, fetched, heard}
 use Rattle.farm_base.specs.declared.message.ToNode.{ToNode}
 use Rattle.farm_base.specs.declared.message.ToNode.TheVariants.{FromCoord as Told, Fetch, Blob}
@@ -53,7 +55,7 @@ gives_back_one : (at : Place) (g : Grant) (b : Bool) (x : Node) → length (give
 gives_back_one at g true x = omega arith
 gives_back_one at g false x = omega arith
 
-granted_few : (k : Limits) (at : Place) (g : Grant) (x : Node) (o : Option AskState) (n : ℕ) → length g.slots * at.nodes ≤ n → 1 ≤ n → length (granted k at g x o).sends ≤ n
+granted_few : (k : Limits) (at : Place) (g : Grant) (x : Node) (o : Option KeptAsk) (n : ℕ) → length g.slots * at.nodes ≤ n → 1 ≤ n → length (granted k at g x o).sends ≤ n
 granted_few k at g x None n h e = omega (arith, gives_back_one at g false x, e)
 granted_few k at g x (Some (Open wants tenure)) n h e = omega (arith, fetches_length k at x g.slots, h)
 granted_few k at g x (Some (Holding wants l r)) n h e = omega (arith, gives_back_one at g (keeps (Holding wants l r) g.ticket) x, e)
@@ -69,7 +71,7 @@ dropped_none : (t : Ticket) (x : Node) (o : Option (ℕ × Sent)) → length (dr
 dropped_none t x None = refl
 dropped_none t x (Some (a, s)) = refl
 
-denied_none : (a : Ask) (why : Why) (x : Node) (o : Option AskState) → length (denied a why x o).sends ≡ 0
+denied_none : (a : Ask) (why : Why) (x : Node) (o : Option KeptAsk) → length (denied a why x o).sends ≡ 0
 denied_none a why x None = refl
 denied_none a why x (Some (Open wants tenure)) = refl
 denied_none a why x (Some (Holding wants g r)) = refl
@@ -77,7 +79,7 @@ denied_none a why x (Some (Running wants g r)) = refl
 denied_none a why x (Some (Finished wants g news)) = refl
 denied_none a why x (Some (Over how)) = refl
 
-recalled_none : (t : Ticket) (x : Node) (o : Option (ℕ × AskState)) → length (recalled t x o).sends ≡ 0
+recalled_none : (t : Ticket) (x : Node) (o : Option (ℕ × KeptAsk)) → length (recalled t x o).sends ≡ 0
 recalled_none t x None = refl
 recalled_none t x (Some (a, s)) = refl
 

@@ -1,70 +1,94 @@
 -- What contracts see of the asks of a node.
-use Rattle.std.specs.Prelude.{◌≡◌, ℕ, ◌<◌, ◌≤◌, Bool, true, false, List, [], length, Some, slice_get}
-use Rattle.protocol.specs.Names.{Want, Life}
+use Rattle.std.specs.Prelude.{◌≡◌, ℕ, ◌<◌, ◌≤◌, Bool, true, false, List, [], length, Some, slice_get, is_some}
 use Rattle.farm_base.specs.declared.message.FromCoord as FromCoord
 use Rattle.farm_base.specs.declared.message.FromCoord.TheVariants as coord
-use Rattle.protocol.specs.Machine.{Grant, GrantedSlot}
-use Rattle.protocol.specs.World.{AskState, Open, Holding, Running, Finished, Over}
-use Rattle.nodecore.specs.declared.asks.KeptAsk.{KeptAsk}
-use Rattle.nodecore.specs.declared.asks.KeptAsk.TheVariants as kept
-use Rattle.nodecore.specs.declared.asks.Stage.{Stage}
-use Rattle.nodecore.specs.declared.asks.Stage.TheVariants as stage
+use Rattle.protocol.specs.Names.{Life, Ticket}
+use Rattle.protocol.specs.Machine.{Grant, GrantedSlot, News}
+use Rattle.protocol.specs.declared.ask.KeptAsk.{KeptAsk}
+use Rattle.protocol.specs.declared.ask.KeptAsk.TheVariants.{Open, Holding, Running, Finished, Over}
+use Rattle.protocol.specs.Nodes as node
+use Rattle.nodecore.specs.declared.asks.Sought.{Sought}
+use Rattle.nodecore.specs.declared.asks.Sought.TheVariants as sought
 use Rattle.nodecore.specs.declared.message.AskState as state
 use Rattle.nodecore.specs.declared.message.AskState.TheVariants as told
 
--- a granted ask at this stage
-abbrev pub shown_stage : List Want → Grant → Bool → Stage → AskState
-shown_stage wants g r stage.Held = Holding wants g r
-shown_stage wants g r stage.Running = Running wants g r
-shown_stage wants g r (stage.Finished news) = Finished wants g news
+-- the ask has its lease under the ticket, and stands so
+abbrev pub is_sought : Sought → Ticket → KeptAsk → Bool
+is_sought sought.Held t x = is_some (node.held t x)
+is_sought sought.Running t x = is_some (node.running t x)
+is_sought sought.HeldOrRunning t x = is_some (node.held_or_running t x)
+is_sought sought.Finished t x = is_some (node.finished t x)
+is_sought sought.Recallable t x = is_some (node.recallable t x)
 
--- the ask that is kept
-abbrev pub shown_ask : KeptAsk → AskState
-shown_ask (kept.Open wants tenure) = Open wants tenure
-shown_ask (kept.Granted wants g r s) = shown_stage wants g r s
-shown_ask (kept.Over how) = Over how
-
--- the slots of the ask's grant, none where it has no grant
+-- the slots of an ask that is granted or running, none of another
 abbrev pub slots_in : KeptAsk → List GrantedSlot
-slots_in (kept.Open wants tenure) = []
-slots_in (kept.Granted wants g r s) = g.slots
-slots_in (kept.Over how) = []
+slots_in (Open wants tenure) = []
+slots_in (Holding wants g r) = g.slots
+slots_in (Running wants g r) = g.slots
+slots_in (Finished wants g news) = []
+slots_in (Over how) = []
 
--- a granted ask at this stage
-abbrev pub at_stage : Stage → KeptAsk → KeptAsk
-at_stage s (kept.Open wants tenure) = kept.Open wants tenure
-at_stage s (kept.Granted wants g r old) = kept.Granted wants g r s
-at_stage s (kept.Over how) = kept.Over how
+-- the ask is granted or running as a tenure whose folder another ask uses
+abbrev pub is_in_use : List KeptAsk → ℕ → KeptAsk → Bool
+is_in_use asks a (Open wants tenure) = false
+is_in_use asks a (Holding wants g r) = node.in_use asks a wants g
+is_in_use asks a (Running wants g r) = node.in_use asks a wants g
+is_in_use asks a (Finished wants g news) = false
+is_in_use asks a (Over how) = false
 
 abbrev pub is_open : KeptAsk → Bool
-is_open (kept.Open wants tenure) = true
-is_open (kept.Granted wants g r s) = false
-is_open (kept.Over how) = false
+is_open (Open wants tenure) = true
+is_open (Holding wants g r) = false
+is_open (Running wants g r) = false
+is_open (Finished wants g news) = false
+is_open (Over how) = false
 
 abbrev pub is_over : KeptAsk → Bool
-is_over (kept.Open wants tenure) = false
-is_over (kept.Granted wants g r s) = false
-is_over (kept.Over how) = true
+is_over (Open wants tenure) = false
+is_over (Holding wants g r) = false
+is_over (Running wants g r) = false
+is_over (Finished wants g news) = false
+is_over (Over how) = true
 
--- the first so many asks are over
+-- the first `count` asks are over
 pub record AreOver (count : ℕ) (asks : List KeptAsk) : Type 0 where
   pub inside : count ≤ length asks
   pub over : (i : ℕ) (x : KeptAsk) → i < count → slice_get asks i ≡ Some x → is_over x ≡ true
 
 -- an open ask is granted
 abbrev pub holds : Grant → KeptAsk → KeptAsk
-holds g (kept.Open wants tenure) = kept.Granted wants g false stage.Held
-holds g (kept.Granted wants old r s) = kept.Granted wants old r s
-holds g (kept.Over how) = kept.Over how
+holds g (Open wants tenure) = Holding wants g false
+holds g (Holding wants old r) = Holding wants old r
+holds g (Running wants old r) = Running wants old r
+holds g (Finished wants old news) = Finished wants old news
+holds g (Over how) = Over how
 
--- a granted ask is recalled
+-- a granted ask begins
+abbrev pub runs : KeptAsk → KeptAsk
+runs (Open wants tenure) = Open wants tenure
+runs (Holding wants g r) = Running wants g r
+runs (Running wants g r) = Running wants g r
+runs (Finished wants g news) = Finished wants g news
+runs (Over how) = Over how
+
+-- a running ask ends with these news
+abbrev pub ends_with : List News → KeptAsk → KeptAsk
+ends_with news (Open wants tenure) = Open wants tenure
+ends_with news (Holding wants g r) = Holding wants g r
+ends_with news (Running wants g r) = Finished wants g news
+ends_with news (Finished wants g old) = Finished wants g old
+ends_with news (Over how) = Over how
+
+-- an ask that is granted or running is recalled
 abbrev pub recalls : KeptAsk → KeptAsk
-recalls (kept.Open wants tenure) = kept.Open wants tenure
-recalls (kept.Granted wants g r s) = kept.Granted wants g true s
-recalls (kept.Over how) = kept.Over how
+recalls (Open wants tenure) = Open wants tenure
+recalls (Holding wants g r) = Holding wants g true
+recalls (Running wants g r) = Running wants g true
+recalls (Finished wants g news) = Finished wants g news
+recalls (Over how) = Over how
 
 -- how an ask stands, as callers are told
-abbrev pub told_state : AskState → state.AskState
+abbrev pub told_state : KeptAsk → state.AskState
 told_state (Open wants tenure) = told.Pending
 told_state (Holding wants g r) = told.Granted g
 told_state (Running wants g r) = told.Running g

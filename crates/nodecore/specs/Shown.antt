@@ -1,5 +1,5 @@
 -- What contracts see of a node.
-use Rattle.std.specs.Prelude.{◌≡◌, ℕ, List, [], ◌∷◌, Option, None, Some, Result, Ok, Err, map}
+use Rattle.std.specs.Prelude.{◌≡◌, ℕ, List, [], ◌∷◌, Option, None, Some, Result, Ok, Err}
 use Rattle.std.specs.declared.alloc.AllocError.{AllocError}
 use Rattle.indexmap.specs.IndexMap.{IndexMap, get}
 use Rattle.farm_base.specs.Digests.{digest_eq}
@@ -10,7 +10,6 @@ use Rattle.protocol.specs.Machine.{GrantedSlot, Confirmed}
 use Rattle.farm_base.specs.declared.message.Version.{Version}
 use Rattle.protocol.specs.Nodes.{NodeWork, NodeAnswer, Place, received}
 use Rattle.farm_base.specs.Contents.{content_digest}
-pub use Rattle.protocol.specs.Nodes.{left_of}
 use Rattle.protocol.specs.Farm.{farm_limits}
 use Rattle.farm_base.specs.declared.message.ToNode.{ToNode}
 use Rattle.farm_base.specs.declared.message.ToNode.TheVariants.{FromCoord, Fetch, Blob}
@@ -18,7 +17,7 @@ use Rattle.protocol.specs.declared.answer.NodeRefusal.{NodeRefusal}
 use Rattle.protocol.specs.declared.answer.NodeRefusal.TheVariants.{OutOfMemory}
 use Rattle.nodecore.specs.declared.message.NodeDone.{NodeDone}
 use Rattle.nodecore.specs.declared.node_core.NodeCore.{NodeCore}
-use Rattle.nodecore.specs.Asks.{shown_ask, slots_told}
+use Rattle.nodecore.specs.Asks.{slots_told}
 
 -- the contents of a map
 abbrev pub store_in : {S : Type 0} → IndexMap Digest (List ℕ) S → Digest → Option (List ℕ)
@@ -45,7 +44,7 @@ version_of v = (record { slot = v.slot; number = v.number }, v.digest)
 abbrev pub shown : NodeCore → Node
 shown x = record {
   life = x.life;
-  asks = map shown_ask x.asks.items;
+  asks = x.asks.items;
   store = store_in x.contents;
   known = known_in x.versions;
   spent = x.spent;

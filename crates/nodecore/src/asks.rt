@@ -1,44 +1,32 @@
-ghost use Rattle.std.specs.Prelude.{◌≡◌, ◌+◌, ◌<◌, Bool, List, IfOk, map, length, is_some, position, slice_get};
+//! The asks of a node's present life.
+ghost use Rattle.std.specs.Prelude.{◌≡◌, ◌+◌, ◌<◌, Bool, List, Some, IfOk, is_some, length, position, slice_get};
 ghost use Rattle.std.specs.List.{list_any};
-ghost use Rattle.protocol.specs.Nodes.{wants_folder, is_tenure_of, is_home_of, uses, at_home, held, running, held_or_running, recallable, is_base, finished, others_use, in_use};
 ghost use Rattle.farm_base.specs.Digests.{digest_eq};
-ghost use Rattle.nodecore.specs.Asks.{shown_ask, told_state, slots_in, at_stage, is_open, is_over, recalls, holds, AreOver};
 ghost use Rattle.protocol.specs.Names.{Want};
 ghost use Rattle.protocol.specs.World.{keeps};
-ghost use Rattle.protocol.specs.Machine.{Grant};
-ghost use Rattle.nodecore.specs.declared.asks.Stage.{Stage};
-ghost use Rattle.nodecore.specs.declared.asks.KeptAsk.{KeptAsk};
+ghost use Rattle.protocol.specs.Nodes.{wants_folder, is_tenure_of, is_home_of, uses, at_home, held, running, finished, recallable, is_base, in_use, others_use};
+ghost use Rattle.protocol.specs.declared.ask.KeptAsk.{KeptAsk};
+ghost use Rattle.nodecore.specs.Asks.{ends_with, holds, is_in_use, is_open, is_over, is_sought, recalls, runs, slots_in, told_state, AreOver};
 
 use super::message::AskState;
 use farm_base::{
     Copied, Digest, FolderName, Grant, GrantedSlot, Items, Mode, News, Ticket, Want, Wants,
 };
-use protocol::How;
+use protocol::{How, KeptAsk};
 use std::alloc::{AllocError, Global};
 use std::mem;
 
-/// How far a granted ask has come.
-#[derive(Debug, Drop)]
-pub(crate) enum Stage {
+/// How an ask stands that is sought by its ticket.
+#[derive(Clone, Copy, Debug)]
+pub(crate) enum Sought {
+    /// Granted, and not begun.
     Held,
     Running,
-    Finished(Items<News>),
-}
-
-/// An ask of this life of the node.
-#[derive(Debug, Drop)]
-pub(crate) enum KeptAsk {
-    Open {
-        wants: Wants,
-        tenure: bool,
-    },
-    Granted {
-        wants: Wants,
-        grant: Grant,
-        recalled: bool,
-        stage: Stage,
-    },
-    Over(How),
+    HeldOrRunning,
+    /// Its news were sent.
+    Finished,
+    /// A tenure that is granted or running and was not recalled.
+    Recallable,
 }
 
 /// Whether a want is of the folder.
@@ -55,316 +43,264 @@ fn is_base(slots: &[GrantedSlot], digest: Digest) -> bool
     slots.iter().any(|slot| slot.digest == digest)
 }
 
-impl KeptAsk {
-    /// What callers are told of the ask.
-    pub(crate) fn told(&self, alloc: Global) -> Result<AskState, AllocError>
-        ensures { IfOk result (λ state. state ≡ told_state (shown_ask self.now)) }
-    {
-        Ok(match self {
-            KeptAsk::Open { .. } => AskState::Pending,
-            KeptAsk::Granted { grant, stage, .. } => match stage {
-                Stage::Held => AskState::Granted(grant.copy(alloc)?),
-                Stage::Running => AskState::Running(grant.copy(alloc)?),
-                Stage::Finished(_) => AskState::Finished(grant.ticket),
-            },
-            KeptAsk::Over(how) => AskState::Over(*how),
-        })
-    }
+/// What callers are told of the ask.
+pub(crate) fn told(ask: &KeptAsk, alloc: Global) -> Result<AskState, AllocError>
+    ensures { IfOk result (λ state. state ≡ told_state ask.now) }
+{
+    Ok(match ask {
+        KeptAsk::Open { .. } => AskState::Pending,
+        KeptAsk::Holding { grant, .. } => AskState::Granted(grant.copy(alloc)?),
+        KeptAsk::Running { grant, .. } => AskState::Running(grant.copy(alloc)?),
+        KeptAsk::Finished { grant, .. } => AskState::Finished(grant.ticket),
+        KeptAsk::Over(how) => AskState::Over(*how),
+    })
+}
 
-    /// Whether the ask is a tenure of the folder, and is present.
-    pub(crate) fn is_tenure_of(&self, folder: &FolderName) -> bool
-        ensures { result ≡ is_tenure_of folder.now (shown_ask self.now) }
-    {
-        match self {
-            KeptAsk::Open { wants, tenure } => *tenure && wants_folder(wants.as_slice(), folder),
-            KeptAsk::Granted { wants, grant, .. } => {
-                grant.tenure && wants_folder(wants.as_slice(), folder)
-            }
-            KeptAsk::Over(_) => false,
+/// Whether the ask is a tenure of the folder, and is present.
+fn is_tenure_of(ask: &KeptAsk, folder: &FolderName) -> bool
+    ensures { result ≡ is_tenure_of folder.now ask.now }
+{
+    match ask {
+        KeptAsk::Open { wants, tenure } => *tenure && wants_folder(wants.as_slice(), folder),
+        KeptAsk::Holding { wants, grant, .. } => {
+            grant.tenure && wants_folder(wants.as_slice(), folder)
         }
-    }
-
-    /// Whether the ask is a tenure of the folder that is in use and not recalled.
-    pub(crate) fn is_home_of(&self, folder: &FolderName) -> bool
-        ensures { result ≡ is_home_of folder.now (shown_ask self.now) }
-    {
-        match self {
-            KeptAsk::Granted {
-                wants,
-                grant,
-                recalled,
-                stage: Stage::Running,
-            } => !*recalled && grant.tenure && wants_folder(wants.as_slice(), folder),
-            _ => false,
+        KeptAsk::Running { wants, grant, .. } => {
+            grant.tenure && wants_folder(wants.as_slice(), folder)
         }
-    }
-
-    /// Whether the ask wants the folder, and is open, granted or running.
-    pub(crate) fn uses(&self, folder: &FolderName) -> bool
-        ensures { result ≡ uses folder.now (shown_ask self.now) }
-    {
-        match self {
-            KeptAsk::Open { wants, .. } => wants_folder(wants.as_slice(), folder),
-            KeptAsk::Granted {
-                stage: Stage::Finished(_),
-                ..
-            } => false,
-            KeptAsk::Granted { wants, .. } => wants_folder(wants.as_slice(), folder),
-            KeptAsk::Over(_) => false,
+        KeptAsk::Finished { wants, grant, .. } => {
+            grant.tenure && wants_folder(wants.as_slice(), folder)
         }
-    }
-
-    /// Whether the ask uses one of the folders.
-    fn uses_some(&self, wants: &[Want]) -> bool
-        ensures { result ≡ list_any (λ w. uses w.folder (shown_ask self.now)) wants.now }
-    {
-        wants.iter().any(|want| self.uses(&want.folder))
-    }
-
-    /// Whether the ask is granted under the ticket, and not begun.
-    fn is_held(&self, ticket: Ticket) -> bool
-        ensures { result ≡ is_some (held ticket (shown_ask self.now)) }
-    {
-        match self {
-            KeptAsk::Granted {
-                grant,
-                stage: Stage::Held,
-                ..
-            } => grant.ticket.0 == ticket.0,
-            _ => false,
-        }
-    }
-
-    /// Whether the ask runs under the ticket.
-    fn is_running(&self, ticket: Ticket) -> bool
-        ensures { result ≡ is_some (running ticket (shown_ask self.now)) }
-    {
-        match self {
-            KeptAsk::Granted {
-                grant,
-                stage: Stage::Running,
-                ..
-            } => grant.ticket.0 == ticket.0,
-            _ => false,
-        }
-    }
-
-    /// Whether the news of the ask were sent under the ticket.
-    fn is_finished(&self, ticket: Ticket) -> bool
-        ensures { result ≡ is_some (finished ticket (shown_ask self.now)) }
-    {
-        match self {
-            KeptAsk::Granted {
-                grant,
-                stage: Stage::Finished(_),
-                ..
-            } => grant.ticket.0 == ticket.0,
-            _ => false,
-        }
-    }
-
-    /// Whether the ask is the tenure under the ticket, granted or running and not recalled.
-    fn is_recallable(&self, ticket: Ticket) -> bool
-        ensures { result ≡ is_some (recallable ticket (shown_ask self.now)) }
-    {
-        match self {
-            KeptAsk::Granted {
-                stage: Stage::Finished(_),
-                ..
-            } => false,
-            KeptAsk::Granted {
-                grant,
-                recalled,
-                ..
-            } => grant.ticket.0 == ticket.0 && grant.tenure && !*recalled,
-            _ => false,
-        }
-    }
-
-    /// Whether the digest is the base of the ask, which is granted and not begun.
-    fn has_base(&self, digest: Digest) -> bool
-        ensures { result ≡ is_base digest (shown_ask self.now) }
-    {
-        match self {
-            KeptAsk::Granted {
-                grant,
-                stage: Stage::Held,
-                ..
-            } => is_base(grant.slots.as_slice(), digest),
-            _ => false,
-        }
-    }
-
-    fn is_over(&self) -> bool
-        ensures { result ≡ is_over self.now }
-    {
-        matches!(self, KeptAsk::Over(_))
-    }
-
-    /// Whether nothing was heard of the ask.
-    pub(crate) fn is_open(&self) -> bool
-        ensures { result ≡ is_open self.now }
-    {
-        matches!(self, KeptAsk::Open { .. })
-    }
-
-    /// Whether the ask has its lease under the ticket, and the lease's end isn't known.
-    pub(crate) fn keeps(&self, ticket: Ticket) -> bool
-        ensures { result ≡ keeps (shown_ask self.now) ticket }
-    {
-        match self {
-            KeptAsk::Granted { grant, .. } => grant.ticket.0 == ticket.0,
-            _ => false,
-        }
-    }
-
-    /// An open ask is granted.
-    pub(crate) fn hold(&mut self, grant: Grant)
-        ensures { self.new ≡ holds grant self.old }
-    {
-        *self = match mem::replace(self, KeptAsk::Over(How::Other)) {
-            KeptAsk::Open { wants, .. } => KeptAsk::Granted {
-                wants,
-                grant,
-                recalled: false,
-                stage: Stage::Held,
-            },
-            other => other,
-        };
-    }
-
-    /// A granted ask is recalled.
-    pub(crate) fn recall(&mut self)
-        ensures { self.new ≡ recalls self.old }
-    {
-        if let KeptAsk::Granted { recalled, .. } = self {
-            *recalled = true;
-        }
-    }
-
-    /// The slots of the ask's grant, none where it has no grant.
-    pub(crate) fn slots(&self) -> &[GrantedSlot]
-        ensures { result.now ≡ slots_in self.now }
-    {
-        match self {
-            KeptAsk::Granted { grant, .. } => grant.slots.as_slice(),
-            _ => &[],
-        }
-    }
-
-    /// A granted ask comes to this stage.
-    pub(crate) fn come_to(&mut self, next: Stage)
-        ensures { self.new ≡ at_stage next self.old }
-    {
-        if let KeptAsk::Granted { stage, .. } = self {
-            *stage = next;
-        }
+        KeptAsk::Over(_) => false,
     }
 }
 
-/// How many asks at the front are over, so many of them at least.
+/// Whether the ask is a tenure of the folder that is in use and not recalled.
+fn is_home_of(ask: &KeptAsk, folder: &FolderName) -> bool
+    ensures { result ≡ is_home_of folder.now ask.now }
+{
+    match ask {
+        KeptAsk::Running {
+            wants,
+            grant,
+            recalled,
+        } => { !*recalled && grant.tenure && wants_folder(wants.as_slice(), folder) }
+        _ => false,
+    }
+}
+
+/// Whether the ask wants the folder, and is open, granted or running.
+fn uses(ask: &KeptAsk, folder: &FolderName) -> bool
+    ensures { result ≡ uses folder.now ask.now }
+{
+    match ask {
+        KeptAsk::Open { wants, .. } => wants_folder(wants.as_slice(), folder),
+        KeptAsk::Holding { wants, .. } => wants_folder(wants.as_slice(), folder),
+        KeptAsk::Running { wants, .. } => wants_folder(wants.as_slice(), folder),
+        KeptAsk::Finished { .. } => false,
+        KeptAsk::Over(_) => false,
+    }
+}
+
+/// Whether the ask uses one of the folders.
+fn uses_some(ask: &KeptAsk, wants: &[Want]) -> bool
+    ensures { result ≡ list_any (λ w. uses w.folder ask.now) wants.now }
+{
+    wants.iter().any(|want| uses(ask, &want.folder))
+}
+
+/// Whether the ask is granted under the ticket, and not begun.
+fn is_held(ask: &KeptAsk, ticket: Ticket) -> bool
+    ensures { result ≡ is_some (held ticket ask.now) }
+{
+    match ask {
+        KeptAsk::Holding { grant, .. } => grant.ticket.0 == ticket.0,
+        _ => false,
+    }
+}
+
+/// Whether the ask runs under the ticket.
+fn is_running(ask: &KeptAsk, ticket: Ticket) -> bool
+    ensures { result ≡ is_some (running ticket ask.now) }
+{
+    match ask {
+        KeptAsk::Running { grant, .. } => grant.ticket.0 == ticket.0,
+        _ => false,
+    }
+}
+
+/// Whether the news of the ask were sent under the ticket.
+fn is_finished(ask: &KeptAsk, ticket: Ticket) -> bool
+    ensures { result ≡ is_some (finished ticket ask.now) }
+{
+    match ask {
+        KeptAsk::Finished { grant, .. } => grant.ticket.0 == ticket.0,
+        _ => false,
+    }
+}
+
+/// Whether the ask is the tenure under the ticket, granted or running and not recalled.
+fn is_recallable(ask: &KeptAsk, ticket: Ticket) -> bool
+    ensures { result ≡ is_some (recallable ticket ask.now) }
+{
+    match ask {
+        KeptAsk::Holding {
+            grant,
+            recalled,
+            ..
+        } => { grant.ticket.0 == ticket.0 && grant.tenure && !*recalled }
+        KeptAsk::Running {
+            grant,
+            recalled,
+            ..
+        } => { grant.ticket.0 == ticket.0 && grant.tenure && !*recalled }
+        _ => false,
+    }
+}
+
+/// Whether the ask has its lease under the ticket, and stands so.
+fn is_sought(ask: &KeptAsk, sought: Sought, ticket: Ticket) -> bool
+    ensures { result ≡ is_sought sought ticket ask.now }
+{
+    match sought {
+        Sought::Held => is_held(ask, ticket),
+        Sought::Running => is_running(ask, ticket),
+        Sought::HeldOrRunning => is_held(ask, ticket) || is_running(ask, ticket),
+        Sought::Finished => is_finished(ask, ticket),
+        Sought::Recallable => is_recallable(ask, ticket),
+    }
+}
+
+/// Whether the digest is the base of the ask, which is granted and not begun.
+fn has_base(ask: &KeptAsk, digest: Digest) -> bool
+    ensures { result ≡ is_base digest ask.now }
+{
+    match ask {
+        KeptAsk::Holding { grant, .. } => is_base(grant.slots.as_slice(), digest),
+        _ => false,
+    }
+}
+
+fn is_over(ask: &KeptAsk) -> bool
+    ensures { result ≡ is_over ask.now }
+{
+    matches!(ask, KeptAsk::Over(_))
+}
+
+/// Whether nothing was heard of the ask.
+pub(crate) fn is_open(ask: &KeptAsk) -> bool
+    ensures { result ≡ is_open ask.now }
+{
+    matches!(ask, KeptAsk::Open { .. })
+}
+
+/// Whether the ask has its lease under the ticket, and the lease's end isn't known.
+pub(crate) fn keeps(ask: &KeptAsk, ticket: Ticket) -> bool
+    ensures { result ≡ keeps ask.now ticket }
+{
+    match ask {
+        KeptAsk::Holding { grant, .. } => grant.ticket.0 == ticket.0,
+        KeptAsk::Running { grant, .. } => grant.ticket.0 == ticket.0,
+        KeptAsk::Finished { grant, .. } => grant.ticket.0 == ticket.0,
+        _ => false,
+    }
+}
+
+/// The slots of an ask that is granted or running, none of another.
+pub(crate) fn slots(ask: &KeptAsk) -> &[GrantedSlot]
+    ensures { result.now ≡ slots_in ask.now }
+{
+    match ask {
+        KeptAsk::Holding { grant, .. } => grant.slots.as_slice(),
+        KeptAsk::Running { grant, .. } => grant.slots.as_slice(),
+        _ => &[],
+    }
+}
+
+/// An open ask is granted.
+pub(crate) fn hold(ask: &mut KeptAsk, grant: Grant)
+    ensures { ask.new ≡ holds grant ask.old }
+{
+    *ask = match mem::replace(ask, KeptAsk::Over(How::Other)) {
+        KeptAsk::Open { wants, .. } => KeptAsk::Holding {
+            wants,
+            grant,
+            recalled: false,
+        },
+        other => other,
+    };
+}
+
+/// A granted ask begins.
+pub(crate) fn begin(ask: &mut KeptAsk)
+    ensures { ask.new ≡ runs ask.old }
+{
+    *ask = match mem::replace(ask, KeptAsk::Over(How::Other)) {
+        KeptAsk::Holding {
+            wants,
+            grant,
+            recalled,
+        } => KeptAsk::Running {
+            wants,
+            grant,
+            recalled,
+        },
+        other => other,
+    };
+}
+
+/// A running ask ends with these news.
+pub(crate) fn finish(ask: &mut KeptAsk, news: Items<News>)
+    ensures { ask.new ≡ ends_with news ask.old }
+{
+    *ask = match mem::replace(ask, KeptAsk::Over(How::Other)) {
+        KeptAsk::Running { wants, grant, .. } => KeptAsk::Finished { wants, grant, news },
+        other => other,
+    };
+}
+
+/// An ask that is granted or running is recalled.
+pub(crate) fn recall(ask: &mut KeptAsk)
+    ensures { ask.new ≡ recalls ask.old }
+{
+    match ask {
+        KeptAsk::Holding { recalled, .. } => *recalled = true,
+        KeptAsk::Running { recalled, .. } => *recalled = true,
+        _ => {}
+    }
+}
+
+/// How many asks at the front are over, `least` of them at least.
 pub(crate) fn over_from(asks: &[KeptAsk], least: usize) -> usize
     requires { AreOver least asks.now }
     ensures { AreOver result asks.now }
 {
     let mut over = least;
-    while over < asks.len() && asks[over].is_over() {
+    while over < asks.len() && is_over(&asks[over]) {
         over += 1;
     }
     over
 }
 
-/// The place of the first of these asks that is granted under the ticket and not begun.
-fn held_in(asks: &[KeptAsk], ticket: Ticket) -> Option<usize>
-    ensures { result ≡ position (λ ask. is_some (held ticket (shown_ask ask))) asks.now }
+/// The place of the first ask with this ticket that stands so.
+fn place_in(asks: &[KeptAsk], sought: Sought, ticket: Ticket) -> Option<usize>
+    ensures { result ≡ position (is_sought sought ticket) asks.now }
 {
-    asks.iter().position(|ask| ask.is_held(ticket))
+    asks.iter().position(|ask| is_sought(ask, sought, ticket))
 }
 
-/// The same, where so many asks at the front are over.
-pub(crate) fn held_place(asks: &[KeptAsk], over: usize, ticket: Ticket) -> Option<usize>
+/// The same, where the first `over` asks are over.
+pub(crate) fn place_of(
+    asks: &[KeptAsk],
+    over: usize,
+    sought: Sought,
+    ticket: Ticket,
+) -> Option<usize>
     requires { AreOver over asks.now }
-    ensures { result ≡ position (λ ask. is_some (held ticket (shown_ask ask))) asks.now }
+    ensures { result ≡ position (is_sought sought ticket) asks.now }
 {
     let (_, present) = asks.split_at(over);
-    match held_in(present, ticket) {
-        Some(place) => Some(over + place),
-        None => None,
-    }
-}
-
-/// The place of the first of these asks that runs under the ticket.
-fn running_in(asks: &[KeptAsk], ticket: Ticket) -> Option<usize>
-    ensures { result ≡ position (λ ask. is_some (running ticket (shown_ask ask))) asks.now }
-{
-    asks.iter().position(|ask| ask.is_running(ticket))
-}
-
-/// The same, where so many asks at the front are over.
-pub(crate) fn running_place(asks: &[KeptAsk], over: usize, ticket: Ticket) -> Option<usize>
-    requires { AreOver over asks.now }
-    ensures { result ≡ position (λ ask. is_some (running ticket (shown_ask ask))) asks.now }
-{
-    let (_, present) = asks.split_at(over);
-    match running_in(present, ticket) {
-        Some(place) => Some(over + place),
-        None => None,
-    }
-}
-
-/// The place of the first of these asks that is granted or runs under the ticket.
-fn held_or_running_in(asks: &[KeptAsk], ticket: Ticket) -> Option<usize>
-    ensures { result ≡ position (λ ask. is_some (held_or_running ticket (shown_ask ask))) asks.now }
-{
-    asks.iter()
-        .position(|ask| ask.is_held(ticket) || ask.is_running(ticket))
-}
-
-/// The same, where so many asks at the front are over.
-pub(crate) fn held_or_running_place(asks: &[KeptAsk], over: usize, ticket: Ticket) -> Option<usize>
-    requires { AreOver over asks.now }
-    ensures { result ≡ position (λ ask. is_some (held_or_running ticket (shown_ask ask))) asks.now }
-{
-    let (_, present) = asks.split_at(over);
-    match held_or_running_in(present, ticket) {
-        Some(place) => Some(over + place),
-        None => None,
-    }
-}
-
-/// The place of the first of these asks that has sent its news under the ticket.
-fn finished_in(asks: &[KeptAsk], ticket: Ticket) -> Option<usize>
-    ensures { result ≡ position (λ ask. is_some (finished ticket (shown_ask ask))) asks.now }
-{
-    asks.iter().position(|ask| ask.is_finished(ticket))
-}
-
-/// The same, where so many asks at the front are over.
-pub(crate) fn finished_place(asks: &[KeptAsk], over: usize, ticket: Ticket) -> Option<usize>
-    requires { AreOver over asks.now }
-    ensures { result ≡ position (λ ask. is_some (finished ticket (shown_ask ask))) asks.now }
-{
-    let (_, present) = asks.split_at(over);
-    match finished_in(present, ticket) {
-        Some(place) => Some(over + place),
-        None => None,
-    }
-}
-
-/// The place of the first of these asks that is a tenure under the ticket and can be recalled.
-fn recallable_in(asks: &[KeptAsk], ticket: Ticket) -> Option<usize>
-    ensures { result ≡ position (λ ask. is_some (recallable ticket (shown_ask ask))) asks.now }
-{
-    asks.iter().position(|ask| ask.is_recallable(ticket))
-}
-
-/// The same, where so many asks at the front are over.
-pub(crate) fn recallable_place(asks: &[KeptAsk], over: usize, ticket: Ticket) -> Option<usize>
-    requires { AreOver over asks.now }
-    ensures { result ≡ position (λ ask. is_some (recallable ticket (shown_ask ask))) asks.now }
-{
-    let (_, present) = asks.split_at(over);
-    match recallable_in(present, ticket) {
+    match place_in(present, sought, ticket) {
         Some(place) => Some(over + place),
         None => None,
     }
@@ -372,70 +308,59 @@ pub(crate) fn recallable_place(asks: &[KeptAsk], over: usize, ticket: Ticket) ->
 
 /// Whether the digest is the base of a granted ask.
 pub(crate) fn any_base(asks: &[KeptAsk], digest: Digest) -> bool
-    ensures { result ≡ list_any (is_base digest) (map shown_ask asks.now) }
+    ensures { result ≡ list_any (is_base digest) asks.now }
 {
-    for ask in asks {
-        if ask.has_base(digest) {
-            return true;
-        }
-    }
-    false
+    asks.iter().any(|ask| has_base(ask, digest))
 }
 
 /// Whether an ask other than that of this number uses one of the folders.
 fn others_use(asks: &[KeptAsk], number: usize, wants: &[Want]) -> bool
-    ensures { result ≡ others_use number wants.now (map shown_ask asks.now) 0 }
+    ensures { result ≡ others_use number wants.now asks.now 0 }
 {
     for (i, ask) in asks.iter().enumerate() {
-        if i + 1 != number && ask.uses_some(wants) {
+        if i + 1 != number && uses_some(ask, wants) {
             return true;
         }
     }
     false
 }
 
-/// Whether the ask at the place is granted as a tenure whose folder another ask uses.
+/// Whether the grant of the ask of this number is a tenure whose folder another ask uses.
+fn is_used(asks: &[KeptAsk], number: usize, wants: &Wants, grant: &Grant) -> bool
+    ensures { result ≡ in_use asks.now number wants.now grant.now }
+{
+    grant.tenure && others_use(asks, number, wants.as_slice())
+}
+
+/// Whether the ask at the place is granted or running as a tenure whose folder another ask uses.
 pub(crate) fn in_use(asks: &[KeptAsk], place: usize) -> bool
     requires { place < length asks.now }
-    ensures { (wants : List Want) (grant : Grant) (recalled : Bool) (stage : Stage)
-        → slice_get asks.now place ≡ Some (KeptAsk.Granted wants grant recalled stage)
-        → result ≡ in_use (map shown_ask asks.now) (place + 1) wants grant }
+    ensures { (ask : KeptAsk) → slice_get asks.now place ≡ Some ask → result ≡ is_in_use asks.now (place + 1) ask }
 {
     match &asks[place] {
-        KeptAsk::Granted { wants, grant, .. } => {
-            grant.tenure && others_use(asks, place + 1, wants.as_slice())
-        }
+        KeptAsk::Holding { wants, grant, .. } => is_used(asks, place + 1, wants, grant),
+        KeptAsk::Running { wants, grant, .. } => is_used(asks, place + 1, wants, grant),
         _ => false,
     }
 }
 
 /// Whether the tenure of the folder is in use and not recalled.
 fn is_home(asks: &[KeptAsk], folder: &FolderName) -> bool
-    ensures { result ≡ list_any (is_home_of folder.now) (map shown_ask asks.now) }
+    ensures { result ≡ list_any (is_home_of folder.now) asks.now }
 {
-    for ask in asks {
-        if ask.is_home_of(folder) {
-            return true;
-        }
-    }
-    false
+    asks.iter().any(|ask| is_home_of(ask, folder))
 }
 
 /// Whether an ask is the tenure of the folder.
 pub(crate) fn has_tenure(asks: &[KeptAsk], folder: &FolderName) -> bool
-    ensures { result ≡ list_any (is_tenure_of folder.now) (map shown_ask asks.now) }
+    ensures { result ≡ list_any (is_tenure_of folder.now) asks.now }
 {
-    for ask in asks {
-        if ask.is_tenure_of(folder) {
-            return true;
-        }
-    }
-    false
+    asks.iter().any(|ask| is_tenure_of(ask, folder))
 }
 
 /// Whether the tenure of each SHARED folder of the wants is in use and not recalled.
 pub(crate) fn at_home(asks: &[KeptAsk], wants: &[Want]) -> bool
-    ensures { result ≡ at_home (map shown_ask asks.now) wants.now }
+    ensures { result ≡ at_home asks.now wants.now }
 {
     wants.iter().all(|want| !matches!(want.folder.mode, Mode::Shared)
         || is_home(asks, &want.folder))

@@ -1,14 +1,14 @@
 ghost use Rattle.std.specs.Prelude.{◌≡◌, ◌+◌, ◌<◌, [], List, Bool, false, IfOk, Some, slice_get, vec_len};
 ghost use Rattle.protocol.specs.Names.{Want};
 ghost use Rattle.protocol.specs.Farm.{farm_limits};
-ghost use Rattle.nodecore.specs.declared.asks.KeptAsk.{KeptAsk};
+ghost use Rattle.protocol.specs.declared.ask.KeptAsk.{KeptAsk};
 ghost use Rattle.protocol.specs.Lists.{nth};
 ghost use Rattle.protocol.specs.Nodes.{heard, unless_spent, brought, denied, dropped, fetched, finished, gives_back, granted, takes, learned, first, recallable, recalled};
 ghost use Rattle.farm_base.specs.Contents.{content_digest};
 ghost use Rattle.nodecore.specs.Asks.{life_of};
 ghost use Rattle.nodecore.specs.Shown.{shown, place, work_of, message_work, Does, Answers};
 
-use super::asks::{KeptAsk, any_base, finished_place, recallable_place};
+use super::asks::{Sought, any_base, hold, is_open, keeps, place_of, recall};
 use super::kept::{bases, confirmed, learn};
 use super::message::NodeDone;
 use super::node_core::NodeCore;
@@ -16,7 +16,7 @@ use farm_base::{
     Ask, Confirmed, Content, Copied, Digest, FromCoord, Grant, Items, Life, Message, NodeId,
     Request, Ticket, ToNode, Why,
 };
-use protocol::{How, NodeNote, NodeRefusal};
+use protocol::{How, KeptAsk, NodeNote, NodeRefusal};
 use std::alloc::{AllocError, Global};
 
 /// What sends nothing.
@@ -70,7 +70,7 @@ impl NodeCore {
         let held = grant.copy(alloc)?;
         self.versions.reserve(bases.len())?;
         learn(&mut self.versions, bases);
-        self.asks[index].hold(held);
+        hold(&mut self.asks[index], held);
         Ok(NodeDone {
             note: NodeNote::Took(told),
             sends: Items::new(sends),
@@ -85,10 +85,10 @@ impl NodeCore {
         let Some(index) = self.place_of(grant.ask) else {
             return self.give_back(alloc, grant);
         };
-        if self.asks[index].is_open() {
+        if is_open(&self.asks[index]) {
             return self.take(alloc, index, grant);
         }
-        if self.asks[index].keeps(grant.ticket) {
+        if keeps(&self.asks[index], grant.ticket) {
             return Ok(silent(alloc, NodeNote::Nothing));
         }
         self.give_back(alloc, grant)
@@ -99,7 +99,7 @@ impl NodeCore {
         ensures work { dropped ticket (shown self.old) (first (finished ticket) (shown self.old).asks 0) ≡ work_of (shown self.new) result }
         ensures place { place self.new ≡ place self.old }
     {
-        let Some(index) = finished_place(self.asks.as_slice(), self.over, ticket) else {
+        let Some(index) = place_of(self.asks.as_slice(), self.over, Sought::Finished, ticket) else {
             return silent(alloc, NodeNote::Nothing);
         };
         self.asks[index] = KeptAsk::Over(How::Fenced);
@@ -116,7 +116,7 @@ impl NodeCore {
         ensures work { Does (learned ticket versions.now (shown self.old) (first (finished ticket) (shown self.old).asks 0)) (shown self.old) (shown self.new) result }
         ensures place { place self.new ≡ place self.old }
     {
-        let Some(index) = finished_place(self.asks.as_slice(), self.over, ticket) else {
+        let Some(index) = place_of(self.asks.as_slice(), self.over, Sought::Finished, ticket) else {
             return Ok(silent(alloc, NodeNote::Nothing));
         };
         let named = confirmed(alloc, versions)?;
@@ -134,7 +134,7 @@ impl NodeCore {
         let Some(index) = self.place_of(ask) else {
             return silent(alloc, NodeNote::Nothing);
         };
-        if !self.asks[index].is_open() {
+        if !is_open(&self.asks[index]) {
             return silent(alloc, NodeNote::Nothing);
         }
         self.asks[index] = KeptAsk::Over(How::Denied(why));
@@ -146,10 +146,11 @@ impl NodeCore {
         ensures work { recalled ticket (shown self.old) (first (recallable ticket) (shown self.old).asks 0) ≡ work_of (shown self.new) result }
         ensures place { place self.new ≡ place self.old }
     {
-        let Some(index) = recallable_place(self.asks.as_slice(), self.over, ticket) else {
+        let Some(index) = place_of(self.asks.as_slice(), self.over, Sought::Recallable, ticket)
+        else {
             return silent(alloc, NodeNote::Nothing);
         };
-        self.asks[index].recall();
+        recall(&mut self.asks[index]);
         silent(alloc, NodeNote::Recalled(ticket))
     }
 

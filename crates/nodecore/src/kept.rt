@@ -5,7 +5,7 @@ ghost use Rattle.protocol.specs.Names.{slots_eq};
 ghost use Rattle.protocol.specs.Nodes.{news_of, stored};
 ghost use Rattle.protocol.specs.World.{keep, learn};
 ghost use Rattle.farm_base.specs.Contents.{content_digest};
-ghost use Rattle.nodecore.specs.Shown.{base_of, known_in, learn_all, left_of, store_in, version_of};
+ghost use Rattle.nodecore.specs.Shown.{base_of, known_in, learn_all, store_in, version_of};
 
 use farm_base::{Confirmed, Content, Copied, Digest, GrantedSlot, Items, News, Slot, Version};
 use indexmap::IndexMap;
@@ -68,7 +68,7 @@ pub(crate) fn learn(known: &mut IndexMap<Version, Digest>, versions: Vec<(Versio
 
 /// The news of what an execution leaves.
 pub(crate) fn news_of(alloc: Global, lefts: &[(Slot, Content)]) -> Result<Items<News>, AllocError>
-    ensures { IfOk result (λ news. news ≡ news_of content_digest (map left_of lefts.now)) }
+    ensures { IfOk result (λ news. news ≡ news_of content_digest lefts.now) }
 {
     let mut news = Vec::with_capacity(alloc, lefts.len())?;
     for left in lefts {
@@ -95,7 +95,7 @@ fn store(contents: &mut IndexMap<Digest, Content>, content: Content)
 /// Stores what an execution leaves, in the room that is there.
 pub(crate) fn store_all(contents: &mut IndexMap<Digest, Content>, lefts: Vec<(Slot, Content)>)
     requires { vec_len lefts ≤ spare contents.old }
-    ensures { store_in contents.new ≡ stored content_digest (map left_of lefts.items) (store_in contents.old) }
+    ensures { store_in contents.new ≡ stored content_digest lefts.items (store_in contents.old) }
 {
     for (_, content) in lefts {
         store(contents, content);
@@ -104,7 +104,7 @@ pub(crate) fn store_all(contents: &mut IndexMap<Digest, Content>, lefts: Vec<(Sl
 
 /// Whether an execution leaves just the slots that it may write, in their order.
 pub(crate) fn fits(lefts: &[(Slot, Content)], slots: &[GrantedSlot]) -> bool
-    ensures { result ≡ slots_eq (slots_of (news_of content_digest (map left_of lefts.now))) (written slots.now) }
+    ensures { result ≡ slots_eq (slots_of (news_of content_digest lefts.now)) (written slots.now) }
 {
     let mut rest = lefts;
     for slot in slots {

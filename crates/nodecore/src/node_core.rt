@@ -5,13 +5,11 @@ ghost use Rattle.protocol.specs.World.{first_node};
 ghost use Rattle.protocol.specs.Nodes.{Held, finished_with, leaving, aborted, all_stored, asked, asked_tenure, begun, gives_up, may_restart, opens, restarted};
 ghost use Rattle.farm_base.specs.Contents.{content_digest};
 ghost use Rattle.protocol.specs.Farm.{farm_limits};
-ghost use Rattle.nodecore.specs.declared.asks.KeptAsk.{KeptAsk};
-ghost use Rattle.nodecore.specs.declared.asks.Stage.{Stage};
+ghost use Rattle.protocol.specs.declared.ask.KeptAsk.{KeptAsk};
 ghost use Rattle.nodecore.specs.Asks.{told_state, AreOver};
 
 use super::asks::{
-    KeptAsk, Stage, at_home, has_tenure, held_or_running_place, held_place, in_use, over_from,
-    running_place,
+    Sought, at_home, begin, finish, has_tenure, in_use, over_from, place_of, slots, told,
 };
 use super::kept::{fits, news_of, store_all};
 use super::message::{AskState, NodeDone};
@@ -20,7 +18,7 @@ use farm_base::{
     NodeId, Request, Slot, Ticket, ToCoord, Version, Want, Wants,
 };
 use indexmap::IndexMap;
-use protocol::{How, NodeNote, NodeRefusal};
+use protocol::{How, KeptAsk, NodeNote, NodeRefusal};
 use std::alloc::{AllocError, Global};
 
 /// One message to the coordinator.
@@ -75,7 +73,7 @@ pub struct NodeCore {
 }
 
 impl NodeCore {
-    ghost use Rattle.nodecore.specs.Shown.{content_of, left_of, shown, place, work_of, Does, Answers};
+    ghost use Rattle.nodecore.specs.Shown.{content_of, shown, place, work_of, Does, Answers};
 
     /// A node in its first life.
     pub fn start(alloc: Global, node: NodeId, nodes: u32) -> Result<Self, AllocError>
@@ -118,7 +116,7 @@ impl NodeCore {
         let Some(place) = self.place_of(ask) else {
             return Ok(None);
         };
-        Ok(Some(self.asks[place].told(alloc)?))
+        Ok(Some(told(&self.asks[place], alloc)?))
     }
 
     /// The place of an ask of this life.
@@ -136,7 +134,7 @@ impl NodeCore {
 }
 
 impl NodeCore {
-    ghost use Rattle.nodecore.specs.Shown.{content_of, left_of, shown, place, work_of, Does, Answers};
+    ghost use Rattle.nodecore.specs.Shown.{content_of, shown, place, work_of, Does, Answers};
 
     /// One message to the coordinator.
     pub(crate) fn say(&self, alloc: Global, request: Request) -> Result<Items<Message>, AllocError>
@@ -232,13 +230,13 @@ impl NodeCore {
         if self.spent {
             return Err(NodeRefusal::LivesSpent);
         }
-        let Some(place) = held_place(self.asks.as_slice(), self.over, ticket) else {
+        let Some(place) = place_of(self.asks.as_slice(), self.over, Sought::Held, ticket) else {
             return Err(NodeRefusal::NoSuchTicket);
         };
-        if !self.has_all(self.asks[place].slots()) {
+        if !self.has_all(slots(&self.asks[place])) {
             return Err(NodeRefusal::ContentsMissing);
         }
-        self.asks[place].come_to(Stage::Running);
+        begin(&mut self.asks[place]);
         Ok(NodeDone {
             note: NodeNote::Begun(ticket),
             sends: Items::new(Vec::new(alloc)),
@@ -253,7 +251,12 @@ impl NodeCore {
         if self.spent {
             return Err(NodeRefusal::LivesSpent);
         }
-        let Some(place) = held_or_running_place(self.asks.as_slice(), self.over, ticket) else {
+        let Some(place) = place_of(
+            self.asks.as_slice(),
+            self.over,
+            Sought::HeldOrRunning,
+            ticket,
+        ) else {
             return Err(NodeRefusal::NoSuchTicket);
         };
         if in_use(self.asks.as_slice(), place) {
@@ -272,19 +275,19 @@ impl NodeCore {
         ticket: Ticket,
         lefts: Vec<(Slot, Content)>,
     ) -> Result<NodeDone, NodeRefusal>
-        ensures answer { Answers (finished_with content_digest (place self.old) ticket (map left_of lefts.items) (shown self.old)) (shown self.old) (shown self.new) result }
+        ensures answer { Answers (finished_with content_digest (place self.old) ticket lefts.items (shown self.old)) (shown self.old) (shown self.new) result }
         ensures place { place self.new ≡ place self.old }
     {
         if self.spent {
             return Err(NodeRefusal::LivesSpent);
         }
-        let Some(place) = running_place(self.asks.as_slice(), self.over, ticket) else {
+        let Some(place) = place_of(self.asks.as_slice(), self.over, Sought::Running, ticket) else {
             return Err(NodeRefusal::NotRunning);
         };
         if in_use(self.asks.as_slice(), place) {
             return Err(NodeRefusal::TenureInUse);
         }
-        if !fits(lefts.as_slice(), self.asks[place].slots()) {
+        if !fits(lefts.as_slice(), slots(&self.asks[place])) {
             return Err(NodeRefusal::WrongNews);
         }
         let Ok(done) = self.leave(alloc, place, ticket, lefts) else {
@@ -303,9 +306,9 @@ impl NodeCore {
     ) -> Result<NodeDone, AllocError>
         requires { index < vec_len self.old.asks }
         ensures work { (h : Held)
-            → slice_get self.old.asks.items index ≡ Some (KeptAsk.Granted h.wants h.grant h.recalled Stage.Running)
+            → slice_get self.old.asks.items index ≡ Some (KeptAsk.Running h.wants h.grant h.recalled)
             → h.grant.ticket ≡ ticket
-            → Does (leaving content_digest (place self.old) (index + 1) h (map left_of lefts.items) (shown self.old)) (shown self.old) (shown self.new) result }
+            → Does (leaving content_digest (place self.old) (index + 1) h lefts.items (shown self.old)) (shown self.old) (shown self.new) result }
         ensures place { place self.new ≡ place self.old }
     {
         if lefts.is_empty() {
@@ -318,7 +321,7 @@ impl NodeCore {
         };
         let sends = self.say(alloc, request)?;
         self.contents.reserve(lefts.len())?;
-        self.asks[index].come_to(Stage::Finished(news));
+        finish(&mut self.asks[index], news);
         store_all(&mut self.contents, lefts);
         Ok(NodeDone {
             note: NodeNote::Finished(ticket),

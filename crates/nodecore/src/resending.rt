@@ -1,47 +1,21 @@
 //! What a node says again.
-ghost use Rattle.std.specs.Prelude.{◌≡◌, ◌∷◌, Bool, List, IfOk, map};
+ghost use Rattle.std.specs.Prelude.{◌≡◌, ◌∷◌, IfOk};
 ghost use Rattle.protocol.specs.Farm.{farm_limits};
-ghost use Rattle.protocol.specs.Names.{Ask, Want};
 ghost use Rattle.protocol.specs.Machine.{hello};
 ghost use Rattle.protocol.specs.Nodes.{again, all_again, resent};
-ghost use Rattle.nodecore.specs.Asks.{shown_ask, shown_stage};
 ghost use Rattle.nodecore.specs.Shown.{place, shown, Answers};
 
-use super::asks::{KeptAsk, Stage};
 use super::message::NodeDone;
 use super::node_core::NodeCore;
-use farm_base::{Ask, Copied, Grant, Items, Message, Request};
-use protocol::{NodeNote, NodeRefusal};
+use farm_base::{Ask, Copied, Items, Message, Request};
+use protocol::{KeptAsk, NodeNote, NodeRefusal};
 use std::alloc::{AllocError, Global};
 
 impl NodeCore {
-    /// What an ask with a grant sends again.
-    fn granted_again(
-        &self,
-        alloc: Global,
-        grant: &Grant,
-        stage: &Stage,
-    ) -> Result<Vec<Message>, AllocError>
-        ensures { (ask : Ask) (wants : List Want) (recalled : Bool) → IfOk result (λ sends. sends.items
-            ≡ again farm_limits (place self.now) (shown self.now) ask (shown_stage wants grant.now recalled stage.now)) }
-    {
-        match stage {
-            Stage::Held => self.fetches(alloc, grant.slots.as_slice()),
-            Stage::Running => Ok(Vec::new(alloc)),
-            Stage::Finished(news) => {
-                let request = Request::Commit {
-                    ticket: grant.ticket,
-                    news: news.copy(alloc)?,
-                };
-                Ok(self.say(alloc, request)?.into_vec())
-            }
-        }
-    }
-
     /// What an ask sends again.
     fn again(&self, alloc: Global, ask: Ask, kept: &KeptAsk) -> Result<Vec<Message>, AllocError>
         ensures { IfOk result (λ sends. sends.items
-            ≡ again farm_limits (place self.now) (shown self.now) ask (shown_ask kept.now)) }
+            ≡ again farm_limits (place self.now) (shown self.now) ask kept.now) }
     {
         match kept {
             KeptAsk::Open { wants, tenure } => {
@@ -52,7 +26,15 @@ impl NodeCore {
                 };
                 Ok(self.say(alloc, request)?.into_vec())
             }
-            KeptAsk::Granted { grant, stage, .. } => self.granted_again(alloc, grant, stage),
+            KeptAsk::Holding { grant, .. } => self.fetches(alloc, grant.slots.as_slice()),
+            KeptAsk::Running { .. } => Ok(Vec::new(alloc)),
+            KeptAsk::Finished { grant, news, .. } => {
+                let request = Request::Commit {
+                    ticket: grant.ticket,
+                    news: news.copy(alloc)?,
+                };
+                Ok(self.say(alloc, request)?.into_vec())
+            }
             KeptAsk::Over(_) => Ok(Vec::new(alloc)),
         }
     }

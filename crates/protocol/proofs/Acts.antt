@@ -5,7 +5,7 @@ use Rattle.protocol.specs.Names.{Slot, slot_eq, digest_eq, NodeId, Life, Ask, Ti
 use Rattle.protocol.specs.Machine.{GrantedSlot, Grant, News, Confirmed, Granted, Message, Told, Fetches, Blob, hello, acquire, commit, release, Machine, Answers, line, written, slots_of, Names, Stands}
 use Rattle.farm_base.specs.declared.message.FromCoord.TheVariants as told
 use Rattle.protocol.specs.declared.answer.How.TheVariants as how
-use Rattle.protocol.specs.World.{AskState, Open, Holding, Running, Finished, Over, Node, keeps, learn, learn_bases, learn_versions, keep, has_life, RunsTenure, Uses, Open_uses, Held_uses, Running_uses, Idle, Act, Asks, Asks_tenure, Asks_again, Greets, Takes, Gives_back, Begins, Finishes, Gives_up, Sends_commit, Learns, Drops, Is_denied, Is_recalled, Is_recalled_running, Stores, Asks_content, Sends_blob, Restarts, Stops, World}
+use Rattle.protocol.specs.World.{KeptAsk, Open, Holding, Running, Finished, Over, Node, keeps, learn, learn_bases, learn_versions, keep, has_life, RunsTenure, Uses, Open_uses, Held_uses, Running_uses, Idle, Act, Asks, Asks_tenure, Asks_again, Greets, Takes, Gives_back, Begins, Finishes, Gives_up, Sends_commit, Learns, Drops, Is_denied, Is_recalled, Is_recalled_running, Stores, Asks_content, Sends_blob, Restarts, Stops, World}
 use Rattle.farm_base.proofs.CompareLaws.{digest_exact}
 use Rattle.protocol.proofs.Base.{cases_bool, cases_nat, eqb_is, slot_eq_is, in_one, some_is, none_some, nth-set_same, nth-set_other, nth_set_cases, nth-append, nth-push, nth_push_cases}
 use Rattle.protocol.proofs.Invariant.{Wanted, spent, WasAsked, Spent, ForTenure, Its, StateOk, WantsNow, for_tenure, HasTenure, AtHome, NodeOk, WasGiven, MessageOk, Inv, Ahead, ahead_refl}
@@ -53,15 +53,15 @@ keep_ok sha c store ok d c' h = elim (cases_bool (digest_eq d (sha c))) [
 -- ---- asks that go on as their node stays in its life
 
 -- what was asked stays so, and what is over
-pub record GoesOn (s s' : AskState) : Type 0 where
+pub record GoesOn (s s' : KeptAsk) : Type 0 where
   pub asked : (wants : List Want) (tenure : Bool) → Wanted s wants tenure → Wanted s' wants tenure
   pub over : (k : ℕ) → spent s k ≡ true → spent s' k ≡ true
 
-stays_on : (s : AskState) → GoesOn s s
+stays_on : (s : KeptAsk) → GoesOn s s
 stays_on s = record { asked = λ ws t h. h; over = λ k h. h }
 
-abbrev AllGoOn : List AskState → List AskState → Type 0
-AllGoOn asks asks' = (b : ℕ) (s : AskState) → nth asks b ≡ Some s → (s' : AskState) × (nth asks' b ≡ Some s') × GoesOn s s'
+abbrev AllGoOn : List KeptAsk → List KeptAsk → Type 0
+AllGoOn asks asks' = (b : ℕ) (s : KeptAsk) → nth asks b ≡ Some s → (s' : KeptAsk) × (nth asks' b ≡ Some s') × GoesOn s s'
 
 ahead_from : (x x' : Node) → x'.life ≡ x.life → AllGoOn x.asks x'.asks → Ahead x x'
 ahead_from x x' life go = record {
@@ -76,17 +76,17 @@ ahead_from x x' life go = record {
   ];
 }
 
-go_same : (asks : List AskState) → AllGoOn asks asks
+go_same : (asks : List KeptAsk) → AllGoOn asks asks
 go_same asks b s e = (s, e, stays_on s)
 
-go_set : (asks : List AskState) (a : ℕ) (old new : AskState) → nth asks a ≡ Some old → GoesOn old new → AllGoOn asks (set_nth asks a new)
+go_set : (asks : List KeptAsk) (a : ℕ) (old new : KeptAsk) → nth asks a ≡ Some old → GoesOn old new → AllGoOn asks (set_nth asks a new)
 go_set asks a old new at goes b s e = elim (cases_nat b a) [
   | inl q ↦ (let was : s ≡ old = some_is s old (sym e ∙ ap (nth asks) q ∙ at) in
       (new, ap (nth (set_nth asks a new)) q ∙ nth-set_same asks a new old at, subst (λ z. GoesOn z new) (sym was) goes))
   | inr ne ↦ (s, nth-set_other asks a b new ne ∙ e, stays_on s)
 ]
 
-go_push : (asks : List AskState) (new : AskState) → AllGoOn asks (asks ++ new ∷ [])
+go_push : (asks : List KeptAsk) (new : KeptAsk) → AllGoOn asks (asks ++ new ∷ [])
 go_push asks new b s e = (s, nth-append asks (new ∷ []) b s e, stays_on s)
 
 pub ahead_restart : (x x' : Node) → x'.life.0 ≡ x.life.0 + 1 → Ahead x x'
@@ -98,25 +98,25 @@ ahead_restart x x' life = record {
 
 -- ---- tenures in use
 
-abbrev KeepsTenures : List AskState → List AskState → Type 0
+abbrev KeepsTenures : List KeptAsk → List KeptAsk → Type 0
 KeepsTenures asks asks' = (b : ℕ) (wants : List Want) (g : Grant) (r : Bool) → nth asks b ≡ Some (Running wants g r) → (r' : Bool) × (nth asks' b ≡ Some (Running wants g r'))
 
-has_later : (asks asks' : List AskState) (f : FolderName) → KeepsTenures asks asks' → HasTenure asks f → HasTenure asks' f
+has_later : (asks asks' : List KeptAsk) (f : FolderName) → KeepsTenures asks asks' → HasTenure asks f → HasTenure asks' f
 has_later asks asks' f runs h = (let r = runs h.0 h.1 h.2 h.3 h.5 in (h.0, h.1, h.2, r.0, h.4, r.1, h.6, h.7, h.8))
 
-runs_push : (asks : List AskState) (new : AskState) → KeepsTenures asks (asks ++ new ∷ [])
+runs_push : (asks : List KeptAsk) (new : KeptAsk) → KeepsTenures asks (asks ++ new ∷ [])
 runs_push asks new b wants g r e = (r, nth-append asks (new ∷ []) b (Running wants g r) e)
 
-abbrev NotRunning : AskState → Type 0
+abbrev NotRunning : KeptAsk → Type 0
 NotRunning s = (wants : List Want) (g : Grant) (r : Bool) → s ≢ Running wants g r
 
-runs_set : (asks : List AskState) (a : ℕ) (old new : AskState) → nth asks a ≡ Some old → NotRunning old → KeepsTenures asks (set_nth asks a new)
+runs_set : (asks : List KeptAsk) (a : ℕ) (old new : KeptAsk) → nth asks a ≡ Some old → NotRunning old → KeepsTenures asks (set_nth asks a new)
 runs_set asks a old new at idle b wants g r e = elim (cases_nat b a) [
   | inl q ↦ absurd (idle wants g r (some_is old (Running wants g r) (sym at ∙ ap (nth asks) (sym q) ∙ e)))
   | inr ne ↦ (r, nth-set_other asks a b new ne ∙ e)
 ]
 
-runs_recalled : (asks : List AskState) (a : ℕ) (wants : List Want) (g : Grant) (r r' : Bool) → nth asks a ≡ Some (Running wants g r) → KeepsTenures asks (set_nth asks a (Running wants g r'))
+runs_recalled : (asks : List KeptAsk) (a : ℕ) (wants : List Want) (g : Grant) (r r' : Bool) → nth asks a ≡ Some (Running wants g r) → KeepsTenures asks (set_nth asks a (Running wants g r'))
 runs_recalled asks a wants g r r' at b ws h q e = elim (cases_nat b a) [
   | inl p ↦ (let same : Running wants g r ≡ Running ws h q = some_is (Running wants g r) (Running ws h q) (sym at ∙ ap (nth asks) (sym p) ∙ e) in
       let w : wants ≡ ws = cc in
@@ -126,7 +126,7 @@ runs_recalled asks a wants g r r' at b ws h q e = elim (cases_nat b a) [
 ]
 
 -- an ask that is set to a state that wants no more than before
-home_set : (asks : List AskState) (a : ℕ) (old new : AskState) → nth asks a ≡ Some old → KeepsTenures asks (set_nth asks a new)
+home_set : (asks : List KeptAsk) (a : ℕ) (old new : KeptAsk) → nth asks a ≡ Some old → KeepsTenures asks (set_nth asks a new)
     → ((w : Want) → WantsNow new w → WantsNow old w × (for_tenure new ≡ false → for_tenure old ≡ false)) → AtHome asks → AtHome (set_nth asks a new)
 home_set asks a old new at runs less home b s w e wants shared free = elim (nth_set_cases asks a new old b s at e) [
   | inl q ↦ (let l = less w (subst (λ z. WantsNow z w) q.1 wants) in
@@ -134,14 +134,14 @@ home_set asks a old new at runs less home b s w e wants shared free = elim (nth_
   | inr q ↦ has_later asks (set_nth asks a new) w.folder runs (home b s w q.1 wants shared free)
 ]
 
-home_push : (asks : List AskState) (new : AskState) → ((w : Want) → WantsNow new w → wants_shared w ≡ true → for_tenure new ≡ false → HasTenure asks w.folder) → AtHome asks → AtHome (asks ++ new ∷ [])
+home_push : (asks : List KeptAsk) (new : KeptAsk) → ((w : Want) → WantsNow new w → wants_shared w ≡ true → for_tenure new ≡ false → HasTenure asks w.folder) → AtHome asks → AtHome (asks ++ new ∷ [])
 home_push asks new here home b s w e wants shared free = elim (nth_push_cases asks new b s e) [
   | inl q ↦ has_later asks (asks ++ new ∷ []) w.folder (runs_push asks new) (home b s w q wants shared free)
   | inr q ↦ has_later asks (asks ++ new ∷ []) w.folder (runs_push asks new)
       (here w (subst (λ z. WantsNow z w) q.1 wants) shared (subst (λ z. for_tenure z ≡ false) q.1 free))
 ]
 
-uses_from : (s : AskState) (w : Want) (f : FolderName) → WantsNow s w → w.folder ≡ f → Uses f s
+uses_from : (s : KeptAsk) (w : Want) (f : FolderName) → WantsNow s w → w.folder ≡ f → Uses f s
 uses_from (Open wants tenure) w f i e = Open_uses w wants tenure i e
 uses_from (Holding wants g r) w f i e = Held_uses w wants g r i e
 uses_from (Running wants g r) w f i e = Running_uses w wants g r i e
@@ -149,7 +149,7 @@ uses_from (Finished wants g news) w f i e = absurd i
 uses_from (Over how) w f i e = absurd i
 
 -- an execution that ends with no other ask in its folders
-home_end : (asks : List AskState) (a : ℕ) (wants : List Want) (g : Grant) (r : Bool) (new : AskState) → nth asks a ≡ Some (Running wants g r) → Idle asks a wants g
+home_end : (asks : List KeptAsk) (a : ℕ) (wants : List Want) (g : Grant) (r : Bool) (new : KeptAsk) → nth asks a ≡ Some (Running wants g r) → Idle asks a wants g
     → ((w : Want) → WantsNow new w → ⊥) → AtHome asks → AtHome (set_nth asks a new)
 home_end asks a wants g r new at idle none home b s w e now shared free = elim (nth_set_cases asks a new (Running wants g r) b s at e) [
   | inl q ↦ absurd (none w (subst (λ z. WantsNow z w) q.1 now))
@@ -162,7 +162,7 @@ home_end asks a wants g r new at idle none home b s w e now shared free = elim (
   ])
 ]
 
-runs_has : (asks : List AskState) (f : FolderName) (r : Bool) → RunsTenure asks f r → HasTenure asks f
+runs_has : (asks : List KeptAsk) (f : FolderName) (r : Bool) → RunsTenure asks f r → HasTenure asks f
 runs_has asks f r h = (h.0, h.1, h.2, r, h.3, h.4, h.5, h.6, h.7)
 
 -- ---- a node that acts in a world under the invariant
@@ -176,7 +176,7 @@ held_not_running wants h q ws g r e = cc
 finished_not_running : (wants : List Want) (h : Grant) (news : List News) → NotRunning (Finished wants h news)
 finished_not_running wants h news ws g r e = cc
 
-spent_from : (s : AskState) (t : Ticket) → ((ws : List Want) (b : Bool) → s ≢ Open ws b) → keeps s t ≡ false → spent s t.0 ≡ true
+spent_from : (s : KeptAsk) (t : Ticket) → ((ws : List Want) (b : Bool) → s ≢ Open ws b) → keeps s t ≡ false → spent s t.0 ≡ true
 spent_from (Open ws b) t opened kept = absurd (opened ws b refl)
 spent_from (Holding ws g r) t opened kept = ap not kept
 spent_from (Running ws g r) t opened kept = ap not kept
@@ -190,27 +190,27 @@ module _ (sha : List ℕ → Digest) (w : World) (inv : Inv sha w) (n : NodeId) 
   x_ok : NodeOk sha w.machine n x
   x_ok = inv.nodes n
 
-  state_is : (a : ℕ) (s : AskState) → nth x.asks a ≡ Some s → StateOk w.machine n x.life a s
+  state_is : (a : ℕ) (s : KeptAsk) → nth x.asks a ≡ Some s → StateOk w.machine n x.life a s
   state_is a s e = x_ok.states a s e
 
-  set_states : (a : ℕ) (old new : AskState) → nth x.asks a ≡ Some old → StateOk w.machine n x.life a new → (b : ℕ) (s : AskState) → nth (set_nth x.asks a new) b ≡ Some s → StateOk w.machine n x.life b s
+  set_states : (a : ℕ) (old new : KeptAsk) → nth x.asks a ≡ Some old → StateOk w.machine n x.life a new → (b : ℕ) (s : KeptAsk) → nth (set_nth x.asks a new) b ≡ Some s → StateOk w.machine n x.life b s
   set_states a old new at ok b s e = elim (nth_set_cases x.asks a new old b s at e) [
     | inl q ↦ subst (λ z. StateOk w.machine n x.life z s) (sym q.0) (subst (StateOk w.machine n x.life a) (sym q.1) ok)
     | inr q ↦ x_ok.states b s q.1
   ]
 
-  push_states : (new : AskState) → ((b : ℕ) → StateOk w.machine n x.life b new) → (b : ℕ) (s : AskState) → nth (x.asks ++ new ∷ []) b ≡ Some s → StateOk w.machine n x.life b s
+  push_states : (new : KeptAsk) → ((b : ℕ) → StateOk w.machine n x.life b new) → (b : ℕ) (s : KeptAsk) → nth (x.asks ++ new ∷ []) b ≡ Some s → StateOk w.machine n x.life b s
   push_states new ok b s e = elim (nth_push_cases x.asks new b s e) [
     | inl q ↦ x_ok.states b s q
     | inr q ↦ subst (StateOk w.machine n x.life b) (sym q.1) (ok b)
   ]
 
   -- the node with one ask changed
-  one_ask : (a : ℕ) (old new : AskState) → nth x.asks a ≡ Some old → StateOk w.machine n x.life a new → AtHome (set_nth x.asks a new) → NodeOk sha w.machine n (record x { asks = set_nth x.asks a new })
+  one_ask : (a : ℕ) (old new : KeptAsk) → nth x.asks a ≡ Some old → StateOk w.machine n x.life a new → AtHome (set_nth x.asks a new) → NodeOk sha w.machine n (record x { asks = set_nth x.asks a new })
   one_ask a old new at ok home = record { states = set_states a old new at ok; known = x_ok.known; stored = x_ok.stored; homes = home }
 
   -- a Grant that was sent to this life answers the ask that it names, with its wants
-  grant_wanted : (g : Grant) → In (Granted g) w.machine.made → g.node ≡ n → g.life ≡ x.life → (s : AskState) → nth x.asks g.ask.0 ≡ Some s
+  grant_wanted : (g : Grant) → In (Granted g) w.machine.made → g.node ≡ n → g.life ≡ x.life → (s : KeptAsk) → nth x.asks g.ask.0 ≡ Some s
       → (wants : List Want) × Wanted s wants g.tenure × Answers g wants × ForTenure g.tenure wants
   grant_wanted g made at life s e =
       let r = inv.asked g made in
@@ -334,13 +334,13 @@ module _ (sha : List ℕ → Digest) (w : World) (inv : Inv sha w) (n : NodeId) 
     homes = λ a s v e wants shared free. none_at a s e;
   }
     where
-      none_at : {P : Type 0} (a : ℕ) (s : AskState) → nth [] a ≡ Some s → P
+      none_at : {P : Type 0} (a : ℕ) (s : KeptAsk) → nth [] a ≡ Some s → P
       none_at zero s e = none_some s e
       none_at (suc a) s e = none_some s e
   act_ok sends x' Stops = record { states = x_ok.states; known = x_ok.known; stored = x_ok.stored; homes = x_ok.homes }
 
   -- a grant whose ask is now in a state that is over is spent
-  set_spent : (g : Grant) (a : ℕ) (old new : AskState) → nth x.asks a ≡ Some old → Its w.machine n x.life a g → spent new g.ticket.0 ≡ true → (g.life ≡ x.life) × ((s : AskState) × (nth (set_nth x.asks a new) g.ask.0 ≡ Some s) × (spent s g.ticket.0 ≡ true))
+  set_spent : (g : Grant) (a : ℕ) (old new : KeptAsk) → nth x.asks a ≡ Some old → Its w.machine n x.life a g → spent new g.ticket.0 ≡ true → (g.life ≡ x.life) × ((s : KeptAsk) × (nth (set_nth x.asks a new) g.ask.0 ≡ Some s) × (spent s g.ticket.0 ≡ true))
   set_spent g a old new at its over = (its.2, (new, ap (nth (set_nth x.asks a new)) its.3 ∙ nth-set_same x.asks a new old at, over))
 
   -- what a message says of its sender's next state

@@ -6,7 +6,7 @@ use Rattle.protocol.specs.Machine.{Message, ToCoord, Told, Said, acquire}
 use Rattle.farm_base.specs.declared.message.Message.TheVariants as to
 use Rattle.farm_base.specs.declared.message.Request.{Request}
 use Rattle.farm_base.specs.declared.message.Request.TheVariants.{Hello, Acquire, Commit, Release}
-use Rattle.protocol.specs.World.{AskState, Open, Node, Act, Asks, Asks_tenure, Asks_again, Greets, Takes, Gives_back, Begins, Finishes, Gives_up, Sends_commit, Learns, Drops, Is_denied, Is_recalled, Is_recalled_running, Stores, Asks_content, Sends_blob, Restarts, Stops, World, Move, Node_moves, Machine_moves, Machine_says, Fails, Recovers, Moves, Still, Then, start}
+use Rattle.protocol.specs.World.{KeptAsk, Open, Node, Act, Asks, Asks_tenure, Asks_again, Greets, Takes, Gives_back, Begins, Finishes, Gives_up, Sends_commit, Learns, Drops, Is_denied, Is_recalled, Is_recalled_running, Stores, Asks_content, Sends_blob, Restarts, Stops, World, Move, Node_moves, Machine_moves, Machine_says, Fails, Recovers, Moves, Still, Then, start}
 use Rattle.protocol.specs.Ledger.{begin_work}
 use Rattle.protocol.specs.Replay.{run, opening}
 use Rattle.protocol.specs.Follows.{OnlyItself}
@@ -45,7 +45,7 @@ no_get : {A : Type 0} (xs : List A) (v : A) → slice_get xs (length xs) ≡ Som
 no_get [] v e = none_some v e
 no_get (x ∷ xs) v e = no_get xs v e
 
-past_end : (asks : List AskState) (a : ℕ) (s : AskState) → a ≡ length asks + 1 → nth asks a ≡ Some s → ⊥
+past_end : (asks : List KeptAsk) (a : ℕ) (s : KeptAsk) → a ≡ length asks + 1 → nth asks a ≡ Some s → ⊥
 past_end asks zero s e h = none_some s h
 past_end asks (suc a) s e h = (let same : a ≡ length asks = omega arith in no_get asks s (ap (slice_get asks) (sym same) ∙ h))
 

@@ -3,18 +3,18 @@ use Rattle.std.proofs.Common.{◌≡◌, ◌≢◌, ℕ, ◌<◌, ◌≤◌, Lis
 use Rattle.std.specs.Prelude.{⊤}
 use Rattle.protocol.specs.Lists.{In, nth}
 use Rattle.protocol.specs.Names.{Slot, NodeId, Life, Ticket, Digest, Want, FolderName, wants_shared, tenure_wants}
-use Rattle.protocol.specs.Machine.{Grant, News, Confirmed, Ending, Committed, Released, Withdrawn, Died, Granted, Message, Said, Told, Fetches, Blob, ToCoord, FromCoord, acquire, WasHeard, Machine, Answers, line, written, slots_of, Names, Stands}
+use Rattle.protocol.specs.Machine.{Grant, News, Confirmed, Ending, Committed, Released, Withdrawn, Died, Granted, Message, Said, ToCoord, FromCoord, acquire, WasHeard, Machine, Answers, line, written, slots_of, Names, Stands}
 use Rattle.farm_base.specs.declared.message.Message.TheVariants as to
 use Rattle.farm_base.specs.declared.message.ToNode.TheVariants as to_node
 use Rattle.farm_base.specs.declared.message.Request.{Request}
 use Rattle.farm_base.specs.declared.message.Request.TheVariants.{Hello, Acquire, Commit, Release}
 use Rattle.farm_base.specs.declared.message.FromCoord.TheVariants as told
-use Rattle.protocol.specs.World.{AskState, Open, Holding, Running, Finished, Over, Node, World}
+use Rattle.protocol.specs.World.{KeptAsk, Open, Holding, Running, Finished, Over, Node, World}
 use Rattle.protocol.proofs.Base.{front_get}
 use Rattle.protocol.proofs.Steps.{Sound, Later, names_later}
 
 -- the ask was made with these wants
-abbrev pub Wanted : AskState → List Want → Bool → Type 0
+abbrev pub Wanted : KeptAsk → List Want → Bool → Type 0
 Wanted (Open ws t) wants tenure = (ws ≡ wants) × (t ≡ tenure)
 Wanted (Holding ws g r) wants tenure = (ws ≡ wants) × (g.tenure ≡ tenure)
 Wanted (Running ws g r) wants tenure = (ws ≡ wants) × (g.tenure ≡ tenure)
@@ -22,7 +22,7 @@ Wanted (Finished ws g news) wants tenure = (ws ≡ wants) × (g.tenure ≡ tenur
 Wanted (Over how) wants tenure = ⊤
 
 -- under this ticket the ask neither executes nor will
-abbrev pub spent : AskState → ℕ → Bool
+abbrev pub spent : KeptAsk → ℕ → Bool
 spent (Open ws t) k = false
 spent (Holding ws g r) k = not (eqb g.ticket.0 k)
 spent (Running ws g r) k = not (eqb g.ticket.0 k)
@@ -30,11 +30,11 @@ spent (Finished ws g news) k = true
 spent (Over how) k = true
 
 abbrev pub WasAsked : Node → Life → ℕ → List Want → Bool → Type 0
-WasAsked x l a wants tenure = (l.0 < x.life.0) ⊎ ((l ≡ x.life) × ((s : AskState) × (nth x.asks a ≡ Some s) × Wanted s wants tenure))
+WasAsked x l a wants tenure = (l.0 < x.life.0) ⊎ ((l ≡ x.life) × ((s : KeptAsk) × (nth x.asks a ≡ Some s) × Wanted s wants tenure))
 
 -- the execution of the grant is over and can't begin
 abbrev pub Spent : Node → Grant → Type 0
-Spent x g = (g.life.0 < x.life.0) ⊎ ((g.life ≡ x.life) × ((s : AskState) × (nth x.asks g.ask.0 ≡ Some s) × (spent s g.ticket.0 ≡ true)))
+Spent x g = (g.life.0 < x.life.0) ⊎ ((g.life ≡ x.life) × ((s : KeptAsk) × (nth x.asks g.ask.0 ≡ Some s) × (spent s g.ticket.0 ≡ true)))
 
 -- a tenure is asked for with just its folder
 abbrev pub ForTenure : Bool → List Want → Type 0
@@ -44,7 +44,7 @@ ForTenure tenure wants = tenure ≡ true → (f : FolderName) × (wants ≡ tenu
 abbrev pub Its : Machine → NodeId → Life → ℕ → Grant → Type 0
 Its m n l a g = In (Granted g) m.made × (g.node ≡ n) × (g.life ≡ l) × (g.ask.0 ≡ a)
 
-abbrev pub StateOk : Machine → NodeId → Life → ℕ → AskState → Type 0
+abbrev pub StateOk : Machine → NodeId → Life → ℕ → KeptAsk → Type 0
 StateOk m n l a (Open wants tenure) = ForTenure tenure wants
 StateOk m n l a (Holding wants g r) = Its m n l a g × Answers g wants
 StateOk m n l a (Running wants g r) = Its m n l a g × Answers g wants
@@ -52,14 +52,14 @@ StateOk m n l a (Finished wants g news) = Its m n l a g × Answers g wants × (s
 StateOk m n l a (Over how) = ⊤
 
 -- the ask is open, granted or running, and has the want
-abbrev pub WantsNow : AskState → Want → Type 0
+abbrev pub WantsNow : KeptAsk → Want → Type 0
 WantsNow (Open wants tenure) w = In w wants
 WantsNow (Holding wants g r) w = In w wants
 WantsNow (Running wants g r) w = In w wants
 WantsNow (Finished wants g news) w = ⊥
 WantsNow (Over how) w = ⊥
 
-abbrev pub for_tenure : AskState → Bool
+abbrev pub for_tenure : KeptAsk → Bool
 for_tenure (Open wants tenure) = tenure
 for_tenure (Holding wants g r) = g.tenure
 for_tenure (Running wants g r) = g.tenure
@@ -67,15 +67,15 @@ for_tenure (Finished wants g news) = g.tenure
 for_tenure (Over how) = false
 
 -- a tenure of the folder is in use
-abbrev pub HasTenure : List AskState → FolderName → Type 0
+abbrev pub HasTenure : List KeptAsk → FolderName → Type 0
 HasTenure asks f = (b : ℕ) × (wants : List Want) × (g : Grant) × (r : Bool) × (v : Want) × (nth asks b ≡ Some (Running wants g r)) × (g.tenure ≡ true) × In v wants × (v.folder ≡ f)
 
 -- each ask with a SHARED want, but the tenures themselves, is where its tenure is in use
-abbrev pub AtHome : List AskState → Type 0
-AtHome asks = (a : ℕ) (s : AskState) (w : Want) → nth asks a ≡ Some s → WantsNow s w → wants_shared w ≡ true → for_tenure s ≡ false → HasTenure asks w.folder
+abbrev pub AtHome : List KeptAsk → Type 0
+AtHome asks = (a : ℕ) (s : KeptAsk) (w : Want) → nth asks a ≡ Some s → WantsNow s w → wants_shared w ≡ true → for_tenure s ≡ false → HasTenure asks w.folder
 
 pub record NodeOk (sha : List ℕ → Digest) (m : Machine) (n : NodeId) (x : Node) : Type 0 where
-  pub states : (a : ℕ) (s : AskState) → nth x.asks a ≡ Some s → StateOk m n x.life a s
+  pub states : (a : ℕ) (s : KeptAsk) → nth x.asks a ≡ Some s → StateOk m n x.life a s
   pub known : (s : Slot) (k : ℕ) (d : Digest) → x.known s k ≡ Some d → Names (sha []) (line (sha []) m s) k d
   pub stored : (d : Digest) (c : List ℕ) → x.store d ≡ Some c → sha c ≡ d
   pub homes : AtHome x.asks
@@ -164,7 +164,7 @@ fate_later nodes nodes' g Died ahead h = (let le : (nodes g.node.0).life.0 ≤ (
 its_later : (empty : Digest) (m m' : Machine) (n : NodeId) (l : Life) (a : ℕ) (g : Grant) → Later empty m m' → Its m n l a g → Its m' n l a g
 its_later empty m m' n l a g later h = (later.made (Granted g) h.0, h.1, h.2, h.3)
 
-state_later : (empty : Digest) (m m' : Machine) (n : NodeId) (l : Life) (a : ℕ) (s : AskState) → Later empty m m' → StateOk m n l a s → StateOk m' n l a s
+state_later : (empty : Digest) (m m' : Machine) (n : NodeId) (l : Life) (a : ℕ) (s : KeptAsk) → Later empty m m' → StateOk m n l a s → StateOk m' n l a s
 state_later empty m m' n l a (Open wants tenure) later h = h
 state_later empty m m' n l a (Holding wants g r) later h = (its_later empty m m' n l a g later h.0, h.1)
 state_later empty m m' n l a (Running wants g r) later h = (its_later empty m m' n l a g later h.0, h.1)

@@ -11,7 +11,7 @@ use Rattle.farm_base.specs.declared.message.Why.{Why}
 use Rattle.protocol.specs.declared.answer.How.TheVariants as how
 use Rattle.protocol.specs.declared.answer.NodeRefusal.{NodeRefusal}
 use Rattle.protocol.specs.Ledger.{Limits}
-use Rattle.protocol.specs.World.{AskState, Open, Holding, Running, Finished, Over, Node, World, keeps, learn_bases, learn_versions, keep, has_life, IsTenureOf, Asked_tenure, Held_tenure, Running_tenure, Finished_tenure, RunsTenure, Uses, Open_uses, Held_uses, Running_uses, Idle, Act, Asks, Asks_tenure, Asks_again, Greets, Takes, Gives_back, Begins, Finishes, Gives_up, Sends_commit, Learns, Drops, Is_denied, Is_recalled, Is_recalled_running, Stores, Asks_content, Sends_blob, Restarts, Stops, Node_moves, Moves, Still, Then}
+use Rattle.protocol.specs.World.{KeptAsk, Open, Holding, Running, Finished, Over, Node, World, keeps, learn_bases, learn_versions, keep, has_life, IsTenureOf, Asked_tenure, Held_tenure, Running_tenure, Finished_tenure, RunsTenure, Uses, Open_uses, Held_uses, Running_uses, Idle, Act, Asks, Asks_tenure, Asks_again, Greets, Takes, Gives_back, Begins, Finishes, Gives_up, Sends_commit, Learns, Drops, Is_denied, Is_recalled, Is_recalled_running, Stores, Asks_content, Sends_blob, Restarts, Stops, Node_moves, Moves, Still, Then}
 use Rattle.protocol.specs.Nodes.{NodeWork, NodeAnswer, guard, Place, wants_folder, is_tenure_of, is_home_of, uses, at_home, others_use, in_use, Held, Sent, first, first_of, under, held, running, held_or_running, finished, recalled_if, recallable, is_stored, all_stored, is_missing, others, fetches_of, fetches, is_base, asked, asked_tenure, beginning, begun, Left, news_of, stored, leaving, finishing, finished_with, aborting, aborted, again, all_again, resent, restarted, gives_back, granted, learned, dropped, denied, recalled, of_life, heard, fetched, brought, unless_spent}
 use Rattle.farm_base.proofs.CompareLaws.{digest_exact}
 use Rattle.protocol.proofs.Base.{cases_bool, cases_nat, true_false, not_true, not_false, and_both, or_false, none_some, some_is, eqb_is, eqb_apart, folder_eq_same, life_is, ticket_is, in_append, in_one, from_map, any_in, any_none, from_any, put_same, put_other, nth_in}
@@ -37,7 +37,7 @@ get_from x [] i = absurd i
 get_from x (y ∷ ys) (inl e) = (0, ap Some (sym e))
 get_from x (y ∷ ys) (inr i) = (let r = get_from x ys i in (suc r.0, r.1))
 
-home_runs : (f : FolderName) (s : AskState) → is_home_of f s ≡ true → (wants : List Want) × (g : Grant) × (w : Want) × (s ≡ Running wants g false) × (g.tenure ≡ true) × In w wants × (w.folder ≡ f)
+home_runs : (f : FolderName) (s : KeptAsk) → is_home_of f s ≡ true → (wants : List Want) × (g : Grant) × (w : Want) × (s ≡ Running wants g false) × (g.tenure ≡ true) × In w wants × (w.folder ≡ f)
 home_runs f (Open wants tenure) h = (let bad : false ≡ true = h in cc)
 home_runs f (Holding wants g r) h = (let bad : false ≡ true = h in cc)
 home_runs f (Running wants g true) h = (let bad : false ≡ true = h in cc)
@@ -45,26 +45,26 @@ home_runs f (Running wants g false) h = (let b = and_both g.tenure (wants_folder
 home_runs f (Finished wants g news) h = (let bad : false ≡ true = h in cc)
 home_runs f (Over how) h = (let bad : false ≡ true = h in cc)
 
-pub some_home : (f : FolderName) (asks : List AskState) → list_any (is_home_of f) asks ≡ true → RunsTenure asks f false
+pub some_home : (f : FolderName) (asks : List KeptAsk) → list_any (is_home_of f) asks ≡ true → RunsTenure asks f false
 some_home f asks h =
     let r = from_any (is_home_of f) asks h in
     let o = home_runs f r.0 r.2 in
     let at = get_from r.0 asks r.1 in
     (suc at.0, o.0, o.1, o.2, at.1 ∙ ap Some o.3, o.4, o.5, o.6)
 
-pub tenure_test : (f : FolderName) (s : AskState) → IsTenureOf f s → is_tenure_of f s ≡ true
+pub tenure_test : (f : FolderName) (s : KeptAsk) → IsTenureOf f s → is_tenure_of f s ≡ true
 tenure_test f s (Asked_tenure w wants i e) = wants_folder_is f wants w i e
 tenure_test f s (Held_tenure w wants g r i e t) = (let v = wants_folder_is f wants w i e in rw (t, v) refl)
 tenure_test f s (Running_tenure w wants g r i e t) = (let v = wants_folder_is f wants w i e in rw (t, v) refl)
 tenure_test f s (Finished_tenure w wants g news i e t) = (let v = wants_folder_is f wants w i e in rw (t, v) refl)
 
-uses_test : (f : FolderName) (s : AskState) → Uses f s → uses f s ≡ true
+uses_test : (f : FolderName) (s : KeptAsk) → Uses f s → uses f s ≡ true
 uses_test f s (Open_uses w wants tenure i e) = wants_folder_is f wants w i e
 uses_test f s (Held_uses w wants g r i e) = wants_folder_is f wants w i e
 uses_test f s (Running_uses w wants g r i e) = wants_folder_is f wants w i e
 
 -- no other ask uses the folders
-others_none : (a : ℕ) (wants : List Want) (ss : List AskState) (k : ℕ) → others_use a wants ss k ≡ false → (j : ℕ) (s : AskState) → slice_get ss j ≡ Some s → k + j + 1 ≢ a → list_any (λ (w : Want). uses w.folder s) wants ≡ false
+others_none : (a : ℕ) (wants : List Want) (ss : List KeptAsk) (k : ℕ) → others_use a wants ss k ≡ false → (j : ℕ) (s : KeptAsk) → slice_get ss j ≡ Some s → k + j + 1 ≢ a → list_any (λ (w : Want). uses w.folder s) wants ≡ false
 others_none a wants [] k h j s e ne = none_some s e
 others_none a wants (x ∷ xs) k h zero s e ne =
     let o = or_false (not (eqb (k + 1) a) && list_any (λ (w : Want). uses w.folder x) wants) (others_use a wants xs (k + 1)) h in
@@ -75,7 +75,7 @@ others_none a wants (x ∷ xs) k h (suc j) s e ne =
     let o = or_false (not (eqb (k + 1) a) && list_any (λ (w : Want). uses w.folder x) wants) (others_use a wants xs (k + 1)) h in
     others_none a wants xs (k + 1) o.1 j s e (λ q. ne (let z : k + suc j + 1 ≡ k + 1 + j + 1 = omega arith in z ∙ q))
 
-pub idle_from : (asks : List AskState) (a : ℕ) (wants : List Want) (g : Grant) → in_use asks a wants g ≡ false → Idle asks a wants g
+pub idle_from : (asks : List KeptAsk) (a : ℕ) (wants : List Want) (g : Grant) → in_use asks a wants g ≡ false → Idle asks a wants g
 idle_from asks a wants g h tenure w i zero s e ne u = none_some s e
 idle_from asks a wants g h tenure w i (suc b) s e ne u =
     let others : others_use a wants asks 0 ≡ false = rw tenure at h in
@@ -84,10 +84,10 @@ idle_from asks a wants g h tenure w i (suc b) s e ne u =
 
 -- ---- the first ask that a test picks
 
-abbrev FirstAt : {A : Type 0} → (AskState → Option A) → List AskState → ℕ → ℕ × A → Type 0
-FirstAt test ss k r = (j : ℕ) × (s : AskState) × (r.0 ≡ k + j + 1) × (slice_get ss j ≡ Some s) × (test s ≡ Some r.1)
+abbrev FirstAt : {A : Type 0} → (KeptAsk → Option A) → List KeptAsk → ℕ → ℕ × A → Type 0
+FirstAt test ss k r = (j : ℕ) × (s : KeptAsk) × (r.0 ≡ k + j + 1) × (slice_get ss j ≡ Some s) × (test s ≡ Some r.1)
 
-first_by : {A : Type 0} (test : AskState → Option A) (s : AskState) (ss : List AskState) (k : ℕ) (r : ℕ × A) (o : Option A) → test s ≡ o → (first test ss (k + 1) ≡ Some r → FirstAt test ss (k + 1) r) → first_of (k + 1) o (first test ss (k + 1)) ≡ Some r → FirstAt test (s ∷ ss) k r
+first_by : {A : Type 0} (test : KeptAsk → Option A) (s : KeptAsk) (ss : List KeptAsk) (k : ℕ) (r : ℕ × A) (o : Option A) → test s ≡ o → (first test ss (k + 1) ≡ Some r → FirstAt test ss (k + 1) r) → first_of (k + 1) o (first test ss (k + 1)) ≡ Some r → FirstAt test (s ∷ ss) k r
 first_by {A} test s ss k r (Some v) t rest e =
     let is : (k + 1, v) ≡ r = some_is (k + 1, v) r e in
     let n : k + 1 ≡ r.0 = ap (λ (z : ℕ × A). z.0) is in
@@ -97,12 +97,12 @@ first_by {A} test s ss k r None t rest e =
     let n : r.0 ≡ k + 1 + q.0 + 1 = q.2 in
     (suc q.0, q.1, omega arith, q.3, q.4)
 
-first_is : {A : Type 0} (test : AskState → Option A) (ss : List AskState) (k : ℕ) (r : ℕ × A) → first test ss k ≡ Some r → FirstAt test ss k r
+first_is : {A : Type 0} (test : KeptAsk → Option A) (ss : List KeptAsk) (k : ℕ) (r : ℕ × A) → first test ss k ≡ Some r → FirstAt test ss k r
 first_is test [] k r e = none_some r e
 first_is test (s ∷ ss) k r e = first_by test s ss k r (test s) refl (first_is test ss (k + 1) r) e
 
 -- the same from the first on
-pub found : {A : Type 0} (test : AskState → Option A) (asks : List AskState) (r : ℕ × A) → first test asks 0 ≡ Some r → (s : AskState) × (nth asks r.0 ≡ Some s) × (test s ≡ Some r.1)
+pub found : {A : Type 0} (test : KeptAsk → Option A) (asks : List KeptAsk) (r : ℕ × A) → first test asks 0 ≡ Some r → (s : KeptAsk) × (nth asks r.0 ≡ Some s) × (test s ≡ Some r.1)
 found test asks r e =
     let q = first_is test asks 0 r e in
     let n : suc q.0 ≡ r.0 = (let m : r.0 ≡ 0 + q.0 + 1 = q.2 in omega arith) in
@@ -114,7 +114,7 @@ under_is g t x y e = elim (cases_bool (eqb g.ticket.0 t.0)) [
   | inr b ↦ none_some y (rw b at e)
 ]
 
-pub held_is : (t : Ticket) (s : AskState) (h : Held) → held t s ≡ Some h → (s ≡ Holding h.wants h.grant h.recalled) × (h.grant.ticket ≡ t)
+pub held_is : (t : Ticket) (s : KeptAsk) (h : Held) → held t s ≡ Some h → (s ≡ Holding h.wants h.grant h.recalled) × (h.grant.ticket ≡ t)
 held_is t (Open wants tenure) h e = none_some h e
 held_is t (Holding wants g r) h e = (let u = under_is g t (record { wants = wants; grant = g; recalled = r }) h e in
     (ap (λ (z : Held). Holding z.wants z.grant z.recalled) u.1, ap (λ (z : Held). z.grant.ticket) (sym u.1) ∙ u.0))
@@ -122,7 +122,7 @@ held_is t (Running wants g r) h e = none_some h e
 held_is t (Finished wants g news) h e = none_some h e
 held_is t (Over how) h e = none_some h e
 
-pub running_is : (t : Ticket) (s : AskState) (h : Held) → running t s ≡ Some h → (s ≡ Running h.wants h.grant h.recalled) × (h.grant.ticket ≡ t)
+pub running_is : (t : Ticket) (s : KeptAsk) (h : Held) → running t s ≡ Some h → (s ≡ Running h.wants h.grant h.recalled) × (h.grant.ticket ≡ t)
 running_is t (Open wants tenure) h e = none_some h e
 running_is t (Holding wants g r) h e = none_some h e
 running_is t (Running wants g r) h e = (let u = under_is g t (record { wants = wants; grant = g; recalled = r }) h e in
@@ -130,14 +130,14 @@ running_is t (Running wants g r) h e = (let u = under_is g t (record { wants = w
 running_is t (Finished wants g news) h e = none_some h e
 running_is t (Over how) h e = none_some h e
 
-pub either_is : (t : Ticket) (s : AskState) (h : Held) → held_or_running t s ≡ Some h → ((s ≡ Holding h.wants h.grant h.recalled) ⊎ (s ≡ Running h.wants h.grant h.recalled)) × (h.grant.ticket ≡ t)
+pub either_is : (t : Ticket) (s : KeptAsk) (h : Held) → held_or_running t s ≡ Some h → ((s ≡ Holding h.wants h.grant h.recalled) ⊎ (s ≡ Running h.wants h.grant h.recalled)) × (h.grant.ticket ≡ t)
 either_is t (Open wants tenure) h e = none_some h e
 either_is t (Holding wants g r) h e = (let u = under_is g t (record { wants = wants; grant = g; recalled = r }) h e in (inl (ap (λ (z : Held). Holding z.wants z.grant z.recalled) u.1), ap (λ (z : Held). z.grant.ticket) (sym u.1) ∙ u.0))
 either_is t (Running wants g r) h e = (let u = under_is g t (record { wants = wants; grant = g; recalled = r }) h e in (inr (ap (λ (z : Held). Running z.wants z.grant z.recalled) u.1), ap (λ (z : Held). z.grant.ticket) (sym u.1) ∙ u.0))
 either_is t (Finished wants g news) h e = none_some h e
 either_is t (Over how) h e = none_some h e
 
-pub finished_is : (t : Ticket) (s : AskState) (h : Sent) → finished t s ≡ Some h → (s ≡ Finished h.wants h.grant h.news) × (h.grant.ticket ≡ t)
+pub finished_is : (t : Ticket) (s : KeptAsk) (h : Sent) → finished t s ≡ Some h → (s ≡ Finished h.wants h.grant h.news) × (h.grant.ticket ≡ t)
 finished_is t (Open wants tenure) h e = none_some h e
 finished_is t (Holding wants g r) h e = none_some h e
 finished_is t (Running wants g r) h e = none_some h e
@@ -145,14 +145,14 @@ finished_is t (Finished wants g news) h e = (let u = under_is g t (record { want
     (ap (λ (z : Sent). Finished z.wants z.grant z.news) u.1, ap (λ (z : Sent). z.grant.ticket) (sym u.1) ∙ u.0))
 finished_is t (Over how) h e = none_some h e
 
-recalled_if_is : (b : Bool) (s x : AskState) → recalled_if b s ≡ Some x → (b ≡ true) × (s ≡ x)
+recalled_if_is : (b : Bool) (s x : KeptAsk) → recalled_if b s ≡ Some x → (b ≡ true) × (s ≡ x)
 recalled_if_is true s x e = (refl, some_is s x e)
 recalled_if_is false s x e = none_some x e
 
-abbrev Recalls : Ticket → AskState → AskState → Type 0
+abbrev Recalls : Ticket → KeptAsk → KeptAsk → Type 0
 Recalls t s x = (wants : List Want) × (g : Grant) × (g.ticket ≡ t) × (((s ≡ Holding wants g false) × (x ≡ Holding wants g true)) ⊎ ((s ≡ Running wants g false) × (x ≡ Running wants g true)))
 
-pub recallable_is : (t : Ticket) (s x : AskState) → recallable t s ≡ Some x → Recalls t s x
+pub recallable_is : (t : Ticket) (s x : KeptAsk) → recallable t s ≡ Some x → Recalls t s x
 recallable_is t (Open wants tenure) x e = none_some x e
 recallable_is t (Holding wants g r) x e =
     let u = recalled_if_is ((eqb g.ticket.0 t.0) && g.tenure && not r) (Holding wants g true) x e in
@@ -171,14 +171,14 @@ recallable_is t (Over how) x e = none_some x e
 
 stored_ok : (sha : List ℕ → Digest) (lefts : List Left) (store : Digest → Option (List ℕ)) (d : Digest) (c : List ℕ) → stored sha lefts store d ≡ Some c → ((store d ≡ Some c) ⊎ (sha c ≡ d))
 stored_ok sha [] store d c e = inl e
-stored_ok sha (x ∷ xs) store d c e = elim (cases_bool (is_some (store (sha x.content)))) [
+stored_ok sha (x ∷ xs) store d c e = elim (cases_bool (is_some (store (sha x.1)))) [
   | inl t ↦ stored_ok sha xs store d c (rw t at e)
-  | inr t ↦ elim (stored_ok sha xs (keep (sha x.content) x.content store) d c (rw t at e)) [
+  | inr t ↦ elim (stored_ok sha xs (keep (sha x.1) x.1 store) d c (rw t at e)) [
     | inr same ↦ inr same
-    | inl old ↦ elim (cases_bool (digest_eq d (sha x.content))) [
-      | inl q ↦ (let is : keep (sha x.content) x.content store d ≡ Some x.content = rw q in
-          inr (ap sha (some_is c x.content (sym old ∙ is)) ∙ sym (digest_exact d (sha x.content) q)))
-      | inr q ↦ (let is : keep (sha x.content) x.content store d ≡ store d = rw q in inl (sym is ∙ old))
+    | inl old ↦ elim (cases_bool (digest_eq d (sha x.1))) [
+      | inl q ↦ (let is : keep (sha x.1) x.1 store d ≡ Some x.1 = rw q in
+          inr (ap sha (some_is c x.1 (sym old ∙ is)) ∙ sym (digest_exact d (sha x.1) q)))
+      | inr q ↦ (let is : keep (sha x.1) x.1 store d ≡ store d = rw q in inl (sym is ∙ old))
     ]
   ]
 ]
@@ -334,7 +334,7 @@ module _ (sha : List ℕ → Digest) (u : World) (n : NodeId) where
   begun_does t = on_guard here.spent _ _ (λ up. beginning_does t (first (held t) here.asks 0) refl)
 
   some_news : (l : Left) (ls : List Left) → news_of sha (l ∷ ls) ≢ []
-  some_news l ls e = (let bad : record { slot = l.slot; digest = sha l.content } ∷ news_of sha ls ≡ [] = e in cc)
+  some_news l ls e = (let bad : record { slot = l.0; digest = sha l.1 } ∷ news_of sha ls ≡ [] = e in cc)
 
   leaving_does : (size : ℕ) (a : ℕ) (h : Held) (lefts : List Left) → nth here.asks a ≡ Some (Running h.wants h.grant h.recalled) → Idle here.asks a h.wants h.grant → slots_of (news_of sha lefts) ≡ written h.grant.slots
       → OnAnswer (Ok (leaving sha (at size) a h lefts here))
@@ -377,18 +377,18 @@ module _ (sha : List ℕ → Digest) (u : World) (n : NodeId) where
   length-push [] x = refl
   length-push (y ∷ ys) x = (let e : length (ys ++ x ∷ []) ≡ length ys + 1 = length-push ys x in (let r : suc (length (ys ++ x ∷ [])) ≡ suc (length ys) + 1 = omega arith in r))
 
-  again_does : (k : Limits) (size : ℕ) (a : ℕ) (s : AskState) (sends : List Message) → nth here.asks a ≡ Some s → Reached sha u n sends here → Reached sha u n (sends ++ again k (at size) here (record { 0 = a }) s) here
+  again_does : (k : Limits) (size : ℕ) (a : ℕ) (s : KeptAsk) (sends : List Message) → nth here.asks a ≡ Some s → Reached sha u n sends here → Reached sha u n (sends ++ again k (at size) here (record { 0 = a }) s) here
   again_does k size a (Open wants tenure) sends e r = then_does sends (acquire n here.life (record { 0 = a }) wants tenure ∷ []) here here r (Asks_again (record { 0 = a }) wants tenure e)
   again_does k size a (Holding wants g q) sends e r = then_fetches sends (fetches k (at size) here g.slots) here (fetches_all k size here g.slots) r
   again_does k size a (Running wants g q) sends e r = subst (λ l. Reached sha u n l here) (sym (append-nil sends)) r
   again_does k size a (Finished wants g news) sends e r = then_does sends (commit n here.life g.ticket news ∷ []) here here r (Sends_commit wants g a news e)
   again_does k size a (Over how) sends e r = subst (λ l. Reached sha u n l here) (sym (append-nil sends)) r
 
-  all_again_does : (k : Limits) (size : ℕ) (front ss : List AskState) (sends : List Message) → here.asks ≡ front ++ ss → Reached sha u n sends here → Reached sha u n (sends ++ all_again k (at size) here ss (length front)) here
+  all_again_does : (k : Limits) (size : ℕ) (front ss : List KeptAsk) (sends : List Message) → here.asks ≡ front ++ ss → Reached sha u n sends here → Reached sha u n (sends ++ all_again k (at size) here ss (length front)) here
   all_again_does k size front [] sends e r = subst (λ l. Reached sha u n l here) (sym (append-nil sends)) r
   all_again_does k size front (s ∷ ss) sends e r =
       let a : ℕ = length front + 1 in
-      let place : nth here.asks a ≡ Some s = subst (λ z. nth here.asks z ≡ Some s) (let q : suc (length front) ≡ length front + 1 = omega arith in q) (subst (λ (l : List AskState). slice_get l (length front) ≡ Some s) (sym e) (get_at front s ss)) in
+      let place : nth here.asks a ≡ Some s = subst (λ z. nth here.asks z ≡ Some s) (let q : suc (length front) ≡ length front + 1 = omega arith in q) (subst (λ (l : List KeptAsk). slice_get l (length front) ≡ Some s) (sym e) (get_at front s ss)) in
       let one = again_does k size a s sends place r in
       let rest = all_again_does k size (front ++ s ∷ []) ss (sends ++ again k (at size) here (record { 0 = a }) s) (e ∙ sym (append_assoc front (s ∷ []) ss)) one in
       let rest' : Reached sha u n ((sends ++ again k (at size) here (record { 0 = a }) s) ++ all_again k (at size) here ss a) here = subst (λ z. Reached sha u n ((sends ++ again k (at size) here (record { 0 = a }) s) ++ all_again k (at size) here ss z) here) (length-push front s) rest in
@@ -409,11 +409,11 @@ module _ (sha : List ℕ → Digest) (u : World) (n : NodeId) where
   OnWork w = Reached sha u n w.sends w.node
 
   give_back_does : (size : ℕ) (g : Grant) (b : Bool) → In (Told (told.Granted g)) u.pool → g.node ≡ n → g.life ≡ here.life
-      → ((wants : List Want) (tenure : Bool) → nth here.asks g.ask.0 ≢ Some (Open wants tenure)) → ((s : AskState) → nth here.asks g.ask.0 ≡ Some s → keeps s g.ticket ≡ b) → OnWork (gives_back (at size) g b here)
+      → ((wants : List Want) (tenure : Bool) → nth here.asks g.ask.0 ≢ Some (Open wants tenure)) → ((s : KeptAsk) → nth here.asks g.ask.0 ≡ Some s → keeps s g.ticket ≡ b) → OnWork (gives_back (at size) g b here)
   give_back_does size g true i p q o keep' = nothing_done
   give_back_does size g false i p q o keep' = does (release n here.life g.ticket ∷ []) here (Gives_back g i p q o keep')
 
-  granted_does : (k : Limits) (size : ℕ) (g : Grant) (o : Option AskState) → In (Told (told.Granted g)) u.pool → g.node ≡ n → g.life ≡ here.life → nth here.asks g.ask.0 ≡ o → OnWork (granted k (at size) g here o)
+  granted_does : (k : Limits) (size : ℕ) (g : Grant) (o : Option KeptAsk) → In (Told (told.Granted g)) u.pool → g.node ≡ n → g.life ≡ here.life → nth here.asks g.ask.0 ≡ o → OnWork (granted k (at size) g here o)
   granted_does k size g None i p q e = give_back_does size g false i p q (λ ws t z. none_some (Open ws t) (sym e ∙ z)) (λ s z. none_some s (sym e ∙ z))
   granted_does k size g (Some (Open wants tenure)) i p q e =
       then_fetches [] (fetches k (at size) here g.slots) (record here { asks = set_nth here.asks g.ask.0 (Holding wants g false); known = learn_bases g.slots here.known })
@@ -440,7 +440,7 @@ module _ (sha : List ℕ → Digest) (u : World) (n : NodeId) where
       let i' : In (Told (told.Fenced n here.life r.1.grant.ticket)) u.pool = subst (λ z. In (Told (told.Fenced n z r.1.grant.ticket)) u.pool) q (subst (λ z. In (Told (told.Fenced n l z)) u.pool) (sym is.1) i) in
       does [] (record here { asks = set_nth here.asks r.0 (Over how.Fenced) }) (Drops r.1.wants r.1.grant r.0 r.1.news i' (f.1 ∙ ap Some is.0))
 
-  denied_does : (l : Life) (a : Ask) (why : Why) (o : Option AskState) → In (Told (told.Denied n l a why)) u.pool → l ≡ here.life → nth here.asks a.0 ≡ o → OnWork (denied a why here o)
+  denied_does : (l : Life) (a : Ask) (why : Why) (o : Option KeptAsk) → In (Told (told.Denied n l a why)) u.pool → l ≡ here.life → nth here.asks a.0 ≡ o → OnWork (denied a why here o)
   denied_does l a why None i q e = nothing_done
   denied_does l a why (Some (Open wants tenure)) i q e = does [] (record here { asks = set_nth here.asks a.0 (Over (how.Denied why)) }) (Is_denied a why wants tenure (subst (λ z. In (Told (told.Denied n z a why)) u.pool) q i) e)
   denied_does l a why (Some (Holding wants h r)) i q e = nothing_done
@@ -448,7 +448,7 @@ module _ (sha : List ℕ → Digest) (u : World) (n : NodeId) where
   denied_does l a why (Some (Finished wants h news)) i q e = nothing_done
   denied_does l a why (Some (Over how)) i q e = nothing_done
 
-  recalled_does : (l : Life) (t : Ticket) (o : Option (ℕ × AskState)) → In (Told (told.Recall n l t)) u.pool → l ≡ here.life → first (recallable t) here.asks 0 ≡ o → OnWork (recalled t here o)
+  recalled_does : (l : Life) (t : Ticket) (o : Option (ℕ × KeptAsk)) → In (Told (told.Recall n l t)) u.pool → l ≡ here.life → first (recallable t) here.asks 0 ≡ o → OnWork (recalled t here o)
   recalled_does l t None i q e = nothing_done
   recalled_does l t (Some r) i q e =
       let f = found (recallable t) here.asks r e in

@@ -11,7 +11,7 @@ use Rattle.farm_base.specs.declared.message.Why.{Why}
 use Rattle.protocol.specs.declared.answer.NodeRefusal.{NodeRefusal}
 use Rattle.protocol.specs.declared.answer.NodeRefusal.TheVariants as refusal
 use Rattle.protocol.specs.Ledger.{Limits}
-use Rattle.protocol.specs.World.{AskState, Open, Holding, Running, Finished, Over, Node, keeps, keep, RunsTenure, IsTenureOf, Asked_tenure, Held_tenure, Running_tenure, Finished_tenure, Uses, Open_uses, Held_uses, Running_uses, Idle}
+use Rattle.protocol.specs.World.{KeptAsk, Open, Holding, Running, Finished, Over, Node, keeps, keep, RunsTenure, IsTenureOf, Asked_tenure, Held_tenure, Running_tenure, Finished_tenure, Uses, Open_uses, Held_uses, Running_uses, Idle}
 use Rattle.protocol.specs.Nodes.{NodeWork, NodeAnswer, guard, Place, wants_folder, is_tenure_of, is_home_of, uses, at_home, others_use, in_use, Held, Sent, first, under, held, running, held_or_running, finished, recallable, is_stored, all_stored, is_base, asked, asked_tenure, beginning, begun, Left, news_of, stored, leaving, finishing, finished_with, aborting, aborted, again, all_again, resent, gives_back, granted, learned, dropped, denied, recalled, of_life, heard, fetched, brought, unless_spent}
 use Rattle.protocol.specs.Replay.{Event, Tenure, Deliver, Begin, Finish, Abort, Resend, Forge, told_to}
 use Rattle.protocol.specs.Replay as replay
@@ -38,27 +38,27 @@ not_all test (x ∷ xs) h = elim (cases_bool (test x)) [
   | inr f ↦ (x, inl refl, f)
 ]
 
-tenure_is : (f : FolderName) (s : AskState) → is_tenure_of f s ≡ true → IsTenureOf f s
+tenure_is : (f : FolderName) (s : KeptAsk) → is_tenure_of f s ≡ true → IsTenureOf f s
 tenure_is f (Open wants tenure) h = (let b = and_both tenure (wants_folder f wants) h in let w = wants_folder_in f wants b.1 in subst (λ t. IsTenureOf f (Open wants t)) (sym b.0) (Asked_tenure w.0 wants w.1 w.2))
 tenure_is f (Holding wants g r) h = (let b = and_both g.tenure (wants_folder f wants) h in let w = wants_folder_in f wants b.1 in Held_tenure w.0 wants g r w.1 w.2 b.0)
 tenure_is f (Running wants g r) h = (let b = and_both g.tenure (wants_folder f wants) h in let w = wants_folder_in f wants b.1 in Running_tenure w.0 wants g r w.1 w.2 b.0)
 tenure_is f (Finished wants g news) h = (let b = and_both g.tenure (wants_folder f wants) h in let w = wants_folder_in f wants b.1 in Finished_tenure w.0 wants g news w.1 w.2 b.0)
 tenure_is f (Over how) h = (let bad : false ≡ true = h in cc)
 
-uses_is : (f : FolderName) (s : AskState) → uses f s ≡ true → Uses f s
+uses_is : (f : FolderName) (s : KeptAsk) → uses f s ≡ true → Uses f s
 uses_is f (Open wants tenure) h = (let w = wants_folder_in f wants h in Open_uses w.0 wants tenure w.1 w.2)
 uses_is f (Holding wants g r) h = (let w = wants_folder_in f wants h in Held_uses w.0 wants g r w.1 w.2)
 uses_is f (Running wants g r) h = (let w = wants_folder_in f wants h in Running_uses w.0 wants g r w.1 w.2)
 uses_is f (Finished wants g news) h = (let bad : false ≡ true = h in cc)
 uses_is f (Over how) h = (let bad : false ≡ true = h in cc)
 
-home_is : (f : FolderName) (asks : List AskState) → RunsTenure asks f false → list_any (is_home_of f) asks ≡ true
+home_is : (f : FolderName) (asks : List KeptAsk) → RunsTenure asks f false → list_any (is_home_of f) asks ≡ true
 home_is f asks (a, wants, g, w, at, tenure, i, e) =
     let is : is_home_of f (Running wants g false) ≡ true = (let v = wants_folder_is f wants w i e in rw (tenure, v) refl) in
     any_in (is_home_of f) (Running wants g false) asks (nth_in asks a (Running wants g false) at) is
 
 -- an ask other than the a-th uses one of the folders
-others_some : (a : ℕ) (wants : List Want) (ss : List AskState) (k : ℕ) → others_use a wants ss k ≡ true → (j : ℕ) × (s : AskState) × (w : Want) × (slice_get ss j ≡ Some s) × (k + j + 1 ≢ a) × In w wants × (uses w.folder s ≡ true)
+others_some : (a : ℕ) (wants : List Want) (ss : List KeptAsk) (k : ℕ) → others_use a wants ss k ≡ true → (j : ℕ) × (s : KeptAsk) × (w : Want) × (slice_get ss j ≡ Some s) × (k + j + 1 ≢ a) × In w wants × (uses w.folder s ≡ true)
 others_some a wants [] k h = (let bad : false ≡ true = h in cc)
 others_some a wants (x ∷ xs) k h = elim (cases_bool (not (eqb (k + 1) a) && list_any (λ (w : Want). uses w.folder x) wants)) [
   | inl t ↦ (let b = and_both (not (eqb (k + 1) a)) (list_any (λ (w : Want). uses w.folder x) wants) t in
@@ -68,24 +68,24 @@ others_some a wants (x ∷ xs) k h = elim (cases_bool (not (eqb (k + 1) a) && li
       (suc r.0, r.1, r.2, r.3, λ e. r.4 (let z : k + 1 + r.0 + 1 ≡ k + suc r.0 + 1 = omega arith in z ∙ e), r.5, r.6))
 ]
 
-not_idle : (asks : List AskState) (a : ℕ) (wants : List Want) (g : Grant) → in_use asks a wants g ≡ true → Idle asks a wants g → ⊥
+not_idle : (asks : List KeptAsk) (a : ℕ) (wants : List Want) (g : Grant) → in_use asks a wants g ≡ true → Idle asks a wants g → ⊥
 not_idle asks a wants g h idle =
     let b = and_both g.tenure (others_use a wants asks 0) h in
     let r = others_some a wants asks 0 b.1 in
     idle b.0 r.2 r.5 (suc r.0) r.1 r.3 (λ e. r.4 (let z : 0 + r.0 + 1 ≡ suc r.0 = omega arith in z ∙ e)) (uses_is r.2.folder r.1 r.6)
 
-first_none : {A : Type 0} (test : AskState → Option A) (ss : List AskState) (k : ℕ) → first test ss k ≡ None → (j : ℕ) (s : AskState) → slice_get ss j ≡ Some s → test s ≡ None
+first_none : {A : Type 0} (test : KeptAsk → Option A) (ss : List KeptAsk) (k : ℕ) → first test ss k ≡ None → (j : ℕ) (s : KeptAsk) → slice_get ss j ≡ Some s → test s ≡ None
 first_none test [] k h j s e = none_some s e
 first_none {A} test (x ∷ xs) k h j s e = elim (cases_option (test x)) [
   | inr v ↦ (let bad : Some (k + 1, v.0) ≡ None = rw v.1 at h in none_some (k + 1, v.0) (sym bad))
   | inl none ↦ by j e none (first_none test xs (k + 1) (rw none at h))
 ]
   where
-    by : (j : ℕ) → slice_get (x ∷ xs) j ≡ Some s → test x ≡ None → ((j : ℕ) (s : AskState) → slice_get xs j ≡ Some s → test s ≡ None) → test s ≡ None
+    by : (j : ℕ) → slice_get (x ∷ xs) j ≡ Some s → test x ≡ None → ((j : ℕ) (s : KeptAsk) → slice_get xs j ≡ Some s → test s ≡ None) → test s ≡ None
     by zero e none rest = ap test (sym (some_is x s e)) ∙ none
     by (suc j) e none rest = rest j s e
 
-none_at : {A : Type 0} (test : AskState → Option A) (asks : List AskState) → first test asks 0 ≡ None → (a : ℕ) (s : AskState) → nth asks a ≡ Some s → test s ≡ None
+none_at : {A : Type 0} (test : KeptAsk → Option A) (asks : List KeptAsk) → first test asks 0 ≡ None → (a : ℕ) (s : KeptAsk) → nth asks a ≡ Some s → test s ≡ None
 none_at test asks h zero s e = none_some s e
 none_at test asks h (suc a) s e = first_none test asks 0 h a s e
 
@@ -114,10 +114,10 @@ not_some : (o : Option (List ℕ)) → is_some o ≡ false → o ≡ None
 not_some None h = refl
 not_some (Some c) h = (let bad : true ≡ false = h in cc)
 
-all_stored_so : (sha : List ℕ → Digest) (lefts : List Left) (store : Digest → Option (List ℕ)) → Stored sha (map (λ (z : Left). z.content) lefts) store (stored sha lefts store)
+all_stored_so : (sha : List ℕ → Digest) (lefts : List Left) (store : Digest → Option (List ℕ)) → Stored sha (map (λ (z : Left). z.1) lefts) store (stored sha lefts store)
 all_stored_so sha [] store = record { kept = λ d c e. e; named = λ d c e. inl e; all = λ c i. absurd i }
-all_stored_so sha (x ∷ xs) store = elim (cases_bool (is_some (store (sha x.content)))) [
-  | inl t ↦ (let r = all_stored_so sha xs store in let old = stored_some (store (sha x.content)) t in rw t (record {
+all_stored_so sha (x ∷ xs) store = elim (cases_bool (is_some (store (sha x.1)))) [
+  | inl t ↦ (let r = all_stored_so sha xs store in let old = stored_some (store (sha x.1)) t in rw t (record {
     kept = r.kept;
     named = λ d c e. elim (r.named d c e) [ inl o ↦ inl o | inr n ↦ inr (inr n.0, n.1) ];
     all = λ c i. elim i [
@@ -125,16 +125,16 @@ all_stored_so sha (x ∷ xs) store = elim (cases_bool (is_some (store (sha x.con
       | inr j ↦ r.all c j
     ];
   }))
-  | inr f ↦ (let none = not_some (store (sha x.content)) f in
-      let store' : Digest → Option (List ℕ) = keep (sha x.content) x.content store in
+  | inr f ↦ (let none = not_some (store (sha x.1)) f in
+      let store' : Digest → Option (List ℕ) = keep (sha x.1) x.1 store in
       let r = all_stored_so sha xs store' in rw f (record {
-        kept = λ d c e. r.kept d c (keep_kept (sha x.content) d x.content c store none e);
+        kept = λ d c e. r.kept d c (keep_kept (sha x.1) d x.1 c store none e);
         named = λ d c e. elim (r.named d c e) [
-          | inl o ↦ elim (keep_named (sha x.content) d x.content c store o) [ inl q ↦ inl q | inr q ↦ inr (inl q.1, ap sha q.1 ∙ sym q.0) ]
+          | inl o ↦ elim (keep_named (sha x.1) d x.1 c store o) [ inl q ↦ inl q | inr q ↦ inr (inl q.1, ap sha q.1 ∙ sym q.0) ]
           | inr n ↦ inr (inr n.0, n.1)
         ];
         all = λ c i. elim i [
-          | inl e ↦ (x.content, r.kept (sha c) x.content (ap (λ z. store' (sha z)) e ∙ keep-same (sha x.content) x.content store))
+          | inl e ↦ (x.1, r.kept (sha c) x.1 (ap (λ z. store' (sha z)) e ∙ keep-same (sha x.1) x.1 store))
           | inr j ↦ r.all c j
         ];
       }))
@@ -248,9 +248,9 @@ module _ (sha : List ℕ → Digest) (k : Limits) (n : NodeId) (size : ℕ) (x :
   pub begun_exact : (t : Ticket) → Exact None (Begin n t) (begun t x)
   begun_exact t = on_guard None (Begin n t) x.spent refusal.LivesSpent _ (λ down. down) (λ up. beginning_exact t (first (held t) x.asks 0) refl up)
 
-  slots-left : (lefts : List Left) → slots_of (news_of sha lefts) ≡ map (λ (z : Left). z.slot) lefts
+  slots-left : (lefts : List Left) → slots_of (news_of sha lefts) ≡ map (λ (z : Left). z.0) lefts
   slots-left [] = refl
-  slots-left (l ∷ ls) = (let r = slots-left ls in λ i. l.slot ∷ r i)
+  slots-left (l ∷ ls) = (let r = slots-left ls in λ i. l.0 ∷ r i)
 
   leaving_means : (t : Ticket) (lefts : List Left) (a : ℕ) (h : Held) → nth x.asks a ≡ Some (Running h.wants h.grant h.recalled) → h.grant.ticket ≡ t → slots_of (news_of sha lefts) ≡ written h.grant.slots → Means None (Finish n t lefts) (leaving sha at a h lefts x)
   leaving_means t [] a h at' ticket slots = (a, h.wants, h.grant, h.recalled, at', refl, (refl, refl))
@@ -301,7 +301,7 @@ module _ (sha : List ℕ → Digest) (k : Limits) (n : NodeId) (size : ℕ) (x :
       ))
     where
       -- the two asks are one
-      same_idle : (a b : ℕ) (s s' : AskState) (wants wants' : List Want) (g g' : Grant) → nth x.asks a ≡ Some s → nth x.asks b ≡ Some s' → GrantOf s g → GrantOf s' g' → g.ticket ≡ g'.ticket → (s ≡ s' → (wants ≡ wants') × (g ≡ g')) → Idle x.asks a wants g → Idle x.asks b wants' g'
+      same_idle : (a b : ℕ) (s s' : KeptAsk) (wants wants' : List Want) (g g' : Grant) → nth x.asks a ≡ Some s → nth x.asks b ≡ Some s' → GrantOf s g → GrantOf s' g' → g.ticket ≡ g'.ticket → (s ≡ s' → (wants ≡ wants') × (g ≡ g')) → Idle x.asks a wants g → Idle x.asks b wants' g'
       same_idle a b s s' wants wants' g g' i j p q t parts idle =
           (let same : a ≡ b = one a b s s' g g' i j p q t in
           let is = parts (some_is s s' (sym i ∙ ap (nth x.asks) same ∙ j)) in
@@ -349,7 +349,7 @@ module _ (sha : List ℕ → Digest) (k : Limits) (n : NodeId) (size : ℕ) (x :
   resend_spent r h = absurd h
 
   -- the i-th ask sends again what it has to
-  again_sent : (ss : List AskState) (i : ℕ) (j : ℕ) (s : AskState) (m : Message) → slice_get ss j ≡ Some s → In m (again k at x (record { 0 = i + j + 1 }) s) → In m (all_again k at x ss i)
+  again_sent : (ss : List KeptAsk) (i : ℕ) (j : ℕ) (s : KeptAsk) (m : Message) → slice_get ss j ≡ Some s → In m (again k at x (record { 0 = i + j + 1 }) s) → In m (all_again k at x ss i)
   again_sent [] i j s m e h = none_some s e
   again_sent (y ∷ ys) i zero s m e h =
       let here : In m (again k at x (record { 0 = i + 0 + 1 }) y) = subst (λ z. In m (again k at x (record { 0 = i + 0 + 1 }) z)) (sym (some_is y s e)) h in
@@ -359,7 +359,7 @@ module _ (sha : List ℕ → Digest) (k : Limits) (n : NodeId) (size : ℕ) (x :
       let same : i + suc j + 1 ≡ i + 1 + j + 1 = omega arith in
       in_right m (again k at x (record { 0 = i + 1 }) y) _ (again_sent ys (i + 1) j s m e (subst (λ z. In m (again k at x (record { 0 = z }) s)) same h))
 
-  each_again : (a : ℕ) (s : AskState) (m : Message) → nth x.asks a ≡ Some s → In m (again k at x (record { 0 = a }) s) → In m (hello n x.life ∷ all_again k at x x.asks 0)
+  each_again : (a : ℕ) (s : KeptAsk) (m : Message) → nth x.asks a ≡ Some s → In m (again k at x (record { 0 = a }) s) → In m (hello n x.life ∷ all_again k at x x.asks 0)
   each_again zero s m e h = none_some s e
   each_again (suc j) s m e h = (let same : suc j ≡ 0 + j + 1 = omega arith in inr (again_sent x.asks 0 j s m e (subst (λ z. In m (again k at x (record { 0 = z }) s)) same h)))
 
@@ -383,7 +383,7 @@ module _ (sha : List ℕ → Digest) (k : Limits) (n : NodeId) (size : ℕ) (x :
   gives_back_means g number true q = (refl, refl)
   gives_back_means g number false q = (g, refl, refl, q, refl, refl)
 
-  granted_means : (g : Grant) (number : ℕ) (o : Option AskState) → nth x.asks g.ask.0 ≡ o → g.life ≡ x.life → Heard (told.Granted g) number (granted k at g x o)
+  granted_means : (g : Grant) (number : ℕ) (o : Option KeptAsk) → nth x.asks g.ask.0 ≡ o → g.life ≡ x.life → Heard (told.Granted g) number (granted k at g x o)
   granted_means g number None e q = gives_back_means g number false q
   granted_means g number (Some (Open wants tenure)) e q = (refl, q, (wants, tenure, e, refl))
   granted_means g number (Some (Holding wants h r)) e q = gives_back_means g number (keeps (Holding wants h r) g.ticket) q
@@ -401,7 +401,7 @@ module _ (sha : List ℕ → Digest) (k : Limits) (n : NodeId) (size : ℕ) (x :
   dropped_means l t number (Some r) e q = (let f = found (finished t) x.asks r e in let is = finished_is t f.0 r.1 f.2 in
       (l, refl, q, (r.0, r.1.wants, r.1.grant, r.1.news, f.1 ∙ ap Some is.0, is.1, refl, refl)))
 
-  denied_means : (l : Life) (a : Ask) (why : Why) (number : ℕ) (o : Option AskState) → nth x.asks a.0 ≡ o → l ≡ x.life → Heard (told.Denied n l a why) number (denied a why x o)
+  denied_means : (l : Life) (a : Ask) (why : Why) (number : ℕ) (o : Option KeptAsk) → nth x.asks a.0 ≡ o → l ≡ x.life → Heard (told.Denied n l a why) number (denied a why x o)
   denied_means l a why number None e q = (refl, refl)
   denied_means l a why number (Some (Open wants tenure)) e q = (l, a, refl, q, (wants, tenure, e, refl, refl))
   denied_means l a why number (Some (Holding wants h r)) e q = (refl, refl)
@@ -409,7 +409,7 @@ module _ (sha : List ℕ → Digest) (k : Limits) (n : NodeId) (size : ℕ) (x :
   denied_means l a why number (Some (Finished wants h news)) e q = (refl, refl)
   denied_means l a why number (Some (Over how)) e q = (refl, refl)
 
-  recalled_means : (l : Life) (t : Ticket) (number : ℕ) (o : Option (ℕ × AskState)) → first (recallable t) x.asks 0 ≡ o → l ≡ x.life → Heard (told.Recall n l t) number (recalled t x o)
+  recalled_means : (l : Life) (t : Ticket) (number : ℕ) (o : Option (ℕ × KeptAsk)) → first (recallable t) x.asks 0 ≡ o → l ≡ x.life → Heard (told.Recall n l t) number (recalled t x o)
   recalled_means l t number None e q = (refl, refl)
   recalled_means l t number (Some r) e q =
       let f = found (recallable t) x.asks r e in

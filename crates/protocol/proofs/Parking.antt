@@ -5,7 +5,7 @@ use Rattle.std.specs.List.{list_any, find}
 use Rattle.std.specs.Prelude.{⊤, nat_lt, if◌then◌else◌}
 use Rattle.protocol.specs.Lists.{In, is_nil, nth}
 use Rattle.protocol.specs.Names.{Slot, is_private, only_slot, NodeId, Life, Ticket, Digest, Want, FolderName, leased_wants}
-use Rattle.protocol.specs.Machine.{Message, Said, Told, Fetches, Blob, ToCoord, Parked, News, cleared}
+use Rattle.protocol.specs.Machine.{Message, ToCoord, Parked, News, cleared}
 use Rattle.farm_base.specs.declared.message.Message.TheVariants as to
 use Rattle.farm_base.specs.declared.message.Request.{Request}
 use Rattle.farm_base.specs.declared.message.Request.TheVariants.{Hello, Acquire, Commit, Release}

@@ -5,7 +5,7 @@ use Rattle.protocol.specs.Lists.{In, nth}
 use Rattle.protocol.specs.Names.{Mode, Shared, Slot, IsInstance, is_alone, wants_shared, only_slot, Digest, NodeId, Life, Ticket, Want, FolderName, leased_wants, tenure_wants}
 use Rattle.protocol.specs.Machine.{Grant, News, LineVersion, Confirmed, Ending, Committed, Released, Withdrawn, Died, Made, Granted, Pruned, ticket_of, Answers, want_of, Told, Has, added, line, line_of, version_at, Names, Stands}
 use Rattle.farm_base.specs.declared.message.FromCoord.TheVariants as told
-use Rattle.protocol.specs.World.{AskState, Running, World, start}
+use Rattle.protocol.specs.World.{KeptAsk, Running, World, start}
 use Rattle.protocol.specs.Safe.{InUse, Held, IsWithdrawn, OnALine, Rising, Falling, Safe, EveryRunIsSafe, EveryRunStaysSafe}
 use Rattle.lists.proofs.Places.{cases_list}
 use Rattle.protocol.proofs.Base.{cases_nat, cases_bool, order_cases, in_one, in_append, from_map, get_in, some_is, slot_path}
@@ -64,7 +64,7 @@ not_on_line s t (Some Released) y v e n i = i
 not_on_line s t (Some Withdrawn) y v e n i = i
 not_on_line s t (Some Died) y v e n i = i
 
-spent_running : (s : AskState) (wants : List Want) (g : Grant) (r : Bool) → s ≡ Running wants g r → spent s g.ticket.0 ≡ true → ⊥
+spent_running : (s : KeptAsk) (wants : List Want) (g : Grant) (r : Bool) → s ≡ Running wants g r → spent s g.ticket.0 ≡ true → ⊥
 spent_running s wants g r e h =
     let now : spent (Running wants g r) g.ticket.0 ≡ true = sym (ap (λ z. spent z g.ticket.0) e) ∙ h in
     no_spent_self g.ticket.0 now

@@ -11,7 +11,7 @@ use Rattle.protocol.specs.declared.answer.How.TheVariants as how
 use Rattle.protocol.specs.declared.answer.NodeRefusal.{NodeRefusal}
 use Rattle.protocol.specs.declared.answer.NodeNote.TheVariants as node_note
 use Rattle.protocol.specs.Ledger.{Limits}
-use Rattle.protocol.specs.World.{AskState, Open, Holding, Running, Finished, Over, Node, keeps, World}
+use Rattle.protocol.specs.World.{KeptAsk, Open, Holding, Running, Finished, Over, Node, keeps, World}
 use Rattle.protocol.specs.Nodes.{NodeWork, NodeAnswer, guard, Place, is_tenure_of, at_home, in_use, Held, Sent, first, held, running, held_or_running, finished, recallable, is_stored, all_stored, is_base, asked, asked_tenure, beginning, begun, Left, news_of, leaving, finishing, finished_with, aborting, aborted, resent, gives_back, granted, learned, dropped, denied, recalled, of_life, heard, fetched, brought, unless_spent}
 use Rattle.protocol.proofs.Base.{cases_bool, cases_nat, some_is, nth_set_cases, nth-set_same, nth-set_other, nth-append, nth_push_cases}
 use Rattle.protocol.proofs.Acts.{open_not_running, held_not_running}
@@ -20,27 +20,27 @@ use Rattle.protocol.proofs.Invariant.{Its, Inv}
 use Rattle.protocol.proofs.Moving.{found, held_is, running_is, either_is, finished_is, recallable_is}
 
 -- the node executes under the grant, for these wants
-abbrev pub Runs : List AskState → Grant → List Want → Type 0
+abbrev pub Runs : List KeptAsk → Grant → List Want → Type 0
 Runs asks g ws = (a : ℕ) × (r : Bool) × (nth asks a ≡ Some (Running ws g r))
 
 -- of the executions these may have begun, and these ended
-pub record Turned (asks asks' : List AskState) (begins stops : Grant → Type 0) : Type 0 where
+pub record Turned (asks asks' : List KeptAsk) (begins stops : Grant → Type 0) : Type 0 where
   pub began : (g : Grant) (ws : List Want) → Runs asks' g ws → Runs asks g ws ⊎ begins g
   pub stopped : (g : Grant) (ws : List Want) → Runs asks g ws → Runs asks' g ws ⊎ stops g
 
 abbrev pub NoGrant : Grant → Type 0
 NoGrant g = ⊥
 
-abbrev pub Quiet : List AskState → List AskState → Type 0
+abbrev pub Quiet : List KeptAsk → List KeptAsk → Type 0
 Quiet asks asks' = Turned asks asks' NoGrant NoGrant
 
-pub quiet_same : (asks : List AskState) → Quiet asks asks
+pub quiet_same : (asks : List KeptAsk) → Quiet asks asks
 quiet_same asks = record { began = λ g ws i. inl i; stopped = λ g ws i. inl i }
 
-abbrev NotRunning : AskState → Type 0
+abbrev NotRunning : KeptAsk → Type 0
 NotRunning s = (ws : List Want) (g : Grant) (r : Bool) → s ≡ Running ws g r → ⊥
 
-quiet_push : (asks : List AskState) (s : AskState) → NotRunning s → Quiet asks (asks ++ s ∷ [])
+quiet_push : (asks : List KeptAsk) (s : KeptAsk) → NotRunning s → Quiet asks (asks ++ s ∷ [])
 quiet_push asks s idle = record {
   began = λ g ws i. elim (nth_push_cases asks s i.0 (Running ws g i.1) i.2) [
     | inl old ↦ inl (i.0, i.1, old)
@@ -50,7 +50,7 @@ quiet_push asks s idle = record {
 }
 
 -- one ask is set
-turned_set : (asks : List AskState) (a : ℕ) (old new : AskState) (begins stops : Grant → Type 0) → nth asks a ≡ Some old
+turned_set : (asks : List KeptAsk) (a : ℕ) (old new : KeptAsk) (begins stops : Grant → Type 0) → nth asks a ≡ Some old
     → ((g : Grant) (ws : List Want) (r : Bool) → new ≡ Running ws g r → ((q : Bool) × (old ≡ Running ws g q)) ⊎ begins g)
     → ((g : Grant) (ws : List Want) (r : Bool) → old ≡ Running ws g r → ((q : Bool) × (new ≡ Running ws g q)) ⊎ stops g)
     → Turned asks (set_nth asks a new) begins stops
@@ -66,11 +66,11 @@ turned_set asks a old new begins stops at here gone = record {
   ];
 }
 
-quiet_set : (asks : List AskState) (a : ℕ) (old new : AskState) → nth asks a ≡ Some old → NotRunning old → NotRunning new → Quiet asks (set_nth asks a new)
+quiet_set : (asks : List KeptAsk) (a : ℕ) (old new : KeptAsk) → nth asks a ≡ Some old → NotRunning old → NotRunning new → Quiet asks (set_nth asks a new)
 quiet_set asks a old new at p q = turned_set asks a old new NoGrant NoGrant at (λ g ws r e. absurd (q ws g r e)) (λ g ws r e. absurd (p ws g r e))
 
 -- the grant that an ask has
-abbrev pub GrantOf : AskState → Grant → Type 0
+abbrev pub GrantOf : KeptAsk → Grant → Type 0
 GrantOf (Open ws b) g = ⊥
 GrantOf (Holding ws h r) g = h ≡ g
 GrantOf (Running ws h r) g = h ≡ g
@@ -78,8 +78,8 @@ GrantOf (Finished ws h news) g = h ≡ g
 GrantOf (Over how) g = ⊥
 
 -- no two asks have one ticket
-abbrev pub OneEach : List AskState → Type 0
-OneEach asks = (a b : ℕ) (s s' : AskState) (g g' : Grant) → nth asks a ≡ Some s → nth asks b ≡ Some s' → GrantOf s g → GrantOf s' g' → g.ticket ≡ g'.ticket → a ≡ b
+abbrev pub OneEach : List KeptAsk → Type 0
+OneEach asks = (a b : ℕ) (s s' : KeptAsk) (g g' : Grant) → nth asks a ≡ Some s → nth asks b ≡ Some s' → GrantOf s g → GrantOf s' g' → g.ticket ≡ g'.ticket → a ≡ b
 
 pub one_each : (sha : List ℕ → Digest) (w : World) (inv : Inv sha w) (n : NodeId) → OneEach (w.nodes n.0).asks
 one_each sha w inv n a b s s' g g' e e' h h' t =
@@ -88,14 +88,14 @@ one_each sha w inv n a b s s' g g' e e' h h' t =
     let same : g ≡ g' = same_grant (sha []) w.machine inv.sound g g' i.0 j.0 (ap (λ (z : Ticket). z.0) t) in
     sym i.3 ∙ ap (λ (z : Grant). z.ask.0) same ∙ j.3
   where
-    its_by : (a : ℕ) (s : AskState) (g : Grant) → nth (w.nodes n.0).asks a ≡ Some s → GrantOf s g → Its w.machine n (w.nodes n.0).life a g
+    its_by : (a : ℕ) (s : KeptAsk) (g : Grant) → nth (w.nodes n.0).asks a ≡ Some s → GrantOf s g → Its w.machine n (w.nodes n.0).life a g
     its_by a (Open ws b) g e h = absurd h
     its_by a (Holding ws h r) g e i = subst (Its w.machine n (w.nodes n.0).life a) i ((inv.nodes n).states a (Holding ws h r) e).0
     its_by a (Running ws h r) g e i = subst (Its w.machine n (w.nodes n.0).life a) i ((inv.nodes n).states a (Running ws h r) e).0
     its_by a (Finished ws h news) g e i = subst (Its w.machine n (w.nodes n.0).life a) i ((inv.nodes n).states a (Finished ws h news) e).0
     its_by a (Over how) g e h = absurd h
 
-    its : (a : ℕ) (s : AskState) (g : Grant) → nth (w.nodes n.0).asks a ≡ Some s → GrantOf s g → Its w.machine n (w.nodes n.0).life a g
+    its : (a : ℕ) (s : KeptAsk) (g : Grant) → nth (w.nodes n.0).asks a ≡ Some s → GrantOf s g → Its w.machine n (w.nodes n.0).life a g
     its = its_by
 
 module _ (x : Node) (one : OneEach x.asks) where
@@ -130,7 +130,7 @@ module _ (x : Node) (one : OneEach x.asks) where
       let h : Held = r.1 in
       let is = held_is t f.0 h f.2 in
       let at : nth x.asks r.0 ≡ Some (Holding h.wants h.grant h.recalled) = f.1 ∙ ap Some is.0 in
-      let new : AskState = Running h.wants h.grant h.recalled in
+      let new : KeptAsk = Running h.wants h.grant h.recalled in
       on_guard (Begun t) (not (all_stored x h.grant.slots)) _ _ (λ all. (
         refl,
         turned_set x.asks r.0 (Holding h.wants h.grant h.recalled) new (λ g. g.ticket ≡ t) NoGrant at
@@ -150,25 +150,25 @@ module _ (x : Node) (one : OneEach x.asks) where
   begun_use t = on_guard (Begun t) x.spent _ _ (λ up. beginning_use t (first (held t) x.asks 0) refl)
 
   -- an ask that is over has no execution of its ticket
-  none_left : (a : ℕ) (old new : AskState) (h : Grant) (t : Ticket) → nth x.asks a ≡ Some old → GrantOf old h → h.ticket ≡ t → NotRunning new → (g : Grant) (ws : List Want) → g.ticket ≡ t → Runs (set_nth x.asks a new) g ws → ⊥
+  none_left : (a : ℕ) (old new : KeptAsk) (h : Grant) (t : Ticket) → nth x.asks a ≡ Some old → GrantOf old h → h.ticket ≡ t → NotRunning new → (g : Grant) (ws : List Want) → g.ticket ≡ t → Runs (set_nth x.asks a new) g ws → ⊥
   none_left a old new h t at its ticket idle g ws e i = elim (nth_set_cases x.asks a new old i.0 (Running ws g i.1) at i.2) [
     | inl n ↦ idle ws g i.1 (sym n.1)
     | inr o ↦ o.0 (one i.0 a (Running ws g i.1) old g h o.1 at refl its (e ∙ sym ticket))
   ]
 
-  ended_turn : (a : ℕ) (new : AskState) (h : Held) (t : Ticket) → nth x.asks a ≡ Some (Running h.wants h.grant h.recalled) → h.grant.ticket ≡ t → NotRunning new → Turned x.asks (set_nth x.asks a new) NoGrant (λ g. g.ticket ≡ t)
+  ended_turn : (a : ℕ) (new : KeptAsk) (h : Held) (t : Ticket) → nth x.asks a ≡ Some (Running h.wants h.grant h.recalled) → h.grant.ticket ≡ t → NotRunning new → Turned x.asks (set_nth x.asks a new) NoGrant (λ g. g.ticket ≡ t)
   ended_turn a new h t at ticket idle = turned_set x.asks a (Running h.wants h.grant h.recalled) new NoGrant (λ g. g.ticket ≡ t) at
       (λ g ws q e. absurd (idle ws g q e))
       (λ g ws q e. (let same : Running h.wants h.grant h.recalled ≡ Running ws g q = e in let one : h.grant ≡ g = cc in inr (ap (λ (z : Grant). z.ticket) (sym one) ∙ ticket)))
 
   -- the execution of the ticket ends
-  abbrev EndsIn : Ticket → List AskState → Type 0
+  abbrev EndsIn : Ticket → List KeptAsk → Type 0
   EndsIn t asks' = Turned x.asks asks' NoGrant (λ g. g.ticket ≡ t) × ((g : Grant) × (ws : List Want) × (g.ticket ≡ t) × Runs x.asks g ws × (Runs asks' g ws → ⊥))
 
   abbrev pub Stops : Ticket → NodeWork → Type 0
   Stops t w = (w.note ≡ node_note.Finished t) × EndsIn t w.node.asks
 
-  end_use : (a : ℕ) (new : AskState) (h : Held) (t : Ticket) → nth x.asks a ≡ Some (Running h.wants h.grant h.recalled) → h.grant.ticket ≡ t → NotRunning new → EndsIn t (set_nth x.asks a new)
+  end_use : (a : ℕ) (new : KeptAsk) (h : Held) (t : Ticket) → nth x.asks a ≡ Some (Running h.wants h.grant h.recalled) → h.grant.ticket ≡ t → NotRunning new → EndsIn t (set_nth x.asks a new)
   end_use a new h t at ticket idle = (
     ended_turn a new h t at ticket idle,
     (
@@ -235,7 +235,7 @@ module _ (x : Node) (one : OneEach x.asks) where
   give_back_use at g true = quiet_same x.asks
   give_back_use at g false = quiet_same x.asks
 
-  granted_use : (k : Limits) (at : Place) (g : Grant) (o : Option AskState) → nth x.asks g.ask.0 ≡ o → OnWork (granted k at g x o)
+  granted_use : (k : Limits) (at : Place) (g : Grant) (o : Option KeptAsk) → nth x.asks g.ask.0 ≡ o → OnWork (granted k at g x o)
   granted_use k at g None e = give_back_use at g false
   granted_use k at g (Some (Open wants tenure)) e = quiet_set x.asks g.ask.0 (Open wants tenure) (Holding wants g false) e (open_not_running wants tenure) (held_not_running wants g false)
   granted_use k at g (Some (Holding wants h r)) e = give_back_use at g (keeps (Holding wants h r) g.ticket)
@@ -256,7 +256,7 @@ module _ (x : Node) (one : OneEach x.asks) where
   dropped_use t (Some r) e = (let f = found (finished t) x.asks r e in let is = finished_is t f.0 r.1 f.2 in
       quiet_set x.asks r.0 (Finished r.1.wants r.1.grant r.1.news) (Over how.Fenced) (f.1 ∙ ap Some is.0) (sent_idle r.1) (λ ws g q z. (let bad : Over how.Fenced ≡ Running ws g q = z in cc)))
 
-  denied_use : (a : Ask) (why : Why) (o : Option AskState) → nth x.asks a.0 ≡ o → OnWork (denied a why x o)
+  denied_use : (a : Ask) (why : Why) (o : Option KeptAsk) → nth x.asks a.0 ≡ o → OnWork (denied a why x o)
   denied_use a why None e = quiet_same x.asks
   denied_use a why (Some (Open wants tenure)) e = quiet_set x.asks a.0 (Open wants tenure) (Over (how.Denied why)) e (open_not_running wants tenure) (λ ws g q z. (let bad : Over (how.Denied why) ≡ Running ws g q = z in cc))
   denied_use a why (Some (Holding wants h r)) e = quiet_same x.asks
@@ -264,7 +264,7 @@ module _ (x : Node) (one : OneEach x.asks) where
   denied_use a why (Some (Finished wants h news)) e = quiet_same x.asks
   denied_use a why (Some (Over how)) e = quiet_same x.asks
 
-  recalled_use : (t : Ticket) (o : Option (ℕ × AskState)) → first (recallable t) x.asks 0 ≡ o → OnWork (recalled t x o)
+  recalled_use : (t : Ticket) (o : Option (ℕ × KeptAsk)) → first (recallable t) x.asks 0 ≡ o → OnWork (recalled t x o)
   recalled_use t None e = quiet_same x.asks
   recalled_use t (Some r) e =
       let f = found (recallable t) x.asks r e in

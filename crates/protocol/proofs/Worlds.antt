@@ -3,7 +3,7 @@ use Rattle.std.proofs.Common.{◌≡◌, ◌≢◌, ℕ, zero, suc, ◌<◌, ◌
 use Rattle.protocol.specs.Lists.{In, put, nth}
 use Rattle.protocol.specs.Names.{Slot, slot_eq, Digest, NodeId, Ticket}
 use Rattle.protocol.specs.Machine.{Grant, News, LineVersion, Ending, Committed, Released, Withdrawn, Died, Made, Granted, ticket_of, Message, Told, FromCoord, acquire, commit, release, Machine, Live, added, line, line_of, digest_for, version_of, version_at, written, slots_of, MayEnd, Step, Grants, Ends, Prunes, Sees, Retires, Parks, Unparks, Raises, Steps, No_step, One_more, Says, Says_granted, Says_committed, Says_fenced, Says_denied, Says_recall}
-use Rattle.protocol.specs.World.{Node, AskState, Act, World, Move, Node_moves, Machine_moves, Machine_says, Fails, Recovers, Moves, Still, Then, start}
+use Rattle.protocol.specs.World.{Node, KeptAsk, Act, World, Move, Node_moves, Machine_moves, Machine_says, Fails, Recovers, Moves, Still, Then, start}
 use Rattle.protocol.proofs.Base.{cases_bool, cases_nat, slot_eq_same, put_same, put_other, put_all, in_one, in_left, in_right, in_append, in_map, none_some, some_is, true_false}
 use Rattle.protocol.proofs.Steps.{Later, later_refl, later_trans, step_sound, fresh, same_grant}
 use Rattle.protocol.proofs.Invariant.{Spent, NodeOk, ToldOk, MessageOk, Fate, WasWanted, Inv, Ahead, ahead_refl, message_later, fate_later, node_later, heard_life}
@@ -231,7 +231,7 @@ moves_inv sha w u whole (Then a v b moves move) =
     let after = move_inv sha v u before.0 move in
     (after.0, onward_trans (sha []) w v u before.1 after.1)
 
-no_ask : {P : Type 0} (a : ℕ) (s : AskState) → nth [] a ≡ Some s → P
+no_ask : {P : Type 0} (a : ℕ) (s : KeptAsk) → nth [] a ≡ Some s → P
 no_ask zero s e = none_some s e
 no_ask (suc a) s e = none_some s e
 

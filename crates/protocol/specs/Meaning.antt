@@ -3,7 +3,7 @@
 use Rattle.std.specs.Prelude.{◌≡◌, ◌≢◌, ℕ, ◌+◌, ◌<◌, Bool, false, true, if◌then◌else◌, ◌⊎◌, Option, Some, None, ⊤, List, [], ◌∷◌, ◌++◌, length, map, Result, Ok, Err}
 use Rattle.protocol.specs.Lists.{In, put, nth, set_nth}
 use Rattle.protocol.specs.Names.{Slot, slot_eq, is_private, NodeId, Life, Ask, Ticket, Digest, Want, tenure_wants}
-use Rattle.protocol.specs.Machine.{Grant, GrantedSlot, Granted, Message, Told, News, Confirmed, LineVersion, Ending, Committed, Released, Withdrawn, Died, Said, Fetches, Blob, ToCoord, Parked, Machine, Has, Live, line, version_of, digest_for, slots_of, written, hello, acquire, commit, release}
+use Rattle.protocol.specs.Machine.{Grant, GrantedSlot, Granted, Message, Told, News, Confirmed, LineVersion, Ending, Committed, Released, Withdrawn, Died, Said, Blob, ToCoord, Parked, Machine, Has, Live, line, version_of, digest_for, slots_of, written, hello, acquire, commit, release}
 use Rattle.farm_base.specs.declared.message.Message.TheVariants as to
 use Rattle.farm_base.specs.declared.message.Request.{Request}
 use Rattle.farm_base.specs.declared.message.Request.TheVariants as request
@@ -20,7 +20,7 @@ use Rattle.protocol.specs.declared.answer.CoordRefusal.TheVariants as coord_refu
 use Rattle.protocol.specs.declared.answer.EventRefusal.{EventRefusal}
 use Rattle.protocol.specs.declared.answer.EventRefusal.TheVariants as refusal
 use Rattle.protocol.specs.declared.answer.Outcome.{Outcome}
-use Rattle.protocol.specs.World.{AskState, Open, Holding, Running, Finished, Over, Node, World, learn_bases, learn_versions, keep, has_life}
+use Rattle.protocol.specs.World.{KeptAsk, Open, Holding, Running, Finished, Over, Node, World, learn_bases, learn_versions, keep, has_life}
 use Rattle.protocol.specs.Nodes.{Left, news_of}
 use Rattle.protocol.specs.Replay.{Event, Tenure, Deliver, Begin, Finish, Abort, Resend, Nudge, Withdraw, Prune, Retire, RestartNode, RestartCoordinator, Forge, receiver}
 use Rattle.protocol.specs.Replay as replay
@@ -254,7 +254,7 @@ abbrev pub lefts_at : Event → List Left
 lefts_at (Finish n t lefts) = lefts
 lefts_at e = []
 
-abbrev pub IsAsk : Node → ℕ → AskState → Type 0
+abbrev pub IsAsk : Node → ℕ → KeptAsk → Type 0
 IsAsk x a s = nth x.asks a ≡ Some s
 
 -- nothing that was stored goes, and the contents are stored under their digests
@@ -269,7 +269,7 @@ Leaves sha [] n x g wants a sends x' = (sends ≡ release n x.life g.ticket ∷ 
 Leaves sha (l ∷ ls) n x g wants a sends x' =
     let news : List News = news_of sha (l ∷ ls) in
     (sends ≡ commit n x.life g.ticket news ∷ []) × (slots_of news ≡ written g.slots)
-    × Stored sha (map (λ (z : Left). z.content) (l ∷ ls)) x.store x'.store × (x' ≡ record x { asks = set_nth x.asks a (Finished wants g news); store = x'.store })
+    × Stored sha (map (λ (z : Left). z.1) (l ∷ ls)) x.store x'.store × (x' ≡ record x { asks = set_nth x.asks a (Finished wants g news); store = x'.store })
 
 -- what the answer of a node says, x being the node before, x' the node after
 abbrev pub NodeMeans : (List ℕ → Digest) → Option Message → Event → NodeId → Node → NodeNote → List Message → Node → Type 0

@@ -7,7 +7,7 @@ use Rattle.protocol.specs.Names.{Slot, Shared, slots_eq, digest_eq, NodeId, Life
 use Rattle.protocol.specs.Machine.{News, GrantedSlot, Confirmed, Grant, Message, ToNode, Fetches, Blob, FromCoord, hello, acquire, commit, release, written, slots_of}
 use Rattle.farm_base.specs.declared.message.ToNode.TheVariants as to_node
 use Rattle.protocol.specs.Ledger.{Limits}
-use Rattle.protocol.specs.World.{AskState, Open, Holding, Running, Finished, Over, Node, keeps, learn_bases, learn_versions, keep, has_life}
+use Rattle.protocol.specs.World.{KeptAsk, Open, Holding, Running, Finished, Over, Node, keeps, learn_bases, learn_versions, keep, has_life}
 use Rattle.farm_base.specs.declared.message.FromCoord.TheVariants as told
 use Rattle.protocol.specs.declared.answer.How.TheVariants as how
 use Rattle.farm_base.specs.declared.message.Why.{Why}
@@ -41,7 +41,7 @@ abbrev pub wants_folder : FolderName → List Want → Bool
 wants_folder f wants = list_any (λ w. folder_eq w.folder f) wants
 
 -- the ask is a tenure of the folder, and is present
-abbrev pub is_tenure_of : FolderName → AskState → Bool
+abbrev pub is_tenure_of : FolderName → KeptAsk → Bool
 is_tenure_of f (Open wants tenure) = tenure && wants_folder f wants
 is_tenure_of f (Holding wants g r) = g.tenure && wants_folder f wants
 is_tenure_of f (Running wants g r) = g.tenure && wants_folder f wants
@@ -49,7 +49,7 @@ is_tenure_of f (Finished wants g news) = g.tenure && wants_folder f wants
 is_tenure_of f (Over how) = false
 
 -- the ask is a tenure of the folder that is in use and not recalled
-abbrev pub is_home_of : FolderName → AskState → Bool
+abbrev pub is_home_of : FolderName → KeptAsk → Bool
 is_home_of f (Open wants tenure) = false
 is_home_of f (Holding wants g r) = false
 is_home_of f (Running wants g r) = not r && (g.tenure && wants_folder f wants)
@@ -57,22 +57,22 @@ is_home_of f (Finished wants g news) = false
 is_home_of f (Over how) = false
 
 -- the ask wants the folder, and is open, granted or running
-abbrev pub uses : FolderName → AskState → Bool
+abbrev pub uses : FolderName → KeptAsk → Bool
 uses f (Open wants tenure) = wants_folder f wants
 uses f (Holding wants g r) = wants_folder f wants
 uses f (Running wants g r) = wants_folder f wants
 uses f (Finished wants g news) = false
 uses f (Over how) = false
 
-abbrev pub at_home : List AskState → List Want → Bool
+abbrev pub at_home : List KeptAsk → List Want → Bool
 at_home asks wants = list_all (λ w. not (wants_shared w) || list_any (is_home_of w.folder) asks) wants
 
 -- an ask other than the a-th uses one of the folders, after k others
-abbrev pub others_use : ℕ → List Want → List AskState → ℕ → Bool
+abbrev pub others_use : ℕ → List Want → List KeptAsk → ℕ → Bool
 others_use a wants [] k = false
 others_use a wants (s ∷ ss) k = (not (k + 1 == a) && list_any (λ w. uses w.folder s) wants) || others_use a wants ss (k + 1)
 
-abbrev pub in_use : List AskState → ℕ → List Want → Grant → Bool
+abbrev pub in_use : List KeptAsk → ℕ → List Want → Grant → Bool
 in_use asks a wants g = g.tenure && others_use a wants asks 0
 
 -- a granted ask, and whether it was recalled
@@ -92,54 +92,54 @@ abbrev pub first_of : {A : Type 0} → ℕ → Option A → Option (ℕ × A) �
 first_of k (Some x) others = Some (k, x)
 first_of k None others = others
 
-abbrev pub first : {A : Type 0} → (AskState → Option A) → List AskState → ℕ → Option (ℕ × A)
+abbrev pub first : {A : Type 0} → (KeptAsk → Option A) → List KeptAsk → ℕ → Option (ℕ × A)
 first test [] k = None
 first test (s ∷ ss) k = first_of (k + 1) (test s) (first test ss (k + 1))
 
 abbrev pub under : {A : Type 0} → Grant → Ticket → A → Option A
 under g t x = if g.ticket.0 == t.0 then Some x else None
 
-abbrev pub held : Ticket → AskState → Option Held
+abbrev pub held : Ticket → KeptAsk → Option Held
 held t (Open wants tenure) = None
 held t (Holding wants g r) = under g t (record { wants = wants; grant = g; recalled = r })
 held t (Running wants g r) = None
 held t (Finished wants g news) = None
 held t (Over how) = None
 
-abbrev pub running : Ticket → AskState → Option Held
+abbrev pub running : Ticket → KeptAsk → Option Held
 running t (Open wants tenure) = None
 running t (Holding wants g r) = None
 running t (Running wants g r) = under g t (record { wants = wants; grant = g; recalled = r })
 running t (Finished wants g news) = None
 running t (Over how) = None
 
-abbrev pub held_or_running : Ticket → AskState → Option Held
+abbrev pub held_or_running : Ticket → KeptAsk → Option Held
 held_or_running t (Open wants tenure) = None
 held_or_running t (Holding wants g r) = under g t (record { wants = wants; grant = g; recalled = r })
 held_or_running t (Running wants g r) = under g t (record { wants = wants; grant = g; recalled = r })
 held_or_running t (Finished wants g news) = None
 held_or_running t (Over how) = None
 
-abbrev pub finished : Ticket → AskState → Option Sent
+abbrev pub finished : Ticket → KeptAsk → Option Sent
 finished t (Open wants tenure) = None
 finished t (Holding wants g r) = None
 finished t (Running wants g r) = None
 finished t (Finished wants g news) = under g t (record { wants = wants; grant = g; news = news })
 finished t (Over how) = None
 
-abbrev pub recalled_if : Bool → AskState → Option AskState
+abbrev pub recalled_if : Bool → KeptAsk → Option KeptAsk
 recalled_if true s = Some s
 recalled_if false s = None
 
 -- a tenure that is granted or running under the ticket and was not recalled, as it is then
-abbrev pub recallable : Ticket → AskState → Option AskState
+abbrev pub recallable : Ticket → KeptAsk → Option KeptAsk
 recallable t (Open wants tenure) = None
 recallable t (Holding wants g r) = recalled_if ((g.ticket.0 == t.0) && g.tenure && not r) (Holding wants g true)
 recallable t (Running wants g r) = recalled_if ((g.ticket.0 == t.0) && g.tenure && not r) (Running wants g true)
 recallable t (Finished wants g news) = None
 recallable t (Over how) = None
 
-abbrev pub becomes : ℕ → AskState → Node → Node
+abbrev pub becomes : ℕ → KeptAsk → Node → Node
 becomes a s x = record x { asks = set_nth x.asks a s }
 
 -- contents
@@ -171,7 +171,7 @@ unfoldable pub fetches : Limits → Place → Node → List GrantedSlot → List
 fetches k at x slots = flat_map (λ u. fetches_of at u.digest) (filter (is_missing k x) slots)
 
 -- the digest is the base of a granted ask
-abbrev pub is_base : Digest → AskState → Bool
+abbrev pub is_base : Digest → KeptAsk → Bool
 is_base d (Open wants tenure) = false
 is_base d (Holding wants g r) = list_any (λ u. digest_eq u.digest d) g.slots
 is_base d (Running wants g r) = false
@@ -204,22 +204,17 @@ beginning t x (Some (a, h)) = guard (not (all_stored x h.grant.slots)) refusal.C
 abbrev pub begun : Ticket → Node → NodeAnswer
 begun t x = guard x.spent refusal.LivesSpent (beginning t x (first (held t) x.asks 0))
 
--- what an execution leaves in a slot
-pub record Left : Type 0 where
-  pub slot : Slot
-  pub content : List ℕ
-
--- the same, as the program has it
-abbrev pub left_of : Slot × List ℕ → Left
-left_of x = record { slot = x.0; content = x.1 }
+-- a slot, and the content that an execution leaves in it
+abbrev pub Left : Type 0
+Left = Slot × List ℕ
 
 abbrev pub news_of : (List ℕ → Digest) → List Left → List News
-news_of sha lefts = map (λ x. record { slot = x.slot; digest = sha x.content }) lefts
+news_of sha lefts = map (λ x. record { slot = x.0; digest = sha x.1 }) lefts
 
 -- each content is stored. A digest that is stored already keeps its content
 abbrev pub stored : (List ℕ → Digest) → List Left → (Digest → Option (List ℕ)) → Digest → Option (List ℕ)
 stored sha [] store = store
-stored sha (x ∷ xs) store = if is_some (store (sha x.content)) then stored sha xs store else stored sha xs (keep (sha x.content) x.content store)
+stored sha (x ∷ xs) store = if is_some (store (sha x.1)) then stored sha xs store else stored sha xs (keep (sha x.1) x.1 store)
 
 abbrev pub gives_up : Place → ℕ → Ticket → NodeNote → Node → NodeWork
 gives_up at a t n x = record { node = becomes a (Over how.Other) x; sends = release at.node x.life t ∷ []; note = n }
@@ -251,14 +246,14 @@ abbrev pub aborted : Place → Ticket → Node → NodeAnswer
 aborted at t x = guard x.spent refusal.LivesSpent (aborting at x (first (held_or_running t) x.asks 0))
 
 -- what an ask sends again
-abbrev pub again : Limits → Place → Node → Ask → AskState → List Message
+abbrev pub again : Limits → Place → Node → Ask → KeptAsk → List Message
 again k at x a (Open wants tenure) = acquire at.node x.life a wants tenure ∷ []
 again k at x a (Holding wants g r) = fetches k at x g.slots
 again k at x a (Running wants g r) = []
 again k at x a (Finished wants g news) = commit at.node x.life g.ticket news ∷ []
 again k at x a (Over how) = []
 
-abbrev pub all_again : Limits → Place → Node → List AskState → ℕ → List Message
+abbrev pub all_again : Limits → Place → Node → List KeptAsk → ℕ → List Message
 all_again k at x [] i = []
 all_again k at x (s ∷ ss) i = again k at x (record { 0 = i + 1 }) s ++ all_again k at x ss (i + 1)
 
@@ -288,7 +283,7 @@ abbrev pub gives_back : Place → Grant → Bool → Node → NodeWork
 gives_back at g true x = nothing x
 gives_back at g false x = record { node = x; sends = release at.node x.life g.ticket ∷ []; note = note.GaveBack g.ticket }
 
-abbrev pub granted : Limits → Place → Grant → Node → Option AskState → NodeWork
+abbrev pub granted : Limits → Place → Grant → Node → Option KeptAsk → NodeWork
 granted k at g x None = gives_back at g false x
 granted k at g x (Some (Open wants tenure)) = takes k at g wants x
 granted k at g x (Some (Holding wants h r)) = gives_back at g (keeps (Holding wants h r) g.ticket) x
@@ -304,7 +299,7 @@ abbrev pub dropped : Ticket → Node → Option (ℕ × Sent) → NodeWork
 dropped t x None = nothing x
 dropped t x (Some (a, s)) = record { node = becomes a (Over how.Fenced) x; sends = []; note = note.Dropped t }
 
-abbrev pub denied : Ask → Why → Node → Option AskState → NodeWork
+abbrev pub denied : Ask → Why → Node → Option KeptAsk → NodeWork
 denied a why x None = nothing x
 denied a why x (Some (Open wants tenure)) = record { node = becomes a.0 (Over (how.Denied why)) x; sends = []; note = note.Denied why }
 denied a why x (Some (Holding wants g r)) = nothing x
@@ -312,7 +307,7 @@ denied a why x (Some (Running wants g r)) = nothing x
 denied a why x (Some (Finished wants g news)) = nothing x
 denied a why x (Some (Over how)) = nothing x
 
-abbrev pub recalled : Ticket → Node → Option (ℕ × AskState) → NodeWork
+abbrev pub recalled : Ticket → Node → Option (ℕ × KeptAsk) → NodeWork
 recalled t x None = nothing x
 recalled t x (Some (a, s)) = record { node = becomes a s x; sends = []; note = note.Recalled t }
 

@@ -12,7 +12,7 @@ use Rattle.protocol.specs.declared.answer.EventRefusal.{EventRefusal}
 use Rattle.protocol.specs.declared.answer.EventRefusal.TheVariants as event
 use Rattle.protocol.specs.declared.answer.Outcome.{Outcome}
 use Rattle.protocol.specs.Ledger.{Limits, Work, begin_work, handled, withdrawn, retired, pruned, nudged}
-use Rattle.protocol.specs.World.{AskState, Holding, Running, Node, World, RunsTenure, IsTenureOf, Idle}
+use Rattle.protocol.specs.World.{KeptAsk, Holding, Running, Node, World, RunsTenure, IsTenureOf, Idle}
 use Rattle.protocol.specs.Nodes.{Left}
 use Rattle.protocol.specs.Replay.{Event, Tenure, Deliver, Begin, Finish, Abort, Resend, Nudge, Withdraw, Prune, Retire, RestartNode, RestartCoordinator, Forge, Farm, is_node}
 use Rattle.protocol.specs.Replay as replay
@@ -75,13 +75,13 @@ abbrev pub NodeBecause : Limits → Event → Node → NodeRefusal → Type 0
 NodeBecause k (RestartNode n) x node.LivesSpent = (x.spent ≡ true) ⊎ (k.greatest ≤ x.life.0)
 NodeBecause k (replay.Ask n wants) x node.NotHomeHere = (w : Want) × In w wants × (wants_shared w ≡ true) × (RunsTenure x.asks w.folder false → ⊥)
 NodeBecause k (replay.Ask n wants) x node.AsksSpent = k.greatest ≤ length x.asks
-NodeBecause k (Tenure n f) x node.TenureHere = (a : ℕ) × (s : AskState) × IsAsk x a s × IsTenureOf (record f { mode = Shared }) s
+NodeBecause k (Tenure n f) x node.TenureHere = (a : ℕ) × (s : KeptAsk) × IsAsk x a s × IsTenureOf (record f { mode = Shared }) s
 NodeBecause k (Tenure n f) x node.AsksSpent = k.greatest ≤ length x.asks
 NodeBecause k (Begin n t) x node.NoSuchTicket = (a : ℕ) (wants : List Want) (g : Grant) → HoldsUnder x t a wants g → ⊥
 NodeBecause k (Begin n t) x node.ContentsMissing = (a : ℕ) × (wants : List Want) × (g : Grant) × (u : GrantedSlot) × HoldsUnder x t a wants g × In u g.slots × (x.store u.digest ≡ None)
 NodeBecause k (Finish n t lefts) x node.NotRunning = (a : ℕ) (wants : List Want) (g : Grant) → RunsUnder x t a wants g → ⊥
 NodeBecause k (Finish n t lefts) x node.TenureInUse = (a : ℕ) × (wants : List Want) × (g : Grant) × RunsUnder x t a wants g × (Idle x.asks a wants g → ⊥)
-NodeBecause k (Finish n t lefts) x node.WrongNews = (a : ℕ) × (wants : List Want) × (g : Grant) × RunsUnder x t a wants g × (map (λ (z : Left). z.slot) lefts ≢ written g.slots)
+NodeBecause k (Finish n t lefts) x node.WrongNews = (a : ℕ) × (wants : List Want) × (g : Grant) × RunsUnder x t a wants g × (map (λ (z : Left). z.0) lefts ≢ written g.slots)
 NodeBecause k (Abort n t) x node.NoSuchTicket = (a : ℕ) (wants : List Want) (g : Grant) → HoldsUnder x t a wants g ⊎ RunsUnder x t a wants g → ⊥
 NodeBecause k (Abort n t) x node.TenureInUse = (a : ℕ) × (wants : List Want) × (g : Grant) × (HoldsUnder x t a wants g ⊎ RunsUnder x t a wants g) × (Idle x.asks a wants g → ⊥)
 NodeBecause k e x node.LivesSpent = x.spent ≡ true

@@ -7,23 +7,14 @@ use Rattle.farm_base.specs.declared.message.FromCoord.TheVariants as told
 pub use Rattle.farm_base.specs.declared.message.Why.{Why}
 pub use Rattle.farm_base.specs.declared.message.FromCoord.{FromCoord}
 pub use Rattle.protocol.specs.declared.answer.How.{How}
+pub use Rattle.protocol.specs.declared.ask.KeptAsk.{KeptAsk}
+pub use Rattle.protocol.specs.declared.ask.KeptAsk.TheVariants.{Open, Holding, Running, Finished, Over}
 use Rattle.protocol.specs.declared.answer.How.TheVariants as how
-
--- an ask of a node's present life
-pub data AskState : Type 0 where
-  Open : (wants : List Want) (tenure : Bool) → AskState
-  -- granted, and not begun; whether the tenure was recalled
-  Holding : (wants : List Want) (grant : Grant) (recalled : Bool) → AskState
-  -- in use
-  Running : (wants : List Want) (grant : Grant) (recalled : Bool) → AskState
-  -- the news were sent, and nothing was heard of them
-  Finished : (wants : List Want) (grant : Grant) (news : List News) → AskState
-  Over : (how : How) → AskState
 
 pub record Node : Type 0 where
   pub life : Life
   -- the asks of this life, in their order
-  pub asks : List AskState
+  pub asks : List KeptAsk
   -- contents by digest
   pub store : Digest → Option (List ℕ)
   -- digests by version
@@ -32,7 +23,7 @@ pub record Node : Type 0 where
   pub spent : Bool
 
 -- the ask has this grant, and its end isn't known
-abbrev pub keeps : AskState → Ticket → Bool
+abbrev pub keeps : KeptAsk → Ticket → Bool
 keeps (Open wants tenure) t = false
 keeps (Holding wants g recalled) t = g.ticket.0 == t.0
 keeps (Running wants g recalled) t = g.ticket.0 == t.0
@@ -57,25 +48,25 @@ abbrev pub keep : Digest → List ℕ → (Digest → Option (List ℕ)) → Dig
 keep d c store e = if digest_eq e d then Some c else store e
 
 -- an ask that is present and whose wants have the folder is the tenure of it
-pub data IsTenureOf (f : FolderName) : AskState → Type 0 where
+pub data IsTenureOf (f : FolderName) : KeptAsk → Type 0 where
   Asked_tenure : (w : Want) (wants : List Want) → In w wants → (w.folder ≡ f) → IsTenureOf f (Open wants true)
   Held_tenure : (w : Want) (wants : List Want) (g : Grant) (r : Bool) → In w wants → (w.folder ≡ f) → (g.tenure ≡ true) → IsTenureOf f (Holding wants g r)
   Running_tenure : (w : Want) (wants : List Want) (g : Grant) (r : Bool) → In w wants → (w.folder ≡ f) → (g.tenure ≡ true) → IsTenureOf f (Running wants g r)
   Finished_tenure : (w : Want) (wants : List Want) (g : Grant) (news : List News) → In w wants → (w.folder ≡ f) → (g.tenure ≡ true) → IsTenureOf f (Finished wants g news)
 
 -- the tenure of the folder is in use here, recalled or not
-abbrev pub RunsTenure : List AskState → FolderName → Bool → Type 0
+abbrev pub RunsTenure : List KeptAsk → FolderName → Bool → Type 0
 RunsTenure asks f recalled = (a : ℕ) × (wants : List Want) × (g : Grant) × (w : Want) × (nth asks a ≡ Some (Running wants g recalled)) × (g.tenure ≡ true) × In w wants × (w.folder ≡ f)
 
 -- the ask wants the folder, and is open, granted or running
-pub data Uses (f : FolderName) : AskState → Type 0 where
+pub data Uses (f : FolderName) : KeptAsk → Type 0 where
   Open_uses : (w : Want) (wants : List Want) (tenure : Bool) → In w wants → (w.folder ≡ f) → Uses f (Open wants tenure)
   Held_uses : (w : Want) (wants : List Want) (g : Grant) (r : Bool) → In w wants → (w.folder ≡ f) → Uses f (Holding wants g r)
   Running_uses : (w : Want) (wants : List Want) (g : Grant) (r : Bool) → In w wants → (w.folder ≡ f) → Uses f (Running wants g r)
 
 -- a tenure may end only where no other ask of the node uses its folder
-abbrev pub Idle : List AskState → ℕ → List Want → Grant → Type 0
-Idle asks a wants g = g.tenure ≡ true → (w : Want) → In w wants → (b : ℕ) (s : AskState) → nth asks b ≡ Some s → b ≢ a → Uses w.folder s → ⊥
+abbrev pub Idle : List KeptAsk → ℕ → List Want → Grant → Type 0
+Idle asks a wants g = g.tenure ≡ true → (w : Want) → In w wants → (b : ℕ) (s : KeptAsk) → nth asks b ≡ Some s → b ≢ a → Uses w.folder s → ⊥
 
 abbrev pub has_life : Node → ℕ → Node
 has_life x l = record x { life = record { 0 = l }; asks = [] }
@@ -87,7 +78,7 @@ pub data Act (sha : List ℕ → Digest) (pool : List Message) (n : NodeId) (x :
       → ((w : Want) → In w wants → wants_shared w ≡ true → RunsTenure x.asks w.folder false)
       → Act sha pool n x (acquire n x.life (record { 0 = length x.asks + 1 }) wants false ∷ []) (record x { asks = x.asks ++ Open wants false ∷ [] })
   Asks_tenure : (f : FolderName)
-      → ((a : ℕ) (s : AskState) → nth x.asks a ≡ Some s → IsTenureOf (record f { mode = Shared }) s → ⊥)
+      → ((a : ℕ) (s : KeptAsk) → nth x.asks a ≡ Some s → IsTenureOf (record f { mode = Shared }) s → ⊥)
       → Act sha pool n x (acquire n x.life (record { 0 = length x.asks + 1 }) (tenure_wants f) true ∷ []) (record x { asks = x.asks ++ Open (tenure_wants f) true ∷ [] })
   Asks_again : (a : Ask) (wants : List Want) (tenure : Bool) → (nth x.asks a.0 ≡ Some (Open wants tenure))
       → Act sha pool n x (acquire n x.life a wants tenure ∷ []) x
@@ -97,7 +88,7 @@ pub data Act (sha : List ℕ → Digest) (pool : List Message) (n : NodeId) (x :
   Gives_back : (g : Grant) → In (Told (told.Granted g)) pool → (g.node ≡ n) → (g.life ≡ x.life)
       -- the ask isn't open, and hasn't this grant
       → ((wants : List Want) (tenure : Bool) → nth x.asks g.ask.0 ≢ Some (Open wants tenure))
-      → ((s : AskState) → nth x.asks g.ask.0 ≡ Some s → keeps s g.ticket ≡ false)
+      → ((s : KeptAsk) → nth x.asks g.ask.0 ≡ Some s → keeps s g.ticket ≡ false)
       → Act sha pool n x (release n x.life g.ticket ∷ []) x
   Begins : (wants : List Want) (g : Grant) (r : Bool) (a : ℕ) → (nth x.asks a ≡ Some (Holding wants g r))
       -- all base contents are stored

@@ -1,7 +1,5 @@
 -- Maps an event to the protocol's event.
-use Rattle.std.specs.Prelude.{map}
 use Rattle.protocol.specs.Replay as replay
-use Rattle.protocol.specs.Nodes.{left_of}
 use Rattle.schedule.specs.declared.event.Event.{Event}
 use Rattle.schedule.specs.declared.event.Event.TheVariants as event
 
@@ -10,7 +8,7 @@ event_of (event.Ask n wants) = replay.Ask n wants
 event_of (event.Tenure n folder) = replay.Tenure n folder
 event_of (event.Deliver number) = replay.Deliver number
 event_of (event.Begin n t) = replay.Begin n t
-event_of (event.Finish n t lefts) = replay.Finish n t (map left_of lefts)
+event_of (event.Finish n t lefts) = replay.Finish n t lefts
 event_of (event.Abort n t) = replay.Abort n t
 event_of (event.Resend n) = replay.Resend n
 event_of event.Nudge = replay.Nudge

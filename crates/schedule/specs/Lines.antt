@@ -3,6 +3,7 @@ use Rattle.std.specs.Prelude.{◌≡◌, ℕ, ◌<◌, ◌^◌, Bool, true, fals
 use Rattle.std.specs.List.{All, join_with_byte}
 use Rattle.std.specs.List.Sorted.{IsStrictlySortedBy}
 use Rattle.hex.specs.Hex.{IsBytes, encode_lower}
+pub use Rattle.protocol.specs.Nodes.{Left}
 use Rattle.farm_base.specs.declared.folder.Mode.TheVariants.{Shared}
 use Rattle.farm_base.specs.declared.number.NodeId.{NodeId}
 use Rattle.farm_base.specs.declared.number.Ticket.{Ticket}
@@ -39,10 +40,6 @@ want_text want = access_text want.writable ++ folder_text want.folder
 -- holds of each want of the program
 abbrev pub IsWant : Want → Type 0
 IsWant want = IsName want.folder
-
--- a slot, and what an execution left in it
-abbrev pub Left : Type 0
-Left = SlotParts × List ℕ
 
 -- no digit is `=`, so the last `=` separates the slot from the content's digits, which are lower case
 abbrev pub left_text : Left → List ℕ

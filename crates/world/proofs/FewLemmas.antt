@@ -1,10 +1,10 @@
 -- A call makes a node send one message at most.
-use Rattle.std.proofs.Common.{◌≡◌, ℕ, ◌≤◌, suc, Bool, true, false, not, ◌&&◌, nat_lt, List, [], ◌∷◌, length, Option, Some, None, Ok, refl, ap, ◌∙◌, subst, arith, map, if◌then◌else◌}
+use Rattle.std.proofs.Common.{◌≡◌, ℕ, ◌≤◌, Bool, true, false, not, ◌&&◌, nat_lt, List, [], ◌∷◌, length, Option, Some, None, Ok, ap, subst, arith, if◌then◌else◌}
 use Rattle.farm_base.specs.Contents.{content_digest}
-use Rattle.protocol.specs.Nodes.{left_of}
 use Rattle.protocol.specs.Machine.{slots_of, written}
 use Rattle.protocol.specs.Names.{Ticket, Want, Shared, slots_eq, tenure_wants}
-use Rattle.protocol.specs.World.{Node, Running, keep}
+use Rattle.protocol.specs.World.{Node, keep}
+use Rattle.protocol.specs.declared.ask.KeptAsk.TheVariants.{Running}
 use Rattle.protocol.specs.Nodes.{Place, Left, Held, NodeWork, NodeAnswer, guard, first, held, running, held_or_running, at_home, is_tenure_of, opens, beginning, becomes, all_stored, in_use, news_of, finishing, leaving, gives_up, aborting, is_stored, is_base, brought, nothing, unless_spent}
 use Rattle.protocol.specs.declared.answer.NodeRefusal.{NodeRefusal}
 use Rattle.protocol.specs.declared.answer.NodeRefusal.TheVariants as refusal
@@ -69,7 +69,7 @@ called_few (call.Tenure f) p x w h =
     opens_few x.spent (list_any (is_tenure_of (record f { mode = Shared })) x.asks) (not (nat_lt (length x.asks) farm_limits.greatest)) refusal.LivesSpent refusal.TenureHere refusal.AsksSpent p (tenure_wants f) true x w h
 called_few (call.Begin t) p x w h = begins_few t x (first (held t) x.asks 0) w (guarded x.spent refusal.LivesSpent (beginning t x (first (held t) x.asks 0)) w h)
 called_few (call.Finish t lefts) p x w h =
-    finishes_few p (map left_of lefts) x (first (running t) x.asks 0) w (guarded x.spent refusal.LivesSpent (finishing content_digest p (map left_of lefts) x (first (running t) x.asks 0)) w h)
+    finishes_few p lefts x (first (running t) x.asks 0) w (guarded x.spent refusal.LivesSpent (finishing content_digest p lefts x (first (running t) x.asks 0)) w h)
 called_few (call.Abort t) p x w h = aborts_few p x (first (held_or_running t) x.asks 0) w (guarded x.spent refusal.LivesSpent (aborting p x (first (held_or_running t) x.asks 0)) w h)
 called_few (call.Forge content) p x w h = one (brought content_digest content x) w (brings_few content x) (guarded x.spent refusal.LivesSpent (Ok (brought content_digest content x)) w h)
 

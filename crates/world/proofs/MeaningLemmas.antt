@@ -1,5 +1,5 @@
 -- What an event came to is what it means.
-use Rattle.std.proofs.Common.{◌≡◌, ℕ, Bool, true, false, List, ◌++◌, map, Option, Some, None, Result, Ok, Err, refl, sym, ap, ◌∙◌, subst}
+use Rattle.std.proofs.Common.{◌≡◌, ℕ, Bool, true, false, ◌++◌, map, Option, Some, None, Result, Ok, Err, refl, sym, ap, ◌∙◌, subst}
 use Rattle.std.specs.Prelude.{nat_lt}
 use Rattle.farm_base.specs.Contents.{content_digest}
 use Rattle.protocol.specs.Farm.{farm_limits}
@@ -7,10 +7,10 @@ use Rattle.farm_base.specs.declared.message.Request.TheVariants.{Acquire}
 use Rattle.farm_base.specs.declared.message.FromCoord.TheVariants as told
 use Rattle.protocol.specs.Lists.{In, nth}
 use Rattle.protocol.specs.Machine.{Grant, Message, Said, Told, ToCoord, Parked}
-use Rattle.protocol.specs.Ledger.{Ledger, Work, Saved, saves, begin_work, handled}
+use Rattle.protocol.specs.Ledger.{Ledger, Work, begin_work, handled}
 use Rattle.protocol.specs.World as protocol
 use Rattle.protocol.specs.World.{Moves, Still, start}
-use Rattle.protocol.specs.Replay.{Event, Deliver, Farm, Turn, step, run, opening, delivered, coordinated, settled}
+use Rattle.protocol.specs.Replay.{Event, Deliver, Farm, Turn, step, delivered, coordinated, settled}
 use Rattle.protocol.specs.Follows.{Shows, EveryEventIsMoves, MayBeGranted, after_life}
 use Rattle.protocol.specs.Chronicle.{FittingMessageIsGranted}
 use Rattle.protocol.specs.Meaning.{Means}

@@ -1,5 +1,5 @@
 -- What an event of a node comes to in the farm.
-use Rattle.std.proofs.Common.{◌≡◌, ℕ, suc, ◌==◌, Bool, true, false, if◌then◌else◌, List, [], ◌∷◌, ◌++◌, length, map, Option, Some, None, Result, Ok, Err, refl, sym, ap, ◌∙◌, subst}
+use Rattle.std.proofs.Common.{◌≡◌, ℕ, ◌==◌, Bool, true, false, if◌then◌else◌, List, [], ◌∷◌, ◌++◌, length, map, Option, None, Result, Ok, Err, refl, sym, ap, ◌∙◌, subst}
 use mathlib.Core.Path.{fun_ext}
 use Rattle.std.proofs.lemmas.Bool.{eqb-true}
 use Rattle.std.proofs.lemmas.List.{length-map}
@@ -11,9 +11,8 @@ use Rattle.protocol.specs.declared.answer.CoordNote.{CoordNote}
 use Rattle.protocol.specs.World.{Node}
 use Rattle.protocol.specs.Nodes.{Place, NodeAnswer, may_restart, restarted, unless_spent}
 use Rattle.protocol.specs.Ledger.{Ledger, Work, Saved, saves}
-use Rattle.farm_base.specs.Contents.{content_digest}
 use Rattle.protocol.specs.Farm.{farm_limits}
-use Rattle.protocol.specs.Replay.{Farm, Turn, first_sent, is_node, at, at_node, node_does, answered, done, moved, refused, restarts, delivered, coordinated, settled, after_work}
+use Rattle.protocol.specs.Replay.{Farm, Turn, first_sent, is_node, at, at_node, node_does, answered, done, moved, refused, restarts, coordinated, settled, after_work}
 use Rattle.protocol.specs.declared.answer.NodeRefusal.{NodeRefusal}
 use Rattle.protocol.specs.declared.answer.NodeRefusal.TheVariants as node
 use Rattle.protocol.specs.declared.answer.EventNote.{EventNote}
@@ -25,7 +24,6 @@ use Rattle.nodecore.specs.declared.message.NodeDone.{NodeDone}
 use Rattle.farm_base.specs.declared.message.ToNode.{ToNode}
 use Rattle.nodecore.specs.Shown.{work_of, message_work, Answers}
 use Rattle.world.specs.Turns.{Came, first_number, from_node, restarting}
-use Rattle.protocol.specs.Replay.{receiver}
 use Rattle.world.specs.Tables.{Restarts}
 
 put_here : (b : Bool) (v w x : Node) → v ≡ w → (b ≡ true → x ≡ w) → (if b then v else x) ≡ x

@@ -1,5 +1,5 @@
 -- What contracts see of a world.
-use Rattle.std.specs.Prelude.{length, map, None}
+use Rattle.std.specs.Prelude.{length, None}
 use Rattle.protocol.specs.Ledger.{saves}
 use Rattle.protocol.specs.Replay.{Farm}
 use Rattle.coordinator.specs.Held.{ledger}

@@ -1,7 +1,6 @@
 -- The nodes of a farm by their numbers, and what an event asks of one.
-use Rattle.std.specs.Prelude.{◌≡◌, ℕ, Bool, true, false, ◌&&◌, nat_le, List, length, map, All, Option, Some, None, Result, Ok, Err}
+use Rattle.std.specs.Prelude.{◌≡◌, ℕ, Bool, true, false, ◌&&◌, nat_le, List, length, All, Option, Some, None, Result, Ok, Err}
 use Rattle.farm_base.specs.Contents.{content_digest}
-use Rattle.protocol.specs.Nodes.{left_of}
 use Rattle.protocol.specs.Farm.{farm_limits}
 use Rattle.protocol.specs.Lists.{nth, put}
 use Rattle.protocol.specs.Names.{NodeId}
@@ -48,7 +47,7 @@ abbrev pub called : Call → Place → Node → NodeAnswer
 called (call.Ask wants) p x = asked farm_limits p wants x
 called (call.Tenure folder) p x = asked_tenure farm_limits p folder x
 called (call.Begin t) p x = begun t x
-called (call.Finish t lefts) p x = finished_with content_digest p t (map left_of lefts) x
+called (call.Finish t lefts) p x = finished_with content_digest p t lefts x
 called (call.Abort t) p x = aborted p t x
 called (call.Forge content) p x = unless_spent x (brought content_digest content x)
 

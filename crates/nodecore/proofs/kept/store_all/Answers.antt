@@ -1,22 +1,17 @@
-use Rattle.std.proofs.Common.{◌∷◌, [], ℕ, List, Option, map, is_some, ap, sym, ◌∙◌, arith, length-append}
+use Rattle.std.proofs.Common.{ℕ, List, Option, is_some, ap, sym, ◌∙◌, arith, length-append}
 use Rattle.std.specs.Prelude.{if◌then◌else◌}
-use Rattle.std.proofs.lemmas.List.{map-append}
 use Rattle.farm_base.specs.Contents.{content_digest}
 use Rattle.protocol.specs.Names.{Digest}
-use Rattle.protocol.specs.Nodes.{Left, stored}
 use Rattle.protocol.specs.World.{keep}
-use Rattle.nodecore.specs.Shown.{left_of, store_in}
+use Rattle.nodecore.specs.Shown.{store_in}
 use Rattle.nodecore.proofs.MapLemmas.{stored-push}
 use Rattle.nodecore.proofs.kept.store_all.Goals as goal
 
 pub loop-content-preserved : goal.loop-content-preserved
 loop-content-preserved c =
-    let x = left_of (c.in-Some.field-0-0, c.in-Some.content) in
-    let lefts = map left_of c.loop-content.yielded in
     record {
       contents = c.store.ensures.store
           ∙ ap (λ (s : Digest → Option (List ℕ)). if is_some (s (content_digest c.in-Some.content)) then s else keep (content_digest c.in-Some.content) c.in-Some.content s) c.loop-content.invariant.contents
-          ∙ sym (stored-push content_digest lefts x (store_in c.args.contents.now))
-          ∙ ap (λ (l : List Left). stored content_digest l (store_in c.args.contents.now)) (sym (map-append left_of c.loop-content.yielded ((c.in-Some.field-0-0, c.in-Some.content) ∷ [])));
+          ∙ sym (stored-push content_digest c.loop-content.yielded (c.in-Some.field-0-0, c.in-Some.content) (store_in c.args.contents.now));
       room = simp length-append (omega (arith, c.store.ensures.spare, c.loop-content.invariant.room));
     }

@@ -1,15 +1,14 @@
-use Rattle.std.proofs.Common.{◌≡◌, List, ◌+◌, [], map, true, false, None, Some, refl, ap, sym, ◌∙◌, rules, arith}
+use Rattle.std.proofs.Common.{◌≡◌, List, ◌+◌, [], true, false, None, Some, refl, ap, sym, ◌∙◌, rules, arith}
 use Rattle.std.specs.List.{position}
-use Rattle.protocol.specs.World.{Running}
+use Rattle.protocol.specs.declared.ask.KeptAsk.TheVariants.{Running}
 use Rattle.protocol.specs.Nodes.{held, all_stored}
-use Rattle.nodecore.specs.declared.asks.Stage.TheVariants as stage
-use Rattle.nodecore.specs.Asks.{shown_ask, slots_in, at_stage}
+use Rattle.nodecore.specs.Asks.{slots_in, runs}
 use Rattle.nodecore.specs.Shown.{shown}
 use Rattle.nodecore.proofs.FirstLemmas.{FirstAt, picks, some_first, none_first}
 use Rattle.nodecore.proofs.KeptLemmas.{held_at, read_at}
-use Rattle.nodecore.proofs.NodeLemmas.{begins_not, begins_missing, begins, becomes_shown}
-use Rattle.nodecore.specs.declared.asks.KeptAsk.{KeptAsk}
-use Rattle.nodecore.proofs.OverLemmas.{over_staged}
+use Rattle.nodecore.proofs.NodeLemmas.{begins_not, begins_missing, begins, becomes_at}
+use Rattle.protocol.specs.declared.ask.KeptAsk.{KeptAsk}
+use Rattle.nodecore.proofs.OverLemmas.{over_changed}
 use Rattle.nodecore.proofs.node_core.NodeCore.begin.Goals as goal
 
 pub returns-in_default-clause-answer : goal.returns-in_default-clause-answer
@@ -34,14 +33,14 @@ returns-clause-answer c =
     let slots : c.slots.result.now ≡ f.what.grant.slots = c.slots.ensures ∙ ap slots_in read in
     let here : all_stored (shown c.args.self.now) f.what.grant.slots ≡ true = ap (all_stored (shown c.args.self.now)) (sym slots) ∙ sym c.has_all.ensures ∙ search rules in
     let written = read_at (held_at c.args.ticket c.args.self.now.asks.items c.in-Some.place f) c.index_mut.result.now (search rules) in
-    let next : Running f.what.wants f.what.grant f.what.recalled ≡ shown_ask c.come_to.new.self = sym (ap shown_ask (c.come_to.ensures ∙ ap (at_stage stage.Running) written)) in
-    let quiet : [] ≡ c.new-2.result = sym ((c.new-2.ensures ∙ c.new.ensures.items)) in
+    let next : Running f.what.wants f.what.grant f.what.recalled ≡ c.begin.new.ask = sym (c.begin.ensures ∙ ap runs written) in
+    let quiet : [] ≡ c.new-2.result = sym (c.new-2.ensures ∙ c.new.ensures.items) in
     begins c.args.ticket (shown c.args.self.now) _ (c.in-Some.place + 1) f.what _ c.if-self.false (f.found (c.in-Some.place + 1) (omega arith)) here quiet
-    (becomes_shown (shown c.args.self.now) c.args.self.now.asks.items c.in-Some.place c.come_to.new.self _ refl next)
+    (becomes_at (shown c.args.self.now) c.args.self.now.asks.items c.in-Some.place c.begin.new.ask _ refl next)
 
 pub invariant_of-self : goal.invariant_of-self
 invariant_of-self c =
     let asks : List KeptAsk = c.args.self.now.asks.items in
     let at : position (picks (held c.args.ticket)) asks ≡ Some c.in-Some.place = search rules in
     let f : FirstAt (held c.args.ticket) asks 0 c.in-Some.place = some_first (held c.args.ticket) asks c.in-Some.place at in
-    record { settled = over_staged c.args.self.now.over asks c.in-Some.place stage.Running c.index_mut.result.now c.come_to.new.self c.args.self.now.settled f.inside c.index_mut.ensures.value c.come_to.ensures }
+    record { settled = over_changed runs c.args.self.now.over asks c.in-Some.place c.index_mut.result.now c.begin.new.ask (λ how. refl) c.args.self.now.settled f.inside c.index_mut.ensures.value c.begin.ensures }

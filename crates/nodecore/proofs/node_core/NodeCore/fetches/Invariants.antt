@@ -1,4 +1,4 @@
-use Rattle.std.proofs.Common.{◌≡◌, ◌++◌, drop, map}
+use Rattle.std.proofs.Common.{◌≡◌, ◌++◌, drop}
 use Rattle.protocol.specs.Farm.{farm_limits}
 use Rattle.protocol.specs.Nodes.{fetches}
 use Rattle.nodecore.specs.Shown.{shown, place}

@@ -1,14 +1,14 @@
 use Rattle.std.proofs.Common.{◌≡◌, ◌+◌, [], None, Some, refl, ap, sym, ◌∙◌, rules, arith}
 use Rattle.std.specs.List.{position}
-use Rattle.protocol.specs.World.{Over, learn_versions}
+use Rattle.protocol.specs.World.{learn_versions}
+use Rattle.protocol.specs.declared.ask.KeptAsk.TheVariants.{Over}
 use Rattle.protocol.specs.Nodes.{learned, finished}
 use Rattle.protocol.specs.declared.answer.How.TheVariants as how
 use Rattle.protocol.specs.declared.answer.NodeNote.TheVariants as note
-use Rattle.nodecore.specs.declared.asks.KeptAsk.TheVariants as kept
 use Rattle.nodecore.specs.Shown.{shown, work_of, known_in, learn_all}
 use Rattle.nodecore.proofs.MapLemmas.{versions_learned, same_known}
 use Rattle.nodecore.proofs.FirstLemmas.{FirstAt, picks, some_first, none_first}
-use Rattle.nodecore.proofs.NodeLemmas.{becomes_shown}
+use Rattle.nodecore.proofs.NodeLemmas.{becomes_at}
 use Rattle.nodecore.proofs.node_core.NodeCore.learn_news.Goals as goal
 
 pub returns-in_default-clause-work : goal.returns-in_default-clause-work
@@ -21,7 +21,7 @@ pub returns-clause-work : goal.returns-clause-work
 returns-clause-work c =
     let at : position (picks (finished c.args.ticket)) c.args.self.now.asks.items ≡ Some c.in-Some.index = search rules in
     let f : FirstAt (finished c.args.ticket) c.args.self.now.asks.items 0 c.in-Some.index = some_first (finished c.args.ticket) c.args.self.now.asks.items c.in-Some.index at in
-    let node = becomes_shown (shown c.args.self.now) c.args.self.now.asks.items c.in-Some.index (kept.Over how.Committed) (Over how.Committed) refl refl in
+    let node = becomes_at (shown c.args.self.now) c.args.self.now.asks.items c.in-Some.index (Over how.Committed) (Over how.Committed) refl refl in
     let known : learn_versions c.args.versions.now (known_in c.args.self.now.versions) ≡ known_in c.learn.new.known =
     versions_learned c.args.versions.now (known_in c.args.self.now.versions)
     ∙ sym (c.learn.ensures ∙ (λ j. learn_all (c.in_ok-named.ensures j) (same_known c.args.self.now.versions c.reserve.new.self c.reserve.ensures.entries j))) in

@@ -1,40 +1,36 @@
-use Rattle.std.proofs.Common.{◌≡◌, ◌+◌, ◌<◌, ◌∷◌, [], ℕ, List, Option, length, map, ap, sym, ◌∙◌, arith}
+use Rattle.std.proofs.Common.{◌≡◌, ◌+◌, ◌<◌, ◌∷◌, [], ℕ, List, Option, length, refl, ap, sym, ◌∙◌, arith}
 use Rattle.std.proofs.lemmas.Grind.{common_steps}
-use Rattle.std.proofs.lemmas.List.{length-map}
 use Rattle.std.proofs.lemmas.Option.{get_or_from_slice_get}
 use Rattle.farm_base.specs.Contents.{content_digest}
 use Rattle.protocol.specs.Names.{Slot, Digest}
 use Rattle.protocol.specs.Machine.{News, commit}
-use Rattle.protocol.specs.World.{Finished}
+use Rattle.protocol.specs.declared.ask.KeptAsk.TheVariants.{Running, Finished}
 use Rattle.protocol.specs.Nodes.{news_of, stored}
-use Rattle.nodecore.specs.declared.asks.KeptAsk.TheVariants as kept
-use Rattle.nodecore.specs.declared.asks.Stage.TheVariants as stage
-use Rattle.nodecore.specs.Asks.{shown_ask, at_stage}
-use Rattle.nodecore.specs.Shown.{shown, place, left_of, store_in}
+use Rattle.nodecore.specs.Asks.{ends_with}
+use Rattle.nodecore.specs.Shown.{shown, place, store_in}
 use Rattle.nodecore.proofs.MapLemmas.{same_store}
-use Rattle.nodecore.proofs.NodeLemmas.{left_work, set_shown}
-use Rattle.nodecore.specs.declared.asks.KeptAsk.{KeptAsk}
-use Rattle.nodecore.proofs.OverLemmas.{over_staged}
+use Rattle.nodecore.proofs.NodeLemmas.{left_work, set_at}
+use Rattle.protocol.specs.declared.ask.KeptAsk.{KeptAsk}
+use Rattle.nodecore.proofs.OverLemmas.{over_changed}
 use Rattle.nodecore.proofs.node_core.NodeCore.leave.Goals as goal
 
 pub returns-clause-work : goal.returns-clause-work
 returns-clause-work c = λ h get ticket.
-    let filled : 0 < length c.args.lefts.items = grind (arith, common_steps) in
-    let some : 0 < length (map left_of c.args.lefts.items) = simp length-map filled in
-    let news : c.in_ok-news.news ≡ news_of content_digest (map left_of c.args.lefts.items) =
-    c.in_ok-news.ensures ∙ ap (λ (ls : List (Slot × List ℕ)). news_of content_digest (map left_of ls)) c.as_slice.ensures.value in
-    let old : c.index_mut.result.now ≡ kept.Granted h.wants h.grant h.recalled stage.Running =
-    c.index_mut.ensures.value ∙ get_or_from_slice_get c.args.self.now.asks.items c.args.index (kept.Granted h.wants h.grant h.recalled stage.Running) c.index_mut.result.now get in
-    let next : Finished h.wants h.grant c.in_ok-news.news ≡ shown_ask c.come_to.new.self = sym (ap shown_ask (c.come_to.ensures ∙ ap (at_stage (stage.Finished c.in_ok-news.news)) old)) in
-    let contents : stored content_digest (map left_of c.args.lefts.items) (store_in c.args.self.now.contents) ≡ store_in c.store_all.new.contents =
-    sym (c.store_all.ensures ∙ ap (λ (s : Digest → Option (List ℕ)). stored content_digest (map left_of c.args.lefts.items) s) (same_store c.args.self.now.contents c.reserve.new.self c.in_ok-reserve.ensures.entries)) in
+    let some : 0 < length c.args.lefts.items = grind (arith, common_steps) in
+    let news : c.in_ok-news.news ≡ news_of content_digest c.args.lefts.items =
+    c.in_ok-news.ensures ∙ ap (λ (ls : List (Slot × List ℕ)). news_of content_digest ls) c.as_slice.ensures.value in
+    let old : c.index_mut.result.now ≡ Running h.wants h.grant h.recalled =
+    c.index_mut.ensures.value ∙ get_or_from_slice_get c.args.self.now.asks.items c.args.index (Running h.wants h.grant h.recalled) c.index_mut.result.now get in
+    let next : Finished h.wants h.grant c.in_ok-news.news ≡ c.finish.new.ask = sym (c.finish.ensures ∙ ap (ends_with c.in_ok-news.news) old) in
+    let contents : stored content_digest c.args.lefts.items (store_in c.args.self.now.contents) ≡ store_in c.store_all.new.contents =
+    sym (c.store_all.ensures ∙ ap (λ (s : Digest → Option (List ℕ)). stored content_digest c.args.lefts.items s) (same_store c.args.self.now.contents c.reserve.new.self c.in_ok-reserve.ensures.entries)) in
     let sends : commit c.args.self.now.node c.args.self.now.life c.args.ticket c.in_ok-news.news ∷ [] ≡ c.in_ok-sends.sends =
     sym (c.in_ok-sends.ensures ∙ ap (λ (n : List News). commit c.args.self.now.node c.args.self.now.life c.args.ticket n ∷ []) c.in_ok-copy.ensures) in
-    left_work (place c.args.self.now) c.args.ticket (c.args.index + 1) h (map left_of c.args.lefts.items) c.in_ok-news.news (shown c.args.self.now) _ _ _ some ticket news
-    (set_shown c.args.self.now.asks.items c.args.index c.come_to.new.self (Finished h.wants h.grant c.in_ok-news.news) next) contents sends
+    left_work (place c.args.self.now) c.args.ticket (c.args.index + 1) h c.args.lefts.items c.in_ok-news.news (shown c.args.self.now) _ _ _ some ticket news
+    (set_at c.args.self.now.asks.items c.args.index c.finish.new.ask (Finished h.wants h.grant c.in_ok-news.news) next) contents sends
 
 pub invariant_of-self-2 : goal.invariant_of-self-2
 invariant_of-self-2 c =
     let asks : List KeptAsk = c.args.self.now.asks.items in
     let inside : c.args.index < length asks = omega (arith, c.requires) in
-    record { settled = over_staged c.args.self.now.over asks c.args.index (stage.Finished c.in_ok-news.news) c.index_mut.result.now c.come_to.new.self c.args.self.now.settled inside c.index_mut.ensures.value c.come_to.ensures }
+    record { settled = over_changed (ends_with c.in_ok-news.news) c.args.self.now.over asks c.args.index c.index_mut.result.now c.finish.new.ask (λ how. refl) c.args.self.now.settled inside c.index_mut.ensures.value c.finish.ensures }

@@ -1,4 +1,4 @@
-use Rattle.std.proofs.Common.{rules, ◌≡◌, ◌<◌, ◌+◌, ◌∷◌, [], ◌++◌, List, true, false, map, ap, sym, ◌∙◌, append_assoc}
+use Rattle.std.proofs.Common.{rules, ◌≡◌, ◌<◌, ◌+◌, ◌∷◌, [], ◌++◌, List, true, false, ap, sym, ◌∙◌, append_assoc}
 use Rattle.protocol.specs.Machine.{Message}
 use Rattle.nodecore.specs.Shown.{place}
 use Rattle.nodecore.proofs.FetchLemmas.{fetches_above, fetches-next, fetch_to, is_other}

@@ -1,4 +1,4 @@
-use Rattle.std.proofs.Common.{◌≡◌, ◌++◌, map}
+use Rattle.std.proofs.Common.{◌≡◌, ◌++◌}
 use Rattle.protocol.specs.Nodes.{fetches_of}
 use Rattle.nodecore.specs.Shown.{place}
 use Rattle.nodecore.proofs.FetchLemmas.{fetches_above}

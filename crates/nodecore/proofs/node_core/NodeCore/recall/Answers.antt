@@ -3,13 +3,13 @@ use Rattle.std.specs.List.{position}
 use Rattle.protocol.specs.World.{Node}
 use Rattle.protocol.specs.Nodes.{recalled, recallable}
 use Rattle.protocol.specs.declared.answer.NodeNote.TheVariants as note
-use Rattle.nodecore.specs.declared.asks.KeptAsk.{KeptAsk}
-use Rattle.nodecore.specs.Asks.{shown_ask}
+use Rattle.protocol.specs.declared.ask.KeptAsk.{KeptAsk}
+use Rattle.nodecore.specs.Asks.{recalls}
 use Rattle.nodecore.proofs.KeptLemmas.{recalls_is}
 use Rattle.nodecore.specs.Shown.{shown, work_of}
 use Rattle.nodecore.proofs.FirstLemmas.{FirstAt, picks, some_first, none_first}
-use Rattle.nodecore.proofs.NodeLemmas.{becomes_shown}
-use Rattle.nodecore.proofs.OverLemmas.{over_recalled}
+use Rattle.nodecore.proofs.NodeLemmas.{becomes_at}
+use Rattle.nodecore.proofs.OverLemmas.{over_changed}
 use Rattle.nodecore.proofs.node_core.NodeCore.recall.Goals as goal
 
 pub returns-in_default-clause-work : goal.returns-in_default-clause-work
@@ -23,10 +23,10 @@ returns-clause-work c =
     let at : position (picks (recallable c.args.ticket)) c.args.self.now.asks.items ≡ Some c.in-Some.index = search rules in
     let f : FirstAt (recallable c.args.ticket) c.args.self.now.asks.items 0 c.in-Some.index = some_first (recallable c.args.ticket) c.args.self.now.asks.items c.in-Some.index at in
     let old : c.index_mut.result.now ≡ get_or c.args.self.now.asks.items c.in-Some.index c.index_mut.result.now = c.index_mut.ensures.value in
-    let next : f.what ≡ shown_ask c.recall.new.self =
-    sym (ap shown_ask c.recall.ensures ∙ recalls_is c.args.ticket c.index_mut.result.now f.what (ap (λ (d : KeptAsk). recallable c.args.ticket (shown_ask d)) old ∙ f.here c.index_mut.result.now)) in
+    let next : f.what ≡ c.recall.new.ask =
+    sym (c.recall.ensures ∙ recalls_is c.args.ticket c.index_mut.result.now f.what (ap (λ (d : KeptAsk). recallable c.args.ticket d) old ∙ f.here c.index_mut.result.now)) in
     ap (recalled c.args.ticket (shown c.args.self.now)) (f.found (c.in-Some.index + 1) (omega arith))
-    ∙ ap (λ (y : Node). record { node = y; sends = []; note = note.Recalled c.args.ticket }) (becomes_shown (shown c.args.self.now) c.args.self.now.asks.items c.in-Some.index c.recall.new.self f.what refl next)
+    ∙ ap (λ (y : Node). record { node = y; sends = []; note = note.Recalled c.args.ticket }) (becomes_at (shown c.args.self.now) c.args.self.now.asks.items c.in-Some.index c.recall.new.ask f.what refl next)
     ∙ sym (ap (work_of _) c.silent-2.ensures)
 
 pub invariant_of-self : goal.invariant_of-self
@@ -34,4 +34,4 @@ invariant_of-self c =
     let asks : List KeptAsk = c.args.self.now.asks.items in
     let at : position (picks (recallable c.args.ticket)) asks ≡ Some c.in-Some.index = search rules in
     let f : FirstAt (recallable c.args.ticket) asks 0 c.in-Some.index = some_first (recallable c.args.ticket) asks c.in-Some.index at in
-    record { settled = over_recalled c.args.self.now.over asks c.in-Some.index c.index_mut.result.now c.recall.new.self c.args.self.now.settled f.inside c.index_mut.ensures.value c.recall.ensures }
+    record { settled = over_changed recalls c.args.self.now.over asks c.in-Some.index c.index_mut.result.now c.recall.new.ask (λ how. refl) c.args.self.now.settled f.inside c.index_mut.ensures.value c.recall.ensures }

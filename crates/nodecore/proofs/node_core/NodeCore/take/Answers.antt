@@ -1,19 +1,19 @@
-use Rattle.std.proofs.Common.{◌≡◌, ◌<◌, ℕ, false, List, length, arith, map, ap, sym, ◌∙◌}
+use Rattle.std.proofs.Common.{◌≡◌, ◌<◌, ℕ, false, List, length, arith, map, refl, ap, sym, ◌∙◌}
 use Rattle.std.proofs.Math.ListN.{set}
 use Rattle.std.proofs.lemmas.Option.{get_or_from_slice_get}
 use Rattle.protocol.specs.Farm.{farm_limits}
 use Rattle.protocol.specs.Lists.{set_nth}
 use Rattle.protocol.specs.Machine.{GrantedSlot}
-use Rattle.protocol.specs.World.{Holding, learn_bases}
+use Rattle.protocol.specs.World.{learn_bases}
+use Rattle.protocol.specs.declared.ask.KeptAsk.TheVariants.{Open, Holding}
 use Rattle.protocol.specs.Nodes.{fetches}
 use Rattle.protocol.specs.declared.answer.NodeNote.TheVariants as note
-use Rattle.nodecore.specs.declared.asks.KeptAsk.TheVariants as kept
-use Rattle.nodecore.specs.Asks.{shown_ask, holds}
+use Rattle.nodecore.specs.Asks.{holds}
 use Rattle.nodecore.specs.Shown.{shown, place, base_of, known_in, learn_all}
 use Rattle.nodecore.proofs.MapLemmas.{bases_learned, same_known}
-use Rattle.nodecore.proofs.NodeLemmas.{set_shown}
-use Rattle.nodecore.specs.declared.asks.KeptAsk.{KeptAsk}
-use Rattle.nodecore.proofs.OverLemmas.{over_held}
+use Rattle.nodecore.proofs.NodeLemmas.{set_at}
+use Rattle.protocol.specs.declared.ask.KeptAsk.{KeptAsk}
+use Rattle.nodecore.proofs.OverLemmas.{over_changed}
 use Rattle.nodecore.proofs.node_core.NodeCore.take.Goals as goal
 
 pub returns-clause-work : goal.returns-clause-work
@@ -22,21 +22,21 @@ returns-clause-work c = λ wants tenure get number.
     let x = shown c.args.self.now in
     let asks = c.args.self.now.asks.items in
     let i = c.args.index in
-    let old : c.index_mut.result.now ≡ kept.Open wants tenure =
-    c.index_mut.ensures.value ∙ get_or_from_slice_get asks i (kept.Open wants tenure) c.index_mut.result.now get in
-    let next : Holding wants grant false ≡ shown_ask c.hold.new.self = sym (ap shown_ask (c.hold.ensures ∙ (λ j. holds (c.in_ok-held.ensures j) (old j)))) in
+    let old : c.index_mut.result.now ≡ Open wants tenure =
+    c.index_mut.ensures.value ∙ get_or_from_slice_get asks i (Open wants tenure) c.index_mut.result.now get in
+    let next : Holding wants grant false ≡ c.hold.new.ask = sym ((c.hold.ensures ∙ (λ j. holds (c.in_ok-held.ensures j) (old j)))) in
     let bases : c.in_ok-bases.bases.items ≡ map base_of grant.slots = c.in_ok-bases.ensures ∙ ap (λ (us : List GrantedSlot). map base_of us) c.as_slice-2.ensures in
     let known : learn_bases grant.slots (known_in c.args.self.now.versions) ≡ known_in c.learn.new.known =
     bases_learned grant.slots (known_in c.args.self.now.versions)
     ∙ sym (c.learn.ensures ∙ (λ j. learn_all (bases j) (same_known c.args.self.now.versions c.reserve.new.self c.reserve.ensures.entries j))) in
     let sends : fetches farm_limits (place c.args.self.now) x grant.slots ≡ c.new.result =
     sym (c.new.ensures ∙ c.in_ok-sends.ensures ∙ ap (λ (us : List GrantedSlot). fetches farm_limits (place c.args.self.now) x us) c.as_slice.ensures) in
-    let kept_asks : set_nth (map shown_ask asks) grant.ask.0 (Holding wants grant false) ≡ map shown_ask (set asks i c.hold.new.self) =
-    ap (λ (a : ℕ). set_nth (map shown_ask asks) a (Holding wants grant false)) number ∙ set_shown asks i c.hold.new.self (Holding wants grant false) next in
+    let kept_asks : set_nth asks grant.ask.0 (Holding wants grant false) ≡ (set asks i c.hold.new.ask) =
+    ap (λ (a : ℕ). set_nth asks a (Holding wants grant false)) number ∙ set_at asks i c.hold.new.ask (Holding wants grant false) next in
     λ j. record { node = record x { asks = kept_asks j; known = known j }; sends = sends j; note = note.Took (sym c.in_ok-told.ensures j) }
 
 pub invariant_of-self-2 : goal.invariant_of-self-2
 invariant_of-self-2 c =
     let asks : List KeptAsk = c.args.self.now.asks.items in
     let inside : c.args.index < length asks = omega (arith, c.requires) in
-    record { settled = over_held c.args.self.now.over asks c.args.index c.in_ok-held.held c.index_mut.result.now c.hold.new.self c.args.self.now.settled inside c.index_mut.ensures.value c.hold.ensures }
+    record { settled = over_changed (holds c.in_ok-held.held) c.args.self.now.over asks c.args.index c.index_mut.result.now c.hold.new.ask (λ how. refl) c.args.self.now.settled inside c.index_mut.ensures.value c.hold.ensures }

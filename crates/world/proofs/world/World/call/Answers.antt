@@ -1,4 +1,4 @@
-use Rattle.std.proofs.Common.{◌≡◌, map, ◌≤◌, true, List, Ok, Err, length, ap, sym, arith, subst}
+use Rattle.std.proofs.Common.{◌≡◌, ◌≤◌, true, List, Ok, Err, length, sym, arith, subst}
 use Rattle.std.proofs.lemmas.Grind.{common_steps}
 use Rattle.protocol.specs.Names.{NodeId}
 use Rattle.protocol.specs.Replay.{Farm, is_node, node_does}

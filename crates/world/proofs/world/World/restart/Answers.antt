@@ -1,4 +1,4 @@
-use Rattle.std.proofs.Common.{◌≡◌, map, true, List, Err, length, ap, sym, subst}
+use Rattle.std.proofs.Common.{◌≡◌, true, List, Err, length, sym, subst}
 use Rattle.protocol.specs.Names.{NodeId}
 use Rattle.protocol.specs.Replay.{Farm, is_node}
 use Rattle.protocol.specs.declared.answer.EventRefusal.{EventRefusal}

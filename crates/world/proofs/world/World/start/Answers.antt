@@ -1,4 +1,3 @@
-use Rattle.std.proofs.Common.{ap, map}
 use Rattle.protocol.specs.Ledger.{saves}
 use Rattle.protocol.specs.Replay.{opening}
 use Rattle.farm_base.specs.Contents.{content_digest}
