@@ -24,4 +24,7 @@ pub returns-clause-chronicle : goal.returns-clause-chronicle
 returns-clause-chronicle c = c.every_schedule_means.ensures.chronicle content_digest farm_limits is_farm c.args.setup.nodes (map event_of c.args.events.now)
 
 pub returns-clause-headline : goal.returns-clause-headline
-returns-clause-headline c = λ early rest e. c.every_schedule_means.ensures.headline content_digest farm_limits is_farm c.args.setup.nodes early
+returns-clause-headline c = λ early rest e. (
+  c.every_schedule_means.ensures.headline content_digest farm_limits is_farm c.args.setup.nodes early,
+  c.every_schedule_means.ensures.versions content_digest farm_limits is_farm c.args.setup.nodes early,
+)
