@@ -107,7 +107,7 @@ pub fn chain(alloc: Global, count: usize, metadata: bool) -> Result<Vec<u8>, All
     written(alloc, entries, metadata)
 }
 
-/// A vertex that takes all of so many others.
+/// A vertex that takes all of `count` others.
 pub fn wide(alloc: Global, count: usize) -> Result<Vec<u8>, AllocError> {
     let mut entries = BodyList::new(alloc);
     let mut digests = Vec::new(alloc);

@@ -24,7 +24,7 @@ fn copies_of(alloc: Global, bytes: &[u8], copies: u32) -> Result<Vec<Vec<u8>>, A
     Ok(all)
 }
 
-/// The time of reading so many copies of a definition in turn, all of which are kept to the end.
+/// The time of reading `copies` copies of a definition in turn, all of which are kept to the end.
 fn reading<R: Clock + AllocGlobal>(rt: &R, bytes: &[u8], copies: u32) -> anyhow::Result<f64> {
     let copies = copies_of(rt.alloc(), bytes, copies)?;
     let mut kept: Vec<Definition> = Vec::new(rt.alloc());
@@ -51,7 +51,7 @@ fn hashing<R: Clock>(rt: &R, bytes: &[u8]) -> anyhow::Result<f64> {
     Ok(seconds_since(rt, start))
 }
 
-/// Measures in turn, over so many copies of a definition of so many vertices.
+/// The times of reading a definition and of hashing its bytes, measured in turn over `copies` copies.
 fn measured<R: Clock + AllocGlobal>(rt: &R, bytes: &[u8], copies: u32) -> anyhow::Result<Times> {
     let definition = read_definition(rt.alloc(), Vec::from_slice(rt.alloc(), bytes)?)?;
     let size = f64::from(u32::try_from(bytes.len()).unwrap_or(u32::MAX));

@@ -99,7 +99,7 @@ pub(crate) fn drop_asks_of(parked: &mut Vec<Parked>, node: NodeId)
     parked.retain(|p| p.node != node);
 }
 
-/// An old home that is this node is no more.
+/// Clears the old home if it is this node.
 pub(crate) fn cleared(node: NodeId, old_home: Option<NodeId>) -> Option<NodeId>
     ensures { result ≡ cleared node old_home }
 {
@@ -118,7 +118,7 @@ pub(crate) fn is_home(node: NodeId, old_home: Option<NodeId>) -> bool
     }
 }
 
-/// Whether the news are for just the slots that may be written, in their order.
+/// Whether the news are for exactly the slots that may be written, in their order.
 fn fit_slots(news: &[News], slots: &[(Slot, bool)]) -> bool
     ensures { result ≡ slots_eq (slots_of news.now) (writable_slots slots.now) }
 {

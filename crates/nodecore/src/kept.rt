@@ -102,7 +102,7 @@ pub(crate) fn store_all(contents: &mut IndexMap<Digest, Content>, lefts: Vec<(Sl
     }
 }
 
-/// Whether an execution leaves just the slots that it may write, in their order.
+/// Whether an execution leaves exactly the slots that it may write, in their order.
 pub(crate) fn fits(lefts: &[(Slot, Content)], slots: &[GrantedSlot]) -> bool
     ensures { result ≡ slots_eq (slots_of (news_of content_digest lefts.now)) (written slots.now) }
 {

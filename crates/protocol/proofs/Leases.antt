@@ -148,7 +148,7 @@ pub lowest-taken : (free : Slot → Bool) (f : FolderName) (i k : ℕ) → free 
 unfolding lowest
 lowest-taken free f i k e = rw e refl
 
--- the lowest free instance is free, and one of so many from i on
+-- the lowest free instance is free, and one of the k from i on
 pub lowest_is : (free : Slot → Bool) (f : FolderName) (k i : ℕ) → lowest free f i k ≢ 0 → (free (record { folder = f; instance = lowest free f i k }) ≡ true) × (i ≤ lowest free f i k) × (lowest free f i k < i + k)
 lowest_is free f zero i h = absurd (h (lowest-none free f i))
 lowest_is free f (suc k) i h = elim (cases_bool (free (record { folder = f; instance = i }))) [

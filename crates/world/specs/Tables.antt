@@ -51,7 +51,7 @@ called (call.Finish t lefts) p x = finished_with content_digest p t lefts x
 called (call.Abort t) p x = aborted p t x
 called (call.Forge content) p x = unless_spent x (brought content_digest content x)
 
--- the first nodes of so many in all, in their first lives, each in its place
+-- the first so_far nodes of all, in their first lives, each in its place
 pub record AreFirstOf (all so_far : ℕ) (cores : List NodeCore) : Type 0 where
   pub len : length cores ≡ so_far
   pub first : All (λ x. shown x ≡ first_node content_digest) cores

@@ -16,7 +16,7 @@ use Rattle.protocol.specs.declared.answer.EventRefusal.TheVariants as refusal
 use Rattle.protocol.specs.Replay.{receiver}
 use Rattle.protocol.specs.declared.answer.Outcome.{Outcome}
 
--- the number of the first of so many messages that are sent next, 0 where none is
+-- the number of the first message that is sent after `before` others, 0 if none is sent
 abbrev pub first_number : ℕ → ℕ → ℕ
 first_number before zero = 0
 first_number before (suc count) = before + 1

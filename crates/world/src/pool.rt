@@ -32,7 +32,7 @@ pub(crate) fn message_at(pool: &[Message], number: u64) -> Option<&Message>
     Some(&pool[place])
 }
 
-/// The number of the first of so many messages that are sent next, 0 where none is.
+/// The number of the first of `count` messages that are sent next, 0 if `count` is 0.
 fn first_number(pool: &[Message], count: usize) -> u64
     ensures { result ≡ first_number (length pool.now) count }
 {
