@@ -24,7 +24,7 @@ use Rattle.protocol.specs.Nodes.{NodeAnswer, may_restart}
 use Rattle.protocol.specs.declared.answer.CoordRefusal.TheVariants as coord_refusal
 use Rattle.protocol.specs.declared.answer.EventRefusal.TheVariants as refusal
 use Rattle.protocol.proofs.Saying as saying
-use Rattle.protocol.specs.Follows.{lease_from, Agrees, KeptAgrees, holds, IsFarm, Shows}
+use Rattle.protocol.specs.Follows.{lease_from, Agrees, SavedAgrees, IsFarm, Shows}
 use Rattle.protocol.specs.Meaning.{message_adds, Finds, recorded, adds, Carried, Answered, Means, Of_older_life}
 use Rattle.protocol.specs.Chronicle.{unarmed, ChronicleFrom, EveryScheduleHasAChronicle, StaysOut, GoesOn, NoneShared, Writes, EveryVersionIsAnswered, Headline, EveryScheduleMeans, EveryFarmIsSaved, Covered, EveryRecordCovers, RestartReadsTheRecord}
 use Rattle.protocol.proofs.Steps.{same_grant, made_below}
@@ -35,7 +35,7 @@ use Rattle.protocol.proofs.Base.{cases_bool, none_some, some_is, in_left, in_app
 use Rattle.protocol.proofs.Worlds.{Whole, moves_inv, start_whole}
 use Rattle.protocol.proofs.Safety.{every_run_is_safe, every_run_stays_safe}
 use Rattle.protocol.proofs.Others.{unsaved_ends}
-use Rattle.protocol.proofs.Schedules.{handled_grew, moves_trans, step_next, run_next, from_opening, opening_shows, up_is}
+use Rattle.protocol.proofs.Schedules.{handled_grew, moves_trans, step_next, run_next, from_opening, opening_shows, up_is, up_saved}
 
 module _ (sha : List ℕ → Digest) (k : Limits) (farm : IsFarm sha k) where
   chronicle : (events : List Event) (s : Farm) (u : World) (earlier : List World) → Moves sha (start sha) u → ((w : World) → In w (u ∷ earlier) → Moves sha (start sha) w × Moves sha w u) → Shows sha u s → ChronicleFrom sha k events s u earlier
@@ -88,10 +88,10 @@ module _ (sha : List ℕ → Digest) (k : Limits) (farm : IsFarm sha k) where
 
   -- ---- one more event
 
-  coord_told : (d : Option Ledger) (r : Result Work CoordRefusal) (s : Farm) (o : Outcome) → (coordinated d r s).outcome ≡ Ok o → (c : CoordNote) × (o.note ≡ note.Coord c)
-  coord_told (Some q) r s o e = cc
-  coord_told None (Err x) s o e = cc
-  coord_told None (Ok w) s o e = by w.changed s.armed e
+  coord_told : (d : Bool) (r : Result Work CoordRefusal) (s : Farm) (o : Outcome) → (coordinated d r s).outcome ≡ Ok o → (c : CoordNote) × (o.note ≡ note.Coord c)
+  coord_told true r s o e = cc
+  coord_told false (Err x) s o e = cc
+  coord_told false (Ok w) s o e = by w.changed s.armed e
     where
       by : (b : Bool) (a : Option Kept) → (settled b a w s).outcome ≡ Ok o → (c : CoordNote) × (o.note ≡ note.Coord c)
       by false a e = (w.note, same e)
@@ -215,13 +215,11 @@ module _ (sha : List ℕ → Digest) (k : Limits) (farm : IsFarm sha k) where
 
   -- what the record's lines are
   saved_line : (u : World) (s : Farm) → Shows sha u s → (x : Slot) → s.saved.line x ≡ line (sha []) (recorded u.machine u.down) x
-  saved_line u s shows x = by u.down s.down refl refl shows.kept
+  saved_line u s shows x = by u.down refl shows.saved
     where
-      by : (d : Option Machine) (o : Option Ledger) → u.down ≡ d → s.down ≡ o → KeptAgrees (sha []) u.pool d o → s.saved.line x ≡ line (sha []) (recorded u.machine u.down) x
-      by None None e f h = ap (λ (r : Saved). r.line x) (shows.saved ∙ ap (λ o. saves (holds o s.ledger)) f) ∙ shows.now.lines x ∙ sym (ap (λ d. line (sha []) (recorded u.machine d) x) e)
-      by None (Some q) e f h = absurd h
-      by (Some m) None e f h = absurd h
-      by (Some m) (Some q) e f h = ap (λ (r : Saved). r.line x) (shows.saved ∙ ap (λ o. saves (holds o s.ledger)) f) ∙ h.lines x ∙ sym (ap (λ d. line (sha []) (recorded u.machine d) x) e)
+      by : (d : Option Machine) → u.down ≡ d → SavedAgrees (sha []) u.pool d s → s.saved.line x ≡ line (sha []) (recorded u.machine u.down) x
+      by None e h = ap (λ (r : Saved). r.line x) h.1 ∙ shows.now.lines x ∙ sym (ap (λ d. line (sha []) (recorded u.machine d) x) e)
+      by (Some m) e (down, (q, agrees, same)) = ap (λ (r : Saved). r.line x) same ∙ agrees.lines x ∙ sym (ap (λ d. line (sha []) (recorded u.machine d) x) e)
 
   -- ---- what a save that failed kept
 
@@ -248,10 +246,10 @@ module _ (sha : List ℕ → Digest) (k : Limits) (farm : IsFarm sha k) where
     | inr new ↦ inr (_, refl, new)
   ]
 
-  coordinated_kept : (s : Farm) (e : Event) (d : Option Ledger) (r : Result Work CoordRefusal) (x : Slot) (v : LineVersion) → Lines s e r → KeptBy s e (λ t. coordinated d r t) x v
-  coordinated_kept s e (Some q) r x v lines fault i = inl (inr i)
-  coordinated_kept s e None (Err r) x v lines fault i = inl (inr i)
-  coordinated_kept s e None (Ok w) x v lines fault i = settled_kept s e w w.changed s.armed x v lines fault i
+  coordinated_kept : (s : Farm) (e : Event) (d : Bool) (r : Result Work CoordRefusal) (x : Slot) (v : LineVersion) → Lines s e r → KeptBy s e (λ t. coordinated d r t) x v
+  coordinated_kept s e true r x v lines fault i = inl (inr i)
+  coordinated_kept s e false (Err r) x v lines fault i = inl (inr i)
+  coordinated_kept s e false (Ok w) x v lines fault i = settled_kept s e w w.changed s.armed x v lines fault i
 
   at_node_kept : (b : Bool) (n : NodeId) (a : NodeAnswer) (s : Farm) (x : Slot) (v : LineVersion) → In v ((at_node b n a s).farm.saved.line x) → Stood s x v
   at_node_kept true n (Ok w) s x v i = inr i
@@ -412,7 +410,7 @@ pub every_schedule_means : EveryScheduleMeans
 every_schedule_means sha k farm size events = (let r = from_opening sha k farm size events in headline sha k farm r.world r.moves (run sha k events (opening sha size)) r.shows)
 
 pub every_farm_is_saved : EveryFarmIsSaved
-every_farm_is_saved sha k farm size events = (let r = from_opening sha k farm size events in r.shows.saved)
+every_farm_is_saved sha k farm size events = (let r = from_opening sha k farm size events in up_saved sha k farm r.world r.moves (run sha k events (opening sha size)) r.shows Nudge)
 
 pub restart_reads_the_record : RestartReadsTheRecord
 unfolding step
@@ -420,7 +418,7 @@ restart_reads_the_record sha k s t e = ap reads e
 
 -- of the machine that the record is of
 covered : (sha : List ℕ → Digest) (u : World) → Moves sha (start sha) u → (s : Farm) → Shows sha u s → Covered s
-covered sha u moves s shows = by u.down s.down refl refl shows.kept
+covered sha u moves s shows = by u.down refl shows.saved
   where
     whole : Whole sha u
     whole = (moves_inv sha (start sha) u (start_whole sha) moves).0
@@ -440,11 +438,9 @@ covered sha u moves s shows = by u.down s.down refl refl shows.kept
           (all.0, all.1, subst (λ (x : List LineVersion). slice_get x all.0 ≡ Some (record { ticket = t; digest = v.digest })) (sym (now.lines v.slot) ∙ sym (ap (λ (r : Saved). r.line v.slot) same)) all.2));
     }
 
-    by : (d : Option Machine) (o : Option Ledger) → u.down ≡ d → s.down ≡ o → KeptAgrees (sha []) u.pool u.down s.down → Covered s
-    by None None e f kept = of_it u.machine s.ledger whole.now shows.now (shows.saved ∙ ap (λ o. saves (holds o s.ledger)) f)
-    by None (Some q) e f kept = absurd (subst (λ o. KeptAgrees (sha []) u.pool None o) f (subst (λ d. KeptAgrees (sha []) u.pool d s.down) e kept))
-    by (Some m) None e f kept = absurd (subst (λ o. KeptAgrees (sha []) u.pool (Some m) o) f (subst (λ d. KeptAgrees (sha []) u.pool d s.down) e kept))
-    by (Some m) (Some q) e f kept = of_it m q (whole.kept m e).0 (subst (λ o. KeptAgrees (sha []) u.pool (Some m) o) f (subst (λ d. KeptAgrees (sha []) u.pool d s.down) e kept)) (shows.saved ∙ ap (λ o. saves (holds o s.ledger)) f)
+    by : (d : Option Machine) → u.down ≡ d → SavedAgrees (sha []) u.pool d s → Covered s
+    by None e saved = of_it u.machine s.ledger whole.now shows.now saved.1
+    by (Some m) e (down, (q, agrees, same)) = of_it m q (whole.kept m e).0 agrees same
 
 pub every_record_covers : EveryRecordCovers
 every_record_covers sha k farm size events = (let r = from_opening sha k farm size events in covered sha r.world r.moves (run sha k events (opening sha size)) r.shows)

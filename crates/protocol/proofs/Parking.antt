@@ -298,10 +298,10 @@ module _ (k : Limits) where
   settled_none true (Some Old) w s none old = old
   settled_none true (Some New) w s none old = old
 
-  coordinated_none : (d : Option Ledger) (r : Result Work CoordRefusal) (s : Farm) → OnWork r → NoneReady k s.ledger → NoneReady k (coordinated d r s).farm.ledger
-  coordinated_none (Some q) r s none old = old
-  coordinated_none None (Err e) s none old = old
-  coordinated_none None (Ok w) s none old = settled_none w.changed s.armed w s none old
+  coordinated_none : (d : Bool) (r : Result Work CoordRefusal) (s : Farm) → OnWork r → NoneReady k s.ledger → NoneReady k (coordinated d r s).farm.ledger
+  coordinated_none true r s none old = old
+  coordinated_none false (Err e) s none old = old
+  coordinated_none false (Ok w) s none old = settled_none w.changed s.armed w s none old
 
   at_node_none : (b : Bool) (n : NodeId) (a : NodeAnswer) (s : Farm) → NoneReady k s.ledger → NoneReady k (at_node b n a s).farm.ledger
   at_node_none true n (Ok w) s old = old

@@ -36,7 +36,7 @@ use Rattle.protocol.proofs.Leases.{core_of, grant-lease}
 use Rattle.protocol.proofs.Using.{Runs, Turned, NoGrant, Quiet, OneEach, one_each, OnNode, Begun, Stops, Aborts, asked_use, tenure_use, begun_use, finished_use, aborted_use, resent_use, heard_use, fetched_use, brought_use}
 use Rattle.std.specs.Prelude.{⊤, nat_lt}
 use Rattle.std.proofs.lemmas.Bool.Decides.{nat_tests}
-use Rattle.protocol.specs.Follows.{lease_from, Agrees, Works, Begins_work, Goes_on, Speaks, Follows, KeptAgrees, holds, Shows, IsFarm, SafeAfter, SafeBetween, EveryScheduleIsSafe, EveryScheduleStaysSafe, EveryEventIsMoves, FollowsOk, EveryDecisionFollows}
+use Rattle.protocol.specs.Follows.{lease_from, Agrees, Works, Begins_work, Goes_on, Speaks, Follows, SavedAgrees, Shows, IsFarm, SafeAfter, SafeBetween, EveryScheduleIsSafe, EveryScheduleStaysSafe, EveryEventIsMoves, FollowsOk, EveryDecisionFollows}
 use Rattle.protocol.proofs.Base.{cases_bool, cases_nat, true_false, not_true, and_both, none_some, some_is, in_left, put_same, put_other, nth_in, node_is, in_map, from_map}
 use Rattle.farm_base.specs.declared.message.FromCoord.TheVariants as message
 use Rattle.protocol.proofs.Steps.{Sound, made_below}
@@ -95,11 +95,14 @@ agrees_more empty pool more m q a = record {
   waits = a.waits;
 }
 
-kept_more : (empty : Digest) (pool more : List Message) (d : Option Machine) (e : Option Ledger) → KeptAgrees empty pool d e → KeptAgrees empty (pool ++ more) d e
-kept_more empty pool more None None h = tt
-kept_more empty pool more None (Some q) h = h
-kept_more empty pool more (Some m) None h = h
-kept_more empty pool more (Some m) (Some q) h = agrees_more empty pool more m q h
+saved_more : (empty : Digest) (pool more : List Message) (d : Option Machine) (s : Farm) → SavedAgrees empty pool d s → SavedAgrees empty (pool ++ more) d s
+saved_more empty pool more None s h = h
+saved_more empty pool more (Some m) s (down, (q, agrees, same)) = (down, (q, agrees_more empty pool more m q agrees, same))
+
+-- of another farm with the same ledger and record
+saved_as : (empty : Digest) (pool : List Message) (d : Option Machine) (s t : Farm) → t.down ≡ s.down → t.saved ≡ s.saved → t.ledger ≡ s.ledger → SavedAgrees empty pool d s → SavedAgrees empty pool d t
+saved_as empty pool None s t down saved ledger h = (down ∙ h.0, saved ∙ h.1 ∙ ap saves (sym ledger))
+saved_as empty pool (Some m) s t down saved ledger (is_down, (q, agrees, same)) = (down ∙ is_down, (q, agrees, saved ∙ same))
 
 map-push : (xs : List FromCoord) (y : FromCoord) → map Told (xs ++ y ∷ []) ≡ map Told xs ++ Told y ∷ []
 map-push [] y = refl
@@ -192,21 +195,19 @@ module _ (sha : List ℕ → Digest) (k : Limits) (farm : IsFarm sha k) where
     refused_so : (r : EventRefusal) → Because k u s e r → Next u s e (refused r s)
     refused_so r why = record { world = u; moves = Still u; shows = shows; means = same_world r; fair = why }
 
-    pub up_is : s.down ≡ None → u.down ≡ None
-    up_is e = by u.down s.down e shows.kept
+    pub up_is : s.down ≡ false → u.down ≡ None
+    up_is e = by u.down shows.saved
       where
-        by : (d : Option Machine) (o : Option Ledger) → o ≡ None → KeptAgrees (sha []) u.pool d o → d ≡ None
-        by None o e h = refl
-        by (Some m) None e h = absurd h
-        by (Some m) (Some q) e h = none_some q (sym e)
+        by : (d : Option Machine) → SavedAgrees (sha []) u.pool d s → d ≡ None
+        by None h = refl
+        by (Some m) h = true_false s.down h.0 e
 
-    pub down_is : (q : Ledger) → s.down ≡ Some q → u.down ≢ None
-    down_is q e = by u.down s.down e shows.kept
+    pub down_is : s.down ≡ true → u.down ≢ None
+    down_is e = by u.down shows.saved
       where
-        by : (d : Option Machine) (o : Option Ledger) → o ≡ Some q → KeptAgrees (sha []) u.pool d o → d ≢ None
-        by None None e h = λ z. none_some q e
-        by None (Some x) e h = absurd h
-        by (Some m) o e h = λ z. none_some m (sym z)
+        by : (d : Option Machine) → SavedAgrees (sha []) u.pool d s → d ≢ None
+        by None h = true_false s.down e h.0
+        by (Some m) h = λ z. none_some m (sym z)
 
     -- ---- the coordinator
 
@@ -282,7 +283,7 @@ module _ (sha : List ℕ → Digest) (k : Limits) (farm : IsFarm sha k) where
     abbrev after_world : Machine → Work → World
     after_world m w = record u { machine = m; pool = u.pool ++ map Told w.sends }
 
-    after_next : (saved : Saved) (told : EventNote) (w : Work) (c : saying.Change s.ledger) → saved ≡ saves w.ledger → Done told w c → s.down ≡ None → ((r : EventRefusal) → Because k u s e r → ⊥) → Next u s e (done told (map Told w.sends) s (record s { ledger = w.ledger; saved = saved; pool = s.pool ++ map Told w.sends }))
+    after_next : (saved : Saved) (told : EventNote) (w : Work) (c : saying.Change s.ledger) → saved ≡ saves w.ledger → Done told w c → s.down ≡ false → ((r : EventRefusal) → Because k u s e r → ⊥) → Next u s e (done told (map Told w.sends) s (record s { ledger = w.ledger; saved = saved; pool = s.pool ++ map Told w.sends }))
     after_next saved told w c kept d up' fair =
         let f = subst (λ z. Follows z u.pool u.machine (Meant u.machine (EndsAt u e told) w.note) w) farm.empty d.follows in
         let up = up_is up' in
@@ -295,8 +296,7 @@ module _ (sha : List ℕ → Digest) (k : Limits) (farm : IsFarm sha k) where
           moves = works_moves sha u m w.sends up (subst (λ z. Works z u.pool u.machine m w.sends) farm.empty d.follows.works);
           shows = record {
             now = now;
-            kept = kept_more (sha []) u.pool (map Told w.sends) u.down s.down shows.kept;
-            saved = kept ∙ sym (ap (λ d. saves (holds d w.ledger)) up');
+            saved = subst (λ d. SavedAgrees (sha []) pool d (record s { ledger = w.ledger; saved = saved; pool = s.pool ++ map Told w.sends })) (sym up) (up', kept);
             pool = ap (λ p. p ++ map Told w.sends) shows.pool;
             nodes = shows.nodes;
           };
@@ -313,20 +313,24 @@ module _ (sha : List ℕ → Digest) (k : Limits) (farm : IsFarm sha k) where
           fair = fair;
         }
 
-    fails_next : (saved : Saved) (w : Work) (m : Machine) → Steps (sha []) u.pool u.machine m → Agrees (sha []) u.pool m w.ledger → saved ≡ saves w.ledger → Survives sha u e m → s.down ≡ None → Because k u s e (refusal.Coord coord.SaveFault) → Next u s e (record { farm = record s { saved = saved; down = Some w.ledger; armed = None }; outcome = Err (refusal.Coord coord.SaveFault) })
+    fails_next : (saved : Saved) (w : Work) (m : Machine) → Steps (sha []) u.pool u.machine m → Agrees (sha []) u.pool m w.ledger → saved ≡ saves w.ledger → Survives sha u e m → s.down ≡ false → Because k u s e (refusal.Coord coord.SaveFault) → Next u s e (record { farm = record s { saved = saved; down = true; armed = None }; outcome = Err (refusal.Coord coord.SaveFault) })
     fails_next saved w m steps agrees same survives up why = record {
       world = record u { down = Some m };
       moves = Then u u (record u { down = Some m }) (Still u) (Fails m (up_is up) steps);
-      shows = record { now = shows.now; kept = agrees; saved = same; pool = shows.pool; nodes = shows.nodes };
+      shows = record { now = shows.now; saved = (refl, (w.ledger, agrees, same)); pool = shows.pool; nodes = shows.nodes };
       means = record { down = inr (refl, (m, refl, survives)); machine = refl; pool = refl; nodes = λ n. inl refl };
       fair = why;
     }
 
-    up_saved : s.down ≡ None → s.saved ≡ saves s.ledger
-    up_saved up = shows.saved ∙ ap (λ d. saves (holds d s.ledger)) up
+    pub up_saved : s.down ≡ false → s.saved ≡ saves s.ledger
+    up_saved up = by u.down shows.saved
+      where
+        by : (d : Option Machine) → SavedAgrees (sha []) u.pool d s → s.saved ≡ saves s.ledger
+        by None h = h.1
+        by (Some m) h = true_false s.down h.0 up
 
     -- what is accepted, nothing speaks against
-    taken : ForCoord u s e → s.down ≡ None → (w : Work) → decision_at k s e ≡ Some (Ok w) → ((r : CoordRefusal) → CallBecause k u.machine e r → ⊥) → ((s.armed ≡ None) ⊎ (w.changed ≡ false)) → (r : EventRefusal) → Because k u s e r → ⊥
+    taken : ForCoord u s e → s.down ≡ false → (w : Work) → decision_at k s e ≡ Some (Ok w) → ((r : CoordRefusal) → CallBecause k u.machine e r → ⊥) → ((s.armed ≡ None) ⊎ (w.changed ≡ false)) → (r : EventRefusal) → Because k u s e r → ⊥
     taken for up w decided exact saved refusal.NoSuchMessage (number, is, none) = for.heard number is none
     taken for up w decided exact saved refusal.NoSuchNode (n, inl at, none) = for.node n at
     taken for up w decided exact saved refusal.NoSuchNode (n, inr is, none) = for.retires n is none
@@ -358,7 +362,7 @@ module _ (sha : List ℕ → Digest) (k : Limits) (farm : IsFarm sha k) where
         by coord.NodeRetired why = exact coord.NodeRetired why.1
     taken for up w decided exact saved refusal.OutOfMemory why = why
 
-    settled_next : (changed : Bool) (armed : Option Kept) (w : Work) (c : saying.Change s.ledger) → w.changed ≡ changed → s.armed ≡ armed → ForCoord u s e → decision_at k s e ≡ Some (Ok w) → ((r : CoordRefusal) → CallBecause k u.machine e r → ⊥) → Done (event_note.Coord w.note) w c → s.down ≡ None → Next u s e (settled changed armed w s)
+    settled_next : (changed : Bool) (armed : Option Kept) (w : Work) (c : saying.Change s.ledger) → w.changed ≡ changed → s.armed ≡ armed → ForCoord u s e → decision_at k s e ≡ Some (Ok w) → ((r : CoordRefusal) → CallBecause k u.machine e r → ⊥) → Done (event_note.Coord w.note) w c → s.down ≡ false → Next u s e (settled changed armed w s)
     settled_next false armed w c same at for decided exact d up = after_next s.saved (event_note.Coord w.note) w c (up_saved up ∙ sym (d.saves_all same)) d up (taken for up w decided exact (inr same))
     settled_next true None w c same at for decided exact d up = after_next (saves w.ledger) (event_note.Coord w.note) w c refl d up (taken for up w decided exact (inl at))
     settled_next true (Some Old) w c same at for decided exact d up = fails_next s.saved (begin_work s.ledger) u.machine (No_step u.machine) shows.now (up_saved up) (inl refl) up
@@ -377,7 +381,7 @@ module _ (sha : List ℕ → Digest) (k : Limits) (farm : IsFarm sha k) where
     abbrev Unsaved : Type 0
     Unsaved = (CallBecause k u.machine e coord.Down → ⊥) × (CallBecause k u.machine e coord.SaveFault → ⊥)
 
-    refusal_is : (r : CoordRefusal) → Unsaved → s.down ≡ None → CallBecause k u.machine e r → CoordBecause k u s e r
+    refusal_is : (r : CoordRefusal) → Unsaved → s.down ≡ false → CallBecause k u.machine e r → CoordBecause k u s e r
     refusal_is coord.Down q up h = absurd (q.0 h)
     refusal_is coord.SaveFault q up h = absurd (q.1 h)
     refusal_is coord.BadRecord q up h = (up_is up, h)
@@ -391,13 +395,13 @@ module _ (sha : List ℕ → Digest) (k : Limits) (farm : IsFarm sha k) where
     refusal_is coord.TenureHeld q up h = (up_is up, h)
     refusal_is coord.NodeRetired q up h = (up_is up, h)
 
-    settles_next : (c : CoordNote → saying.Change s.ledger) (r : Result Work CoordRefusal) → ForCoord u s e → decision_at k s e ≡ Some r → Unsaved → OnWork c r → s.down ≡ None → Next u s e (settles r s)
+    settles_next : (c : CoordNote → saying.Change s.ledger) (r : Result Work CoordRefusal) → ForCoord u s e → decision_at k s e ≡ Some r → Unsaved → OnWork c r → s.down ≡ false → Next u s e (settles r s)
     settles_next c (Err r) for decided q h up = refused_so (refusal.Coord r) (for.reaches, refusal_is r q up h)
     settles_next c (Ok w) for decided q h up = settled_next w.changed s.armed w (c w.note) refl refl for decided h.1 h.0 up
 
-    coordinated_next : (c : CoordNote → saying.Change s.ledger) (d : Option Ledger) (r : Result Work CoordRefusal) → s.down ≡ d → ForCoord u s e → decision_at k s e ≡ Some r → Unsaved → OnWork c r → Next u s e (coordinated d r s)
-    coordinated_next c (Some q) r up for decided unsaved h = refused_so (refusal.Coord coord.Down) (for.reaches, down_is q up)
-    coordinated_next c None r up for decided unsaved h = settles_next c r for decided unsaved h up
+    coordinated_next : (c : CoordNote → saying.Change s.ledger) (d : Bool) (r : Result Work CoordRefusal) → s.down ≡ d → ForCoord u s e → decision_at k s e ≡ Some r → Unsaved → OnWork c r → Next u s e (coordinated d r s)
+    coordinated_next c true r up for decided unsaved h = refused_so (refusal.Coord coord.Down) (for.reaches, down_is up)
+    coordinated_next c false r up for decided unsaved h = settles_next c r for decided unsaved h up
 
     -- ---- the nodes
 
@@ -444,13 +448,12 @@ module _ (sha : List ℕ → Digest) (k : Limits) (farm : IsFarm sha k) where
       pub did : Did u e (event_note.Node w.note) reached.world
 
     reached_shows : (n : NodeId) (w : NodeWork) (r : Reached sha u n w.sends w.node) → Shows sha r.world (record s { nodes = put n.0 w.node s.nodes; pool = s.pool ++ w.sends })
-    reached_shows n w r = record {
+    reached_shows n w r = (let t : Farm = record s { nodes = put n.0 w.node s.nodes; pool = s.pool ++ w.sends } in record {
       now = subst (λ p. Agrees (sha []) p r.world.machine s.ledger) (sym r.pool) (subst (λ m. Agrees (sha []) (u.pool ++ w.sends) m s.ledger) (sym r.machine) (agrees_more (sha []) u.pool w.sends u.machine s.ledger shows.now));
-      kept = subst (λ p. KeptAgrees (sha []) p r.world.down s.down) (sym r.pool) (subst (λ d. KeptAgrees (sha []) (u.pool ++ w.sends) d s.down) (sym r.down) (kept_more (sha []) u.pool w.sends u.down s.down shows.kept));
-      saved = shows.saved;
+      saved = subst (λ p. SavedAgrees (sha []) p r.world.down t) (sym r.pool) (subst (λ d. SavedAgrees (sha []) (u.pool ++ w.sends) d t) (sym r.down) (saved_as (sha []) (u.pool ++ w.sends) u.down s t refl refl refl (saved_more (sha []) u.pool w.sends u.down s shows.saved)));
       pool = r.pool ∙ ap (λ p. p ++ w.sends) shows.pool;
       nodes = λ j. r.nodes j ∙ put_both n w.node u.nodes s.nodes shows.nodes j;
-    }
+    })
 
     -- what a node's event carries of the machine: nothing
     idle : (n : NodeId) (heard : Option Message) (p : Plain sha u s e n heard) (said : NodeNote) (sends : List Message) → NoneTold sends → Carried (sha []) u e (event_note.Node said) sends u.machine
@@ -721,7 +724,7 @@ module _ (sha : List ℕ → Digest) (k : Limits) (farm : IsFarm sha k) where
   armed_always u s kept (refusal.Coord r) (reaches, why) = reaches
   armed_always u s kept refusal.OutOfMemory why = why
 
-  reread_next : (u : World) (run : Moves sha (start sha) u) (s : Farm) (shows : Shows sha u s) → s.down ≡ None → Next u s RestartCoordinator (done event_note.Restarted [] s (record s { ledger = reads s.saved; down = None }))
+  reread_next : (u : World) (run : Moves sha (start sha) u) (s : Farm) (shows : Shows sha u s) → s.down ≡ false → Next u s RestartCoordinator (done event_note.Restarted [] s (record s { ledger = reads s.saved; down = false }))
   reread_next u run s shows e =
       let same : s.saved ≡ saves s.ledger = up_saved u run s shows RestartCoordinator e in
       let f = others.reread_follows k farm.instances u.pool u.machine (sound_in u run s shows RestartCoordinator) (sent_in sha u (inv u run s shows RestartCoordinator)) s.ledger (agrees_in u run s shows RestartCoordinator) in
@@ -754,8 +757,7 @@ module _ (sha : List ℕ → Digest) (k : Limits) (farm : IsFarm sha k) where
         moves = next.moves;
         shows = record {
           now = next.shows.now;
-          kept = subst (KeptAgrees (sha []) next.world.pool next.world.down) e next.shows.kept;
-          saved = reread_saved s.ledger s.saved same;
+          saved = saved_as (sha []) next.world.pool next.world.down (record s { ledger = reads s.saved; pool = s.pool ++ [] }) (record s { ledger = reads s.saved; down = false }) (sym e) refl refl next.shows.saved;
           pool = next.shows.pool ∙ append-nil s.pool;
           nodes = next.shows.nodes;
         };
@@ -764,17 +766,16 @@ module _ (sha : List ℕ → Digest) (k : Limits) (farm : IsFarm sha k) where
       }
 
   -- the record is what the coordinator is then
-  restart_next : (u : World) (run : Moves sha (start sha) u) (s : Farm) (shows : Shows sha u s) (d : Option Ledger) → s.down ≡ d → Next u s RestartCoordinator (done event_note.Restarted [] s (record s { ledger = reads s.saved; down = None }))
-  restart_next u run s shows None e = reread_next u run s shows e
-  restart_next u run s shows (Some q) e = by u.down refl (subst (KeptAgrees (sha []) u.pool u.down) e shows.kept)
+  restart_next : (u : World) (run : Moves sha (start sha) u) (s : Farm) (shows : Shows sha u s) → Next u s RestartCoordinator (done event_note.Restarted [] s (record s { ledger = reads s.saved; down = false }))
+  restart_next u run s shows = by u.down refl shows.saved
     where
-      by : (d : Option Machine) → u.down ≡ d → KeptAgrees (sha []) u.pool d (Some q) → Next u s RestartCoordinator (done event_note.Restarted [] s (record s { ledger = reads s.saved; down = None }))
-      by None h agrees = absurd agrees
-      by (Some m) h agrees =
+      by : (d : Option Machine) → u.down ≡ d → SavedAgrees (sha []) u.pool d s → Next u s RestartCoordinator (done event_note.Restarted [] s (record s { ledger = reads s.saved; down = false }))
+      by None h saved = reread_next u run s shows saved.0
+      by (Some m) h (down, (q, agrees, same)) =
           let v : World = record u { machine = m; down = None } in
           let moves : Moves sha u v = Then u u v (Still u) (Recovers m h) in
-          let t : Farm = record s { ledger = q; down = None } in
-          let after = reread_next v (moves_trans sha (start sha) u v run moves) t (record { now = agrees; kept = tt; saved = shows.saved ∙ ap (λ d. saves (holds d s.ledger)) e; pool = shows.pool; nodes = shows.nodes }) refl in
+          let t : Farm = record s { ledger = q; down = false } in
+          let after = reread_next v (moves_trans sha (start sha) u v run moves) t (record { now = agrees; saved = (refl, same); pool = shows.pool; nodes = shows.nodes }) refl in
           record {
             world = after.world;
             moves = moves_trans sha u v after.world moves after.moves;
@@ -834,8 +835,7 @@ module _ (sha : List ℕ → Digest) (k : Limits) (farm : IsFarm sha k) where
           moves = r.moves;
           shows = record {
             now = after.now;
-            kept = after.kept;
-            saved = after.saved;
+            saved = saved_as (sha []) r.world.pool r.world.down (record s { nodes = put n.0 x s.nodes; pool = s.pool ++ [] }) (record s { nodes = put n.0 x s.nodes }) refl refl refl after.saved;
             pool = after.pool ∙ append-nil s.pool;
             nodes = after.nodes;
           };
@@ -1020,7 +1020,7 @@ module _ (sha : List ℕ → Digest) (k : Limits) (farm : IsFarm sha k) where
     | inl t ↦ rw t (restarts_next u run s shows n t)
     | inr t ↦ rw t (refused_so u run s shows (RestartNode n) refusal.NoSuchNode (n, inl refl, t))
   ]
-  step_next u run s shows RestartCoordinator = restart_next u run s shows s.down refl
+  step_next u run s shows RestartCoordinator = restart_next u run s shows
   step_next u run s shows (Forge n c) =
       let e : Event = Forge n c in
       let one = one_here u run s shows e n in
@@ -1030,7 +1030,7 @@ module _ (sha : List ℕ → Digest) (k : Limits) (farm : IsFarm sha k) where
   step_next u run s shows (FailSave kept) = record {
     world = u;
     moves = Still u;
-    shows = record { now = shows.now; kept = shows.kept; saved = shows.saved; pool = shows.pool; nodes = shows.nodes };
+    shows = record { now = shows.now; saved = saved_as (sha []) u.pool u.down s (record s { armed = Some kept }) refl refl refl shows.saved; pool = shows.pool; nodes = shows.nodes };
     means = record {
       sent = [];
       pool = sym (append-nil u.pool);
@@ -1084,8 +1084,7 @@ module _ (sha : List ℕ → Digest) (k : Limits) (farm : IsFarm sha k) where
       asked = λ p i. absurd i;
       waits = tt;
     };
-    kept = tt;
-    saved = refl;
+    saved = (refl, refl);
     pool = refl;
     nodes = λ n. refl;
   }

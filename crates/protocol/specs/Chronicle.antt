@@ -16,7 +16,7 @@ use Rattle.protocol.specs.Safe.{Held, Rising, Safe, SafeSince}
 use Rattle.protocol.specs.Replay.{Event, Deliver, Begin, Withdraw, Retire, RestartCoordinator, Farm, step, run, opening}
 use Rattle.protocol.specs.Meaning.{adds, StopsAt, Means}
 use Rattle.protocol.specs.Reasons.{Fair}
-use Rattle.protocol.specs.Follows.{IsFarm, Shows, holds, NoneReady, after_life, MayBeGranted}
+use Rattle.protocol.specs.Follows.{IsFarm, Shows, NoneReady, after_life, MayBeGranted}
 
 -- from here on a world after each event: led to by moves from the one before, u, meant by the event, fair, shown by the
 -- farm, safe, and safe since each earlier one
@@ -81,12 +81,12 @@ pub record Headline (sha : List ℕ → Digest) (k : Limits) (s : Farm) : Type 0
   pub rising : (x : Slot) → Rising (s.ledger.line x)
   pub grows : (late : List Event) (x : Slot) → IsFrontOf (s.ledger.line x) ((run sha k late s).ledger.line x)
   -- by exactly what the answer names
-  pub answered : s.down ≡ None → (e : Event) (o : Outcome) → (step sha k s e).outcome ≡ Ok o → (x : Slot) → (step sha k s e).farm.ledger.line x ≡ s.ledger.line x ++ adds k.empty s.pool e o.note x
+  pub answered : s.down ≡ false → (e : Event) (o : Outcome) → (step sha k s e).outcome ≡ Ok o → (x : Slot) → (step sha k s e).farm.ledger.line x ≡ s.ledger.line x ++ adds k.empty s.pool e o.note x
   -- two nodes hold one content for a version, then or later, or the two contents are a collision
   pub contents : (late : List Event) (n n' : NodeId) (x : Slot) (number : ℕ) (c c' : List ℕ) → Held (s.nodes n.0) x number c → Held ((run sha k late s).nodes n'.0) x number c'
       → (c ≡ c') ⊎ ((c ≢ c') × (sha c ≡ sha c'))
   -- of each lease that the record doesn't have, where the coordinator restarts
-  pub restarted : s.down ≡ None → (g : Lease) → In g s.ledger.live → is_saved g ≡ false → StaysOut sha k (step sha k s RestartCoordinator).farm g.ticket
+  pub restarted : s.down ≡ false → (g : Lease) → In g s.ledger.live → is_saved g ≡ false → StaysOut sha k (step sha k s RestartCoordinator).farm g.ticket
 
 abbrev pub EveryScheduleMeans : Type 0
 EveryScheduleMeans = (sha : List ℕ → Digest) (k : Limits) → IsFarm sha k → (size : ℕ) (events : List Event) → Headline sha k (run sha k events (opening sha size))
@@ -105,10 +105,10 @@ FittingMessageIsGranted = (sha : List ℕ → Digest) (k : Limits) → IsFarm sh
     nth (run sha k events (opening sha size)).pool number ≡ Some (Said y) → q.gone p.node.0 ≡ false → nat_lt p.life.0 (q.lives p.node.0) ≡ false
     → MayBeGranted k v.ledger p → ((handled k y (begin_work q)).note ≡ coord.Granted grant) × In (told.Granted grant) (handled k y (begin_work q)).sends
 
--- the record is always that of the ledger, or after a failed save of the ledger that survived
+-- while the coordinator is up the record is that of its ledger
 abbrev pub EveryFarmIsSaved : Type 0
 EveryFarmIsSaved = (sha : List ℕ → Digest) (k : Limits) → IsFarm sha k → (size : ℕ) (events : List Event) →
-    let s : Farm = run sha k events (opening sha size) in s.saved ≡ saves (holds s.down s.ledger)
+    let s : Farm = run sha k events (opening sha size) in s.down ≡ false → s.saved ≡ saves s.ledger
 
 -- a restart can't take back what was sent: no ticket is above the record's ceiling, and each version that a
 -- confirmation names stands on the record's line

@@ -70,23 +70,15 @@ pub record Follows (empty : Digest) (pool : List Message) (m : Machine) (is : (�
   pub granted : (g : Grant) → In (Granted g) machine.made → In (Granted g) m.made ⊎ In (told.Granted g) w.sends
   pub agrees : Agrees empty pool machine w.ledger
 
--- what the record holds after a failed save
-abbrev pub KeptAgrees : Digest → List Message → Option Machine → Option Ledger → Type 0
-KeptAgrees empty pool None None = ⊤
-KeptAgrees empty pool None (Some q) = ⊥
-KeptAgrees empty pool (Some m) None = ⊥
-KeptAgrees empty pool (Some m) (Some q) = Agrees empty pool m q
-
--- the ledger that the record is of
-abbrev pub holds : Option Ledger → Ledger → Ledger
-holds None q = q
-holds (Some kept) q = kept
+-- the record holds what the ledger saves, or after a failed save, of the machine that it kept, what a ledger of that saves
+abbrev pub SavedAgrees : Digest → List Message → Option Machine → Farm → Type 0
+SavedAgrees empty pool None s = (s.down ≡ false) × (s.saved ≡ saves s.ledger)
+SavedAgrees empty pool (Some m) s = (s.down ≡ true) × ((q : Ledger) × Agrees empty pool m q × (s.saved ≡ saves q))
 
 -- a farm's state is that of the world
 pub record Shows (sha : List ℕ → Digest) (u : World) (s : Farm) : Type 0 where
   pub now : Agrees (sha []) u.pool u.machine s.ledger
-  pub kept : KeptAgrees (sha []) u.pool u.down s.down
-  pub saved : s.saved ≡ saves (holds s.down s.ledger)
+  pub saved : SavedAgrees (sha []) u.pool u.down s
   pub pool : u.pool ≡ s.pool
   pub nodes : (n : ℕ) → u.nodes n ≡ s.nodes n
 

@@ -45,8 +45,8 @@ pub record Farm : Type 0 where
   pub ledger : Ledger
   -- what the record holds
   pub saved : Saved
-  -- after a failed save: what the record holds
-  pub down : Option Ledger
+  -- a save failed, and the coordinator has not restarted since
+  pub down : Bool
   -- the next save fails, and leaves this
   pub armed : Option Kept
   -- every message ever sent, in order of sending
@@ -54,7 +54,7 @@ pub record Farm : Type 0 where
   pub nodes : ℕ → Node
 
 abbrev pub opening : (List ℕ → Digest) → ℕ → Farm
-opening sha size = record { size = size; ledger = ledger.opening; saved = saves ledger.opening; down = None; armed = None; pool = []; nodes = λ n. first_node sha }
+opening sha size = record { size = size; ledger = ledger.opening; saved = saves ledger.opening; down = false; armed = None; pool = []; nodes = λ n. first_node sha }
 
 -- an event's farm, and its outcome
 pub record Turn : Type 0 where
@@ -80,17 +80,17 @@ after_work saved w s = done (note.Coord w.note) (map Told w.sends) s (record s {
 abbrev pub settled : Bool → Option Kept → Work → Farm → Turn
 settled false armed w s = after_work s.saved w s
 settled true None w s = after_work (saves w.ledger) w s
-settled true (Some Old) w s = record { farm = record s { down = Some s.ledger; armed = None }; outcome = Err (refusal.Coord coord.SaveFault) }
-settled true (Some New) w s = record { farm = record s { saved = saves w.ledger; down = Some w.ledger; armed = None }; outcome = Err (refusal.Coord coord.SaveFault) }
+settled true (Some Old) w s = record { farm = record s { down = true; armed = None }; outcome = Err (refusal.Coord coord.SaveFault) }
+settled true (Some New) w s = record { farm = record s { saved = saves w.ledger; down = true; armed = None }; outcome = Err (refusal.Coord coord.SaveFault) }
 
 abbrev pub settles : Result Work CoordRefusal → Farm → Turn
 settles (Err e) s = refused (refusal.Coord e) s
 settles (Ok w) s = settled w.changed s.armed w s
 
 -- nothing is done while the coordinator is down
-abbrev pub coordinated : Option Ledger → Result Work CoordRefusal → Farm → Turn
-coordinated (Some q) work s = refused (refusal.Coord coord.Down) s
-coordinated None work s = settles work s
+abbrev pub coordinated : Bool → Result Work CoordRefusal → Farm → Turn
+coordinated true work s = refused (refusal.Coord coord.Down) s
+coordinated false work s = settles work s
 
 -- the nodes
 
@@ -154,7 +154,7 @@ step sha k s (Withdraw t) = coordinated s.down (withdrawn k t (begin_work s.ledg
 step sha k s (Prune slot) = coordinated s.down (pruned k slot (begin_work s.ledger)) s
 step sha k s (Retire n) = if is_node s n then coordinated s.down (retired k n (begin_work s.ledger)) s else refused refusal.NoSuchNode s
 step sha k s (RestartNode n) = if is_node s n then restarts k n s else refused refusal.NoSuchNode s
-step sha k s RestartCoordinator = done note.Restarted [] s (record s { ledger = reads s.saved; down = None })
+step sha k s RestartCoordinator = done note.Restarted [] s (record s { ledger = reads s.saved; down = false })
 step sha k s (Forge n c) = node_does n (λ p x. unless_spent x (brought sha c x)) s
 step sha k s (FailSave kept) = done note.Armed [] s (record s { armed = Some kept })
 

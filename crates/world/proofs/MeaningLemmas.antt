@@ -56,7 +56,7 @@ settled_tells : (b : Bool) (w : Work) (s : Farm) → Tells s w (settled b None w
 settled_tells true w s = record { outcome = _; is = refl; note = refl; pool = refl }
 settled_tells false w s = record { outcome = _; is = refl; note = refl; pool = refl }
 
-delivery_tells : (s : Farm) (number : ℕ) (y : ToCoord) → s.down ≡ None → s.armed ≡ None → nth s.pool number ≡ Some (Said y)
+delivery_tells : (s : Farm) (number : ℕ) (y : ToCoord) → s.down ≡ false → s.armed ≡ None → nth s.pool number ≡ Some (Said y)
     → Tells s (handled farm_limits y (begin_work s.ledger)) (step content_digest farm_limits s (Deliver number))
 unfolding step
 delivery_tells s number y up safe here =
@@ -94,7 +94,7 @@ IsGranted number p s =
     nth s.pool number ≡ Some (Said y) → s.ledger.gone p.node.0 ≡ false → nat_lt p.life.0 (s.ledger.lives p.node.0) ≡ false → MayBeGranted farm_limits after p
     → (w.note ≡ coord.Granted (granted after p)) × In (told.Granted (granted after p)) w.sends
 
-pub grants_at_once : FittingMessageIsGranted → (old new : Farm) (e : Event) (r : Result Outcome EventRefusal) → old.down ≡ None → old.armed ≡ None → Came (step content_digest farm_limits old e) old new r → GrantsAtOnce old e r new
+pub grants_at_once : FittingMessageIsGranted → (old new : Farm) (e : Event) (r : Result Outcome EventRefusal) → old.down ≡ false → old.armed ≡ None → Came (step content_digest farm_limits old e) old new r → GrantsAtOnce old e r new
 grants_at_once law old new e r up safe came size events is number p at sent here current may =
     let y : ToCoord = record { node = p.node; life = p.life; request = Acquire p.ask p.wants p.tenure } in
     let w : Work = handled farm_limits y (begin_work old.ledger) in

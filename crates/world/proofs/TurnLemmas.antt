@@ -111,7 +111,7 @@ settled_is true w s told = refl
 settled_is false w s told = ap (λ (r : Saved). after_work r w s) (sym (told refl))
 
 -- the coordinator did this work
-pub came_worked : (s : Farm) (w : Work) (ledger : Ledger) (pool : List Message) (sends : List FromCoord) (n : CoordNote) (o : Outcome) → s.down ≡ None → s.armed ≡ None
+pub came_worked : (s : Farm) (w : Work) (ledger : Ledger) (pool : List Message) (sends : List FromCoord) (n : CoordNote) (o : Outcome) → s.down ≡ false → s.armed ≡ None
     → (w.changed ≡ false → saves w.ledger ≡ s.saved) → ledger ≡ w.ledger → sends ≡ w.sends → n ≡ w.note
     → pool ≡ s.pool ++ map Told sends → o ≡ record { note = note.Coord n; first = first_number (length s.pool) (length sends); sent = length sends }
     → coordinated s.down (Ok w) s ≡ record { farm = record s { ledger = ledger; saved = saves ledger; pool = pool }; outcome = Ok o }

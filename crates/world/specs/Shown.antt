@@ -1,5 +1,5 @@
 -- What contracts see of a world.
-use Rattle.std.specs.Prelude.{length, None}
+use Rattle.std.specs.Prelude.{length, false, None}
 use Rattle.protocol.specs.Ledger.{saves}
 use Rattle.protocol.specs.Replay.{Farm}
 use Rattle.coordinator.specs.Held.{ledger}
@@ -12,7 +12,7 @@ shown w = record {
   size = length w.nodes.cores.items;
   ledger = ledger w.coordinator;
   saved = saves (ledger w.coordinator);
-  down = None;
+  down = false;
   armed = None;
   pool = w.pool.items;
   nodes = node_at w.nodes.cores.items;
