@@ -3,12 +3,15 @@ use Rattle.std.specs.Prelude.{◌≡◌, ⊤, ℕ, ◌+◌, List, [], ◌∷◌,
 use Rattle.farm_base.specs.Contents.{content_digest}
 use Rattle.protocol.specs.Farm.{farm_limits}
 use Rattle.schedule.specs.Printing.{outcome_text}
+use Rattle.protocol.specs.World.{start}
+use Rattle.protocol.specs.Chronicle.{Chronicle}
 use Rattle.protocol.specs.Replay.{Event, Farm, step, run, opening}
 use Rattle.schedule.specs.declared.event.Event as said
 use Rattle.schedule.specs.declared.event.Setup.{Setup}
 use Rattle.schedule.specs.Events.{event_of}
 use Rattle.schedule.specs.Schedules as schedule
 use Rattle.world.specs.Printing.{ArePrinted}
+use Rattle.world.specs.Replays.{KeepsHeadline}
 use Rattle.farmctl.specs.declared.failure.Failure.{Failure}
 use Rattle.farmctl.specs.declared.failure.Failure.TheVariants as failure
 
@@ -23,9 +26,14 @@ pub record IsReplayOf (setup : Setup) (events : List Event) (text : List ℕ) : 
   pub printed : ArePrinted (run content_digest farm_limits events (opening content_digest setup.nodes)).ledger.line lines
   pub text_is : text ≡ events_text 1 events (opening content_digest setup.nodes) ++ lines
 
--- the bytes spell a schedule, and this is what is printed for it
+-- what the schedule means: its chronicle, and the headline of this project after each part of it
+pub record HasHeadline (setup : Setup) (events : List Event) : Type 0 where
+  pub chronicle : Chronicle content_digest farm_limits events (opening content_digest setup.nodes) (start content_digest)
+  pub headline : KeepsHeadline setup.nodes events
+
+-- the bytes spell a schedule, this is what is printed for it, and the headline holds of it
 abbrev pub IsReplayed : List ℕ → List ℕ → Type 0
-IsReplayed bytes text = (setup : Setup) × (events : List said.Event) × schedule.IsSchedule bytes setup events × IsReplayOf setup (map event_of events) text
+IsReplayed bytes text = (setup : Setup) × (events : List said.Event) × schedule.IsSchedule bytes setup events × IsReplayOf setup (map event_of events) text × HasHeadline setup (map event_of events)
 
 -- why the bytes don't spell a schedule: their first fault
 abbrev pub IsUnread : List ℕ → Failure → Type 0

@@ -6,13 +6,14 @@ ghost use Rattle.protocol.specs.Farm.{farm_limits};
 ghost use Rattle.schedule.specs.Printing.{outcome_text};
 ghost use Rattle.protocol.specs.Replay.{run, step};
 ghost use Rattle.schedule.specs.Events.{event_of};
-ghost use Rattle.world.specs.Shown.{shown};
 ghost use Rattle.farmctl.specs.Replays.{events_text, IsReplayed, IsUnread};
 
 use super::failure::Failure;
 use schedule::{Event, ScheduleRefusal, read_schedule};
 use std::alloc::{AllocError, Global};
-use world::{EventRefusal, StartRefusal, World, print_lines, print_outcome};
+use world::{
+    EventRefusal, StartRefusal, World, every_replay_means, print_lines, print_outcome,
+};
 
 /// Adds the line of an event, which the farm carries out.
 fn push_event(
@@ -22,8 +23,8 @@ fn push_event(
     number: u64,
     event: Event,
 ) -> Result<(), AllocError>
-    ensures text { OnOk result (string_bytes text.new ≡ string_bytes text.old ++ outcome_text number (step content_digest farm_limits (shown world.old) (event_of event)).outcome) }
-    ensures farm { OnOk result (shown world.new ≡ (step content_digest farm_limits (shown world.old) (event_of event)).farm) }
+    ensures text { OnOk result (string_bytes text.new ≡ string_bytes text.old ++ outcome_text number (step content_digest farm_limits world.old (event_of event)).outcome) }
+    ensures farm { OnOk result (world.new ≡ (step content_digest farm_limits world.old (event_of event)).farm) }
 {
     let outcome = world.step(alloc, event);
     if matches!(outcome, Err(EventRefusal::OutOfMemory)) {
@@ -35,8 +36,8 @@ fn push_event(
 
 /// The lines of the events, numbered from 1.
 fn event_lines(alloc: Global, world: &mut World, events: Vec<Event>) -> Result<String, AllocError>
-    ensures text { IfOk result (λ text. string_bytes text ≡ events_text 1 (map event_of events.items) (shown world.old)) }
-    ensures farm { OnOk result (shown world.new ≡ run content_digest farm_limits (map event_of events.items) (shown world.old)) }
+    ensures text { IfOk result (λ text. string_bytes text ≡ events_text 1 (map event_of events.items) world.old) }
+    ensures farm { OnOk result (world.new ≡ run content_digest farm_limits (map event_of events.items) world.old) }
 {
     let mut text = String::new(alloc);
     let mut number = 1;
@@ -47,7 +48,8 @@ fn event_lines(alloc: Global, world: &mut World, events: Vec<Event>) -> Result<S
     Ok(text)
 }
 
-/// A line for each event of the schedule that the bytes spell, and one for each slot that has a version then.
+/// A line for each event of the schedule that the bytes spell, and one for each slot that has a version then. The
+/// schedule has a chronicle, in which each event means what is printed of it, and the headline holds after each part.
 pub(crate) fn replayed(alloc: Global, bytes: &[u8]) -> Result<String, Failure>
     ensures printed { IfOk result (λ text. IsReplayed bytes.now (string_bytes text)) }
     ensures refused { IfErr result (IsUnread bytes.now) }
@@ -62,6 +64,7 @@ pub(crate) fn replayed(alloc: Global, bytes: &[u8]) -> Result<String, Failure>
         Err(StartRefusal::OutOfMemory) => return Err(Failure::Memory),
         Ok(world) => world,
     };
+    every_replay_means();
     let mut text = event_lines(alloc, &mut world, events)?;
     let lines = print_lines(alloc, &world)?;
     text.push_str(lines.as_str())?;

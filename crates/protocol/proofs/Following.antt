@@ -12,6 +12,7 @@ use Rattle.protocol.specs.Ledger.{Limits, Ledger, Work, Lease, says, notes, some
 use Rattle.protocol.specs.Follows.{lease_from, NoLease, Waits, Works, Begins_work, Goes_on, Speaks, Follows}
 use Rattle.protocol.proofs.Base.{cases_bool, true_false, not_false, and_both, or_false, none_some, some_is, eqb_is, eqb_not, slot_eq_same, slot_eq_is, node_is, from_map, any_none, in_append, in_left, in_right, in_one}
 use Rattle.protocol.proofs.Steps.{Sound, Later, later_refl, later_trans, step_sound, fresh}
+use Rattle.protocol.proofs.Trying.{raised_covers, tried-gone, tried_waits, try-gone, try-parked, waiting_in, waiting_part, waiting_waits}
 use Rattle.protocol.proofs.Leases.{Core, core_of, AllAsked, agrees_from, names_last, grant-lease, lease-grant, not_leased, free_is, lowest_is, waits_give, parked_part, no_grant}
 
 pub works_sound : (empty : Digest) (pool : List Message) (a b : Machine) (sends : List FromCoord) → Sound empty a → Works empty pool a b sends → Later empty a b × Sound empty b
@@ -213,9 +214,6 @@ module _ (k : Limits) (fits : k.instances ≤ 4096) (pool : List Message) (m : M
         lives = core.lives;
       }
 
-  pub raised_covers : (q : Ledger) → q.last ≤ q.ceiling → nat_lt q.last k.greatest ≡ true → q.last + 1 ≤ raised k q
-  raised_covers q le lt = grind (arith, nat_tests)
-
   pub give_going : (p : Parked) (w : Work) → Going w → In (acquire p.node p.life p.ask p.wants p.tenure) pool → w.ledger.gone p.node.0 ≡ false → NoLease w.ledger.live p → decision k w.ledger p ≡ Give → Going (gives k p w)
   unfolding decision gives
   give_going p w going asked here none e =
@@ -253,7 +251,7 @@ module _ (k : Limits) (fits : k.instances ≤ 4096) (pool : List Message) (m : M
           | inl e ↦ (let same : x ≡ g = cc in inr (in_right (told.Granted x) w.sends (told.Granted g ∷ []) (inl (ap told.Granted same))))
           | inr j ↦ more_sent x w.sends (told.Granted g) (going.granted x j)
         ];
-        core = give_core b q g h (raised k q) now going.core below (lease-grant k.empty q.line h) (raised_covers q going.core.ceiling (not_false (nat_lt q.last k.greatest) picked.below));
+        core = give_core b q g h (raised k q) now going.core below (lease-grant k.empty q.line h) (raised_covers k q going.core.ceiling (not_false (nat_lt q.last k.greatest) picked.below));
         parked = going.parked;
       }
 
@@ -278,46 +276,6 @@ module _ (k : Limits) (fits : k.instances ≤ 4096) (pool : List Message) (m : M
 
   -- ---- trying the parked asks
 
-  carried-gone : (d : Decision) (p : Parked) (w : Work) → (carried_out d k p w).ledger.gone ≡ w.ledger.gone
-  unfolding gives
-  carried-gone Give p w = refl
-  carried-gone (Deny why) p w = refl
-  carried-gone Wait p w = refl
-
-  tried-gone : (p : Parked) (w : Work) → (tried k p w).ledger.gone ≡ w.ledger.gone
-  unfolding tried
-  tried-gone p w = carried-gone (decision k w.ledger p) p w
-
-  carried-parked : (d : Decision) (p : Parked) (w : Work) → (carried_out d k p w).ledger.parked ≡ w.ledger.parked
-  unfolding gives
-  carried-parked Give p w = refl
-  carried-parked (Deny why) p w = refl
-  carried-parked Wait p w = refl
-
-  tried-parked : (p : Parked) (w : Work) → (tried k p w).ledger.parked ≡ w.ledger.parked
-  unfolding tried
-  tried-parked p w = carried-parked (decision k w.ledger p) p w
-
-  -- the leases after a try: as before, or with one of the ask at the end
-  carried_live : (d : Decision) (p : Parked) (w : Work) → ((carried_out d k p w).ledger.live ≡ w.ledger.live) ⊎ ((h : Lease) × (h.node ≡ p.node) × (h.life ≡ p.life) × (h.ask ≡ p.ask) × ((carried_out d k p w).ledger.live ≡ w.ledger.live ++ h ∷ []) × (d ≡ Give))
-  unfolding gives
-  carried_live Give p w = inr (lease_for k w.ledger p, refl, refl, refl, refl, refl)
-  carried_live (Deny why) p w = inl refl
-  carried_live Wait p w = inl refl
-
-  abbrev TriedLive : Parked → Work → Type 0
-  TriedLive p w = ((tried k p w).ledger.live ≡ w.ledger.live) ⊎ ((h : Lease) × (h.node ≡ p.node) × (h.life ≡ p.life) × (h.ask ≡ p.ask) × ((tried k p w).ledger.live ≡ w.ledger.live ++ h ∷ []) × (stays k p w ≡ false))
-
-  tried_live : (p : Parked) (w : Work) → TriedLive p w
-  unfolding tried stays
-  tried_live p w = elim (carried_live (decision k w.ledger p) p w) [ inl e ↦ inl e | inr r ↦ inr (r.0, r.1, r.2, r.3, r.4, ap waits r.5) ]
-
-  tried_waits : (p : Parked) (w : Work) (ps : List Parked) → is_parked ps p.node p.life p.ask ≡ false → Waits w.ledger.live ps → Waits (tried k p w).ledger.live ps
-  tried_waits p w ps other waiting = elim (tried_live p w) [
-    | inl e ↦ subst (λ l. Waits l ps) (sym e) waiting
-    | inr r ↦ subst (λ l. Waits l ps) (sym r.4) (waits_give w.ledger.live r.0 p ps r.1 r.2 r.3 other waiting)
-  ]
-
   pub asked_later : (gone gone' : ℕ → Bool) (ps : List Parked) → gone' ≡ gone → AllAsked pool gone ps → AllAsked pool gone' ps
   asked_later gone gone' ps e all p i = (let r = all p i in (r.0, subst (λ f. f p.node.0 ≡ false) (sym e) r.1))
 
@@ -326,78 +284,8 @@ module _ (k : Limits) (fits : k.instances ≤ 4096) (pool : List Message) (m : M
   try_going (p ∷ ps) w g asked waiting =
       let a = asked p (inl refl) in
       try_going ps (tried k p w) (tried_going p w g a.0 a.1 waiting.0)
-      (asked_later w.ledger.gone (tried k p w).ledger.gone ps (tried-gone p w) (λ q i. asked q (inr i)))
-      (tried_waits p w ps waiting.1 waiting.2)
-
-  pub try-gone : (ps : List Parked) (w : Work) → (try_all k ps w).ledger.gone ≡ w.ledger.gone
-  try-gone [] w = refl
-  try-gone (p ∷ ps) w = try-gone ps (tried k p w) ∙ tried-gone p w
-
-  try-parked : (ps : List Parked) (w : Work) → (try_all k ps w).ledger.parked ≡ w.ledger.parked
-  try-parked [] w = refl
-  try-parked (p ∷ ps) w = try-parked ps (tried k p w) ∙ tried-parked p w
-
-  carried-note : (d : Decision) (p : Parked) (w : Work) → (carried_out d k p w).note ≡ w.note
-  unfolding gives
-  carried-note Give p w = refl
-  carried-note (Deny why) p w = refl
-  carried-note Wait p w = refl
-
-  tried-note : (p : Parked) (w : Work) → (tried k p w).note ≡ w.note
-  unfolding tried
-  tried-note p w = carried-note (decision k w.ledger p) p w
-
-  pub try-note : (ps : List Parked) (w : Work) → (try_all k ps w).note ≡ w.note
-  try-note [] w = refl
-  try-note (p ∷ ps) w = try-note ps (tried k p w) ∙ tried-note p w
-
-  -- an ask that is not tried has no lease where it had none
-  try_none : (ps : List Parked) (w : Work) (p : Parked) → is_parked ps p.node p.life p.ask ≡ false → NoLease w.ledger.live p → NoLease (try_all k ps w).ledger.live p
-  try_none [] w p other none = none
-  try_none (r ∷ ps) w p other none =
-      let o = or_false ((eqb r.node.0 p.node.0) && (eqb r.life.0 p.life.0) && (eqb r.ask.0 p.ask.0)) (is_parked ps p.node p.life p.ask) other in
-      try_none ps (tried k r w) p o.1 (elim (tried_live r w) [
-        | inl e ↦ subst (λ l. NoLease l p) (sym e) none
-        | inr x ↦ subst (λ l. NoLease l p) (sym x.4) (λ g i. elim (in_append g w.ledger.live (x.0 ∷ []) i) [
-          | inl j ↦ none g j
-          | inr j ↦ (let same : g ≡ x.0 = in_one g x.0 j in
-              let n : g.node ≡ r.node = ap (λ (z : Lease). z.node) same ∙ x.1 in
-              let l : g.life ≡ r.life = ap (λ (z : Lease). z.life) same ∙ x.2 in
-              let a : g.ask ≡ r.ask = ap (λ (z : Lease). z.ask) same ∙ x.3 in
-              subst (λ (z : NodeId). ((eqb z.0 p.node.0) && (eqb g.life.0 p.life.0) && (eqb g.ask.0 p.ask.0)) ≡ false) (sym n)
-              (subst (λ (z : Life). ((eqb r.node.0 p.node.0) && (eqb z.0 p.life.0) && (eqb g.ask.0 p.ask.0)) ≡ false) (sym l)
-              (subst (λ (z : Ask). ((eqb r.node.0 p.node.0) && (eqb r.life.0 p.life.0) && (eqb z.0 p.ask.0)) ≡ false) (sym a) o.0)))
-        ])
-      ])
-
-  waiting_in : (ps : List Parked) (w : Work) (p : Parked) → In p (waiting k ps w) → In p ps
-  waiting_in [] w p i = absurd i
-  waiting_in (r ∷ ps) w p i = elim (cases_bool (stays k r w)) [
-    | inl t ↦ elim (let j : In p (r ∷ waiting k ps (tried k r w)) = rw t at i in j) [ inl e ↦ inl e | inr j ↦ inr (waiting_in ps (tried k r w) p j) ]
-    | inr t ↦ inr (waiting_in ps (tried k r w) p (rw t at i))
-  ]
-
-  waiting_part : (ps : List Parked) (w : Work) → IsPartOf ps (waiting k ps w)
-  waiting_part [] w = Ends_part
-  waiting_part (r ∷ ps) w = elim (cases_bool (stays k r w)) [
-    | inl t ↦ rw t (Keeps r ps (waiting k ps (tried k r w)) (waiting_part ps (tried k r w)))
-    | inr t ↦ rw t (Leaves r ps (waiting k ps (tried k r w)) (waiting_part ps (tried k r w)))
-  ]
-
-  stays_none : (p : Parked) (w : Work) → stays k p w ≡ true → NoLease w.ledger.live p → NoLease (tried k p w).ledger.live p
-  stays_none p w t none = elim (tried_live p w) [
-    | inl e ↦ subst (λ l. NoLease l p) (sym e) none
-    | inr x ↦ true_false (stays k p w) t x.5
-  ]
-
-  waiting_waits : (ps : List Parked) (w : Work) → Waits w.ledger.live ps → Waits (try_all k ps w).ledger.live (waiting k ps w)
-  waiting_waits [] w h = tt
-  waiting_waits (p ∷ ps) w h =
-      let rest = waiting_waits ps (tried k p w) (tried_waits p w ps h.1 h.2) in
-      elim (cases_bool (stays k p w)) [
-        | inl t ↦ rw t (try_none ps (tried k p w) p h.1 (stays_none p w t h.0), parked_part ps (waiting k ps (tried k p w)) p.node p.life p.ask (waiting_in ps (tried k p w)) h.1, rest)
-        | inr t ↦ rw t rest
-      ]
+      (asked_later w.ledger.gone (tried k p w).ledger.gone ps (tried-gone k p w) (λ q i. asked q (inr i)))
+      (tried_waits k p w ps waiting.1 waiting.2)
 
   pub retried_follows : (w : Work) → F w → F (retried k w)
   unfolding retried
@@ -405,7 +293,7 @@ module _ (k : Limits) (fits : k.instances ≤ 4096) (pool : List Message) (m : M
       let ps : List Parked = w.ledger.parked in
       let g = try_going ps w (going w f) f.agrees.asked f.agrees.waits in
       let stay : List Parked = waiting k ps w in
-      let part : IsPartOf g.machine.parked stay = subst (λ l. IsPartOf l stay) (sym (try-parked ps w) ∙ g.parked) (waiting_part ps w) in
+      let part : IsPartOf g.machine.parked stay = subst (λ l. IsPartOf l stay) (sym (try-parked k ps w) ∙ g.parked) (waiting_part k ps w) in
       let next : Machine = record g.machine { parked = stay } in
       record {
         machine = next;
@@ -415,6 +303,6 @@ module _ (k : Limits) (fits : k.instances ≤ 4096) (pool : List Message) (m : M
         agrees = agrees_from k.empty pool next (record (try_all k ps w).ledger { parked = stay })
             (record { live_made = g.core.live_made; live_kept = g.core.live_kept; retired_made = g.core.retired_made; retired_kept = g.core.retired_kept; lines = g.core.lines; last = g.core.last; ceiling = g.core.ceiling; old_home = g.core.old_home; gone = g.core.gone; lives = g.core.lives })
             refl
-            (asked_later w.ledger.gone (try_all k ps w).ledger.gone stay (try-gone ps w) (λ p i. f.agrees.asked p (waiting_in ps w p i)))
-            (waiting_waits ps w f.agrees.waits);
+            (asked_later w.ledger.gone (try_all k ps w).ledger.gone stay (try-gone k ps w) (λ p i. f.agrees.asked p (waiting_in k ps w p i)))
+            (waiting_waits k ps w f.agrees.waits);
       }

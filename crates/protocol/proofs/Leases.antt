@@ -189,7 +189,7 @@ find_in test (y ∷ ys) x i t = elim (cases_bool (test y)) [
 
 -- ---- asks that wait
 
-flip_false : (a b : ℕ) → eqb a b ≡ eqb b a
+pub flip_false : (a b : ℕ) → eqb a b ≡ eqb b a
 flip_false a b = grind (arith, nat_tests)
 
 -- an ask that isn't among these is another than each

@@ -8,6 +8,7 @@ mod Safety
 mod Bulk
 mod Meanings
 pub mod Leases
+mod Trying
 mod Following
 mod Calls
 mod Others
@@ -18,8 +19,9 @@ mod Noting
 mod Parking
 pub mod Saving
 mod Deciding
-mod Schedules
+pub mod Schedules
 mod Chronicles
 pub mod Answering
 mod Asking
+pub mod Lawfulness
 pub mod Refusals

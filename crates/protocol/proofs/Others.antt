@@ -17,7 +17,8 @@ use Rattle.protocol.specs.Meaning.{Ended, MessageEnds, Of_older_life, By_commit,
 use Rattle.protocol.proofs.Base.{cases_bool, true_false, not_true, and_both, or_false, none_some, some_is, eqb_is, eqb_same, eqb_not, slot_eq_is, node_is, any_in, from_any, any_none, in_filter, from_filter, in_map, from_map, ticket_is, put_same, put_other}
 use Rattle.protocol.proofs.Steps.{Sound, later_refl, same_grant}
 use Rattle.protocol.proofs.Leases.{Core, core_of, agrees_from, not_leased, find_some, find_in, waits_filter}
-use Rattle.protocol.proofs.Following.{part_filter, part_none, Sent, notes_follows, now_sound, grant_says, retried_follows, more_sent, try-gone, try-note, raised_covers}
+use Rattle.protocol.proofs.Following.{part_filter, part_none, Sent, notes_follows, now_sound, grant_says, retried_follows, more_sent}
+use Rattle.protocol.proofs.Trying.{raised_covers, try-gone, try-note}
 use Rattle.protocol.proofs.Meanings.{none_ended, ended_more}
 use Rattle.protocol.proofs.Bulk.{EndsThose}
 use Rattle.protocol.proofs.Calls as calls
@@ -106,11 +107,11 @@ module _ (k : Limits) (fits : k.instances ≤ 4096) (pool : List Message) (m : M
 
   pub retried-gone : (v : Work) → (retried k v).ledger.gone ≡ v.ledger.gone
   unfolding retried
-  retried-gone v = try-gone k fits pool m sound sent P v.ledger.parked v
+  retried-gone v = try-gone k v.ledger.parked v
 
   pub retried-note : (v : Work) → (retried k v).note ≡ v.note
   unfolding retried
-  retried-note v = try-note k fits pool m sound sent P v.ledger.parked v
+  retried-note v = try-note k v.ledger.parked v
 
   -- a node is retired where nothing is left of it
   not_home : (n : NodeId) (o : Option NodeId) → is_home n o ≡ false → o ≢ Some n
@@ -275,7 +276,7 @@ module _ (k : Limits) (fits : k.instances ≤ 4096) (pool : List Message) (m : M
                 | inr e ↦ (let l = core.lines x in rw (e, l) (sym (append-nil (line k.empty b x))))
               ];
               last = refl;
-              ceiling = raised_covers k fits pool m sound sent P q core.ceiling below;
+              ceiling = raised_covers k q core.ceiling below;
               old_home = core.old_home;
               gone = core.gone;
               lives = core.lives;

@@ -11,3 +11,4 @@ pub mod Meaning
 pub mod Reasons
 pub mod Follows
 pub mod Chronicle
+pub mod Lawful

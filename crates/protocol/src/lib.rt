@@ -3,6 +3,7 @@
 
 ghost use Rattle.protocol.specs.Follows.{EveryScheduleIsSafe, EveryScheduleStaysSafe, EveryEventIsMoves, EveryDecisionFollows, FittingAskIsGranted};
 ghost use Rattle.protocol.specs.Chronicle.{EveryScheduleHasAChronicle, EveryScheduleMeans, EveryVersionIsAnswered, NoParkedAskIsReady, FittingMessageIsGranted, EveryFarmIsSaved, EveryRecordCovers, RestartReadsTheRecord};
+ghost use Rattle.protocol.specs.Lawful.{EveryLedgerStaysLawful};
 ghost use Rattle.protocol.specs.Safe.{EveryRunIsSafe, EveryRunStaysSafe};
 
 mod answer;
@@ -71,4 +72,10 @@ pub fn every_record_is_enough()
     ensures saved { EveryFarmIsSaved }
     ensures covers { EveryRecordCovers }
     ensures reads { RestartReadsTheRecord }
+{}
+
+/// What the coordinator does with a ledger of which a record can be written leaves such a ledger: its nodes, lives,
+/// asks and tickets are in their ranges, no two leases share a slot or are of one ask, and so on.
+pub fn every_ledger_stays_lawful()
+    ensures { EveryLedgerStaysLawful }
 {}

@@ -6,3 +6,4 @@ mod CallLemmas
 mod SafeLemmas
 mod OrderLemmas
 mod MeaningLemmas
+mod LimitLemmas

@@ -26,7 +26,7 @@ use Rattle.protocol.proofs.Refusals.{nothing_done}
 use Rattle.coordinator.specs.Promises.{granted}
 use Rattle.world.specs.Turns.{Came}
 use Rattle.world.specs.Meanings.{MeansAsTold, Grants, GrantsAtOnce}
-use Rattle.world.proofs.SafeLemmas.{is_farm}
+use Rattle.world.proofs.LimitLemmas.{is_farm}
 
 -- what the law says of an event, from each world that the farm was in
 abbrev Law : Farm → Event → Result Outcome EventRefusal → Farm → Type 0
@@ -62,7 +62,7 @@ unfolding step
 delivery_tells s number y up safe here =
     let w : Work = handled farm_limits y (begin_work s.ledger) in
     let is : step content_digest farm_limits s (Deliver number) ≡ settled w.changed None w s =
-    ap (λ (m : Option Message). delivered content_digest farm_limits m s) here ∙ ap (λ (d : Option Ledger). coordinated d (Ok w) s) up ∙ ap (λ (a : Option Kept). settled w.changed a w s) safe in
+    ap (λ (m : Option Message). delivered content_digest farm_limits m s) here ∙ ap (λ (d : Bool). coordinated d (Ok w) s) up ∙ ap (λ (a : Option Kept). settled w.changed a w s) safe in
     subst (Tells s w) (sym is) (settled_tells w.changed w s)
 
 ok_is : (o p : Outcome) → ◌≡◌ {A = Result Outcome EventRefusal} (Ok o) (Ok p) → o ≡ p

@@ -117,7 +117,7 @@ pub came_worked : (s : Farm) (w : Work) (ledger : Ledger) (pool : List Message) 
     → coordinated s.down (Ok w) s ≡ record { farm = record s { ledger = ledger; saved = saves ledger; pool = pool }; outcome = Ok o }
 came_worked s w ledger pool sends n o up safe told_so e f g h i =
     let count : length sends ≡ length (map Told sends) = sym (length-map sends Told) in
-    ap (λ (d : Option Ledger). coordinated d (Ok w) s) up ∙ ap (λ (a : Option Kept). settled w.changed a w s) safe ∙ settled_is w.changed w s told_so
+    ap (λ (d : Bool). coordinated d (Ok w) s) up ∙ ap (λ (a : Option Kept). settled w.changed a w s) safe ∙ settled_is w.changed w s told_so
     ∙ sym (λ j. done (note.Coord (g j)) (map Told (f j)) s (record s { ledger = e j; saved = saves (e j); pool = s.pool ++ map Told (f j) }))
     ∙ ap (λ (p : List Message). done (note.Coord n) (map Told sends) s (record s { ledger = ledger; saved = saves ledger; pool = p })) (sym h)
     ∙ told s (record s { ledger = ledger; saved = saves ledger; pool = pool }) (note.Coord n) (map Told sends) o (i ∙ (λ j. record { note = note.Coord n; first = first_number (length s.pool) (count j); sent = count j }))

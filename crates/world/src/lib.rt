@@ -4,13 +4,14 @@
 mod call;
 mod laws;
 mod nodes;
+mod parts;
 mod pool;
 mod printing;
 mod replaying;
 mod world;
 
 pub use farm_base::{Message, ToNode};
-pub use laws::lines_have_one_text;
+pub use laws::{every_replay_means, lines_have_one_text};
 pub use printing::print_lines;
 pub use protocol::{EventNote, EventRefusal, Outcome};
 pub use replaying::{ReplayRefusal, replay};

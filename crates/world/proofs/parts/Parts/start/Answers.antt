@@ -2,10 +2,10 @@ use Rattle.protocol.specs.Ledger.{saves}
 use Rattle.protocol.specs.Replay.{opening}
 use Rattle.farm_base.specs.Contents.{content_digest}
 use Rattle.world.proofs.SeatLemmas.{all_first}
-use Rattle.world.proofs.world.World.start.Goals as goal
+use Rattle.world.proofs.parts.Parts.start.Goals as goal
 
-pub returns-clause-farm : goal.returns-clause-farm
-returns-clause-farm c = λ j. record (opening content_digest c.args.setup.nodes) {
+pub returns : goal.returns
+returns c = λ j. record (opening content_digest c.args.setup.nodes) {
   size = c.in-Ok.ensures.len j;
   ledger = c.start-2.ensures j;
   saved = saves (c.start-2.ensures j);

@@ -14,7 +14,7 @@ use Rattle.farm_base.specs.declared.message.Message as sent
 use Rattle.world.specs.Shown.{shown}
 use Rattle.world.specs.Turns.{first_number}
 use Rattle.world.proofs.CallLemmas.{sends_fit, call_done}
-use Rattle.world.proofs.world.World.retire.Goals as goal
+use Rattle.world.proofs.parts.Parts.retire.Goals as goal
 
 pub send_coordinator-requires : goal.send_coordinator-requires
 send_coordinator-requires c =

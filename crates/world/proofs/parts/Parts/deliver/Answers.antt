@@ -21,7 +21,7 @@ use Rattle.world.proofs.FewLemmas.{heard_count}
 use Rattle.world.proofs.PoolLemmas.{found_at, same_read}
 use Rattle.world.proofs.TurnLemmas.{hears, came_none, came_done, came_refused, came_worked, unmoved, came_as}
 use Rattle.protocol.specs.Replay.{receiver}
-use Rattle.world.proofs.world.World.deliver.Goals as goal
+use Rattle.world.proofs.parts.Parts.deliver.Goals as goal
 
 pub returns-in_default-hear : goal.returns-in_default-hear
 returns-in_default-hear c =
