@@ -24,4 +24,5 @@ mod Chronicles
 pub mod Answering
 mod Asking
 pub mod Lawfulness
+pub mod LawfulFarms
 pub mod Refusals

@@ -286,7 +286,7 @@ module _ (k : Limits) where
   nudges-ledger : (g : Lease) (w : Work) → (nudges k g w).ledger ≡ w.ledger
   nudges-ledger g w = elim (cases_bool (is_awaited w.ledger.parked g)) [ inl t ↦ rw t refl | inr t ↦ rw t refl ]
 
-  nudge-ledger : (gs : List Lease) (w : Work) → (nudge_all k gs w).ledger ≡ w.ledger
+  pub nudge-ledger : (gs : List Lease) (w : Work) → (nudge_all k gs w).ledger ≡ w.ledger
   nudge-ledger [] w = refl
   nudge-ledger (g ∷ gs) w = nudge-ledger gs (nudges k g w) ∙ nudges-ledger g w
 

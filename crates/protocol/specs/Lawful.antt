@@ -12,7 +12,7 @@ use Rattle.protocol.specs.declared.answer.CoordRefusal.{CoordRefusal}
 use Rattle.protocol.specs.Ledger.{Limits, Ledger, Lease, Work, begin_work, handled, withdrawn, retired, pruned, saves, reads, has_slot, is_of}
 use Rattle.protocol.specs.Follows.{Waits}
 use Rattle.protocol.specs.World.{KeptAsk, Open, Node}
-use Rattle.protocol.specs.Replay.{Event, Farm, step}
+use Rattle.protocol.specs.Replay.{Event, Farm, step, opening}
 use Rattle.protocol.specs.Replay as replay
 
 -- a node of a farm with at most `top` nodes; they are counted from 1
@@ -136,3 +136,6 @@ EveryLedgerStaysLawful = (top : ℕ) (k : Limits) (q : Ledger) → IsLawful top 
 -- each event leaves a lawful farm lawful
 abbrev pub EveryFarmStaysLawful : Type 0
 EveryFarmStaysLawful = (sha : List ℕ → Digest) (k : Limits) (top : ℕ) (s : Farm) (e : Event) → IsEvent e → IsLawfulFarm top s → IsLawfulFarm top (step sha k s e).farm
+
+abbrev pub EveryOpeningIsLawful : Type 0
+EveryOpeningIsLawful = (sha : List ℕ → Digest) (top size : ℕ) → size ≤ top → IsLawfulFarm top (opening sha size)

@@ -3,7 +3,7 @@
 
 ghost use Rattle.protocol.specs.Follows.{EveryScheduleIsSafe, EveryScheduleStaysSafe, EveryEventIsMoves, EveryDecisionFollows, FittingAskIsGranted};
 ghost use Rattle.protocol.specs.Chronicle.{EveryScheduleHasAChronicle, EveryScheduleMeans, EveryVersionIsAnswered, NoParkedAskIsReady, FittingMessageIsGranted, EveryFarmIsSaved, EveryRecordCovers, RestartReadsTheRecord};
-ghost use Rattle.protocol.specs.Lawful.{EveryLedgerStaysLawful};
+ghost use Rattle.protocol.specs.Lawful.{EveryLedgerStaysLawful, EveryFarmStaysLawful, EveryOpeningIsLawful};
 ghost use Rattle.protocol.specs.Safe.{EveryRunIsSafe, EveryRunStaysSafe};
 
 mod answer;
@@ -78,4 +78,10 @@ pub fn every_record_is_enough()
 /// asks and tickets are in their ranges, no two leases share a slot or are of one ask, and so on.
 pub fn every_ledger_stays_lawful()
     ensures { EveryLedgerStaysLawful }
+{}
+
+/// So does each event of a farm, from its opening on.
+pub fn every_farm_stays_lawful()
+    ensures opening { EveryOpeningIsLawful }
+    ensures stays { EveryFarmStaysLawful }
 {}
