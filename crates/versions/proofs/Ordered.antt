@@ -25,7 +25,7 @@ use Rattle.protocol.proofs.Base.{cases_bool}
 abbrev pub Rise : List SlotLine → Type 0
 Rise ls = IsStrictlySortedBy slot_cmp (slots ls)
 
-reversed : (a b : Slot) (o : Ordering) → slot_cmp a b ≡ o → slot_cmp b a ≡ ordering_reverse o
+pub reversed : (a b : Slot) (o : Ordering) → slot_cmp a b ≡ o → slot_cmp b a ≡ ordering_reverse o
 reversed a b o e = laws.slot_total.antisymm b a ∙ ap ordering_reverse e
 
 no_less : (a b : Slot) → slot_cmp a b ≡ Less → is_lt (slot_cmp b a) ≡ false
@@ -58,7 +58,7 @@ searched s ls (Err k) up inside parts =
 apart : (a b : Slot) → slot_cmp a b ≡ Less → slot_eq a b ≡ false
 apart a b e = laws.slot_eq-by_cmp a b ∙ ap is_eq e
 
-apart_back : (a b : Slot) → slot_cmp a b ≡ Less → slot_eq b a ≡ false
+pub apart_back : (a b : Slot) → slot_cmp a b ≡ Less → slot_eq b a ≡ false
 apart_back a b e = laws.slot_eq-by_cmp b a ∙ ap is_eq (reversed a b Less e)
 
 Rise-tail : (l : SlotLine) (ls : List SlotLine) → Rise (l ∷ ls) → Rise ls
