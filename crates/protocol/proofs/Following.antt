@@ -1,5 +1,6 @@
 -- What the coordinator does with its ledger, a machine that forgets nothing may do.
 use Rattle.std.proofs.Common.{◌≡◌, ◌≢◌, ℕ, ◌+◌, ◌<◌, ◌≤◌, List, [], ◌∷◌, ◌++◌, ◌⊎◌, Bool, true, false, not, ◌&&◌, eqb, length, map, filter, Option, Some, None, refl, sym, ◌∙◌, ap, subst, inl, inr, arith, append-nil}
+use Rattle.std.proofs.lemmas.Bool.{cases_Bool, and_parts, eqb-false, eqb-true, not-false, or_parts}
 use Rattle.std.proofs.lemmas.Bool.Decides.{nat_tests}
 use Rattle.std.specs.Prelude.{nat_lt}
 use Rattle.protocol.specs.Lists.{In}
@@ -10,7 +11,7 @@ use Rattle.farm_base.specs.declared.message.Why.{Why}
 use Rattle.protocol.specs.declared.answer.CoordNote.{CoordNote}
 use Rattle.protocol.specs.Ledger.{Limits, Ledger, Work, Lease, says, notes, some_lease, is_leased, is_free, lowest, instance_for, slot_for, all_taken, busy, last_digest, granted_slot, grant_of, Decision, Give, Deny, Wait, pick, another, elsewhere, decision, lease_for, raised, gives, denies, carried_out, waits, tried, stays, try_all, waiting, retried, is_parked}
 use Rattle.protocol.specs.Follows.{lease_from, NoLease, Waits, Works, Begins_work, Goes_on, Speaks, Follows}
-use Rattle.protocol.proofs.Base.{cases_bool, true_false, not_false, and_both, or_false, none_some, some_is, eqb_is, eqb_not, slot_eq_same, slot_eq_is, node_is, from_map, any_none, in_append, in_left, in_right, in_one}
+use Rattle.protocol.proofs.Base.{true_false, none_some, some_is, slot_eq_same, slot_eq_is, node_is, from_map, any_none, in_append, in_left, in_right, in_one}
 use Rattle.protocol.proofs.Steps.{Sound, Later, later_refl, later_trans, step_sound, fresh}
 use Rattle.protocol.proofs.Leases.{Core, core_of, AllAsked, agrees_from, names_last, grant-lease, lease-grant, not_leased, free_is, lowest_is, waits_give, parked_part, no_grant}
 
@@ -51,7 +52,7 @@ part_refl (x ∷ xs) = Keeps x xs xs (part_refl xs)
 
 pub part_filter : {A : Type 0} (test : A → Bool) (xs : List A) → IsPartOf xs (filter test xs)
 part_filter test [] = Ends_part
-part_filter test (x ∷ xs) = elim (cases_bool (test x)) [
+part_filter test (x ∷ xs) = elim (cases_Bool (test x)) [
   | inl t ↦ rw t (Keeps x xs (filter test xs) (part_filter test xs))
   | inr t ↦ rw t (Leaves x xs (filter test xs) (part_filter test xs))
 ]
@@ -64,7 +65,7 @@ pub slots_eq_is : (xs ys : List Slot) → slots_eq xs ys ≡ true → xs ≡ ys
 slots_eq_is [] [] h = refl
 slots_eq_is [] (y ∷ ys) h = (let bad : false ≡ true = h in cc)
 slots_eq_is (x ∷ xs) [] h = (let bad : false ≡ true = h in cc)
-slots_eq_is (x ∷ xs) (y ∷ ys) h = (let b = and_both (slot_eq x y) (slots_eq xs ys) h in let p = slot_eq_is x y b.0 in let q = slots_eq_is xs ys b.1 in λ i. p i ∷ q i)
+slots_eq_is (x ∷ xs) (y ∷ ys) h = (let b = and_parts (slot_eq x y) (slots_eq xs ys) h in let p = slot_eq_is x y b.0 in let q = slots_eq_is xs ys b.1 in λ i. p i ∷ q i)
 
 pub slots_eq_same : (xs : List Slot) → slots_eq xs xs ≡ true
 slots_eq_same [] = refl
@@ -142,7 +143,7 @@ module _ (k : Limits) (fits : k.instances ≤ 4096) (pool : List Message) (m : M
       → (private && (eqb (lowest (is_free q) w.folder 1 k.instances) 0)) ≡ false → (not private && some_lease q.live (only_slot w.folder)) ≡ false
       → Free b (record { folder = w.folder; instance = instance_for k.instances (is_free q) w.folder private }) × IsInstance w.folder.mode (instance_for k.instances (is_free q) w.folder private)
   by_kind b q w true core p left idle =
-      let ne : lowest (is_free q) w.folder 1 k.instances ≢ 0 = eqb_not (lowest (is_free q) w.folder 1 k.instances) 0 left in
+      let ne : lowest (is_free q) w.folder 1 k.instances ≢ 0 = eqb-false (lowest (is_free q) w.folder 1 k.instances) 0 left in
       let r = lowest_is (is_free q) w.folder k.instances 1 ne in
       let low : 1 ≤ lowest (is_free q) w.folder 1 k.instances = r.1 in
       let high : lowest (is_free q) w.folder 1 k.instances < 1 + k.instances = r.2 in
@@ -181,7 +182,7 @@ module _ (k : Limits) (fits : k.instances ≤ 4096) (pool : List Message) (m : M
 
   home_of : (o : Option NodeId) (n h : NodeId) → another o n ≡ false → o ≡ Some h → h ≡ n
   home_of None n h e s = none_some h s
-  home_of (Some x) n h e s = (let same : x ≡ h = some_is x h s in node_is h n (eqb_is h.0 n.0 (subst (λ (z : NodeId). eqb z.0 n.0 ≡ true) same (not_false (eqb x.0 n.0) e))))
+  home_of (Some x) n h e s = (let same : x ≡ h = some_is x h s in node_is h n (eqb-true h.0 n.0 (subst (λ (z : NodeId). eqb z.0 n.0 ≡ true) same (not-false (eqb x.0 n.0) e))))
 
   and_here : (a b : Bool) → a ≡ true → (a && b) ≡ false → b ≡ false
   and_here a b e h = rw e at h
@@ -253,7 +254,7 @@ module _ (k : Limits) (fits : k.instances ≤ 4096) (pool : List Message) (m : M
           | inl e ↦ (let same : x ≡ g = cc in inr (in_right (told.Granted x) w.sends (told.Granted g ∷ []) (inl (ap told.Granted same))))
           | inr j ↦ more_sent x w.sends (told.Granted g) (going.granted x j)
         ];
-        core = give_core b q g h (raised k q) now going.core below (lease-grant k.empty q.line h) (raised_covers q going.core.ceiling (not_false (nat_lt q.last k.greatest) picked.below));
+        core = give_core b q g h (raised k q) now going.core below (lease-grant k.empty q.line h) (raised_covers q going.core.ceiling (not-false (nat_lt q.last k.greatest) picked.below));
         parked = going.parked;
       }
 
@@ -355,7 +356,7 @@ module _ (k : Limits) (fits : k.instances ≤ 4096) (pool : List Message) (m : M
   try_none : (ps : List Parked) (w : Work) (p : Parked) → is_parked ps p.node p.life p.ask ≡ false → NoLease w.ledger.live p → NoLease (try_all k ps w).ledger.live p
   try_none [] w p other none = none
   try_none (r ∷ ps) w p other none =
-      let o = or_false ((eqb r.node.0 p.node.0) && (eqb r.life.0 p.life.0) && (eqb r.ask.0 p.ask.0)) (is_parked ps p.node p.life p.ask) other in
+      let o = or_parts ((eqb r.node.0 p.node.0) && (eqb r.life.0 p.life.0) && (eqb r.ask.0 p.ask.0)) (is_parked ps p.node p.life p.ask) other in
       try_none ps (tried k r w) p o.1 (elim (tried_live r w) [
         | inl e ↦ subst (λ l. NoLease l p) (sym e) none
         | inr x ↦ subst (λ l. NoLease l p) (sym x.4) (λ g i. elim (in_append g w.ledger.live (x.0 ∷ []) i) [
@@ -372,14 +373,14 @@ module _ (k : Limits) (fits : k.instances ≤ 4096) (pool : List Message) (m : M
 
   waiting_in : (ps : List Parked) (w : Work) (p : Parked) → In p (waiting k ps w) → In p ps
   waiting_in [] w p i = absurd i
-  waiting_in (r ∷ ps) w p i = elim (cases_bool (stays k r w)) [
+  waiting_in (r ∷ ps) w p i = elim (cases_Bool (stays k r w)) [
     | inl t ↦ elim (let j : In p (r ∷ waiting k ps (tried k r w)) = rw t at i in j) [ inl e ↦ inl e | inr j ↦ inr (waiting_in ps (tried k r w) p j) ]
     | inr t ↦ inr (waiting_in ps (tried k r w) p (rw t at i))
   ]
 
   waiting_part : (ps : List Parked) (w : Work) → IsPartOf ps (waiting k ps w)
   waiting_part [] w = Ends_part
-  waiting_part (r ∷ ps) w = elim (cases_bool (stays k r w)) [
+  waiting_part (r ∷ ps) w = elim (cases_Bool (stays k r w)) [
     | inl t ↦ rw t (Keeps r ps (waiting k ps (tried k r w)) (waiting_part ps (tried k r w)))
     | inr t ↦ rw t (Leaves r ps (waiting k ps (tried k r w)) (waiting_part ps (tried k r w)))
   ]
@@ -394,7 +395,7 @@ module _ (k : Limits) (fits : k.instances ≤ 4096) (pool : List Message) (m : M
   waiting_waits [] w h = tt
   waiting_waits (p ∷ ps) w h =
       let rest = waiting_waits ps (tried k p w) (tried_waits p w ps h.1 h.2) in
-      elim (cases_bool (stays k p w)) [
+      elim (cases_Bool (stays k p w)) [
         | inl t ↦ rw t (try_none ps (tried k p w) p h.1 (stays_none p w t h.0), parked_part ps (waiting k ps (tried k p w)) p.node p.life p.ask (waiting_in ps (tried k p w)) h.1, rest)
         | inr t ↦ rw t rest
       ]

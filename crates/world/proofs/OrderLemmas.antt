@@ -1,6 +1,6 @@
 -- Two lists of rising slots with the same slots are one.
 use Rattle.std.proofs.Common.{◌≡◌, Bool, true, false, ◌||◌, List, [], ◌∷◌, refl, sym, ap, ◌∙◌, subst, inl, inr}
-use Rattle.std.specs.Prelude.{◌⊎◌}
+use Rattle.std.proofs.lemmas.Bool.{cases_Bool}
 use Rattle.std.specs.List.{list_any, AllByRecursion}
 use Rattle.std.specs.List.Sorted.{IsStrictlySortedBy}
 use Rattle.std.proofs.lemmas.Map.Keys.{sorted_head, sorted_tail}
@@ -41,12 +41,8 @@ heads Less x y xs ys e hx hy same = absurd (never (has (y ∷ ys) x) (sym (same 
 heads Equal x y xs ys e hx hy same = slot_cmp-tie x y e
 heads Greater x y xs ys e hx hy same = absurd (never (has (x ∷ xs) y) (same y ∙ first_has y ys) (lowest y x xs hx (reversed x y Greater e)))
 
-cases_bool : (b : Bool) → (b ≡ true) ⊎ (b ≡ false)
-cases_bool true = inl refl
-cases_bool false = inr refl
-
 tails : (x s : Slot) (xs ys : List Slot) → IsStrictlySortedBy slot_cmp (x ∷ xs) → IsStrictlySortedBy slot_cmp (x ∷ ys) → has (x ∷ xs) s ≡ has (x ∷ ys) s → has xs s ≡ has ys s
-tails x s xs ys hx hy same = elim (cases_bool (slot_eq x s)) [
+tails x s xs ys hx hy same = elim (cases_Bool (slot_eq x s)) [
   | inl here ↦ (let is : x ≡ s = slot_eq_is x s here in subst (λ (z : Slot). has xs z ≡ has ys z) is (none_below x xs (sorted_head slot_cmp x xs hx) ∙ sym (none_below x ys (sorted_head slot_cmp x ys hy))))
   | inr other ↦ sym (ap (λ (b : Bool). b || has xs s) other) ∙ same ∙ ap (λ (b : Bool). b || has ys s) other
 ]
