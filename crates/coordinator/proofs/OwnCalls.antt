@@ -1,6 +1,7 @@
 -- The coordinator's own calls, by what they are accepted for.
 use mathlib.Core.Path.{fun_ext}
 use Rattle.std.proofs.Common.{◌≡◌, ℕ, List, [], ◌∷◌, ◌++◌, Bool, true, false, not, ◌||◌, ◌&&◌, eqb, cond, Option, Some, None, Result, Ok, Err, refl, sym, ◌∙◌, ap, subst}
+use Rattle.std.proofs.lemmas.Bool.{eqb-true}
 use Rattle.std.specs.List.{list_any}
 use Rattle.std.specs.Result.{result_err}
 use Rattle.std.proofs.lemmas.List.Elements.{All-filter}
@@ -13,7 +14,7 @@ use Rattle.protocol.specs.declared.answer.CoordNote.TheVariants as note
 use Rattle.protocol.specs.declared.answer.CoordRefusal.{CoordRefusal}
 use Rattle.protocol.specs.declared.answer.CoordRefusal.TheVariants as refusal
 use Rattle.protocol.specs.Ledger.{Limits, Lease, Work, without, lease_under, has_ticket, retried, notes, withdraws, withdrawing, withdrawn, is_at, is_home, goes, retired}
-use Rattle.protocol.proofs.Base.{eqb_is, eqb_same}
+use Rattle.protocol.proofs.Base.{eqb_same}
 use Rattle.coordinator.specs.Held.{is_among}
 use Rattle.coordinator.specs.Shown.{saved_under, withdraws_under}
 use Rattle.coordinator.specs.Sound.{IsSound}
@@ -72,7 +73,7 @@ gone_at false false true f g = refl
 gone_at false false false f g = refl
 
 eqb_turned : (a b : ℕ) → eqb a b ≡ true → eqb b a ≡ true
-eqb_turned a b e = subst (λ z. eqb z a ≡ true) (eqb_is a b e) (eqb_same a)
+eqb_turned a b e = subst (λ z. eqb z a ≡ true) (eqb-true a b e) (eqb_same a)
 
 -- one node more is retired
 pub gone-more : (nodes : List NodeId) (n : NodeId) → is_among (nodes ++ n ∷ []) ≡ put n.0 true (is_among nodes)

@@ -1,6 +1,7 @@
 -- What a prune does: to the lines, and that a ledger keeps to its rules.
 use mathlib.Core.Path.{fun_ext}
 use Rattle.std.proofs.Common.{◌≡◌, ◌+◌, ◌<◌, ◌≤◌, List, [], ◌∷◌, ◌++◌, Bool, true, false, cond, nat_lt, get_or, map, Some, None, Ok, Err, refl, sym, ◌∙◌, ap, subst, arith, append-nil}
+use Rattle.std.proofs.lemmas.Bool.{or_parts}
 use Rattle.std.specs.Prelude.{All}
 use Rattle.std.specs.List.{list_any}
 use Rattle.std.specs.Result.{result_err}
@@ -18,7 +19,6 @@ use Rattle.versions.specs.declared.lines.Added.{Added}
 use Rattle.versions.specs.declared.lines.SlotLine.{SlotLine}
 use Rattle.versions.specs.Additions.{HasRoom, IsAbove, AreReady}
 use Rattle.versions.specs.Lines.{line_at, lines_with, news_of}
-use Rattle.protocol.proofs.Base.{or_false}
 use Rattle.coordinator.specs.Sound.{IsSound}
 
 -- what passes three tests
@@ -65,7 +65,7 @@ ready-one lines t (a ∷ b ∷ adds) s d e room above = absurd (cc)
 
 none_has : {A : Type 0} (test : A → Bool) (xs : List A) → list_any test xs ≡ false → All (λ x. test x ≡ false) xs
 none_has test [] h k d inside = absurd (omega (arith, inside))
-none_has test (x ∷ xs) h k d inside = (let both = or_false (test x) (list_any test xs) h in All-cons (λ y. test y ≡ false) x xs both.0 (none_has test xs both.1) k d inside)
+none_has test (x ∷ xs) h k d inside = (let both = or_parts (test x) (list_any test xs) h in All-cons (λ y. test y ≡ false) x xs both.0 (none_has test xs both.1) k d inside)
 
 -- what holds of a line and of a new version holds of the line with it
 line_all : (P : LineVersion → Type 0) (b : Bool) (xs : List LineVersion) (v : LineVersion) → All P xs → (b ≡ true → P v) → All P (cond b (xs ++ v ∷ []) xs)

@@ -1,5 +1,6 @@
 -- What a ledger keeps to, over all that a message does.
 use Rattle.std.proofs.Common.{◌≡◌, ℕ, ◌+◌, ◌<◌, ◌≤◌, List, [], ◌∷◌, ◌++◌, Bool, true, false, not, ◌&&◌, ◌||◌, get_or, map, filter, Option, Some, None, refl, sym, ◌∙◌, ap, subst, inl, inr, arith}
+use Rattle.std.proofs.lemmas.Bool.{cases_Bool, not-true, and_parts, or_parts, eqb-true}
 use Rattle.std.specs.Prelude.{All, AllPairs, nat_lt}
 use Rattle.std.specs.List.{list_any, find, AllByRecursion}
 use Rattle.std.specs.List.Sorted.{IsStrictlySortedBy}
@@ -25,7 +26,7 @@ use Rattle.coordinator.specs.Held.{line_at}
 use Rattle.versions.specs.Lines.{news_of}
 use Rattle.versions.specs.Additions.{HasRoom, IsAbove, AreReady}
 use Rattle.coordinator.specs.Sound.{IsOpen, IsSound, IsRequest}
-use Rattle.protocol.proofs.Base.{cases_bool, true_false, not_true, and_both, or_false, eqb_is}
+use Rattle.protocol.proofs.Base.{true_false}
 use Rattle.coordinator.proofs.StateWords.{decision-is}
 use Rattle.coordinator.proofs.Trying.{tried-is, retried-is}
 
@@ -36,7 +37,7 @@ All-more P Q xs f h k d inside = f (get_or xs k d) (h k d inside)
 
 find_all : {A : Type 0} (P : A → Type 0) (test : A → Bool) (xs : List A) (x : A) → All P xs → find test xs ≡ Some x → P x × (test x ≡ true)
 find_all P test [] x h e = absurd (cc e)
-find_all P test (y ∷ ys) x h e = elim (cases_bool (test y)) [
+find_all P test (y ∷ ys) x h e = elim (cases_Bool (test y)) [
   | inl t ↦ (let at : Some y ≡ Some x = rw t at e in let same : y ≡ x = cc at in (subst P same (All-head P y ys h), subst (λ z. test z ≡ true) same t))
   | inr t ↦ find_all P test ys x (All-tail P y ys h) (rw t at e)
 ]
@@ -51,7 +52,7 @@ picked false false false true e = absurd (cc e)
 picked false false false false e = (refl, refl)
 
 free_is_open : (q : Ledger) → FreeIsOpen (is_free q) q.live
-free_is_open q s e = not_true (some_lease q.live s) (and_both _ _ e).0
+free_is_open q s e = not-true (some_lease q.live s) (and_parts _ _ e).0
 
 -- no ticket of the leases is above the last
 abbrev Given : ℕ → List Lease → Type 0
@@ -93,7 +94,7 @@ sound-try_all k (p ∷ ps) w s wants = sound-try_all k ps (tried k p w) (sound-t
 
 wants-waiting : (k : Limits) (ps : List Parked) (w : Work) → AllWants ps → AllWants (waiting k ps w)
 wants-waiting k [] w wants = wants
-wants-waiting k (p ∷ ps) w wants = elim (cases_bool (stays k p w)) [
+wants-waiting k (p ∷ ps) w wants = elim (cases_Bool (stays k p w)) [
   | inl e ↦ rw e (All-cons (λ p. IsWants p.wants) p (waiting k ps (tried k p w)) (All-head (λ p. IsWants p.wants) p ps wants) (wants-waiting k ps (tried k p w) (All-tail (λ p. IsWants p.wants) p ps wants)))
   | inr e ↦ rw e (wants-waiting k ps (tried k p w) (All-tail (λ p. IsWants p.wants) p ps wants))
 ]
@@ -129,7 +130,7 @@ sound-sees n l w s = record {
 
 pub sound-newer_life : (k : Limits) (n : NodeId) (l : Life) (w : Work) → IsSound w.ledger → IsSound (newer_life k n l w).ledger
 unfolding newer_life
-sound-newer_life k n l w s = elim (cases_bool (list_any (is_older n l) w.ledger.live || is_home n w.ledger.old_home)) [
+sound-newer_life k n l w s = elim (cases_Bool (list_any (is_older n l) w.ledger.live || is_home n w.ledger.old_home)) [
   | inl e ↦ rw e (sound-retried k (sees n l w) (sound-sees n l w s))
   | inr e ↦ rw e (sound-sees n l w s)
 ]
@@ -140,7 +141,7 @@ sound-ends g w s = sound-fewer (λ h. not (has_ticket g.ticket h)) w.ledger s
 -- ---- a commit
 
 flipped : (g h : Lease) → AreApart g h → AreApart h g
-flipped g h apart s has = elim (cases_bool (has_slot g.slots s)) [
+flipped g h apart s has = elim (cases_Bool (has_slot g.slots s)) [
   | inl e ↦ true_false (has_slot h.slots s) has (apart s e)
   | inr e ↦ e
 ]
@@ -148,7 +149,7 @@ flipped g h apart s has = elim (cases_bool (has_slot g.slots s)) [
 -- the other leases have no slot of the ticket's
 others_apart : (t : Ticket) (live : List Lease) (g : Lease) → AllPairs AreApart live → find (has_ticket t) live ≡ Some g → All (λ h. AreApart h g) (without t live)
 others_apart t [] g apart e = absurd (cc e)
-others_apart t (x ∷ live) g apart e = elim (cases_bool (has_ticket t x)) [
+others_apart t (x ∷ live) g apart e = elim (cases_Bool (has_ticket t x)) [
   | inl same ↦ (
       let at : Some x ≡ Some g = rw same at e in
       let is : x ≡ g = cc at in
@@ -164,8 +165,8 @@ others_apart t (x ∷ live) g apart e = elim (cases_bool (has_ticket t x)) [
 not_writable : (slots : List (Slot × Bool)) (s : Slot) → has_slot slots s ≡ false → list_any (λ y. slot_eq y s) (writable_slots slots) ≡ false
 not_writable [] s h = refl
 not_writable (x ∷ xs) s h =
-    let o = or_false (slot_eq x.0 s) (has_slot xs s) h in
-    elim (cases_bool x.1) [
+    let o = or_parts (slot_eq x.0 s) (has_slot xs s) h in
+    elim (cases_Bool x.1) [
       | inl e ↦ (let here = o.0 in let rest = not_writable xs s o.1 in rw (e, here) rest)
       | inr e ↦ rw e (not_writable xs s o.1)
     ]
@@ -175,8 +176,8 @@ no_news : (news : List News) (slots : List Slot) (s : Slot) → slots_eq (slots_
 no_news [] slots s e h = refl
 no_news (x ∷ news) [] s e h = (let bad : false ≡ true = e in absurd (cc bad))
 no_news (x ∷ news) (y ∷ slots) s e h =
-    let b = and_both (slot_eq x.slot y) (slots_eq (slots_of news) slots) e in
-    let o = or_false (slot_eq y s) (list_any (λ z. slot_eq z s) slots) h in
+    let b = and_parts (slot_eq x.slot y) (slots_eq (slots_of news) slots) e in
+    let o = or_parts (slot_eq y s) (list_any (λ z. slot_eq z s) slots) h in
     let other : slot_eq x.slot s ≡ false = ap (λ (z : Slot). slot_eq z s) (laws.slot_exact x.slot y b.0) ∙ o.0 in
     rw other (no_news news slots s b.1 o.1)
 
@@ -191,8 +192,8 @@ committer n l t news live h = by (lease_under live t) refl
     by : (o : Option Lease) → lease_under live t ≡ o → (g : Lease) × MayCommit t news live g
     by None e = (let bad : false ≡ true = rw e at h in absurd (cc bad))
     by (Some g) e = (let at : (is_its n l g && slots_eq (slots_of news) (writable_slots g.slots) && not (is_nil news)) ≡ true = rw e at h in
-        let a = and_both (is_its n l g && slots_eq (slots_of news) (writable_slots g.slots)) (not (is_nil news)) at in
-        (g, record { found = e; slots = (and_both (is_its n l g) (slots_eq (slots_of news) (writable_slots g.slots)) a.0).1 }))
+        let a = and_parts (is_its n l g && slots_eq (slots_of news) (writable_slots g.slots)) (not (is_nil news)) at in
+        (g, record { found = e; slots = (and_parts (is_its n l g) (slots_eq (slots_of news) (writable_slots g.slots)) a.0).1 }))
 
 append_nothing : (xs : List LineVersion) → xs ++ [] ≡ xs
 append_nothing [] = refl
@@ -212,7 +213,7 @@ sound-commits n l t news w s may =
     let r = committer n l t news q.live may in
     let g : Lease = r.0 in
     let own = find_all (λ h. h.ticket.0 ≤ q.last) (has_ticket t) q.live g s.given r.1.found in
-    let is : g.ticket.0 ≡ t.0 = eqb_is g.ticket.0 t.0 own.1 in
+    let is : g.ticket.0 ≡ t.0 = eqb-true g.ticket.0 t.0 own.1 in
     let low : t.0 ≤ q.last = (let h = own.0 in omega arith) in
     let apart = others_apart t q.live g s.leases.apart r.1.found in
     let kept : All (IsOpen q.line) (without t q.live) = All-filter (λ h. not (has_ticket t h)) (IsOpen q.line) q.live s.ahead in
@@ -267,11 +268,11 @@ sound-answering k n l (Release t) w s h = sound-released k (may_release n l (lea
 
 pub sound-handled : (k : Limits) (y : ToCoord) (w : Work) → IsSound w.ledger → IsRequest y.request → IsSound (handled k y w).ledger
 unfolding handled
-sound-handled k y w s h = elim (cases_bool (w.ledger.gone y.node.0)) [
+sound-handled k y w s h = elim (cases_Bool (w.ledger.gone y.node.0)) [
   | inl e ↦ rw e s
-  | inr e ↦ rw e (elim (cases_bool (nat_lt y.life.0 (w.ledger.lives y.node.0))) [
+  | inr e ↦ rw e (elim (cases_Bool (nat_lt y.life.0 (w.ledger.lives y.node.0))) [
     | inl f ↦ rw f s
-    | inr f ↦ rw f (elim (cases_bool (nat_lt (w.ledger.lives y.node.0) y.life.0)) [
+    | inr f ↦ rw f (elim (cases_Bool (nat_lt (w.ledger.lives y.node.0) y.life.0)) [
       | inl g ↦ rw g (sound-answering k y.node y.life y.request (newer_life k y.node y.life w) (sound-newer_life k y.node y.life w s) h)
       | inr g ↦ rw g (sound-answering k y.node y.life y.request w s h)
     ])
@@ -283,7 +284,7 @@ sound-handled k y w s h = elim (cases_bool (w.ledger.gone y.node.0)) [
 -- no slot is twice among rising slots that may be written
 below_writable : (s : Slot) (slots : List (Slot × Bool)) → AllByRecursion (λ x. slot_cmp s x ≡ Less) (map (λ x. x.0) slots) → AllByRecursion (λ x. slot_cmp s x ≡ Less) (writable_slots slots)
 below_writable s [] h = tt
-below_writable s (x ∷ xs) h = elim (cases_bool x.1) [
+below_writable s (x ∷ xs) h = elim (cases_Bool x.1) [
   | inl e ↦ rw e (h.0, below_writable s xs h.1)
   | inr e ↦ rw e (below_writable s xs h.1)
 ]
@@ -291,7 +292,7 @@ below_writable s (x ∷ xs) h = elim (cases_bool x.1) [
 writable_rise : (slots : List (Slot × Bool)) → IsStrictlySortedBy slot_cmp (map (λ x. x.0) slots) → IsStrictlySortedBy slot_cmp (writable_slots slots)
 unfolding IsStrictlySortedBy
 writable_rise [] h = tt
-writable_rise (x ∷ xs) h = elim (cases_bool x.1) [
+writable_rise (x ∷ xs) h = elim (cases_Bool x.1) [
   | inl e ↦ rw e (below_writable x.0 xs h.0, writable_rise xs h.1)
   | inr e ↦ rw e (writable_rise xs h.1)
 ]
@@ -304,7 +305,7 @@ apart_from : (a : Addition) (adds : List Addition) (slots : List Slot) → AreFo
 apart_from a [] slots e h = All-nil (λ b. slot_eq a.slot b.slot ≡ false)
 apart_from a (b ∷ adds) [] e h = (let bad : false ≡ true = e in absurd (cc bad))
 apart_from a (b ∷ adds) (y ∷ slots) e h =
-    let both = and_both (slot_eq b.slot y) (slots_eq (slots_of (map news_of adds)) slots) e in
+    let both = and_parts (slot_eq b.slot y) (slots_eq (slots_of (map news_of adds)) slots) e in
     let same : b.slot ≡ y = laws.slot_exact b.slot y both.0 in
     let less : slot_cmp a.slot b.slot ≡ Less = ap (slot_cmp a.slot) same ∙ h.0 in
     All-cons (λ b. slot_eq a.slot b.slot ≡ false) b adds (laws.slot_eq-by_cmp a.slot b.slot ∙ ap is_eq less) (apart_from a adds slots both.1 h.1)
@@ -315,18 +316,18 @@ unfolding IsStrictlySortedBy
 ready_from lines t [] slots e sorted room above = tt
 ready_from lines t (a ∷ adds) [] e sorted room above = (let bad : false ≡ true = e in absurd (cc bad))
 ready_from lines t (a ∷ adds) (y ∷ slots) e sorted room above =
-    let both = and_both (slot_eq a.slot y) (slots_eq (slots_of (map news_of adds)) slots) e in
+    let both = and_parts (slot_eq a.slot y) (slots_eq (slots_of (map news_of adds)) slots) e in
     let same : a.slot ≡ y = laws.slot_exact a.slot y both.0 in
     let here : (slot_eq y a.slot || list_any (λ z. slot_eq z a.slot) slots) ≡ true = (let is : slot_eq y a.slot ≡ true = subst (λ z. slot_eq z a.slot ≡ true) same (laws.slot_eq-itself a.slot) in rw is refl) in (
       All-head (HasRoom lines) a adds room,
       above a.slot here,
       apart_from a adds slots both.1 (subst (λ z. AllByRecursion (λ x. slot_cmp z x ≡ Less) slots) (sym same) sorted.0),
       ready_from lines t adds slots both.1 sorted.1 (All-tail (HasRoom lines) a adds room)
-          (λ s h. above s (elim (cases_bool (slot_eq y s)) [ inl f ↦ rw f refl | inr f ↦ rw f h ])),
+          (λ s h. above s (elim (cases_Bool (slot_eq y s)) [ inl f ↦ rw f refl | inr f ↦ rw f h ])),
     )
 
 writable_has : (slots : List (Slot × Bool)) (s : Slot) → list_any (λ y. slot_eq y s) (writable_slots slots) ≡ true → has_slot slots s ≡ true
-writable_has slots s h = elim (cases_bool (has_slot slots s)) [
+writable_has slots s h = elim (cases_Bool (has_slot slots s)) [
   | inl e ↦ e
   | inr e ↦ true_false (list_any (λ y. slot_eq y s) (writable_slots slots)) h (not_writable slots s e)
 ]
@@ -338,7 +339,7 @@ ready-commit lines q n l t news adds s is may e room =
     let r = committer n l t news q.live may in
     let g : Lease = r.0 in
     let ahead = find_all (IsOpen q.line) (has_ticket t) q.live g s.ahead r.1.found in
-    let same : g.ticket.0 ≡ t.0 = eqb_is g.ticket.0 t.0 ahead.1 in
+    let same : g.ticket.0 ≡ t.0 = eqb-true g.ticket.0 t.0 ahead.1 in
     let rises = (find_all Rises (has_ticket t) q.live g s.leases.slots r.1.found).0 in
     let fits : AreFor adds (writable_slots g.slots) = ap (λ (x : List News). slots_eq (slots_of x) (writable_slots g.slots)) e ∙ r.1.slots in
     ready_from lines t adds (writable_slots g.slots) fits (writable_rise g.slots rises) room

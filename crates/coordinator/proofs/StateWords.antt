@@ -1,6 +1,7 @@
 -- Decisions, lives, and the slots of news.
 use mathlib.Core.Path.{fun_ext}
-use Rattle.std.proofs.Common.{◌≡◌, ◌≢◌, ℕ, zero, suc, ◌≤◌, List, [], ◌∷◌, ◌++◌, ◌⊎◌, Bool, true, false, not, eqb, length, filter, drop, refl, sym, ◌∙◌, subst, inl, inr, arith}
+use Rattle.std.proofs.Common.{◌≡◌, ◌≢◌, ℕ, zero, suc, ◌≤◌, List, [], ◌∷◌, ◌++◌, Bool, true, false, not, eqb, length, filter, drop, refl, sym, ◌∙◌, subst, inl, inr, arith}
+use Rattle.std.proofs.lemmas.Bool.{cases_eq, ne_eqb}
 use Rattle.std.specs.Prelude.{nat_lt}
 use Rattle.std.proofs.lemmas.Bool.Decides.{nat_tests}
 use Rattle.farm_base.specs.declared.message.Why.TheVariants.{InstancesSpent, TicketsSpent}
@@ -15,10 +16,7 @@ use Rattle.protocol.specs.Ledger.{Limits, Ledger, pick, decision, elsewhere, all
 use Rattle.protocol.specs.declared.answer.Decision.TheVariants.{Give, Deny, Wait}
 use Rattle.farm_base.specs.declared.lease.NodeLife.{NodeLife}
 use Rattle.coordinator.specs.Held.{life_at}
-use Rattle.protocol.proofs.Base.{eqb_same, eqb_apart}
-
-cases_nat : (a b : ℕ) → (a ≡ b) ⊎ (a ≢ b)
-cases_nat a b = grind arith
+use Rattle.protocol.proofs.Base.{eqb_same}
 
 pub decision-is : (k : Limits) (q : Ledger) (p : Parked) → decision k q p ≡ pick (elsewhere q p) (all_taken k.instances (is_free q) (leased_wants p.tenure p.wants)) (busy (is_leased q) (leased_wants p.tenure p.wants)) (not (nat_lt q.last k.greatest))
 unfolding decision
@@ -82,20 +80,20 @@ decision-tickets k q p e h same = decision-is k q p ∙ picks_last _ _ _ _ e h (
 -- ---- lives
 
 life_at-set : (ls : List NodeLife) (node : NodeId) (life : Life) (n : ℕ) → life_at (filter (λ s. not (eqb s.node.0 node.0)) ls ++ record { node = node; life = life } ∷ []) n ≡ put node.0 life.0 (life_at ls) n
-life_at-set [] node life n = elim (cases_nat n node.0) [
+life_at-set [] node life n = elim (cases_eq n node.0) [
   | inl e ↦ (let t : eqb node.0 n ≡ true = subst (λ (z : ℕ). eqb node.0 z ≡ true) (sym e) (eqb_same node.0) in let u : eqb n node.0 ≡ true = subst (λ (z : ℕ). eqb n z ≡ true) e (eqb_same n) in rw (t, u) refl)
-  | inr ne ↦ (let t : eqb node.0 n ≡ false = eqb_apart node.0 n (λ h. ne (sym h)) in let u : eqb n node.0 ≡ false = eqb_apart n node.0 ne in rw (t, u) refl)
+  | inr ne ↦ (let t : eqb node.0 n ≡ false = ne_eqb node.0 n (λ h. ne (sym h)) in let u : eqb n node.0 ≡ false = ne_eqb n node.0 ne in rw (t, u) refl)
 ]
-life_at-set (l ∷ ls) node life n = elim (cases_nat l.node.0 node.0) [
+life_at-set (l ∷ ls) node life n = elim (cases_eq l.node.0 node.0) [
   | inl e ↦ (let t : eqb l.node.0 node.0 ≡ true = subst (λ (z : ℕ). eqb l.node.0 z ≡ true) e (eqb_same l.node.0) in
-      rw t (life_at-set ls node life n ∙ elim (cases_nat n node.0) [
+      rw t (life_at-set ls node life n ∙ elim (cases_eq n node.0) [
         | inl f ↦ (let g : eqb n node.0 ≡ true = subst (λ (z : ℕ). eqb n z ≡ true) f (eqb_same n) in rw g refl)
-        | inr ne ↦ (let g : eqb n node.0 ≡ false = eqb_apart n node.0 ne in let h : eqb l.node.0 n ≡ false = eqb_apart l.node.0 n (λ k. ne (sym k ∙ e)) in rw (g, h) refl)
+        | inr ne ↦ (let g : eqb n node.0 ≡ false = ne_eqb n node.0 ne in let h : eqb l.node.0 n ≡ false = ne_eqb l.node.0 n (λ k. ne (sym k ∙ e)) in rw (g, h) refl)
       ]))
-  | inr ne ↦ (let t : eqb l.node.0 node.0 ≡ false = eqb_apart l.node.0 node.0 ne in
-      rw t (elim (cases_nat l.node.0 n) [
-        | inl f ↦ (let g : eqb l.node.0 n ≡ true = subst (λ (z : ℕ). eqb l.node.0 z ≡ true) f (eqb_same l.node.0) in let h : eqb n node.0 ≡ false = eqb_apart n node.0 (λ k. ne (f ∙ k)) in rw (g, h) refl)
-        | inr nf ↦ (let g : eqb l.node.0 n ≡ false = eqb_apart l.node.0 n nf in rw g (life_at-set ls node life n))
+  | inr ne ↦ (let t : eqb l.node.0 node.0 ≡ false = ne_eqb l.node.0 node.0 ne in
+      rw t (elim (cases_eq l.node.0 n) [
+        | inl f ↦ (let g : eqb l.node.0 n ≡ true = subst (λ (z : ℕ). eqb l.node.0 z ≡ true) f (eqb_same l.node.0) in let h : eqb n node.0 ≡ false = ne_eqb n node.0 (λ k. ne (f ∙ k)) in rw (g, h) refl)
+        | inr nf ↦ (let g : eqb l.node.0 n ≡ false = ne_eqb l.node.0 n nf in rw g (life_at-set ls node life n))
       ]))
 ]
 
@@ -109,7 +107,7 @@ set-life ls node life = fun_ext (life_at-set ls node life)
 pub fit_end : (news : List News) (i : ℕ) → i ≤ length news → slots_eq (slots_of (drop i news)) [] ≡ eqb i (length news)
 fit_end [] zero h = refl
 fit_end [] (suc i) h = absurd (omega arith)
-fit_end (x ∷ news) zero h = (let other : eqb 0 (suc (length news)) ≡ false = eqb_apart 0 (suc (length news)) (λ e. omega arith) in sym other)
+fit_end (x ∷ news) zero h = (let other : eqb 0 (suc (length news)) ≡ false = ne_eqb 0 (suc (length news)) (λ e. omega arith) in sym other)
 fit_end (x ∷ news) (suc i) h = fit_end news i (omega arith) ∙ same_after i (length news)
   where
     same_after : (a b : ℕ) → eqb a b ≡ eqb (suc a) (suc b)

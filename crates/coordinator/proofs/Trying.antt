@@ -1,5 +1,6 @@
 -- Trying an ask, by what is decided of it.
 use Rattle.std.proofs.Common.{◌≡◌, ℕ, List, [], ◌∷◌, ◌++◌, ◌+◌, ◌<◌, ◌≤◌, cond, Bool, true, false, ◌||◌, Option, Some, None, refl, sym, ◌∙◌, ap, inl, inr, arith, append_assoc}
+use Rattle.std.proofs.lemmas.Bool.{cases_Bool, eqb-true}
 use Rattle.std.specs.Prelude.{if◌then◌else◌, is_some, count_by, nat_lt}
 use Rattle.std.specs.List.{list_any}
 use Rattle.std.proofs.lemmas.List.Sums.{sum_by-cons}
@@ -11,7 +12,6 @@ use Rattle.protocol.specs.Ledger.{Limits, Work, decision, carried_out, waits, tr
 use Rattle.protocol.specs.declared.answer.Decision.{Decision}
 use Rattle.protocol.specs.declared.answer.Decision.TheVariants.{Give, Deny, Wait}
 use Rattle.coordinator.specs.Shown.{ended, saved_under}
-use Rattle.protocol.proofs.Base.{cases_bool, eqb_is}
 
 pub tried-is : (k : Limits) (p : Parked) (w : Work) (d : Decision) → decision k w.ledger p ≡ d → tried k p w ≡ carried_out d k p w
 unfolding tried
@@ -82,7 +82,7 @@ acquiring-decides k None false p w h e = refl
 -- where something ended
 pub any-count : {A : Type 0} (test : A → Bool) (xs : List A) → nat_lt 0 (count_by test xs) ≡ list_any test xs
 any-count test [] = refl
-any-count test (x ∷ xs) = elim (cases_bool (test x)) [
+any-count test (x ∷ xs) = elim (cases_Bool (test x)) [
   | inl e ↦ (let c : count_by test (x ∷ xs) ≡ 1 + count_by test xs = sum_by-cons (λ y. cond (test y) 1 0) x xs ∙ ap (λ (b : Bool). cond b 1 0 + count_by test xs) e in
       ap (nat_lt 0) c ∙ above (count_by test xs) ∙ sym (ap (λ (b : Bool). b || list_any test xs) e))
   | inr e ↦ (let c : count_by test (x ∷ xs) ≡ 0 + count_by test xs = sum_by-cons (λ y. cond (test y) 1 0) x xs ∙ ap (λ (b : Bool). cond b 1 0 + count_by test xs) e in
@@ -119,8 +119,8 @@ released-not k false t (Some g) w e = refl
 -- the lease that is found has the ticket
 pub ticket-found : (t : Ticket) (live : List Lease) (g : Lease) → lease_under live t ≡ Some g → g.ticket ≡ t
 ticket-found t [] g e = absurd (cc e)
-ticket-found t (x ∷ live) g e = elim (cases_bool (has_ticket t x)) [
-  | inl h ↦ (let at : Some x ≡ Some g = rw h at e in let same : x ≡ g = cc at in let is : x.ticket.0 ≡ t.0 = eqb_is x.ticket.0 t.0 h in
+ticket-found t (x ∷ live) g e = elim (cases_Bool (has_ticket t x)) [
+  | inl h ↦ (let at : Some x ≡ Some g = rw h at e in let same : x ≡ g = cc at in let is : x.ticket.0 ≡ t.0 = eqb-true x.ticket.0 t.0 h in
       sym (ap (λ (z : Lease). z.ticket) same) ∙ (λ i. record { 0 = is i }))
   | inr h ↦ ticket-found t live g (rw h at e)
 ]

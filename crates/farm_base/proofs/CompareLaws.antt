@@ -113,10 +113,6 @@ version_decides a b = (version_exact a b, λ e. ap (λ v. version_eq a v) (sym e
 
 -- ---- order
 
--- names are equal exactly where they tie
-pub folder_eq-by_cmp : (f g : FolderName) → folder_eq f g ≡ is_eq (folder_cmp f g)
-folder_eq-by_cmp f g = eq-by_cmp f g
-
 -- slots are equal exactly where they tie
 pub slot_eq-by_cmp : (a b : SlotParts) → slot_eq a b ≡ is_eq (slot_cmp a b)
 slot_eq-by_cmp a b = slot_laws.matches_eq-law a b

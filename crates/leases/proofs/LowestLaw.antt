@@ -1,9 +1,9 @@
 -- `lowest` is the lowest free instance.
 use Rattle.std.proofs.Common.{◌≡◌, ◌≢◌, ℕ, zero, suc, ◌+◌, ◌<◌, ◌≤◌, Bool, true, false, refl, sym, ◌∙◌, subst, inl, inr, arith}
+use Rattle.std.proofs.lemmas.Bool.{cases_Bool, cases_eq}
 use Rattle.protocol.specs.Names.{Slot, FolderName}
 use Rattle.protocol.specs.Ledger.{lowest}
 use Rattle.leases.specs.Lowest.{LowestIsLowest}
-use Rattle.protocol.proofs.Base.{cases_bool, cases_nat}
 use Rattle.leases.proofs.TableLemmas.{lowest-end, lowest-free, lowest-taken}
 
 -- the same for the k instances from i on
@@ -16,7 +16,7 @@ at free f i j b e h = subst (λ (n : ℕ). free (record { folder = f; instance =
 
 lowest_from : (free : Slot → Bool) (f : FolderName) (k i : ℕ) → 1 ≤ i → IsLowestFrom free f i k
 lowest_from free f zero i h = record { found = λ ne. absurd (ne (lowest-end free f i 0 refl)); below = λ j low high before. absurd (omega arith) }
-lowest_from free f (suc k) i h = elim (cases_bool (free (record { folder = f; instance = i }))) [
+lowest_from free f (suc k) i h = elim (cases_Bool (free (record { folder = f; instance = i }))) [
   | inl e ↦ (
       let is : lowest free f i (suc k) ≡ i = lowest-free free f i (suc k) (omega arith) e in
       record {
@@ -32,7 +32,7 @@ lowest_from free f (suc k) i h = elim (cases_bool (free (record { folder = f; in
             let low : i + 1 ≤ lowest free f (i + 1) k = s.0 in
             let high : lowest free f (i + 1) k < i + 1 + k = s.1 in
             (omega arith, omega arith, at free f (lowest free f (i + 1) k) (lowest free f i (suc k)) true (sym is) s.2));
-        below = λ j low high before. elim (cases_nat i j) [
+        below = λ j low high before. elim (cases_eq i j) [
           | inl same ↦ at free f i j false same e
           | inr other ↦ r.below j (omega arith) (omega arith) (λ ne. (let lt : j < lowest free f i (suc k) = before (λ z. ne (sym is ∙ z)) in omega arith))
         ];

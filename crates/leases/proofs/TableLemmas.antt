@@ -1,5 +1,6 @@
 -- Leases that may be live together: adding one, and removing some.
 use Rattle.std.proofs.Common.{◌≡◌, ◌≢◌, ℕ, zero, suc, ◌+◌, ◌<◌, List, [], ◌∷◌, ◌++◌, Bool, true, false, not, ◌&&◌, eqb, length, get_or, map, filter, Some, None, refl, sym, ◌∙◌, ap, subst, inl, inr, arith}
+use Rattle.std.proofs.lemmas.Bool.{ne_eqb, cases_Bool, eqb-true, not-true, and_parts, or_parts}
 use Rattle.std.specs.Prelude.{All, AllPairs}
 use Rattle.std.specs.List.{list_any, find, position_from, remove, AllByRecursion}
 use Rattle.std.specs.List.Sorted.{IsStrictlySortedBy}
@@ -16,7 +17,7 @@ use Rattle.farm_base.proofs.CompareLaws as laws
 use Rattle.protocol.proofs.Leases as instances
 use Rattle.protocol.specs.Names.{Slot, slot_eq, is_private, only_slot, FolderName, NodeId, Life, Ask, Ticket, Want, leased_wants}
 use Rattle.protocol.specs.Ledger.{has_slot, some_lease, lowest, slot_for, all_taken, busy, without, has_ticket}
-use Rattle.protocol.proofs.Base.{cases_bool, true_false, and_both, or_false, eqb_same, eqb_apart, eqb_is}
+use Rattle.protocol.proofs.Base.{true_false, eqb_same}
 use Rattle.leases.specs.Leases.{Table, AreLeases, AreApart, IsBefore, Rises}
 use Rattle.leases.specs.Table.{takes, is_free, fit_of, first_fit, lease_for}
 use Rattle.leases.specs.declared.lease_table.Fit.TheVariants.{Fits}
@@ -47,7 +48,7 @@ later : (t : Ticket) (g : Lease) (live : List Lease) → g.ticket.0 ≡ t.0 → 
 later t g [] e above = refl
 later t g (h ∷ live) e above =
     let higher : g.ticket.0 < h.ticket.0 = above 0 h (omega arith) in
-    let other : eqb h.ticket.0 t.0 ≡ false = eqb_apart h.ticket.0 t.0 (λ same. omega arith) in
+    let other : eqb h.ticket.0 t.0 ≡ false = ne_eqb h.ticket.0 t.0 (λ same. omega arith) in
     rw other (ap (λ xs. h ∷ xs) (later t g live e (All-tail (IsBefore g) h live above)))
 
 -- where the lease of a ticket stands
@@ -58,7 +59,7 @@ pub record StandsAt (t : Ticket) (live : List Lease) (k : ℕ) : Type 0 where
 
 placed : (t : Ticket) (live : List Lease) (from n : ℕ) → position_from (has_ticket t) from live ≡ Some n → (k : ℕ) × (n ≡ from + k) × StandsAt t live k
 placed t [] from n e = absurd (cc e)
-placed t (g ∷ live) from n e = elim (cases_bool (eqb g.ticket.0 t.0)) [
+placed t (g ∷ live) from n e = elim (cases_Bool (eqb g.ticket.0 t.0)) [
   | inl same ↦ (
       let at : Some from ≡ Some n = rw same at e in
       let here : n ≡ from + 0 = (let same : from ≡ n = cc at in omega arith) in (
@@ -67,7 +68,7 @@ placed t (g ∷ live) from n e = elim (cases_bool (eqb g.ticket.0 t.0)) [
         record {
           inside = omega arith;
           found = λ d. rw same refl;
-          rest = λ up. sym (rw same (later t g live (eqb_is g.ticket.0 t.0 same) (AllPairs-head IsBefore g live up)));
+          rest = λ up. sym (rw same (later t g live (eqb-true g.ticket.0 t.0 same) (AllPairs-head IsBefore g live up)));
         },
       ))
   | inr other ↦ (
@@ -93,7 +94,7 @@ stands t live n e =
 
 pub missing : (t : Ticket) (live : List Lease) (from : ℕ) → position_from (has_ticket t) from live ≡ None → (find (has_ticket t) live ≡ None) × (without t live ≡ live)
 missing t [] from e = (refl, refl)
-missing t (g ∷ live) from e = elim (cases_bool (eqb g.ticket.0 t.0)) [
+missing t (g ∷ live) from e = elim (cases_Bool (eqb g.ticket.0 t.0)) [
   | inl same ↦ (let bad : Some from ≡ None = rw same at e in absurd (cc bad))
   | inr other ↦ (let r = missing t live (from + 1) (rw other at e) in (rw other r.0, rw other (ap (λ xs. g ∷ xs) r.1)))
 ]
@@ -113,22 +114,18 @@ lowest-taken free f i k j h e = ap (lowest free f i) h ∙ instances.lowest-take
 -- the lowest free instance is free
 pub lowest_is_free : (free : Slot → Bool) (f : FolderName) (k i : ℕ) → lowest free f i k ≢ 0 → free (record { folder = f; instance = lowest free f i k }) ≡ true
 lowest_is_free free f zero i h = absurd (h (instances.lowest-none free f i))
-lowest_is_free free f (suc k) i h = elim (cases_bool (free (record { folder = f; instance = i }))) [
+lowest_is_free free f (suc k) i h = elim (cases_Bool (free (record { folder = f; instance = i }))) [
   | inl e ↦ subst (λ (z : ℕ). free (record { folder = f; instance = z }) ≡ true) (sym (instances.lowest-free free f i k e)) e
   | inr e ↦ (let is : lowest free f i (suc k) ≡ lowest free f (i + 1) k = instances.lowest-taken free f i k e in
       subst (λ (z : ℕ). free (record { folder = f; instance = z }) ≡ true) (sym is) (lowest_is_free free f k (i + 1) (λ z. h (is ∙ z))))
 ]
-
-not_true : (b : Bool) → not b ≡ true → b ≡ false
-not_true true h = (let bad : false ≡ true = h in cc)
-not_true false h = refl
 
 -- a free slot is not leased
 abbrev pub FreeIsOpen : (Slot → Bool) → List Lease → Type 0
 FreeIsOpen free live = (s : Slot) → free s ≡ true → some_lease live s ≡ false
 
 pub free_is_open : (t : Table) → FreeIsOpen (is_free t) t.live
-free_is_open t s e = not_true (some_lease t.live s) (and_both _ _ e).0
+free_is_open t s e = not-true (some_lease t.live s) (and_parts _ _ e).0
 
 -- the slot that a want gets is not leased
 want_open : (n : ℕ) (free : Slot → Bool) (live : List Lease) (w : Want) → FreeIsOpen free live
@@ -152,9 +149,9 @@ slots_apart : (n : ℕ) (free : Slot → Bool) (live : List Lease) (ws : List Wa
     → (s : Slot) → has_slot (slots_by n free ws) s ≡ true → some_lease live s ≡ false
 slots_apart n free live [] is_open taken not_busy s h = (let bad : false ≡ true = h in cc)
 slots_apart n free live (w ∷ ws) is_open taken not_busy s h =
-    let a = or_false _ _ taken in
-    let b = or_false _ _ not_busy in
-    elim (cases_bool (slot_eq (slot_for n free w) s)) [
+    let a = or_parts _ _ taken in
+    let b = or_parts _ _ not_busy in
+    elim (cases_Bool (slot_eq (slot_for n free w) s)) [
       | inl e ↦ subst (λ z. some_lease live z ≡ false) (laws.slot_exact (slot_for n free w) s e) (want_open n free live w is_open a.0 b.0)
       | inr e ↦ slots_apart n free live ws is_open a.1 b.1 s (let g : has_slot (slots_by n free ws) s ≡ true = rw e at h in g)
     ]
@@ -162,7 +159,7 @@ slots_apart n free live (w ∷ ws) is_open taken not_busy s h =
 any_at : {A : Type 0} (test : A → Bool) (xs : List A) (k : ℕ) (d : A) → k < length xs → test (get_or xs k d) ≡ true → list_any test xs ≡ true
 any_at test [] k d inside e = absurd (omega arith)
 any_at test (x ∷ xs) zero d inside e = rw e refl
-any_at test (x ∷ xs) (suc k) d inside e = elim (cases_bool (test x)) [ inl t ↦ rw t refl | inr t ↦ rw t (any_at test xs k d (omega arith) e) ]
+any_at test (x ∷ xs) (suc k) d inside e = elim (cases_Bool (test x)) [ inl t ↦ rw t refl | inr t ↦ rw t (any_at test xs k d (omega arith) e) ]
 
 pub fits_both : (a b : Bool) → first_fit a b ≡ Fits → (a ≡ false) × (b ≡ false)
 fits_both true b e = absurd (cc e)
@@ -182,7 +179,7 @@ slots_rise n free (w ∷ ws) h = (below_all n free w ws h.0, slots_rise n free w
 
 below_filter : (p : Want → Bool) (f : FolderName) (ws : List Want) → AllByRecursion (λ g. folder_cmp f g ≡ Less) (folders ws) → AllByRecursion (λ g. folder_cmp f g ≡ Less) (folders (filter p ws))
 below_filter p f [] h = tt
-below_filter p f (w ∷ ws) h = elim (cases_bool (p w)) [
+below_filter p f (w ∷ ws) h = elim (cases_Bool (p w)) [
   | inl e ↦ rw e (h.0, below_filter p f ws h.1)
   | inr e ↦ rw e (below_filter p f ws h.1)
 ]
@@ -190,7 +187,7 @@ below_filter p f (w ∷ ws) h = elim (cases_bool (p w)) [
 wants_filter : (p : Want → Bool) (ws : List Want) → IsStrictlySortedBy folder_cmp (folders ws) → IsStrictlySortedBy folder_cmp (folders (filter p ws))
 unfolding IsStrictlySortedBy
 wants_filter p [] h = tt
-wants_filter p (w ∷ ws) h = elim (cases_bool (p w)) [
+wants_filter p (w ∷ ws) h = elim (cases_Bool (p w)) [
   | inl e ↦ rw e (below_filter p w.folder ws h.0, wants_filter p ws h.1)
   | inr e ↦ rw e (wants_filter p ws h.1)
 ]
@@ -201,7 +198,7 @@ pub leases_more : (n : ℕ) (free : Slot → Bool) (live : List Lease) (wants : 
     → g.slots ≡ slots_by n free (leased_wants g.tenure wants) → All (λ h. h.ticket.0 < g.ticket.0) live → AreLeases live → AreLeases (live ++ g ∷ [])
 leases_more n free live wants g is_open sorted taken not_busy is above h =
     let ws : List Want = leased_wants g.tenure wants in
-    let apart : (k : ℕ) (d : Lease) → k < length live → AreApart (get_or live k d) g = λ k d inside s has. elim (cases_bool (has_slot g.slots s)) [
+    let apart : (k : ℕ) (d : Lease) → k < length live → AreApart (get_or live k d) g = λ k d inside s has. elim (cases_Bool (has_slot g.slots s)) [
       | inl e ↦ true_false (some_lease live s) (any_at (λ (g : Lease). has_slot g.slots s) live k d inside has) (slots_apart n free live ws is_open taken not_busy s (subst (λ (z : List (Slot × Bool)). has_slot z s ≡ true) is e))
       | inr e ↦ e
     ] in
@@ -225,5 +222,5 @@ pub lease_under-push : (live : List Lease) (g : Lease) → All (λ h. h.ticket.0
 lease_under-push [] g above = (let same = eqb_same g.ticket.0 in rw same refl)
 lease_under-push (h ∷ live) g above =
     let lower : h.ticket.0 < g.ticket.0 = above 0 h (omega arith) in
-    let other : eqb h.ticket.0 g.ticket.0 ≡ false = eqb_apart h.ticket.0 g.ticket.0 (λ same. omega arith) in
+    let other : eqb h.ticket.0 g.ticket.0 ≡ false = ne_eqb h.ticket.0 g.ticket.0 (λ same. omega arith) in
     rw other (lease_under-push live g (All-tail (λ h. h.ticket.0 < g.ticket.0) h live above))

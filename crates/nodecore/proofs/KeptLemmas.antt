@@ -1,10 +1,10 @@
 -- What a test tells of the ask that it picks.
-use Rattle.std.proofs.Common.{◌≡◌, ℕ, ◌<◌, ◌==◌, Bool, true, false, not, ◌&&◌, [], ◌⊎◌, inl, inr, List, length, get_or, slice_get, refl, ap, sym, ◌∙◌, Some, None}
+use Rattle.std.proofs.Common.{◌≡◌, ℕ, ◌<◌, ◌==◌, Bool, true, false, not, ◌&&◌, [], inl, inr, List, length, get_or, slice_get, refl, ap, ◌∙◌, Some}
 use Rattle.std.proofs.lemmas.Option.{slice_get-get_or, get_or_from_slice_get}
 use Rattle.protocol.specs.declared.answer.How.TheVariants as how
 use Rattle.protocol.specs.declared.answer.NodeNote.TheVariants as note
 use Rattle.nodecore.proofs.FirstLemmas.{FirstAt}
-use Rattle.std.proofs.lemmas.Bool.{eqb-true}
+use Rattle.protocol.proofs.Moving.{held_is, running_is, either_is}
 use Rattle.protocol.specs.Names.{Want, Ticket, Ask, Life}
 use Rattle.protocol.specs.Machine.{Grant, Why}
 use Rattle.protocol.specs.World.{Node, keeps}
@@ -15,23 +15,8 @@ use Rattle.std.proofs.Common.{Result, Ok, Err, IfOk}
 use Rattle.std.specs.declared.alloc.AllocError.{AllocError}
 use Rattle.nodecore.specs.declared.message.NodeDone.{NodeDone}
 use Rattle.nodecore.specs.Shown.{work_of, Does}
-use Rattle.protocol.specs.Nodes.{Held, under, in_use, held, running, held_or_running, recallable, recalled_if, denied, nothing, becomes, granted, gives_back, of_life, NodeWork, Place}
+use Rattle.protocol.specs.Nodes.{Held, in_use, held, running, held_or_running, recallable, recalled_if, denied, nothing, becomes, granted, gives_back, of_life, NodeWork, Place}
 use Rattle.nodecore.specs.Asks.{recalls, is_open, is_in_use}
-
-cases_bool : (b : Bool) → (b ≡ true) ⊎ (b ≡ false)
-cases_bool true = inl refl
-cases_bool false = inr refl
-
-under_is : {A : Type 0} (g : Grant) (t : Ticket) (x h : A) → under g t x ≡ Some h → (g.ticket ≡ t) × (x ≡ h)
-under_is g t x h e = elim (cases_bool (g.ticket.0 == t.0)) [
-  | inl p ↦ (let n : g.ticket.0 ≡ t.0 = eqb-true _ _ p in let s : under g t x ≡ Some x = rw p refl in (λ j. record { 0 = n j }, cc))
-  | inr p ↦ (let s : under g t x ≡ None = rw p refl in absurd (cc))
-]
-
-granted_is : (t : Ticket) (w : List Want) (g : Grant) (r : Bool) (h : Held) → under g t (record { wants = w; grant = g; recalled = r }) ≡ Some h → (record { wants = w; grant = g; recalled = r } ≡ h) × (h.grant.ticket ≡ t)
-granted_is t w g r h e =
-    let p = under_is g t (record { wants = w; grant = g; recalled = r }) h e in
-    (p.1, sym (ap (λ (x : Held). x.grant.ticket) p.1) ∙ p.0)
 
 abbrev pub held_ask : Held → KeptAsk
 held_ask h = Holding h.wants h.grant h.recalled
@@ -39,33 +24,14 @@ held_ask h = Holding h.wants h.grant h.recalled
 abbrev pub running_ask : Held → KeptAsk
 running_ask h = Running h.wants h.grant h.recalled
 
--- the ask has its lease under the ticket
-pub record Kept (d : KeptAsk) (t : Ticket) (h : Held) (s : KeptAsk) : Type 0 where
-  pub is : d ≡ s
-  pub ticket : h.grant.ticket ≡ t
-
-pub held_is : (t : Ticket) (d : KeptAsk) (h : Held) → held t d ≡ Some h → Kept d t h (held_ask h)
-held_is t (Open w b) h e = absurd (cc)
-held_is t (Holding w g r) h e = (let p = granted_is t w g r h e in record { is = ap held_ask p.0; ticket = p.1 })
-held_is t (Running w g r) h e = absurd (cc)
-held_is t (Finished w g news) h e = absurd (cc)
-held_is t (Over how) h e = absurd (cc)
-
-pub running_is : (t : Ticket) (d : KeptAsk) (h : Held) → running t d ≡ Some h → Kept d t h (running_ask h)
-running_is t (Open w b) h e = absurd (cc)
-running_is t (Holding w g r) h e = absurd (cc)
-running_is t (Running w g r) h e = (let p = granted_is t w g r h e in record { is = ap running_ask p.0; ticket = p.1 })
-running_is t (Finished w g news) h e = absurd (cc)
-running_is t (Over how) h e = absurd (cc)
-
 -- the ask at the place has its lease under the ticket, and its folders are in use where the protocol says so
 pub record FoundAt (t : Ticket) (asks : List KeptAsk) (i : ℕ) (h : Held) (s : KeptAsk) : Type 0 where
   pub get : slice_get asks i ≡ Some s
   pub ticket : h.grant.ticket ≡ t
   pub uses : (all : List KeptAsk) (a : ℕ) → is_in_use all a s ≡ in_use all a h.wants h.grant
 
-found_at : (t : Ticket) (asks : List KeptAsk) (i : ℕ) (d : KeptAsk) (h : Held) (s : KeptAsk) → i < length asks → Kept (get_or asks i d) t h s → ((all : List KeptAsk) (a : ℕ) → is_in_use all a s ≡ in_use all a h.wants h.grant) → FoundAt t asks i h s
-found_at t asks i d h s inside k uses = record { get = slice_get-get_or asks i d inside ∙ ap (λ (x : KeptAsk). Some x) k.is; ticket = k.ticket; uses = uses }
+found_at : (t : Ticket) (asks : List KeptAsk) (i : ℕ) (d : KeptAsk) (h : Held) (s : KeptAsk) → i < length asks → (get_or asks i d ≡ s) × (h.grant.ticket ≡ t) → ((all : List KeptAsk) (a : ℕ) → is_in_use all a s ≡ in_use all a h.wants h.grant) → FoundAt t asks i h s
+found_at t asks i d h s inside is uses = record { get = slice_get-get_or asks i d inside ∙ ap (λ (x : KeptAsk). Some x) is.0; ticket = is.1; uses = uses }
 
 abbrev any_ask : KeptAsk
 any_ask = Over how.Other
@@ -76,19 +42,13 @@ held_at t asks i f = found_at t asks i any_ask f.what _ f.inside (held_is t (get
 pub running_at : (t : Ticket) (asks : List KeptAsk) (i : ℕ) (f : FirstAt (running t) asks 0 i) → FoundAt t asks i f.what (running_ask f.what)
 running_at t asks i f = found_at t asks i any_ask f.what _ f.inside (running_is t (get_or asks i any_ask) f.what (f.here any_ask)) (λ all a. refl)
 
-held_or_running_is : (t : Ticket) (asks : List KeptAsk) (i : ℕ) (d : KeptAsk) (h : Held) → i < length asks → (o : KeptAsk) → get_or asks i d ≡ o → held_or_running t o ≡ Some h → (s : KeptAsk) × FoundAt t asks i h s
-held_or_running_is t asks i d h lt (Open w b) is e = absurd (cc)
-held_or_running_is t asks i d h lt (Holding w g r) is e =
-    let p = granted_is t w g r h e in
-    (held_ask h, found_at t asks i d h (held_ask h) lt (record { is = is ∙ ap held_ask p.0; ticket = p.1 }) (λ all a. refl))
-held_or_running_is t asks i d h lt (Running w g r) is e =
-    let p = granted_is t w g r h e in
-    (running_ask h, found_at t asks i d h (running_ask h) lt (record { is = is ∙ ap running_ask p.0; ticket = p.1 }) (λ all a. refl))
-held_or_running_is t asks i d h lt (Finished w g news) is e = absurd (cc)
-held_or_running_is t asks i d h lt (Over how) is e = absurd (cc)
-
 pub held_or_running_at : (t : Ticket) (asks : List KeptAsk) (i : ℕ) (f : FirstAt (held_or_running t) asks 0 i) → (s : KeptAsk) × FoundAt t asks i f.what s
-held_or_running_at t asks i f = held_or_running_is t asks i any_ask f.what f.inside (get_or asks i any_ask) refl (f.here any_ask)
+held_or_running_at t asks i f =
+    let is = either_is t (get_or asks i any_ask) f.what (f.here any_ask) in
+    elim is.0 [
+      | inl holds ↦ (held_ask f.what, found_at t asks i any_ask f.what (held_ask f.what) f.inside (holds, is.1) (λ all a. refl))
+      | inr runs ↦ (running_ask f.what, found_at t asks i any_ask f.what (running_ask f.what) f.inside (runs, is.1) (λ all a. refl))
+    ]
 
 -- what is read there
 pub read_at : {t : Ticket} {asks : List KeptAsk} {i : ℕ} {h : Held} {s : KeptAsk} → FoundAt t asks i h s → (d : KeptAsk) → d ≡ get_or asks i d → d ≡ s

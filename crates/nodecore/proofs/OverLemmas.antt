@@ -1,10 +1,11 @@
 -- Asks that are over, at the front.
 use Rattle.std.proofs.Common.{◌≡◌, ℕ, zero, suc, ◌+◌, ◌<◌, inl, inr, Bool, true, false, cond, List, [], ◌∷◌, ◌++◌, length, drop, set, get_or, Option, Some, None, slice_get, refl, sym, ap, ◌∙◌, subst, arith}
+use Rattle.std.proofs.lemmas.Bool.{cases_eq}
 use Rattle.std.specs.Prelude.{option_map}
 use Rattle.std.specs.List.{position, position_from}
 use Rattle.std.proofs.lemmas.Iterator.Adapters.{position_from-zero}
 use Rattle.std.proofs.lemmas.List.{length-set, length_push}
-use Rattle.protocol.proofs.Base.{nth_set_cases, get_push_cases, cases_nat}
+use Rattle.protocol.proofs.Base.{nth_set_cases, get_push_cases}
 use Rattle.protocol.specs.Names.{Ticket}
 use Rattle.protocol.specs.declared.answer.How.{How}
 use Rattle.protocol.specs.declared.ask.KeptAsk.{KeptAsk}
@@ -53,7 +54,7 @@ some_is x y e = cc
 pub over_more : (n : ℕ) (asks : List KeptAsk) (x : KeptAsk) → AreOver n asks → slice_get asks n ≡ Some x → n < length asks → is_over x ≡ true → AreOver (n + 1) asks
 over_more n asks x h at lt o = record {
   inside = omega (arith, lt);
-  over = λ i y less e. elim (cases_nat i n) [
+  over = λ i y less e. elim (cases_eq i n) [
     | inl same ↦ subst (λ (z : KeptAsk). is_over z ≡ true) (some_is x y (sym at ∙ ap (slice_get asks) (sym same) ∙ e)) o
     | inr other ↦ h.over i y (omega (arith, less, other)) e
   ];

@@ -1,5 +1,6 @@
 -- What each act of a node keeps.
 use Rattle.std.proofs.Common.{◌≡◌, ◌≢◌, ℕ, zero, suc, ◌+◌, ◌≤◌, List, [], ◌∷◌, ◌++◌, ◌⊎◌, Bool, true, false, not, eqb, length, Option, Some, refl, sym, ◌∙◌, ap, subst, inl, inr, arith}
+use Rattle.std.proofs.lemmas.Bool.{cases_Bool, eqb-true, cases_eq}
 use Rattle.protocol.specs.Lists.{In, nth, set_nth}
 use Rattle.protocol.specs.Names.{Slot, slot_eq, digest_eq, NodeId, Life, Ask, Ticket, Digest, Want, FolderName, wants_shared, tenure_wants}
 use Rattle.protocol.specs.Machine.{GrantedSlot, Grant, News, Confirmed, Granted, Message, Told, Fetches, Blob, hello, acquire, commit, release, Machine, Answers, line, written, slots_of, Names, Stands}
@@ -7,7 +8,7 @@ use Rattle.farm_base.specs.declared.message.FromCoord.TheVariants as told
 use Rattle.protocol.specs.declared.answer.How.TheVariants as how
 use Rattle.protocol.specs.World.{KeptAsk, Open, Holding, Running, Finished, Over, Node, keeps, learn, learn_bases, learn_versions, keep, has_life, RunsTenure, Uses, Open_uses, Held_uses, Running_uses, Idle, Act, Asks, Asks_tenure, Asks_again, Greets, Takes, Gives_back, Begins, Finishes, Gives_up, Sends_commit, Learns, Drops, Is_denied, Is_recalled, Is_recalled_running, Stores, Asks_content, Sends_blob, Restarts, Stops, World}
 use Rattle.farm_base.proofs.CompareLaws.{digest_exact}
-use Rattle.protocol.proofs.Base.{cases_bool, cases_nat, eqb_is, slot_eq_is, in_one, some_is, none_some, nth-set_same, nth-set_other, nth_set_cases, nth-append, nth-push, nth_push_cases}
+use Rattle.protocol.proofs.Base.{slot_eq_is, in_one, some_is, none_some, nth-set_same, nth-set_other, nth_set_cases, nth-append, nth-push, nth_push_cases}
 use Rattle.protocol.proofs.Invariant.{Wanted, spent, WasAsked, Spent, ForTenure, Its, StateOk, WantsNow, for_tenure, HasTenure, AtHome, NodeOk, WasGiven, MessageOk, Inv, Ahead, ahead_refl}
 
 -- ---- what is known
@@ -15,10 +16,10 @@ use Rattle.protocol.proofs.Invariant.{Wanted, spent, WasAsked, Spent, ForTenure,
 -- the answer after one more version is known
 learn_cases : (s : Slot) (k : ℕ) (d : Digest) (known : Slot → ℕ → Option Digest) (s' : Slot) (k' : ℕ) (d' : Digest) → learn s k d known s' k' ≡ Some d' → ((s' ≡ s) × (k' ≡ k) × (d' ≡ d)) ⊎ (known s' k' ≡ Some d')
 learn_cases s k d known s' k' d' h =
-    elim (cases_bool (slot_eq s' s)) [
-      | inl p ↦ elim (cases_bool (eqb k' k)) [
+    elim (cases_Bool (slot_eq s' s)) [
+      | inl p ↦ elim (cases_Bool (eqb k' k)) [
         | inl q ↦ (let is : learn s k d known s' k' ≡ Some d = rw (p, q) in
-            inl (slot_eq_is s' s p, eqb_is k' k q, some_is d' d (sym h ∙ is)))
+            inl (slot_eq_is s' s p, eqb-true k' k q, some_is d' d (sym h ∙ is)))
         | inr q ↦ (let is : learn s k d known s' k' ≡ known s' k' = rw (p, q) in inr (sym is ∙ h))
       ]
       | inr p ↦ (let is : learn s k d known s' k' ≡ known s' k' = rw p in inr (sym is ∙ h))
@@ -45,7 +46,7 @@ versions_ok empty m t (v ∷ vs) known all ok =
     versions_ok empty m t vs (learn v.slot v.number v.digest known) (λ v i. all v (inr i)) (learn_ok empty m v.slot v.number v.digest known (inr (h.0, record { ticket = t; digest = v.digest }, h.1, h.2, refl)) ok)
 
 pub keep_ok : (sha : List ℕ → Digest) (c : List ℕ) (store : Digest → Option (List ℕ)) → ((d : Digest) (c' : List ℕ) → store d ≡ Some c' → sha c' ≡ d) → (d : Digest) (c' : List ℕ) → keep (sha c) c store d ≡ Some c' → sha c' ≡ d
-keep_ok sha c store ok d c' h = elim (cases_bool (digest_eq d (sha c))) [
+keep_ok sha c store ok d c' h = elim (cases_Bool (digest_eq d (sha c))) [
   | inl e ↦ (let is : keep (sha c) c store d ≡ Some c = rw e in ap sha (some_is c' c (sym h ∙ is)) ∙ sym (digest_exact d (sha c) e))
   | inr e ↦ (let is : keep (sha c) c store d ≡ store d = rw e in ok d c' (sym is ∙ h))
 ]
@@ -80,7 +81,7 @@ go_same : (asks : List KeptAsk) → AllGoOn asks asks
 go_same asks b s e = (s, e, stays_on s)
 
 go_set : (asks : List KeptAsk) (a : ℕ) (old new : KeptAsk) → nth asks a ≡ Some old → GoesOn old new → AllGoOn asks (set_nth asks a new)
-go_set asks a old new at goes b s e = elim (cases_nat b a) [
+go_set asks a old new at goes b s e = elim (cases_eq b a) [
   | inl q ↦ (let was : s ≡ old = some_is s old (sym e ∙ ap (nth asks) q ∙ at) in
       (new, ap (nth (set_nth asks a new)) q ∙ nth-set_same asks a new old at, subst (λ z. GoesOn z new) (sym was) goes))
   | inr ne ↦ (s, nth-set_other asks a b new ne ∙ e, stays_on s)
@@ -111,13 +112,13 @@ abbrev NotRunning : KeptAsk → Type 0
 NotRunning s = (wants : List Want) (g : Grant) (r : Bool) → s ≢ Running wants g r
 
 runs_set : (asks : List KeptAsk) (a : ℕ) (old new : KeptAsk) → nth asks a ≡ Some old → NotRunning old → KeepsTenures asks (set_nth asks a new)
-runs_set asks a old new at idle b wants g r e = elim (cases_nat b a) [
+runs_set asks a old new at idle b wants g r e = elim (cases_eq b a) [
   | inl q ↦ absurd (idle wants g r (some_is old (Running wants g r) (sym at ∙ ap (nth asks) (sym q) ∙ e)))
   | inr ne ↦ (r, nth-set_other asks a b new ne ∙ e)
 ]
 
 runs_recalled : (asks : List KeptAsk) (a : ℕ) (wants : List Want) (g : Grant) (r r' : Bool) → nth asks a ≡ Some (Running wants g r) → KeepsTenures asks (set_nth asks a (Running wants g r'))
-runs_recalled asks a wants g r r' at b ws h q e = elim (cases_nat b a) [
+runs_recalled asks a wants g r r' at b ws h q e = elim (cases_eq b a) [
   | inl p ↦ (let same : Running wants g r ≡ Running ws h q = some_is (Running wants g r) (Running ws h q) (sym at ∙ ap (nth asks) (sym p) ∙ e) in
       let w : wants ≡ ws = cc in
       let i : g ≡ h = cc in
@@ -153,7 +154,7 @@ home_end : (asks : List KeptAsk) (a : ℕ) (wants : List Want) (g : Grant) (r : 
     → ((w : Want) → WantsNow new w → ⊥) → AtHome asks → AtHome (set_nth asks a new)
 home_end asks a wants g r new at idle none home b s w e now shared free = elim (nth_set_cases asks a new (Running wants g r) b s at e) [
   | inl q ↦ absurd (none w (subst (λ z. WantsNow z w) q.1 now))
-  | inr q ↦ (let h = home b s w q.1 now shared free in elim (cases_nat h.0 a) [
+  | inr q ↦ (let h = home b s w q.1 now shared free in elim (cases_eq h.0 a) [
     | inl p ↦ (let same : Running wants g r ≡ Running h.1 h.2 h.3 = some_is (Running wants g r) (Running h.1 h.2 h.3) (sym at ∙ ap (nth asks) (sym p) ∙ h.5) in
         let w' : h.1 ≡ wants = cc in
         let g' : h.2 ≡ g = cc in

@@ -1,5 +1,6 @@
 -- Members, places, fronts, functions changed at one place, and names.
-use Rattle.std.proofs.Common.{◌≡◌, ◌≢◌, ℕ, suc, zero, ◌+◌, ◌<◌, List, [], ◌∷◌, ◌++◌, ◌⊎◌, Bool, true, false, not, ◌&&◌, ◌||◌, eqb, length, map, filter, Option, Some, None, slice_get, set, refl, sym, ◌∙◌, ap, subst, inl, inr, arith, append_assoc, append-nil}
+use Rattle.std.proofs.Common.{◌≡◌, ◌≢◌, ℕ, suc, zero, ◌+◌, List, [], ◌∷◌, ◌++◌, ◌⊎◌, Bool, true, false, eqb, length, map, filter, Option, Some, None, slice_get, refl, sym, ◌∙◌, ap, subst, inl, inr, arith, append_assoc, append-nil}
+use Rattle.std.proofs.lemmas.Bool.{ne_eqb, cases_eq, and_parts, eqb-true, cases_Bool}
 use Rattle.std.proofs.lemmas.Bool.Decides.{nat_tests}
 use Rattle.std.proofs.lemmas.Slice.Eq.{bytes_eq-Decides}
 use Rattle.std.specs.List.{list_any}
@@ -51,57 +52,22 @@ some_is x y e = cc
 pub none_some : {A : Type 0} {P : Type 0} (x : A) → None ≡ Some x → P
 none_some x e = cc
 
-pub cases_bool : (b : Bool) → (b ≡ true) ⊎ (b ≡ false)
-cases_bool true = inl refl
-cases_bool false = inr refl
-
 pub true_false : {P : Type 0} (b : Bool) → b ≡ true → b ≡ false → P
 true_false b t f = let bad : true ≡ false = sym t ∙ f in cc
 
-pub not_true : (b : Bool) → not b ≡ true → b ≡ false
-not_true true h = (let bad : false ≡ true = h in cc)
-not_true false h = refl
-
-pub not_false : (b : Bool) → not b ≡ false → b ≡ true
-not_false true h = refl
-not_false false h = (let bad : true ≡ false = h in cc)
-
-pub or_false : (a b : Bool) → (a || b) ≡ false → (a ≡ false) × (b ≡ false)
-or_false true b h = (let bad : true ≡ false = h in cc)
-or_false false b h = (refl, h)
-
-pub and_both : (a b : Bool) → (a && b) ≡ true → (a ≡ true) × (b ≡ true)
-and_both true b h = (refl, h)
-and_both false b h = cc
-
-pub cases_nat : (a b : ℕ) → (a ≡ b) ⊎ (a ≢ b)
-cases_nat a b = grind arith
-
-pub order_cases : (a b : ℕ) → (a ≡ b) ⊎ ((a < b) ⊎ (b < a))
-order_cases a b = grind arith
-
 pub eqb_same : (a : ℕ) → eqb a a ≡ true
 eqb_same a = grind (arith, nat_tests)
-
-pub eqb_apart : (a b : ℕ) → a ≢ b → eqb a b ≡ false
-eqb_apart a b h = grind (arith, nat_tests)
-
-pub eqb_is : (a b : ℕ) → eqb a b ≡ true → a ≡ b
-eqb_is a b h = grind (arith, nat_tests)
-
-pub eqb_not : (a b : ℕ) → eqb a b ≡ false → a ≢ b
-eqb_not a b h = λ e. grind (arith, nat_tests)
 
 pub put_same : {A : Type 0} (k : ℕ) (x : A) (f : ℕ → A) → put k x f k ≡ x
 put_same k x f = rw (eqb_same k)
 
 pub put_other : {A : Type 0} (k : ℕ) (x : A) (f : ℕ → A) (j : ℕ) → j ≢ k → put k x f j ≡ f j
-put_other k x f j h = rw (eqb_apart j k h)
+put_other k x f j h = rw (ne_eqb j k h)
 
 -- what holds of x at k, and of f elsewhere, holds of `put k x f`
 pub put_all : {A : Type 0} (P : ℕ → A → Type 0) (k : ℕ) (x : A) (f : ℕ → A) → P k x → ((j : ℕ) → j ≢ k → P j (f j)) → (j : ℕ) → P j (put k x f j)
 put_all P k x f here there j =
-    elim (cases_nat j k) [
+    elim (cases_eq j k) [
       | inl e ↦ subst (λ i. P i (put k x f i)) (sym e) (subst (P k) (sym (put_same k x f)) here)
       | inr h ↦ subst (P j) (sym (put_other k x f j h)) (there j h)
     ]
@@ -147,8 +113,8 @@ slot_path a b p q = λ i. record { folder = p i; instance = q i }
 
 pub slot_eq_is : (a b : Slot) → slot_eq a b ≡ true → a ≡ b
 slot_eq_is a b h =
-    let both = and_both (folder_eq a.folder b.folder) (eqb a.instance b.instance) h in
-    slot_path a b (folder_exact a.folder b.folder both.0) (eqb_is a.instance b.instance both.1)
+    let both = and_parts (folder_eq a.folder b.folder) (eqb a.instance b.instance) h in
+    slot_path a b (folder_exact a.folder b.folder both.0) (eqb-true a.instance b.instance both.1)
 
 -- ---- places
 
@@ -187,7 +153,7 @@ nth-set_other xs (suc i) (suc k) x ne = get-set_other xs i k x (λ e. ne (ap suc
 -- an element of a list with one place set
 pub nth_set_cases : {A : Type 0} (xs : List A) (i : ℕ) (x old : A) (k : ℕ) (v : A) → nth xs i ≡ Some old → nth (set_nth xs i x) k ≡ Some v
     → ((k ≡ i) × (v ≡ x)) ⊎ ((k ≢ i) × (nth xs k ≡ Some v))
-nth_set_cases xs i x old k v was h = elim (cases_nat k i) [
+nth_set_cases xs i x old k v was h = elim (cases_eq k i) [
   | inl e ↦ inl (e, some_is v x (sym h ∙ ap (nth (set_nth xs i x)) e ∙ nth-set_same xs i x old was))
   | inr ne ↦ inr (ne, sym (nth-set_other xs i k x ne) ∙ h)
 ]
@@ -217,29 +183,29 @@ front_get xs ys j v p h = rw p.1 (get-append xs p.0 j v h)
 pub any_in : {A : Type 0} (test : A → Bool) (x : A) (xs : List A) → In x xs → test x ≡ true → list_any test xs ≡ true
 any_in test x [] i h = absurd i
 any_in test x (y ∷ xs) (inl e) h = (let t : test y ≡ true = subst (λ z. test z ≡ true) e h in rw t refl)
-any_in test x (y ∷ xs) (inr i) h = elim (cases_bool (test y)) [ inl t ↦ rw t refl | inr t ↦ rw t (any_in test x xs i h) ]
+any_in test x (y ∷ xs) (inr i) h = elim (cases_Bool (test y)) [ inl t ↦ rw t refl | inr t ↦ rw t (any_in test x xs i h) ]
 
 pub from_any : {A : Type 0} (test : A → Bool) (xs : List A) → list_any test xs ≡ true → (x : A) × In x xs × (test x ≡ true)
 from_any test [] h = (let bad : false ≡ true = h in cc)
-from_any test (y ∷ xs) h = elim (cases_bool (test y)) [
+from_any test (y ∷ xs) h = elim (cases_Bool (test y)) [
   | inl t ↦ (y, inl refl, t)
   | inr t ↦ (let r = from_any test xs (rw t at h) in (r.0, inr r.1, r.2))
 ]
 
 pub any_none : {A : Type 0} (test : A → Bool) (x : A) (xs : List A) → list_any test xs ≡ false → In x xs → test x ≡ false
-any_none test x xs h i = elim (cases_bool (test x)) [ inl t ↦ true_false (list_any test xs) (any_in test x xs i t) h | inr f ↦ f ]
+any_none test x xs h i = elim (cases_Bool (test x)) [ inl t ↦ true_false (list_any test xs) (any_in test x xs i t) h | inr f ↦ f ]
 
 pub in_filter : {A : Type 0} (test : A → Bool) (x : A) (xs : List A) → In x xs → test x ≡ true → In x (filter test xs)
 in_filter test x [] i h = absurd i
 in_filter test x (y ∷ xs) (inl e) h = (let t : test y ≡ true = subst (λ z. test z ≡ true) e h in rw t (inl e))
-in_filter test x (y ∷ xs) (inr i) h = elim (cases_bool (test y)) [
+in_filter test x (y ∷ xs) (inr i) h = elim (cases_Bool (test y)) [
   | inl t ↦ rw t (inr (in_filter test x xs i h))
   | inr t ↦ rw t (in_filter test x xs i h)
 ]
 
 pub from_filter : {A : Type 0} (test : A → Bool) (x : A) (xs : List A) → In x (filter test xs) → In x xs × (test x ≡ true)
 from_filter test x [] i = absurd i
-from_filter test x (y ∷ xs) i = elim (cases_bool (test y)) [
+from_filter test x (y ∷ xs) i = elim (cases_Bool (test y)) [
   | inl t ↦ elim (let j : In x (y ∷ filter test xs) = rw t at i in j) [
     | inl e ↦ (inl e, subst (λ z. test z ≡ true) (sym e) t)
     | inr j ↦ (let r = from_filter test x xs j in (inr r.0, r.1))

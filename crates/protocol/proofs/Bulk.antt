@@ -1,10 +1,11 @@
 -- Many grants end at once, without a version: one step for each.
 use Rattle.std.proofs.Common.{◌≡◌, ◌≢◌, ℕ, List, [], ◌∷◌, ◌⊎◌, Bool, true, false, Option, Some, None, refl, sym, ◌∙◌, ap, subst, inl, inr}
+use Rattle.std.proofs.lemmas.Bool.{cases_eq, cases_Bool}
 use Rattle.protocol.specs.Lists.{In, put}
 use Rattle.protocol.specs.Names.{Slot, is_private, Digest, Ticket}
 use Rattle.protocol.specs.Machine.{Grant, Ending, Withdrawn, Made, Granted, Pruned, Message, FromCoord, Machine, Has, Live, Retired, version_at, line, line_of, MayEnd, Ends}
 use Rattle.protocol.specs.Follows.{Works, Goes_on}
-use Rattle.protocol.proofs.Base.{cases_option, cases_bool, cases_nat, put_same, put_other, some_is, none_some, true_false}
+use Rattle.protocol.proofs.Base.{cases_option, put_same, put_other, some_is, none_some, true_false}
 use Rattle.protocol.proofs.Steps.{Sound, same_grant}
 
 -- some of the grants of xs, which `test` picks, have ended so
@@ -32,11 +33,11 @@ module _ (empty : Digest) (pool : List Message) (start m : Machine) (sends : Lis
     put g.ticket.0 (Some y) r.0,
     Goes_on (record m { ending = r.0 }) (record m { ending = put g.ticket.0 (Some y) r.0 }) sends r.1 (Ends g y (made, now) (may r.0 g made t)),
     record {
-      done = λ h i u e. elim (cases_nat h.ticket.0 g.ticket.0) [
+      done = λ h i u e. elim (cases_eq h.ticket.0 g.ticket.0) [
         | inl q ↦ ap (put g.ticket.0 (Some y) r.0) q ∙ put_same g.ticket.0 (Some y) r.0
         | inr ne ↦ put_other g.ticket.0 (Some y) r.0 h.ticket.0 ne ∙ r.2.done h (other h i ne) u e
       ];
-      only = λ k. elim (cases_nat k g.ticket.0) [
+      only = λ k. elim (cases_eq k g.ticket.0) [
         | inl q ↦ inr (g, inl refl, t, ap m.ending q ∙ was, sym q, ap (put g.ticket.0 (Some y) r.0) q ∙ put_same g.ticket.0 (Some y) r.0)
         | inr ne ↦ elim (r.2.only k) [
           | inl e ↦ inl (put_other g.ticket.0 (Some y) r.0 k ne ∙ e)
@@ -54,7 +55,7 @@ module _ (empty : Digest) (pool : List Message) (start m : Machine) (sends : Lis
   none_is_live xs x e g ends k p q r = (let same : k ≡ g = cc in subst (λ (z : Grant). e z.ticket.0 ≡ Some y) same q)
 
   one : (xs : List Made) (g : Grant) → In (Granted g) m.made → Result xs → Result (Granted g ∷ xs)
-  one xs g made r = elim (cases_bool (test g)) [
+  one xs g made r = elim (cases_Bool (test g)) [
     | inr f ↦ skip xs (Granted g) r (λ e h ends p t was. (let same : g ≡ h = cc in true_false (test h) t (subst (λ z. test z ≡ false) same f)))
     | inl t ↦ elim (cases_option (m.ending g.ticket.0)) [
       | inr z ↦ skip xs (Granted g) r (λ e h ends p u was. (let same : g ≡ h = cc in none_some z.0 (sym was ∙ ap (λ (k : Grant). m.ending k.ticket.0) (sym same) ∙ z.1)))
@@ -103,7 +104,7 @@ module _ (empty : Digest) (m : Machine) (sound : Sound empty m) (e : ℕ → Opt
   -- who is live afterwards was, and isn't picked
   pub still_live : (g : Grant) → Live after g → Live m g × (test g ≡ false)
   still_live g l = (let was : m.ending g.ticket.0 ≡ None = elim (ends.only g.ticket.0) [ inl q ↦ sym q ∙ l.1 | inr q ↦ q.3 ] in
-      ((l.0, was), elim (cases_bool (test g)) [ inl t ↦ none_some y (sym l.1 ∙ ends.done g l.0 t was) | inr f ↦ f ]))
+      ((l.0, was), elim (cases_Bool (test g)) [ inl t ↦ none_some y (sym l.1 ∙ ends.done g l.0 t was) | inr f ↦ f ]))
 
   -- who is live and isn't picked is live afterwards
   pub live_after : (g : Grant) → Live m g → test g ≡ false → Live after g

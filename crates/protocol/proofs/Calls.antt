@@ -1,5 +1,6 @@
 -- Each message and call of the coordinator follows the machine.
 use Rattle.std.proofs.Common.{◌≡◌, ◌≢◌, ℕ, suc, ◌+◌, ◌≤◌, List, [], ◌∷◌, ◌++◌, ◌⊎◌, Bool, true, false, not, ◌&&◌, ◌||◌, eqb, filter, Option, Some, None, slice_get, refl, sym, ◌∙◌, ap, subst, inl, inr, arith}
+use Rattle.std.proofs.lemmas.Bool.{cases_Bool, eqb-true, and_parts, not-true, eqb-false, cases_eq, ne_eqb}
 use Rattle.std.specs.List.{find}
 use Rattle.std.specs.Prelude.{is_some}
 use Rattle.protocol.specs.Lists.{In, put, is_nil}
@@ -12,7 +13,7 @@ use Rattle.protocol.specs.declared.answer.CoordNote.{CoordNote}
 use Rattle.protocol.specs.declared.answer.CoordNote.TheVariants as note
 use Rattle.protocol.specs.Ledger.{Limits, Ledger, Work, Lease, says, notes, has_slot, is_saved, writable_slots, grant_of, Decision, Give, Deny, Wait, elsewhere, decision, lease_for, gives, denies, parks, retried, is_of, lease_of, is_parked, holds_wanted, recall, recalls, decided, acquiring, has_ticket, lease_under, without, ends, commits, place, confirmed, versions_of, on_all, is_its, may_commit, may_release, confirms, answered, committing, released, answering}
 use Rattle.protocol.specs.Follows.{lease_from, NoLease, Waits, Works, Goes_on}
-use Rattle.protocol.proofs.Base.{cases_bool, cases_nat, true_false, not_true, and_both, none_some, some_is, eqb_is, eqb_same, eqb_apart, eqb_not, slot_eq_same, node_is, life_is, ticket_is, from_any, in_filter, from_filter, in_append, in_right, in_one, put_same, put_other}
+use Rattle.protocol.proofs.Base.{true_false, none_some, some_is, eqb_same, slot_eq_same, node_is, life_is, ticket_is, from_any, in_filter, from_filter, in_append, in_right, in_one, put_same, put_other}
 use Rattle.protocol.proofs.Lines.{line-end}
 use Rattle.protocol.proofs.Steps.{Sound, Later, same_grant}
 use Rattle.protocol.proofs.Bulk.{EndsThose, end_those, Bare, ended_line, still_live, live_after, retired_before, retired_stays, retired_now}
@@ -26,11 +27,11 @@ use Rattle.protocol.proofs.Following.{works_sound, slots_eq_is, slots_eq_same, S
 -- the version of a ticket stands where its place says
 pub place_stands : (t : Ticket) (vs : List LineVersion) (k : ℕ) (x : ℕ × Digest) → place t vs k ≡ Some x → (j : ℕ) × (x.0 ≡ k + j + 1) × (slice_get vs j ≡ Some (record { ticket = t; digest = x.1 }))
 place_stands t [] k x e = none_some x e
-place_stands t (v ∷ vs) k x e = elim (cases_bool (eqb v.ticket.0 t.0)) [
+place_stands t (v ∷ vs) k x e = elim (cases_Bool (eqb v.ticket.0 t.0)) [
   | inl b ↦ (let is : (k + 1, v.digest) ≡ x = some_is (k + 1, v.digest) x (rw b at e) in
       let number : k + 1 ≡ x.0 = ap (λ (z : ℕ × Digest). z.0) is in
       let digest : v.digest ≡ x.1 = ap (λ (z : ℕ × Digest). z.1) is in
-      let ticket : v.ticket ≡ t = ticket_is v.ticket t (eqb_is v.ticket.0 t.0 b) in
+      let ticket : v.ticket ≡ t = ticket_is v.ticket t (eqb-true v.ticket.0 t.0 b) in
       (0, omega arith, λ i. Some (record { ticket = ticket i; digest = digest i })))
   | inr b ↦ (let r = place_stands t vs (k + 1) x (rw b at e) in
       let at : x.0 ≡ k + 1 + r.0 + 1 = r.1 in
@@ -39,7 +40,7 @@ place_stands t (v ∷ vs) k x e = elim (cases_bool (eqb v.ticket.0 t.0)) [
 
 place_found : (t : Ticket) (vs : List LineVersion) (k : ℕ) (v : LineVersion) → In v vs → v.ticket ≡ t → (x : ℕ × Digest) × (place t vs k ≡ Some x)
 place_found t [] k v i e = absurd i
-place_found t (u ∷ vs) k v i e = elim (cases_bool (eqb u.ticket.0 t.0)) [
+place_found t (u ∷ vs) k v i e = elim (cases_Bool (eqb u.ticket.0 t.0)) [
   | inl b ↦ ((k + 1, u.digest), rw b refl)
   | inr b ↦ elim i [
     | inl p ↦ (let same : u.ticket ≡ t = ap (λ (z : LineVersion). z.ticket) (sym p) ∙ e in
@@ -194,7 +195,7 @@ module _ (k : Limits) (fits : k.instances ≤ 4096) (pool : List Message) (m : M
       let b : Bool = p.tenure && not (elsewhere w.ledger p) in
       let v : Work = recalls b p w in
       let same : v.ledger ≡ w.ledger = recalls-ledger b p w in
-      let g = recalls_it b p w f (λ t. (and_both p.tenure (not (elsewhere w.ledger p)) t).0) in
+      let g = recalls_it b p w f (λ t. (and_parts p.tenure (not (elsewhere w.ledger p)) t).0) in
       note_it note.Parked (parks (w.ledger.parked ++ p ∷ []) v)
       (park_it p w.ledger.parked v g (ap (λ (z : Ledger). z.parked) same) asked (subst (λ (z : Ledger). z.gone p.node.0 ≡ false) (sym same) here) (subst (λ (z : Ledger). NoLease z.live p) (sym same) none) other)
 
@@ -218,7 +219,7 @@ module _ (k : Limits) (fits : k.instances ≤ 4096) (pool : List Message) (m : M
   bulk_core test y b q e retired' sound core ends bare made kept = record {
     live_made = λ h i. (let r = from_filter (λ (z : Lease). not (test z)) h q.live i in
         let g = core.live_made h r.0 in
-        (g.0, live_after k.empty b sound e (picks test) y ends g.0 g.1 (subst (λ z. test z ≡ false) (sym g.2) (not_true (test h) r.1)), g.2));
+        (g.0, live_after k.empty b sound e (picks test) y ends g.0 g.1 (subst (λ z. test z ≡ false) (sym g.2) (not-true (test h) r.1)), g.2));
     live_kept = λ g l. (let r = still_live k.empty b sound e (picks test) y ends g l in
         in_filter (λ (z : Lease). not (test z)) (lease_from g) q.live (core.live_kept g r.0) (ap not r.1));
     retired_made = made;
@@ -298,22 +299,22 @@ module _ (k : Limits) (fits : k.instances ≤ 4096) (pool : List Message) (m : M
       end_live_withdrawn : (b : Machine) (test : Grant → Bool) (sends : List FromCoord) → Works k.empty pool m b sends → ((g : Grant) → Live b g → test g ≡ true → g.tenure ≡ false)
           → (e : ℕ → Option Ending) × Works k.empty pool m (record b { ending = e }) sends × EndsThose b.ending e test Withdrawn b.made
       end_live_withdrawn b test sends works plain =
-          let r = end_those k.empty pool m b sends works (λ g. test g && not g.tenure) Withdrawn (λ e g i t. not_true g.tenure (and_both (test g) (not g.tenure) t).1) b.made (λ x i. i) in (
+          let r = end_those k.empty pool m b sends works (λ g. test g && not g.tenure) Withdrawn (λ e g i t. not-true g.tenure (and_parts (test g) (not g.tenure) t).1) b.made (λ x i. i) in (
             r.0,
             r.1,
             record {
               done = λ g i t e. (let free : g.tenure ≡ false = plain g (i, e) t in r.2.done g i (rw (t, free) refl) e);
-              only = λ t. elim (r.2.only t) [ inl e ↦ inl e | inr q ↦ inr (q.0, q.1, (and_both (test q.0) (not q.0.tenure) q.2).0, q.3, q.4, q.5) ];
+              only = λ t. elim (r.2.only t) [ inl e ↦ inl e | inr q ↦ inr (q.0, q.1, (and_parts (test q.0) (not q.0.tenure) q.2).0, q.3, q.4, q.5) ];
             },
           )
 
   -- ---- Commit and Release
 
   pub lease_of_ticket : (w : Work) (f : Fo w) (t : Ticket) (h : Lease) → lease_under w.ledger.live t ≡ Some h → In h w.ledger.live × (h.ticket ≡ t)
-  lease_of_ticket w f t h e = (let r = find_some (has_ticket t) w.ledger.live h e in (r.0, ticket_is h.ticket t (eqb_is h.ticket.0 t.0 r.1)))
+  lease_of_ticket w f t h e = (let r = find_some (has_ticket t) w.ledger.live h e in (r.0, ticket_is h.ticket t (eqb-true h.ticket.0 t.0 r.1)))
 
   its_is : (n : NodeId) (l : Life) (h : Lease) → is_its n l h ≡ true → (h.node ≡ n) × (h.life ≡ l)
-  its_is n l h e = (let b = and_both (eqb h.node.0 n.0) (eqb h.life.0 l.0) e in (node_is h.node n (eqb_is h.node.0 n.0 b.0), life_is h.life l (eqb_is h.life.0 l.0 b.1)))
+  its_is n l h e = (let b = and_parts (eqb h.node.0 n.0) (eqb h.life.0 l.0) e in (node_is h.node n (eqb-true h.node.0 n.0 b.0), life_is h.life l (eqb-true h.life.0 l.0 b.1)))
 
   -- a grant of the ticket that a message of a node names is that node's
   pub same_ticket : (b : Machine) (g h : Grant) → Sound k.empty b → Live b g → Live b h → g.ticket ≡ h.ticket → g ≡ h
@@ -325,8 +326,8 @@ module _ (k : Limits) (fits : k.instances ≤ 4096) (pool : List Message) (m : M
   commit_it is n l t news w f h asked e may so =
       let r = lease_of_ticket w f t h e in
       let g = f.agrees.live_made h r.0 in
-      let b1 = and_both (is_its n l h && slots_eq (slots_of news) (writable_slots h.slots)) (not (is_nil news)) may in
-      let b2 = and_both (is_its n l h) (slots_eq (slots_of news) (writable_slots h.slots)) b1.0 in
+      let b1 = and_parts (is_its n l h && slots_eq (slots_of news) (writable_slots h.slots)) (not (is_nil news)) may in
+      let b2 = and_parts (is_its n l h) (slots_eq (slots_of news) (writable_slots h.slots)) b1.0 in
       let its = its_is n l h b2.0 in
       let ticket : g.0.ticket ≡ t = ap (λ (z : Lease). z.ticket) g.2 ∙ r.1 in
       let node : g.0.node ≡ n = ap (λ (z : Lease). z.node) g.2 ∙ its.0 in
@@ -340,33 +341,33 @@ module _ (k : Limits) (fits : k.instances ≤ 4096) (pool : List Message) (m : M
       let sound' = sound_at w f in
       let y : Ending = Committed news in
       let next : Machine = record b { ending = put g.0.ticket.0 (Some y) b.ending } in
-      let step : Step k.empty pool b next = Ends g.0 y g.1 (message, slots, is_nil_is news (not_true (is_nil news) b1.1)) in
+      let step : Step k.empty pool b next = Ends g.0 y g.1 (message, slots, is_nil_is news (not-true (is_nil news) b1.1)) in
       let other : (x : Grant) → Live b x → has_ticket t (lease_from x) ≡ false → x.ticket.0 ≢ g.0.ticket.0 =
-      λ x lx free q. eqb_not x.ticket.0 t.0 free (q ∙ ap (λ (z : Ticket). z.0) ticket) in
+      λ x lx free q. eqb-false x.ticket.0 t.0 free (q ∙ ap (λ (z : Ticket). z.0) ticket) in
       record {
         machine = next;
         works = Goes_on b next w.sends f.works step;
         granted = f.granted;
         ended = so next.ending (those_put k.empty b sound' g.0 y (picks (has_ticket t)) g.1 (ap (λ (z : Ticket). eqb g.0.ticket.0 z.0) (sym ticket) ∙ eqb_same g.0.ticket.0)
-            (λ x i z. eqb_is x.ticket.0 t.0 z ∙ ap (λ (z : Ticket). z.0) (sym ticket)));
+            (λ x i z. eqb-true x.ticket.0 t.0 z ∙ ap (λ (z : Ticket). z.0) (sym ticket)));
         agrees = agrees_from k.empty pool next (commits t news w).ledger
             (record {
               live_made = λ x i. (let q = from_filter (λ (z : Lease). not (has_ticket t z)) x w.ledger.live i in
                   let o = core.live_made x q.0 in
-                  let free : has_ticket t (lease_from o.0) ≡ false = subst (λ z. has_ticket t z ≡ false) (sym o.2) (not_true (has_ticket t x) q.1) in
+                  let free : has_ticket t (lease_from o.0) ≡ false = subst (λ z. has_ticket t z ≡ false) (sym o.2) (not-true (has_ticket t x) q.1) in
                   (o.0, (o.1.0, put_other g.0.ticket.0 (Some y) b.ending o.0.ticket.0 (other o.0 o.1 free) ∙ o.1.1), o.2));
-              live_kept = λ x lx. elim (cases_nat x.ticket.0 g.0.ticket.0) [
+              live_kept = λ x lx. elim (cases_eq x.ticket.0 g.0.ticket.0) [
                 | inl q ↦ none_some y (sym lx.1 ∙ ap (put g.0.ticket.0 (Some y) b.ending) q ∙ put_same g.0.ticket.0 (Some y) b.ending)
                 | inr ne ↦ (let was : Live b x = (lx.0, sym (put_other g.0.ticket.0 (Some y) b.ending x.ticket.0 ne) ∙ lx.1) in
                     in_filter (λ (z : Lease). not (has_ticket t z)) (lease_from x) w.ledger.live (core.live_kept x was)
-                    (ap not (eqb_apart x.ticket.0 t.0 (λ q. ne (q ∙ sym (ap (λ (z : Ticket). z.0) ticket))))))
+                    (ap not (ne_eqb x.ticket.0 t.0 (λ q. ne (q ∙ sym (ap (λ (z : Ticket). z.0) ticket))))))
               ];
               retired_made = λ s i. (let o = core.retired_made s i in (
                 o.0,
                 (
                   o.1.0,
                   o.1.1,
-                  elim (cases_nat o.1.0.ticket.0 g.0.ticket.0) [
+                  elim (cases_eq o.1.0.ticket.0 g.0.ticket.0) [
                     | inl q ↦ none_some Withdrawn (sym g.1.1 ∙ sym (ap b.ending q) ∙ o.1.2)
                     | inr ne ↦ put_other g.0.ticket.0 (Some y) b.ending o.1.0.ticket.0 ne ∙ o.1.2
                   ],
@@ -378,7 +379,7 @@ module _ (k : Limits) (fits : k.instances ≤ 4096) (pool : List Message) (m : M
                 (
                   o.1.0,
                   o.1.1,
-                  elim (cases_nat o.1.0.ticket.0 g.0.ticket.0) [
+                  elim (cases_eq o.1.0.ticket.0 g.0.ticket.0) [
                     | inl q ↦ (let bad : Some y ≡ Some Withdrawn = sym (put_same g.0.ticket.0 (Some y) b.ending) ∙ sym (ap (put g.0.ticket.0 (Some y) b.ending) q) ∙ o.1.2 in absurd (wrong (some_is y Withdrawn bad)))
                     | inr ne ↦ sym (put_other g.0.ticket.0 (Some y) b.ending o.1.0.ticket.0 ne) ∙ o.1.2
                   ],
@@ -426,7 +427,7 @@ module _ (k : Limits) (fits : k.instances ≤ 4096) (pool : List Message) (m : M
   answered_it : (b : Bool) (n : NodeId) (l : Life) (t : Ticket) (news : List News) (w : Work) (f : Fo w) → In (commit n l t news) pool → may_commit n l news (lease_under w.ledger.live t) ≡ false → (not (is_nil news) && on_all w.ledger.line t news) ≡ b → Fo (answered b n l t news w)
   answered_it true n l t [] w f asked may e = (let bad : false ≡ true = e in cc)
   answered_it true n l t (x ∷ xs) w f asked may e =
-      note_it (note.CommittedBefore t) (confirms n l t (x ∷ xs) w) (confirm_it n l t x xs w f asked (and_both (is_some (place t (w.ledger.line x.slot) 0)) (on_all w.ledger.line t xs) e).0)
+      note_it (note.CommittedBefore t) (confirms n l t (x ∷ xs) w) (confirm_it n l t x xs w f asked (and_parts (is_some (place t (w.ledger.line x.slot) 0)) (on_all w.ledger.line t xs) e).0)
   answered_it false n l t news w f asked may e =
       let refused : (g : Grant) → Live f.machine g → (g.ticket ≡ t) → (g.node ≡ n) → (g.life ≡ l) → (slots_of news ≡ written g.slots) → (news ≢ []) → ⊥ =
       λ g live ticket node life slots some.
@@ -503,7 +504,7 @@ module _ (k : Limits) (fits : k.instances ≤ 4096) (pool : List Message) (m : M
         live = was_live k.empty m f.machine g later made (subst (Live f.machine) same x.1);
         ticket = ticket;
         life = life;
-        one = λ z i q. same_grant k.empty f.machine sound' z g i (later.made (Granted g) made) (eqb_is z.ticket.0 t.0 q ∙ ap (λ (z : Ticket). z.0) (sym ticket));
+        one = λ z i q. same_grant k.empty f.machine sound' z g i (later.made (Granted g) made) (eqb-true z.ticket.0 t.0 q ∙ ap (λ (z : Ticket). z.0) (sym ticket));
       }
 
   -- the grant that is named ends besides those of older lives
@@ -518,7 +519,7 @@ module _ (k : Limits) (fits : k.instances ≤ 4096) (pool : List Message) (m : M
       let test : Grant → Bool = λ (g : Grant). has_ticket t (lease_from g) in
       ended_more k.empty m f.machine (MessageEnds m y note.Nothing) (MessageEnds m y told) e test z sound' later f.ended.0 those
       (λ g l q. subst (λ (x : Grant). In (Granted x) m.made) (sym (n.one g l.0 q)) n.live.0)
-      (λ g l q. here g (ticket_is g.ticket t (eqb_is g.ticket.0 t.0 q)))
+      (λ g l q. here g (ticket_is g.ticket t (eqb-true g.ticket.0 t.0 q)))
       (message_keeps told)
       (λ g x l h. elim (from g x h) [
         | inl old ↦ inl old
@@ -544,7 +545,7 @@ module _ (k : Limits) (fits : k.instances ≤ 4096) (pool : List Message) (m : M
   committing_it : (b : Bool) (o : Option Lease) (t : Ticket) (news : List News) (w : Work) (f : At note.Nothing w) → y.request ≡ Commit t news → In (commit y.node y.life t news) pool → lease_under w.ledger.live t ≡ o → may_commit y.node y.life news o ≡ b
       → At (committing k b y.node y.life t news w).note (committing k b y.node y.life t news w)
   committing_it true None t news w f at asked e may = (let bad : false ≡ true = may in cc)
-  committing_it true (Some h) t [] w f at asked e may = (let b = and_both (is_its y.node y.life h && slots_eq (slots_of []) (writable_slots h.slots)) false may in let bad : false ≡ true = b.1 in cc)
+  committing_it true (Some h) t [] w f at asked e may = (let b = and_parts (is_its y.node y.life h && slots_eq (slots_of []) (writable_slots h.slots)) false may in let bad : false ≡ true = b.1 in cc)
   committing_it true (Some h) t (x ∷ xs) w f at asked e may =
       let g = sent.commits y.node y.life t (x ∷ xs) asked in
       let n = named note.Nothing w f t h g.0 e g.1 g.2 g.4 in
@@ -585,7 +586,7 @@ module _ (k : Limits) (fits : k.instances ≤ 4096) (pool : List Message) (m : M
       λ z q. By_release (at ∙ ap Release (sym q)) (ap note.Released (sym q)) in
       note_it k fits pool m sound sent (Is told) told (retried k (ends h w)) (retry k fits pool m sound sent (Is told) (ends h w)
       (plain_ends k fits pool m sound sent (Is note.Nothing) (Is told) (has_ticket h.ticket) Released (w.changed || is_saved h) w f bare_released (λ q. (let bad : Released ≡ Withdrawn = q in cc))
-      (λ x z made t'. (let same : z.ticket.0 ≡ g.0.ticket.0 = eqb_is z.ticket.0 h.ticket.0 t' ∙ ap (λ (u : Lease). u.ticket.0) (sym g.2) in
+      (λ x z made t'. (let same : z.ticket.0 ≡ g.0.ticket.0 = eqb-true z.ticket.0 h.ticket.0 t' ∙ ap (λ (u : Lease). u.ticket.0) (sym g.2) in
       let one : z ≡ g.0 = same_grant k.empty f.machine (sound_at k fits pool m sound sent (Is note.Nothing) w f) z g.0 made g.1.0 same in
       let is : lease_from z ≡ h = ap lease_from one ∙ g.2 in
       subst (λ (u : Lease). In (release u.node u.life u.ticket) pool) (sym is)

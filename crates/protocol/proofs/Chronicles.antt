@@ -1,11 +1,12 @@
 -- Chronicles of schedules, and what stays so.
 use Rattle.std.proofs.Common.{◌≡◌, ℕ, ◌<◌, ◌≤◌, slice_get, List, [], ◌∷◌, ◌++◌, Bool, true, false, ◌⊎◌, Option, Some, None, Result, Ok, Err, refl, sym, ◌∙◌, ap, subst, inl, inr, arith, append-nil}
+use Rattle.std.proofs.lemmas.Bool.{cases_Bool}
 use Rattle.std.specs.Prelude.{⊤, if◌then◌else◌}
 use Rattle.farm_base.specs.declared.message.Message.TheVariants as to
 use Rattle.farm_base.specs.declared.message.ToNode.TheVariants as to_node
 use Rattle.protocol.specs.Lists.{In, IsFrontOf, nth}
 use Rattle.protocol.specs.Names.{Slot, NodeId, Ticket, Digest, Want}
-use Rattle.protocol.specs.Machine.{Grant, Granted, Told, Has, ticket_of, LineVersion, Ending, Withdrawn, Died, Message, Said, ToCoord, Machine, Live, line, Fetches, Blob}
+use Rattle.protocol.specs.Machine.{Grant, Granted, Told, Has, ticket_of, LineVersion, Ending, Withdrawn, Died, Message, Said, ToCoord, Machine, Live, line}
 use Rattle.protocol.specs.declared.answer.CoordNote.{CoordNote}
 use Rattle.protocol.specs.declared.answer.CoordNote.TheVariants as coord
 use Rattle.protocol.specs.declared.answer.CoordRefusal.{CoordRefusal}
@@ -31,7 +32,7 @@ use Rattle.protocol.proofs.Steps.{same_grant, made_below}
 use Rattle.protocol.proofs.Invariant.{Inv}
 use Rattle.protocol.proofs.Using.{Runs}
 use Rattle.farm_base.specs.declared.message.FromCoord.TheVariants as told
-use Rattle.protocol.proofs.Base.{cases_bool, none_some, some_is, in_left, in_append}
+use Rattle.protocol.proofs.Base.{none_some, some_is, in_left, in_append}
 use Rattle.protocol.proofs.Worlds.{Whole, moves_inv, start_whole}
 use Rattle.protocol.proofs.Safety.{every_run_is_safe, every_run_stays_safe}
 use Rattle.protocol.proofs.Others.{unsaved_ends}
@@ -257,7 +258,7 @@ module _ (sha : List ℕ → Digest) (k : Limits) (farm : IsFarm sha k) where
   at_node_kept false n a s x v i = inr i
 
   restarts_kept : (n : NodeId) (s : Farm) (x : Slot) (v : LineVersion) → In v ((restarts k n s).farm.saved.line x) → Stood s x v
-  restarts_kept n s x v = elim (cases_bool (may_restart k (s.nodes n.0))) [ inl t ↦ rw t (λ i. inr i) | inr t ↦ rw t (λ i. inr i) ]
+  restarts_kept n s x v = elim (cases_Bool (may_restart k (s.nodes n.0))) [ inl t ↦ rw t (λ i. inr i) | inr t ↦ rw t (λ i. inr i) ]
 
   of_lines : (s : Farm) (e : Event) (change : CoordNote → saying.Change s.ledger) (r : Result Work CoordRefusal) → saying.GrewOk k s.ledger change r → ((c : CoordNote) (x : Slot) → (change c).line x ≡ s.ledger.line x ++ adds k.empty s.pool e (note.Coord c) x) → Lines s e r
   of_lines s e change (Ok w) g same = λ x. g.lines x ∙ same w.note x
@@ -289,7 +290,7 @@ module _ (sha : List ℕ → Digest) (k : Limits) (farm : IsFarm sha k) where
   kept_by u moves s shows (Withdraw t) x v fault i = coordinated_kept s (Withdraw t) s.down (withdrawn k t (begin_work s.ledger)) x v (of_lines s (Withdraw t) (λ c. saying.same s.ledger) (withdrawn k t (begin_work s.ledger)) (saying.withdrawn_grew k s.ledger t) (λ c z. sym (append-nil (s.ledger.line z)))) fault i
   kept_by u moves s shows (Prune p) x v fault i = coordinated_kept s (Prune p) s.down (pruned k p (begin_work s.ledger)) x v (of_lines s (Prune p) (saying.pruning k s.ledger p) (pruned k p (begin_work s.ledger)) (saying.pruned_grew k s.ledger p) (λ c z. refl)) fault i
   kept_by u moves s shows (Retire n) x v fault i = retire_kept (is_node s n) n s x v fault i
-  kept_by u moves s shows (RestartNode n) x v fault i = elim (cases_bool (is_node s n)) [ inl t ↦ inl (restarts_kept n s x v (rw t at i)) | inr t ↦ inl (inr (rw t at i)) ]
+  kept_by u moves s shows (RestartNode n) x v fault i = elim (cases_Bool (is_node s n)) [ inl t ↦ inl (restarts_kept n s x v (rw t at i)) | inr t ↦ inl (inr (rw t at i)) ]
   kept_by u moves s shows RestartCoordinator x v fault i = inl (inr i)
   kept_by u moves s shows (Forge n c) x v fault i = inl (at_node_kept (is_node s n) n _ s x v i)
   kept_by u moves s shows (FailSave kept) x v fault i = inl (inr i)

@@ -1,5 +1,6 @@
 -- When the coordinator refuses a call, and what it can't refuse.
-use Rattle.std.proofs.Common.{◌≡◌, ◌≢◌, ℕ, ◌+◌, ◌≤◌, List, [], ◌∷◌, ◌⊎◌, Bool, true, false, not, ◌&&◌, ◌||◌, eqb, Option, Some, None, Result, Ok, Err, refl, sym, ◌∙◌, ap, subst, inl, inr, arith}
+use Rattle.std.proofs.Common.{◌≡◌, ◌≢◌, ℕ, ◌+◌, ◌≤◌, List, [], ◌∷◌, Bool, true, false, not, ◌&&◌, ◌||◌, eqb, Option, Some, None, Result, Ok, Err, refl, sym, ◌∙◌, ap, subst, inl, inr, arith}
+use Rattle.std.proofs.lemmas.Bool.{eqb-true, and_parts, or_parts, cases_Bool}
 use Rattle.std.proofs.lemmas.Bool.Decides.{nat_tests}
 use Rattle.std.specs.List.{list_any}
 use Rattle.std.specs.Prelude.{nat_lt, if◌then◌else◌}
@@ -16,7 +17,7 @@ use Rattle.protocol.specs.Replay.{Event, Withdraw, Prune, Retire}
 use Rattle.protocol.specs.Ledger.{Limits, Ledger, Lease, Work, begin_work, has_slot, is_leased, writable_slots, Decision, Give, Deny, Wait, decision, gives, carried_out, tried, try_all, retried, has_ticket, lease_under, may_commit, may_release, committing, released, answering, is_older, sees, is_home, newer_life, handled, withdrawing, withdrawn, is_at, retired, pruned, notes, withdraws, prunes}
 use Rattle.protocol.specs.Follows.{lease_from, Agrees, CommitIsTaken, ReleaseIsTaken}
 use Rattle.protocol.specs.Reasons.{CallBecause}
-use Rattle.protocol.proofs.Base.{cases_bool, true_false, and_both, or_false, eqb_is, eqb_same, node_is, ticket_is, from_any, any_none, in_left, in_filter}
+use Rattle.protocol.proofs.Base.{true_false, eqb_same, node_is, ticket_is, from_any, any_none, in_left, in_filter}
 use Rattle.protocol.proofs.Steps.{Sound, same_grant, made_below}
 use Rattle.protocol.proofs.Leases.{core_of, not_leased, has_lease, writable-from, find_some, find_none, find_in}
 use Rattle.protocol.proofs.Following.{slots_eq_same}
@@ -33,7 +34,7 @@ some_nil vs e = ap is_nil e
 
 home_at : (n : NodeId) (o : Option NodeId) → is_home n o ≡ true → o ≡ Some n
 home_at n None h = (let bad : false ≡ true = h in cc)
-home_at n (Some x) h = ap Some (node_is x n (eqb_is x.0 n.0 h))
+home_at n (Some x) h = ap Some (node_is x n (eqb-true x.0 n.0 h))
 
 at_home : (n : NodeId) (o : Option NodeId) → o ≡ Some n → is_home n o ≡ true
 at_home n o e = ap (is_home n) e ∙ eqb_same n.0
@@ -87,7 +88,7 @@ module _ (k : Limits) (pool : List Message) (m : Machine) (sound : Sound k.empty
   withdrawing_exact t (Some h) e =
       let r = find_some (has_ticket t) q.live h e in
       let g = agrees.live_made h r.0 in
-      let ticket : g.0.ticket ≡ t = ap (λ (z : Lease). z.ticket) g.2 ∙ ticket_is h.ticket t (eqb_is h.ticket.0 t.0 r.1) in
+      let ticket : g.0.ticket ≡ t = ap (λ (z : Lease). z.ticket) g.2 ∙ ticket_is h.ticket t (eqb-true h.ticket.0 t.0 r.1) in
       on_test (Withdraw t) h.tenure refusal.Tenure (Ok (notes (note.Withdrawn h.ticket) (retried k (withdraws h (begin_work q))))) (λ tenure. (g.0, g.1, ticket, ap (λ (z : Lease). z.tenure) g.2 ∙ tenure))
       (none g.0 g.1 ticket (ap (λ (z : Lease). z.tenure) g.2))
     where
@@ -128,9 +129,9 @@ module _ (k : Limits) (pool : List Message) (m : Machine) (sound : Sound k.empty
       (λ here. on_test (Retire n) (list_any (λ (g : Lease). is_at n g && g.tenure) q.live || is_home n q.old_home) refusal.TenureHeld _
       (λ held. elim (or_cases (list_any (λ (g : Lease). is_at n g && g.tenure) q.live) (is_home n q.old_home) held) [
         | inl some ↦ (let r = from_any (λ (g : Lease). is_at n g && g.tenure) q.live some in
-            let b = and_both (is_at n r.0) r.0.tenure r.2 in
+            let b = and_parts (is_at n r.0) r.0.tenure r.2 in
             let g = agrees.live_made r.0 r.1 in
-            inl (g.0, g.1, ap (λ (z : Lease). z.node) g.2 ∙ node_is r.0.node n (eqb_is r.0.node.0 n.0 b.0), ap (λ (z : Lease). z.tenure) g.2 ∙ b.1))
+            inl (g.0, g.1, ap (λ (z : Lease). z.node) g.2 ∙ node_is r.0.node n (eqb-true r.0.node.0 n.0 b.0), ap (λ (z : Lease). z.tenure) g.2 ∙ b.1))
         | inr home ↦ inr (sym agrees.old_home ∙ home_at n q.old_home home)
       ])
       (none here))
@@ -138,11 +139,11 @@ module _ (k : Limits) (pool : List Message) (m : Machine) (sound : Sound k.empty
       none : q.gone n.0 ≡ false → (list_any (λ (g : Lease). is_at n g && g.tenure) q.live || is_home n q.old_home) ≡ false → (r : CoordRefusal) → CallBecause k m (Retire n) r → ⊥
       none here free refusal.NodeRetired z = true_false (q.gone n.0) (ap (λ (f : ℕ → Bool). f n.0) agrees.gone ∙ z) here
       none here free refusal.TenureHeld (inl (g, live, at, tenure)) =
-          (let o = or_false (list_any (λ (g : Lease). is_at n g && g.tenure) q.live) (is_home n q.old_home) free in
+          (let o = or_parts (list_any (λ (g : Lease). is_at n g && g.tenure) q.live) (is_home n q.old_home) free in
           true_false (is_at n (lease_from g) && g.tenure) (both_true (is_at n (lease_from g)) g.tenure (subst (λ (z : NodeId). eqb g.node.0 z.0 ≡ true) at (eqb_same g.node.0)) tenure)
           (any_none (λ (g : Lease). is_at n g && g.tenure) (lease_from g) q.live o.0 (agrees.live_kept g live)))
       none here free refusal.TenureHeld (inr home) =
-          (let o = or_false (list_any (λ (g : Lease). is_at n g && g.tenure) q.live) (is_home n q.old_home) free in
+          (let o = or_parts (list_any (λ (g : Lease). is_at n g && g.tenure) q.live) (is_home n q.old_home) free in
           true_false (is_home n q.old_home) (at_home n q.old_home (agrees.old_home ∙ home)) o.1)
       none here free r z = z
 
@@ -166,7 +167,7 @@ module _ (k : Limits) (pool : List Message) (m : Machine) (sound : Sound k.empty
 
   newer_keeps : (h : Lease) (n : NodeId) (l : Life) (w : Work) → is_older n l h ≡ false → In h w.ledger.live → In h (newer_life k n l w).ledger.live
   unfolding newer_life
-  newer_keeps h n l w young i = elim (cases_bool (list_any (is_older n l) w.ledger.live || is_home n w.ledger.old_home)) [
+  newer_keeps h n l w young i = elim (cases_Bool (list_any (is_older n l) w.ledger.live || is_home n w.ledger.old_home)) [
     | inl t ↦ rw t (retried_keeps h (sees n l w) stays)
     | inr t ↦ rw t stays
   ]
@@ -182,7 +183,7 @@ module _ (k : Limits) (pool : List Message) (m : Machine) (sound : Sound k.empty
   the_lease g w apart i =
       let found = find_in (has_ticket g.ticket) w.ledger.live (lease_from g) i (eqb_same g.ticket.0) in
       let r = find_some (has_ticket g.ticket) w.ledger.live found.0 found.1 in
-      found.1 ∙ ap Some (apart.unique found.0 (lease_from g) r.0 i (eqb_is found.0.ticket.0 g.ticket.0 r.1))
+      found.1 ∙ ap Some (apart.unique found.0 (lease_from g) r.0 i (eqb-true found.0.ticket.0 g.ticket.0 r.1))
 
   commits_it : (g : Grant) (news : List News) (w : Work) → slots_of news ≡ written g.slots → news ≢ [] → Apart w.ledger → In (lease_from g) w.ledger.live → (answering k g.node g.life (Commit g.ticket news) w).note ≡ note.Committed g.ticket
   commits_it g news w slots some apart i =
@@ -211,7 +212,7 @@ module _ (k : Limits) (pool : List Message) (m : Machine) (sound : Sound k.empty
       let i = agrees.live_kept g live in
       let le' : q.lives g.node.0 ≤ g.life.0 = subst (λ (f : ℕ → ℕ). f g.node.0 ≤ g.life.0) (sym agrees.lives) le in
       let old : nat_lt g.life.0 (q.lives g.node.0) ≡ false = le_not g.life.0 (q.lives g.node.0) le' in
-      rw (here', old) (elim (cases_bool (nat_lt (q.lives g.node.0) g.life.0)) [
+      rw (here', old) (elim (cases_Bool (nat_lt (q.lives g.node.0) g.life.0)) [
         | inl newer ↦ rw newer (so (newer_life k g.node g.life (begin_work q)) (newer_saves k q g.node g.life (begin_work q) apart).1 (newer_keeps (lease_from g) g.node g.life (begin_work q) (same_age g) i))
         | inr same ↦ rw same (so (begin_work q) apart i)
       ])

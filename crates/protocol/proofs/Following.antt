@@ -1,6 +1,6 @@
 -- What the coordinator does with its ledger, a machine that forgets nothing may do.
 use Rattle.std.proofs.Common.{◌≡◌, ◌≢◌, ℕ, ◌+◌, ◌<◌, ◌≤◌, List, [], ◌∷◌, ◌++◌, ◌⊎◌, Bool, true, false, not, ◌&&◌, eqb, length, map, filter, Option, Some, None, refl, sym, ◌∙◌, ap, subst, inl, inr, arith, append-nil}
-use Rattle.std.proofs.lemmas.Bool.Decides.{nat_tests}
+use Rattle.std.proofs.lemmas.Bool.{cases_Bool, and_parts, eqb-false, eqb-true, not-false}
 use Rattle.std.specs.Prelude.{nat_lt}
 use Rattle.protocol.specs.Lists.{In}
 use Rattle.protocol.specs.Names.{Mode, Shared, Private, Locked, Slot, slot_eq, slots_eq, is_private, only_slot, IsInstance, Digest, NodeId, Life, Ask, Ticket, Want, FolderName, leased_wants, tenure_wants}
@@ -8,12 +8,12 @@ use Rattle.protocol.specs.Machine.{Grant, GrantedSlot, News, Ending, Granted, Wi
 use Rattle.farm_base.specs.declared.message.FromCoord.TheVariants as told
 use Rattle.farm_base.specs.declared.message.Why.{Why}
 use Rattle.protocol.specs.declared.answer.CoordNote.{CoordNote}
-use Rattle.protocol.specs.Ledger.{Limits, Ledger, Work, Lease, says, notes, some_lease, is_leased, is_free, lowest, instance_for, slot_for, all_taken, busy, last_digest, granted_slot, grant_of, Decision, Give, Deny, Wait, pick, another, elsewhere, decision, lease_for, raised, gives, denies, carried_out, waits, tried, stays, try_all, waiting, retried, is_parked}
+use Rattle.protocol.specs.Ledger.{Limits, Ledger, Work, Lease, says, notes, some_lease, is_leased, is_free, lowest, instance_for, slot_for, all_taken, busy, last_digest, granted_slot, grant_of, Decision, Give, Deny, Wait, pick, another, elsewhere, decision, lease_for, raised, gives, denies, carried_out, tried, try_all, waiting, retried}
 use Rattle.protocol.specs.Follows.{lease_from, NoLease, Waits, Works, Begins_work, Goes_on, Speaks, Follows}
-use Rattle.protocol.proofs.Base.{cases_bool, true_false, not_false, and_both, or_false, none_some, some_is, eqb_is, eqb_not, slot_eq_same, slot_eq_is, node_is, from_map, any_none, in_append, in_left, in_right, in_one}
+use Rattle.protocol.proofs.Base.{true_false, none_some, some_is, slot_eq_same, slot_eq_is, node_is, from_map, any_none, in_append, in_left, in_right, in_one}
 use Rattle.protocol.proofs.Steps.{Sound, Later, later_refl, later_trans, step_sound, fresh}
 use Rattle.protocol.proofs.Trying.{raised_covers, tried-gone, tried_waits, try-gone, try-parked, waiting_in, waiting_part, waiting_waits}
-use Rattle.protocol.proofs.Leases.{Core, core_of, AllAsked, agrees_from, names_last, grant-lease, lease-grant, not_leased, free_is, lowest_is, waits_give, parked_part, no_grant}
+use Rattle.protocol.proofs.Leases.{Core, core_of, AllAsked, agrees_from, names_last, grant-lease, lease-grant, not_leased, free_is, lowest_is, no_grant}
 
 pub works_sound : (empty : Digest) (pool : List Message) (a b : Machine) (sends : List FromCoord) → Sound empty a → Works empty pool a b sends → Later empty a b × Sound empty b
 works_sound empty pool a b sends sound Begins_work = (later_refl empty a, sound)
@@ -52,7 +52,7 @@ part_refl (x ∷ xs) = Keeps x xs xs (part_refl xs)
 
 pub part_filter : {A : Type 0} (test : A → Bool) (xs : List A) → IsPartOf xs (filter test xs)
 part_filter test [] = Ends_part
-part_filter test (x ∷ xs) = elim (cases_bool (test x)) [
+part_filter test (x ∷ xs) = elim (cases_Bool (test x)) [
   | inl t ↦ rw t (Keeps x xs (filter test xs) (part_filter test xs))
   | inr t ↦ rw t (Leaves x xs (filter test xs) (part_filter test xs))
 ]
@@ -65,7 +65,7 @@ pub slots_eq_is : (xs ys : List Slot) → slots_eq xs ys ≡ true → xs ≡ ys
 slots_eq_is [] [] h = refl
 slots_eq_is [] (y ∷ ys) h = (let bad : false ≡ true = h in cc)
 slots_eq_is (x ∷ xs) [] h = (let bad : false ≡ true = h in cc)
-slots_eq_is (x ∷ xs) (y ∷ ys) h = (let b = and_both (slot_eq x y) (slots_eq xs ys) h in let p = slot_eq_is x y b.0 in let q = slots_eq_is xs ys b.1 in λ i. p i ∷ q i)
+slots_eq_is (x ∷ xs) (y ∷ ys) h = (let b = and_parts (slot_eq x y) (slots_eq xs ys) h in let p = slot_eq_is x y b.0 in let q = slots_eq_is xs ys b.1 in λ i. p i ∷ q i)
 
 pub slots_eq_same : (xs : List Slot) → slots_eq xs xs ≡ true
 slots_eq_same [] = refl
@@ -143,7 +143,7 @@ module _ (k : Limits) (fits : k.instances ≤ 4096) (pool : List Message) (m : M
       → (private && (eqb (lowest (is_free q) w.folder 1 k.instances) 0)) ≡ false → (not private && some_lease q.live (only_slot w.folder)) ≡ false
       → Free b (record { folder = w.folder; instance = instance_for k.instances (is_free q) w.folder private }) × IsInstance w.folder.mode (instance_for k.instances (is_free q) w.folder private)
   by_kind b q w true core p left idle =
-      let ne : lowest (is_free q) w.folder 1 k.instances ≢ 0 = eqb_not (lowest (is_free q) w.folder 1 k.instances) 0 left in
+      let ne : lowest (is_free q) w.folder 1 k.instances ≢ 0 = eqb-false (lowest (is_free q) w.folder 1 k.instances) 0 left in
       let r = lowest_is (is_free q) w.folder k.instances 1 ne in
       let low : 1 ≤ lowest (is_free q) w.folder 1 k.instances = r.1 in
       let high : lowest (is_free q) w.folder 1 k.instances < 1 + k.instances = r.2 in
@@ -182,7 +182,7 @@ module _ (k : Limits) (fits : k.instances ≤ 4096) (pool : List Message) (m : M
 
   home_of : (o : Option NodeId) (n h : NodeId) → another o n ≡ false → o ≡ Some h → h ≡ n
   home_of None n h e s = none_some h s
-  home_of (Some x) n h e s = (let same : x ≡ h = some_is x h s in node_is h n (eqb_is h.0 n.0 (subst (λ (z : NodeId). eqb z.0 n.0 ≡ true) same (not_false (eqb x.0 n.0) e))))
+  home_of (Some x) n h e s = (let same : x ≡ h = some_is x h s in node_is h n (eqb-true h.0 n.0 (subst (λ (z : NodeId). eqb z.0 n.0 ≡ true) same (not-false (eqb x.0 n.0) e))))
 
   and_here : (a b : Bool) → a ≡ true → (a && b) ≡ false → b ≡ false
   and_here a b e h = rw e at h
@@ -251,7 +251,7 @@ module _ (k : Limits) (fits : k.instances ≤ 4096) (pool : List Message) (m : M
           | inl e ↦ (let same : x ≡ g = cc in inr (in_right (told.Granted x) w.sends (told.Granted g ∷ []) (inl (ap told.Granted same))))
           | inr j ↦ more_sent x w.sends (told.Granted g) (going.granted x j)
         ];
-        core = give_core b q g h (raised k q) now going.core below (lease-grant k.empty q.line h) (raised_covers k q going.core.ceiling (not_false (nat_lt q.last k.greatest) picked.below));
+        core = give_core b q g h (raised k q) now going.core below (lease-grant k.empty q.line h) (raised_covers k q going.core.ceiling (not-false (nat_lt q.last k.greatest) picked.below));
         parked = going.parked;
       }
 

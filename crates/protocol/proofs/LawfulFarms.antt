@@ -1,7 +1,8 @@
 -- Each event leaves the numbers of a farm in their ranges.
-use Rattle.std.proofs.Common.{◌≡◌, ℕ, zero, suc, ◌+◌, ◌≤◌, List, [], ◌∷◌, ◌++◌, ◌⊎◌, Bool, true, false, not, ◌&&◌, eqb, length, map, filter, Option, Some, None, Result, Ok, Err, refl, sym, ◌∙◌, ap, subst, inl, inr, arith}
+use Rattle.std.proofs.Common.{◌≡◌, ℕ, zero, suc, ◌+◌, ◌≤◌, List, [], ◌∷◌, ◌++◌, ◌⊎◌, Bool, true, false, not, ◌&&◌, eqb, length, map, Option, Some, None, Result, Ok, Err, refl, sym, ◌∙◌, ap, subst, inl, inr, arith}
+use Rattle.std.proofs.lemmas.Bool.{and_parts, cases_Bool}
 use Rattle.std.proofs.lemmas.Bool.Decides.{nat_tests}
-use Rattle.std.specs.Prelude.{nat_lt, nat_le, if◌then◌else◌, ⊤}
+use Rattle.std.specs.Prelude.{nat_lt, nat_le, if◌then◌else◌}
 use Rattle.std.specs.List.{list_any, flat_map}
 use Rattle.std.specs.List.Sorted.{IsStrictlySortedBy}
 use Rattle.farm_base.specs.Wanted.{IsWants}
@@ -19,17 +20,17 @@ use Rattle.protocol.specs.declared.answer.NodeNote.{NodeNote}
 use Rattle.protocol.specs.declared.answer.NodeNote.TheVariants as note
 use Rattle.protocol.specs.declared.answer.NodeRefusal.{NodeRefusal}
 use Rattle.protocol.specs.declared.answer.NodeRefusal.TheVariants as refusal
-use Rattle.protocol.specs.Lists.{In, put, nth, set_nth}
+use Rattle.protocol.specs.Lists.{In, nth, set_nth}
 use Rattle.protocol.specs.Names.{NodeId, Life, Ask, Ticket, Digest, Want, FolderName, Shared, slots_eq, tenure_wants}
 use Rattle.protocol.specs.Machine.{Grant, GrantedSlot, Confirmed, Message, Told, Fetches, FromCoord, hello, acquire, commit, release, slots_of, written}
 use Rattle.protocol.specs.Ledger.{Limits, Ledger, Work, begin_work, handled, withdrawn, retired, pruned, nudged, nudge_all, saves, reads}
 use Rattle.protocol.specs.Ledger as ledger
 use Rattle.protocol.specs.World.{KeptAsk, Open, Holding, Running, Finished, Over, Node, keep}
-use Rattle.protocol.specs.Nodes.{Place, Left, NodeWork, NodeAnswer, guard, at_home, is_tenure_of, in_use, Held, Sent, is_stored, is_base, held, running, held_or_running, finished, news_of, recallable, recalled_if, first, first_of, fetches_of, fetches, others, opens, asked, asked_tenure, beginning, begun, gives_up, leaves, leaving, finishing, finished_with, aborting, aborted, again, all_again, resent, restarted, may_restart, nothing, gives_back, granted, learned, dropped, denied, recalled, of_life, heard, fetched, brought, received, unless_spent}
+use Rattle.protocol.specs.Nodes.{Place, Left, NodeWork, NodeAnswer, guard, at_home, is_tenure_of, in_use, Held, Sent, is_stored, is_base, held, running, held_or_running, finished, news_of, recallable, recalled_if, first, first_of, fetches_of, fetches, others, opens, asked, asked_tenure, beginning, begun, gives_up, leaving, finishing, finished_with, aborting, aborted, again, all_again, resent, restarted, may_restart, nothing, gives_back, granted, learned, dropped, denied, recalled, of_life, heard, fetched, brought, received, unless_spent}
 use Rattle.protocol.specs.Replay.{Event, Tenure, Deliver, Begin, Finish, Abort, Resend, Nudge, Withdraw, Prune, Retire, RestartNode, RestartCoordinator, Forge, FailSave, Farm, Turn, step, settled, settles, coordinated, is_node, at, moved, answered, at_node, node_does, restarts, receiver, delivered}
 use Rattle.protocol.specs.Replay as replay
-use Rattle.protocol.specs.Lawful.{IsNumber, IsSpeaker, AreAsked, IsSaid, IsMessage, IsLawful, IsLawfulWork, IsLawfulNode, IsEvent, IsLawfulFarm, EveryFarmStaysLawful, EveryOpeningIsLawful}
-use Rattle.protocol.proofs.Base.{cases_bool, some_is, none_some, and_both, put_all, in_append, in_one, from_map, nth_in}
+use Rattle.protocol.specs.Lawful.{IsNumber, IsSpeaker, AreAsked, IsMessage, IsLawful, IsLawfulWork, IsLawfulNode, IsLawfulFarm, EveryFarmStaysLawful, EveryOpeningIsLawful}
+use Rattle.protocol.proofs.Base.{some_is, none_some, put_all, in_append, in_one, from_map, nth_in}
 use Rattle.protocol.proofs.Lawfulness.{every_ledger_stays_lawful}
 use Rattle.protocol.proofs.Parking.{nudge-ledger}
 
@@ -272,7 +273,7 @@ module _ (top : ℕ) where
     recalled_acts t (Some (a, s)) e = (let f = first_from (recallable t) x.asks 0 a s e in record { node = closes a s (recallable_closed t f.0 s f.1) _ refl refl; sends = none_sent })
 
     of_life_acts : (l : Life) (w : NodeWork) → Acts w → Acts (of_life l x w)
-    of_life_acts l w h = elim (cases_bool (eqb l.0 x.life.0)) [ inl t ↦ rw t h | inr t ↦ rw t (record { node = lawful; sends = none_sent }) ]
+    of_life_acts l w h = elim (cases_Bool (eqb l.0 x.life.0)) [ inl t ↦ rw t h | inr t ↦ rw t (record { node = lawful; sends = none_sent }) ]
 
     heard_acts : (y : FromCoord) → Acts (heard k p y x)
     heard_acts (told.Granted g) = of_life_acts g.life _ (granted_acts g (nth x.asks g.ask.0))
@@ -310,7 +311,7 @@ module _ (top : ℕ) where
 
   number_of : (s : Farm) (n : NodeId) → F s → is_node s n ≡ true → IsNumber top n
   number_of s n f here =
-      let both = and_both (nat_le 1 n.0) (nat_le n.0 s.size) here in
+      let both = and_parts (nat_le 1 n.0) (nat_le n.0 s.size) here in
       let low : 1 ≤ n.0 = le_is 1 n.0 both.0 in
       let high : n.0 ≤ s.size = le_is n.0 s.size both.1 in
       let size : s.size ≤ top = f.size in
@@ -337,7 +338,7 @@ module _ (top : ℕ) where
   does_lawful n g s f a = at_lawful (is_node s n) n (g (at s n) (s.nodes n.0)) s f (λ here. a (number_of s n f here))
 
   restarts_lawful : (k : Limits) (n : NodeId) (s : Farm) → F s → IsNumber top n → F (restarts k n s).farm
-  restarts_lawful k n s f number = elim (cases_bool (may_restart k (s.nodes n.0))) [
+  restarts_lawful k n s f number = elim (cases_Bool (may_restart k (s.nodes n.0))) [
     | inl t ↦ rw t (moved_lawful n (restarted (at s n) (s.nodes n.0)) s f (restarted_acts k (at s n) number (s.nodes n.0) (f.nodes n.0)))
     | inr t ↦ rw t (record {
       size = f.size;
@@ -382,11 +383,11 @@ every_farm_stays_lawful sha k top s (Resend n) event f = does_lawful top n (λ p
 every_farm_stays_lawful sha k top s Nudge event f = coordinated_lawful top s.down (Ok (nudged k (begin_work s.ledger))) s k f (subst (IsLawful top) (sym (nudge-ledger k s.ledger.live (begin_work s.ledger))) f.ledger)
 every_farm_stays_lawful sha k top s (Withdraw t) event f = coordinated_lawful top s.down (withdrawn k t (begin_work s.ledger)) s k f ((every_ledger_stays_lawful top k s.ledger f.ledger).withdraw t)
 every_farm_stays_lawful sha k top s (Prune slot) event f = coordinated_lawful top s.down (pruned k slot (begin_work s.ledger)) s k f ((every_ledger_stays_lawful top k s.ledger f.ledger).prune slot)
-every_farm_stays_lawful sha k top s (Retire n) event f = elim (cases_bool (is_node s n)) [
+every_farm_stays_lawful sha k top s (Retire n) event f = elim (cases_Bool (is_node s n)) [
   | inl t ↦ rw t (coordinated_lawful top s.down (retired k n (begin_work s.ledger)) s k f ((every_ledger_stays_lawful top k s.ledger f.ledger).retire n (number_of top s n f t)))
   | inr t ↦ rw t f
 ]
-every_farm_stays_lawful sha k top s (RestartNode n) event f = elim (cases_bool (is_node s n)) [ inl t ↦ rw t (restarts_lawful top k n s f (number_of top s n f t)) | inr t ↦ rw t f ]
+every_farm_stays_lawful sha k top s (RestartNode n) event f = elim (cases_Bool (is_node s n)) [ inl t ↦ rw t (restarts_lawful top k n s f (number_of top s n f t)) | inr t ↦ rw t f ]
 every_farm_stays_lawful sha k top s RestartCoordinator event f = record { size = f.size; ledger = f.saved; saved = f.saved; pool = f.pool; nodes = f.nodes }
 every_farm_stays_lawful sha k top s (Forge n c) event f = does_lawful top n (λ p x. unless_spent x (brought sha c x)) s f (λ number. spent_acts top k (at s n) number (s.nodes n.0) (f.nodes n.0) _ (brought_acts top k (at s n) number (s.nodes n.0) (f.nodes n.0) sha c))
 every_farm_stays_lawful sha k top s (FailSave kept) event f = record { size = f.size; ledger = f.ledger; saved = f.saved; pool = f.pool; nodes = f.nodes }

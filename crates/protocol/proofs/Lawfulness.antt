@@ -1,24 +1,24 @@
 -- What the coordinator does leaves its ledger such that a record can be written of it.
 use Rattle.std.proofs.Common.{◌≡◌, ◌≢◌, ℕ, ◌+◌, ◌<◌, ◌≤◌, List, [], ◌∷◌, ◌++◌, Bool, true, false, not, ◌&&◌, ◌||◌, eqb, map, filter, Option, Some, None, Result, Ok, Err, refl, sym, ◌∙◌, ap, subst, inl, inr, arith}
+use Rattle.std.proofs.lemmas.Bool.{and_parts, cases_Bool, cases_eq, eqb-false, eqb-true, not-false, not-true}
 use Rattle.std.proofs.lemmas.Bool.Decides.{nat_tests}
-use Rattle.std.specs.Prelude.{nat_lt, if◌then◌else◌, ⊤}
+use Rattle.std.specs.Prelude.{nat_lt, if◌then◌else◌}
 use Rattle.std.specs.List.{list_any, find}
 use Rattle.protocol.specs.Lists.{In, put, is_nil}
 use Rattle.protocol.specs.Names.{Slot, slot_eq, is_private, only_slot, NodeId, Life, Ask, Ticket, Digest, Want, leased_wants}
 use Rattle.protocol.specs.Machine.{News, LineVersion, Parked, ToCoord, digest_for, version_of, cleared}
 use Rattle.farm_base.specs.declared.message.Request.{Request}
 use Rattle.farm_base.specs.declared.message.Request.TheVariants.{Hello, Acquire, Commit, Release}
-use Rattle.farm_base.specs.declared.message.Why.{Why}
 use Rattle.protocol.specs.declared.answer.CoordRefusal.{CoordRefusal}
 use Rattle.protocol.specs.declared.answer.CoordRefusal.TheVariants as coord
 use Rattle.protocol.specs.declared.answer.CoordNote.TheVariants as note
 use Rattle.protocol.specs.Ledger.{Limits, Ledger, Lease, Work, begin_work, notes, has_slot, some_lease, is_leased, is_free, lowest, slot_for, all_taken, busy, is_saved, pick, Decision, Give, Deny, Wait, another, elsewhere, decision, lease_for, raised, gives, carried_out, tried, try_all, waiting, retried, is_of, lease_of, is_parked, recall, recalls, holds_wanted, decided, acquiring, has_ticket, lease_under, without, ends, commits, confirms, is_its, may_commit, may_release, on_all, committing, released, answering, is_older, is_older_ask, sees, is_home, newer_life, handled, retires, withdraws, withdrawing, withdrawn, is_at, goes, retired, prunes, pruned, reads, saves}
 use Rattle.protocol.specs.Ledger as ledger
-use Rattle.protocol.specs.Follows.{NoLease, Waits}
-use Rattle.protocol.specs.Lawful.{IsNumber, IsSpeaker, AreAsked, IsRequest, IsSaid, IsAsker, want_of, IsHolder, IsWaiter, AreApart, AllApart, IsCore, AreWaiters, IsLawful, IsLawfulWork, StaysLawful, EveryLedgerStaysLawful}
-use Rattle.protocol.proofs.Base.{cases_bool, true_false, not_true, not_false, or_false, and_both, cases_nat, none_some, eqb_is, eqb_same, eqb_not, put_same, put_other, slot_eq_is, in_append, in_one, from_map, any_in, from_any, any_none, from_filter}
+use Rattle.protocol.specs.Follows.{NoLease}
+use Rattle.protocol.specs.Lawful.{IsNumber, IsSpeaker, IsRequest, IsSaid, IsAsker, want_of, IsHolder, IsWaiter, AreApart, AllApart, IsCore, AreWaiters, IsLawful, IsLawfulWork, EveryLedgerStaysLawful}
+use Rattle.protocol.proofs.Base.{true_false, none_some, eqb_same, put_same, put_other, slot_eq_is, in_append, in_one, from_map, any_in, from_any, any_none, from_filter}
 use Rattle.protocol.proofs.Leases.{lowest_is, find_some, find_none, flip_false, waits_give, waits_less, waits_filter, waits_push}
-use Rattle.protocol.proofs.Following.{Picked, pick_give}
+use Rattle.protocol.proofs.Following.{pick_give}
 use Rattle.protocol.proofs.Trying.{raised_covers, tried-gone, tried-lives, tried_waits, try-gone, try-lives, waiting_in, waiting_waits}
 
 -- ---- leases
@@ -42,7 +42,7 @@ apart_push (g ∷ live) h all new = (
 
 apart_filter : (test : Lease → Bool) (live : List Lease) → AllApart live → AllApart (filter test live)
 apart_filter test [] all = tt
-apart_filter test (g ∷ live) all = elim (cases_bool (test g)) [
+apart_filter test (g ∷ live) all = elim (cases_Bool (test g)) [
   | inl t ↦ rw t (λ x i. all.0 x (from_filter test x live i).0, apart_filter test live all.1)
   | inr t ↦ rw t (apart_filter test live all.1)
 ]
@@ -51,7 +51,7 @@ apart_filter test (g ∷ live) all = elim (cases_bool (test g)) [
 apart_slots : (live : List Lease) (g h : Lease) → AllApart live → In g live → In h live → g ≢ h → (s : Slot) → has_slot h.slots s ≡ true → has_slot g.slots s ≡ false
 apart_slots [] g h all i j other s has = absurd i
 apart_slots (x ∷ live) g h all (inl e) (inl f) other s has = absurd (other (e ∙ sym f))
-apart_slots (x ∷ live) g h all (inl e) (inr j) other s has = elim (cases_bool (has_slot g.slots s)) [
+apart_slots (x ∷ live) g h all (inl e) (inr j) other s has = elim (cases_Bool (has_slot g.slots s)) [
   | inr none ↦ none
   | inl t ↦ true_false (has_slot h.slots s) has ((all.0 h j).slots s (subst (λ (z : Lease). has_slot z.slots s ≡ true) e t))
 ]
@@ -64,14 +64,14 @@ wants_back instances free (w ∷ ws) = ap (λ l. w ∷ l) (wants_back instances 
 
 -- a slot of a folder with one slot isn't retired
 unretired : (retired : Slot → Bool) (s : Slot) → ((s : Slot) → retired s ≡ true → is_private s.folder.mode ≡ true) → is_private s.folder.mode ≡ false → retired s ≡ false
-unretired retired s only f = elim (cases_bool (retired s)) [ inl r ↦ true_false (is_private s.folder.mode) (only s r) f | inr r ↦ r ]
+unretired retired s only f = elim (cases_Bool (retired s)) [ inl r ↦ true_false (is_private s.folder.mode) (only s r) f | inr r ↦ r ]
 
 -- the slot that a want gets is free
 slot_free : (instances : ℕ) (q : Ledger) (w : Want) → ((s : Slot) → q.retired s ≡ true → is_private s.folder.mode ≡ true)
     → (is_private w.folder.mode && eqb (lowest (is_free q) w.folder 1 instances) 0) ≡ false → (not (is_private w.folder.mode) && is_leased q (only_slot w.folder)) ≡ false → is_free q (slot_for instances (is_free q) w) ≡ true
-slot_free instances q w only left idle = elim (cases_bool (is_private w.folder.mode)) [
+slot_free instances q w only left idle = elim (cases_Bool (is_private w.folder.mode)) [
   | inl t ↦ (let some : eqb (lowest (is_free q) w.folder 1 instances) 0 ≡ false = rw t at left in
-      rw t (lowest_is (is_free q) w.folder instances 1 (eqb_not (lowest (is_free q) w.folder 1 instances) 0 some)).0)
+      rw t (lowest_is (is_free q) w.folder instances 1 (eqb-false (lowest (is_free q) w.folder 1 instances) 0 some)).0)
   | inr t ↦ (let unleased : is_leased q (only_slot w.folder) ≡ false = rw t at idle in
       let kept : q.retired (only_slot w.folder) ≡ false = unretired q.retired (only_slot w.folder) only t in
       rw t (rw (unleased, kept) refl))
@@ -117,15 +117,15 @@ module _ (top : ℕ) (k : Limits) where
             asker = wait.asker;
             ticket = omega arith;
             wants = (p.wants, wait.wants, wants_back k.instances (is_free q) ws);
-            kept = λ s has. not_true (q.retired s) (and_both (not (some_lease q.live s)) (not (q.retired s)) (free s has)).1;
+            kept = λ s has. not-true (q.retired s) (and_parts (not (some_lease q.live s)) (not (q.retired s)) (free s has)).1;
           })
         ];
         apart = apart_push q.live h c.apart (λ g i. record {
           ticket = (let le : g.ticket.0 ≤ q.last = c.given g i in omega arith);
           ask = of_flip g h ∙ none g i;
-          slots = λ s has. elim (cases_bool (has_slot h.slots s)) [
+          slots = λ s has. elim (cases_Bool (has_slot h.slots s)) [
             | inr none ↦ none
-            | inl t ↦ true_false (some_lease q.live s) (any_in (λ (x : Lease). has_slot x.slots s) g q.live i has) (not_true (some_lease q.live s) (and_both (not (some_lease q.live s)) (not (q.retired s)) (free s t)).0)
+            | inl t ↦ true_false (some_lease q.live s) (any_in (λ (x : Lease). has_slot x.slots s) g q.live i has) (not-true (some_lease q.live s) (and_parts (not (some_lease q.live s)) (not (q.retired s)) (free s t)).0)
           ];
         });
         given = λ g i. elim (in_append g q.live (h ∷ []) i) [
@@ -134,7 +134,7 @@ module _ (top : ℕ) (k : Limits) where
         ];
         retired = c.retired;
         versions = c.versions;
-        block = raised_covers k q c.block (not_false (nat_lt q.last k.greatest) picked.below);
+        block = raised_covers k q c.block (not-false (nat_lt q.last k.greatest) picked.below);
         home = c.home;
         lives = c.lives;
         gone = c.gone;
@@ -247,7 +247,7 @@ module _ (top : ℕ) (k : Limits) where
       let q : Ledger = w.ledger in
       let rest = fewer (λ x. not (has_ticket t x)) q l in
       let found = find_some (has_ticket t) q.live g e in
-      let some : 1 ≤ t.0 = subst (λ n. 1 ≤ n) (eqb_is g.ticket.0 t.0 found.1) (l.core.holders g found.0).ticket in
+      let some : 1 ≤ t.0 = subst (λ n. 1 ≤ n) (eqb-true g.ticket.0 t.0 found.1) (l.core.holders g found.0).ticket in
       record {
         core = record {
           holders = rest.core.holders;
@@ -288,7 +288,7 @@ module _ (top : ℕ) (k : Limits) where
 
   cleared_home : (n : NodeId) (o : Option NodeId) (h : NodeId) → cleared n o ≡ Some h → o ≡ Some h
   cleared_home n None h e = e
-  cleared_home n (Some x) h e = elim (cases_bool (eqb x.0 n.0)) [
+  cleared_home n (Some x) h e = elim (cases_Bool (eqb x.0 n.0)) [
     | inl t ↦ (let bad : None ≡ Some h = rw t at e in none_some h bad)
     | inr t ↦ rw t at e
   ]
@@ -298,7 +298,7 @@ module _ (top : ℕ) (k : Limits) where
   asker_after n life lives gone m l a newer kept asker = record {
     speaker = asker.speaker;
     ask = asker.ask;
-    life = elim (cases_nat m.0 n.0) [
+    life = elim (cases_eq m.0 n.0) [
       | inr ne ↦ put_other n.0 life.0 lives m.0 ne ∙ asker.life
       | inl e ↦ (let t : eqb m.0 n.0 ≡ true = subst (λ z. eqb m.0 z ≡ true) e (eqb_same m.0) in
           let young : nat_lt l.0 life.0 ≡ false = rw t at kept in
@@ -320,14 +320,14 @@ module _ (top : ℕ) (k : Limits) where
           holders = λ g i.
               (let f = from_filter young g q.live i in
               let h = c.holders g f.0 in
-              record { asker = asker_after n life q.lives q.gone g.node g.life g.ask newer (not_true (is_older n life g) f.1) h.asker; ticket = h.ticket; wants = h.wants; kept = h.kept });
+              record { asker = asker_after n life q.lives q.gone g.node g.life g.ask newer (not-true (is_older n life g) f.1) h.asker; ticket = h.ticket; wants = h.wants; kept = h.kept });
           apart = apart_filter young q.live c.apart;
           given = λ g i. c.given g (from_filter young g q.live i).0;
           retired = c.retired;
           versions = c.versions;
           block = c.block;
           home = λ h e. c.home h (cleared_home n q.old_home h e);
-          lives = λ m some. elim (cases_nat m n.0) [
+          lives = λ m some. elim (cases_eq m n.0) [
             | inl e ↦ subst (λ z. IsNumber top (record { 0 = z })) (sym e) speaker.node
             | inr ne ↦ c.lives m (subst (λ z. 1 ≤ z) (put_other n.0 life.0 q.lives m ne) some)
           ];
@@ -337,28 +337,28 @@ module _ (top : ℕ) (k : Limits) where
           each = λ p i.
               (let f = from_filter old_ask p q.parked i in
               let x = l.parked.each p f.0 in
-              record { asker = asker_after n life q.lives q.gone p.node p.life p.ask newer (not_true (is_older_ask n life p) f.1) x.asker; wants = x.wants });
+              record { asker = asker_after n life q.lives q.gone p.node p.life p.ask newer (not-true (is_older_ask n life p) f.1) x.asker; wants = x.wants });
           waits = waits_less q.live (filter young q.live) (filter old_ask q.parked) (λ g i. (from_filter young g q.live i).0) (waits_filter q.live old_ask q.parked l.parked.waits);
         };
       }
 
   newer_lawful : (n : NodeId) (life : Life) (w : Work) → IsSpeaker top n life → w.ledger.lives n.0 < life.0 → IsLawful top w.ledger → IsLawful top (newer_life k n life w).ledger
   unfolding newer_life
-  newer_lawful n life w speaker newer l = elim (cases_bool (list_any (is_older n life) w.ledger.live || is_home n w.ledger.old_home)) [
+  newer_lawful n life w speaker newer l = elim (cases_Bool (list_any (is_older n life) w.ledger.live || is_home n w.ledger.old_home)) [
     | inl t ↦ rw t (retried_lawful (sees n life w) (sees_lawful n life w speaker newer l))
     | inr t ↦ rw t (sees_lawful n life w speaker newer l)
   ]
 
   newer-lives : (n : NodeId) (life : Life) (w : Work) → (newer_life k n life w).ledger.lives n.0 ≡ life.0
   unfolding newer_life
-  newer-lives n life w = elim (cases_bool (list_any (is_older n life) w.ledger.live || is_home n w.ledger.old_home)) [
+  newer-lives n life w = elim (cases_Bool (list_any (is_older n life) w.ledger.live || is_home n w.ledger.old_home)) [
     | inl t ↦ rw t (ap (λ (f : ℕ → ℕ). f n.0) (retried-lives (sees n life w)) ∙ put_same n.0 life.0 w.ledger.lives)
     | inr t ↦ rw t (put_same n.0 life.0 w.ledger.lives)
   ]
 
   newer-gone : (n : NodeId) (life : Life) (w : Work) → (newer_life k n life w).ledger.gone ≡ w.ledger.gone
   unfolding newer_life
-  newer-gone n life w = elim (cases_bool (list_any (is_older n life) w.ledger.live || is_home n w.ledger.old_home)) [ inl t ↦ rw t (retried-gone (sees n life w)) | inr t ↦ rw t refl ]
+  newer-gone n life w = elim (cases_Bool (list_any (is_older n life) w.ledger.live || is_home n w.ledger.old_home)) [ inl t ↦ rw t (retried-gone (sees n life w)) | inr t ↦ rw t refl ]
 
   -- ---- messages
 
@@ -378,11 +378,11 @@ module _ (top : ℕ) (k : Limits) where
 
   handled_lawful : (y : ToCoord) (w : Work) → IsSaid top y → IsLawful top w.ledger → IsLawful top (handled k y w).ledger
   unfolding handled
-  handled_lawful y w said l = elim (cases_bool (w.ledger.gone y.node.0)) [
+  handled_lawful y w said l = elim (cases_Bool (w.ledger.gone y.node.0)) [
     | inl t ↦ rw t l
-    | inr here ↦ rw here (elim (cases_bool (nat_lt y.life.0 (w.ledger.lives y.node.0))) [
+    | inr here ↦ rw here (elim (cases_Bool (nat_lt y.life.0 (w.ledger.lives y.node.0))) [
       | inl t ↦ rw t l
-      | inr old ↦ rw old (elim (cases_bool (nat_lt (w.ledger.lives y.node.0) y.life.0)) [
+      | inr old ↦ rw old (elim (cases_Bool (nat_lt (w.ledger.lives y.node.0) y.life.0)) [
         | inl newer ↦ rw newer (answering_lawful y.node y.life y.request (newer_life k y.node y.life w) said.speaker said.request (newer-lives y.node y.life w)
           (ap (λ (f : ℕ → Bool). f y.node.0) (newer-gone y.node y.life w) ∙ here) (newer_lawful y.node y.life w said.speaker (lt_is (w.ledger.lives y.node.0) y.life.0 newer) l))
         | inr same ↦ rw same (answering_lawful y.node y.life y.request w said.speaker said.request (same_life y.life.0 (w.ledger.lives y.node.0) old same) here l)
@@ -408,7 +408,7 @@ module _ (top : ℕ) (k : Limits) where
           holders = λ h j.
               (let f = from_filter other h q.live j in
               let x = c.holders h f.0 in
-              let differs : g ≢ h = λ e. true_false (has_ticket g.ticket h) (subst (λ (z : Lease). eqb z.ticket.0 g.ticket.0 ≡ true) e (eqb_same g.ticket.0)) (not_true (has_ticket g.ticket h) f.1) in
+              let differs : g ≢ h = λ e. true_false (has_ticket g.ticket h) (subst (λ (z : Lease). eqb z.ticket.0 g.ticket.0 ≡ true) e (eqb_same g.ticket.0)) (not-true (has_ticket g.ticket h) f.1) in
               record {
                 asker = x.asker;
                 ticket = x.ticket;
@@ -444,12 +444,12 @@ module _ (top : ℕ) (k : Limits) where
           holders = λ h j.
               (let f = from_filter other h q.live j in
               let x = c.holders h f.0 in
-              let away : eqb h.node.0 n.0 ≡ false = not_true (is_at n h) f.1 in
+              let away : eqb h.node.0 n.0 ≡ false = not-true (is_at n h) f.1 in
               record {
                 asker = elsewhere_asker h.node h.life h.ask away x.asker;
                 ticket = x.ticket;
                 wants = x.wants;
-                kept = λ s has. elim (cases_bool (some_lease (filter (is_at n) q.live) s)) [
+                kept = λ s has. elim (cases_Bool (some_lease (filter (is_at n) q.live) s)) [
                   | inr none ↦ neither (is_private s.folder.mode) (some_lease (filter (is_at n) q.live) s) (q.retired s) none (x.kept s has)
                   | inl some ↦ (let g = from_any (λ (z : Lease). has_slot z.slots s) (filter (is_at n) q.live) some in
                       let at = from_filter (is_at n) g.0 q.live g.1 in
@@ -464,7 +464,7 @@ module _ (top : ℕ) (k : Limits) where
           block = c.block;
           home = c.home;
           lives = c.lives;
-          gone = λ m e. elim (cases_nat m n.0) [
+          gone = λ m e. elim (cases_eq m n.0) [
             | inl same ↦ subst (λ z. IsNumber top (record { 0 = z })) (sym same) number
             | inr ne ↦ c.gone m (sym (put_other n.0 true q.gone m ne) ∙ e)
           ];
@@ -473,13 +473,13 @@ module _ (top : ℕ) (k : Limits) where
           each = λ p i.
               (let f = from_filter stays p q.parked i in
               let x = l.parked.each p f.0 in
-              record { asker = elsewhere_asker p.node p.life p.ask (not_true (eqb p.node.0 n.0) f.1) x.asker; wants = x.wants });
+              record { asker = elsewhere_asker p.node p.life p.ask (not-true (eqb p.node.0 n.0) f.1) x.asker; wants = x.wants });
           waits = waits_less q.live (filter other q.live) (filter stays q.parked) (λ g i. (from_filter other g q.live i).0) (waits_filter q.live stays q.parked l.parked.waits);
         };
       }
     where
       elsewhere_asker : (m : NodeId) (life : Life) (a : Ask) → eqb m.0 n.0 ≡ false → IsAsker top w.ledger.lives w.ledger.gone m life a → IsAsker top w.ledger.lives (put n.0 true w.ledger.gone) m life a
-      elsewhere_asker m life a away x = record { speaker = x.speaker; ask = x.ask; life = x.life; stays = put_other n.0 true w.ledger.gone m.0 (eqb_not m.0 n.0 away) ∙ x.stays }
+      elsewhere_asker m life a away x = record { speaker = x.speaker; ask = x.ask; life = x.life; stays = put_other n.0 true w.ledger.gone m.0 (eqb-false m.0 n.0 away) ∙ x.stays }
 
   retired_lawful : (n : NodeId) (q : Ledger) → IsNumber top n → IsLawful top q → IsLawfulWork top (retired k n (begin_work q))
   retired_lawful n q number l =
@@ -498,7 +498,7 @@ module _ (top : ℕ) (k : Limits) where
           apart = c.apart;
           given = λ g i. le_suc g.ticket.0 q.last (c.given g i);
           retired = c.retired;
-          versions = λ x v i. elim (cases_bool (slot_eq s x)) [
+          versions = λ x v i. elim (cases_Bool (slot_eq s x)) [
             | inr other ↦ c.versions x v (rw other at i)
             | inl t ↦ (let j : In v (q.line x ++ record { ticket = record { 0 = q.last + 1 }; digest = k.empty } ∷ []) = rw t at i in
                 elim (in_append v (q.line x) (record { ticket = record { 0 = q.last + 1 }; digest = k.empty } ∷ []) j) [

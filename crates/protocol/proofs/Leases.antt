@@ -1,5 +1,6 @@
 -- Leases and the live grants that they are of.
 use Rattle.std.proofs.Common.{◌≡◌, ◌≢◌, ℕ, zero, suc, ◌+◌, ◌<◌, ◌≤◌, List, [], ◌∷◌, ◌++◌, Bool, true, false, not, ◌&&◌, eqb, length, map, filter, Some, None, slice_get, refl, sym, ◌∙◌, ap, subst, inl, inr, arith}
+use Rattle.std.proofs.lemmas.Bool.{cases_Bool, and_parts, not-true, or_parts}
 use Rattle.std.proofs.lemmas.Bool.Decides.{nat_tests}
 use Rattle.std.specs.List.{find}
 use Rattle.protocol.specs.Lists.{In}
@@ -7,7 +8,7 @@ use Rattle.protocol.specs.Names.{Slot, slot_eq, Digest, NodeId, Life, Ask, Folde
 use Rattle.protocol.specs.Machine.{Grant, GrantedSlot, LineVersion, Message, Parked, Machine, Has, Live, Leased, Retired, Free, line, Names, written, acquire}
 use Rattle.protocol.specs.Ledger.{Ledger, Lease, has_slot, some_lease, is_free, writable_slots, last_digest, granted_slot, grant_of, is_of, is_parked, lowest}
 use Rattle.protocol.specs.Follows.{lease_from, NoLease, Waits, Agrees}
-use Rattle.protocol.proofs.Base.{cases_bool, true_false, not_true, and_both, or_false, none_some, some_is, eqb_same, slot_eq_same, slot_eq_is, in_map, from_map, any_in, from_any, any_none, from_filter, in_append, in_one}
+use Rattle.protocol.proofs.Base.{true_false, none_some, some_is, eqb_same, slot_eq_same, slot_eq_is, in_map, from_map, any_in, from_any, any_none, from_filter, in_append, in_one}
 use Rattle.protocol.proofs.Steps.{Sound}
 
 -- what the ledger keeps of grants, lines and nodes agrees with the machine
@@ -75,7 +76,7 @@ has_lease g s h =
 
 pub writable-from : (us : List GrantedSlot) → writable_slots (map (λ (v : GrantedSlot). (v.slot, v.writable)) us) ≡ written us
 writable-from [] = refl
-writable-from (u ∷ us) = elim (cases_bool u.writable) [
+writable-from (u ∷ us) = elim (cases_Bool u.writable) [
   | inl e ↦ (let rest = writable-from us in rw (e, rest) refl)
   | inr e ↦ (let rest = writable-from us in rw (e, rest) refl)
 ]
@@ -133,8 +134,8 @@ pub not_leased : (empty : Digest) (m : Machine) (q : Ledger) (s : Slot) → Core
 not_leased empty m q s core e l = true_false (some_lease q.live s) (any_in (λ (g : Lease). has_slot g.slots s) (lease_from l.0) q.live (core.live_kept l.0 l.1) (lease_has l.0 s l.2)) e
 
 pub free_is : (empty : Digest) (m : Machine) (q : Ledger) (s : Slot) → Core empty m q → is_free q s ≡ true → Free m s
-free_is empty m q s core e = (let b = and_both (not (some_lease q.live s)) (not (q.retired s)) e in
-    (not_leased empty m q s core (not_true (some_lease q.live s) b.0), λ r. true_false (q.retired s) (core.retired_kept s r) (not_true (q.retired s) b.1)))
+free_is empty m q s core e = (let b = and_parts (not (some_lease q.live s)) (not (q.retired s)) e in
+    (not_leased empty m q s core (not-true (some_lease q.live s) b.0), λ r. true_false (q.retired s) (core.retired_kept s r) (not-true (q.retired s) b.1)))
 
 pub lowest-none : (free : Slot → Bool) (f : FolderName) (i : ℕ) → lowest free f i zero ≡ 0
 unfolding lowest
@@ -151,7 +152,7 @@ lowest-taken free f i k e = rw e refl
 -- the lowest free instance is free, and one of the k from i on
 pub lowest_is : (free : Slot → Bool) (f : FolderName) (k i : ℕ) → lowest free f i k ≢ 0 → (free (record { folder = f; instance = lowest free f i k }) ≡ true) × (i ≤ lowest free f i k) × (lowest free f i k < i + k)
 lowest_is free f zero i h = absurd (h (lowest-none free f i))
-lowest_is free f (suc k) i h = elim (cases_bool (free (record { folder = f; instance = i }))) [
+lowest_is free f (suc k) i h = elim (cases_Bool (free (record { folder = f; instance = i }))) [
   | inl e ↦ (let is : lowest free f i (suc k) ≡ i = lowest-free free f i k e in
       (subst (λ (z : ℕ). free (record { folder = f; instance = z }) ≡ true) (sym is) e, omega arith, omega arith))
   | inr e ↦ (let is : lowest free f i (suc k) ≡ lowest free f (i + 1) k = lowest-taken free f i k e in
@@ -165,21 +166,21 @@ lowest_is free f (suc k) i h = elim (cases_bool (free (record { folder = f; inst
 
 pub find_some : {A : Type 0} (test : A → Bool) (xs : List A) (x : A) → find test xs ≡ Some x → In x xs × (test x ≡ true)
 find_some test [] x e = none_some x e
-find_some test (y ∷ ys) x e = elim (cases_bool (test y)) [
+find_some test (y ∷ ys) x e = elim (cases_Bool (test y)) [
   | inl t ↦ (let same : y ≡ x = some_is y x (rw t at e) in (inl (sym same), subst (λ z. test z ≡ true) same t))
   | inr t ↦ (let r = find_some test ys x (rw t at e) in (inr r.0, r.1))
 ]
 
 pub find_none : {A : Type 0} (test : A → Bool) (xs : List A) → find test xs ≡ None → (x : A) → In x xs → test x ≡ false
 find_none test [] e x i = absurd i
-find_none test (y ∷ ys) e x i = elim (cases_bool (test y)) [
+find_none test (y ∷ ys) e x i = elim (cases_Bool (test y)) [
   | inl t ↦ none_some y (sym (rw t at e))
   | inr t ↦ elim i [ inl p ↦ subst (λ z. test z ≡ false) (sym p) t | inr j ↦ find_none test ys (rw t at e) x j ]
 ]
 
 pub find_in : {A : Type 0} (test : A → Bool) (xs : List A) (x : A) → In x xs → test x ≡ true → (y : A) × (find test xs ≡ Some y)
 find_in test [] x i t = absurd i
-find_in test (y ∷ ys) x i t = elim (cases_bool (test y)) [
+find_in test (y ∷ ys) x i t = elim (cases_Bool (test y)) [
   | inl u ↦ (y, rw u refl)
   | inr u ↦ elim i [
     | inl p ↦ true_false (test y) (subst (λ z. test z ≡ true) p t) u
@@ -220,7 +221,7 @@ waits_less live live' [] less w = tt
 waits_less live live' (p ∷ ps) less w = (λ g i. w.0 g (less g i), w.1, waits_less live live' ps less w.2)
 
 pub parked_part : (ps qs : List Parked) (n : NodeId) (l : Life) (a : Ask) → ((p : Parked) → In p qs → In p ps) → is_parked ps n l a ≡ false → is_parked qs n l a ≡ false
-parked_part ps qs n l a less e = elim (cases_bool (is_parked qs n l a)) [
+parked_part ps qs n l a less e = elim (cases_Bool (is_parked qs n l a)) [
   | inl t ↦ (let r = from_any (λ (p : Parked). (eqb p.node.0 n.0) && (eqb p.life.0 l.0) && (eqb p.ask.0 a.0)) qs t in
       true_false (is_parked ps n l a) (any_in (λ (p : Parked). (eqb p.node.0 n.0) && (eqb p.life.0 l.0) && (eqb p.ask.0 a.0)) r.0 ps (less r.0 r.1) r.2) e)
   | inr f ↦ f
@@ -228,7 +229,7 @@ parked_part ps qs n l a less e = elim (cases_bool (is_parked qs n l a)) [
 
 pub waits_filter : (live : List Lease) (test : Parked → Bool) (ps : List Parked) → Waits live ps → Waits live (filter test ps)
 waits_filter live test [] w = tt
-waits_filter live test (p ∷ ps) w = elim (cases_bool (test p)) [
+waits_filter live test (p ∷ ps) w = elim (cases_Bool (test p)) [
   | inl t ↦ rw t (w.0, parked_part ps (filter test ps) p.node p.life p.ask (λ r i. (from_filter test r ps i).0) w.1, waits_filter live test ps w.2)
   | inr t ↦ rw t (waits_filter live test ps w.2)
 ]
@@ -236,7 +237,7 @@ waits_filter live test (p ∷ ps) w = elim (cases_bool (test p)) [
 pub parked-push : (ps : List Parked) (p : Parked) (n : NodeId) (l : Life) (a : Ask) → is_parked ps n l a ≡ false → ((eqb p.node.0 n.0) && (eqb p.life.0 l.0) && (eqb p.ask.0 a.0)) ≡ false → is_parked (ps ++ p ∷ []) n l a ≡ false
 parked-push [] p n l a e f = rw f refl
 parked-push (q ∷ qs) p n l a e f =
-    let o = or_false ((eqb q.node.0 n.0) && (eqb q.life.0 l.0) && (eqb q.ask.0 a.0)) (is_parked qs n l a) e in
+    let o = or_parts ((eqb q.node.0 n.0) && (eqb q.life.0 l.0) && (eqb q.ask.0 a.0)) (is_parked qs n l a) e in
     let here : ((eqb q.node.0 n.0) && (eqb q.life.0 l.0) && (eqb q.ask.0 a.0)) ≡ false = o.0 in
     let rest : is_parked (qs ++ p ∷ []) n l a ≡ false = parked-push qs p n l a o.1 f in
     rw (here, rest) refl
@@ -244,7 +245,7 @@ parked-push (q ∷ qs) p n l a e f =
 pub waits_push : (live : List Lease) (ps : List Parked) (p : Parked) → Waits live ps → NoLease live p → is_parked ps p.node p.life p.ask ≡ false → Waits live (ps ++ p ∷ [])
 waits_push live [] p w none e = (none, refl, tt)
 waits_push live (q ∷ qs) p w none e =
-    let o = or_false ((eqb q.node.0 p.node.0) && (eqb q.life.0 p.life.0) && (eqb q.ask.0 p.ask.0)) (is_parked qs p.node p.life p.ask) e in
+    let o = or_parts ((eqb q.node.0 p.node.0) && (eqb q.life.0 p.life.0) && (eqb q.ask.0 p.ask.0)) (is_parked qs p.node p.life p.ask) e in
     let n = flip_false p.node.0 q.node.0 in
     let l = flip_false p.life.0 q.life.0 in
     let a = flip_false p.ask.0 q.ask.0 in

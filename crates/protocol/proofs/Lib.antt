@@ -13,7 +13,7 @@ mod Following
 mod Calls
 mod Others
 mod Saying
-mod Moving
+pub mod Moving
 mod Using
 mod Noting
 mod Parking

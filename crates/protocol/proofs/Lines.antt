@@ -1,10 +1,11 @@
 -- Lines, read off what was made: an ending adds at the end of a line, or nothing.
 use Rattle.std.proofs.Common.{◌≡◌, ◌≢◌, ℕ, ◌<◌, ◌≤◌, List, [], ◌∷◌, ◌++◌, ◌⊎◌, Bool, true, false, Option, Some, None, refl, sym, ◌∙◌, ap, subst, inl, inr, arith, append-nil}
+use Rattle.std.proofs.lemmas.Bool.{cases_Bool}
 use Rattle.std.specs.Prelude.{⊤}
 use Rattle.protocol.specs.Lists.{In, put}
 use Rattle.protocol.specs.Names.{Slot, slot_eq, is_alone, Digest, Ticket}
 use Rattle.protocol.specs.Machine.{GrantedSlot, Grant, News, LineVersion, Ending, Committed, Released, Withdrawn, Died, Made, Granted, Pruned, ticket_of, Has, digest_for, version_of, version_at, added, line_of, written, slots_of}
-use Rattle.protocol.proofs.Base.{cases_option, cases_bool, put_same, put_other, slot_eq_is, in_append, in_one, none_some}
+use Rattle.protocol.proofs.Base.{cases_option, put_same, put_other, slot_eq_is, in_append, in_one, none_some}
 
 -- tickets fall strictly from the newest on, all below the bound
 abbrev pub Below : List Made → ℕ → Type 0
@@ -85,7 +86,7 @@ apart_pair e (x ∷ xs) b g g' s h a (inr i) (inr i') lt k k' = apart_pair e xs 
 
 digest_step : (s : Slot) (x : News) (xs : List News) (d : Digest) → digest_for s (x ∷ xs) ≡ Some d → (x.slot ≡ s) ⊎ (digest_for s xs ≡ Some d)
 digest_step s x xs d h =
-    elim (cases_bool (slot_eq x.slot s)) [
+    elim (cases_Bool (slot_eq x.slot s)) [
       | inl e ↦ inl (slot_eq_is x.slot s e)
       | inr e ↦ inr (let r : digest_for s (x ∷ xs) ≡ digest_for s xs = rw e in sym r ∙ h)
     ]
@@ -97,7 +98,7 @@ digest_in s (x ∷ xs) d h = elim (digest_step s x xs d h) [ inl e ↦ inl (sym 
 pub written_in : (s : Slot) (us : List GrantedSlot) → In s (written us) → (u : GrantedSlot) × In u us × (u.slot ≡ s)
 written_in s [] h = absurd h
 written_in s (u ∷ us) h =
-    elim (cases_bool u.writable) [
+    elim (cases_Bool u.writable) [
       | inl e ↦ (let step : written (u ∷ us) ≡ u.slot ∷ written us = rw e in
           let k : In s (u.slot ∷ written us) = subst (In s) step h in
           elim k [ inl p ↦ (u, inl refl, sym p) | inr j ↦ (let r = written_in s us j in (r.0, inr r.1, r.2)) ])
@@ -152,7 +153,7 @@ module _ (empty : Digest) where
         ]
       ]
   added_cases s e (Pruned t p) law =
-      elim (cases_bool (slot_eq p s)) [
+      elim (cases_Bool (slot_eq p s)) [
         | inl q ↦ inr (slot_eq_is p s q)
         | inr q ↦ inl (rw q)
       ]
@@ -215,7 +216,7 @@ module _ (empty : Digest) where
     | inr d ↦ inr (record { ticket = g.ticket; digest = d.0 }, refl, d.1)
   ]
   added_cases_one s e (Pruned t p) =
-      elim (cases_bool (slot_eq p s)) [
+      elim (cases_Bool (slot_eq p s)) [
         | inl q ↦ inr (record { ticket = t; digest = empty }, refl, rw q)
         | inr q ↦ inl (rw q)
       ]

@@ -1,10 +1,11 @@
 -- How tickets ended, kept up through the steps of one event.
 use Rattle.std.proofs.Common.{◌≡◌, ℕ, ◌⊎◌, Bool, true, Option, Some, refl, sym, ◌∙◌, ap, subst, inl, inr}
+use Rattle.std.proofs.lemmas.Bool.{cases_eq}
 use Rattle.protocol.specs.Lists.{In, put}
 use Rattle.protocol.specs.Names.{Digest}
 use Rattle.protocol.specs.Machine.{Grant, Ending, Granted, Machine, Live}
 use Rattle.protocol.specs.Meaning.{Ended}
-use Rattle.protocol.proofs.Base.{cases_option, cases_nat, none_some, put_same, put_other}
+use Rattle.protocol.proofs.Base.{cases_option, none_some, put_same, put_other}
 use Rattle.protocol.proofs.Steps.{Sound, Later, same_grant}
 use Rattle.protocol.proofs.Bulk.{EndsThose}
 
@@ -31,7 +32,7 @@ pub those_put : (empty : Digest) (b : Machine) (sound : Sound empty b) (g : Gran
     → EndsThose b.ending (put g.ticket.0 (Some y) b.ending) test y b.made
 those_put empty b sound g y test live picked one = record {
   done = λ h i t e. ap (put g.ticket.0 (Some y) b.ending) (one h i t) ∙ put_same g.ticket.0 (Some y) b.ending;
-  only = λ t. elim (cases_nat t g.ticket.0) [
+  only = λ t. elim (cases_eq t g.ticket.0) [
     | inl q ↦ inr (g, live.0, picked, ap b.ending q ∙ live.1, sym q, ap (put g.ticket.0 (Some y) b.ending) q ∙ put_same g.ticket.0 (Some y) b.ending)
     | inr ne ↦ inl (put_other g.ticket.0 (Some y) b.ending t ne)
   ];

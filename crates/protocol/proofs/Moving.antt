@@ -1,5 +1,6 @@
 -- What nodes do in the replay are acts of the world's nodes.
 use Rattle.std.proofs.Common.{◌≡◌, ◌≢◌, ℕ, zero, suc, ◌+◌, List, [], ◌∷◌, ◌++◌, ◌⊎◌, Bool, true, false, not, ◌&&◌, ◌||◌, eqb, length, filter, Option, Some, None, slice_get, Ok, Err, refl, sym, ◌∙◌, ap, subst, inl, inr, arith, append-nil, append_assoc}
+use Rattle.std.proofs.lemmas.Bool.{and_parts, or_parts, ne_eqb, cases_Bool, eqb-true, not-true, cases_eq, not-false}
 use Rattle.std.specs.List.{list_any, list_all, flat_map}
 use Rattle.std.specs.Prelude.{⊤, nat_lt, is_some}
 use Rattle.farm_base.specs.Folders.{folder_eq}
@@ -14,7 +15,7 @@ use Rattle.protocol.specs.Ledger.{Limits}
 use Rattle.protocol.specs.World.{KeptAsk, Open, Holding, Running, Finished, Over, Node, World, keeps, learn_bases, learn_versions, keep, has_life, IsTenureOf, Asked_tenure, Held_tenure, Running_tenure, Finished_tenure, RunsTenure, Uses, Open_uses, Held_uses, Running_uses, Idle, Act, Asks, Asks_tenure, Asks_again, Greets, Takes, Gives_back, Begins, Finishes, Gives_up, Sends_commit, Learns, Drops, Is_denied, Is_recalled, Is_recalled_running, Stores, Asks_content, Sends_blob, Restarts, Stops, Node_moves, Moves, Still, Then}
 use Rattle.protocol.specs.Nodes.{NodeWork, NodeAnswer, guard, Place, wants_folder, is_tenure_of, is_home_of, uses, at_home, others_use, in_use, Held, Sent, first, first_of, under, held, running, held_or_running, finished, recalled_if, recallable, is_stored, all_stored, is_missing, others, fetches_of, fetches, is_base, asked, asked_tenure, beginning, begun, Left, news_of, stored, leaving, finishing, finished_with, aborting, aborted, again, all_again, resent, restarted, gives_back, granted, learned, dropped, denied, recalled, of_life, heard, fetched, brought, unless_spent}
 use Rattle.farm_base.proofs.CompareLaws.{digest_exact}
-use Rattle.protocol.proofs.Base.{cases_bool, cases_nat, true_false, not_true, not_false, and_both, or_false, none_some, some_is, eqb_is, eqb_apart, folder_eq_same, life_is, ticket_is, in_append, in_one, from_map, any_in, any_none, from_any, put_same, put_other, nth_in}
+use Rattle.protocol.proofs.Base.{true_false, none_some, some_is, folder_eq_same, life_is, ticket_is, in_append, in_one, from_map, any_in, any_none, from_any, put_same, put_other, nth_in}
 use Rattle.protocol.specs.Replay.{told_to}
 use Rattle.protocol.proofs.Following.{slots_eq_is}
 use Rattle.farm_base.proofs.NameLaws.{folder_exact}
@@ -23,7 +24,7 @@ use Rattle.farm_base.proofs.NameLaws.{folder_exact}
 
 pub all_in : {A : Type 0} (test : A → Bool) (xs : List A) → list_all test xs ≡ true → (x : A) → In x xs → test x ≡ true
 all_in test [] h x i = absurd i
-all_in test (y ∷ ys) h x i = (let b = and_both (test y) (list_all test ys) h in elim i [ inl e ↦ subst (λ z. test z ≡ true) (sym e) b.0 | inr j ↦ all_in test ys b.1 x j ])
+all_in test (y ∷ ys) h x i = (let b = and_parts (test y) (list_all test ys) h in elim i [ inl e ↦ subst (λ z. test z ≡ true) (sym e) b.0 | inr j ↦ all_in test ys b.1 x j ])
 
 pub wants_folder_in : (f : FolderName) (wants : List Want) → wants_folder f wants ≡ true → (w : Want) × In w wants × (w.folder ≡ f)
 wants_folder_in f wants h = (let r = from_any (λ (w : Want). folder_eq w.folder f) wants h in (r.0, r.1, folder_exact r.0.folder f r.2))
@@ -41,7 +42,7 @@ home_runs : (f : FolderName) (s : KeptAsk) → is_home_of f s ≡ true → (want
 home_runs f (Open wants tenure) h = (let bad : false ≡ true = h in cc)
 home_runs f (Holding wants g r) h = (let bad : false ≡ true = h in cc)
 home_runs f (Running wants g true) h = (let bad : false ≡ true = h in cc)
-home_runs f (Running wants g false) h = (let b = and_both g.tenure (wants_folder f wants) h in let w = wants_folder_in f wants b.1 in (wants, g, w.0, refl, b.0, w.1, w.2))
+home_runs f (Running wants g false) h = (let b = and_parts g.tenure (wants_folder f wants) h in let w = wants_folder_in f wants b.1 in (wants, g, w.0, refl, b.0, w.1, w.2))
 home_runs f (Finished wants g news) h = (let bad : false ≡ true = h in cc)
 home_runs f (Over how) h = (let bad : false ≡ true = h in cc)
 
@@ -67,12 +68,12 @@ uses_test f s (Running_uses w wants g r i e) = wants_folder_is f wants w i e
 others_none : (a : ℕ) (wants : List Want) (ss : List KeptAsk) (k : ℕ) → others_use a wants ss k ≡ false → (j : ℕ) (s : KeptAsk) → slice_get ss j ≡ Some s → k + j + 1 ≢ a → list_any (λ (w : Want). uses w.folder s) wants ≡ false
 others_none a wants [] k h j s e ne = none_some s e
 others_none a wants (x ∷ xs) k h zero s e ne =
-    let o = or_false (not (eqb (k + 1) a) && list_any (λ (w : Want). uses w.folder x) wants) (others_use a wants xs (k + 1)) h in
-    let apart : eqb (k + 1) a ≡ false = eqb_apart (k + 1) a (λ q. ne (let z : k + 0 + 1 ≡ k + 1 = omega arith in z ∙ q)) in
+    let o = or_parts (not (eqb (k + 1) a) && list_any (λ (w : Want). uses w.folder x) wants) (others_use a wants xs (k + 1)) h in
+    let apart : eqb (k + 1) a ≡ false = ne_eqb (k + 1) a (λ q. ne (let z : k + 0 + 1 ≡ k + 1 = omega arith in z ∙ q)) in
     let here : list_any (λ (w : Want). uses w.folder x) wants ≡ false = rw apart at o.0 in
     subst (λ z. list_any (λ (w : Want). uses w.folder z) wants ≡ false) (some_is x s e) here
 others_none a wants (x ∷ xs) k h (suc j) s e ne =
-    let o = or_false (not (eqb (k + 1) a) && list_any (λ (w : Want). uses w.folder x) wants) (others_use a wants xs (k + 1)) h in
+    let o = or_parts (not (eqb (k + 1) a) && list_any (λ (w : Want). uses w.folder x) wants) (others_use a wants xs (k + 1)) h in
     others_none a wants xs (k + 1) o.1 j s e (λ q. ne (let z : k + suc j + 1 ≡ k + 1 + j + 1 = omega arith in z ∙ q))
 
 pub idle_from : (asks : List KeptAsk) (a : ℕ) (wants : List Want) (g : Grant) → in_use asks a wants g ≡ false → Idle asks a wants g
@@ -109,8 +110,8 @@ found test asks r e =
     (q.1, subst (λ a. nth asks a ≡ Some q.1) n q.3, q.4)
 
 under_is : {A : Type 0} (g : Grant) (t : Ticket) (x y : A) → under g t x ≡ Some y → (g.ticket ≡ t) × (x ≡ y)
-under_is g t x y e = elim (cases_bool (eqb g.ticket.0 t.0)) [
-  | inl b ↦ (ticket_is g.ticket t (eqb_is g.ticket.0 t.0 b), some_is x y (rw b at e))
+under_is g t x y e = elim (cases_Bool (eqb g.ticket.0 t.0)) [
+  | inl b ↦ (ticket_is g.ticket t (eqb-true g.ticket.0 t.0 b), some_is x y (rw b at e))
   | inr b ↦ none_some y (rw b at e)
 ]
 
@@ -156,14 +157,14 @@ pub recallable_is : (t : Ticket) (s x : KeptAsk) → recallable t s ≡ Some x �
 recallable_is t (Open wants tenure) x e = none_some x e
 recallable_is t (Holding wants g r) x e =
     let u = recalled_if_is ((eqb g.ticket.0 t.0) && g.tenure && not r) (Holding wants g true) x e in
-    let b = and_both ((eqb g.ticket.0 t.0) && g.tenure) (not r) u.0 in
-    let c = and_both (eqb g.ticket.0 t.0) g.tenure b.0 in
-    (wants, g, ticket_is g.ticket t (eqb_is g.ticket.0 t.0 c.0), inl (ap (Holding wants g) (not_true r b.1), sym u.1))
+    let b = and_parts ((eqb g.ticket.0 t.0) && g.tenure) (not r) u.0 in
+    let c = and_parts (eqb g.ticket.0 t.0) g.tenure b.0 in
+    (wants, g, ticket_is g.ticket t (eqb-true g.ticket.0 t.0 c.0), inl (ap (Holding wants g) (not-true r b.1), sym u.1))
 recallable_is t (Running wants g r) x e =
     let u = recalled_if_is ((eqb g.ticket.0 t.0) && g.tenure && not r) (Running wants g true) x e in
-    let b = and_both ((eqb g.ticket.0 t.0) && g.tenure) (not r) u.0 in
-    let c = and_both (eqb g.ticket.0 t.0) g.tenure b.0 in
-    (wants, g, ticket_is g.ticket t (eqb_is g.ticket.0 t.0 c.0), inr (ap (Running wants g) (not_true r b.1), sym u.1))
+    let b = and_parts ((eqb g.ticket.0 t.0) && g.tenure) (not r) u.0 in
+    let c = and_parts (eqb g.ticket.0 t.0) g.tenure b.0 in
+    (wants, g, ticket_is g.ticket t (eqb-true g.ticket.0 t.0 c.0), inr (ap (Running wants g) (not-true r b.1), sym u.1))
 recallable_is t (Finished wants g news) x e = none_some x e
 recallable_is t (Over how) x e = none_some x e
 
@@ -171,11 +172,11 @@ recallable_is t (Over how) x e = none_some x e
 
 stored_ok : (sha : List ℕ → Digest) (lefts : List Left) (store : Digest → Option (List ℕ)) (d : Digest) (c : List ℕ) → stored sha lefts store d ≡ Some c → ((store d ≡ Some c) ⊎ (sha c ≡ d))
 stored_ok sha [] store d c e = inl e
-stored_ok sha (x ∷ xs) store d c e = elim (cases_bool (is_some (store (sha x.1)))) [
+stored_ok sha (x ∷ xs) store d c e = elim (cases_Bool (is_some (store (sha x.1)))) [
   | inl t ↦ stored_ok sha xs store d c (rw t at e)
   | inr t ↦ elim (stored_ok sha xs (keep (sha x.1) x.1 store) d c (rw t at e)) [
     | inr same ↦ inr same
-    | inl old ↦ elim (cases_bool (digest_eq d (sha x.1))) [
+    | inl old ↦ elim (cases_Bool (digest_eq d (sha x.1))) [
       | inl q ↦ (let is : keep (sha x.1) x.1 store d ≡ Some x.1 = rw q in
           inr (ap sha (some_is c x.1 (sym old ∙ is)) ∙ sym (digest_exact d (sha x.1) q)))
       | inr q ↦ (let is : keep (sha x.1) x.1 store d ≡ store d = rw q in inl (sym is ∙ old))
@@ -240,7 +241,7 @@ module _ (sha : List ℕ → Digest) (u : World) (n : NodeId) where
     down = refl;
     pool = sym (append-nil u.pool);
     tells = λ z i. i;
-    nodes = λ j. elim (cases_nat j n.0) [
+    nodes = λ j. elim (cases_eq j n.0) [
       | inl e ↦ ap u.nodes e ∙ sym (ap (put n.0 here u.nodes) e ∙ put_same n.0 here u.nodes)
       | inr ne ↦ sym (put_other n.0 here u.nodes j ne)
     ];
@@ -260,7 +261,7 @@ module _ (sha : List ℕ → Digest) (u : World) (n : NodeId) where
         down = r.down;
         pool = ap (λ p. p ++ more) r.pool ∙ append_assoc u.pool sends more;
         tells = λ z i. elim (in_append (Told z) sends more i) [ inl j ↦ r.tells z j | inr j ↦ act_tells sha (u.pool ++ sends) n x more y act z j ];
-        nodes = λ j. elim (cases_nat j n.0) [
+        nodes = λ j. elim (cases_eq j n.0) [
           | inl e ↦ ap (put n.0 y v.nodes) e ∙ put_same n.0 y v.nodes ∙ sym (ap (put n.0 y u.nodes) e ∙ put_same n.0 y u.nodes)
           | inr ne ↦ put_other n.0 y v.nodes j ne ∙ r.nodes j ∙ put_other n.0 x u.nodes j ne ∙ sym (put_other n.0 y u.nodes j ne)
         ];
@@ -310,7 +311,7 @@ module _ (sha : List ℕ → Digest) (u : World) (n : NodeId) where
   asked_does k size wants =
       on_guard here.spent _ _ (λ up. on_guard (not (at_home here.asks wants)) _ _ (λ home. on_guard (not (nat_lt (length here.asks) k.greatest)) _ _ (λ left.
       does (acquire n here.life (record { 0 = length here.asks + 1 }) wants false ∷ []) (record here { asks = here.asks ++ Open wants false ∷ [] })
-      (Asks wants (λ w i shared. (let t : (not (wants_shared w) || list_any (is_home_of w.folder) here.asks) ≡ true = all_in (λ (v : Want). not (wants_shared v) || list_any (is_home_of v.folder) here.asks) wants (not_false (at_home here.asks wants) home) w i in
+      (Asks wants (λ w i shared. (let t : (not (wants_shared w) || list_any (is_home_of w.folder) here.asks) ≡ true = all_in (λ (v : Want). not (wants_shared v) || list_any (is_home_of v.folder) here.asks) wants (not-false (at_home here.asks wants) home) w i in
       some_home w.folder here.asks (rw shared at t)))))))
 
   pub tenure_does : (k : Limits) (size : ℕ) (f : FolderName) → OnAnswer (asked_tenure k (at size) f here)
@@ -328,7 +329,7 @@ module _ (sha : List ℕ → Digest) (u : World) (n : NodeId) where
       let is = held_is t f.0 h f.2 in
       on_guard (not (all_stored here h.grant.slots)) _ _ (λ all.
       does [] (record here { asks = set_nth here.asks r.0 (Running h.wants h.grant h.recalled) })
-      (Begins h.wants h.grant h.recalled r.0 (f.1 ∙ ap Some is.0) (λ s i. stored_some (here.store s.digest) (all_in (λ (v : GrantedSlot). is_stored here v.digest) h.grant.slots (not_false (all_stored here h.grant.slots) all) s i))))
+      (Begins h.wants h.grant h.recalled r.0 (f.1 ∙ ap Some is.0) (λ s i. stored_some (here.store s.digest) (all_in (λ (v : GrantedSlot). is_stored here v.digest) h.grant.slots (not-false (all_stored here h.grant.slots) all) s i))))
 
   pub begun_does : (t : Ticket) → OnAnswer (begun t here)
   begun_does t = on_guard here.spent _ _ (λ up. beginning_does t (first (held t) here.asks 0) refl)
@@ -350,7 +351,7 @@ module _ (sha : List ℕ → Digest) (u : World) (n : NodeId) where
       let h : Held = r.1 in
       let is = running_is t f.0 h f.2 in
       on_guard (in_use here.asks r.0 h.wants h.grant) _ _ (λ idle. on_guard (not (slots_eq (slots_of (news_of sha lefts)) (written h.grant.slots))) _ _ (λ slots.
-      leaving_does size r.0 h lefts (f.1 ∙ ap Some is.0) (idle_from here.asks r.0 h.wants h.grant idle) (slots_eq_is (slots_of (news_of sha lefts)) (written h.grant.slots) (not_false (slots_eq (slots_of (news_of sha lefts)) (written h.grant.slots)) slots))))
+      leaving_does size r.0 h lefts (f.1 ∙ ap Some is.0) (idle_from here.asks r.0 h.wants h.grant idle) (slots_eq_is (slots_of (news_of sha lefts)) (written h.grant.slots) (not-false (slots_eq (slots_of (news_of sha lefts)) (written h.grant.slots)) slots))))
 
   pub finished_does : (size : ℕ) (t : Ticket) (lefts : List Left) → OnAnswer (finished_with sha (at size) t lefts here)
   finished_does size t lefts = on_guard here.spent _ _ (λ up. finishing_does size t lefts (first (running t) here.asks 0) refl)
@@ -461,8 +462,8 @@ module _ (sha : List ℕ → Digest) (u : World) (n : NodeId) where
       ]
 
   of_life_does : (l : Life) (w : NodeWork) → (l ≡ here.life → OnWork w) → OnWork (of_life l here w)
-  of_life_does l w h = elim (cases_bool (eqb l.0 here.life.0)) [
-    | inl t ↦ rw t (h (life_is l here.life (eqb_is l.0 here.life.0 t)))
+  of_life_does l w h = elim (cases_Bool (eqb l.0 here.life.0)) [
+    | inl t ↦ rw t (h (life_is l here.life (eqb-true l.0 here.life.0 t)))
     | inr t ↦ rw t nothing_done
   ]
 
@@ -474,7 +475,7 @@ module _ (sha : List ℕ → Digest) (u : World) (n : NodeId) where
   fetched_does from (Some c) = does (Blob from c ∷ []) here (Sends_blob from c)
 
   pub brought_does : (c : List ℕ) → OnWork (brought sha c here)
-  brought_does c = elim (cases_bool (not (is_stored here (sha c)) && list_any (is_base (sha c)) here.asks)) [
+  brought_does c = elim (cases_Bool (not (is_stored here (sha c)) && list_any (is_base (sha c)) here.asks)) [
     | inl t ↦ rw t (does [] (record here { store = keep (sha c) c here.store }) (Stores c))
     | inr t ↦ rw t nothing_done
   ]

@@ -1,5 +1,6 @@
 -- What a node's answers say, and when each of its refusals comes.
 use Rattle.std.proofs.Common.{◌≡◌, ◌≢◌, ℕ, zero, suc, ◌+◌, ◌≤◌, List, [], ◌∷◌, ◌⊎◌, Bool, true, false, not, ◌&&◌, ◌||◌, eqb, length, map, Option, Some, None, slice_get, Ok, Err, refl, sym, ◌∙◌, ap, subst, inl, inr, arith}
+use Rattle.std.proofs.lemmas.Bool.{cases_Bool, and_parts, not-true, or_parts, not-false, eqb-true}
 use Rattle.std.proofs.lemmas.Bool.Decides.{nat_tests}
 use Rattle.std.specs.List.{list_any, list_all}
 use Rattle.std.specs.Prelude.{nat_lt, is_some}
@@ -18,7 +19,7 @@ use Rattle.protocol.specs.Replay as replay
 use Rattle.protocol.specs.Meaning.{Stored, NodeMeans}
 use Rattle.protocol.specs.Reasons.{HoldsUnder, RunsUnder, NodeBecause}
 use Rattle.farm_base.proofs.CompareLaws.{digest_exact}
-use Rattle.protocol.proofs.Base.{cases_bool, cases_option, true_false, not_true, not_false, and_both, or_false, none_some, some_is, eqb_is, eqb_same, digest_eq_same, life_is, any_in, from_any, nth_in, in_left, in_right}
+use Rattle.protocol.proofs.Base.{cases_option, true_false, none_some, some_is, eqb_same, digest_eq_same, life_is, any_in, from_any, nth_in, in_left, in_right}
 use Rattle.protocol.proofs.Following.{slots_eq_is, slots_eq_same}
 use Rattle.protocol.proofs.Moving.{found, held_is, running_is, either_is, finished_is, recallable_is, all_in, some_home, wants_folder_in, wants_folder_is, tenure_test, idle_from, stored_some, get_from}
 use Rattle.protocol.proofs.Using.{GrantOf, OneEach}
@@ -33,16 +34,16 @@ below_is a b h = λ le. grind (arith, nat_tests)
 
 not_all : {A : Type 0} (test : A → Bool) (xs : List A) → list_all test xs ≡ false → (x : A) × In x xs × (test x ≡ false)
 not_all test [] h = (let bad : true ≡ false = h in cc)
-not_all test (x ∷ xs) h = elim (cases_bool (test x)) [
+not_all test (x ∷ xs) h = elim (cases_Bool (test x)) [
   | inl t ↦ (let r = not_all test xs (rw t at h) in (r.0, inr r.1, r.2))
   | inr f ↦ (x, inl refl, f)
 ]
 
 tenure_is : (f : FolderName) (s : KeptAsk) → is_tenure_of f s ≡ true → IsTenureOf f s
-tenure_is f (Open wants tenure) h = (let b = and_both tenure (wants_folder f wants) h in let w = wants_folder_in f wants b.1 in subst (λ t. IsTenureOf f (Open wants t)) (sym b.0) (Asked_tenure w.0 wants w.1 w.2))
-tenure_is f (Holding wants g r) h = (let b = and_both g.tenure (wants_folder f wants) h in let w = wants_folder_in f wants b.1 in Held_tenure w.0 wants g r w.1 w.2 b.0)
-tenure_is f (Running wants g r) h = (let b = and_both g.tenure (wants_folder f wants) h in let w = wants_folder_in f wants b.1 in Running_tenure w.0 wants g r w.1 w.2 b.0)
-tenure_is f (Finished wants g news) h = (let b = and_both g.tenure (wants_folder f wants) h in let w = wants_folder_in f wants b.1 in Finished_tenure w.0 wants g news w.1 w.2 b.0)
+tenure_is f (Open wants tenure) h = (let b = and_parts tenure (wants_folder f wants) h in let w = wants_folder_in f wants b.1 in subst (λ t. IsTenureOf f (Open wants t)) (sym b.0) (Asked_tenure w.0 wants w.1 w.2))
+tenure_is f (Holding wants g r) h = (let b = and_parts g.tenure (wants_folder f wants) h in let w = wants_folder_in f wants b.1 in Held_tenure w.0 wants g r w.1 w.2 b.0)
+tenure_is f (Running wants g r) h = (let b = and_parts g.tenure (wants_folder f wants) h in let w = wants_folder_in f wants b.1 in Running_tenure w.0 wants g r w.1 w.2 b.0)
+tenure_is f (Finished wants g news) h = (let b = and_parts g.tenure (wants_folder f wants) h in let w = wants_folder_in f wants b.1 in Finished_tenure w.0 wants g news w.1 w.2 b.0)
 tenure_is f (Over how) h = (let bad : false ≡ true = h in cc)
 
 uses_is : (f : FolderName) (s : KeptAsk) → uses f s ≡ true → Uses f s
@@ -60,17 +61,17 @@ home_is f asks (a, wants, g, w, at, tenure, i, e) =
 -- an ask other than the a-th uses one of the folders
 others_some : (a : ℕ) (wants : List Want) (ss : List KeptAsk) (k : ℕ) → others_use a wants ss k ≡ true → (j : ℕ) × (s : KeptAsk) × (w : Want) × (slice_get ss j ≡ Some s) × (k + j + 1 ≢ a) × In w wants × (uses w.folder s ≡ true)
 others_some a wants [] k h = (let bad : false ≡ true = h in cc)
-others_some a wants (x ∷ xs) k h = elim (cases_bool (not (eqb (k + 1) a) && list_any (λ (w : Want). uses w.folder x) wants)) [
-  | inl t ↦ (let b = and_both (not (eqb (k + 1) a)) (list_any (λ (w : Want). uses w.folder x) wants) t in
+others_some a wants (x ∷ xs) k h = elim (cases_Bool (not (eqb (k + 1) a) && list_any (λ (w : Want). uses w.folder x) wants)) [
+  | inl t ↦ (let b = and_parts (not (eqb (k + 1) a)) (list_any (λ (w : Want). uses w.folder x) wants) t in
       let r = from_any (λ (w : Want). uses w.folder x) wants b.1 in
-      (0, x, r.0, refl, λ e. true_false (eqb (k + 1) a) (let at : k + 1 ≡ a = (let z : k + 1 ≡ k + 0 + 1 = omega arith in z ∙ e) in subst (λ z. eqb (k + 1) z ≡ true) at (eqb_same (k + 1))) (not_true (eqb (k + 1) a) b.0), r.1, r.2))
+      (0, x, r.0, refl, λ e. true_false (eqb (k + 1) a) (let at : k + 1 ≡ a = (let z : k + 1 ≡ k + 0 + 1 = omega arith in z ∙ e) in subst (λ z. eqb (k + 1) z ≡ true) at (eqb_same (k + 1))) (not-true (eqb (k + 1) a) b.0), r.1, r.2))
   | inr f ↦ (let r = others_some a wants xs (k + 1) (rw f at h) in
       (suc r.0, r.1, r.2, r.3, λ e. r.4 (let z : k + 1 + r.0 + 1 ≡ k + suc r.0 + 1 = omega arith in z ∙ e), r.5, r.6))
 ]
 
 not_idle : (asks : List KeptAsk) (a : ℕ) (wants : List Want) (g : Grant) → in_use asks a wants g ≡ true → Idle asks a wants g → ⊥
 not_idle asks a wants g h idle =
-    let b = and_both g.tenure (others_use a wants asks 0) h in
+    let b = and_parts g.tenure (others_use a wants asks 0) h in
     let r = others_some a wants asks 0 b.1 in
     idle b.0 r.2 r.5 (suc r.0) r.1 r.3 (λ e. r.4 (let z : 0 + r.0 + 1 ≡ suc r.0 = omega arith in z ∙ e)) (uses_is r.2.folder r.1 r.6)
 
@@ -95,7 +96,7 @@ under_some g t x e = (let same : eqb g.ticket.0 t.0 ≡ true = subst (λ (z : Ti
 -- ---- contents
 
 keep_named : (d e : Digest) (c b : List ℕ) (store : Digest → Option (List ℕ)) → keep d c store e ≡ Some b → (store e ≡ Some b) ⊎ ((e ≡ d) × (b ≡ c))
-keep_named d e c b store h = elim (cases_bool (digest_eq e d)) [
+keep_named d e c b store h = elim (cases_Bool (digest_eq e d)) [
   | inl t ↦ (let is : Some c ≡ Some b = rw t at h in inr (digest_exact e d t, sym (some_is c b is)))
   | inr f ↦ inl (rw f at h)
 ]
@@ -105,7 +106,7 @@ keep-same d c store = (let e = digest_eq_same d in rw e refl)
 
 -- what is stored stays where a content is kept under a digest that has none
 keep_kept : (d e : Digest) (c b : List ℕ) (store : Digest → Option (List ℕ)) → store d ≡ None → store e ≡ Some b → keep d c store e ≡ Some b
-keep_kept d e c b store none h = elim (cases_bool (digest_eq e d)) [
+keep_kept d e c b store none h = elim (cases_Bool (digest_eq e d)) [
   | inl t ↦ none_some b (sym none ∙ ap store (sym (digest_exact e d t)) ∙ h)
   | inr f ↦ rw f h
 ]
@@ -116,7 +117,7 @@ not_some (Some c) h = (let bad : true ≡ false = h in cc)
 
 all_stored_so : (sha : List ℕ → Digest) (lefts : List Left) (store : Digest → Option (List ℕ)) → Stored sha (map (λ (z : Left). z.1) lefts) store (stored sha lefts store)
 all_stored_so sha [] store = record { kept = λ d c e. e; named = λ d c e. inl e; all = λ c i. absurd i }
-all_stored_so sha (x ∷ xs) store = elim (cases_bool (is_some (store (sha x.1)))) [
+all_stored_so sha (x ∷ xs) store = elim (cases_Bool (is_some (store (sha x.1)))) [
   | inl t ↦ (let r = all_stored_so sha xs store in let old = stored_some (store (sha x.1)) t in rw t (record {
     kept = r.kept;
     named = λ d c e. elim (r.named d c e) [ inl o ↦ inl o | inr n ↦ inr (inr n.0, n.1) ];
@@ -164,16 +165,16 @@ module _ (sha : List ℕ → Digest) (k : Limits) (n : NodeId) (size : ℕ) (x :
   asked_exact wants =
       let e : Event = replay.Ask n wants in
       on_guard None e x.spent refusal.LivesSpent _ (λ down. down) (λ up. on_guard None e (not (at_home x.asks wants)) refusal.NotHomeHere _
-      (λ away. (let r = not_all (λ (w : Want). not (wants_shared w) || list_any (is_home_of w.folder) x.asks) wants (not_true (at_home x.asks wants) away) in
-      let o = or_false (not (wants_shared r.0)) (list_any (is_home_of r.0.folder) x.asks) r.2 in
-      (r.0, r.1, not_false (wants_shared r.0) o.0, λ runs. true_false (list_any (is_home_of r.0.folder) x.asks) (home_is r.0.folder x.asks runs) o.1)))
+      (λ away. (let r = not_all (λ (w : Want). not (wants_shared w) || list_any (is_home_of w.folder) x.asks) wants (not-true (at_home x.asks wants) away) in
+      let o = or_parts (not (wants_shared r.0)) (list_any (is_home_of r.0.folder) x.asks) r.2 in
+      (r.0, r.1, not-false (wants_shared r.0) o.0, λ runs. true_false (list_any (is_home_of r.0.folder) x.asks) (home_is r.0.folder x.asks runs) o.1)))
       (λ home. on_guard None e (not (nat_lt (length x.asks) k.greatest)) refusal.AsksSpent _ (below_not (length x.asks) k.greatest)
       (λ left. ((wants, false, (refl, refl), refl, refl, refl), none up home left))))
     where
       none : x.spent ≡ false → not (at_home x.asks wants) ≡ false → not (nat_lt (length x.asks) k.greatest) ≡ false → (r : NodeRefusal) → NodeBecause k (replay.Ask n wants) x r → ⊥
       none up home left refusal.LivesSpent h = true_false x.spent h up
       none up home left refusal.NotHomeHere (w, i, shared, away) =
-          (let t : (not (wants_shared w) || list_any (is_home_of w.folder) x.asks) ≡ true = all_in (λ (v : Want). not (wants_shared v) || list_any (is_home_of v.folder) x.asks) wants (not_false (at_home x.asks wants) home) w i in
+          (let t : (not (wants_shared w) || list_any (is_home_of w.folder) x.asks) ≡ true = all_in (λ (v : Want). not (wants_shared v) || list_any (is_home_of v.folder) x.asks) wants (not-false (at_home x.asks wants) home) w i in
           away (some_home w.folder x.asks (rw shared at t)))
       none up home left refusal.AsksSpent h = below_is (length x.asks) k.greatest left h
       none up home left r h = h
@@ -230,9 +231,9 @@ module _ (sha : List ℕ → Digest) (k : Limits) (n : NodeId) (size : ℕ) (x :
       let is = held_is t f.0 h f.2 in
       let at' : nth x.asks r.0 ≡ Some (Holding h.wants h.grant h.recalled) = f.1 ∙ ap Some is.0 in
       on_guard None (Begin n t) (not (all_stored x h.grant.slots)) refusal.ContentsMissing _
-      (λ missing. (let m = not_all (λ (u : GrantedSlot). is_stored x u.digest) h.grant.slots (not_true (all_stored x h.grant.slots) missing) in
+      (λ missing. (let m = not_all (λ (u : GrantedSlot). is_stored x u.digest) h.grant.slots (not-true (all_stored x h.grant.slots) missing) in
       (r.0, h.wants, h.grant, m.0, ((h.recalled, at'), is.1), m.1, not_some (x.store m.0.digest) m.2)))
-      (λ all. (let stored' : (u : GrantedSlot) → In u h.grant.slots → (c : List ℕ) × (x.store u.digest ≡ Some c) = λ u i. stored_some (x.store u.digest) (all_in (λ (v : GrantedSlot). is_stored x v.digest) h.grant.slots (not_false (all_stored x h.grant.slots) all) u i) in
+      (λ all. (let stored' : (u : GrantedSlot) → In u h.grant.slots → (c : List ℕ) × (x.store u.digest ≡ Some c) = λ u i. stored_some (x.store u.digest) (all_in (λ (v : GrantedSlot). is_stored x v.digest) h.grant.slots (not-false (all_stored x h.grant.slots) all) u i) in
       ((r.0, h.wants, h.grant, h.recalled, at', is.1, stored', refl, refl), none r.0 h at' is.1 stored')))
     where
       none : (a : ℕ) (h : Held) → nth x.asks a ≡ Some (Holding h.wants h.grant h.recalled) → h.grant.ticket ≡ t → ((u : GrantedSlot) → In u h.grant.slots → (c : List ℕ) × (x.store u.digest ≡ Some c)) → (r : NodeRefusal) → NodeBecause k (Begin n t) x r → ⊥
@@ -266,8 +267,8 @@ module _ (sha : List ℕ → Digest) (k : Limits) (n : NodeId) (size : ℕ) (x :
       on_guard None (Finish n t lefts) (in_use x.asks r.0 h.wants h.grant) refusal.TenureInUse _
       (λ used. (r.0, h.wants, h.grant, ((h.recalled, at'), is.1), not_idle x.asks r.0 h.wants h.grant used))
       (λ idle. on_guard None (Finish n t lefts) (not (slots_eq (slots_of (news_of sha lefts)) (written h.grant.slots))) refusal.WrongNews _
-      (λ wrong. (r.0, h.wants, h.grant, ((h.recalled, at'), is.1), λ q. true_false (slots_eq (slots_of (news_of sha lefts)) (written h.grant.slots)) (subst (λ z. slots_eq (slots_of (news_of sha lefts)) z ≡ true) (slots-left lefts ∙ q) (slots_eq_same (slots_of (news_of sha lefts)))) (not_true (slots_eq (slots_of (news_of sha lefts)) (written h.grant.slots)) wrong)))
-      (λ slots. (let same = slots_eq_is (slots_of (news_of sha lefts)) (written h.grant.slots) (not_false (slots_eq (slots_of (news_of sha lefts)) (written h.grant.slots)) slots) in
+      (λ wrong. (r.0, h.wants, h.grant, ((h.recalled, at'), is.1), λ q. true_false (slots_eq (slots_of (news_of sha lefts)) (written h.grant.slots)) (subst (λ z. slots_eq (slots_of (news_of sha lefts)) z ≡ true) (slots-left lefts ∙ q) (slots_eq_same (slots_of (news_of sha lefts)))) (not-true (slots_eq (slots_of (news_of sha lefts)) (written h.grant.slots)) wrong)))
+      (λ slots. (let same = slots_eq_is (slots_of (news_of sha lefts)) (written h.grant.slots) (not-false (slots_eq (slots_of (news_of sha lefts)) (written h.grant.slots)) slots) in
       (leaving_means t lefts r.0 h at' is.1 same, none r.0 h at' is.1 (idle_from x.asks r.0 h.wants h.grant idle) same))))
     where
       none : (a : ℕ) (h : Held) → nth x.asks a ≡ Some (Running h.wants h.grant h.recalled) → h.grant.ticket ≡ t → Idle x.asks a h.wants h.grant → slots_of (news_of sha lefts) ≡ written h.grant.slots → (r : NodeRefusal) → NodeBecause k (Finish n t lefts) x r → ⊥
@@ -431,8 +432,8 @@ module _ (sha : List ℕ → Digest) (k : Limits) (n : NodeId) (size : ℕ) (x :
       )
 
   of_life_means : (y : FromCoord) (l : Life) (number : ℕ) (w : NodeWork) → (l ≡ x.life → Heard y number w) → Heard y number (of_life l x w)
-  of_life_means y l number w h = elim (cases_bool (eqb l.0 x.life.0)) [
-    | inl t ↦ rw t (h (life_is l x.life (eqb_is l.0 x.life.0 t)))
+  of_life_means y l number w h = elim (cases_Bool (eqb l.0 x.life.0)) [
+    | inl t ↦ rw t (h (life_is l x.life (eqb-true l.0 x.life.0 t)))
     | inr t ↦ rw t (refl, refl)
   ]
 
@@ -454,8 +455,8 @@ module _ (sha : List ℕ → Digest) (k : Limits) (n : NodeId) (size : ℕ) (x :
   fetched_exact d from digest number = unless_exact d (Deliver number) (fetched from x (x.store digest)) (λ h. h) (deliver_spent number) (fetched_means d from digest number (x.store digest) refl)
 
   brought_means : (d : Option Message) (e : Event) (c : List ℕ) → ((d ≡ Some (Blob n c)) ⊎ (e ≡ Forge n c)) → Means d e (brought sha c x)
-  brought_means d e c came = elim (cases_bool (not (is_stored x (sha c)) && list_any (is_base (sha c)) x.asks)) [
-    | inl t ↦ rw t (c, came, not_some (x.store (sha c)) (not_true (is_stored x (sha c)) (and_both (not (is_stored x (sha c))) (list_any (is_base (sha c)) x.asks) t).0), refl, refl)
+  brought_means d e c came = elim (cases_Bool (not (is_stored x (sha c)) && list_any (is_base (sha c)) x.asks)) [
+    | inl t ↦ rw t (c, came, not_some (x.store (sha c)) (not-true (is_stored x (sha c)) (and_parts (not (is_stored x (sha c))) (list_any (is_base (sha c)) x.asks) t).0), refl, refl)
     | inr t ↦ rw t (refl, refl)
   ]
 

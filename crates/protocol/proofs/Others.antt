@@ -1,5 +1,6 @@
 -- Newer lives, withdrawals, retirements, prunes, nudges and restarts follow the machine.
 use Rattle.std.proofs.Common.{◌≡◌, ◌≢◌, ℕ, ◌+◌, ◌<◌, ◌≤◌, List, [], ◌∷◌, ◌++◌, ◌⊎◌, Bool, true, false, not, ◌&&◌, ◌||◌, eqb, filter, Option, Some, None, Result, Ok, Err, refl, sym, ◌∙◌, ap, subst, inl, inr, arith, append-nil}
+use Rattle.std.proofs.lemmas.Bool.{cases_Bool, eqb-false, and_parts, eqb-true, not-true, or_parts}
 use Rattle.std.proofs.lemmas.Bool.Decides.{nat_tests}
 use Rattle.std.specs.List.{list_any}
 use Rattle.std.specs.Prelude.{⊤, nat_lt, if◌then◌else◌}
@@ -14,7 +15,7 @@ use Rattle.protocol.specs.declared.answer.CoordRefusal.TheVariants as refusal
 use Rattle.protocol.specs.Ledger.{Limits, Ledger, Work, Lease, begin_work, notes, has_slot, some_lease, is_leased, is_saved, grant_of, retried, holds_wanted, has_ticket, lease_under, is_older, is_older_ask, sees, is_home, newer_life, handled, retires, withdraws, withdrawing, withdrawn, is_at, retire_all, goes, retired, prunes, pruned, is_awaited, nudges, nudge_all, nudged, reread}
 use Rattle.protocol.specs.Follows.{lease_from, Works, Begins_work, Goes_on, Speaks, Agrees, WithdrawIsTaken}
 use Rattle.protocol.specs.Meaning.{Ended, MessageEnds, Of_older_life, By_commit, By_release, WithdrawEnds, RetireEnds, RestartEnds, NoEnds, CoordMeans, Meant}
-use Rattle.protocol.proofs.Base.{cases_bool, true_false, not_true, and_both, or_false, none_some, some_is, eqb_is, eqb_same, eqb_not, slot_eq_is, node_is, any_in, from_any, any_none, in_filter, from_filter, in_map, from_map, ticket_is, put_same, put_other}
+use Rattle.protocol.proofs.Base.{true_false, none_some, some_is, eqb_same, slot_eq_is, node_is, any_in, from_any, any_none, in_filter, from_filter, in_map, from_map, ticket_is, put_same, put_other}
 use Rattle.protocol.proofs.Steps.{Sound, later_refl, same_grant}
 use Rattle.protocol.proofs.Leases.{Core, core_of, agrees_from, not_leased, find_some, find_in, waits_filter}
 use Rattle.protocol.proofs.Following.{part_filter, part_none, Sent, notes_follows, now_sound, grant_says, retried_follows, more_sent}
@@ -44,7 +45,7 @@ lt_not a b h = grind (arith, nat_tests)
 
 filter-not_not : {A : Type 0} (test : A → Bool) (xs : List A) → filter (λ x. not (not (test x))) xs ≡ filter test xs
 filter-not_not test [] = refl
-filter-not_not test (x ∷ xs) = (let rest = filter-not_not test xs in elim (cases_bool (test x)) [ inl t ↦ rw (t, rest) refl | inr t ↦ rw (t, rest) refl ])
+filter-not_not test (x ∷ xs) = (let rest = filter-not_not test xs in elim (cases_Bool (test x)) [ inl t ↦ rw (t, rest) refl | inr t ↦ rw (t, rest) refl ])
 
 module _ (k : Limits) (fits : k.instances ≤ 4096) (pool : List Message) (m : Machine) (sound : Sound k.empty m) (sent : Sent pool m) (P : (ℕ → Option Ending) → Type 0) where
   abbrev Fi : Work → Type 0
@@ -135,7 +136,7 @@ module _ (k : Limits) (fits : k.instances ≤ 4096) (pool : List Message) (m : M
         agrees = agrees_from k.empty pool next (record w.ledger { gone = put n.0 true w.ledger.gone })
             (record { live_made = core.live_made; live_kept = core.live_kept; retired_made = core.retired_made; retired_kept = core.retired_kept; lines = core.lines; last = core.last; ceiling = core.ceiling; old_home = core.old_home; gone = ap (put n.0 true) core.gone; lives = core.lives })
             f.agrees.parked
-            (λ p i. (let r = f.agrees.asked p i in (r.0, put_other n.0 true w.ledger.gone p.node.0 (eqb_not p.node.0 n.0 (asks p i)) ∙ r.1)))
+            (λ p i. (let r = f.agrees.asked p i in (r.0, put_other n.0 true w.ledger.gone p.node.0 (eqb-false p.node.0 n.0 (asks p i)) ∙ r.1)))
             f.agrees.waits;
       }
 
@@ -152,8 +153,8 @@ module _ (k : Limits) (fits : k.instances ≤ 4096) (pool : List Message) (m : M
       → SoEnds (is_older n l) Died w f → Fi k fits pool m sound sent is (sees n l w)
   sees_it n l w f heard here newer so =
       let died = calls.plain_ends k fits pool m sound sent P is (is_older n l) Died true w f (λ s t. refl) (λ q. (let bad : Died ≡ Withdrawn = q in cc))
-      (λ e g made t. (let b = and_both (eqb g.node.0 n.0) (nat_lt g.life.0 l.0) t in
-      let node : g.node ≡ n = node_is g.node n (eqb_is g.node.0 n.0 b.0) in (
+      (λ e g made t. (let b = and_parts (eqb g.node.0 n.0) (nat_lt g.life.0 l.0) t in
+      let node : g.node ≡ n = node_is g.node n (eqb-true g.node.0 n.0 b.0) in (
         l,
         subst (λ (z : NodeId). WasHeard pool z l) (sym node) heard,
         lt_is g.life.0 l.0 b.1,
@@ -163,13 +164,13 @@ module _ (k : Limits) (fits : k.instances ≤ 4096) (pool : List Message) (m : M
       let left = unpark_it k fits pool m sound sent is (λ p. not (is_older_ask n l p)) v died in
       let u : Work = record v { ledger = record v.ledger { parked = filter (λ p. not (is_older_ask n l p)) w.ledger.parked } } in
       life_it k fits pool m sound sent is n l u left heard here newer
-      (λ h i. not_true (is_older n l h) (from_filter (λ (z : Lease). not (is_older n l z)) h w.ledger.live i).1)
-      (λ p i. not_true (is_older_ask n l p) (from_filter (λ (z : Parked). not (is_older_ask n l z)) p w.ledger.parked i).1)
+      (λ h i. not-true (is_older n l h) (from_filter (λ (z : Lease). not (is_older n l z)) h w.ledger.live i).1)
+      (λ p i. not-true (is_older_ask n l p) (from_filter (λ (z : Parked). not (is_older_ask n l z)) p w.ledger.parked i).1)
 
   pub newer_it : (n : NodeId) (l : Life) (w : Work) (f : Fi k fits pool m sound sent P w) → WasHeard pool n l → w.ledger.gone n.0 ≡ false → nat_lt (w.ledger.lives n.0) l.0 ≡ true → SoEnds (is_older n l) Died w f
       → Fi k fits pool m sound sent is (newer_life k n l w) × ((newer_life k n l w).ledger.gone ≡ w.ledger.gone) × ((newer_life k n l w).note ≡ w.note)
   unfolding newer_life
-  newer_it n l w f heard here newer so = elim (cases_bool (list_any (is_older n l) w.ledger.live || is_home n w.ledger.old_home)) [
+  newer_it n l w f heard here newer so = elim (cases_Bool (list_any (is_older n l) w.ledger.live || is_home n w.ledger.old_home)) [
     | inl t ↦ rw t (retry k fits pool m sound sent is (sees n l w) (sees_it n l w f heard here newer so), retried-gone k fits pool m sound sent is (sees n l w), retried-note k fits pool m sound sent is (sees n l w))
     | inr t ↦ rw t (sees_it n l w f heard here newer so, refl, refl)
   ]
@@ -180,12 +181,12 @@ module _ (k : Limits) (fits : k.instances ≤ 4096) (pool : List Message) (m : M
   withdraws_it h w f i free so =
       let g = f.agrees.live_made h i in
       let only : (x : Grant) → Live f.machine x → has_ticket h.ticket (lease_from x) ≡ true → lease_from x ≡ h =
-      λ x l t. (let at : x.ticket.0 ≡ g.0.ticket.0 = eqb_is x.ticket.0 h.ticket.0 t ∙ ap (λ (z : Lease). z.ticket.0) (sym g.2) in
+      λ x l t. (let at : x.ticket.0 ≡ g.0.ticket.0 = eqb-true x.ticket.0 h.ticket.0 t ∙ ap (λ (z : Lease). z.ticket.0) (sym g.2) in
       ap lease_from (same_grant k.empty f.machine (sound_at k fits pool m sound sent P w f) x g.0 l.0 g.1.0 at) ∙ g.2) in
       calls.withdrawn_ends k fits pool m sound sent P is (has_ticket h.ticket) (w.changed || is_saved h) (retires h w.ledger.retired) w f
       (λ x l t. ap (λ (z : Lease). z.tenure) (only x l t) ∙ free)
       (λ s t. elim (or_cases (is_private s.folder.mode && has_slot h.slots s) (w.ledger.retired s) t) [
-        | inl new ↦ (let b = and_both (is_private s.folder.mode) (has_slot h.slots s) new in inr (b.0, (h, i, eqb_same h.ticket.0, b.1)))
+        | inl new ↦ (let b = and_parts (is_private s.folder.mode) (has_slot h.slots s) new in inr (b.0, (h, i, eqb_same h.ticket.0, b.1)))
         | inr old ↦ inl old
       ])
       (λ s t. or_right (is_private s.folder.mode && has_slot h.slots s) (w.ledger.retired s) t)
@@ -203,7 +204,7 @@ module _ (k : Limits) (fits : k.instances ≤ 4096) (pool : List Message) (m : M
       let ended = calls.withdrawn_ends k fits pool m sound sent P is (is_at n) true gone' w f
       (λ g l t. (let x : (is_at n (lease_from g) && g.tenure) ≡ false = any_none (λ (h : Lease). is_at n h && h.tenure) (lease_from g) w.ledger.live plain (f.agrees.live_kept g l) in rw t at x))
       (λ s t. elim (or_cases (is_private s.folder.mode && some_lease (filter (is_at n) w.ledger.live) s) (w.ledger.retired s) t) [
-        | inl new ↦ (let b = and_both (is_private s.folder.mode) (some_lease (filter (is_at n) w.ledger.live) s) new in
+        | inl new ↦ (let b = and_parts (is_private s.folder.mode) (some_lease (filter (is_at n) w.ledger.live) s) new in
             let r = from_any (λ (h : Lease). has_slot h.slots s) (filter (is_at n) w.ledger.live) b.1 in
             let o = from_filter (is_at n) r.0 w.ledger.live r.1 in
             inr (b.0, (r.0, o.0, o.1, r.2)))
@@ -215,8 +216,8 @@ module _ (k : Limits) (fits : k.instances ≤ 4096) (pool : List Message) (m : M
       let v : Work = record w { ledger = record w.ledger { live = filter (λ h. not (is_at n h)) w.ledger.live; retired = gone' }; changed = true } in
       let left = unpark_it k fits pool m sound sent is (λ p. not (eqb p.node.0 n.0)) v ended in
       let u : Work = record v { ledger = record v.ledger { parked = filter (λ p. not (eqb p.node.0 n.0)) w.ledger.parked } } in
-      gone_it k fits pool m sound sent is n u left here (λ h i. not_true (is_at n h) (from_filter (λ (z : Lease). not (is_at n z)) h w.ledger.live i).1)
-      (λ p i. not_true (eqb p.node.0 n.0) (from_filter (λ (z : Parked). not (eqb z.node.0 n.0)) p w.ledger.parked i).1) home
+      gone_it k fits pool m sound sent is n u left here (λ h i. not-true (is_at n h) (from_filter (λ (z : Lease). not (is_at n z)) h w.ledger.live i).1)
+      (λ p i. not-true (eqb p.node.0 n.0) (from_filter (λ (z : Parked). not (eqb z.node.0 n.0)) p w.ledger.parked i).1) home
 
   -- ---- restarts
 
@@ -224,9 +225,9 @@ module _ (k : Limits) (fits : k.instances ≤ 4096) (pool : List Message) (m : M
   pub reread_it : (w : Work) (f : Fi k fits pool m sound sent P w) → SoEnds (λ h. not (is_saved h)) Withdrawn w f → Fi k fits pool m sound sent is (record w { ledger = reread w.ledger; changed = true })
   reread_it w f so =
       let ended = calls.withdrawn_ends k fits pool m sound sent P is (λ h. not (is_saved h)) true w.ledger.retired w f
-      (λ g l t. (or_false g.tenure (list_any (λ (x : Slot × Bool). is_private x.0.folder.mode) (lease_from g).slots) (not_true (is_saved (lease_from g)) t)).0)
+      (λ g l t. (or_parts g.tenure (list_any (λ (x : Slot × Bool). is_private x.0.folder.mode) (lease_from g).slots) (not-true (is_saved (lease_from g)) t)).0)
       (λ s t. inl t) (λ s t. t)
-      (λ s h p i t has. (let o = or_false h.tenure (list_any (λ (x : Slot × Bool). is_private x.0.folder.mode) h.slots) (not_true (is_saved h) t) in
+      (λ s h p i t has. (let o = or_parts h.tenure (list_any (λ (x : Slot × Bool). is_private x.0.folder.mode) h.slots) (not-true (is_saved h) t) in
       let r = from_any (λ (x : Slot × Bool). slot_eq x.0 s) h.slots has in
       let private : is_private r.0.0.folder.mode ≡ true = subst (λ (z : Slot). is_private z.folder.mode ≡ true) (sym (slot_eq_is r.0.0 s r.2)) p in
       true_false (list_any (λ (x : Slot × Bool). is_private x.0.folder.mode) h.slots) (any_in (λ (x : Slot × Bool). is_private x.0.folder.mode) r.0 h.slots r.1 private) o.1)) so in
@@ -271,7 +272,7 @@ module _ (k : Limits) (fits : k.instances ≤ 4096) (pool : List Message) (m : M
               live_kept = λ g l. core.live_kept g (before g l.0, l.1);
               retired_made = λ x e. (let r = core.retired_made x e in (r.0, (r.1.0, inr r.1.1, r.1.2, r.1.3)));
               retired_kept = λ x r. core.retired_kept x (r.0, (r.1.0, before r.1.0 r.1.1, r.1.2, r.1.3));
-              lines = λ x. elim (cases_bool (slot_eq s x)) [
+              lines = λ x. elim (cases_Bool (slot_eq s x)) [
                 | inl e ↦ (let l = core.lines x in rw (e, l) refl)
                 | inr e ↦ (let l = core.lines x in rw (e, l) (sym (append-nil (line k.empty b x))))
               ];
@@ -298,9 +299,9 @@ module _ (k : Limits) (fits : k.instances ≤ 4096) (pool : List Message) (m : M
   nudges_it h w f i =
       let y : FromCoord = told.Granted (grant_of k.empty w.ledger.line h) in
       let once : Works k.empty pool m f.machine (w.sends ++ y ∷ []) = Speaks f.machine w.sends y f.works (grant_says k fits pool m sound sent P w f h i) in
-      elim (cases_bool (is_awaited w.ledger.parked h)) [
+      elim (cases_Bool (is_awaited w.ledger.parked h)) [
         | inl t ↦ rw t (let g = f.agrees.live_made h i in
-            let tenure : g.0.tenure ≡ true = ap (λ (z : Lease). z.tenure) g.2 ∙ (and_both h.tenure (list_any (λ p. p.tenure && holds_wanted p h) w.ledger.parked) t).0 in
+            let tenure : g.0.tenure ≡ true = ap (λ (z : Lease). z.tenure) g.2 ∙ (and_parts h.tenure (list_any (λ p. p.tenure && holds_wanted p h) w.ledger.parked) t).0 in
             let r : FromCoord = told.Recall h.node h.life h.ticket in
             let may : Says k.empty pool f.machine r = subst (λ (z : Lease). Says k.empty pool f.machine (told.Recall z.node z.life z.ticket)) g.2 (Says_recall g.0 g.1 tenure) in
             (record { machine = f.machine; works = Speaks f.machine (w.sends ++ y ∷ []) r once may; ended = f.ended; granted = λ g i. more_sent k fits pool m sound sent P g (w.sends ++ y ∷ []) r (more_sent k fits pool m sound sent P g w.sends y (f.granted g i)); agrees = f.agrees }, refl))
@@ -321,7 +322,7 @@ in_private x = is_private x.0.folder.mode
 -- a grant whose lease isn't saved
 pub unsaved_ends : (g : Grant) → is_saved (lease_from g) ≡ false → RestartEnds g Withdrawn
 unfolding in_private
-unsaved_ends g t = (let o = or_false g.tenure (list_any in_private (lease_from g).slots) t in (
+unsaved_ends g t = (let o = or_parts g.tenure (list_any in_private (lease_from g).slots) t in (
   o.0,
   λ s has. subst (λ (z : Slot). is_private z.folder.mode ≡ false) has.2
       (any_none in_private (has.0.slot, has.0.writable) (lease_from g).slots o.1 (in_map (λ (v : GrantedSlot). (v.slot, v.writable)) has.0 g.slots has.1)),
@@ -349,7 +350,7 @@ module _ (k : Limits) (fits : k.instances ≤ 4096) (pool : List Message) (m : M
   -- ---- messages
 
   older_is : (y : ToCoord) (told : CoordNote) → m.gone y.node.0 ≡ false → m.lives y.node.0 < y.life.0 → (g : Grant) → is_older y.node y.life (lease_from g) ≡ true → MessageEnds m y told g Died
-  older_is y told here newer g t = (let b = and_both (eqb g.node.0 y.node.0) (nat_lt g.life.0 y.life.0) t in Of_older_life here newer (node_is g.node y.node (eqb_is g.node.0 y.node.0 b.0)) (lt_is g.life.0 y.life.0 b.1))
+  older_is y told here newer g t = (let b = and_parts (eqb g.node.0 y.node.0) (nat_lt g.life.0 y.life.0) t in Of_older_life here newer (node_is g.node y.node (eqb-true g.node.0 y.node.0 b.0)) (lt_is g.life.0 y.life.0 b.1))
 
   is_older_is : (y : ToCoord) (g : Grant) (z : Ending) → MessageEnds m y note.Nothing g z → (is_older y.node y.life (lease_from g) ≡ true) × (z ≡ Died)
   is_older_is y g z (Of_older_life here newer node older) = (test g.node.0 y.node.0 g.life.0 y.life.0 (ap (λ (n : NodeId). n.0) node) older, refl)
@@ -369,19 +370,19 @@ module _ (k : Limits) (fits : k.instances ≤ 4096) (pool : List Message) (m : M
   -- a message that was sent
   pub handled_follows : (y : ToCoord) (q : Ledger) → Agrees k.empty pool m q → In (Said y) pool → F (MessageEnds m y (handled k y (begin_work q)).note) (handled k y (begin_work q)).note (handled k y (begin_work q))
   unfolding handled
-  handled_follows y q agrees asked = elim (cases_bool (q.gone y.node.0)) [
+  handled_follows y q agrees asked = elim (cases_Bool (q.gone y.node.0)) [
     | inl t ↦ rw t (note_it k fits pool m sound sent (Meant m (MessageEnds m y note.NodeRetired) note.NodeRetired) note.NodeRetired (begin_work q) (begins (Meant m (MessageEnds m y note.NodeRetired) note.NodeRetired) q agrees (
       none_ended m (MessageEnds m y note.NodeRetired) (quiet_ends y note.NodeRetired (λ u p. (let bad : note.NodeRetired ≡ note.Committed u = p in cc)) (λ u p. (let bad : note.NodeRetired ≡ note.Released u = p in cc))
           (λ here newer. true_false (q.gone y.node.0) t (ap (λ (f : ℕ → Bool). f y.node.0) agrees.gone ∙ here))),
       tt,
     )))
-    | inr here ↦ rw here (elim (cases_bool (nat_lt y.life.0 (q.lives y.node.0))) [
+    | inr here ↦ rw here (elim (cases_Bool (nat_lt y.life.0 (q.lives y.node.0))) [
       | inl t ↦ rw t (note_it k fits pool m sound sent (Meant m (MessageEnds m y note.OldLife) note.OldLife) note.OldLife (begin_work q) (begins (Meant m (MessageEnds m y note.OldLife) note.OldLife) q agrees (
         none_ended m (MessageEnds m y note.OldLife) (quiet_ends y note.OldLife (λ u p. (let bad : note.OldLife ≡ note.Committed u = p in cc)) (λ u p. (let bad : note.OldLife ≡ note.Released u = p in cc))
             (λ here newer. (let lt : y.life.0 < q.lives y.node.0 = lt_is y.life.0 (q.lives y.node.0) t in let same : q.lives y.node.0 ≡ m.lives y.node.0 = lives in omega arith))),
         tt,
       )))
-      | inr t ↦ rw t (elim (cases_bool (nat_lt (q.lives y.node.0) y.life.0)) [
+      | inr t ↦ rw t (elim (cases_Bool (nat_lt (q.lives y.node.0) y.life.0)) [
         | inl newer ↦ rw newer (let lt : m.lives y.node.0 < y.life.0 = subst (λ z. z < y.life.0) lives (lt_is (q.lives y.node.0) y.life.0 newer) in
             let here' : m.gone y.node.0 ≡ false = sym gone ∙ here in
             let v = newer_it k fits pool m sound sent Same (Meant m (MessageEnds m y note.Nothing) note.Nothing) y.node y.life (begin_work q) (begins Same q agrees refl) (y, asked, refl, refl) here newer
@@ -419,14 +420,14 @@ module _ (k : Limits) (fits : k.instances ≤ 4096) (pool : List Message) (m : M
       (withdraws_it k fits pool m sound sent Same is h (begin_work q) (begins Same q agrees refl) i e
       (λ x those. (
         just_those (WithdrawEnds t) (has_ticket h.ticket) Withdrawn x those
-            (λ y u. (ticket_is y.ticket h.ticket (eqb_is y.ticket.0 h.ticket.0 u) ∙ at, refl))
+            (λ y u. (ticket_is y.ticket h.ticket (eqb-true y.ticket.0 h.ticket.0 u) ∙ at, refl))
             (λ y z o. (subst (λ (s : Ticket). eqb y.ticket.0 s.0 ≡ true) (o.0 ∙ sym at) (eqb_same y.ticket.0), o.1)),
         (g.0, g.1, ap (λ (l : Lease). l.ticket) g.2),
       ))))
 
   withdrawing_it : (o : Option Lease) (q : Ledger) (agrees : Agrees k.empty pool m q) (t : Ticket) → lease_under q.live t ≡ o → OnWork (WithdrawEnds t) (withdrawing k o (begin_work q))
   withdrawing_it None q agrees t e = tt
-  withdrawing_it (Some h) q agrees t e = (let r = find_some (has_ticket t) q.live h e in withdrawing_if t h.tenure h q agrees r.0 (ticket_is h.ticket t (eqb_is h.ticket.0 t.0 r.1)) refl)
+  withdrawing_it (Some h) q agrees t e = (let r = find_some (has_ticket t) q.live h e in withdrawing_if t h.tenure h q agrees r.0 (ticket_is h.ticket t (eqb-true h.ticket.0 t.0 r.1)) refl)
 
   pub withdrawn_follows : (t : Ticket) (q : Ledger) → Agrees k.empty pool m q → OnWork (WithdrawEnds t) (withdrawn k t (begin_work q))
   withdrawn_follows t q agrees = withdrawing_it (lease_under q.live t) q agrees t refl
@@ -437,7 +438,7 @@ module _ (k : Limits) (fits : k.instances ≤ 4096) (pool : List Message) (m : M
       let h : Lease = found.0 in
       let r = find_some (has_ticket g.ticket) q.live h found.1 in
       let x = agrees.live_made h r.0 in
-      let same : x.0 ≡ g = same_grant k.empty m sound x.0 g x.1.0 live.0 (ap (λ (z : Lease). z.ticket.0) x.2 ∙ eqb_is h.ticket.0 g.ticket.0 r.1) in
+      let same : x.0 ≡ g = same_grant k.empty m sound x.0 g x.1.0 live.0 (ap (λ (z : Lease). z.ticket.0) x.2 ∙ eqb-true h.ticket.0 g.ticket.0 r.1) in
       let is : lease_from g ≡ h = ap lease_from (sym same) ∙ x.2 in
       let plain : h.tenure ≡ false = sym (ap (λ (z : Lease). z.tenure) is) ∙ free in
       let taken : withdrawing k (Some h) (begin_work q) ≡ Ok (notes (note.Withdrawn h.ticket) (retried k (withdraws h (begin_work q)))) = rw plain refl in
@@ -451,25 +452,25 @@ module _ (k : Limits) (fits : k.instances ≤ 4096) (pool : List Message) (m : M
   -- a newer life tells nothing
   pub retried-newer : (n : NodeId) (l : Life) (w : Work) → (newer_life k n l w).note ≡ w.note
   unfolding newer_life
-  retried-newer n l w = elim (cases_bool (list_any (is_older n l) w.ledger.live || is_home n w.ledger.old_home)) [
+  retried-newer n l w = elim (cases_Bool (list_any (is_older n l) w.ledger.live || is_home n w.ledger.old_home)) [
     | inl t ↦ rw t (retried-note k fits pool m sound sent Same (sees n l w))
     | inr t ↦ rw t refl
   ]
 
   pub pruned_told : (s : Slot) (w : Work) → OnOk (λ v. v.note ≡ note.Pruned (record { 0 = w.ledger.last + 1 })) (pruned k s w)
-  pruned_told s w = elim (cases_bool (is_leased w.ledger s)) [
+  pruned_told s w = elim (cases_Bool (is_leased w.ledger s)) [
     | inl t ↦ rw t tt
-    | inr idle ↦ rw idle (elim (cases_bool (is_nil (w.ledger.line s))) [
+    | inr idle ↦ rw idle (elim (cases_Bool (is_nil (w.ledger.line s))) [
       | inl t ↦ rw t tt
-      | inr some ↦ rw some (elim (cases_bool (nat_lt w.ledger.last k.greatest)) [ inl b ↦ rw b refl | inr b ↦ rw b tt ])
+      | inr some ↦ rw some (elim (cases_Bool (nat_lt w.ledger.last k.greatest)) [ inl b ↦ rw b refl | inr b ↦ rw b tt ])
     ])
   ]
 
   withdrawing_told : (o : Option Lease) (w : Work) (t : Ticket) → lease_under w.ledger.live t ≡ o → OnOk (λ v. v.note ≡ note.Withdrawn t) (withdrawing k o w)
   withdrawing_told None w t e = tt
-  withdrawing_told (Some h) w t e = elim (cases_bool h.tenure) [
+  withdrawing_told (Some h) w t e = elim (cases_Bool h.tenure) [
     | inl b ↦ rw b tt
-    | inr b ↦ rw b (let r = find_some (has_ticket t) w.ledger.live h e in ap note.Withdrawn (ticket_is h.ticket t (eqb_is h.ticket.0 t.0 r.1)))
+    | inr b ↦ rw b (let r = find_some (has_ticket t) w.ledger.live h e in ap note.Withdrawn (ticket_is h.ticket t (eqb-true h.ticket.0 t.0 r.1)))
   ]
 
   pub withdrawn_told : (t : Ticket) (w : Work) → OnOk (λ v. v.note ≡ note.Withdrawn t) (withdrawn k t w)
@@ -478,13 +479,13 @@ module _ (k : Limits) (fits : k.instances ≤ 4096) (pool : List Message) (m : M
   -- ---- a node retires
 
   pub retired_told : (n : NodeId) (w : Work) → OnOk (λ v. (v.note ≡ note.Retired n) × (v.ledger.gone n.0 ≡ true)) (retired k n w)
-  retired_told n w = elim (cases_bool (w.ledger.gone n.0)) [
+  retired_told n w = elim (cases_Bool (w.ledger.gone n.0)) [
     | inl t ↦ rw t tt
-    | inr here ↦ rw here (elim (cases_bool (list_any (λ (h : Lease). is_at n h && h.tenure) w.ledger.live || is_home n w.ledger.old_home)) [
+    | inr here ↦ rw here (elim (cases_Bool (list_any (λ (h : Lease). is_at n h && h.tenure) w.ledger.live || is_home n w.ledger.old_home)) [
       | inl t ↦ rw t tt
       | inr t ↦ rw t (
         refl,
-        elim (cases_bool (list_any (is_at n) w.ledger.live)) [
+        elim (cases_Bool (list_any (is_at n) w.ledger.live)) [
           | inl some ↦ rw some (ap (λ (f : ℕ → Bool). f n.0) (retried-gone k fits pool m sound sent Same (goes n w)) ∙ put_same n.0 true w.ledger.gone)
           | inr none ↦ rw none (put_same n.0 true w.ledger.gone)
         ],
@@ -493,21 +494,21 @@ module _ (k : Limits) (fits : k.instances ≤ 4096) (pool : List Message) (m : M
   ]
 
   pub retired_follows : (n : NodeId) (q : Ledger) → Agrees k.empty pool m q → OnWork (RetireEnds n) (retired k n (begin_work q))
-  retired_follows n q agrees = elim (cases_bool (q.gone n.0)) [
+  retired_follows n q agrees = elim (cases_Bool (q.gone n.0)) [
     | inl t ↦ rw t tt
-    | inr here ↦ rw here (elim (cases_bool (list_any (λ (h : Lease). is_at n h && h.tenure) q.live || is_home n q.old_home)) [
+    | inr here ↦ rw here (elim (cases_Bool (list_any (λ (h : Lease). is_at n h && h.tenure) q.live || is_home n q.old_home)) [
       | inl t ↦ rw t tt
-      | inr t ↦ rw t (let o = or_false (list_any (λ (h : Lease). is_at n h && h.tenure) q.live) (is_home n q.old_home) t in
+      | inr t ↦ rw t (let o = or_parts (list_any (λ (h : Lease). is_at n h && h.tenure) q.live) (is_home n q.old_home) t in
           let is : (ℕ → Option Ending) → Type 0 = Meant m (RetireEnds n) (note.Retired n) in
           let w : Work = goes n (begin_work q) in
           let g = goes_it k fits pool m sound sent Same is n (begin_work q) (begins Same q agrees refl) here o.0 o.1
           (λ x those. (
             just_those (RetireEnds n) (is_at n) Withdrawn x those
-                (λ y u. (node_is y.node n (eqb_is y.node.0 n.0 u), refl))
+                (λ y u. (node_is y.node n (eqb-true y.node.0 n.0 u), refl))
                 (λ y z e. (subst (λ (s : NodeId). eqb y.node.0 s.0 ≡ true) e.0 (eqb_same y.node.0), e.1)),
             sym (ap (λ (f : ℕ → Bool). f n.0) agrees.gone) ∙ here,
           )) in
-          note_it k fits pool m sound sent is (note.Retired n) (if list_any (is_at n) q.live then retried k w else w) (elim (cases_bool (list_any (is_at n) q.live)) [
+          note_it k fits pool m sound sent is (note.Retired n) (if list_any (is_at n) q.live then retried k w else w) (elim (cases_Bool (list_any (is_at n) q.live)) [
             | inl some ↦ rw some (retry k fits pool m sound sent is w g)
             | inr none ↦ rw none g
           ]))
@@ -520,11 +521,11 @@ module _ (k : Limits) (fits : k.instances ≤ 4096) (pool : List Message) (m : M
   none told so = (none_ended m NoEnds (λ g z l h. h), so)
 
   pub pruned_follows : (s : Slot) (q : Ledger) → Agrees k.empty pool m q → OnWork NoEnds (pruned k s (begin_work q))
-  pruned_follows s q agrees = elim (cases_bool (is_leased q s)) [
+  pruned_follows s q agrees = elim (cases_Bool (is_leased q s)) [
     | inl t ↦ rw t tt
-    | inr idle ↦ rw idle (elim (cases_bool (is_nil (q.line s))) [
+    | inr idle ↦ rw idle (elim (cases_Bool (is_nil (q.line s))) [
       | inl t ↦ rw t tt
-      | inr some ↦ rw some (elim (cases_bool (nat_lt q.last k.greatest)) [
+      | inr some ↦ rw some (elim (cases_Bool (nat_lt q.last k.greatest)) [
         | inl below ↦ rw below (let told : CoordNote = note.Pruned (record { 0 = q.last + 1 }) in
             note_it k fits pool m sound sent (Meant m NoEnds told) told (prunes k s (begin_work q)) (prunes_it k fits pool m sound sent (Meant m NoEnds told) s (begin_work q) (begins (Meant m NoEnds told) q agrees (none told tt)) idle some below))
         | inr t ↦ rw t tt
@@ -539,7 +540,7 @@ module _ (k : Limits) (fits : k.instances ≤ 4096) (pool : List Message) (m : M
   reread_follows q agrees = reread_it k fits pool m sound sent Same (Meant m RestartEnds note.Nothing) (begin_work q) (begins Same q agrees refl)
       (λ x those. (
         just_those RestartEnds (λ h. not (is_saved h)) Withdrawn x those
-            (λ g t. unsaved_ends g (not_true (is_saved (lease_from g)) t))
+            (λ g t. unsaved_ends g (not-true (is_saved (lease_from g)) t))
             (λ g z o. (unsaved g o.0 o.1, o.2)),
         tt,
       ))
@@ -548,7 +549,7 @@ module _ (k : Limits) (fits : k.instances ≤ 4096) (pool : List Message) (m : M
       private x = is_private x.0.folder.mode
 
       unsaved : (g : Grant) → g.tenure ≡ false → ((s : Slot) → Has g s → is_private s.folder.mode ≡ false) → not (is_saved (lease_from g)) ≡ true
-      unsaved g plain none = elim (cases_bool (list_any private (lease_from g).slots)) [
+      unsaved g plain none = elim (cases_Bool (list_any private (lease_from g).slots)) [
         | inl t ↦ (let r = from_any private (lease_from g).slots t in
             let u = from_map (λ (v : GrantedSlot). (v.slot, v.writable)) r.0 g.slots r.1 in
             true_false (is_private r.0.0.folder.mode) r.2 (none r.0.0 (u.0, u.1, sym (ap (λ (x : Slot × Bool). x.0) u.2))))

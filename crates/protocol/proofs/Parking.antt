@@ -1,5 +1,6 @@
 -- No parked ask could be granted: what frees a slot tries them again.
 use Rattle.std.proofs.Common.{◌≡◌, ℕ, zero, suc, ◌+◌, ◌≤◌, List, [], ◌∷◌, ◌++◌, Bool, true, false, not, ◌&&◌, ◌||◌, eqb, filter, Option, Some, None, Result, Ok, Err, refl, sym, ◌∙◌, ap, subst, inl, inr, arith}
+use Rattle.std.proofs.lemmas.Bool.{and_parts, not-true, cases_Bool, eqb-true, or_parts}
 use Rattle.std.proofs.lemmas.Bool.Decides.{nat_tests}
 use Rattle.std.specs.List.{list_any, find}
 use Rattle.std.specs.Prelude.{⊤, nat_lt, if◌then◌else◌}
@@ -21,7 +22,7 @@ use Rattle.protocol.specs.Replay.{Event, Tenure, Deliver, Begin, Finish, Abort, 
 use Rattle.protocol.specs.Replay as replay
 use Rattle.protocol.specs.Follows.{NoneReady}
 use Rattle.protocol.specs.Chronicle.{NoParkedAskIsReady}
-use Rattle.protocol.proofs.Base.{cases_bool, true_false, not_true, and_both, or_false, in_left, in_append, in_one, any_in, from_any, any_none, in_filter, from_filter, eqb_is}
+use Rattle.protocol.proofs.Base.{true_false, in_left, in_append, in_one, any_in, from_any, any_none, in_filter, from_filter}
 use Rattle.protocol.proofs.Following.{pick_give}
 
 -- what the second ledger could grant, the first could
@@ -44,26 +45,26 @@ fewer_trans a b c f g = record {
 
 still_free : (q q' : Ledger) → Fewer q q' → (s : Slot) → is_free q' s ≡ true → is_free q s ≡ true
 still_free q q' f s e =
-    let b = and_both (not (some_lease q'.live s)) (not (q'.retired s)) e in
-    let kept : q.retired s ≡ false = f.retired s (not_true (q'.retired s) b.1) in
-    elim (cases_bool (some_lease q.live s)) [
-      | inl t ↦ true_false (some_lease q'.live s) (f.leased s t) (not_true (some_lease q'.live s) b.0)
+    let b = and_parts (not (some_lease q'.live s)) (not (q'.retired s)) e in
+    let kept : q.retired s ≡ false = f.retired s (not-true (q'.retired s) b.1) in
+    elim (cases_Bool (some_lease q.live s)) [
+      | inl t ↦ true_false (some_lease q'.live s) (f.leased s t) (not-true (some_lease q'.live s) b.0)
       | inr t ↦ rw (t, kept) refl
     ]
 
 lowest_none : (free free' : Slot → Bool) (f : FolderName) (k i : ℕ) → 1 ≤ i → ((s : Slot) → free' s ≡ true → free s ≡ true) → lowest free f i k ≡ 0 → lowest free' f i k ≡ 0
 unfolding lowest
 lowest_none free free' f zero i le less e = refl
-lowest_none free free' f (suc k) i le less e = elim (cases_bool (free (record { folder = f; instance = i }))) [
+lowest_none free free' f (suc k) i le less e = elim (cases_Bool (free (record { folder = f; instance = i }))) [
   | inl t ↦ (let bad : i ≡ 0 = rw t at e in absurd (omega arith))
-  | inr t ↦ (let rest : lowest free f (i + 1) k ≡ 0 = rw t at e in elim (cases_bool (free' (record { folder = f; instance = i }))) [
+  | inr t ↦ (let rest : lowest free f (i + 1) k ≡ 0 = rw t at e in elim (cases_Bool (free' (record { folder = f; instance = i }))) [
     | inl u ↦ true_false (free (record { folder = f; instance = i })) (less (record { folder = f; instance = i }) u) t
     | inr u ↦ rw u (lowest_none free free' f k (i + 1) (omega arith) less rest)
   ])
 ]
 
 any_less : {A : Type 0} (test test' : A → Bool) (xs : List A) → ((x : A) → test x ≡ true → test' x ≡ true) → list_any test' xs ≡ false → list_any test xs ≡ false
-any_less test test' xs more e = elim (cases_bool (list_any test xs)) [
+any_less test test' xs more e = elim (cases_Bool (list_any test xs)) [
   | inl t ↦ (let r = from_any test xs t in true_false (list_any test' xs) (any_in test' r.0 xs r.1 (more r.0 r.2)) e)
   | inr f ↦ f
 ]
@@ -79,11 +80,11 @@ less_ready k q q' p f e =
     picks (elsewhere q p) (all_taken k.instances (is_free q) ws) (busy (is_leased q) ws) (not (nat_lt q.last k.greatest))
     (subst (λ o. (p.tenure && another o p.node) ≡ false) f.home all.here)
     (any_less (λ (w : Want). is_private w.folder.mode && eqb (lowest (is_free q) w.folder 1 k.instances) 0) (λ (w : Want). is_private w.folder.mode && eqb (lowest (is_free q') w.folder 1 k.instances) 0) ws
-    (λ w t. (let b = and_both (is_private w.folder.mode) (eqb (lowest (is_free q) w.folder 1 k.instances) 0) t in
-    let none = lowest_none (is_free q) (is_free q') w.folder k.instances 1 (omega arith) (still_free q q' f) (eqb_is (lowest (is_free q) w.folder 1 k.instances) 0 b.1) in
+    (λ w t. (let b = and_parts (is_private w.folder.mode) (eqb (lowest (is_free q) w.folder 1 k.instances) 0) t in
+    let none = lowest_none (is_free q) (is_free q') w.folder k.instances 1 (omega arith) (still_free q q' f) (eqb-true (lowest (is_free q) w.folder 1 k.instances) 0 b.1) in
     let private = b.0 in rw (private, none) refl)) all.left)
     (any_less (λ (w : Want). not (is_private w.folder.mode) && some_lease q.live (only_slot w.folder)) (λ (w : Want). not (is_private w.folder.mode) && some_lease q'.live (only_slot w.folder)) ws
-    (λ w t. (let b = and_both (not (is_private w.folder.mode)) (some_lease q.live (only_slot w.folder)) t in let other = b.0 in let on = f.leased (only_slot w.folder) b.1 in rw (other, on) refl)) all.idle)
+    (λ w t. (let b = and_parts (not (is_private w.folder.mode)) (some_lease q.live (only_slot w.folder)) t in let other = b.0 in let on = f.leased (only_slot w.folder) b.1 in rw (other, on) refl)) all.idle)
     (below q.last q'.last k.greatest f.last all.below)
   where
     below : (a b c : ℕ) → a ≤ b → not (nat_lt b c) ≡ false → not (nat_lt a c) ≡ false
@@ -126,7 +127,7 @@ module _ (k : Limits) where
 
   waiting_none : (ps : List Parked) (w : Work) (p : Parked) → In p (waiting k ps w) → decision k (try_all k ps w).ledger p ≡ Give → ⊥
   waiting_none [] w p i e = absurd i
-  waiting_none (r ∷ ps) w p i e = elim (cases_bool (stays k r w)) [
+  waiting_none (r ∷ ps) w p i e = elim (cases_Bool (stays k r w)) [
     | inr t ↦ waiting_none ps (tried k r w) p (rw t at i) e
     | inl t ↦ elim (let j : In p (r ∷ waiting k ps (tried k r w)) = rw t at i in j) [
       | inl q ↦ stays_not r w t (less_ready k w.ledger (try_all k (r ∷ ps) w).ledger r (try_fewer (r ∷ ps) w) (subst (λ z. decision k (try_all k (r ∷ ps) w).ledger z ≡ Give) q e))
@@ -207,16 +208,16 @@ module _ (k : Limits) where
 
   pub newer_none : (n : NodeId) (l : Life) (w : Work) → N w → N (newer_life k n l w)
   unfolding newer_life
-  newer_none n l w none = elim (cases_bool (list_any (is_older n l) w.ledger.live || is_home n w.ledger.old_home)) [
+  newer_none n l w none = elim (cases_Bool (list_any (is_older n l) w.ledger.live || is_home n w.ledger.old_home)) [
     | inl t ↦ rw t (retried_none (sees n l w))
-    | inr t ↦ rw t (let o = or_false (list_any (is_older n l) w.ledger.live) (is_home n w.ledger.old_home) t in
+    | inr t ↦ rw t (let o = or_parts (list_any (is_older n l) w.ledger.live) (is_home n w.ledger.old_home) t in
         keeps_none w.ledger (sees n l w).ledger (record { home = not_cleared n w.ledger.old_home o.1; leased = λ s e. unpicked (is_older n l) w.ledger.live s o.0 e; retired = λ s e. e; last = omega arith })
         (λ p i. (from_filter (λ (r : Parked). not (is_older_ask n l r)) p w.ledger.parked i).0) none)
   ]
 
   waiting_was : (ps : List Parked) (w : Work) (p : Parked) → In p (waiting k ps w) → In p ps
   waiting_was [] w p i = absurd i
-  waiting_was (r ∷ ps) w p i = elim (cases_bool (stays k r w)) [
+  waiting_was (r ∷ ps) w p i = elim (cases_Bool (stays k r w)) [
     | inl t ↦ elim (let j : In p (r ∷ waiting k ps (tried k r w)) = rw t at i in j) [ inl e ↦ inl e | inr j ↦ inr (waiting_was ps (tried k r w) p j) ]
     | inr t ↦ inr (waiting_was ps (tried k r w) p (rw t at i))
   ]
@@ -228,7 +229,7 @@ module _ (k : Limits) where
   -- an ask that is parked after a newer life was parked
   pub newer_was : (n : NodeId) (l : Life) (w : Work) (p : Parked) → In p (newer_life k n l w).ledger.parked → In p w.ledger.parked
   unfolding newer_life
-  newer_was n l w p = elim (cases_bool (list_any (is_older n l) w.ledger.live || is_home n w.ledger.old_home)) [
+  newer_was n l w p = elim (cases_Bool (list_any (is_older n l) w.ledger.live || is_home n w.ledger.old_home)) [
     | inl t ↦ rw t (λ i. seen (retried_was (sees n l w) p i))
     | inr t ↦ rw t seen
   ]
@@ -238,11 +239,11 @@ module _ (k : Limits) where
 
   pub handled_none : (y : ToCoord) (w : Work) → N w → N (handled k y w)
   unfolding handled
-  handled_none y w none = elim (cases_bool (w.ledger.gone y.node.0)) [
+  handled_none y w none = elim (cases_Bool (w.ledger.gone y.node.0)) [
     | inl t ↦ rw t none
-    | inr here ↦ rw here (elim (cases_bool (nat_lt y.life.0 (w.ledger.lives y.node.0))) [
+    | inr here ↦ rw here (elim (cases_Bool (nat_lt y.life.0 (w.ledger.lives y.node.0))) [
       | inl t ↦ rw t none
-      | inr t ↦ rw t (elim (cases_bool (nat_lt (w.ledger.lives y.node.0) y.life.0)) [
+      | inr t ↦ rw t (elim (cases_Bool (nat_lt (w.ledger.lives y.node.0) y.life.0)) [
         | inl newer ↦ rw newer (answering_none y.node y.life y.request (newer_life k y.node y.life w) (newer_none y.node y.life w none))
         | inr same ↦ rw same (answering_none y.node y.life y.request w none)
       ])
@@ -271,7 +272,7 @@ module _ (k : Limits) where
       leaves false e = keeps_none w.ledger (goes n w).ledger (record {
         home = refl;
         leased = λ s t. unpicked (is_at n) w.ledger.live s e t;
-        retired = λ s t. (or_false (is_private s.folder.mode && some_lease (filter (is_at n) w.ledger.live) s) (w.ledger.retired s) t).1;
+        retired = λ s t. (or_parts (is_private s.folder.mode && some_lease (filter (is_at n) w.ledger.live) s) (w.ledger.retired s) t).1;
         last = omega arith;
       })
           (λ p i. (from_filter (λ (r : Parked). not (eqb r.node.0 n.0)) p w.ledger.parked i).0) none
@@ -284,7 +285,7 @@ module _ (k : Limits) where
       by false = tt
 
   nudges-ledger : (g : Lease) (w : Work) → (nudges k g w).ledger ≡ w.ledger
-  nudges-ledger g w = elim (cases_bool (is_awaited w.ledger.parked g)) [ inl t ↦ rw t refl | inr t ↦ rw t refl ]
+  nudges-ledger g w = elim (cases_Bool (is_awaited w.ledger.parked g)) [ inl t ↦ rw t refl | inr t ↦ rw t refl ]
 
   pub nudge-ledger : (gs : List Lease) (w : Work) → (nudge_all k gs w).ledger ≡ w.ledger
   nudge-ledger [] w = refl
@@ -314,7 +315,7 @@ module _ (k : Limits) where
   delivered_none sha (Some (to.ToNode y)) s old = at_node_none (is_node s (replay.receiver y)) (replay.receiver y) _ s old
 
   restarts_none : (n : NodeId) (s : Farm) → NoneReady k s.ledger → NoneReady k (restarts k n s).farm.ledger
-  restarts_none n s old = elim (cases_bool (may_restart k (s.nodes n.0))) [ inl t ↦ rw t old | inr t ↦ rw t old ]
+  restarts_none n s old = elim (cases_Bool (may_restart k (s.nodes n.0))) [ inl t ↦ rw t old | inr t ↦ rw t old ]
 
   step_none : (sha : List ℕ → Digest) (s : Farm) (e : Event) → NoneReady k s.ledger → NoneReady k (step sha k s e).farm.ledger
   unfolding step
@@ -328,8 +329,8 @@ module _ (k : Limits) where
   step_none sha s Nudge old = coordinated_none s.down (Ok (nudged k (begin_work s.ledger))) s (subst (NoneReady k) (sym (nudge-ledger s.ledger.live (begin_work s.ledger))) old) old
   step_none sha s (Withdraw t) old = coordinated_none s.down (withdrawn k t (begin_work s.ledger)) s (withdrawing_none (lease_under s.ledger.live t) (begin_work s.ledger)) old
   step_none sha s (Prune slot) old = coordinated_none s.down (pruned k slot (begin_work s.ledger)) s (pruned_none slot (begin_work s.ledger) old) old
-  step_none sha s (Retire n) old = elim (cases_bool (is_node s n)) [ inl t ↦ rw t (coordinated_none s.down (retired k n (begin_work s.ledger)) s (retired_none n (begin_work s.ledger) old) old) | inr t ↦ rw t old ]
-  step_none sha s (RestartNode n) old = elim (cases_bool (is_node s n)) [ inl t ↦ rw t (restarts_none n s old) | inr t ↦ rw t old ]
+  step_none sha s (Retire n) old = elim (cases_Bool (is_node s n)) [ inl t ↦ rw t (coordinated_none s.down (retired k n (begin_work s.ledger)) s (retired_none n (begin_work s.ledger) old) old) | inr t ↦ rw t old ]
+  step_none sha s (RestartNode n) old = elim (cases_Bool (is_node s n)) [ inl t ↦ rw t (restarts_none n s old) | inr t ↦ rw t old ]
   step_none sha s RestartCoordinator old = λ p i e. absurd i
   step_none sha s (Forge n c) old = at_node_none (is_node s n) n _ s old
   step_none sha s (FailSave kept) old = old

@@ -1,5 +1,6 @@
 -- What the invariant says of a world.
-use Rattle.std.proofs.Common.{◌≡◌, ◌≢◌, ℕ, ◌+◌, ◌<◌, List, [], ◌∷◌, ◌++◌, ◌⊎◌, Bool, true, not, eqb, map, Option, Some, None, slice_get, refl, sym, ◌∙◌, ap, subst, inl, inr, arith, append-nil}
+use Rattle.std.proofs.Common.{◌≡◌, ◌≢◌, ℕ, ◌+◌, ◌<◌, List, [], ◌∷◌, ◌++◌, Bool, true, not, eqb, map, Option, Some, None, slice_get, refl, sym, ◌∙◌, ap, subst, inl, inr, arith, append-nil}
+use Rattle.std.proofs.lemmas.Bool.{cases_Bool, cases_order}
 use Rattle.std.proofs.lemmas.Bool.Decides.{nat_tests}
 use Rattle.protocol.specs.Lists.{In, nth}
 use Rattle.protocol.specs.Names.{Mode, Shared, Slot, IsInstance, is_alone, wants_shared, only_slot, Digest, NodeId, Life, Ticket, Want, FolderName, leased_wants, tenure_wants}
@@ -8,7 +9,7 @@ use Rattle.farm_base.specs.declared.message.FromCoord.TheVariants as told
 use Rattle.protocol.specs.World.{KeptAsk, Running, World, start}
 use Rattle.protocol.specs.Safe.{InUse, Held, IsWithdrawn, OnALine, Rising, Falling, Safe, EveryRunIsSafe, EveryRunStaysSafe}
 use Rattle.lists.proofs.Places.{cases_list}
-use Rattle.protocol.proofs.Base.{cases_nat, cases_bool, order_cases, in_one, in_append, from_map, get_in, some_is, slot_path}
+use Rattle.protocol.proofs.Base.{in_one, in_append, from_map, get_in, some_is, slot_path}
 use Rattle.protocol.proofs.Lines.{Below, below_in, one_made, line_source, added_ticket, added_cases_one}
 use Rattle.protocol.proofs.Steps.{names_later, same_grant, older_gone, live_apart}
 use Rattle.protocol.proofs.Invariant.{spent, Spent, Its, Fate, Inv}
@@ -143,7 +144,7 @@ module _ (sha : List ℕ → Digest) (w : World) (inv : Inv sha w) where
 
   home_of : (n : NodeId) (g : Grant) (ws : List Want) (v : Want) → InUse w n g ws → In v ws → wants_shared v ≡ true
       → (h : Grant) × (ws' : List Want) × InUse w n h ws' × (h.tenure ≡ true) × Has h (only_slot v.folder)
-  home_of n g ws v u i shared = elim (cases_bool g.tenure) [
+  home_of n g ws v u i shared = elim (cases_Bool g.tenure) [
     | inl t ↦ (g, ws, u, t, tenure_slot g ws v (in_use_ok n g ws u).1 t i)
     | inr t ↦ (let h = (inv.nodes n).homes u.0 (Running ws g u.1) v u.2 i shared t in
         let used : InUse w n h.2 h.1 = (h.0, h.3, h.5) in
@@ -160,7 +161,7 @@ module _ (sha : List ℕ → Digest) (w : World) (inv : Inv sha w) where
     withdrawn = withdrawn_off;
     unconfirmed = λ n l t versions h i. (let ok = inv.messages (Told (told.Committed n l t versions)) i in withdrawn_off t h (stands_on t versions ok.0 ok.1));
     fenced = λ n l t i h. (let ok = inv.messages (Told (told.Fenced n l t)) i in off_line t ok.0 ok.1 ok.2 h);
-    alone = λ n n' g g' ws ws' s u u' k k' p. elim (order_cases g.ticket.0 g'.ticket.0) [
+    alone = λ n n' g g' ws ws' s u u' k k' p. elim (cases_order g.ticket.0 g'.ticket.0) [
       | inl e ↦ same_node n n' g g' ws ws' u u' (same_grant (sha []) w.machine inv.sound g g' (in_use_its n g ws u).0 (in_use_its n' g' ws' u').0 e)
       | inr o ↦ elim o [
         | inl lt ↦ absurd (older_idle n n' g g' ws ws' s u u' k k' p lt)

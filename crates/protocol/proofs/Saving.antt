@@ -1,5 +1,6 @@
 -- Where the record is not said to have changed, it has not.
 use Rattle.std.proofs.Common.{◌≡◌, ◌+◌, ◌≤◌, List, [], ◌∷◌, ◌++◌, Bool, true, false, not, ◌&&◌, ◌||◌, eqb, filter, Option, Some, None, Result, Ok, Err, refl, sym, ◌∙◌, ap, subst, inl, inr, arith}
+use Rattle.std.proofs.lemmas.Bool.{cases_Bool, or_parts, eqb-true}
 use Rattle.std.specs.List.{list_any, find}
 use Rattle.std.specs.Prelude.{⊤, nat_lt, if◌then◌else◌}
 use Rattle.protocol.specs.Lists.{In, is_nil}
@@ -12,7 +13,7 @@ use Rattle.protocol.specs.declared.answer.CoordRefusal.TheVariants as coord
 use Rattle.protocol.specs.declared.answer.CoordNote.TheVariants as note
 use Rattle.protocol.specs.Ledger.{Limits, Ledger, Lease, Saved, saves, Work, begin_work, notes, has_slot, is_saved, is_leased, Decision, Give, Deny, Wait, elsewhere, decision, lease_for, raised, gives, carried_out, tried, try_all, retried, holds_wanted, recall, recalls, decided, acquiring, lease_of, is_parked, has_ticket, without, ends, lease_under, may_commit, on_all, committing, confirms, commits, may_release, released, answering, is_older, sees, is_home, newer_life, handled, retires, withdraws, withdrawing, withdrawn, is_at, goes, retired, prunes, pruned, is_awaited, nudges, nudge_all, nudged}
 use Rattle.protocol.specs.Ledger as ledger
-use Rattle.protocol.proofs.Base.{cases_bool, true_false, or_false, in_append, in_one, from_any, any_none, from_filter, eqb_is, slot_eq_is}
+use Rattle.protocol.proofs.Base.{true_false, in_append, in_one, from_any, any_none, from_filter, slot_eq_is}
 use Rattle.protocol.proofs.Leases.{find_some}
 
 -- leases have tickets of their own, none above the last
@@ -25,20 +26,20 @@ no_case e = cc
 
 unsaved_push : (live : List Lease) (g : Lease) → is_saved g ≡ false → filter is_saved (live ++ g ∷ []) ≡ filter is_saved live
 unsaved_push [] g e = rw e refl
-unsaved_push (x ∷ xs) g e = (let rest = unsaved_push xs g e in elim (cases_bool (is_saved x)) [ inl t ↦ rw (t, rest) refl | inr t ↦ rw (t, rest) refl ])
+unsaved_push (x ∷ xs) g e = (let rest = unsaved_push xs g e in elim (cases_Bool (is_saved x)) [ inl t ↦ rw (t, rest) refl | inr t ↦ rw (t, rest) refl ])
 
 unsaved_go : (test : Lease → Bool) (live : List Lease) → ((x : Lease) → In x live → test x ≡ true → is_saved x ≡ false) → filter is_saved (filter (λ x. not (test x)) live) ≡ filter is_saved live
 unsaved_go test [] h = refl
 unsaved_go test (x ∷ xs) h =
     let rest = unsaved_go test xs (λ y i. h y (inr i)) in
-    elim (cases_bool (test x)) [
+    elim (cases_Bool (test x)) [
       | inl t ↦ (let off : is_saved x ≡ false = h x (inl refl) t in rw (t, off) rest)
-      | inr t ↦ elim (cases_bool (is_saved x)) [ inl s ↦ rw (t, s, rest) refl | inr s ↦ rw (t, s, rest) refl ]
+      | inr t ↦ elim (cases_Bool (is_saved x)) [ inl s ↦ rw (t, s, rest) refl | inr s ↦ rw (t, s, rest) refl ]
     ]
 
 pub saved_twice : (live : List Lease) → filter is_saved (filter is_saved live) ≡ filter is_saved live
 saved_twice [] = refl
-saved_twice (x ∷ xs) = (let rest = saved_twice xs in elim (cases_bool (is_saved x)) [ inl t ↦ rw (t, t, rest) refl | inr t ↦ rw (t, rest) refl ])
+saved_twice (x ∷ xs) = (let rest = saved_twice xs in elim (cases_Bool (is_saved x)) [ inl t ↦ rw (t, t, rest) refl | inr t ↦ rw (t, rest) refl ])
 
 module _ (k : Limits) (q : Ledger) where
   -- the work has changed nothing of the record, or says so
@@ -48,8 +49,8 @@ module _ (k : Limits) (q : Ledger) where
   gives_saves : (p : Parked) (w : Work) → S w → S (gives k p w)
   unfolding gives
   gives_saves p w s c =
-      let a = or_false (w.changed || eqb w.ledger.last w.ledger.ceiling) (is_saved (lease_for k w.ledger p)) c in
-      let b = or_false w.changed (eqb w.ledger.last w.ledger.ceiling) a.0 in
+      let a = or_parts (w.changed || eqb w.ledger.last w.ledger.ceiling) (is_saved (lease_for k w.ledger p)) c in
+      let b = or_parts w.changed (eqb w.ledger.last w.ledger.ceiling) a.0 in
       let same : raised k w.ledger ≡ w.ledger.ceiling = rw b.1 refl in
       ap (λ l. record (saves w.ledger) { live = l; ceiling = raised k w.ledger }) (unsaved_push w.ledger.live (lease_for k w.ledger p) a.1) ∙ ap (λ c. record (saves w.ledger) { ceiling = c }) same ∙ s b.0
 
@@ -143,11 +144,11 @@ module _ (k : Limits) (q : Ledger) where
 
   -- only the lease itself has its ticket
   itself : (g : Lease) (w : Work) → Apart w.ledger → In g w.ledger.live → is_saved g ≡ false → (x : Lease) → In x w.ledger.live → has_ticket g.ticket x ≡ true → is_saved x ≡ false
-  itself g w a i off x j t = subst (λ z. is_saved z ≡ false) (sym (a.unique x g j i (eqb_is x.ticket.0 g.ticket.0 t))) off
+  itself g w a i off x j t = subst (λ z. is_saved z ≡ false) (sym (a.unique x g j i (eqb-true x.ticket.0 g.ticket.0 t))) off
 
   ends_saves : (g : Lease) (w : Work) → Apart w.ledger → In g w.ledger.live → S w → S (ends g w)
   ends_saves g w a i s c =
-      let b = or_false w.changed (is_saved g) c in
+      let b = or_parts w.changed (is_saved g) c in
       ap (λ l. record (saves w.ledger) { live = l }) (unsaved_go (has_ticket g.ticket) w.ledger.live (itself g w a i b.1)) ∙ s b.0
 
   released_saves : (b : Bool) (t : Ticket) (o : Option Lease) (w : Work) → Apart w.ledger → lease_under w.ledger.live t ≡ o → S w → S (released k b t o w)
@@ -163,18 +164,18 @@ module _ (k : Limits) (q : Ledger) where
 
   pub newer_saves : (n : NodeId) (l : Life) (w : Work) → Apart w.ledger → S (newer_life k n l w) × Apart (newer_life k n l w).ledger
   unfolding newer_life
-  newer_saves n l w a = elim (cases_bool (list_any (is_older n l) w.ledger.live || is_home n w.ledger.old_home)) [
+  newer_saves n l w a = elim (cases_Bool (list_any (is_older n l) w.ledger.live || is_home n w.ledger.old_home)) [
     | inl t ↦ rw t (retried_saves (sees n l w) (λ c. no_case c), retried_apart (sees n l w) (sees_apart n l w a))
     | inr t ↦ rw t ((λ c. no_case c), sees_apart n l w a)
   ]
 
   handled_by : (y : ToCoord) (w : Work) → Apart w.ledger → S w → S (handled k y w)
   unfolding handled
-  handled_by y w a s = elim (cases_bool (w.ledger.gone y.node.0)) [
+  handled_by y w a s = elim (cases_Bool (w.ledger.gone y.node.0)) [
     | inl t ↦ rw t s
-    | inr here ↦ rw here (elim (cases_bool (nat_lt y.life.0 (w.ledger.lives y.node.0))) [
+    | inr here ↦ rw here (elim (cases_Bool (nat_lt y.life.0 (w.ledger.lives y.node.0))) [
       | inl t ↦ rw t s
-      | inr t ↦ rw t (elim (cases_bool (nat_lt (w.ledger.lives y.node.0) y.life.0)) [
+      | inr t ↦ rw t (elim (cases_Bool (nat_lt (w.ledger.lives y.node.0) y.life.0)) [
         | inl newer ↦ rw newer (let v = newer_saves y.node y.life w a in answering_saves y.node y.life y.request (newer_life k y.node y.life w) v.1 v.0)
         | inr same ↦ rw same (answering_saves y.node y.life y.request w a s)
       ])
@@ -195,12 +196,12 @@ module _ (k : Limits) (q : Ledger) where
   if_saves false e r h = h
 
   no_private : (g : Lease) (s : Slot) → is_saved g ≡ false → (is_private s.folder.mode && has_slot g.slots s) ≡ false
-  no_private g s off = elim (cases_bool (is_private s.folder.mode)) [
+  no_private g s off = elim (cases_Bool (is_private s.folder.mode)) [
     | inr f ↦ rw f refl
-    | inl p ↦ elim (cases_bool (has_slot g.slots s)) [
+    | inl p ↦ elim (cases_Bool (has_slot g.slots s)) [
       | inr f ↦ rw (p, f) refl
       | inl h ↦ (let r = from_any (λ (x : Slot × Bool). slot_eq x.0 s) g.slots h in
-          let none = any_none (λ (x : Slot × Bool). is_private x.0.folder.mode) r.0 g.slots (or_false g.tenure (list_any (λ (x : Slot × Bool). is_private x.0.folder.mode) g.slots) off).1 r.1 in
+          let none = any_none (λ (x : Slot × Bool). is_private x.0.folder.mode) r.0 g.slots (or_parts g.tenure (list_any (λ (x : Slot × Bool). is_private x.0.folder.mode) g.slots) off).1 r.1 in
           true_false (is_private s.folder.mode) p (subst (λ (z : Slot). is_private z.folder.mode ≡ false) (slot_eq_is r.0.0 s r.2) none))
     ]
   ]
@@ -233,7 +234,7 @@ module _ (k : Limits) (q : Ledger) where
 
   nudges_saves : (gs : List Lease) (w : Work) → S w → S (nudge_all k gs w)
   nudges_saves [] w s = s
-  nudges_saves (g ∷ gs) w s = nudges_saves gs (nudges k g w) (elim (cases_bool (is_awaited w.ledger.parked g)) [ inl t ↦ rw t s | inr t ↦ rw t s ])
+  nudges_saves (g ∷ gs) w s = nudges_saves gs (nudges k g w) (elim (cases_Bool (is_awaited w.ledger.parked g)) [ inl t ↦ rw t s | inr t ↦ rw t s ])
 
   pub nudged_saves : S (nudged k (begin_work q))
   nudged_saves = nudges_saves q.live (begin_work q) (λ c. refl)

@@ -1,5 +1,6 @@
 -- What the coordinator's answers say of its ledger: what lines gain, which Grants are sent, and what each note tells.
 use Rattle.std.proofs.Common.{◌≡◌, ◌≢◌, ℕ, ◌+◌, ◌<◌, ◌≤◌, List, [], ◌∷◌, ◌++◌, ◌⊎◌, Bool, true, false, not, ◌&&◌, ◌||◌, eqb, Option, Some, None, is_some, Result, Ok, Err, refl, sym, ◌∙◌, ap, subst, inl, inr, arith, append-nil}
+use Rattle.std.proofs.lemmas.Bool.{cases_Bool, and_parts, eqb-true, not-true, cases_eq}
 use Rattle.std.specs.List.{list_any, find}
 use Rattle.std.proofs.lemmas.Bool.Decides.{nat_tests}
 use Rattle.std.specs.Prelude.{⊤, nat_lt, if◌then◌else◌}
@@ -18,7 +19,7 @@ use Rattle.protocol.specs.declared.answer.EventNote.TheVariants as event
 use Rattle.protocol.specs.Ledger.{Limits, Ledger, Lease, Work, begin_work, says, notes, is_leased, grant_of, Decision, Give, Deny, Wait, elsewhere, decision, lease_for, gives, denies, carried_out, tried, stays, try_all, waiting, parks, retried, is_of, lease_of, is_parked, holds_wanted, recall, recalls, decided, acquiring, lease_under, ends, commits, place, versions_of, on_all, may_commit, confirms, committing, may_release, released, answering, is_older, is_older_ask, sees, is_home, newer_life, handled, withdraws, withdrawing, withdrawn, is_at, goes, retired, prunes, pruned, is_awaited, nudges, nudge_all, nudged}
 use Rattle.protocol.specs.Ledger as ledger
 use Rattle.protocol.specs.Meaning.{commit_adds, request_adds, prune_adds, heard_lives, Again}
-use Rattle.protocol.proofs.Base.{cases_bool, cases_nat, put_same, put_other, in_filter, and_both, not_true, in_left, in_append, in_right, in_one, from_any, get_in, eqb_is, node_is, life_is, ask_is}
+use Rattle.protocol.proofs.Base.{put_same, put_other, in_filter, in_left, in_append, in_right, in_one, from_any, get_in, node_is, life_is, ask_is}
 use Rattle.protocol.proofs.Leases.{find_some}
 use Rattle.protocol.proofs.Calls.{place_stands, some_test, is_nil_is}
 
@@ -141,7 +142,7 @@ module _ (k : Limits) (q : Ledger) where
   all_served : (ps : List Parked) (w : Work) (p : Parked) → In p ps → In p (waiting k ps w) ⊎ Served p (try_all k ps w).sends
   unfolding tried stays
   all_served [] w p i = absurd i
-  all_served (r ∷ ps) w p i = elim (cases_bool (ledger.waits (decision k w.ledger r))) [
+  all_served (r ∷ ps) w p i = elim (cases_Bool (ledger.waits (decision k w.ledger r))) [
     | inl t ↦ rw t (elim i [
       | inl e ↦ inl (inl e)
       | inr j ↦ elim (all_served ps (tried k r w) p j) [ inl x ↦ inl (inr x) | inr x ↦ inr x ]
@@ -183,7 +184,7 @@ module _ (k : Limits) (q : Ledger) where
 
   newer_grows : (j : NodeId) (f : Life) → Grows q (Seen j f) (newer_life k j f (begin_work q))
   unfolding newer_life
-  newer_grows j f = elim (cases_bool (list_any (is_older j f) q.live || is_home j q.old_home)) [
+  newer_grows j f = elim (cases_Bool (list_any (is_older j f) q.live || is_home j q.old_home)) [
     | inl t ↦ rw t (retried_grows (Seen j f) (sees j f (begin_work q)) seen)
     | inr t ↦ rw t seen
   ]
@@ -195,8 +196,8 @@ module _ (k : Limits) (q : Ledger) where
         lives = refl;
         gone = refl;
         fresh = λ g i. absurd i;
-        waits = λ p i. elim (cases_bool (is_older_ask j f p)) [
-          | inl t ↦ (let b = and_both (eqb p.node.0 j.0) (nat_lt p.life.0 f.0) t in inr (inr (node_is p.node j (eqb_is p.node.0 j.0 b.0), seen_lt p.life.0 f.0 b.1)))
+        waits = λ p i. elim (cases_Bool (is_older_ask j f p)) [
+          | inl t ↦ (let b = and_parts (eqb p.node.0 j.0) (nat_lt p.life.0 f.0) t in inr (inr (node_is p.node j (eqb-true p.node.0 j.0 b.0), seen_lt p.life.0 f.0 b.1)))
           | inr t ↦ inl (in_filter (λ (x : Parked). not (is_older_ask j f x)) p q.parked i (ap not t))
         ];
       }
@@ -336,9 +337,9 @@ module _ (k : Limits) (y : ToCoord) (q : Ledger) where
   -- an ask of these three names
   same_ask : (n : NodeId) (l : Life) (a : Ask) (n' : NodeId) (l' : Life) (a' : Ask) → ((eqb n.0 n'.0) && (eqb l.0 l'.0) && (eqb a.0 a'.0)) ≡ true → (n ≡ n') × (l ≡ l') × (a ≡ a')
   same_ask n l a n' l' a' e =
-      let b = and_both ((eqb n.0 n'.0) && (eqb l.0 l'.0)) (eqb a.0 a'.0) e in
-      let c = and_both (eqb n.0 n'.0) (eqb l.0 l'.0) b.0 in
-      (node_is n n' (eqb_is n.0 n'.0 c.0), life_is l l' (eqb_is l.0 l'.0 c.1), ask_is a a' (eqb_is a.0 a'.0 b.1))
+      let b = and_parts ((eqb n.0 n'.0) && (eqb l.0 l'.0)) (eqb a.0 a'.0) e in
+      let c = and_parts (eqb n.0 n'.0) (eqb l.0 l'.0) b.0 in
+      (node_is n n' (eqb-true n.0 n'.0 c.0), life_is l l' (eqb-true l.0 l'.0 c.1), ask_is a a' (eqb-true a.0 a'.0 b.1))
 
   asked_too : (p : Parked) (n : NodeId) (l : Life) (a : Ask) → AskedFor p.node p.life p.ask → (n ≡ p.node) × (l ≡ p.life) × (a ≡ p.ask) → AskedFor n l a
   asked_too p n l a asked same = (same.0 ∙ asked.0, same.1 ∙ asked.1, (asked.2.0, asked.2.1, subst (λ z. y.request ≡ Acquire z asked.2.0 asked.2.1) (sym same.2) asked.2.2))
@@ -365,7 +366,7 @@ module _ (k : Limits) (y : ToCoord) (q : Ledger) where
   on_each : (line : Slot → List LineVersion) (t : Ticket) (news : List News) → on_all line t news ≡ true → (x : News) → In x news → (v : LineVersion) × In v (line x.slot) × (v.ticket ≡ t)
   on_each line t [] e x i = absurd i
   on_each line t (z ∷ zs) e x i =
-      let b = and_both (is_some (place t (line z.slot) 0)) (on_all line t zs) e in
+      let b = and_parts (is_some (place t (line z.slot) 0)) (on_all line t zs) e in
       elim i [
         | inl same ↦ subst (λ (u : News). (v : LineVersion) × In v (line u.slot) × (v.ticket ≡ t)) (sym same) (let r = some_test (place t (line z.slot) 0) b.0 in
             let s = place_stands t (line z.slot) 0 r.0 r.1 in
@@ -398,11 +399,11 @@ module _ (k : Limits) (y : ToCoord) (q : Ledger) where
     where
       by : (b : Bool) → (not (is_nil news) && on_all w.ledger.line t news) ≡ b → Says (ledger.answered b y.node y.life t news w)
       by true f =
-          let both = and_both (not (is_nil news)) (on_all w.ledger.line t news) f in
+          let both = and_parts (not (is_nil news)) (on_all w.ledger.line t news) f in
           let vs : List Confirmed = versions_of w.ledger.line t news in
           let m : FromCoord = told.Committed y.node y.life t vs in
           quiet (note.CommittedBefore t) (says m w) refl (no_commit t news y.request e (note.CommittedBefore t) (λ s. refl)) (onward w (says m w) g (says_grows k q g.change m w (no_confirmation y.node y.life t vs)))
-          (news, e, (is_nil_is news (not_true (is_nil news) both.0), on_each w.ledger.line t news both.1), (vs, sent_last m w))
+          (news, e, (is_nil_is news (not-true (is_nil news) both.0), on_each w.ledger.line t news both.1), (vs, sent_last m w))
       by false f =
           let m : FromCoord = told.Fenced y.node y.life t in
           quiet (note.Fenced t) (says m w) refl (no_commit t news y.request e (note.Fenced t) (λ s. refl)) (onward w (says m w) g (says_grows k q g.change m w (no_fence y.node y.life t))) (news, e, sent_last m w)
@@ -452,18 +453,18 @@ module _ (k : Limits) (y : ToCoord) (q : Ledger) where
 
   -- the life is the greatest already
   heard_before : nat_lt y.life.0 (q.lives y.node.0) ≡ false → nat_lt (q.lives y.node.0) y.life.0 ≡ false → (n : ℕ) → q.lives n ≡ Heard n
-  heard_before old new n = elim (cases_nat n y.node.0) [
+  heard_before old new n = elim (cases_eq n y.node.0) [
     | inl e ↦ ap q.lives e ∙ equal y.life.0 (q.lives y.node.0) old new ∙ sym (ap Heard e ∙ put_same y.node.0 y.life.0 q.lives)
     | inr ne ↦ sym (put_other y.node.0 y.life.0 q.lives n ne)
   ]
 
   pub handled_says : (newer_life k y.node y.life (begin_work q)).note ≡ note.Nothing → Says (handled k y (begin_work q))
   unfolding handled
-  handled_says newer-note = elim (cases_bool (q.gone y.node.0)) [
+  handled_says newer-note = elim (cases_Bool (q.gone y.node.0)) [
     | inl t ↦ rw t (unheard note.NodeRetired refl (commit_quiet y.request note.NodeRetired (λ news s. refl)) (t, refl))
-    | inr here ↦ rw here (elim (cases_bool (nat_lt y.life.0 (q.lives y.node.0))) [
+    | inr here ↦ rw here (elim (cases_Bool (nat_lt y.life.0 (q.lives y.node.0))) [
       | inl t ↦ rw t (unheard note.OldLife refl (commit_quiet y.request note.OldLife (λ news s. refl)) (here, lt y.life.0 (q.lives y.node.0) t, refl))
-      | inr t ↦ rw t (elim (cases_bool (nat_lt (q.lives y.node.0) y.life.0)) [
+      | inr t ↦ rw t (elim (cases_Bool (nat_lt (q.lives y.node.0) y.life.0)) [
         | inl newer ↦ rw newer (answering_says y.request (newer_life k y.node y.life (begin_work q)) refl newer-note
             (record { change = Seen k q y.node y.life; grows = newer_grows k q y.node y.life; line = refl; lives = λ n. refl; gone = refl; drops = λ p d. d }))
         | inr current ↦ rw current (answering_says y.request (begin_work q) refl refl (record { change = same q; grows = begins q; line = refl; lives = heard_before t current; gone = refl; drops = λ p d. absurd d }))
@@ -507,8 +508,8 @@ module _ (k : Limits) (q : Ledger) where
         lives = refl;
         gone = refl;
         fresh = λ g i. absurd i;
-        waits = λ p i. elim (cases_bool (eqb p.node.0 n.0)) [
-          | inl t ↦ inr (inr (node_is p.node n (eqb_is p.node.0 n.0 t)))
+        waits = λ p i. elim (cases_Bool (eqb p.node.0 n.0)) [
+          | inl t ↦ inr (inr (node_is p.node n (eqb-true p.node.0 n.0 t)))
           | inr t ↦ inl (in_filter (λ (x : Parked). not (eqb x.node.0 n.0)) p q.parked i (ap not t))
         ];
       }
@@ -522,7 +523,7 @@ module _ (k : Limits) (q : Ledger) where
     where
       by : (b : Bool) → GrewOk (pruning k q s) (if b then Ok (notes (note.Pruned (record { 0 = q.last + 1 })) (prunes k s (begin_work q))) else Err refusal.TicketsSpent)
       by true = record {
-        lines = λ x. elim (cases_bool (slot_eq s x)) [ inl e ↦ rw e refl | inr e ↦ rw e (sym (append-nil (q.line x))) ];
+        lines = λ x. elim (cases_Bool (slot_eq s x)) [ inl e ↦ rw e refl | inr e ↦ rw e (sym (append-nil (q.line x))) ];
         lives = λ n. refl;
         gone = λ n. refl;
         grants = λ g i. absurd i;
@@ -537,13 +538,13 @@ module _ (k : Limits) (q : Ledger) where
     pub grants : (g : Grant) → In (told.Granted g) w.sends → (h : Lease) × In h q.live × (g ≡ grant_of k.empty q.line h)
 
   nudges_sent : (h : Lease) (w : Work) (m : FromCoord) → In m w.sends → In m (nudges k h w).sends
-  nudges_sent h w m i = elim (cases_bool (is_awaited w.ledger.parked h)) [
+  nudges_sent h w m i = elim (cases_Bool (is_awaited w.ledger.parked h)) [
     | inl t ↦ rw t (in_left m _ _ (in_left m w.sends _ i))
     | inr t ↦ rw t (in_left m w.sends _ i)
   ]
 
   nudges_grant : (h : Lease) (w : Work) → In (told.Granted (grant_of k.empty w.ledger.line h)) (nudges k h w).sends
-  nudges_grant h w = elim (cases_bool (is_awaited w.ledger.parked h)) [
+  nudges_grant h w = elim (cases_Bool (is_awaited w.ledger.parked h)) [
     | inl t ↦ rw t (in_left (told.Granted (grant_of k.empty w.ledger.line h)) _ _ (in_right (told.Granted (grant_of k.empty w.ledger.line h)) w.sends _ (inl refl)))
     | inr t ↦ rw t (in_right (told.Granted (grant_of k.empty w.ledger.line h)) w.sends _ (inl refl))
   ]
@@ -553,7 +554,7 @@ module _ (k : Limits) (q : Ledger) where
   all_sent (h ∷ hs) w m i = all_sent hs (nudges k h w) m (nudges_sent h w m i)
 
   nudges_one : (h : Lease) (w : Work) → In h q.live → Nudges w → Nudges (nudges k h w)
-  nudges_one h w i n = elim (cases_bool (is_awaited w.ledger.parked h)) [
+  nudges_one h w i n = elim (cases_Bool (is_awaited w.ledger.parked h)) [
     | inl t ↦ rw t (record {
       ledger = n.ledger;
       grants = λ g j. elim (in_append (told.Granted g) (w.sends ++ told.Granted (grant_of k.empty w.ledger.line h) ∷ []) (told.Recall h.node h.life h.ticket ∷ []) j) [

@@ -1,5 +1,6 @@
 -- Each event of the replay is a list of moves of the world, and so every schedule is safe.
 use Rattle.std.proofs.Common.{◌≡◌, ◌≢◌, ℕ, zero, suc, ◌+◌, ◌<◌, ◌≤◌, ◌⊎◌, List, [], ◌∷◌, ◌++◌, Bool, true, false, not, map, Option, Some, None, Result, Ok, Err, refl, sym, ◌∙◌, ap, subst, inl, inr, arith, append-nil, append_assoc}
+use Rattle.std.proofs.lemmas.Bool.{cases_eq, cases_Bool, and_parts, not-true}
 use Rattle.protocol.specs.Lists.{In, put, nth}
 use Rattle.protocol.specs.Names.{Slot, NodeId, Life, Digest, Want}
 use Rattle.protocol.specs.Machine.{Parked, Grant, Granted, ticket_of, Message, Said, Told, Fetches, Blob, ToCoord, FromCoord, acquire, commit, release, Machine, WasHeard, Live, line, MayEnd, Ending, Committed, Released, Withdrawn, Died, Step, Steps, No_step, Grants, Ends, Prunes, Sees, Retires, Parks, Unparks, Raises, Says, Says_granted, Says_committed, Says_fenced, Says_denied, Says_recall}
@@ -37,7 +38,7 @@ use Rattle.protocol.proofs.Using.{Runs, Turned, NoGrant, Quiet, OneEach, one_eac
 use Rattle.std.specs.Prelude.{⊤, nat_lt}
 use Rattle.std.proofs.lemmas.Bool.Decides.{nat_tests}
 use Rattle.protocol.specs.Follows.{lease_from, Agrees, Works, Begins_work, Goes_on, Speaks, Follows, SavedAgrees, Shows, IsFarm, SafeAfter, SafeBetween, EveryScheduleIsSafe, EveryScheduleStaysSafe, EveryEventIsMoves, FollowsOk, EveryDecisionFollows}
-use Rattle.protocol.proofs.Base.{cases_bool, cases_nat, true_false, not_true, and_both, none_some, some_is, in_left, put_same, put_other, nth_in, node_is, in_map, from_map}
+use Rattle.protocol.proofs.Base.{true_false, none_some, some_is, in_left, put_same, put_other, nth_in, node_is, in_map, from_map}
 use Rattle.farm_base.specs.declared.message.FromCoord.TheVariants as message
 use Rattle.protocol.proofs.Steps.{Sound, made_below}
 use Rattle.protocol.proofs.Saving.{Apart, SavesOk, saved_twice, handled_saves, withdrawn_saves, retired_saves, pruned_saves, nudged_saves}
@@ -406,7 +407,7 @@ module _ (sha : List ℕ → Digest) (k : Limits) (farm : IsFarm sha k) where
     -- ---- the nodes
 
     put_both : (n : NodeId) (x : Node) (f g : ℕ → Node) → ((j : ℕ) → f j ≡ g j) → (j : ℕ) → put n.0 x f j ≡ put n.0 x g j
-    put_both n x f g h j = elim (cases_nat j n.0) [
+    put_both n x f g h j = elim (cases_eq j n.0) [
       | inl e ↦ ap (put n.0 x f) e ∙ put_same n.0 x f ∙ sym (ap (put n.0 x g) e ∙ put_same n.0 x g)
       | inr ne ↦ put_other n.0 x f j ne ∙ h j ∙ sym (put_other n.0 x g j ne)
     ]
@@ -422,7 +423,7 @@ module _ (sha : List ℕ → Digest) (k : Limits) (farm : IsFarm sha k) where
     used_after : (n : NodeId) (sends : List Message) (x : Node) (r : Reached sha u n sends x) (begins stops : Grant → Type 0) → Turned (u.nodes n.0).asks x.asks begins stops
         → ((g : Grant) → begins g → BeginsAt e n g) → ((g : Grant) → stops g → StopsAt e n g) → Used u e r.world
     used_after n sends x r begins stops turned b c = record {
-      began = λ j g ws i. elim (cases_nat j.0 n.0) [
+      began = λ j g ws i. elim (cases_eq j.0 n.0) [
         | inr ne ↦ inl (subst (λ (z : Node). Runs z.asks g ws) (elsewhere_after n sends x r j ne) i)
         | inl same ↦ (let at : j ≡ n = node_is j n same in
             elim (turned.began g ws (subst (λ (z : Node). Runs z.asks g ws) (ap (λ (z : NodeId). r.world.nodes z.0) at ∙ here_after n sends x r) i)) [
@@ -430,7 +431,7 @@ module _ (sha : List ℕ → Digest) (k : Limits) (farm : IsFarm sha k) where
               | inr now ↦ inr (subst (λ z. BeginsAt e z g) (sym at) (b g now))
             ])
       ];
-      stopped = λ j g ws i. elim (cases_nat j.0 n.0) [
+      stopped = λ j g ws i. elim (cases_eq j.0 n.0) [
         | inr ne ↦ inl (subst (λ (z : Node). Runs z.asks g ws) (sym (elsewhere_after n sends x r j ne)) i)
         | inl same ↦ (let at : j ≡ n = node_is j n same in
             elim (turned.stopped g ws (subst (λ (z : NodeId). InUse u z g ws) at i)) [
@@ -487,7 +488,7 @@ module _ (sha : List ℕ → Digest) (k : Limits) (farm : IsFarm sha k) where
             subst (λ z. NodeMeans sha (heard_at u e) e n (u.nodes n.0) said w.sends z) (sym (here_after n w.sends w.node a.reached)) (subst (λ z. NodeMeans sha (heard_at u e) e n (u.nodes n.0) z w.sends w.node) (note_is w.note said is) a.means),
           ),
         );
-        others = λ j. elim (cases_nat j.0 n.0) [ inl same ↦ inr (p.at ∙ ap Some (sym (node_is j n same))) | inr ne ↦ inl (elsewhere_after n w.sends w.node a.reached j ne) ];
+        others = λ j. elim (cases_eq j.0 n.0) [ inl same ↦ inr (p.at ∙ ap Some (sym (node_is j n same))) | inr ne ↦ inl (elsewhere_after n w.sends w.node a.reached j ne) ];
         used = a.used;
         did = a.did;
       };
@@ -816,7 +817,7 @@ module _ (sha : List ℕ → Digest) (k : Limits) (farm : IsFarm sha k) where
   restart_plain u s n = record { finds = refl; ends = λ said g y h. h; adds = λ said x. refl; lives = λ said f j. refl; coord = λ said m sends. tt; at = refl; heard = refl; apart = λ r. r }
 
   restarts_next : (u : World) (run : Moves sha (start sha) u) (s : Farm) (shows : Shows sha u s) (n : NodeId) → is_node s n ≡ true → Next u s (RestartNode n) (restarts k n s)
-  restarts_next u run s shows n here = elim (cases_bool (may_restart k (s.nodes n.0))) [
+  restarts_next u run s shows n here = elim (cases_Bool (may_restart k (s.nodes n.0))) [
     | inl t ↦ rw t (let w : NodeWork = restarted (record { node = n; nodes = s.size }) (s.nodes n.0) in
         let r : Reached sha u n w.sends w.node = subst (λ x. Reached sha u n (restarted (record { node = n; nodes = s.size }) x).sends (restarted (record { node = n; nodes = s.size }) x).node) (shows.nodes n.0) (restarted_does sha u n s.size) in
         let p = restart_plain u s n in
@@ -843,7 +844,7 @@ module _ (sha : List ℕ → Digest) (k : Limits) (farm : IsFarm sha k) where
             down = inl r.down;
             machine = r.machine;
             pool = r.pool ∙ append-nil u.pool;
-            nodes = λ j. elim (cases_nat j n.0) [
+            nodes = λ j. elim (cases_eq j n.0) [
               | inl same ↦ inr (ap RestartNode (node_is n (record { 0 = j }) (sym same)), ap r.world.nodes same ∙ here_after u run s shows (RestartNode n) n [] x r ∙ ap (λ (z : Node). record z { spent = true }) (sym (shows.nodes n.0)) ∙ ap (λ i. record (u.nodes i) { spent = true }) (sym same))
               | inr ne ↦ inl (elsewhere_after u run s shows (RestartNode n) n [] x r (record { 0 = j }) ne)
             ];
@@ -853,12 +854,12 @@ module _ (sha : List ℕ → Digest) (k : Limits) (farm : IsFarm sha k) where
   ]
     where
       not_last : (x : Node) → may_restart k x ≡ true → (r : NodeRefusal) → NodeBecause k (RestartNode n) x r → ⊥
-      not_last x may node_refusal.LivesSpent (inl spent) = (let b = and_both (not x.spent) (nat_lt x.life.0 k.greatest) may in true_false x.spent spent (not_true x.spent b.0))
-      not_last x may node_refusal.LivesSpent (inr le) = (let b = and_both (not x.spent) (nat_lt x.life.0 k.greatest) may in let lt : x.life.0 < k.greatest = lt_is x.life.0 k.greatest b.1 in omega arith)
+      not_last x may node_refusal.LivesSpent (inl spent) = (let b = and_parts (not x.spent) (nat_lt x.life.0 k.greatest) may in true_false x.spent spent (not-true x.spent b.0))
+      not_last x may node_refusal.LivesSpent (inr le) = (let b = and_parts (not x.spent) (nat_lt x.life.0 k.greatest) may in let lt : x.life.0 < k.greatest = lt_is x.life.0 k.greatest b.1 in omega arith)
       not_last x may r h = absurd h
 
       last : (x : Node) → may_restart k x ≡ false → (x.spent ≡ true) ⊎ (k.greatest ≤ x.life.0)
-      last x may = elim (cases_bool x.spent) [ inl t ↦ inl t | inr f ↦ inr (lt_not x.life.0 k.greatest (rw f at may)) ]
+      last x may = elim (cases_Bool x.spent) [ inl t ↦ inl t | inr f ↦ inr (lt_not x.life.0 k.greatest (rw f at may)) ]
 
   -- a nudge sends the Grant of each live grant
   nudged_live : (u : World) (run : Moves sha (start sha) u) (s : Farm) (shows : Shows sha u s) (g : Grant) → Live u.machine g → In (message.Granted g) (nudged k (begin_work s.ledger)).sends
@@ -868,7 +869,7 @@ module _ (sha : List ℕ → Digest) (k : Limits) (farm : IsFarm sha k) where
       (saying.nudged_sends k s.ledger (lease_from g) (agrees.live_kept g live))
 
   retires_only : (s : Farm) (n : NodeId) (j : ℕ) → (put n.0 true s.ledger.gone j ≡ s.ledger.gone j) ⊎ (Retire n ≡ Retire (record { 0 = j }))
-  retires_only s n j = elim (cases_nat j n.0) [ inl e ↦ inr (ap Retire (node_is n (record { 0 = j }) (sym e))) | inr ne ↦ inl (put_other n.0 true s.ledger.gone j ne) ]
+  retires_only s n j = elim (cases_eq j n.0) [ inl e ↦ inr (ap Retire (node_is n (record { 0 = j }) (sym e))) | inr ne ↦ inl (put_other n.0 true s.ledger.gone j ne) ]
 
   retire_is : (a b : NodeId) → Retire a ≡ Retire b → a ≡ b
   retire_is a b e = cc
@@ -990,7 +991,7 @@ module _ (sha : List ℕ → Digest) (k : Limits) (farm : IsFarm sha k) where
         node = λ n is. (let bad : event_note.Coord w.note ≡ event_note.Node n = is in cc);
       })
       (saying.pruned_grew k s.ledger slot) (pruned_saves k s.ledger slot) (deciding.pruned_exact k u.pool u.machine sound s.ledger (agrees_in u run s shows e) slot))
-  step_next u run s shows (Retire n) = elim (cases_bool (is_node s n)) [
+  step_next u run s shows (Retire n) = elim (cases_Bool (is_node s n)) [
     | inl t ↦ rw t (let e : Event = Retire n in
         let sound = sound_in u run s shows e in
         let sent = sent_in sha u (inv u run s shows e) in
@@ -1016,7 +1017,7 @@ module _ (sha : List ℕ → Digest) (k : Limits) (farm : IsFarm sha k) where
         (saying.retired_grew k s.ledger n) (retired_saves k s.ledger n) (deciding.retired_exact k u.pool u.machine sound s.ledger (agrees_in u run s shows e) n)))
     | inr t ↦ rw t (refused_so u run s shows (Retire n) refusal.NoSuchNode (n, inr refl, t))
   ]
-  step_next u run s shows (RestartNode n) = elim (cases_bool (is_node s n)) [
+  step_next u run s shows (RestartNode n) = elim (cases_Bool (is_node s n)) [
     | inl t ↦ rw t (restarts_next u run s shows n t)
     | inr t ↦ rw t (refused_so u run s shows (RestartNode n) refusal.NoSuchNode (n, inl refl, t))
   ]

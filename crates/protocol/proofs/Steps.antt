@@ -1,9 +1,10 @@
 -- What each step of the machine keeps.
 use Rattle.std.proofs.Common.{◌≡◌, ◌≢◌, ℕ, ◌+◌, ◌<◌, ◌≤◌, List, [], ◌∷◌, ◌++◌, ◌⊎◌, Bool, true, false, not, ◌||◌, length, Option, Some, None, slice_get, refl, sym, ◌∙◌, ap, subst, inl, inr, arith, append-nil}
+use Rattle.std.proofs.lemmas.Bool.{not-true, cases_order, cases_eq, cases_Bool}
 use Rattle.protocol.specs.Lists.{In, IsFrontOf, put}
 use Rattle.protocol.specs.Names.{Mode, Shared, Private, Locked, Slot, slot_eq, is_private, is_shared, is_alone, wants_shared, Digest, NodeId, Ticket, Want, leased_wants}
 use Rattle.protocol.specs.Machine.{GrantedSlot, Grant, LineVersion, Ending, Committed, Released, Withdrawn, Died, Made, Granted, Pruned, ticket_of, Message, Machine, Has, Live, Leased, Free, version_at, added, line, Names, Based, Answers, want_of, MayEnd, Parked, Step, Grants, Ends, Prunes, Sees, Retires, Parks, Unparks, Raises}
-use Rattle.protocol.proofs.Base.{cases_option, cases_nat, cases_bool, order_cases, true_false, not_true, put_same, put_other, slot_eq_is, front_refl, front_trans, front_get, get_in, get_push_cases, in_map, from_filter}
+use Rattle.protocol.proofs.Base.{cases_option, true_false, put_same, put_other, slot_eq_is, front_refl, front_trans, front_get, get_in, get_push_cases, in_map, from_filter}
 use Rattle.protocol.proofs.Lines.{Below, below_in, below_more, one_grant, granted_is, Gone, Apart, Extends, apart_later, apart_pair, Lawful, AllLawful, adds_cases, line-end, line_source, version_cases, added_cases_one, added_ticket}
 
 no_element : {P : Type 0} (v : LineVersion) → (v ∷ [] ≡ []) → P
@@ -55,7 +56,7 @@ names_later empty xs ys k d f (inr h) = inr (h.0, h.1, h.2, front_get xs ys h.0 
 -- the slots of a grant by its kind
 leased_shared : (tenure : Bool) (wants : List Want) (w : Want) → In w (leased_wants tenure wants) → wants_shared w ≡ true → tenure ≡ true
 leased_shared true wants w i h = refl
-leased_shared false wants w i h = (let r = from_filter (λ v. not (wants_shared v)) w wants i in true_false (wants_shared w) h (not_true (wants_shared w) r.1))
+leased_shared false wants w i h = (let r = from_filter (λ v. not (wants_shared v)) w wants i in true_false (wants_shared w) h (not-true (wants_shared w) r.1))
 
 pub answers_tenure : (g : Grant) (wants : List Want) (s : Slot) → Answers g wants → Has g s → is_shared s.folder.mode ≡ true → g.tenure ≡ true
 answers_tenure g wants s answers has h =
@@ -102,7 +103,7 @@ module _ (empty : Digest) (m : Machine) (sound : Sound empty m) where
 
   -- two live grants share no slot
   pub live_apart : (g g' : Grant) (s : Slot) → Live m g → Live m g' → Has g s → Has g' s → g ≡ g'
-  live_apart g g' s l l' k k' = elim (order_cases g.ticket.0 g'.ticket.0) [
+  live_apart g g' s l l' k k' = elim (cases_order g.ticket.0 g'.ticket.0) [
     | inl e ↦ same_grant g g' l.0 l'.0 e
     | inr o ↦ elim o [
       | inl lt ↦ (let gone = older_gone g g' s l.0 l'.0 lt k k' in let bad : Some gone.0 ≡ None = sym gone.1 ∙ l.1 in cc)
@@ -193,7 +194,7 @@ module _ (empty : Digest) (pool : List Message) (m : Machine) (sound : Sound emp
   end_line s = line-end empty s m.ending g y m.made (m.last + 1) sound.order sound.apart sound.laws law live.1 live.0
 
   end_extends : Extends m.ending after_end.ending
-  end_extends t z e = elim (cases_nat t g.ticket.0) [
+  end_extends t z e = elim (cases_eq t g.ticket.0) [
     | inl q ↦ (let bad : Some z ≡ None = sym e ∙ ap m.ending q ∙ live.1 in cc)
     | inr ne ↦ put_other g.ticket.0 (Some y) m.ending t ne ∙ e
   ]
@@ -208,13 +209,13 @@ module _ (empty : Digest) (pool : List Message) (m : Machine) (sound : Sound emp
 
   -- how a ticket ended after this step
   end_cases : (t : ℕ) (z : Ending) → after_end.ending t ≡ Some z → ((t ≡ g.ticket.0) × (z ≡ y)) ⊎ (m.ending t ≡ Some z)
-  end_cases t z e = elim (cases_nat t g.ticket.0) [
+  end_cases t z e = elim (cases_eq t g.ticket.0) [
     | inl q ↦ inl (q, (let same : Some z ≡ Some y = sym e ∙ ap after_end.ending q ∙ put_same g.ticket.0 (Some y) m.ending in cc))
     | inr ne ↦ inr (sym (put_other g.ticket.0 (Some y) m.ending t ne) ∙ e)
   ]
 
   end_live : (g' : Grant) → Live after_end g' → Live m g' × (g ≡ g' → ⊥)
-  end_live g' l = elim (cases_nat g'.ticket.0 g.ticket.0) [
+  end_live g' l = elim (cases_eq g'.ticket.0 g.ticket.0) [
     | inl q ↦ (let bad : Some y ≡ None = sym (put_same g.ticket.0 (Some y) m.ending) ∙ ap after_end.ending (sym q) ∙ l.1 in cc)
     | inr ne ↦ ((l.0, sym (put_other g.ticket.0 (Some y) m.ending g'.ticket.0 ne) ∙ l.1), λ p. ne (ap (λ (z : Grant). z.ticket.0) (sym p)))
   ]
@@ -282,7 +283,7 @@ module _ (empty : Digest) (m : Machine) (sound : Sound empty m) (t : Ticket) (p 
   prune_based : (g : Grant) (u : GrantedSlot) → Live m g → In u g.slots → u.base ≡ length (line empty after_prune u.slot)
   prune_based g u l i =
       let before : u.base ≡ length (line empty m u.slot) = sound.based g u l i in
-      elim (cases_bool (slot_eq p u.slot)) [
+      elim (cases_Bool (slot_eq p u.slot)) [
         | inl q ↦ absurd (idle (g, l, (u, i, sym (slot_eq_is p u.slot q))))
         | inr q ↦ (let none : added empty u.slot m.ending (Pruned t p) ≡ [] = rw q in
             before ∙ ap length (sym (ap (λ w. line empty m u.slot ++ w) none ∙ append-nil (line empty m u.slot))))

@@ -1,14 +1,14 @@
 -- Trying the parked asks: what stays as it was, which leases there are then, and which asks wait.
-use Rattle.std.proofs.Common.{◌≡◌, ℕ, ◌+◌, ◌≤◌, List, [], ◌∷◌, ◌++◌, ◌⊎◌, Bool, true, false, ◌&&◌, eqb, refl, sym, ◌∙◌, ap, subst, inl, inr, arith}
+use Rattle.std.proofs.Common.{◌≡◌, ◌+◌, ◌≤◌, List, [], ◌∷◌, ◌++◌, ◌⊎◌, true, false, ◌&&◌, eqb, refl, sym, ◌∙◌, ap, subst, inl, inr, arith}
+use Rattle.std.proofs.lemmas.Bool.{cases_Bool, or_parts}
 use Rattle.std.proofs.lemmas.Bool.Decides.{nat_tests}
 use Rattle.std.specs.Prelude.{nat_lt}
 use Rattle.protocol.specs.Lists.{In}
 use Rattle.protocol.specs.Names.{NodeId, Life, Ask}
 use Rattle.protocol.specs.Machine.{Parked, IsPartOf, Ends_part, Keeps, Leaves}
-use Rattle.protocol.specs.declared.answer.CoordNote.{CoordNote}
 use Rattle.protocol.specs.Ledger.{Limits, Ledger, Work, raised, Lease, Decision, Give, Deny, Wait, decision, lease_for, gives, carried_out, waits, tried, stays, try_all, waiting, is_parked}
 use Rattle.protocol.specs.Follows.{NoLease, Waits}
-use Rattle.protocol.proofs.Base.{cases_bool, true_false, or_false, in_append, in_one}
+use Rattle.protocol.proofs.Base.{true_false, in_append, in_one}
 use Rattle.protocol.proofs.Leases.{waits_give, parked_part}
 
 module _ (k : Limits) where
@@ -95,7 +95,7 @@ module _ (k : Limits) where
   pub try_none : (ps : List Parked) (w : Work) (p : Parked) → is_parked ps p.node p.life p.ask ≡ false → NoLease w.ledger.live p → NoLease (try_all k ps w).ledger.live p
   try_none [] w p other none = none
   try_none (r ∷ ps) w p other none =
-      let o = or_false ((eqb r.node.0 p.node.0) && (eqb r.life.0 p.life.0) && (eqb r.ask.0 p.ask.0)) (is_parked ps p.node p.life p.ask) other in
+      let o = or_parts ((eqb r.node.0 p.node.0) && (eqb r.life.0 p.life.0) && (eqb r.ask.0 p.ask.0)) (is_parked ps p.node p.life p.ask) other in
       try_none ps (tried k r w) p o.1 (elim (tried_live r w) [
         | inl e ↦ subst (λ l. NoLease l p) (sym e) none
         | inr x ↦ subst (λ l. NoLease l p) (sym x.4) (λ g i. elim (in_append g w.ledger.live (x.0 ∷ []) i) [
@@ -112,14 +112,14 @@ module _ (k : Limits) where
 
   pub waiting_in : (ps : List Parked) (w : Work) (p : Parked) → In p (waiting k ps w) → In p ps
   waiting_in [] w p i = absurd i
-  waiting_in (r ∷ ps) w p i = elim (cases_bool (stays k r w)) [
+  waiting_in (r ∷ ps) w p i = elim (cases_Bool (stays k r w)) [
     | inl t ↦ elim (let j : In p (r ∷ waiting k ps (tried k r w)) = rw t at i in j) [ inl e ↦ inl e | inr j ↦ inr (waiting_in ps (tried k r w) p j) ]
     | inr t ↦ inr (waiting_in ps (tried k r w) p (rw t at i))
   ]
 
   pub waiting_part : (ps : List Parked) (w : Work) → IsPartOf ps (waiting k ps w)
   waiting_part [] w = Ends_part
-  waiting_part (r ∷ ps) w = elim (cases_bool (stays k r w)) [
+  waiting_part (r ∷ ps) w = elim (cases_Bool (stays k r w)) [
     | inl t ↦ rw t (Keeps r ps (waiting k ps (tried k r w)) (waiting_part ps (tried k r w)))
     | inr t ↦ rw t (Leaves r ps (waiting k ps (tried k r w)) (waiting_part ps (tried k r w)))
   ]
@@ -134,7 +134,7 @@ module _ (k : Limits) where
   waiting_waits [] w h = tt
   waiting_waits (p ∷ ps) w h =
       let rest = waiting_waits ps (tried k p w) (tried_waits p w ps h.1 h.2) in
-      elim (cases_bool (stays k p w)) [
+      elim (cases_Bool (stays k p w)) [
         | inl t ↦ rw t (try_none ps (tried k p w) p h.1 (stays_none p w t h.0), parked_part ps (waiting k ps (tried k p w)) p.node p.life p.ask (waiting_in ps (tried k p w)) h.1, rest)
         | inr t ↦ rw t rest
       ]

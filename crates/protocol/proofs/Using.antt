@@ -1,5 +1,6 @@
 -- Which executions begin and end at a node's messages and calls.
 use Rattle.std.proofs.Common.{◌≡◌, ℕ, List, [], ◌∷◌, ◌++◌, ◌⊎◌, Bool, true, false, not, ◌&&◌, eqb, length, Option, Some, None, Ok, Err, refl, sym, ◌∙◌, ap, subst, inl, inr}
+use Rattle.std.proofs.lemmas.Bool.{cases_eq, cases_Bool}
 use Rattle.std.specs.List.{list_any}
 use Rattle.std.specs.Prelude.{⊤, nat_lt}
 use Rattle.protocol.specs.Lists.{nth, set_nth}
@@ -13,7 +14,7 @@ use Rattle.protocol.specs.declared.answer.NodeNote.TheVariants as node_note
 use Rattle.protocol.specs.Ledger.{Limits}
 use Rattle.protocol.specs.World.{KeptAsk, Open, Holding, Running, Finished, Over, Node, keeps, World}
 use Rattle.protocol.specs.Nodes.{NodeWork, NodeAnswer, guard, Place, is_tenure_of, at_home, in_use, Held, Sent, first, held, running, held_or_running, finished, recallable, is_stored, all_stored, is_base, asked, asked_tenure, beginning, begun, Left, news_of, leaving, finishing, finished_with, aborting, aborted, resent, gives_back, granted, learned, dropped, denied, recalled, of_life, heard, fetched, brought, unless_spent}
-use Rattle.protocol.proofs.Base.{cases_bool, cases_nat, some_is, nth_set_cases, nth-set_same, nth-set_other, nth-append, nth_push_cases}
+use Rattle.protocol.proofs.Base.{some_is, nth_set_cases, nth-set_same, nth-set_other, nth-append, nth_push_cases}
 use Rattle.protocol.proofs.Acts.{open_not_running, held_not_running}
 use Rattle.protocol.proofs.Steps.{same_grant}
 use Rattle.protocol.proofs.Invariant.{Its, Inv}
@@ -59,7 +60,7 @@ turned_set asks a old new begins stops at here gone = record {
     | inr o ↦ inl (i.0, i.1, o.1)
     | inl n ↦ elim (here g ws i.1 (sym n.1)) [ inl q ↦ inl (a, q.0, at ∙ ap Some q.1) | inr b ↦ inr b ]
   ];
-  stopped = λ g ws i. elim (cases_nat i.0 a) [
+  stopped = λ g ws i. elim (cases_eq i.0 a) [
     | inr ne ↦ inl (i.0, i.1, nth-set_other asks a i.0 new ne ∙ i.2)
     | inl e ↦ (let is : old ≡ Running ws g i.1 = some_is old (Running ws g i.1) (sym at ∙ ap (nth asks) (sym e) ∙ i.2) in
         elim (gone g ws i.1 is) [ inl q ↦ inl (a, q.0, nth-set_same asks a new old at ∙ ap Some q.1) | inr b ↦ inr b ])
@@ -277,7 +278,7 @@ module _ (x : Node) (one : OneEach x.asks) where
       ]
 
   of_life_use : (l : Life) (w : NodeWork) → OnWork w → OnWork (of_life l x w)
-  of_life_use l w h = elim (cases_bool (eqb l.0 x.life.0)) [ inl t ↦ rw t h | inr t ↦ rw t (quiet_same x.asks) ]
+  of_life_use l w h = elim (cases_Bool (eqb l.0 x.life.0)) [ inl t ↦ rw t h | inr t ↦ rw t (quiet_same x.asks) ]
 
   heard_by : (k : Limits) (at : Place) (y : FromCoord) → OnWork (heard k at y x)
   heard_by k at (told.Granted g) = of_life_use g.life _ (granted_use k at g (nth x.asks g.ask.0) refl)
@@ -297,4 +298,4 @@ module _ (x : Node) (one : OneEach x.asks) where
   fetched_use from (Some c) = spent_use (fetched from x (Some c)) (quiet_same x.asks)
 
   pub brought_use : (sha : List ℕ → Digest) (c : List ℕ) → OnNode Still (unless_spent x (brought sha c x))
-  brought_use sha c = spent_use (brought sha c x) (elim (cases_bool (not (is_stored x (sha c)) && list_any (is_base (sha c)) x.asks)) [ inl t ↦ rw t (quiet_same x.asks) | inr t ↦ rw t (quiet_same x.asks) ])
+  brought_use sha c = spent_use (brought sha c x) (elim (cases_Bool (not (is_stored x (sha c)) && list_any (is_base (sha c)) x.asks)) [ inl t ↦ rw t (quiet_same x.asks) | inr t ↦ rw t (quiet_same x.asks) ])

@@ -1,10 +1,11 @@
 -- Each move keeps the invariant, and so every run is safe.
 use Rattle.std.proofs.Common.{◌≡◌, ◌≢◌, ℕ, zero, suc, ◌<◌, ◌≤◌, List, [], ◌∷◌, ◌++◌, true, Option, Some, None, refl, sym, ◌∙◌, ap, subst, inl, inr, arith}
+use Rattle.std.proofs.lemmas.Bool.{cases_eq, cases_Bool}
 use Rattle.protocol.specs.Lists.{In, put, nth}
 use Rattle.protocol.specs.Names.{Slot, slot_eq, Digest, NodeId, Ticket}
 use Rattle.protocol.specs.Machine.{Grant, News, LineVersion, Ending, Committed, Released, Withdrawn, Died, Made, Granted, ticket_of, Message, Told, FromCoord, acquire, commit, release, Machine, Live, added, line, line_of, digest_for, version_of, version_at, written, slots_of, MayEnd, Step, Grants, Ends, Prunes, Sees, Retires, Parks, Unparks, Raises, Steps, No_step, One_more, Says, Says_granted, Says_committed, Says_fenced, Says_denied, Says_recall}
 use Rattle.protocol.specs.World.{Node, KeptAsk, Act, World, Move, Node_moves, Machine_moves, Machine_says, Fails, Recovers, Moves, Still, Then, start}
-use Rattle.protocol.proofs.Base.{cases_bool, cases_nat, slot_eq_same, put_same, put_other, put_all, in_one, in_left, in_right, in_append, in_map, none_some, some_is, true_false}
+use Rattle.protocol.proofs.Base.{slot_eq_same, put_same, put_other, put_all, in_one, in_left, in_right, in_append, in_map, none_some, some_is, true_false}
 use Rattle.protocol.proofs.Steps.{Later, later_refl, later_trans, step_sound, fresh, same_grant}
 use Rattle.protocol.proofs.Invariant.{Spent, NodeOk, ToldOk, MessageOk, Fate, WasWanted, Inv, Ahead, ahead_refl, message_later, fate_later, node_later, heard_life}
 use Rattle.protocol.proofs.Acts.{act_ahead, act_ok, act_sends, keep_ok}
@@ -62,7 +63,7 @@ module _ (sha : List ℕ → Digest) (w : World) (inv : Inv sha w) where
       (let same : g.ticket.0 ≡ h.ticket.0 = ap ticket_of p in
       let bad : Some y ≡ None = sym e ∙ ap w.machine.ending same ∙ fresh (sha []) w.machine inv.sound h.ticket.0 newer in cc)
   step_fates m' (Grants h wants asked answers here alone home newer free) g y (inr i) e = inv.fates g y i e
-  step_fates m' (Ends h z live may) g y i e = elim (cases_nat g.ticket.0 h.ticket.0) [
+  step_fates m' (Ends h z live may) g y i e = elim (cases_eq g.ticket.0 h.ticket.0) [
     | inl q ↦ (let is : Some y ≡ Some z = sym e ∙ ap (put h.ticket.0 (Some z) w.machine.ending) q ∙ put_same h.ticket.0 (Some z) w.machine.ending in
         let yz : z ≡ y = cc in
         let same : h ≡ g = same_grant (sha []) w.machine inv.sound h g live.0 i (sym q) in
@@ -108,7 +109,7 @@ module _ (sha : List ℕ → Digest) (w : World) (inv : Inv sha w) where
 
   digest_of : (s : Slot) (news : List News) → In s (slots_of news) → (d : Digest) × (digest_for s news ≡ Some d)
   digest_of s [] h = absurd h
-  digest_of s (k ∷ ks) h = elim (cases_bool (slot_eq k.slot s)) [
+  digest_of s (k ∷ ks) h = elim (cases_Bool (slot_eq k.slot s)) [
     | inl e ↦ (k.digest, rw e)
     | inr e ↦ elim h [
       | inl p ↦ (let q : slot_eq k.slot s ≡ true = subst (λ z. slot_eq k.slot z ≡ true) (sym p) (slot_eq_same k.slot) in true_false (slot_eq k.slot s) q e)

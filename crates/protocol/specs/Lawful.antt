@@ -11,7 +11,7 @@ use Rattle.protocol.specs.Machine.{LineVersion, Message, ToCoord, Parked}
 use Rattle.protocol.specs.declared.answer.CoordRefusal.{CoordRefusal}
 use Rattle.protocol.specs.Ledger.{Limits, Ledger, Lease, Work, begin_work, handled, withdrawn, retired, pruned, saves, reads, has_slot, is_of}
 use Rattle.protocol.specs.Follows.{Waits}
-use Rattle.protocol.specs.World.{KeptAsk, Open, Node}
+use Rattle.protocol.specs.World.{Open, Node}
 use Rattle.protocol.specs.Replay.{Event, Farm, step, opening}
 use Rattle.protocol.specs.Replay as replay
 

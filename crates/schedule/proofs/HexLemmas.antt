@@ -3,13 +3,12 @@ use Rattle.std.proofs.Common.{◌≡◌, ℕ, zero, suc, ◌+◌, ◌*◌, ◌/�
 use Rattle.std.specs.Prelude.{if◌then◌else◌, nat_lt}
 use Rattle.std.specs.List.{list_any}
 use Rattle.std.specs.Char.{is_ascii_uppercase}
-use Rattle.std.proofs.lemmas.Bool.{and_parts, cases_lt, eqb-true, cases_eq}
+use Rattle.std.proofs.lemmas.Bool.{and_parts, cases_lt, eqb-true, cases_eq, or_parts}
 use Rattle.std.proofs.lemmas.Bool.Decides.{nat_tests}
 use Rattle.hex.specs.Hex.{IsBytes, decode_of, decode_pairs, digit_or_error, hex_digit_value, encode_lower, encode_with, lower_digits, pair_value, value_at, ◌>>=◌}
 use Rattle.hex.specs.declared.error.FromHexError.{FromHexError}
 use Rattle.hex.specs.declared.error.FromHexError.TheVariants.{OutOfMemory}
 use Rattle.hex.proofs.HexLemmas.{decode_of-even, decode_of-odd, decode_of-encode_lower}
-use Rattle.protocol.proofs.Base.{or_false}
 use Rattle.schedule.specs.Refusals.{hex_refusal}
 use Rattle.schedule.specs.declared.refusal.LineRefusal.TheVariants.{BadLine}
 
@@ -68,8 +67,8 @@ lower_pairs i (a ∷ b ∷ rest) bytes h low =
     let p1 = bind_ok (value_at a i) _ p0.0 p0.1 in
     let p2 = bind_ok (value_at b (i + 1)) _ p0.0 p1.2 in
     let p3 = bind_ok (decode_pairs (i + 2) rest) _ bytes p0.2 in
-    let lows = or_false (is_ascii_uppercase a) (list_any is_ascii_uppercase (b ∷ rest)) low in
-    let lows' = or_false (is_ascii_uppercase b) (list_any is_ascii_uppercase rest) lows.1 in
+    let lows = or_parts (is_ascii_uppercase a) (list_any is_ascii_uppercase (b ∷ rest)) low in
+    let lows' = or_parts (is_ascii_uppercase b) (list_any is_ascii_uppercase rest) lows.1 in
     let da = digit_back a p1.0 (digit_read a i (hex_digit_value a) p1.0 p1.1) lows.0 in
     let db = digit_back b p2.0 (digit_read b (i + 1) (hex_digit_value b) p2.0 p2.1) lows'.0 in
     let byte : p1.0 * 16 + p2.0 ≡ p0.0 = cc p2.2 in

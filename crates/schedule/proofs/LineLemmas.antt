@@ -1,10 +1,9 @@
 -- What the words after a verb say.
-use Rattle.std.proofs.Common.{◌≡◌, ℕ, ◌+◌, ◌<◌, ◌≤◌, true, false, Bool, List, [], ◌∷◌, map, length, get_or, Result, Err, Ordering, refl, sym, ◌∙◌, arith}
+use Rattle.std.proofs.Common.{◌≡◌, ℕ, ◌+◌, ◌<◌, ◌≤◌, true, false, Bool, List, [], ◌∷◌, map, length, get_or, Result, Err, sym, ◌∙◌, arith}
 use Rattle.std.specs.Prelude.{IsErrOf, ◌↔◌}
 use Rattle.std.specs.List.{All, IsDistinct, AllAdjacentBelow, IsAllAdjacentAnswer}
 use Rattle.std.specs.List.Sorted.{IsStrictlySortedBy}
 use Rattle.std.specs.Ordering.{is_lt}
-use Rattle.std.specs.declared.cmp.Ordering.TheVariants.{Less, Equal, Greater}
 use Rattle.std.proofs.lemmas.List.{get_or-map, length-map}
 use Rattle.std.proofs.lemmas.List.Sorted.{length_permutation, IsPermutation-sym}
 use Rattle.std.proofs.lemmas.Map.Keys.{sorted_from_all_adjacent, Less-from_sorted}
@@ -15,7 +14,7 @@ use Rattle.farm_base.specs.Folders.{folder_eq}
 use Rattle.farm_base.specs.Slots.{slot_cmp}
 use Rattle.farm_base.specs.Wanted.{folders}
 use Rattle.farm_base.proofs.CompareLaws.{slot_total}
-use Rattle.farm_base.proofs.WantLemmas.{distinct-from_sorted, distinct-permutation, not_less}
+use Rattle.farm_base.proofs.WantLemmas.{less-from_is_lt, distinct-from_sorted, distinct-permutation, not_less}
 use Rattle.schedule.specs.declared.refusal.LineRefusal.TheVariants.{BadLine}
 use Rattle.schedule.specs.Refusals.{wants_refusal}
 use Rattle.schedule.specs.Lines.{want_text, left_text, left_slots, IsWant, IsLeft, Left}
@@ -49,11 +48,6 @@ unlawful r SameFolderTwice n ws given wants was bad many twice len each e h =
 unlawful r OutOfMemory n ws given wants was bad many twice len each e h = cc bad
 
 -- ---- what was left
-
-less-from_is_lt : (o : Ordering) → true ≡ is_lt o → o ≡ Less
-less-from_is_lt Less h = refl
-less-from_is_lt Equal h = cc h
-less-from_is_lt Greater h = cc h
 
 -- where each slot is below the next
 pub rising-from_answer : (lefts : List Left) → AllAdjacentBelow (λ a b. true ≡ is_lt (slot_cmp a.0 b.0)) lefts (length lefts)

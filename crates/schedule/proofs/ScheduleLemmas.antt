@@ -1,7 +1,7 @@
 -- Lines of a schedule.
 use Rattle.std.proofs.Common.{Bor, ◌≡◌, ◌≢◌, ℕ, suc, ◌+◌, ◌-◌, ◌<◌, ◌≤◌, ◌==◌, ◌^◌, Bool, false, inl, inr, List, [], ◌∷◌, ◌++◌, take, drop, length, Option, Some, None, Result, Err, refl, sym, ap, ◌∙◌, subst, lt-ltb, le-ltb, length-append, length-drop, arith}
 use Rattle.std.specs.Prelude.{codes, decimal, position}
-use Rattle.std.specs.List.{AllZip, slice_split, position_or_len, onto_first}
+use Rattle.std.specs.List.{slice_split, position_or_len, onto_first}
 use Rattle.std.specs.Str.{IsUtf8, IsAscii}
 use Rattle.std.proofs.lemmas.Bool.{cases_Bool, cases_lt}
 use Rattle.std.proofs.lemmas.List.{take-append-drop, append-nil, map-append}
@@ -14,6 +14,7 @@ use Rattle.std.proofs.lemmas.Str.Ascii.{IsAscii-cons}
 use Rattle.std.specs.Iterator.{Yields}
 use Rattle.std.proofs.lemmas.Iterator.{YieldsList}
 use Rattle.std.proofs.lemmas.Iterator.Consumers.{YieldsList-so_far, YieldsList-turn}
+use Rattle.lists.proofs.Places.{AllZip-push}
 use Rattle.schedule.specs.declared.event.Event.{Event}
 use Rattle.schedule.specs.declared.event.Setup.{Setup}
 use Rattle.schedule.specs.declared.refusal.LineRefusal.{LineRefusal}
@@ -98,12 +99,6 @@ first_split p xs end h =
 texts-push : (front : List (Bor (List ℕ))) (w : Bor (List ℕ)) → texts (front ++ w ∷ []) ≡ texts front ++ w.now ∷ []
 texts-push front w = map-append (λ (x : Bor (List ℕ)). x.now) front (w ∷ [])
 
-zip_push : {A B : Type 0} (R : A → B → Type 0) (xs : List A) (ys : List B) (x : A) (y : B) → AllZip R xs ys → R x y → AllZip R (xs ++ x ∷ []) (ys ++ y ∷ [])
-zip_push R [] [] x y h this = (this, tt)
-zip_push R [] (b ∷ ys) x y h this = absurd h
-zip_push R (a ∷ xs) [] x y h this = absurd h
-zip_push R (a ∷ xs) (b ∷ ys) x y h this = (h.0, zip_push R xs ys x y h.1 this)
-
 -- the events with one more line
 pub events_more : (front : List (Bor (List ℕ))) (es new : List Event) (w : Bor (List ℕ)) → AreEvents (texts front) es → AddsLine es w.now new
     → AreEvents (texts (front ++ w ∷ [])) new
@@ -123,7 +118,7 @@ events_more front es new w h line = by_line w.now refl line
         let room = adds'.room in
         rw adds'.added (record {
           few = omega (arith, length-append es (adds'.event ∷ []));
-          spelled = rw same (zip_push IsSpelled (filled (texts front)) es (b ∷ bs) adds'.event h.spelled adds'.spelled);
+          spelled = rw same (AllZip-push IsSpelled (filled (texts front)) es (b ∷ bs) adds'.event h.spelled adds'.spelled);
         })
 
 -- where the line of a turn stands

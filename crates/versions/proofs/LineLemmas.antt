@@ -6,7 +6,7 @@ use Rattle.std.specs.List.{HoldsAt, position_from}
 use Rattle.std.specs.List.Sorted.{IsStrictlyIncreasing, IsSortedBy, IsSearchInRange, IsBinarySearchResult}
 use Rattle.std.specs.Ordering.{nat_cmp, is_lt}
 use Rattle.std.specs.declared.cmp.Ordering.TheVariants.{Less, Equal, Greater}
-use Rattle.std.proofs.lemmas.Bool.{cases_Bool}
+use Rattle.std.proofs.lemmas.Bool.{cases_Bool, ne_eqb}
 use Rattle.std.proofs.lemmas.Bool.Decides.{nat_tests}
 use borrow.Author.Tests.{ltb-true, ltb-false}
 use Rattle.std.proofs.lemmas.Cmp.{nat_cmp_total, tied_itself}
@@ -16,7 +16,6 @@ use Rattle.std.proofs.lemmas.List.Sorted.{searchable_from_sorted}
 use Rattle.std.proofs.lemmas.Map.Lookups.{exact_unsigned}
 use Rattle.farm_base.specs.declared.message.LineVersion.{LineVersion}
 use Rattle.farm_base.specs.declared.number.Ticket.{Ticket}
-use Rattle.protocol.proofs.Base.{eqb_apart}
 use Rattle.versions.specs.Line.{IsLine, tickets, ticket_in, number_in}
 
 -- the version has the ticket
@@ -48,7 +47,7 @@ number_found t (v ∷ line) zero from inside at before =
     let same : from ≡ from + 0 = omega arith in
     rw first (ap Some same)
 number_found t (v ∷ line) (suc k) from inside at before =
-    let other : eqb v.ticket.0 t.0 ≡ false = eqb_apart v.ticket.0 t.0 (before 0 v (omega arith)) in
+    let other : eqb v.ticket.0 t.0 ≡ false = ne_eqb v.ticket.0 t.0 (before 0 v (omega arith)) in
     let rest = number_found t line k (from + 1) (omega arith) (λ d. at d) (λ i d lt. before (suc i) d (omega arith)) in
     let same : from + 1 + k ≡ from + suc k = omega arith in
     rw other (rest ∙ ap Some same)
@@ -58,7 +57,7 @@ pub number_absent : (t : Ticket) (line : List LineVersion) (from : ℕ) → All 
     → position_from (λ v. eqb v.ticket.0 t.0) from line ≡ None
 number_absent t [] from none = refl
 number_absent t (v ∷ line) from none =
-    let other : eqb v.ticket.0 t.0 ≡ false = eqb_apart v.ticket.0 t.0 (none 0 v (omega arith)) in
+    let other : eqb v.ticket.0 t.0 ≡ false = ne_eqb v.ticket.0 t.0 (none 0 v (omega arith)) in
     rw other (number_absent t line (from + 1) (λ i d inside. none (suc i) d (omega arith)))
 
 -- ---- rising tickets

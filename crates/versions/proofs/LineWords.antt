@@ -1,12 +1,13 @@
 -- Versions on lines: the last one, and that of a ticket.
 use Rattle.std.proofs.Common.{◌≡◌, ◌≢◌, ℕ, suc, ◌+◌, List, [], ◌∷◌, ◌++◌, true, false, eqb, length, map, Option, Some, None, refl, sym, ◌∙◌, ap, subst, inl, inr, arith, append-nil}
+use Rattle.std.proofs.lemmas.Bool.{cases_Bool, ne_eqb}
 use Rattle.std.specs.Prelude.{slice_get, unwrap_or}
 use Rattle.std.specs.List.{position_from}
 use Rattle.farm_base.specs.declared.digest.Digest.{Digest}
 use Rattle.protocol.specs.Names.{Slot, Ticket}
 use Rattle.protocol.specs.Machine.{LineVersion, digest_for}
 use Rattle.protocol.specs.Ledger.{last_digest, place}
-use Rattle.protocol.proofs.Base.{cases_bool, eqb_same, eqb_apart}
+use Rattle.protocol.proofs.Base.{eqb_same}
 use Rattle.versions.specs.Line.{number_in, digest_in}
 use Rattle.versions.specs.declared.lines.Added.{Added}
 use Rattle.versions.specs.declared.lines.SlotLine.{SlotLine}
@@ -26,7 +27,7 @@ last_digest-push e (x ∷ y ∷ xs) v = last_digest-push e (y ∷ xs) v
 -- a ticket that is not on the line has no place
 pub place-none : (t : Ticket) (xs : List LineVersion) (k : ℕ) → position_from (λ v. eqb v.ticket.0 t.0) (k + 1) xs ≡ None → place t xs k ≡ None
 place-none t [] k h = refl
-place-none t (v ∷ xs) k h = elim (cases_bool (eqb v.ticket.0 t.0)) [
+place-none t (v ∷ xs) k h = elim (cases_Bool (eqb v.ticket.0 t.0)) [
   | inl e ↦ (let bad : Some (k + 1) ≡ None = rw e at h in absurd (cc bad))
   | inr e ↦ rw e (place-none t xs (k + 1) (rw e at h))
 ]
@@ -34,7 +35,7 @@ place-none t (v ∷ xs) k h = elim (cases_bool (eqb v.ticket.0 t.0)) [
 place_some : (t : Ticket) (xs : List LineVersion) (k n : ℕ) → position_from (λ v. eqb v.ticket.0 t.0) (k + 1) xs ≡ Some n
     → (j : ℕ) × (v : LineVersion) × (n ≡ k + 1 + j) × (slice_get xs j ≡ Some v) × (place t xs k ≡ Some (n, v.digest))
 place_some t [] k n h = absurd (cc h)
-place_some t (v ∷ xs) k n h = elim (cases_bool (eqb v.ticket.0 t.0)) [
+place_some t (v ∷ xs) k n h = elim (cases_Bool (eqb v.ticket.0 t.0)) [
   | inl e ↦ (let at : Some (k + 1) ≡ Some n = rw e at h in let same : k + 1 ≡ n = cc at in (0, v, omega arith, refl, rw e (ap (λ (m : ℕ). Some (m, v.digest)) same)))
   | inr e ↦ (let r = place_some t xs (k + 1) n (rw e at h) in let at : n ≡ k + 1 + 1 + r.0 = r.2 in (suc r.0, r.1, omega arith, r.3, rw e r.4))
 ]
@@ -55,21 +56,21 @@ place-number t xs n d h e =
 
 place-append : (t : Ticket) (xs ys : List LineVersion) (k : ℕ) (r : ℕ × Digest) → place t xs k ≡ Some r → place t (xs ++ ys) k ≡ Some r
 place-append t [] ys k r h = absurd (cc h)
-place-append t (v ∷ xs) ys k r h = elim (cases_bool (eqb v.ticket.0 t.0)) [
+place-append t (v ∷ xs) ys k r h = elim (cases_Bool (eqb v.ticket.0 t.0)) [
   | inl e ↦ rw e (rw e at h)
   | inr e ↦ rw e (place-append t xs ys (k + 1) r (rw e at h))
 ]
 
 place-end : (t : Ticket) (xs : List LineVersion) (v : LineVersion) (k : ℕ) → place t xs k ≡ None → v.ticket.0 ≡ t.0 → place t (xs ++ v ∷ []) k ≡ Some (k + length xs + 1, v.digest)
 place-end t [] v k h e = (let same : eqb v.ticket.0 t.0 ≡ true = subst (λ (z : ℕ). eqb v.ticket.0 z ≡ true) e (eqb_same v.ticket.0) in rw same (ap (λ (n : ℕ). Some (n, v.digest)) (omega arith)))
-place-end t (x ∷ xs) v k h e = elim (cases_bool (eqb x.ticket.0 t.0)) [
+place-end t (x ∷ xs) v k h e = elim (cases_Bool (eqb x.ticket.0 t.0)) [
   | inl f ↦ (let bad : Some (k + 1, x.digest) ≡ None = rw f at h in absurd (cc bad))
   | inr f ↦ rw f (place-end t xs v (k + 1) (rw f at h) e ∙ ap (λ (n : ℕ). Some (n, v.digest)) (omega arith))
 ]
 
 place-other : (t : Ticket) (xs : List LineVersion) (v : LineVersion) (k : ℕ) → place t xs k ≡ None → v.ticket.0 ≢ t.0 → place t (xs ++ v ∷ []) k ≡ None
-place-other t [] v k h e = (let other : eqb v.ticket.0 t.0 ≡ false = eqb_apart v.ticket.0 t.0 e in rw other refl)
-place-other t (x ∷ xs) v k h e = elim (cases_bool (eqb x.ticket.0 t.0)) [
+place-other t [] v k h e = (let other : eqb v.ticket.0 t.0 ≡ false = ne_eqb v.ticket.0 t.0 e in rw other refl)
+place-other t (x ∷ xs) v k h e = elim (cases_Bool (eqb x.ticket.0 t.0)) [
   | inl f ↦ (let bad : Some (k + 1, x.digest) ≡ None = rw f at h in absurd (cc bad))
   | inr f ↦ rw f (place-other t xs v (k + 1) (rw f at h) e)
 ]

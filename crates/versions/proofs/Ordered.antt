@@ -1,6 +1,7 @@
 -- Lines by rising slot: the place of a slot's line, and adding a line.
 use mathlib.Core.Path.{fun_ext}
 use Rattle.std.proofs.Common.{◌≡◌, ◌≢◌, ℕ, zero, suc, ◌+◌, ◌<◌, ◌≤◌, List, [], ◌∷◌, ◌++◌, ◌⊎◌, true, false, not, length, get_or, Result, Ok, Err, Ordering, refl, sym, ◌∙◌, ap, subst, inl, inr, arith}
+use Rattle.std.proofs.lemmas.Bool.{cases_Bool}
 use Rattle.std.proofs.Math.ListN.{set}
 use Rattle.std.specs.Prelude.{All, MatchResult}
 use Rattle.std.specs.List.{insert, list_any, AllByRecursion}
@@ -20,12 +21,11 @@ use Rattle.versions.specs.declared.lines.SlotLine.{SlotLine}
 use Rattle.versions.specs.Lines.{line_at}
 use Rattle.versions.specs.Additions.{adds}
 use Rattle.versions.specs.Ordered.{slots, AreLines, IsPlace, IsGap}
-use Rattle.protocol.proofs.Base.{cases_bool}
 
 abbrev pub Rise : List SlotLine → Type 0
 Rise ls = IsStrictlySortedBy slot_cmp (slots ls)
 
-reversed : (a b : Slot) (o : Ordering) → slot_cmp a b ≡ o → slot_cmp b a ≡ ordering_reverse o
+pub reversed : (a b : Slot) (o : Ordering) → slot_cmp a b ≡ o → slot_cmp b a ≡ ordering_reverse o
 reversed a b o e = laws.slot_total.antisymm b a ∙ ap ordering_reverse e
 
 no_less : (a b : Slot) → slot_cmp a b ≡ Less → is_lt (slot_cmp b a) ≡ false
@@ -58,7 +58,7 @@ searched s ls (Err k) up inside parts =
 apart : (a b : Slot) → slot_cmp a b ≡ Less → slot_eq a b ≡ false
 apart a b e = laws.slot_eq-by_cmp a b ∙ ap is_eq e
 
-apart_back : (a b : Slot) → slot_cmp a b ≡ Less → slot_eq b a ≡ false
+pub apart_back : (a b : Slot) → slot_cmp a b ≡ Less → slot_eq b a ≡ false
 apart_back a b e = laws.slot_eq-by_cmp b a ∙ ap is_eq (reversed a b Less e)
 
 Rise-tail : (l : SlotLine) (ls : List SlotLine) → Rise (l ∷ ls) → Rise ls
@@ -96,13 +96,13 @@ line_at-gap ls s k gap = no_line s ls (none_in_gap s ls k gap)
 -- ---- adding a line
 
 pub other_slot : (a b : Slot) → slot_eq a b ≡ false → (x : Slot) → slot_eq a x ≡ true → slot_eq b x ≡ false
-other_slot a b h x e = elim (cases_bool (slot_eq b x)) [
+other_slot a b h x e = elim (cases_Bool (slot_eq b x)) [
   | inl f ↦ (let ab : a ≡ b = laws.slot_exact a x e ∙ sym (laws.slot_exact b x f) in let bad : slot_eq a a ≡ false = subst (λ z. slot_eq a z ≡ false) (sym ab) h in let clash : true ≡ false = sym (laws.slot_eq-itself a) ∙ bad in cc)
   | inr f ↦ f
 ]
 
 at_head : (ls : List SlotLine) (s x : Slot) (v : LineVersion) → NoLine s ls → line_at (record { slot = s; line = v ∷ [] } ∷ ls) x ≡ adds s v (line_at ls) x
-at_head ls s x v none = elim (cases_bool (slot_eq s x)) [
+at_head ls s x v none = elim (cases_Bool (slot_eq s x)) [
   | inl e ↦ (let empty : line_at ls x ≡ [] = ap (line_at ls) (sym (laws.slot_exact s x e)) ∙ no_line s ls none in rw (e, empty) refl)
   | inr e ↦ rw e refl
 ]
@@ -114,7 +114,7 @@ inserted_at (l ∷ ls) zero s x v inside none = at_head (l ∷ ls) s x v none
 inserted_at (l ∷ ls) (suc k) s x v inside none =
     let ih : line_at (insert ls k (record { slot = s; line = v ∷ [] })) x ≡ adds s v (line_at ls) x = inserted_at ls k s x v (omega arith) (λ i d lt. none (suc i) d (omega arith)) in
     let differ : slot_eq l.slot s ≡ false = none 0 l (omega arith) in
-    elim (cases_bool (slot_eq l.slot x)) [
+    elim (cases_Bool (slot_eq l.slot x)) [
       | inl f ↦ (let n : slot_eq s x ≡ false = other_slot l.slot s differ x f in rw (f, n) refl)
       | inr f ↦ rw f ih
     ]
@@ -180,12 +180,12 @@ differs l s x e = ap (λ z. slot_eq z x) (sym e)
 set_at : (ls : List SlotLine) (k : ℕ) (s x : Slot) (v : LineVersion) (l d : SlotLine) → Rise ls → k < length ls → (get_or ls k d).slot ≡ s → l.slot ≡ s → l.line ≡ (get_or ls k d).line ++ v ∷ []
     → line_at (set ls k l) x ≡ adds s v (line_at ls) x
 set_at [] k s x v l d up lt at es ev = absurd (omega arith)
-set_at (y ∷ ls) zero s x v l d up lt at es ev = rw (es, at) (elim (cases_bool (slot_eq s x)) [ inl f ↦ rw f ev | inr f ↦ rw f refl ])
+set_at (y ∷ ls) zero s x v l d up lt at es ev = rw (es, at) (elim (cases_Bool (slot_eq s x)) [ inl f ↦ rw f ev | inr f ↦ rw f refl ])
 set_at (y ∷ ls) (suc k) s x v l d up lt at es ev =
     let ih : line_at (set ls k l) x ≡ adds s v (line_at ls) x = set_at ls k s x v l d (Rise-tail y ls up) (omega arith) at es ev in
     let less : slot_cmp y.slot (get_or ls k d).slot ≡ Less = less_at (y ∷ ls) 0 (suc k) d up (omega arith) lt in
     let differ : slot_eq y.slot s ≡ false = apart y.slot s (ap (slot_cmp y.slot) (sym at) ∙ less) in
-    elim (cases_bool (slot_eq y.slot x)) [
+    elim (cases_Bool (slot_eq y.slot x)) [
       | inl f ↦ (let n : slot_eq s x ≡ false = other_slot y.slot s differ x f in rw (f, n) refl)
       | inr f ↦ rw f ih
     ]
@@ -203,7 +203,7 @@ is_nil-filled (x ∷ xs) h = refl
 -- a slot is among those of the lines exactly if its line has a version
 pub slots-exact : (ls : List SlotLine) (s : Slot) → All (λ l. l.line ≢ []) ls → list_any (λ x. slot_eq x s) (slots ls) ≡ not (is_nil (line_at ls s))
 slots-exact [] s h = refl
-slots-exact (l ∷ ls) s h = elim (cases_bool (slot_eq l.slot s)) [
+slots-exact (l ∷ ls) s h = elim (cases_Bool (slot_eq l.slot s)) [
   | inl e ↦ rw e (sym (is_nil-filled l.line (h 0 l (omega arith))))
   | inr e ↦ rw e (slots-exact ls s (λ k d lt. h (suc k) d (omega arith)))
 ]

@@ -1,6 +1,7 @@
 -- A version at the end of a slot's line.
 use mathlib.Core.Path.{fun_ext}
 use Rattle.std.proofs.Common.{◌≡◌, ◌<◌, List, [], ◌∷◌, ◌++◌, true, false, length, map, Some, None, refl, sym, ◌∙◌, ap, subst, inl, inr, append-nil}
+use Rattle.std.proofs.lemmas.Bool.{cases_Bool}
 use Rattle.std.specs.Prelude.{All}
 use Rattle.std.proofs.lemmas.List.Elements.{All-head, All-tail}
 use Rattle.protocol.specs.Names.{Slot, slot_eq, Ticket}
@@ -10,7 +11,6 @@ use Rattle.versions.specs.declared.lines.Added.{Added}
 use Rattle.versions.specs.declared.lines.SlotLine.{SlotLine}
 use Rattle.versions.specs.Lines.{line_at, lines_with, news_of}
 use Rattle.versions.specs.Additions.{AreReady, adds, adds_all}
-use Rattle.protocol.proofs.Base.{cases_bool}
 use Rattle.versions.proofs.Ordered.{other_slot}
 
 none_for : (s : Slot) (a : Addition) (rest : List Addition) → slot_eq a.slot s ≡ true → All (λ b. slot_eq a.slot b.slot ≡ false) rest → digest_for s (map news_of rest) ≡ None
@@ -32,7 +32,7 @@ adds_all-at : (t : Ticket) (as' : List Addition) (f : Slot → List LineVersion)
 adds_all-at t [] f s h = sym (append-nil (f s))
 adds_all-at t (a ∷ rest) f s h =
     let v : LineVersion = record { ticket = t; digest = a.digest } in
-    adds_all-at t rest (adds a.slot v f) s h.1 ∙ elim (cases_bool (slot_eq a.slot s)) [
+    adds_all-at t rest (adds a.slot v f) s h.1 ∙ elim (cases_Bool (slot_eq a.slot s)) [
       | inl e ↦ (let none = none_for s a rest e h.0 in rw (e, none) (append-nil (f s ++ v ∷ [])))
       | inr e ↦ rw e refl
     ]

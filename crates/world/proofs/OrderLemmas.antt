@@ -1,28 +1,19 @@
 -- Two lists of rising slots with the same slots are one.
 use Rattle.std.proofs.Common.{◌≡◌, Bool, true, false, ◌||◌, List, [], ◌∷◌, refl, sym, ap, ◌∙◌, subst, inl, inr}
-use Rattle.std.specs.Prelude.{◌⊎◌}
+use Rattle.std.proofs.lemmas.Bool.{cases_Bool}
 use Rattle.std.specs.List.{list_any, AllByRecursion}
 use Rattle.std.specs.List.Sorted.{IsStrictlySortedBy}
 use Rattle.std.proofs.lemmas.Map.Keys.{sorted_head, sorted_tail}
-use Rattle.std.specs.Ordering.{ordering_reverse, is_eq}
 use Rattle.std.specs.declared.cmp.Ordering.{Ordering}
 use Rattle.std.specs.declared.cmp.Ordering.TheVariants.{Less, Equal, Greater}
 use Rattle.farm_base.specs.Slots.{slot_cmp}
-use Rattle.farm_base.proofs.CompareLaws.{slot_total, slot_cmp-tie, slot_eq-by_cmp}
+use Rattle.farm_base.proofs.CompareLaws.{slot_total, slot_cmp-tie}
 use Rattle.protocol.specs.Names.{Slot, slot_eq}
 use Rattle.protocol.proofs.Base.{slot_eq_same, slot_eq_is}
+use Rattle.versions.proofs.Ordered.{reversed, apart_back}
 
 abbrev has : List Slot → Slot → Bool
 has slots s = list_any (λ x. slot_eq x s) slots
-
-above : (s y : Slot) → slot_cmp s y ≡ Less → slot_cmp y s ≡ Greater
-above s y h = slot_total.antisymm y s ∙ ap ordering_reverse h
-
-below : (s y : Slot) → slot_cmp s y ≡ Greater → slot_cmp y s ≡ Less
-below s y h = slot_total.antisymm y s ∙ ap ordering_reverse h
-
-apart : (s y : Slot) → slot_cmp s y ≡ Less → slot_eq y s ≡ false
-apart s y h = slot_eq-by_cmp y s ∙ ap is_eq (above s y h)
 
 neither : (p q : Bool) → p ≡ false → q ≡ false → (p || q) ≡ false
 neither p q e f = rw (e, f) refl
@@ -30,7 +21,7 @@ neither p q e f = rw (e, f) refl
 -- a slot below all isn't among them
 none_below : (s : Slot) (ys : List Slot) → AllByRecursion (λ y. slot_cmp s y ≡ Less) ys → has ys s ≡ false
 none_below s [] h = refl
-none_below s (y ∷ ys) h = neither (slot_eq y s) (has ys s) (apart s y h.0) (none_below s ys h.1)
+none_below s (y ∷ ys) h = neither (slot_eq y s) (has ys s) (apart_back s y h.0) (none_below s ys h.1)
 
 further : (x y : Slot) (ys : List Slot) → slot_cmp x y ≡ Less → AllByRecursion (λ z. slot_cmp y z ≡ Less) ys → AllByRecursion (λ z. slot_cmp x z ≡ Less) ys
 further x y [] lt h = tt
@@ -43,19 +34,15 @@ never : (b : Bool) → b ≡ true → b ≡ false → ⊥
 never b e f = cc
 
 lowest : (x y : Slot) (ys : List Slot) → IsStrictlySortedBy slot_cmp (y ∷ ys) → slot_cmp x y ≡ Less → has (y ∷ ys) x ≡ false
-lowest x y ys h lt = neither (slot_eq y x) (has ys x) (apart x y lt) (none_below x ys (further x y ys lt (sorted_head slot_cmp y ys h)))
+lowest x y ys h lt = neither (slot_eq y x) (has ys x) (apart_back x y lt) (none_below x ys (further x y ys lt (sorted_head slot_cmp y ys h)))
 
 heads : (o : Ordering) (x y : Slot) (xs ys : List Slot) → slot_cmp x y ≡ o → IsStrictlySortedBy slot_cmp (x ∷ xs) → IsStrictlySortedBy slot_cmp (y ∷ ys) → ((s : Slot) → has (x ∷ xs) s ≡ has (y ∷ ys) s) → x ≡ y
 heads Less x y xs ys e hx hy same = absurd (never (has (y ∷ ys) x) (sym (same x) ∙ first_has x xs) (lowest x y ys hy e))
 heads Equal x y xs ys e hx hy same = slot_cmp-tie x y e
-heads Greater x y xs ys e hx hy same = absurd (never (has (x ∷ xs) y) (same y ∙ first_has y ys) (lowest y x xs hx (below x y e)))
-
-cases_bool : (b : Bool) → (b ≡ true) ⊎ (b ≡ false)
-cases_bool true = inl refl
-cases_bool false = inr refl
+heads Greater x y xs ys e hx hy same = absurd (never (has (x ∷ xs) y) (same y ∙ first_has y ys) (lowest y x xs hx (reversed x y Greater e)))
 
 tails : (x s : Slot) (xs ys : List Slot) → IsStrictlySortedBy slot_cmp (x ∷ xs) → IsStrictlySortedBy slot_cmp (x ∷ ys) → has (x ∷ xs) s ≡ has (x ∷ ys) s → has xs s ≡ has ys s
-tails x s xs ys hx hy same = elim (cases_bool (slot_eq x s)) [
+tails x s xs ys hx hy same = elim (cases_Bool (slot_eq x s)) [
   | inl here ↦ (let is : x ≡ s = slot_eq_is x s here in subst (λ (z : Slot). has xs z ≡ has ys z) is (none_below x xs (sorted_head slot_cmp x xs hx) ∙ sym (none_below x ys (sorted_head slot_cmp x ys hy))))
   | inr other ↦ sym (ap (λ (b : Bool). b || has xs s) other) ∙ same ∙ ap (λ (b : Bool). b || has ys s) other
 ]

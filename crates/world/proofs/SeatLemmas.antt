@@ -36,10 +36,6 @@ pub record Reseated (cores : List NodeCore) (n : NodeId) (i : ℕ) (y : NodeCore
 set_is : (cores : List NodeCore) (n i : ℕ) (y : NodeCore) → n ≡ i + 1 → set_nth cores n y ≡ slice_set cores i y
 set_is cores n i y e = ap (λ (m : ℕ). set_nth cores m y) e ∙ rw add-one refl
 
-cases_bool : (b : Bool) → (b ≡ true) ⊎ (b ≡ false)
-cases_bool true = inl refl
-cases_bool false = inr refl
-
 put_at : (b : Bool) (old new v : Node) → (b ≡ true → v ≡ new) → (b ≡ false → v ≡ old) → v ≡ if b then new else old
 put_at true old new v here there = here refl
 put_at false old new v here there = there refl
