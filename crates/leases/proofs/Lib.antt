@@ -2,3 +2,4 @@ pub mod MarkLemmas
 pub mod TableLemmas
 pub mod LowestLaw
 pub mod RetiredLemmas
+pub mod RisingLemmas

@@ -1,5 +1,7 @@
 ghost use Rattle.std.specs.Prelude.{if◌then◌else◌, ◌≡◌, ◌≢◌, ℕ, ◌≤◌, ◌<◌, true, false, not, [], ◌∷◌, ◌++◌, filter, map, count_by, ◌&&◌, All, AllPairs, IfOk, IfSome, OnOk, OnErr, option_copied};
 ghost use Rattle.std.specs.List.{find, list_any, position_from};
+ghost use Rattle.std.specs.List.Sorted.{IsStrictlySortedBy};
+ghost use Rattle.farm_base.specs.Slots.{slot_cmp};
 ghost use Rattle.farm_base.specs.declared.limits.TheConstants.{INSTANCES};
 ghost use Rattle.farm_base.specs.Wanted.{IsWants};
 ghost use Rattle.protocol.specs.Names.{leased_wants, wants_shared, any_shared, is_private, only_slot};
@@ -408,6 +410,39 @@ impl LeaseTable {
         drop_older(&mut self.leases, node, life);
         ended
     }
+}
+
+impl LeaseTable {
+    /// Copies of the leases, by rising ticket, and of the slots that are never granted again, rising.
+    pub fn to_parts(&self, alloc: Global) -> Result<(Vec<Lease>, Vec<Slot>), AllocError>
+        ensures leases { IfOk result (λ parts. parts.0.items ≡ self.now.live) }
+        ensures rising { IfOk result (λ parts. IsStrictlySortedBy slot_cmp parts.1.items) }
+        ensures retired { IfOk result (λ parts. among parts.1.items ≡ among self.now.retired) }
+    {
+        let leases = copy_all(alloc, self.leases.as_slice())?;
+        let retired = rising(alloc, self.retired.as_slice())?;
+        Ok((leases, retired))
+    }
+
+    /// The table of these leases and of these slots that are never granted again.
+    pub fn from_parts(leases: Vec<Lease>, retired: Vec<Slot>) -> Self
+        requires { AreLeases leases.items }
+        ensures live { result.live ≡ leases.items }
+        ensures retired { result.retired ≡ retired.items }
+    {
+        LeaseTable { leases, retired }
+    }
+}
+
+/// These slots, each once, rising.
+fn rising(alloc: Global, slots: &[Slot]) -> Result<Vec<Slot>, AllocError>
+    ensures rising { IfOk result (λ v. IsStrictlySortedBy slot_cmp v.items) }
+    ensures same { IfOk result (λ v. among v.items ≡ among slots.now) }
+{
+    let mut rising = copy_all(alloc, slots)?;
+    rising.sort()?;
+    rising.dedup();
+    Ok(rising)
 }
 
 /// Removes the lease of a ticket, and returns it.
