@@ -2,3 +2,4 @@ pub mod LineLemmas
 pub mod LineWords
 pub mod Ordered
 pub mod Pushing
+pub mod Again

@@ -18,6 +18,7 @@ use Rattle.protocol.specs.Lists.{is_nil}
 use Rattle.protocol.specs.Names.{Slot, slot_eq}
 use Rattle.protocol.specs.Machine.{LineVersion}
 use Rattle.versions.specs.declared.lines.SlotLine.{SlotLine}
+use Rattle.versions.specs.Line.{IsLine}
 use Rattle.versions.specs.Lines.{line_at}
 use Rattle.versions.specs.Additions.{adds}
 use Rattle.versions.specs.Ordered.{slots, AreLines, IsPlace, IsGap}
@@ -158,8 +159,12 @@ all_insert P (l ∷ ls) (suc k) n all here zero d lt = all 0 d (omega arith)
 all_insert P (l ∷ ls) (suc k) n all here (suc i) d lt = all_insert P ls k n (λ j e h. all (suc j) e (omega arith)) here i d (omega arith)
 
 -- inserting the line of a slot that has none
-pub lines-insert : (ls : List SlotLine) (k : ℕ) (n : SlotLine) → AreLines ls → IsGap n.slot ls k → n.line ≢ [] → AreLines (insert ls k n)
-lines-insert ls k n h gap full = record { rise = rise_insert ls k n h.rise gap; filled = all_insert (λ l. l.line ≢ []) ls k n h.filled full }
+pub lines-insert : (ls : List SlotLine) (k : ℕ) (n : SlotLine) → AreLines ls → IsGap n.slot ls k → n.line ≢ [] → IsLine n.line → AreLines (insert ls k n)
+lines-insert ls k n h gap full line = record {
+  rise = rise_insert ls k n h.rise gap;
+  filled = all_insert (λ l. l.line ≢ []) ls k n h.filled full;
+  tickets = all_insert (λ l. IsLine l.line) ls k n h.tickets line;
+}
 
 -- ---- a line changed
 
@@ -168,10 +173,11 @@ slots-set [] k l d lt e = absurd (omega arith)
 slots-set (x ∷ ls) zero l d lt e = ap (λ s. s ∷ slots ls) e
 slots-set (x ∷ ls) (suc k) l d lt e = ap (λ ss. x.slot ∷ ss) (slots-set ls k l d (omega arith) e)
 
-pub lines-set : (ls : List SlotLine) (k : ℕ) (l d : SlotLine) → AreLines ls → k < length ls → l.slot ≡ (get_or ls k d).slot → l.line ≢ [] → AreLines (set ls k l)
-lines-set ls k l d h lt e full = record {
+pub lines-set : (ls : List SlotLine) (k : ℕ) (l d : SlotLine) → AreLines ls → k < length ls → l.slot ≡ (get_or ls k d).slot → l.line ≢ [] → IsLine l.line → AreLines (set ls k l)
+lines-set ls k l d h lt e full line = record {
   rise = subst (IsStrictlySortedBy slot_cmp) (sym (slots-set ls k l d lt e)) h.rise;
   filled = All-set (λ l. l.line ≢ []) ls k l full h.filled;
+  tickets = All-set (λ l. IsLine l.line) ls k l line h.tickets;
 }
 
 differs : (l : SlotLine) (s x : Slot) → s ≡ l.slot → slot_eq l.slot x ≡ slot_eq s x
@@ -215,6 +221,9 @@ pushed_full (x ∷ xs) v e = cc e
 pub one_full : (v : LineVersion) → v ∷ [] ≢ []
 one_full v e = cc e
 
+pub one_line : (v : LineVersion) → IsLine (v ∷ [])
+one_line v = λ k inside. (let few : k + 1 < 1 = inside in absurd (omega arith))
+
 pub lines-none : AreLines []
 unfolding IsStrictlySortedBy
-lines-none = record { rise = tt; filled = λ k d lt. absurd (omega arith) }
+lines-none = record { rise = tt; filled = λ k d lt. absurd (omega arith); tickets = λ k d lt. absurd (omega arith) }

@@ -6,15 +6,17 @@ use Rattle.std.specs.declared.cmp.Ordering.TheVariants.{Less}
 use Rattle.farm_base.specs.Slots.{slot_cmp}
 use Rattle.protocol.specs.Names.{Slot}
 use Rattle.versions.specs.declared.lines.SlotLine.{SlotLine}
+use Rattle.versions.specs.Line.{IsLine}
 
 -- the slots of some lines
 abbrev pub slots : List SlotLine → List Slot
 slots lines = map (λ l. l.slot) lines
 
--- lines that are not empty, by rising slot
+-- lines that are not empty, by rising slot, each with rising tickets
 pub record AreLines (lines : List SlotLine) : Type 0 where
   pub rise : IsStrictlySortedBy slot_cmp (slots lines)
   pub filled : All (λ l. l.line ≢ []) lines
+  pub tickets : All (λ l. IsLine l.line) lines
 
 -- the slot's line stands at this place
 pub record IsPlace (s : Slot) (lines : List SlotLine) (k : ℕ) : Type 0 where

@@ -131,7 +131,8 @@ impl Line {
     pub fn push_into(&mut self, room: Room, ticket: Ticket, digest: Digest)
         requires above { All (λ version. version.ticket.0 < ticket.0) self.old }
         requires room { length self.old < room }
-        ensures { self.new ≡ self.old ++ record { ticket = ticket; digest = digest } ∷ [] }
+        ensures value { self.new ≡ self.old ++ record { ticket = ticket; digest = digest } ∷ [] }
+        ensures rises { IsLine self.new }
     {
         make_room(&mut self.versions, room.versions);
         self.versions.push(LineVersion { ticket, digest }).unwrap();

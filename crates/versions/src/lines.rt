@@ -15,7 +15,9 @@ ghost use Rattle.versions.specs.Ordered.{AreLines, IsPlace, IsGap, slots};
 ghost use Rattle.versions.specs.Lines.{lines_with, news_of, added_count};
 
 use super::line::{Line, Room};
-use farm_base::{Confirmed, Copied, Digest, GrantedSlot, News, Slot, Ticket, empty_digest};
+use farm_base::{
+    Confirmed, Copied, Digest, GrantedSlot, News, Slot, Ticket, copy_all, empty_digest,
+};
 use std::alloc::{AllocError, Global};
 use std::cmp::Ordering;
 use std::marker::Model;
@@ -85,6 +87,33 @@ impl Lines {
         Lines {
             lines: Vec::new(alloc),
         }
+    }
+
+    /// The lines of these slots.
+    pub fn of(lines: Vec<SlotLine>) -> Self
+        requires { AreLines lines.items }
+        ensures { result ≡ lines.items }
+    {
+        Lines { lines }
+    }
+
+    /// A copy of the lines as they are with what a commit adds.
+    pub fn copy_with(
+        &self,
+        alloc: Global,
+        added: &Option<Added>,
+    ) -> Result<Vec<SlotLine>, AllocError>
+        requires { IsReady self.now added.now }
+        ensures lines { IfOk result (λ v. line_at v.items ≡ lines_with self.now added.now) }
+        ensures sound { IfOk result (λ v. AreLines v.items) }
+    {
+        let mut copy = Lines {
+            lines: copy_all(alloc, self.lines.as_slice())?,
+        };
+        let added = again(alloc, &copy, added)?;
+        let room = copy.room_to_add(alloc, &added)?;
+        copy.add_to(added, room);
+        Ok(copy.lines)
     }
 
     pub fn find(&self, slot: &Slot) -> Option<&Line>
@@ -349,6 +378,41 @@ pub fn additions(alloc: Global, lines: &Lines, news: &[News]) -> Result<Vec<Addi
         })?;
     }
     Ok(additions)
+}
+
+/// The news that these additions are of.
+fn news_of(alloc: Global, additions: &[Addition]) -> Result<Vec<News>, AllocError>
+    ensures { IfOk result (λ v. v.items ≡ map news_of additions.now) }
+{
+    let mut news = Vec::with_capacity(alloc, additions.len())?;
+    for addition in additions {
+        news.push(News {
+            slot: addition.slot.copy(alloc)?,
+            digest: addition.digest,
+        })?;
+    }
+    Ok(news)
+}
+
+/// The same additions, with room of their own.
+fn again(
+    alloc: Global,
+    lines: &Lines,
+    added: &Option<Added>,
+) -> Result<Option<Added>, AllocError>
+    requires { IsReady lines.now added.now }
+    ensures same { IfOk result (λ copy. lines_with lines.now copy ≡ lines_with lines.now added.now) }
+    ensures ready { IfOk result (IsReady lines.now) }
+{
+    let Some(added) = added else {
+        return Ok(None);
+    };
+    let news = news_of(alloc, added.additions.as_slice())?;
+    let additions = additions(alloc, lines, news.as_slice())?;
+    Ok(Some(Added {
+        ticket: added.ticket,
+        additions,
+    }))
 }
 
 /// Adds a version to a slot's line.

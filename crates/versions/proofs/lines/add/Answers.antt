@@ -4,7 +4,7 @@ use Rattle.protocol.specs.Machine.{LineVersion}
 use Rattle.versions.specs.declared.lines.SlotLine.{SlotLine}
 use Rattle.versions.specs.Lines.{line_at}
 use Rattle.versions.specs.Ordered.{IsPlace, IsGap, AreLines}
-use Rattle.versions.proofs.Ordered.{line_at-place, line_at-set, line_at-insert, lines-set, lines-insert, pushed_full, one_full}
+use Rattle.versions.proofs.Ordered.{line_at-place, line_at-set, line_at-insert, lines-set, lines-insert, pushed_full, one_full, one_line}
 use Rattle.versions.proofs.lines.add.Goals as goal
 
 pub push_into-requires-clause-above : goal.push_into-requires-clause-above
@@ -27,7 +27,7 @@ returns-in-Ok-clause-lines c =
     let d : SlotLine = c.index_mut.result.now in
     let at : IsPlace c.args.addition.slot items c.in-Ok.place = subst (λ ls. IsPlace c.args.addition.slot ls c.in-Ok.place) c.as_slice.ensures.value c.in-Ok.ensures in
     line_at-set items c.in-Ok.place c.args.addition.slot (record { ticket = c.args.ticket; digest = c.args.addition.digest }) (record { slot = d.slot; line = c.push_into.new.self }) d c.requires.sound.rise at.inside (at.slot d)
-    (ap (λ (l : SlotLine). l.slot) c.index_mut.ensures.value ∙ at.slot d) (c.push_into.ensures ∙ ap (λ (l : SlotLine). l.line ++ record { ticket = c.args.ticket; digest = c.args.addition.digest } ∷ []) c.index_mut.ensures.value)
+    (ap (λ (l : SlotLine). l.slot) c.index_mut.ensures.value ∙ at.slot d) (c.push_into.ensures.value ∙ ap (λ (l : SlotLine). l.line ++ record { ticket = c.args.ticket; digest = c.args.addition.digest } ∷ []) c.index_mut.ensures.value)
 
 pub returns-in-Ok-clause-sound : goal.returns-in-Ok-clause-sound
 returns-in-Ok-clause-sound c =
@@ -35,7 +35,7 @@ returns-in-Ok-clause-sound c =
     let d : SlotLine = c.index_mut.result.now in
     let at : IsPlace c.args.addition.slot items c.in-Ok.place = subst (λ ls. IsPlace c.args.addition.slot ls c.in-Ok.place) c.as_slice.ensures.value c.in-Ok.ensures in
     lines-set items c.in-Ok.place (record { slot = d.slot; line = c.push_into.new.self }) d c.requires.sound at.inside (ap (λ (l : SlotLine). l.slot) c.index_mut.ensures.value)
-    (λ e. pushed_full d.line (record { ticket = c.args.ticket; digest = c.args.addition.digest }) (sym c.push_into.ensures ∙ e))
+    (λ e. pushed_full d.line (record { ticket = c.args.ticket; digest = c.args.addition.digest }) (sym c.push_into.ensures.value ∙ e)) c.push_into.ensures.rises
 
 pub returns-in-Err-clause-lines : goal.returns-in-Err-clause-lines
 returns-in-Err-clause-lines c =
@@ -48,4 +48,4 @@ returns-in-Err-clause-sound c =
     let items : List SlotLine = c.args.lines.now.items in
     let at : IsGap c.args.addition.slot items c.in-Err.place = subst (λ ls. IsGap c.args.addition.slot ls c.in-Err.place) c.as_slice.ensures.value c.in-Err.ensures in
     let v : LineVersion = record { ticket = c.args.ticket; digest = c.args.addition.digest } in
-    subst AreLines (sym c.insert_line.ensures.line) (lines-insert items c.in-Err.place (record { slot = c.args.addition.slot; line = v ∷ [] }) c.requires.sound at (one_full v))
+    subst AreLines (sym c.insert_line.ensures.line) (lines-insert items c.in-Err.place (record { slot = c.args.addition.slot; line = v ∷ [] }) c.requires.sound at (one_full v) (one_line v))
