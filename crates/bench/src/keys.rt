@@ -1,4 +1,4 @@
-//! Loading a definition and its solver keys against hashing just what they need.
+//! Loading a definition and its solver keys against hashing only what they need.
 
 use super::clock::{ROUNDS, seconds_since};
 use super::graphs::{chain, diamonds, large, wide};

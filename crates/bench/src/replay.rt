@@ -52,7 +52,7 @@ fn event(alloc: Global, nodes: u32, lease: u32, place: u32) -> anyhow::Result<Ev
     })
 }
 
-/// So many events of nodes that take turns with one LOCKED folder.
+/// Events of nodes that take turns with one LOCKED folder.
 pub fn events(alloc: Global, nodes: u32, count: u32) -> anyhow::Result<Vec<Event>> {
     let mut events = Vec::new(alloc);
     for number in 0..count {

@@ -1,4 +1,4 @@
--- The coordinator's own calls, by what they are accepted for.
+-- The operator's calls, by what they are accepted for.
 use mathlib.Core.Path.{fun_ext}
 use Rattle.std.proofs.Common.{◌≡◌, ℕ, List, [], ◌∷◌, ◌++◌, Bool, true, false, not, ◌||◌, ◌&&◌, eqb, cond, Option, Some, None, Result, Ok, Err, refl, sym, ◌∙◌, ap, subst}
 use Rattle.std.proofs.lemmas.Bool.{eqb-true}
@@ -23,7 +23,7 @@ use Rattle.coordinator.proofs.SoundWords.{sound-fewer, sound-retried}
 
 -- ---- withdraw
 
--- what a withdrawal takes back, and what it comes to
+-- what a withdrawal takes back, and its result
 pub record Withdrawal (k : Limits) (t : Ticket) (w : Work) : Type 0 where
   pub lease : Lease
   pub found : lease_under w.ledger.live t ≡ Some lease

@@ -28,7 +28,7 @@ passed false true c x y z r h = absurd (cc)
 passed false false true x y z r h = (refl, refl, refl)
 passed false false false x y z r h = absurd (cc)
 
--- what a prune is accepted for, and what it comes to
+-- what a prune is accepted for, and its result
 pub record Pruning (k : Limits) (s : Slot) (w : Work) : Type 0 where
   pub free : is_leased w.ledger s ≡ false
   pub ticket : nat_lt w.ledger.last k.greatest ≡ true

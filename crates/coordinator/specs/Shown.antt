@@ -23,7 +23,7 @@ kept line s = record {
   parked = s.parked.items;
 }
 
--- what an event has come to
+-- the result of an event so far
 abbrev pub shown : LineOf → Draft → Work
 shown line d = record { ledger = kept line d.state; sends = d.sends.items; changed = d.changed; note = d.note }
 

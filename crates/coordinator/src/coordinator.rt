@@ -47,14 +47,14 @@ impl Model for Coordinator {
     ghost invariant = { λ c. keeps_sound c.state c.lines };
 }
 
-/// What a message came to.
+/// The result of a message or of a call.
 #[derive(Debug, Drop)]
 pub struct Handled {
     pub sends: Items<FromCoord>,
     pub note: CoordNote,
 }
 
-/// What a message comes to once it is accepted.
+/// An event that was worked out and not applied yet.
 #[derive(Debug, Drop)]
 struct Prepared {
     draft: Draft,
@@ -63,7 +63,7 @@ struct Prepared {
     room: Vec<SlotLine>,
 }
 
-/// The requests of the program.
+/// The wants of an Acquire are lawful by their type.
 fn is_request(message: &ToCoord)
     ensures { IsRequest message.now.request }
 {
@@ -91,7 +91,7 @@ impl Coordinator {
         }
     }
 
-    /// What an event is worked out on: all that is kept but the lines.
+    /// A copy of the state, on which an event is worked out.
     fn draft(&self, alloc: Global) -> Result<Draft, AllocError>
         ensures work { IfOk result (λ draft. shown (line_at self.now.lines) draft ≡ begin_work (ledger self.now)) }
         ensures sound { IfOk result (λ draft. IsSound (kept (line_at self.now.lines) draft.state)) }
@@ -104,7 +104,7 @@ impl Coordinator {
         })
     }
 
-    /// What a message comes to. Nothing changes until that is accepted.
+    /// Works out what a message does. Nothing changes before `accept`.
     fn prepare(&self, alloc: Global, message: &ToCoord) -> Result<Prepared, AllocError>
         ensures work { IfOk result (λ p. shown (lines_with self.now.lines p.added) p.draft
             ≡ handled farm_limits message.now (begin_work (ledger self.now))) }
@@ -121,7 +121,7 @@ impl Coordinator {
         Ok(Prepared { draft, added, room })
     }
 
-    /// Changes to what was prepared.
+    /// Applies an event that was worked out.
     fn accept(&mut self, prepared: Prepared) -> Handled
         requires sound { IsSound (kept (lines_with self.old.lines prepared.added) prepared.draft.state) }
         requires ready { IsReady self.old.lines prepared.added }
@@ -141,7 +141,7 @@ impl Coordinator {
         }
     }
 
-    /// Changes to what was worked out, where no line changes.
+    /// Applies an event that was worked out and changes no line.
     fn settle(&mut self, draft: Draft) -> Handled
         requires { IsSound (kept (line_at self.old.lines) draft.state) }
         ensures ledger { ledger self.new ≡ kept (line_at self.old.lines) draft.state }
@@ -180,7 +180,7 @@ impl Coordinator {
         Ok(handled)
     }
 
-    /// What the withdrawal of a lease comes to.
+    /// Works out the withdrawal of a lease.
     fn withdrawal(&self, alloc: Global, ticket: Ticket) -> Result<Draft, AllocError>
         requires { result_err (withdrawn farm_limits ticket (begin_work (ledger self.now))) ≡ None }
         ensures work { IfOk result (λ draft. withdrawn farm_limits ticket (begin_work (ledger self.now)) ≡ Ok (shown (line_at self.now.lines) draft)) }
@@ -209,7 +209,7 @@ impl Coordinator {
         Ok(handled)
     }
 
-    /// What the retirement of a node comes to.
+    /// Works out the retirement of a node.
     fn retirement(&self, alloc: Global, node: NodeId) -> Result<Draft, AllocError>
         requires { result_err (retired farm_limits node (begin_work (ledger self.now))) ≡ None }
         ensures work { IfOk result (λ draft. retired farm_limits node (begin_work (ledger self.now)) ≡ Ok (shown (line_at self.now.lines) draft)) }
@@ -238,7 +238,7 @@ impl Coordinator {
         Ok(handled)
     }
 
-    /// Why the line of a slot can't be pruned, if so.
+    /// Why the line of a slot can't be pruned, or None if it can.
     fn prune_refusal(&self, slot: &Slot) -> Option<CoordRefusal>
         ensures { result ≡ result_err (pruned farm_limits slot.now (begin_work (ledger self.now))) }
     {
@@ -253,7 +253,7 @@ impl Coordinator {
         }
     }
 
-    /// What the prune of a slot's line comes to.
+    /// Works out the prune of a slot's line.
     fn pruning(&self, alloc: Global, slot: &Slot) -> Result<Prepared, AllocError>
         requires { result_err (pruned farm_limits slot.now (begin_work (ledger self.now))) ≡ None }
         ensures work { IfOk result (λ p. pruned farm_limits slot.now (begin_work (ledger self.now)) ≡ Ok (shown (lines_with self.now.lines p.added) p.draft)) }
@@ -299,14 +299,14 @@ impl Coordinator {
         })
     }
 
-    /// How many messages one message makes it send, at most.
+    /// The most messages that one message can make it send.
     pub fn most_sends(&self) -> usize
         ensures { (y : ToCoord) → length (handled farm_limits y (begin_work (ledger self.now))).sends ≤ result }
     {
         1 + self.state.parked.len()
     }
 
-    /// How many messages a call of its own makes it send, at most; but for a nudge, which changes nothing.
+    /// The most messages that a withdrawal, a retirement or a prune can make it send.
     pub fn most_sends_of_calls(&self) -> usize
         ensures withdraw { (t : Ticket) (w : Work) → withdrawn farm_limits t (begin_work (ledger self.now)) ≡ Ok w → length w.sends ≤ result }
         ensures retire { (n : NodeId) (w : Work) → retired farm_limits n (begin_work (ledger self.now)) ≡ Ok w → length w.sends ≤ result }

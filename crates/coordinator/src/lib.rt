@@ -3,7 +3,7 @@
 
 mod coordinator;
 mod draft;
-mod own_calls;
+mod operator_calls;
 mod state;
 
 pub use coordinator::{Coordinator, Handled};

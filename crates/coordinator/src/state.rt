@@ -50,7 +50,7 @@ fn drop_life(lives: &mut Vec<NodeLife>, node: NodeId)
     lives.retain(|seen| seen.node != node);
 }
 
-/// Keeps the life as the node's greatest.
+/// Sets the greatest life seen of the node.
 pub(crate) fn set_life(
     lives: &mut Vec<NodeLife>,
     node: NodeId,
@@ -84,7 +84,7 @@ pub(crate) fn drop_older_asks(parked: &mut Vec<Parked>, node: NodeId, life: Life
     parked.retain(|p| !(p.node == node && p.life < life));
 }
 
-/// Keeps the node as one that is retired.
+/// Marks the node as retired.
 pub(crate) fn add_gone(gone: &mut Vec<NodeId>, node: NodeId) -> Result<(), AllocError>
     ensures { OnOk result (is_among gone.new.items ≡ put node.0 true (is_among gone.old.items)) }
 {

@@ -11,9 +11,7 @@ ghost use Rattle.farmctl.specs.Replays.{events_text, IsReplayed, IsUnread};
 use super::failure::Failure;
 use schedule::{Event, ScheduleRefusal, read_schedule};
 use std::alloc::{AllocError, Global};
-use world::{
-    EventRefusal, StartRefusal, World, every_replay_means, print_lines, print_outcome,
-};
+use world::{EventRefusal, StartRefusal, World, every_replay_means, print_lines, print_outcome};
 
 /// Adds the line of an event, which the farm carries out.
 fn push_event(

@@ -1,4 +1,4 @@
--- What calls come to.
+-- The results of calls.
 use Rattle.std.proofs.Common.{◌≡◌, ℕ, ◌+◌, ◌<◌, Bool, true, false, not, nat_lt, List, [], ◌∷◌, length, refl, ap, sym, ◌∙◌, add-one, arith, cond, is_some, Option, Some, None, Ok, Err}
 use mathlib.Core.Path.{fun_ext}
 use Rattle.std.specs.List.{list_any}

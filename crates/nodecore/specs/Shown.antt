@@ -63,7 +63,7 @@ abbrev pub Does : NodeWork → Node → Node → Result NodeDone AllocError → 
 Does work old new (Ok done) = work ≡ work_of new done
 Does work old new (Err e) = new ≡ old
 
--- the call came to this. Where it was refused nothing is changed
+-- what the call did. Where it was refused nothing is changed
 abbrev pub Answers : NodeAnswer → Node → Node → Result NodeDone NodeRefusal → Type 0
 Answers answer old new (Ok done) = answer ≡ Ok (work_of new done)
 Answers answer old new (Err OutOfMemory) = new ≡ old
@@ -78,7 +78,7 @@ content_at x (Some d) = x.store d
 abbrev pub content_of : Node → Version → Option (List ℕ)
 content_of x v = content_at x (x.known v.slot v.number)
 
--- what a message comes to
+-- the result of a message
 abbrev pub message_work : Place → Node → ToNode → NodeWork
 message_work at x m = received content_digest farm_limits at m x
 

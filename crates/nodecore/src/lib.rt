@@ -2,11 +2,11 @@
 #![tactic(auto)]
 
 mod asks;
+mod contents;
 mod fetching;
-mod heard;
-mod kept;
 mod message;
 mod node_core;
+mod receive;
 mod resending;
 mod sending;
 

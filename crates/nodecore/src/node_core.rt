@@ -11,7 +11,7 @@ ghost use Rattle.nodecore.specs.Asks.{told_state, AreOver};
 use super::asks::{
     Sought, at_home, begin, finish, has_tenure, in_use, over_from, place_of, slots, told,
 };
-use super::kept::{fits, news_of, store_all};
+use super::contents::{fits, news_of, store_all};
 use super::message::{AskState, NodeDone};
 use farm_base::{
     Ask, Content, Copied, Digest, FolderName, GREATEST, GrantedSlot, Items, Life, Message, Mode,

@@ -36,7 +36,7 @@ WasAsked x l a wants tenure = (l.0 < x.life.0) ⊎ ((l ≡ x.life) × ((s : Kept
 abbrev pub Spent : Node → Grant → Type 0
 Spent x g = (g.life.0 < x.life.0) ⊎ ((g.life ≡ x.life) × ((s : KeptAsk) × (nth x.asks g.ask.0 ≡ Some s) × (spent s g.ticket.0 ≡ true)))
 
--- a tenure is asked for with just its folder
+-- a tenure is asked for with its folder alone
 abbrev pub ForTenure : Bool → List Want → Type 0
 ForTenure tenure wants = tenure ≡ true → (f : FolderName) × (wants ≡ tenure_wants f)
 

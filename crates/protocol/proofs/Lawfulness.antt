@@ -384,7 +384,7 @@ module _ (top : ℕ) (k : Limits) where
       | inl t ↦ rw t l
       | inr old ↦ rw old (elim (cases_Bool (nat_lt (w.ledger.lives y.node.0) y.life.0)) [
         | inl newer ↦ rw newer (answering_lawful y.node y.life y.request (newer_life k y.node y.life w) said.speaker said.request (newer-lives y.node y.life w)
-          (ap (λ (f : ℕ → Bool). f y.node.0) (newer-gone y.node y.life w) ∙ here) (newer_lawful y.node y.life w said.speaker (lt_is (w.ledger.lives y.node.0) y.life.0 newer) l))
+            (ap (λ (f : ℕ → Bool). f y.node.0) (newer-gone y.node y.life w) ∙ here) (newer_lawful y.node y.life w said.speaker (lt_is (w.ledger.lives y.node.0) y.life.0 newer) l))
         | inr same ↦ rw same (answering_lawful y.node y.life y.request w said.speaker said.request (same_life y.life.0 (w.ledger.lives y.node.0) old same) here l)
       ])
     ])

@@ -298,7 +298,7 @@ module _ (sha : List ℕ → Digest) (u : World) (n : NodeId) where
       let o = from_map (λ (m : NodeId). Fetches (record { node = m; from = n; digest = r.0.digest })) y (others (at size)) r.2 in
       (o.0, r.0.digest, o.2)
 
-  -- what an accepted call comes to is reached
+  -- the result of an accepted call is reached
   abbrev pub OnAnswer : NodeAnswer → Type 0
   OnAnswer (Ok w) = Reached sha u n w.sends w.node
   OnAnswer (Err e) = ⊤

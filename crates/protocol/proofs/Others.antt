@@ -221,7 +221,7 @@ module _ (k : Limits) (fits : k.instances ≤ 4096) (pool : List Message) (m : M
 
   -- ---- restarts
 
-  -- what the record has is what the machine may come to: leases that aren't saved are withdrawn
+  -- the machine may become what the record has: leases that aren't saved are withdrawn
   pub reread_it : (w : Work) (f : Fi k fits pool m sound sent P w) → SoEnds (λ h. not (is_saved h)) Withdrawn w f → Fi k fits pool m sound sent is (record w { ledger = reread w.ledger; changed = true })
   reread_it w f so =
       let ended = calls.withdrawn_ends k fits pool m sound sent P is (λ h. not (is_saved h)) true w.ledger.retired w f

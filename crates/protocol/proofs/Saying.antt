@@ -202,7 +202,7 @@ module _ (k : Limits) (q : Ledger) where
         ];
       }
 
--- ---- what a decision comes to
+-- ---- the result of a decision
 
 pub record Grew (k : Limits) (q : Ledger) (c : Change q) (w : Work) : Type 0 where
   pub lines : (s : Slot) → w.ledger.line s ≡ c.line s

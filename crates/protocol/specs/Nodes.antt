@@ -333,7 +333,7 @@ brought sha c x =
     then record { node = record x { store = keep (sha c) c x.store }; sends = []; note = note.BlobTaken }
     else nothing x
 
--- what a message comes to
+-- the result of a message
 abbrev pub received : (List ℕ → Digest) → Limits → Place → ToNode → Node → NodeWork
 received sha k at (to_node.FromCoord y) x = heard k at y x
 received sha k at (to_node.Fetch y) x = fetched y.from x (x.store y.digest)

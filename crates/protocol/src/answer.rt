@@ -111,7 +111,7 @@ pub enum Decision {
     Wait,
 }
 
-/// How an ask came to its end.
+/// How an ask ended.
 #[derive(Clone, Copy, Debug, PartialEq, Eq)]
 pub enum How {
     Denied(Why),

@@ -395,11 +395,7 @@ fn news_of(alloc: Global, additions: &[Addition]) -> Result<Vec<News>, AllocErro
 }
 
 /// The same additions, with room of their own.
-fn again(
-    alloc: Global,
-    lines: &Lines,
-    added: &Option<Added>,
-) -> Result<Option<Added>, AllocError>
+fn again(alloc: Global, lines: &Lines, added: &Option<Added>) -> Result<Option<Added>, AllocError>
     requires { IsReady lines.now added.now }
     ensures same { IfOk result (λ copy. lines_with lines.now copy ≡ lines_with lines.now added.now) }
     ensures ready { IfOk result (IsReady lines.now) }

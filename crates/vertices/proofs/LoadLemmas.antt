@@ -14,7 +14,7 @@ use Rattle.lists.proofs.Places.{take_push, Contains-at, at_Contains, get_push_en
 use Rattle.vertices.specs.declared.vertex.Vertex.{Vertex}
 use Rattle.vertices.specs.declared.refusal.LoadRefusal.{LoadRefusal}
 use Rattle.vertices.specs.declared.refusal.LoadRefusal.TheVariants.{OutOfMemory}
-use Rattle.vertices.specs.declared.asked.Asked.{Asked}
+use Rattle.vertices.specs.declared.unresolved.Asked.{Asked}
 use Rattle.vertices.specs.declared.vertex.Source.{Source}
 use Rattle.vertices.specs.declared.table.Table.{Table}
 use Rattle.vertices.specs.Asked.{Asks}

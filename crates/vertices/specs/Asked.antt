@@ -4,8 +4,8 @@ use Rattle.std.specs.List.{AllZip}
 use Rattle.farm_base.specs.Digests.{IsDigest, digest_text}
 use Rattle.opsproto.specs.Scalars.{Text}
 use Rattle.opsproto.specs.declared.input.Input.{Input}
-use Rattle.vertices.specs.declared.asked.Named.{Named}
-use Rattle.vertices.specs.declared.asked.Asked.{Asked}
+use Rattle.vertices.specs.declared.unresolved.Named.{Named}
+use Rattle.vertices.specs.declared.unresolved.Asked.{Asked}
 use Rattle.vertices.specs.declared.vertex.Vertex.{Vertex}
 use Rattle.vertices.specs.Edges.{IsDigestText}
 use Rattle.vertices.specs.OpChecks.{KindCheck}

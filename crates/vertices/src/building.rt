@@ -9,11 +9,11 @@ ghost use Rattle.vertices.specs.Numbered.{AreNumbers, HasTargets};
 ghost use Rattle.vertices.specs.Orders.{IsOrder, IsCyclic};
 ghost use Rattle.vertices.specs.Loading.{VertexCheck};
 
-use super::asked::Asked;
 use super::edges::edges_of;
 use super::ordering::order_of;
 use super::refusal::LoadRefusal;
 use super::table::Table;
+use super::unresolved::Asked;
 use farm_base::Items;
 use std::alloc::{AllocError, Global};
 

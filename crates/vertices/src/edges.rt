@@ -9,9 +9,9 @@ ghost use Rattle.vertices.specs.Asked.{NamesAs};
 ghost use Rattle.vertices.specs.Outcomes.{Each, refused, Answers};
 ghost use Rattle.vertices.specs.Edges.{IsDigestText, InputCheck, IsEdge, AreEdges, Numbers};
 
-use super::asked::Named;
 use super::refusal::LoadRefusal;
 use super::table::Table;
+use super::unresolved::Named;
 use farm_base::Digest;
 use std::alloc::Global;
 

@@ -3,13 +3,13 @@ ghost use Rattle.vertices.specs.Outcomes.{Answers};
 ghost use Rattle.vertices.specs.Edges.{Numbers, IsEdge};
 ghost use Rattle.vertices.specs.Loading.{ReadChecks, GraphCheck, DefinitionCheck, IsGraph, IsGraphOf};
 
-use super::asked::{Asked, Named};
 use super::building::{all_edges, edge_order};
 use super::edges::edge_of;
 use super::graph::Graph;
 use super::reading::{digest_of, read_entry};
 use super::refusal::LoadRefusal;
 use super::table::Table;
+use super::unresolved::{Asked, Named};
 use super::vertex::Source;
 use opsproto::{Definition, Input};
 use protowire::BodyList;

@@ -1,4 +1,4 @@
--- What a call of the coordinator's own comes to in the farm.
+-- What an operator's call does in the farm.
 use Rattle.std.proofs.Common.{◌≡◌, ℕ, ◌≤◌, ◌++◌, List, length, map, None, Result, Ok, Err, refl, sym, ap, ◌∙◌, subst}
 use Rattle.protocol.specs.Machine.{Message, Told}
 use Rattle.protocol.specs.Ledger.{Ledger, Work, saves}

@@ -76,6 +76,6 @@ called_few (call.Forge content) p x w h = one (brought content_digest content x)
 pub few : (c : Call) (p : Place) (x y : Node) (d : NodeDone) → called c p x ≡ Ok (work_of y d) → length d.sends ≤ 1
 few c p x y d h = called_few c p x (work_of y d) h
 
--- a node sends what the message comes to
+-- a node sends what the message makes it send
 pub heard_count : (x y : Node) (w : NodeWork) (d : NodeDone) → unless_spent x w ≡ Ok (work_of y d) → length w.sends ≡ length d.sends
 heard_count x y w d h = ap (λ (u : NodeWork). length u.sends) (ok_is w (work_of y d) (guarded x.spent refusal.LivesSpent (Ok w) (work_of y d) h))

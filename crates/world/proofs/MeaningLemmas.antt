@@ -1,4 +1,4 @@
--- What an event came to is what it means.
+-- The result of an event is what it means.
 use Rattle.std.proofs.Common.{◌≡◌, ℕ, Bool, true, false, ◌++◌, map, Option, Some, None, Result, Ok, Err, refl, sym, ap, ◌∙◌, subst}
 use Rattle.std.specs.Prelude.{nat_lt}
 use Rattle.farm_base.specs.Contents.{content_digest}

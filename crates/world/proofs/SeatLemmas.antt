@@ -82,7 +82,7 @@ restarts_at p p' x x' y y' r a b e h = subst (λ (z : Node). Restarts p' x' z r)
 pub node_is : (cores : List NodeCore) (n : ℕ) (x : NodeCore) → nth cores n ≡ Some x → node_at cores n ≡ shown x
 node_is cores n x at = ap shown_or_first at
 
--- what a restart comes to, case by case
+-- the result of a restart, case by case
 pub restarts_as : (p : Place) (x y : Node) (r : Result NodeDone NodeRefusal) → IfOk r (λ done. (may_restart farm_limits x ≡ true) × (restarted p x ≡ work_of y done))
     → (r ≡ Err refusal.LivesSpent → (may_restart farm_limits x ≡ false) × (y ≡ record x { spent = true })) → (r ≡ Err refusal.OutOfMemory → y ≡ x)
     → OnErr r ((r ≡ Err refusal.LivesSpent) ⊎ (r ≡ Err refusal.OutOfMemory)) → Restarts p x y r

@@ -1,4 +1,4 @@
--- What an event of a node comes to in the farm.
+-- What an event of a node does in the farm.
 use Rattle.std.proofs.Common.{◌≡◌, ℕ, ◌==◌, Bool, true, false, if◌then◌else◌, List, [], ◌∷◌, ◌++◌, length, map, Option, None, Result, Ok, Err, refl, sym, ap, ◌∙◌, subst}
 use mathlib.Core.Path.{fun_ext}
 use Rattle.std.proofs.lemmas.Bool.{eqb-true}
@@ -102,7 +102,7 @@ came_stopped s t n y node.AsksSpent here a same after = absurd a
 came_stopped s t n y node.TenureHere here a same after = absurd a
 came_stopped s t n y node.TenureInUse here a same after = absurd a
 
--- what a message to a node comes to
+-- the result of a message to a node
 abbrev pub hears : ToNode → Place → Node → NodeAnswer
 hears m p x = unless_spent x (message_work p x m)
 

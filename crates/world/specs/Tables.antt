@@ -60,7 +60,7 @@ pub record AreFirstOf (all so_far : ℕ) (cores : List NodeCore) : Type 0 where
 abbrev pub AreFirst : ℕ → List NodeCore → Type 0
 AreFirst count cores = AreFirstOf count count cores
 
--- a restart came to this: a new life, or the last one is over for good
+-- the result of a restart: a new life, or the last one is over for good
 abbrev pub Restarts : Place → Node → Node → Result NodeDone NodeRefusal → Type 0
 Restarts p old new (Ok done) = (may_restart farm_limits old ≡ true) × (restarted p old ≡ work_of new done)
 Restarts p old new (Err refusal.LivesSpent) = (may_restart farm_limits old ≡ false) × (new ≡ record old { spent = true })

@@ -1,4 +1,4 @@
--- What an event of the world comes to.
+-- The result of an event of the world.
 use Rattle.std.specs.Prelude.{◌≡◌, ℕ, zero, suc, ◌+◌, ◌<◌, ◌≤◌, true, if◌then◌else◌, length, Result, Ok, Err}
 use Rattle.protocol.specs.Farm.{farm_limits}
 use Rattle.protocol.specs.Names.{NodeId}
@@ -21,23 +21,23 @@ abbrev pub first_number : ℕ → ℕ → ℕ
 first_number before zero = 0
 first_number before (suc count) = before + 1
 
--- the event came to this turn. Where memory ran out nothing is changed
+-- this turn is the event's result. Where memory ran out nothing is changed
 abbrev pub Came : Turn → Farm → Farm → Result Outcome EventRefusal → Type 0
 Came turn old new (Ok outcome) = turn ≡ record { farm = new; outcome = Ok outcome }
 Came turn old new (Err refusal.OutOfMemory) = new ≡ old
 Came turn old new (Err e) = turn ≡ record { farm = new; outcome = Err e }
 
--- the event's refusal that a node's is
+-- maps a node's refusal to the event's
 abbrev pub from_node : NodeRefusal → EventRefusal
 from_node node.OutOfMemory = refusal.OutOfMemory
 from_node e = refusal.Node e
 
--- there is room for what the message makes its receiver send; a room that is no machine's number isn't looked at
+-- there is room for what the message makes its receiver send; a room beyond a machine's numbers isn't looked at
 abbrev pub FitsIn : Farm → Message → ℕ → Type 0
 FitsIn s (ToCoord y) room = length (handled farm_limits y (begin_work s.ledger)).sends ≤ room
 FitsIn s (ToNode m) room = is_node s (receiver m) ≡ true → room < 0xffff_ffff_ffff_ffff → length (message_work (at s (receiver m)) (s.nodes (receiver m).0) m).sends ≤ room
 
--- the event's refusal that the coordinator's is
+-- maps the coordinator's refusal to the event's
 abbrev pub from_coordinator : CoordRefusal → EventRefusal
 from_coordinator coord.OutOfMemory = refusal.OutOfMemory
 from_coordinator e = refusal.Coord e

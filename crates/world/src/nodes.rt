@@ -31,7 +31,7 @@ fn place_of(cores: &[NodeCore], node: NodeId) -> Option<usize>
     }
 }
 
-/// So many nodes in their first lives.
+/// `count` nodes in their first lives.
 fn first_cores(alloc: Global, count: u32) -> Result<Vec<NodeCore>, AllocError>
     ensures { IfOk result (λ cores. AreFirst count cores.items) }
 {
@@ -58,7 +58,7 @@ pub(crate) fn receiver(message: &ToNode) -> NodeId
 }
 
 impl Nodes {
-    /// So many nodes in their first lives.
+    /// `count` nodes in their first lives.
     pub(crate) fn start(alloc: Global, count: u32) -> Result<Self, AllocError>
         ensures { IfOk result (λ nodes. AreFirst count nodes.cores.items) }
     {

@@ -4,7 +4,7 @@ use Rattle.std.proofs.lemmas.List.{take_all}
 use Rattle.std.proofs.lemmas.Option.{slice_get-get_or}
 use Rattle.std.proofs.lemmas.Result.{err_from_is_err_and}
 use Rattle.lists.proofs.Places.{take_push, AllZip-push}
-use Rattle.vertices.specs.declared.asked.Asked.{Asked}
+use Rattle.vertices.specs.declared.unresolved.Asked.{Asked}
 use Rattle.vertices.specs.declared.vertex.Vertex.{Vertex}
 use Rattle.vertices.specs.Asked.{Asks}
 use Rattle.vertices.specs.Outcomes.{Each}

@@ -7,7 +7,7 @@ use Rattle.std.proofs.lemmas.Result.{err_from_is_err_and}
 use Rattle.farm_base.specs.declared.digest.Digest.{Digest}
 use Rattle.farm_base.specs.Digests.{IsDigest}
 use Rattle.opsproto.specs.Ops.{op_at}
-use Rattle.vertices.specs.declared.asked.Asked.{Asked}
+use Rattle.vertices.specs.declared.unresolved.Asked.{Asked}
 use Rattle.vertices.specs.declared.vertex.Source.{Source}
 use Rattle.vertices.specs.Asked.{Asks}
 use Rattle.vertices.specs.Sources.{IsSource, vertex_of}
