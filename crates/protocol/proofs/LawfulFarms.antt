@@ -309,7 +309,7 @@ module _ (top : ℕ) where
   le_is : (a b : ℕ) → nat_le a b ≡ true → a ≤ b
   le_is a b h = grind (arith, nat_tests)
 
-  number_of : (s : Farm) (n : NodeId) → F s → is_node s n ≡ true → IsNumber top n
+  pub number_of : (s : Farm) (n : NodeId) → F s → is_node s n ≡ true → IsNumber top n
   number_of s n f here =
       let both = and_parts (nat_le 1 n.0) (nat_le n.0 s.size) here in
       let low : 1 ≤ n.0 = le_is 1 n.0 both.0 in
@@ -392,7 +392,7 @@ every_farm_stays_lawful sha k top s RestartCoordinator event f = record { size =
 every_farm_stays_lawful sha k top s (Forge n c) event f = does_lawful top n (λ p x. unless_spent x (brought sha c x)) s f (λ number. spent_acts top k (at s n) number (s.nodes n.0) (f.nodes n.0) _ (brought_acts top k (at s n) number (s.nodes n.0) (f.nodes n.0) sha c))
 every_farm_stays_lawful sha k top s (FailSave kept) event f = record { size = f.size; ledger = f.ledger; saved = f.saved; pool = f.pool; nodes = f.nodes }
 
-opening_ledger : (top : ℕ) → IsLawful top ledger.opening
+pub opening_ledger : (top : ℕ) → IsLawful top ledger.opening
 opening_ledger top = record {
   core = record {
     holders = λ g i. absurd i;

@@ -5,3 +5,4 @@ pub mod Setups
 pub mod Replays
 pub mod Printing
 pub mod Meanings
+pub mod Worlds

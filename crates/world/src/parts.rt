@@ -1,7 +1,9 @@
 //! What a world is made of, and what each event does to it.
 ghost use Rattle.std.specs.Prelude.{Ok, ◌≡◌, IfOk, IfSome, map, length, is_some, option_copied};
 ghost use Rattle.farm_base.specs.Contents.{content_digest};
+ghost use Rattle.farm_base.specs.declared.limits.TheConstants.{NODES};
 ghost use Rattle.protocol.specs.Farm.{farm_limits};
+ghost use Rattle.protocol.specs.Lawful.{IsLawfulFarm};
 ghost use Rattle.protocol.specs.Lists.{nth};
 ghost use Rattle.protocol.specs.Ledger.{begin_work, withdrawn, pruned, nudged};
 ghost use Rattle.protocol.specs.Replay.{opening, step, node_does, is_node, delivered, coordinated};
@@ -94,6 +96,7 @@ impl Parts {
 
     /// The message of a number arrives.
     fn deliver(&mut self, alloc: Global, number: u64) -> Result<Outcome, EventRefusal>
+        requires { IsLawfulFarm NODES (shown self.old) }
         ensures { Came (delivered content_digest farm_limits (nth (shown self.old).pool number) (shown self.old)) (shown self.old) (shown self.new) result }
     {
         let Some(place) = place_in(self.pool.as_slice(), number) else {
@@ -184,6 +187,7 @@ impl Parts {
 
     /// A node is gone for good.
     fn retire(&mut self, alloc: Global, node: NodeId) -> Result<Outcome, EventRefusal>
+        requires { IsLawfulFarm NODES (shown self.old) }
         ensures { Came (retiring node (shown self.old)) (shown self.old) (shown self.new) result }
     {
         if self.nodes.get(node).is_none() {
@@ -217,6 +221,7 @@ impl Parts {
     /// Carries out one event, by its kind.
     #[tactic(auto, unfolding(protocol::specs::Replay::step))]
     pub(crate) fn carry_out(&mut self, alloc: Global, event: Event) -> Result<Outcome, EventRefusal>
+        requires { IsLawfulFarm NODES (shown self.old) }
         ensures { Came (step content_digest farm_limits (shown self.old) (event_of event)) (shown self.old) (shown self.new) result }
     {
         match event {

@@ -3,6 +3,7 @@ ghost use Rattle.farm_base.specs.Contents.{content_digest};
 ghost use Rattle.protocol.specs.Farm.{farm_limits};
 ghost use Rattle.protocol.specs.Lists.{nth};
 ghost use Rattle.protocol.specs.Follows.{SafeAfter, SafeBetween};
+ghost use Rattle.protocol.specs.Lawful.{IsEvent};
 ghost use Rattle.protocol.specs.Replay.{opening, step, is_node};
 ghost use Rattle.coordinator.specs.Held.{ledger};
 ghost use Rattle.nodecore.specs.Shown as core;
@@ -17,8 +18,8 @@ use coordinator::Coordinator;
 use farm_base::{NODES, NodeId};
 use nodecore::{Message, NodeCore};
 use protocol::{
-    EventRefusal, Outcome, a_fitting_message_is_granted, every_event_is_moves, every_run_is_safe,
-    every_schedule_is_safe,
+    EventRefusal, Outcome, a_fitting_message_is_granted, every_event_is_moves,
+    every_farm_stays_lawful, every_run_is_safe, every_schedule_is_safe,
 };
 use schedule::{Event, Setup};
 use std::alloc::Global;
@@ -33,16 +34,15 @@ pub struct World {
 }
 
 impl Model for World {
-    ghost use Rattle.farm_base.specs.Contents.{content_digest};
-    ghost use Rattle.protocol.specs.Follows.{SafeAfter};
     ghost use Rattle.protocol.specs.Replay.{Farm};
     ghost use Rattle.world.specs.Shown.{shown};
+    ghost use Rattle.world.specs.Worlds.{IsWorld};
 
     ghost Value = { Farm };
 
     ghost view = { λ w. shown w.parts };
 
-    ghost invariant = { λ w. SafeAfter content_digest (shown w.parts) };
+    ghost invariant = { λ w. IsWorld (shown w.parts) };
 }
 
 /// Why a farm does not start.
@@ -61,6 +61,15 @@ pub(crate) fn is_setup(setup: Setup) -> bool
     1 <= setup.nodes && setup.nodes <= NODES
 }
 
+/// The wants of an ask are lawful by their type.
+fn is_event(event: &Event)
+    ensures { IsEvent (event_of event.now) }
+{
+    if let Event::Ask(_, wants) = event {
+        let _wants = wants.as_slice();
+    }
+}
+
 impl World {
     /// A farm where nothing happened.
     pub fn start(alloc: Global, setup: Setup) -> Result<Self, StartRefusal>
@@ -75,6 +84,7 @@ impl World {
             return Err(StartRefusal::OutOfMemory);
         };
         every_schedule_is_safe();
+        every_farm_stays_lawful();
         Ok(World { parts })
     }
 
@@ -125,6 +135,8 @@ impl World {
         every_run_is_safe();
         every_event_is_moves();
         a_fitting_message_is_granted();
+        every_farm_stays_lawful();
+        is_event(&event);
         self.parts.carry_out(alloc, event)
     }
 }
