@@ -8,3 +8,5 @@ pub mod PartLaws
 pub mod BodyLaws
 pub mod RecordLaws
 pub mod FirstLaws
+pub mod LedgerLemmas
+pub mod KeptLemmas
