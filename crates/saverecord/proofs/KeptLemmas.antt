@@ -34,7 +34,7 @@ use Rattle.saverecord.specs.declared.record.Record.{Record}
 use Rattle.saverecord.specs.Relations.{no_two, versions_up_to, lines_up_to, tickets_up_to, lives_there, shares, is_same_ask, clash, has_retired, is_same_private, is_tenured, some_shared, fits_tenure, is_gone, is_above_line, is_above_lines, fits_record, agrees}
 use Rattle.saverecord.specs.Fits.{IsNode, IsHome, IsNodeLife, IsLease, IsVersion, IsSlotLine, HasParts, IsRecord}
 use Rattle.saverecord.specs.Ledgers.{life_at, is_among, IsOpen, IsKept, KeptIsRecord}
-use Rattle.saverecord.proofs.LedgerLemmas.{all_in, all_from_in, each_in, each_from_in, passes_from_in, none_from_in, life_in, line_in}
+use Rattle.saverecord.proofs.LedgerLemmas.{all_in, all_from_in, each_in, each_from_in, passes_from_in, none_from_in, life_in, line_in, same_ask}
 
 -- ---- leases
 
@@ -54,21 +54,10 @@ tickets_rise (g ∷ leases) all =
 apart_slots : (g h : Lease) → AreApart g h → shares g h ≡ false
 apart_slots g h apart = none_from_in (λ (x : Slot × Bool). has_slot h.slots x.0) g.slots (λ x i. apart.slots x.0 (any_in (λ (y : Slot × Bool). slot_eq y.0 x.0) x g.slots i (slot_eq_same x.0)))
 
-grouped : (a b c : Bool) → (a && b && c) ≡ false → (a && (b && c)) ≡ false
-grouped true b c h = h
-grouped false b c h = refl
-
-apart_asks : (g h : Lease) → AreApart g h → is_same_ask g h ≡ false
-apart_asks g h apart =
-    let n = flip_false g.node.0 h.node.0 in
-    let l = flip_false g.life.0 h.life.0 in
-    let a = flip_false g.ask.0 h.ask.0 in
-    rw (n, l, a) (grouped (eqb h.node.0 g.node.0) (eqb h.life.0 g.life.0) (eqb h.ask.0 g.ask.0) apart.ask)
-
 none_clash : (leases : List Lease) → AllApart leases → no_two clash leases ≡ true
 none_clash [] all = refl
 none_clash (g ∷ leases) all = and_from _ _
-    (not_from_false (list_any (clash g) leases) (none_from_in (clash g) leases (λ h i. or_from (shares g h) (is_same_ask g h) (apart_slots g h (all.0 h i)) (apart_asks g h (all.0 h i)))))
+    (not_from_false (list_any (clash g) leases) (none_from_in (clash g) leases (λ h i. or_from (shares g h) (is_same_ask g h) (apart_slots g h (all.0 h i)) (same_ask g h ∙ (all.0 h i).ask))))
     (none_clash leases all.1)
 
 -- ---- the slots of a lease

@@ -1,5 +1,5 @@
 -- What is read off the lists of a record.
-use Rattle.std.proofs.Common.{◌≡◌, ℕ, zero, suc, ◌<◌, ◌≤◌, List, [], ◌∷◌, ◌⊎◌, Bool, true, false, eqb, length, get_or, map, refl, sym, ap, subst, inl, inr, arith}
+use Rattle.std.proofs.Common.{◌≡◌, ℕ, zero, suc, ◌<◌, ◌≤◌, List, [], ◌∷◌, ◌⊎◌, Bool, true, false, ◌&&◌, eqb, length, get_or, map, refl, sym, ap, subst, inl, inr, arith}
 use Rattle.std.specs.Prelude.{All}
 use Rattle.std.specs.List.{list_all, list_any, AllByRecursion}
 use Rattle.std.specs.List.Sorted.{IsStrictlyIncreasing, IsStrictlySortedBy}
@@ -14,10 +14,13 @@ use Rattle.farm_base.specs.declared.lease.NodeLife.{NodeLife}
 use Rattle.lists.proofs.Rising.{less-from_cmp}
 use Rattle.protocol.specs.Lists.{In}
 use Rattle.protocol.specs.Names.{Slot, slot_eq}
+use Rattle.protocol.specs.Ledger.{Lease, is_of}
 use Rattle.protocol.proofs.Base.{eqb_same, in_map, slot_eq_is}
+use Rattle.protocol.proofs.Leases.{flip_false}
 use Rattle.versions.specs.declared.lines.SlotLine.{SlotLine}
 use Rattle.versions.specs.Lines.{line_at}
 use Rattle.versions.proofs.Ordered.{Rise, line_at-place}
+use Rattle.saverecord.specs.Relations.{is_same_ask}
 use Rattle.saverecord.specs.Ledgers.{life_at}
 
 -- ---- what holds of each element
@@ -89,3 +92,17 @@ line_from (l ∷ lines) s = elim (cases_Bool (slot_eq l.slot s)) [
     | inr r ↦ inr (r.0, inr r.1, r.2, rw f r.3)
   ]
 ]
+
+-- ---- leases
+
+grouped : (a b c : Bool) → (a && (b && c)) ≡ (a && b && c)
+grouped true b c = refl
+grouped false b c = refl
+
+-- two leases have the same node, life and ask
+pub same_ask : (g h : Lease) → is_same_ask g h ≡ is_of g.node g.life g.ask h
+same_ask g h =
+    let n = flip_false g.node.0 h.node.0 in
+    let l = flip_false g.life.0 h.life.0 in
+    let a = flip_false g.ask.0 h.ask.0 in
+    rw (n, l, a) (grouped (eqb h.node.0 g.node.0) (eqb h.life.0 g.life.0) (eqb h.ask.0 g.ask.0))

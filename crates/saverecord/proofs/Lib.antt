@@ -10,3 +10,4 @@ pub mod RecordLaws
 pub mod FirstLaws
 pub mod LedgerLemmas
 pub mod KeptLemmas
+pub mod ReadLemmas
