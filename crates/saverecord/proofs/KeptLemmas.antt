@@ -1,8 +1,8 @@
 -- A record of a lawful ledger can be written.
 use Rattle.std.proofs.Common.{◌≡◌, ℕ, ◌<◌, ◌≤◌, List, [], ◌∷◌, Bool, true, false, not, ◌&&◌, ◌||◌, eqb, length, map, filter, Option, Some, None, refl, sym, ap, ◌∙◌, subst, inl, inr, arith}
 use Rattle.std.specs.Prelude.{All, nat_le, nat_lt, if◌then◌else◌}
-use Rattle.std.specs.List.{list_all, list_any, AllByRecursion}
-use Rattle.std.specs.List.Sorted.{IsStrictlyIncreasing, IsStrictlySortedBy}
+use Rattle.std.specs.List.{list_any, AllByRecursion}
+use Rattle.std.specs.List.Sorted.{IsStrictlySortedBy}
 use Rattle.std.specs.Cmp.{nat_cmp_is}
 use Rattle.std.specs.Ordering.{nat_cmp, is_eq}
 use Rattle.std.specs.declared.cmp.Ordering.TheVariants.{Less}
@@ -22,17 +22,16 @@ use Rattle.leases.proofs.TableLemmas.{leased-filter, wants_filter}
 use Rattle.protocol.specs.Lists.{In}
 use Rattle.protocol.specs.Names.{Slot, slot_eq, is_shared, is_private, NodeId, Want, FolderName, wants_shared, leased_wants, tenure_wants}
 use Rattle.protocol.specs.Machine.{LineVersion}
-use Rattle.protocol.specs.Ledger.{Lease, has_slot, is_of}
+use Rattle.protocol.specs.Ledger.{Lease, has_slot}
 use Rattle.protocol.specs.Lawful.{IsNumber, AreAsked, want_of, IsHolder, AreApart, AllApart}
 use Rattle.protocol.proofs.Base.{true_false, eqb_same, slot_eq_same, any_in, in_map, from_filter}
-use Rattle.protocol.proofs.Leases.{flip_false}
 use Rattle.farm_base.specs.declared.limits.TheConstants.{NODES}
 use Rattle.versions.specs.declared.lines.SlotLine.{SlotLine}
 use Rattle.versions.specs.Line.{IsLine}
 use Rattle.versions.specs.Lines.{line_at}
 use Rattle.saverecord.specs.declared.record.Record.{Record}
-use Rattle.saverecord.specs.Relations.{no_two, versions_up_to, lines_up_to, tickets_up_to, lives_there, shares, is_same_ask, clash, has_retired, is_same_private, is_tenured, some_shared, fits_tenure, is_gone, is_above_line, is_above_lines, fits_record, agrees}
-use Rattle.saverecord.specs.Fits.{IsNode, IsHome, IsNodeLife, IsLease, IsVersion, IsSlotLine, HasParts, IsRecord}
+use Rattle.saverecord.specs.Relations.{no_two, versions_up_to, shares, is_same_ask, clash, has_retired, is_same_private, is_tenured, some_shared, is_above_line, fits_record, agrees}
+use Rattle.saverecord.specs.Fits.{IsNode, IsHome, IsNodeLife, IsLease, IsVersion, IsSlotLine, HasParts}
 use Rattle.saverecord.specs.Ledgers.{life_at, is_among, IsOpen, IsKept, KeptIsRecord}
 use Rattle.saverecord.proofs.LedgerLemmas.{all_in, all_from_in, each_in, each_from_in, passes_from_in, none_from_in, life_in, line_in, same_ask}
 

@@ -23,7 +23,7 @@ use Rattle.protocol.specs.Lists.{In}
 use Rattle.protocol.specs.Names.{Slot, slot_eq, Mode, Shared, Private, Locked, is_shared, is_private, IsInstance, NodeId, Want, FolderName, leased_wants, tenure_wants}
 use Rattle.protocol.specs.Machine.{LineVersion}
 use Rattle.protocol.specs.Ledger.{Lease, has_slot}
-use Rattle.protocol.specs.Lawful.{IsNumber, AreAsked, want_of, IsHolder, AreApart, AllApart, IsCore}
+use Rattle.protocol.specs.Lawful.{IsNumber, AreAsked, want_of, IsHolder, AllApart, IsCore}
 use Rattle.protocol.proofs.Base.{true_false, some_is, none_some, slot_eq_is, in_map, from_any, any_none}
 use Rattle.protocol.proofs.Moving.{all_in as each_passes}
 use Rattle.versions.specs.declared.lines.SlotLine.{SlotLine}
@@ -73,8 +73,8 @@ folders_rise (x ∷ slots) up typed own =
     let none = not-true (list_any (is_same_private x) slots) b.0 in
     let rest = All-tail HasInstance x slots typed in (
       above_all x slots (λ y i. folder_below x.0 y.0 (All-head HasInstance x slots typed) (all_in HasInstance slots rest y i)
-      (each_in (λ (s : Slot). slot_cmp x.0 s ≡ Less) (map (λ (z : Slot × Bool). z.0) slots) up.0 y.0 (in_map (λ (z : Slot × Bool). z.0) y slots i))
-      (any_none (is_same_private x) y slots none i)),
+          (each_in (λ (s : Slot). slot_cmp x.0 s ≡ Less) (map (λ (z : Slot × Bool). z.0) slots) up.0 y.0 (in_map (λ (z : Slot × Bool). z.0) y slots i))
+          (any_none (is_same_private x) y slots none i)),
       folders_rise slots up.1 rest b.1,
     )
 
