@@ -1,10 +1,11 @@
 -- What is read off the lists of a record.
-use Rattle.std.proofs.Common.{◌≡◌, ℕ, zero, suc, ◌<◌, ◌≤◌, List, [], ◌∷◌, ◌⊎◌, Bool, true, false, ◌&&◌, eqb, length, get_or, map, refl, sym, ap, subst, inl, inr, arith}
+use Rattle.std.proofs.Common.{◌≡◌, ℕ, zero, suc, ◌<◌, ◌≤◌, List, [], ◌∷◌, ◌⊎◌, Bool, true, false, eqb, length, get_or, map, refl, sym, ap, subst, inl, inr, arith}
 use Rattle.std.specs.Prelude.{All}
 use Rattle.std.specs.List.{list_all, list_any, AllByRecursion}
 use Rattle.std.specs.List.Sorted.{IsStrictlyIncreasing, IsStrictlySortedBy}
 use Rattle.std.specs.Ordering.{nat_cmp}
 use Rattle.std.specs.declared.cmp.Ordering.TheVariants.{Less}
+use Rattle.std.proofs.Math.Bool.{and_assoc}
 use Rattle.std.proofs.lemmas.Bool.{cases_Bool, eqb-true, ne_eqb}
 use Rattle.std.proofs.lemmas.List.Elements.{All-tail, All-from_recursion, recursion_from_All}
 use Rattle.std.proofs.lemmas.List.Folds.{list_any_none}
@@ -95,14 +96,10 @@ line_from (l ∷ lines) s = elim (cases_Bool (slot_eq l.slot s)) [
 
 -- ---- leases
 
-grouped : (a b c : Bool) → (a && (b && c)) ≡ (a && b && c)
-grouped true b c = refl
-grouped false b c = refl
-
 -- two leases have the same node, life and ask
 pub same_ask : (g h : Lease) → is_same_ask g h ≡ is_of g.node g.life g.ask h
 same_ask g h =
     let n = flip_false g.node.0 h.node.0 in
     let l = flip_false g.life.0 h.life.0 in
     let a = flip_false g.ask.0 h.ask.0 in
-    rw (n, l, a) (grouped (eqb h.node.0 g.node.0) (eqb h.life.0 g.life.0) (eqb h.ask.0 g.ask.0))
+    rw (n, l, a) (sym (and_assoc (eqb h.node.0 g.node.0) (eqb h.life.0 g.life.0) (eqb h.ask.0 g.ask.0)))

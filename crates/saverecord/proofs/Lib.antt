@@ -11,3 +11,4 @@ pub mod FirstLaws
 pub mod LedgerLemmas
 pub mod KeptLemmas
 pub mod ReadLemmas
+pub mod InstanceLemmas

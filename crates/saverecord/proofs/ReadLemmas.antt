@@ -32,7 +32,7 @@ use Rattle.versions.specs.Lines.{line_at}
 use Rattle.saverecord.specs.declared.record.Record.{Record}
 use Rattle.saverecord.specs.Relations.{no_two, versions_up_to, lines_up_to, tickets_up_to, lives_there, shares, is_same_ask, clash, has_retired, is_same_private, is_tenured, some_shared, fits_tenure, is_gone, is_above_line, is_above_lines, fits_record, agrees}
 use Rattle.saverecord.specs.Fits.{IsNode, IsHome, IsNodeLife, IsLease, IsVersion, IsSlotLine, IsRecord}
-use Rattle.saverecord.specs.Ledgers.{life_at, is_among, ledger_of, IsOpen, IsKept, HasInstances, RecordIsKept}
+use Rattle.saverecord.specs.Ledgers.{life_at, is_among, ledger_of, IsOpen, IsKept, HasInstance, HasInstances, RecordIsKept}
 use Rattle.saverecord.proofs.LedgerLemmas.{all_in, all_from_in, each_in, life_in, life_from, line_from, same_ask}
 
 -- ---- the slots of a lease
@@ -61,9 +61,6 @@ folder_below s t p q up own = by (folder_cmp s.folder t.folder) refl
 above_all : (x : Slot × Bool) (slots : List (Slot × Bool)) → ((y : Slot × Bool) → In y slots → folder_cmp x.0.folder y.0.folder ≡ Less) → AllByRecursion (λ f. folder_cmp x.0.folder f ≡ Less) (folders (map want_of slots))
 above_all x [] f = tt
 above_all x (y ∷ slots) f = (f y (inl refl), above_all x slots (λ z i. f z (inr i)))
-
-abbrev HasInstance : Slot × Bool → Type 0
-HasInstance x = IsInstance x.0.folder.mode x.0.instance
 
 folders_rise : (slots : List (Slot × Bool)) → IsStrictlySortedBy slot_cmp (map (λ x. x.0) slots) → All HasInstance slots → no_two is_same_private slots ≡ true → IsStrictlySortedBy folder_cmp (folders (map want_of slots))
 unfolding IsStrictlySortedBy

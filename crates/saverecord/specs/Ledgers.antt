@@ -1,9 +1,10 @@
 -- The ledger that a record keeps (docs/PROTOCOL.md, "The record"). The rules are this project's own.
-use Rattle.std.specs.Prelude.{◌≡◌, ℕ, ◌≤◌, ◌<◌, ◌==◌, if◌then◌else◌, Bool, true, List, [], ◌∷◌, map, All}
+use Rattle.std.specs.Prelude.{◌≡◌, ℕ, ◌≤◌, ◌<◌, ◌==◌, if◌then◌else◌, Bool, true, List, [], ◌∷◌, map, All, Ok}
 use Rattle.std.specs.List.{list_any}
 use Rattle.std.specs.List.Sorted.{IsStrictlyIncreasing, IsStrictlySortedBy}
 use Rattle.farm_base.specs.declared.limits.TheConstants.{NODES}
 use Rattle.farm_base.specs.declared.lease.NodeLife.{NodeLife}
+use Rattle.farm_base.specs.Digests.{IsBytes}
 use Rattle.farm_base.specs.Slots.{slot_cmp}
 use Rattle.leases.specs.Leases.{Rises}
 use Rattle.leases.specs.Table.{among}
@@ -15,6 +16,7 @@ use Rattle.versions.specs.Line.{IsLine}
 use Rattle.versions.specs.Lines.{line_at}
 use Rattle.versions.specs.Ordered.{AreLines}
 use Rattle.saverecord.specs.declared.record.Record.{Record}
+use Rattle.saverecord.specs.Records.{record_of}
 use Rattle.saverecord.specs.Fits.{IsRecord}
 
 -- the greatest life seen of a node
@@ -59,14 +61,22 @@ pub record IsKept (r : Record) : Type 0 where
   pub past : (s : Slot) → All (λ v. v.ticket.0 ≤ r.last.0) (line_at r.lines s)
   pub ahead : All (IsOpen (line_at r.lines)) r.leases
 
--- each slot of the lease has an instance of its folder, as each slot of the program
-abbrev pub HasInstances : Lease → Type 0
-HasInstances g = All (λ x. IsInstance x.0.folder.mode x.0.instance) g.slots
+-- the slot has an instance of its folder, as each slot of the program
+abbrev pub HasInstance : Slot × Bool → Type 0
+HasInstance x = IsInstance x.0.folder.mode x.0.instance
 
--- such a record can be written
+-- so has each slot of the lease
+abbrev pub HasInstances : Lease → Type 0
+HasInstances g = All HasInstance g.slots
+
+-- a record of a lawful ledger can be written
 abbrev pub KeptIsRecord : Type 0
 KeptIsRecord = (r : Record) → IsKept r → IsRecord r
 
--- and what is read is such a record
+-- a record that can be written is of a lawful ledger
 abbrev pub RecordIsKept : Type 0
 RecordIsKept = (r : Record) → All HasInstances r.leases → IsRecord r → IsKept r
+
+-- so is each record that is read
+abbrev pub ReadIsKept : Type 0
+ReadIsKept = (bytes : List ℕ) (r : Record) → IsBytes bytes → record_of bytes ≡ Ok r → IsKept r
