@@ -184,7 +184,7 @@ below_filter p f (w ∷ ws) h = elim (cases_Bool (p w)) [
   | inr e ↦ rw e (below_filter p f ws h.1)
 ]
 
-wants_filter : (p : Want → Bool) (ws : List Want) → IsStrictlySortedBy folder_cmp (folders ws) → IsStrictlySortedBy folder_cmp (folders (filter p ws))
+pub wants_filter : (p : Want → Bool) (ws : List Want) → IsStrictlySortedBy folder_cmp (folders ws) → IsStrictlySortedBy folder_cmp (folders (filter p ws))
 unfolding IsStrictlySortedBy
 wants_filter p [] h = tt
 wants_filter p (w ∷ ws) h = elim (cases_Bool (p w)) [

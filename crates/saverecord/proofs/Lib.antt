@@ -8,3 +8,7 @@ pub mod PartLaws
 pub mod BodyLaws
 pub mod RecordLaws
 pub mod FirstLaws
+pub mod LedgerLemmas
+pub mod KeptLemmas
+pub mod ReadLemmas
+pub mod InstanceLemmas

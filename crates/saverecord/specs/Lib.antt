@@ -7,3 +7,4 @@ pub mod Records
 pub mod Relations
 pub mod Fits
 pub mod Keepers
+pub mod Ledgers

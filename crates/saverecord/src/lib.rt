@@ -4,6 +4,7 @@
 mod entries;
 mod entry;
 mod keeper;
+mod laws;
 mod layout;
 mod part;
 mod reading;
@@ -15,6 +16,7 @@ mod writing;
 
 pub use farm_base::NodeLife;
 pub use keeper::{Keeper, KeeperRefusal, MemoryKeeper, SaveFault};
+pub use laws::{what_is_kept_is_a_record, what_is_read_is_lawful};
 pub use protocol::Kept;
 pub use record::Record;
 pub use refusal::{Flaw, RecordRefusal};
