@@ -1,6 +1,6 @@
 -- What a graph adds to the submitted keys.
 use Rattle.std.proofs.Common.{◌≡◌, ℕ, zero, suc, ◌+◌, ◌-◌, ◌<◌, ◌⊎◌, replicate, inl, inr, Bool, true, false, List, [], ◌∷◌, ◌++◌, map, length, take, get_or, Some, slice_get, refl, ap, sym, ◌∙◌, subst, arith, append-nil, append_assoc, if◌then◌else◌}
-use Rattle.std.specs.List.{list_any, All, Contains}
+use Rattle.std.specs.List.{list_any, All, Contains, IsDistinct}
 use Rattle.std.proofs.lemmas.Bool.{cases_Bool, cases_eq}
 use Rattle.std.proofs.lemmas.List.{take-append-le, take_all, length-append, length-replicate, length-map}
 use Rattle.std.proofs.lemmas.List.Elements.{Contains-append_left, Contains-push, Contains-push_cases}
@@ -17,15 +17,18 @@ use Rattle.solverkeys.proofs.KeyLemmas.{edges_within}
 use Rattle.solverkeys.specs.GraphKeys.{TakesKeys}
 use Rattle.jobs.specs.declared.entry.Entry.{Entry}
 use Rattle.jobs.specs.declared.entry.Progress.TheVariants.{Waiting}
+use Rattle.jobs.specs.declared.ready_list.ReadyList.{ReadyList}
 use Rattle.jobs.specs.declared.table.Table.{Table}
 use Rattle.jobs.specs.Adding.{BeginsWith, IsFront, IsEntryOf, IsKnown, IsNew, AreAdded, AddsKey, known, adds, IsAdding}
 use Rattle.jobs.specs.Reaching.{IsNeeded}
 use Rattle.jobs.specs.Tables.{key_eq, key_of, IsTable}
 use Rattle.indexmap.specs.IndexSet.{IsUnique}
-use Rattle.jobs.specs.Kept.{AreKept}
+use Rattle.jobs.specs.Kept.{AreKept, AreListed}
 use Rattle.jobs.specs.Marks.{MarksFail, MarksCalled, MarksLost, AreMarks, KeepsMarks}
 use Rattle.jobs.proofs.ProgressLemmas.{Grows, fails_grows, called_keeps}
+use Rattle.jobs.specs.ReadyLists.{AreHandedRight, IsList, IsSameList, ListsAll, HasRoom}
 use Rattle.jobs.proofs.ReachLemmas.{flag_within}
+use Rattle.jobs.proofs.StayLemmas.{list_stays, list_same, all_same, ready_stays, there_grows}
 use Rattle.jobs.proofs.TableLemmas.{key_same}
 
 -- ---- one key
@@ -258,3 +261,38 @@ taken_back old grown now marks h front ks unique es =
       numbered = record { listed = same_keys ∙ h.numbered.listed ∙ ap (map key_of) (sym same); unique = unique };
       marked = subst (λ (xs : List Entry). AreMarks xs marks) (sym same) h.marked;
     }
+
+pub listed_back : (old grown now : Table) (was marks : List Bool) (l m : ReadyList) (count : ℕ) → AreListed old was l → marks ≡ was → IsSameList l m → IsFront old grown → count ≡ length old.entries.items
+    → now.numbers.keys ≡ take count grown.numbers.keys → IsUnique key_eq now.numbers → now.entries.items ≡ take count grown.entries.items → AreListed now marks m
+listed_back old grown now was marks l m count h unmarked same front is ks unique es =
+    let es_is : now.entries.items ≡ take (length old.entries.items) grown.entries.items = es ∙ ap (λ n. take n grown.entries.items) is in
+    let back : now.entries.items ≡ old.entries.items = es_is ∙ front_take old.entries.items grown.entries.items front.entries in
+    record {
+      kept = subst (AreKept now) (sym unmarked) (taken_back old grown now was h.kept front (ks ∙ ap (λ n. take n grown.numbers.keys) is) unique es_is);
+      right = subst AreHandedRight (sym back) h.right;
+      list = subst (λ (xs : List Entry). IsList xs m) (sym back) (list_same old.entries.items l m same h.list);
+      all = subst (λ (xs : List Entry). ListsAll xs m) (sym back) (all_same old.entries.items l m same h.all);
+      room = subst (λ (n : ℕ). HasRoom n m) (sym (ap length back)) (same.room (length old.entries.items) h.room);
+    }
+
+-- ---- the list where keys are added
+
+module _ (g : GraphParts) (keys : List Key) (old new : List Entry) (h : AreAdded g keys old new) where
+  added_grows : Grows old new
+  added_grows = subst (Grows old) (sym h.new_is) (stays old h.added)
+
+  added_left : (n : ℕ) (e : Entry) → slice_get old n ≡ Some e → slice_get new n ≡ Some e
+  added_left n e at = ap (λ (xs : List Entry). slice_get xs n) h.new_is ∙ get_left old h.added n e at
+
+  pub added_right : AreHandedRight old → AreHandedRight new
+  added_right right n handed = elim (added_waits g keys old new h n handed.entry handed.at) [
+    | inl before ↦ there_grows old new added_grows handed.entry.inputs (right n (record { entry = handed.entry; at = before; handed = handed.handed }))
+    | inr waits ↦ absurd (handed.handed waits)
+  ]
+
+  pub added_list : (l : ReadyList) → IsDistinct key_eq (map key_of new) → AreHandedRight old → IsList old l → IsList new l
+  added_list l unique right is = list_stays old new l
+      (λ n x. record { entry = x.entry; at = added_left n x.entry x.at; handed = x.handed })
+      (λ n c r. ready_stays old new added_grows unique (added_right right) n r (added_left n r.entry r.at))
+      (λ n key k. record { entry = k.entry; at = added_left n k.entry k.at; named = k.named })
+      is

@@ -1,7 +1,9 @@
 mod AddLemmas
 mod AnswerLemmas
+mod ListLemmas
 mod MarkLemmas
 mod ProgressLemmas
 mod ReachLemmas
 mod ReadyLemmas
+mod StayLemmas
 mod TableLemmas

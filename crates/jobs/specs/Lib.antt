@@ -4,4 +4,5 @@ pub mod History
 pub mod Kept
 pub mod Marks
 pub mod Reaching
+pub mod ReadyLists
 pub mod Tables

@@ -2,11 +2,14 @@ ghost use Rattle.std.specs.Prelude.{◌≡◌, ◌<◌, ◌-◌, ◌++◌, false
 ghost use Rattle.vertices.specs.Loading.{IsGraph};
 ghost use Rattle.solverkeys.specs.GraphKeys.{AreKeys, TakesKeys};
 ghost use Rattle.jobs.specs.Adding.{AddsKey, AreAdded, IsFront};
-ghost use Rattle.jobs.specs.Kept.{AreKept};
+ghost use Rattle.jobs.specs.Kept.{AreListed};
 ghost use Rattle.jobs.specs.Reaching.{AreReached};
+ghost use Rattle.jobs.specs.ReadyLists.{HasRoom, IsSameList};
 ghost use Rattle.jobs.specs.Tables.{IsTable};
 
 use super::marking::spread;
+use super::ready::list_ready;
+use super::ready_list::ReadyList;
 use super::table::Table;
 use farm_base::{Items, Key};
 use std::alloc::{AllocError, Global};
@@ -75,11 +78,13 @@ pub(crate) fn add_all(
     Ok(())
 }
 
-/// Adds these keys and their marks. Where memory runs out some keys may be there.
+/// Adds these keys and their marks, and makes room for them in the list. Where memory runs out some
+/// keys may be there.
 fn grow(
     alloc: Global,
     table: &mut Table,
     marks: &mut Vec<bool>,
+    ready: &mut ReadyList,
     graph: &Graph,
     keys: &[Key],
     reached: &[bool],
@@ -91,33 +96,39 @@ fn grow(
     ensures table { OnOk result (IsTable table.new) }
     ensures added { OnOk result (AreAdded graph.now keys.now table.old.entries.items table.new.entries.items) }
     ensures marks { OnOk result (marks.new.items ≡ take (length table.new.entries.items) marks.old.items ++ replicate (length table.new.entries.items - length marks.old.items) false) }
+    ensures room { OnOk result (HasRoom (length table.new.entries.items) ready.new) }
+    ensures list { IsSameList ready.old ready.new }
     ensures err { OnErr result (marks.new.items ≡ marks.old.items) }
 {
     add_all(alloc, table, graph, keys, reached)?;
+    ready.reserve(table.entries.len())?;
     marks.resize(table.entries.len(), false)?;
     Ok(())
 }
 
-/// Adds these keys, and marks those that fail. Where memory runs out nothing is changed.
+/// Adds these keys, marks those that fail, and lists those that are ready. Where memory runs out
+/// nothing is changed.
 pub(crate) fn extend(
     alloc: Global,
     table: &mut Table,
     marks: &mut Vec<bool>,
+    ready: &mut ReadyList,
     graph: &Graph,
     keys: &[Key],
     reached: &[bool],
 ) -> Result<(), AllocError>
-    requires kept { AreKept table.old marks.old.items }
+    requires listed { AreListed table.old marks.old.items ready.old }
     requires keys { AreKeys graph.now keys.now }
     requires reached { AreReached graph.now reached.now }
-    ensures kept { AreKept table.new marks.new.items }
+    ensures listed { AreListed table.new marks.new.items ready.new }
     ensures added { OnOk result (AreAdded graph.now keys.now table.old.entries.items table.new.entries.items) }
     ensures err { OnErr result (table.new.entries.items ≡ table.old.entries.items) }
 {
     let count = table.entries.len();
-    match grow(alloc, table, marks, graph, keys, reached) {
+    match grow(alloc, table, marks, ready, graph, keys, reached) {
         Ok(()) => {
             spread(table, marks.as_mut_slice());
+            list_ready(table, marks.as_slice(), ready);
             Ok(())
         }
         Err(error) => {

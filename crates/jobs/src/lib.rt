@@ -8,6 +8,8 @@ mod jobs;
 mod marking;
 mod reaching;
 mod ready;
+mod ready_list;
+mod settling;
 mod table;
 
 pub use answer::{Answer, JobId, JobsRefusal};

@@ -1,14 +1,15 @@
-ghost use Rattle.std.specs.Prelude.{◌≡◌, ◌<◌, ℕ, length, slice_get, Some, IfOk, IfSome, IfNone};
+ghost use Rattle.std.specs.Prelude.{◌≡◌, ◌<◌, length, slice_get, Some, IfOk, IfSome, IfNone};
 ghost use Rattle.std.specs.Bool.{MatchBool};
 ghost use Rattle.std.specs.List.{AllZip};
 ghost use Rattle.farm_base.specs.declared.digest.Digest.{Digest as SpecDigest};
 ghost use Rattle.jobs.specs.declared.entry.Entry.{Entry as SpecEntry};
 ghost use Rattle.jobs.specs.Failing.{AreThere, HasOutput, IsReady};
-ghost use Rattle.jobs.specs.History.{IsFirstReady};
 ghost use Rattle.jobs.specs.Kept.{AreKept};
+ghost use Rattle.jobs.specs.ReadyLists.{IsList, ListsAll, HasRoom};
 ghost use Rattle.jobs.specs.Tables.{IsTable};
 
 use super::entry::{Progress, Task};
+use super::ready_list::ReadyList;
 use super::table::{Table, output_at};
 use farm_base::{Digest, Key};
 use std::alloc::{AllocError, Global};
@@ -53,18 +54,20 @@ fn is_ready(table: &Table, marks: &[bool], number: usize) -> bool
     }
 }
 
-/// The number of the first key that can be solved.
-pub(crate) fn first_ready(table: &Table, marks: &[bool]) -> Option<usize>
-    requires { AreKept table.now marks.now }
-    ensures found { IfSome result (λ number. (entry : SpecEntry) × IsFirstReady table.now.entries.items number entry) }
-    ensures none { IfNone result ((number : ℕ) (entry : SpecEntry) → slice_get table.now.entries.items number ≡ Some entry → IsReady table.now.entries.items entry → ⊥) }
+/// Lists the ready keys that aren't listed yet.
+pub(crate) fn list_ready(table: &Table, marks: &[bool], ready: &mut ReadyList)
+    requires kept { AreKept table.now marks.now }
+    requires list { IsList table.now.entries.items ready.old }
+    requires room { HasRoom (length table.now.entries.items) ready.old }
+    ensures list { IsList table.now.entries.items ready.new }
+    ensures all { ListsAll table.now.entries.items ready.new }
+    ensures room { HasRoom (length table.now.entries.items) ready.new }
 {
     for number in 0..table.entries.len() {
         if is_ready(table, marks, number) {
-            return Some(number);
+            ready.add(table, number);
         }
     }
-    None
 }
 
 /// The outputs that inputs name. All of them are there.
