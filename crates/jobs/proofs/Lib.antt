@@ -7,3 +7,4 @@ mod ReachLemmas
 mod ReadyLemmas
 mod StayLemmas
 mod TableLemmas
+mod UserLemmas

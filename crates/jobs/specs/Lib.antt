@@ -6,3 +6,4 @@ pub mod Marks
 pub mod Reaching
 pub mod ReadyLists
 pub mod Tables
+pub mod Users

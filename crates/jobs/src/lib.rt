@@ -11,6 +11,7 @@ mod ready;
 mod ready_list;
 mod settling;
 mod table;
+mod users;
 
 pub use answer::{Answer, JobId, JobsRefusal};
 pub use entry::{Entry, Fault, Progress, Task};

@@ -128,9 +128,10 @@ impl Users {
         ensures inputs { AreInputs table.now.entries.items self.new.links.items }
         ensures noted { OnOk result ((number : ℕ) → number < length table.now.entries.items → IsNoted table.now.entries.items self.new.links.items number) }
     {
-        self.note_all(table, self.lasts.len())?;
-        self.befores
-            .reserve(self.links.len() - self.befores.len())?;
+        let count = self.lasts.len();
+        self.note_all(table, count)?;
+        let more = self.links.len() - self.befores.len();
+        self.befores.reserve(more)?;
         self.lasts.resize(table.entries.len(), None)?;
         Ok(())
     }
