@@ -7,8 +7,9 @@ use Rattle.std.proofs.lemmas.List.Elements.{Contains-append_left, Contains-push,
 use Rattle.std.proofs.lemmas.Option.{slice_get_within, slice_get-get_or, get_or_from_slice_get}
 use Rattle.indexmap.specs.IndexSet.{insert_key}
 use Rattle.farm_base.specs.declared.digest.Key.{Key}
-use Rattle.lists.proofs.Places.{AllZip-push, get_push_left, get_push_end, at_place, some_is}
+use Rattle.lists.proofs.Places.{AllZip-push, get_push_left, get_push_end, at_place, at_Contains, some_is}
 use Rattle.lists.proofs.Rising.{rising_push}
+use Rattle.vertices.specs.Edges.{list_at}
 use Rattle.vertices.specs.Flags.{flag_at}
 use Rattle.vertices.specs.Loading.{GraphParts, IsGraph}
 use Rattle.vertices.proofs.ZipLemmas.{all_zip_back}
@@ -19,17 +20,20 @@ use Rattle.jobs.specs.declared.entry.Entry.{Entry}
 use Rattle.jobs.specs.declared.entry.Progress.TheVariants.{Waiting}
 use Rattle.jobs.specs.declared.ready_list.ReadyList.{ReadyList}
 use Rattle.jobs.specs.declared.table.Table.{Table}
+use Rattle.jobs.specs.declared.users.Users.{Users}
 use Rattle.jobs.specs.Adding.{BeginsWith, IsFront, IsEntryOf, IsKnown, IsNew, AreAdded, AddsKey, known, adds, IsAdding}
 use Rattle.jobs.specs.Reaching.{IsNeeded}
 use Rattle.jobs.specs.Tables.{key_eq, key_of, IsTable}
+use Rattle.jobs.specs.Users.{IsClosed, AreUsers, IsSameUsers}
 use Rattle.indexmap.specs.IndexSet.{IsUnique}
 use Rattle.jobs.specs.Kept.{AreKept, AreListed}
 use Rattle.jobs.specs.Marks.{MarksFail, MarksCalled, MarksLost, AreMarks, KeepsMarks}
 use Rattle.jobs.proofs.ProgressLemmas.{Grows, fails_grows, called_keeps}
 use Rattle.jobs.specs.ReadyLists.{AreHandedRight, IsList, IsSameList, ListsAll, HasRoom}
-use Rattle.jobs.proofs.ReachLemmas.{flag_within}
+use Rattle.jobs.proofs.ReachLemmas.{flag_within, walk_more, target_at}
 use Rattle.jobs.proofs.StayLemmas.{list_stays, list_same, all_same, ready_stays, there_grows}
 use Rattle.jobs.proofs.TableLemmas.{key_same}
+use Rattle.jobs.proofs.UserLemmas.{users_same}
 
 -- ---- one key
 
@@ -184,6 +188,20 @@ module _ (g : GraphParts) (keys : List Key) (old : List Entry) where
     new_is = h.new_is;
   }
 
+-- each input's key is known at the end
+pub adding_closed : (g : GraphParts) (keys : List Key) (old : List Entry) (n : ℕ) (new : List Entry) → IsAdding g keys old n new → length g.vertices < n + 1 → ((m : ℕ) → IsNeeded g m → m < length g.vertices) → IsClosed old → IsClosed new
+adding_closed g keys old n new h past within closed m e input at has = elim (append_cases old h.added m e (ap (λ (xs : List Entry). slice_get xs m) (sym h.new_is) ∙ at)) [
+  | inl before ↦ (let s = closed m e input before has in
+      (s.0, record { number = s.1.number; at = ap (λ (xs : List Entry). slice_get xs s.1.number) h.new_is ∙ get_left old h.added s.1.number s.0 s.1.at; named = s.1.named }))
+  | inr (k, there) ↦ (let z = all_zip_back (IsEntryOf g keys) h.numbers h.added k e h.entries there in
+      let c : Contains h.numbers z.0 = (k, slice_get_within h.numbers k z.0 z.1, get_or_from_slice_get h.numbers k z.0 z.0 z.1) in
+      let i = at_Contains e.inputs input has in
+      let t = all_zip_back (λ (edge : ℕ × ℕ) (taken : Key × ℕ). (slice_get keys edge.0 ≡ Some taken.0) × (taken.1 ≡ edge.1)) (list_at g.edges z.0) e.inputs i.0 input z.2.inputs i.1 in
+      let needed = walk_more g z.0 t.0.0 (h.only z.0 c).needed (target_at (list_at g.edges z.0) i.0 t.0 t.1) in
+      let known = h.covered t.0.0 (let less = within t.0.0 needed in omega (arith, less, past)) needed in
+      (known.entry, record { number = known.place; at = known.at; named = some_is known.entry.key input.0 (sym known.key ∙ t.2.0) }))
+]
+
 -- ---- fronts
 
 pub front_join : (one two three : Table) → IsFront one two → IsFront two three → IsFront one three
@@ -202,7 +220,7 @@ front_take old new (rest, is) = ap (take (length old)) is ∙ take-append-le (le
 -- ---- marks of what was added
 
 -- an added entry waits
-added_waits : (g : GraphParts) (keys : List Key) (old new : List Entry) (h : AreAdded g keys old new) (n : ℕ) (e : Entry) → slice_get new n ≡ Some e → (slice_get old n ≡ Some e) ⊎ (e.progress ≡ Waiting)
+pub added_waits : (g : GraphParts) (keys : List Key) (old new : List Entry) (h : AreAdded g keys old new) (n : ℕ) (e : Entry) → slice_get new n ≡ Some e → (slice_get old n ≡ Some e) ⊎ (e.progress ≡ Waiting)
 added_waits g keys old new h n e at = elim (append_cases old h.added n e (ap (λ (xs : List Entry). slice_get xs n) (sym h.new_is) ∙ at)) [
   | inl before ↦ inl before
   | inr (m, there) ↦ inr (all_zip_back (IsEntryOf g keys) h.numbers h.added m e h.entries there).2.waiting
@@ -262,13 +280,16 @@ taken_back old grown now marks h front ks unique es =
       marked = subst (λ (xs : List Entry). AreMarks xs marks) (sym same) h.marked;
     }
 
-pub listed_back : (old grown now : Table) (was marks : List Bool) (l m : ReadyList) (count : ℕ) → AreListed old was l → marks ≡ was → IsSameList l m → IsFront old grown → count ≡ length old.entries.items
-    → now.numbers.keys ≡ take count grown.numbers.keys → IsUnique key_eq now.numbers → now.entries.items ≡ take count grown.entries.items → AreListed now marks m
-listed_back old grown now was marks l m count h unmarked same front is ks unique es =
+pub listed_back : (old grown now : Table) (u v : Users) (was marks : List Bool) (l m : ReadyList) (count : ℕ) → AreListed old u was l → marks ≡ was → IsSameUsers u v → IsSameList l m → IsFront old grown → count ≡ length old.entries.items
+    → now.numbers.keys ≡ take count grown.numbers.keys → IsUnique key_eq now.numbers → now.entries.items ≡ take count grown.entries.items → AreListed now v marks m
+listed_back old grown now u v was marks l m count h unmarked still same front is ks unique es =
     let es_is : now.entries.items ≡ take (length old.entries.items) grown.entries.items = es ∙ ap (λ n. take n grown.entries.items) is in
     let back : now.entries.items ≡ old.entries.items = es_is ∙ front_take old.entries.items grown.entries.items front.entries in
     record {
       kept = subst (AreKept now) (sym unmarked) (taken_back old grown now was h.kept front (ks ∙ ap (λ n. take n grown.numbers.keys) is) unique es_is);
+      closed = subst IsClosed (sym back) h.closed;
+      used = subst (λ (xs : List Entry). AreUsers xs v) (sym back) (users_same old.entries.items u v still h.used);
+      count = ap length still.lasts ∙ h.count ∙ sym (ap length back);
       right = subst AreHandedRight (sym back) h.right;
       list = subst (λ (xs : List Entry). IsList xs m) (sym back) (list_same old.entries.items l m same h.list);
       all = subst (λ (xs : List Entry). ListsAll xs m) (sym back) (all_same old.entries.items l m same h.all);
@@ -278,10 +299,10 @@ listed_back old grown now was marks l m count h unmarked same front is ks unique
 -- ---- the list where keys are added
 
 module _ (g : GraphParts) (keys : List Key) (old new : List Entry) (h : AreAdded g keys old new) where
-  added_grows : Grows old new
+  pub added_grows : Grows old new
   added_grows = subst (Grows old) (sym h.new_is) (stays old h.added)
 
-  added_left : (n : ℕ) (e : Entry) → slice_get old n ≡ Some e → slice_get new n ≡ Some e
+  pub added_left : (n : ℕ) (e : Entry) → slice_get old n ≡ Some e → slice_get new n ≡ Some e
   added_left n e at = ap (λ (xs : List Entry). slice_get xs n) h.new_is ∙ get_left old h.added n e at
 
   pub added_right : AreHandedRight old → AreHandedRight new

@@ -5,6 +5,7 @@ mod MarkLemmas
 mod ProgressLemmas
 mod ReachLemmas
 mod ReadyLemmas
+mod ShapeLemmas
 mod StayLemmas
 mod TableLemmas
 mod UserLemmas

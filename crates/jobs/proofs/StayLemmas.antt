@@ -17,7 +17,7 @@ use Rattle.jobs.specs.declared.entry.Progress.{Progress}
 use Rattle.jobs.specs.declared.entry.Progress.TheVariants.{Waiting, Out, Done, Failed}
 use Rattle.jobs.specs.declared.ready_list.ReadyList.{ReadyList}
 use Rattle.jobs.specs.Failing.{HasOutput, Fails, called, input_fails, input_lacks, AreThere, IsReady}
-use Rattle.jobs.specs.History.{History, IsFirstReady, TakesFirst}
+use Rattle.jobs.specs.History.{History, IsFirstReady, Moves, TakesFirst}
 use Rattle.jobs.specs.Kept.{history}
 use Rattle.jobs.specs.ReadyLists.{IsReadyAt, IsHandedAt, IsKeyAt, AreReadyKeys, AreHandedRight, IsList, IsSameList, ListsAll, HasRoom, listed, taken}
 use Rattle.jobs.specs.Tables.{key_eq, key_of}
@@ -327,3 +327,17 @@ takes_first jobs es now h n e key inputs view first named there now_is =
       new_is = ap (history jobs) now_is;
     } in
     subst (λ (x : History). TakesFirst x key inputs (history jobs now)) view all
+
+-- what a key's move says of the jobs
+pub moves_shown : (jobs : List (Key × ℕ)) (es now : List Entry) (h : History) (n : ℕ) (e : Entry) (key : Key) (from to : Progress) → history jobs es ≡ h → slice_get es n ≡ Some e → e.key ≡ key → e.progress ≡ from
+    → now ≡ set es n (record e { progress = to }) → Moves h key from to (history jobs now)
+moves_shown jobs es now h n e key from to view at named was now_is =
+    let all : Moves (history jobs es) key from to (history jobs now) = record {
+      number = n;
+      entry = e;
+      at = at;
+      named = named;
+      was = was;
+      new_is = ap (history jobs) now_is;
+    } in
+    subst (λ (x : History). Moves x key from to (history jobs now)) view all

@@ -4,9 +4,9 @@ use Rattle.std.specs.List.{Contains, IsDistinct}
 use Rattle.std.specs.declared.alloc.Global.{Global}
 use Rattle.std.specs.declared.vec.Vec.{Vec}
 use Rattle.std.proofs.lemmas.Bool.{cases_eq, cases_lt}
-use Rattle.std.proofs.lemmas.List.{length-set, length-append, length-replicate, length_push, take_all, get_or_append_left, get_or_push, get_or_past, get_or-set_same, get_or-set_other}
+use Rattle.std.proofs.lemmas.List.{length-set, length-append, length-replicate, length_push, take_all, get_or_append_left, get_or_push, get_or_past, get_or-set_same, get_or-set_other, get_or_default}
 use Rattle.std.proofs.lemmas.List.Elements.{Contains-append_left, Contains-push, Contains-get_or}
-use Rattle.std.proofs.lemmas.Option.{slice_get_within, slice_get-get_or}
+use Rattle.std.proofs.lemmas.Option.{slice_get_within, slice_get-get_or, slice_get_read}
 use Rattle.farm_base.specs.declared.digest.Key.{Key}
 use Rattle.lists.proofs.Places.{some_is, at_place, at_Contains, get_push_cases}
 use Rattle.jobs.specs.declared.entry.Entry.{Entry}
@@ -14,7 +14,7 @@ use Rattle.jobs.specs.declared.users.Link.{Link}
 use Rattle.jobs.specs.declared.users.Users.{Users}
 use Rattle.jobs.specs.Adding.{BeginsWith}
 use Rattle.jobs.specs.Tables.{key_eq, key_of}
-use Rattle.jobs.specs.Users.{IsUser, IsFrom, IsLast, no_link, a_link, AreLinked, AreInputs, IsNoted, AreUsers}
+use Rattle.jobs.specs.Users.{IsUser, IsFrom, IsLast, no_link, a_link, AreLinked, AreInputs, IsNoted, AreUsers, IsSameUsers}
 use Rattle.jobs.proofs.TableLemmas.{one_number}
 
 -- ---- a list that grows
@@ -131,7 +131,7 @@ linked_next u v link n h n_is at source_within links befores lasts =
         | inr other ↦ (let short : place < length u.befores.items = omega (arith, less, count, n_is, other) in
             let was = h.befores place x short (at_old place x e) in
             let read : get_or v.befores.items place None ≡ get_or u.befores.items place None = ap (λ (xs : List (Option ℕ)). get_or xs place None) befores
-                ∙ get_or_append_left u.befores.items (get_or u.lasts.items link.source None ∷ []) None place short in
+            ∙ get_or_append_left u.befores.items (get_or u.lasts.items link.source None ∷ []) None place short in
             subst (λ (r : Option ℕ). IsLast v.links.items x.source place r) (sym read) (subst (λ (xs : List Link). IsLast xs x.source place (get_or u.befores.items place None)) (sym links) was))
       ];
       lasts = λ source less.
@@ -271,3 +271,61 @@ pushed old new x y r u is done same = is ∙ ap (λ (s : Result (Unit {0}) _). i
 -- what a resize that was done leaves
 pub resized : (v w : Vec (Option ℕ) Global) (new : List (Option ℕ)) (n : ℕ) → v ≡ w → new ≡ take n v.items ++ replicate (n - v.len) None → new ≡ take n w.items ++ replicate (n - length w.items) None
 resized v w new n same is = is ∙ ap (λ (x : Vec (Option ℕ) Global). take n x.items ++ replicate (n - x.len) None) same ∙ ap (λ k. take n w.items ++ replicate (n - k) None) w.ok.0
+
+-- how many steps of a walk are left at most
+abbrev pub steps_left : Option ℕ → ℕ
+steps_left None = 0
+steps_left (Some place) = place + 1
+
+pub last_below : (links : List Link) (source p : ℕ) (next : Option ℕ) → IsLast links source p next → steps_left next < p + 1
+last_below links source p next (no_link none never) = (let is = ap steps_left none in omega (arith, is))
+last_below links source p next (a_link q q_is less f greatest) = (let is = ap steps_left q_is in omega (arith, is, less))
+
+-- lists that are the same hold the same
+pub users_same : (es : List Entry) (u v : Users) → IsSameUsers u v → AreUsers es u → AreUsers es v
+users_same es u v s h = record {
+  linked = record {
+    within = let w = h.linked.within in let b = ap length s.befores in let l = ap length s.links in omega (arith, w, b, l);
+    sources = λ place link less at. let x = h.linked.sources place link (let b = ap length s.befores in omega (arith, less, b)) (at_old place link at) in let l = ap length s.lasts in omega (arith, x, l);
+    befores = λ place link less at. subst (λ (xs : List (Option ℕ)). IsLast v.links.items link.source place (get_or xs place None)) (sym s.befores)
+        (subst (λ (xs : List Link). IsLast xs link.source place (get_or u.befores.items place None)) (sym s.links)
+        (h.linked.befores place link (let b = ap length s.befores in omega (arith, less, b)) (at_old place link at)));
+    lasts = λ source less. subst (λ (xs : List (Option ℕ)). IsLast v.links.items source (length xs) (get_or v.lasts.items source None)) (sym s.befores)
+        (subst (λ (xs : List (Option ℕ)). IsLast v.links.items source (length u.befores.items) (get_or xs source None)) (sym s.lasts)
+        (subst (λ (xs : List Link). IsLast xs source (length u.befores.items) (get_or u.lasts.items source None)) (sym s.links)
+        (h.linked.lasts source (let l = ap length s.lasts in omega (arith, less, l)))));
+  };
+  all = ap length s.befores ∙ h.all ∙ sym (ap length s.links);
+  inputs = λ place link at. h.inputs place link (at_old place link at);
+  noted = λ n less. subst (λ (xs : List Link). IsNoted es xs n) (sym s.links) (h.noted n (let l = ap length s.lasts in omega (arith, less, l)));
+}
+  where
+    at_old : (place : ℕ) (link : Link) → slice_get v.links.items place ≡ Some link → slice_get u.links.items place ≡ Some link
+    at_old place link at = ap (λ (xs : List Link). slice_get xs place) (sym s.links) ∙ at
+
+-- ---- the steps of a walk
+
+pub place_within : (links : List Link) (source : ℕ) (done : Link → Type 0) (p : ℕ) (place : Option ℕ) → place ≡ Some p → IsWalking links source done place → p < length links
+place_within links source done p place is w = let f = walk_at links source done p place is w in slice_get_within links p f.link f.at
+
+pub link_there : (links : List Link) (p : ℕ) (link : Link) → p < length links → link ≡ get_or links p link → slice_get links p ≡ Some link
+link_there links p link within read = slice_get_read links (length links) p link refl within read
+
+pub user_within : (es : List Entry) (u : Users) → AreUsers es u → (p : ℕ) (link : Link) → slice_get u.links.items p ≡ Some link → link.user < length es
+user_within es u h p link at = let i = h.inputs p link at in slice_get_within es link.user i.entry i.at
+
+-- the place before a link
+pub before_is : (es : List Entry) (u : Users) → AreUsers es u → (p : ℕ) (link : Link) (next : Option ℕ) → slice_get u.links.items p ≡ Some link → next ≡ get_or u.befores.items p next → IsLast u.links.items link.source p next
+before_is es u h p link next at read =
+    let less : p < length u.befores.items = (let within = slice_get_within u.links.items p link at in let all = h.all in omega (arith, within, all)) in
+    let is : next ≡ get_or u.befores.items p None = read ∙ get_or_default u.befores.items p next None less in
+    subst (λ (x : Option ℕ). IsLast u.links.items link.source p x) (sym is) (h.linked.befores p link less at)
+
+-- what holds of each link with this source holds for each user of its key
+pub user_done : (es : List Entry) (u : Users) (m n : ℕ) (done : Link → Type 0) → AreUsers es u → length u.lasts.items ≡ length es → (user : IsUser es m n)
+    → ((p : ℕ) (link : Link) → slice_get u.links.items p ≡ Some link → link.source ≡ n → done link) → done (record { source = n; index = user.input.1; user = m })
+user_done es u m n done h count user all =
+    let within = slice_get_within es m user.entry user.at in
+    let c = h.noted m (omega (arith, within, count)) user.entry user.input user.at user.has n user.of user.of_at user.named in
+    let p = at_Contains u.links.items (record { source = n; index = user.input.1; user = m }) c in
+    all p.0 (record { source = n; index = user.input.1; user = m }) p.1 refl

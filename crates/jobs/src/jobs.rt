@@ -19,6 +19,7 @@ use super::ready::task_of;
 use super::ready_list::ReadyList;
 use super::settling::finish;
 use super::table::Table;
+use super::users::Users;
 use farm_base::{Digest, Items, Key};
 use std::alloc::Global;
 use std::marker::Model;
@@ -30,6 +31,7 @@ pub struct Jobs {
     /// For each job the key and the output index of its result.
     results: Vec<(Key, u64)>,
     table: Table,
+    users: Users,
     /// For each key whether it fails.
     marks: Vec<bool>,
     /// The keys that were handed out, and the ready ones.
@@ -44,7 +46,7 @@ impl Model for Jobs {
 
     ghost view = { λ j. history j.results.items j.table.entries.items };
 
-    ghost invariant = { λ j. AreListed j.table j.marks.items j.ready };
+    ghost invariant = { λ j. AreListed j.table j.users j.marks.items j.ready };
 }
 
 impl Jobs {
@@ -56,6 +58,7 @@ impl Jobs {
         Jobs {
             results: Vec::new(alloc),
             table: Table::new(alloc),
+            users: Users::new(alloc),
             marks: Vec::new(alloc),
             ready: ReadyList::new(alloc),
         }
@@ -81,8 +84,9 @@ impl Jobs {
         let (result, index) = graph.result();
         self.results.push((keys[result], index))?;
         let flags = reached.as_slice();
-        let (table, marks, ready) = (&mut self.table, &mut self.marks, &mut self.ready);
-        match extend(alloc, table, marks, ready, graph, keys, flags) {
+        let (table, users) = (&mut self.table, &mut self.users);
+        let (marks, ready) = (&mut self.marks, &mut self.ready);
+        match extend(alloc, table, users, marks, ready, graph, keys, flags) {
             Ok(()) => Ok(job),
             Err(error) => {
                 self.results.pop();
@@ -127,8 +131,8 @@ impl Jobs {
             return Err(JobsRefusal::NotRunningKey);
         };
         let progress = Progress::Done(Items::new(outputs));
-        let marks = self.marks.as_mut_slice();
-        finish(&mut self.table, marks, &mut self.ready, number, progress);
+        let (table, marks) = (&mut self.table, self.marks.as_mut_slice());
+        finish(table, &self.users, marks, &mut self.ready, number, progress);
         Ok(())
     }
 
@@ -143,8 +147,8 @@ impl Jobs {
             return Err(JobsRefusal::NotRunningKey);
         };
         let progress = Progress::Failed(fault);
-        let marks = self.marks.as_mut_slice();
-        finish(&mut self.table, marks, &mut self.ready, number, progress);
+        let (table, marks) = (&mut self.table, self.marks.as_mut_slice());
+        finish(table, &self.users, marks, &mut self.ready, number, progress);
         Ok(())
     }
 

@@ -1,8 +1,11 @@
-use Rattle.std.proofs.Common.{◌≡◌, Some, ap, sym, subst, length, slice_get}
+use Rattle.std.proofs.Common.{◌≡◌, Some, ap, sym, subst, ◌∙◌, length, slice_get}
+use Rattle.std.proofs.lemmas.List.{length-set}
+use Rattle.jobs.specs.declared.entry.Progress.TheVariants.{Out}
 use Rattle.std.proofs.lemmas.Option.{slice_get_within}
 use Rattle.jobs.specs.History.{History, HasNoReady}
 use Rattle.jobs.proofs.MarkLemmas.{distinct}
 use Rattle.jobs.proofs.ReadyLemmas.{marks_out}
+use Rattle.jobs.proofs.ShapeLemmas.{users_moved, closed_moved}
 use Rattle.jobs.proofs.StayLemmas.{none_ready, first_is_ready, first_is_first, first_within, right_taken, list_taken, all_taken, takes_first, taken_room}
 use Rattle.jobs.proofs.jobs.Jobs.take_ready.Goals as goal
 
@@ -42,6 +45,9 @@ invariant_of-self c =
         numbered = numbered;
         marked = marks_out es c.self.inside.marks.items n r.entry r.at now.entries.items r.ready.waiting now_is c.self.invariant.kept.marked;
       };
+      closed = closed_moved es n r.entry r.at Out now.entries.items now_is c.self.invariant.closed;
+      used = users_moved es n r.entry r.at Out now.entries.items c.self.inside.users now_is c.self.invariant.used;
+      count = c.self.invariant.count ∙ sym (ap length now_is ∙ length-set es n (record r.entry { progress = Out }));
       right = right_taken es l h all n first c.take.new.self now.entries.items (distinct now numbered) c.self.invariant.right t.taken t.numbers t.keys now_is;
       list = list_taken es l h all n first c.take.new.self now.entries.items (distinct now numbered) c.self.invariant.right t.taken t.numbers t.keys now_is;
       all = all_taken es l h all n first c.take.new.self now.entries.items (distinct now numbered) c.self.invariant.right t.taken t.numbers t.keys now_is;
