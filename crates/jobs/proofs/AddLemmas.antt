@@ -1,7 +1,10 @@
 -- What a graph adds to the submitted keys.
-use Rattle.std.proofs.Common.{◌≡◌, ℕ, zero, suc, ◌+◌, ◌-◌, ◌<◌, ◌⊎◌, replicate, inl, inr, Bool, true, false, List, [], ◌∷◌, ◌++◌, map, length, take, get_or, Some, slice_get, refl, ap, sym, ◌∙◌, subst, arith, append-nil, append_assoc, if◌then◌else◌}
+use Rattle.std.proofs.Common.{◌≡◌, ℕ, zero, suc, ◌+◌, ◌-◌, ◌<◌, ◌≤◌, ◌⊎◌, replicate, inl, inr, Bool, true, false, List, [], ◌∷◌, ◌++◌, map, length, take, get_or, Some, slice_get, refl, ap, sym, ◌∙◌, subst, arith, append-nil, append_assoc, if◌then◌else◌}
+use Rattle.std.specs.Vec.{vec_capacity}
+use Rattle.std.specs.declared.alloc.Global.{Global}
+use Rattle.std.specs.declared.vec.Vec.{Vec}
 use Rattle.std.specs.List.{list_any, All, Contains, IsDistinct}
-use Rattle.std.proofs.lemmas.Bool.{cases_Bool, cases_eq}
+use Rattle.std.proofs.lemmas.Bool.{cases_Bool, cases_eq, cases_lt}
 use Rattle.std.proofs.lemmas.List.{take-append-le, take_all, length-append, length-replicate, length-map}
 use Rattle.std.proofs.lemmas.List.Elements.{Contains-append_left, Contains-push, Contains-push_cases}
 use Rattle.std.proofs.lemmas.Option.{slice_get_within, slice_get-get_or, get_or_from_slice_get}
@@ -24,13 +27,16 @@ use Rattle.jobs.specs.declared.users.Users.{Users}
 use Rattle.jobs.specs.Adding.{BeginsWith, IsFront, IsEntryOf, IsKnown, IsNew, AreAdded, AddsKey, known, adds, IsAdding}
 use Rattle.jobs.specs.Reaching.{IsNeeded}
 use Rattle.jobs.specs.Tables.{key_eq, key_of, IsTable}
-use Rattle.jobs.specs.Users.{IsClosed, AreUsers, IsSameUsers}
+use Rattle.jobs.specs.Users.{IsClosed, IsUser, AreUsers, IsSameUsers}
 use Rattle.indexmap.specs.IndexSet.{IsUnique}
+use Rattle.jobs.specs.Failing.{LacksOutput}
+use Rattle.jobs.specs.Spreading.{Marking, GetsMark, AreSpread}
 use Rattle.jobs.specs.Kept.{AreKept, AreListed}
-use Rattle.jobs.specs.Marks.{MarksFail, MarksCalled, MarksLost, AreMarks, KeepsMarks}
+use Rattle.jobs.specs.Marks.{MarksFail, MarksCalled, is_marked, is_lacking, AreMarks, KeepsMarks}
 use Rattle.jobs.proofs.ProgressLemmas.{Grows, fails_grows, called_keeps}
 use Rattle.jobs.specs.ReadyLists.{AreHandedRight, IsList, IsSameList, ListsAll, HasRoom}
 use Rattle.jobs.proofs.ReachLemmas.{flag_within, walk_more, target_at}
+use Rattle.jobs.proofs.SpreadLemmas.{MarksLacking, whole_marks}
 use Rattle.jobs.proofs.StayLemmas.{list_stays, list_same, all_same, ready_stays, there_grows}
 use Rattle.jobs.proofs.TableLemmas.{key_same}
 use Rattle.jobs.proofs.UserLemmas.{users_same}
@@ -247,26 +253,87 @@ new_flag [] rest n met = absurd (cc met)
 new_flag (m ∷ marks) rest zero met = met
 new_flag (m ∷ marks) rest (suc n) met = new_flag marks rest n met
 
--- the marks once those of the added keys are found
-pub added_marks : (g : GraphParts) (keys : List Key) (old new : List Entry) (marks between now : List Bool) → AreAdded g keys old new → AreMarks old marks
-    → between ≡ take (length new) marks ++ replicate (length new - length marks) false → (MarksFail new between → MarksFail new now) → KeepsMarks between now → MarksLost new now → length now ≡ length between
-    → AreMarks new now
-added_marks g keys old new marks between now h was is fail keeps lost same =
-    let longer : length new ≡ length old + length h.added = ap length h.new_is ∙ length-append old h.added in
-    let all : take (length new) marks ≡ marks = take_all (length new) marks (let c = was.count in omega (arith, c, longer)) in
-    let between_is : between ≡ marks ++ replicate (length new - length marks) false = is ∙ ap (λ (xs : List Bool). xs ++ replicate (length new - length marks) false) all in
-    let size : length between ≡ length new = (let a = ap length between_is in let b = length-append marks (replicate (length new - length marks) false) in let r = length-replicate (length new - length marks) false in let c = was.count in omega (arith, a, b, r, c, longer)) in
-    let grows : Grows old new = subst (Grows old) (sym h.new_is) (stays old h.added) in
-    let flag : (n : ℕ) → flag_at between n ≡ true → flag_at marks n ≡ true = λ n met. old_flag marks n (length new - length marks) (ap (λ (xs : List Bool). flag_at xs n) (sym between_is) ∙ met) in
-    let sound : MarksFail new between = λ n e at met. (let f = flag n met in let within = flag_within marks n f in
-    let o = at_place old n (let c = was.count in omega (arith, within, c)) in
-    let one : o.0 ≡ e = some_is o.0 e (sym (get_left old h.added n o.0 o.1) ∙ ap (λ (xs : List Entry). slice_get xs n) (sym h.new_is) ∙ at) in
-    fails_grows old new grows e.key (was.fail n e (o.1 ∙ ap (λ (z : Entry). Some z) one) f)) in
-    let noted : MarksCalled new between = λ n e fault at failed. elim (added_waits g keys old new h n e at) [
-      | inl before ↦ ap (λ (xs : List Bool). flag_at xs n) between_is ∙ new_flag marks (replicate (length new - length marks) false) n (was.called n e fault before failed)
-      | inr waits ↦ absurd (cc (waits, failed))
-    ] in
-    record { count = same ∙ size; fail = fail sound; called = called_keeps new between now keeps noted; lost = lost }
+-- the marks before those of the added keys are found
+module _ (g : GraphParts) (keys : List Key) (old new : List Entry) (h : AreAdded g keys old new) (marks between : List Bool) (was : AreMarks old marks) (is : between ≡ take (length new) marks ++ replicate (length new - length marks) false) where
+  longer : length new ≡ length old + length h.added
+  longer = ap length h.new_is ∙ length-append old h.added
+
+  between_is : between ≡ marks ++ replicate (length new - length marks) false
+  between_is =
+      let all : take (length new) marks ≡ marks = take_all (length new) marks (let c = was.count in let l = longer in omega (arith, c, l)) in
+      is ∙ ap (λ (xs : List Bool). xs ++ replicate (length new - length marks) false) all
+
+  pub between_size : length between ≡ length new
+  between_size =
+      let a = ap length between_is in
+      let b = length-append marks (replicate (length new - length marks) false) in
+      let r = length-replicate (length new - length marks) false in
+      let c = was.count in
+      let l = longer in
+      omega (arith, a, b, r, c, l)
+
+  flag_before : (n : ℕ) → flag_at between n ≡ true → flag_at marks n ≡ true
+  flag_before n met = old_flag marks n (length new - length marks) (ap (λ (xs : List Bool). flag_at xs n) (sym between_is) ∙ met)
+
+  flag_kept : (n : ℕ) → flag_at marks n ≡ true → flag_at between n ≡ true
+  flag_kept n met = ap (λ (xs : List Bool). flag_at xs n) between_is ∙ new_flag marks (replicate (length new - length marks) false) n met
+
+  -- an old key, by its number
+  old_at : (n : ℕ) (e : Entry) → n < length old → slice_get new n ≡ Some e → slice_get old n ≡ Some e
+  old_at n e less at =
+      let o = at_place old n less in
+      let one : o.0 ≡ e = some_is o.0 e (sym (get_left old h.added n o.0 o.1) ∙ ap (λ (xs : List Entry). slice_get xs n) (sym h.new_is) ∙ at) in
+      o.1 ∙ ap (λ (z : Entry). Some z) one
+
+  marked_old : (n : ℕ) → flag_at marks n ≡ true → n < length old
+  marked_old n met = (let within = flag_within marks n met in let c = was.count in omega (arith, within, c))
+
+  pub between_sound : MarksFail new between
+  between_sound n e at met =
+      let f = flag_before n met in
+      fails_grows old new (subst (Grows old) (sym h.new_is) (stays old h.added)) e.key (was.fail n e (old_at n e (marked_old n f) at) f)
+
+  pub between_called : MarksCalled new between
+  between_called n e fault at failed = elim (added_waits g keys old new h n e at) [
+    | inl before ↦ flag_kept n (was.called n e fault before failed)
+    | inr waits ↦ absurd (cc (waits, failed))
+  ]
+
+  -- an input that lacks its output did so before
+  lacked : (input : Key × ℕ) → LacksOutput new input → LacksOutput old input
+  lacked input l =
+      let s = l.done.submitted in
+      elim (added_waits g keys old new h s.number l.done.entry s.at) [
+        | inl before ↦ record { outputs = l.outputs; done = record { entry = l.done.entry; submitted = record { number = s.number; at = before; named = s.named }; done = l.done.done }; missing = l.missing }
+        | inr waits ↦ absurd (let d = l.done.done in cc (waits, d))
+      ]
+
+  pub added_lacking : (mid : List Bool) (count : ℕ) → count ≡ length old → KeepsMarks between mid
+      → ((n : ℕ) (e : Entry) (input : Key × ℕ) → count ≤ n → slice_get new n ≡ Some e → Contains e.inputs input → LacksOutput new input → flag_at mid n ≡ true) → MarksLacking new mid
+  added_lacking mid count count_is keeps fresh n e input at has l = elim (cases_lt n count) [
+    | inr past ↦ fresh n e input past at has l
+    | inl less ↦ keeps n (flag_kept n (was.lost n e (old_at n e (omega (arith, less, count_is)) at) (record { input = input; has = has; lost = is_lacking (lacked input l) })))
+  ]
+
+  pub added_users : (mid : List Bool) (todo more : List ℕ) (count : ℕ) → count ≡ length old → Marking between todo mid more
+      → ((user source : ℕ) → count ≤ user → IsUser new user source → flag_at mid source ≡ true → flag_at mid user ≡ true ⊎ Contains more source)
+      → (user source : ℕ) → IsUser new user source → flag_at mid source ≡ true → flag_at mid user ≡ true ⊎ Contains more source
+  added_users mid todo more count count_is m fresh user source i met = elim (cases_lt user count) [
+    | inr past ↦ fresh user source past i met
+    | inl less ↦ elim (m.listed source met) [
+      | inr now ↦ inr now
+      | inl before ↦ (let f = flag_before source before in
+          inl (m.kept user (flag_kept user (was.lost user i.entry (old_at user i.entry (omega (arith, less, count_is)) i.at)
+          (record { input = i.input; has = i.has; lost = is_marked (record { number = source; entry = i.of; at = old_at source i.of (marked_old source f) i.of_at; named = i.named; marked = f }) })))))
+    ]
+  ]
+
+  -- the marks once they have spread
+  pub added_marks : (u : Users) → AreUsers new u → length u.lasts.items ≡ length new → (mid after : List Bool) (count : ℕ) → count ≡ length old → KeepsMarks between mid → (MarksFail new between → MarksFail new mid)
+      → ((n : ℕ) (e : Entry) (input : Key × ℕ) → count ≤ n → slice_get new n ≡ Some e → Contains e.inputs input → LacksOutput new input → flag_at mid n ≡ true)
+      → KeepsMarks mid after → ((n : ℕ) → flag_at after n ≡ true → GetsMark u.links.items mid n) → AreSpread u.links.items after [] → length after ≡ length between → AreMarks new after
+  added_marks u users lasts mid after count count_is keeps fail fresh kept only all size =
+      whole_marks new u users mid (fail between_sound) after lasts (called_keeps new between mid keeps between_called) (added_lacking mid count count_is keeps fresh) kept only all (size ∙ between_size)
 
 -- what was taken back leaves the old table
 pub taken_back : (old grown now : Table) (marks : List Bool) → AreKept old marks → IsFront old grown → now.numbers.keys ≡ take (length old.entries.items) grown.numbers.keys → IsUnique key_eq now.numbers
@@ -280,9 +347,9 @@ taken_back old grown now marks h front ks unique es =
       marked = subst (λ (xs : List Entry). AreMarks xs marks) (sym same) h.marked;
     }
 
-pub listed_back : (old grown now : Table) (u v : Users) (was marks : List Bool) (l m : ReadyList) (count : ℕ) → AreListed old u was l → marks ≡ was → IsSameUsers u v → IsSameList l m → IsFront old grown → count ≡ length old.entries.items
-    → now.numbers.keys ≡ take count grown.numbers.keys → IsUnique key_eq now.numbers → now.entries.items ≡ take count grown.entries.items → AreListed now v marks m
-listed_back old grown now u v was marks l m count h unmarked still same front is ks unique es =
+pub listed_back : (old grown now : Table) (u v : Users) (was marks : List Bool) (todo next : Vec ℕ Global) (l m : ReadyList) (count : ℕ) → AreListed old u was todo l → next.items ≡ todo.items → vec_capacity todo ≤ vec_capacity next → marks ≡ was → IsSameUsers u v → IsSameList l m → IsFront old grown → count ≡ length old.entries.items
+    → now.numbers.keys ≡ take count grown.numbers.keys → IsUnique key_eq now.numbers → now.entries.items ≡ take count grown.entries.items → AreListed now v marks next m
+listed_back old grown now u v was marks todo next l m count h idle more unmarked still same front is ks unique es =
     let es_is : now.entries.items ≡ take (length old.entries.items) grown.entries.items = es ∙ ap (λ n. take n grown.entries.items) is in
     let back : now.entries.items ≡ old.entries.items = es_is ∙ front_take old.entries.items grown.entries.items front.entries in
     record {
@@ -290,6 +357,8 @@ listed_back old grown now u v was marks l m count h unmarked still same front is
       closed = subst IsClosed (sym back) h.closed;
       used = subst (λ (xs : List Entry). AreUsers xs v) (sym back) (users_same old.entries.items u v still h.used);
       count = ap length still.lasts ∙ h.count ∙ sym (ap length back);
+      idle = idle ∙ h.idle;
+      todo_room = let r = h.todo_room in let n = ap length back in omega (arith, r, n, more);
       right = subst AreHandedRight (sym back) h.right;
       list = subst (λ (xs : List Entry). IsList xs m) (sym back) (list_same old.entries.items l m same h.list);
       all = subst (λ (xs : List Entry). ListsAll xs m) (sym back) (all_same old.entries.items l m same h.all);

@@ -6,6 +6,7 @@ mod ProgressLemmas
 mod ReachLemmas
 mod ReadyLemmas
 mod ShapeLemmas
+mod SpreadLemmas
 mod StayLemmas
 mod TableLemmas
 mod UserLemmas

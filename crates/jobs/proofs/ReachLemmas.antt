@@ -17,7 +17,7 @@ use Rattle.vertices.proofs.OrderLaws.{walk_join}
 use Rattle.jobs.specs.Reaching.{IsNeeded, AreReached, Reaching, IsReaching}
 
 -- one more flag leaves one fewer open flag
-one_fewer : (flags : List Bool) (n : ℕ) → n < length flags → flag_at flags n ≡ false → open_count (set flags n true) + 1 ≡ open_count flags
+pub one_fewer : (flags : List Bool) (n : ℕ) → n < length flags → flag_at flags n ≡ false → open_count (set flags n true) + 1 ≡ open_count flags
 one_fewer flags n within unmet =
     let count : Bool → ℕ = λ flag. cond (cond flag false true) 1 0 in
     let e = sum_by-set count flags n true false within in

@@ -25,7 +25,7 @@ use Rattle.jobs.proofs.TableLemmas.{one_number}
 abbrev pub Shapes : List Entry → List Entry → Type 0
 Shapes old new = (n : ℕ) (e : Entry) → slice_get old n ≡ Some e → (f : Entry) × (slice_get new n ≡ Some f) × (f.key ≡ e.key) × (f.inputs ≡ e.inputs)
 
-pub user_shapes : (old new : List Entry) → Shapes old new → (user source : ℕ) → IsUser old user source → IsUser new user source
+abbrev pub user_shapes : (old new : List Entry) → Shapes old new → (user source : ℕ) → IsUser old user source → IsUser new user source
 user_shapes old new s user source i =
     let a = s user i.entry i.at in
     let b = s source i.of i.of_at in
@@ -43,7 +43,7 @@ pub users_shapes : (old new : List Entry) (u : Users) → Shapes old new → Sha
 users_shapes old new u forth back h = record {
   linked = h.linked;
   all = h.all;
-  inputs = λ place link at. user_shapes old new forth link.user link.source (h.inputs place link at);
+  inputs = λ place link at. (let i = h.inputs place link at in record { user = user_shapes old new forth link.user link.source i.user; index = i.index });
   noted = λ n less entry input at has source other there key.
       let a = back n entry at in
       let b = back source other there in
@@ -140,7 +140,8 @@ module _ (g : GraphParts) (keys : List Key) (old new : List Entry) (h : AreAdded
   users_added u unique closed count is = record {
     linked = is.linked;
     all = is.all;
-    inputs = λ place link at. user_shapes old new (λ n e there. (e, added_left g keys old new h n e there, refl, refl)) link.user link.source (is.inputs place link at);
+    inputs = λ place link at. (let i = is.inputs place link at in
+        record { user = user_shapes old new (λ n e there. (e, added_left g keys old new h n e there, refl, refl)) link.user link.source i.user; index = i.index });
     noted = λ n less entry input at has source other there key.
         let o = at_place old n (omega (arith, less, count)) in
         let one : o.0 ≡ entry = some_is o.0 entry (sym (added_left g keys old new h n o.0 o.1) ∙ at) in

@@ -14,7 +14,7 @@ use Rattle.jobs.specs.declared.users.Link.{Link}
 use Rattle.jobs.specs.declared.users.Users.{Users}
 use Rattle.jobs.specs.Adding.{BeginsWith}
 use Rattle.jobs.specs.Tables.{key_eq, key_of}
-use Rattle.jobs.specs.Users.{IsUser, IsFrom, IsLast, no_link, a_link, AreLinked, AreInputs, IsNoted, AreUsers, IsSameUsers}
+use Rattle.jobs.specs.Users.{IsUser, IsInput, IsFrom, IsLast, no_link, a_link, AreLinked, AreInputs, IsNoted, AreUsers, IsSameUsers}
 use Rattle.jobs.proofs.TableLemmas.{one_number}
 
 -- ---- a list that grows
@@ -241,14 +241,17 @@ module _ (es : List Entry) (items : List (Key × ℕ)) (user : ℕ) where
       → AreInputs es links → AreInputs es (links ++ record { source = source; index = (get_or items k d).1; user = user } ∷ [])
   inputs_more k d links e source x within here is there named before place link at = elim (get_push_cases links (record { source = source; index = (get_or items k d).1; user = user }) place link at) [
     | inl old ↦ before place link old.1
-    | inr last ↦ subst (λ (y : Link). IsUser es y.user y.source) last.1 (record {
-      entry = e;
-      at = here;
-      of = x;
-      of_at = there;
-      input = get_or items k d;
-      has = subst (λ (xs : List (Key × ℕ)). Contains xs (get_or items k d)) is (Contains-get_or items k d within);
-      named = named;
+    | inr last ↦ subst (IsInput es) last.1 (record {
+      user = record {
+        entry = e;
+        at = here;
+        of = x;
+        of_at = there;
+        input = get_or items k d;
+        has = subst (λ (xs : List (Key × ℕ)). Contains xs (get_or items k d)) is (Contains-get_or items k d within);
+        named = named;
+      };
+      index = refl;
     })
   ]
 
@@ -256,7 +259,7 @@ pub noted_front : (es : List Entry) (old new : List Link) (n : ℕ) → BeginsWi
 noted_front es old new n front h entry input at has source other there key = front_contains old new front (record { source = source; index = input.1; user = n }) (h entry input at has source other there key)
 
 pub source_within : (es : List Entry) (links : List Link) → AreInputs es links → (place : ℕ) (link : Link) → slice_get links place ≡ Some link → link.source < length es
-source_within es links h place link at = let i = h place link at in slice_get_within es link.source i.of i.of_at
+source_within es links h place link at = let i = (h place link at).user in slice_get_within es link.source i.of i.of_at
 
 pub front_push : (first old new : List Link) (link : Link) → BeginsWith first old → new ≡ old ++ link ∷ [] → BeginsWith first new
 front_push first old new link front is = (front.0 ++ link ∷ [], is ∙ ap (λ (xs : List Link). xs ++ link ∷ []) front.1 ∙ append_assoc first front.0 (link ∷ []))
@@ -312,14 +315,14 @@ pub link_there : (links : List Link) (p : ℕ) (link : Link) → p < length link
 link_there links p link within read = slice_get_read links (length links) p link refl within read
 
 pub user_within : (es : List Entry) (u : Users) → AreUsers es u → (p : ℕ) (link : Link) → slice_get u.links.items p ≡ Some link → link.user < length es
-user_within es u h p link at = let i = h.inputs p link at in slice_get_within es link.user i.entry i.at
+user_within es u h p link at = let i = (h.inputs p link at).user in slice_get_within es link.user i.entry i.at
 
 -- the place before a link
-pub before_is : (es : List Entry) (u : Users) → AreUsers es u → (p : ℕ) (link : Link) (next : Option ℕ) → slice_get u.links.items p ≡ Some link → next ≡ get_or u.befores.items p next → IsLast u.links.items link.source p next
-before_is es u h p link next at read =
-    let less : p < length u.befores.items = (let within = slice_get_within u.links.items p link at in let all = h.all in omega (arith, within, all)) in
+pub before_is : (u : Users) → AreLinked u → length u.befores.items ≡ length u.links.items → (p : ℕ) (link : Link) (next : Option ℕ) → slice_get u.links.items p ≡ Some link → next ≡ get_or u.befores.items p next → IsLast u.links.items link.source p next
+before_is u h all p link next at read =
+    let less : p < length u.befores.items = (let within = slice_get_within u.links.items p link at in omega (arith, within, all)) in
     let is : next ≡ get_or u.befores.items p None = read ∙ get_or_default u.befores.items p next None less in
-    subst (λ (x : Option ℕ). IsLast u.links.items link.source p x) (sym is) (h.linked.befores p link less at)
+    subst (λ (x : Option ℕ). IsLast u.links.items link.source p x) (sym is) (h.befores p link less at)
 
 -- what holds of each link with this source holds for each user of its key
 pub user_done : (es : List Entry) (u : Users) (m n : ℕ) (done : Link → Type 0) → AreUsers es u → length u.lasts.items ≡ length es → (user : IsUser es m n)

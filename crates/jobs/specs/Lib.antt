@@ -5,5 +5,6 @@ pub mod Kept
 pub mod Marks
 pub mod Reaching
 pub mod ReadyLists
+pub mod Spreading
 pub mod Tables
 pub mod Users

@@ -21,6 +21,11 @@ pub record IsUser (keys : List Entry) (user source : ℕ) : Type 0 where
   pub has : Contains entry.inputs input
   pub named : of.key ≡ input.0
 
+-- the link is an input of its user
+pub record IsInput (keys : List Entry) (link : Link) : Type 0 where
+  pub user : IsUser keys link.user link.source
+  pub index : user.input.1 ≡ link.index
+
 module _ (links : List Link) (source : ℕ) where
   -- the link at this place has this source
   pub record IsFrom (place : ℕ) : Type 0 where
@@ -43,7 +48,7 @@ pub record AreLinked (u : Users) : Type 0 where
 module _ (keys : List Entry) (links : List Link) where
   -- each link is an input of its user
   abbrev pub AreInputs : Type 0
-  AreInputs = (place : ℕ) (link : Link) → slice_get links place ≡ Some link → IsUser keys link.user link.source
+  AreInputs = (place : ℕ) (link : Link) → slice_get links place ≡ Some link → IsInput keys link
 
   -- each input of the key of this number that is one of the keys has a link
   abbrev pub IsNoted : ℕ → Type 0

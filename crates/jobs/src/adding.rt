@@ -1,4 +1,5 @@
-ghost use Rattle.std.specs.Prelude.{◌≡◌, ◌<◌, ◌-◌, ◌++◌, false, All, OnOk, OnErr, IfOk, length, take, replicate};
+ghost use Rattle.std.specs.Prelude.{◌≡◌, ◌<◌, ◌≤◌, ◌-◌, ◌++◌, false, All, OnOk, OnErr, IfOk, length, take, replicate};
+ghost use Rattle.std.specs.Vec.{vec_capacity};
 ghost use Rattle.vertices.specs.Loading.{IsGraph};
 ghost use Rattle.solverkeys.specs.GraphKeys.{AreKeys, TakesKeys};
 ghost use Rattle.jobs.specs.Adding.{AddsKey, AreAdded, IsFront};
@@ -8,7 +9,7 @@ ghost use Rattle.jobs.specs.ReadyLists.{HasRoom, IsSameList};
 ghost use Rattle.jobs.specs.Tables.{IsTable};
 ghost use Rattle.jobs.specs.Users.{AreUsers, IsClosed, IsSameUsers};
 
-use super::marking::spread;
+use super::marking::{mark_new, spread};
 use super::ready::list_ready;
 use super::ready_list::ReadyList;
 use super::table::Table;
@@ -88,6 +89,7 @@ fn grow(
     table: &mut Table,
     users: &mut Users,
     marks: &mut Vec<bool>,
+    todo: &mut Vec<usize>,
     ready: &mut ReadyList,
     graph: &Graph,
     keys: &[Key],
@@ -108,12 +110,16 @@ fn grow(
     ensures marks { OnOk result (marks.new.items ≡ take (length table.new.entries.items) marks.old.items ++ replicate (length table.new.entries.items - length marks.old.items) false) }
     ensures room { OnOk result (HasRoom (length table.new.entries.items) ready.new) }
     ensures list { IsSameList ready.old ready.new }
+    ensures todo { todo.new.items ≡ todo.old.items }
+    ensures todo_room { OnOk result (length table.new.entries.items ≤ vec_capacity todo.new) }
+    ensures todo_capacity { vec_capacity todo.old ≤ vec_capacity todo.new }
     ensures err { OnErr result (marks.new.items ≡ marks.old.items) }
     ensures same_users { OnErr result (IsSameUsers users.old users.new) }
 {
     add_all(alloc, table, graph, keys, reached)?;
     let count = table.entries.len();
     ready.reserve(count)?;
+    todo.reserve(count)?;
     let more = count.saturating_sub(marks.len());
     marks.reserve(more)?;
     users.extend(table)?;
@@ -128,22 +134,25 @@ pub(crate) fn extend(
     table: &mut Table,
     users: &mut Users,
     marks: &mut Vec<bool>,
+    todo: &mut Vec<usize>,
     ready: &mut ReadyList,
     graph: &Graph,
     keys: &[Key],
     reached: &[bool],
 ) -> Result<(), AllocError>
-    requires listed { AreListed table.old users.old marks.old.items ready.old }
+    requires listed { AreListed table.old users.old marks.old.items todo.old ready.old }
     requires keys { AreKeys graph.now keys.now }
     requires reached { AreReached graph.now reached.now }
-    ensures listed { AreListed table.new users.new marks.new.items ready.new }
+    ensures listed { AreListed table.new users.new marks.new.items todo.new ready.new }
     ensures added { OnOk result (AreAdded graph.now keys.now table.old.entries.items table.new.entries.items) }
     ensures err { OnErr result (table.new.entries.items ≡ table.old.entries.items) }
 {
     let count = table.entries.len();
-    match grow(alloc, table, users, marks, ready, graph, keys, reached) {
+    match grow(alloc, table, users, marks, todo, ready, graph, keys, reached) {
         Ok(()) => {
-            spread(table, marks.as_mut_slice());
+            let flags = marks.as_mut_slice();
+            mark_new(table, flags, todo, count);
+            spread(users, flags, todo);
             list_ready(table, marks.as_slice(), ready, count);
             Ok(())
         }

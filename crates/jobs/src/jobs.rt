@@ -34,6 +34,8 @@ pub struct Jobs {
     users: Users,
     /// For each key whether it fails.
     marks: Vec<bool>,
+    /// The failing keys whose users are to be looked at: none between calls, and room for all keys.
+    todo: Vec<usize>,
     /// The keys that were handed out, and the ready ones.
     ready: ReadyList,
 }
@@ -46,7 +48,7 @@ impl Model for Jobs {
 
     ghost view = { λ j. history j.results.items j.table.entries.items };
 
-    ghost invariant = { λ j. AreListed j.table j.users j.marks.items j.ready };
+    ghost invariant = { λ j. AreListed j.table j.users j.marks.items j.todo j.ready };
 }
 
 impl Jobs {
@@ -60,6 +62,7 @@ impl Jobs {
             table: Table::new(alloc),
             users: Users::new(alloc),
             marks: Vec::new(alloc),
+            todo: Vec::new(alloc),
             ready: ReadyList::new(alloc),
         }
     }
@@ -85,8 +88,8 @@ impl Jobs {
         self.results.push((keys[result], index))?;
         let flags = reached.as_slice();
         let (table, users) = (&mut self.table, &mut self.users);
-        let (marks, ready) = (&mut self.marks, &mut self.ready);
-        match extend(alloc, table, users, marks, ready, graph, keys, flags) {
+        let (marks, todo, ready) = (&mut self.marks, &mut self.todo, &mut self.ready);
+        match extend(alloc, table, users, marks, todo, ready, graph, keys, flags) {
             Ok(()) => Ok(job),
             Err(error) => {
                 self.results.pop();
@@ -132,7 +135,8 @@ impl Jobs {
         };
         let progress = Progress::Done(Items::new(outputs));
         let (table, marks) = (&mut self.table, self.marks.as_mut_slice());
-        finish(table, &self.users, marks, &mut self.ready, number, progress);
+        let (todo, ready) = (&mut self.todo, &mut self.ready);
+        finish(table, &self.users, marks, todo, ready, number, progress);
         Ok(())
     }
 
@@ -148,7 +152,8 @@ impl Jobs {
         };
         let progress = Progress::Failed(fault);
         let (table, marks) = (&mut self.table, self.marks.as_mut_slice());
-        finish(table, &self.users, marks, &mut self.ready, number, progress);
+        let (todo, ready) = (&mut self.todo, &mut self.ready);
+        finish(table, &self.users, marks, todo, ready, number, progress);
         Ok(())
     }
 

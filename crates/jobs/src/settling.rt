@@ -16,17 +16,18 @@ pub(crate) fn finish(
     table: &mut Table,
     users: &Users,
     marks: &mut [bool],
+    todo: &mut Vec<usize>,
     ready: &mut ReadyList,
     number: usize,
     progress: Progress,
 )
-    requires listed { AreListed table.old users.now marks.old ready.old }
+    requires listed { AreListed table.old users.now marks.old todo.old ready.old }
     requires out { (entry : SpecEntry) × (slice_get table.old.entries.items number ≡ Some entry) × (entry.progress ≡ Out) }
     requires ends { progress ≡ Waiting → ⊥ }
-    ensures listed { AreListed table.new users.now marks.new ready.new }
+    ensures listed { AreListed table.new users.now marks.new todo.new ready.new }
     ensures entries { (entry : SpecEntry) → slice_get table.old.entries.items number ≡ Some entry
         → table.new.entries.items ≡ slice_set table.old.entries.items number (record entry { progress = progress }) }
 {
-    settle(table, marks, number, progress);
+    settle(table, users, marks, todo, number, progress);
     list_users(table, users, marks, ready, number);
 }

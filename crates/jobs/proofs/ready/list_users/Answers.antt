@@ -39,7 +39,7 @@ loop-next-smaller c =
     let es = c.args.table.now.entries.items in
     let u = c.args.users.now in
     let within = place_within u.links.items c.args.number _ c.in-Some.place c.loop-next.next c.in-Some.is c.loop-next.invariant.walk in
-    let last = before_is es u c.requires.users c.in-Some.place c.index.result.now c.index-next-in-Some.result.now (link_there u.links.items c.in-Some.place c.index.result.now within c.index.ensures) c.index-next-in-Some.ensures in
+    let last = before_is u c.requires.users.linked c.requires.users.all c.in-Some.place c.index.result.now c.index-next-in-Some.result.now (link_there u.links.items c.in-Some.place c.index.result.now within c.index.ensures) c.index-next-in-Some.ensures in
     let less = last_below u.links.items c.index.result.now.source c.in-Some.place c.index-next-in-Some.result.now last in
     let now : steps_left c.loop-next.next ≡ steps_left (Some c.in-Some.place) = ap steps_left c.in-Some.is in
     omega (arith, less, now)
@@ -53,7 +53,7 @@ loop-next-preserved c =
     let inv = c.loop-next.invariant in
     let within = place_within links c.args.number _ c.in-Some.place c.loop-next.next c.in-Some.is inv.walk in
     let at = link_there links c.in-Some.place link within c.index.ensures in
-    let last = before_is es u c.requires.users c.in-Some.place link c.index-next-in-Some.result.now at c.index-next-in-Some.ensures in
+    let last = before_is u c.requires.users.linked c.requires.users.all c.in-Some.place link c.index-next-in-Some.result.now at c.index-next-in-Some.ensures in
     elim c.if-is_ready.branch [
       | then-is_ready w ↦ (let e = w.add.ensures in
           let now = w.add.new.self in

@@ -1,4 +1,4 @@
-use Rattle.std.proofs.Common.{◌≡◌, inl, inr, ap, sym, ◌∙◌, length}
+use Rattle.std.proofs.Common.{◌≡◌, inl, inr, ap, sym, ◌∙◌, arith, length}
 use Rattle.std.proofs.lemmas.List.{length-set}
 use Rattle.std.proofs.lemmas.Option.{slice_get_within}
 use Rattle.jobs.proofs.MarkLemmas.{distinct}
@@ -40,6 +40,8 @@ returns-clause-listed c =
       closed = closed_moved es c.args.number out.0 out.1 c.args.progress now.entries.items now_is c.requires.listed.closed;
       used = users_moved es c.args.number out.0 out.1 c.args.progress now.entries.items c.args.users.now now_is c.requires.listed.used;
       count = c.requires.listed.count ∙ sym (ap length now_is ∙ length-set es c.args.number (record out.0 { progress = c.args.progress }));
+      idle = c.settle.ensures.todo;
+      todo_room = let r = c.requires.listed.todo_room in let n = ap length now_is ∙ length-set es c.args.number (record out.0 { progress = c.args.progress }) in let k = c.settle.ensures.capacity in omega (arith, r, n, k);
       right = finished_right es c.args.number out.0 out.1 c.args.progress now.entries.items out.2 now_is c.requires.listed.right;
       list = c.list_users.ensures.list;
       all = c.list_users.ensures.all;

@@ -1,4 +1,4 @@
-use Rattle.std.proofs.Common.{◌≡◌, Some, ap, sym, subst, ◌∙◌, length, slice_get}
+use Rattle.std.proofs.Common.{◌≡◌, Some, ap, sym, subst, ◌∙◌, arith, length, slice_get}
 use Rattle.std.proofs.lemmas.List.{length-set}
 use Rattle.jobs.specs.declared.entry.Progress.TheVariants.{Out}
 use Rattle.std.proofs.lemmas.Option.{slice_get_within}
@@ -48,6 +48,8 @@ invariant_of-self c =
       closed = closed_moved es n r.entry r.at Out now.entries.items now_is c.self.invariant.closed;
       used = users_moved es n r.entry r.at Out now.entries.items c.self.inside.users now_is c.self.invariant.used;
       count = c.self.invariant.count ∙ sym (ap length now_is ∙ length-set es n (record r.entry { progress = Out }));
+      idle = c.self.invariant.idle;
+      todo_room = let t_room = c.self.invariant.todo_room in let k = ap length now_is ∙ length-set es n (record r.entry { progress = Out }) in omega (arith, t_room, k);
       right = right_taken es l h all n first c.take.new.self now.entries.items (distinct now numbered) c.self.invariant.right t.taken t.numbers t.keys now_is;
       list = list_taken es l h all n first c.take.new.self now.entries.items (distinct now numbered) c.self.invariant.right t.taken t.numbers t.keys now_is;
       all = all_taken es l h all n first c.take.new.self now.entries.items (distinct now numbered) c.self.invariant.right t.taken t.numbers t.keys now_is;
