@@ -1,14 +1,18 @@
 -- What a graph adds to the submitted keys.
-use Rattle.std.proofs.Common.{◌≡◌, ℕ, zero, suc, ◌+◌, ◌-◌, ◌<◌, ◌⊎◌, replicate, inl, inr, Bool, true, false, List, [], ◌∷◌, ◌++◌, map, length, take, get_or, Some, slice_get, refl, ap, sym, ◌∙◌, subst, arith, append-nil, append_assoc, if◌then◌else◌}
-use Rattle.std.specs.List.{list_any, All, Contains}
-use Rattle.std.proofs.lemmas.Bool.{cases_Bool, cases_eq}
+use Rattle.std.proofs.Common.{◌≡◌, ℕ, zero, suc, ◌+◌, ◌-◌, ◌<◌, ◌≤◌, ◌⊎◌, replicate, inl, inr, Bool, true, false, List, [], ◌∷◌, ◌++◌, map, length, take, get_or, Some, slice_get, refl, ap, sym, ◌∙◌, subst, arith, append-nil, append_assoc, if◌then◌else◌}
+use Rattle.std.specs.Vec.{vec_capacity}
+use Rattle.std.specs.declared.alloc.Global.{Global}
+use Rattle.std.specs.declared.vec.Vec.{Vec}
+use Rattle.std.specs.List.{list_any, All, Contains, IsDistinct}
+use Rattle.std.proofs.lemmas.Bool.{cases_Bool, cases_eq, cases_lt}
 use Rattle.std.proofs.lemmas.List.{take-append-le, take_all, length-append, length-replicate, length-map}
 use Rattle.std.proofs.lemmas.List.Elements.{Contains-append_left, Contains-push, Contains-push_cases}
 use Rattle.std.proofs.lemmas.Option.{slice_get_within, slice_get-get_or, get_or_from_slice_get}
 use Rattle.indexmap.specs.IndexSet.{insert_key}
 use Rattle.farm_base.specs.declared.digest.Key.{Key}
-use Rattle.lists.proofs.Places.{AllZip-push, get_push_left, get_push_end, at_place, some_is}
+use Rattle.lists.proofs.Places.{AllZip-push, get_push_left, get_push_end, at_place, at_Contains, some_is}
 use Rattle.lists.proofs.Rising.{rising_push}
+use Rattle.vertices.specs.Edges.{list_at}
 use Rattle.vertices.specs.Flags.{flag_at}
 use Rattle.vertices.specs.Loading.{GraphParts, IsGraph}
 use Rattle.vertices.proofs.ZipLemmas.{all_zip_back}
@@ -17,16 +21,25 @@ use Rattle.solverkeys.proofs.KeyLemmas.{edges_within}
 use Rattle.solverkeys.specs.GraphKeys.{TakesKeys}
 use Rattle.jobs.specs.declared.entry.Entry.{Entry}
 use Rattle.jobs.specs.declared.entry.Progress.TheVariants.{Waiting}
+use Rattle.jobs.specs.declared.ready_list.ReadyList.{ReadyList}
 use Rattle.jobs.specs.declared.table.Table.{Table}
+use Rattle.jobs.specs.declared.users.Users.{Users}
 use Rattle.jobs.specs.Adding.{BeginsWith, IsFront, IsEntryOf, IsKnown, IsNew, AreAdded, AddsKey, known, adds, IsAdding}
 use Rattle.jobs.specs.Reaching.{IsNeeded}
 use Rattle.jobs.specs.Tables.{key_eq, key_of, IsTable}
+use Rattle.jobs.specs.Users.{IsClosed, IsUser, AreUsers, IsSameUsers}
 use Rattle.indexmap.specs.IndexSet.{IsUnique}
-use Rattle.jobs.specs.Kept.{AreKept}
-use Rattle.jobs.specs.Marks.{MarksFail, MarksCalled, MarksLost, AreMarks, KeepsMarks}
+use Rattle.jobs.specs.Failing.{LacksOutput}
+use Rattle.jobs.specs.Spreading.{Marking, GetsMark, AreSpread}
+use Rattle.jobs.specs.Kept.{AreKept, AreListed}
+use Rattle.jobs.specs.Marks.{MarksFail, MarksCalled, is_marked, is_lacking, AreMarks, KeepsMarks}
 use Rattle.jobs.proofs.ProgressLemmas.{Grows, fails_grows, called_keeps}
-use Rattle.jobs.proofs.ReachLemmas.{flag_within}
+use Rattle.jobs.specs.ReadyLists.{AreHandedRight, IsList, IsSameList, ListsAll, HasRoom}
+use Rattle.jobs.proofs.ReachLemmas.{flag_within, walk_more, target_at}
+use Rattle.jobs.proofs.SpreadLemmas.{MarksLacking, whole_marks}
+use Rattle.jobs.proofs.StayLemmas.{list_stays, list_same, all_same, ready_stays, there_grows}
 use Rattle.jobs.proofs.TableLemmas.{key_same}
+use Rattle.jobs.proofs.UserLemmas.{users_same}
 
 -- ---- one key
 
@@ -181,6 +194,20 @@ module _ (g : GraphParts) (keys : List Key) (old : List Entry) where
     new_is = h.new_is;
   }
 
+-- each input's key is known at the end
+pub adding_closed : (g : GraphParts) (keys : List Key) (old : List Entry) (n : ℕ) (new : List Entry) → IsAdding g keys old n new → length g.vertices < n + 1 → ((m : ℕ) → IsNeeded g m → m < length g.vertices) → IsClosed old → IsClosed new
+adding_closed g keys old n new h past within closed m e input at has = elim (append_cases old h.added m e (ap (λ (xs : List Entry). slice_get xs m) (sym h.new_is) ∙ at)) [
+  | inl before ↦ (let s = closed m e input before has in
+      (s.0, record { number = s.1.number; at = ap (λ (xs : List Entry). slice_get xs s.1.number) h.new_is ∙ get_left old h.added s.1.number s.0 s.1.at; named = s.1.named }))
+  | inr (k, there) ↦ (let z = all_zip_back (IsEntryOf g keys) h.numbers h.added k e h.entries there in
+      let c : Contains h.numbers z.0 = (k, slice_get_within h.numbers k z.0 z.1, get_or_from_slice_get h.numbers k z.0 z.0 z.1) in
+      let i = at_Contains e.inputs input has in
+      let t = all_zip_back (λ (edge : ℕ × ℕ) (taken : Key × ℕ). (slice_get keys edge.0 ≡ Some taken.0) × (taken.1 ≡ edge.1)) (list_at g.edges z.0) e.inputs i.0 input z.2.inputs i.1 in
+      let needed = walk_more g z.0 t.0.0 (h.only z.0 c).needed (target_at (list_at g.edges z.0) i.0 t.0 t.1) in
+      let known = h.covered t.0.0 (let less = within t.0.0 needed in omega (arith, less, past)) needed in
+      (known.entry, record { number = known.place; at = known.at; named = some_is known.entry.key input.0 (sym known.key ∙ t.2.0) }))
+]
+
 -- ---- fronts
 
 pub front_join : (one two three : Table) → IsFront one two → IsFront two three → IsFront one three
@@ -199,7 +226,7 @@ front_take old new (rest, is) = ap (take (length old)) is ∙ take-append-le (le
 -- ---- marks of what was added
 
 -- an added entry waits
-added_waits : (g : GraphParts) (keys : List Key) (old new : List Entry) (h : AreAdded g keys old new) (n : ℕ) (e : Entry) → slice_get new n ≡ Some e → (slice_get old n ≡ Some e) ⊎ (e.progress ≡ Waiting)
+pub added_waits : (g : GraphParts) (keys : List Key) (old new : List Entry) (h : AreAdded g keys old new) (n : ℕ) (e : Entry) → slice_get new n ≡ Some e → (slice_get old n ≡ Some e) ⊎ (e.progress ≡ Waiting)
 added_waits g keys old new h n e at = elim (append_cases old h.added n e (ap (λ (xs : List Entry). slice_get xs n) (sym h.new_is) ∙ at)) [
   | inl before ↦ inl before
   | inr (m, there) ↦ inr (all_zip_back (IsEntryOf g keys) h.numbers h.added m e h.entries there).2.waiting
@@ -226,26 +253,87 @@ new_flag [] rest n met = absurd (cc met)
 new_flag (m ∷ marks) rest zero met = met
 new_flag (m ∷ marks) rest (suc n) met = new_flag marks rest n met
 
--- the marks once those of the added keys are found
-pub added_marks : (g : GraphParts) (keys : List Key) (old new : List Entry) (marks between now : List Bool) → AreAdded g keys old new → AreMarks old marks
-    → between ≡ take (length new) marks ++ replicate (length new - length marks) false → (MarksFail new between → MarksFail new now) → KeepsMarks between now → MarksLost new now → length now ≡ length between
-    → AreMarks new now
-added_marks g keys old new marks between now h was is fail keeps lost same =
-    let longer : length new ≡ length old + length h.added = ap length h.new_is ∙ length-append old h.added in
-    let all : take (length new) marks ≡ marks = take_all (length new) marks (let c = was.count in omega (arith, c, longer)) in
-    let between_is : between ≡ marks ++ replicate (length new - length marks) false = is ∙ ap (λ (xs : List Bool). xs ++ replicate (length new - length marks) false) all in
-    let size : length between ≡ length new = (let a = ap length between_is in let b = length-append marks (replicate (length new - length marks) false) in let r = length-replicate (length new - length marks) false in let c = was.count in omega (arith, a, b, r, c, longer)) in
-    let grows : Grows old new = subst (Grows old) (sym h.new_is) (stays old h.added) in
-    let flag : (n : ℕ) → flag_at between n ≡ true → flag_at marks n ≡ true = λ n met. old_flag marks n (length new - length marks) (ap (λ (xs : List Bool). flag_at xs n) (sym between_is) ∙ met) in
-    let sound : MarksFail new between = λ n e at met. (let f = flag n met in let within = flag_within marks n f in
-    let o = at_place old n (let c = was.count in omega (arith, within, c)) in
-    let one : o.0 ≡ e = some_is o.0 e (sym (get_left old h.added n o.0 o.1) ∙ ap (λ (xs : List Entry). slice_get xs n) (sym h.new_is) ∙ at) in
-    fails_grows old new grows e.key (was.fail n e (o.1 ∙ ap (λ (z : Entry). Some z) one) f)) in
-    let noted : MarksCalled new between = λ n e fault at failed. elim (added_waits g keys old new h n e at) [
-      | inl before ↦ ap (λ (xs : List Bool). flag_at xs n) between_is ∙ new_flag marks (replicate (length new - length marks) false) n (was.called n e fault before failed)
-      | inr waits ↦ absurd (cc (waits, failed))
-    ] in
-    record { count = same ∙ size; fail = fail sound; called = called_keeps new between now keeps noted; lost = lost }
+-- the marks before those of the added keys are found
+module _ (g : GraphParts) (keys : List Key) (old new : List Entry) (h : AreAdded g keys old new) (marks between : List Bool) (was : AreMarks old marks) (is : between ≡ take (length new) marks ++ replicate (length new - length marks) false) where
+  longer : length new ≡ length old + length h.added
+  longer = ap length h.new_is ∙ length-append old h.added
+
+  between_is : between ≡ marks ++ replicate (length new - length marks) false
+  between_is =
+      let all : take (length new) marks ≡ marks = take_all (length new) marks (let c = was.count in let l = longer in omega (arith, c, l)) in
+      is ∙ ap (λ (xs : List Bool). xs ++ replicate (length new - length marks) false) all
+
+  pub between_size : length between ≡ length new
+  between_size =
+      let a = ap length between_is in
+      let b = length-append marks (replicate (length new - length marks) false) in
+      let r = length-replicate (length new - length marks) false in
+      let c = was.count in
+      let l = longer in
+      omega (arith, a, b, r, c, l)
+
+  flag_before : (n : ℕ) → flag_at between n ≡ true → flag_at marks n ≡ true
+  flag_before n met = old_flag marks n (length new - length marks) (ap (λ (xs : List Bool). flag_at xs n) (sym between_is) ∙ met)
+
+  flag_kept : (n : ℕ) → flag_at marks n ≡ true → flag_at between n ≡ true
+  flag_kept n met = ap (λ (xs : List Bool). flag_at xs n) between_is ∙ new_flag marks (replicate (length new - length marks) false) n met
+
+  -- an old key, by its number
+  old_at : (n : ℕ) (e : Entry) → n < length old → slice_get new n ≡ Some e → slice_get old n ≡ Some e
+  old_at n e less at =
+      let o = at_place old n less in
+      let one : o.0 ≡ e = some_is o.0 e (sym (get_left old h.added n o.0 o.1) ∙ ap (λ (xs : List Entry). slice_get xs n) (sym h.new_is) ∙ at) in
+      o.1 ∙ ap (λ (z : Entry). Some z) one
+
+  marked_old : (n : ℕ) → flag_at marks n ≡ true → n < length old
+  marked_old n met = (let within = flag_within marks n met in let c = was.count in omega (arith, within, c))
+
+  pub between_sound : MarksFail new between
+  between_sound n e at met =
+      let f = flag_before n met in
+      fails_grows old new (subst (Grows old) (sym h.new_is) (stays old h.added)) e.key (was.fail n e (old_at n e (marked_old n f) at) f)
+
+  pub between_called : MarksCalled new between
+  between_called n e fault at failed = elim (added_waits g keys old new h n e at) [
+    | inl before ↦ flag_kept n (was.called n e fault before failed)
+    | inr waits ↦ absurd (cc (waits, failed))
+  ]
+
+  -- an input that lacks its output did so before
+  lacked : (input : Key × ℕ) → LacksOutput new input → LacksOutput old input
+  lacked input l =
+      let s = l.done.submitted in
+      elim (added_waits g keys old new h s.number l.done.entry s.at) [
+        | inl before ↦ record { outputs = l.outputs; done = record { entry = l.done.entry; submitted = record { number = s.number; at = before; named = s.named }; done = l.done.done }; missing = l.missing }
+        | inr waits ↦ absurd (let d = l.done.done in cc (waits, d))
+      ]
+
+  pub added_lacking : (mid : List Bool) (count : ℕ) → count ≡ length old → KeepsMarks between mid
+      → ((n : ℕ) (e : Entry) (input : Key × ℕ) → count ≤ n → slice_get new n ≡ Some e → Contains e.inputs input → LacksOutput new input → flag_at mid n ≡ true) → MarksLacking new mid
+  added_lacking mid count count_is keeps fresh n e input at has l = elim (cases_lt n count) [
+    | inr past ↦ fresh n e input past at has l
+    | inl less ↦ keeps n (flag_kept n (was.lost n e (old_at n e (omega (arith, less, count_is)) at) (record { input = input; has = has; lost = is_lacking (lacked input l) })))
+  ]
+
+  pub added_users : (mid : List Bool) (todo more : List ℕ) (count : ℕ) → count ≡ length old → Marking between todo mid more
+      → ((user source : ℕ) → count ≤ user → IsUser new user source → flag_at mid source ≡ true → flag_at mid user ≡ true ⊎ Contains more source)
+      → (user source : ℕ) → IsUser new user source → flag_at mid source ≡ true → flag_at mid user ≡ true ⊎ Contains more source
+  added_users mid todo more count count_is m fresh user source i met = elim (cases_lt user count) [
+    | inr past ↦ fresh user source past i met
+    | inl less ↦ elim (m.listed source met) [
+      | inr now ↦ inr now
+      | inl before ↦ (let f = flag_before source before in
+          inl (m.kept user (flag_kept user (was.lost user i.entry (old_at user i.entry (omega (arith, less, count_is)) i.at)
+          (record { input = i.input; has = i.has; lost = is_marked (record { number = source; entry = i.of; at = old_at source i.of (marked_old source f) i.of_at; named = i.named; marked = f }) })))))
+    ]
+  ]
+
+  -- the marks once they have spread
+  pub added_marks : (u : Users) → AreUsers new u → length u.lasts.items ≡ length new → (mid after : List Bool) (count : ℕ) → count ≡ length old → KeepsMarks between mid → (MarksFail new between → MarksFail new mid)
+      → ((n : ℕ) (e : Entry) (input : Key × ℕ) → count ≤ n → slice_get new n ≡ Some e → Contains e.inputs input → LacksOutput new input → flag_at mid n ≡ true)
+      → KeepsMarks mid after → ((n : ℕ) → flag_at after n ≡ true → GetsMark u.links.items mid n) → AreSpread u.links.items after [] → length after ≡ length between → AreMarks new after
+  added_marks u users lasts mid after count count_is keeps fail fresh kept only all size =
+      whole_marks new u users mid (fail between_sound) after lasts (called_keeps new between mid keeps between_called) (added_lacking mid count count_is keeps fresh) kept only all (size ∙ between_size)
 
 -- what was taken back leaves the old table
 pub taken_back : (old grown now : Table) (marks : List Bool) → AreKept old marks → IsFront old grown → now.numbers.keys ≡ take (length old.entries.items) grown.numbers.keys → IsUnique key_eq now.numbers
@@ -258,3 +346,43 @@ taken_back old grown now marks h front ks unique es =
       numbered = record { listed = same_keys ∙ h.numbered.listed ∙ ap (map key_of) (sym same); unique = unique };
       marked = subst (λ (xs : List Entry). AreMarks xs marks) (sym same) h.marked;
     }
+
+pub listed_back : (old grown now : Table) (u v : Users) (was marks : List Bool) (todo next : Vec ℕ Global) (l m : ReadyList) (count : ℕ) → AreListed old u was todo l → next.items ≡ todo.items → vec_capacity todo ≤ vec_capacity next → marks ≡ was → IsSameUsers u v → IsSameList l m → IsFront old grown → count ≡ length old.entries.items
+    → now.numbers.keys ≡ take count grown.numbers.keys → IsUnique key_eq now.numbers → now.entries.items ≡ take count grown.entries.items → AreListed now v marks next m
+listed_back old grown now u v was marks todo next l m count h idle more unmarked still same front is ks unique es =
+    let es_is : now.entries.items ≡ take (length old.entries.items) grown.entries.items = es ∙ ap (λ n. take n grown.entries.items) is in
+    let back : now.entries.items ≡ old.entries.items = es_is ∙ front_take old.entries.items grown.entries.items front.entries in
+    record {
+      kept = subst (AreKept now) (sym unmarked) (taken_back old grown now was h.kept front (ks ∙ ap (λ n. take n grown.numbers.keys) is) unique es_is);
+      closed = subst IsClosed (sym back) h.closed;
+      used = subst (λ (xs : List Entry). AreUsers xs v) (sym back) (users_same old.entries.items u v still h.used);
+      count = ap length still.lasts ∙ h.count ∙ sym (ap length back);
+      idle = idle ∙ h.idle;
+      todo_room = let r = h.todo_room in let n = ap length back in omega (arith, r, n, more);
+      right = subst AreHandedRight (sym back) h.right;
+      list = subst (λ (xs : List Entry). IsList xs m) (sym back) (list_same old.entries.items l m same h.list);
+      all = subst (λ (xs : List Entry). ListsAll xs m) (sym back) (all_same old.entries.items l m same h.all);
+      room = subst (λ (n : ℕ). HasRoom n m) (sym (ap length back)) (same.room (length old.entries.items) h.room);
+    }
+
+-- ---- the list where keys are added
+
+module _ (g : GraphParts) (keys : List Key) (old new : List Entry) (h : AreAdded g keys old new) where
+  pub added_grows : Grows old new
+  added_grows = subst (Grows old) (sym h.new_is) (stays old h.added)
+
+  pub added_left : (n : ℕ) (e : Entry) → slice_get old n ≡ Some e → slice_get new n ≡ Some e
+  added_left n e at = ap (λ (xs : List Entry). slice_get xs n) h.new_is ∙ get_left old h.added n e at
+
+  pub added_right : AreHandedRight old → AreHandedRight new
+  added_right right n handed = elim (added_waits g keys old new h n handed.entry handed.at) [
+    | inl before ↦ there_grows old new added_grows handed.entry.inputs (right n (record { entry = handed.entry; at = before; handed = handed.handed }))
+    | inr waits ↦ absurd (handed.handed waits)
+  ]
+
+  pub added_list : (l : ReadyList) → IsDistinct key_eq (map key_of new) → AreHandedRight old → IsList old l → IsList new l
+  added_list l unique right is = list_stays old new l
+      (λ n x. record { entry = x.entry; at = added_left n x.entry x.at; handed = x.handed })
+      (λ n c r. ready_stays old new added_grows unique (added_right right) n r (added_left n r.entry r.at))
+      (λ n key k. record { entry = k.entry; at = added_left n k.entry k.at; named = k.named })
+      is

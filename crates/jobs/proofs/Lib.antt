@@ -1,7 +1,12 @@
 mod AddLemmas
 mod AnswerLemmas
+mod ListLemmas
 mod MarkLemmas
 mod ProgressLemmas
 mod ReachLemmas
 mod ReadyLemmas
+mod ShapeLemmas
+mod SpreadLemmas
+mod StayLemmas
 mod TableLemmas
+mod UserLemmas

@@ -16,7 +16,7 @@ use Rattle.jobs.specs.declared.entry.Entry.{Entry}
 use Rattle.jobs.specs.declared.entry.Progress.TheVariants.{Out, Done}
 use Rattle.jobs.specs.declared.table.Table.{Table}
 use Rattle.jobs.specs.Failing.{IsSubmitted, LacksOutput, Fails, called, input_fails, input_lacks}
-use Rattle.jobs.specs.Marks.{IsMarked, IsLost, is_marked, is_lacking, HasLost, MarksFail, MarksLost, AreMarks, HasLooked}
+use Rattle.jobs.specs.Marks.{IsMarked, IsLost, is_marked, is_lacking, HasLost, MarksFail, MarksLost, AreMarks}
 use Rattle.jobs.specs.Tables.{key_eq, key_of, IsTable}
 use Rattle.jobs.proofs.TableLemmas.{one_number}
 
@@ -94,67 +94,16 @@ all_marked es marks h key (input_fails _ entry input s has f) =
 all_marked es marks h key (input_lacks _ entry input s has l) =
     record { number = s.number; entry = entry; at = s.at; named = s.named; marked = h.lost s.number entry s.at (record { input = input; has = has; lost = is_lacking l }) }
 
--- ---- one look at each key
+-- ---- a key with such an input fails
 
 -- an entry with an input that never comes fails
-lost_fails : (es : List Entry) (marks : List Bool) → MarksFail es marks → (n : ℕ) (e : Entry) → slice_get es n ≡ Some e → HasLost es marks e.inputs → Fails es e.key
+pub lost_fails : (es : List Entry) (marks : List Bool) → MarksFail es marks → (n : ℕ) (e : Entry) → slice_get es n ≡ Some e → HasLost es marks e.inputs → Fails es e.key
 lost_fails es marks fail n e at h = lost_input h.input h.has h.lost
   where
     lost_input : (input : Key × ℕ) → Contains e.inputs input → IsLost es marks input → Fails es e.key
     lost_input input has (is_marked m) = input_fails e.key e input (record { number = n; at = at; named = refl }) has
         (subst (Fails es) m.named (fail m.number m.entry m.at m.marked))
     lost_input input has (is_lacking l) = input_lacks e.key e input (record { number = n; at = at; named = refl }) has l
-
--- no more open marks than there were
-no_more : (marked : Bool) (old new : List Bool) → OnTrue marked (open_count new < open_count old) → OnFalse marked (new ≡ old) → open_count new < open_count old + 1
-no_more true old new fewer same = omega (arith, fewer)
-no_more false old new fewer same = (let e = ap open_count same in omega (arith, e))
-
-pub first_look : (es : List Entry) (marks : List Bool) → HasLooked es marks marks false 0
-first_look es marks = record { fail = λ h. h; keeps = λ n h. h; fewer = tt; same = refl; looked = λ n e lt at h. absurd (omega (arith, lt)) }
-
--- one more key is marked
-pub look_marks : (es : List Entry) (old new now : List Bool) (marked is : Bool) (n : ℕ) (e : Entry) → HasLooked es old new marked n → slice_get es n ≡ Some e → n < length new
-    → flag_at new n ≡ false → HasLost es new e.inputs → now ≡ set new n true → is ≡ true → HasLooked es old now is (n + 1)
-look_marks es old new now marked is n e h at within flag lost now_is is_true =
-    let keeps : (m : ℕ) → flag_at new m ≡ true → flag_at (set new n true) m ≡ true
-    = λ m met. elim (cases_eq m n) [
-      | inl same ↦ ap (flag_at (set new n true)) same ∙ get_or-set_same new n true false within
-      | inr apart ↦ get_or-set_other new n m true false apart ∙ met
-    ] in
-    let fail : MarksFail es old → MarksFail es (set new n true)
-    = λ was m f there met. elim (cases_eq m n) [
-      | inl same ↦ (let one : e ≡ f = some_is e f (sym at ∙ ap (slice_get es) (sym same) ∙ there) in
-          subst (λ (x : Entry). Fails es x.key) one (lost_fails es new (h.fail was) n e at lost))
-      | inr apart ↦ h.fail was m f there (sym (get_or-set_other new n m true false apart) ∙ met)
-    ] in
-    let fewer : open_count (set new n true) < open_count old
-    = (let a = fewer_open new n within flag in let b = no_more marked old new h.fewer h.same in omega (arith, a, b)) in
-    let all : HasLooked es old (set new n true) true (n + 1) = record { fail = fail; keeps = λ m met. keeps m (h.keeps m met); fewer = fewer; same = tt; looked = tt } in
-    rw (now_is, is_true) all
-
--- a key is marked already, or all its inputs may come
-pub look_passes : (es : List Entry) (old new now : List Bool) (marked is : Bool) (n : ℕ) (e : Entry) → HasLooked es old new marked n → slice_get es n ≡ Some e
-    → (HasLost es new e.inputs → flag_at new n ≡ true) → now ≡ new → is ≡ marked → HasLooked es old now is (n + 1)
-look_passes es old new now marked is n e h at fine now_is is_same =
-    let more : (b : Bool) → OnFalse b ((number : ℕ) (entry : Entry) → number < n → slice_get es number ≡ Some entry → HasLost es new entry.inputs → flag_at new number ≡ true)
-    → OnFalse b ((number : ℕ) (entry : Entry) → number < n + 1 → slice_get es number ≡ Some entry → HasLost es new entry.inputs → flag_at new number ≡ true)
-    = λ b. elim b as (λ v. OnFalse v ((number : ℕ) (entry : Entry) → number < n → slice_get es number ≡ Some entry → HasLost es new entry.inputs → flag_at new number ≡ true)
-    → OnFalse v ((number : ℕ) (entry : Entry) → number < n + 1 → slice_get es number ≡ Some entry → HasLost es new entry.inputs → flag_at new number ≡ true)) [
-      | true ↦ λ _. tt
-      | false ↦ λ before number entry lt there lost. elim (cases_eq number n) [
-        | inl same ↦ (let one : entry ≡ e = some_is entry e (sym there ∙ ap (slice_get es) same ∙ at) in
-            ap (flag_at new) same ∙ fine (subst (λ (x : Entry). HasLost es new x.inputs) one lost))
-        | inr apart ↦ before number entry (omega (arith, lt, apart)) there lost
-      ]
-    ] in
-    let all : HasLooked es old new marked (n + 1) = record { fail = h.fail; keeps = h.keeps; fewer = h.fewer; same = h.same; looked = more marked h.looked } in
-    rw (now_is, is_same) all
-
--- where each key was looked at and none was marked, nothing is left to mark
-pub looked_all : (es : List Entry) (old new : List Bool) (marked : Bool) (count : ℕ) → length es < count + 1 → HasLooked es old new marked count → OnFalse marked (MarksLost es new)
-looked_all es old new true count within h = tt
-looked_all es old new false count within h = λ number entry at lost. h.looked number entry (let less = slice_get_within es number entry at in omega (arith, less, within)) at lost
 
 -- there is a referent where there is a reference
 pub is_some_copied : {T : Type 0} (r : Option (Bor T)) (b : Bool) → is_some r ≡ not b → is_some (option_copied r) ≡ not b

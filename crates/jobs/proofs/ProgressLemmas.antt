@@ -106,45 +106,6 @@ module _ (es : List Entry) (n : ℕ) (e : Entry) (at : slice_get es n ≡ Some e
     | inr other ↦ called_before m f fault other.1 failed
   ]
 
--- one more mark
-pub mark_keeps : (marks : List Bool) (n : ℕ) → n < length marks → KeepsMarks marks (set marks n true)
-mark_keeps marks n within m met = elim (cases_eq m n) [
-  | inl same ↦ ap (flag_at (set marks n true)) same ∙ get_or-set_same marks n true false within
-  | inr apart ↦ get_or-set_other marks n m true false apart ∙ met
-]
-
-pub mark_fails : (es : List Entry) (marks : List Bool) (n : ℕ) (e : Entry) → slice_get es n ≡ Some e → MarksFail es marks → Fails es e.key → MarksFail es (set marks n true)
-mark_fails es marks n e at before fails m f there met = elim (cases_eq m n) [
-  | inl same ↦ subst (λ (x : Entry). Fails es x.key) (some_is e f (sym at ∙ ap (slice_get es) (sym same) ∙ there)) fails
-  | inr apart ↦ before m f there (sym (get_or-set_other marks n m true false apart) ∙ met)
-]
-
 -- what is called failed stays marked where marks stay
 pub called_keeps : (es : List Entry) (old new : List Bool) → KeepsMarks old new → MarksCalled es old → MarksCalled es new
 called_keeps es old new keeps before m f fault there failed = keeps m (before m f fault there failed)
-
--- the marks after a key that was being solved is done or failed
-pub settled : (es now : List Entry) (n : ℕ) (e : Entry) (to : Progress) (old between new : List Bool) → slice_get es n ≡ Some e → e.progress ≡ Out → now ≡ set es n (record e { progress = to }) → AreMarks es old
-    → ((fault : Fault) × (to ≡ Failed fault) × (between ≡ set old n true)) ⊎ (((fault : Fault) → to ≡ Failed fault → ⊥) × (between ≡ old))
-    → (MarksFail now between → MarksFail now new) → KeepsMarks between new → MarksLost now new → length new ≡ length old → AreMarks now new
-settled es now n e to old between new at out now_is h marked fail keeps lost same =
-    let grows = moved_grows es n e at to (λ outputs done. cc (out, done)) (λ fault failed. cc (out, failed)) in
-    let within : n < length old = (let less = slice_get_within es n e at in omega (arith, less, h.count)) in
-    let still = moved_fail es n e at to grows old h.fail in
-    let moved_now = moved es n e at to in
-    let sound : MarksFail moved_now between = elim marked [
-      | inl f ↦ (let fails = called e.key (record e { progress = to }) f.0 (record { number = n; at = get-set_same es n (record e { progress = to }) e at; named = refl }) f.1 in
-          rw f.2 (mark_fails moved_now old n (record e { progress = to }) (get-set_same es n (record e { progress = to }) e at) still fails))
-      | inr f ↦ rw f.1 still
-    ] in
-    let noted : MarksCalled moved_now between = elim marked [
-      | inl f ↦ rw f.2 (moved_called es n e at to (set old n true) (called_keeps es old (set old n true) (mark_keeps old n within) h.called) (λ fault is. get_or-set_same old n true false within))
-      | inr f ↦ rw f.1 (moved_called es n e at to old h.called (λ fault is. absurd (f.0 fault is)))
-    ] in
-    let len : length moved_now ≡ length es = length-set es n (record e { progress = to }) in
-    record {
-      count = same ∙ h.count ∙ sym (ap length now_is ∙ len);
-      fail = fail (subst (λ (xs : List Entry). MarksFail xs between) (sym now_is) sound);
-      called = called_keeps now between new keeps (subst (λ (xs : List Entry). MarksCalled xs between) (sym now_is) noted);
-      lost = lost;
-    }

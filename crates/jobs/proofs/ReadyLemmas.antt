@@ -14,8 +14,8 @@ use Rattle.jobs.specs.declared.entry.Entry.{Entry}
 use Rattle.jobs.specs.declared.entry.Progress.TheVariants.{Waiting, Out, Done}
 use Rattle.jobs.specs.declared.table.Table.{Table}
 use Rattle.jobs.specs.Failing.{HasOutput, AreThere, IsReady}
-use Rattle.jobs.specs.History.{IsFirstReady}
 use Rattle.jobs.specs.Kept.{AreKept}
+use Rattle.jobs.specs.ReadyLists.{IsReadyAt}
 use Rattle.jobs.specs.Marks.{IsLost, is_marked, is_lacking, MarksLost, AreMarks}
 use Rattle.jobs.specs.Tables.{key_of, IsTable}
 use Rattle.jobs.proofs.MarkLemmas.{all_marked, distinct, one_entry, read_at}
@@ -107,10 +107,7 @@ ready_there t marks h n e x inputs at read waiting unmarked same false none = λ
 pub not_waiting : (es : List Entry) (n : ℕ) (e x : Entry) → slice_get es n ≡ Some e → x ≡ get_or es n x → (x.progress ≡ Waiting → ⊥) → IsReady es e → ⊥
 not_waiting es n e x at read never r = never (ap (λ (y : Entry). y.progress) (sym (read_at es n e x at read)) ∙ r.waiting)
 
--- ---- the first key
-
-abbrev pub NoneBelow : List Entry → ℕ → Type 0
-NoneBelow es n = (before : ℕ) (other : Entry) → before < n → slice_get es before ≡ Some other → IsReady es other → ⊥
+-- ---- what a test of one key says
 
 on_true : (P Q : Type 0) (b : Bool) → b ≡ true → MatchBool b P Q → P
 on_true P Q true e h = h
@@ -120,20 +117,13 @@ on_false : (P Q : Type 0) (b : Bool) → b ≡ false → MatchBool b P Q → Q
 on_false P Q true e h = absurd (cc e)
 on_false P Q false e h = h
 
-pub first_found : (es : List Entry) (n : ℕ) (b : Bool) → n < length es → b ≡ true → ((entry : Entry) → slice_get es n ≡ Some entry → MatchBool b (IsReady es entry) (IsReady es entry → ⊥))
-    → NoneBelow es n → (entry : Entry) × IsFirstReady es n entry
-first_found es n b within met is below =
+pub ready_met : (es : List Entry) (n : ℕ) (b : Bool) → n < length es → b ≡ true → ((entry : Entry) → slice_get es n ≡ Some entry → MatchBool b (IsReady es entry) (IsReady es entry → ⊥)) → IsReadyAt es n
+ready_met es n b within met is =
     let e = at_place es n within in
-    (e.0, record { at = e.1; ready = on_true (IsReady es e.0) (IsReady es e.0 → ⊥) b met (is e.0 e.1); first = below })
+    record { entry = e.0; at = e.1; ready = on_true (IsReady es e.0) (IsReady es e.0 → ⊥) b met (is e.0 e.1) }
 
-pub none_more : (es : List Entry) (n : ℕ) (b : Bool) → b ≡ false → ((entry : Entry) → slice_get es n ≡ Some entry → MatchBool b (IsReady es entry) (IsReady es entry → ⊥)) → NoneBelow es n → NoneBelow es (n + 1)
-none_more es n b unmet is below before other lt at = elim (cases_eq before n) [
-  | inl same ↦ on_false (IsReady es other) (IsReady es other → ⊥) b unmet (is other (ap (slice_get es) (sym same) ∙ at))
-  | inr apart ↦ below before other (omega (arith, lt, apart)) at
-]
-
-pub none_at_all : (es : List Entry) (n : ℕ) → length es < n + 1 → NoneBelow es n → (number : ℕ) (entry : Entry) → slice_get es number ≡ Some entry → IsReady es entry → ⊥
-none_at_all es n past below number entry at = below number entry (let within = slice_get_within es number entry at in omega (arith, within, past)) at
+pub ready_unmet : (es : List Entry) (n : ℕ) (b : Bool) → b ≡ false → ((entry : Entry) → slice_get es n ≡ Some entry → MatchBool b (IsReady es entry) (IsReady es entry → ⊥)) → IsReadyAt es n → ⊥
+ready_unmet es n b unmet is r = on_false (IsReady es r.entry) (IsReady es r.entry → ⊥) b unmet (is r.entry r.at) r.ready
 
 -- ---- the outputs of a task
 

@@ -4,4 +4,7 @@ pub mod History
 pub mod Kept
 pub mod Marks
 pub mod Reaching
+pub mod ReadyLists
+pub mod Spreading
 pub mod Tables
+pub mod Users

@@ -1,10 +1,8 @@
 -- Marks on the submitted keys that fail (this project's own).
-use Rattle.std.specs.Prelude.{◌≡◌, ◌<◌, ℕ, Bool, true, List, Some, slice_get, length}
-use Rattle.std.specs.Bool.{OnTrue, OnFalse}
+use Rattle.std.specs.Prelude.{◌≡◌, ℕ, Bool, true, List, Some, slice_get, length}
 use Rattle.std.specs.List.{Contains}
 use Rattle.farm_base.specs.declared.digest.Key.{Key}
 use Rattle.vertices.specs.Flags.{flag_at}
-use Rattle.vertices.specs.Sorting.{open_count}
 use Rattle.jobs.specs.declared.entry.Fault.{Fault}
 use Rattle.jobs.specs.declared.entry.Entry.{Entry}
 use Rattle.jobs.specs.declared.entry.Progress.TheVariants.{Failed}
@@ -52,12 +50,3 @@ module _ (keys : List Entry) (marks : List Bool) where
 -- what is marked stays marked
 abbrev pub KeepsMarks : List Bool → List Bool → Type 0
 KeepsMarks old new = (number : ℕ) → flag_at old number ≡ true → flag_at new number ≡ true
-
--- while each key is looked at once, the first `count` so far: whether one was marked, and what holds
--- while none was
-pub record HasLooked (keys : List Entry) (old new : List Bool) (marked : Bool) (count : ℕ) : Type 0 where
-  pub fail : MarksFail keys old → MarksFail keys new
-  pub keeps : KeepsMarks old new
-  pub fewer : OnTrue marked (open_count new < open_count old)
-  pub same : OnFalse marked (new ≡ old)
-  pub looked : OnFalse marked ((number : ℕ) (entry : Entry) → number < count → slice_get keys number ≡ Some entry → HasLost keys new entry.inputs → flag_at new number ≡ true)

@@ -8,14 +8,18 @@ ghost use Rattle.solverkeys.specs.GraphKeys.{AreKeys};
 ghost use Rattle.jobs.specs.Adding.{AreAdded};
 ghost use Rattle.jobs.specs.Failing.{IsSubmitted};
 ghost use Rattle.jobs.specs.History.{HasNoReady, IsAnswer, Moves, TakesFirst};
+ghost use Rattle.jobs.specs.ReadyLists.{AreReadyKeys};
 
 use super::adding::extend;
 use super::answer::{Answer, JobId, JobsRefusal};
 use super::entry::{Fault, Progress, Task};
-use super::marking::{answer_of, settle};
+use super::marking::answer_of;
 use super::reaching::reached;
-use super::ready::{first_ready, task_of};
+use super::ready::task_of;
+use super::ready_list::ReadyList;
+use super::settling::finish;
 use super::table::Table;
+use super::users::Users;
 use farm_base::{Digest, Items, Key};
 use std::alloc::Global;
 use std::marker::Model;
@@ -27,19 +31,24 @@ pub struct Jobs {
     /// For each job the key and the output index of its result.
     results: Vec<(Key, u64)>,
     table: Table,
+    users: Users,
     /// For each key whether it fails.
     marks: Vec<bool>,
+    /// The failing keys whose users are to be looked at: none between calls, and room for all keys.
+    todo: Vec<usize>,
+    /// The keys that were handed out, and the ready ones.
+    ready: ReadyList,
 }
 
 impl Model for Jobs {
     ghost use Rattle.jobs.specs.History.{History};
-    ghost use Rattle.jobs.specs.Kept.{history, AreKept};
+    ghost use Rattle.jobs.specs.Kept.{history, AreListed};
 
     ghost Value = { History };
 
     ghost view = { λ j. history j.results.items j.table.entries.items };
 
-    ghost invariant = { λ j. AreKept j.table j.marks.items };
+    ghost invariant = { λ j. AreListed j.table j.users j.marks.items j.todo j.ready };
 }
 
 impl Jobs {
@@ -51,7 +60,10 @@ impl Jobs {
         Jobs {
             results: Vec::new(alloc),
             table: Table::new(alloc),
+            users: Users::new(alloc),
             marks: Vec::new(alloc),
+            todo: Vec::new(alloc),
+            ready: ReadyList::new(alloc),
         }
     }
 
@@ -75,7 +87,9 @@ impl Jobs {
         let (result, index) = graph.result();
         self.results.push((keys[result], index))?;
         let flags = reached.as_slice();
-        match extend(alloc, &mut self.table, &mut self.marks, graph, keys, flags) {
+        let (table, users) = (&mut self.table, &mut self.users);
+        let (marks, todo, ready) = (&mut self.marks, &mut self.todo, &mut self.ready);
+        match extend(alloc, table, users, marks, todo, ready, graph, keys, flags) {
             Ok(()) => Ok(job),
             Err(error) => {
                 self.results.pop();
@@ -93,12 +107,20 @@ impl Jobs {
         ensures refusal { IfErr result (λ refused. refused ≡ refusal.OutOfMemory) }
         ensures err { OnErr result (self.new ≡ self.old) }
     {
-        let Some(number) = first_ready(&self.table, self.marks.as_slice()) else {
+        let Some(number) = self.ready.first() else {
             return Ok(None);
         };
         let task = task_of(alloc, &self.table, number)?;
         self.table.set_progress(number, Progress::Out);
+        self.ready.take();
         Ok(Some(task))
+    }
+
+    /// The ready keys, in the order in which `take_ready` hands them out. It takes no memory.
+    pub fn ready(&self) -> &[Key]
+        ensures { AreReadyKeys self.now.keys result.now }
+    {
+        self.ready.as_slice()
     }
 
     /// Takes the outputs of a key that is being solved.
@@ -112,7 +134,9 @@ impl Jobs {
             return Err(JobsRefusal::NotRunningKey);
         };
         let progress = Progress::Done(Items::new(outputs));
-        settle(&mut self.table, self.marks.as_mut_slice(), number, progress);
+        let (table, marks) = (&mut self.table, self.marks.as_mut_slice());
+        let (todo, ready) = (&mut self.todo, &mut self.ready);
+        finish(table, &self.users, marks, todo, ready, number, progress);
         Ok(())
     }
 
@@ -127,7 +151,9 @@ impl Jobs {
             return Err(JobsRefusal::NotRunningKey);
         };
         let progress = Progress::Failed(fault);
-        settle(&mut self.table, self.marks.as_mut_slice(), number, progress);
+        let (table, marks) = (&mut self.table, self.marks.as_mut_slice());
+        let (todo, ready) = (&mut self.todo, &mut self.ready);
+        finish(table, &self.users, marks, todo, ready, number, progress);
         Ok(())
     }
 

@@ -8,7 +8,10 @@ mod jobs;
 mod marking;
 mod reaching;
 mod ready;
+mod ready_list;
+mod settling;
 mod table;
+mod users;
 
 pub use answer::{Answer, JobId, JobsRefusal};
 pub use entry::{Entry, Fault, Progress, Task};

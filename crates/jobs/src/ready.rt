@@ -1,15 +1,18 @@
-ghost use Rattle.std.specs.Prelude.{◌≡◌, ◌<◌, ℕ, length, slice_get, Some, IfOk, IfSome, IfNone};
+ghost use Rattle.std.specs.Prelude.{◌≡◌, ◌<◌, ◌⊎◌, ℕ, length, slice_get, Some, IfOk, IfSome, IfNone};
 ghost use Rattle.std.specs.Bool.{MatchBool};
-ghost use Rattle.std.specs.List.{AllZip};
+ghost use Rattle.std.specs.List.{AllZip, Contains};
 ghost use Rattle.farm_base.specs.declared.digest.Digest.{Digest as SpecDigest};
 ghost use Rattle.jobs.specs.declared.entry.Entry.{Entry as SpecEntry};
 ghost use Rattle.jobs.specs.Failing.{AreThere, HasOutput, IsReady};
-ghost use Rattle.jobs.specs.History.{IsFirstReady};
 ghost use Rattle.jobs.specs.Kept.{AreKept};
+ghost use Rattle.jobs.specs.ReadyLists.{IsList, IsReadyAt, ListsAll, HasRoom, listed};
 ghost use Rattle.jobs.specs.Tables.{IsTable};
+ghost use Rattle.jobs.specs.Users.{AreUsers, IsUser};
 
 use super::entry::{Progress, Task};
+use super::ready_list::ReadyList;
 use super::table::{Table, output_at};
+use super::users::Users;
 use farm_base::{Digest, Key};
 use std::alloc::{AllocError, Global};
 
@@ -53,18 +56,50 @@ fn is_ready(table: &Table, marks: &[bool], number: usize) -> bool
     }
 }
 
-/// The number of the first key that can be solved.
-pub(crate) fn first_ready(table: &Table, marks: &[bool]) -> Option<usize>
-    requires { AreKept table.now marks.now }
-    ensures found { IfSome result (λ number. (entry : SpecEntry) × IsFirstReady table.now.entries.items number entry) }
-    ensures none { IfNone result ((number : ℕ) (entry : SpecEntry) → slice_get table.now.entries.items number ≡ Some entry → IsReady table.now.entries.items entry → ⊥) }
+/// Lists the ready keys from a number on that aren't listed yet.
+pub(crate) fn list_ready(table: &Table, marks: &[bool], ready: &mut ReadyList, from: usize)
+    requires kept { AreKept table.now marks.now }
+    requires before { (number : ℕ) → number < from → IsReadyAt table.now.entries.items number → Contains (listed ready.old) number }
+    requires list { IsList table.now.entries.items ready.old }
+    requires room { HasRoom (length table.now.entries.items) ready.old }
+    ensures list { IsList table.now.entries.items ready.new }
+    ensures all { ListsAll table.now.entries.items ready.new }
+    ensures room { HasRoom (length table.now.entries.items) ready.new }
 {
-    for number in 0..table.entries.len() {
+    for number in from..table.entries.len() {
         if is_ready(table, marks, number) {
-            return Some(number);
+            ready.add(table, number);
         }
     }
-    None
+}
+
+/// Lists the ready keys among the users of a key that aren't listed yet.
+pub(crate) fn list_users(
+    table: &Table,
+    users: &Users,
+    marks: &[bool],
+    ready: &mut ReadyList,
+    number: usize,
+)
+    requires kept { AreKept table.now marks.now }
+    requires users { AreUsers table.now.entries.items users.now }
+    requires count { length users.now.lasts.items ≡ length table.now.entries.items }
+    requires within { number < length table.now.entries.items }
+    requires list { IsList table.now.entries.items ready.old }
+    requires room { HasRoom (length table.now.entries.items) ready.old }
+    requires others { (other : ℕ) → IsReadyAt table.now.entries.items other → Contains (listed ready.old) other ⊎ IsUser table.now.entries.items other number }
+    ensures list { IsList table.now.entries.items ready.new }
+    ensures all { ListsAll table.now.entries.items ready.new }
+    ensures room { HasRoom (length table.now.entries.items) ready.new }
+{
+    let mut next = users.lasts[number];
+    while let Some(place) = next {
+        let user = users.links[place].user;
+        if is_ready(table, marks, user) {
+            ready.add(table, user);
+        }
+        next = users.befores[place];
+    }
 }
 
 /// The outputs that inputs name. All of them are there.

@@ -26,6 +26,14 @@ const PLAIN: &str =
 const SPELLED: &str =
     "0a021a000a590a4b0a477368613235363a666462623636663937616630343465346238386230626230613437383966386630313466393862353366356665313131303262643139663435643533633435621000120a0a030a017812031a012f0a4b0a490a477368613235363a66363966313537303762343062353965336539633334313133353732376139333766663339333065356130623030303733386135323736616133666135623431";
 
+/// A diamond: the op `1a00`, two exec ops on its output 0, an exec op on the outputs 0 of both, and the result.
+const DIAMOND: &str =
+    "0a021a000a570a490a477368613235363a66646262363666393761663034346534623838623062623061343738396638663031346639386235336635666531313130326264313966343564353363343562120a0a030a017812031a012f0a570a490a477368613235363a66646262363666393761663034346534623838623062623061343738396638663031346639386235336635666531313130326264313966343564353363343562120a0a030a017912031a012f0aaa010a490a477368613235363a383264353361373163396236396431316262663266303239393931303935346437633631333037343861333239333131663730666334383163323465363031370a490a477368613235363a3962666230656636353265323836623835636661343439353362633965333435343463663938303231333734393266663431336334656533303031633265376312120a030a017a12031a012f120608011a022f630a4b0a490a477368613235363a35346662656434376166666233373432626132346562623339636463656363373832333961643861343066613035336261353336623432396462633766613837";
+
+/// The op `1a030a0161`, and the result.
+const LATER: &str =
+    "0a051a030a01610a4b0a490a477368613235363a31306332323038316338323533333537343562376665626466336430353361363732666334616364396131656635366362613264353362613033623738303562";
+
 /// Two jobs share the keys of both vertices, and a third comes when all is done.
 const SHARED: [(Call, &str); 14] = [
     (Call::Submit(PLAIN), "job 0"),
@@ -73,10 +81,29 @@ const NO_OUTPUT: [(Call, &str); 6] = [
     (Call::Answer(0), "no output 0"),
 ];
 
-/// A table of jobs, and the keys that were taken.
+/// The calls on a diamond, one of whose inputs fails, with a later job beside it. Behind each answer the ready keys
+/// after the call, by their places in the order of submission.
+const KEPT: [(Call, &str, &str); 13] = [
+    (Call::Submit(DIAMOND), "job 0", "0"),
+    (Call::Submit(LATER), "job 1", "0 4"),
+    (Call::Take, "took", "4"),
+    (Call::Done(0, &[10]), "ok", "1 2 4"),
+    (Call::Take, "took 10", "2 4"),
+    (Call::Failed(1, Fault::Exit(7)), "ok", "2 4"),
+    (Call::Answer(0), "failed", "2 4"),
+    (Call::Take, "took 10", "4"),
+    (Call::Done(2, &[12]), "ok", "4"),
+    (Call::Submit(DIAMOND), "job 2", "4"),
+    (Call::Take, "took", ""),
+    (Call::Take, "none", ""),
+    (Call::Answer(2), "failed", ""),
+];
+
+/// A table of jobs, the keys that were submitted, and those that were taken.
 #[derive(Drop)]
 struct Play {
     jobs: Jobs,
+    submitted: Vec<Key>,
     taken: Vec<Key>,
 }
 
@@ -113,6 +140,7 @@ impl Play {
     fn new(alloc: Global) -> Self {
         Play {
             jobs: Jobs::new(alloc),
+            submitted: Vec::new(alloc),
             taken: Vec::new(alloc),
         }
     }
@@ -121,6 +149,11 @@ impl Play {
         let graph = load(alloc, hex::decode(alloc, definition)?)?;
         let keys = solverkeys::keys(alloc, &graph)?;
         let job = self.jobs.submit(alloc, &graph, keys.as_slice())?.0;
+        for key in keys {
+            if !self.submitted.contains(&key) {
+                self.submitted.push(key)?;
+            }
+        }
         Ok(format!(in alloc; "job {job}")?)
     }
 
@@ -156,6 +189,18 @@ impl Play {
         }
     }
 
+    /// The places of the ready keys.
+    fn ready(&self, alloc: Global) -> Result<String, AllocError> {
+        let mut text = String::new(alloc);
+        for key in self.jobs.ready() {
+            if let Some(place) = self.submitted.iter().position(|other| other == key) {
+                let space = if text.is_empty() { "" } else { " " };
+                write!(text, "{space}{place}")?;
+            }
+        }
+        Ok(text)
+    }
+
     /// What the call answers.
     fn call(&mut self, alloc: Global, call: Call) -> Result<String, Fail> {
         match call {
@@ -178,6 +223,18 @@ fn jobs_on_one_table(rt: HostRuntime) -> Result<(), Fail> {
             let answer = play.call(alloc, *call)?;
             assert_eq!(rt; answer.as_str(), *expected);
         }
+    }
+    Ok(())
+}
+
+#[test]
+fn ready_keys_are_kept(rt: HostRuntime) -> Result<(), Fail> {
+    let alloc = rt.alloc();
+    let mut play = Play::new(alloc);
+    for (call, expected, ready) in &KEPT {
+        let answer = play.call(alloc, *call)?;
+        assert_eq!(rt; answer.as_str(), *expected);
+        assert_eq!(rt; play.ready(alloc)?.as_str(), *ready);
     }
     Ok(())
 }

@@ -1,5 +1,5 @@
 use Rattle.std.proofs.Common.{rules, arith}
-use Rattle.jobs.proofs.AddLemmas.{adding_start, adding_skips, adding_adds, adding_end, front_join, front_same}
+use Rattle.jobs.proofs.AddLemmas.{adding_closed, adding_start, adding_skips, adding_adds, adding_end, front_join, front_same}
 use Rattle.jobs.proofs.ReachLemmas.{flag_within}
 use Rattle.jobs.proofs.adding.add_all.Goals as goal
 use Rattle.jobs.proofs.adding.add_all.Goals.{then-reached-number+in_ok-add, else-reached-number}
@@ -36,4 +36,11 @@ returns-clause-added c =
     let g = c.args.graph.now in
     let count = c.requires.reached.count in
     adding_end g c.args.keys.now c.args.table.now.entries.items c.loop-number.number c.loop-number.table.entries.items c.loop-number.invariant.adding (search rules)
+    (λ m needed. let within = flag_within c.args.reached.now m (c.requires.reached.whole m needed) in omega (arith, within, count))
+
+pub returns-clause-closed : goal.returns-clause-closed
+returns-clause-closed c =
+    let g = c.args.graph.now in
+    let count = c.requires.reached.count in
+    adding_closed g c.args.keys.now c.args.table.now.entries.items c.loop-number.number c.loop-number.table.entries.items c.loop-number.invariant.adding (search rules)
     (λ m needed. let within = flag_within c.args.reached.now m (c.requires.reached.whole m needed) in omega (arith, within, count))
