@@ -5,6 +5,7 @@ ghost use Rattle.farmctl.specs.Answers.{result_text, check_text, key_line, verte
 
 use super::command::Command;
 use super::failure::Failure;
+use super::record::recorded;
 use super::replaying::replayed;
 use farm_base::{Digest, Key};
 use opsproto::{OpRefusal, read_definition};
@@ -118,6 +119,7 @@ pub fn answer(alloc: Global, command: Command, bytes: Vec<u8>) -> Result<String,
             let text = listed(alloc, graph)?;
             Ok(text)
         }
+        Command::Record => recorded(alloc, bytes.as_slice()),
         Command::Replay => replayed(alloc, bytes.as_slice()),
     }
 }

@@ -10,6 +10,8 @@ pub enum Command {
     Check,
     /// Prints the solver key of each vertex.
     Keys,
+    /// Prints what a record keeps.
+    Record,
     /// Prints the result of each event of a schedule, and the lines of versions.
     Replay,
 }
@@ -27,6 +29,9 @@ fn subcommand<'a>(
 /// What `check` and `keys` read.
 const DEFINITION: &str = "A definition in proto3's wire form; `-` is the standard input";
 
+/// What `record` reads.
+const RECORD: &str = "A record that a coordinator saved; `-` is the standard input";
+
 /// What `replay` reads.
 const SCHEDULE: &str = "A schedule; `-` is the standard input";
 
@@ -43,6 +48,12 @@ fn farmctl<'a>(alloc: Global) -> Result<clap::Command<'a>, AllocError> {
         "Prints the solver key of each vertex",
         DEFINITION,
     )?;
+    let record = subcommand(
+        alloc,
+        "record",
+        "Prints what a coordinator's record keeps: tickets, nodes, leases, slots and versions",
+        RECORD,
+    )?;
     let replay = subcommand(
         alloc,
         "replay",
@@ -55,6 +66,7 @@ fn farmctl<'a>(alloc: Global) -> Result<clap::Command<'a>, AllocError> {
         .subcommand_required(true)
         .subcommand(check)?
         .subcommand(keys)?
+        .subcommand(record)?
         .subcommand(replay)
 }
 
@@ -63,6 +75,7 @@ fn named(name: &str) -> Command {
     match name {
         "check" => Command::Check,
         "keys" => Command::Keys,
+        "record" => Command::Record,
         _ => Command::Replay,
     }
 }

@@ -6,7 +6,10 @@ mod answer;
 mod command;
 mod failure;
 mod files;
+mod record;
 mod replaying;
+#[cfg(test)]
+mod record_tests;
 #[cfg(test)]
 mod tests;
 

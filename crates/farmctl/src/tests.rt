@@ -38,7 +38,7 @@ const EXECS: [(&str, u8, &str); 3] = [
 ];
 
 /// Does a command on one file's bytes.
-fn done(
+pub(crate) fn done(
     alloc: Global,
     command: Command,
     bytes: Option<Vec<u8>>,
