@@ -35,11 +35,13 @@ word_if holds word = if holds then word else []
 abbrev pub leased_text : SlotParts × Bool → List ℕ
 leased_text leased = codes " " ++ access_text leased.1 ++ slot_text leased.0
 
--- `lease TICKET NODE LIFE ASK`, `shared` and `tenure` where they hold, and the slots
+-- `lease TICKET NODE LIFE ASK`
+abbrev pub holder_text : Lease → List ℕ
+holder_text lease = codes "lease " ++ decimal lease.ticket.0 ++ codes " " ++ decimal lease.node.0 ++ codes " " ++ decimal lease.life.0 ++ codes " " ++ decimal lease.ask.0
+
+-- who holds the lease, `shared` and `tenure` where they hold, and the slots
 abbrev pub lease_line : Lease → List ℕ
-lease_line lease =
-    codes "lease " ++ decimal lease.ticket.0 ++ codes " " ++ decimal lease.node.0 ++ codes " " ++ decimal lease.life.0 ++ codes " " ++ decimal lease.ask.0
-    ++ word_if lease.shared (codes " shared") ++ word_if lease.tenure (codes " tenure") ++ flat_map leased_text lease.slots ++ codes "\n"
+lease_line lease = holder_text lease ++ word_if lease.shared (codes " shared") ++ word_if lease.tenure (codes " tenure") ++ flat_map leased_text lease.slots ++ codes "\n"
 
 -- `retired SLOT`
 abbrev pub retired_line : SlotParts → List ℕ

@@ -1,38 +1,18 @@
 //! What `record` answers for a record.
-ghost use Rattle.std.specs.Prelude.{◌≡◌, ◌++◌, ℕ, List, IfOk, IfErr, OnOk};
-ghost use Rattle.std.specs.List.{flat_map};
+ghost use Rattle.std.specs.Prelude.{◌≡◌, ◌++◌, IfOk, IfErr, OnOk};
 ghost use Rattle.std.specs.String.{string_bytes};
-ghost use Rattle.farmctl.specs.Records.{home_line, life_line, gone_line, word_if, leased_text, lease_line, retired_line, versions_line, record_text, IsRecordText, IsNoRecord};
+ghost use Rattle.farmctl.specs.Records.{home_line, life_line, gone_line, word_if, leased_text, holder_text, lease_line, retired_line, versions_line, record_text, IsRecordText, IsNoRecord};
 
 use super::failure::Failure;
+use super::printing::{Printed, push_access, push_each};
 use farm_base::{Lease, NodeId, NodeLife, Slot};
 use saverecord::{Record, RecordRefusal};
 use schedule::print_line;
 use std::alloc::{AllocError, Global};
 use versions::SlotLine;
 
-/// A part of a record.
-trait Part {
-    /// What is printed for it.
-    ghost prints: { Self → List ℕ };
-
-    /// Adds what is printed for it.
-    fn push(&self, alloc: Global, text: &mut String) -> Result<(), AllocError>
-        ensures { OnOk result (string_bytes text.new ≡ string_bytes text.old ++ prints self.now) };
-}
-
-/// Adds what is printed for each of these parts.
-fn push_each<P: Part>(alloc: Global, text: &mut String, parts: &[P]) -> Result<(), AllocError>
-    ensures { OnOk result (string_bytes text.new ≡ string_bytes text.old ++ flat_map P.prints parts.now) }
-{
-    for part in parts {
-        part.push(alloc, text)?;
-    }
-    Ok(())
-}
-
 /// The greatest life seen of a node.
-impl Part for NodeLife {
+impl Printed for NodeLife {
     ghost prints = { life_line };
 
     fn push(&self, _alloc: Global, text: &mut String) -> Result<(), AllocError> {
@@ -43,7 +23,7 @@ impl Part for NodeLife {
 }
 
 /// A node that is gone for good.
-impl Part for NodeId {
+impl Printed for NodeId {
     ghost prints = { gone_line };
 
     fn push(&self, _alloc: Global, text: &mut String) -> Result<(), AllocError> {
@@ -53,15 +33,13 @@ impl Part for NodeId {
 }
 
 /// A slot of a lease, and whether it may be written.
-impl Part for (Slot, bool) {
+impl Printed for (Slot, bool) {
     ghost prints = { leased_text };
 
     fn push(&self, alloc: Global, text: &mut String) -> Result<(), AllocError> {
         let slot = self.0.to_text(alloc)?;
         text.push(' ')?;
-        if !self.1 {
-            text.push_str("ro=")?;
-        }
+        push_access(text, self.1)?;
         text.push_str(slot.as_str())
     }
 }
@@ -76,12 +54,19 @@ fn push_if(text: &mut String, holds: bool, word: &str) -> Result<(), AllocError>
     Ok(())
 }
 
-impl Part for Lease {
+/// Adds who holds a lease: its ticket, node, life and ask.
+fn push_holder(text: &mut String, lease: &Lease) -> Result<(), AllocError>
+    ensures { OnOk result (string_bytes text.new ≡ string_bytes text.old ++ holder_text lease.now) }
+{
+    let (ticket, node, life, ask) = (lease.ticket.0, lease.node.0, lease.life.0, lease.ask.0);
+    write!(text, "lease {ticket} {node} {life} {ask}")
+}
+
+impl Printed for Lease {
     ghost prints = { lease_line };
 
     fn push(&self, alloc: Global, text: &mut String) -> Result<(), AllocError> {
-        let (ticket, node, life, ask) = (self.ticket.0, self.node.0, self.life.0, self.ask.0);
-        write!(text, "lease {ticket} {node} {life} {ask}")?;
+        push_holder(text, self)?;
         push_if(text, self.shared, " shared")?;
         push_if(text, self.tenure, " tenure")?;
         push_each(alloc, text, self.slots.as_slice())?;
@@ -90,7 +75,7 @@ impl Part for Lease {
 }
 
 /// A slot that is never granted again.
-impl Part for Slot {
+impl Printed for Slot {
     ghost prints = { retired_line };
 
     fn push(&self, alloc: Global, text: &mut String) -> Result<(), AllocError> {
@@ -101,7 +86,7 @@ impl Part for Slot {
     }
 }
 
-impl Part for SlotLine {
+impl Printed for SlotLine {
     ghost prints = { versions_line };
 
     fn push(&self, alloc: Global, text: &mut String) -> Result<(), AllocError> {
@@ -122,17 +107,17 @@ fn push_home(text: &mut String, home: Option<NodeId>) -> Result<(), AllocError>
 }
 
 /// A line for each part of a record.
-fn record_text(alloc: Global, record: &Record) -> Result<String, AllocError>
-    ensures { IfOk result (λ text. string_bytes text ≡ record_text record.now) }
+fn record_text(alloc: Global, kept: &Record) -> Result<String, AllocError>
+    ensures { IfOk result (λ text. string_bytes text ≡ record_text kept.now) }
 {
-    let last = record.last.0;
+    let last = kept.last.0;
     let mut text = format!(in alloc; "last {last}\n")?;
-    push_home(&mut text, record.old_home)?;
-    push_each(alloc, &mut text, record.lives.as_slice())?;
-    push_each(alloc, &mut text, record.retired_nodes.as_slice())?;
-    push_each(alloc, &mut text, record.leases.as_slice())?;
-    push_each(alloc, &mut text, record.retired.as_slice())?;
-    push_each(alloc, &mut text, record.lines.as_slice())?;
+    push_home(&mut text, kept.old_home)?;
+    push_each(alloc, &mut text, kept.lives.as_slice())?;
+    push_each(alloc, &mut text, kept.retired_nodes.as_slice())?;
+    push_each(alloc, &mut text, kept.leases.as_slice())?;
+    push_each(alloc, &mut text, kept.retired.as_slice())?;
+    push_each(alloc, &mut text, kept.lines.as_slice())?;
     Ok(text)
 }
 
