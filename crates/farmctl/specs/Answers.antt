@@ -9,9 +9,10 @@ use Rattle.opsproto.specs.declared.definition.Definition.{Definition}
 use Rattle.opsproto.specs.Definitions.{definition_at}
 use Rattle.solverkeys.specs.GraphKeys.{AreKeys}
 use Rattle.farmctl.specs.declared.command.Command.{Command}
-use Rattle.farmctl.specs.declared.command.Command.TheVariants.{Check, Keys, Record, Replay}
+use Rattle.farmctl.specs.declared.command.Command.TheVariants.{Check, Keys, Wants, Record, Replay}
 use Rattle.farmctl.specs.Records.{IsRecordText, IsNoRecord}
 use Rattle.farmctl.specs.Replays.{IsReplayed, IsUnread}
+use Rattle.farmctl.specs.Wants.{AreWantsListed}
 use Rattle.farmctl.specs.declared.failure.Failure.{Failure}
 use Rattle.farmctl.specs.declared.failure.Failure.TheVariants as failure
 
@@ -61,6 +62,7 @@ AreListed g text = (keys : List Key) × AreKeys g keys × (text ≡ keys_text (v
 abbrev pub IsAnswer : Command → List ℕ → List ℕ → Type 0
 IsAnswer Check bytes text = (g : GraphParts) × SpellsGraph bytes g × (text ≡ check_text g)
 IsAnswer Keys bytes text = (g : GraphParts) × SpellsGraph bytes g × AreListed g text
+IsAnswer Wants bytes text = (g : GraphParts) × SpellsGraph bytes g × AreWantsListed g text
 IsAnswer Record bytes text = IsRecordText bytes text
 IsAnswer Replay bytes text = IsReplayed bytes text
 
@@ -68,5 +70,6 @@ IsAnswer Replay bytes text = IsReplayed bytes text
 abbrev pub IsRefused : Command → List ℕ → Failure → Type 0
 IsRefused Check = IsNoGraph
 IsRefused Keys = IsNoGraph
+IsRefused Wants = IsNoGraph
 IsRefused Record = IsNoRecord
 IsRefused Replay = IsUnread

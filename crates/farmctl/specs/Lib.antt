@@ -3,3 +3,4 @@ pub mod Answers
 pub mod Failures
 pub mod Records
 pub mod Replays
+pub mod Wants

@@ -7,6 +7,7 @@ use super::command::Command;
 use super::failure::Failure;
 use super::record::recorded;
 use super::replaying::replayed;
+use super::wants::wanted;
 use farm_base::{Digest, Key};
 use opsproto::{OpRefusal, read_definition};
 use std::alloc::{AllocError, Global};
@@ -117,6 +118,11 @@ pub fn answer(alloc: Global, command: Command, bytes: Vec<u8>) -> Result<String,
         Command::Keys => {
             let graph = graph_of(alloc, bytes)?;
             let text = listed(alloc, graph)?;
+            Ok(text)
+        }
+        Command::Wants => {
+            let graph = graph_of(alloc, bytes)?;
+            let text = wanted(alloc, &graph)?;
             Ok(text)
         }
         Command::Record => recorded(alloc, bytes.as_slice()),

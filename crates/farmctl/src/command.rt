@@ -11,6 +11,8 @@ pub enum Command {
     Check,
     /// Prints the solver key of each vertex.
     Keys,
+    /// Prints the folders that each vertex wants for its cache mounts.
+    Wants,
     /// Prints what a record keeps.
     Record,
     /// Prints the result of each event of a schedule, and the lines of versions.
@@ -21,7 +23,7 @@ impl Command {
     /// How much of a file is read: of a record all, else one byte past the limit, so that what is longer is refused.
     pub fn most_bytes(self) -> usize {
         match self {
-            Command::Check | Command::Keys | Command::Replay => LIMIT + 1,
+            Command::Check | Command::Keys | Command::Wants | Command::Replay => LIMIT + 1,
             Command::Record => usize::MAX,
         }
     }
@@ -76,6 +78,16 @@ fn keys_command<'a>(alloc: Global) -> Result<clap::Command<'a>, AllocError> {
     )
 }
 
+fn wants_command<'a>(alloc: Global) -> Result<clap::Command<'a>, AllocError> {
+    subcommand(
+        alloc,
+        "wants",
+        "Prints which cache folders each vertex of a build definition uses",
+        "Prints `DIGEST FOLDER..` for each vertex with cache mounts, by its place in the definition; `ro=` stands before a folder that no mount may write.",
+        DEFINITION,
+    )
+}
+
 fn record_command<'a>(alloc: Global) -> Result<clap::Command<'a>, AllocError> {
     subcommand(
         alloc,
@@ -103,6 +115,7 @@ fn farmctl<'a>(alloc: Global) -> Result<clap::Command<'a>, AllocError> {
         .subcommand_required(true)
         .subcommand(check_command(alloc)?)?
         .subcommand(keys_command(alloc)?)?
+        .subcommand(wants_command(alloc)?)?
         .subcommand(record_command(alloc)?)?
         .subcommand(replay_command(alloc)?)
 }
@@ -112,6 +125,7 @@ fn named(name: &str) -> Command {
     match name {
         "check" => Command::Check,
         "keys" => Command::Keys,
+        "wants" => Command::Wants,
         "record" => Command::Record,
         _ => Command::Replay,
     }

@@ -14,6 +14,9 @@ mod record_tests;
 mod replaying;
 #[cfg(test)]
 mod tests;
+mod wants;
+#[cfg(test)]
+mod wants_tests;
 
 use std::process::ExitCode;
 use std::rt::Env;

@@ -2,72 +2,72 @@
 
 use super::act::{DONE, REFUSED};
 use super::command::Command;
-use super::tests::done;
-use std::alloc::Global;
+use super::tests::wrong_row;
 use std::test::Fail;
-
-/// The place of the first row that is not printed as it should be, with this status.
-fn wrong_row(alloc: Global, rows: &[(&str, &str)], wanted: u8) -> Result<Option<usize>, Fail> {
-    for (place, (spelled, text)) in rows.iter().enumerate() {
-        let bytes = hex::decode(alloc, *spelled)?;
-        let (status, out, err) = done(alloc, Command::Record, Some(bytes))?;
-        let (printed, other) = if wanted == DONE {
-            (out, err)
-        } else {
-            (err, out)
-        };
-        if status != wanted || printed.as_slice() != text.as_bytes() || !other.is_empty() {
-            return Ok(Some(place));
-        }
-    }
-    Ok(None)
-}
 
 #[test]
 fn records_of_version_1(rt: HostRuntime) -> Result<(), Fail> {
-    assert_eq!(rt; wrong_row(rt.alloc(), &FIRST, DONE)?, None);
+    assert_eq!(rt; wrong_row(rt.alloc(), Command::Record, &FIRST, DONE)?, None);
     Ok(())
 }
 
 #[test]
 fn records_of_version_2(rt: HostRuntime) -> Result<(), Fail> {
-    assert_eq!(rt; wrong_row(rt.alloc(), &SECOND, DONE)?, None);
+    assert_eq!(rt;
+        wrong_row(rt.alloc(), Command::Record, &SECOND, DONE)?,
+        None
+    );
     Ok(())
 }
 
 #[test]
 fn records_of_version_3(rt: HostRuntime) -> Result<(), Fail> {
-    assert_eq!(rt; wrong_row(rt.alloc(), &THIRD, DONE)?, None);
+    assert_eq!(rt; wrong_row(rt.alloc(), Command::Record, &THIRD, DONE)?, None);
     Ok(())
 }
 
 #[test]
 fn records_cut_short(rt: HostRuntime) -> Result<(), Fail> {
-    assert_eq!(rt; wrong_row(rt.alloc(), &SHORT, REFUSED)?, None);
+    assert_eq!(rt;
+        wrong_row(rt.alloc(), Command::Record, &SHORT, REFUSED)?,
+        None
+    );
     Ok(())
 }
 
 #[test]
 fn records_with_a_wrong_digest(rt: HostRuntime) -> Result<(), Fail> {
-    assert_eq!(rt; wrong_row(rt.alloc(), &CHANGED, REFUSED)?, None);
+    assert_eq!(rt;
+        wrong_row(rt.alloc(), Command::Record, &CHANGED, REFUSED)?,
+        None
+    );
     Ok(())
 }
 
 #[test]
 fn records_out_of_range(rt: HostRuntime) -> Result<(), Fail> {
-    assert_eq!(rt; wrong_row(rt.alloc(), &OUT_OF_RANGE, REFUSED)?, None);
+    assert_eq!(rt;
+        wrong_row(rt.alloc(), Command::Record, &OUT_OF_RANGE, REFUSED)?,
+        None
+    );
     Ok(())
 }
 
 #[test]
 fn more_records_out_of_range(rt: HostRuntime) -> Result<(), Fail> {
-    assert_eq!(rt; wrong_row(rt.alloc(), &OUT_OF_RANGE_TOO, REFUSED)?, None);
+    assert_eq!(rt;
+        wrong_row(rt.alloc(), Command::Record, &OUT_OF_RANGE_TOO, REFUSED)?,
+        None
+    );
     Ok(())
 }
 
 #[test]
 fn records_that_do_not_agree(rt: HostRuntime) -> Result<(), Fail> {
-    assert_eq!(rt; wrong_row(rt.alloc(), &APART, REFUSED)?, None);
+    assert_eq!(rt;
+        wrong_row(rt.alloc(), Command::Record, &APART, REFUSED)?,
+        None
+    );
     Ok(())
 }
 

@@ -38,7 +38,7 @@ const EXECS: [(&str, u8, &str); 3] = [
 ];
 
 /// Does a command on one file's bytes.
-pub(crate) fn done(
+fn done(
     alloc: Global,
     command: Command,
     bytes: Option<Vec<u8>>,
@@ -49,6 +49,29 @@ pub(crate) fn done(
     let mut err = Vec::new(alloc);
     let status = act(alloc, command, files, &mut out, &mut err);
     Ok((status, out, err))
+}
+
+/// The place of the first row, bytes in hexadecimal and what is printed for them, that a command doesn't print so with
+/// this status.
+pub(crate) fn wrong_row(
+    alloc: Global,
+    command: Command,
+    rows: &[(&str, &str)],
+    wanted: u8,
+) -> Result<Option<usize>, Fail> {
+    for (place, (spelled, text)) in rows.iter().enumerate() {
+        let bytes = hex::decode(alloc, *spelled)?;
+        let (status, out, err) = done(alloc, command, Some(bytes))?;
+        let (printed, other) = if wanted == DONE {
+            (out, err)
+        } else {
+            (err, out)
+        };
+        if status != wanted || printed.as_slice() != text.as_bytes() || !other.is_empty() {
+            return Ok(Some(place));
+        }
+    }
+    Ok(None)
 }
 
 /// A definition of this op, whose output 0 is the result.
