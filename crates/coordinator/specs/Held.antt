@@ -1,10 +1,10 @@
 -- What contracts see of a coordinator.
-use Rattle.std.specs.Prelude.{ℕ, Bool, ◌==◌, if◌then◌else◌, List, [], ◌∷◌, Option}
-use Rattle.std.specs.List.{list_any}
+use Rattle.std.specs.Prelude.{ℕ, List, Option}
 use Rattle.protocol.specs.Names.{Slot, NodeId}
 use Rattle.protocol.specs.Machine.{Parked}
 use Rattle.protocol.specs.Ledger.{Lease, Ledger}
 use Rattle.leases.specs.Table.{among}
+pub use Rattle.leases.specs.Table.{life_at, is_among}
 pub use Rattle.versions.specs.Lines.{line_at}
 use Rattle.versions.specs.declared.lines.SlotLine.{SlotLine}
 use Rattle.farm_base.specs.declared.lease.NodeLife.{NodeLife}
@@ -20,15 +20,6 @@ pub record Held : Type 0 where
   pub old_home : Option NodeId
   pub lives : List NodeLife
   pub parked : List Parked
-
--- the greatest life seen of a node
-abbrev pub life_at : List NodeLife → ℕ → ℕ
-life_at [] n = 0
-life_at (l ∷ ls) n = if l.node.0 == n then l.life.0 else life_at ls n
-
--- the node is among these
-abbrev pub is_among : List NodeId → ℕ → Bool
-is_among nodes n = list_any (λ node. node.0 == n) nodes
 
 -- the ledger that is held
 abbrev pub ledger : Held → Ledger

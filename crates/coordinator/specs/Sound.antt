@@ -5,14 +5,11 @@ use Rattle.farm_base.specs.declared.limits.TheConstants.{NODES}
 use Rattle.farm_base.specs.declared.message.Request.{Request}
 use Rattle.farm_base.specs.declared.message.Request.TheVariants.{Hello, Acquire, Commit, Release}
 use Rattle.leases.specs.Leases.{AreLeases}
+pub use Rattle.leases.specs.Leases.{IsOpen}
 use Rattle.protocol.specs.Names.{Slot}
 use Rattle.protocol.specs.Machine.{LineVersion}
 use Rattle.protocol.specs.Ledger.{Lease, Ledger, has_slot}
 use Rattle.protocol.specs.Lawful.{IsLawful}
-
--- the lease's ticket is above all on the lines of its slots
-abbrev pub IsOpen : (Slot → List LineVersion) → Lease → Type 0
-IsOpen line g = (s : Slot) → has_slot g.slots s ≡ true → All (λ v. v.ticket.0 < g.ticket.0) (line s)
 
 pub record IsSound (q : Ledger) : Type 0 where
   pub leases : AreLeases q.live

@@ -1,5 +1,8 @@
--- The lines of vertices, with one more at the end.
-use Rattle.std.proofs.Common.{◌≡◌, ℕ, suc, zero, ◌+◌, List, [], ◌∷◌, ◌++◌, take, slice_get, Some, ap, ◌∙◌, sym, append_assoc, append-nil, arith}
+-- Lists of texts and of vertices, with one more at the end.
+use Rattle.std.specs.List.{flat_map, enumerate_from}
+use Rattle.std.proofs.lemmas.List.{take_all}
+use Rattle.std.proofs.lemmas.List.FromFn.{length-enumerate_from}
+use Rattle.std.proofs.Common.{◌≡◌, ℕ, suc, zero, ◌+◌, List, [], ◌∷◌, ◌++◌, take, slice_get, Some, ap, ◌∙◌, sym, append_assoc, append-nil, arith, ◌≤◌, length}
 use Rattle.farm_base.specs.declared.digest.Digest.{Digest}
 use Rattle.farm_base.specs.declared.digest.Key.{Key}
 use Rattle.vertices.specs.declared.vertex.Vertex.{Vertex}
@@ -30,3 +33,33 @@ vertex_digests-more (x ∷ vs) (suc n) v e = ap (λ t. x.digest ∷ t) (vertex_d
 -- the same, as the loop counts it
 pub vertex_digests-next : (vs : List Vertex) (n : ℕ) (v : Vertex) → slice_get vs n ≡ Some v → vertex_digests (take (n + 1) vs) ≡ vertex_digests (take n vs) ++ v.digest ∷ []
 vertex_digests-next vs n v e = let next : n + 1 ≡ suc n = search arith in ap (λ m. vertex_digests (take m vs)) next ∙ vertex_digests-more vs n v e
+
+-- texts one after another, with one more at the end
+pub texts-push : (ts : List (List ℕ)) (t : List ℕ) → flat_map (λ (x : List ℕ). x) (ts ++ t ∷ []) ≡ flat_map (λ (x : List ℕ). x) ts ++ t
+texts-push [] t = append-nil t
+texts-push (x ∷ ts) t = ap (λ (text : List ℕ). x ++ text) (texts-push ts t) ∙ sym (append_assoc x (flat_map (λ (x : List ℕ). x) ts) t)
+
+-- the vertices with their numbers, with one more at the end
+numbered-more : (vs : List Vertex) (from n : ℕ) (v : Vertex) → slice_get vs n ≡ Some v
+    → take (suc n) (enumerate_from from vs) ≡ take n (enumerate_from from vs) ++ (from + n, v) ∷ []
+numbered-more [] from n v e = cc
+numbered-more (x ∷ vs) from zero v e =
+    let here : x ≡ v = (let s : Some x ≡ Some v = e in cc) in
+    let place : from ≡ from + 0 = search arith in
+    ap (λ (y : Vertex). (from, y) ∷ []) here ∙ ap (λ (k : ℕ). (k, v) ∷ []) place
+numbered-more (x ∷ vs) from (suc n) v e =
+    let place : from + 1 + n ≡ from + suc n = search arith in
+    ap (λ (rest : List (ℕ × Vertex)). (from, x) ∷ rest) (numbered-more vs (from + 1) n v e)
+    ∙ ap (λ (k : ℕ). (from, x) ∷ (take n (enumerate_from (from + 1) vs) ++ (k, v) ∷ [])) place
+
+-- the same, from 0 and as the loop counts it
+pub numbered-next : (vs : List Vertex) (n : ℕ) (v : Vertex) → slice_get vs n ≡ Some v
+    → take (n + 1) (enumerate_from 0 vs) ≡ take n (enumerate_from 0 vs) ++ (n, v) ∷ []
+numbered-next vs n v e =
+    let next : n + 1 ≡ suc n = search arith in
+    let place : 0 + n ≡ n = search arith in
+    ap (λ m. take m (enumerate_from 0 vs)) next ∙ numbered-more vs 0 n v e ∙ ap (λ (k : ℕ). take n (enumerate_from 0 vs) ++ (k, v) ∷ []) place
+
+-- all of them
+pub numbered-all : (vs : List Vertex) (n : ℕ) → length vs ≤ n → take n (enumerate_from 0 vs) ≡ enumerate_from 0 vs
+numbered-all vs n h = take_all n (enumerate_from 0 vs) (rw (length-enumerate_from 0 vs) h)

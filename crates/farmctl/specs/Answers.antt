@@ -1,4 +1,4 @@
--- What the program prints for a definition (this project's own).
+-- What the program prints for a definition, a record or a schedule (this project's own).
 use Rattle.std.specs.Prelude.{◌≡◌, ⊤, ℕ, List, [], ◌∷◌, ◌++◌, length, map, codes, decimal, slice_get, Option, Some, None, Ok, Err}
 use Rattle.farm_base.specs.declared.digest.Digest.{Digest}
 use Rattle.farm_base.specs.declared.digest.Key.{Key}
@@ -9,8 +9,10 @@ use Rattle.opsproto.specs.declared.definition.Definition.{Definition}
 use Rattle.opsproto.specs.Definitions.{definition_at}
 use Rattle.solverkeys.specs.GraphKeys.{AreKeys}
 use Rattle.farmctl.specs.declared.command.Command.{Command}
-use Rattle.farmctl.specs.declared.command.Command.TheVariants.{Check, Keys, Replay}
+use Rattle.farmctl.specs.declared.command.Command.TheVariants.{Check, Keys, Wants, Record, Replay}
+use Rattle.farmctl.specs.Records.{IsRecordText, IsNoRecord}
 use Rattle.farmctl.specs.Replays.{IsReplayed, IsUnread}
+use Rattle.farmctl.specs.Wants.{AreWantsListed}
 use Rattle.farmctl.specs.declared.failure.Failure.{Failure}
 use Rattle.farmctl.specs.declared.failure.Failure.TheVariants as failure
 
@@ -49,6 +51,7 @@ abbrev pub IsNoGraph : List ℕ → Failure → Type 0
 IsNoGraph bytes (failure.Read e) = definition_at bytes ≡ Err e
 IsNoGraph bytes (failure.Load e) = (d : Definition) × (definition_at bytes ≡ Ok d) × DefinitionCheck d.def (Some e)
 IsNoGraph bytes (failure.Schedule e) = ⊥
+IsNoGraph bytes (failure.Record e) = ⊥
 IsNoGraph bytes failure.Memory = ⊤
 
 -- what `keys` prints for a graph: a line for each vertex, by rising place
@@ -59,10 +62,14 @@ AreListed g text = (keys : List Key) × AreKeys g keys × (text ≡ keys_text (v
 abbrev pub IsAnswer : Command → List ℕ → List ℕ → Type 0
 IsAnswer Check bytes text = (g : GraphParts) × SpellsGraph bytes g × (text ≡ check_text g)
 IsAnswer Keys bytes text = (g : GraphParts) × SpellsGraph bytes g × AreListed g text
+IsAnswer Wants bytes text = (g : GraphParts) × SpellsGraph bytes g × AreWantsListed g text
+IsAnswer Record bytes text = IsRecordText bytes text
 IsAnswer Replay bytes text = IsReplayed bytes text
 
 -- why nothing is printed
 abbrev pub IsRefused : Command → List ℕ → Failure → Type 0
 IsRefused Check = IsNoGraph
 IsRefused Keys = IsNoGraph
+IsRefused Wants = IsNoGraph
+IsRefused Record = IsNoRecord
 IsRefused Replay = IsUnread

@@ -9,6 +9,10 @@ use Rattle.vertices.specs.declared.refusal.LoadRefusal.{LoadRefusal}
 use Rattle.vertices.specs.declared.refusal.LoadRefusal.TheVariants as load
 use Rattle.schedule.specs.declared.refusal.ScheduleRefusal.{ScheduleRefusal}
 use Rattle.schedule.specs.declared.refusal.ScheduleRefusal.TheVariants as schedule
+use Rattle.saverecord.specs.declared.refusal.Flaw.{Flaw}
+use Rattle.saverecord.specs.declared.refusal.Flaw.TheVariants as flaw
+use Rattle.saverecord.specs.declared.refusal.RecordRefusal.{RecordRefusal}
+use Rattle.saverecord.specs.declared.refusal.RecordRefusal.TheVariants as saved
 use Rattle.farmctl.specs.declared.failure.Failure.{Failure}
 use Rattle.farmctl.specs.declared.failure.Failure.TheVariants as failure
 
@@ -52,6 +56,21 @@ schedule_text schedule.TooManyEvents = codes "TooManyEvents"
 schedule_text schedule.OutOfMemory = codes "OutOfMemory"
 schedule_text schedule.TooLarge = codes "TooLarge"
 
+-- why bytes are not the one text of a record
+abbrev pub flaw_name : Flaw → List ℕ
+flaw_name flaw.Order = codes "Order"
+flaw_name flaw.Range = codes "Range"
+flaw_name flaw.Utf8 = codes "Utf8"
+flaw_name flaw.Trailing = codes "Trailing"
+flaw_name flaw.Relation = codes "Relation"
+
+abbrev pub saved_text : RecordRefusal → List ℕ
+saved_text saved.Truncated = codes "Truncated"
+saved_text saved.BadMagic = codes "BadMagic"
+saved_text saved.BadDigest = codes "BadDigest"
+saved_text (saved.NotCanonical why) = codes "NotCanonical " ++ flaw_name why
+saved_text saved.OutOfMemory = codes "OutOfMemory"
+
 -- `refused`, and the refusal
 abbrev pub refused : List ℕ → List ℕ
 refused text = codes "refused " ++ text ++ codes "\n"
@@ -60,4 +79,5 @@ abbrev pub failure_line : Failure → List ℕ
 failure_line (failure.Read refusal) = refused (read_text refusal)
 failure_line (failure.Load refusal) = refused (load_text refusal)
 failure_line (failure.Schedule refusal) = refused (schedule_text refusal)
+failure_line (failure.Record refusal) = refused (saved_text refusal)
 failure_line failure.Memory = codes "out of memory\n"

@@ -1,4 +1,6 @@
 pub mod Acts
 pub mod Answers
 pub mod Failures
+pub mod Records
 pub mod Replays
+pub mod Wants

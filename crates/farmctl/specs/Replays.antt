@@ -40,4 +40,5 @@ abbrev pub IsUnread : List ℕ → Failure → Type 0
 IsUnread bytes (failure.Read e) = ⊥
 IsUnread bytes (failure.Load e) = ⊥
 IsUnread bytes (failure.Schedule e) = schedule.IsRefused bytes e
+IsUnread bytes (failure.Record e) = ⊥
 IsUnread bytes failure.Memory = ⊤

@@ -10,7 +10,7 @@ use super::command::{Command, command_of};
 use super::failure::Failure;
 use super::files::contents;
 use std::alloc::Global;
-use std::io::Write;
+use std::io::{self, Write};
 use std::rt::Files;
 
 /// The answer was printed.
@@ -95,6 +95,17 @@ pub fn act<O: Write, E: Write>(
     print(out, all.as_str(), DONE)
 }
 
+/// Says why there are no words: memory ran out, or one of them is not UTF-8.
+pub fn print_no_words<E: Write>(error: &io::Error, err: &mut E) -> u8
+    ensures { result ≢ 0 }
+{
+    if matches!(error.kind(), io::ErrorKind::OutOfMemory) {
+        print(err, "out of memory\n", MEMORY)
+    } else {
+        print(err, "error: a word that is not UTF-8\n", USAGE)
+    }
+}
+
 /// Reads the words and the files that they name, and acts. The texts of usage faults and help are `clap`'s.
 pub fn run<R: Files + Input + AllocGlobal, O: Write, E: Write>(
     rt: &R,
@@ -108,7 +119,13 @@ pub fn run<R: Files + Input + AllocGlobal, O: Write, E: Write>(
     };
     let mut files = Vec::new(rt.alloc());
     for name in &names {
-        let bytes = contents(rt, name).ok();
+        let bytes = match contents(rt, name, command.most_bytes()) {
+            Ok(bytes) => Some(bytes),
+            Err(error) if matches!(error.kind(), io::ErrorKind::OutOfMemory) => {
+                return print(err, "out of memory\n", MEMORY);
+            }
+            Err(_) => None,
+        };
         let Ok(name) = String::from_str(rt.alloc(), name) else {
             return print(err, "out of memory\n", MEMORY);
         };

@@ -5,7 +5,9 @@ ghost use Rattle.farmctl.specs.Answers.{result_text, check_text, key_line, verte
 
 use super::command::Command;
 use super::failure::Failure;
+use super::record::recorded;
 use super::replaying::replayed;
+use super::wants::wanted;
 use farm_base::{Digest, Key};
 use opsproto::{OpRefusal, read_definition};
 use std::alloc::{AllocError, Global};
@@ -118,6 +120,12 @@ pub fn answer(alloc: Global, command: Command, bytes: Vec<u8>) -> Result<String,
             let text = listed(alloc, graph)?;
             Ok(text)
         }
+        Command::Wants => {
+            let graph = graph_of(alloc, bytes)?;
+            let text = wanted(alloc, &graph)?;
+            Ok(text)
+        }
+        Command::Record => recorded(alloc, bytes.as_slice()),
         Command::Replay => replayed(alloc, bytes.as_slice()),
     }
 }

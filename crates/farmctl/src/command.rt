@@ -1,6 +1,7 @@
 //! The words of the command line.
 
 use clap::{Arg, Error};
+use opsproto::LIMIT;
 use std::alloc::{AllocError, Global};
 
 /// What the program is asked to do with a file.
@@ -10,52 +11,113 @@ pub enum Command {
     Check,
     /// Prints the solver key of each vertex.
     Keys,
+    /// Prints the folders that each vertex wants for its cache mounts.
+    Wants,
+    /// Prints what a record keeps.
+    Record,
     /// Prints the result of each event of a schedule, and the lines of versions.
     Replay,
 }
 
+impl Command {
+    /// How much of a file is read: of a record all, else one byte past the limit, so that what is longer is refused.
+    pub fn most_bytes(self) -> usize {
+        match self {
+            Command::Check | Command::Keys | Command::Wants | Command::Replay => LIMIT + 1,
+            Command::Record => usize::MAX,
+        }
+    }
+}
+
+/// What a definition's command reads.
+const DEFINITION: &str = "A build definition as BuildKit writes it; `-` is the standard input";
+
+/// What `record` prints.
+const RECORD_LINES: &str = "Prints a line for each part that the record has:
+  last TICKET
+  home NODE
+  life NODE LIFE
+  gone NODE
+  lease TICKET NODE LIFE ASK [shared] [tenure] SLOT..
+  retired SLOT
+  SLOT NUMBER:TICKET:DIGITS..
+`ro=` stands before a slot that may not be written.";
+
+/// A command that reads a file: what it does, and what its lines are.
 fn subcommand<'a>(
     alloc: Global,
     name: &'a str,
     about: &'a str,
+    lines: &'a str,
     file: &'a str,
 ) -> Result<clap::Command<'a>, AllocError> {
     let file = Arg::new(alloc, "FILE").required(true).help(file);
-    clap::Command::new(alloc, name).about(about).arg(file)
+    clap::Command::new(alloc, name)
+        .about(about)
+        .after_help(lines)
+        .arg(file)
 }
 
-/// What `check` and `keys` read.
-const DEFINITION: &str = "A definition in proto3's wire form; `-` is the standard input";
-
-/// What `replay` reads.
-const SCHEDULE: &str = "A schedule; `-` is the standard input";
-
-fn farmctl<'a>(alloc: Global) -> Result<clap::Command<'a>, AllocError> {
-    let check = subcommand(
+fn check_command<'a>(alloc: Global) -> Result<clap::Command<'a>, AllocError> {
+    subcommand(
         alloc,
         "check",
-        "Says whether a definition can be solved, and what its result is",
+        "Says whether a build definition can be solved, and what its result is",
+        "Prints `vertices N result DIGEST INDEX`: how many vertices there are, and the vertex and output of the result.",
         DEFINITION,
-    )?;
-    let keys = subcommand(
+    )
+}
+
+fn keys_command<'a>(alloc: Global) -> Result<clap::Command<'a>, AllocError> {
+    subcommand(
         alloc,
         "keys",
-        "Prints the solver key of each vertex",
+        "Prints the solver key of each vertex: vertices with one key are solved once",
+        "Prints `DIGEST KEY` for each vertex, by its place in the definition.",
         DEFINITION,
-    )?;
-    let replay = subcommand(
+    )
+}
+
+fn wants_command<'a>(alloc: Global) -> Result<clap::Command<'a>, AllocError> {
+    subcommand(
+        alloc,
+        "wants",
+        "Prints which cache folders each vertex of a build definition uses",
+        "Prints `DIGEST FOLDER..` for each vertex with cache mounts, by its place in the definition; `ro=` stands before a folder that no mount may write.",
+        DEFINITION,
+    )
+}
+
+fn record_command<'a>(alloc: Global) -> Result<clap::Command<'a>, AllocError> {
+    subcommand(
+        alloc,
+        "record",
+        "Prints what a coordinator's record keeps: nodes, leases, retired slots and versions",
+        RECORD_LINES,
+        "A record that a coordinator saved; `-` is the standard input",
+    )
+}
+
+fn replay_command<'a>(alloc: Global) -> Result<clap::Command<'a>, AllocError> {
+    subcommand(
         alloc,
         "replay",
-        "Prints the result of each event of a schedule, and the lines of versions",
-        SCHEDULE,
-    )?;
+        "Prints what comes of each event of a schedule, and the versions of each folder after them",
+        "Prints a line for each event, and then `SLOT NUMBER:TICKET:DIGITS..` for each slot that has a version.",
+        "A schedule; `-` is the standard input",
+    )
+}
+
+fn farmctl<'a>(alloc: Global) -> Result<clap::Command<'a>, AllocError> {
     clap::Command::new(alloc, "farmctl")
         .about("The solving core of a container build farm")
         .no_binary_name(true)
         .subcommand_required(true)
-        .subcommand(check)?
-        .subcommand(keys)?
-        .subcommand(replay)
+        .subcommand(check_command(alloc)?)?
+        .subcommand(keys_command(alloc)?)?
+        .subcommand(wants_command(alloc)?)?
+        .subcommand(record_command(alloc)?)?
+        .subcommand(replay_command(alloc)?)
 }
 
 /// The command of a name.
@@ -63,6 +125,8 @@ fn named(name: &str) -> Command {
     match name {
         "check" => Command::Check,
         "keys" => Command::Keys,
+        "wants" => Command::Wants,
+        "record" => Command::Record,
         _ => Command::Replay,
     }
 }

@@ -1,12 +1,13 @@
 //! Why a file has no answer.
 ghost use Rattle.std.specs.Prelude.{◌≡◌, IfOk};
 ghost use Rattle.std.specs.String.{string_bytes};
-ghost use Rattle.farmctl.specs.Failures.{wire_name, read_text, load_text, schedule_text, failure_line};
+ghost use Rattle.farmctl.specs.Failures.{wire_name, read_text, load_text, schedule_text, flaw_name, saved_text, failure_line};
 ghost use Rattle.vertices.specs.declared.refusal.LoadRefusal.TheVariants as load;
 ghost use Rattle.farmctl.specs.declared.failure.Failure.TheVariants as failure;
 
 use opsproto::OpRefusal;
 use protowire::WireRefusal;
+use saverecord::{Flaw, RecordRefusal};
 use schedule::ScheduleRefusal;
 use std::alloc::{AllocError, Global};
 use vertices::LoadRefusal;
@@ -20,6 +21,8 @@ pub enum Failure {
     Load(LoadRefusal),
     /// Its bytes are not a schedule.
     Schedule(ScheduleRefusal),
+    /// Its bytes are not a record.
+    Record(RecordRefusal),
     Memory,
 }
 
@@ -99,6 +102,34 @@ fn schedule_text(alloc: Global, refusal: ScheduleRefusal) -> Result<String, Allo
     }
 }
 
+/// What is wrong with bytes that are not the one text of a record.
+fn flaw_name(flaw: Flaw) -> &'static str
+    ensures { result.now ≡ flaw_name flaw }
+{
+    match flaw {
+        Flaw::Order => "Order",
+        Flaw::Range => "Range",
+        Flaw::Utf8 => "Utf8",
+        Flaw::Trailing => "Trailing",
+        Flaw::Relation => "Relation",
+    }
+}
+
+fn saved_text(alloc: Global, refusal: RecordRefusal) -> Result<String, AllocError>
+    ensures { IfOk result (λ text. string_bytes text ≡ saved_text refusal) }
+{
+    match refusal {
+        RecordRefusal::Truncated => String::from_str(alloc, "Truncated"),
+        RecordRefusal::BadMagic => String::from_str(alloc, "BadMagic"),
+        RecordRefusal::BadDigest => String::from_str(alloc, "BadDigest"),
+        RecordRefusal::NotCanonical(flaw) => {
+            let flaw = flaw_name(flaw);
+            format!(in alloc; "NotCanonical {flaw}")
+        }
+        RecordRefusal::OutOfMemory => String::from_str(alloc, "OutOfMemory"),
+    }
+}
+
 impl Failure {
     /// Its line: `refused`, the refusal's name and its numbers, or that memory ran out.
     pub fn line(self, alloc: Global) -> Result<String, AllocError>
@@ -108,6 +139,7 @@ impl Failure {
             Failure::Read(refusal) => read_text(alloc, refusal)?,
             Failure::Load(refusal) => load_text(alloc, refusal)?,
             Failure::Schedule(refusal) => schedule_text(alloc, refusal)?,
+            Failure::Record(refusal) => saved_text(alloc, refusal)?,
             Failure::Memory => return String::from_str(alloc, "out of memory\n"),
         };
         format!(in alloc; "refused {refusal}\n")

@@ -1,4 +1,5 @@
-//! The program: checks definitions of BuildKit, prints their solver keys, and replays schedules of a farm.
+//! The program: checks definitions of BuildKit, prints their solver keys and what records keep, and replays schedules of
+//! a farm.
 #![tactic(auto)]
 
 mod act;
@@ -6,25 +7,36 @@ mod answer;
 mod command;
 mod failure;
 mod files;
+mod printing;
+mod record;
+#[cfg(test)]
+mod record_tests;
 mod replaying;
 #[cfg(test)]
 mod tests;
+mod wants;
+#[cfg(test)]
+mod wants_tests;
 
 use std::process::ExitCode;
+use std::rt::Env;
 use std::{env, io};
 
-fn main(rt: HostRuntime) -> ExitCode {
+/// The words after the program's name.
+fn words<R: Env + AllocGlobal>(rt: &R) -> io::Result<Vec<String>> {
     let mut words = Vec::new(rt.alloc());
-    let Ok(given) = env::args(&rt) else {
-        return ExitCode::from(act::MEMORY);
-    };
-    for word in given.skip(1) {
-        if words.push(word).is_err() {
-            return ExitCode::from(act::MEMORY);
-        }
+    for word in env::args(rt)?.skip(1) {
+        words.push(word)?;
     }
+    Ok(words)
+}
+
+fn main(rt: HostRuntime) -> ExitCode {
     let mut out = rt.stdout();
     let mut err = rt.stderr();
-    let status = act::run(&rt, words.as_slice(), &mut out, &mut err);
+    let status = match words(&rt) {
+        Ok(words) => act::run(&rt, words.as_slice(), &mut out, &mut err),
+        Err(error) => act::print_no_words(&error, &mut err),
+    };
     ExitCode::from(status)
 }

@@ -51,6 +51,29 @@ fn done(
     Ok((status, out, err))
 }
 
+/// The place of the first row, bytes in hexadecimal and what is printed for them, that a command doesn't print so with
+/// this status.
+pub(crate) fn wrong_row(
+    alloc: Global,
+    command: Command,
+    rows: &[(&str, &str)],
+    wanted: u8,
+) -> Result<Option<usize>, Fail> {
+    for (place, (spelled, text)) in rows.iter().enumerate() {
+        let bytes = hex::decode(alloc, *spelled)?;
+        let (status, out, err) = done(alloc, command, Some(bytes))?;
+        let (printed, other) = if wanted == DONE {
+            (out, err)
+        } else {
+            (err, out)
+        };
+        if status != wanted || printed.as_slice() != text.as_bytes() || !other.is_empty() {
+            return Ok(Some(place));
+        }
+    }
+    Ok(None)
+}
+
 /// A definition of this op, whose output 0 is the result.
 fn spelled(alloc: Global, op: &[u8]) -> Result<Vec<u8>, Fail> {
     let digest = Digest(<Sha256 as sha2::Digest>::digest(op)).to_text(alloc)?;

@@ -4,6 +4,7 @@ use Rattle.std.specs.List.Sorted.{IsStrictlySortedBy}
 use Rattle.farm_base.specs.Slots.{slot_cmp}
 use Rattle.farm_base.specs.declared.lease.Lease.{Lease}
 use Rattle.protocol.specs.Names.{Slot}
+use Rattle.protocol.specs.Machine.{LineVersion}
 use Rattle.protocol.specs.Ledger.{has_slot}
 
 -- a lease table, as contracts see it
@@ -32,3 +33,7 @@ pub record AreLeases (live : List Lease) : Type 0 where
   -- no slot is in two leases
   pub apart : AllPairs AreApart live
   pub slots : All Rises live
+
+-- the lease's ticket is above all on the lines of its slots
+abbrev pub IsOpen : (Slot → List LineVersion) → Lease → Type 0
+IsOpen line g = (s : Slot) → has_slot g.slots s ≡ true → All (λ v. v.ticket.0 < g.ticket.0) (line s)

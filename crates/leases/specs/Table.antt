@@ -1,8 +1,9 @@
 -- What a lease table holds, and whether an ask fits.
-use Rattle.std.specs.Prelude.{Bool, true, false, not, ◌&&◌, List, [], map, filter, Option, Some, None}
+use Rattle.std.specs.Prelude.{ℕ, ◌==◌, if◌then◌else◌, Bool, true, false, not, ◌&&◌, List, [], ◌∷◌, map, filter, Option, Some, None}
 use Rattle.std.specs.List.{list_any, find, flat_map}
 use Rattle.farm_base.specs.declared.limits.TheConstants.{INSTANCES}
 use Rattle.farm_base.specs.declared.lease.Lease.{Lease}
+use Rattle.farm_base.specs.declared.lease.NodeLife.{NodeLife}
 use Rattle.protocol.specs.Names.{Slot, slot_eq, is_private, only_slot, NodeId, Life, Ask, Ticket, Want, any_shared, wants_shared, leased_wants}
 use Rattle.protocol.specs.Ledger.{has_slot, some_lease, slot_for, all_taken, busy, retires}
 use Rattle.leases.specs.declared.lease_table.Fit.{Fit}
@@ -26,6 +27,15 @@ abbrev pub first_fit : Bool → Bool → Fit
 first_fit true b = InstancesSpent
 first_fit false true = Busy
 first_fit false false = Fits
+
+-- the greatest life seen of a node
+abbrev pub life_at : List NodeLife → ℕ → ℕ
+life_at [] n = 0
+life_at (l ∷ ls) n = if l.node.0 == n then l.life.0 else life_at ls n
+
+-- the node is among these
+abbrev pub is_among : List NodeId → ℕ → Bool
+is_among nodes n = list_any (λ node. node.0 == n) nodes
 
 -- whether these wants fit. A PRIVATE folder has 4,096 instances
 abbrev pub fit_of : Table → Bool → List Want → Fit

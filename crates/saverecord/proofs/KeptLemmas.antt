@@ -16,8 +16,8 @@ use Rattle.farm_base.specs.Folders.{folder_cmp, folder_eq}
 use Rattle.farm_base.specs.Slots.{SlotParts}
 use Rattle.farm_base.specs.Wanted.{folders}
 use Rattle.farm_base.proofs.WantLemmas.{eq-by_cmp}
-use Rattle.leases.specs.Leases.{Rises}
-use Rattle.leases.specs.Table.{among, takes}
+use Rattle.leases.specs.Leases.{Rises, IsOpen}
+use Rattle.leases.specs.Table.{among, takes, life_at, is_among}
 use Rattle.leases.proofs.TableLemmas.{leased-filter, wants_filter}
 use Rattle.protocol.specs.Lists.{In}
 use Rattle.protocol.specs.Names.{Slot, slot_eq, is_shared, is_private, NodeId, Want, FolderName, wants_shared, leased_wants, tenure_wants}
@@ -32,7 +32,7 @@ use Rattle.versions.specs.Lines.{line_at}
 use Rattle.saverecord.specs.declared.record.Record.{Record}
 use Rattle.saverecord.specs.Relations.{no_two, versions_up_to, shares, is_same_ask, clash, has_retired, is_same_private, is_tenured, some_shared, is_above_line, fits_record, agrees}
 use Rattle.saverecord.specs.Fits.{IsNode, IsHome, IsNodeLife, IsLease, IsVersion, IsSlotLine, HasParts}
-use Rattle.saverecord.specs.Ledgers.{life_at, is_among, IsOpen, IsKept, KeptIsRecord}
+use Rattle.saverecord.specs.Ledgers.{IsKept, KeptIsRecord}
 use Rattle.saverecord.proofs.LedgerLemmas.{all_in, all_from_in, each_in, each_from_in, passes_from_in, none_from_in, life_in, line_in, same_ask}
 
 -- ---- leases
@@ -138,7 +138,7 @@ module _ (r : Record) (kept : IsKept r) where
   line_fits : (l : SlotLine) → In l r.lines → IsSlotLine l
   line_fits l i = record {
     some = some_in l.line (all_in (λ (l : SlotLine). l.line ≡ [] → ⊥) r.lines kept.lines.filled l i);
-    rise = all_in (λ (l : SlotLine). IsLine l.line) r.lines kept.tickets_rise l i;
+    rise = all_in (λ (l : SlotLine). IsLine l.line) r.lines kept.lines.tickets l i;
     versions = each_from_in IsVersion l.line (λ v j. kept.lawful.core.versions l.slot v (subst (In v) (sym (line_is l i)) j));
   }
 

@@ -16,8 +16,8 @@ use Rattle.farm_base.specs.Slots.{SlotParts, slot_cmp}
 use Rattle.farm_base.specs.Wanted.{folders}
 use Rattle.farm_base.proofs.CompareLaws.{folder_cmp-tie}
 use Rattle.farm_base.proofs.WantLemmas.{eq-by_cmp}
-use Rattle.leases.specs.Leases.{Rises}
-use Rattle.leases.specs.Table.{among}
+use Rattle.leases.specs.Leases.{Rises, IsOpen}
+use Rattle.leases.specs.Table.{among, life_at, is_among}
 use Rattle.lists.proofs.Rising.{less-from_cmp}
 use Rattle.protocol.specs.Lists.{In}
 use Rattle.protocol.specs.Names.{Slot, slot_eq, Mode, Shared, Private, Locked, is_shared, is_private, IsInstance, NodeId, Want, FolderName, leased_wants, tenure_wants}
@@ -32,7 +32,7 @@ use Rattle.versions.specs.Lines.{line_at}
 use Rattle.saverecord.specs.declared.record.Record.{Record}
 use Rattle.saverecord.specs.Relations.{no_two, versions_up_to, lines_up_to, tickets_up_to, lives_there, shares, is_same_ask, clash, has_retired, is_same_private, is_tenured, some_shared, fits_tenure, is_gone, is_above_line, is_above_lines, fits_record, agrees}
 use Rattle.saverecord.specs.Fits.{IsNode, IsHome, IsNodeLife, IsLease, IsVersion, IsSlotLine, IsRecord}
-use Rattle.saverecord.specs.Ledgers.{life_at, is_among, ledger_of, IsOpen, IsKept, HasInstance, HasInstances, RecordIsKept}
+use Rattle.saverecord.specs.Ledgers.{ledger_of, IsKept, HasInstance, HasInstances, RecordIsKept}
 use Rattle.saverecord.proofs.LedgerLemmas.{all_in, all_from_in, each_in, life_in, life_from, line_from, same_ask}
 
 -- ---- the slots of a lease
@@ -276,8 +276,11 @@ module _ (r : Record) (typed : All HasInstances r.leases) (fits : IsRecord r) wh
     nodes_rise = fits.parts.nodes_rise;
     retired_rise = fits.parts.retired_rise;
     slots_rise = all_from_in Rises r.leases (λ g i. (lease g i).rise);
-    lines = record { rise = fits.parts.lines_rise; filled = all_from_in (λ (l : SlotLine). l.line ≡ [] → ⊥) r.lines (λ l i. filled l.line (line l i).some) };
-    tickets_rise = all_from_in (λ (l : SlotLine). IsLine l.line) r.lines (λ l i. (line l i).rise);
+    lines = record {
+      rise = fits.parts.lines_rise;
+      filled = all_from_in (λ (l : SlotLine). l.line ≡ [] → ⊥) r.lines (λ l i. filled l.line (line l i).some);
+      tickets = all_from_in (λ (l : SlotLine). IsLine l.line) r.lines (λ l i. (line l i).rise);
+    };
     past = past;
     ahead = all_from_in (IsOpen (line_at r.lines)) r.leases ahead;
   }

@@ -1,32 +1,19 @@
 -- The ledger that a record keeps (docs/PROTOCOL.md, "The record"). The rules are this project's own.
-use Rattle.std.specs.Prelude.{◌≡◌, ℕ, ◌≤◌, ◌<◌, ◌==◌, if◌then◌else◌, Bool, true, List, [], ◌∷◌, map, All, Ok}
-use Rattle.std.specs.List.{list_any}
+use Rattle.std.specs.Prelude.{◌≡◌, ◌≤◌, Bool, List, [], map, All, Ok}
 use Rattle.std.specs.List.Sorted.{IsStrictlyIncreasing, IsStrictlySortedBy}
 use Rattle.farm_base.specs.declared.limits.TheConstants.{NODES}
-use Rattle.farm_base.specs.declared.lease.NodeLife.{NodeLife}
 use Rattle.farm_base.specs.Digests.{IsBytes}
 use Rattle.farm_base.specs.Slots.{slot_cmp}
-use Rattle.leases.specs.Leases.{Rises}
-use Rattle.leases.specs.Table.{among}
-use Rattle.protocol.specs.Names.{Slot, NodeId, IsInstance}
-use Rattle.protocol.specs.Machine.{LineVersion}
-use Rattle.protocol.specs.Ledger.{Ledger, Lease, has_slot}
+use Rattle.leases.specs.Leases.{Rises, IsOpen}
+use Rattle.leases.specs.Table.{among, life_at, is_among}
+use Rattle.protocol.specs.Names.{Slot, IsInstance}
+use Rattle.protocol.specs.Ledger.{Ledger, Lease}
 use Rattle.protocol.specs.Lawful.{IsLawful}
-use Rattle.versions.specs.Line.{IsLine}
 use Rattle.versions.specs.Lines.{line_at}
 use Rattle.versions.specs.Ordered.{AreLines}
 use Rattle.saverecord.specs.declared.record.Record.{Record}
 use Rattle.saverecord.specs.Records.{record_of}
 use Rattle.saverecord.specs.Fits.{IsRecord}
-
--- the greatest life seen of a node
-abbrev pub life_at : List NodeLife → ℕ → ℕ
-life_at [] n = 0
-life_at (l ∷ ls) n = if l.node.0 == n then l.life.0 else life_at ls n
-
--- the node is among these
-abbrev pub is_among : List NodeId → ℕ → Bool
-is_among nodes n = list_any (λ node. node.0 == n) nodes
 
 -- the ledger that a restart makes of a record: the last ticket is the ceiling, and no ask is parked
 abbrev pub ledger_of : Record → Ledger
@@ -42,10 +29,6 @@ ledger_of r = record {
   parked = [];
 }
 
--- the lease's ticket is above all on the lines of its slots
-abbrev pub IsOpen : (Slot → List LineVersion) → Lease → Type 0
-IsOpen line g = (s : Slot) → has_slot g.slots s ≡ true → All (λ v. v.ticket.0 < g.ticket.0) (line s)
-
 -- a record of a lawful ledger, each list in its order
 pub record IsKept (r : Record) : Type 0 where
   pub lawful : IsLawful NODES (ledger_of r)
@@ -56,7 +39,6 @@ pub record IsKept (r : Record) : Type 0 where
   pub retired_rise : IsStrictlySortedBy slot_cmp r.retired
   pub slots_rise : All Rises r.leases
   pub lines : AreLines r.lines
-  pub tickets_rise : All (λ l. IsLine l.line) r.lines
   -- no ticket is above the last
   pub past : (s : Slot) → All (λ v. v.ticket.0 ≤ r.last.0) (line_at r.lines s)
   pub ahead : All (IsOpen (line_at r.lines)) r.leases

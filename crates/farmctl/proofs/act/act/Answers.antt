@@ -10,17 +10,14 @@ use Rattle.lists.proofs.Places.{AllZip-push}
 use Rattle.farmctl.specs.Failures.{failure_line}
 use Rattle.farmctl.specs.Acts.{File, AnswersFile, AnswersAll}
 use Rattle.farmctl.specs.declared.command.Command.{Command}
+use Rattle.farmctl.proofs.Texts.{texts-push}
 use Rattle.farmctl.proofs.act.act.Goals as goal
-
-joined_push : (ts : List (List ℕ)) (t : List ℕ) → flat_map (λ (x : List ℕ). x) (ts ++ t ∷ []) ≡ flat_map (λ (x : List ℕ). x) ts ++ t
-joined_push [] t = append-nil t
-joined_push (x ∷ ts) t = ap (λ (text : List ℕ). x ++ text) (joined_push ts t) ∙ sym (append_assoc x (flat_map (λ (x : List ℕ). x) ts) t)
 
 -- one more file
 all_push : (command : Command) (files : List File) (file : File) (text more : List ℕ) → AnswersAll command files text → AnswersFile command file more
     → AnswersAll command (files ++ file ∷ []) (text ++ more)
 all_push command files file text more h is =
-    (h.0 ++ more ∷ [], AllZip-push (AnswersFile command) files h.0 file more h.1 is, ap (λ (t : List ℕ). t ++ more) h.2 ∙ sym (joined_push h.0 more))
+    (h.0 ++ more ∷ [], AllZip-push (AnswersFile command) files h.0 file more h.1 is, ap (λ (t : List ℕ). t ++ more) h.2 ∙ sym (texts-push h.0 more))
 
 pub loop-name-init : goal.loop-name-init
 loop-name-init g c = record {
