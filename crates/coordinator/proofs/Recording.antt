@@ -8,16 +8,12 @@ use Rattle.protocol.specs.Names.{Slot, NodeId, Ticket}
 use Rattle.protocol.specs.Machine.{ToCoord}
 use Rattle.protocol.specs.Ledger.{Ledger, Lease, Work, begin_work, handled, withdrawn, retired, pruned}
 use Rattle.protocol.specs.declared.answer.CoordRefusal.{CoordRefusal}
+use Rattle.protocol.proofs.Base.{all_in}
 use Rattle.protocol.proofs.Saving as saving
 use Rattle.protocol.proofs.Saving.{Apart}
 use Rattle.coordinator.specs.Sound.{IsSound}
 use Rattle.coordinator.specs.Promises.{ChangesAsTold}
 use Rattle.leases.proofs.TableLemmas.{AllPairs-head, AllPairs-tail}
-
-all_in : {A : Type 0} (P : A → Type 0) (xs : List A) → All P xs → (x : A) → In x xs → P x
-all_in P [] h x i = absurd i
-all_in P (y ∷ ys) h x (inl e) = subst P (sym e) (h 0 y (omega arith))
-all_in P (y ∷ ys) h x (inr i) = all_in P ys (λ k d inside. h (suc k) d (omega arith)) x i
 
 -- rising tickets are of one lease each
 own_tickets : (live : List Lease) → AllPairs IsBefore live → (x y : Lease) → In x live → In y live → x.ticket.0 ≡ y.ticket.0 → x ≡ y

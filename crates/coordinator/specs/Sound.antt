@@ -1,5 +1,5 @@
 -- What a ledger keeps to.
-use Rattle.std.specs.Prelude.{◌≡◌, ◌<◌, ◌≤◌, true, List, All}
+use Rattle.std.specs.Prelude.{◌≤◌, List, All}
 use Rattle.farm_base.specs.Wanted.{IsWants}
 use Rattle.farm_base.specs.declared.limits.TheConstants.{NODES}
 use Rattle.farm_base.specs.declared.message.Request.{Request}
@@ -7,8 +7,7 @@ use Rattle.farm_base.specs.declared.message.Request.TheVariants.{Hello, Acquire,
 use Rattle.leases.specs.Leases.{AreLeases}
 pub use Rattle.leases.specs.Leases.{IsOpen}
 use Rattle.protocol.specs.Names.{Slot}
-use Rattle.protocol.specs.Machine.{LineVersion}
-use Rattle.protocol.specs.Ledger.{Lease, Ledger, has_slot}
+use Rattle.protocol.specs.Ledger.{Ledger}
 use Rattle.protocol.specs.Lawful.{IsLawful}
 
 pub record IsSound (q : Ledger) : Type 0 where

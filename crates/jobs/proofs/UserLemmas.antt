@@ -8,7 +8,7 @@ use Rattle.std.proofs.lemmas.List.{length-set, length-append, length-replicate, 
 use Rattle.std.proofs.lemmas.List.Elements.{Contains-append_left, Contains-push, Contains-get_or}
 use Rattle.std.proofs.lemmas.Option.{slice_get_within, slice_get-get_or, slice_get_read}
 use Rattle.farm_base.specs.declared.digest.Key.{Key}
-use Rattle.lists.proofs.Places.{some_is, at_place, at_Contains, get_push_cases}
+use Rattle.lists.proofs.Places.{some_is, at_place, at_Contains, get_push_cases, get_front}
 use Rattle.jobs.specs.declared.entry.Entry.{Entry}
 use Rattle.jobs.specs.declared.users.Link.{Link}
 use Rattle.jobs.specs.declared.users.Users.{Users}
@@ -18,11 +18,6 @@ use Rattle.jobs.specs.Users.{IsUser, IsInput, IsFrom, IsLast, no_link, a_link, A
 use Rattle.jobs.proofs.TableLemmas.{one_number}
 
 -- ---- a list that grows
-
-pub get_front : {X : Type 0} (xs ys : List X) (n : ℕ) (y : X) → slice_get xs n ≡ Some y → slice_get (xs ++ ys) n ≡ Some y
-get_front [] ys n y e = absurd (cc)
-get_front (x ∷ xs) ys zero y e = e
-get_front (x ∷ xs) ys (suc n) y e = get_front xs ys n y e
 
 pub get_back : {X : Type 0} (xs ys : List X) (n : ℕ) (y : X) → n < length xs → slice_get (xs ++ ys) n ≡ Some y → slice_get xs n ≡ Some y
 get_back [] ys n y less e = absurd (omega (arith, less))

@@ -4,6 +4,7 @@ use Rattle.std.proofs.lemmas.Bool.{ne_eqb, cases_eq, and_parts, eqb-true, cases_
 use Rattle.std.proofs.lemmas.Bool.Decides.{nat_tests}
 use Rattle.std.proofs.lemmas.Slice.Eq.{bytes_eq-Decides}
 use Rattle.std.specs.List.{list_any}
+pub use Rattle.lists.proofs.Places.{get_front}
 use Rattle.std.specs.Option.{option_eq}
 use Rattle.std.specs.Cmp.Lexicographic.{pointwise}
 use Rattle.farm_base.specs.Folders.{folder_eq, base_eq}
@@ -118,11 +119,6 @@ slot_eq_is a b h =
 
 -- ---- places
 
-pub get-append : {A : Type 0} (xs ys : List A) (j : ℕ) (v : A) → slice_get xs j ≡ Some v → slice_get (xs ++ ys) j ≡ Some v
-get-append [] ys j v h = cc
-get-append (x ∷ xs) ys zero v h = h
-get-append (x ∷ xs) ys (suc j) v h = get-append xs ys j v h
-
 -- an element of a list with one more at its end
 pub get_push_cases : {A : Type 0} (xs : List A) (x : A) (j : ℕ) (v : A) → slice_get (xs ++ x ∷ []) j ≡ Some v → (slice_get xs j ≡ Some v) ⊎ ((j ≡ length xs) × (v ≡ x))
 get_push_cases [] x zero v h = inr (refl, (cc))
@@ -160,7 +156,7 @@ nth_set_cases xs i x old k v was h = elim (cases_eq k i) [
 
 pub nth-append : {A : Type 0} (xs ys : List A) (k : ℕ) (v : A) → nth xs k ≡ Some v → nth (xs ++ ys) k ≡ Some v
 nth-append xs ys zero v h = none_some v h
-nth-append xs ys (suc k) v h = get-append xs ys k v h
+nth-append xs ys (suc k) v h = get_front xs ys k v h
 
 pub nth-push : {A : Type 0} (xs : List A) (x : A) → nth (xs ++ x ∷ []) (suc (length xs)) ≡ Some x
 nth-push xs x = get_push_end xs x
@@ -176,7 +172,7 @@ pub front_trans : {A : Type 0} (xs ys zs : List A) → IsFrontOf xs ys → IsFro
 front_trans xs ys zs p q = (p.0 ++ q.0, q.1 ∙ ap (λ l. l ++ q.0) p.1 ∙ append_assoc xs p.0 q.0)
 
 pub front_get : {A : Type 0} (xs ys : List A) (j : ℕ) (v : A) → IsFrontOf xs ys → slice_get xs j ≡ Some v → slice_get ys j ≡ Some v
-front_get xs ys j v p h = rw p.1 (get-append xs p.0 j v h)
+front_get xs ys j v p h = rw p.1 (get_front xs p.0 j v h)
 
 -- ---- tests of lists
 
@@ -212,3 +208,9 @@ from_filter test x (y ∷ xs) i = elim (cases_Bool (test y)) [
   ]
   | inr t ↦ (let r = from_filter test x xs (rw t at i) in (inr r.0, r.1))
 ]
+
+-- what holds of all holds of each
+pub all_in : {A : Type 0} (P : A → Type 0) (xs : List A) → All P xs → (x : A) → In x xs → P x
+all_in P [] h x i = absurd i
+all_in P (y ∷ ys) h x (inl e) = subst P (sym e) (h 0 y (omega arith))
+all_in P (y ∷ ys) h x (inr i) = all_in P ys (λ k d inside. h (suc k) d (omega arith)) x i

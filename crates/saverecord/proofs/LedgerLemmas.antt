@@ -26,11 +26,6 @@ use Rattle.leases.specs.Table.{life_at}
 
 -- ---- what holds of each element
 
-pub all_in : {A : Type 0} (P : A → Type 0) (xs : List A) → All P xs → (x : A) → In x xs → P x
-all_in P [] h x i = absurd i
-all_in P (y ∷ ys) h x (inl e) = subst P (sym e) (h 0 y (omega arith))
-all_in P (y ∷ ys) h x (inr i) = all_in P ys (All-tail P y ys h) x i
-
 in_at : {A : Type 0} (xs : List A) (k : ℕ) (d : A) → k < length xs → In (get_or xs k d) xs
 in_at [] k d lt = absurd (omega arith)
 in_at (x ∷ xs) zero d lt = inl refl
