@@ -7,4 +7,3 @@ pub mod OwnCalls
 pub mod Prunes
 pub mod OwnSends
 pub mod Recording
-pub mod Rightful

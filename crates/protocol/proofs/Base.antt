@@ -3,6 +3,7 @@ use Rattle.std.proofs.Common.{◌≡◌, ◌≢◌, ℕ, suc, zero, ◌+◌, Lis
 use Rattle.std.proofs.lemmas.Bool.{ne_eqb, cases_eq, and_parts, eqb-true, cases_Bool}
 use Rattle.std.proofs.lemmas.Bool.Decides.{nat_tests}
 use Rattle.std.proofs.lemmas.Slice.Eq.{bytes_eq-Decides}
+use Rattle.std.specs.Prelude.{All}
 use Rattle.std.specs.List.{list_any}
 pub use Rattle.lists.proofs.Places.{get_front}
 use Rattle.std.specs.Option.{option_eq}

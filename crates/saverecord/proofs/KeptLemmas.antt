@@ -24,7 +24,7 @@ use Rattle.protocol.specs.Names.{Slot, slot_eq, is_shared, is_private, NodeId, W
 use Rattle.protocol.specs.Machine.{LineVersion}
 use Rattle.protocol.specs.Ledger.{Lease, has_slot}
 use Rattle.protocol.specs.Lawful.{IsNumber, AreAsked, want_of, IsHolder, AreApart, AllApart}
-use Rattle.protocol.proofs.Base.{true_false, eqb_same, slot_eq_same, any_in, in_map, from_filter}
+use Rattle.protocol.proofs.Base.{all_in, true_false, eqb_same, slot_eq_same, any_in, in_map, from_filter}
 use Rattle.farm_base.specs.declared.limits.TheConstants.{NODES}
 use Rattle.versions.specs.declared.lines.SlotLine.{SlotLine}
 use Rattle.versions.specs.Line.{IsLine}
@@ -33,7 +33,7 @@ use Rattle.saverecord.specs.declared.record.Record.{Record}
 use Rattle.saverecord.specs.Relations.{no_two, versions_up_to, shares, is_same_ask, clash, has_retired, is_same_private, is_tenured, some_shared, is_above_line, fits_record, agrees}
 use Rattle.saverecord.specs.Fits.{IsNode, IsHome, IsNodeLife, IsLease, IsVersion, IsSlotLine, HasParts}
 use Rattle.saverecord.specs.Ledgers.{IsKept, KeptIsRecord}
-use Rattle.saverecord.proofs.LedgerLemmas.{all_in, all_from_in, each_in, each_from_in, passes_from_in, none_from_in, life_in, line_in, same_ask}
+use Rattle.saverecord.proofs.LedgerLemmas.{all_from_in, each_in, each_from_in, passes_from_in, none_from_in, life_in, line_in, same_ask}
 
 -- ---- leases
 

@@ -16,7 +16,7 @@ use Rattle.lists.proofs.Rising.{less-from_cmp}
 use Rattle.protocol.specs.Lists.{In}
 use Rattle.protocol.specs.Names.{Slot, slot_eq}
 use Rattle.protocol.specs.Ledger.{Lease, is_of}
-use Rattle.protocol.proofs.Base.{eqb_same, in_map, slot_eq_is}
+use Rattle.protocol.proofs.Base.{all_in, eqb_same, in_map, slot_eq_is}
 use Rattle.protocol.proofs.Leases.{flip_false}
 use Rattle.versions.specs.declared.lines.SlotLine.{SlotLine}
 use Rattle.versions.specs.Lines.{line_at}

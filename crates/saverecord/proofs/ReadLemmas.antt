@@ -24,7 +24,7 @@ use Rattle.protocol.specs.Names.{Slot, slot_eq, Mode, Shared, Private, Locked, i
 use Rattle.protocol.specs.Machine.{LineVersion}
 use Rattle.protocol.specs.Ledger.{Lease, has_slot}
 use Rattle.protocol.specs.Lawful.{IsNumber, AreAsked, want_of, IsHolder, AllApart, IsCore}
-use Rattle.protocol.proofs.Base.{true_false, some_is, none_some, slot_eq_is, in_map, from_any, any_none}
+use Rattle.protocol.proofs.Base.{all_in, true_false, some_is, none_some, slot_eq_is, in_map, from_any, any_none}
 use Rattle.protocol.proofs.Moving.{all_in as each_passes}
 use Rattle.versions.specs.declared.lines.SlotLine.{SlotLine}
 use Rattle.versions.specs.Line.{IsLine}
@@ -33,7 +33,7 @@ use Rattle.saverecord.specs.declared.record.Record.{Record}
 use Rattle.saverecord.specs.Relations.{no_two, versions_up_to, lines_up_to, tickets_up_to, lives_there, shares, is_same_ask, clash, has_retired, is_same_private, is_tenured, some_shared, fits_tenure, is_gone, is_above_line, is_above_lines, fits_record, agrees}
 use Rattle.saverecord.specs.Fits.{IsNode, IsHome, IsNodeLife, IsLease, IsVersion, IsSlotLine, IsRecord}
 use Rattle.saverecord.specs.Ledgers.{ledger_of, IsKept, HasInstance, HasInstances, RecordIsKept}
-use Rattle.saverecord.proofs.LedgerLemmas.{all_in, all_from_in, each_in, life_in, life_from, line_from, same_ask}
+use Rattle.saverecord.proofs.LedgerLemmas.{all_from_in, each_in, life_in, life_from, line_from, same_ask}
 
 -- ---- the slots of a lease
 

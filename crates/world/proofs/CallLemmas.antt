@@ -1,5 +1,5 @@
 -- What an operator's call does in the farm.
-use Rattle.std.proofs.Common.{◌≡◌, ℕ, ◌≤◌, ◌++◌, List, length, map, None, Result, Ok, Err, refl, sym, ap, ◌∙◌, subst}
+use Rattle.std.proofs.Common.{◌≡◌, ℕ, ◌≤◌, ◌++◌, false, List, length, map, None, Result, Ok, Err, refl, sym, ap, ◌∙◌, subst}
 use Rattle.protocol.specs.Machine.{Message, Told}
 use Rattle.protocol.specs.Ledger.{Ledger, Work, saves}
 use Rattle.protocol.specs.Replay.{Farm, coordinated}

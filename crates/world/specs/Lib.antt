@@ -5,4 +5,3 @@ pub mod Setups
 pub mod Replays
 pub mod Printing
 pub mod Meanings
-pub mod Worlds

@@ -32,7 +32,7 @@ abbrev pub from_node : NodeRefusal → EventRefusal
 from_node node.OutOfMemory = refusal.OutOfMemory
 from_node e = refusal.Node e
 
--- there is room for what the message makes its receiver send; a room beyond a machine's numbers isn't looked at
+-- there is room for what the message makes its receiver send; a room that is no machine's number isn't looked at
 abbrev pub FitsIn : Farm → Message → ℕ → Type 0
 FitsIn s (ToCoord y) room = length (handled farm_limits y (begin_work s.ledger)).sends ≤ room
 FitsIn s (ToNode m) room = is_node s (receiver m) ≡ true → room < 0xffff_ffff_ffff_ffff → length (message_work (at s (receiver m)) (s.nodes (receiver m).0) m).sends ≤ room

@@ -4,7 +4,6 @@
 mod call;
 mod laws;
 mod nodes;
-mod parts;
 mod pool;
 mod printing;
 mod replaying;

@@ -3,6 +3,7 @@ ghost use Rattle.std.specs.String.{string_bytes};
 ghost use Rattle.schedule.specs.Printing.{line_text};
 ghost use Rattle.world.specs.Printing.{ArePrinted, lines_of};
 ghost use Rattle.coordinator.specs.Held.{ledger};
+ghost use Rattle.world.specs.Shown.{shown};
 
 use super::world::World;
 use coordinator::Coordinator;
@@ -35,7 +36,7 @@ fn lines_of(alloc: Global, coordinator: &Coordinator, slots: &[Slot]) -> Result<
 
 /// The lines of versions: one for each slot that has a version, in the slots' order.
 pub fn print_lines(alloc: Global, world: &World) -> Result<String, AllocError>
-    ensures { IfOk result (λ text. ArePrinted world.now.ledger.line (string_bytes text)) }
+    ensures { IfOk result (λ text. ArePrinted (shown world.now).ledger.line (string_bytes text)) }
 {
     let coordinator = world.coordinator();
     let slots = coordinator.slots(alloc)?;

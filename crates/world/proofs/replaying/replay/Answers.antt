@@ -6,14 +6,15 @@ use Rattle.protocol.specs.Follows.{SafeAfter}
 use Rattle.protocol.specs.Replay.{opening, run}
 use Rattle.schedule.specs.declared.event.Event.{Event}
 use Rattle.schedule.specs.Events.{event_of}
+use Rattle.world.specs.Shown.{shown}
 use Rattle.world.proofs.LimitLemmas.{is_farm}
 use Rattle.world.proofs.replaying.replay.Goals as goal
 
 pub returns-clause-safe : goal.returns-clause-safe
 returns-clause-safe c =
     let none : drop c.loop-place.place c.args.events.now ≡ [] = grind (arith, common_steps) in
-    let is : c.loop-place.world ≡ run content_digest farm_limits (map event_of c.args.events.now) (opening content_digest c.args.setup.nodes) =
-    ap (λ (l : List Event). run content_digest farm_limits (map event_of l) c.loop-place.world) (sym none) ∙ c.loop-place.invariant in
+    let is : shown c.loop-place.world ≡ run content_digest farm_limits (map event_of c.args.events.now) (opening content_digest c.args.setup.nodes) =
+    ap (λ (l : List Event). run content_digest farm_limits (map event_of l) (shown c.loop-place.world)) (sym none) ∙ c.loop-place.invariant in
     subst (SafeAfter content_digest) (sym is) (c.every_schedule_is_safe.ensures.safe content_digest farm_limits is_farm c.args.setup.nodes (map event_of c.args.events.now))
 
 pub returns-clause-stays : goal.returns-clause-stays

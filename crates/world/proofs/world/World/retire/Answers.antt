@@ -13,10 +13,8 @@ use Rattle.coordinator.specs.Held.{ledger}
 use Rattle.farm_base.specs.declared.message.Message as sent
 use Rattle.world.specs.Shown.{shown}
 use Rattle.world.specs.Turns.{first_number}
-use Rattle.farm_base.specs.declared.limits.TheConstants.{NODES}
-use Rattle.protocol.proofs.LawfulFarms.{number_of}
 use Rattle.world.proofs.CallLemmas.{sends_fit, call_done}
-use Rattle.world.proofs.parts.Parts.retire.Goals as goal
+use Rattle.world.proofs.world.World.retire.Goals as goal
 
 pub send_coordinator-requires : goal.send_coordinator-requires
 send_coordinator-requires c =
@@ -35,8 +33,3 @@ returns-in-Ok c =
     ∙ call_done s r (ledger c.retire.new.self) c.send_coordinator.new.pool.items c.in-Ok.handled c.send_coordinator.result refl refl refl c.in-Ok.ensures.told c.in-Ok.ensures.answer
     (c.send_coordinator.ensures.pool ∙ ap (λ (l : List sent.Message). l ++ map Told c.in-Ok.handled.sends) same)
     (c.send_coordinator.ensures.outcome ∙ ap (λ (k : ℕ). record { note = note.Coord c.in-Ok.handled.note; first = first_number k (length c.in-Ok.handled.sends); sent = length c.in-Ok.handled.sends }) (ap length same))
-
-pub retire-requires : goal.retire-requires
-retire-requires c =
-    let here : is_node (shown c.args.self.now) c.args.node ≡ true = search rules in
-    number_of NODES (shown c.args.self.now) c.args.node c.requires here

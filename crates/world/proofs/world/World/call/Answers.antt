@@ -10,7 +10,7 @@ use Rattle.world.specs.Turns.{Came}
 use Rattle.world.specs.Shown.{shown}
 use Rattle.world.proofs.FewLemmas.{few}
 use Rattle.world.proofs.TurnLemmas.{came_refused, unmoved}
-use Rattle.world.proofs.parts.Parts.call.Goals as goal
+use Rattle.world.proofs.world.World.call.Goals as goal
 
 pub send_node-requires : goal.send_node-requires
 send_node-requires c =

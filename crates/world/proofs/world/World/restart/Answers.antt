@@ -7,7 +7,7 @@ use Rattle.world.specs.Tables.{seat, node_at, Restarts}
 use Rattle.world.specs.Turns.{Came, restarting}
 use Rattle.world.specs.Shown.{shown}
 use Rattle.world.proofs.TurnLemmas.{came_stopped, unmoved, moved_to}
-use Rattle.world.proofs.parts.Parts.restart.Goals as goal
+use Rattle.world.proofs.world.World.restart.Goals as goal
 
 pub returns-in-Err : goal.returns-in-Err
 returns-in-Err c =

@@ -17,12 +17,11 @@ use Rattle.nodecore.specs.Shown.{Answers, message_work}
 use Rattle.world.specs.Tables.{seat, node_at}
 use Rattle.world.specs.Turns.{Came, FitsIn, first_number, from_node}
 use Rattle.world.specs.Shown.{shown}
-use Rattle.protocol.proofs.Base.{nth_in}
 use Rattle.world.proofs.FewLemmas.{heard_count}
 use Rattle.world.proofs.PoolLemmas.{found_at, same_read}
 use Rattle.world.proofs.TurnLemmas.{hears, came_none, came_done, came_refused, came_worked, unmoved, came_as}
 use Rattle.protocol.specs.Replay.{receiver}
-use Rattle.world.proofs.parts.Parts.deliver.Goals as goal
+use Rattle.world.proofs.world.World.deliver.Goals as goal
 
 pub returns-in_default-hear : goal.returns-in_default-hear
 returns-in_default-hear c =
@@ -117,12 +116,3 @@ returns-in-Ok c =
     ∙ came_worked s (handled farm_limits y (begin_work s.ledger)) _ c.send_coordinator.new.pool.items c.in-Ok.handled.sends c.in-Ok.handled.note c.send_coordinator.result refl refl c.in-Ok.ensures.told c.in-Ok.ensures.ledger c.in-Ok.ensures.sends c.in-Ok.ensures.note
     (c.send_coordinator.ensures.pool ∙ ap (λ (l : List sent.Message). l ++ map Told c.in-Ok.handled.sends) same)
     (c.send_coordinator.ensures.outcome ∙ ap (λ (k : ℕ). record { note = note.Coord c.in-Ok.handled.note; first = first_number k (length c.in-Ok.handled.sends); sent = length c.in-Ok.handled.sends }) (ap length same))
-
-pub handle-requires : goal.handle-requires
-handle-requires c =
-    let pool : List sent.Message = c.args.self.now.pool.items in
-    let inside : c.in-Some.place < length pool = omega (arith, c.in-Some.ensures.inside) in
-    let same : c.reserve.new.self.items ≡ pool = c.reserve.ensures.items in
-    let y : ToCoord = c.in-ToCoord.message in
-    let here : nth pool c.args.number ≡ Some (Said y) = found_at pool c.reserve.new.self.items c.args.number c.in-Some.place c.index-2.result.now (message.ToCoord y) same c.in-Some.ensures.found inside (search rules) c.in-ToCoord.is in
-    c.requires.pool (Said y) (nth_in pool c.args.number (Said y) here)
