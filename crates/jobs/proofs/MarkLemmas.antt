@@ -1,22 +1,18 @@
 -- Marks on keys that fail.
-use Rattle.std.proofs.Common.{◌≡◌, ℕ, ◌+◌, ◌<◌, inl, inr, Bool, true, false, not, List, map, length, set, get_or, Option, Some, None, slice_get, refl, ap, sym, ◌∙◌, subst, arith, is_some, Bor}
+use Rattle.std.proofs.Common.{◌≡◌, ℕ, ◌<◌, Bool, true, false, not, List, map, length, get_or, Option, Some, None, slice_get, refl, ap, sym, ◌∙◌, subst, is_some, Bor}
 use Rattle.std.specs.Option.{option_copied}
-use Rattle.std.specs.Bool.{OnTrue, OnFalse, MatchBool}
+use Rattle.std.specs.Bool.{MatchBool}
 use Rattle.std.specs.List.{Contains, IsDistinct}
-use Rattle.std.proofs.lemmas.Bool.{cases_eq}
-use Rattle.std.proofs.lemmas.List.{get_or-set_same, get_or-set_other}
-use Rattle.std.proofs.lemmas.Option.{slice_get_within, get_or_from_slice_get, slice_get_read}
+use Rattle.std.proofs.lemmas.Option.{get_or_from_slice_get, slice_get_read}
 use Rattle.lists.proofs.Places.{some_is}
 use Rattle.farm_base.specs.declared.digest.Digest.{Digest}
 use Rattle.farm_base.specs.declared.digest.Key.{Key}
 use Rattle.vertices.specs.Flags.{flag_at}
-use Rattle.vertices.specs.Sorting.{open_count}
-use Rattle.vertices.proofs.SortingLemmas.{fewer_open}
 use Rattle.jobs.specs.declared.entry.Entry.{Entry}
 use Rattle.jobs.specs.declared.entry.Progress.TheVariants.{Out, Done}
 use Rattle.jobs.specs.declared.table.Table.{Table}
 use Rattle.jobs.specs.Failing.{IsSubmitted, LacksOutput, Fails, called, input_fails, input_lacks}
-use Rattle.jobs.specs.Marks.{IsMarked, IsLost, is_marked, is_lacking, HasLost, MarksFail, MarksLost, AreMarks}
+use Rattle.jobs.specs.Marks.{IsMarked, IsLost, is_marked, is_lacking, HasLost, MarksFail, AreMarks}
 use Rattle.jobs.specs.Tables.{key_eq, key_of, IsTable}
 use Rattle.jobs.proofs.TableLemmas.{one_number}
 

@@ -1,9 +1,8 @@
 -- What a key's progress changes.
-use Rattle.std.proofs.Common.{◌≡◌, ℕ, zero, suc, ◌<◌, ◌⊎◌, inl, inr, Bool, true, false, List, [], ◌∷◌, ◌++◌, map, length, take, drop, set, Some, slice_get, refl, ap, sym, ◌∙◌, subst, arith}
+use Rattle.std.proofs.Common.{◌≡◌, ℕ, zero, suc, inl, inr, Bool, true, List, [], ◌∷◌, ◌++◌, map, length, take, drop, set, Some, slice_get, refl, ap, sym, ◌∙◌, subst, arith}
 use Rattle.std.specs.List.{Contains}
 use Rattle.std.proofs.lemmas.Bool.{cases_eq}
-use Rattle.std.proofs.lemmas.List.{length-set, get_or-set_same, get_or-set_other, take-append-le, take_all}
-use Rattle.std.proofs.lemmas.Option.{slice_get_within}
+use Rattle.std.proofs.lemmas.List.{take-append-le, take_all}
 use Rattle.lists.proofs.Places.{get-set_same, get-set_other, get_set_cases, some_is}
 use Rattle.farm_base.specs.declared.digest.Digest.{Digest}
 use Rattle.farm_base.specs.declared.digest.Key.{Key}
@@ -11,9 +10,9 @@ use Rattle.vertices.specs.Flags.{flag_at}
 use Rattle.jobs.specs.declared.entry.Entry.{Entry}
 use Rattle.jobs.specs.declared.entry.Fault.{Fault}
 use Rattle.jobs.specs.declared.entry.Progress.{Progress}
-use Rattle.jobs.specs.declared.entry.Progress.TheVariants.{Out, Done, Failed}
+use Rattle.jobs.specs.declared.entry.Progress.TheVariants.{Done, Failed}
 use Rattle.jobs.specs.Failing.{IsSubmitted, IsDone, LacksOutput, HasOutput, Fails, called, input_fails, input_lacks}
-use Rattle.jobs.specs.Marks.{MarksFail, MarksCalled, MarksLost, AreMarks, KeepsMarks}
+use Rattle.jobs.specs.Marks.{MarksFail, MarksCalled, KeepsMarks}
 use Rattle.jobs.specs.Tables.{key_of}
 
 -- the keys stay where one entry keeps its key

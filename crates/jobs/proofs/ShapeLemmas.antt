@@ -1,16 +1,14 @@
 -- The users' lists where entries change, and which keys that makes ready.
-use Rattle.std.proofs.Common.{◌≡◌, ℕ, ◌+◌, ◌<◌, ◌⊎◌, inl, inr, List, [], ◌∷◌, ◌++◌, map, length, set, Some, slice_get, refl, ap, sym, ◌∙◌, subst, arith}
+use Rattle.std.proofs.Common.{◌≡◌, ℕ, ◌<◌, ◌⊎◌, inl, inr, List, [], ◌∷◌, map, length, set, Some, slice_get, refl, ap, sym, ◌∙◌, subst, arith}
 use Rattle.std.specs.List.{Contains, IsDistinct}
 use Rattle.std.proofs.lemmas.Bool.{cases_eq}
-use Rattle.std.proofs.lemmas.Option.{slice_get_within}
 use Rattle.farm_base.specs.declared.digest.Digest.{Digest}
 use Rattle.farm_base.specs.declared.digest.Key.{Key}
 use Rattle.lists.proofs.Places.{get-set_same, get-set_other, get_set_cases, some_is, at_place, Contains-cases, Contains-head, Contains-tail}
 use Rattle.vertices.specs.Loading.{GraphParts}
 use Rattle.jobs.specs.declared.entry.Entry.{Entry}
 use Rattle.jobs.specs.declared.entry.Progress.{Progress}
-use Rattle.jobs.specs.declared.entry.Progress.TheVariants.{Waiting, Out, Done}
-use Rattle.jobs.specs.declared.users.Link.{Link}
+use Rattle.jobs.specs.declared.entry.Progress.TheVariants.{Waiting, Out}
 use Rattle.jobs.specs.declared.users.Users.{Users}
 use Rattle.jobs.specs.Adding.{AreAdded}
 use Rattle.jobs.specs.Failing.{HasOutput, AreThere}

@@ -1,11 +1,10 @@
 -- Marks that spread from a key to its users.
 use Rattle.std.proofs.Common.{◌≡◌, ◌≢◌, ℕ, ◌+◌, ◌<◌, ◌≤◌, ◌⊎◌, inl, inr, Bool, true, false, not, List, [], ◌∷◌, ◌++◌, length, set, get_or, Option, Some, None, slice_get, is_some, Bor, refl, ap, sym, ◌∙◌, subst, arith}
 use Rattle.std.specs.Option.{option_copied}
-use Rattle.std.specs.List.{Contains, IsDistinct}
+use Rattle.std.specs.List.{Contains}
 use Rattle.std.proofs.lemmas.Bool.{cases_eq}
 use Rattle.std.proofs.lemmas.List.{length-set, get_or-set_same, get_or-set_other}
 use Rattle.std.proofs.lemmas.List.Elements.{Contains-append_left, Contains-push, Contains-push_cases}
-use Rattle.std.proofs.lemmas.Option.{slice_get_within}
 use Rattle.farm_base.specs.declared.digest.Digest.{Digest}
 use Rattle.farm_base.specs.declared.digest.Key.{Key}
 use Rattle.lists.proofs.Places.{some_is, get-set_same, get_set_cases}
@@ -16,12 +15,12 @@ use Rattle.jobs.specs.declared.entry.Progress.{Progress}
 use Rattle.jobs.specs.declared.entry.Progress.TheVariants.{Out, Done, Failed}
 use Rattle.jobs.specs.declared.users.Link.{Link}
 use Rattle.jobs.specs.declared.users.Users.{Users}
-use Rattle.jobs.specs.Failing.{IsSubmitted, LacksOutput, Fails, called, input_fails, input_lacks}
-use Rattle.jobs.specs.Marks.{IsMarked, IsLost, is_marked, is_lacking, HasLost, MarksFail, MarksCalled, MarksLost, AreMarks, KeepsMarks}
+use Rattle.jobs.specs.Failing.{LacksOutput, Fails, called, input_fails, input_lacks}
+use Rattle.jobs.specs.Marks.{IsLost, is_marked, is_lacking, HasLost, MarksFail, MarksCalled, AreMarks, KeepsMarks}
 use Rattle.jobs.specs.Spreading.{GetsMark, marked, takes, Lacks, Marking, AreSpread}
-use Rattle.jobs.specs.Users.{IsUser, IsInput, AreUsers}
+use Rattle.jobs.specs.Users.{IsUser, AreUsers}
 use Rattle.jobs.proofs.MarkLemmas.{lost_fails, read_at}
-use Rattle.jobs.proofs.ProgressLemmas.{Grows, moved_grows, moved_fail, moved_called, called_keeps}
+use Rattle.jobs.proofs.ProgressLemmas.{moved_grows, moved_fail, called_keeps}
 use Rattle.jobs.proofs.UserLemmas.{user_done}
 
 -- ---- more marks

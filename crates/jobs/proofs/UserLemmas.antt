@@ -1,5 +1,5 @@
 -- The lists of those that take the outputs of a key.
-use Rattle.std.proofs.Common.{◌≡◌, ℕ, zero, suc, ◌+◌, ◌-◌, ◌<◌, ◌≤◌, ◌⊎◌, inl, inr, List, [], ◌∷◌, ◌++◌, map, length, take, set, replicate, get_or, Option, Some, None, Result, Ok, is_ok, if◌then◌else◌, slice_get, refl, ap, sym, ◌∙◌, subst, arith, append_assoc}
+use Rattle.std.proofs.Common.{◌≡◌, ℕ, zero, suc, ◌+◌, ◌-◌, ◌<◌, ◌≤◌, inl, inr, List, [], ◌∷◌, ◌++◌, map, length, take, set, replicate, get_or, Option, Some, None, Result, Ok, is_ok, if◌then◌else◌, slice_get, refl, ap, sym, ◌∙◌, subst, arith, append_assoc}
 use Rattle.std.specs.List.{Contains, IsDistinct}
 use Rattle.std.specs.declared.alloc.Global.{Global}
 use Rattle.std.specs.declared.vec.Vec.{Vec}
@@ -8,7 +8,7 @@ use Rattle.std.proofs.lemmas.List.{length-set, length-append, length-replicate, 
 use Rattle.std.proofs.lemmas.List.Elements.{Contains-append_left, Contains-push, Contains-get_or}
 use Rattle.std.proofs.lemmas.Option.{slice_get_within, slice_get-get_or, slice_get_read}
 use Rattle.farm_base.specs.declared.digest.Key.{Key}
-use Rattle.lists.proofs.Places.{some_is, at_place, at_Contains, get_push_cases, get_front}
+use Rattle.lists.proofs.Places.{some_is, at_Contains, get_push_cases, get_front}
 use Rattle.jobs.specs.declared.entry.Entry.{Entry}
 use Rattle.jobs.specs.declared.users.Link.{Link}
 use Rattle.jobs.specs.declared.users.Users.{Users}

@@ -148,7 +148,9 @@ pub(crate) fn extend(
     ensures err { OnErr result (table.new.entries.items ≡ table.old.entries.items) }
 {
     let count = table.entries.len();
-    match grow(alloc, table, users, marks, todo, ready, graph, keys, reached) {
+    match grow(
+        alloc, table, users, marks, todo, ready, graph, keys, reached,
+    ) {
         Ok(()) => {
             let flags = marks.as_mut_slice();
             mark_new(table, flags, todo, count);

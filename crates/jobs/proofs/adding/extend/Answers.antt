@@ -1,5 +1,4 @@
-use Rattle.std.proofs.Common.{◌≡◌, ap, sym, subst, ◌∙◌, List, Bool, length, arith, inl, inr, ℕ}
-use Rattle.std.specs.List.{Contains}
+use Rattle.std.proofs.Common.{◌≡◌, ap, sym, subst, ◌∙◌, List, Bool, length, arith}
 use Rattle.jobs.specs.Marks.{AreMarks, MarksFail}
 use Rattle.jobs.specs.Spreading.{Marking}
 use Rattle.jobs.proofs.AddLemmas.{added_marks, added_users, added_list, added_right, between_size, listed_back}

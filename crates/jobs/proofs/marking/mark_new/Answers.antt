@@ -1,4 +1,4 @@
-use Rattle.std.proofs.Common.{◌≡◌, ◌∙◌, refl, length, sym, ap, arith, inl, inr, rules}
+use Rattle.std.proofs.Common.{◌∙◌, refl, arith, inl, inr, rules}
 use Rattle.std.proofs.lemmas.Option.{slice_get_within}
 use Rattle.jobs.specs.Marks.{HasLost}
 use Rattle.jobs.proofs.MarkLemmas.{entry_at, of_slice, to_slice}

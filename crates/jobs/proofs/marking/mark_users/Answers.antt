@@ -1,11 +1,9 @@
-use Rattle.std.proofs.Common.{◌≡◌, ◌<◌, Some, None, refl, ap, sym, subst, ◌∙◌, arith, length, ℕ, true, slice_get, inl, inr}
-use Rattle.std.proofs.lemmas.Option.{slice_get_read}
+use Rattle.std.proofs.Common.{◌≡◌, Some, None, ap, sym, subst, ◌∙◌, arith, ℕ, true, slice_get, inl, inr}
 use Rattle.lists.proofs.Places.{some_is}
 use Rattle.vertices.specs.Flags.{flag_at}
 use Rattle.jobs.specs.declared.users.Link.{Link}
-use Rattle.jobs.specs.Spreading.{Lacks}
 use Rattle.jobs.proofs.SpreadLemmas.{marking_join, output_missing, output_there}
-use Rattle.jobs.proofs.UserLemmas.{IsWalking, walk_at, walk_step, walk_more, walk_last, last_below, steps_left, place_within, link_there, before_is}
+use Rattle.jobs.proofs.UserLemmas.{walk_at, walk_step, walk_more, walk_last, last_below, steps_left, place_within, link_there, before_is}
 use Rattle.jobs.proofs.marking.mark_users.Goals as goal
 use Rattle.jobs.proofs.marking.mark_users.Goals.{then-is_none, else-is_none}
 

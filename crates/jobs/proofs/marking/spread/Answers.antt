@@ -1,4 +1,4 @@
-use Rattle.std.proofs.Common.{◌≡◌, ◌∙◌, length, refl, arith}
+use Rattle.std.proofs.Common.{◌∙◌, refl, arith}
 use Rattle.jobs.specs.Spreading.{marked}
 use Rattle.jobs.proofs.ReachLemmas.{flag_within}
 use Rattle.jobs.proofs.SpreadLemmas.{spread_step, spread_marked, spread_only, popped_marked, marking_none}

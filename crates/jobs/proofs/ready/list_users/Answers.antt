@@ -1,13 +1,9 @@
-use Rattle.std.proofs.Common.{◌≡◌, ◌<◌, Some, None, refl, ap, sym, subst, ◌∙◌, arith, length, ℕ, Option, get_or, slice_get, inl, inr}
+use Rattle.std.proofs.Common.{◌≡◌, Some, ap, arith, inl, inr}
 use Rattle.std.specs.List.{Contains}
-use Rattle.std.proofs.lemmas.List.{get_or_default}
-use Rattle.std.proofs.lemmas.Option.{slice_get_within, slice_get_read}
 use Rattle.jobs.specs.declared.users.Link.{Link}
-use Rattle.jobs.specs.declared.users.Users.{Users}
 use Rattle.jobs.specs.ReadyLists.{IsReadyAt, listed}
-use Rattle.jobs.specs.Users.{AreUsers}
 use Rattle.jobs.proofs.ReadyLemmas.{ready_met, ready_unmet}
-use Rattle.jobs.proofs.UserLemmas.{IsWalking, walk_at, walk_step, walk_more, walk_last, last_below, steps_left, place_within, link_there, user_within, before_is, user_done}
+use Rattle.jobs.proofs.UserLemmas.{walk_step, walk_more, walk_last, last_below, steps_left, place_within, link_there, user_within, before_is, user_done}
 use Rattle.jobs.proofs.ready.list_users.Goals as goal
 use Rattle.jobs.proofs.ready.list_users.Goals.{then-is_ready, else-is_ready}
 

@@ -1,6 +1,5 @@
-use Rattle.std.proofs.Common.{◌≡◌, inl, inr, ap, sym, ◌∙◌, arith, length}
+use Rattle.std.proofs.Common.{inl, inr, ap, sym, ◌∙◌, arith, length}
 use Rattle.std.proofs.lemmas.List.{length-set}
-use Rattle.std.proofs.lemmas.Option.{slice_get_within}
 use Rattle.jobs.proofs.MarkLemmas.{distinct}
 use Rattle.jobs.proofs.ShapeLemmas.{users_moved, closed_moved, ready_cases}
 use Rattle.jobs.proofs.StayLemmas.{list_moved, finished_right}

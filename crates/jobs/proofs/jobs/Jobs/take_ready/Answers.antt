@@ -1,4 +1,4 @@
-use Rattle.std.proofs.Common.{◌≡◌, Some, ap, sym, subst, ◌∙◌, arith, length, slice_get}
+use Rattle.std.proofs.Common.{ap, sym, subst, ◌∙◌, arith, length}
 use Rattle.std.proofs.lemmas.List.{length-set}
 use Rattle.jobs.specs.declared.entry.Progress.TheVariants.{Out}
 use Rattle.std.proofs.lemmas.Option.{slice_get_within}

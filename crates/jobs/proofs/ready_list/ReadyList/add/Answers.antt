@@ -1,4 +1,4 @@
-use Rattle.std.proofs.Common.{◌+◌, ap, drop, length, ◌≤◌, ◌<◌, arith, refl, ◌∙◌}
+use Rattle.std.proofs.Common.{◌+◌, ap, drop, arith, refl, ◌∙◌}
 use Rattle.std.proofs.lemmas.List.{length-drop, take_rest}
 use Rattle.std.proofs.lemmas.Option.{slice_get_within}
 use Rattle.jobs.specs.declared.entry.Entry.{Entry}

@@ -1,4 +1,4 @@
-use Rattle.std.proofs.Common.{◌≡◌, Some, None, refl, ap, sym, subst, ◌∙◌, arith, length, ℕ, get_or, slice_get}
+use Rattle.std.proofs.Common.{◌≡◌, Some, None, refl, subst, ◌∙◌, arith, length, ℕ, get_or, slice_get}
 use Rattle.std.proofs.lemmas.List.{get_or_default}
 use Rattle.std.proofs.lemmas.Option.{slice_get_read}
 use Rattle.jobs.proofs.UserLemmas.{linked_next, pushed}

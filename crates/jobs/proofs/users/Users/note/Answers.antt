@@ -1,6 +1,4 @@
-use Rattle.std.proofs.Common.{◌≡◌, ◌++◌, ◌∷◌, [], ap, sym, subst, ◌∙◌, arith, append_assoc, List}
-use Rattle.std.proofs.lemmas.Option.{slice_get_within}
-use Rattle.jobs.specs.Adding.{BeginsWith}
+use Rattle.std.proofs.Common.{ap, sym, subst, ◌∙◌, List}
 use Rattle.jobs.specs.Users.{AreInputs}
 use Rattle.jobs.specs.declared.users.Link.{Link}
 use Rattle.jobs.specs.declared.entry.Entry.{Entry}
