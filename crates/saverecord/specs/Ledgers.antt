@@ -1,5 +1,5 @@
 -- The ledger that a record keeps (docs/PROTOCOL.md, "The record"). The rules are this project's own.
-use Rattle.std.specs.Prelude.{◌≡◌, ◌≤◌, Bool, List, [], map, All, Ok}
+use Rattle.std.specs.Prelude.{◌≡◌, ℕ, ◌≤◌, Bool, List, [], map, All, Ok}
 use Rattle.std.specs.List.Sorted.{IsStrictlyIncreasing, IsStrictlySortedBy}
 use Rattle.farm_base.specs.declared.limits.TheConstants.{NODES}
 use Rattle.farm_base.specs.Digests.{IsBytes}
