@@ -31,9 +31,13 @@ pub record HasHeadline (setup : Setup) (events : List Event) : Type 0 where
   pub chronicle : Chronicle content_digest farm_limits events (opening content_digest setup.nodes) (start content_digest)
   pub headline : KeepsHeadline setup.nodes events
 
--- the bytes spell a schedule, this is what is printed for it, and the headline holds of it
+-- the bytes spell a schedule, and this is what is printed for it
 abbrev pub IsReplayed : List ℕ → List ℕ → Type 0
-IsReplayed bytes text = (setup : Setup) × (events : List said.Event) × schedule.IsSchedule bytes setup events × IsReplayOf setup (map event_of events) text × HasHeadline setup (map event_of events)
+IsReplayed bytes text = (setup : Setup) × (events : List said.Event) × schedule.IsSchedule bytes setup events × IsReplayOf setup (map event_of events) text
+
+-- the headline holds of the schedule that the bytes spell
+abbrev pub TellsHeadline : List ℕ → Type 0
+TellsHeadline bytes = (setup : Setup) (events : List said.Event) → schedule.IsSchedule bytes setup events → HasHeadline setup (map event_of events)
 
 -- why the bytes don't spell a schedule: their first fault
 abbrev pub IsUnread : List ℕ → Failure → Type 0

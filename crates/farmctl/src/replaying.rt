@@ -7,7 +7,7 @@ ghost use Rattle.schedule.specs.Printing.{outcome_text};
 ghost use Rattle.protocol.specs.Replay.{run, step};
 ghost use Rattle.schedule.specs.Events.{event_of};
 ghost use Rattle.world.specs.Shown.{shown};
-ghost use Rattle.farmctl.specs.Replays.{events_text, IsReplayed, IsUnread};
+ghost use Rattle.farmctl.specs.Replays.{events_text, IsReplayed, IsUnread, TellsHeadline};
 
 use super::failure::Failure;
 use schedule::{Event, ScheduleRefusal, read_schedule};
@@ -51,6 +51,7 @@ fn event_lines(alloc: Global, world: &mut World, events: Vec<Event>) -> Result<S
 /// schedule has a chronicle, in which each event means what is printed of it, and the headline holds after each part.
 pub(crate) fn replayed(alloc: Global, bytes: &[u8]) -> Result<String, Failure>
     ensures printed { IfOk result (λ text. IsReplayed bytes.now (string_bytes text)) }
+    ensures headline { OnOk result (TellsHeadline bytes.now) }
     ensures refused { IfErr result (IsUnread bytes.now) }
 {
     let (setup, events) = match read_schedule(alloc, bytes) {
