@@ -1,5 +1,5 @@
 -- What a farm sends and keeps whose numbers are in their ranges: so what its coordinator keeps can be written down as a
--- record (docs/PROTOCOL.md, "The record"). The rules are this project's own.
+-- record (docs/PROOFS.md, "The record"). The rules are this project's own.
 use Rattle.std.specs.Prelude.{◌≡◌, ℕ, ◌≤◌, ◌<◌, Bool, true, false, List, [], ◌∷◌, map, Some, ⊤, Result, Ok, Err}
 use Rattle.farm_base.specs.Wanted.{IsWants}
 use Rattle.farm_base.specs.declared.message.Request.{Request}

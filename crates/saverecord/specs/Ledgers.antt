@@ -1,4 +1,4 @@
--- The ledger that a record keeps (docs/PROTOCOL.md, "The record"). The rules are this project's own.
+-- The ledger that a record keeps (docs/PROOFS.md, "The record"). The rules are this project's own.
 use Rattle.std.specs.Prelude.{◌≡◌, ℕ, ◌≤◌, Bool, List, [], map, All, Ok}
 use Rattle.std.specs.List.Sorted.{IsStrictlyIncreasing, IsStrictlySortedBy}
 use Rattle.farm_base.specs.declared.limits.TheConstants.{NODES}
