@@ -16,7 +16,7 @@ use Rattle.vertices.specs.Edges.{list_at}
 use Rattle.vertices.specs.Flags.{flag_at}
 use Rattle.vertices.specs.Loading.{GraphParts, IsGraph}
 use Rattle.vertices.proofs.ZipLemmas.{all_zip_back}
-use Rattle.vertices.proofs.GraphLemmas.{list_at-get}
+use Rattle.vertices.proofs.GraphLemmas.{list_at-get, edge_target}
 use Rattle.solverkeys.proofs.KeyLemmas.{edges_within}
 use Rattle.solverkeys.specs.GraphKeys.{TakesKeys}
 use Rattle.jobs.specs.declared.entry.Entry.{Entry}
@@ -35,7 +35,7 @@ use Rattle.jobs.specs.Kept.{AreKept, AreListed}
 use Rattle.jobs.specs.Marks.{MarksFail, MarksCalled, is_marked, is_lacking, AreMarks, KeepsMarks}
 use Rattle.jobs.proofs.ProgressLemmas.{Grows, fails_grows, called_keeps}
 use Rattle.jobs.specs.ReadyLists.{AreHandedRight, IsList, IsSameList, ListsAll, HasRoom}
-use Rattle.jobs.proofs.ReachLemmas.{flag_within, walk_more, target_at}
+use Rattle.jobs.proofs.ReachLemmas.{flag_within, walk_more}
 use Rattle.jobs.proofs.SpreadLemmas.{MarksLacking, whole_marks}
 use Rattle.jobs.proofs.StayLemmas.{list_stays, list_same, all_same, ready_stays, there_grows}
 use Rattle.jobs.proofs.TableLemmas.{key_same}
@@ -203,7 +203,7 @@ adding_closed g keys old n new h past within closed m e input at has = elim (app
       let c : Contains h.numbers z.0 = (k, slice_get_within h.numbers k z.0 z.1, get_or_from_slice_get h.numbers k z.0 z.0 z.1) in
       let i = at_Contains e.inputs input has in
       let t = all_zip_back (λ (edge : ℕ × ℕ) (taken : Key × ℕ). (slice_get keys edge.0 ≡ Some taken.0) × (taken.1 ≡ edge.1)) (list_at g.edges z.0) e.inputs i.0 input z.2.inputs i.1 in
-      let needed = walk_more g z.0 t.0.0 (h.only z.0 c).needed (target_at (list_at g.edges z.0) i.0 t.0 t.1) in
+      let needed = walk_more g z.0 t.0.0 (h.only z.0 c).needed (edge_target (list_at g.edges z.0) i.0 t.0 t.1) in
       let known = h.covered t.0.0 (let less = within t.0.0 needed in omega (arith, less, past)) needed in
       (known.entry, record { number = known.place; at = known.at; named = some_is known.entry.key input.0 (sym known.key ∙ t.2.0) }))
 ]

@@ -7,7 +7,7 @@ use Rattle.std.proofs.lemmas.List.Elements.{Contains-append_left, Contains-push,
 use Rattle.std.proofs.lemmas.List.Sums.{sum_by-set}
 use Rattle.std.proofs.lemmas.Option.{slice_get-get_or}
 use Rattle.solverkeys.proofs.KeyLemmas.{edges_within}
-use Rattle.lists.proofs.Places.{take_push, some_is, Contains-head, Contains-tail}
+use Rattle.lists.proofs.Places.{take_push}
 use Rattle.vertices.specs.Edges.{GoesTo, targets, list_at}
 use Rattle.vertices.specs.Flags.{flag_at}
 use Rattle.vertices.specs.Loading.{GraphParts, IsGraph}
@@ -93,12 +93,6 @@ module _ (old : List Bool) (todo : List ℕ) (es : List (ℕ × ℕ)) (new : Lis
 pub reach_more : (old : List Bool) (todo : List ℕ) (edges : List (ℕ × ℕ)) (k : ℕ) (e : ℕ × ℕ) (new : List Bool) (more : List ℕ) → slice_get edges k ≡ Some e
     → Reaching old todo (take k edges ++ e ∷ []) new more → Reaching old todo (take (k + 1) edges) new more
 reach_more old todo edges k e new more at h = subst (λ (es : List (ℕ × ℕ)). Reaching old todo es new more) (sym (take_push edges k e at)) h
-
--- the target of the edge at a place
-pub target_at : (es : List (ℕ × ℕ)) (k : ℕ) (e : ℕ × ℕ) → slice_get es k ≡ Some e → Contains (targets es) e.0
-target_at [] k e at = absurd (cc at)
-target_at (x ∷ es) zero e at = (let is : x ≡ e = some_is x e at in subst (λ (y : ℕ × ℕ). Contains (x.0 ∷ targets es) y.0) is (Contains-head x.0 (targets es)))
-target_at (x ∷ es) (suc k) e at = Contains-tail x.0 (targets es) e.0 (target_at es k e at)
 
 -- a walk with one more edge
 pub walk_more : (g : GraphParts) (number input : ℕ) → IsNeeded g number → GoesTo g.edges number input → IsNeeded g input
