@@ -7,3 +7,4 @@ pub mod OwnCalls
 pub mod Prunes
 pub mod OwnSends
 pub mod Recording
+pub mod Rightful

@@ -4,7 +4,7 @@ use Rattle.versions.specs.declared.lines.SlotLine.{SlotLine}
 use Rattle.coordinator.specs.declared.state.State.{State}
 use Rattle.coordinator.specs.Held.{Held, line_at}
 use Rattle.coordinator.specs.Shown.{kept}
-use Rattle.coordinator.specs.Sound.{IsSound}
+use Rattle.coordinator.specs.Sound.{IsRightful}
 
 abbrev pub held : State → List SlotLine → Held
 held s lines = record {
@@ -20,4 +20,4 @@ held s lines = record {
 }
 
 abbrev pub keeps_sound : State → List SlotLine → Type 0
-keeps_sound s lines = IsSound (kept (line_at lines) s)
+keeps_sound s lines = IsRightful (kept (line_at lines) s)

@@ -1,12 +1,14 @@
 -- What a ledger keeps to.
 use Rattle.std.specs.Prelude.{◌≤◌, List, All}
 use Rattle.farm_base.specs.Wanted.{IsWants}
+use Rattle.farm_base.specs.declared.limits.TheConstants.{NODES}
 use Rattle.farm_base.specs.declared.message.Request.{Request}
 use Rattle.farm_base.specs.declared.message.Request.TheVariants.{Hello, Acquire, Commit, Release}
 use Rattle.leases.specs.Leases.{AreLeases}
 pub use Rattle.leases.specs.Leases.{IsOpen}
 use Rattle.protocol.specs.Names.{Slot}
 use Rattle.protocol.specs.Ledger.{Ledger}
+use Rattle.protocol.specs.Lawful.{IsLawful}
 
 pub record IsSound (q : Ledger) : Type 0 where
   pub leases : AreLeases q.live
@@ -15,6 +17,11 @@ pub record IsSound (q : Ledger) : Type 0 where
   pub past : (s : Slot) → All (λ v. v.ticket.0 ≤ q.last) (q.line s)
   pub ahead : All (IsOpen q.line) q.live
   pub asks : All (λ p. IsWants p.wants) q.parked
+
+-- a ledger that the coordinator may keep: a record can be written of it
+pub record IsRightful (q : Ledger) : Type 0 where
+  pub sound : IsSound q
+  pub lawful : IsLawful NODES q
 
 -- what each request of the program is
 abbrev pub IsRequest : Request → Type 0

@@ -15,12 +15,14 @@ ghost use Rattle.coordinator.specs.Held.{line_at, ledger};
 ghost use Rattle.versions.specs.Additions.{IsReady};
 ghost use Rattle.coordinator.specs.Shown.{kept, shown};
 ghost use Rattle.versions.specs.Lines.{lines_with, added_count, line_shown};
-ghost use Rattle.coordinator.specs.Sound.{IsSound, IsRequest};
+ghost use Rattle.coordinator.specs.Sound.{IsSound, IsRightful};
+ghost use Rattle.farm_base.specs.declared.limits.TheConstants.{NODES};
+ghost use Rattle.protocol.specs.Lawful.{IsNumber, IsSaid};
 ghost use Rattle.coordinator.specs.Promises.{OnlyGrow, GrantsAtOnce, ChangesAsTold};
 
 use super::draft::Draft;
 use super::state::State;
-use farm_base::{FromCoord, Items, NodeId, Request, Slot, Ticket, ToCoord};
+use farm_base::{FromCoord, Items, NodeId, Slot, Ticket, ToCoord};
 use leases::{LeaseTable, SlotState, TicketSource};
 use protocol::{CoordNote, CoordRefusal};
 use std::alloc::{AllocError, Global};
@@ -63,15 +65,6 @@ struct Prepared {
     room: Vec<SlotLine>,
 }
 
-/// The wants of an Acquire are lawful by their type.
-fn is_request(message: &ToCoord)
-    ensures { IsRequest message.now.request }
-{
-    if let Request::Acquire { wants, .. } = &message.request {
-        let _wants = wants.as_slice();
-    }
-}
-
 impl Coordinator {
     /// The coordinator of a farm where nothing happened.
     pub fn start(alloc: Global) -> Self
@@ -106,15 +99,15 @@ impl Coordinator {
 
     /// Works out what a message does. Nothing changes before `accept`.
     fn prepare(&self, alloc: Global, message: &ToCoord) -> Result<Prepared, AllocError>
+        requires { IsSaid NODES message.now }
         ensures work { IfOk result (λ p. shown (lines_with self.now.lines p.added) p.draft
             ≡ handled farm_limits message.now (begin_work (ledger self.now))) }
         ensures told { IfOk result (λ p. ChangesAsTold (ledger self.now) (Ok (handled farm_limits message.now (begin_work (ledger self.now))))) }
-        ensures sound { IfOk result (λ p. IsSound (kept (lines_with self.now.lines p.added) p.draft.state)) }
+        ensures rightful { IfOk result (λ p. IsRightful (kept (lines_with self.now.lines p.added) p.draft.state)) }
         ensures ready { IfOk result (λ p. IsReady self.now.lines p.added) }
         ensures empty { IfOk result (λ p. p.room.items ≡ []) }
         ensures larger { IfOk result (λ p. length self.now.lines + added_count p.added ≤ vec_capacity p.room) }
     {
-        is_request(message);
         let mut draft = self.draft(alloc)?;
         let added = draft.deliver(alloc, &self.lines, message)?;
         let room = self.lines.room_to_add(alloc, &added)?;
@@ -123,7 +116,7 @@ impl Coordinator {
 
     /// Applies an event that was worked out.
     fn accept(&mut self, prepared: Prepared) -> Handled
-        requires sound { IsSound (kept (lines_with self.old.lines prepared.added) prepared.draft.state) }
+        requires rightful { IsRightful (kept (lines_with self.old.lines prepared.added) prepared.draft.state) }
         requires ready { IsReady self.old.lines prepared.added }
         requires empty { prepared.room.items ≡ [] }
         requires larger { length self.old.lines + added_count prepared.added ≤ vec_capacity prepared.room }
@@ -143,7 +136,7 @@ impl Coordinator {
 
     /// Applies an event that was worked out and changes no line.
     fn settle(&mut self, draft: Draft) -> Handled
-        requires { IsSound (kept (line_at self.old.lines) draft.state) }
+        requires { IsRightful (kept (line_at self.old.lines) draft.state) }
         ensures ledger { ledger self.new ≡ kept (line_at self.old.lines) draft.state }
         ensures lines { self.new.lines ≡ self.old.lines }
         ensures sends { result.sends ≡ draft.sends.items }
@@ -162,8 +155,10 @@ impl Coordinator {
         }
     }
 
-    /// Does what a message asks, in one step.
+    /// Does what a message asks, in one step. Its node is 1 to 1,024; its life and ask count from 1; a tenure is
+    /// asked for with its SHARED folder alone, writable.
     pub fn handle(&mut self, alloc: Global, message: &ToCoord) -> Result<Handled, CoordRefusal>
+        requires { IsSaid NODES message.now }
         ensures ledger { OnOk result (ledger self.new ≡ (handled farm_limits message.now (begin_work (ledger self.old))).ledger) }
         ensures sends { IfOk result (λ h. h.sends ≡ (handled farm_limits message.now (begin_work (ledger self.old))).sends) }
         ensures note { IfOk result (λ h. h.note ≡ (handled farm_limits message.now (begin_work (ledger self.old))).note) }
@@ -184,7 +179,7 @@ impl Coordinator {
     fn withdrawal(&self, alloc: Global, ticket: Ticket) -> Result<Draft, AllocError>
         requires { result_err (withdrawn farm_limits ticket (begin_work (ledger self.now))) ≡ None }
         ensures work { IfOk result (λ draft. withdrawn farm_limits ticket (begin_work (ledger self.now)) ≡ Ok (shown (line_at self.now.lines) draft)) }
-        ensures sound { IfOk result (λ draft. IsSound (kept (line_at self.now.lines) draft.state)) }
+        ensures rightful { IfOk result (λ draft. IsRightful (kept (line_at self.now.lines) draft.state)) }
     {
         let mut draft = self.draft(alloc)?;
         draft.withdraw(alloc, &self.lines, ticket)?;
@@ -211,9 +206,10 @@ impl Coordinator {
 
     /// Works out the retirement of a node.
     fn retirement(&self, alloc: Global, node: NodeId) -> Result<Draft, AllocError>
-        requires { result_err (retired farm_limits node (begin_work (ledger self.now))) ≡ None }
+        requires accepted { result_err (retired farm_limits node (begin_work (ledger self.now))) ≡ None }
+        requires number { IsNumber NODES node }
         ensures work { IfOk result (λ draft. retired farm_limits node (begin_work (ledger self.now)) ≡ Ok (shown (line_at self.now.lines) draft)) }
-        ensures sound { IfOk result (λ draft. IsSound (kept (line_at self.now.lines) draft.state)) }
+        ensures rightful { IfOk result (λ draft. IsRightful (kept (line_at self.now.lines) draft.state)) }
     {
         let mut draft = self.draft(alloc)?;
         draft.retire(alloc, &self.lines, node)?;
@@ -221,8 +217,9 @@ impl Coordinator {
     }
 
     /// Retires a node for good, in one step: its leases are withdrawn, and nothing that it says is heard again.
-    /// The holder of a tenure is never retired.
+    /// The holder of a tenure is never retired. Nodes are 1 to 1,024.
     pub fn retire(&mut self, alloc: Global, node: NodeId) -> Result<Handled, CoordRefusal>
+        requires { IsNumber NODES node }
         ensures answer { Answers (retired farm_limits node (begin_work (ledger self.old))) (ledger self.new) result }
         ensures told { OnOk result (ChangesAsTold (ledger self.old) (retired farm_limits node (begin_work (ledger self.old)))) }
         ensures lines { self.new.lines ≡ self.old.lines }
@@ -257,7 +254,7 @@ impl Coordinator {
     fn pruning(&self, alloc: Global, slot: &Slot) -> Result<Prepared, AllocError>
         requires { result_err (pruned farm_limits slot.now (begin_work (ledger self.now))) ≡ None }
         ensures work { IfOk result (λ p. pruned farm_limits slot.now (begin_work (ledger self.now)) ≡ Ok (shown (lines_with self.now.lines p.added) p.draft)) }
-        ensures sound { IfOk result (λ p. IsSound (kept (lines_with self.now.lines p.added) p.draft.state)) }
+        ensures rightful { IfOk result (λ p. IsRightful (kept (lines_with self.now.lines p.added) p.draft.state)) }
         ensures ready { IfOk result (λ p. IsReady self.now.lines p.added) }
         ensures empty { IfOk result (λ p. p.room.items ≡ []) }
         ensures larger { IfOk result (λ p. length self.now.lines + added_count p.added ≤ vec_capacity p.room) }

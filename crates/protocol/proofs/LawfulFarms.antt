@@ -169,7 +169,7 @@ module _ (top : ℕ) where
 
     tenure_asked : (f : FolderName) → AreAsked true (tenure_wants f)
     unfolding IsStrictlySortedBy
-    tenure_asked f = record { sorted = (omega arith, (tt, tt)); one = λ e. (f, refl) }
+    tenure_asked f = record { sorted = (omega arith, (tt, tt)); one = λ e. refl }
 
     tenure_acts : (f : FolderName) → ActsOk (asked_tenure k p f x)
     tenure_acts f =

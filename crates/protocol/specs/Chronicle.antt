@@ -16,7 +16,7 @@ use Rattle.protocol.specs.Safe.{Held, Rising, Safe, SafeSince}
 use Rattle.protocol.specs.Replay.{Event, Deliver, Begin, Withdraw, Retire, RestartCoordinator, Farm, step, run, opening}
 use Rattle.protocol.specs.Meaning.{adds, StopsAt, Means}
 use Rattle.protocol.specs.Reasons.{Fair}
-use Rattle.protocol.specs.Follows.{IsFarm, Shows, NoneReady, after_life, MayBeGranted}
+use Rattle.protocol.specs.Follows.{IsFarm, SavedAgrees, Shows, NoneReady, after_life, MayBeGranted}
 
 -- from here on a world after each event: led to by moves from the one before, u, meant by the event, fair, shown by the
 -- farm, safe, and safe since each earlier one
@@ -105,10 +105,14 @@ FittingMessageIsGranted = (sha : List ℕ → Digest) (k : Limits) → IsFarm sh
     nth (run sha k events (opening sha size)).pool number ≡ Some (Said y) → q.gone p.node.0 ≡ false → nat_lt p.life.0 (q.lives p.node.0) ≡ false
     → MayBeGranted k v.ledger p → ((handled k y (begin_work q)).note ≡ coord.Granted grant) × In (told.Granted grant) (handled k y (begin_work q)).sends
 
--- while the coordinator is up the record is that of its ledger
+-- while the coordinator is up the record is that of its ledger; after a failed save it is that of a ledger of the
+-- machine that the save kept
+pub record IsSavedFarm (sha : List ℕ → Digest) (s : Farm) : Type 0 where
+  pub up : s.down ≡ false → s.saved ≡ saves s.ledger
+  pub either : (u : World) × Moves sha (start sha) u × SavedAgrees (sha []) u.pool u.down s
+
 abbrev pub EveryFarmIsSaved : Type 0
-EveryFarmIsSaved = (sha : List ℕ → Digest) (k : Limits) → IsFarm sha k → (size : ℕ) (events : List Event) →
-    let s : Farm = run sha k events (opening sha size) in s.down ≡ false → s.saved ≡ saves s.ledger
+EveryFarmIsSaved = (sha : List ℕ → Digest) (k : Limits) → IsFarm sha k → (size : ℕ) (events : List Event) → IsSavedFarm sha (run sha k events (opening sha size))
 
 -- a restart can't take back what was sent: no ticket is above the record's ceiling, and each version that a
 -- confirmation names stands on the record's line

@@ -1,12 +1,12 @@
 -- What a farm sends and keeps whose numbers are in their ranges: so what its coordinator keeps can be written down as a
 -- record (docs/PROOFS.md, "The record"). The rules are this project's own.
-use Rattle.std.specs.Prelude.{◌≡◌, ℕ, ◌≤◌, ◌<◌, Bool, true, false, List, [], ◌∷◌, map, Some, ⊤, Result, Ok, Err}
+use Rattle.std.specs.Prelude.{◌≡◌, ℕ, ◌≤◌, ◌<◌, ◌&&◌, Bool, true, false, List, [], ◌∷◌, map, Some, ⊤, Result, Ok, Err}
 use Rattle.farm_base.specs.Wanted.{IsWants}
 use Rattle.farm_base.specs.declared.message.Request.{Request}
 use Rattle.farm_base.specs.declared.message.Request.TheVariants.{Hello, Acquire, Commit, Release}
 use Rattle.farm_base.specs.declared.message.Message.TheVariants as to
 use Rattle.protocol.specs.Lists.{In}
-use Rattle.protocol.specs.Names.{Slot, is_private, NodeId, Life, Ask, Ticket, Digest, Want, FolderName, leased_wants, tenure_wants}
+use Rattle.protocol.specs.Names.{Slot, is_private, is_shared, NodeId, Life, Ask, Ticket, Digest, Want, leased_wants}
 use Rattle.protocol.specs.Machine.{LineVersion, Message, ToCoord, Parked}
 use Rattle.protocol.specs.declared.answer.CoordRefusal.{CoordRefusal}
 use Rattle.protocol.specs.Ledger.{Limits, Ledger, Lease, Work, begin_work, handled, withdrawn, retired, pruned, saves, reads, has_slot, is_of}
@@ -24,10 +24,16 @@ pub record IsSpeaker (top : ℕ) (n : NodeId) (l : Life) : Type 0 where
   pub node : IsNumber top n
   pub life : 1 ≤ l.0
 
+-- one SHARED folder, writable
+abbrev pub is_tenure : List Want → Bool
+is_tenure [] = false
+is_tenure (w ∷ []) = is_shared w.folder.mode && w.writable
+is_tenure (w ∷ x ∷ ws) = false
+
 -- at most 16 folders, each once; a tenure wants its SHARED folder alone, writable
 pub record AreAsked (tenure : Bool) (wants : List Want) : Type 0 where
   pub sorted : IsWants wants
-  pub one : tenure ≡ true → (f : FolderName) × (wants ≡ tenure_wants f)
+  pub one : tenure ≡ true → is_tenure wants ≡ true
 
 abbrev pub IsRequest : Request → Type 0
 IsRequest Hello = ⊤

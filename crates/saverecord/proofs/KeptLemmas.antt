@@ -6,7 +6,7 @@ use Rattle.std.specs.List.Sorted.{IsStrictlySortedBy}
 use Rattle.std.specs.Cmp.{nat_cmp_is}
 use Rattle.std.specs.Ordering.{nat_cmp, is_eq}
 use Rattle.std.specs.declared.cmp.Ordering.TheVariants.{Less}
-use Rattle.std.proofs.lemmas.Bool.{cases_Bool, and_from, and_right, eq-eqb, false_from_ne_true, le-leb, lt-ltb, not-true, not_from_false, or_from}
+use Rattle.std.proofs.lemmas.Bool.{cases_Bool, and_from, and_left, and_right, eq-eqb, false_from_ne_true, le-leb, lt-ltb, not-true, not_from_false, or_from}
 use Rattle.std.proofs.lemmas.List.{length-map}
 use Rattle.std.proofs.lemmas.List.Elements.{All-map, recursion_from_All}
 use Rattle.std.proofs.lemmas.List.Filters.{length-filter_both}
@@ -20,10 +20,10 @@ use Rattle.leases.specs.Leases.{Rises, IsOpen}
 use Rattle.leases.specs.Table.{among, takes, life_at, is_among}
 use Rattle.leases.proofs.TableLemmas.{leased-filter, wants_filter}
 use Rattle.protocol.specs.Lists.{In}
-use Rattle.protocol.specs.Names.{Slot, slot_eq, is_shared, is_private, NodeId, Want, FolderName, wants_shared, leased_wants, tenure_wants}
+use Rattle.protocol.specs.Names.{Slot, slot_eq, is_shared, is_private, NodeId, Want, FolderName, wants_shared, leased_wants}
 use Rattle.protocol.specs.Machine.{LineVersion}
 use Rattle.protocol.specs.Ledger.{Lease, has_slot}
-use Rattle.protocol.specs.Lawful.{IsNumber, AreAsked, want_of, IsHolder, AreApart, AllApart}
+use Rattle.protocol.specs.Lawful.{IsNumber, is_tenure, AreAsked, want_of, IsHolder, AreApart, AllApart}
 use Rattle.protocol.proofs.Base.{all_in, true_false, eqb_same, slot_eq_same, any_in, in_map, from_filter}
 use Rattle.farm_base.specs.declared.limits.TheConstants.{NODES}
 use Rattle.versions.specs.declared.lines.SlotLine.{SlotLine}
@@ -71,17 +71,22 @@ own_folders (x ∷ slots) up =
     and_right (is_private x.0.folder.mode) (folder_eq x.0.folder y.0.folder) (eq-by_cmp x.0.folder y.0.folder ∙ ap is_eq less)) in
     and_from _ _ (not_from_false (list_any (is_same_private x) slots) (none_from_in (is_same_private x) slots apart)) (own_folders slots (sorted_tail folder_cmp x.0.folder later up))
 
-tenured : (slots : List (Slot × Bool)) (f : FolderName) → map want_of slots ≡ tenure_wants f → is_tenured slots ≡ true
-tenured [] f e = absurd (let one : 0 ≡ 1 = ap length e in omega arith)
-tenured (x ∷ []) f e = (subst (AllByRecursion (λ (w : Want). (is_shared w.folder.mode && w.writable) ≡ true)) (sym e) (refl, tt)).0
-tenured (x ∷ y ∷ rest) f e = absurd (let one : length (map want_of (x ∷ y ∷ rest)) ≡ 1 = ap length e in omega arith)
+tenured : (slots : List (Slot × Bool)) (w : Want) → (is_shared w.folder.mode && w.writable) ≡ true → map want_of slots ≡ w ∷ [] → is_tenured slots ≡ true
+tenured [] w h e = absurd (let one : 0 ≡ 1 = ap length e in omega arith)
+tenured (x ∷ []) w h e = (subst (AllByRecursion (λ (w : Want). (is_shared w.folder.mode && w.writable) ≡ true)) (sym e) (h, tt)).0
+tenured (x ∷ y ∷ rest) w h e = absurd (let one : length (map want_of (x ∷ y ∷ rest)) ≡ 1 = ap length e in omega arith)
+
+tenure_slots : (slots : List (Slot × Bool)) (wants : List Want) → is_tenure wants ≡ true → map want_of slots ≡ leased_wants true wants → is_tenured slots ≡ true
+tenure_slots slots [] h e = absurd (cc h)
+tenure_slots slots (w ∷ []) h e = tenured slots w h (e ∙ (rw (and_left (is_shared w.folder.mode) w.writable h) refl))
+tenure_slots slots (w ∷ x ∷ wants) h e = absurd (cc h)
 
 any_wanted : (slots : List (Slot × Bool)) → list_any wants_shared (map want_of slots) ≡ some_shared slots
 any_wanted [] = refl
 any_wanted (x ∷ slots) = ap (λ b. is_shared x.0.folder.mode || b) (any_wanted slots)
 
 tenure_fits : (tenure : Bool) (slots : List (Slot × Bool)) (wants : List Want) → AreAsked tenure wants → map want_of slots ≡ leased_wants tenure wants → (if tenure then is_tenured slots else not (some_shared slots)) ≡ true
-tenure_fits true slots wants asked e = (let f = asked.one refl in tenured slots f.0 (e ∙ ap (leased_wants true) f.1))
+tenure_fits true slots wants asked e = tenure_slots slots wants (asked.one refl) e
 tenure_fits false slots wants asked e = not_from_false (some_shared slots) (sym (any_wanted slots) ∙ ap (list_any wants_shared) e
     ∙ none_from_in wants_shared (leased_wants false wants) (λ w i. not-true (wants_shared w) (from_filter (λ (w : Want). not (wants_shared w)) w wants i).1))
 

@@ -101,7 +101,7 @@ wanted true [] few up fits = absurd (cc fits)
 wanted true (x ∷ []) few up fits =
     let b = and_parts (is_shared x.0.folder.mode) x.1 fits in (
       tenure_wants x.0.folder,
-      record { sorted = (omega arith, one_folder (record x.0.folder { mode = Shared })); one = λ e. (x.0.folder, refl) },
+      record { sorted = (omega arith, one_folder (record x.0.folder { mode = Shared })); one = λ e. refl },
       same_wants x (shared_is x.0.folder.mode b.0) b.1,
     )
 wanted true (x ∷ y ∷ rest) few up fits = absurd (cc fits)

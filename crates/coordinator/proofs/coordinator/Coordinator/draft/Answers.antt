@@ -22,4 +22,4 @@ pub returns-clause-sound : goal.returns-clause-sound
 returns-clause-sound c =
     let line : LineOf = line_at c.self.inside.lines in
     let lines : c.self.inside.lines ≡ c.args.self.now.lines = ap (λ (h : Held). h.lines) c.self.view_is in
-    subst (λ (ls : List SlotLine). IsSound (kept (line_at ls) c.in_ok-copy.field-0)) lines (subst IsSound (sym (c.in_ok-copy.ensures line)) c.self.invariant)
+    subst (λ (ls : List SlotLine). IsSound (kept (line_at ls) c.in_ok-copy.field-0)) lines (subst IsSound (sym (c.in_ok-copy.ensures line)) c.self.invariant.sound)
