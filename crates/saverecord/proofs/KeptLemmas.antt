@@ -6,7 +6,7 @@ use Rattle.std.specs.List.Sorted.{IsStrictlySortedBy}
 use Rattle.std.specs.Cmp.{nat_cmp_is}
 use Rattle.std.specs.Ordering.{nat_cmp, is_eq}
 use Rattle.std.specs.declared.cmp.Ordering.TheVariants.{Less}
-use Rattle.std.proofs.lemmas.Bool.{cases_Bool, and_from, and_left, and_right, eq-eqb, false_from_ne_true, le-leb, lt-ltb, not-true, not_from_false, or_from}
+use Rattle.std.proofs.lemmas.Bool.{cases_Bool, and_from, and_parts, and_right, eq-eqb, false_from_ne_true, le-leb, lt-ltb, not-true, not_from_false, or_from}
 use Rattle.std.proofs.lemmas.List.{length-map}
 use Rattle.std.proofs.lemmas.List.Elements.{All-map, recursion_from_All}
 use Rattle.std.proofs.lemmas.List.Filters.{length-filter_both}
@@ -78,7 +78,7 @@ tenured (x ∷ y ∷ rest) w h e = absurd (let one : length (map want_of (x ∷ 
 
 tenure_slots : (slots : List (Slot × Bool)) (wants : List Want) → is_tenure wants ≡ true → map want_of slots ≡ leased_wants true wants → is_tenured slots ≡ true
 tenure_slots slots [] h e = absurd (cc h)
-tenure_slots slots (w ∷ []) h e = tenured slots w h (e ∙ (rw (and_left (is_shared w.folder.mode) w.writable h) refl))
+tenure_slots slots (w ∷ []) h e = tenured slots w h (e ∙ (rw (and_parts (is_shared w.folder.mode) w.writable h).0 refl))
 tenure_slots slots (w ∷ x ∷ wants) h e = absurd (cc h)
 
 any_wanted : (slots : List (Slot × Bool)) → list_any wants_shared (map want_of slots) ≡ some_shared slots

@@ -1,7 +1,9 @@
 -- Who keeps the bytes of a record, over saves that may fail.
-use Rattle.std.specs.Prelude.{◌≡◌, ◌⊎◌, ℕ, ◌+◌, ◌<◌, List, Option, Some, None, min}
+use Rattle.std.specs.Prelude.{◌≡◌, ◌≢◌, ◌⊎◌, ℕ, ◌+◌, ◌<◌, Bool, not, is_some, List, Option, Some, None, min}
 use Rattle.protocol.specs.declared.answer.Kept.{Kept}
 use Rattle.protocol.specs.declared.answer.Kept.TheVariants.{Old, New}
+use Rattle.saverecord.specs.declared.refusal.KeeperRefusal.{KeeperRefusal}
+use Rattle.saverecord.specs.declared.refusal.KeeperRefusal.TheVariants.{Fault}
 
 -- the count of a device's failures rose, or was at its greatest value
 abbrev pub HasFailed : ℕ → ℕ → Type 0
@@ -30,3 +32,13 @@ saved_by (Some New) m bytes = record m { bytes = bytes; armed = None; failures =
 
 abbrev pub saved : Memory → List ℕ → Memory
 saved m bytes = saved_by m.armed m bytes
+
+-- a save over a keeper in memory: it fails exactly where it was told to
+pub record MemorySaves (m : Memory) (bytes : List ℕ) (ok : Bool) (n : Memory) : Type 0 where
+  pub succeeds : ok ≡ not (is_some m.armed)
+  pub left : n ≡ saved m bytes
+
+-- a load over a keeper in memory: its device never fails, and it stays as it was
+pub record MemoryLoads (m : Memory) (refusal : Option KeeperRefusal) (n : Memory) : Type 0 where
+  pub never : refusal ≢ Some Fault
+  pub same : n ≡ m

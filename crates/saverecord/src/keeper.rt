@@ -1,36 +1,32 @@
 //! Who keeps the bytes of a record.
-ghost use Rattle.std.specs.Prelude.{◌≡◌, ◌≢◌, ◌⊎◌, ◌≤◌, ℕ, List, [], IfOk, OnOk, OnErr, IsOk, ◌↔◌, Some, None};
-ghost use Rattle.saverecord.specs.Keepers.{HasFailed, saved};
+ghost use Rattle.std.specs.Prelude.{◌≡◌, ◌≢◌, ◌⊎◌, ◌≤◌, ℕ, Bool, List, [], Option, IfOk, OnOk, OnErr, IsOk, ◌↔◌, Some, None};
+ghost use Rattle.std.specs.Result.{is_ok, result_err};
+ghost use Rattle.saverecord.specs.Keepers.{HasFailed, saved, MemorySaves, MemoryLoads};
 
+use super::refusal::{KeeperRefusal, SaveFault};
 use protocol::Kept;
 use std::alloc::Global;
 use std::marker::Model;
-use thiserror::Error;
-
-/// A save failed: the old bytes are kept, or the new ones.
-#[derive(Clone, Copy, Debug, PartialEq, Eq, Error)]
-#[error("the record could not be saved")]
-pub struct SaveFault;
-
-/// Why a load gives no bytes.
-#[derive(Clone, Copy, Debug, PartialEq, Eq, Error)]
-pub enum KeeperRefusal {
-    #[error("the record could not be loaded")]
-    Fault,
-    #[error("out of memory")]
-    OutOfMemory,
-}
 
 /// Keeps the bytes of a record. Empty bytes mean that no record was saved yet.
 pub trait Keeper: Drop {
+    ghost use Rattle.saverecord.specs.declared.refusal.KeeperRefusal.{KeeperRefusal};
+
     /// What a load gives.
     ghost kept: { Self → List ℕ };
 
     /// How often the device failed.
     ghost failed: { Self → ℕ };
 
+    /// What a save of these bytes may leave, and whether it succeeds.
+    ghost saving: { Self → List ℕ → Bool → Self → Type 0 };
+
+    /// What a load may refuse, and leave.
+    ghost loading: { Self → Option KeeperRefusal → Self → Type 0 };
+
     /// Keeps these bytes in place of the earlier ones. It takes no memory.
     fn save(&mut self, bytes: Vec<u8>) -> Result<(), SaveFault>
+        ensures exact { saving self.old bytes.items (is_ok result) self.new }
         ensures ok { OnOk result (kept self.new ≡ bytes.items) }
         ensures fault { OnErr result ((kept self.new ≡ kept self.old) ⊎ (kept self.new ≡ bytes.items)) }
         ensures cause { OnErr result (HasFailed (failed self.old) (failed self.new)) }
@@ -38,6 +34,7 @@ pub trait Keeper: Drop {
 
     /// The bytes that are kept.
     fn load(&mut self, alloc: Global) -> Result<Vec<u8>, KeeperRefusal>
+        ensures exact { loading self.old (result_err result) self.new }
         ensures bytes { IfOk result (λ bytes. bytes.items ≡ kept self.old) }
         ensures kept { kept self.new ≡ kept self.old }
         ensures cause { result ≡ Err KeeperRefusal.Fault → HasFailed (failed self.old) (failed self.new) }
@@ -105,9 +102,12 @@ impl Keeper for MemoryKeeper {
 
     ghost failed = { λ m. m.failures };
 
+    ghost saving = { MemorySaves };
+
+    ghost loading = { MemoryLoads };
+
     fn save(&mut self, bytes: Vec<u8>) -> Result<(), SaveFault>
-        ensures exact { self.new ≡ saved self.old bytes.items }
-        ensures succeeds { IsOk result ↔ (self.old.armed ≡ None) }
+        ensures exact { MemorySaves self.old bytes.items (is_ok result) self.new }
         ensures ok { OnOk result (self.new.bytes ≡ bytes.items) }
         ensures fault { OnErr result ((self.new.bytes ≡ self.old.bytes) ⊎ (self.new.bytes ≡ bytes.items)) }
         ensures cause { OnErr result (HasFailed self.old.failures self.new.failures) }
@@ -127,8 +127,7 @@ impl Keeper for MemoryKeeper {
     }
 
     fn load(&mut self, alloc: Global) -> Result<Vec<u8>, KeeperRefusal>
-        ensures same { self.new ≡ self.old }
-        ensures never { result ≢ Err KeeperRefusal.Fault }
+        ensures exact { MemoryLoads self.old (result_err result) self.new }
         ensures bytes { IfOk result (λ bytes. bytes.items ≡ self.old.bytes) }
         ensures kept { self.new.bytes ≡ self.old.bytes }
         ensures cause { result ≡ Err KeeperRefusal.Fault → HasFailed self.old.failures self.new.failures }

@@ -15,9 +15,9 @@ mod slot;
 mod writing;
 
 pub use farm_base::NodeLife;
-pub use keeper::{Keeper, KeeperRefusal, MemoryKeeper, SaveFault};
+pub use keeper::{Keeper, MemoryKeeper};
 pub use laws::{what_is_kept_is_a_record, what_is_read_is_lawful};
 pub use protocol::Kept;
 pub use record::Record;
-pub use refusal::{Flaw, RecordRefusal};
+pub use refusal::{Flaw, KeeperRefusal, RecordRefusal, SaveFault};
 pub use versions::SlotLine;

@@ -7,7 +7,7 @@ use Rattle.coordinator.specs.Held.{Held, line_at, ledger}
 use Rattle.coordinator.specs.Shown.{kept, shown}
 use Rattle.coordinator.specs.Sound.{IsSound, IsRightful}
 use Rattle.coordinator.proofs.Rightful.{rightful-retired}
-use Rattle.coordinator.proofs.coordinator.Coordinator.retirement.Goals as goal
+use Rattle.coordinator.proofs.ledger.Ledger.retirement.Goals as goal
 
 pub retire-requires-clause-accepted : goal.retire-requires-clause-accepted
 retire-requires-clause-accepted c =

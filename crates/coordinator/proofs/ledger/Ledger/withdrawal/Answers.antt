@@ -6,7 +6,7 @@ use Rattle.coordinator.specs.Held.{Held, line_at, ledger}
 use Rattle.coordinator.specs.Shown.{kept, shown}
 use Rattle.coordinator.specs.Sound.{IsSound, IsRightful}
 use Rattle.coordinator.proofs.Rightful.{rightful-withdrawn}
-use Rattle.coordinator.proofs.coordinator.Coordinator.withdrawal.Goals as goal
+use Rattle.coordinator.proofs.ledger.Ledger.withdrawal.Goals as goal
 
 pub returns-clause-rightful : goal.returns-clause-rightful
 returns-clause-rightful c =

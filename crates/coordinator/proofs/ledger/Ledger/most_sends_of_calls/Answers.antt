@@ -2,7 +2,7 @@ use Rattle.std.proofs.Common.{◌≡◌, length, ap, arith}
 use Rattle.protocol.specs.Farm.{farm_limits}
 use Rattle.coordinator.specs.Held.{Held, ledger}
 use Rattle.coordinator.proofs.OwnSends.{withdrawn_few, retired_few, pruned_none}
-use Rattle.coordinator.proofs.coordinator.Coordinator.most_sends_of_calls.Goals as goal
+use Rattle.coordinator.proofs.ledger.Ledger.most_sends_of_calls.Goals as goal
 
 pub returns-clause-withdraw : goal.returns-clause-withdraw
 returns-clause-withdraw c = λ t w e.

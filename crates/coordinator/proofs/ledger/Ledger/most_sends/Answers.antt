@@ -2,7 +2,7 @@ use Rattle.std.proofs.Common.{◌≡◌, length, ap, arith}
 use Rattle.protocol.specs.Farm.{farm_limits}
 use Rattle.coordinator.specs.Held.{Held, ledger}
 use Rattle.coordinator.proofs.Sends.{handled_few}
-use Rattle.coordinator.proofs.coordinator.Coordinator.most_sends.Goals as goal
+use Rattle.coordinator.proofs.ledger.Ledger.most_sends.Goals as goal
 
 pub returns : goal.returns
 returns c = λ y.

@@ -6,7 +6,7 @@ use Rattle.coordinator.specs.Held.{Held, line_at, ledger}
 use Rattle.coordinator.specs.Shown.{kept, shown, lines_with}
 use Rattle.coordinator.specs.Sound.{IsSound, IsRightful}
 use Rattle.coordinator.proofs.Rightful.{rightful-pruned}
-use Rattle.coordinator.proofs.coordinator.Coordinator.pruning.Goals as goal
+use Rattle.coordinator.proofs.ledger.Ledger.pruning.Goals as goal
 
 pub returns-clause-work : goal.returns-clause-work
 returns-clause-work c =

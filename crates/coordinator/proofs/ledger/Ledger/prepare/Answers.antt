@@ -7,7 +7,7 @@ use Rattle.coordinator.specs.Shown.{shown, lines_with}
 use Rattle.coordinator.specs.Sound.{IsRightful}
 use Rattle.coordinator.proofs.Rightful.{rightful-handled}
 use Rattle.coordinator.proofs.Recording.{handled-told}
-use Rattle.coordinator.proofs.coordinator.Coordinator.prepare.Goals as goal
+use Rattle.coordinator.proofs.ledger.Ledger.prepare.Goals as goal
 
 pub returns-clause-work : goal.returns-clause-work
 returns-clause-work c =

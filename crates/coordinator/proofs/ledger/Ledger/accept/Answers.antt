@@ -4,7 +4,7 @@ use Rattle.coordinator.specs.Shown.{LineOf, kept, lines_with}
 use Rattle.coordinator.specs.Sound.{IsRightful}
 use Rattle.coordinator.specs.Promises.{OnlyGrow}
 use Rattle.coordinator.proofs.Kept.{grows}
-use Rattle.coordinator.proofs.coordinator.Coordinator.accept.Goals as goal
+use Rattle.coordinator.proofs.ledger.Ledger.accept.Goals as goal
 
 pub invariant_of-self : goal.invariant_of-self
 invariant_of-self c =

@@ -6,7 +6,7 @@ use Rattle.protocol.specs.declared.answer.CoordNote.{CoordNote}
 use Rattle.coordinator.specs.Held.{ledger}
 use Rattle.coordinator.specs.Promises.{GrantsAtOnce}
 use Rattle.coordinator.proofs.Kept.{grants}
-use Rattle.coordinator.proofs.coordinator.Coordinator.handle.Goals as goal
+use Rattle.coordinator.proofs.ledger.Ledger.handle.Goals as goal
 
 pub returns-clause-at_once : goal.returns-clause-at_once
 returns-clause-at_once c =

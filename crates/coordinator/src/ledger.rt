@@ -29,15 +29,14 @@ use std::alloc::{AllocError, Global};
 use std::marker::Model;
 use versions::{Added, Line, Lines, SlotLine};
 
-/// The coordinator of a farm, which decides who may use which slot, and keeps the lines of versions.
-/// Contracts see what it keeps.
+/// What a coordinator keeps of its farm: who may use which slot, and the lines of versions. Contracts see it as lists.
 #[derive(Debug, Drop)]
-pub struct Coordinator {
+pub(crate) struct Ledger {
     state: State,
     lines: Lines,
 }
 
-impl Model for Coordinator {
+impl Model for Ledger {
     ghost use Rattle.coordinator.specs.Held.{Held};
 
     ghost Value = { Held };
@@ -49,38 +48,48 @@ impl Model for Coordinator {
     ghost invariant = { λ c. keeps_sound c.state c.lines };
 }
 
-/// The result of a message or of a call.
-#[derive(Debug, Drop)]
-pub struct Handled {
-    pub sends: Items<FromCoord>,
-    pub note: CoordNote,
-}
-
 /// An event that was worked out and not applied yet.
 #[derive(Debug, Drop)]
-struct Prepared {
-    draft: Draft,
-    added: Option<Added>,
+pub(crate) struct Prepared {
+    pub draft: Draft,
+    pub added: Option<Added>,
     /// Room for the lines, with those that are added.
-    room: Vec<SlotLine>,
+    pub room: Vec<SlotLine>,
 }
 
-impl Coordinator {
-    /// The coordinator of a farm where nothing happened.
-    pub fn start(alloc: Global) -> Self
-        ensures { ledger result ≡ opening }
+impl Ledger {
+    /// The ledger that a restart makes of a record.
+    pub(crate) fn of(alloc: Global, record: Record) -> Self
+        requires { IsKept record }
+        ensures { ledger result ≡ reads (saves (ledger_of record)) }
     {
-        let state = State {
-            table: LeaseTable::new(alloc),
-            tickets: TicketSource::after(Ticket(0)),
-            lives: Vec::new(alloc),
-            gone: Vec::new(alloc),
-            old_home: None,
-            parked: Vec::new(alloc),
-        };
-        Coordinator {
-            state,
-            lines: Lines::new(alloc),
+        let (state, lines) = state_of(alloc, record);
+        Ledger { state, lines }
+    }
+
+    /// The bytes of the record of an event that was worked out.
+    fn record_bytes(&self, alloc: Global, prepared: &Prepared) -> Result<Vec<u8>, AllocError>
+        requires rightful { IsRightful (kept (lines_with self.now.lines prepared.now.added) prepared.now.draft.state) }
+        requires ready { IsReady self.now.lines prepared.now.added }
+        ensures { IfOk result (λ bytes. Holds bytes.items (saves (kept (lines_with self.now.lines prepared.now.added) prepared.now.draft.state))) }
+    {
+        let state = &prepared.draft.state;
+        let record = record_of(alloc, state, &self.lines, &prepared.added)?;
+        what_is_kept_is_a_record();
+        record.write(alloc)
+    }
+
+    /// The bytes to be saved of an event that was worked out, if the record changed.
+    pub(crate) fn to_save(&self, alloc: Global, prepared: &Prepared) -> Result<Option<Vec<u8>>, AllocError>
+        requires rightful { IsRightful (kept (lines_with self.now.lines prepared.now.added) prepared.now.draft.state) }
+        requires ready { IsReady self.now.lines prepared.now.added }
+        ensures bytes { IfOk result (λ o. IfSome o (λ bytes. Holds bytes.items (saves (kept (lines_with self.now.lines prepared.now.added) prepared.now.draft.state)))) }
+        ensures changed { IfOk result (λ o. is_some o ≡ prepared.now.draft.changed) }
+    {
+        if prepared.draft.changed {
+            Ok(Some(self.record_bytes(alloc, prepared)?))
+        } else {
+            Ok(None)
         }
     }
 
@@ -98,7 +107,7 @@ impl Coordinator {
     }
 
     /// Works out what a message does. Nothing changes before `accept`.
-    fn prepare(&self, alloc: Global, message: &ToCoord) -> Result<Prepared, AllocError>
+    pub(crate) fn prepare(&self, alloc: Global, message: &ToCoord) -> Result<Prepared, AllocError>
         requires { IsSaid NODES message.now }
         ensures work { IfOk result (λ p. shown (lines_with self.now.lines p.added) p.draft
             ≡ handled farm_limits message.now (begin_work (ledger self.now))) }
@@ -115,7 +124,7 @@ impl Coordinator {
     }
 
     /// Applies an event that was worked out.
-    fn accept(&mut self, prepared: Prepared) -> Handled
+    pub(crate) fn accept(&mut self, prepared: Prepared) -> Handled
         requires rightful { IsRightful (kept (lines_with self.old.lines prepared.added) prepared.draft.state) }
         requires ready { IsReady self.old.lines prepared.added }
         requires empty { prepared.room.items ≡ [] }
@@ -134,49 +143,8 @@ impl Coordinator {
         }
     }
 
-    /// Applies an event that was worked out and changes no line.
-    fn settle(&mut self, draft: Draft) -> Handled
-        requires { IsRightful (kept (line_at self.old.lines) draft.state) }
-        ensures ledger { ledger self.new ≡ kept (line_at self.old.lines) draft.state }
-        ensures lines { self.new.lines ≡ self.old.lines }
-        ensures sends { result.sends ≡ draft.sends.items }
-        ensures note { result.note ≡ draft.note }
-    {
-        let Draft {
-            state,
-            sends,
-            note,
-            ..
-        } = draft;
-        self.state = state;
-        Handled {
-            sends: Items::new(sends),
-            note,
-        }
-    }
-
-    /// Does what a message asks, in one step. Its node is 1 to 1,024; its life and ask count from 1; a tenure is
-    /// asked for with its SHARED folder alone, writable.
-    pub fn handle(&mut self, alloc: Global, message: &ToCoord) -> Result<Handled, CoordRefusal>
-        requires { IsSaid NODES message.now }
-        ensures ledger { OnOk result (ledger self.new ≡ (handled farm_limits message.now (begin_work (ledger self.old))).ledger) }
-        ensures sends { IfOk result (λ h. h.sends ≡ (handled farm_limits message.now (begin_work (ledger self.old))).sends) }
-        ensures note { IfOk result (λ h. h.note ≡ (handled farm_limits message.now (begin_work (ledger self.old))).note) }
-        ensures grow { OnlyGrow (line_at self.old.lines) (line_at self.new.lines) }
-        ensures at_once { IfOk result (λ h. GrantsAtOnce (ledger self.old) message.now h.note h.sends) }
-        ensures told { OnOk result (ChangesAsTold (ledger self.old) (Ok (handled farm_limits message.now (begin_work (ledger self.old))))) }
-        ensures memory { IsOkUnless result CoordRefusal.OutOfMemory }
-        ensures err { OnErr result (self.new ≡ self.old) }
-    {
-        let Ok(prepared) = self.prepare(alloc, message) else {
-            return Err(CoordRefusal::OutOfMemory);
-        };
-        let handled = self.accept(prepared);
-        Ok(handled)
-    }
-
     /// Works out the withdrawal of a lease.
-    fn withdrawal(&self, alloc: Global, ticket: Ticket) -> Result<Draft, AllocError>
+    pub(crate) fn withdrawal(&self, alloc: Global, ticket: Ticket) -> Result<Draft, AllocError>
         requires { result_err (withdrawn farm_limits ticket (begin_work (ledger self.now))) ≡ None }
         ensures work { IfOk result (λ draft. withdrawn farm_limits ticket (begin_work (ledger self.now)) ≡ Ok (shown (line_at self.now.lines) draft)) }
         ensures rightful { IfOk result (λ draft. IsRightful (kept (line_at self.now.lines) draft.state)) }
@@ -186,26 +154,8 @@ impl Coordinator {
         Ok(draft)
     }
 
-    /// Withdraws the lease of a ticket, in one step: its PRIVATE slots are never granted again, and the parked
-    /// asks are tried. A tenure is never withdrawn.
-    pub fn withdraw(&mut self, alloc: Global, ticket: Ticket) -> Result<Handled, CoordRefusal>
-        ensures answer { Answers (withdrawn farm_limits ticket (begin_work (ledger self.old))) (ledger self.new) result }
-        ensures told { OnOk result (ChangesAsTold (ledger self.old) (withdrawn farm_limits ticket (begin_work (ledger self.old)))) }
-        ensures lines { self.new.lines ≡ self.old.lines }
-        ensures err { OnErr result (self.new ≡ self.old) }
-    {
-        if let Some(refusal) = self.state.withdrawal_refusal(ticket) {
-            return Err(refusal);
-        }
-        let Ok(draft) = self.withdrawal(alloc, ticket) else {
-            return Err(CoordRefusal::OutOfMemory);
-        };
-        let handled = self.settle(draft);
-        Ok(handled)
-    }
-
     /// Works out the retirement of a node.
-    fn retirement(&self, alloc: Global, node: NodeId) -> Result<Draft, AllocError>
+    pub(crate) fn retirement(&self, alloc: Global, node: NodeId) -> Result<Draft, AllocError>
         requires accepted { result_err (retired farm_limits node (begin_work (ledger self.now))) ≡ None }
         requires number { IsNumber NODES node }
         ensures work { IfOk result (λ draft. retired farm_limits node (begin_work (ledger self.now)) ≡ Ok (shown (line_at self.now.lines) draft)) }
@@ -216,27 +166,8 @@ impl Coordinator {
         Ok(draft)
     }
 
-    /// Retires a node for good, in one step: its leases are withdrawn, and nothing that it says is heard again.
-    /// The holder of a tenure is never retired. Nodes are 1 to 1,024.
-    pub fn retire(&mut self, alloc: Global, node: NodeId) -> Result<Handled, CoordRefusal>
-        requires { IsNumber NODES node }
-        ensures answer { Answers (retired farm_limits node (begin_work (ledger self.old))) (ledger self.new) result }
-        ensures told { OnOk result (ChangesAsTold (ledger self.old) (retired farm_limits node (begin_work (ledger self.old)))) }
-        ensures lines { self.new.lines ≡ self.old.lines }
-        ensures err { OnErr result (self.new ≡ self.old) }
-    {
-        if let Some(refusal) = self.state.retirement_refusal(node) {
-            return Err(refusal);
-        }
-        let Ok(draft) = self.retirement(alloc, node) else {
-            return Err(CoordRefusal::OutOfMemory);
-        };
-        let handled = self.settle(draft);
-        Ok(handled)
-    }
-
     /// Why the line of a slot can't be pruned, or None if it can.
-    fn prune_refusal(&self, slot: &Slot) -> Option<CoordRefusal>
+    pub(crate) fn prune_refusal(&self, slot: &Slot) -> Option<CoordRefusal>
         ensures { result ≡ result_err (pruned farm_limits slot.now (begin_work (ledger self.now))) }
     {
         if self.state.table.is_leased(slot) {
@@ -251,7 +182,7 @@ impl Coordinator {
     }
 
     /// Works out the prune of a slot's line.
-    fn pruning(&self, alloc: Global, slot: &Slot) -> Result<Prepared, AllocError>
+    pub(crate) fn pruning(&self, alloc: Global, slot: &Slot) -> Result<Prepared, AllocError>
         requires { result_err (pruned farm_limits slot.now (begin_work (ledger self.now))) ≡ None }
         ensures work { IfOk result (λ p. pruned farm_limits slot.now (begin_work (ledger self.now)) ≡ Ok (shown (lines_with self.now.lines p.added) p.draft)) }
         ensures rightful { IfOk result (λ p. IsRightful (kept (lines_with self.now.lines p.added) p.draft.state)) }
@@ -263,23 +194,6 @@ impl Coordinator {
         let added = draft.prune(alloc, &self.lines, slot)?;
         let room = self.lines.room_to_add(alloc, &added)?;
         Ok(Prepared { draft, added, room })
-    }
-
-    /// Puts the empty content on the line of a slot, under a new ticket, in one step.
-    pub fn prune(&mut self, alloc: Global, slot: &Slot) -> Result<Handled, CoordRefusal>
-        ensures answer { Answers (pruned farm_limits slot.now (begin_work (ledger self.old))) (ledger self.new) result }
-        ensures told { OnOk result (ChangesAsTold (ledger self.old) (pruned farm_limits slot.now (begin_work (ledger self.old)))) }
-        ensures grow { OnlyGrow (line_at self.old.lines) (line_at self.new.lines) }
-        ensures err { OnErr result (self.new ≡ self.old) }
-    {
-        if let Some(refusal) = self.prune_refusal(slot) {
-            return Err(refusal);
-        }
-        let Ok(prepared) = self.pruning(alloc, slot) else {
-            return Err(CoordRefusal::OutOfMemory);
-        };
-        let handled = self.accept(prepared);
-        Ok(handled)
     }
 
     /// Sends the Grant of each lease again, the oldest first, and asks for each tenure that is waited for.

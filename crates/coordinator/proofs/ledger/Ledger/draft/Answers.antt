@@ -6,7 +6,7 @@ use Rattle.versions.specs.declared.lines.SlotLine.{SlotLine}
 use Rattle.coordinator.specs.Held.{Held, line_at, ledger}
 use Rattle.coordinator.specs.Shown.{LineOf, kept}
 use Rattle.coordinator.specs.Sound.{IsSound}
-use Rattle.coordinator.proofs.coordinator.Coordinator.draft.Goals as goal
+use Rattle.coordinator.proofs.ledger.Ledger.draft.Goals as goal
 
 pub returns-clause-work : goal.returns-clause-work
 returns-clause-work c =

@@ -1,0 +1,11 @@
+use farm_base::{FromCoord, Items};
+use protocol::CoordNote;
+
+/// The result of a message or of a call.
+#[derive(Debug, Drop)]
+pub struct Handled {
+    /// What is sent, in this order.
+    pub sends: Items<FromCoord>,
+    /// What was done.
+    pub note: CoordNote,
+}
