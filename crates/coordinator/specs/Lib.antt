@@ -3,4 +3,5 @@ pub mod Shown
 pub mod Sound
 pub mod Keeps
 pub mod Promises
-pub mod Answers
+pub mod Seen
+pub mod Settling

@@ -1,4 +1,4 @@
-ghost use Rattle.std.specs.Prelude.{◌≡◌, not, ◌+◌, ◌≤◌, List, [], map, IfOk, OnOk, OnErr, IsOkUnless, Option, Ok, None, option_copied, length};
+ghost use Rattle.std.specs.Prelude.{◌≡◌, not, ◌+◌, ◌≤◌, List, [], map, IfOk, OnOk, OnErr, Option, Ok, None, false, option_copied, length};
 ghost use Rattle.std.specs.List.{list_any};
 ghost use Rattle.std.specs.List.Sorted.{IsStrictlySortedBy};
 ghost use Rattle.std.specs.Vec.{vec_capacity};
@@ -10,7 +10,6 @@ ghost use Rattle.protocol.specs.Names.{slot_eq, NodeId, Slot, Ticket};
 ghost use Rattle.protocol.specs.Machine.{ToCoord};
 ghost use Rattle.protocol.specs.Ledger.{Work, opening, begin_work, handled, withdrawn, retired, pruned, nudged};
 ghost use Rattle.std.specs.Result.{result_err};
-ghost use Rattle.coordinator.specs.Answers.{Answers};
 ghost use Rattle.coordinator.specs.Held.{line_at, ledger};
 ghost use Rattle.versions.specs.Additions.{IsReady};
 ghost use Rattle.coordinator.specs.Shown.{kept, shown};
@@ -21,9 +20,10 @@ ghost use Rattle.protocol.specs.Lawful.{IsNumber, IsSaid};
 ghost use Rattle.coordinator.specs.Promises.{OnlyGrow, GrantsAtOnce, ChangesAsTold};
 
 use super::draft::Draft;
+use super::handled::Handled;
 use super::state::State;
 use farm_base::{FromCoord, Items, NodeId, Slot, Ticket, ToCoord};
-use leases::{LeaseTable, SlotState, TicketSource};
+use leases::SlotState;
 use protocol::{CoordNote, CoordRefusal};
 use std::alloc::{AllocError, Global};
 use std::marker::Model;
@@ -58,41 +58,6 @@ pub(crate) struct Prepared {
 }
 
 impl Ledger {
-    /// The ledger that a restart makes of a record.
-    pub(crate) fn of(alloc: Global, record: Record) -> Self
-        requires { IsKept record }
-        ensures { ledger result ≡ reads (saves (ledger_of record)) }
-    {
-        let (state, lines) = state_of(alloc, record);
-        Ledger { state, lines }
-    }
-
-    /// The bytes of the record of an event that was worked out.
-    fn record_bytes(&self, alloc: Global, prepared: &Prepared) -> Result<Vec<u8>, AllocError>
-        requires rightful { IsRightful (kept (lines_with self.now.lines prepared.now.added) prepared.now.draft.state) }
-        requires ready { IsReady self.now.lines prepared.now.added }
-        ensures { IfOk result (λ bytes. Holds bytes.items (saves (kept (lines_with self.now.lines prepared.now.added) prepared.now.draft.state))) }
-    {
-        let state = &prepared.draft.state;
-        let record = record_of(alloc, state, &self.lines, &prepared.added)?;
-        what_is_kept_is_a_record();
-        record.write(alloc)
-    }
-
-    /// The bytes to be saved of an event that was worked out, if the record changed.
-    pub(crate) fn to_save(&self, alloc: Global, prepared: &Prepared) -> Result<Option<Vec<u8>>, AllocError>
-        requires rightful { IsRightful (kept (lines_with self.now.lines prepared.now.added) prepared.now.draft.state) }
-        requires ready { IsReady self.now.lines prepared.now.added }
-        ensures bytes { IfOk result (λ o. IfSome o (λ bytes. Holds bytes.items (saves (kept (lines_with self.now.lines prepared.now.added) prepared.now.draft.state)))) }
-        ensures changed { IfOk result (λ o. is_some o ≡ prepared.now.draft.changed) }
-    {
-        if prepared.draft.changed {
-            Ok(Some(self.record_bytes(alloc, prepared)?))
-        } else {
-            Ok(None)
-        }
-    }
-
     /// A copy of the state, on which an event is worked out.
     fn draft(&self, alloc: Global) -> Result<Draft, AllocError>
         ensures work { IfOk result (λ draft. shown (line_at self.now.lines) draft ≡ begin_work (ledger self.now)) }
@@ -143,27 +108,45 @@ impl Ledger {
         }
     }
 
-    /// Works out the withdrawal of a lease.
-    pub(crate) fn withdrawal(&self, alloc: Global, ticket: Ticket) -> Result<Draft, AllocError>
+    /// Works out the withdrawal of a lease, which adds nothing to the lines.
+    pub(crate) fn withdrawal(&self, alloc: Global, ticket: Ticket) -> Result<Prepared, AllocError>
         requires { result_err (withdrawn farm_limits ticket (begin_work (ledger self.now))) ≡ None }
-        ensures work { IfOk result (λ draft. withdrawn farm_limits ticket (begin_work (ledger self.now)) ≡ Ok (shown (line_at self.now.lines) draft)) }
-        ensures rightful { IfOk result (λ draft. IsRightful (kept (line_at self.now.lines) draft.state)) }
+        ensures work { IfOk result (λ p. withdrawn farm_limits ticket (begin_work (ledger self.now)) ≡ Ok (shown (lines_with self.now.lines p.added) p.draft)) }
+        ensures told { IfOk result (λ p. ChangesAsTold (ledger self.now) (withdrawn farm_limits ticket (begin_work (ledger self.now)))) }
+        ensures rightful { IfOk result (λ p. IsRightful (kept (lines_with self.now.lines p.added) p.draft.state)) }
+        ensures ready { IfOk result (λ p. IsReady self.now.lines p.added) }
+        ensures empty { IfOk result (λ p. p.room.items ≡ []) }
+        ensures larger { IfOk result (λ p. length self.now.lines + added_count p.added ≤ vec_capacity p.room) }
     {
         let mut draft = self.draft(alloc)?;
         draft.withdraw(alloc, &self.lines, ticket)?;
-        Ok(draft)
+        let room = self.lines.room_to_add(alloc, &None)?;
+        Ok(Prepared {
+            draft,
+            added: None,
+            room,
+        })
     }
 
-    /// Works out the retirement of a node.
-    pub(crate) fn retirement(&self, alloc: Global, node: NodeId) -> Result<Draft, AllocError>
+    /// Works out the retirement of a node, which adds nothing to the lines.
+    pub(crate) fn retirement(&self, alloc: Global, node: NodeId) -> Result<Prepared, AllocError>
         requires accepted { result_err (retired farm_limits node (begin_work (ledger self.now))) ≡ None }
         requires number { IsNumber NODES node }
-        ensures work { IfOk result (λ draft. retired farm_limits node (begin_work (ledger self.now)) ≡ Ok (shown (line_at self.now.lines) draft)) }
-        ensures rightful { IfOk result (λ draft. IsRightful (kept (line_at self.now.lines) draft.state)) }
+        ensures work { IfOk result (λ p. retired farm_limits node (begin_work (ledger self.now)) ≡ Ok (shown (lines_with self.now.lines p.added) p.draft)) }
+        ensures told { IfOk result (λ p. ChangesAsTold (ledger self.now) (retired farm_limits node (begin_work (ledger self.now)))) }
+        ensures rightful { IfOk result (λ p. IsRightful (kept (lines_with self.now.lines p.added) p.draft.state)) }
+        ensures ready { IfOk result (λ p. IsReady self.now.lines p.added) }
+        ensures empty { IfOk result (λ p. p.room.items ≡ []) }
+        ensures larger { IfOk result (λ p. length self.now.lines + added_count p.added ≤ vec_capacity p.room) }
     {
         let mut draft = self.draft(alloc)?;
         draft.retire(alloc, &self.lines, node)?;
-        Ok(draft)
+        let room = self.lines.room_to_add(alloc, &None)?;
+        Ok(Prepared {
+            draft,
+            added: None,
+            room,
+        })
     }
 
     /// Why the line of a slot can't be pruned, or None if it can.
@@ -185,6 +168,7 @@ impl Ledger {
     pub(crate) fn pruning(&self, alloc: Global, slot: &Slot) -> Result<Prepared, AllocError>
         requires { result_err (pruned farm_limits slot.now (begin_work (ledger self.now))) ≡ None }
         ensures work { IfOk result (λ p. pruned farm_limits slot.now (begin_work (ledger self.now)) ≡ Ok (shown (lines_with self.now.lines p.added) p.draft)) }
+        ensures told { IfOk result (λ p. ChangesAsTold (ledger self.now) (pruned farm_limits slot.now (begin_work (ledger self.now)))) }
         ensures rightful { IfOk result (λ p. IsRightful (kept (lines_with self.now.lines p.added) p.draft.state)) }
         ensures ready { IfOk result (λ p. IsReady self.now.lines p.added) }
         ensures empty { IfOk result (λ p. p.room.items ≡ []) }
@@ -198,12 +182,13 @@ impl Ledger {
 
     /// Sends the Grant of each lease again, the oldest first, and asks for each tenure that is waited for.
     /// Nothing else changes.
-    pub fn nudge(&self, alloc: Global) -> Result<Handled, CoordRefusal>
-        ensures { Answers (Ok (nudged farm_limits (begin_work (ledger self.now)))) (ledger self.now) result }
+    pub(crate) fn nudge(&self, alloc: Global) -> Result<Handled, AllocError>
+        ensures sends { IfOk result (λ h. h.sends ≡ (nudged farm_limits (begin_work (ledger self.now))).sends) }
+        ensures note { IfOk result (λ h. h.note ≡ (nudged farm_limits (begin_work (ledger self.now))).note) }
+        ensures ledger { (nudged farm_limits (begin_work (ledger self.now))).ledger ≡ ledger self.now }
+        ensures unchanged { (nudged farm_limits (begin_work (ledger self.now))).changed ≡ false }
     {
-        let Ok(sends) = self.state.remind_all(alloc, &self.lines) else {
-            return Err(CoordRefusal::OutOfMemory);
-        };
+        let sends = self.state.remind_all(alloc, &self.lines)?;
         Ok(Handled {
             sends: Items::new(sends),
             note: CoordNote::Nudged,
@@ -211,14 +196,14 @@ impl Ledger {
     }
 
     /// The most messages that one message can make it send.
-    pub fn most_sends(&self) -> usize
+    pub(crate) fn most_sends(&self) -> usize
         ensures { (y : ToCoord) → length (handled farm_limits y (begin_work (ledger self.now))).sends ≤ result }
     {
         1 + self.state.parked.len()
     }
 
     /// The most messages that a withdrawal, a retirement or a prune can make it send.
-    pub fn most_sends_of_calls(&self) -> usize
+    pub(crate) fn most_sends_of_calls(&self) -> usize
         ensures withdraw { (t : Ticket) (w : Work) → withdrawn farm_limits t (begin_work (ledger self.now)) ≡ Ok w → length w.sends ≤ result }
         ensures retire { (n : NodeId) (w : Work) → retired farm_limits n (begin_work (ledger self.now)) ≡ Ok w → length w.sends ≤ result }
         ensures prune { (s : Slot) (w : Work) → pruned farm_limits s (begin_work (ledger self.now)) ≡ Ok w → length w.sends ≤ result }
@@ -227,21 +212,21 @@ impl Ledger {
     }
 
     /// The line of a slot, if it has a version.
-    pub fn line(&self, slot: &Slot) -> Option<&Line>
+    pub(crate) fn line(&self, slot: &Slot) -> Option<&Line>
         ensures { option_copied result ≡ line_shown (line_at self.now.lines slot.now) }
     {
         self.lines.find(slot)
     }
 
     /// The slots that have a version, rising.
-    pub fn slots(&self, alloc: Global) -> Result<Vec<Slot>, AllocError>
+    pub(crate) fn slots(&self, alloc: Global) -> Result<Vec<Slot>, AllocError>
         ensures rising { IfOk result (λ v. IsStrictlySortedBy slot_cmp v.items) }
         ensures exact { IfOk result (λ v. (s : _) → list_any (λ x. slot_eq x s) v.items ≡ not (is_nil (line_at self.now.lines s))) }
     {
         self.lines.slots(alloc)
     }
 
-    pub fn slot_state(&self, slot: &Slot) -> SlotState
+    pub(crate) fn slot_state(&self, slot: &Slot) -> SlotState
         ensures { result ≡ state_of (record { live = self.now.live; retired = self.now.retired }) slot.now }
     {
         self.state.table.slot_state(slot)

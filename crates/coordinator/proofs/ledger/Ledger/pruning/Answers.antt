@@ -6,6 +6,7 @@ use Rattle.coordinator.specs.Held.{Held, line_at, ledger}
 use Rattle.coordinator.specs.Shown.{kept, shown, lines_with}
 use Rattle.coordinator.specs.Sound.{IsSound, IsRightful}
 use Rattle.coordinator.proofs.Rightful.{rightful-pruned}
+use Rattle.coordinator.proofs.Recording.{pruned-told}
 use Rattle.coordinator.proofs.ledger.Ledger.pruning.Goals as goal
 
 pub returns-clause-work : goal.returns-clause-work
@@ -24,3 +25,6 @@ returns-clause-rightful c =
     ∙ ap (λ (ls : List SlotLine). Ok (shown (lines_with ls c.in_ok-added.added) c.prune.new.self)) lines in
     rightful-pruned farm_limits c.args.slot.now (ledger c.args.self.now) (shown (lines_with c.args.self.now.lines c.in_ok-added.added) c.prune.new.self) (subst IsRightful (ap ledger c.self.view_is) c.self.invariant) work
     (subst (λ (ls : List SlotLine). IsSound (kept (lines_with ls c.in_ok-added.added) c.prune.new.self.state)) lines c.in_ok-added.ensures.sound)
+
+pub returns-clause-told : goal.returns-clause-told
+returns-clause-told c = pruned-told c.args.slot.now (ledger c.args.self.now)

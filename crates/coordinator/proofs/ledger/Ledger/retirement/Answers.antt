@@ -7,6 +7,7 @@ use Rattle.coordinator.specs.Held.{Held, line_at, ledger}
 use Rattle.coordinator.specs.Shown.{kept, shown}
 use Rattle.coordinator.specs.Sound.{IsSound, IsRightful}
 use Rattle.coordinator.proofs.Rightful.{rightful-retired}
+use Rattle.coordinator.proofs.Recording.{retired-told}
 use Rattle.coordinator.proofs.ledger.Ledger.retirement.Goals as goal
 
 pub retire-requires-clause-accepted : goal.retire-requires-clause-accepted
@@ -23,3 +24,6 @@ returns-clause-rightful c =
     ∙ ap (λ (ls : List SlotLine). Ok (shown (line_at ls) c.retire.new.self)) lines in
     rightful-retired farm_limits c.args.node (ledger c.args.self.now) (shown (line_at c.args.self.now.lines) c.retire.new.self) (subst IsRightful (ap ledger c.self.view_is) c.self.invariant) c.requires.number work
     (subst (λ (ls : List SlotLine). IsSound (kept (line_at ls) c.retire.new.self.state)) lines c.in_ok-retire.ensures.sound)
+
+pub returns-clause-told : goal.returns-clause-told
+returns-clause-told c = retired-told c.args.node (ledger c.args.self.now)

@@ -6,6 +6,7 @@ use Rattle.coordinator.specs.Held.{Held, line_at, ledger}
 use Rattle.coordinator.specs.Shown.{kept, shown}
 use Rattle.coordinator.specs.Sound.{IsSound, IsRightful}
 use Rattle.coordinator.proofs.Rightful.{rightful-withdrawn}
+use Rattle.coordinator.proofs.Recording.{withdrawn-told}
 use Rattle.coordinator.proofs.ledger.Ledger.withdrawal.Goals as goal
 
 pub returns-clause-rightful : goal.returns-clause-rightful
@@ -17,3 +18,6 @@ returns-clause-rightful c =
     ∙ ap (λ (ls : List SlotLine). Ok (shown (line_at ls) c.withdraw.new.self)) lines in
     rightful-withdrawn farm_limits c.args.ticket (ledger c.args.self.now) (shown (line_at c.args.self.now.lines) c.withdraw.new.self) (subst IsRightful (ap ledger c.self.view_is) c.self.invariant) work
     (subst (λ (ls : List SlotLine). IsSound (kept (line_at ls) c.withdraw.new.self.state)) lines c.in_ok-withdraw.ensures.sound)
+
+pub returns-clause-told : goal.returns-clause-told
+returns-clause-told c = withdrawn-told c.args.ticket (ledger c.args.self.now) (subst IsRightful (ap ledger c.self.view_is) c.self.invariant).sound

@@ -1,0 +1,66 @@
+-- What a coordinator answers, over a keeper whose saves and loads may leave what `saving` and `loading` say.
+use Rattle.std.specs.Prelude.{◌≡◌, ℕ, Bool, true, false, List, Option, Some, None, Result, Ok, Err, ⊤}
+use Rattle.protocol.specs.Ledger.{Work, Saved, saves, reads}
+use Rattle.protocol.specs.declared.answer.CoordRefusal.{CoordRefusal}
+use Rattle.protocol.specs.declared.answer.CoordRefusal.TheVariants.{Down, SaveFault, OutOfMemory, LoadFault}
+use Rattle.saverecord.specs.Ledgers.{Holds, saved_in}
+use Rattle.saverecord.specs.declared.refusal.KeeperRefusal.{KeeperRefusal}
+use Rattle.saverecord.specs.declared.refusal.KeeperRefusal.TheVariants.{Fault}
+use Rattle.coordinator.specs.Held.{ledger}
+use Rattle.coordinator.specs.Seen.{Seen}
+use Rattle.coordinator.specs.declared.handled.Handled.{Handled}
+
+-- the keeper was asked once to save a record that holds this
+pub record Saves {K : Type 0} (saving : K → List ℕ → Bool → K → Type 0) (s : Saved) (ok : Bool) (old new : K) : Type 0 where
+  pub bytes : List ℕ
+  pub holds : Holds bytes s
+  pub left : saving old bytes ok new
+
+-- the record is saved where it changed, and else the keeper is as it was
+abbrev pub SavesIf : {K : Type 0} → (K → List ℕ → Bool → K → Type 0) → Bool → Saved → K → K → Type 0
+SavesIf saving true s old new = Saves saving s true old new
+SavesIf saving false s old new = new ≡ old
+
+-- the work is saved and done, and what it sends is handed out
+pub record Does {K : Type 0} (saving : K → List ℕ → Bool → K → Type 0) (w : Work) (old new : Seen K) (h : Handled) : Type 0 where
+  pub saved : SavesIf saving w.changed (saves w.ledger) old.keeper new.keeper
+  pub ledger : ledger new.held ≡ w.ledger
+  pub up : new.down ≡ false
+  pub sends : h.sends ≡ w.sends
+  pub note : h.note ≡ w.note
+
+-- the save failed: nothing is sent, and nothing is done until the restart
+pub record Fails {K : Type 0} (saving : K → List ℕ → Bool → K → Type 0) (w : Work) (old new : Seen K) : Type 0 where
+  pub changed : w.changed ≡ true
+  pub saved : Saves saving (saves w.ledger) false old.keeper new.keeper
+  pub held : new.held ≡ old.held
+  pub down : new.down ≡ true
+
+-- the answer of a coordinator that is up, where the rules make this work of the event
+abbrev pub Answers : {K : Type 0} → (K → List ℕ → Bool → K → Type 0) → Result Work CoordRefusal → Seen K → Seen K → Result Handled CoordRefusal → Type 0
+Answers saving (Ok w) old new (Ok h) = Does saving w old new h
+Answers saving (Ok w) old new (Err SaveFault) = Fails saving w old new
+Answers saving (Ok w) old new (Err e) = (e ≡ OutOfMemory) × (new ≡ old)
+Answers saving (Err e) old new result = (result ≡ Err e) × (new ≡ old)
+
+-- a coordinator that is down does nothing
+abbrev pub SettlesWhile : {K : Type 0} → Bool → (K → List ℕ → Bool → K → Type 0) → Result Work CoordRefusal → Seen K → Seen K → Result Handled CoordRefusal → Type 0
+SettlesWhile true saving work old new result = (result ≡ Err Down) × (new ≡ old)
+SettlesWhile false saving work old new result = Answers saving work old new result
+
+-- the answer of a coordinator, where the rules make this work of the event
+abbrev pub Settles : {K : Type 0} → (K → List ℕ → Bool → K → Type 0) → Result Work CoordRefusal → Seen K → Seen K → Result Handled CoordRefusal → Type 0
+Settles saving work old new result = SettlesWhile old.down saving work old new result
+
+-- a restart takes up what the keeper's bytes hold
+pub record Restarts {K : Type 0} (loading : K → Option KeeperRefusal → K → Type 0) (bytes : List ℕ) (old new : Seen K) : Type 0 where
+  pub loaded : loading old.keeper None new.keeper
+  pub ledger : ledger new.held ≡ reads (saved_in bytes)
+  pub up : new.down ≡ false
+
+-- the answer of a restart
+abbrev pub Starts : {K : Type 0} → (K → Option KeeperRefusal → K → Type 0) → List ℕ → Seen K → Seen K → Result ⊤ CoordRefusal → Type 0
+Starts loading bytes old new (Ok done) = Restarts loading bytes old new
+Starts loading bytes old new (Err OutOfMemory) = ((refusal : Option KeeperRefusal) × loading old.keeper refusal new.keeper) × (new.held ≡ old.held) × (new.down ≡ old.down)
+Starts loading bytes old new (Err LoadFault) = loading old.keeper (Some Fault) new.keeper × (new.held ≡ old.held) × (new.down ≡ true)
+Starts loading bytes old new (Err e) = ⊥
