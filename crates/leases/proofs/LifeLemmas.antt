@@ -1,7 +1,6 @@
 -- The lives of nodes, and a life that is set.
 use mathlib.Core.Path.{fun_ext}
 use Rattle.std.proofs.Common.{◌≡◌, ◌≢◌, ℕ, zero, suc, ◌<◌, ◌≤◌, List, [], ◌∷◌, true, false, eqb, eq-eqb, cond, length, get_or, map, set, refl, sym, ◌∙◌, subst, inl, inr, arith}
-use Rattle.std.specs.Prelude.{All}
 use Rattle.std.specs.List.{insert}
 use Rattle.std.specs.List.Sorted.{IsStrictlyIncreasing}
 use Rattle.std.proofs.lemmas.Bool.{cases_eq, ne_eqb}
@@ -82,9 +81,6 @@ pub life_at-set : (ls : List NodeLife) (k : ℕ) (x : NodeLife) → AreLives ls 
 life_at-set ls k x sound place = fun_ext (λ j. set_at ls k x j (none_below_place x.node.0 (nodes_of ls) k sound.rise place) place.inside place.number)
 
 -- ---- lives in order
-
-pub lives-none : AreLives []
-lives-none = record { rise = λ k inside. absurd (omega arith); counted = λ k d inside. absurd (omega arith) }
 
 pub lives-insert : (ls : List NodeLife) (k : ℕ) (x : NodeLife) → AreLives ls → IsGap x.node.0 (nodes_of ls) k → 1 ≤ x.life.0 → AreLives (insert ls k x)
 lives-insert ls k x sound gap counted = record {

@@ -1,5 +1,5 @@
 -- Places in numbers that rise, and a number that is inserted.
-use Rattle.std.proofs.Common.{◌≡◌, ◌≢◌, ℕ, zero, suc, ◌+◌, ◌<◌, ◌≤◌, List, [], ◌∷◌, false, length, get_or, map, Result, Ok, Err, Ordering, refl, sym, ◌∙◌, ap, inl, inr, arith}
+use Rattle.std.proofs.Common.{◌≡◌, ◌≢◌, ℕ, zero, suc, ◌+◌, ◌<◌, ◌≤◌, List, [], ◌∷◌, false, length, get_or, map, Result, Ok, Err, refl, ◌∙◌, ap, inl, inr, arith}
 use Rattle.std.specs.Prelude.{MatchResult}
 use Rattle.std.specs.List.{insert}
 use Rattle.std.specs.List.Sorted.{IsStrictlyIncreasing, IsSortedBy, IsSearchInRange, IsBinarySearchResult}
@@ -58,7 +58,7 @@ map-insert f [] (suc k) x = refl
 map-insert f (y ∷ xs) zero x = refl
 map-insert f (y ∷ xs) (suc k) x = ap (λ zs. f y ∷ zs) (map-insert f xs k x)
 
--- numbers rise before which a lower one is put
+-- numbers that rise still rise behind a lower one
 cons_rises : (m : ℕ) (ns : List ℕ) → (0 < length ns → m < get_or ns 0 0) → IsStrictlyIncreasing ns → IsStrictlyIncreasing (m ∷ ns)
 cons_rises m ns below up zero inside = below (omega arith)
 cons_rises m ns below up (suc k) inside = (let e : suc k + 1 ≡ suc (k + 1) = omega arith in rw e (up k (omega arith)))
@@ -75,7 +75,7 @@ tail_gap n m ns k gap =
       above = λ i low lt. gap.above (suc i) (omega arith) (omega arith);
     }
 
--- numbers that rise still rise with one more in its gap
+-- numbers that rise still rise with one more in its place
 pub insert_rises : (n : ℕ) (ns : List ℕ) (k : ℕ) → IsStrictlyIncreasing ns → IsGap n ns k → IsStrictlyIncreasing (insert ns k n)
 insert_rises n ns zero up gap = cons_rises n ns (λ some. gap.above 0 (omega arith) some) up
 insert_rises n [] (suc k) up gap = (let inside : suc k ≤ 0 = gap.inside in absurd (omega arith))
@@ -99,7 +99,7 @@ none_below_place n ns k up place i lt e =
     let at = place.number in
     absurd (omega arith)
 
--- it stands nowhere
+-- a number with a gap stands nowhere
 pub none_in_gap : (n : ℕ) (ns : List ℕ) (k : ℕ) → IsGap n ns k → NoneBelow n ns (length ns)
 none_in_gap n ns k gap i lt e = elim (cases_lt i k) [
   | inl low ↦ (let below = gap.below i low in absurd (omega arith))

@@ -1,4 +1,4 @@
-//! Tickets, and the leases that they number. The lives and the retired nodes of a farm.
+//! Tickets, the leases that they number, and the lives and retirement of nodes.
 #![tactic(auto)]
 
 mod laws;

@@ -36,7 +36,7 @@ fn place_of(lives: &[NodeLife], node: NodeId) -> Result<usize, usize>
 }
 
 impl Lives {
-    /// The lives of a farm of which no node was seen.
+    /// The lives before any node was seen.
     pub fn new(alloc: Global) -> Self
         ensures { result ≡ [] }
     {

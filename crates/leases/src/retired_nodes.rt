@@ -35,7 +35,7 @@ fn place_of(nodes: &[NodeId], node: NodeId) -> Result<usize, usize>
 }
 
 impl RetiredNodes {
-    /// The retired nodes of a farm that has retired none.
+    /// No node is retired.
     pub fn new(alloc: Global) -> Self
         ensures { result ≡ [] }
     {

@@ -1,7 +1,6 @@
 use Rattle.std.proofs.Common.{List, ◌∙◌, ap, sym, subst}
 use Rattle.farm_base.specs.declared.lease.NodeLife.{NodeLife}
 use Rattle.leases.specs.Places.{IsPlace, IsGap}
-use Rattle.leases.specs.Table.{life_at}
 use Rattle.leases.proofs.LifeLemmas.{nodes_of, life_at-place, life_at-gap}
 use Rattle.leases.proofs.lives.Lives.greatest.Goals as goal
 
