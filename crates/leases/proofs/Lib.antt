@@ -3,3 +3,6 @@ pub mod TableLemmas
 pub mod LowestLaw
 pub mod RetiredLemmas
 pub mod RisingLemmas
+pub mod PlaceLemmas
+pub mod LifeLemmas
+pub mod NodeLemmas
