@@ -64,22 +64,6 @@ sound-withdraws g w s =
 
 -- ---- retire
 
-gone_at : (a b c : Bool) → (a ≡ true → b ≡ true) → (b ≡ true → a ≡ true) → (c || (a || false)) ≡ cond b true c
-gone_at true true true f g = refl
-gone_at true true false f g = refl
-gone_at true false c f g = (let bad : false ≡ true = f refl in absurd (cc bad))
-gone_at false true c f g = (let bad : false ≡ true = g refl in absurd (cc bad))
-gone_at false false true f g = refl
-gone_at false false false f g = refl
-
-eqb_turned : (a b : ℕ) → eqb a b ≡ true → eqb b a ≡ true
-eqb_turned a b e = subst (λ z. eqb z a ≡ true) (eqb-true a b e) (eqb_same a)
-
--- one node more is retired
-pub gone-more : (nodes : List NodeId) (n : NodeId) → is_among (nodes ++ n ∷ []) ≡ put n.0 true (is_among nodes)
-gone-more nodes n =
-    fun_ext (λ m. list_any-append (λ node. eqb node.0 m) nodes (n ∷ []) ∙ gone_at (eqb n.0 m) (eqb m n.0) (is_among nodes m) (eqb_turned n.0 m) (eqb_turned m n.0))
-
 -- what passes two tests
 passed : (a b : Bool) (x y : CoordRefusal) (r : Work) → result_err (cond a (Err x) (cond b (Err y) (Ok r))) ≡ None → (a ≡ false) × (b ≡ false)
 passed true b x y r h = absurd (cc)

@@ -77,30 +77,6 @@ decision-give k q p e h le ne = decision-is k q p ∙ picks_give _ _ _ _ e h (lo
 pub decision-tickets : (k : Limits) (q : Ledger) (p : Parked) → elsewhere q p ≡ false → room_for k q p ≡ fit.Fits → q.last ≡ k.greatest → decision k q p ≡ Deny TicketsSpent
 decision-tickets k q p e h same = decision-is k q p ∙ picks_last _ _ _ _ e h (equal q.last k.greatest same)
 
--- ---- lives
-
-life_at-set : (ls : List NodeLife) (node : NodeId) (life : Life) (n : ℕ) → life_at (filter (λ s. not (eqb s.node.0 node.0)) ls ++ record { node = node; life = life } ∷ []) n ≡ put node.0 life.0 (life_at ls) n
-life_at-set [] node life n = elim (cases_eq n node.0) [
-  | inl e ↦ (let t : eqb node.0 n ≡ true = subst (λ (z : ℕ). eqb node.0 z ≡ true) (sym e) (eqb_same node.0) in let u : eqb n node.0 ≡ true = subst (λ (z : ℕ). eqb n z ≡ true) e (eqb_same n) in rw (t, u) refl)
-  | inr ne ↦ (let t : eqb node.0 n ≡ false = ne_eqb node.0 n (λ h. ne (sym h)) in let u : eqb n node.0 ≡ false = ne_eqb n node.0 ne in rw (t, u) refl)
-]
-life_at-set (l ∷ ls) node life n = elim (cases_eq l.node.0 node.0) [
-  | inl e ↦ (let t : eqb l.node.0 node.0 ≡ true = subst (λ (z : ℕ). eqb l.node.0 z ≡ true) e (eqb_same l.node.0) in
-      rw t (life_at-set ls node life n ∙ elim (cases_eq n node.0) [
-        | inl f ↦ (let g : eqb n node.0 ≡ true = subst (λ (z : ℕ). eqb n z ≡ true) f (eqb_same n) in rw g refl)
-        | inr ne ↦ (let g : eqb n node.0 ≡ false = ne_eqb n node.0 ne in let h : eqb l.node.0 n ≡ false = ne_eqb l.node.0 n (λ k. ne (sym k ∙ e)) in rw (g, h) refl)
-      ]))
-  | inr ne ↦ (let t : eqb l.node.0 node.0 ≡ false = ne_eqb l.node.0 node.0 ne in
-      rw t (elim (cases_eq l.node.0 n) [
-        | inl f ↦ (let g : eqb l.node.0 n ≡ true = subst (λ (z : ℕ). eqb l.node.0 z ≡ true) f (eqb_same l.node.0) in let h : eqb n node.0 ≡ false = ne_eqb n node.0 (λ k. ne (f ∙ k)) in rw (g, h) refl)
-        | inr nf ↦ (let g : eqb l.node.0 n ≡ false = ne_eqb l.node.0 n nf in rw g (life_at-set ls node life n))
-      ]))
-]
-
--- the life of a node that is set anew
-pub set-life : (ls : List NodeLife) (node : NodeId) (life : Life) → life_at (filter (λ s. not (eqb s.node.0 node.0)) ls ++ record { node = node; life = life } ∷ []) ≡ put node.0 life.0 (life_at ls)
-set-life ls node life = fun_ext (life_at-set ls node life)
-
 -- ---- the slots of news
 
 -- at the end of the slots that may be written the news are at their end too

@@ -10,12 +10,12 @@ abbrev pub held : State → List SlotLine → Held
 held s lines = record {
   live = s.table.live;
   retired = s.table.retired;
-  gone = s.gone.items;
+  gone = s.gone;
   lines = lines;
   last = s.tickets.position;
   ceiling = s.tickets.ceiling;
   old_home = s.old_home;
-  lives = s.lives.items;
+  lives = s.lives;
   parked = s.parked.items;
 }
 

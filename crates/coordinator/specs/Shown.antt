@@ -14,12 +14,12 @@ abbrev pub kept : LineOf → State → Ledger
 kept line s = record {
   live = s.table.live;
   retired = among s.table.retired;
-  gone = is_among s.gone.items;
+  gone = is_among s.gone;
   line = line;
   last = s.tickets.position;
   ceiling = s.tickets.ceiling;
   old_home = s.old_home;
-  lives = life_at s.lives.items;
+  lives = life_at s.lives;
   parked = s.parked.items;
 }
 

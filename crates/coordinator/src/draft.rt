@@ -12,8 +12,7 @@ ghost use Rattle.coordinator.specs.Sound.{IsSound};
 ghost use Rattle.versions.specs.Additions.{IsReady};
 
 use super::state::{
-    State, cleared, drop_older_asks, grant_of, is_among, is_home, is_parked, is_saved,
-    is_some_saved, seen_life, set_life,
+    State, cleared, drop_older_asks, grant_of, is_home, is_parked, is_saved, is_some_saved,
 };
 use farm_base::{
     Copied, FromCoord, Grant, Items, Life, News, NodeId, Parked, Request, Ticket, ToCoord, Why,
@@ -344,13 +343,14 @@ impl Draft {
 
     /// Ends what a newer life of a node ends, and says whether the parked asks are to be tried.
     fn see(&mut self, node: NodeId, life: Life) -> Result<bool, AllocError>
+        requires { 1 ≤ life.0 }
         ensures work { OnOk result ((line : LineOf) → shown line self.new ≡ sees node life (shown line self.old)) }
         ensures due { IfOk result (λ due. due ≡ (list_any (is_older node life) self.old.state.table.live || is_home node self.old.state.old_home)) }
     {
         let was_home = is_home(node, self.state.old_home);
         let ended = self.state.table.end_lives_below(node, life);
         drop_older_asks(&mut self.state.parked, node, life);
-        set_life(&mut self.state.lives, node, life)?;
+        self.state.lives.set(node, life)?;
         self.state.old_home = cleared(node, self.state.old_home);
         self.changed = true;
         Ok(is_due(ended, was_home))
@@ -364,7 +364,8 @@ impl Draft {
         node: NodeId,
         life: Life,
     ) -> Result<(), AllocError>
-        requires { IsSound (kept (line_at lines.now) self.old.state) }
+        requires sound { IsSound (kept (line_at lines.now) self.old.state) }
+        requires life { 1 ≤ life.0 }
         ensures { OnOk result (shown (line_at lines.now) self.new ≡ newer_life farm_limits node life (shown (line_at lines.now) self.old)) }
     {
         if !self.see(node, life)? {
@@ -429,11 +430,11 @@ impl Draft {
             ≡ handled farm_limits message.now (shown (line_at lines.now) self.old)) }
         ensures ready { IfOk result (IsReady lines.now) }
     {
-        if is_among(self.state.gone.as_slice(), message.node) {
+        if self.state.gone.contains(message.node) {
             self.note = CoordNote::NodeRetired;
             return Ok(None);
         }
-        let seen = seen_life(self.state.lives.as_slice(), message.node);
+        let seen = self.state.lives.greatest(message.node);
         if message.life.0 < seen {
             self.note = CoordNote::OldLife;
             return Ok(None);

@@ -12,7 +12,7 @@ ghost use Rattle.coordinator.specs.Shown.{LineOf, having_said, kept, shown, with
 ghost use Rattle.coordinator.specs.Sound.{IsSound};
 
 use super::draft::Draft;
-use super::state::{State, add_gone, drop_asks_of, grant_of, is_among, is_home, is_some_saved};
+use super::state::{State, drop_asks_of, grant_of, is_home, is_some_saved};
 use farm_base::{Copied, FromCoord, Lease, News, NodeId, Parked, Slot, Ticket, empty_digest};
 use leases::holds_wanted;
 use protocol::{CoordNote, CoordRefusal};
@@ -56,7 +56,7 @@ impl State {
     pub(crate) fn retirement_refusal(&self, node: NodeId) -> Option<CoordRefusal>
         ensures { (line : LineOf) → result ≡ result_err (retired farm_limits node (begin_work (kept line self.now))) }
     {
-        if is_among(self.gone.as_slice(), node) {
+        if self.gone.contains(node) {
             Some(CoordRefusal::NodeRetired)
         } else if self.table.has_tenure_of(node) || is_home(node, self.old_home) {
             Some(CoordRefusal::TenureHeld)
@@ -167,7 +167,7 @@ impl Draft {
     {
         self.state.table.withdraw_all_of(alloc, node)?;
         drop_asks_of(&mut self.state.parked, node);
-        add_gone(&mut self.state.gone, node)?;
+        self.state.gone.insert(node)?;
         self.changed = true;
         Ok(())
     }

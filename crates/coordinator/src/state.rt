@@ -6,17 +6,14 @@ ghost use Rattle.leases.specs.Table.{fit_of};
 ghost use Rattle.leases.specs.Tickets.{Tickets};
 ghost use Rattle.std.specs.List.{list_any};
 ghost use Rattle.protocol.specs.Names.{slots_eq, is_private};
-ghost use Rattle.protocol.specs.Lists.{put};
 ghost use Rattle.protocol.specs.Machine.{slots_of, cleared};
 ghost use Rattle.protocol.specs.Ledger.{decision, elsewhere, grant_of, is_saved, is_parked, is_older_ask, is_home, writable_slots, may_commit, may_release, lease_under};
-ghost use Rattle.coordinator.specs.Held.{life_at, is_among};
 ghost use Rattle.coordinator.specs.Shown.{LineOf, kept, lines_with, saved_under};
 
 use farm_base::{
-    Ask, Copied, Grant, Items, Lease, Life, Mode, News, NodeId, NodeLife, Parked, Slot, Ticket,
-    Why, copy_all,
+    Ask, Copied, Grant, Items, Lease, Life, Mode, News, NodeId, Parked, Slot, Ticket, Why, copy_all,
 };
-use leases::{Fit, LeaseTable, TicketSource};
+use leases::{Fit, LeaseTable, Lives, RetiredNodes, TicketSource};
 use protocol::Decision;
 use std::alloc::{AllocError, Global};
 use versions::{Added, Lines, granted_slots};
@@ -26,47 +23,10 @@ use versions::{Added, Lines, granted_slots};
 pub struct State {
     pub table: LeaseTable,
     pub tickets: TicketSource,
-    pub lives: Vec<NodeLife>,
-    pub gone: Vec<NodeId>,
+    pub lives: Lives,
+    pub gone: RetiredNodes,
     pub old_home: Option<NodeId>,
     pub parked: Vec<Parked>,
-}
-
-/// The greatest life seen of a node, 0 where none was.
-pub(crate) fn seen_life(lives: &[NodeLife], node: NodeId) -> u64
-    ensures { result ≡ life_at lives.now node.0 }
-{
-    for seen in lives {
-        if seen.node == node {
-            return seen.life.0;
-        }
-    }
-    0
-}
-
-fn drop_life(lives: &mut Vec<NodeLife>, node: NodeId)
-    ensures { lives.new.items ≡ filter (λ seen. not (seen.node.0 == node.0)) lives.old.items }
-{
-    lives.retain(|seen| seen.node != node);
-}
-
-/// Sets the greatest life seen of the node.
-pub(crate) fn set_life(
-    lives: &mut Vec<NodeLife>,
-    node: NodeId,
-    life: Life,
-) -> Result<(), AllocError>
-    ensures { OnOk result (life_at lives.new.items ≡ put node.0 life.0 (life_at lives.old.items)) }
-{
-    drop_life(lives, node);
-    lives.push(NodeLife { node, life })?;
-    Ok(())
-}
-
-pub(crate) fn is_among(nodes: &[NodeId], node: NodeId) -> bool
-    ensures { result ≡ is_among nodes.now node.0 }
-{
-    nodes.iter().any(|other| *other == node)
 }
 
 pub(crate) fn is_parked(parked: &[Parked], node: NodeId, life: Life, ask: Ask) -> bool
@@ -82,14 +42,6 @@ pub(crate) fn drop_older_asks(parked: &mut Vec<Parked>, node: NodeId, life: Life
     ensures { parked.new.items ≡ filter (λ p. not (is_older_ask node life p)) parked.old.items }
 {
     parked.retain(|p| !(p.node == node && p.life < life));
-}
-
-/// Marks the node as retired.
-pub(crate) fn add_gone(gone: &mut Vec<NodeId>, node: NodeId) -> Result<(), AllocError>
-    ensures { OnOk result (is_among gone.new.items ≡ put node.0 true (is_among gone.old.items)) }
-{
-    gone.push(node)?;
-    Ok(())
 }
 
 /// Drops the asks of a node.
@@ -186,8 +138,8 @@ impl State {
         Ok(State {
             table: self.table.copy(alloc)?,
             tickets: self.tickets.copy(alloc)?,
-            lives: Vec::from_slice(alloc, self.lives.as_slice())?,
-            gone: Vec::from_slice(alloc, self.gone.as_slice())?,
+            lives: self.lives.copy(alloc)?,
+            gone: self.gone.copy(alloc)?,
             old_home: self.old_home,
             parked: copy_all(alloc, self.parked.as_slice())?,
         })

@@ -12,7 +12,7 @@ pub retry-requires : goal.retry-requires
 retry-requires c =
     let line : LineOf = line_at c.args.lines.now in
     let P : Work → Type 0 = λ w. IsSound w.ledger in
-    subst P (sym (c.in_ok-see.ensures.work line)) (sound-sees c.args.node c.args.life (shown line c.args.self.now) c.requires)
+    subst P (sym (c.in_ok-see.ensures.work line)) (sound-sees c.args.node c.args.life (shown line c.args.self.now) c.requires.sound)
 
 pub returns-then-not-branch : goal.returns-then-not-branch
 returns-then-not-branch c =

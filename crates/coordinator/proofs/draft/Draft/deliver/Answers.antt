@@ -1,9 +1,7 @@
-use Rattle.std.proofs.Common.{◌≡◌, ◌<◌, ◌≤◌, true, false, List, ap, sym, ◌∙◌, subst, arith}
+use Rattle.std.proofs.Common.{◌≡◌, ◌<◌, ◌≤◌, true, false, ap, sym, ◌∙◌, subst, arith}
 use Rattle.protocol.specs.Farm.{farm_limits}
-use Rattle.protocol.specs.Names.{NodeId}
 use Rattle.protocol.specs.Machine.{ToCoord}
-use Rattle.farm_base.specs.declared.lease.NodeLife.{NodeLife}
-use Rattle.coordinator.specs.Held.{line_at, is_among, life_at}
+use Rattle.coordinator.specs.Held.{line_at}
 use Rattle.coordinator.specs.Shown.{LineOf, shown}
 use Rattle.coordinator.specs.Sound.{IsSound}
 use Rattle.protocol.specs.Ledger.{Work, answering}
@@ -11,20 +9,20 @@ use Rattle.coordinator.proofs.Trying.{handled-gone, handled-old, handled-new, ha
 use Rattle.coordinator.proofs.SoundWords.{sound-newer_life}
 use Rattle.coordinator.proofs.draft.Draft.deliver.Goals as goal
 
-pub returns-then-is_among-clause-work : goal.returns-then-is_among-clause-work
-returns-then-is_among-clause-work c =
+pub returns-then-contains-clause-work : goal.returns-then-contains-clause-work
+returns-then-contains-clause-work c =
     let y : ToCoord = c.args.message.now in
     let w : Work = shown (line_at c.args.lines.now) c.args.self.now in
-    let gone : w.ledger.gone y.node.0 ≡ true = ap (λ (xs : List NodeId). is_among xs y.node.0) (sym c.as_slice.ensures.value) ∙ sym c.is_among.ensures ∙ c.if-is_among.true in
+    let gone : w.ledger.gone y.node.0 ≡ true = sym c.contains.ensures ∙ c.if-contains.true in
     sym (handled-gone farm_limits y w gone)
 
 pub returns-then-message-seen-clause-work : goal.returns-then-message-seen-clause-work
 returns-then-message-seen-clause-work c =
     let y : ToCoord = c.args.message.now in
     let w : Work = shown (line_at c.args.lines.now) c.args.self.now in
-    let gone : w.ledger.gone y.node.0 ≡ false = ap (λ (xs : List NodeId). is_among xs y.node.0) (sym c.as_slice.ensures.value) ∙ sym c.is_among.ensures ∙ c.if-is_among.false in
-    let seen : c.seen_life-seen.result ≡ w.ledger.lives y.node.0 = c.seen_life-seen.ensures ∙ ap (λ (xs : List NodeLife). life_at xs y.node.0) c.as_slice-2.ensures.value in
-    let older : y.life.0 < c.seen_life-seen.result = c.if-message-seen.true in
+    let gone : w.ledger.gone y.node.0 ≡ false = sym c.contains.ensures ∙ c.if-contains.false in
+    let seen : c.greatest-seen.result ≡ w.ledger.lives y.node.0 = c.greatest-seen.ensures in
+    let older : y.life.0 < c.greatest-seen.result = c.if-message-seen.true in
     sym (handled-old farm_limits y w gone (omega arith))
 
 pub answer-requires : goal.answer-requires
@@ -37,17 +35,17 @@ pub returns-then-seen-message-clause-work : goal.returns-then-seen-message-claus
 returns-then-seen-message-clause-work c =
     let y : ToCoord = c.args.message.now in
     let w : Work = shown (line_at c.args.lines.now) c.args.self.now in
-    let gone : w.ledger.gone y.node.0 ≡ false = ap (λ (xs : List NodeId). is_among xs y.node.0) (sym c.as_slice.ensures.value) ∙ sym c.is_among.ensures ∙ c.if-is_among.false in
-    let seen : c.seen_life-seen.result ≡ w.ledger.lives y.node.0 = c.seen_life-seen.ensures ∙ ap (λ (xs : List NodeLife). life_at xs y.node.0) c.as_slice-2.ensures.value in
-    let newer : c.seen_life-seen.result < y.life.0 = c.if-seen-message.true in
+    let gone : w.ledger.gone y.node.0 ≡ false = sym c.contains.ensures ∙ c.if-contains.false in
+    let seen : c.greatest-seen.result ≡ w.ledger.lives y.node.0 = c.greatest-seen.ensures in
+    let newer : c.greatest-seen.result < y.life.0 = c.if-seen-message.true in
     c.in_ok-added.ensures.work ∙ ap (answering farm_limits y.node y.life y.request) c.in_ok-begin_life.ensures ∙ sym (handled-new farm_limits y w gone (omega arith))
 
 pub returns-clause-work : goal.returns-clause-work
 returns-clause-work c =
     let y : ToCoord = c.args.message.now in
     let w : Work = shown (line_at c.args.lines.now) c.args.self.now in
-    let gone : w.ledger.gone y.node.0 ≡ false = ap (λ (xs : List NodeId). is_among xs y.node.0) (sym c.as_slice.ensures.value) ∙ sym c.is_among.ensures ∙ c.if-is_among.false in
-    let seen : c.seen_life-seen.result ≡ w.ledger.lives y.node.0 = c.seen_life-seen.ensures ∙ ap (λ (xs : List NodeLife). life_at xs y.node.0) c.as_slice-2.ensures.value in
-    let high : c.seen_life-seen.result ≤ y.life.0 = c.if-message-seen.false in
-    let low : y.life.0 ≤ c.seen_life-seen.result = c.if-seen-message.false in
+    let gone : w.ledger.gone y.node.0 ≡ false = sym c.contains.ensures ∙ c.if-contains.false in
+    let seen : c.greatest-seen.result ≡ w.ledger.lives y.node.0 = c.greatest-seen.ensures in
+    let high : c.greatest-seen.result ≤ y.life.0 = c.if-message-seen.false in
+    let low : y.life.0 ≤ c.greatest-seen.result = c.if-seen-message.false in
     c.in_ok-added-2.ensures.work ∙ sym (handled-same farm_limits y w gone (omega arith) (omega arith))
