@@ -8,3 +8,5 @@ pub mod Prunes
 pub mod OwnSends
 pub mod Recording
 pub mod Rightful
+pub mod Records
+pub mod Keeping

@@ -1,21 +1,15 @@
 -- The operator's calls, by what they are accepted for.
-use mathlib.Core.Path.{fun_ext}
-use Rattle.std.proofs.Common.{◌≡◌, ℕ, List, [], ◌∷◌, ◌++◌, Bool, true, false, not, ◌||◌, ◌&&◌, eqb, cond, Option, Some, None, Result, Ok, Err, refl, sym, ◌∙◌, ap, subst}
-use Rattle.std.proofs.lemmas.Bool.{eqb-true}
+use Rattle.std.proofs.Common.{◌≡◌, Bool, true, false, not, ◌||◌, ◌&&◌, eqb, cond, Option, Some, None, Result, Ok, Err, refl, sym, ◌∙◌, ap}
 use Rattle.std.specs.List.{list_any}
 use Rattle.std.specs.Result.{result_err}
 use Rattle.std.proofs.lemmas.List.Elements.{All-filter}
-use Rattle.std.proofs.lemmas.List.Folds.{list_any-append}
 use Rattle.farm_base.specs.Wanted.{IsWants}
-use Rattle.protocol.specs.Lists.{put}
 use Rattle.leases.specs.Table.{retires_some}
 use Rattle.protocol.specs.Names.{NodeId, Ticket}
 use Rattle.protocol.specs.declared.answer.CoordNote.TheVariants as note
 use Rattle.protocol.specs.declared.answer.CoordRefusal.{CoordRefusal}
 use Rattle.protocol.specs.declared.answer.CoordRefusal.TheVariants as refusal
 use Rattle.protocol.specs.Ledger.{Limits, Lease, Work, without, lease_under, has_ticket, retried, notes, withdraws, withdrawing, withdrawn, is_at, is_home, goes, retired}
-use Rattle.protocol.proofs.Base.{eqb_same}
-use Rattle.coordinator.specs.Held.{is_among}
 use Rattle.coordinator.specs.Shown.{saved_under, withdraws_under}
 use Rattle.coordinator.specs.Sound.{IsSound}
 use Rattle.coordinator.proofs.Trying.{ticket-found}

@@ -1,6 +1,6 @@
 -- Where a call doesn't say that the record changed, it is as before.
-use Rattle.std.proofs.Common.{◌≡◌, ◌<◌, ◌≤◌, suc, List, [], ◌∷◌, Result, Ok, Err, inl, inr, sym, ap, ◌∙◌, subst, arith}
-use Rattle.std.specs.Prelude.{All, AllPairs}
+use Rattle.std.proofs.Common.{◌≡◌, ◌<◌, ◌≤◌, List, [], ◌∷◌, Result, Ok, Err, inl, inr, sym, ap, ◌∙◌, arith}
+use Rattle.std.specs.Prelude.{AllPairs}
 use Rattle.protocol.specs.Farm.{farm_limits}
 use Rattle.leases.specs.Leases.{IsBefore}
 use Rattle.protocol.specs.Lists.{In}

@@ -1,12 +1,12 @@
 -- A ledger stays one that the coordinator may keep.
-use Rattle.std.proofs.Common.{◌≡◌, Result, Ok, Err, subst}
+use Rattle.std.proofs.Common.{◌≡◌, Result, Ok, subst}
 use Rattle.farm_base.specs.declared.limits.TheConstants.{NODES}
 use Rattle.farm_base.specs.declared.message.Request.{Request}
 use Rattle.farm_base.specs.declared.message.Request.TheVariants.{Hello, Acquire, Commit, Release}
 use Rattle.protocol.specs.Names.{NodeId, Slot, Ticket}
 use Rattle.protocol.specs.Machine.{ToCoord}
 use Rattle.protocol.specs.declared.answer.CoordRefusal.{CoordRefusal}
-use Rattle.protocol.specs.Ledger.{Limits, Ledger, Work, opening, begin_work, handled, withdrawn, retired, pruned}
+use Rattle.protocol.specs.Ledger.{Limits, Ledger, Work, begin_work, handled, withdrawn, retired, pruned}
 use Rattle.protocol.specs.Lawful.{IsNumber, IsSaid, IsLawfulWork}
 use Rattle.protocol.specs.Lawful as lawful
 use Rattle.protocol.proofs.Lawfulness.{every_ledger_stays_lawful}

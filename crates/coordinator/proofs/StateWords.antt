@@ -1,22 +1,15 @@
 -- Decisions, lives, and the slots of news.
-use mathlib.Core.Path.{fun_ext}
-use Rattle.std.proofs.Common.{◌≡◌, ◌≢◌, ℕ, zero, suc, ◌≤◌, List, [], ◌∷◌, ◌++◌, Bool, true, false, not, eqb, length, filter, drop, refl, sym, ◌∙◌, subst, inl, inr, arith}
-use Rattle.std.proofs.lemmas.Bool.{cases_eq, ne_eqb}
+use Rattle.std.proofs.Common.{◌≡◌, ◌≢◌, ℕ, zero, suc, ◌≤◌, List, [], ◌∷◌, Bool, true, false, not, eqb, length, drop, refl, sym, ◌∙◌, arith}
+use Rattle.std.proofs.lemmas.Bool.{ne_eqb}
 use Rattle.std.specs.Prelude.{nat_lt}
 use Rattle.std.proofs.lemmas.Bool.Decides.{nat_tests}
 use Rattle.farm_base.specs.declared.message.Why.TheVariants.{InstancesSpent, TicketsSpent}
-use Rattle.farm_base.specs.declared.number.Life.{Life}
-use Rattle.farm_base.specs.declared.number.NodeId.{NodeId}
 use Rattle.leases.specs.declared.lease_table.Fit.TheVariants as fit
 use Rattle.leases.specs.Table.{first_fit}
-use Rattle.protocol.specs.Lists.{put}
 use Rattle.protocol.specs.Names.{slots_eq, leased_wants}
 use Rattle.protocol.specs.Machine.{News, slots_of, Parked}
 use Rattle.protocol.specs.Ledger.{Limits, Ledger, pick, decision, elsewhere, all_taken, busy, is_free, is_leased}
 use Rattle.protocol.specs.declared.answer.Decision.TheVariants.{Give, Deny, Wait}
-use Rattle.farm_base.specs.declared.lease.NodeLife.{NodeLife}
-use Rattle.coordinator.specs.Held.{life_at}
-use Rattle.protocol.proofs.Base.{eqb_same}
 
 pub decision-is : (k : Limits) (q : Ledger) (p : Parked) → decision k q p ≡ pick (elsewhere q p) (all_taken k.instances (is_free q) (leased_wants p.tenure p.wants)) (busy (is_leased q) (leased_wants p.tenure p.wants)) (not (nat_lt q.last k.greatest))
 unfolding decision

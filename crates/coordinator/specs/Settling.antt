@@ -2,11 +2,12 @@
 use Rattle.std.specs.Prelude.{◌≡◌, ℕ, Bool, true, false, List, Option, Some, None, Result, Ok, Err, ⊤}
 use Rattle.protocol.specs.Ledger.{Work, Saved, saves, reads}
 use Rattle.protocol.specs.declared.answer.CoordRefusal.{CoordRefusal}
-use Rattle.protocol.specs.declared.answer.CoordRefusal.TheVariants.{Down, SaveFault, OutOfMemory, LoadFault}
-use Rattle.saverecord.specs.Ledgers.{Holds, saved_in}
+use Rattle.protocol.specs.declared.answer.CoordRefusal.TheVariants.{Down, SaveFault, BadRecord, LoadFault, OutOfMemory}
+use Rattle.saverecord.specs.Ledgers.{Holds, record_in, saved_in}
+use Rattle.saverecord.specs.declared.refusal.RecordRefusal.{RecordRefusal}
 use Rattle.saverecord.specs.declared.refusal.KeeperRefusal.{KeeperRefusal}
 use Rattle.saverecord.specs.declared.refusal.KeeperRefusal.TheVariants.{Fault}
-use Rattle.coordinator.specs.Held.{ledger}
+use Rattle.coordinator.specs.Held.{Held, ledger}
 use Rattle.coordinator.specs.Seen.{Seen}
 use Rattle.coordinator.specs.declared.handled.Handled.{Handled}
 
@@ -52,15 +53,23 @@ SettlesWhile false saving work old new result = Answers saving work old new resu
 abbrev pub Settles : {K : Type 0} → (K → List ℕ → Bool → K → Type 0) → Result Work CoordRefusal → Seen K → Seen K → Result Handled CoordRefusal → Type 0
 Settles saving work old new result = SettlesWhile old.down saving work old new result
 
+-- the answer of a load of the record that these bytes hold
+abbrev pub Loads : {K : Type 0} → (K → Option KeeperRefusal → K → Type 0) → List ℕ → K → K → Result Held CoordRefusal → Type 0
+Loads loading bytes old new (Ok held) = loading old None new × ((s : Saved) × Holds bytes s) × (ledger held ≡ reads (saved_in bytes))
+Loads loading bytes old new (Err BadRecord) = loading old None new × ((e : RecordRefusal) × (record_in bytes ≡ Err e))
+Loads loading bytes old new (Err LoadFault) = loading old (Some Fault) new
+Loads loading bytes old new (Err OutOfMemory) = (refusal : Option KeeperRefusal) × loading old refusal new
+Loads loading bytes old new (Err e) = ⊥
+
 -- a restart takes up what the keeper's bytes hold
-pub record Restarts {K : Type 0} (loading : K → Option KeeperRefusal → K → Type 0) (bytes : List ℕ) (old new : Seen K) : Type 0 where
-  pub loaded : loading old.keeper None new.keeper
+pub record TakesUp {K : Type 0} (loading : K → Option KeeperRefusal → K → Type 0) (bytes : List ℕ) (old : K) (new : Seen K) : Type 0 where
+  pub loaded : loading old None new.keeper
   pub ledger : ledger new.held ≡ reads (saved_in bytes)
   pub up : new.down ≡ false
 
--- the answer of a restart
-abbrev pub Starts : {K : Type 0} → (K → Option KeeperRefusal → K → Type 0) → List ℕ → Seen K → Seen K → Result ⊤ CoordRefusal → Type 0
-Starts loading bytes old new (Ok done) = Restarts loading bytes old new
-Starts loading bytes old new (Err OutOfMemory) = ((refusal : Option KeeperRefusal) × loading old.keeper refusal new.keeper) × (new.held ≡ old.held) × (new.down ≡ old.down)
-Starts loading bytes old new (Err LoadFault) = loading old.keeper (Some Fault) new.keeper × (new.held ≡ old.held) × (new.down ≡ true)
-Starts loading bytes old new (Err e) = ⊥
+-- the answer of a restart: where the keeper's device fails the coordinator is down, where memory runs out it is as it was
+abbrev pub Restarts : {K : Type 0} → (K → Option KeeperRefusal → K → Type 0) → List ℕ → Seen K → Seen K → Result ⊤ CoordRefusal → Type 0
+Restarts loading bytes old new (Ok done) = TakesUp loading bytes old.keeper new
+Restarts loading bytes old new (Err LoadFault) = loading old.keeper (Some Fault) new.keeper × (new.held ≡ old.held) × (new.down ≡ true)
+Restarts loading bytes old new (Err OutOfMemory) = ((refusal : Option KeeperRefusal) × loading old.keeper refusal new.keeper) × (new.held ≡ old.held) × (new.down ≡ old.down)
+Restarts loading bytes old new (Err e) = ⊥

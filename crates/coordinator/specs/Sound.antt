@@ -1,5 +1,5 @@
 -- What a ledger keeps to.
-use Rattle.std.specs.Prelude.{◌≤◌, List, All}
+use Rattle.std.specs.Prelude.{◌≤◌, All}
 use Rattle.farm_base.specs.Wanted.{IsWants}
 use Rattle.farm_base.specs.declared.limits.TheConstants.{NODES}
 use Rattle.farm_base.specs.declared.message.Request.{Request}

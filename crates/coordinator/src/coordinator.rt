@@ -1,4 +1,4 @@
-ghost use Rattle.std.specs.Prelude.{◌≡◌, ◌≢◌, ◌≤◌, ℕ, List, Bool, Option, true, false, not, Some, None, Ok, Err, IfOk, IfErr, OnOk, OnErr, option_copied, length};
+ghost use Rattle.std.specs.Prelude.{◌≡◌, ◌+◌, ◌≤◌, [], false, not, Some, Result, Ok, Err, IfOk, IfErr, option_copied, length};
 ghost use Rattle.std.specs.List.{list_any};
 ghost use Rattle.std.specs.List.Sorted.{IsStrictlySortedBy};
 ghost use Rattle.farm_base.specs.Slots.{slot_cmp};
@@ -10,19 +10,23 @@ ghost use Rattle.protocol.specs.Lists.{is_nil};
 ghost use Rattle.protocol.specs.Names.{slot_eq, NodeId, Slot, Ticket};
 ghost use Rattle.protocol.specs.Machine.{ToCoord};
 ghost use Rattle.protocol.specs.Lawful.{IsNumber, IsSaid};
-ghost use Rattle.protocol.specs.Ledger.{Work, begin_work, handled, withdrawn, retired, pruned, nudged, reads};
-ghost use Rattle.saverecord.specs.Ledgers.{record_in, saved_in};
-ghost use Rattle.saverecord.specs.declared.refusal.RecordRefusal.{RecordRefusal};
+ghost use Rattle.protocol.specs.Ledger.{Work, begin_work, handled, withdrawn, retired, pruned, nudged};
 ghost use Rattle.coordinator.specs.Held.{line_at, ledger};
-ghost use Rattle.coordinator.specs.Promises.{OnlyGrow, GrantsAtOnce};
-ghost use Rattle.coordinator.specs.Settling.{Settles, Starts};
+ghost use Rattle.coordinator.specs.Promises.{OnlyGrow, GrantsAtOnce, ChangesAsTold};
+ghost use Rattle.coordinator.specs.Held.{Held};
+ghost use Rattle.coordinator.specs.Settling.{Answers, Settles, Loads, TakesUp, Restarts};
+ghost use Rattle.coordinator.specs.Shown.{kept, shown};
+ghost use Rattle.coordinator.specs.Sound.{IsRightful};
+ghost use Rattle.versions.specs.Additions.{IsReady};
+ghost use Rattle.std.specs.Vec.{vec_capacity};
 
 use super::handled::Handled;
 use super::ledger::{Ledger, Prepared};
+use super::record::record_in;
 use farm_base::{NodeId, Slot, Ticket, ToCoord};
 use leases::SlotState;
 use protocol::{CoordRefusal, Kept};
-use saverecord::{Keeper, KeeperRefusal, MemoryKeeper};
+use saverecord::{Keeper, KeeperRefusal, MemoryKeeper, RecordRefusal};
 use std::alloc::{AllocError, Global};
 use std::marker::Model;
 use versions::Line;
@@ -49,7 +53,177 @@ impl<K: Keeper> Model for Coordinator<K> {
     ghost invariant = { λ c. IsKeeping (K.kept c.keeper) c.ledger c.down };
 }
 
+/// A coordinator that didn't start: its keeper, and why.
+#[derive(Debug, Drop)]
+pub struct NotStarted<K: Keeper> {
+    pub keeper: K,
+    pub refusal: CoordRefusal,
+}
+
+/// What the keeper's record holds, as a restart takes it up.
+fn load<K: Keeper>(keeper: &mut K, alloc: Global) -> Result<Ledger, CoordRefusal>
+    ensures answer { Loads K.loading (K.kept keeper.old) keeper.old keeper.new result }
+    ensures kept { K.kept keeper.new ≡ K.kept keeper.old }
+{
+    let bytes = match keeper.load(alloc) {
+        Ok(bytes) => bytes,
+        Err(KeeperRefusal::Fault) => return Err(CoordRefusal::LoadFault),
+        Err(KeeperRefusal::OutOfMemory) => return Err(CoordRefusal::OutOfMemory),
+    };
+    match record_in(alloc, bytes.as_slice()) {
+        Ok(read) => Ok(Ledger::of(alloc, read)),
+        Err(RecordRefusal::OutOfMemory) => Err(CoordRefusal::OutOfMemory),
+        Err(_) => Err(CoordRefusal::BadRecord),
+    }
+}
+
 impl<K: Keeper> Coordinator<K> {
+    /// The coordinator of what its keeper's record holds: of a farm where nothing happened, if none was saved yet.
+    /// Leases that the record has and a coordinator doesn't save are over.
+    pub fn start(alloc: Global, mut keeper: K) -> Result<Self, NotStarted<K>>
+        ensures started { IfOk result (λ c. TakesUp K.loading (K.kept keeper) keeper c) }
+        ensures refused { IfErr result (λ n. Loads K.loading (K.kept keeper) keeper n.keeper (Err n.refusal)) }
+    {
+        match load(&mut keeper, alloc) {
+            Ok(ledger) => Ok(Coordinator {
+                ledger,
+                keeper,
+                down: false,
+            }),
+            Err(refusal) => Err(NotStarted { keeper, refusal }),
+        }
+    }
+
+    /// Starts again from what the keeper's record holds: parked asks are gone, and so are the leases that the record
+    /// doesn't have.
+    pub fn restart(&mut self, alloc: Global) -> Result<(), CoordRefusal>
+        ensures { Restarts K.loading (K.kept self.old.keeper) self.old self.new result }
+    {
+        match load(&mut self.keeper, alloc) {
+            Ok(ledger) => {
+                self.ledger = ledger;
+                self.down = false;
+                Ok(())
+            }
+            Err(CoordRefusal::OutOfMemory) => Err(CoordRefusal::OutOfMemory),
+            Err(refusal) => {
+                self.down = true;
+                Err(refusal)
+            }
+        }
+    }
+
+    /// Saves an event that was worked out, where the record changed, and then applies it.
+    fn settle(&mut self, alloc: Global, prepared: Prepared) -> Result<Handled, CoordRefusal>
+        requires up { self.old.down ≡ false }
+        requires told { ChangesAsTold (ledger self.old.held) (Ok (shown (lines_with self.old.held.lines prepared.added) prepared.draft)) }
+        requires rightful { IsRightful (kept (lines_with self.old.held.lines prepared.added) prepared.draft.state) }
+        requires ready { IsReady self.old.held.lines prepared.added }
+        requires empty { prepared.room.items ≡ [] }
+        requires larger { length self.old.held.lines + added_count prepared.added ≤ vec_capacity prepared.room }
+        ensures answer { Answers K.saving (Ok (shown (lines_with self.old.held.lines prepared.added) prepared.draft)) self.old self.new result }
+        ensures grow { OnlyGrow (line_at self.old.held.lines) (line_at self.new.held.lines) }
+    {
+        let Ok(to_save) = self.ledger.to_save(alloc, &prepared) else {
+            return Err(CoordRefusal::OutOfMemory);
+        };
+        match to_save {
+            None => Ok(self.ledger.accept(prepared)),
+            Some(bytes) => match self.keeper.save(bytes) {
+                Ok(()) => Ok(self.ledger.accept(prepared)),
+                Err(_) => {
+                    self.down = true;
+                    Err(CoordRefusal::SaveFault)
+                }
+            },
+        }
+    }
+
+    /// Does what a message asks, in one step. Its node is 1 to 1,024; its life and ask count from 1; a tenure is
+    /// asked for with its SHARED folder alone, writable.
+    pub fn handle(&mut self, alloc: Global, message: &ToCoord) -> Result<Handled, CoordRefusal>
+        requires { IsSaid NODES message.now }
+        ensures answer { Settles K.saving (Ok (handled farm_limits message.now (begin_work (ledger self.old.held)))) self.old self.new result }
+        ensures at_once { IfOk result (λ h. GrantsAtOnce (ledger self.old.held) message.now h.note h.sends) }
+        ensures grow { OnlyGrow (line_at self.old.held.lines) (line_at self.new.held.lines) }
+    {
+        if self.down {
+            return Err(CoordRefusal::Down);
+        }
+        let Ok(prepared) = self.ledger.prepare(alloc, message) else {
+            return Err(CoordRefusal::OutOfMemory);
+        };
+        self.settle(alloc, prepared)
+    }
+
+    /// Withdraws the lease of a ticket, in one step: its PRIVATE slots are never granted again, and the parked
+    /// asks are tried. A tenure is never withdrawn.
+    pub fn withdraw(&mut self, alloc: Global, ticket: Ticket) -> Result<Handled, CoordRefusal>
+        ensures answer { Settles K.saving (withdrawn farm_limits ticket (begin_work (ledger self.old.held))) self.old self.new result }
+        ensures grow { OnlyGrow (line_at self.old.held.lines) (line_at self.new.held.lines) }
+    {
+        if self.down {
+            return Err(CoordRefusal::Down);
+        }
+        if let Some(refusal) = self.ledger.withdrawal_refusal(ticket) {
+            return Err(refusal);
+        }
+        let Ok(prepared) = self.ledger.withdrawal(alloc, ticket) else {
+            return Err(CoordRefusal::OutOfMemory);
+        };
+        self.settle(alloc, prepared)
+    }
+
+    /// Retires a node for good, in one step: its leases are withdrawn, and nothing that it says is heard again.
+    /// The holder of a tenure is never retired. Nodes are 1 to 1,024.
+    pub fn retire(&mut self, alloc: Global, node: NodeId) -> Result<Handled, CoordRefusal>
+        requires { IsNumber NODES node }
+        ensures answer { Settles K.saving (retired farm_limits node (begin_work (ledger self.old.held))) self.old self.new result }
+        ensures grow { OnlyGrow (line_at self.old.held.lines) (line_at self.new.held.lines) }
+    {
+        if self.down {
+            return Err(CoordRefusal::Down);
+        }
+        if let Some(refusal) = self.ledger.retirement_refusal(node) {
+            return Err(refusal);
+        }
+        let Ok(prepared) = self.ledger.retirement(alloc, node) else {
+            return Err(CoordRefusal::OutOfMemory);
+        };
+        self.settle(alloc, prepared)
+    }
+
+    /// Puts the empty content on the line of a slot, under a new ticket, in one step.
+    pub fn prune(&mut self, alloc: Global, slot: &Slot) -> Result<Handled, CoordRefusal>
+        ensures answer { Settles K.saving (pruned farm_limits slot.now (begin_work (ledger self.old.held))) self.old self.new result }
+        ensures grow { OnlyGrow (line_at self.old.held.lines) (line_at self.new.held.lines) }
+    {
+        if self.down {
+            return Err(CoordRefusal::Down);
+        }
+        if let Some(refusal) = self.ledger.prune_refusal(slot) {
+            return Err(refusal);
+        }
+        let Ok(prepared) = self.ledger.pruning(alloc, slot) else {
+            return Err(CoordRefusal::OutOfMemory);
+        };
+        self.settle(alloc, prepared)
+    }
+
+    /// Sends the Grant of each lease again, the oldest first, and asks for each tenure that is waited for.
+    /// Nothing else changes, so nothing is saved.
+    pub fn nudge(&self, alloc: Global) -> Result<Handled, CoordRefusal>
+        ensures { Settles K.saving (Ok (nudged farm_limits (begin_work (ledger self.now.held)))) self.now self.now result }
+    {
+        if self.down {
+            return Err(CoordRefusal::Down);
+        }
+        let Ok(handled) = self.ledger.nudge(alloc) else {
+            return Err(CoordRefusal::OutOfMemory);
+        };
+        Ok(handled)
+    }
+
     pub fn keeper(&self) -> &K
         ensures { result.now ≡ self.now.keeper }
     {
@@ -98,5 +272,14 @@ impl<K: Keeper> Coordinator<K> {
         ensures { result ≡ state_of (record { live = self.now.held.live; retired = self.now.held.retired }) slot.now }
     {
         self.ledger.slot_state(slot)
+    }
+}
+
+impl Coordinator<MemoryKeeper> {
+    /// Makes the next save fail and leave this. Until then a later call replaces this one.
+    pub fn fail_next(&mut self, kept: Kept)
+        ensures { self.new ≡ record self.old { keeper = record self.old.keeper { armed = Some kept } } }
+    {
+        self.keeper.fail_next(kept);
     }
 }

@@ -1,4 +1,4 @@
-ghost use Rattle.std.specs.Prelude.{◌≡◌, not, ◌+◌, ◌≤◌, List, [], map, IfOk, OnOk, OnErr, Option, Ok, None, false, option_copied, length};
+ghost use Rattle.std.specs.Prelude.{◌≡◌, not, ◌+◌, ◌≤◌, List, [], IfOk, IfSome, OnOk, Option, Ok, None, false, is_some, option_copied, length};
 ghost use Rattle.std.specs.List.{list_any};
 ghost use Rattle.std.specs.List.Sorted.{IsStrictlySortedBy};
 ghost use Rattle.std.specs.Vec.{vec_capacity};
@@ -8,7 +8,8 @@ ghost use Rattle.leases.specs.Table.{state_of};
 ghost use Rattle.protocol.specs.Lists.{is_nil};
 ghost use Rattle.protocol.specs.Names.{slot_eq, NodeId, Slot, Ticket};
 ghost use Rattle.protocol.specs.Machine.{ToCoord};
-ghost use Rattle.protocol.specs.Ledger.{Work, opening, begin_work, handled, withdrawn, retired, pruned, nudged};
+ghost use Rattle.protocol.specs.Ledger.{Work, saves, reads, begin_work, handled, withdrawn, retired, pruned, nudged};
+ghost use Rattle.saverecord.specs.Ledgers.{IsKept, Holds, ledger_of};
 ghost use Rattle.std.specs.Result.{result_err};
 ghost use Rattle.coordinator.specs.Held.{line_at, ledger};
 ghost use Rattle.versions.specs.Additions.{IsReady};
@@ -17,14 +18,16 @@ ghost use Rattle.versions.specs.Lines.{lines_with, added_count, line_shown};
 ghost use Rattle.coordinator.specs.Sound.{IsSound, IsRightful};
 ghost use Rattle.farm_base.specs.declared.limits.TheConstants.{NODES};
 ghost use Rattle.protocol.specs.Lawful.{IsNumber, IsSaid};
-ghost use Rattle.coordinator.specs.Promises.{OnlyGrow, GrantsAtOnce, ChangesAsTold};
+ghost use Rattle.coordinator.specs.Promises.{OnlyGrow, ChangesAsTold};
 
 use super::draft::Draft;
 use super::handled::Handled;
+use super::record::{record_of, state_of};
 use super::state::State;
 use farm_base::{FromCoord, Items, NodeId, Slot, Ticket, ToCoord};
 use leases::SlotState;
 use protocol::{CoordNote, CoordRefusal};
+use saverecord::{Record, what_is_kept_is_a_record};
 use std::alloc::{AllocError, Global};
 use std::marker::Model;
 use versions::{Added, Line, Lines, SlotLine};
@@ -58,6 +61,45 @@ pub(crate) struct Prepared {
 }
 
 impl Ledger {
+    /// The ledger that a restart makes of a record.
+    pub(crate) fn of(alloc: Global, read: Record) -> Self
+        requires { IsKept read }
+        ensures { ledger result ≡ reads (saves (ledger_of read)) }
+    {
+        let (state, lines) = state_of(alloc, read);
+        Ledger { state, lines }
+    }
+
+    /// The bytes of the record of an event that was worked out.
+    fn record_bytes(&self, alloc: Global, prepared: &Prepared) -> Result<Vec<u8>, AllocError>
+        requires rightful { IsRightful (kept (lines_with self.now.lines prepared.now.added) prepared.now.draft.state) }
+        requires ready { IsReady self.now.lines prepared.now.added }
+        ensures { IfOk result (λ bytes. Holds bytes.items (saves (kept (lines_with self.now.lines prepared.now.added) prepared.now.draft.state))) }
+    {
+        let state = &prepared.draft.state;
+        let record = record_of(alloc, state, &self.lines, &prepared.added)?;
+        what_is_kept_is_a_record();
+        record.write(alloc)
+    }
+
+    /// The bytes to be saved of an event that was worked out, if the record changed.
+    pub(crate) fn to_save(
+        &self,
+        alloc: Global,
+        prepared: &Prepared,
+    ) -> Result<Option<Vec<u8>>, AllocError>
+        requires rightful { IsRightful (kept (lines_with self.now.lines prepared.now.added) prepared.now.draft.state) }
+        requires ready { IsReady self.now.lines prepared.now.added }
+        ensures bytes { IfOk result (λ o. IfSome o (λ bytes. Holds bytes.items (saves (kept (lines_with self.now.lines prepared.now.added) prepared.now.draft.state)))) }
+        ensures changed { IfOk result (λ o. is_some o ≡ prepared.now.draft.changed) }
+    {
+        if prepared.draft.changed {
+            Ok(Some(self.record_bytes(alloc, prepared)?))
+        } else {
+            Ok(None)
+        }
+    }
+
     /// A copy of the state, on which an event is worked out.
     fn draft(&self, alloc: Global) -> Result<Draft, AllocError>
         ensures work { IfOk result (λ draft. shown (line_at self.now.lines) draft ≡ begin_work (ledger self.now)) }
@@ -108,6 +150,13 @@ impl Ledger {
         }
     }
 
+    /// Why the lease of a ticket can't be withdrawn, or None if it can.
+    pub(crate) fn withdrawal_refusal(&self, ticket: Ticket) -> Option<CoordRefusal>
+        ensures { result ≡ result_err (withdrawn farm_limits ticket (begin_work (ledger self.now))) }
+    {
+        self.state.withdrawal_refusal(ticket)
+    }
+
     /// Works out the withdrawal of a lease, which adds nothing to the lines.
     pub(crate) fn withdrawal(&self, alloc: Global, ticket: Ticket) -> Result<Prepared, AllocError>
         requires { result_err (withdrawn farm_limits ticket (begin_work (ledger self.now))) ≡ None }
@@ -126,6 +175,13 @@ impl Ledger {
             added: None,
             room,
         })
+    }
+
+    /// Why a node can't be retired, or None if it can.
+    pub(crate) fn retirement_refusal(&self, node: NodeId) -> Option<CoordRefusal>
+        ensures { result ≡ result_err (retired farm_limits node (begin_work (ledger self.now))) }
+    {
+        self.state.retirement_refusal(node)
     }
 
     /// Works out the retirement of a node, which adds nothing to the lines.
@@ -185,8 +241,8 @@ impl Ledger {
     pub(crate) fn nudge(&self, alloc: Global) -> Result<Handled, AllocError>
         ensures sends { IfOk result (λ h. h.sends ≡ (nudged farm_limits (begin_work (ledger self.now))).sends) }
         ensures note { IfOk result (λ h. h.note ≡ (nudged farm_limits (begin_work (ledger self.now))).note) }
-        ensures ledger { (nudged farm_limits (begin_work (ledger self.now))).ledger ≡ ledger self.now }
-        ensures unchanged { (nudged farm_limits (begin_work (ledger self.now))).changed ≡ false }
+        ensures ledger { OnOk result ((nudged farm_limits (begin_work (ledger self.now))).ledger ≡ ledger self.now) }
+        ensures unchanged { OnOk result ((nudged farm_limits (begin_work (ledger self.now))).changed ≡ false) }
     {
         let sends = self.state.remind_all(alloc, &self.lines)?;
         Ok(Handled {

@@ -6,9 +6,10 @@ mod draft;
 mod handled;
 mod ledger;
 mod operator_calls;
+mod record;
 mod state;
 
-pub use coordinator::Coordinator;
+pub use coordinator::{Coordinator, NotStarted};
 pub use handled::Handled;
 pub use leases::SlotState;
 pub use protocol::{CoordNote, CoordRefusal};

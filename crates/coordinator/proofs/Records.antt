@@ -1,0 +1,119 @@
+-- The record of a ledger, and the ledger that a restart makes of a record.
+use Rattle.std.proofs.Common.{◌≡◌, ◌≤◌, ℕ, List, [], ◌∷◌, filter, Ok, sym, ap, ◌∙◌, subst, arith}
+use Rattle.std.specs.Prelude.{All, AllPairs, map}
+use Rattle.std.specs.List.Sorted.{IsStrictlyIncreasing, IsStrictlySortedBy}
+use Rattle.std.proofs.lemmas.List.Elements.{All-filter}
+use Rattle.std.proofs.lemmas.List.Kept.{AllPairs-cons}
+use Rattle.farm_base.specs.declared.limits.TheConstants.{NODES}
+use Rattle.farm_base.specs.Slots.{slot_cmp}
+use Rattle.leases.specs.Leases.{IsBefore, AreApart, Rises, AreLeases, IsOpen}
+use Rattle.leases.specs.Lives.{AreLives}
+use Rattle.protocol.specs.Farm.{farm_limits}
+use Rattle.protocol.specs.Names.{Slot}
+use Rattle.protocol.specs.Machine.{LineVersion}
+use Rattle.protocol.specs.Ledger.{Lease, Ledger, Saved, is_saved, saves, reads}
+use Rattle.protocol.specs.Lawful.{AllApart, IsLawful}
+use Rattle.protocol.proofs.Lawfulness.{every_ledger_stays_lawful}
+use Rattle.protocol.proofs.LawfulFarms.{every_opening_is_lawful}
+use Rattle.protocol.proofs.Saving.{saved_twice}
+use Rattle.farm_base.specs.Contents.{content_digest}
+use Rattle.versions.specs.Lines.{LineOf, line_at}
+use Rattle.versions.specs.Ordered.{AreLines}
+use Rattle.saverecord.specs.declared.record.Record.{Record}
+use Rattle.saverecord.specs.Records.{opened, record_of}
+use Rattle.saverecord.specs.Ledgers.{IsKept, Holds, blank, record_in, saved_by, saved_in, ledger_of}
+use Rattle.saverecord.proofs.LedgerLemmas.{all_from_in}
+use Rattle.coordinator.specs.Sound.{IsRightful}
+use Rattle.leases.proofs.TableLemmas.{leases-filter}
+
+-- versions up to a ticket are so up to a higher one
+up_to : (low high : ℕ) (vs : List LineVersion) → low ≤ high → All (λ v. v.ticket.0 ≤ low) vs → All (λ v. v.ticket.0 ≤ high) vs
+up_to low high vs below all = λ k d h. (let under = all k d h in omega (arith, under, below))
+
+-- the record of what a ledger saves, each list in its order
+pub record_kept : (r : Record) (q : Ledger) → IsRightful q → ledger_of r ≡ reads (saves q) → AreLives r.lives → IsStrictlyIncreasing (map (λ n. n.0) r.retired_nodes) → IsStrictlySortedBy slot_cmp r.retired → AreLines r.lines → IsKept r
+record_kept r q rightful same lives nodes retired lines = record {
+  lawful = subst (IsLawful NODES) (sym same) (every_ledger_stays_lawful NODES farm_limits q rightful.lawful).restart;
+  lives_rise = lives.rise;
+  lives = lives.counted;
+  nodes_rise = nodes;
+  retired_rise = retired;
+  slots_rise = subst (All Rises) (sym live) (All-filter is_saved Rises q.live rightful.sound.leases.slots);
+  lines = lines;
+  past = λ s. up_to q.last r.last.0 (line_at r.lines s) (subst (λ n. q.last ≤ n) (sym last) rightful.lawful.core.block) (subst (All (λ v. v.ticket.0 ≤ q.last)) (sym (line_is s)) (rightful.sound.past s));
+  ahead = subst (λ (f : LineOf). All (IsOpen f) r.leases) (sym line) (subst (All (IsOpen q.line)) (sym live) (All-filter is_saved (IsOpen q.line) q.live rightful.sound.ahead));
+}
+  where
+    live : r.leases ≡ ((reads (saves q)).live)
+    live = ap (λ (x : Ledger). x.live) same
+
+    line : line_at r.lines ≡ q.line
+    line = ap (λ (x : Ledger). x.line) same
+
+    line_is : (s : Slot) → line_at r.lines s ≡ q.line s
+    line_is s = ap (λ (x : Ledger). x.line s) same
+
+    last : r.last.0 ≡ q.ceiling
+    last = ap (λ (x : Ledger). x.last) same
+
+-- of leases that are apart, tickets rise
+tickets_rise : (gs : List Lease) → AllApart gs → AllPairs IsBefore gs
+tickets_rise [] apart = λ i j d lt within. absurd (omega arith)
+tickets_rise (g ∷ gs) apart = AllPairs-cons IsBefore g gs (all_from_in (IsBefore g) gs (λ h i. (apart.0 h i).ticket)) (tickets_rise gs apart.1)
+
+-- and no slot is in two
+slots_apart : (gs : List Lease) → AllApart gs → AllPairs AreApart gs
+slots_apart [] apart = λ i j d lt within. absurd (omega arith)
+slots_apart (g ∷ gs) apart = AllPairs-cons AreApart g gs (all_from_in (AreApart g) gs (λ h i. (apart.0 h i).slots)) (slots_apart gs apart.1)
+
+pub leases_of : (r : Record) → IsKept r → AreLeases (filter is_saved r.leases)
+leases_of r kept =
+    leases-filter is_saved r.leases (record { tickets = tickets_rise r.leases kept.lawful.core.apart; apart = slots_apart r.leases kept.lawful.core.apart; slots = kept.slots_rise })
+
+-- the ledger that a restart makes of a record is one that the coordinator may keep
+pub rightful_of : (r : Record) → IsKept r → IsRightful (reads (saves (ledger_of r)))
+rightful_of r kept = record {
+  sound = record {
+    leases = leases_of r kept;
+    given = All-filter is_saved (λ g. g.ticket.0 ≤ r.last.0) r.leases (all_from_in (λ g. g.ticket.0 ≤ r.last.0) r.leases kept.lawful.core.given);
+    past = kept.past;
+    ahead = All-filter is_saved (IsOpen (line_at r.lines)) r.leases kept.ahead;
+    asks = λ k d lt. absurd (omega arith);
+  };
+  lawful = (every_ledger_stays_lawful NODES farm_limits (ledger_of r) kept.lawful).restart;
+}
+
+-- what a restart takes up saves the same
+pub saves_again : (q : Ledger) → saves (reads (saves q)) ≡ saves q
+saves_again q = ap (λ l. record (saves q) { live = l }) (saved_twice q.live)
+
+-- the bytes of a record are some
+pub read_in : (bytes : List ℕ) (r : Record) → record_of bytes ≡ Ok r → record_in bytes ≡ Ok r
+unfolding record_of opened
+read_in [] r e = absurd (cc e)
+read_in (b ∷ bytes) r e = e
+
+-- what kept bytes hold, as a restart takes it up
+pub held_in : (bytes : List ℕ) (s : Saved) → Holds bytes s → saved_in bytes ≡ s
+held_in bytes s h = ap saved_by h.read ∙ h.saved
+
+nothing_rises : IsStrictlyIncreasing []
+nothing_rises = λ k h. absurd (omega (arith, h))
+
+nothing_sorted : IsStrictlySortedBy slot_cmp []
+unfolding IsStrictlySortedBy
+nothing_sorted = tt
+
+-- a record of a farm where nothing happened
+pub blank_kept : IsKept blank
+blank_kept = record {
+  lawful = (every_opening_is_lawful content_digest NODES 0 (omega arith)).ledger;
+  lives_rise = nothing_rises;
+  lives = λ k d lt. absurd (omega arith);
+  nodes_rise = nothing_rises;
+  retired_rise = nothing_sorted;
+  slots_rise = λ k d lt. absurd (omega arith);
+  lines = record { rise = nothing_sorted; filled = λ k d lt. absurd (omega arith); tickets = λ k d lt. absurd (omega arith) };
+  past = λ s k d lt. absurd (omega arith);
+  ahead = λ k d lt. absurd (omega arith);
+}

@@ -1,0 +1,9 @@
+use Rattle.std.proofs.Common.{false, sym, subst}
+use Rattle.coordinator.specs.Seen.{IsKeeping}
+use Rattle.coordinator.proofs.Keeping.{taken_up}
+use Rattle.coordinator.proofs.coordinator.Coordinator.start.Goals as goal
+
+pub invariant_of-result : goal.invariant_of-result
+invariant_of-result g c =
+    let up = taken_up (g.K.Keeper.kept c.args.keeper) c.in-Ok.ensures.answer.1.0 c.in-Ok.ensures.answer.1.1 c.in-Ok.ledger c.in-Ok.ensures.answer.2 in
+    subst (λ bytes. IsKeeping bytes c.in-Ok.ledger false) (sym c.in-Ok.ensures.kept) up

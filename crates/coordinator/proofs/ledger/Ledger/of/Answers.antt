@@ -1,0 +1,7 @@
+use Rattle.std.proofs.Common.{sym, subst}
+use Rattle.coordinator.specs.Sound.{IsRightful}
+use Rattle.coordinator.proofs.Records.{rightful_of}
+use Rattle.coordinator.proofs.ledger.Ledger.of.Goals as goal
+
+pub invariant_of-result : goal.invariant_of-result
+invariant_of-result c = subst IsRightful (sym c.state_of-state.ensures) (rightful_of c.args.read c.requires)
