@@ -1,5 +1,5 @@
 //! What a world is made of, and what each event does to it.
-ghost use Rattle.std.specs.Prelude.{Ok, ◌≡◌, IfOk, IfSome, map, length, is_some, option_copied};
+ghost use Rattle.std.specs.Prelude.{Ok, false, ◌≡◌, IfOk};
 ghost use Rattle.farm_base.specs.Contents.{content_digest};
 ghost use Rattle.farm_base.specs.declared.limits.TheConstants.{NODES};
 ghost use Rattle.protocol.specs.Farm.{farm_limits};
@@ -58,9 +58,10 @@ impl Parts {
     pub(crate) fn start(alloc: Global, count: u32) -> Result<Self, AllocError>
         ensures { IfOk result (λ parts. shown_parts parts ≡ opening content_digest count) }
     {
+        let nodes = Nodes::start(alloc, count)?;
         Ok(Parts {
             coordinator: Coordinator::start(alloc),
-            nodes: Nodes::start(alloc, count)?,
+            nodes,
             pool: Vec::new(alloc),
         })
     }

@@ -12,7 +12,6 @@ ghost use Rattle.world.specs.Meanings.{MeansAsTold, GrantsAtOnce};
 ghost use Rattle.world.specs.Parts.{shown_parts};
 ghost use Rattle.world.specs.Setups.{IsSetup};
 ghost use Rattle.world.specs.Turns.{Came};
-ghost use Rattle.world.specs.Shown.{shown};
 ghost use Rattle.world.specs.Worlds.{IsWorld};
 
 use super::parts::Parts;
@@ -61,6 +60,8 @@ fn is_event(event: &Event)
 }
 
 impl World {
+    ghost use Rattle.world.specs.Shown.{shown};
+
     /// A farm where nothing happened. It is safe.
     pub fn start(alloc: Global, setup: Setup) -> Result<Self, StartRefusal>
         ensures farm { IfOk result (λ w. shown w ≡ opening content_digest setup.nodes) }
@@ -82,9 +83,7 @@ impl World {
     /// Every world is safe: a run of the protocol leads to it.
     pub fn is_safe(&self)
         ensures { ∥ SafeAfter content_digest (shown self.now) ∥₁ }
-    {
-        let _parts = &self.parts;
-    }
+    {}
 
     pub fn coordinator(&self) -> &Coordinator
         ensures { ledger result.now ≡ (shown self.now).ledger }

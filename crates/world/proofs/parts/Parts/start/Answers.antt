@@ -6,9 +6,9 @@ use Rattle.world.proofs.parts.Parts.start.Goals as goal
 
 pub returns : goal.returns
 returns c = λ j. record (opening content_digest c.args.count) {
-  size = c.in_ok.ensures.len j;
-  ledger = c.start.ensures j;
-  saved = saves (c.start.ensures j);
+  size = c.in_ok-nodes.ensures.len j;
+  ledger = c.start-2.ensures j;
+  saved = saves (c.start-2.ensures j);
   pool = c.new.ensures.items j;
-  nodes = all_first c.args.count c.in_ok.result.cores.items c.in_ok.ensures j;
+  nodes = all_first c.args.count c.in_ok-nodes.nodes.cores.items c.in_ok-nodes.ensures j;
 }

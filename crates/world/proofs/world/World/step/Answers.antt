@@ -27,3 +27,6 @@ invariant_of-self c = record {
     lawful = stays_lawful c.every_farm_stays_lawful.ensures.stays (shown c.args.self.now) (shown_parts c.carry_out.new.self) (event_of c.args.event) c.carry_out.result c.is_event.ensures w.lawful c.carry_out.ensures;
   });
 }
+
+pub carry_out-requires : goal.carry_out-requires
+carry_out-requires c = ∥∥₁_map c.args.self.now.sound (λ w. w.lawful)
