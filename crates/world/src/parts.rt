@@ -8,8 +8,6 @@ ghost use Rattle.protocol.specs.Lists.{nth};
 ghost use Rattle.protocol.specs.Ledger.{begin_work, withdrawn, pruned, nudged};
 ghost use Rattle.protocol.specs.Replay.{opening, step, node_does, is_node, delivered, coordinated};
 ghost use Rattle.protocol.specs.Nodes.{resent};
-ghost use Rattle.coordinator.specs.Held.{ledger};
-ghost use Rattle.nodecore.specs.Shown as core;
 ghost use Rattle.schedule.specs.Events.{event_of};
 ghost use Rattle.world.specs.Tables.{called};
 ghost use Rattle.world.specs.Turns.{Came, FitsIn, from_node, from_coordinator, restarting, retiring};

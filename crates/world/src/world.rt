@@ -27,7 +27,8 @@ use schedule::{Event, Setup};
 use std::alloc::Global;
 use thiserror::Error;
 
-/// A farm at one moment: its coordinator, its nodes, and every message that was ever sent.
+/// A farm at one moment: its coordinator, its nodes, and every message that was ever sent. A run of
+/// the protocol leads to each one, so each is safe.
 #[derive(Drop)]
 pub struct World {
     parts: Parts,
@@ -80,7 +81,7 @@ impl World {
         Ok(World { parts })
     }
 
-    /// Every world is safe: a run of the protocol leads to it.
+    /// Every world is safe.
     pub fn is_safe(&self)
         ensures { ∥ SafeAfter content_digest (shown self.now) ∥₁ }
     {}

@@ -17,7 +17,7 @@ returns-clause-at_once c =
 pub returns-clause-safe : goal.returns-clause-safe
 returns-clause-safe c =
     ∥∥₁_map c.args.self.now.sound (λ w.
-      stays_safe c.every_event_is_moves.ensures c.every_run_is_safe.ensures.safe c.every_run_is_safe.ensures.stays (shown c.args.self.now) (shown_parts c.carry_out.new.self) (event_of c.args.event) c.carry_out.result w.safe c.carry_out.ensures)
+    stays_safe c.every_event_is_moves.ensures c.every_run_is_safe.ensures.safe c.every_run_is_safe.ensures.stays (shown c.args.self.now) (shown_parts c.carry_out.new.self) (event_of c.args.event) c.carry_out.result w.safe c.carry_out.ensures)
 
 pub invariant_of-self : goal.invariant_of-self
 invariant_of-self c = record {
