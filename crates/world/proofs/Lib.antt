@@ -7,3 +7,4 @@ mod SafeLemmas
 mod OrderLemmas
 mod MeaningLemmas
 mod LimitLemmas
+mod LawfulLemmas

@@ -1,12 +1,15 @@
--- A farm stays safe, event by event.
-use Rattle.std.proofs.Common.{Result}
+-- A farm stays safe and lawful, event by event.
+use Rattle.std.proofs.Common.{◌≡◌, Result, Ok, Err, sym, subst}
 use Rattle.farm_base.specs.Contents.{content_digest}
+use Rattle.farm_base.specs.declared.limits.TheConstants.{NODES}
 use Rattle.protocol.specs.Farm.{farm_limits}
 use Rattle.protocol.specs.World.{start}
 use Rattle.protocol.specs.Safe.{EveryRunIsSafe, EveryRunStaysSafe}
-use Rattle.protocol.specs.Replay.{Event, Farm, step}
+use Rattle.protocol.specs.Lawful.{IsEvent, IsLawfulFarm, EveryFarmStaysLawful}
+use Rattle.protocol.specs.Replay.{Event, Farm, Turn, step}
 use Rattle.protocol.specs.Follows.{SafeAfter, SafeBetween, EveryEventIsMoves}
 use Rattle.protocol.specs.declared.answer.EventRefusal.{EventRefusal}
+use Rattle.protocol.specs.declared.answer.EventRefusal.TheVariants as refusal
 use Rattle.protocol.specs.declared.answer.Outcome.{Outcome}
 use Rattle.protocol.proofs.Schedules.{moves_trans}
 use Rattle.world.specs.Turns.{Came}
@@ -24,3 +27,15 @@ stays_safe law safe since old new e r before came =
       moves = next.1;
       since = since content_digest before.world next.0 before.moves next.1;
     }
+
+lawful_turn : EveryFarmStaysLawful → (old : Farm) (e : Event) (turn : Turn) → IsEvent e → IsLawfulFarm NODES old → step content_digest farm_limits old e ≡ turn → IsLawfulFarm NODES turn.farm
+lawful_turn law old e turn event lawful is = subst (λ (t : Turn). IsLawfulFarm NODES t.farm) is (law content_digest farm_limits NODES old e event lawful)
+
+-- and from a lawful farm to a lawful one
+pub stays_lawful : EveryFarmStaysLawful → (old new : Farm) (e : Event) (r : Result Outcome EventRefusal) → IsEvent e → IsLawfulFarm NODES old → Came (step content_digest farm_limits old e) old new r → IsLawfulFarm NODES new
+stays_lawful law old new e (Ok o) event lawful came = lawful_turn law old e (record { farm = new; outcome = Ok o }) event lawful came
+stays_lawful law old new e (Err refusal.OutOfMemory) event lawful came = subst (IsLawfulFarm NODES) (sym came) lawful
+stays_lawful law old new e (Err refusal.NoSuchMessage) event lawful came = lawful_turn law old e (record { farm = new; outcome = Err refusal.NoSuchMessage }) event lawful came
+stays_lawful law old new e (Err refusal.NoSuchNode) event lawful came = lawful_turn law old e (record { farm = new; outcome = Err refusal.NoSuchNode }) event lawful came
+stays_lawful law old new e (Err (refusal.Node x)) event lawful came = lawful_turn law old e (record { farm = new; outcome = Err (refusal.Node x) }) event lawful came
+stays_lawful law old new e (Err (refusal.Coord x)) event lawful came = lawful_turn law old e (record { farm = new; outcome = Err (refusal.Coord x) }) event lawful came

@@ -1,5 +1,7 @@
 pub mod Tables
 pub mod Turns
+pub mod Parts
+pub mod Worlds
 pub mod Shown
 pub mod Setups
 pub mod Replays

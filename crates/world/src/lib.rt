@@ -4,6 +4,7 @@
 mod call;
 mod laws;
 mod nodes;
+mod parts;
 mod pool;
 mod printing;
 mod replaying;

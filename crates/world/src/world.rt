@@ -1,40 +1,38 @@
-ghost use Rattle.std.specs.Prelude.{Ok, false, ◌≡◌, ◌↔◌, IsTrue, IfOk, IfSome, map, length, is_some, option_map, option_copied};
+ghost use Rattle.std.specs.Prelude.{◌≡◌, ◌↔◌, IsTrue, IfOk, IfSome, length, is_some, option_copied};
 ghost use Rattle.farm_base.specs.Contents.{content_digest};
 ghost use Rattle.protocol.specs.Farm.{farm_limits};
 ghost use Rattle.protocol.specs.Lists.{nth};
-ghost use Rattle.protocol.specs.Ledger.{begin_work, withdrawn, pruned, nudged};
-ghost use Rattle.protocol.specs.Replay.{opening, step, node_does, is_node, delivered, coordinated};
-ghost use Rattle.protocol.specs.Nodes.{resent};
+ghost use Rattle.protocol.specs.Lawful.{IsEvent};
+ghost use Rattle.protocol.specs.Replay.{opening, step, is_node};
 ghost use Rattle.protocol.specs.Follows.{SafeAfter, SafeBetween};
 ghost use Rattle.coordinator.specs.Held.{ledger};
 ghost use Rattle.nodecore.specs.Shown as core;
 ghost use Rattle.schedule.specs.Events.{event_of};
 ghost use Rattle.world.specs.Meanings.{MeansAsTold, GrantsAtOnce};
+ghost use Rattle.world.specs.Parts.{shown_parts};
 ghost use Rattle.world.specs.Setups.{IsSetup};
-ghost use Rattle.world.specs.Tables.{called};
-ghost use Rattle.world.specs.Turns.{Came, FitsIn, from_node, from_coordinator, restarting, retiring};
-ghost use Rattle.world.specs.Shown.{shown};
+ghost use Rattle.world.specs.Turns.{Came};
+ghost use Rattle.world.specs.Worlds.{IsWorld};
 
-use super::call::Call;
-use super::nodes::{Nodes, receiver};
-use super::pool::{message_at, place_in, send_coordinator, send_node};
+use super::parts::Parts;
+use super::pool::message_at;
 use coordinator::Coordinator;
-use farm_base::{NODES, NodeId, Slot, Ticket};
+use farm_base::{NODES, NodeId};
 use nodecore::{Message, NodeCore};
 use protocol::{
-    CoordRefusal, EventRefusal, NodeRefusal, Outcome, a_fitting_message_is_granted,
-    every_event_is_moves, every_run_is_safe, every_schedule_is_safe,
+    EventRefusal, Outcome, a_fitting_message_is_granted, every_event_is_moves,
+    every_farm_stays_lawful, every_run_is_safe, every_schedule_is_safe,
 };
 use schedule::{Event, Setup};
 use std::alloc::Global;
 use thiserror::Error;
 
-/// A farm at one moment: its coordinator, its nodes, and every message that was ever sent.
+/// A farm at one moment: its coordinator, its nodes, and every message that was ever sent. A run of
+/// the protocol leads to each one, so each is safe.
 #[derive(Drop)]
 pub struct World {
-    coordinator: Coordinator,
-    nodes: Nodes,
-    pool: Vec<Message>,
+    parts: Parts,
+    ghost sound: { ∥ IsWorld (shown_parts parts) ∥₁ },
 }
 
 /// Why a farm does not start.
@@ -53,27 +51,18 @@ pub(crate) fn is_setup(setup: Setup) -> bool
     1 <= setup.nodes && setup.nodes <= NODES
 }
 
-/// Maps a node's refusal to the event's.
-fn from_node(refusal: NodeRefusal) -> EventRefusal
-    ensures { result ≡ from_node refusal }
+/// The wants of an ask are lawful by their type.
+fn is_event(event: &Event)
+    ensures { IsEvent (event_of event.now) }
 {
-    match refusal {
-        NodeRefusal::OutOfMemory => EventRefusal::OutOfMemory,
-        other => EventRefusal::Node(other),
-    }
-}
-
-/// Maps the coordinator's refusal to the event's.
-fn from_coordinator(refusal: CoordRefusal) -> EventRefusal
-    ensures { result ≡ from_coordinator refusal }
-{
-    match refusal {
-        CoordRefusal::OutOfMemory => EventRefusal::OutOfMemory,
-        other => EventRefusal::Coord(other),
+    if let Event::Ask(_, wants) = event {
+        let _wants = wants.as_slice();
     }
 }
 
 impl World {
+    ghost use Rattle.world.specs.Shown.{shown};
+
     /// A farm where nothing happened. It is safe.
     pub fn start(alloc: Global, setup: Setup) -> Result<Self, StartRefusal>
         ensures farm { IfOk result (λ w. shown w ≡ opening content_digest setup.nodes) }
@@ -84,21 +73,23 @@ impl World {
         if !is_setup(setup) {
             return Err(StartRefusal::BadSetup);
         }
-        let Ok(nodes) = Nodes::start(alloc, setup.nodes) else {
+        let Ok(parts) = Parts::start(alloc, setup.nodes) else {
             return Err(StartRefusal::OutOfMemory);
         };
         every_schedule_is_safe();
-        Ok(World {
-            coordinator: Coordinator::start(alloc),
-            nodes,
-            pool: Vec::new(alloc),
-        })
+        every_farm_stays_lawful();
+        Ok(World { parts })
     }
+
+    /// Every world is safe.
+    pub fn is_safe(&self)
+        ensures { ∥ SafeAfter content_digest (shown self.now) ∥₁ }
+    {}
 
     pub fn coordinator(&self) -> &Coordinator
         ensures { ledger result.now ≡ (shown self.now).ledger }
     {
-        &self.coordinator
+        &self.parts.coordinator
     }
 
     /// The node of this number, from 1 on.
@@ -106,209 +97,36 @@ impl World {
         ensures node { IfSome result (λ x. core.shown x.now ≡ (shown self.now).nodes node.0) }
         ensures exact { is_some result ≡ is_node (shown self.now) node }
     {
-        self.nodes.get(node)
+        self.parts.nodes.get(node)
     }
 
     /// The message of this number, from 1 on.
     pub fn message(&self, number: u64) -> Option<&Message>
         ensures { option_copied result ≡ nth (shown self.now).pool number }
     {
-        message_at(self.pool.as_slice(), number)
+        message_at(self.parts.pool.as_slice(), number)
     }
 
     /// How many messages were ever sent.
     pub fn pool_len(&self) -> u64
         ensures { result ≡ length (shown self.now).pool }
     {
-        self.pool.len() as u64
-    }
-
-    /// The node is asked for something.
-    fn call(&mut self, alloc: Global, node: NodeId, call: Call) -> Result<Outcome, EventRefusal>
-        ensures { Came (node_does node (called call) (shown self.old)) (shown self.old) (shown self.new) result }
-    {
-        if self.pool.reserve(1).is_err() {
-            return Err(EventRefusal::OutOfMemory);
-        }
-        let Some(answer) = self.nodes.call(alloc, node, call) else {
-            return Err(EventRefusal::NoSuchNode);
-        };
-        match answer {
-            Err(refusal) => Err(from_node(refusal)),
-            Ok(done) => Ok(send_node(&mut self.pool, done)),
-        }
-    }
-
-    /// How many messages its receiver sends of it, at most.
-    fn room_for(&self, message: &Message) -> usize
-        ensures { FitsIn (shown self.now) message.now result }
-    {
-        match message {
-            Message::ToCoord(_) => self.coordinator.most_sends(),
-            Message::ToNode(message) => match self.nodes.get(receiver(message)) {
-                None => 0,
-                Some(core) => core.most_sends(message),
-            },
-        }
-    }
-
-    /// The message of a number arrives.
-    fn deliver(&mut self, alloc: Global, number: u64) -> Result<Outcome, EventRefusal>
-        ensures { Came (delivered content_digest farm_limits (nth (shown self.old).pool number) (shown self.old)) (shown self.old) (shown self.new) result }
-    {
-        let Some(place) = place_in(self.pool.as_slice(), number) else {
-            return Err(EventRefusal::NoSuchMessage);
-        };
-        let room = self.room_for(&self.pool[place]);
-        if self.pool.reserve(room).is_err() {
-            return Err(EventRefusal::OutOfMemory);
-        }
-        match &self.pool[place] {
-            Message::ToCoord(message) => match self.coordinator.handle(alloc, message) {
-                Err(_) => Err(EventRefusal::OutOfMemory),
-                Ok(handled) => Ok(send_coordinator(&mut self.pool, handled)),
-            },
-            Message::ToNode(message) => {
-                let Some(answer) = self.nodes.hear(alloc, message) else {
-                    return Err(EventRefusal::NoSuchNode);
-                };
-                match answer {
-                    Err(refusal) => Err(from_node(refusal)),
-                    Ok(done) => Ok(send_node(&mut self.pool, done)),
-                }
-            }
-        }
-    }
-
-    /// The node sends again what was not answered.
-    fn resend(&mut self, alloc: Global, node: NodeId) -> Result<Outcome, EventRefusal>
-        ensures { Came (node_does node (resent farm_limits) (shown self.old)) (shown self.old) (shown self.new) result }
-    {
-        let Some(core) = self.nodes.get(node) else {
-            return Err(EventRefusal::NoSuchNode);
-        };
-        match core.resend(alloc) {
-            Err(refusal) => Err(from_node(refusal)),
-            Ok(done) => {
-                if self.pool.reserve(done.sends.as_slice().len()).is_err() {
-                    return Err(EventRefusal::OutOfMemory);
-                }
-                Ok(send_node(&mut self.pool, done))
-            }
-        }
-    }
-
-    /// The node fails and starts again.
-    fn restart(&mut self, alloc: Global, node: NodeId) -> Result<Outcome, EventRefusal>
-        ensures { Came (restarting node (shown self.old)) (shown self.old) (shown self.new) result }
-    {
-        if self.pool.reserve(1).is_err() {
-            return Err(EventRefusal::OutOfMemory);
-        }
-        let Some(answer) = self.nodes.restart(alloc, node) else {
-            return Err(EventRefusal::NoSuchNode);
-        };
-        match answer {
-            Err(refusal) => Err(from_node(refusal)),
-            Ok(done) => Ok(send_node(&mut self.pool, done)),
-        }
-    }
-
-    /// The lease of a ticket is withdrawn.
-    fn withdraw(&mut self, alloc: Global, ticket: Ticket) -> Result<Outcome, EventRefusal>
-        ensures { Came (coordinated false (withdrawn farm_limits ticket (begin_work (shown self.old).ledger)) (shown self.old)) (shown self.old) (shown self.new) result }
-    {
-        let room = self.coordinator.most_sends_of_calls();
-        if self.pool.reserve(room).is_err() {
-            return Err(EventRefusal::OutOfMemory);
-        }
-        match self.coordinator.withdraw(alloc, ticket) {
-            Err(refusal) => Err(from_coordinator(refusal)),
-            Ok(handled) => Ok(send_coordinator(&mut self.pool, handled)),
-        }
-    }
-
-    /// The line of a slot begins anew.
-    fn prune(&mut self, alloc: Global, slot: &Slot) -> Result<Outcome, EventRefusal>
-        ensures { Came (coordinated false (pruned farm_limits slot.now (begin_work (shown self.old).ledger)) (shown self.old)) (shown self.old) (shown self.new) result }
-    {
-        let room = self.coordinator.most_sends_of_calls();
-        if self.pool.reserve(room).is_err() {
-            return Err(EventRefusal::OutOfMemory);
-        }
-        match self.coordinator.prune(alloc, slot) {
-            Err(refusal) => Err(from_coordinator(refusal)),
-            Ok(handled) => Ok(send_coordinator(&mut self.pool, handled)),
-        }
-    }
-
-    /// A node is gone for good.
-    fn retire(&mut self, alloc: Global, node: NodeId) -> Result<Outcome, EventRefusal>
-        ensures { Came (retiring node (shown self.old)) (shown self.old) (shown self.new) result }
-    {
-        if self.nodes.get(node).is_none() {
-            return Err(EventRefusal::NoSuchNode);
-        }
-        let room = self.coordinator.most_sends_of_calls();
-        if self.pool.reserve(room).is_err() {
-            return Err(EventRefusal::OutOfMemory);
-        }
-        match self.coordinator.retire(alloc, node) {
-            Err(refusal) => Err(from_coordinator(refusal)),
-            Ok(handled) => Ok(send_coordinator(&mut self.pool, handled)),
-        }
-    }
-
-    /// The Grant of each lease is sent again.
-    fn nudge(&mut self, alloc: Global) -> Result<Outcome, EventRefusal>
-        ensures { Came (coordinated false (Ok (nudged farm_limits (begin_work (shown self.old).ledger))) (shown self.old)) (shown self.old) (shown self.new) result }
-    {
-        match self.coordinator.nudge(alloc) {
-            Err(_) => Err(EventRefusal::OutOfMemory),
-            Ok(handled) => {
-                if self.pool.reserve(handled.sends.as_slice().len()).is_err() {
-                    return Err(EventRefusal::OutOfMemory);
-                }
-                Ok(send_coordinator(&mut self.pool, handled))
-            }
-        }
-    }
-
-    /// Carries out one event, by its kind.
-    #[tactic(auto, unfolding(protocol::specs::Replay::step))]
-    fn carry_out(&mut self, alloc: Global, event: Event) -> Result<Outcome, EventRefusal>
-        ensures { Came (step content_digest farm_limits (shown self.old) (event_of event)) (shown self.old) (shown self.new) result }
-    {
-        match event {
-            Event::Ask(node, wants) => self.call(alloc, node, Call::Ask(wants)),
-            Event::Tenure(node, folder) => self.call(alloc, node, Call::Tenure(folder)),
-            Event::Deliver(number) => self.deliver(alloc, number),
-            Event::Begin(node, ticket) => self.call(alloc, node, Call::Begin(ticket)),
-            Event::Finish(node, ticket, lefts) => {
-                self.call(alloc, node, Call::Finish(ticket, lefts))
-            }
-            Event::Abort(node, ticket) => self.call(alloc, node, Call::Abort(ticket)),
-            Event::Resend(node) => self.resend(alloc, node),
-            Event::Nudge => self.nudge(alloc),
-            Event::Withdraw(ticket) => self.withdraw(alloc, ticket),
-            Event::Prune(slot) => self.prune(alloc, &slot),
-            Event::Retire(node) => self.retire(alloc, node),
-            Event::RestartNode(node) => self.restart(alloc, node),
-            Event::Forge(node, content) => self.call(alloc, node, Call::Forge(content)),
-        }
+        self.parts.pool.len() as u64
     }
 
     /// Carries out one event. What is refused changes nothing, but that a node whose greatest life is over is
-    /// down for good. A safe farm stays safe: what was so before still is.
+    /// down for good. The world stays safe: what was so before still is.
     pub fn step(&mut self, alloc: Global, event: Event) -> Result<Outcome, EventRefusal>
         ensures came { Came (step content_digest farm_limits (shown self.old) (event_of event)) (shown self.old) (shown self.new) result }
-        ensures safe { SafeAfter content_digest (shown self.old) → SafeBetween content_digest (shown self.old) (shown self.new) }
+        ensures safe { ∥ SafeBetween content_digest (shown self.old) (shown self.new) ∥₁ }
         ensures meaning { MeansAsTold (shown self.old) (event_of event) result (shown self.new) }
         ensures at_once { GrantsAtOnce (shown self.old) (event_of event) result (shown self.new) }
     {
         every_run_is_safe();
         every_event_is_moves();
         a_fitting_message_is_granted();
-        self.carry_out(alloc, event)
+        every_farm_stays_lawful();
+        is_event(&event);
+        self.parts.carry_out(alloc, event)
     }
 }

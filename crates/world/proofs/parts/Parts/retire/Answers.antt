@@ -11,10 +11,11 @@ use Rattle.protocol.specs.declared.answer.EventNote.TheVariants as note
 use Rattle.protocol.specs.declared.answer.EventRefusal.TheVariants as refusal
 use Rattle.coordinator.specs.Held.{ledger}
 use Rattle.farm_base.specs.declared.message.Message as sent
-use Rattle.world.specs.Shown.{shown}
+use Rattle.world.specs.Parts.{shown_parts}
 use Rattle.world.specs.Turns.{first_number}
 use Rattle.world.proofs.CallLemmas.{sends_fit, call_done}
-use Rattle.world.proofs.world.World.retire.Goals as goal
+use Rattle.world.proofs.LawfulLemmas.{number_in}
+use Rattle.world.proofs.parts.Parts.retire.Goals as goal
 
 pub send_coordinator-requires : goal.send_coordinator-requires
 send_coordinator-requires c =
@@ -24,7 +25,7 @@ send_coordinator-requires c =
 
 pub returns-in-Ok : goal.returns-in-Ok
 returns-in-Ok c =
-    let s : Farm = shown c.args.self.now in
+    let s : Farm = shown_parts c.args.self.now in
     let r : Result Work CoordRefusal = retired farm_limits c.args.node (begin_work s.ledger) in
     let pool : List sent.Message = c.args.self.now.pool.items in
     let same = c.reserve.ensures.items in
@@ -33,3 +34,8 @@ returns-in-Ok c =
     ∙ call_done s r (ledger c.retire.new.self) c.send_coordinator.new.pool.items c.in-Ok.handled c.send_coordinator.result refl refl refl c.in-Ok.ensures.told c.in-Ok.ensures.answer
     (c.send_coordinator.ensures.pool ∙ ap (λ (l : List sent.Message). l ++ map Told c.in-Ok.handled.sends) same)
     (c.send_coordinator.ensures.outcome ∙ ap (λ (k : ℕ). record { note = note.Coord c.in-Ok.handled.note; first = first_number k (length c.in-Ok.handled.sends); sent = length c.in-Ok.handled.sends }) (ap length same))
+
+pub retire-requires : goal.retire-requires
+retire-requires c =
+    let here : is_node (shown_parts c.args.self.now) c.args.node ≡ true = search rules in
+    number_in (shown_parts c.args.self.now) c.args.node c.requires here

@@ -16,16 +16,17 @@ use Rattle.farm_base.specs.declared.message.ToNode.{ToNode}
 use Rattle.nodecore.specs.Shown.{Answers, message_work}
 use Rattle.world.specs.Tables.{seat, node_at}
 use Rattle.world.specs.Turns.{Came, FitsIn, first_number, from_node}
-use Rattle.world.specs.Shown.{shown}
+use Rattle.world.specs.Parts.{shown_parts}
 use Rattle.world.proofs.FewLemmas.{heard_count}
+use Rattle.world.proofs.LawfulLemmas.{said_of}
 use Rattle.world.proofs.PoolLemmas.{found_at, same_read}
 use Rattle.world.proofs.TurnLemmas.{hears, came_none, came_done, came_refused, came_worked, unmoved, came_as}
 use Rattle.protocol.specs.Replay.{receiver}
-use Rattle.world.proofs.world.World.deliver.Goals as goal
+use Rattle.world.proofs.parts.Parts.deliver.Goals as goal
 
 pub returns-in_default-hear : goal.returns-in_default-hear
 returns-in_default-hear c =
-    let s : Farm = shown c.args.self.now in
+    let s : Farm = shown_parts c.args.self.now in
     let pool : List sent.Message = c.args.self.now.pool.items in
     let inside : c.in-Some.place < length pool = omega (arith, c.in-Some.ensures.inside) in
     let same : c.reserve.new.self.items ≡ pool = c.reserve.ensures.items in
@@ -42,7 +43,7 @@ returns-in_default-hear c =
 
 pub send_node-requires : goal.send_node-requires
 send_node-requires c =
-    let s : Farm = shown c.args.self.now in
+    let s : Farm = shown_parts c.args.self.now in
     let pool : List sent.Message = c.args.self.now.pool.items in
     let inside : c.in-Some.place < length pool = omega (arith, c.in-Some.ensures.inside) in
     let same : c.reserve.new.self.items ≡ pool = c.reserve.ensures.items in
@@ -65,7 +66,7 @@ send_node-requires c =
 
 pub returns-in-Err-answer : goal.returns-in-Err-answer
 returns-in-Err-answer c =
-    let s : Farm = shown c.args.self.now in
+    let s : Farm = shown_parts c.args.self.now in
     let pool : List sent.Message = c.args.self.now.pool.items in
     let inside : c.in-Some.place < length pool = omega (arith, c.in-Some.ensures.inside) in
     let same : c.reserve.new.self.items ≡ pool = c.reserve.ensures.items in
@@ -86,7 +87,7 @@ returns-in-Err-answer c =
 
 pub returns-in-Ok-answer : goal.returns-in-Ok-answer
 returns-in-Ok-answer c =
-    let s : Farm = shown c.args.self.now in
+    let s : Farm = shown_parts c.args.self.now in
     let pool : List sent.Message = c.args.self.now.pool.items in
     let inside : c.in-Some.place < length pool = omega (arith, c.in-Some.ensures.inside) in
     let same : c.reserve.new.self.items ≡ pool = c.reserve.ensures.items in
@@ -106,7 +107,7 @@ returns-in-Ok-answer c =
 
 pub returns-in-Ok : goal.returns-in-Ok
 returns-in-Ok c =
-    let s : Farm = shown c.args.self.now in
+    let s : Farm = shown_parts c.args.self.now in
     let pool : List sent.Message = c.args.self.now.pool.items in
     let inside : c.in-Some.place < length pool = omega (arith, c.in-Some.ensures.inside) in
     let same : c.reserve.new.self.items ≡ pool = c.reserve.ensures.items in
@@ -116,3 +117,12 @@ returns-in-Ok c =
     ∙ came_worked s (handled farm_limits y (begin_work s.ledger)) _ c.send_coordinator.new.pool.items c.in-Ok.handled.sends c.in-Ok.handled.note c.send_coordinator.result refl refl c.in-Ok.ensures.told c.in-Ok.ensures.ledger c.in-Ok.ensures.sends c.in-Ok.ensures.note
     (c.send_coordinator.ensures.pool ∙ ap (λ (l : List sent.Message). l ++ map Told c.in-Ok.handled.sends) same)
     (c.send_coordinator.ensures.outcome ∙ ap (λ (k : ℕ). record { note = note.Coord c.in-Ok.handled.note; first = first_number k (length c.in-Ok.handled.sends); sent = length c.in-Ok.handled.sends }) (ap length same))
+
+pub handle-requires : goal.handle-requires
+handle-requires c =
+    let pool : List sent.Message = c.args.self.now.pool.items in
+    let inside : c.in-Some.place < length pool = omega (arith, c.in-Some.ensures.inside) in
+    let same : c.reserve.new.self.items ≡ pool = c.reserve.ensures.items in
+    let y : ToCoord = c.in-ToCoord.message in
+    let here : nth pool c.args.number ≡ Some (Said y) = found_at pool c.reserve.new.self.items c.args.number c.in-Some.place c.index-2.result.now (message.ToCoord y) same c.in-Some.ensures.found inside (search rules) c.in-ToCoord.is in
+    said_of (shown_parts c.args.self.now) c.args.number y c.requires here

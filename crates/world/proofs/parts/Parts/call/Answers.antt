@@ -7,10 +7,10 @@ use Rattle.nodecore.specs.Shown.{Answers}
 use Rattle.world.specs.Tables.{called, seat, node_at}
 use Rattle.protocol.specs.declared.answer.EventRefusal.{EventRefusal}
 use Rattle.world.specs.Turns.{Came}
-use Rattle.world.specs.Shown.{shown}
+use Rattle.world.specs.Parts.{shown_parts}
 use Rattle.world.proofs.FewLemmas.{few}
 use Rattle.world.proofs.TurnLemmas.{came_refused, unmoved}
-use Rattle.world.proofs.world.World.call.Goals as goal
+use Rattle.world.proofs.parts.Parts.call.Goals as goal
 
 pub send_node-requires : goal.send_node-requires
 send_node-requires c =
@@ -26,7 +26,7 @@ returns-in-Err c =
     let cores : List NodeCore = c.args.self.now.nodes.cores.items in
     let new : List NodeCore = c.call.new.self.cores.items in
     let n : NodeId = c.args.node in
-    let s : Farm = shown c.args.self.now in
+    let s : Farm = shown_parts c.args.self.now in
     let here : is_node s n ≡ true = sym c.in-Some.ensures.exact in
     let answer : Answers (called c.args.call (seat cores n) (node_at cores n.0)) (node_at cores n.0) (node_at new n.0) (Err c.in-Err.refusal) =
     subst (Answers (called c.args.call (seat cores n) (node_at cores n.0)) (node_at cores n.0) (node_at new n.0)) c.in-Err.is c.in-Some.ensures.answer in

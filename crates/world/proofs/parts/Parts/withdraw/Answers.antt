@@ -4,7 +4,7 @@ use Rattle.protocol.specs.Farm.{farm_limits}
 use Rattle.protocol.specs.Ledger.{begin_work, withdrawn}
 use Rattle.coordinator.specs.Held.{ledger}
 use Rattle.world.proofs.CallLemmas.{sends_fit}
-use Rattle.world.proofs.world.World.withdraw.Goals as goal
+use Rattle.world.proofs.parts.Parts.withdraw.Goals as goal
 
 pub send_coordinator-requires : goal.send_coordinator-requires
 send_coordinator-requires c =

@@ -1,0 +1,14 @@
+use Rattle.farm_base.specs.Contents.{content_digest}
+use Rattle.protocol.specs.Ledger.{saves}
+use Rattle.protocol.specs.Replay.{opening}
+use Rattle.world.proofs.SeatLemmas.{all_first}
+use Rattle.world.proofs.parts.Parts.start.Goals as goal
+
+pub returns : goal.returns
+returns c = λ j. record (opening content_digest c.args.count) {
+  size = c.in_ok-nodes.ensures.len j;
+  ledger = c.start-2.ensures j;
+  saved = saves (c.start-2.ensures j);
+  pool = c.new.ensures.items j;
+  nodes = all_first c.args.count c.in_ok-nodes.nodes.cores.items c.in_ok-nodes.ensures j;
+}
