@@ -8,7 +8,6 @@ ghost use Rattle.protocol.specs.Nodes.{resent};
 ghost use Rattle.protocol.specs.Follows.{SafeAfter, SafeBetween};
 ghost use Rattle.coordinator.specs.Held.{ledger};
 ghost use Rattle.nodecore.specs.Shown as core;
-ghost use Rattle.schedule.specs.Events.{event_of};
 ghost use Rattle.world.specs.Meanings.{MeansAsTold, GrantsAtOnce};
 ghost use Rattle.world.specs.Setups.{IsSetup};
 ghost use Rattle.world.specs.Tables.{called};
@@ -277,7 +276,7 @@ impl World {
     /// Carries out one event, by its kind.
     #[tactic(auto, unfolding(protocol::specs::Replay::step))]
     fn carry_out(&mut self, alloc: Global, event: Event) -> Result<Outcome, EventRefusal>
-        ensures { Came (step content_digest farm_limits (shown self.old) (event_of event)) (shown self.old) (shown self.new) result }
+        ensures { Came (step content_digest farm_limits (shown self.old) event) (shown self.old) (shown self.new) result }
     {
         match event {
             Event::Ask(node, wants) => self.call(alloc, node, Call::Ask(wants)),
@@ -301,10 +300,10 @@ impl World {
     /// Carries out one event. What is refused changes nothing, but that a node whose greatest life is over is
     /// down for good. A safe farm stays safe: what was so before still is.
     pub fn step(&mut self, alloc: Global, event: Event) -> Result<Outcome, EventRefusal>
-        ensures came { Came (step content_digest farm_limits (shown self.old) (event_of event)) (shown self.old) (shown self.new) result }
+        ensures came { Came (step content_digest farm_limits (shown self.old) event) (shown self.old) (shown self.new) result }
         ensures safe { SafeAfter content_digest (shown self.old) → SafeBetween content_digest (shown self.old) (shown self.new) }
-        ensures meaning { MeansAsTold (shown self.old) (event_of event) result (shown self.new) }
-        ensures at_once { GrantsAtOnce (shown self.old) (event_of event) result (shown self.new) }
+        ensures meaning { MeansAsTold (shown self.old) event result (shown self.new) }
+        ensures at_once { GrantsAtOnce (shown self.old) event result (shown self.new) }
     {
         every_run_is_safe();
         every_event_is_moves();

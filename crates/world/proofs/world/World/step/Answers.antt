@@ -1,16 +1,15 @@
 use Rattle.std.proofs.Common.{refl}
-use Rattle.schedule.specs.Events.{event_of}
 use Rattle.world.specs.Shown.{shown}
 use Rattle.world.proofs.MeaningLemmas.{means_as_told, grants_at_once}
 use Rattle.world.proofs.SafeLemmas.{stays_safe}
 use Rattle.world.proofs.world.World.step.Goals as goal
 
 pub returns-clause-meaning : goal.returns-clause-meaning
-returns-clause-meaning c = means_as_told c.every_event_is_moves.ensures (shown c.args.self.now) (shown c.carry_out.new.self) (event_of c.args.event) c.carry_out.result c.carry_out.ensures
+returns-clause-meaning c = means_as_told c.every_event_is_moves.ensures (shown c.args.self.now) (shown c.carry_out.new.self) c.args.event c.carry_out.result c.carry_out.ensures
 
 pub returns-clause-at_once : goal.returns-clause-at_once
 returns-clause-at_once c =
-    grants_at_once c.a_fitting_message_is_granted.ensures (shown c.args.self.now) (shown c.carry_out.new.self) (event_of c.args.event) c.carry_out.result refl refl c.carry_out.ensures
+    grants_at_once c.a_fitting_message_is_granted.ensures (shown c.args.self.now) (shown c.carry_out.new.self) c.args.event c.carry_out.result refl refl c.carry_out.ensures
 
 pub returns-clause-safe : goal.returns-clause-safe
-returns-clause-safe c = λ before. stays_safe c.every_event_is_moves.ensures c.every_run_is_safe.ensures.safe c.every_run_is_safe.ensures.stays (shown c.args.self.now) (shown c.carry_out.new.self) (event_of c.args.event) c.carry_out.result before c.carry_out.ensures
+returns-clause-safe c = λ before. stays_safe c.every_event_is_moves.ensures c.every_run_is_safe.ensures.safe c.every_run_is_safe.ensures.stays (shown c.args.self.now) (shown c.carry_out.new.self) c.args.event c.carry_out.result before c.carry_out.ensures
