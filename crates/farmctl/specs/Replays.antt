@@ -1,11 +1,12 @@
 -- What the program prints for a schedule (this project's own).
-use Rattle.std.specs.Prelude.{◌≡◌, ⊤, ℕ, ◌+◌, List, [], ◌∷◌, ◌++◌, map}
+use Rattle.std.specs.Prelude.{◌≡◌, ⊤, ℕ, ◌+◌, List, [], ◌∷◌, ◌++◌}
 use Rattle.farm_base.specs.Contents.{content_digest}
 use Rattle.protocol.specs.Farm.{farm_limits}
 use Rattle.schedule.specs.Printing.{outcome_text}
 use Rattle.protocol.specs.World.{start}
 use Rattle.protocol.specs.Chronicle.{Chronicle}
-use Rattle.protocol.specs.Replay.{Event, Farm, step, run, opening}
+use Rattle.protocol.specs.Replay.{Farm, step, run, opening}
+use Rattle.protocol.specs.declared.event.Event.{Event}
 use Rattle.schedule.specs.declared.setup.Setup.{Setup}
 use Rattle.schedule.specs.Schedules as schedule
 use Rattle.world.specs.Printing.{ArePrinted}

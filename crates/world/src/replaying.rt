@@ -1,4 +1,4 @@
-ghost use Rattle.std.specs.Prelude.{◌≡◌, ◌↔◌, ℕ, ◌≤◌, ◌<◌, IfOk, OnOk, map, length};
+ghost use Rattle.std.specs.Prelude.{◌≡◌, ◌↔◌, ℕ, ◌≤◌, ◌<◌, IfOk, OnOk, length};
 ghost use Rattle.farm_base.specs.Contents.{content_digest};
 ghost use Rattle.farm_base.specs.declared.limits.TheConstants.{EVENTS};
 ghost use Rattle.protocol.specs.Farm.{farm_limits};

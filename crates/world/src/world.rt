@@ -1,4 +1,4 @@
-ghost use Rattle.std.specs.Prelude.{Ok, false, ◌≡◌, ◌↔◌, IsTrue, IfOk, IfSome, map, length, is_some, option_map, option_copied};
+ghost use Rattle.std.specs.Prelude.{Ok, false, ◌≡◌, ◌↔◌, IsTrue, IfOk, IfSome, length, is_some, option_map, option_copied};
 ghost use Rattle.farm_base.specs.Contents.{content_digest};
 ghost use Rattle.protocol.specs.Farm.{farm_limits};
 ghost use Rattle.protocol.specs.Lists.{nth};

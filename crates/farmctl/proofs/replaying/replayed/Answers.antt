@@ -1,4 +1,3 @@
-use Rattle.std.proofs.Common.{map}
 use Rattle.farmctl.proofs.replaying.replayed.Goals as goal
 
 pub returns-clause-headline : goal.returns-clause-headline
