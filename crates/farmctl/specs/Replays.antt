@@ -1,14 +1,13 @@
 -- What the program prints for a schedule (this project's own).
-use Rattle.std.specs.Prelude.{◌≡◌, ⊤, ℕ, ◌+◌, List, [], ◌∷◌, ◌++◌, map}
+use Rattle.std.specs.Prelude.{◌≡◌, ⊤, ℕ, ◌+◌, List, [], ◌∷◌, ◌++◌}
 use Rattle.farm_base.specs.Contents.{content_digest}
 use Rattle.protocol.specs.Farm.{farm_limits}
 use Rattle.schedule.specs.Printing.{outcome_text}
 use Rattle.protocol.specs.World.{start}
 use Rattle.protocol.specs.Chronicle.{Chronicle}
-use Rattle.protocol.specs.Replay.{Event, Farm, step, run, opening}
-use Rattle.schedule.specs.declared.event.Event as said
-use Rattle.schedule.specs.declared.event.Setup.{Setup}
-use Rattle.schedule.specs.Events.{event_of}
+use Rattle.protocol.specs.Replay.{Farm, step, run, opening}
+use Rattle.protocol.specs.declared.event.Event.{Event}
+use Rattle.schedule.specs.declared.setup.Setup.{Setup}
 use Rattle.schedule.specs.Schedules as schedule
 use Rattle.world.specs.Printing.{ArePrinted}
 use Rattle.world.specs.Replays.{KeepsHeadline}
@@ -33,11 +32,11 @@ pub record HasHeadline (setup : Setup) (events : List Event) : Type 0 where
 
 -- the bytes spell a schedule, and this is what is printed for it
 abbrev pub IsReplayed : List ℕ → List ℕ → Type 0
-IsReplayed bytes text = (setup : Setup) × (events : List said.Event) × schedule.IsSchedule bytes setup events × IsReplayOf setup (map event_of events) text
+IsReplayed bytes text = (setup : Setup) × (events : List Event) × schedule.IsSchedule bytes setup events × IsReplayOf setup events text
 
 -- the headline holds of the schedule that the bytes spell
 abbrev pub TellsHeadline : List ℕ → Type 0
-TellsHeadline bytes = (setup : Setup) (events : List said.Event) → schedule.IsSchedule bytes setup events → HasHeadline setup (map event_of events)
+TellsHeadline bytes = (setup : Setup) (events : List Event) → schedule.IsSchedule bytes setup events → HasHeadline setup events
 
 -- why the bytes don't spell a schedule: their first fault
 abbrev pub IsUnread : List ℕ → Failure → Type 0

@@ -1,11 +1,10 @@
 //! What `replay` answers for a schedule.
-ghost use Rattle.std.specs.Prelude.{◌≡◌, ◌++◌, IfOk, IfErr, OnOk, map};
+ghost use Rattle.std.specs.Prelude.{◌≡◌, ◌++◌, IfOk, IfErr, OnOk};
 ghost use Rattle.std.specs.String.{string_bytes};
 ghost use Rattle.farm_base.specs.Contents.{content_digest};
 ghost use Rattle.protocol.specs.Farm.{farm_limits};
 ghost use Rattle.schedule.specs.Printing.{outcome_text};
 ghost use Rattle.protocol.specs.Replay.{run, step};
-ghost use Rattle.schedule.specs.Events.{event_of};
 ghost use Rattle.world.specs.Shown.{shown};
 ghost use Rattle.farmctl.specs.Replays.{events_text, IsReplayed, IsUnread, TellsHeadline};
 
@@ -22,8 +21,8 @@ fn push_event(
     number: u64,
     event: Event,
 ) -> Result<(), AllocError>
-    ensures text { OnOk result (string_bytes text.new ≡ string_bytes text.old ++ outcome_text number (step content_digest farm_limits (shown world.old) (event_of event)).outcome) }
-    ensures farm { OnOk result (shown world.new ≡ (step content_digest farm_limits (shown world.old) (event_of event)).farm) }
+    ensures text { OnOk result (string_bytes text.new ≡ string_bytes text.old ++ outcome_text number (step content_digest farm_limits (shown world.old) event).outcome) }
+    ensures farm { OnOk result (shown world.new ≡ (step content_digest farm_limits (shown world.old) event).farm) }
 {
     let outcome = world.step(alloc, event);
     if matches!(outcome, Err(EventRefusal::OutOfMemory)) {
@@ -35,8 +34,8 @@ fn push_event(
 
 /// The lines of the events, numbered from 1.
 fn event_lines(alloc: Global, world: &mut World, events: Vec<Event>) -> Result<String, AllocError>
-    ensures text { IfOk result (λ text. string_bytes text ≡ events_text 1 (map event_of events.items) (shown world.old)) }
-    ensures farm { OnOk result (shown world.new ≡ run content_digest farm_limits (map event_of events.items) (shown world.old)) }
+    ensures text { IfOk result (λ text. string_bytes text ≡ events_text 1 events.items (shown world.old)) }
+    ensures farm { OnOk result (shown world.new ≡ run content_digest farm_limits events.items (shown world.old)) }
 {
     let mut text = String::new(alloc);
     let mut number = 1;

@@ -1,14 +1,14 @@
 -- The one run of a schedule: each choice made by the rules (docs/PROTOCOL.md, "The replay of a schedule").
 use Rattle.std.specs.Prelude.{ℕ, ◌+◌, Bool, true, false, ◌&&◌, nat_le, if◌then◌else◌, List, [], ◌∷◌, ◌++◌, length, map, Option, Some, None, Result, Ok, Err}
 use Rattle.protocol.specs.Lists.{put, nth}
-use Rattle.protocol.specs.Names.{Slot, NodeId, Ticket, Digest, Want, FolderName}
+use Rattle.protocol.specs.Names.{NodeId, Digest}
 use Rattle.protocol.specs.Machine.{Message, ToNode, Told, FromCoord}
 use Rattle.farm_base.specs.declared.message.Message.TheVariants as to
 use Rattle.farm_base.specs.declared.message.ToNode.TheVariants as to_node
 use Rattle.protocol.specs.Ledger.{Limits, Ledger, Work, begin_work, handled, withdrawn, retired, pruned, nudged, Saved, saves, reads}
 use Rattle.protocol.specs.Ledger as ledger
 use Rattle.protocol.specs.World.{Node, first_node}
-use Rattle.protocol.specs.Nodes.{Place, Left, NodeWork, NodeAnswer, asked, asked_tenure, begun, finished_with, aborted, resent, restarted, may_restart, received, brought, unless_spent}
+use Rattle.protocol.specs.Nodes.{Place, NodeWork, NodeAnswer, asked, asked_tenure, begun, finished_with, aborted, resent, restarted, may_restart, received, brought, unless_spent}
 use Rattle.farm_base.specs.declared.message.FromCoord.TheVariants as told
 use Rattle.protocol.specs.declared.answer.Kept.{Kept}
 use Rattle.protocol.specs.declared.answer.Kept.TheVariants.{Old, New}
@@ -20,23 +20,8 @@ use Rattle.protocol.specs.declared.answer.EventNote.TheVariants as note
 use Rattle.protocol.specs.declared.answer.EventRefusal.{EventRefusal}
 use Rattle.protocol.specs.declared.answer.EventRefusal.TheVariants as refusal
 use Rattle.protocol.specs.declared.answer.Outcome.{Outcome}
-
-pub data Event : Type 0 where
-  Ask : (node : NodeId) (wants : List Want) → Event
-  Tenure : (node : NodeId) (folder : FolderName) → Event
-  Deliver : (number : ℕ) → Event
-  Begin : (node : NodeId) (ticket : Ticket) → Event
-  Finish : (node : NodeId) (ticket : Ticket) (lefts : List Left) → Event
-  Abort : (node : NodeId) (ticket : Ticket) → Event
-  Resend : (node : NodeId) → Event
-  Nudge : Event
-  Withdraw : (ticket : Ticket) → Event
-  Prune : (slot : Slot) → Event
-  Retire : (node : NodeId) → Event
-  RestartNode : (node : NodeId) → Event
-  RestartCoordinator : Event
-  Forge : (node : NodeId) (content : List ℕ) → Event
-  FailSave : (kept : Kept) → Event
+pub use Rattle.protocol.specs.declared.event.Event.{Event}
+pub use Rattle.protocol.specs.declared.event.Event.TheVariants.{Ask, Tenure, Deliver, Begin, Finish, Abort, Resend, Nudge, Withdraw, Prune, Retire, RestartNode, RestartCoordinator, Forge, FailSave}
 
 -- a farm between two events
 pub record Farm : Type 0 where

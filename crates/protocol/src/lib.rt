@@ -8,12 +8,14 @@ ghost use Rattle.protocol.specs.Safe.{EveryRunIsSafe, EveryRunStaysSafe};
 
 mod answer;
 mod ask;
+mod event;
 
 pub use answer::{
     CoordNote, CoordRefusal, Decision, EventNote, EventRefusal, How, Kept, NodeNote, NodeRefusal,
     Outcome,
 };
 pub use ask::KeptAsk;
+pub use event::Event;
 
 /// Every run of the world is safe, and stays so from any world to any later one: whatever is sent, lost,
 /// repeated, reordered, withdrawn or restarted. `sha` gives each content its digest; two contents with one

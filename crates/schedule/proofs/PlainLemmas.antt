@@ -51,9 +51,13 @@ IsWord-from_test (b ∷ word) h =
 own : IsNumeralModel (AllDigits 10) (digits_value 10)
 own = numerals_by_value (AllDigits 10) tells_digits
 
+-- a number's text has only digits
+pub decimal_digits : (n : ℕ) → n < 2 ^ 64 → AllDigits 10 (decimal n)
+decimal_digits n lt = digits_decimal own n lt
+
 pub decimal_word : (n : ℕ) → n < 2 ^ 64 → IsWord (decimal n)
 decimal_word n lt = All-from_get_or IsVisible (decimal n) 0 (λ i inside.
-    let range = digit_at (decimal n) i (digits_decimal own n lt) inside in
+    let range = digit_at (decimal n) i (decimal_digits n lt) inside in
     (omega arith, omega arith))
 
 pub hex_word : (bytes : List ℕ) → IsBytes bytes → IsWord (encode_lower bytes)

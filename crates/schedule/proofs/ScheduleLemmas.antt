@@ -15,8 +15,8 @@ use Rattle.std.specs.Iterator.{Yields}
 use Rattle.std.proofs.lemmas.Iterator.{YieldsList}
 use Rattle.std.proofs.lemmas.Iterator.Consumers.{YieldsList-so_far, YieldsList-turn}
 use Rattle.lists.proofs.Places.{AllZip-push}
-use Rattle.schedule.specs.declared.event.Event.{Event}
-use Rattle.schedule.specs.declared.event.Setup.{Setup}
+use Rattle.protocol.specs.declared.event.Event.{Event}
+use Rattle.schedule.specs.declared.setup.Setup.{Setup}
 use Rattle.schedule.specs.declared.refusal.LineRefusal.{LineRefusal}
 use Rattle.schedule.specs.declared.refusal.LineRefusal.TheVariants.{BadLine, OutOfMemory}
 use Rattle.schedule.specs.declared.refusal.ScheduleRefusal.{ScheduleRefusal}

@@ -1,6 +1,6 @@
 -- The words of a line say the event that the line spells.
-use Rattle.std.proofs.Common.{◌≡◌, ℕ, List, [], ◌∷◌, map, refl, sym, ap, ◌∙◌, subst, arith}
-use Rattle.std.specs.Prelude.{decimal}
+use Rattle.std.proofs.Common.{◌≡◌, ℕ, List, [], ◌∷◌, map, refl, sym, ap, ◌∙◌, subst, inl, inr, arith}
+use Rattle.std.specs.Prelude.{codes, decimal}
 use Rattle.std.specs.List.{All, join_with_byte}
 use Rattle.std.specs.Str.{IsUtf8}
 use Rattle.std.proofs.lemmas.List.Elements.{All-nil, All-cons}
@@ -10,11 +10,13 @@ use Rattle.hex.specs.Hex.{encode_lower}
 use Rattle.farm_base.specs.declared.number.NodeId.{NodeId}
 use Rattle.farm_base.specs.declared.number.Ticket.{Ticket}
 use Rattle.farm_base.specs.Names.{folder_text, slot_text}
-use Rattle.schedule.specs.declared.event.Event.{Event}
-use Rattle.schedule.specs.declared.event.Event.TheVariants as event
+use Rattle.protocol.specs.declared.answer.Kept.{Kept}
+use Rattle.protocol.specs.declared.answer.Kept.TheVariants.{Old, New}
+use Rattle.protocol.specs.declared.event.Event.{Event}
+use Rattle.protocol.specs.declared.event.Event.TheVariants as event
 use Rattle.schedule.specs.declared.verb.Verb.{Verb}
-use Rattle.schedule.specs.declared.verb.Verb.TheVariants.{Ask, Tenure, Deliver, Begin, Finish, Abort, Resend, Restart, Forge, Nudge, Withdraw, Prune, Retire}
-use Rattle.schedule.specs.Lines.{node_text, ticket_text, want_text, left_text, IsNode, IsTicket, IsWant, IsEvent, IsTextOf, IsSpelled}
+use Rattle.schedule.specs.declared.verb.Verb.TheVariants.{Ask, Tenure, Deliver, Begin, Finish, Abort, Resend, Restart, Forge, Nudge, Withdraw, Prune, Retire, Fail}
+use Rattle.schedule.specs.Lines.{node_text, ticket_text, kept_text, want_text, left_text, IsNode, IsTicket, IsWant, IsEvent, IsTextOf, IsSpelled}
 use Rattle.schedule.specs.Words.{words, verb_text, Says, SpelledBy}
 use Rattle.schedule.proofs.PlainLemmas.{IsWord, IsWord-from_test, decimal_word, hex_word, folder_word, slot_word, want_words, left_words, words-joined, joined_utf8}
 
@@ -43,6 +45,14 @@ verb_word Nudge = IsWord-from_test (verb_text Nudge) refl
 verb_word Withdraw = IsWord-from_test (verb_text Withdraw) refl
 verb_word Prune = IsWord-from_test (verb_text Prune) refl
 verb_word Retire = IsWord-from_test (verb_text Retire) refl
+verb_word Fail = IsWord-from_test (verb_text Fail) refl
+
+kept_word : (k : Kept) → IsWord (kept_text k)
+kept_word Old = IsWord-from_test (kept_text Old) refl
+kept_word New = IsWord-from_test (kept_text New) refl
+
+coordinator_word : IsWord (codes "coordinator")
+coordinator_word = IsWord-from_test (codes "coordinator") refl
 
 -- the words after a verb
 said_words : (v : Verb) (ws : List (List ℕ)) (e : Event) → Says v ws e → All IsWord ws
@@ -58,13 +68,15 @@ said_words Finish ws e h =
     subst (All IsWord) (sym h.text) (node_words h.node (ticket_text h.ticket ∷ h.slots) h.is_node (ticket_words h.ticket h.slots h.is_ticket slots))
 said_words Abort ws e h = subst (All IsWord) (sym h.text) (node_words h.node (ticket_text h.ticket ∷ []) h.is_node (ticket_words h.ticket [] h.is_ticket (All-nil IsWord)))
 said_words Resend ws e h = subst (All IsWord) (sym h.text) (node_words h.node [] h.is_node (All-nil IsWord))
-said_words Restart ws e h = subst (All IsWord) (sym h.text) (node_words h.node [] h.is_node (All-nil IsWord))
+said_words Restart ws e (inl h) = subst (All IsWord) (sym h.text) (node_words h.node [] h.is_node (All-nil IsWord))
+said_words Restart ws e (inr h) = subst (All IsWord) (sym h.text) (one_word (codes "coordinator") coordinator_word)
 said_words Forge ws e h =
     subst (All IsWord) (sym h.text) (node_words h.node (encode_lower h.content ∷ []) h.is_node (one_word (encode_lower h.content) (hex_word h.content h.is_content)))
 said_words Nudge ws e h = subst (All IsWord) (sym h.text) (All-nil IsWord)
 said_words Withdraw ws e h = subst (All IsWord) (sym h.text) (ticket_words h.ticket [] h.is_ticket (All-nil IsWord))
 said_words Prune ws e h = subst (All IsWord) (sym h.text) (one_word (slot_text h.slot) (slot_word h.slot h.is_slot))
 said_words Retire ws e h = subst (All IsWord) (sym h.text) (node_words h.node [] h.is_node (All-nil IsWord))
+said_words Fail ws e h = subst (All IsWord) (sym h.text) (one_word (kept_text h.kept) (kept_word h.kept))
 
 -- ---- from the words to the line
 
@@ -93,12 +105,14 @@ said_spelled Finish ws e h =
     })
 said_spelled Abort ws e h = subst (IsSpelled (line_of Abort ws)) (sym h.event) (record { lawful = (h.is_node, h.is_ticket); text = ap (line_of Abort) h.text })
 said_spelled Resend ws e h = subst (IsSpelled (line_of Resend ws)) (sym h.event) (record { lawful = h.is_node; text = ap (line_of Resend) h.text })
-said_spelled Restart ws e h = subst (IsSpelled (line_of Restart ws)) (sym h.event) (record { lawful = h.is_node; text = ap (line_of Restart) h.text })
+said_spelled Restart ws e (inl h) = subst (IsSpelled (line_of Restart ws)) (sym h.event) (record { lawful = h.is_node; text = ap (line_of Restart) h.text })
+said_spelled Restart ws e (inr h) = subst (IsSpelled (line_of Restart ws)) (sym h.event) (record { lawful = tt; text = ap (line_of Restart) h.text })
 said_spelled Forge ws e h = subst (IsSpelled (line_of Forge ws)) (sym h.event) (record { lawful = (h.is_node, h.is_content); text = ap (line_of Forge) h.text })
 said_spelled Nudge ws e h = subst (IsSpelled (line_of Nudge ws)) (sym h.event) (record { lawful = tt; text = ap (line_of Nudge) h.text })
 said_spelled Withdraw ws e h = subst (IsSpelled (line_of Withdraw ws)) (sym h.event) (record { lawful = h.is_ticket; text = ap (line_of Withdraw) h.text })
 said_spelled Prune ws e h = subst (IsSpelled (line_of Prune ws)) (sym h.event) (record { lawful = h.is_slot; text = ap (line_of Prune) h.text })
 said_spelled Retire ws e h = subst (IsSpelled (line_of Retire ws)) (sym h.event) (record { lawful = h.is_node; text = ap (line_of Retire) h.text })
+said_spelled Fail ws e h = subst (IsSpelled (line_of Fail ws)) (sym h.event) (record { lawful = tt; text = ap (line_of Fail) h.text })
 
 -- a line whose words spell an event spells it
 pub spelled-from_words : (line : List ℕ) (e : Event) → SpelledBy (words line) e → IsSpelled line e
@@ -187,7 +201,9 @@ said_by_text line (event.Prune slot) h text =
 said_by_text line (event.Retire n) h text =
     (record { verb = Retire; behind = node_text n ∷ []; says = record { node = n; is_node = h; text = refl; event = refl } }, text)
 said_by_text line (event.RestartNode n) h text =
-    (record { verb = Restart; behind = node_text n ∷ []; says = record { node = n; is_node = h; text = refl; event = refl } }, text)
+    (record { verb = Restart; behind = node_text n ∷ []; says = inl (record { node = n; is_node = h; text = refl; event = refl }) }, text)
+said_by_text line event.RestartCoordinator h text =
+    (record { verb = Restart; behind = codes "coordinator" ∷ []; says = inr (record { text = refl; event = refl }) }, text)
 said_by_text line (event.Forge n content) h text = (
   record {
     verb = Forge;
@@ -196,6 +212,8 @@ said_by_text line (event.Forge n content) h text = (
   },
   text,
 )
+said_by_text line (event.FailSave kept) h text =
+    (record { verb = Fail; behind = kept_text kept ∷ []; says = record { kept = kept; text = refl; event = refl } }, text)
 
 saying_words : {e : Event} (s : Saying e) → All IsWord (verb_text s.verb ∷ s.behind)
 saying_words {e} s = All-cons IsWord (verb_text s.verb) s.behind (verb_word s.verb) (said_words s.verb s.behind e s.says)

@@ -1,14 +1,16 @@
 -- A line spells one event.
-use Rattle.std.proofs.Common.{◌≡◌, ℕ, zero, suc, ◌⊎◌, inl, inr, List, [], ◌∷◌, Option, Some, None, refl, sym, ap, ◌∙◌, subst, arith}
-use Rattle.std.specs.Prelude.{IsPermutation, if◌then◌else◌}
+use Rattle.std.proofs.Common.{◌≡◌, ℕ, zero, suc, ◌⊎◌, inl, inr, List, [], ◌∷◌, Option, Some, None, refl, sym, ap, ◌∙◌, subst, get_or, arith}
+use Rattle.std.specs.Prelude.{codes, IsPermutation, if◌then◌else◌}
 use Rattle.std.specs.List.{AllByRecursion, Contains}
 use Rattle.std.specs.List.Sorted.{IsStrictlySortedBy}
 use Rattle.std.specs.Ordering.{ordering_reverse}
 use Rattle.std.specs.Str.{bytes_eq}
+use Rattle.std.specs.Str.Parse.{AllDigits}
 use Rattle.std.specs.declared.cmp.Ordering.TheVariants.{Less, Greater}
 use Rattle.std.proofs.lemmas.Fmt.{decimal_injective}
 use Rattle.std.proofs.lemmas.List.Sorted.{Contains-permutation, IsPermutation-sym}
 use Rattle.std.proofs.lemmas.Map.Keys.{sorted_head, sorted_tail}
+use Rattle.std.proofs.lemmas.Str.Parse.{digit_at}
 use Rattle.farm_base.specs.declared.folder.FolderName.{FolderName}
 use Rattle.farm_base.specs.declared.number.NodeId.{NodeId}
 use Rattle.farm_base.specs.declared.number.Ticket.{Ticket}
@@ -18,13 +20,16 @@ use Rattle.farm_base.specs.Wanted.{folders}
 use Rattle.farm_base.proofs.CompareLaws.{folder_total}
 use Rattle.farm_base.proofs.NameLaws.{folder_text-injective, slot_text-injective}
 use Rattle.farm_base.proofs.TextLemmas.{encode-injective}
-use Rattle.schedule.specs.declared.event.Event.{Event}
-use Rattle.schedule.specs.declared.event.Event.TheVariants as event
+use Rattle.protocol.specs.declared.answer.Kept.{Kept}
+use Rattle.protocol.specs.declared.answer.Kept.TheVariants.{Old, New}
+use Rattle.protocol.specs.declared.event.Event.{Event}
+use Rattle.protocol.specs.declared.event.Event.TheVariants as event
 use Rattle.schedule.specs.declared.verb.Verb.{Verb}
-use Rattle.schedule.specs.declared.verb.Verb.TheVariants.{Ask, Tenure, Deliver, Begin, Finish, Abort, Resend, Restart, Forge, Nudge, Withdraw, Prune, Retire}
-use Rattle.schedule.specs.Lines.{node_text, ticket_text, want_text, left_text, IsNode, IsTicket, IsWant, IsLeft, Left, IsSpelled}
-use Rattle.schedule.specs.Words.{verb_text, Says, SpellWants, SpellLefts, OfNode, OfLease}
+use Rattle.schedule.specs.declared.verb.Verb.TheVariants.{Ask, Tenure, Deliver, Begin, Finish, Abort, Resend, Restart, Forge, Nudge, Withdraw, Prune, Retire, Fail}
+use Rattle.schedule.specs.Lines.{node_text, ticket_text, kept_text, want_text, left_text, IsNode, IsTicket, IsWant, IsLeft, Left, IsSpelled}
+use Rattle.schedule.specs.Words.{verb_text, Says, SpellWants, SpellLefts, OfNode, OfLease, Restarts}
 use Rattle.schedule.proofs.ListLemmas.{map-injective}
+use Rattle.schedule.proofs.PlainLemmas.{decimal_digits}
 use Rattle.schedule.proofs.Spelling.{want_text-injective, left_text-injective}
 use Rattle.schedule.proofs.SpelledLemmas.{words-from_spelled}
 
@@ -46,6 +51,7 @@ verb_named text =
     else if bytes_eq text (verb_text Withdraw) then Some Withdraw
     else if bytes_eq text (verb_text Prune) then Some Prune
     else if bytes_eq text (verb_text Retire) then Some Retire
+    else if bytes_eq text (verb_text Fail) then Some Fail
     else None
 
 verb_named-text : (v : Verb) → verb_named (verb_text v) ≡ Some v
@@ -62,6 +68,7 @@ verb_named-text Nudge = refl
 verb_named-text Withdraw = refl
 verb_named-text Prune = refl
 verb_named-text Retire = refl
+verb_named-text Fail = refl
 
 some_same : (v w : Verb) → Some v ≡ Some w → v ≡ w
 some_same v w e = cc e
@@ -80,6 +87,20 @@ ticket_same : (s t : Ticket) → IsTicket s → IsTicket t → ticket_text s ≡
 ticket_same s t hs ht e =
     let same = decimal_injective s.0 t.0 hs ht e in
     λ i. record { 0 = same i }
+
+-- a node's text has only digits
+node_no_coordinator : (n : NodeId) → IsNode n → node_text n ≡ codes "coordinator" → ⊥
+node_no_coordinator n h e =
+    let digit = digit_at (codes "coordinator") 0 (subst (AllDigits 10) e (decimal_digits n.0 (omega arith))) (omega arith) in
+    omega arith
+
+-- ---- what a record holds after a save that failed
+
+kept_text-injective : (j k : Kept) → kept_text j ≡ kept_text k → j ≡ k
+kept_text-injective Old Old e = refl
+kept_text-injective Old New e = let first = ap (λ t. get_or t 0 0) e in absurd (omega arith)
+kept_text-injective New Old e = let first = ap (λ t. get_or t 0 0) e in absurd (omega arith)
+kept_text-injective New New e = refl
 
 -- ---- wants
 
@@ -160,6 +181,12 @@ of_lease_same make ws a b ha hb =
     let t = ticket_same ha.ticket hb.ticket ha.is_ticket hb.is_ticket (cc (ha.text, hb.text)) in
     ha.event ∙ cc (n, t) ∙ sym hb.event
 
+restarts_same : (ws : List (List ℕ)) (a b : Event) → Restarts ws a → Restarts ws b → a ≡ b
+restarts_same ws a b (inl ha) (inl hb) = of_node_same event.RestartNode ws a b ha hb
+restarts_same ws a b (inl ha) (inr hb) = absurd (node_no_coordinator ha.node ha.is_node (cc (ha.text, hb.text)))
+restarts_same ws a b (inr ha) (inl hb) = absurd (node_no_coordinator hb.node hb.is_node (cc (ha.text, hb.text)))
+restarts_same ws a b (inr ha) (inr hb) = ha.event ∙ sym hb.event
+
 said_same : (v : Verb) (ws : List (List ℕ)) (a b : Event) → Says v ws a → Says v ws b → a ≡ b
 said_same Ask ws a b ha hb =
     let n = node_same ha.node hb.node ha.is_node hb.is_node (cc (ha.text, hb.text)) in
@@ -182,7 +209,7 @@ said_same Finish ws a b ha hb =
     ha.event ∙ cc (n, t, lefts) ∙ sym hb.event
 said_same Abort ws a b ha hb = of_lease_same event.Abort ws a b ha hb
 said_same Resend ws a b ha hb = of_node_same event.Resend ws a b ha hb
-said_same Restart ws a b ha hb = of_node_same event.RestartNode ws a b ha hb
+said_same Restart ws a b ha hb = restarts_same ws a b ha hb
 said_same Forge ws a b ha hb =
     let n = node_same ha.node hb.node ha.is_node hb.is_node (cc (ha.text, hb.text)) in
     let content = encode-injective ha.content hb.content ha.is_content hb.is_content (cc (ha.text, hb.text)) in
@@ -195,6 +222,9 @@ said_same Prune ws a b ha hb =
     let slot = slot_text-injective ha.slot hb.slot ha.is_slot hb.is_slot (cc (ha.text, hb.text)) in
     ha.event ∙ ap event.Prune slot ∙ sym hb.event
 said_same Retire ws a b ha hb = of_node_same event.Retire ws a b ha hb
+said_same Fail ws a b ha hb =
+    let kept = kept_text-injective ha.kept hb.kept (cc (ha.text, hb.text)) in
+    ha.event ∙ ap event.FailSave kept ∙ sym hb.event
 
 -- a line spells one event
 pub spelled_same : (line : List ℕ) (a b : Event) → IsSpelled line a → IsSpelled line b → a ≡ b

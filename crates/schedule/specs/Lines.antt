@@ -11,8 +11,10 @@ use Rattle.farm_base.specs.declared.want.Want.{Want}
 use Rattle.farm_base.specs.Names.{folder_text, slot_text, IsName, IsSlot}
 use Rattle.farm_base.specs.Slots.{SlotParts, slot_cmp}
 use Rattle.farm_base.specs.Wanted.{IsWants}
-use Rattle.schedule.specs.declared.event.Event.{Event}
-use Rattle.schedule.specs.declared.event.Event.TheVariants.{Ask, Tenure, Deliver, Begin, Finish, Abort, Resend, Nudge, Withdraw, Prune, Retire, RestartNode, Forge}
+use Rattle.protocol.specs.declared.answer.Kept.{Kept}
+use Rattle.protocol.specs.declared.answer.Kept.TheVariants.{Old, New}
+use Rattle.protocol.specs.declared.event.Event.{Event}
+use Rattle.protocol.specs.declared.event.Event.TheVariants.{Ask, Tenure, Deliver, Begin, Finish, Abort, Resend, Nudge, Withdraw, Prune, Retire, RestartNode, RestartCoordinator, Forge, FailSave}
 
 -- ---- words
 
@@ -49,6 +51,11 @@ pub record IsLeft (left : Left) : Type 0 where
   pub slot : IsSlot left.0
   pub content : IsBytes left.1
 
+-- what the record holds after a save that failed: what it held before, or what was to be saved
+abbrev pub kept_text : Kept → List ℕ
+kept_text Old = codes "old"
+kept_text New = codes "new"
+
 -- what was left, by rising slot
 abbrev pub left_slots : List Left → List SlotParts
 left_slots lefts = map (λ left. left.0) lefts
@@ -75,7 +82,9 @@ event_words (Withdraw t) = codes "withdraw" ∷ ticket_text t ∷ []
 event_words (Prune slot) = codes "prune" ∷ slot_text slot ∷ []
 event_words (Retire n) = codes "retire" ∷ node_text n ∷ []
 event_words (RestartNode n) = codes "restart" ∷ node_text n ∷ []
+event_words RestartCoordinator = codes "restart" ∷ codes "coordinator" ∷ []
 event_words (Forge n content) = codes "forge" ∷ node_text n ∷ encode_lower content ∷ []
+event_words (FailSave kept) = codes "fail" ∷ kept_text kept ∷ []
 
 -- the words, separated by spaces
 abbrev pub event_text : Event → List ℕ
@@ -95,7 +104,9 @@ IsEvent (Withdraw t) = IsTicket t
 IsEvent (Prune slot) = IsSlot slot
 IsEvent (Retire n) = IsNode n
 IsEvent (RestartNode n) = IsNode n
+IsEvent RestartCoordinator = Unit {0}
 IsEvent (Forge n content) = IsNode n × IsBytes content
+IsEvent (FailSave kept) = Unit {0}
 
 -- the line is the event's text, with its wants in some order
 abbrev pub IsTextOf : Event → List ℕ → Type 0

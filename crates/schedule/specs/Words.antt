@@ -1,5 +1,5 @@
 -- What the words of a line say: a verb, and after it what the verb takes.
-use Rattle.std.specs.Prelude.{◌≡◌, ℕ, ◌<◌, ◌^◌, ◌==◌, List, [], ◌∷◌, map, codes, decimal, IsPermutation}
+use Rattle.std.specs.Prelude.{◌≡◌, ◌⊎◌, ℕ, ◌<◌, ◌^◌, ◌==◌, List, [], ◌∷◌, map, codes, decimal, IsPermutation}
 use Rattle.std.specs.List.{All, slice_split}
 use Rattle.std.specs.List.Sorted.{IsStrictlySortedBy}
 use Rattle.std.specs.Borrow.{Bor}
@@ -12,11 +12,12 @@ use Rattle.farm_base.specs.declared.want.Want.{Want}
 use Rattle.farm_base.specs.Names.{folder_text, slot_text, IsName, IsSlot}
 use Rattle.farm_base.specs.Slots.{SlotParts, slot_cmp}
 use Rattle.farm_base.specs.Wanted.{IsWants}
-use Rattle.schedule.specs.declared.event.Event.{Event}
-use Rattle.schedule.specs.declared.event.Event.TheVariants as event
+use Rattle.protocol.specs.declared.answer.Kept.{Kept}
+use Rattle.protocol.specs.declared.event.Event.{Event}
+use Rattle.protocol.specs.declared.event.Event.TheVariants as event
 use Rattle.schedule.specs.declared.verb.Verb.{Verb}
-use Rattle.schedule.specs.declared.verb.Verb.TheVariants.{Ask, Tenure, Deliver, Begin, Finish, Abort, Resend, Restart, Forge, Nudge, Withdraw, Prune, Retire}
-use Rattle.schedule.specs.Lines.{node_text, ticket_text, want_text, left_text, left_slots, IsNode, IsTicket, IsWant, IsLeft, Left}
+use Rattle.schedule.specs.declared.verb.Verb.TheVariants.{Ask, Tenure, Deliver, Begin, Finish, Abort, Resend, Restart, Forge, Nudge, Withdraw, Prune, Retire, Fail}
+use Rattle.schedule.specs.Lines.{node_text, ticket_text, kept_text, want_text, left_text, left_slots, IsNode, IsTicket, IsWant, IsLeft, Left}
 
 -- the words of a line: what stands between its spaces
 abbrev pub words : List ℕ → List (List ℕ)
@@ -40,6 +41,7 @@ verb_text Nudge = codes "nudge"
 verb_text Withdraw = codes "withdraw"
 verb_text Prune = codes "prune"
 verb_text Retire = codes "retire"
+verb_text Fail = codes "fail"
 
 -- FOLDER..: the wants by rising folder, whose words may stand in any order
 pub record SpellWants (ws : List (List ℕ)) (wants : List Want) : Type 0 where
@@ -121,6 +123,15 @@ pub record Forges (ws : List (List ℕ)) (e : Event) : Type 0 where
   pub text : ws ≡ node_text node ∷ encode_lower content ∷ []
   pub event : e ≡ event.Forge node content
 
+-- `coordinator`
+pub record RestartsCoordinator (ws : List (List ℕ)) (e : Event) : Type 0 where
+  pub text : ws ≡ codes "coordinator" ∷ []
+  pub event : e ≡ event.RestartCoordinator
+
+-- N or `coordinator`
+abbrev pub Restarts : List (List ℕ) → Event → Type 0
+Restarts ws e = OfNode event.RestartNode ws e ⊎ RestartsCoordinator ws e
+
 -- nothing
 pub record Nudges (ws : List (List ℕ)) (e : Event) : Type 0 where
   pub text : ws ≡ []
@@ -140,6 +151,12 @@ pub record Prunes (ws : List (List ℕ)) (e : Event) : Type 0 where
   pub text : ws ≡ slot_text slot ∷ []
   pub event : e ≡ event.Prune slot
 
+-- `old` or `new`
+pub record Fails (ws : List (List ℕ)) (e : Event) : Type 0 where
+  pub kept : Kept
+  pub text : ws ≡ kept_text kept ∷ []
+  pub event : e ≡ event.FailSave kept
+
 -- the words after the verb say this event
 abbrev pub Says : Verb → List (List ℕ) → Event → Type 0
 Says Ask = Asks
@@ -149,12 +166,13 @@ Says Begin = OfLease event.Begin
 Says Finish = Finishes
 Says Abort = OfLease event.Abort
 Says Resend = OfNode event.Resend
-Says Restart = OfNode event.RestartNode
+Says Restart = Restarts
 Says Forge = Forges
 Says Nudge = Nudges
 Says Withdraw = Withdraws
 Says Prune = Prunes
 Says Retire = OfNode event.Retire
+Says Fail = Fails
 
 -- the words of a line spell this event
 pub record SpelledBy (ws : List (List ℕ)) (e : Event) : Type 0 where

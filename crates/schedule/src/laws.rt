@@ -1,7 +1,7 @@
 //! Laws of lines and schedules.
 ghost use Rattle.std.specs.Prelude.{◌≡◌, ◌≢◌, ℕ, List};
-ghost use Rattle.schedule.specs.declared.event.Event.{Event};
-ghost use Rattle.schedule.specs.declared.event.Setup.{Setup};
+ghost use Rattle.protocol.specs.declared.event.Event.{Event};
+ghost use Rattle.schedule.specs.declared.setup.Setup.{Setup};
 ghost use Rattle.schedule.specs.declared.refusal.ScheduleRefusal.{ScheduleRefusal};
 ghost use Rattle.schedule.specs.Lines.{IsSpelled};
 ghost use Rattle.schedule.specs.Schedules.{IsSchedule, IsRefused};

@@ -3,17 +3,17 @@ ghost use Rattle.std.specs.Prelude.{◌≡◌, ◌≢◌, List, map, IfOk};
 ghost use Rattle.std.specs.List.{All, IsAllAdjacentAnswer};
 ghost use Rattle.std.specs.Ordering.{is_lt};
 ghost use Rattle.farm_base.specs.Slots.{slot_cmp};
-ghost use Rattle.schedule.specs.declared.event.Event.{Event};
+ghost use Rattle.protocol.specs.declared.event.Event.{Event};
 ghost use Rattle.farm_base.specs.declared.want.Want.{Want};
 ghost use Rattle.schedule.specs.Lines.{want_text, left_text, IsWant, IsLeft, Left, IsSpelled};
 ghost use Rattle.schedule.specs.Words.{texts, words, SpellWants, SpellLefts, Says, SpelledBy};
 
-use super::event::Event;
 use super::refusal::LineRefusal;
 use super::verb::{Verb, verb_of};
-use super::word::{bytes_of, folder_of, left_of, node_of, slot_of, ticket_of, want_of};
+use super::word::{bytes_of, folder_of, kept_of, left_of, node_of, slot_of, ticket_of, want_of};
 use farm_base::reading::number;
 use farm_base::{Content, Items, Mode, Slot, Want, Wants};
+use protocol::Event;
 use std::alloc::{AllocError, Global};
 
 /// `deliver K`.
@@ -113,16 +113,31 @@ fn retire_of(words: &[&str]) -> Result<Event, LineRefusal>
     Ok(Event::Retire(node))
 }
 
-/// `restart N`.
+/// `restart N` or `restart coordinator`.
 fn restart_of(words: &[&str]) -> Result<Event, LineRefusal>
     ensures spelled { IfOk result (Says Verb.Restart (texts words.now)) }
     ensures only { result ≡ Err LineRefusal.BadLine → (e : Event) → Says Verb.Restart (texts words.now) e → ⊥ }
 {
-    let [node] = words else {
+    match words {
+        ["coordinator"] => Ok(Event::RestartCoordinator),
+        [node] => {
+            let node = node_of(node).ok_or(LineRefusal::BadLine)?;
+            Ok(Event::RestartNode(node))
+        }
+        _ => Err(LineRefusal::BadLine),
+    }
+}
+
+/// `fail old` or `fail new`.
+fn fail_of(words: &[&str]) -> Result<Event, LineRefusal>
+    ensures spelled { IfOk result (Says Verb.Fail (texts words.now)) }
+    ensures only { result ≡ Err LineRefusal.BadLine → (e : Event) → Says Verb.Fail (texts words.now) e → ⊥ }
+{
+    let [kept] = words else {
         return Err(LineRefusal::BadLine);
     };
-    let node = node_of(node).ok_or(LineRefusal::BadLine)?;
-    Ok(Event::RestartNode(node))
+    let kept = kept_of(kept).ok_or(LineRefusal::BadLine)?;
+    Ok(Event::FailSave(kept))
 }
 
 /// The words of a line.
@@ -267,6 +282,7 @@ fn said_by(alloc: Global, verb: Verb, words: &[&str]) -> Result<Event, LineRefus
         Verb::Withdraw => withdraw_of(words),
         Verb::Prune => prune_of(alloc, words),
         Verb::Retire => retire_of(words),
+        Verb::Fail => fail_of(words),
     }
 }
 

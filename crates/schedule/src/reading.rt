@@ -1,15 +1,16 @@
 //! The text of a schedule.
 ghost use Rattle.std.specs.Prelude.{◌≡◌, [], ◌∷◌, length, IfOk, IfErr, IfSome, IfNone, OnOk, ◌==◌, position};
 ghost use Rattle.std.specs.Option.{option_map_or};
-ghost use Rattle.schedule.specs.declared.event.Setup.{Setup};
+ghost use Rattle.schedule.specs.declared.setup.Setup.{Setup};
 ghost use Rattle.schedule.specs.Schedules.{lines, IsSetup, AreEvents, IsSchedule, IsRefused};
 ghost use Rattle.schedule.specs.Steps.{AddsLine, AreRefused, IsLineRefused};
 
-use super::event::{Event, Setup};
 use super::line::event_of;
 use super::refusal::ScheduleRefusal;
+use super::setup::Setup;
 use farm_base::reading::{after, number};
 use farm_base::{EVENTS, NODES};
+use protocol::Event;
 use std::alloc::Global;
 
 /// The greatest size of a text: 16 MiB.
@@ -99,8 +100,14 @@ fn first_line(text: &[u8]) -> (&[u8], Option<&[u8]>)
 /// - `deliver K`
 /// - `begin N T`, `abort N T`
 /// - `finish N T SLOT=HEX..`, by rising slots
-/// - `resend N`, `restart N`
+/// - `resend N`
+/// - `nudge`
+/// - `withdraw T`
+/// - `prune SLOT`
+/// - `retire N`
+/// - `restart N`, `restart coordinator`
 /// - `forge N HEX`
+/// - `fail old`, `fail new`
 ///
 /// Lines end with a line feed, which the last may lack, and one space separates the words of a line. Numbers are
 /// decimal without leading zeros, hexadecimal digits lower case. A refusal is the first fault from the top.

@@ -18,6 +18,7 @@ pub(crate) enum Verb {
     Withdraw,
     Prune,
     Retire,
+    Fail,
 }
 
 /// Maps a word to its verb.
@@ -39,6 +40,7 @@ pub(crate) fn verb_of(word: &str) -> Option<Verb>
         "withdraw" => Some(Verb::Withdraw),
         "prune" => Some(Verb::Prune),
         "retire" => Some(Verb::Retire),
+        "fail" => Some(Verb::Fail),
         _ => None,
     }
 }

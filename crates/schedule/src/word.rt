@@ -7,10 +7,11 @@ ghost use Rattle.farm_base.specs.declared.number.NodeId.{NodeId};
 ghost use Rattle.farm_base.specs.declared.number.Ticket.{Ticket};
 ghost use Rattle.farm_base.specs.declared.want.Want.{Want};
 ghost use Rattle.farm_base.specs.Decimals.{Lacks};
+ghost use Rattle.protocol.specs.declared.answer.Kept.{Kept};
 ghost use Rattle.farm_base.specs.Names.{folder_text, slot_text, IsName, IsSlot};
 ghost use Rattle.farm_base.specs.Slots.{SlotParts};
 ghost use Rattle.hex.specs.Hex.{IsBytes, encode_lower};
-ghost use Rattle.schedule.specs.Lines.{node_text, ticket_text, want_text, left_text, IsNode, IsTicket, IsWant, IsLeft, Left};
+ghost use Rattle.schedule.specs.Lines.{node_text, ticket_text, kept_text, want_text, left_text, IsNode, IsTicket, IsWant, IsLeft, Left};
 
 use super::refusal::LineRefusal;
 use farm_base::reading::{after, number};
@@ -18,6 +19,7 @@ use farm_base::{
     Content, FolderName, FolderRefusal, NodeId, Slot, SlotRefusal, Ticket, Want, are_bytes,
     is_name, is_slot,
 };
+use protocol::Kept;
 use std::alloc::Global;
 
 /// The node of a word.
@@ -41,6 +43,18 @@ pub(crate) fn ticket_of(word: &str) -> Option<Ticket>
     ensures only { IfNone result ((ticket : Ticket) → IsTicket ticket → word.now ≢ ticket_text ticket) }
 {
     Some(Ticket(number(word)?))
+}
+
+/// What a record holds after a save that failed, as a word says it.
+pub(crate) fn kept_of(word: &str) -> Option<Kept>
+    ensures found { IfSome result (λ kept. word.now ≡ kept_text kept) }
+    ensures only { IfNone result ((kept : Kept) → word.now ≢ kept_text kept) }
+{
+    match word {
+        "old" => Some(Kept::Old),
+        "new" => Some(Kept::New),
+        _ => None,
+    }
 }
 
 /// The folder of a word.

@@ -10,7 +10,7 @@ use Rattle.protocol.specs.Machine.{Grant, Message, Said, Told, ToCoord, Parked}
 use Rattle.protocol.specs.Ledger.{Ledger, Work, begin_work, handled}
 use Rattle.protocol.specs.World as protocol
 use Rattle.protocol.specs.World.{Moves, Still, start}
-use Rattle.protocol.specs.Replay.{Event, Deliver, Farm, Turn, step, delivered, coordinated, settled}
+use Rattle.protocol.specs.Replay.{Farm, Turn, step, delivered, coordinated, settled}
 use Rattle.protocol.specs.Follows.{Shows, EveryEventIsMoves, MayBeGranted, after_life}
 use Rattle.protocol.specs.Chronicle.{FittingMessageIsGranted}
 use Rattle.protocol.specs.Meaning.{Means}
@@ -21,6 +21,8 @@ use Rattle.protocol.specs.declared.answer.EventNote.TheVariants as note
 use Rattle.protocol.specs.declared.answer.EventRefusal.{EventRefusal}
 use Rattle.protocol.specs.declared.answer.EventRefusal.TheVariants as refusal
 use Rattle.protocol.specs.declared.answer.Outcome.{Outcome}
+use Rattle.protocol.specs.declared.event.Event.{Event}
+use Rattle.protocol.specs.declared.event.Event.TheVariants.{Deliver}
 use Rattle.protocol.proofs.Base.{in_map, in_right}
 use Rattle.protocol.proofs.Refusals.{nothing_done}
 use Rattle.coordinator.specs.Promises.{granted}

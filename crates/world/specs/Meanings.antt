@@ -9,7 +9,7 @@ use Rattle.protocol.specs.Machine.{Grant, Said, Told, ToCoord, Parked}
 use Rattle.protocol.specs.Ledger.{Ledger, begin_work}
 use Rattle.protocol.specs.World as protocol
 use Rattle.protocol.specs.World.{Moves, start}
-use Rattle.protocol.specs.Replay.{Event, Deliver, Farm, run, opening}
+use Rattle.protocol.specs.Replay.{Farm, run, opening}
 use Rattle.protocol.specs.Follows.{Shows, MayBeGranted, after_life}
 use Rattle.protocol.specs.Meaning.{Means}
 use Rattle.protocol.specs.Reasons.{Fair}
@@ -18,6 +18,8 @@ use Rattle.protocol.specs.declared.answer.EventNote.TheVariants as note
 use Rattle.protocol.specs.declared.answer.EventRefusal.{EventRefusal}
 use Rattle.protocol.specs.declared.answer.EventRefusal.TheVariants.{OutOfMemory}
 use Rattle.protocol.specs.declared.answer.Outcome.{Outcome}
+use Rattle.protocol.specs.declared.event.Event.{Event}
+use Rattle.protocol.specs.declared.event.Event.TheVariants.{Deliver}
 use Rattle.coordinator.specs.Promises.{granted}
 
 -- a refusal has its reason, and what is accepted has no reason to be refused; but for want of memory

@@ -1,7 +1,7 @@
 -- How many nodes a farm may have.
 use Rattle.std.specs.Prelude.{◌≤◌}
 use Rattle.farm_base.specs.declared.limits.TheConstants.{NODES}
-use Rattle.schedule.specs.declared.event.Setup.{Setup}
+use Rattle.schedule.specs.declared.setup.Setup.{Setup}
 
 -- from 1 on
 pub record IsSetup (s : Setup) : Type 0 where

@@ -8,7 +8,6 @@ ghost use Rattle.protocol.specs.Lists.{nth};
 ghost use Rattle.protocol.specs.Ledger.{begin_work, withdrawn, pruned, nudged};
 ghost use Rattle.protocol.specs.Replay.{opening, step, node_does, is_node, delivered, coordinated};
 ghost use Rattle.protocol.specs.Nodes.{resent};
-ghost use Rattle.schedule.specs.Events.{event_of};
 ghost use Rattle.world.specs.Tables.{called};
 ghost use Rattle.world.specs.Turns.{Came, FitsIn, from_node, from_coordinator, restarting, retiring};
 ghost use Rattle.world.specs.Parts.{shown_parts};
@@ -221,7 +220,7 @@ impl Parts {
     #[tactic(auto, unfolding(protocol::specs::Replay::step))]
     pub(crate) fn carry_out(&mut self, alloc: Global, event: Event) -> Result<Outcome, EventRefusal>
         requires { ∥ IsLawfulFarm NODES (shown_parts self.old) ∥₁ }
-        ensures { Came (step content_digest farm_limits (shown_parts self.old) (event_of event)) (shown_parts self.old) (shown_parts self.new) result }
+        ensures { Came (step content_digest farm_limits (shown_parts self.old) event) (shown_parts self.old) (shown_parts self.new) result }
     {
         match event {
             Event::Ask(node, wants) => self.call(alloc, node, Call::Ask(wants)),

@@ -1,4 +1,4 @@
-ghost use Rattle.std.specs.Prelude.{◌≡◌, ◌↔◌, ℕ, ◌≤◌, ◌<◌, IfOk, OnOk, map, length};
+ghost use Rattle.std.specs.Prelude.{◌≡◌, ◌↔◌, ℕ, ◌≤◌, ◌<◌, IfOk, OnOk, length};
 ghost use Rattle.farm_base.specs.Contents.{content_digest};
 ghost use Rattle.farm_base.specs.declared.limits.TheConstants.{EVENTS};
 ghost use Rattle.protocol.specs.Farm.{farm_limits};
@@ -6,7 +6,6 @@ ghost use Rattle.protocol.specs.World.{start};
 ghost use Rattle.protocol.specs.Follows.{SafeAfter};
 ghost use Rattle.protocol.specs.Chronicle.{Chronicle};
 ghost use Rattle.protocol.specs.Replay.{opening, run, step};
-ghost use Rattle.schedule.specs.Events.{event_of};
 ghost use Rattle.world.specs.Setups.{IsSetup};
 ghost use Rattle.world.specs.Shown.{shown};
 ghost use Rattle.world.specs.Replays.{StaysSafe, KeepsHeadline};
@@ -34,7 +33,7 @@ pub enum ReplayRefusal {
 impl World {
     /// Carries out a copy of one event. Only want of memory ends a replay: what is refused otherwise is an event too.
     fn take(&mut self, alloc: Global, event: &Event) -> Result<(), AllocError>
-        ensures { OnOk result (shown self.new ≡ (step content_digest farm_limits (shown self.old) (event_of event.now)).farm) }
+        ensures { OnOk result (shown self.new ≡ (step content_digest farm_limits (shown self.old) event.now).farm) }
     {
         let event = event.copy(alloc)?;
         match self.step(alloc, event) {
@@ -48,11 +47,11 @@ impl World {
 /// part of the schedule to each later one. The schedule has a chronicle, in which each event means what it
 /// answers, and the headline of this project holds after each part of it.
 pub fn replay(alloc: Global, setup: Setup, events: &[Event]) -> Result<World, ReplayRefusal>
-    ensures farm { IfOk result (λ w. shown w ≡ run content_digest farm_limits (map event_of events.now) (opening content_digest setup.nodes)) }
+    ensures farm { IfOk result (λ w. shown w ≡ run content_digest farm_limits events.now (opening content_digest setup.nodes)) }
     ensures safe { IfOk result (λ w. SafeAfter content_digest (shown w)) }
-    ensures stays { IfOk result (λ w. StaysSafe setup.nodes (map event_of events.now)) }
-    ensures chronicle { IfOk result (λ w. Chronicle content_digest farm_limits (map event_of events.now) (opening content_digest setup.nodes) (start content_digest)) }
-    ensures headline { IfOk result (λ w. KeepsHeadline setup.nodes (map event_of events.now)) }
+    ensures stays { IfOk result (λ w. StaysSafe setup.nodes events.now) }
+    ensures chronicle { IfOk result (λ w. Chronicle content_digest farm_limits events.now (opening content_digest setup.nodes) (start content_digest)) }
+    ensures headline { IfOk result (λ w. KeepsHeadline setup.nodes events.now) }
 
     // A setup out of range is reported as such, also with too many events.
     ensures setup { (result ≡ Err ReplayRefusal.BadSetup) ↔ (IsSetup setup → ⊥) }

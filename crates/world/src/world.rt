@@ -7,7 +7,6 @@ ghost use Rattle.protocol.specs.Replay.{opening, step, is_node};
 ghost use Rattle.protocol.specs.Follows.{SafeAfter, SafeBetween};
 ghost use Rattle.coordinator.specs.Held.{ledger};
 ghost use Rattle.nodecore.specs.Shown as core;
-ghost use Rattle.schedule.specs.Events.{event_of};
 ghost use Rattle.world.specs.Meanings.{MeansAsTold, GrantsAtOnce};
 ghost use Rattle.world.specs.Parts.{shown_parts};
 ghost use Rattle.world.specs.Setups.{IsSetup};
@@ -53,7 +52,7 @@ pub(crate) fn is_setup(setup: Setup) -> bool
 
 /// The wants of an ask are lawful by their type.
 fn is_event(event: &Event)
-    ensures { IsEvent (event_of event.now) }
+    ensures { IsEvent event.now }
 {
     if let Event::Ask(_, wants) = event {
         let _wants = wants.as_slice();
@@ -117,10 +116,10 @@ impl World {
     /// Carries out one event. What is refused changes nothing, but that a node whose greatest life is over is
     /// down for good. The world stays safe: what was so before still is.
     pub fn step(&mut self, alloc: Global, event: Event) -> Result<Outcome, EventRefusal>
-        ensures came { Came (step content_digest farm_limits (shown self.old) (event_of event)) (shown self.old) (shown self.new) result }
+        ensures came { Came (step content_digest farm_limits (shown self.old) event) (shown self.old) (shown self.new) result }
         ensures safe { ∥ SafeBetween content_digest (shown self.old) (shown self.new) ∥₁ }
-        ensures meaning { MeansAsTold (shown self.old) (event_of event) result (shown self.new) }
-        ensures at_once { GrantsAtOnce (shown self.old) (event_of event) result (shown self.new) }
+        ensures meaning { MeansAsTold (shown self.old) event result (shown self.new) }
+        ensures at_once { GrantsAtOnce (shown self.old) event result (shown self.new) }
     {
         every_run_is_safe();
         every_event_is_moves();

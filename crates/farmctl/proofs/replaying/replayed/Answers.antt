@@ -1,9 +1,7 @@
-use Rattle.std.proofs.Common.{map}
-use Rattle.schedule.specs.Events.{event_of}
 use Rattle.farmctl.proofs.replaying.replayed.Goals as goal
 
 pub returns-clause-headline : goal.returns-clause-headline
 returns-clause-headline c = λ setup events is. record {
-  chronicle = c.every_replay_means.ensures.chronicle setup.nodes (map event_of events);
-  headline = c.every_replay_means.ensures.headline setup.nodes (map event_of events);
+  chronicle = c.every_replay_means.ensures.chronicle setup.nodes events;
+  headline = c.every_replay_means.ensures.headline setup.nodes events;
 }

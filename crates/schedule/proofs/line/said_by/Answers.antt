@@ -38,3 +38,6 @@ returns-in-Prune c = rw c.in-Prune.is c.prune_of.ensures
 
 pub returns-in-Retire : goal.returns-in-Retire
 returns-in-Retire c = rw c.in-Retire.is c.retire_of.ensures
+
+pub returns-in-Fail : goal.returns-in-Fail
+returns-in-Fail c = rw c.in-Fail.is c.fail_of.ensures

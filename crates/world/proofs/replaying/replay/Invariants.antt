@@ -1,10 +1,9 @@
-use Rattle.std.proofs.Common.{◌≡◌, drop, map}
+use Rattle.std.proofs.Common.{◌≡◌, drop}
 use Rattle.farm_base.specs.Contents.{content_digest}
 use Rattle.protocol.specs.Farm.{farm_limits}
 use Rattle.protocol.specs.Replay.{opening, run}
-use Rattle.schedule.specs.Events.{event_of}
 use Rattle.world.specs.Shown.{shown}
 use Rattle.world.proofs.replaying.replay.Given as goal
 
 abbrev pub invariant-loop-place : goal.invariant-loop-place
-invariant-loop-place l = run content_digest farm_limits (map event_of (drop l.place l.events)) (shown l.world) ≡ run content_digest farm_limits (map event_of l.events) (opening content_digest l.fn.setup.nodes)
+invariant-loop-place l = run content_digest farm_limits (drop l.place l.events) (shown l.world) ≡ run content_digest farm_limits l.events (opening content_digest l.fn.setup.nodes)

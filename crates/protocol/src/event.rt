@@ -1,14 +1,8 @@
 ghost use Rattle.std.specs.Prelude.{◌≡◌, IfOk};
 
+use super::answer::Kept;
 use farm_base::{Content, Copied, FolderName, Items, NodeId, Slot, Ticket, Wants};
 use std::alloc::{AllocError, Global};
-
-/// How a farm is set up.
-#[derive(Clone, Copy, Debug, PartialEq, Eq)]
-pub struct Setup {
-    /// The number of its nodes.
-    pub nodes: u32,
-}
 
 /// One thing that happens in a farm.
 #[derive(Debug, Drop)]
@@ -37,8 +31,12 @@ pub enum Event {
     Retire(NodeId),
     /// The node fails and starts again.
     RestartNode(NodeId),
+    /// The coordinator fails and starts again, from its record.
+    RestartCoordinator,
     /// A content that nobody sent arrives at the node.
     Forge(NodeId, Content),
+    /// The next save of the record will fail, and leave this in it.
+    FailSave(Kept),
 }
 
 /// A copy of what an execution left in a slot.
@@ -80,7 +78,9 @@ impl Copied for Event {
             Event::Prune(slot) => Event::Prune(slot.copy(alloc)?),
             Event::Retire(node) => Event::Retire(*node),
             Event::RestartNode(node) => Event::RestartNode(*node),
+            Event::RestartCoordinator => Event::RestartCoordinator,
             Event::Forge(node, content) => Event::Forge(*node, content.copy(alloc)?),
+            Event::FailSave(kept) => Event::FailSave(*kept),
         })
     }
 }
