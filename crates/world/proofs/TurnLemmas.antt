@@ -106,21 +106,15 @@ came_stopped s t n y node.TenureInUse here a same after = absurd a
 abbrev pub hears : ToNode → Place → Node → NodeAnswer
 hears m p x = unless_spent x (message_work p x m)
 
-settled_is : (b : Bool) (w : Work) (s : Farm) → (b ≡ false → saves w.ledger ≡ s.saved) → settled b None w s ≡ after_work (saves w.ledger) w s
-settled_is true w s told = refl
-settled_is false w s told = ap (λ (r : Saved). after_work r w s) (sym (told refl))
-
--- the coordinator did this work
-pub came_worked : (s : Farm) (w : Work) (ledger : Ledger) (pool : List Message) (sends : List FromCoord) (n : CoordNote) (o : Outcome) → s.down ≡ false → s.armed ≡ None
-    → (w.changed ≡ false → saves w.ledger ≡ s.saved) → ledger ≡ w.ledger → sends ≡ w.sends → n ≡ w.note
-    → pool ≡ s.pool ++ map Told sends → o ≡ record { note = note.Coord n; first = first_number (length s.pool) (length sends); sent = length sends }
-    → coordinated s.down (Ok w) s ≡ record { farm = record s { ledger = ledger; saved = saves ledger; pool = pool }; outcome = Ok o }
-came_worked s w ledger pool sends n o up safe told_so e f g h i =
+-- the coordinator did this work, and the record is this
+pub worked_as : (s t : Farm) (w : Work) (saved : Saved) (sends : List FromCoord) (n : CoordNote) (o : Outcome) → sends ≡ w.sends → n ≡ w.note
+    → t ≡ record s { ledger = w.ledger; saved = saved; pool = s.pool ++ map Told w.sends }
+    → o ≡ record { note = note.Coord n; first = first_number (length s.pool) (length sends); sent = length sends }
+    → after_work saved w s ≡ record { farm = t; outcome = Ok o }
+worked_as s t w saved sends n o f g e i =
     let count : length sends ≡ length (map Told sends) = sym (length-map sends Told) in
-    ap (λ (d : Bool). coordinated d (Ok w) s) up ∙ ap (λ (a : Option Kept). settled w.changed a w s) safe ∙ settled_is w.changed w s told_so
-    ∙ sym (λ j. done (note.Coord (g j)) (map Told (f j)) s (record s { ledger = e j; saved = saves (e j); pool = s.pool ++ map Told (f j) }))
-    ∙ ap (λ (p : List Message). done (note.Coord n) (map Told sends) s (record s { ledger = ledger; saved = saves ledger; pool = p })) (sym h)
-    ∙ told s (record s { ledger = ledger; saved = saves ledger; pool = pool }) (note.Coord n) (map Told sends) o (i ∙ (λ j. record { note = note.Coord n; first = first_number (length s.pool) (count j); sent = count j }))
+    sym (λ j. done (note.Coord (g j)) (map Told (f j)) s (e j))
+    ∙ told s t (note.Coord n) (map Told sends) o (i ∙ (λ j. record { note = note.Coord n; first = first_number (length s.pool) (count j); sent = count j }))
 
 pub came_as : (a b : Turn) (s t : Farm) (r : Result Outcome EventRefusal) → a ≡ b → Came a s t r → Came b s t r
 came_as a b s t r e h = subst (λ (z : Turn). Came z s t r) e h

@@ -1,9 +1,9 @@
 -- The result of an event of the world.
-use Rattle.std.specs.Prelude.{◌≡◌, ℕ, zero, suc, ◌+◌, ◌<◌, ◌≤◌, true, if◌then◌else◌, length, Result, Ok, Err}
+use Rattle.std.specs.Prelude.{◌≡◌, ℕ, zero, suc, ◌+◌, ◌<◌, ◌≤◌, true, false, if◌then◌else◌, List, [], length, Result, Ok, Err}
 use Rattle.protocol.specs.Farm.{farm_limits}
 use Rattle.protocol.specs.Names.{NodeId}
-use Rattle.protocol.specs.Ledger.{handled, retired, begin_work}
-use Rattle.protocol.specs.Replay.{Farm, Turn, is_node, at, restarts, coordinated, refused}
+use Rattle.protocol.specs.Ledger.{handled, retired, begin_work, reads}
+use Rattle.protocol.specs.Replay.{Farm, Turn, is_node, at, restarts, coordinated, refused, done}
 use Rattle.protocol.specs.declared.answer.CoordRefusal.{CoordRefusal}
 use Rattle.protocol.specs.declared.answer.CoordRefusal.TheVariants as coord
 use Rattle.farm_base.specs.declared.message.Message.{Message}
@@ -11,6 +11,7 @@ use Rattle.farm_base.specs.declared.message.Message.TheVariants.{ToCoord, ToNode
 use Rattle.nodecore.specs.Shown.{message_work}
 use Rattle.protocol.specs.declared.answer.NodeRefusal.{NodeRefusal}
 use Rattle.protocol.specs.declared.answer.NodeRefusal.TheVariants as node
+use Rattle.protocol.specs.declared.answer.EventNote.TheVariants as note
 use Rattle.protocol.specs.declared.answer.EventRefusal.{EventRefusal}
 use Rattle.protocol.specs.declared.answer.EventRefusal.TheVariants as refusal
 use Rattle.protocol.specs.Replay.{receiver}
@@ -49,3 +50,7 @@ retiring n s = if is_node s n then coordinated s.down (retired farm_limits n (be
 -- a node of this number restarts, if it is there
 abbrev pub restarting : NodeId → Farm → Turn
 restarting n s = if is_node s n then restarts farm_limits n s else refused refusal.NoSuchNode s
+
+-- the coordinator starts again from its record
+abbrev pub restarting_coordinator : Farm → Turn
+restarting_coordinator s = done note.Restarted [] s (record s { ledger = reads s.saved; down = false })

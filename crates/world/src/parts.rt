@@ -1,15 +1,18 @@
 //! What a world is made of, and what each event does to it.
-ghost use Rattle.std.specs.Prelude.{Ok, false, ◌≡◌, IfOk};
+ghost use Rattle.std.specs.Prelude.{Ok, Some, None, false, [], ◌≡◌, IfOk};
 ghost use Rattle.farm_base.specs.Contents.{content_digest};
 ghost use Rattle.farm_base.specs.declared.limits.TheConstants.{NODES};
 ghost use Rattle.protocol.specs.Farm.{farm_limits};
 ghost use Rattle.protocol.specs.Lawful.{IsLawfulFarm};
 ghost use Rattle.protocol.specs.Lists.{nth};
 ghost use Rattle.protocol.specs.Ledger.{begin_work, withdrawn, pruned, nudged};
+ghost use Rattle.protocol.specs.Ledger.{opening as first_ledger};
+ghost use Rattle.protocol.specs.declared.answer.EventNote.TheVariants as note;
+ghost use Rattle.coordinator.specs.Held.{ledger};
 ghost use Rattle.protocol.specs.Replay.{opening, step, node_does, is_node, delivered, coordinated};
 ghost use Rattle.protocol.specs.Nodes.{resent};
 ghost use Rattle.world.specs.Tables.{called};
-ghost use Rattle.world.specs.Turns.{Came, FitsIn, from_node, from_coordinator, restarting, retiring};
+ghost use Rattle.world.specs.Turns.{Came, FitsIn, from_node, from_coordinator, restarting, restarting_coordinator, retiring};
 ghost use Rattle.world.specs.Parts.{shown_parts};
 
 use super::call::Call;
@@ -18,14 +21,15 @@ use super::pool::{message_at, place_in, send_coordinator, send_node};
 use coordinator::Coordinator;
 use farm_base::{NodeId, Slot, Ticket};
 use nodecore::{Message, NodeCore};
-use protocol::{CoordRefusal, EventRefusal, NodeRefusal, Outcome};
+use protocol::{CoordRefusal, EventNote, EventRefusal, Kept, NodeRefusal, Outcome};
+use saverecord::MemoryKeeper;
 use schedule::Event;
 use std::alloc::{AllocError, Global};
 
 /// The coordinator of a farm, its nodes, and every message that was ever sent.
 #[derive(Drop)]
 pub(crate) struct Parts {
-    pub(crate) coordinator: Coordinator,
+    pub(crate) coordinator: Coordinator<MemoryKeeper>,
     pub(crate) nodes: Nodes,
     pub(crate) pool: Vec<Message>,
 }
@@ -50,14 +54,39 @@ fn from_coordinator(refusal: CoordRefusal) -> EventRefusal
     }
 }
 
+/// The coordinator of a farm where nothing happened.
+fn first_coordinator(alloc: Global) -> Result<Coordinator<MemoryKeeper>, AllocError>
+    ensures ledger { IfOk result (λ c. ledger c.held ≡ first_ledger) }
+    ensures up { IfOk result (λ c. c.down ≡ false) }
+    ensures bytes { IfOk result (λ c. c.keeper.bytes ≡ []) }
+    ensures armed { IfOk result (λ c. c.keeper.armed ≡ None) }
+{
+    match Coordinator::start(alloc, MemoryKeeper::new(Vec::new(alloc))) {
+        Ok(coordinator) => Ok(coordinator),
+        Err(_) => Err(AllocError),
+    }
+}
+
+/// The outcome of an event that sends nothing.
+fn silent(note: EventNote) -> Outcome
+    ensures { result ≡ record { note = note; first = 0; sent = 0 } }
+{
+    Outcome {
+        note,
+        first: 0,
+        sent: 0,
+    }
+}
+
 impl Parts {
     /// A farm of `count` nodes where nothing happened.
     pub(crate) fn start(alloc: Global, count: u32) -> Result<Self, AllocError>
         ensures { IfOk result (λ parts. shown_parts parts ≡ opening content_digest count) }
     {
         let nodes = Nodes::start(alloc, count)?;
+        let coordinator = first_coordinator(alloc)?;
         Ok(Parts {
-            coordinator: Coordinator::start(alloc),
+            coordinator,
             nodes,
             pool: Vec::new(alloc),
         })
@@ -106,7 +135,7 @@ impl Parts {
         }
         match &self.pool[place] {
             Message::ToCoord(message) => match self.coordinator.handle(alloc, message) {
-                Err(_) => Err(EventRefusal::OutOfMemory),
+                Err(refusal) => Err(from_coordinator(refusal)),
                 Ok(handled) => Ok(send_coordinator(&mut self.pool, handled)),
             },
             Message::ToNode(message) => {
@@ -157,7 +186,7 @@ impl Parts {
 
     /// The lease of a ticket is withdrawn.
     fn withdraw(&mut self, alloc: Global, ticket: Ticket) -> Result<Outcome, EventRefusal>
-        ensures { Came (coordinated false (withdrawn farm_limits ticket (begin_work (shown_parts self.old).ledger)) (shown_parts self.old)) (shown_parts self.old) (shown_parts self.new) result }
+        ensures { Came (coordinated (shown_parts self.old).down (withdrawn farm_limits ticket (begin_work (shown_parts self.old).ledger)) (shown_parts self.old)) (shown_parts self.old) (shown_parts self.new) result }
     {
         let room = self.coordinator.most_sends_of_calls();
         if self.pool.reserve(room).is_err() {
@@ -171,7 +200,7 @@ impl Parts {
 
     /// The line of a slot begins anew.
     fn prune(&mut self, alloc: Global, slot: &Slot) -> Result<Outcome, EventRefusal>
-        ensures { Came (coordinated false (pruned farm_limits slot.now (begin_work (shown_parts self.old).ledger)) (shown_parts self.old)) (shown_parts self.old) (shown_parts self.new) result }
+        ensures { Came (coordinated (shown_parts self.old).down (pruned farm_limits slot.now (begin_work (shown_parts self.old).ledger)) (shown_parts self.old)) (shown_parts self.old) (shown_parts self.new) result }
     {
         let room = self.coordinator.most_sends_of_calls();
         if self.pool.reserve(room).is_err() {
@@ -203,10 +232,10 @@ impl Parts {
 
     /// The Grant of each lease is sent again.
     fn nudge(&mut self, alloc: Global) -> Result<Outcome, EventRefusal>
-        ensures { Came (coordinated false (Ok (nudged farm_limits (begin_work (shown_parts self.old).ledger))) (shown_parts self.old)) (shown_parts self.old) (shown_parts self.new) result }
+        ensures { Came (coordinated (shown_parts self.old).down (Ok (nudged farm_limits (begin_work (shown_parts self.old).ledger))) (shown_parts self.old)) (shown_parts self.old) (shown_parts self.new) result }
     {
         match self.coordinator.nudge(alloc) {
-            Err(_) => Err(EventRefusal::OutOfMemory),
+            Err(refusal) => Err(from_coordinator(refusal)),
             Ok(handled) => {
                 if self.pool.reserve(handled.sends.as_slice().len()).is_err() {
                     return Err(EventRefusal::OutOfMemory);
@@ -214,6 +243,25 @@ impl Parts {
                 Ok(send_coordinator(&mut self.pool, handled))
             }
         }
+    }
+
+    /// The coordinator fails, and starts again from its record.
+    fn restart_coordinator(&mut self, alloc: Global) -> Result<Outcome, EventRefusal>
+        ensures { Came (restarting_coordinator (shown_parts self.old)) (shown_parts self.old) (shown_parts self.new) result }
+    {
+        match self.coordinator.restart(alloc) {
+            Err(refusal) => Err(from_coordinator(refusal)),
+            Ok(()) => Ok(silent(EventNote::Restarted)),
+        }
+    }
+
+    /// The next save is to fail, and to leave this.
+    fn fail_save(&mut self, kept: Kept) -> Outcome
+        ensures farm { shown_parts self.new ≡ record (shown_parts self.old) { armed = Some kept } }
+        ensures outcome { result ≡ record { note = note.Armed; first = 0; sent = 0 } }
+    {
+        self.coordinator.fail_next(kept);
+        silent(EventNote::Armed)
     }
 
     /// Carries out one event, by its kind.
@@ -237,7 +285,9 @@ impl Parts {
             Event::Prune(slot) => self.prune(alloc, &slot),
             Event::Retire(node) => self.retire(alloc, node),
             Event::RestartNode(node) => self.restart(alloc, node),
+            Event::RestartCoordinator => self.restart_coordinator(alloc),
             Event::Forge(node, content) => self.call(alloc, node, Call::Forge(content)),
+            Event::FailSave(kept) => Ok(self.fail_save(kept)),
         }
     }
 }

@@ -8,13 +8,14 @@ ghost use Rattle.world.specs.Shown.{shown};
 use super::world::World;
 use coordinator::Coordinator;
 use farm_base::Slot;
+use saverecord::MemoryKeeper;
 use schedule::print_line;
 use std::alloc::{AllocError, Global};
 use versions::Line;
 
 /// The line of a slot. A slot without a version has an empty one.
-fn slot_line(alloc: Global, coordinator: &Coordinator, slot: &Slot) -> Result<String, AllocError>
-    ensures { IfOk result (λ text. string_bytes text ≡ line_text slot.now ((ledger coordinator.now).line slot.now)) }
+fn slot_line(alloc: Global, coordinator: &Coordinator<MemoryKeeper>, slot: &Slot) -> Result<String, AllocError>
+    ensures { IfOk result (λ text. string_bytes text ≡ line_text slot.now ((ledger coordinator.now.held).line slot.now)) }
 {
     match coordinator.line(slot) {
         Some(line) => print_line(alloc, slot, line),
@@ -23,8 +24,8 @@ fn slot_line(alloc: Global, coordinator: &Coordinator, slot: &Slot) -> Result<St
 }
 
 /// The lines of these slots, one text after another.
-fn lines_of(alloc: Global, coordinator: &Coordinator, slots: &[Slot]) -> Result<String, AllocError>
-    ensures { IfOk result (λ text. string_bytes text ≡ lines_of (ledger coordinator.now).line slots.now) }
+fn lines_of(alloc: Global, coordinator: &Coordinator<MemoryKeeper>, slots: &[Slot]) -> Result<String, AllocError>
+    ensures { IfOk result (λ text. string_bytes text ≡ lines_of (ledger coordinator.now.held).line slots.now) }
 {
     let mut text = String::new(alloc);
     for slot in slots {

@@ -6,6 +6,7 @@ ghost use Rattle.protocol.specs.Lawful.{IsEvent};
 ghost use Rattle.protocol.specs.Replay.{opening, step, is_node};
 ghost use Rattle.protocol.specs.Follows.{SafeAfter, SafeBetween};
 ghost use Rattle.coordinator.specs.Held.{ledger};
+ghost use Rattle.saverecord.specs.Ledgers.{saved_in};
 ghost use Rattle.nodecore.specs.Shown as core;
 ghost use Rattle.world.specs.Meanings.{MeansAsTold, GrantsAtOnce};
 ghost use Rattle.world.specs.Parts.{shown_parts};
@@ -22,6 +23,7 @@ use protocol::{
     EventRefusal, Outcome, a_fitting_message_is_granted, every_event_is_moves,
     every_farm_stays_lawful, every_run_is_safe, every_schedule_is_safe,
 };
+use saverecord::MemoryKeeper;
 use schedule::{Event, Setup};
 use std::alloc::Global;
 use thiserror::Error;
@@ -85,8 +87,11 @@ impl World {
         ensures { ∥ SafeAfter content_digest (shown self.now) ∥₁ }
     {}
 
-    pub fn coordinator(&self) -> &Coordinator
-        ensures { ledger result.now ≡ (shown self.now).ledger }
+    pub fn coordinator(&self) -> &Coordinator<MemoryKeeper>
+        ensures ledger { ledger result.now.held ≡ (shown self.now).ledger }
+        ensures record { saved_in result.now.keeper.bytes ≡ (shown self.now).saved }
+        ensures down { result.now.down ≡ (shown self.now).down }
+        ensures armed { result.now.keeper.armed ≡ (shown self.now).armed }
     {
         &self.parts.coordinator
     }
