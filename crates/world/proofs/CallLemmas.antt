@@ -1,12 +1,11 @@
 -- What a call of the coordinator does in the farm.
-use Rattle.std.proofs.Common.{◌≡◌, ◌≢◌, ℕ, ◌≤◌, ◌++◌, Bool, true, false, List, [], length, map, Option, None, Some, Result, Ok, Err, refl, sym, ap, ◌∙◌, subst}
-use Rattle.std.specs.Prelude.{not, is_some, ⊤}
+use Rattle.std.proofs.Common.{◌≡◌, ℕ, ◌≤◌, ◌++◌, Bool, true, false, List, [], length, map, Option, None, Some, Result, Ok, Err, refl, sym, ap, ◌∙◌, subst}
+use Rattle.std.specs.Prelude.{not, is_some}
 use Rattle.protocol.specs.Machine.{Message, FromCoord, Told}
-use Rattle.protocol.specs.Ledger.{Work, Saved, saves, reads}
-use Rattle.protocol.specs.Replay.{Farm, Turn, coordinated, settled, after_work, refused, done}
+use Rattle.protocol.specs.Ledger.{Work, saves, reads}
+use Rattle.protocol.specs.Replay.{Farm, Turn, coordinated, settled, refused, done}
 use Rattle.protocol.specs.declared.answer.Kept.{Kept}
 use Rattle.protocol.specs.declared.answer.Kept.TheVariants.{Old, New}
-use Rattle.protocol.specs.declared.answer.CoordNote.{CoordNote}
 use Rattle.protocol.specs.declared.answer.CoordRefusal.{CoordRefusal}
 use Rattle.protocol.specs.declared.answer.CoordRefusal.TheVariants as coord
 use Rattle.protocol.specs.declared.answer.EventNote.TheVariants as note
@@ -14,11 +13,10 @@ use Rattle.protocol.specs.declared.answer.EventRefusal.TheVariants as refusal
 use Rattle.protocol.specs.declared.answer.Outcome.{Outcome}
 use Rattle.saverecord.specs.Keepers.{Memory, saved_by, MemorySaves, MemoryLoads}
 use Rattle.saverecord.specs.Ledgers.{saved_in}
-use Rattle.saverecord.specs.declared.refusal.KeeperRefusal.{KeeperRefusal}
 use Rattle.coordinator.specs.declared.handled.Handled.{Handled}
-use Rattle.coordinator.specs.Held.{Held, ledger}
+use Rattle.coordinator.specs.Held.{ledger}
 use Rattle.coordinator.specs.Seen.{Seen}
-use Rattle.coordinator.specs.Settling.{Answers, Settles, SettlesWhile, SavesIf, Saves, Does, Fails, Restarts}
+use Rattle.coordinator.specs.Settling.{Answers, Settles, SettlesWhile, SavesIf, Does, Fails, Restarts}
 use Rattle.coordinator.proofs.Records.{held_in}
 use Rattle.world.specs.Turns.{Came, first_number, from_coordinator}
 use Rattle.world.specs.Parts.{with_coordinator}
@@ -31,9 +29,8 @@ unarmed None h = refl
 unarmed (Some k) h = absurd (cc)
 
 module _ (s : Farm) (old new : Seen Memory) (before after : List Message) (h : Handled) (o : Outcome)
-  (sent : after ≡ before ++ map Told h.sends)
-  (told : o ≡ record { note = note.Coord h.note; first = first_number (length before) (length h.sends); sent = length h.sends }) where
-
+    (sent : after ≡ before ++ map Told h.sends)
+    (told : o ≡ record { note = note.Coord h.note; first = first_number (length before) (length h.sends); sent = length h.sends }) where
   then_pool : (w : Work) → Does MemorySaves w old new h → after ≡ before ++ map Told w.sends
   then_pool w does = sent ∙ ap (λ (ys : List FromCoord). before ++ map Told ys) does.sends
 
@@ -101,30 +98,32 @@ same_refusal : (e x : CoordRefusal) → ◌≡◌ {A = Result Handled CoordRefus
 same_refusal e x h = cc
 
 module _ (s : Farm) (old new : Seen Memory) (pool : List Message) where
-  S : Farm
-  S = with_coordinator s old pool
+  -- the farm before the call
+  abbrev pub start_farm : Farm
+  start_farm = with_coordinator s old pool
 
-  T : Farm
-  T = with_coordinator s new pool
+  -- the farm after it
+  abbrev pub end_farm : Farm
+  end_farm = with_coordinator s new pool
 
-  stays : new ≡ old → T ≡ S
+  stays : new ≡ old → end_farm ≡ start_farm
   stays same = ap (λ (c : Seen Memory). with_coordinator s c pool) same
 
   fault_as : (w : Work) (bytes : List ℕ) (a : Option Kept) → false ≡ not (is_some a) → new.keeper ≡ saved_by a old.keeper bytes → saved_in bytes ≡ saves w.ledger → new.held ≡ old.held → new.down ≡ true
-      → settled true a w S ≡ record { farm = T; outcome = Err (refusal.Coord coord.SaveFault) }
+      → settled true a w start_farm ≡ record { farm = end_farm; outcome = Err (refusal.Coord coord.SaveFault) }
   fault_as w bytes None fails kept holds held down = absurd (cc)
   fault_as w bytes (Some Old) fails kept holds held down =
-      λ j. record { farm = record s { ledger = ledger (held (~ j)); saved = saved_in (kept (~ j)).bytes; down = down (~ j); armed = (kept (~ j)).armed; pool = pool }; outcome = Err (refusal.Coord coord.SaveFault) }
+      sym (λ j. record { farm = record s { ledger = ledger (held j); saved = saved_in (kept j).bytes; down = down j; armed = (kept j).armed; pool = pool }; outcome = Err (refusal.Coord coord.SaveFault) })
   fault_as w bytes (Some New) fails kept holds held down =
       let saved : saved_in new.keeper.bytes ≡ saves w.ledger = ap (λ (m : Memory). saved_in m.bytes) kept ∙ holds in
-      λ j. record { farm = record s { ledger = ledger (held (~ j)); saved = saved (~ j); down = down (~ j); armed = (kept (~ j)).armed; pool = pool }; outcome = Err (refusal.Coord coord.SaveFault) }
+      sym (λ j. record { farm = record s { ledger = ledger (held j); saved = saved j; down = down j; armed = (kept j).armed; pool = pool }; outcome = Err (refusal.Coord coord.SaveFault) })
 
-  fault : (w : Work) → Fails MemorySaves w old new → settled w.changed old.keeper.armed w S ≡ record { farm = T; outcome = Err (refusal.Coord coord.SaveFault) }
+  fault : (w : Work) → Fails MemorySaves w old new → settled w.changed old.keeper.armed w start_farm ≡ record { farm = end_farm; outcome = Err (refusal.Coord coord.SaveFault) }
   fault w fails =
-      ap (λ (b : Bool). settled b old.keeper.armed w S) fails.changed
+      ap (λ (b : Bool). settled b old.keeper.armed w start_farm) fails.changed
       ∙ fault_as w fails.saved.bytes old.keeper.armed fails.saved.left.succeeds fails.saved.left.left (held_in fails.saved.bytes (saves w.ledger) fails.saved.holds) fails.held fails.down
 
-  unworked : (w : Work) (e : CoordRefusal) → Answers MemorySaves (Ok w) old new (Err e) → Came (coordinated false (Ok w) S) S T (Err (from_coordinator e))
+  unworked : (w : Work) (e : CoordRefusal) → Answers MemorySaves (Ok w) old new (Err e) → Came (coordinated false (Ok w) start_farm) start_farm end_farm (Err (from_coordinator e))
   unworked w coord.SaveFault a = fault w a
   unworked w coord.OutOfMemory a = stays a.1
   unworked w coord.Down a = absurd (cc a.0)
@@ -138,27 +137,27 @@ module _ (s : Farm) (old new : Seen Memory) (pool : List Message) where
   unworked w coord.TenureHeld a = absurd (cc a.0)
   unworked w coord.NodeRetired a = absurd (cc a.0)
 
-  refused_while : (r : Result Work CoordRefusal) (e : CoordRefusal) (d : Bool) → SettlesWhile d MemorySaves r old new (Err e) → Came (coordinated d r S) S T (Err (from_coordinator e))
-  refused_while r e true a = subst (λ x. Came (coordinated true r S) S T (Err (from_coordinator x))) (sym (same_refusal e coord.Down a.0)) (refused_as S T coord.Down (stays a.1))
+  refused_while : (r : Result Work CoordRefusal) (e : CoordRefusal) (d : Bool) → SettlesWhile d MemorySaves r old new (Err e) → Came (coordinated d r start_farm) start_farm end_farm (Err (from_coordinator e))
+  refused_while r e true a = subst (λ x. Came (coordinated true r start_farm) start_farm end_farm (Err (from_coordinator x))) (sym (same_refusal e coord.Down a.0)) (refused_as start_farm end_farm coord.Down (stays a.1))
   refused_while (Ok w) e false a = unworked w e a
-  refused_while (Err x) e false a = subst (λ y. Came (coordinated false (Err y) S) S T (Err (from_coordinator e))) (same_refusal e x a.0) (refused_as S T e (stays a.1))
+  refused_while (Err x) e false a = subst (λ y. Came (coordinated false (Err y) start_farm) start_farm end_farm (Err (from_coordinator e))) (same_refusal e x a.0) (refused_as start_farm end_farm e (stays a.1))
 
   -- the event is refused, or memory ran out
-  pub call_refused : (r : Result Work CoordRefusal) (e : CoordRefusal) → Settles MemorySaves r old new (Err e) → Came (coordinated old.down r S) S T (Err (from_coordinator e))
+  pub call_refused : (r : Result Work CoordRefusal) (e : CoordRefusal) → Settles MemorySaves r old new (Err e) → Came (coordinated old.down r start_farm) start_farm end_farm (Err (from_coordinator e))
   call_refused r e a = refused_while r e old.down a
 
   -- ---- a restart of the coordinator
 
   pub restart_done : Restarts MemoryLoads old.keeper.bytes old new (Ok tt)
-      → done note.Restarted [] S (record S { ledger = reads S.saved; down = false }) ≡ record { farm = T; outcome = Ok (record { note = note.Restarted; first = 0; sent = 0 }) }
+      → done note.Restarted [] start_farm (record start_farm { ledger = reads start_farm.saved; down = false }) ≡ record { farm = end_farm; outcome = Ok (record { note = note.Restarted; first = 0; sent = 0 }) }
   restart_done takes =
       let kept : new.keeper ≡ old.keeper = takes.loaded.same in
-      λ j. record {
-        farm = record s { ledger = takes.ledger (~ j); saved = saved_in (kept (~ j)).bytes; down = takes.up (~ j); armed = (kept (~ j)).armed; pool = pool };
+      sym (λ j. record {
+        farm = record s { ledger = takes.ledger j; saved = saved_in (kept j).bytes; down = takes.up j; armed = (kept j).armed; pool = pool };
         outcome = Ok (record { note = note.Restarted; first = 0; sent = 0 });
-      }
+      })
 
-  pub restart_refused : (e : CoordRefusal) (turn : Turn) → Restarts MemoryLoads old.keeper.bytes old new (Err e) → Came turn S T (Err (from_coordinator e))
+  pub restart_refused : (e : CoordRefusal) (turn : Turn) → Restarts MemoryLoads old.keeper.bytes old new (Err e) → Came turn start_farm end_farm (Err (from_coordinator e))
   restart_refused coord.OutOfMemory turn a =
       let kept : new.keeper ≡ old.keeper = a.0.1.same in
       λ j. record s { ledger = ledger (a.1 j); saved = saved_in (kept j).bytes; down = a.2 j; armed = (kept j).armed; pool = pool }

@@ -96,8 +96,8 @@ IsGranted number p s =
     nth s.pool number ≡ Some (Said y) → s.ledger.gone p.node.0 ≡ false → nat_lt p.life.0 (s.ledger.lives p.node.0) ≡ false → MayBeGranted farm_limits after p
     → (w.note ≡ coord.Granted (granted after p)) × In (told.Granted (granted after p)) w.sends
 
-pub grants_at_once : FittingMessageIsGranted → (old new : Farm) (e : Event) (r : Result Outcome EventRefusal) → old.down ≡ false → old.armed ≡ None → Came (step content_digest farm_limits old e) old new r → GrantsAtOnce old e r new
-grants_at_once law old new e r up safe came size events is number p at sent here current may =
+pub grants_at_once : FittingMessageIsGranted → (old new : Farm) (e : Event) (r : Result Outcome EventRefusal) → Came (step content_digest farm_limits old e) old new r → GrantsAtOnce old e r new
+grants_at_once law old new e r came size events is up safe number p at sent here current may =
     let y : ToCoord = record { node = p.node; life = p.life; request = Acquire p.ask p.wants p.tenure } in
     let w : Work = handled farm_limits y (begin_work old.ledger) in
     let grant : Grant = granted (after_life farm_limits p.node p.life (begin_work old.ledger)).ledger p in

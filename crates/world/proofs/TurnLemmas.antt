@@ -1,18 +1,17 @@
 -- What an event of a node does in the farm.
-use Rattle.std.proofs.Common.{◌≡◌, ℕ, ◌==◌, Bool, true, false, if◌then◌else◌, List, [], ◌∷◌, ◌++◌, length, map, Option, None, Result, Ok, Err, refl, sym, ap, ◌∙◌, subst}
+use Rattle.std.proofs.Common.{◌≡◌, ℕ, ◌==◌, Bool, true, false, if◌then◌else◌, List, [], ◌∷◌, ◌++◌, length, map, Result, Ok, Err, refl, sym, ap, ◌∙◌, subst}
 use mathlib.Core.Path.{fun_ext}
 use Rattle.std.proofs.lemmas.Bool.{eqb-true}
 use Rattle.std.proofs.lemmas.List.{length-map}
 use Rattle.protocol.specs.Lists.{put}
 use Rattle.protocol.specs.Names.{NodeId}
 use Rattle.protocol.specs.Machine.{Message, Told, FromCoord}
-use Rattle.protocol.specs.declared.answer.Kept.{Kept}
 use Rattle.protocol.specs.declared.answer.CoordNote.{CoordNote}
 use Rattle.protocol.specs.World.{Node}
 use Rattle.protocol.specs.Nodes.{Place, NodeAnswer, may_restart, restarted, unless_spent}
-use Rattle.protocol.specs.Ledger.{Ledger, Work, Saved, saves}
+use Rattle.protocol.specs.Ledger.{Work, Saved}
 use Rattle.protocol.specs.Farm.{farm_limits}
-use Rattle.protocol.specs.Replay.{Farm, Turn, first_sent, is_node, at, at_node, node_does, answered, done, moved, refused, restarts, coordinated, settled, after_work}
+use Rattle.protocol.specs.Replay.{Farm, Turn, first_sent, is_node, at, at_node, node_does, answered, done, moved, refused, restarts, after_work}
 use Rattle.protocol.specs.declared.answer.NodeRefusal.{NodeRefusal}
 use Rattle.protocol.specs.declared.answer.NodeRefusal.TheVariants as node
 use Rattle.protocol.specs.declared.answer.EventNote.{EventNote}

@@ -1,5 +1,5 @@
 -- What is promised of one event of a world.
-use Rattle.std.specs.Prelude.{◌≡◌, ℕ, nat_lt, false, List, Some, IfOk, OnOk, IsOkUnless, Result, Err, ⊤}
+use Rattle.std.specs.Prelude.{◌≡◌, ℕ, nat_lt, false, List, Some, None, IfOk, OnOk, IsOkUnless, Result, Err, ⊤}
 use Rattle.farm_base.specs.Contents.{content_digest}
 use Rattle.protocol.specs.Farm.{farm_limits}
 use Rattle.farm_base.specs.declared.message.Request.TheVariants.{Acquire}
@@ -39,10 +39,10 @@ pub record Grants (g : Grant) (result : Result Outcome EventRefusal) (new : Farm
   pub sent : OnOk result (In (Told (told.Granted g)) new.pool)
 
 -- in a run an Acquire that is delivered, of a node that isn't retired, of no older life, that the rules let be granted,
--- is granted in that event
+-- is granted in that event, by a coordinator that isn't down and where no save is to fail
 abbrev pub GrantsAtOnce : Farm → Event → Result Outcome EventRefusal → Farm → Type 0
 GrantsAtOnce old e result new = (size : ℕ) (events : List Event) → old ≡ run content_digest farm_limits events (opening content_digest size)
-    → (number : ℕ) (p : Parked) → e ≡ Deliver number
+    → old.down ≡ false → old.armed ≡ None → (number : ℕ) (p : Parked) → e ≡ Deliver number
     → let y : ToCoord = record { node = p.node; life = p.life; request = Acquire p.ask p.wants p.tenure } in
     let after : Ledger = (after_life farm_limits p.node p.life (begin_work old.ledger)).ledger in
     nth old.pool number ≡ Some (Said y) → old.ledger.gone p.node.0 ≡ false → nat_lt p.life.0 (old.ledger.lives p.node.0) ≡ false

@@ -1,5 +1,5 @@
 -- The result of an event of the world.
-use Rattle.std.specs.Prelude.{◌≡◌, ℕ, zero, suc, ◌+◌, ◌<◌, ◌≤◌, true, false, if◌then◌else◌, List, [], length, Result, Ok, Err}
+use Rattle.std.specs.Prelude.{◌≡◌, ℕ, zero, suc, ◌+◌, ◌<◌, ◌≤◌, true, false, if◌then◌else◌, [], length, Result, Ok, Err}
 use Rattle.protocol.specs.Farm.{farm_limits}
 use Rattle.protocol.specs.Names.{NodeId}
 use Rattle.protocol.specs.Ledger.{handled, retired, begin_work, reads}

@@ -14,7 +14,11 @@ use std::alloc::{AllocError, Global};
 use versions::Line;
 
 /// The line of a slot. A slot without a version has an empty one.
-fn slot_line(alloc: Global, coordinator: &Coordinator<MemoryKeeper>, slot: &Slot) -> Result<String, AllocError>
+fn slot_line(
+    alloc: Global,
+    coordinator: &Coordinator<MemoryKeeper>,
+    slot: &Slot,
+) -> Result<String, AllocError>
     ensures { IfOk result (λ text. string_bytes text ≡ line_text slot.now ((ledger coordinator.now.held).line slot.now)) }
 {
     match coordinator.line(slot) {
@@ -24,7 +28,11 @@ fn slot_line(alloc: Global, coordinator: &Coordinator<MemoryKeeper>, slot: &Slot
 }
 
 /// The lines of these slots, one text after another.
-fn lines_of(alloc: Global, coordinator: &Coordinator<MemoryKeeper>, slots: &[Slot]) -> Result<String, AllocError>
+fn lines_of(
+    alloc: Global,
+    coordinator: &Coordinator<MemoryKeeper>,
+    slots: &[Slot],
+) -> Result<String, AllocError>
     ensures { IfOk result (λ text. string_bytes text ≡ lines_of (ledger coordinator.now.held).line slots.now) }
 {
     let mut text = String::new(alloc);

@@ -5,4 +5,4 @@ use Rattle.world.specs.Printing.{lines_of}
 use Rattle.world.proofs.printing.lines_of.Given as goal
 
 abbrev pub invariant-loop-slot : goal.invariant-loop-slot
-invariant-loop-slot l = string_bytes l.text ++ lines_of (ledger l.coordinator).line (drop l.slot-index l.slots) ≡ lines_of (ledger l.coordinator).line l.slots
+invariant-loop-slot l = string_bytes l.text ++ lines_of (ledger l.coordinator.held).line (drop l.slot-index l.slots) ≡ lines_of (ledger l.coordinator.held).line l.slots

@@ -1,4 +1,4 @@
-use Rattle.std.proofs.Common.{◌≡◌, ℕ, ◌++◌, get_or, ◌<◌, ◌≤◌, true, map, List, Some, Ok, Err, refl, length, ap, sym, ◌∙◌, subst, arith, rules}
+use Rattle.std.proofs.Common.{◌≡◌, ℕ, ◌++◌, get_or, ◌<◌, ◌≤◌, true, map, List, Some, Ok, Err, length, ap, sym, ◌∙◌, subst, arith, rules}
 use Rattle.std.proofs.lemmas.Grind.{common_steps}
 use Rattle.farm_base.specs.Contents.{content_digest}
 use Rattle.protocol.specs.Farm.{farm_limits}
@@ -20,7 +20,8 @@ use Rattle.world.specs.Parts.{shown_parts}
 use Rattle.world.proofs.FewLemmas.{heard_count}
 use Rattle.world.proofs.LawfulLemmas.{said_of}
 use Rattle.world.proofs.PoolLemmas.{found_at, same_read}
-use Rattle.world.proofs.TurnLemmas.{hears, came_none, came_done, came_refused, came_worked, unmoved, came_as}
+use Rattle.world.proofs.CallLemmas.{call_done}
+use Rattle.world.proofs.TurnLemmas.{hears, came_none, came_done, came_refused, unmoved, came_as}
 use Rattle.protocol.specs.Replay.{receiver}
 use Rattle.world.proofs.parts.Parts.deliver.Goals as goal
 
@@ -114,9 +115,10 @@ returns-in-Ok c =
     let y : ToCoord = c.in-ToCoord.message in
     let here : nth pool c.args.number ≡ Some (Said y) = found_at pool c.reserve.new.self.items c.args.number c.in-Some.place c.index-2.result.now (message.ToCoord y) same c.in-Some.ensures.found inside (search rules) c.in-ToCoord.is in
     ap (λ o. delivered content_digest farm_limits o s) here
-    ∙ came_worked s (handled farm_limits y (begin_work s.ledger)) _ c.send_coordinator.new.pool.items c.in-Ok.handled.sends c.in-Ok.handled.note c.send_coordinator.result refl refl c.in-Ok.ensures.told c.in-Ok.ensures.ledger c.in-Ok.ensures.sends c.in-Ok.ensures.note
+    ∙ call_done s c.args.self.now.coordinator c.handle.new.self pool c.send_coordinator.new.pool.items c.in-Ok.handled c.send_coordinator.result
     (c.send_coordinator.ensures.pool ∙ ap (λ (l : List sent.Message). l ++ map Told c.in-Ok.handled.sends) same)
     (c.send_coordinator.ensures.outcome ∙ ap (λ (k : ℕ). record { note = note.Coord c.in-Ok.handled.note; first = first_number k (length c.in-Ok.handled.sends); sent = length c.in-Ok.handled.sends }) (ap length same))
+    (Ok (handled farm_limits y (begin_work s.ledger))) c.in-Ok.ensures.answer
 
 pub handle-requires : goal.handle-requires
 handle-requires c =

@@ -1,5 +1,5 @@
 use Rattle.farm_base.specs.Contents.{content_digest}
-use Rattle.protocol.specs.Ledger.{saves}
+use Rattle.saverecord.specs.Ledgers.{saved_in}
 use Rattle.protocol.specs.Replay.{opening}
 use Rattle.world.proofs.SeatLemmas.{all_first}
 use Rattle.world.proofs.parts.Parts.start.Goals as goal
@@ -7,8 +7,10 @@ use Rattle.world.proofs.parts.Parts.start.Goals as goal
 pub returns : goal.returns
 returns c = λ j. record (opening content_digest c.args.count) {
   size = c.in_ok-nodes.ensures.len j;
-  ledger = c.start-2.ensures j;
-  saved = saves (c.start-2.ensures j);
+  ledger = c.in_ok-coordinator.ensures.ledger j;
+  saved = saved_in (c.in_ok-coordinator.ensures.bytes j);
+  down = c.in_ok-coordinator.ensures.up j;
+  armed = c.in_ok-coordinator.ensures.armed j;
   pool = c.new.ensures.items j;
   nodes = all_first c.args.count c.in_ok-nodes.nodes.cores.items c.in_ok-nodes.ensures j;
 }

@@ -1,10 +1,11 @@
-use Rattle.std.proofs.Common.{◌≡◌, ℕ, ◌≤◌, ◌++◌, Err, List, length, map, sym, ap, ◌∙◌, subst, arith}
+use Rattle.std.proofs.Common.{ℕ, ◌≤◌, ◌++◌, Result, Err, List, length, map, sym, ap, ◌∙◌, subst, arith}
 use Rattle.std.proofs.lemmas.Grind.{common_steps}
 use Rattle.protocol.specs.Farm.{farm_limits}
-use Rattle.protocol.specs.Ledger.{begin_work, withdrawn}
+use Rattle.protocol.specs.Ledger.{Work, begin_work, withdrawn}
 use Rattle.protocol.specs.Machine.{Told}
-use Rattle.protocol.specs.Replay.{Farm}
+use Rattle.protocol.specs.Replay.{Farm, coordinated}
 use Rattle.protocol.specs.declared.answer.EventNote.TheVariants as note
+use Rattle.protocol.specs.declared.answer.CoordRefusal.{CoordRefusal}
 use Rattle.farm_base.specs.declared.message.Message as sent
 use Rattle.coordinator.specs.Held.{ledger}
 use Rattle.world.specs.Parts.{shown_parts, with_coordinator}
@@ -28,4 +29,9 @@ returns-in-Ok c =
     (withdrawn farm_limits c.args.ticket (begin_work (ledger c.args.self.now.coordinator.held))) c.in-Ok.ensures.answer
 
 pub returns-in-Err : goal.returns-in-Err
-returns-in-Err c = ?
+returns-in-Err c =
+    let s : Farm = shown_parts c.args.self.now in
+    let r : Result Work CoordRefusal = withdrawn farm_limits c.args.ticket (begin_work (ledger c.args.self.now.coordinator.held)) in
+    subst (λ e. Came (coordinated s.down r s) s (with_coordinator s c.withdraw.new.self c.reserve.new.self.items) (Err e)) (sym c.from_coordinator.ensures)
+    (subst (λ (l : List sent.Message). Came (coordinated s.down r s) s (with_coordinator s c.withdraw.new.self l) (Err (from_coordinator c.in-Err.refusal))) (sym c.reserve.ensures.items)
+    (call_refused s c.args.self.now.coordinator c.withdraw.new.self c.args.self.now.pool.items r c.in-Err.refusal c.in-Err.ensures.answer))

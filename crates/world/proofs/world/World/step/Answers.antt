@@ -1,4 +1,3 @@
-use Rattle.std.proofs.Common.{refl}
 use Rattle.std.proofs.Math.Logic.{∥∥₁_map}
 use Rattle.world.specs.Shown.{shown}
 use Rattle.world.specs.Parts.{shown_parts}
@@ -11,7 +10,7 @@ returns-clause-meaning c = means_as_told c.every_event_is_moves.ensures (shown c
 
 pub returns-clause-at_once : goal.returns-clause-at_once
 returns-clause-at_once c =
-    grants_at_once c.a_fitting_message_is_granted.ensures (shown c.args.self.now) (shown_parts c.carry_out.new.self) c.args.event c.carry_out.result refl refl c.carry_out.ensures
+    grants_at_once c.a_fitting_message_is_granted.ensures (shown c.args.self.now) (shown_parts c.carry_out.new.self) c.args.event c.carry_out.result c.carry_out.ensures
 
 pub returns-clause-safe : goal.returns-clause-safe
 returns-clause-safe c =
