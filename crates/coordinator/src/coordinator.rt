@@ -23,7 +23,7 @@ ghost use Rattle.std.specs.Vec.{vec_capacity};
 use super::handled::Handled;
 use super::ledger::{Ledger, Prepared};
 use super::record::record_in;
-use farm_base::{NodeId, Slot, Ticket, ToCoord};
+use farm_base::{Lease, NodeId, Parked, Slot, Ticket, ToCoord};
 use leases::SlotState;
 use protocol::{CoordRefusal, Kept};
 use saverecord::{Keeper, KeeperRefusal, MemoryKeeper, RecordRefusal};
@@ -251,6 +251,20 @@ impl<K: Keeper> Coordinator<K> {
         ensures prune { (s : Slot) (w : Work) → pruned farm_limits s (begin_work (ledger self.now.held)) ≡ Ok w → length w.sends ≤ result }
     {
         self.ledger.most_sends_of_calls()
+    }
+
+    /// The leases that are live, the oldest first: who holds which slots.
+    pub fn leases(&self) -> &[Lease]
+        ensures { result.now ≡ self.now.held.live }
+    {
+        self.ledger.leases()
+    }
+
+    /// The asks that wait, in order of arrival: who waits for which folders.
+    pub fn parked(&self) -> &[Parked]
+        ensures { result.now ≡ self.now.held.parked }
+    {
+        self.ledger.parked()
     }
 
     /// The line of a slot, if it has a version.

@@ -24,7 +24,7 @@ use super::draft::Draft;
 use super::handled::Handled;
 use super::record::{record_of, state_of};
 use super::state::State;
-use farm_base::{FromCoord, Items, NodeId, Slot, Ticket, ToCoord};
+use farm_base::{Items, Lease, NodeId, Parked, Slot, Ticket, ToCoord};
 use leases::SlotState;
 use protocol::{CoordNote, CoordRefusal};
 use saverecord::{Record, what_is_kept_is_a_record};
@@ -265,6 +265,20 @@ impl Ledger {
         ensures prune { (s : Slot) (w : Work) → pruned farm_limits s (begin_work (ledger self.now)) ≡ Ok w → length w.sends ≤ result }
     {
         self.state.parked.len()
+    }
+
+    /// The leases that are live, the oldest first.
+    pub(crate) fn leases(&self) -> &[Lease]
+        ensures { result.now ≡ self.now.live }
+    {
+        self.state.table.leases()
+    }
+
+    /// The asks that wait, in order of arrival.
+    pub(crate) fn parked(&self) -> &[Parked]
+        ensures { result.now ≡ self.now.parked }
+    {
+        self.state.parked.as_slice()
     }
 
     /// The line of a slot, if it has a version.
