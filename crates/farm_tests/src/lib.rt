@@ -1,4 +1,4 @@
-//! Tests of names, folders, records and tickets: outside vectors, printed texts, and what comes at limits.
+//! Tests of names, folders, records, tickets and coordinators: outside vectors, printed texts, and what comes at limits.
 #![tactic(auto)]
 
 #[cfg(test)]
@@ -11,5 +11,9 @@ mod keepers;
 mod names;
 #[cfg(test)]
 mod records;
+#[cfg(test)]
+mod saves;
+#[cfg(test)]
+mod starts;
 #[cfg(test)]
 mod tickets;

@@ -360,6 +360,50 @@ fn what_schedules_come_to(rt: HostRuntime) -> Result<(), Fail> {
     Ok(())
 }
 
+/// Schedules with restarts of the coordinator and failed saves, and all that their replay prints, with semicolons for
+/// line feeds.
+const RESTARTS: [(&str, &str); 5] = [
+    // The tickets go on behind those that were saved.
+    (
+        "nodes 1; ask 1 locked:a; deliver 1; restart coordinator; ask 1 locked:b; deliver 3",
+        "1 asked 1 -> 1; 2 granted 1 locked:a=0 -> 2; 3 restarted; 4 asked 2 -> 3; 5 granted 65 locked:b=0 -> 4; ",
+    ),
+    // What could not be saved did not happen.
+    (
+        "nodes 1; ask 1 locked:apt; fail old; deliver 1; deliver 1; restart coordinator; deliver 1",
+        "1 asked 1 -> 1; 2 armed; 3 refused SaveFault; 4 refused Down; 5 restarted; 6 granted 1 locked:apt=0 -> 2; ",
+    ),
+    // What was saved all the same is not granted again.
+    (
+        "nodes 1; ask 1 locked:apt; fail new; deliver 1; deliver 1; restart coordinator; deliver 1",
+        "1 asked 1 -> 1; 2 armed; 3 refused SaveFault; 4 refused Down; 5 restarted; 6 granted 65 locked:apt=0 -> 2; ",
+    ),
+    // The holder of a LOCKED folder is fenced.
+    (
+        "nodes 2; ask 1 locked:a; deliver 1; deliver 2; begin 1 1; restart coordinator; ask 2 locked:a; deliver 3; finish 1 1 locked:a=616263; deliver 5",
+        "1 asked 1 -> 1; 2 granted 1 locked:a=0 -> 2; 3 took 1 locked:a=0; 4 begun 1; 5 restarted; 6 asked 1 -> 3; 7 granted 65 locked:a=0 -> 4; 8 finished 1 -> 5; 9 fenced 1 -> 6; ",
+    ),
+    // The lease of a PRIVATE slot goes on.
+    (
+        "nodes 1; ask 1 private:npm; deliver 1; restart coordinator; deliver 1",
+        "1 asked 1 -> 1; 2 granted 1 private:npm#1=0 -> 2; 3 restarted; 4 granted before 1 private:npm#1=0 -> 3; ",
+    ),
+];
+
+#[test]
+fn what_restarts_come_to(rt: HostRuntime) -> Result<(), Fail> {
+    for (schedule, wanted) in &RESTARTS {
+        let bytes = lines_of(rt.alloc(), schedule)?;
+        let (status, out, err) = done(rt.alloc(), Command::Replay, Some(bytes))?;
+        assert_eq!(rt; status, DONE);
+        assert_eq!(rt; err.as_slice(), b"".as_slice());
+        let text = str::from_utf8(out.as_slice())?;
+        let text = text.replace(rt.alloc(), "\n", "; ")?;
+        assert_eq!(rt; text.as_str(), *wanted);
+    }
+    Ok(())
+}
+
 /// Texts that are not schedules, and what is printed for each.
 const NO_SCHEDULES: [(&str, &str); 12] = [
     ("", "refused BadLine 1\n"),
@@ -418,21 +462,5 @@ fn the_limits_of_schedules(rt: HostRuntime) -> Result<(), Fail> {
         assert_eq!(rt; status, *wanted);
         assert_eq!(rt; err.as_slice(), text.as_bytes());
     }
-    Ok(())
-}
-
-/// 4,097 asks for one PRIVATE folder: each instance is granted once, and the last ask is denied.
-#[test]
-fn the_instances_of_a_folder(rt: HostRuntime) -> Result<(), Fail> {
-    let mut bytes = repeated(rt.alloc(), "ask 1 private:npm\n", 4_097)?;
-    for number in 1..4_098u32 {
-        let line = format!(in rt.alloc(); "deliver {number}\n")?;
-        bytes.extend_from_slice(line.as_bytes())?;
-    }
-    let (status, out, _) = done(rt.alloc(), Command::Replay, Some(bytes))?;
-    assert_eq!(rt; status, DONE);
-    let last =
-        b"8193 granted 4096 private:npm#4096=0 -> 8193\n8194 denied InstancesSpent -> 8194\n";
-    assert!(rt; out.ends_with(last.as_slice()));
     Ok(())
 }

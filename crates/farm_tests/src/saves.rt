@@ -1,0 +1,83 @@
+//! When the coordinator of a world saves, and what, worked out by hand. The records were made by a script apart from
+//! the program, with the SHA-256 of Python's hashlib.
+
+use saverecord::Record;
+use std::alloc::Global;
+use std::test::Fail;
+use world::{World, read_schedule};
+
+/// The world after a schedule of which no event is refused.
+fn world_after(alloc: Global, schedule: &str) -> Result<World, Fail> {
+    let (setup, events) = read_schedule(alloc, schedule.as_bytes())?;
+    let mut world = World::start(alloc, setup)?;
+    for event in events {
+        let _outcome = world.step(alloc, event)?;
+    }
+    Ok(world)
+}
+
+/// Schedules, their lines separated by semicolons, how often their coordinator saves, and its record in hexadecimal.
+const SAVES: [(&str, u64, &str); 4] = [
+    ("nodes 1; ask 1 locked:a", 0, ""),
+    (
+        "nodes 1; ask 1 locked:a; deliver 1; deliver 1; nudge",
+        1,
+        "424b4641524d303300000000000000400000000000000000000000010000000100000000000000010000000000000000000000000000000000000000000000000000000000000000e3792bd367ece67fcc5a4411e3965c65e65c85f989cb1758d8e3a74897773882",
+    ),
+    (
+        "nodes 1; ask 1 private:npm; ask 1 private:npm; deliver 1; deliver 2; restart coordinator",
+        2,
+        "424b4641524d303300000000000000400000000000000000000000010000000100000000000000010000000000000000000000000000000200000000000000010000000100000000000000010000000000000001000000000000000000010100000000000000036e706d00000000010100000000000000020000000100000000000000010000000000000002000000000000000000010100000000000000036e706d000000000201000000000000000000000000000000002a71a0c2dd8024bc1847ca75d9059dae509534cfbfd4cc55f1ec77663a1c44e3",
+    ),
+    // All parts but an old home.
+    (
+        "nodes 2; ask 1 private:npm; deliver 1; tenure 2 shared:pip; deliver 3; deliver 4; begin 2 2; finish 2 2 shared:pip=616263; deliver 5; withdraw 1; tenure 2 shared:pip; deliver 7; retire 1",
+        6,
+        "424b4641524d303300000000000000400000000000000000000000020000000100000000000000010000000200000000000000010000000000000001000000010000000000000001000000000000000300000002000000000000000100000000000000020101000000000000000100000000000000000370697000000000000100000000000000010100000000000000036e706d00000000010000000000000001000000000000000003706970000000000000000000000000010000000000000002ba7816bf8f01cfea414140de5dae2223b00361a396177a9cb410ff61f20015ad0c2e993b5bb076c0776692be276837fdedaf411ccd34a5c6d2a08cde5d8daf71",
+    ),
+];
+
+#[test]
+fn what_is_saved(rt: HostRuntime) -> Result<(), Fail> {
+    for (schedule, saves, wanted) in &SAVES {
+        let schedule = schedule.replace(rt.alloc(), "; ", "\n")?;
+        let world = world_after(rt.alloc(), schedule.as_str())?;
+        let keeper = world.coordinator().keeper();
+        let text = hex::encode(rt.alloc(), keeper.bytes())?;
+        assert_eq!(rt; text.as_str(), *wanted);
+        assert_eq!(rt; keeper.saves(), *saves);
+        if !wanted.is_empty() {
+            let bytes = Record::read(rt.alloc(), keeper.bytes())?.write(rt.alloc())?;
+            assert_eq!(rt; bytes.as_slice(), keeper.bytes());
+        }
+    }
+    Ok(())
+}
+
+/// How often a LOCKED folder is granted and given back, and how often the coordinator saves: once for each 64 tickets.
+const BLOCKS: [(u64, u64); 4] = [(1, 1), (64, 1), (65, 2), (129, 3)];
+
+/// A schedule of so many grants of a LOCKED folder, each given back.
+fn rounds(alloc: Global, count: u64) -> Result<String, Fail> {
+    let mut text = String::from_str(alloc, "nodes 1\n")?;
+    let mut message = 0u64;
+    for ticket in 1..=count {
+        let [ask, grant, release] = [1, 2, 3].map(|next| message.saturating_add(next));
+        let round = format!(in alloc;
+            "ask 1 locked:a\ndeliver {ask}\ndeliver {grant}\nabort 1 {ticket}\ndeliver {release}\n"
+        )?;
+        text.push_str(round.as_str())?;
+        message = release;
+    }
+    Ok(text)
+}
+
+#[test]
+fn block_saves(rt: HostRuntime) -> Result<(), Fail> {
+    for (count, wanted) in &BLOCKS {
+        let schedule = rounds(rt.alloc(), *count)?;
+        let world = world_after(rt.alloc(), schedule.as_str())?;
+        assert_eq!(rt; world.coordinator().keeper().saves(), *wanted);
+    }
+    Ok(())
+}
