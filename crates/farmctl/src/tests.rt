@@ -464,3 +464,19 @@ fn the_limits_of_schedules(rt: HostRuntime) -> Result<(), Fail> {
     }
     Ok(())
 }
+
+/// 4,097 asks for one PRIVATE folder: each instance is granted once, and the last ask is denied.
+#[test]
+fn the_instances_of_a_folder(rt: HostRuntime) -> Result<(), Fail> {
+    let mut bytes = repeated(rt.alloc(), "ask 1 private:npm\n", 4_097)?;
+    for number in 1..4_098u32 {
+        let line = format!(in rt.alloc(); "deliver {number}\n")?;
+        bytes.extend_from_slice(line.as_bytes())?;
+    }
+    let (status, out, _) = done(rt.alloc(), Command::Replay, Some(bytes))?;
+    assert_eq!(rt; status, DONE);
+    let last =
+        b"8193 granted 4096 private:npm#4096=0 -> 8193\n8194 denied InstancesSpent -> 8194\n";
+    assert!(rt; out.ends_with(last.as_slice()));
+    Ok(())
+}
