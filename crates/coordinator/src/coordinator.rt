@@ -14,8 +14,10 @@ ghost use Rattle.protocol.specs.Ledger.{Work, begin_work, handled, withdrawn, re
 ghost use Rattle.coordinator.specs.Held.{line_at, ledger};
 ghost use Rattle.coordinator.specs.Promises.{OnlyGrow, GrantsAtOnce, ChangesAsTold};
 ghost use Rattle.coordinator.specs.Held.{Held};
+ghost use Rattle.coordinator.specs.Seen.{IsKeeping};
 ghost use Rattle.coordinator.specs.Settling.{Answers, Settles, Loads, TakesUp, Restarts};
 ghost use Rattle.coordinator.specs.Shown.{kept, shown};
+ghost use Rattle.saverecord.specs.Keepers.{HasFailed};
 ghost use Rattle.coordinator.specs.Sound.{IsRightful};
 ghost use Rattle.versions.specs.Additions.{IsReady};
 ghost use Rattle.std.specs.Vec.{vec_capacity};
@@ -64,6 +66,7 @@ pub struct NotStarted<K: Keeper> {
 fn load<K: Keeper>(keeper: &mut K, alloc: Global) -> Result<Ledger, CoordRefusal>
     ensures answer { Loads K.loading (K.kept keeper.old) keeper.old keeper.new result }
     ensures kept { K.kept keeper.new ≡ K.kept keeper.old }
+    ensures cause { result ≡ Err CoordRefusal.LoadFault → HasFailed (K.failed keeper.old) (K.failed keeper.new) }
 {
     let bytes = match keeper.load(alloc) {
         Ok(bytes) => bytes,
@@ -97,7 +100,8 @@ impl<K: Keeper> Coordinator<K> {
     /// Starts again from what the keeper's record holds: parked asks are gone, and so are the leases that the record
     /// doesn't have.
     pub fn restart(&mut self, alloc: Global) -> Result<(), CoordRefusal>
-        ensures { Restarts K.loading (K.kept self.old.keeper) self.old self.new result }
+        ensures answer { Restarts K.loading (K.kept self.old.keeper) self.old self.new result }
+        ensures cause { result ≡ Err CoordRefusal.LoadFault → HasFailed (K.failed self.old.keeper) (K.failed self.new.keeper) }
     {
         match load(&mut self.keeper, alloc) {
             Ok(ledger) => {
@@ -122,6 +126,7 @@ impl<K: Keeper> Coordinator<K> {
         requires empty { prepared.room.items ≡ [] }
         requires larger { length self.old.held.lines + added_count prepared.added ≤ vec_capacity prepared.room }
         ensures answer { Answers K.saving (Ok (shown (lines_with self.old.held.lines prepared.added) prepared.draft)) self.old self.new result }
+        ensures cause { result ≡ Err CoordRefusal.SaveFault → HasFailed (K.failed self.old.keeper) (K.failed self.new.keeper) }
         ensures grow { OnlyGrow (line_at self.old.held.lines) (line_at self.new.held.lines) }
     {
         let Ok(to_save) = self.ledger.to_save(alloc, &prepared) else {
@@ -145,6 +150,7 @@ impl<K: Keeper> Coordinator<K> {
         requires { IsSaid NODES message.now }
         ensures answer { Settles K.saving (Ok (handled farm_limits message.now (begin_work (ledger self.old.held)))) self.old self.new result }
         ensures at_once { IfOk result (λ h. GrantsAtOnce (ledger self.old.held) message.now h.note h.sends) }
+        ensures cause { result ≡ Err CoordRefusal.SaveFault → HasFailed (K.failed self.old.keeper) (K.failed self.new.keeper) }
         ensures grow { OnlyGrow (line_at self.old.held.lines) (line_at self.new.held.lines) }
     {
         if self.down {
@@ -160,6 +166,7 @@ impl<K: Keeper> Coordinator<K> {
     /// asks are tried. A tenure is never withdrawn.
     pub fn withdraw(&mut self, alloc: Global, ticket: Ticket) -> Result<Handled, CoordRefusal>
         ensures answer { Settles K.saving (withdrawn farm_limits ticket (begin_work (ledger self.old.held))) self.old self.new result }
+        ensures cause { result ≡ Err CoordRefusal.SaveFault → HasFailed (K.failed self.old.keeper) (K.failed self.new.keeper) }
         ensures grow { OnlyGrow (line_at self.old.held.lines) (line_at self.new.held.lines) }
     {
         if self.down {
@@ -179,6 +186,7 @@ impl<K: Keeper> Coordinator<K> {
     pub fn retire(&mut self, alloc: Global, node: NodeId) -> Result<Handled, CoordRefusal>
         requires { IsNumber NODES node }
         ensures answer { Settles K.saving (retired farm_limits node (begin_work (ledger self.old.held))) self.old self.new result }
+        ensures cause { result ≡ Err CoordRefusal.SaveFault → HasFailed (K.failed self.old.keeper) (K.failed self.new.keeper) }
         ensures grow { OnlyGrow (line_at self.old.held.lines) (line_at self.new.held.lines) }
     {
         if self.down {
@@ -196,6 +204,7 @@ impl<K: Keeper> Coordinator<K> {
     /// Puts the empty content on the line of a slot, under a new ticket, in one step.
     pub fn prune(&mut self, alloc: Global, slot: &Slot) -> Result<Handled, CoordRefusal>
         ensures answer { Settles K.saving (pruned farm_limits slot.now (begin_work (ledger self.old.held))) self.old self.new result }
+        ensures cause { result ≡ Err CoordRefusal.SaveFault → HasFailed (K.failed self.old.keeper) (K.failed self.new.keeper) }
         ensures grow { OnlyGrow (line_at self.old.held.lines) (line_at self.new.held.lines) }
     {
         if self.down {
@@ -224,6 +233,14 @@ impl<K: Keeper> Coordinator<K> {
         Ok(handled)
     }
 
+    /// What its keeper has is a record, and while it is up, that of its ledger.
+    pub fn is_kept(&self)
+        ensures { IsKeeping (K.kept self.now.keeper) self.now.held self.now.down }
+    {
+        let _keeper = &self.keeper;
+    }
+
+    /// Who keeps its record.
     pub fn keeper(&self) -> &K
         ensures { result.now ≡ self.now.keeper }
     {
