@@ -118,8 +118,9 @@ impl World {
         self.parts.pool.len() as u64
     }
 
-    /// Carries out one event. What is refused changes nothing, but that a node whose greatest life is over is
-    /// down for good. The world stays safe: what was so before still is.
+    /// Carries out one event. What is refused changes nothing, with two exceptions: after a failed save the
+    /// coordinator is down until it restarts, and a node whose greatest life is over is down for good. The farm stays
+    /// safe: what was so before still is.
     pub fn step(&mut self, alloc: Global, event: Event) -> Result<Outcome, EventRefusal>
         ensures came { Came (step content_digest farm_limits (shown self.old) event) (shown self.old) (shown self.new) result }
         ensures safe { ∥ SafeBetween content_digest (shown self.old) (shown self.new) ∥₁ }
