@@ -8,13 +8,14 @@ use std::time::Instant;
 use world::{Event, Setup, replay};
 
 /// The text of the folder, and of its one slot.
-const FOLDER: &str = "locked:apt";
+pub const FOLDER: &str = "locked:apt";
 /// What one lease takes: it is asked for, granted, used, committed and confirmed.
 const EVENTS_OF_A_LEASE: u32 = 7;
 /// The messages of one lease: Acquire, Grant, Commit and Committed.
 const MESSAGES_OF_A_LEASE: u64 = 4;
 
-fn wants(alloc: Global) -> anyhow::Result<Wants> {
+/// The one want of each lease.
+pub fn wants(alloc: Global) -> anyhow::Result<Wants> {
     let mut wants = Vec::new(alloc);
     wants.push(Want {
         folder: FolderName::parse(alloc, FOLDER)?,

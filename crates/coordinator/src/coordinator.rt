@@ -247,7 +247,7 @@ impl<K: Keeper> Coordinator<K> {
         &self.keeper
     }
 
-    /// Whether a save failed and it has not restarted since.
+    /// Whether a save failed, or the load of a restart, and no restart went well since.
     pub fn is_down(&self) -> bool
         ensures { result ≡ self.now.down }
     {

@@ -1,8 +1,8 @@
 //! Coordinators that start from records. The records were made by a script apart from the program, with the SHA-256 of
 //! Python's hashlib.
-ghost use Rattle.std.specs.Prelude.{◌≡◌, IsTrue};
+ghost use Rattle.std.specs.Prelude.{◌≡◌, ◌≤◌, IsTrue};
 ghost use Rattle.farm_base.specs.declared.limits.TheConstants.{NODES};
-ghost use Rattle.protocol.specs.Lawful.{IsSaid, is_tenure};
+ghost use Rattle.protocol.specs.Lawful.{AreAsked, IsRequest, IsSaid, is_tenure};
 
 use coordinator::{CoordNote, CoordRefusal, Coordinator};
 use farm_base::{
@@ -64,17 +64,34 @@ fn is_tenure(wants: &[Want]) -> bool
     }
 }
 
+/// Whether the numbers of an ask are in their ranges.
+fn is_asked(ask: Ask, wants: &Wants, tenure: bool) -> bool
+    ensures number { IsTrue result → 1 ≤ ask.0 }
+    ensures wants { IsTrue result → AreAsked tenure wants.now }
+{
+    let wants = wants.as_slice();
+    if tenure {
+        1 <= ask.0 && is_tenure(wants)
+    } else {
+        1 <= ask.0
+    }
+}
+
+fn is_request(request: &Request) -> bool
+    ensures { IsTrue result → IsRequest request.now }
+{
+    match request {
+        Request::Acquire { ask, wants, tenure } => is_asked(*ask, wants, *tenure),
+        Request::Hello | Request::Commit { .. } | Request::Release { .. } => true,
+    }
+}
+
 /// Whether the numbers of a message are in their ranges.
 fn is_said(message: &ToCoord) -> bool
     ensures { IsTrue result → IsSaid NODES message.now }
 {
-    let is_request = match &message.request {
-        Request::Acquire { ask, wants, tenure } => {
-            1 <= ask.0 && (!*tenure || is_tenure(wants.as_slice()))
-        }
-        _ => true,
-    };
-    1 <= message.node.0 && message.node.0 <= NODES && 1 <= message.life.0 && is_request
+    let is_number = 1 <= message.node.0 && message.node.0 <= NODES;
+    is_number && 1 <= message.life.0 && is_request(&message.request)
 }
 
 /// What a node is told, in a few words.

@@ -6,7 +6,7 @@ use std::alloc::{AllocError, Global};
 use std::marker::Model;
 use thiserror::Error;
 
-/// Gives each ticket once, in rising order. A block of tickets is saved before its first ticket is used.
+/// Gives each ticket once, in rising order. Tickets come in blocks: who gives them saves the block's ceiling first.
 #[derive(Debug, Drop)]
 pub struct TicketSource {
     position: u64,

@@ -54,12 +54,13 @@ pub fn every_decision_follows()
     ensures { EveryDecisionFollows }
 {}
 
-/// An ask that the rules let be granted is granted in that call.
+/// An ask that the rules let be granted, of a node that isn't retired and of no older life, is granted in that call,
+/// where no parked ask could be granted.
 pub fn a_fitting_ask_is_granted()
     ensures { FittingAskIsGranted }
 {}
 
-/// So is each Acquire that is delivered in a run.
+/// In a run each Acquire that is delivered meets such a ledger.
 pub fn a_fitting_message_is_granted()
     ensures { FittingMessageIsGranted }
 {}
@@ -69,7 +70,8 @@ pub fn no_parked_ask_is_ready()
     ensures { NoParkedAskIsReady }
 {}
 
-/// The record is always what the ledger saves, covers all that was sent, and is all that a restart reads.
+/// While the coordinator is up the record is what the ledger saves, and after a failed save what a ledger of the machine
+/// that it kept saves. It covers all that was sent, and is all that a restart reads.
 pub fn every_record_is_enough()
     ensures saved { EveryFarmIsSaved }
     ensures covers { EveryRecordCovers }

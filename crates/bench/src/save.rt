@@ -1,0 +1,137 @@
+//! Events that save, against copying and hashing the bytes of their record once.
+
+use super::clock::{ROUNDS, seconds_since};
+use super::replay::{FOLDER, wants};
+use coordinator::{CoordNote, Coordinator};
+use farm_base::{Ask, Digest, Items, Life, News, NodeId, Request, Slot, Ticket, ToCoord};
+use saverecord::MemoryKeeper;
+use sha2::Sha256;
+use std::alloc::{AllocError, Global};
+use std::rt::Clock;
+use std::time::Instant;
+
+/// The least times of a round.
+#[derive(Clone, Copy)]
+struct Times {
+    event: f64,
+    hash: f64,
+}
+
+/// The slot of the folder, as a record spells it: its mode, the length of its name and the name, no output that it
+/// begins from, and no instance.
+const SLOT: &[u8; 17] = b"\x02\0\0\0\0\0\0\0\x03apt\0\0\0\0\0";
+
+/// The text of a record with so many versions, all of one slot.
+fn record(alloc: Global, count: u32) -> Result<Vec<u8>, AllocError> {
+    let last = u64::from(count);
+    let mut out = Vec::new(alloc);
+    out.extend_from_slice(b"BKFARM03")?;
+    out.extend_from_slice(&last.to_be_bytes())?;
+    // No old home, no life, no node and no slot that is gone, no lease, and one line.
+    out.extend_from_slice(&[0; 4 + 4 * 8])?;
+    out.extend_from_slice(&1u64.to_be_bytes())?;
+    out.extend_from_slice(SLOT)?;
+    out.extend_from_slice(&last.to_be_bytes())?;
+    for ticket in 1..last + 1 {
+        out.extend_from_slice(&ticket.to_be_bytes())?;
+        out.extend_from_slice(&[7; 32])?;
+    }
+    let digest: [u8; 32] = <Sha256 as sha2::Digest>::digest(out.as_slice());
+    out.extend_from_slice(&digest)?;
+    Ok(out)
+}
+
+/// The coordinator of a record.
+fn started(alloc: Global, bytes: &[u8]) -> anyhow::Result<Coordinator<MemoryKeeper>> {
+    let keeper = MemoryKeeper::new(Vec::from_slice(alloc, bytes)?);
+    match Coordinator::start(alloc, keeper) {
+        Ok(coordinator) => Ok(coordinator),
+        Err(not) => Err(not.refusal.into()),
+    }
+}
+
+/// A node leases the folder.
+fn leased(
+    coordinator: &mut Coordinator<MemoryKeeper>,
+    alloc: Global,
+) -> anyhow::Result<Option<Ticket>> {
+    let wants = wants(alloc)?;
+    let _wants = wants.as_slice();
+    let message = ToCoord {
+        node: NodeId(1),
+        life: Life(1),
+        request: Request::Acquire {
+            ask: Ask(1),
+            wants,
+            tenure: false,
+        },
+    };
+    let handled = coordinator.handle(alloc, &message)?;
+    match &handled.note {
+        CoordNote::Granted(grant) => Ok(Some(grant.ticket)),
+        _ => Ok(None),
+    }
+}
+
+/// What the node leaves in the folder's slot.
+fn news(alloc: Global) -> anyhow::Result<Items<News>> {
+    let mut news = Vec::new(alloc);
+    news.push(News {
+        slot: Slot::parse(alloc, FOLDER)?,
+        digest: Digest([7; 32]),
+    })?;
+    Ok(Items::new(news))
+}
+
+/// The time of the commit of a lease.
+fn committing<R: Clock + AllocGlobal>(
+    rt: &R,
+    coordinator: &mut Coordinator<MemoryKeeper>,
+    ticket: Ticket,
+) -> anyhow::Result<f64> {
+    let message = ToCoord {
+        node: NodeId(1),
+        life: Life(1),
+        request: Request::Commit {
+            ticket,
+            news: news(rt.alloc())?,
+        },
+    };
+    let start = Instant::now(rt)?;
+    let _handled = coordinator.handle(rt.alloc(), &message)?;
+    Ok(seconds_since(rt, start))
+}
+
+/// The time of copying the bytes and hashing them.
+fn hashing<R: Clock + AllocGlobal>(rt: &R, bytes: &[u8]) -> anyhow::Result<f64> {
+    let start = Instant::now(rt)?;
+    let copy = Vec::from_slice(rt.alloc(), bytes)?;
+    let _digest = <Sha256 as sha2::Digest>::digest(copy.as_slice());
+    Ok(seconds_since(rt, start))
+}
+
+/// The times of a commit that saves a record, and of copying and hashing that record, measured in turn.
+fn measured<R: Clock + AllocGlobal>(rt: &R, count: u32) -> anyhow::Result<Times> {
+    let bytes = record(rt.alloc(), count)?;
+    let mut event = f64::INFINITY;
+    let mut hash = f64::INFINITY;
+    for _ in 0..ROUNDS {
+        let mut coordinator = started(rt.alloc(), &bytes)?;
+        if let Some(ticket) = leased(&mut coordinator, rt.alloc())? {
+            event = event.min(committing(rt, &mut coordinator, ticket)?);
+            hash = hash.min(hashing(rt, coordinator.keeper().bytes())?);
+        }
+    }
+    Ok(Times { event, hash })
+}
+
+/// Prints, for records of about 100, 1,000 and 10,000 versions, the time of a commit, which saves the whole record,
+/// over the time of copying and hashing the record's bytes once.
+pub fn measure<R: Print + Clock + AllocGlobal>(rt: &R) -> anyhow::Result<()> {
+    for count in [100, 1_000, 10_000] {
+        let times = measured(rt, count)?;
+        let ratio = times.event / times.hash;
+        println!(rt; "save {count} versions: {ratio:.2} of copying and hashing its record")?;
+    }
+    Ok(())
+}
