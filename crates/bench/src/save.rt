@@ -21,7 +21,7 @@ struct Times {
 /// begins from, and no instance.
 const SLOT: &[u8; 17] = b"\x02\0\0\0\0\0\0\0\x03apt\0\0\0\0\0";
 
-/// The text of a record with so many versions, all of one slot.
+/// The text of a record with `count` versions, all of one slot.
 fn record(alloc: Global, count: u32) -> Result<Vec<u8>, AllocError> {
     let last = u64::from(count);
     let mut out = Vec::new(alloc);

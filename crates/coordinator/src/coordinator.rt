@@ -86,6 +86,7 @@ impl<K: Keeper> Coordinator<K> {
     pub fn start(alloc: Global, mut keeper: K) -> Result<Self, NotStarted<K>>
         ensures started { IfOk result (λ c. TakesUp K.loading (K.kept keeper) keeper c) }
         ensures refused { IfErr result (λ n. Loads K.loading (K.kept keeper) keeper n.keeper (Err n.refusal)) }
+        ensures kept { IfErr result (λ n. K.kept n.keeper ≡ K.kept keeper) }
     {
         match load(&mut keeper, alloc) {
             Ok(ledger) => Ok(Coordinator {
@@ -101,6 +102,7 @@ impl<K: Keeper> Coordinator<K> {
     /// doesn't have.
     pub fn restart(&mut self, alloc: Global) -> Result<(), CoordRefusal>
         ensures answer { Restarts K.loading (K.kept self.old.keeper) self.old self.new result }
+        ensures kept { K.kept self.new.keeper ≡ K.kept self.old.keeper }
         ensures cause { result ≡ Err CoordRefusal.LoadFault → HasFailed (K.failed self.old.keeper) (K.failed self.new.keeper) }
     {
         match load(&mut self.keeper, alloc) {

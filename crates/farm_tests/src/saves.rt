@@ -57,7 +57,7 @@ fn what_is_saved(rt: HostRuntime) -> Result<(), Fail> {
 /// How often a LOCKED folder is granted and given back, and how often the coordinator saves: once for each 64 tickets.
 const BLOCKS: [(u64, u64); 4] = [(1, 1), (64, 1), (65, 2), (129, 3)];
 
-/// A schedule of so many grants of a LOCKED folder, each given back.
+/// A schedule in which a LOCKED folder is granted `count` times, and given back each time.
 fn rounds(alloc: Global, count: u64) -> Result<String, Fail> {
     let mut text = String::from_str(alloc, "nodes 1\n")?;
     let mut message = 0u64;

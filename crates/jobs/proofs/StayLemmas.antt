@@ -11,6 +11,7 @@ use Rattle.std.proofs.lemmas.Option.{slice_get_within}
 use Rattle.farm_base.specs.declared.digest.Digest.{Digest}
 use Rattle.farm_base.specs.declared.digest.Key.{Key}
 use Rattle.lists.proofs.Places.{get-set_same, get-set_other, get_set_cases, some_is, Contains-cases, Contains-head, Contains-tail, take_push}
+use Rattle.lists.proofs.Rising.{tail_rises}
 use Rattle.jobs.specs.declared.entry.Entry.{Entry}
 use Rattle.jobs.specs.declared.entry.Fault.{Fault}
 use Rattle.jobs.specs.declared.entry.Progress.{Progress}
@@ -174,11 +175,6 @@ finished_right es n e at to now out now_is right =
 
 -- ---- the first key is taken
 
-rising_tail : (x : ℕ) (xs : List ℕ) → IsStrictlyIncreasing (x ∷ xs) → IsStrictlyIncreasing xs
-rising_tail x xs rising k within =
-    let h = rising (suc k) (omega arith) in
-    subst (λ m. get_or xs k 0 < get_or (x ∷ xs) m 0) (let two : suc k + 1 ≡ suc (k + 1) = omega arith in two) h
-
 -- the first of rising numbers is the least
 pub least_first : (x : ℕ) (xs : List ℕ) (m : ℕ) → IsStrictlyIncreasing (x ∷ xs) → Contains xs m → x < m
 least_first x xs m rising (k, less, is) =
@@ -268,7 +264,7 @@ module _ (es : List Entry) (l : ReadyList) (h : IsList es l) (all : ListsAll es 
             let less = least_first n (drop (l.taken + 1) l.numbers.items) q (subst IsStrictlyIncreasing listed_is h.rising) behind in
             let r = h.ready q (subst (λ (zs : List ℕ). Contains zs q) (sym listed_is) (Contains-tail n (drop (l.taken + 1) l.numbers.items) q behind)) in
             ready_stays es now grows unique right_taken q r (other q (λ same. omega (arith, less, same)) ∙ r.at);
-        rising = subst IsStrictlyIncreasing (sym rest_is) (rising_tail n (drop (l.taken + 1) l.numbers.items) (subst IsStrictlyIncreasing listed_is h.rising));
+        rising = subst IsStrictlyIncreasing (sym rest_is) (tail_rises n (drop (l.taken + 1) l.numbers.items) (subst IsStrictlyIncreasing listed_is h.rising));
         apart = subst (IsDistinct nat_eq) (sym numbers) h.apart;
         named = subst (λ (ks : List Key). AllZip (IsKeyAt now) m.numbers.items ks) (sym keys) (subst (λ (ns : List ℕ). AllZip (IsKeyAt now) ns l.keys.items) (sym numbers)
             (zip_weaker (IsKeyAt es) (IsKeyAt now) l.numbers.items l.keys.items (λ q key k. subst (λ (xs : List Entry). IsKeyAt xs q key) (sym now_is) (key_moved es n e at Out q key k)) h.named));

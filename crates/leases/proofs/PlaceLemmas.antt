@@ -1,10 +1,10 @@
 -- Places in numbers that rise, and a number that is inserted.
-use Rattle.std.proofs.Common.{◌≡◌, ◌≢◌, ℕ, zero, suc, ◌+◌, ◌<◌, ◌≤◌, List, [], ◌∷◌, false, length, get_or, map, Result, Ok, Err, refl, ◌∙◌, ap, inl, inr, arith}
+use Rattle.std.proofs.Common.{◌≡◌, ◌≢◌, ℕ, zero, suc, ◌+◌, ◌<◌, ◌≤◌, List, [], ◌∷◌, length, get_or, map, Result, Ok, Err, refl, ◌∙◌, ap, inl, inr, arith}
 use Rattle.std.specs.Prelude.{MatchResult}
 use Rattle.std.specs.List.{insert}
 use Rattle.std.specs.List.Sorted.{IsStrictlyIncreasing, IsSortedBy, IsSearchInRange, IsBinarySearchResult}
 use Rattle.std.specs.Ordering.{nat_cmp, is_lt}
-use Rattle.std.specs.declared.cmp.Ordering.TheVariants.{Less, Greater}
+use Rattle.std.specs.declared.cmp.Ordering.TheVariants.{Greater}
 use Rattle.std.proofs.lemmas.Bool.{cases_lt}
 use Rattle.std.proofs.lemmas.Bool.Decides.{nat_tests}
 use Rattle.std.proofs.lemmas.Cmp.{nat_cmp_total}
@@ -12,13 +12,8 @@ use Rattle.std.proofs.lemmas.List.{get_or-map, length-map}
 use Rattle.std.proofs.lemmas.List.Kept.{AllPairs-from_increasing}
 use Rattle.std.proofs.lemmas.List.Sorted.{searchable_from_sorted}
 use Rattle.std.proofs.lemmas.Map.Lookups.{exact_unsigned}
+use Rattle.lists.proofs.Rising.{less-from_cmp, no_less, tail_rises}
 use Rattle.leases.specs.Places.{IsPlace, IsGap}
-
-no_less : (a b : ℕ) → a < b → is_lt (nat_cmp b a) ≡ false
-no_less a b h = grind (arith, nat_tests)
-
-from_less : (a b : ℕ) → nat_cmp a b ≡ Less → a < b
-from_less a b h = grind (arith, nat_tests)
 
 from_greater : (a b : ℕ) → nat_cmp a b ≡ Greater → b < a
 from_greater a b h = grind (arith, nat_tests)
@@ -48,7 +43,7 @@ module _ {X : Type 0} (key : X → ℕ) where
       let len = length-map (x ∷ xs) key in
       record {
         inside = omega arith;
-        below = λ i lt. (let at = get_or-map key (x ∷ xs) i x 0 (omega arith) in rw at (from_less _ _ (p.0 i x (omega arith) lt)));
+        below = λ i lt. (let at = get_or-map key (x ∷ xs) i x 0 (omega arith) in rw at (less-from_cmp _ _ (p.0 i x (omega arith) lt)));
         above = λ i low lt. (let at = get_or-map key (x ∷ xs) i x 0 (omega arith) in rw at (from_greater _ _ (p.1 i x low (omega arith))));
       }
 
@@ -62,9 +57,6 @@ map-insert f (y ∷ xs) (suc k) x = ap (λ zs. f y ∷ zs) (map-insert f xs k x)
 cons_rises : (m : ℕ) (ns : List ℕ) → (0 < length ns → m < get_or ns 0 0) → IsStrictlyIncreasing ns → IsStrictlyIncreasing (m ∷ ns)
 cons_rises m ns below up zero inside = below (omega arith)
 cons_rises m ns below up (suc k) inside = (let e : suc k + 1 ≡ suc (k + 1) = omega arith in rw e (up k (omega arith)))
-
-tail_rises : (m : ℕ) (ns : List ℕ) → IsStrictlyIncreasing (m ∷ ns) → IsStrictlyIncreasing ns
-tail_rises m ns up k inside = (let e : suc k + 1 ≡ suc (k + 1) = omega arith in rw e at (up (suc k) (omega arith)))
 
 tail_gap : (n m : ℕ) (ns : List ℕ) (k : ℕ) → IsGap n (m ∷ ns) (suc k) → IsGap n ns k
 tail_gap n m ns k gap =

@@ -1,11 +1,12 @@
 -- Lists that rise.
-use Rattle.std.proofs.Common.{◌≡◌, ℕ, zero, suc, ◌+◌, ◌<◌, ◌⊎◌, inl, inr, Bool, true, List, [], ◌∷◌, ◌++◌, map, length, get_or, Option, Some, None, Ordering, refl, sym, ap, ◌∙◌, subst, arith}
+use Rattle.std.proofs.Common.{◌≡◌, ℕ, zero, suc, ◌+◌, ◌<◌, ◌⊎◌, inl, inr, Bool, true, List, [], ◌∷◌, ◌++◌, map, length, get_or, Option, Some, None, Ordering, false, refl, sym, ap, ◌∙◌, subst, arith}
 use Rattle.std.specs.Cmp.{IsTotalOrder}
 use Rattle.std.specs.List.{AllByRecursion, Contains}
 use Rattle.std.specs.List.Sorted.{IsStrictlyIncreasing, IsStrictlySortedBy}
 use Rattle.std.specs.Ordering.{is_lt, nat_cmp, ordering_reverse}
 use Rattle.std.specs.declared.cmp.Ordering.TheVariants.{Less, Equal, Greater}
 use Rattle.std.proofs.lemmas.Bool.{cases_lt}
+use Rattle.std.proofs.lemmas.Bool.Decides.{nat_tests}
 use Rattle.std.proofs.lemmas.List.{get_or_append_left, get_or_push, length_push}
 use Rattle.std.proofs.lemmas.List.Elements.{Contains-get_or}
 use Rattle.std.proofs.lemmas.Map.Keys.{IsStrictlyIncreasing-from_sorted}
@@ -19,6 +20,14 @@ less-from_is_lt Greater h = absurd cc
 pub less-from_cmp : (a b : ℕ) → nat_cmp a b ≡ Less → a < b
 unfolding IsStrictlySortedBy
 less-from_cmp a b h = (IsStrictlyIncreasing-from_sorted (a ∷ b ∷ []) ((h, tt), ((tt, tt)))) 0 (omega arith)
+
+-- a greater number is not below a lower one
+pub no_less : (a b : ℕ) → a < b → is_lt (nat_cmp b a) ≡ false
+no_less a b h = grind (arith, nat_tests)
+
+-- what stands behind the first of numbers that rise
+pub tail_rises : (x : ℕ) (xs : List ℕ) → IsStrictlyIncreasing (x ∷ xs) → IsStrictlyIncreasing xs
+tail_rises x xs up k inside = (let e : suc k + 1 ≡ suc (k + 1) = omega arith in rw e at (up (suc k) (omega arith)))
 
 -- numbers that rise, with a greater one at their end
 pub rising_push : (xs : List ℕ) (y : ℕ) → IsStrictlyIncreasing xs → ((x : ℕ) → Contains xs x → x < y) → IsStrictlyIncreasing (xs ++ y ∷ [])

@@ -86,7 +86,7 @@ pub enum NodeRefusal {
     NoSuchTicket,
     #[error("a base content is not stored here")]
     ContentsMissing,
-    #[error("the news are not just for the writable slots")]
+    #[error("the news are not for exactly the writable slots")]
     WrongNews,
     #[error("no execution runs under the ticket")]
     NotRunning,

@@ -7,7 +7,6 @@ use Rattle.std.specs.List.Sorted.{IsStrictlyIncreasing, IsSortedBy, IsSearchInRa
 use Rattle.std.specs.Ordering.{nat_cmp, is_lt}
 use Rattle.std.specs.declared.cmp.Ordering.TheVariants.{Less, Equal, Greater}
 use Rattle.std.proofs.lemmas.Bool.{cases_Bool, ne_eqb}
-use Rattle.std.proofs.lemmas.Bool.Decides.{nat_tests}
 use borrow.Author.Tests.{ltb-true, ltb-false}
 use Rattle.std.proofs.lemmas.Cmp.{nat_cmp_total, tied_itself}
 use Rattle.std.proofs.lemmas.List.{get_or-map, length-map, map-append, get_or_append_left, get_or-append_right}
@@ -16,6 +15,7 @@ use Rattle.std.proofs.lemmas.List.Sorted.{searchable_from_sorted}
 use Rattle.std.proofs.lemmas.Map.Lookups.{exact_unsigned}
 use Rattle.farm_base.specs.declared.message.LineVersion.{LineVersion}
 use Rattle.farm_base.specs.declared.number.Ticket.{Ticket}
+use Rattle.lists.proofs.Rising.{no_less}
 use Rattle.versions.specs.Line.{IsLine, tickets, ticket_in, number_in}
 
 -- the version has the ticket
@@ -82,9 +82,6 @@ pub number_at_place : (t : Ticket) (line : List LineVersion) (k : ℕ) → IsLin
 number_at_place t line k up inside at =
     let same : 1 + k ≡ k + 1 = omega arith in
     number_found t line k 1 inside at (before_differs t line k up inside at) ∙ ap Some same
-
-no_less : (a b : ℕ) → a < b → is_lt (nat_cmp b a) ≡ false
-no_less a b h = grind (arith, nat_tests)
 
 -- a line is in the order of its tickets
 sorted : (line : List LineVersion) → IsLine line → IsSortedBy (λ a b. is_lt (nat_cmp (ticket_of a) (ticket_of b))) line
