@@ -4,6 +4,7 @@ ghost use Rattle.std.specs.Prelude.{◌≡◌, ◌≤◌, IsTrue};
 ghost use Rattle.farm_base.specs.declared.limits.TheConstants.{NODES};
 ghost use Rattle.protocol.specs.Lawful.{AreAsked, IsRequest, IsSaid, is_tenure};
 
+use super::records::ALL_PARTS;
 use coordinator::{CoordNote, CoordRefusal, Coordinator};
 use farm_base::{
     Ask, FolderName, FromCoord, Life, Mode, NODES, NodeId, Request, ToCoord, Want, Wants,
@@ -182,16 +183,38 @@ const DAMAGED: [&str; 3] = [
     "424b4641524d30330000000000000040000000000000000000000001000000010000000000000000000000000000000000000000000000000000000000000000000000000000000038c02a939ef2bd37a7e8f214d960d102d16d6562fb329e4b2327437fe60fe877",
 ];
 
+/// Whether a coordinator refuses these bytes as no record, and hands them back unchanged.
+fn is_refused(alloc: Global, bytes: &[u8]) -> Result<bool, AllocError> {
+    let kept = Vec::from_slice(alloc, bytes)?;
+    match Coordinator::start(alloc, MemoryKeeper::new(kept)) {
+        Ok(_) => Ok(false),
+        Err(refused) => {
+            let is_bad = refused.refusal == CoordRefusal::BadRecord;
+            Ok(is_bad && refused.keeper.bytes() == bytes)
+        }
+    }
+}
+
 #[test]
 fn damaged_records(rt: HostRuntime) -> Result<(), Fail> {
     for spelled in &DAMAGED {
         let bytes = hex::decode(rt.alloc(), *spelled)?;
-        let Err(refused) = Coordinator::start(rt.alloc(), MemoryKeeper::new(bytes)) else {
-            return Err("started".into());
-        };
-        assert_eq!(rt; refused.refusal, CoordRefusal::BadRecord);
-        let kept = hex::encode(rt.alloc(), refused.keeper.bytes())?;
-        assert_eq!(rt; kept.as_str(), *spelled);
+        assert!(rt; is_refused(rt.alloc(), &bytes)?);
+    }
+    Ok(())
+}
+
+/// A record cut at each of its bytes, and with each of them changed.
+#[test]
+fn each_byte_of_a_record(rt: HostRuntime) -> Result<(), Fail> {
+    let mut bytes = hex::decode(rt.alloc(), ALL_PARTS)?;
+    assert!(rt; !is_refused(rt.alloc(), &bytes)?);
+    for place in 0..bytes.len() {
+        // No bytes at all are the record of a farm where nothing happened.
+        assert!(rt; place == 0 || is_refused(rt.alloc(), &bytes[..place])?);
+        bytes[place] ^= 1;
+        assert!(rt; is_refused(rt.alloc(), &bytes)?);
+        bytes[place] ^= 1;
     }
     Ok(())
 }

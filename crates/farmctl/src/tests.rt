@@ -1,9 +1,10 @@
-use super::act::{DONE, REFUSED, USAGE, act, run};
+use super::act::{DONE, FAULT, REFUSED, USAGE, act, run};
 use super::command::Command;
 use farm_base::Digest;
 use protowire::put_message;
 use sha2::Sha256;
 use std::alloc::Global;
+use std::io::Cursor;
 use std::test::Fail;
 
 /// An entry with no op, and the last entry, whose input is that one's output 0.
@@ -161,6 +162,21 @@ fn words_of_the_program(rt: HostRuntime) -> Result<(), Fail> {
         assert_eq!(rt; status, *wanted);
         out.extend_from_slice(err.as_slice())?;
         assert!(rt; out.starts_with(text.as_bytes()));
+    }
+    Ok(())
+}
+
+/// An answer and a refusal, to writers that take four bytes.
+#[test]
+fn what_cannot_be_written(rt: HostRuntime) -> Result<(), Fail> {
+    for schedule in &["nodes 1; nudge", "nodes 0"] {
+        let bytes = lines_of(rt.alloc(), *schedule)?;
+        let mut files = Vec::new(rt.alloc());
+        files.push((String::from_str(rt.alloc(), "F")?, Some(bytes)))?;
+        let mut out = Cursor::new([0u8; 4]);
+        let mut err = Cursor::new([0u8; 4]);
+        let status = act(rt.alloc(), Command::Replay, files, &mut out, &mut err);
+        assert_eq!(rt; status, FAULT);
     }
     Ok(())
 }
