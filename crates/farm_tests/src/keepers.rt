@@ -1,7 +1,8 @@
-//! Saves that fail where they were told to, worked out by hand.
+//! Keepers in memory, whose saves fail where they were told to, and in files, worked out by hand.
 
-use saverecord::{Keeper, Kept, MemoryKeeper};
+use saverecord::{FileKeeper, Keeper, KeeperRefusal, Kept, MemoryKeeper};
 use std::alloc::Global;
+use std::fs;
 use std::test::Fail;
 
 /// What the keeper is told of the next save, the bytes that are saved, whether that goes well, what is loaded after it,
@@ -37,5 +38,27 @@ fn saves_that_fail(rt: HostRuntime) -> Result<(), Fail> {
         assert_eq!(rt; keeper.failures(), *failures);
     }
     assert_eq!(rt; keeper.saves(), 2);
+    Ok(())
+}
+
+/// A file that is not there, that was saved, that another hand changed, and that can't be made.
+#[test]
+fn records_in_files(rt: HostRuntime) -> Result<(), Fail> {
+    let path = "kept.record";
+    let mut first = FileKeeper::open(&rt, rt.alloc(), path)?;
+    assert!(rt; first.bytes().is_empty());
+    let (ok, loaded) = saved(rt.alloc(), &mut first, b"one")?;
+    assert!(rt; ok);
+    assert_eq!(rt; loaded.as_slice(), b"one".as_slice());
+    let mut second = FileKeeper::open(&rt, rt.alloc(), path)?;
+    assert_eq!(rt; second.bytes(), b"one".as_slice());
+    fs::write(&rt, path, b"two".as_slice())?;
+    assert!(rt; matches!(second.load(rt.alloc()), Err(KeeperRefusal::Fault)));
+    assert_eq!(rt; second.failures(), 1);
+    fs::remove_file(&rt, path)?;
+    let mut nowhere = FileKeeper::open(&rt, rt.alloc(), "nowhere/kept.record")?;
+    let (ok, loaded) = saved(rt.alloc(), &mut nowhere, b"one")?;
+    assert!(rt; !ok && loaded.is_empty());
+    assert_eq!(rt; nowhere.failures(), 1);
     Ok(())
 }

@@ -9,9 +9,10 @@ use coordinator::{CoordNote, CoordRefusal, Coordinator};
 use farm_base::{
     Ask, FolderName, FromCoord, Life, Mode, NODES, NodeId, Request, ToCoord, Want, Wants,
 };
-use saverecord::MemoryKeeper;
+use saverecord::{FileKeeper, Keeper, MemoryKeeper};
 use sha2::Sha256;
 use std::alloc::{AllocError, Global};
+use std::fs;
 use std::test::Fail;
 
 /// Records in hexadecimal; the messages that a coordinator of each hears, by node, life and the folder that is asked for,
@@ -117,9 +118,13 @@ fn in_words(alloc: Global, message: &FromCoord) -> Result<String, AllocError> {
     }
 }
 
-/// What a coordinator of this record answers to each message.
-fn answers(alloc: Global, record: Vec<u8>, messages: &[(u32, u64, &str)]) -> Result<String, Fail> {
-    let Ok(mut coordinator) = Coordinator::start(alloc, MemoryKeeper::new(record)) else {
+/// What a coordinator over this keeper answers to each message.
+fn answers<K: Keeper>(
+    alloc: Global,
+    keeper: K,
+    messages: &[(u32, u64, &str)],
+) -> Result<String, Fail> {
+    let Ok(mut coordinator) = Coordinator::start(alloc, keeper) else {
         return Err("not started".into());
     };
     let mut text = String::new(alloc);
@@ -144,9 +149,22 @@ fn answers(alloc: Global, record: Vec<u8>, messages: &[(u32, u64, &str)]) -> Res
 fn answers_after_a_start(rt: HostRuntime) -> Result<(), Fail> {
     for (spelled, messages, wanted) in &STARTS {
         let record = hex::decode(rt.alloc(), *spelled)?;
-        let text = answers(rt.alloc(), record, *messages)?;
+        let text = answers(rt.alloc(), MemoryKeeper::new(record), *messages)?;
         assert_eq!(rt; text.as_str(), *wanted);
     }
+    Ok(())
+}
+
+/// Two coordinators, one after the other, over one file. The second gives none of the first one's block of tickets.
+#[test]
+fn answers_over_a_file(rt: HostRuntime) -> Result<(), Fail> {
+    let path = "farm.record";
+    for wanted in ["granted 1 locked:a to 1; ", "granted 65 locked:a to 1; "] {
+        let keeper = FileKeeper::open(&rt, rt.alloc(), path)?;
+        let text = answers(rt.alloc(), keeper, &[(1, 1, "locked:a")])?;
+        assert_eq!(rt; text.as_str(), wanted);
+    }
+    fs::remove_file(&rt, path)?;
     Ok(())
 }
 
@@ -170,7 +188,7 @@ fn nearly_spent(alloc: Global) -> Result<Vec<u8>, AllocError> {
 fn the_instances_of_a_folder(rt: HostRuntime) -> Result<(), Fail> {
     let record = nearly_spent(rt.alloc())?;
     let asks = [(1, 1, "private:npm"), (2, 1, "private:npm")];
-    let text = answers(rt.alloc(), record, &asks)?;
+    let text = answers(rt.alloc(), MemoryKeeper::new(record), &asks)?;
     let wanted = "granted 1 private:npm#4096 to 1; denied InstancesSpent to 2; ";
     assert_eq!(rt; text.as_str(), wanted);
     Ok(())

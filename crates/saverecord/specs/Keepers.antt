@@ -1,9 +1,9 @@
 -- Who keeps the bytes of a record, over saves that may fail.
-use Rattle.std.specs.Prelude.{◌≡◌, ◌≢◌, ◌⊎◌, ℕ, ◌+◌, ◌<◌, Bool, not, is_some, List, Option, Some, None, min}
+use Rattle.std.specs.Prelude.{◌≡◌, ◌≢◌, ◌⊎◌, ℕ, ◌+◌, ◌<◌, Bool, true, false, not, is_some, List, Option, Some, None, min}
 use Rattle.protocol.specs.declared.answer.Kept.{Kept}
 use Rattle.protocol.specs.declared.answer.Kept.TheVariants.{Old, New}
 use Rattle.saverecord.specs.declared.refusal.KeeperRefusal.{KeeperRefusal}
-use Rattle.saverecord.specs.declared.refusal.KeeperRefusal.TheVariants.{Fault}
+use Rattle.saverecord.specs.declared.refusal.KeeperRefusal.TheVariants.{Fault, OutOfMemory}
 
 -- the count of a device's failures rose, or was at its greatest value
 abbrev pub HasFailed : ℕ → ℕ → Type 0
@@ -42,3 +42,21 @@ pub record MemorySaves (m : Memory) (bytes : List ℕ) (ok : Bool) (n : Memory) 
 pub record MemoryLoads (m : Memory) (refusal : Option KeeperRefusal) (n : Memory) : Type 0 where
   pub never : refusal ≢ Some Fault
   pub same : n ≡ m
+
+-- a keeper in a file, as contracts see it
+pub record Filed : Type 0 where
+  -- what the file is known to hold
+  pub bytes : List ℕ
+  -- the number of saves and loads that failed
+  pub failures : ℕ
+
+-- a save over a file: if it fails the old or the new bytes are kept, and the failure is counted
+abbrev pub FileSaves : Filed → List ℕ → Bool → Filed → Type 0
+FileSaves f bytes true g = g ≡ record f { bytes = bytes }
+FileSaves f bytes false g = ((g.bytes ≡ f.bytes) ⊎ (g.bytes ≡ bytes)) × (g.failures ≡ counted_up f.failures)
+
+-- a load over a file: a fault is counted, and else it stays as it was
+abbrev pub FileLoads : Filed → Option KeeperRefusal → Filed → Type 0
+FileLoads f (Some Fault) g = g ≡ record f { failures = counted_up f.failures }
+FileLoads f (Some OutOfMemory) g = g ≡ f
+FileLoads f None g = g ≡ f

@@ -3,6 +3,7 @@
 
 mod entries;
 mod entry;
+mod file_keeper;
 mod keeper;
 mod laws;
 mod layout;
@@ -15,6 +16,7 @@ mod slot;
 mod writing;
 
 pub use farm_base::NodeLife;
+pub use file_keeper::FileKeeper;
 pub use keeper::{Keeper, MemoryKeeper};
 pub use laws::{what_is_kept_is_a_record, what_is_read_is_lawful};
 pub use protocol::Kept;
