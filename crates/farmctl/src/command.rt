@@ -108,9 +108,24 @@ fn replay_command<'a>(alloc: Global) -> Result<clap::Command<'a>, AllocError> {
     )
 }
 
+/// What the program's help says below its commands.
+const NOTES: &str = "Without words it does `replay -`.
+
+Status:
+  0  done
+  1  an input was refused, or can't be read
+  2  the words are no command
+  3  memory ran out
+  4  the answer could not be written
+
+Example: farmctl replay examples/fenced.schedule";
+
 fn farmctl<'a>(alloc: Global) -> Result<clap::Command<'a>, AllocError> {
     clap::Command::new(alloc, "farmctl")
+        .bin_name("farmctl")?
+        .version("0.1.0")
         .about("The solving core of a container build farm")
+        .after_help(NOTES)
         .no_binary_name(true)
         .subcommand_required(true)
         .subcommand(check_command(alloc)?)?

@@ -138,7 +138,7 @@ fn a_definition_cut_short(rt: HostRuntime) -> Result<(), Fail> {
 }
 
 /// Words, the status of the program, and the beginning of what it prints.
-const WORDS: [(&[&str], u8, &str); 4] = [
+const WORDS: [(&[&str], u8, &str); 6] = [
     (
         &["check", "nowhere.llb"],
         REFUSED,
@@ -147,6 +147,12 @@ const WORDS: [(&[&str], u8, &str); 4] = [
     (&["check"], USAGE, "error: "),
     (&["solve", "F"], USAGE, "error: "),
     (&["--help"], DONE, "The solving core"),
+    (&["--version"], DONE, "farmctl 0.1.0\n"),
+    (
+        &["replay", "F", "G"],
+        USAGE,
+        "error: unexpected argument 'G' found\n\nUsage: farmctl replay <FILE>\n",
+    ),
 ];
 
 #[test]
