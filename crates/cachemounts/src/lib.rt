@@ -2,11 +2,13 @@
 #![tactic(auto)]
 
 mod folder;
+mod keyed;
 mod law;
 mod mounted;
 mod viewing;
 mod wanting;
 
+pub use keyed::{views_of, wants_of};
 pub use law::wants_are_determined;
 pub use viewing::views;
 pub use wanting::{needs_home, wants};

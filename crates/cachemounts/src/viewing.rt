@@ -30,11 +30,11 @@ pub fn views(
     ensures { IfOk result (λ views. AreViews graph.now keys.now vertex wants.now views.items) }
 {
     let mounted = Mounted::of(alloc, graph, vertex, keys)?;
-    views_of(alloc, mounted.outputs(), mounted.mounts(), wants.as_slice())
+    views_of_mounts(alloc, mounted.outputs(), mounted.mounts(), wants.as_slice())
 }
 
 /// The views of some mounts of a vertex. Its inputs take these outputs.
-fn views_of(
+fn views_of_mounts(
     alloc: Global,
     outputs: &[Base],
     mounts: &[Mount],

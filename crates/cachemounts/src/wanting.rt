@@ -29,7 +29,7 @@ pub fn wants(alloc: Global, graph: &Graph, vertex: usize, keys: &[Key]) -> Resul
     ensures { IfOk result (AreWants graph.now keys.now vertex) }
 {
     let mounted = Mounted::of(alloc, graph, vertex, keys)?;
-    wants_of(alloc, mounted.outputs(), mounted.mounts())
+    wants_of_mounts(alloc, mounted.outputs(), mounted.mounts())
 }
 
 /// Whether one of the wants is SHARED, so that they need a home.
@@ -56,7 +56,7 @@ pub(crate) fn place_of(wants: &[Want], folder: &FolderName) -> Option<usize>
 }
 
 /// The wants of some mounts of a vertex whose inputs take these outputs.
-fn wants_of(alloc: Global, outputs: &[Base], mounts: &[Mount]) -> Result<Wants, AllocError>
+fn wants_of_mounts(alloc: Global, outputs: &[Base], mounts: &[Mount]) -> Result<Wants, AllocError>
     requires checked { All (IsChecked (length outputs.now)) mounts.now }
     requires few { cache_count mounts.now ≤ 16 }
     ensures { IfOk result (AreWantsOf outputs.now mounts.now) }

@@ -2,6 +2,7 @@ mod AddLemmas
 mod AnswerLemmas
 mod ListLemmas
 mod MarkLemmas
+mod NeedLemmas
 mod ProgressLemmas
 mod ReachLemmas
 mod ReadyLemmas

@@ -3,6 +3,7 @@ pub mod Failing
 pub mod History
 pub mod Kept
 pub mod Marks
+pub mod Needs
 pub mod Reaching
 pub mod ReadyLists
 pub mod Spreading

@@ -1,4 +1,4 @@
-ghost use Rattle.std.specs.Prelude.{◌≡◌, ◌++◌, ◌∷◌, [], length, Some, None, slice_get, OnOk, OnErr, IfErr, IfNone, IfOk, IfSome};
+ghost use Rattle.std.specs.Prelude.{◌≡◌, ◌≤◌, ◌++◌, ◌∷◌, ℕ, [], length, Some, None, slice_get, OnOk, OnErr, IfErr, IfNone, IfOk, IfSome, IsSomeAnd};
 ghost use Rattle.jobs.specs.declared.entry.Entry.{Entry as SpecEntry};
 ghost use Rattle.jobs.specs.declared.entry.Progress.{Progress as SpecProgress};
 ghost use Rattle.jobs.specs.declared.entry.Progress.TheVariants.{Out, Done, Failed};
@@ -8,12 +8,14 @@ ghost use Rattle.solverkeys.specs.GraphKeys.{AreKeys};
 ghost use Rattle.jobs.specs.Adding.{AreAdded};
 ghost use Rattle.jobs.specs.Failing.{IsSubmitted};
 ghost use Rattle.jobs.specs.History.{HasNoReady, IsAnswer, Moves, TakesFirst};
+ghost use Rattle.jobs.specs.Needs.{NeedsOutput};
 ghost use Rattle.jobs.specs.ReadyLists.{AreReadyKeys};
 
 use super::adding::extend;
 use super::answer::{Answer, JobId, JobsRefusal};
 use super::entry::{Fault, Progress, Task};
 use super::marking::answer_of;
+use super::needing::last_needed;
 use super::reaching::reached;
 use super::ready::task_of;
 use super::ready_list::ReadyList;
@@ -21,6 +23,7 @@ use super::settling::finish;
 use super::table::Table;
 use super::users::Users;
 use farm_base::{Digest, Items, Key};
+use solverkeys::Keyed;
 use std::alloc::Global;
 use std::marker::Model;
 use vertices::Graph;
@@ -98,6 +101,19 @@ impl Jobs {
         }
     }
 
+    /// Adds a job, and the keys that its result depends on, as `submit` does. The keys are at hand, so
+    /// there is nothing to show for them. It is refused only where memory runs out.
+    pub fn submit_keyed(&mut self, alloc: Global, keyed: &Keyed) -> Result<JobId, JobsRefusal>
+        ensures job { IfOk result (λ job. job.0 ≡ length self.old.jobs) }
+        ensures jobs { OnOk result ((key : SpecKey) → slice_get keyed.now.keys keyed.now.graph.result.0 ≡ Some key
+            → self.new.jobs ≡ self.old.jobs ++ (key, keyed.now.graph.result.1) ∷ []) }
+        ensures keys { OnOk result (AreAdded keyed.now.graph keyed.now.keys self.old.keys self.new.keys) }
+        ensures refusal { IfErr result (λ refused. refused ≡ refusal.OutOfMemory) }
+        ensures err { OnErr result (self.new ≡ self.old) }
+    {
+        self.submit(alloc, keyed.graph(), keyed.keys())
+    }
+
     /// Hands out the first ready key, by order of submission and then by place. A key whose hand-out
     /// was refused stays ready.
     pub fn take_ready(&mut self, alloc: Global) -> Result<Option<Task>, JobsRefusal>
@@ -166,5 +182,15 @@ impl Jobs {
             Some(wanted) => answer_of(&self.table, self.marks.as_slice(), wanted),
             None => Err(JobsRefusal::NoSuchJob),
         }
+    }
+    /// The greatest index of an output of this key that an input of a submitted key or the result of a
+    /// job names, from 0; none where no output of it is named. A key that is done with more outputs than
+    /// that leaves none of them missing. It looks at the users of the key and at each job, and takes no
+    /// memory.
+    pub fn last_output_needed(&self, key: &Key) -> Option<u64>
+        ensures needed { IfSome result (NeedsOutput self.now key.now) }
+        ensures greatest { (index : ℕ) → NeedsOutput self.now key.now index → IsSomeAnd result (λ last. index ≤ last) }
+    {
+        last_needed(&self.table, &self.users, self.results.as_slice(), key)
     }
 }

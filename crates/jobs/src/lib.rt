@@ -6,6 +6,7 @@ mod answer;
 mod entry;
 mod jobs;
 mod marking;
+mod needing;
 mod reaching;
 mod ready;
 mod ready_list;

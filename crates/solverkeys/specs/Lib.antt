@@ -1,3 +1,4 @@
 pub mod GraphKeys
+pub mod Keyed
 pub mod Keys
 pub mod Shapes

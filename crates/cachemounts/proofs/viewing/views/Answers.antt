@@ -8,13 +8,13 @@ use Rattle.cachemounts.specs.Checked.{IsChecked}
 use Rattle.cachemounts.proofs.MountLemmas.{one_has}
 use Rattle.cachemounts.proofs.viewing.views.Goals as goal
 
-pub views_of-requires-clause-checked : goal.views_of-requires-clause-checked
-views_of-requires-clause-checked c =
+pub views_of_mounts-requires-clause-checked : goal.views_of_mounts-requires-clause-checked
+views_of_mounts-requires-clause-checked c =
     subst (λ (os : List Base). All (IsChecked (length os)) c.mounts.result.now) (sym c.outputs.ensures)
     (subst (All (IsChecked (length c.in_ok-mounted.mounted.outputs.items))) (sym c.mounts.ensures) c.in_ok-mounted.ensures.checked)
 
-pub views_of-requires-clause-wanted : goal.views_of-requires-clause-wanted
-views_of-requires-clause-wanted c = λ folder h.
+pub views_of_mounts-requires-clause-wanted : goal.views_of_mounts-requires-clause-wanted
+views_of_mounts-requires-clause-wanted c = λ folder h.
     let given = c.requires.wants in
     let own = c.in_ok-mounted.ensures.has in
     let outputs = c.in_ok-mounted.mounted.outputs.items in

@@ -4,7 +4,7 @@ use Rattle.farm_base.specs.Folders.{folder_eq}
 use Rattle.farm_base.specs.Wanted.{folders}
 use Rattle.vertices.specs.OpChecks.{cache_count}
 use Rattle.cachemounts.specs.CacheWants.{AreWantsOf}
-use Rattle.cachemounts.proofs.wanting.wants_of.Given as goal
+use Rattle.cachemounts.proofs.wanting.wants_of_mounts.Given as goal
 
 -- the wants of the mounts so far, no folder twice, and no more than there are cache mounts
 abbrev pub invariant-loop-mount : goal.invariant-loop-mount

@@ -7,8 +7,8 @@ use Rattle.cachemounts.specs.CacheFolders.{HasFolder}
 use Rattle.cachemounts.specs.CacheViews.{AreViewsOf}
 use Rattle.cachemounts.specs.Checked.{IsChecked}
 use Rattle.cachemounts.proofs.ViewLemmas.{views_same, views_more}
-use Rattle.cachemounts.proofs.viewing.views_of.Goals as goal
-use Rattle.cachemounts.proofs.viewing.views_of.Goals.{in-Some+in-Some-place_of+in_ok-push, in_default}
+use Rattle.cachemounts.proofs.viewing.views_of_mounts.Goals as goal
+use Rattle.cachemounts.proofs.viewing.views_of_mounts.Goals.{in-Some+in-Some-place_of+in_ok-push, in_default}
 
 pub folder_of-requires : goal.folder_of-requires
 folder_of-requires c =

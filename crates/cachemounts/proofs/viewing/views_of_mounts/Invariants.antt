@@ -1,6 +1,6 @@
 use Rattle.std.proofs.Common.{take}
 use Rattle.cachemounts.specs.CacheViews.{AreViewsOf}
-use Rattle.cachemounts.proofs.viewing.views_of.Given as goal
+use Rattle.cachemounts.proofs.viewing.views_of_mounts.Given as goal
 
 -- the views of the mounts so far
 abbrev pub invariant-loop-place : goal.invariant-loop-place

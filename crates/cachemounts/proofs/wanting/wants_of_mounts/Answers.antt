@@ -10,7 +10,7 @@ use Rattle.opsproto.specs.declared.exec.Mount.{Mount}
 use Rattle.cachemounts.specs.CacheWants.{AreWantsOf}
 use Rattle.cachemounts.specs.Checked.{IsChecked}
 use Rattle.cachemounts.proofs.AddingLemmas.{wants_none, wants_more, wants_moved, count_more}
-use Rattle.cachemounts.proofs.wanting.wants_of.Goals as goal
+use Rattle.cachemounts.proofs.wanting.wants_of_mounts.Goals as goal
 
 pub loop-mount-init : goal.loop-mount-init
 unfolding IsDistinct
