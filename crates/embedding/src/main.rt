@@ -2,9 +2,9 @@
 //! farm of one coordinator and two nodes over a queue, and a job to its answer.
 #![tactic(auto)]
 
-mod farm;
-mod folders;
-mod jobs;
+mod mounts;
+mod queue;
+mod solving;
 
 /// A definition in hexadecimal: an op without inputs, and an exec op on its output 0 that has a LOCKED cache mount.
 const DEFINITION: &str =
@@ -13,12 +13,12 @@ const DEFINITION: &str =
 fn main(rt: HostRuntime) -> anyhow::Result<()> {
     let alloc = rt.alloc();
     let bytes = hex::decode(alloc, DEFINITION)?;
-    let folders = folders::folders(alloc, bytes)?;
+    let folders = mounts::folders(alloc, bytes)?;
     print!(rt; "{folders}")?;
-    let versions = farm::two_builds(alloc)?;
+    let versions = queue::two_builds(alloc)?;
     println!(rt; "locked:apt has {versions} versions")?;
     let bytes = hex::decode(alloc, DEFINITION)?;
-    let answer = jobs::answer(alloc, bytes)?;
+    let answer = solving::answer(alloc, bytes)?;
     println!(rt; "{answer}")?;
     Ok(())
 }

@@ -1,19 +1,16 @@
 //! Which folders a definition uses.
-ghost use Rattle.solverkeys.specs.GraphKeys.{AreKeys};
 
-use cachemounts::{needs_home, views, wants};
-use farm_base::Key;
+use cachemounts::{needs_home, views_of};
 use opsproto::read_definition;
+use solverkeys::Keyed;
 use std::alloc::{AllocError, Global};
-use vertices::{Graph, load};
+use vertices::load;
 
-/// For each vertex its wants, `home` if they need one, and the place of the want that each cache mount sees.
-fn shown(alloc: Global, graph: &Graph, keys: &[Key]) -> Result<String, AllocError>
-    requires { AreKeys graph.now keys.now }
-{
+/// For each vertex its wants, whether they need a home, and the place of the want that each cache mount sees.
+fn shown(alloc: Global, keyed: &Keyed) -> Result<String, AllocError> {
     let mut text = String::new(alloc);
-    for number in 0..graph.len() {
-        let wants = wants(alloc, graph, number, keys)?;
+    for number in 0..keyed.graph().len() {
+        let (wants, views) = views_of(alloc, keyed, number)?;
         for want in wants.as_slice() {
             let folder = want.folder.to_text(alloc)?;
             let writable = want.writable;
@@ -22,15 +19,16 @@ fn shown(alloc: Global, graph: &Graph, keys: &[Key]) -> Result<String, AllocErro
         if needs_home(&wants) {
             write!(text, "vertex {number} needs a home\n")?;
         }
-        for (mount, want) in &views(alloc, graph, number, keys, &wants)? {
+        for (mount, want) in &views {
             write!(text, "vertex {number}: mount {mount} sees want {want}\n")?;
         }
     }
     Ok(text)
 }
 
+/// The folders of the definition that these bytes spell.
 pub fn folders(alloc: Global, bytes: Vec<u8>) -> anyhow::Result<String> {
     let graph = load(alloc, read_definition(alloc, bytes)?)?;
-    let keys = solverkeys::keys(alloc, &graph)?;
-    Ok(shown(alloc, &graph, keys.as_slice())?)
+    let keyed = Keyed::of(alloc, graph)?;
+    Ok(shown(alloc, &keyed)?)
 }
