@@ -1,5 +1,6 @@
 mod AddLemmas
 mod AnswerLemmas
+mod CauseLemmas
 mod ListLemmas
 mod MarkLemmas
 mod NeedLemmas

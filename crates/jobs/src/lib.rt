@@ -3,6 +3,7 @@
 
 mod adding;
 mod answer;
+mod blaming;
 mod entry;
 mod jobs;
 mod marking;
@@ -14,6 +15,6 @@ mod settling;
 mod table;
 mod users;
 
-pub use answer::{Answer, JobId, JobsRefusal};
+pub use answer::{Answer, Cause, JobId, JobsRefusal};
 pub use entry::{Entry, Fault, Progress, Task};
 pub use jobs::Jobs;
