@@ -7,6 +7,7 @@ mod NeedLemmas
 mod ProgressLemmas
 mod ReachLemmas
 mod ReadyLemmas
+mod RestLemmas
 mod ShapeLemmas
 mod SpreadLemmas
 mod StayLemmas

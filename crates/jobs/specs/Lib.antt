@@ -7,6 +7,7 @@ pub mod Marks
 pub mod Needs
 pub mod Reaching
 pub mod ReadyLists
+pub mod Rests
 pub mod Searching
 pub mod Spreading
 pub mod Tables
