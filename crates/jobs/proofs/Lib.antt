@@ -1,11 +1,13 @@
 mod AddLemmas
 mod AnswerLemmas
+mod CauseLemmas
 mod ListLemmas
 mod MarkLemmas
 mod NeedLemmas
 mod ProgressLemmas
 mod ReachLemmas
 mod ReadyLemmas
+mod RestLemmas
 mod ShapeLemmas
 mod SpreadLemmas
 mod StayLemmas

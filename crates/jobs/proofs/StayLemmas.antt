@@ -1,5 +1,5 @@
 -- Which keys stay ready, and what the list of the ready keys stays.
-use Rattle.std.proofs.Common.{◌≡◌, ℕ, zero, suc, ◌+◌, ◌<◌, inl, inr, List, [], ◌∷◌, ◌++◌, map, length, take, drop, set, get_or, Some, None, slice_get, refl, ap, sym, ◌∙◌, subst, arith}
+use Rattle.std.proofs.Common.{◌≡◌, ℕ, zero, suc, ◌+◌, ◌<◌, inl, inr, List, [], ◌∷◌, ◌++◌, map, length, take, drop, set, Some, None, slice_get, refl, ap, sym, ◌∙◌, subst, arith}
 use Rattle.std.specs.List.{Contains, AllZip, IsDistinct}
 use Rattle.std.specs.List.Sorted.{IsStrictlyIncreasing}
 use Rattle.std.specs.Prelude.{nat_eq}

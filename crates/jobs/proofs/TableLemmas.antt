@@ -4,18 +4,10 @@ use Rattle.std.specs.List.{position, position_from, AllByRecursion, IsDistinct}
 use Rattle.std.proofs.lemmas.Bool.{cases_Bool}
 use Rattle.std.proofs.lemmas.Iterator.Adapters.{position_from-zero}
 use Rattle.std.proofs.lemmas.Map.Keys.{IsDistinct-head, IsDistinct-tail}
-use Rattle.std.proofs.lemmas.Slice.Eq.{bytes_eq-Decides}
-use Rattle.farm_base.specs.declared.digest.Digest.{Digest}
 use Rattle.farm_base.specs.declared.digest.Key.{Key}
 use Rattle.jobs.specs.declared.entry.Entry.{Entry}
 use Rattle.jobs.specs.Tables.{key_eq, key_of}
-
--- keys of the same bytes are one
-pub key_same : (a b : Key) → key_eq a b ≡ true → a ≡ b
-key_same a b e = ap (λ (bytes : List ℕ). let d : Digest = record { 0 = bytes } in let k : Key = record { 0 = d } in k) ((bytes_eq-Decides a.0.0 b.0.0).0 e)
-
-pub key_eq_is : (a b : Key) → a ≡ b → key_eq a b ≡ true
-key_eq_is a b e = (bytes_eq-Decides a.0.0 b.0.0).1 (ap (λ (k : Key). k.0.0) e)
+pub use Rattle.solverkeys.proofs.KeyedLemmas.{key_same, key_eq_is}
 
 -- the entry that a test of keys finds
 pub record FoundAt (test : Key → Bool) (es : List Entry) (i n : ℕ) : Type 0 where

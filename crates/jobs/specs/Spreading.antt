@@ -11,6 +11,11 @@ pub data GetsMark (links : List Link) (marks : List Bool) : ℕ → Type 0 where
   marked : (number : ℕ) → flag_at marks number ≡ true → GetsMark links marks number
   takes : (number place : ℕ) (link : Link) → slice_get links place ≡ Some link → link.user ≡ number → GetsMark links marks link.source → GetsMark links marks number
 
+-- the key is this one, or takes an output of a key that follows it
+pub data Follows (links : List Link) (source : ℕ) : ℕ → Type 0 where
+  is_source : (number : ℕ) → number ≡ source → Follows links source number
+  takes_from : (number place : ℕ) (link : Link) → slice_get links place ≡ Some link → link.user ≡ number → Follows links source link.source → Follows links source number
+
 -- the key takes an output of this source that isn't among these
 pub record Lacks (links : List Link) (source : ℕ) (outputs : List Digest) (user : ℕ) : Type 0 where
   pub place : ℕ

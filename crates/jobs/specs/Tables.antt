@@ -1,14 +1,10 @@
 -- The numbers of submitted keys (this project's own).
-use Rattle.std.specs.Prelude.{◌≡◌, Bool, map}
+use Rattle.std.specs.Prelude.{◌≡◌, map}
 use Rattle.farm_base.specs.declared.digest.Key.{Key}
-use Rattle.farm_base.specs.Digests.{digest_eq}
 use Rattle.indexmap.specs.IndexSet.{IsUnique}
 use Rattle.jobs.specs.declared.entry.Entry.{Entry}
 use Rattle.jobs.specs.declared.table.Table.{Table}
-
--- the same bytes
-abbrev pub key_eq : Key → Key → Bool
-key_eq a b = digest_eq a.0 b.0
+pub use Rattle.solverkeys.specs.Keyed.{key_eq}
 
 -- the key of an entry
 abbrev pub key_of : Entry → Key

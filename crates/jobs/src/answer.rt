@@ -1,7 +1,8 @@
 ghost use Rattle.std.specs.Prelude.{◌≡◌};
 ghost use Rattle.jobs.specs.declared.answer.JobsRefusal.TheVariants as refusal;
 
-use farm_base::Digest;
+use super::entry::Fault;
+use farm_base::{Digest, Key};
 use std::alloc::{AllocError, AllocFailed};
 use thiserror::Error;
 
@@ -18,6 +19,15 @@ pub enum Answer {
     Output(Digest),
     /// Its result never comes.
     Failed,
+}
+
+/// Why a job has no output.
+#[derive(Clone, Copy, Debug, PartialEq, Eq)]
+pub enum Cause {
+    /// This key was called failed, with this fault.
+    Failed(Key, Fault),
+    /// This key is done, but has no output of this index.
+    NoOutput(Key, u64),
 }
 
 /// Why a call was refused.

@@ -6,13 +6,15 @@ ghost use Rattle.jobs.specs.declared.answer.JobsRefusal.TheVariants as refusal;
 ghost use Rattle.farm_base.specs.declared.digest.Key.{Key as SpecKey};
 ghost use Rattle.solverkeys.specs.GraphKeys.{AreKeys};
 ghost use Rattle.jobs.specs.Adding.{AreAdded};
+ghost use Rattle.jobs.specs.Causes.{IsCause};
 ghost use Rattle.jobs.specs.Failing.{IsSubmitted};
 ghost use Rattle.jobs.specs.History.{HasNoReady, IsAnswer, Moves, TakesFirst};
 ghost use Rattle.jobs.specs.Needs.{NeedsOutput};
 ghost use Rattle.jobs.specs.ReadyLists.{AreReadyKeys};
 
 use super::adding::extend;
-use super::answer::{Answer, JobId, JobsRefusal};
+use super::answer::{Answer, Cause, JobId, JobsRefusal};
+use super::blaming::cause_of;
 use super::entry::{Fault, Progress, Task};
 use super::marking::answer_of;
 use super::needing::last_needed;
@@ -183,6 +185,23 @@ impl Jobs {
             None => Err(JobsRefusal::NoSuchJob),
         }
     }
+    /// Why a job has no output: none where it waits or has its output. Where its key fails, the first
+    /// submitted one of the keys that it depends on that was called failed or lacks an output of an input
+    /// tells. It looks at each key at most once, and is refused where the job isn't there or memory runs
+    /// out.
+    pub fn cause(&self, alloc: Global, job: JobId) -> Result<Option<Cause>, JobsRefusal>
+        ensures cause { (wanted : _) → slice_get self.now.jobs job.0 ≡ Some wanted → IfOk result (IsCause self.now.keys wanted) }
+        ensures missing { slice_get self.now.jobs job.0 ≡ None → result ≡ Err refusal.NoSuchJob }
+        ensures refusal { (wanted : _) → slice_get self.now.jobs job.0 ≡ Some wanted → IfErr result (λ refused. refused ≡ refusal.OutOfMemory) }
+    {
+        let Some(wanted) = self.results.get(job.0) else {
+            return Err(JobsRefusal::NoSuchJob);
+        };
+        let (table, marks) = (&self.table, self.marks.as_slice());
+        let cause = cause_of(alloc, table, &self.users, marks, wanted)?;
+        Ok(cause)
+    }
+
     /// The greatest index of an output of this key that an input of a submitted key or the result of a
     /// job names, from 0; none where no output of it is named. A key that is done with more outputs than
     /// that leaves none of them missing. It looks at the users of the key and at each job, and takes no

@@ -3,8 +3,10 @@
 
 mod adding;
 mod answer;
+mod blaming;
 mod entry;
 mod jobs;
+mod law;
 mod marking;
 mod needing;
 mod reaching;
@@ -14,6 +16,7 @@ mod settling;
 mod table;
 mod users;
 
-pub use answer::{Answer, JobId, JobsRefusal};
+pub use answer::{Answer, Cause, JobId, JobsRefusal};
 pub use entry::{Entry, Fault, Progress, Task};
 pub use jobs::Jobs;
+pub use law::no_job_waits_at_rest;
