@@ -202,6 +202,7 @@ one_each (x ∷ xs) known h one old = by_head (agrees (known x.0.slot x.0.number
         let here : Contains (x ∷ xs) (v, x.1) = subst (λ (z : Version). Contains (x ∷ xs) (z, x.1)) (version_exact x.0 v same) (Contains-head x xs) in
         sym is ∙ one v x.1 d here (Contains-tail x xs (v, d) c)
     later v d e false other c k = old v d e (Contains-tail x xs (v, d) c) (sym (learnt_at x known v false other) ∙ k)
+
     by_head : (b : Bool) → agrees (known x.0.slot x.0.number) x.1 ≡ b → (agree_on xs (learn_one x known) ≡ false → ⊥) → ⊥
     by_head true e rest = rest (sym (ap (λ (b : Bool). b && agree_on xs (learn_one x known)) e) ∙ h)
     by_head false e rest =

@@ -299,12 +299,14 @@ impl NodeCore {
     fn has_all(&self, slots: &[GrantedSlot]) -> bool
         ensures { result ≡ all_stored (shown self.now) slots.now }
     {
-        slots
-            .iter()
-            .all(|slot| self.contents.has(&slot.digest))
+        slots.iter().all(|slot| self.contents.has(&slot.digest))
     }
 
-    /// Begins the execution of a granted ask.
+    /// Begins the execution of a granted ask. The content of each base is stored then: `content` lends it by the digest
+    /// that the grant has, and so does `held`, where the version is known by that digest.
+    ///
+    /// Errors, the first that applies: `LivesSpent`; `NoSuchTicket`, where no ask is granted under the ticket and not
+    /// begun; `ContentsMissing`, until the Blobs of the bases have come.
     pub fn begin(&mut self, alloc: Global, ticket: Ticket) -> Result<NodeDone, NodeRefusal>
         ensures answer { Answers (begun ticket (shown self.old)) (shown self.old) (shown self.new) result }
         ensures bases { (at : ℕ) (h : Held) → first (held ticket) (shown self.old).asks 0 ≡ Some (at, h) → OnOk result (HasBases (shown self.new) h.grant.slots) }
@@ -429,7 +431,10 @@ impl NodeCore {
         Ok(NodeDone { note, sends })
     }
 
-    /// Begins the next life: its asks are over, its contents and versions stay.
+    /// Begins the next life: its asks are over, its contents and versions stay. The executions of the present life have
+    /// to be over, and the new life has to be on the disk before its Hello is sent.
+    ///
+    /// Errors: `LivesSpent`, where there is no greater life: the node is then down for good; `OutOfMemory`.
     pub fn restart(&mut self, alloc: Global) -> Result<NodeDone, NodeRefusal>
         ensures done { IfOk result (λ done. (may_restart farm_limits (shown self.old) ≡ true) × (restarted (place self.old) (shown self.old) ≡ work_of (shown self.new) done)) }
         ensures spent { result ≡ Err NodeRefusal.LivesSpent

@@ -1,6 +1,4 @@
 use Rattle.std.proofs.Common.{◌≡◌, true, false, ap, sym, ◌∙◌, rules}
-use Rattle.farm_base.specs.Contents.{content_digest}
-use Rattle.protocol.specs.World.{first_node}
 use Rattle.nodecore.specs.Stored.{agree_on}
 use Rattle.nodecore.proofs.StoredLemmas.{none_known, agree_have_one, disagree_have_two}
 use Rattle.nodecore.proofs.contents.known_from.Goals as goal

@@ -3,7 +3,7 @@ use Rattle.farm_base.specs.Contents.{content_digest}
 use Rattle.farm_base.specs.declared.message.Version.{Version}
 use Rattle.protocol.specs.Names.{Digest}
 use Rattle.protocol.specs.Nodes.{restarted}
-use Rattle.protocol.specs.World.{Node, first_node}
+use Rattle.protocol.specs.World.{first_node}
 use Rattle.nodecore.specs.Shown.{shown}
 use Rattle.nodecore.specs.Stored.{kept_node, known_in, learn_all, HaveOneDigestEach}
 use Rattle.nodecore.proofs.StoredLemmas.{known_are, distinct_have_one}

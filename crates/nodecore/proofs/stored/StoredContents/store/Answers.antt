@@ -13,6 +13,8 @@ returns-then-not-contains_key-clause-store c =
 pub invariant_of-self : goal.invariant_of-self
 invariant_of-self c =
     let absent : is_some (store_in c.args.self.now.by_digest c.digest-digest.result) ≡ false = search rules in
-    record { stored = stored_more c.args.self.now.by_digest c.insert.new.self c.digest-digest.result c.args.content c.args.self.now.stored c.digest-digest.ensures.value absent
-    (on_ok c.insert.result (c.insert.ensures.succeeds c.requires) c.insert.ensures.entries)
-    (on_ok c.insert.result (c.insert.ensures.succeeds c.requires) c.insert.ensures.updates).0 }
+    record {
+      stored = stored_more c.args.self.now.by_digest c.insert.new.self c.digest-digest.result c.args.content c.args.self.now.stored c.digest-digest.ensures.value absent
+          (on_ok c.insert.result (c.insert.ensures.succeeds c.requires) c.insert.ensures.entries)
+          (on_ok c.insert.result (c.insert.ensures.succeeds c.requires) c.insert.ensures.updates).0;
+    }
