@@ -6,4 +6,5 @@ pub mod KeptLemmas
 pub mod MapLemmas
 pub mod WantLemmas
 pub mod SendLemmas
+pub mod StoredLemmas
 mod OverLemmas

@@ -29,13 +29,16 @@ both true false x r = refl
 both false true x r = refl
 both false false x r = refl
 
+-- what is known of a version, where one more was learnt
+pub learn_here : (v : Version) (d : Digest) (known : Slot → ℕ → Option Digest) (s : Slot) (k : ℕ) → cond (version_eq v (record { slot = s; number = k })) (Some d) (known s k) ≡ learn v.slot v.number d known s k
+learn_here v d known s k =
+    both (slot_eq v.slot s) (nat_eq v.number k) (Some d) (known s k)
+    ∙ (λ j. if slot_equivalence.symm v.slot s j then (if nat_eq_equiv.symm v.number k j then Some d else known s k) else known s k)
+
 -- one version more is known
 pub learns : {S : Type 0} (m n : IndexMap Version Digest S) (v : Version) (d : Digest) → ((q : Version) → get version_eq n q ≡ cond (version_eq v q) (Some d) (get version_eq m q))
     → known_in n ≡ learn v.slot v.number d (known_in m)
-learns m n v d h = fun_ext (λ s. fun_ext (λ k.
-    h (record { slot = s; number = k })
-    ∙ both (slot_eq v.slot s) (nat_eq v.number k) (Some d) (known_in m s k)
-    ∙ (λ j. if slot_equivalence.symm v.slot s j then (if nat_eq_equiv.symm v.number k j then Some d else known_in m s k) else known_in m s k)))
+learns m n v d h = fun_ext (λ s. fun_ext (λ k. h (record { slot = s; number = k }) ∙ learn_here v d (known_in m) s k))
 
 -- one more at the end
 pub learn_all-push : (vs : List (Version × Digest)) (v : Version × Digest) (known : Slot → ℕ → Option Digest) → learn_all (vs ++ v ∷ []) known ≡ learn v.0.slot v.0.number v.1 (learn_all vs known)

@@ -1,11 +1,8 @@
 -- What contracts see of a node.
-use Rattle.std.specs.Prelude.{◌≡◌, ℕ, List, [], ◌∷◌, Option, None, Some, Result, Ok, Err}
+use Rattle.std.specs.Prelude.{◌≡◌, ℕ, true, List, [], Option, None, Some, is_some, All, Result, Ok, Err}
 use Rattle.std.specs.declared.alloc.AllocError.{AllocError}
-use Rattle.indexmap.specs.IndexMap.{IndexMap, get}
-use Rattle.farm_base.specs.Digests.{digest_eq}
-use Rattle.farm_base.specs.Versions.{version_eq}
-use Rattle.protocol.specs.World.{Node, learn}
-use Rattle.protocol.specs.Names.{Slot, Digest}
+use Rattle.protocol.specs.World.{Node}
+use Rattle.protocol.specs.Names.{Digest}
 use Rattle.protocol.specs.Machine.{GrantedSlot, Confirmed}
 use Rattle.farm_base.specs.declared.message.Version.{Version}
 use Rattle.protocol.specs.Nodes.{NodeWork, NodeAnswer, Place, received}
@@ -18,19 +15,7 @@ use Rattle.protocol.specs.declared.answer.NodeRefusal.TheVariants.{OutOfMemory}
 use Rattle.nodecore.specs.declared.message.NodeDone.{NodeDone}
 use Rattle.nodecore.specs.declared.node_core.NodeCore.{NodeCore}
 use Rattle.nodecore.specs.Asks.{slots_told}
-
--- the contents of a map
-abbrev pub store_in : {S : Type 0} → IndexMap Digest (List ℕ) S → Digest → Option (List ℕ)
-store_in m d = get digest_eq m d
-
--- the digests of a map
-abbrev pub known_in : {S : Type 0} → IndexMap Version Digest S → Slot → ℕ → Option Digest
-known_in m s k = get version_eq m (record { slot = s; number = k })
-
--- the versions become known
-abbrev pub learn_all : List (Version × Digest) → (Slot → ℕ → Option Digest) → Slot → ℕ → Option Digest
-learn_all [] known = known
-learn_all (v ∷ vs) known = learn_all vs (learn v.0.slot v.0.number v.1 known)
+pub use Rattle.nodecore.specs.Stored.{store_in, known_in, learn_all}
 
 -- the base of a granted slot
 abbrev pub base_of : GrantedSlot → Version × Digest
@@ -45,7 +30,7 @@ abbrev pub shown : NodeCore → Node
 shown x = record {
   life = x.life;
   asks = x.asks.items;
-  store = store_in x.contents;
+  store = store_in x.contents.by_digest;
   known = known_in x.versions;
   spent = x.spent;
 }
@@ -77,6 +62,15 @@ content_at x (Some d) = x.store d
 -- the content of a version
 abbrev pub content_of : Node → Version → Option (List ℕ)
 content_of x v = content_at x (x.known v.slot v.number)
+
+-- the content of the base is stored. So `held` lends it, where the version is known by that digest
+pub record HasBase (x : Node) (u : GrantedSlot) : Type 0 where
+  pub stored : is_some (x.store u.digest) ≡ true
+  pub held : x.known u.slot u.base ≡ Some u.digest → is_some (content_of x (base_of u).0) ≡ true
+
+-- the content of each base is stored
+abbrev pub HasBases : Node → List GrantedSlot → Type 0
+HasBases x slots = All (HasBase x) slots
 
 -- the result of a message
 abbrev pub message_work : Place → Node → ToNode → NodeWork

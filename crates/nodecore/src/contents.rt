@@ -1,12 +1,15 @@
-ghost use Rattle.std.specs.Prelude.{◌≡◌, ◌≤◌, ◌<◌, ◌+◌, IfOk, if◌then◌else◌, is_some, map, vec_len};
+ghost use Rattle.std.specs.Prelude.{◌≡◌, ◌≤◌, ◌<◌, ◌+◌, ◌≢◌, IfOk, OnOk, map, vec_len};
 ghost use Rattle.indexmap.specs.IndexMap.{spare};
 ghost use Rattle.protocol.specs.Machine.{slots_of, written};
 ghost use Rattle.protocol.specs.Names.{slots_eq};
-ghost use Rattle.protocol.specs.Nodes.{news_of, stored};
-ghost use Rattle.protocol.specs.World.{keep, learn};
+ghost use Rattle.protocol.specs.Nodes.{news_of};
+ghost use Rattle.protocol.specs.World.{first_node, learn};
 ghost use Rattle.farm_base.specs.Contents.{content_digest};
-ghost use Rattle.nodecore.specs.Shown.{base_of, known_in, learn_all, store_in, version_of};
+ghost use Rattle.farm_base.specs.Versions.{version_eq};
+ghost use Rattle.nodecore.specs.Shown.{base_of, version_of};
+ghost use Rattle.nodecore.specs.Stored.{agree_on, agrees, known_in, learn_all, HaveOneDigestEach};
 
+use super::kept::ResumeRefusal;
 use farm_base::{Confirmed, Content, Copied, Digest, GrantedSlot, Items, News, Slot, Version};
 use indexmap::IndexMap;
 use std::alloc::{AllocError, Global};
@@ -47,13 +50,30 @@ pub(crate) fn confirmed(
     Ok(named)
 }
 
-/// Learns the digest of a version, in the room that is there.
-fn learn_one(known: &mut IndexMap<Version, Digest>, version: Version, digest: Digest)
+/// Learns the digest of a version, in the room that is there, and answers whether no other digest was known.
+fn learn_one(known: &mut IndexMap<Version, Digest>, version: Version, digest: Digest) -> bool
     requires { 0 < spare known.old }
+    ensures agrees { result ≡ agrees (known_in known.old version.slot version.number) digest }
     ensures known { known_in known.new ≡ learn version.slot version.number digest (known_in known.old) }
     ensures spare { spare known.old ≤ spare known.new + 1 }
 {
-    let _ = known.insert(version, digest);
+    match known.insert(version, digest) {
+        Ok(Some(old)) => old == digest,
+        _ => true,
+    }
+}
+
+/// Learns the digests of versions, in the room that is there, and answers whether none had two.
+fn learn_agreed(known: &mut IndexMap<Version, Digest>, versions: Vec<(Version, Digest)>) -> bool
+    requires { vec_len versions ≤ spare known.old }
+    ensures agree { result ≡ agree_on versions.items (known_in known.old) }
+    ensures known { known_in known.new ≡ learn_all versions.items (known_in known.old) }
+{
+    let mut agree = true;
+    for (version, digest) in versions {
+        agree = learn_one(known, version, digest) && agree;
+    }
+    agree
 }
 
 /// Learns the digests of versions, in the room that is there.
@@ -61,9 +81,51 @@ pub(crate) fn learn(known: &mut IndexMap<Version, Digest>, versions: Vec<(Versio
     requires { vec_len versions ≤ spare known.old }
     ensures { known_in known.new ≡ learn_all versions.items (known_in known.old) }
 {
-    for (version, digest) in versions {
-        learn_one(known, version, digest);
+    let _ = learn_agreed(known, versions);
+}
+
+/// The versions that a process kept.
+pub(crate) fn known_from(
+    alloc: Global,
+    versions: Vec<(Version, Digest)>,
+) -> Result<IndexMap<Version, Digest>, ResumeRefusal>
+    ensures known { IfOk result (λ known. known_in known ≡ learn_all versions.items (first_node content_digest).known) }
+    ensures agree { OnOk result (HaveOneDigestEach versions.items) }
+    ensures two { result ≡ Err ResumeRefusal.TwoDigests → ¬ HaveOneDigestEach versions.items }
+    ensures spent { result ≢ Err ResumeRefusal.LivesSpent }
+{
+    let Ok(mut known) = IndexMap::with_capacity(alloc, versions.len()) else {
+        return Err(ResumeRefusal::OutOfMemory);
+    };
+    if !learn_agreed(&mut known, versions) {
+        return Err(ResumeRefusal::TwoDigests);
     }
+    Ok(known)
+}
+
+/// Whether it is the version of this slot and number.
+fn is_version(version: &Version, slot: &Slot, number: u64) -> bool
+    ensures { result ≡ version_eq (record { slot = slot.now; number = number }) version.now }
+{
+    version.number == number && *slot == version.slot
+}
+
+/// The digest of a version, where it is known. The versions are gone over.
+pub(crate) fn digest_of(
+    known: &IndexMap<Version, Digest>,
+    slot: &Slot,
+    number: u64,
+) -> Option<Digest>
+    ensures { result ≡ known_in known.now slot.now number }
+{
+    for i in 0..known.len() {
+        if let Some((version, digest)) = known.get_index(i) {
+            if is_version(version, slot, number) {
+                return Some(*digest);
+            }
+        }
+    }
+    None
 }
 
 /// The news of what an execution leaves.
@@ -78,28 +140,6 @@ pub(crate) fn news_of(alloc: Global, lefts: &[(Slot, Content)]) -> Result<Items<
         })?;
     }
     Ok(Items::new(news))
-}
-
-/// Stores a content, in the room that is there. What is stored under its digest stays.
-fn store(contents: &mut IndexMap<Digest, Content>, content: Content)
-    requires { 0 < spare contents.old }
-    ensures store { store_in contents.new ≡ (if is_some (store_in contents.old (content_digest content)) then store_in contents.old else keep (content_digest content) content (store_in contents.old)) }
-    ensures spare { spare contents.old ≤ spare contents.new + 1 }
-{
-    let digest = content.digest();
-    if !contents.contains_key(&digest) {
-        let _ = contents.insert(digest, content);
-    }
-}
-
-/// Stores what an execution leaves, in the room that is there.
-pub(crate) fn store_all(contents: &mut IndexMap<Digest, Content>, lefts: Vec<(Slot, Content)>)
-    requires { vec_len lefts ≤ spare contents.old }
-    ensures { store_in contents.new ≡ stored content_digest lefts.items (store_in contents.old) }
-{
-    for (_, content) in lefts {
-        store(contents, content);
-    }
 }
 
 /// Whether an execution leaves exactly the slots that it may write, in their order.

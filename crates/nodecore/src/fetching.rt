@@ -31,7 +31,7 @@ impl NodeCore {
         requires { empty ≡ empty_digest }
         ensures { result ≡ is_missing farm_limits (shown self.now) slot.now }
     {
-        slot.digest != empty && !self.contents.contains_key(&slot.digest)
+        slot.digest != empty && !self.contents.has(&slot.digest)
     }
 
     /// The Fetches of the missing bases, slots in order.

@@ -4,12 +4,19 @@
 mod asks;
 mod contents;
 mod fetching;
+mod kept;
 mod message;
 mod node_core;
 mod receive;
 mod resending;
 mod sending;
+mod stored;
 
-pub use farm_base::{Message, ToNode};
+pub use farm_base::{Message, ToNode, Why};
+pub use kept::{KeptContents, ResumeRefusal, ToKeep};
 pub use message::{AskState, NodeDone};
 pub use node_core::NodeCore;
+pub use protocol::{How, NodeNote, NodeRefusal};
+// A crate can name a core in a contract only if the types of its fields are exported.
+#[doc(hidden)]
+pub use stored::StoredContents;

@@ -4,7 +4,9 @@ use protocol::{How, NodeNote};
 /// What a call did, and what the node sends.
 #[derive(Debug, Drop)]
 pub struct NodeDone {
+    /// What happened at the node.
     pub note: NodeNote,
+    /// The messages to send, in their order.
     pub sends: Items<Message>,
 }
 

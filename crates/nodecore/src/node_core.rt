@@ -1,18 +1,21 @@
-ghost use Rattle.std.specs.Prelude.{◌≡◌, ◌∷◌, [], ◌<◌, ◌+◌, ◌^◌, ◌⊎◌, true, false, OnErr, slice_get, Some, IfOk, IfSome, IfNone, map, vec_len, option_map, option_copied};
+ghost use Rattle.std.specs.Prelude.{◌≡◌, ◌∷◌, [], ◌<◌, ◌+◌, ◌^◌, ◌⊎◌, true, false, ◌↔◌, ℕ, OnOk, OnErr, slice_get, Some, IfOk, IfSome, IfNone, map, vec_len, option_map, option_copied};
 ghost use Rattle.protocol.specs.Lists.{nth};
 ghost use Rattle.protocol.specs.Machine.{Said};
 ghost use Rattle.protocol.specs.World.{first_node};
-ghost use Rattle.protocol.specs.Nodes.{Held, finished_with, leaving, aborted, all_stored, asked, asked_tenure, begun, gives_up, may_restart, opens, restarted};
+ghost use Rattle.protocol.specs.Nodes.{Held, first, held, finished_with, leaving, aborted, all_stored, asked, asked_tenure, begun, gives_up, may_restart, opens, restarted};
 ghost use Rattle.farm_base.specs.Contents.{content_digest};
 ghost use Rattle.protocol.specs.Farm.{farm_limits};
 ghost use Rattle.protocol.specs.declared.ask.KeptAsk.{KeptAsk};
 ghost use Rattle.nodecore.specs.Asks.{told_state, AreOver};
+ghost use Rattle.nodecore.specs.Stored.{kept_node, HaveOneDigestEach};
 
 use super::asks::{
     Sought, at_home, begin, finish, has_tenure, in_use, over_from, place_of, slots, told,
 };
-use super::contents::{fits, news_of, store_all};
+use super::contents::{digest_of, fits, known_from, news_of};
+use super::kept::{KeptContents, ResumeRefusal, ToKeep};
 use super::message::{AskState, NodeDone};
+use super::stored::StoredContents;
 use farm_base::{
     Ask, Content, Copied, Digest, FolderName, GREATEST, GrantedSlot, Items, Life, Message, Mode,
     NodeId, Request, Slot, Ticket, ToCoord, Version, Want, Wants,
@@ -65,7 +68,7 @@ pub struct NodeCore {
     pub(crate) asks: Vec<KeptAsk>,
     /// How many asks at the front are known to be over: no ticket is sought among them.
     pub(crate) over: usize,
-    pub(crate) contents: IndexMap<Digest, Content>,
+    pub(crate) contents: StoredContents,
     pub(crate) versions: IndexMap<Version, Digest>,
     /// Whether it is down for good.
     pub(crate) spent: bool,
@@ -73,16 +76,17 @@ pub struct NodeCore {
 }
 
 impl NodeCore {
-    ghost use Rattle.nodecore.specs.Shown.{content_of, shown, place, work_of, Does, Answers};
+    ghost use Rattle.nodecore.specs.Shown.{content_of, shown, place, work_of, Does, Answers, HasBases};
 
-    /// A node in its first life.
+    /// A node in its first life, which sends nothing. `node` is its number, from 1 to `nodes`, the greatest number that
+    /// the farm will have: a Fetch goes to each other one. **It may be called once for a node number, ever**, as long as
+    /// the coordinator's record lives, or the messages of one life would be of two processes; a process that starts
+    /// again calls `resume`. Fails only where memory runs out.
     pub fn start(alloc: Global, node: NodeId, nodes: u32) -> Result<Self, AllocError>
         ensures node { IfOk result (λ core. shown core ≡ first_node content_digest) }
         ensures place { IfOk result (λ core. place core ≡ record { node = node; nodes = nodes }) }
     {
-        let empty = Content::of(Vec::new(alloc));
-        let mut contents = IndexMap::new(alloc);
-        contents.insert(empty.digest(), empty)?;
+        let contents = StoredContents::new(alloc)?;
         Ok(NodeCore {
             node,
             nodes,
@@ -95,17 +99,95 @@ impl NodeCore {
         })
     }
 
+    /// The node of a process that starts again, in the life after the last one that the process had: its asks are
+    /// over, and it has the contents and versions that were kept. `last_life` is 0 where the number had no life. The
+    /// executions of the last life have to be over. The new life has to be on the disk before the Hello is sent, or a
+    /// third process would have it too.
+    ///
+    /// Errors: `LivesSpent`, where the last life is the greatest; `TwoDigests`, where a version is kept with two
+    /// digests, so what was kept isn't what a node knew; `OutOfMemory`. No node is made then, and no life begun.
+    pub fn resume(
+        alloc: Global,
+        node: NodeId,
+        nodes: u32,
+        last_life: Life,
+        kept: KeptContents,
+    ) -> Result<(Self, NodeDone), ResumeRefusal>
+        // What a restart makes of the node that kept this.
+        ensures done { IfOk result (λ resumed. restarted (record { node = node; nodes = nodes }) (kept_node last_life kept.contents.items kept.versions.items) ≡ work_of (shown resumed.0) resumed.1) }
+        ensures place { IfOk result (λ resumed. place resumed.0 ≡ record { node = node; nodes = nodes }) }
+        ensures digests { OnOk result (HaveOneDigestEach kept.versions.items) }
+
+        ensures spent { (result ≡ Err ResumeRefusal.LivesSpent) ↔ (may_restart farm_limits (kept_node last_life kept.contents.items kept.versions.items) ≡ false) }
+        ensures two_digests { result ≡ Err ResumeRefusal.TwoDigests → ¬ HaveOneDigestEach kept.versions.items }
+    {
+        if last_life.0 == GREATEST {
+            return Err(ResumeRefusal::LivesSpent);
+        }
+        let KeptContents { contents, versions } = kept;
+        let versions = match known_from(alloc, versions) {
+            Ok(versions) => versions,
+            Err(refusal) => return Err(refusal),
+        };
+        let Ok(contents) = StoredContents::with(alloc, contents) else {
+            return Err(ResumeRefusal::OutOfMemory);
+        };
+        let life = Life(last_life.0 + 1);
+        let Ok(sends) = one_message(alloc, node, life, Request::Hello) else {
+            return Err(ResumeRefusal::OutOfMemory);
+        };
+        let core = NodeCore {
+            node,
+            nodes,
+            life,
+            asks: Vec::new(alloc),
+            over: 0,
+            contents,
+            versions,
+            spent: false,
+        };
+        let done = NodeDone {
+            note: NodeNote::Life(life),
+            sends,
+        };
+        Ok((core, done))
+    }
+
+    /// What a process has to keep of the node for `resume`, lent without a copy: the present life, and the contents
+    /// that are stored and the versions that are known. To resume from it is to restart the node in place.
+    pub fn kept(&self) -> ToKeep<'_>
+        ensures life { result.life ≡ (shown self.now).life }
+        ensures node { kept_node result.life result.contents result.versions ≡ record (shown self.now) { asks = []; spent = false } }
+        ensures digests { HaveOneDigestEach result.versions }
+        ensures restart { (shown self.now).spent ≡ false → (at : _) → restarted at (kept_node result.life result.contents result.versions) ≡ restarted at (shown self.now) }
+    {
+        ToKeep {
+            life: self.life,
+            contents: self.contents.values(),
+            versions: self.versions.iter(),
+        }
+    }
+
+    /// The present life, counted from 1.
     pub fn life(&self) -> Life
         ensures { result ≡ (shown self.now).life }
     {
         self.life
     }
 
-    /// The content of a version that is known and stored here.
-    pub fn held(&self, version: &Version) -> Option<&Content>
-        ensures { option_copied result ≡ content_of (shown self.now) version.now }
+    /// The content of a version of the slot, where the version is known and its content is stored here. It goes over the
+    /// versions that are known; `content` finds that of a granted slot by its digest.
+    pub fn held(&self, slot: &Slot, number: u64) -> Option<&Content>
+        ensures { option_copied result ≡ content_of (shown self.now) (record { slot = slot.now; number = number }) }
     {
-        let digest = self.versions.get(version)?;
+        let digest = digest_of(&self.versions, slot, number)?;
+        self.contents.get(&digest)
+    }
+
+    /// The content that is stored under a digest, as that of a granted slot's base.
+    pub fn content(&self, digest: &Digest) -> Option<&Content>
+        ensures { option_copied result ≡ (shown self.now).store digest.now }
+    {
         self.contents.get(digest)
     }
 
@@ -134,7 +216,7 @@ impl NodeCore {
 }
 
 impl NodeCore {
-    ghost use Rattle.nodecore.specs.Shown.{content_of, shown, place, work_of, Does, Answers};
+    ghost use Rattle.nodecore.specs.Shown.{content_of, shown, place, work_of, Does, Answers, HasBases};
 
     /// One message to the coordinator.
     pub(crate) fn say(&self, alloc: Global, request: Request) -> Result<Items<Message>, AllocError>
@@ -217,14 +299,17 @@ impl NodeCore {
     fn has_all(&self, slots: &[GrantedSlot]) -> bool
         ensures { result ≡ all_stored (shown self.now) slots.now }
     {
-        slots
-            .iter()
-            .all(|slot| self.contents.contains_key(&slot.digest))
+        slots.iter().all(|slot| self.contents.has(&slot.digest))
     }
 
-    /// Begins the execution of a granted ask.
+    /// Begins the execution of a granted ask. The content of each base is stored then: `content` lends it by the digest
+    /// that the grant has, and so does `held`, where the version is known by that digest.
+    ///
+    /// Errors, the first that applies: `LivesSpent`; `NoSuchTicket`, where no ask is granted under the ticket and not
+    /// begun; `ContentsMissing`, until the Blobs of the bases have come.
     pub fn begin(&mut self, alloc: Global, ticket: Ticket) -> Result<NodeDone, NodeRefusal>
         ensures answer { Answers (begun ticket (shown self.old)) (shown self.old) (shown self.new) result }
+        ensures bases { (at : ℕ) (h : Held) → first (held ticket) (shown self.old).asks 0 ≡ Some (at, h) → OnOk result (HasBases (shown self.new) h.grant.slots) }
         ensures place { place self.new ≡ place self.old }
     {
         if self.spent {
@@ -322,7 +407,7 @@ impl NodeCore {
         let sends = self.say(alloc, request)?;
         self.contents.reserve(lefts.len())?;
         finish(&mut self.asks[index], news);
-        store_all(&mut self.contents, lefts);
+        self.contents.store_all(lefts);
         Ok(NodeDone {
             note: NodeNote::Finished(ticket),
             sends,
@@ -346,7 +431,10 @@ impl NodeCore {
         Ok(NodeDone { note, sends })
     }
 
-    /// Begins the next life: its asks are over, its contents and versions stay.
+    /// Begins the next life: its asks are over, its contents and versions stay. The executions of the present life have
+    /// to be over, and the new life has to be on the disk before its Hello is sent.
+    ///
+    /// Errors: `LivesSpent`, where there is no greater life: the node is then down for good; `OutOfMemory`.
     pub fn restart(&mut self, alloc: Global) -> Result<NodeDone, NodeRefusal>
         ensures done { IfOk result (λ done. (may_restart farm_limits (shown self.old) ≡ true) × (restarted (place self.old) (shown self.old) ≡ work_of (shown self.new) done)) }
         ensures spent { result ≡ Err NodeRefusal.LivesSpent

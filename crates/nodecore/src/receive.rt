@@ -184,11 +184,12 @@ impl NodeCore {
         ensures place { place self.new ≡ place self.old }
     {
         let digest = content.digest();
-        if self.contents.contains_key(&digest) || !any_base(self.asks.as_slice(), digest) {
+        if self.contents.has(&digest) || !any_base(self.asks.as_slice(), digest) {
             return Ok(silent(alloc, NodeNote::Nothing));
         }
         let copy = content.copy(alloc)?;
-        self.contents.insert(digest, copy)?;
+        self.contents.reserve(1)?;
+        self.contents.store(copy);
         Ok(silent(alloc, NodeNote::BlobTaken))
     }
 

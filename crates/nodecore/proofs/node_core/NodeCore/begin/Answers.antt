@@ -1,7 +1,7 @@
 use Rattle.std.proofs.Common.{◌≡◌, List, ◌+◌, [], true, false, None, Some, refl, ap, sym, ◌∙◌, rules, arith}
 use Rattle.std.specs.List.{position}
 use Rattle.protocol.specs.declared.ask.KeptAsk.TheVariants.{Running}
-use Rattle.protocol.specs.Nodes.{held, all_stored}
+use Rattle.protocol.specs.Nodes.{Held, held, all_stored}
 use Rattle.nodecore.specs.Asks.{slots_in, runs}
 use Rattle.nodecore.specs.Shown.{shown}
 use Rattle.nodecore.proofs.FirstLemmas.{FirstAt, picks, some_first, none_first}
@@ -9,6 +9,7 @@ use Rattle.nodecore.proofs.KeptLemmas.{held_at, read_at}
 use Rattle.nodecore.proofs.NodeLemmas.{begins_not, begins_missing, begins, becomes_at}
 use Rattle.protocol.specs.declared.ask.KeptAsk.{KeptAsk}
 use Rattle.nodecore.proofs.OverLemmas.{over_changed}
+use Rattle.nodecore.proofs.StoredLemmas.{first_is, has_bases}
 use Rattle.nodecore.proofs.node_core.NodeCore.begin.Goals as goal
 
 pub returns-in_default-clause-answer : goal.returns-in_default-clause-answer
@@ -37,6 +38,16 @@ returns-clause-answer c =
     let quiet : [] ≡ c.new-2.result = sym (c.new-2.ensures ∙ c.new.ensures.items) in
     begins c.args.ticket (shown c.args.self.now) _ (c.in-Some.place + 1) f.what _ c.if-self.false (f.found (c.in-Some.place + 1) (omega arith)) here quiet
     (becomes_at (shown c.args.self.now) c.args.self.now.asks.items c.in-Some.place c.begin.new.ask _ refl next)
+
+pub returns-clause-bases : goal.returns-clause-bases
+returns-clause-bases c = λ number h found.
+    let at : position (picks (held c.args.ticket)) c.args.self.now.asks.items ≡ Some c.in-Some.place = search rules in
+    let f : FirstAt (held c.args.ticket) c.args.self.now.asks.items 0 c.in-Some.place = some_first (held c.args.ticket) c.args.self.now.asks.items c.in-Some.place at in
+    let read = read_at (held_at c.args.ticket c.args.self.now.asks.items c.in-Some.place f) c.index.result.now (search rules) in
+    let slots : c.slots.result.now ≡ f.what.grant.slots = c.slots.ensures ∙ ap slots_in read in
+    let here : all_stored (shown c.args.self.now) f.what.grant.slots ≡ true = ap (all_stored (shown c.args.self.now)) (sym slots) ∙ sym c.has_all.ensures ∙ search rules in
+    let same : f.what ≡ h = first_is (held c.args.ticket) c.args.self.now.asks.items (c.in-Some.place + 1) number f.what h (f.found (c.in-Some.place + 1) (omega arith)) found in
+    has_bases (shown c.args.self.now) _ refl h.grant.slots (ap (λ (g : Held). all_stored (shown c.args.self.now) g.grant.slots) (sym same) ∙ here)
 
 pub invariant_of-self : goal.invariant_of-self
 invariant_of-self c =

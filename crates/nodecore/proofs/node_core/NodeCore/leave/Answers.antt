@@ -8,7 +8,6 @@ use Rattle.protocol.specs.declared.ask.KeptAsk.TheVariants.{Running, Finished}
 use Rattle.protocol.specs.Nodes.{news_of, stored}
 use Rattle.nodecore.specs.Asks.{ends_with}
 use Rattle.nodecore.specs.Shown.{shown, place, store_in}
-use Rattle.nodecore.proofs.MapLemmas.{same_store}
 use Rattle.nodecore.proofs.NodeLemmas.{left_work, set_at}
 use Rattle.protocol.specs.declared.ask.KeptAsk.{KeptAsk}
 use Rattle.nodecore.proofs.OverLemmas.{over_changed}
@@ -22,8 +21,8 @@ returns-clause-work c = λ h get ticket.
     let old : c.index_mut.result.now ≡ Running h.wants h.grant h.recalled =
     c.index_mut.ensures.value ∙ get_or_from_slice_get c.args.self.now.asks.items c.args.index (Running h.wants h.grant h.recalled) c.index_mut.result.now get in
     let next : Finished h.wants h.grant c.in_ok-news.news ≡ c.finish.new.ask = sym (c.finish.ensures ∙ ap (ends_with c.in_ok-news.news) old) in
-    let contents : stored content_digest c.args.lefts.items (store_in c.args.self.now.contents) ≡ store_in c.store_all.new.contents =
-    sym (c.store_all.ensures ∙ ap (λ (s : Digest → Option (List ℕ)). stored content_digest c.args.lefts.items s) (same_store c.args.self.now.contents c.reserve.new.self c.in_ok-reserve.ensures.entries)) in
+    let contents : stored content_digest c.args.lefts.items (store_in c.args.self.now.contents.by_digest) ≡ store_in c.store_all.new.self.by_digest =
+    sym (c.store_all.ensures ∙ ap (λ (s : Digest → Option (List ℕ)). stored content_digest c.args.lefts.items s) c.reserve.ensures.same) in
     let sends : commit c.args.self.now.node c.args.self.now.life c.args.ticket c.in_ok-news.news ∷ [] ≡ c.in_ok-sends.sends =
     sym (c.in_ok-sends.ensures ∙ ap (λ (n : List News). commit c.args.self.now.node c.args.self.now.life c.args.ticket n ∷ []) c.in_ok-copy.ensures) in
     left_work (place c.args.self.now) c.args.ticket (c.args.index + 1) h c.args.lefts.items c.in_ok-news.news (shown c.args.self.now) _ _ _ some ticket news

@@ -2,11 +2,11 @@ use Rattle.std.proofs.Common.{◌≡◌, ◌+◌, ◌≤◌, length, vec_len}
 use Rattle.indexmap.specs.IndexMap.{spare}
 use Rattle.farm_base.specs.Contents.{content_digest}
 use Rattle.protocol.specs.Nodes.{stored}
-use Rattle.nodecore.specs.Shown.{store_in}
-use Rattle.nodecore.proofs.contents.store_all.Given as goal
+use Rattle.nodecore.specs.Stored.{store_in}
+use Rattle.nodecore.proofs.stored.StoredContents.store_all.Given as goal
 
 abbrev pub invariant-loop-content : goal.invariant-loop-content
 invariant-loop-content l = record {
-  contents : store_in l.contents ≡ stored content_digest l.yielded (store_in l.initial.contents);
-  room : vec_len l.fn.lefts ≤ spare l.contents + length l.yielded;
+  contents : store_in l.self.by_digest ≡ stored content_digest l.yielded (store_in l.initial.self.by_digest);
+  room : vec_len l.fn.lefts ≤ spare l.self.by_digest + length l.yielded;
 }

@@ -1,0 +1,102 @@
+//! The contents that a node stores.
+ghost use Rattle.std.specs.Prelude.{◌≡◌, ◌≤◌, ◌<◌, ◌+◌, IfOk, OnOk, is_some, option_copied, vec_len};
+ghost use Rattle.indexmap.specs.IndexMap.{spare, values};
+ghost use Rattle.farm_base.specs.Contents.{content_digest};
+ghost use Rattle.protocol.specs.Nodes.{stored};
+ghost use Rattle.protocol.specs.World.{first_node};
+ghost use Rattle.nodecore.specs.Stored.{store_each, store_in, store_one, AreStored};
+
+use farm_base::{Content, Digest, Slot};
+use indexmap::IndexMap;
+use indexmap::map::Values;
+use std::alloc::{AllocError, Global};
+
+/// The contents that a node stores, by their digests. The empty one is among them.
+#[derive(Drop)]
+pub struct StoredContents {
+    pub(crate) by_digest: IndexMap<Digest, Content>,
+    ghost stored: { AreStored by_digest.entries },
+}
+
+impl StoredContents {
+    /// The empty content alone.
+    pub(crate) fn new(alloc: Global) -> Result<Self, AllocError>
+        ensures { IfOk result (λ contents. store_in contents.by_digest ≡ (first_node content_digest).store) }
+    {
+        let empty = Content::of(Vec::new(alloc));
+        let mut by_digest = IndexMap::new(alloc);
+        by_digest.insert(empty.digest(), empty)?;
+        Ok(StoredContents { by_digest })
+    }
+
+    /// These contents, and the empty one.
+    pub(crate) fn with(alloc: Global, contents: Vec<Content>) -> Result<Self, AllocError>
+        ensures { IfOk result (λ stored. store_in stored.by_digest ≡ store_each contents.items (first_node content_digest).store) }
+    {
+        let mut stored = StoredContents::new(alloc)?;
+        stored.reserve(contents.len())?;
+        stored.store_each(contents);
+        Ok(stored)
+    }
+
+    /// The content under a digest.
+    pub(crate) fn get(&self, digest: &Digest) -> Option<&Content>
+        ensures { option_copied result ≡ store_in self.now.by_digest digest.now }
+    {
+        self.by_digest.get(digest)
+    }
+
+    /// Whether a content is stored under the digest.
+    pub(crate) fn has(&self, digest: &Digest) -> bool
+        ensures { result ≡ is_some (store_in self.now.by_digest digest.now) }
+    {
+        self.by_digest.contains_key(digest)
+    }
+
+    /// The contents, each once.
+    pub(crate) fn values(&self) -> Values<'_, Digest, Content>
+        ensures { store_each result (first_node content_digest).store ≡ store_in self.now.by_digest }
+    {
+        self.by_digest.values()
+    }
+
+    /// Makes room for so many contents more.
+    pub(crate) fn reserve(&mut self, additional: usize) -> Result<(), AllocError>
+        ensures same { store_in self.new.by_digest ≡ store_in self.old.by_digest }
+        ensures room { OnOk result (additional ≤ spare self.new.by_digest) }
+    {
+        self.by_digest.reserve(additional)
+    }
+
+    /// Stores a content, in the room that is there. What is stored under its digest stays.
+    pub(crate) fn store(&mut self, content: Content)
+        requires { 0 < spare self.old.by_digest }
+        ensures store { store_in self.new.by_digest ≡ store_one content (store_in self.old.by_digest) }
+        ensures spare { spare self.old.by_digest ≤ spare self.new.by_digest + 1 }
+    {
+        let digest = content.digest();
+        if !self.by_digest.contains_key(&digest) {
+            let _ = self.by_digest.insert(digest, content);
+        }
+    }
+
+    /// Stores contents, in the room that is there.
+    fn store_each(&mut self, contents: Vec<Content>)
+        requires { vec_len contents ≤ spare self.old.by_digest }
+        ensures { store_in self.new.by_digest ≡ store_each contents.items (store_in self.old.by_digest) }
+    {
+        for content in contents {
+            self.store(content);
+        }
+    }
+
+    /// Stores what an execution leaves, in the room that is there.
+    pub(crate) fn store_all(&mut self, lefts: Vec<(Slot, Content)>)
+        requires { vec_len lefts ≤ spare self.old.by_digest }
+        ensures { store_in self.new.by_digest ≡ stored content_digest lefts.items (store_in self.old.by_digest) }
+    {
+        for (_, content) in lefts {
+            self.store(content);
+        }
+    }
+}
