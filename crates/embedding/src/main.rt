@@ -15,7 +15,7 @@ fn main(rt: HostRuntime) -> anyhow::Result<()> {
     let bytes = hex::decode(alloc, DEFINITION)?;
     let folders = mounts::folders(alloc, bytes)?;
     print!(rt; "{folders}")?;
-    let versions = queue::two_builds(alloc)?;
+    let versions = queue::three_builds(alloc)?;
     println!(rt; "locked:apt has {versions} versions")?;
     let bytes = hex::decode(alloc, DEFINITION)?;
     let answer = solving::answer(alloc, bytes)?;

@@ -5,11 +5,10 @@ ghost use Rattle.protocol.specs.Lawful.{IsSaid, is_tenure};
 
 use coordinator::Coordinator;
 use farm_base::{
-    Content, FolderName, FromCoord, Message, Mode, NODES, NodeId, Request, Slot, Ticket, ToCoord,
-    ToNode, Want, Wants,
+    Content, Copied, Digest, FolderName, FromCoord, Message, Mode, NODES, NodeId, Request, Slot,
+    Ticket, ToCoord, ToNode, Version, Want, Wants,
 };
-use nodecore::{AskState, NodeCore, NodeDone};
-use protocol::NodeNote;
+use nodecore::{AskState, KeptContents, NodeCore, NodeDone, NodeNote};
 use saverecord::MemoryKeeper;
 use std::alloc::{AllocError, Global};
 use std::collections::VecDeque;
@@ -157,16 +156,50 @@ impl Farm {
         let _finished = self.send(finished)?;
         self.deliver_all(alloc)
     }
+
+    /// The process of the first node starts again, from what it kept.
+    fn start_first_again(&mut self, alloc: Global) -> anyhow::Result<()> {
+        let last_life = self.first.life();
+        let kept = KeptContents {
+            contents: kept_contents(alloc, &self.first)?,
+            versions: kept_versions(alloc, &self.first)?,
+        };
+        let (core, done) = NodeCore::resume(alloc, NodeId(1), 2, last_life, kept)?;
+        self.first = core;
+        let _life = self.send(done)?;
+        self.deliver_all(alloc)
+    }
 }
 
-/// Two builds, one on each node, one after the other; and how many versions of the folder there are then. The second
-/// begins from what the first left.
-pub fn two_builds(alloc: Global) -> anyhow::Result<u64> {
+/// A copy of the contents that a process keeps of its node.
+fn kept_contents(alloc: Global, core: &NodeCore) -> Result<Vec<Content>, AllocError> {
+    let mut contents = Vec::new(alloc);
+    for content in core.kept().contents {
+        contents.push(content.copy(alloc)?)?;
+    }
+    Ok(contents)
+}
+
+/// A copy of the versions that a process keeps of its node.
+fn kept_versions(alloc: Global, core: &NodeCore) -> Result<Vec<(Version, Digest)>, AllocError> {
+    let mut versions = Vec::new(alloc);
+    for (version, digest) in core.kept().versions {
+        versions.push((version.copy(alloc)?, *digest))?;
+    }
+    Ok(versions)
+}
+
+/// Three builds, one after the other, the last on a node whose process started again; and how many versions of the
+/// folder there are then. Each begins from what the one before it left.
+pub fn three_builds(alloc: Global) -> anyhow::Result<u64> {
     let mut farm = Farm::start(alloc)?;
     let first = Vec::from_slice(alloc, b"first")?;
     let second = Vec::from_slice(alloc, b"second")?;
+    let third = Vec::from_slice(alloc, b"third")?;
     farm.build(alloc, NodeId(1), first)?;
     farm.build(alloc, NodeId(2), second)?;
+    farm.start_first_again(alloc)?;
+    farm.build(alloc, NodeId(1), third)?;
     let slot = Slot::parse(alloc, FOLDER)?;
     match farm.coordinator.line(&slot) {
         Some(line) => Ok(line.len()),

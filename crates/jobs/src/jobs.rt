@@ -185,6 +185,7 @@ impl Jobs {
             None => Err(JobsRefusal::NoSuchJob),
         }
     }
+
     /// Why a job has no output: none where it waits or has its output. Where its key fails, the first
     /// submitted one of the keys that it depends on that was called failed or lacks an output of an input
     /// tells. It looks at each key at most once, and is refused where the job isn't there or memory runs

@@ -219,24 +219,6 @@ pub agrees_more : (vs : List (Version × Digest)) (v : Version × Digest) (old n
 agrees_more vs v old now b r e f g =
     (λ j. f j && g j) ∙ ap (λ (k : Slot → ℕ → Option Digest). agrees (k v.0.slot v.0.number) v.1 && agree_on vs old) e ∙ sym (agree_on-push vs v old)
 
--- going over the entries: the version is found, or the entry is passed over
-pub found_at : {S : Type 0} (m : IndexMap Version Digest S) (q v : Version) (d : Digest) → get version_eq m v ≡ Some d → version_eq q v ≡ true → Some d ≡ get version_eq m q
-found_at m q v d h e = sym (ap (λ (z : Version). get version_eq m z) (version_exact q v e) ∙ h)
-
-pub passed_over : (es : List (Version × Digest)) (i : ℕ) (q v : Version) (d : Digest) → Some (v, d) ≡ slice_get es i → version_eq q v ≡ false → lookup (version_eq q) (drop (suc i) es) ≡ lookup (version_eq q) (drop i es)
-passed_over [] i q v d h e = absurd (cc)
-passed_over (x ∷ xs) zero q v d h e =
-    let is : (v, d) ≡ x = some_is (v, d) x h in
-    sym (lookup_tail (version_eq q) x xs (ap (λ (z : Version × Digest). version_eq q z.0) (sym is) ∙ e))
-passed_over (x ∷ xs) (suc i) q v d h e = passed_over xs i q v d h e
-
--- behind the end
-pub nothing_there : (es : List (Version × Digest)) (i : ℕ) → None ≡ slice_get es i → drop (suc i) es ≡ drop i es
-nothing_there [] zero h = refl
-nothing_there [] (suc i) h = refl
-nothing_there (x ∷ xs) zero h = absurd (cc)
-nothing_there (x ∷ xs) (suc i) h = nothing_there xs i h
-
 -- the content of each base is stored
 has_base : (x y : Node) → x.store ≡ y.store → (u : GrantedSlot) → is_some (x.store u.digest) ≡ true → HasBase y u
 has_base x y e u h =

@@ -5,7 +5,6 @@ ghost use Rattle.protocol.specs.Names.{slots_eq};
 ghost use Rattle.protocol.specs.Nodes.{news_of};
 ghost use Rattle.protocol.specs.World.{first_node, learn};
 ghost use Rattle.farm_base.specs.Contents.{content_digest};
-ghost use Rattle.farm_base.specs.Versions.{version_eq};
 ghost use Rattle.nodecore.specs.Shown.{base_of, version_of};
 ghost use Rattle.nodecore.specs.Stored.{agree_on, agrees, known_in, learn_all, HaveOneDigestEach};
 
@@ -101,31 +100,6 @@ pub(crate) fn known_from(
         return Err(ResumeRefusal::TwoDigests);
     }
     Ok(known)
-}
-
-/// Whether it is the version of this slot and number.
-fn is_version(version: &Version, slot: &Slot, number: u64) -> bool
-    ensures { result ≡ version_eq (record { slot = slot.now; number = number }) version.now }
-{
-    version.number == number && *slot == version.slot
-}
-
-/// The digest of a version, where it is known. The versions are gone over.
-pub(crate) fn digest_of(
-    known: &IndexMap<Version, Digest>,
-    slot: &Slot,
-    number: u64,
-) -> Option<Digest>
-    ensures { result ≡ known_in known.now slot.now number }
-{
-    for i in 0..known.len() {
-        if let Some((version, digest)) = known.get_index(i) {
-            if is_version(version, slot, number) {
-                return Some(*digest);
-            }
-        }
-    }
-    None
 }
 
 /// The news of what an execution leaves.

@@ -12,7 +12,7 @@ ghost use Rattle.nodecore.specs.Stored.{kept_node, HaveOneDigestEach};
 use super::asks::{
     Sought, at_home, begin, finish, has_tenure, in_use, over_from, place_of, slots, told,
 };
-use super::contents::{digest_of, fits, known_from, news_of};
+use super::contents::{fits, known_from, news_of};
 use super::kept::{KeptContents, ResumeRefusal, ToKeep};
 use super::message::{AskState, NodeDone};
 use super::stored::StoredContents;
@@ -175,13 +175,13 @@ impl NodeCore {
         self.life
     }
 
-    /// The content of a version of the slot, where the version is known and its content is stored here. It goes over the
-    /// versions that are known; `content` finds that of a granted slot by its digest.
-    pub fn held(&self, slot: &Slot, number: u64) -> Option<&Content>
-        ensures { option_copied result ≡ content_of (shown self.now) (record { slot = slot.now; number = number }) }
+    /// The content of a version, where the version is known and its content is stored here. `content` finds that of a
+    /// granted slot by its digest.
+    pub fn held(&self, version: &Version) -> Option<&Content>
+        ensures { option_copied result ≡ content_of (shown self.now) version.now }
     {
-        let digest = digest_of(&self.versions, slot, number)?;
-        self.contents.get(&digest)
+        let digest = self.versions.get(version)?;
+        self.contents.get(digest)
     }
 
     /// The content that is stored under a digest, as that of a granted slot's base.

@@ -60,7 +60,7 @@ impl StoredContents {
         self.by_digest.values()
     }
 
-    /// Makes room for so many contents more.
+    /// Makes room for `additional` contents more.
     pub(crate) fn reserve(&mut self, additional: usize) -> Result<(), AllocError>
         ensures same { store_in self.new.by_digest ≡ store_in self.old.by_digest }
         ensures room { OnOk result (additional ≤ spare self.new.by_digest) }

@@ -3,7 +3,7 @@
 
 use super::build::{digests, load};
 use farm_base::{Key, Why};
-use jobs::{Answer, Fault, JobId, Jobs, JobsRefusal, Task};
+use jobs::{Answer, Cause, Fault, JobId, Jobs, JobsRefusal, Task};
 use std::alloc::{AllocError, Global};
 use std::test::Fail;
 
@@ -16,6 +16,10 @@ enum Call {
     Done(usize, &'static [u8]),
     Failed(usize, Fault),
     Answer(usize),
+    /// Why a job has no output.
+    Cause(usize),
+    /// The last output that is needed of a key.
+    Needed(usize),
 }
 
 /// The op `1a00`, an exec op on its output 0, and the result.
@@ -35,7 +39,7 @@ const LATER: &str =
     "0a051a030a01610a4b0a490a477368613235363a31306332323038316338323533333537343562376665626466336430353361363732666334616364396131656635366362613264353362613033623738303562";
 
 /// Two jobs share the keys of both vertices, and a third comes when all is done.
-const SHARED: [(Call, &str); 14] = [
+const SHARED: [(Call, &str); 17] = [
     (Call::Submit(PLAIN), "job 0"),
     (Call::Submit(SPELLED), "job 1"),
     (Call::Take, "took"),
@@ -47,7 +51,10 @@ const SHARED: [(Call, &str); 14] = [
     (Call::Done(1, &[11]), "ok"),
     (Call::Answer(0), "output 11"),
     (Call::Answer(1), "output 11"),
+    (Call::Cause(1), "none"),
+    (Call::Needed(1), "0"),
     (Call::Answer(2), "no such job"),
+    (Call::Cause(2), "no such job"),
     (Call::Done(1, &[12]), "the key is not being solved"),
     (Call::Submit(PLAIN), "job 2"),
 ];
@@ -63,12 +70,13 @@ const FAILED: [(Call, &str); 6] = [
 ];
 
 /// An input without the output that is named fails the job.
-const LACKING: [(Call, &str); 5] = [
+const LACKING: [(Call, &str); 6] = [
     (Call::Submit(PLAIN), "job 0"),
     (Call::Take, "took"),
     (Call::Done(0, &[]), "ok"),
     (Call::Take, "none"),
     (Call::Answer(0), "failed"),
+    (Call::Cause(0), "key 0 has no output 0"),
 ];
 
 /// A result without the output that is named is refused.
@@ -83,7 +91,7 @@ const NO_OUTPUT: [(Call, &str); 6] = [
 
 /// The calls on a diamond, one of whose inputs fails, with a later job beside it. Behind each answer the ready keys
 /// after the call, by their places in the order of submission.
-const KEPT: [(Call, &str, &str); 13] = [
+const KEPT: [(Call, &str, &str); 14] = [
     (Call::Submit(DIAMOND), "job 0", "0"),
     (Call::Submit(LATER), "job 1", "0 4"),
     (Call::Take, "took", "4"),
@@ -97,6 +105,7 @@ const KEPT: [(Call, &str, &str); 13] = [
     (Call::Take, "took", ""),
     (Call::Take, "none", ""),
     (Call::Answer(2), "failed", ""),
+    (Call::Cause(2), "key 1 failed: Exit(7)", ""),
 ];
 
 /// A table of jobs, the keys that were submitted, and those that were taken.
@@ -189,6 +198,34 @@ impl Play {
         }
     }
 
+    /// The place of a key in the order of submission.
+    fn place(&self, key: &Key) -> Result<usize, Fail> {
+        let place = self.submitted.iter().position(|other| other == key);
+        Ok(place.ok_or("no such key")?)
+    }
+
+    fn cause(&self, alloc: Global, job: usize) -> Result<String, Fail> {
+        match self.jobs.cause(alloc, JobId(job)) {
+            Err(refusal) => Ok(format!(in alloc; "{refusal}")?),
+            Ok(None) => Ok(String::from_str(alloc, "none")?),
+            Ok(Some(Cause::Failed(key, fault))) => {
+                let place = self.place(&key)?;
+                Ok(format!(in alloc; "key {place} failed: {fault:?}")?)
+            }
+            Ok(Some(Cause::NoOutput(key, index))) => {
+                let place = self.place(&key)?;
+                Ok(format!(in alloc; "key {place} has no output {index}")?)
+            }
+        }
+    }
+
+    fn needed(&self, alloc: Global, number: usize) -> Result<String, Fail> {
+        match self.jobs.last_output_needed(&self.key(number)?) {
+            Some(index) => Ok(index.to_string(alloc)?),
+            None => Ok(String::from_str(alloc, "none")?),
+        }
+    }
+
     /// The places of the ready keys.
     fn ready(&self, alloc: Global) -> Result<String, AllocError> {
         let mut text = String::new(alloc);
@@ -209,6 +246,8 @@ impl Play {
             Call::Done(number, outputs) => self.done(alloc, number, outputs),
             Call::Failed(number, fault) => self.failed(alloc, number, fault),
             Call::Answer(job) => Ok(self.answer(alloc, job)?),
+            Call::Cause(job) => self.cause(alloc, job),
+            Call::Needed(number) => self.needed(alloc, number),
         }
     }
 }
