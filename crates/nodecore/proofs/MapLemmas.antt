@@ -62,9 +62,6 @@ stored-push sha (y ∷ ys) x store = elim (is_some (store (sha y.1))) as (λ b. 
     ]
 
 -- a map with the same entries
-pub same_store : {S : Type 0} (m n : IndexMap Digest (List ℕ) S) → n.entries ≡ m.entries → store_in n ≡ store_in m
-same_store m n h = fun_ext (λ d. rw h refl)
-
 pub same_known : {S : Type 0} (m n : IndexMap Version Digest S) → n.entries ≡ m.entries → known_in n ≡ known_in m
 same_known m n h = fun_ext (λ s. fun_ext (λ k. rw h refl))
 
