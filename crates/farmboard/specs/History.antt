@@ -97,13 +97,3 @@ abbrev pub DeliversNext : History → History → Result (Option Outcome) BoardR
 DeliversNext old new (Ok None) = NoneLeft old × (new ≡ old)
 DeliversNext old new (Ok (Some o)) = (k : ℕ) × IsNext old k × Took old (Deliver k) new (Ok o)
 DeliversNext old new (Err r) = (k : ℕ) × IsNext old k × Took old (Deliver k) new (Err r)
-
--- ---- what a board keeps
-
-pub record IsBoard (s : Farm) (h : History) (upto : ℕ) : Type 0 where
-  -- the world is the one that the schedule leads to
-  pub farm : s ≡ farm_of h
-  pub setup : IsSetup h.setup
-  pub room : length h.events ≤ EVENTS
-  -- no message up to this number is left
-  pub passed : (k : ℕ) → 1 ≤ k → k ≤ upto → is_passed h k ≡ true

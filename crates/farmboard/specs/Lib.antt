@@ -1,2 +1,5 @@
 pub mod History
+pub mod Out
+pub mod Boards
+pub mod Faults
 pub mod Tokens

@@ -9,11 +9,13 @@ ghost use Rattle.world.specs.Setups.{IsSetup};
 ghost use Rattle.world.specs.Shown.{shown};
 
 use super::event::{answer, asked, carry_out, is_among, is_delivered};
+use super::fault::FarmStep;
+use super::out::{InUse, has_node, note};
 use super::refusal::BoardRefusal;
 use super::tokens::{Accept, Asked, Granted, abandon_asked};
 use farm_base::{Ask, Copied, EVENTS, FolderName, Grant, Life, Mode, NodeId, Want, Wants};
 use nodecore::AskState;
-use protocol::{Event, How, Outcome};
+use protocol::{Event, EventRefusal, How, Outcome};
 use schedule::Setup;
 use std::alloc::{AllocError, Global};
 use std::marker::Model;
@@ -29,21 +31,26 @@ pub struct Board {
     world: World,
     /// No message up to this number is left to be delivered.
     passed: u64,
+    /// The executions in use.
+    out: Vec<InUse>,
 }
 
 impl Model for Board {
     ghost use Rattle.world.specs.Shown.{shown};
-    ghost use Rattle.farmboard.specs.History.{History, IsBoard};
+    ghost use Rattle.farmboard.specs.History.{History};
+    ghost use Rattle.farmboard.specs.Boards.{IsBoard};
 
     ghost Value = { History };
 
     ghost view = { λ b. record { setup = b.setup; events = b.schedule.items; skipped = b.skipped.items } };
 
-    ghost invariant = { λ b. IsBoard (shown b.world) (record { setup = b.setup; events = b.schedule.items; skipped = b.skipped.items }) b.passed };
+    ghost invariant = { λ b. IsBoard (shown b.world) (record { setup = b.setup; events = b.schedule.items; skipped = b.skipped.items }) b.passed b.out.items };
 }
 
 impl Board {
     ghost use Rattle.farmboard.specs.History.{farm_of, is_passed, Took, Did, IsNext, NoneLeft, DeliversNext, IsAskEvent};
+    ghost use Rattle.farmboard.specs.Out.{out_of};
+    ghost use Rattle.farmboard.specs.Faults.{Skips, TookOrNot, RestartsNode, Faults};
     ghost use Rattle.farmboard.specs.Tokens.{is_in_life, state_of, IsAskOf, Accepts};
 
     /// A board of a farm where nothing happened.
@@ -59,6 +66,7 @@ impl Board {
             skipped: Vec::new(alloc),
             world,
             passed: 0,
+            out: Vec::new(alloc),
         })
     }
 
@@ -93,8 +101,16 @@ impl Board {
             skipped: _,
             world,
             passed: _,
+            out: _,
         } = self;
         (setup, schedule, world)
+    }
+
+    /// The executions in use: those of the tokens that are out.
+    pub fn out(&self) -> &[InUse]
+        ensures { result.now ≡ out_of self.now }
+    {
+        self.out.as_slice()
     }
 
     /// Carries out one event, and appends it where the world took or refused it.
@@ -107,12 +123,13 @@ impl Board {
         let Ok(copy) = event.copy(alloc) else {
             return Err(BoardRefusal::OutOfMemory);
         };
-        if self.schedule.reserve(1).is_err() {
+        if self.schedule.reserve(1).is_err() || self.out.reserve(1).is_err() {
             return Err(BoardRefusal::OutOfMemory);
         }
         let Ok(outcome) = carry_out(&mut self.world, alloc, event) else {
             return Err(BoardRefusal::OutOfMemory);
         };
+        note(&mut self.out, &copy, &outcome);
         self.schedule.push_reserved(copy);
         answer(outcome)
     }
@@ -229,6 +246,57 @@ impl Board {
         self.passed = number - 1;
         let outcome = self.take(alloc, Event::Deliver(number))?;
         Ok(Some(outcome))
+    }
+
+    /// Skips the next message.
+    fn skip(&mut self) -> Result<(), BoardRefusal>
+        ensures { Skips self.old self.new result }
+    {
+        let Some(number) = self.next() else {
+            return Err(BoardRefusal::Event(EventRefusal::NoSuchMessage));
+        };
+        if self.skipped.reserve(1).is_err() {
+            return Err(BoardRefusal::OutOfMemory);
+        }
+        self.skipped.push_reserved(number);
+        Ok(())
+    }
+
+    /// Carries out the event of a step.
+    fn disturb(&mut self, alloc: Global, event: Event) -> Result<(), BoardRefusal>
+        ensures { TookOrNot self.old event self.new result }
+    {
+        let _outcome = self.take(alloc, event)?;
+        Ok(())
+    }
+
+    /// Restarts a node, unless an execution on it is in use.
+    fn restart_node(&mut self, alloc: Global, node: NodeId) -> Result<(), BoardRefusal>
+        ensures { RestartsNode node self.old self.new result }
+    {
+        if has_node(self.out(), node) {
+            return Err(BoardRefusal::TokenOut);
+        }
+        self.disturb(alloc, Event::RestartNode(node))
+    }
+
+    /// Disturbs the farm.
+    pub fn fault(&mut self, alloc: Global, step: FarmStep) -> Result<(), BoardRefusal>
+        ensures { Faults step self.old self.new result }
+    {
+        match step {
+            FarmStep::Skip => self.skip(),
+            FarmStep::Again(message) => self.disturb(alloc, Event::Deliver(message)),
+            FarmStep::Resend(node) => self.disturb(alloc, Event::Resend(node)),
+            FarmStep::Nudge => self.disturb(alloc, Event::Nudge),
+            FarmStep::Withdraw(ticket) => self.disturb(alloc, Event::Withdraw(ticket)),
+            FarmStep::Prune(slot) => self.disturb(alloc, Event::Prune(slot)),
+            FarmStep::Retire(node) => self.disturb(alloc, Event::Retire(node)),
+            FarmStep::RestartNode(node) => self.restart_node(alloc, node),
+            FarmStep::RestartCoordinator => self.disturb(alloc, Event::RestartCoordinator),
+            FarmStep::FailSave(kept) => self.disturb(alloc, Event::FailSave(kept)),
+            FarmStep::Forge(node, content) => self.disturb(alloc, Event::Forge(node, content)),
+        }
     }
 
     /// How an ask stands, if its node is in this life and made it.
