@@ -3,3 +3,4 @@ pub mod Out
 pub mod Boards
 pub mod Faults
 pub mod Tokens
+pub mod Ends

@@ -1,10 +1,11 @@
 //! The board.
-ghost use Rattle.std.specs.Prelude.{◌≡◌, ◌+◌, ◌<◌, ◌≤◌, ◌↔◌, [], true, false, IfOk, IfErr, IfSome, IfNone, is_some, length, ℕ, ◌∷◌};
+ghost use Rattle.std.specs.Prelude.{◌≡◌, ◌+◌, ◌<◌, ◌≤◌, ◌↔◌, [], true, false, IfOk, IfErr, IfSome, IfNone, is_some, length, map, ℕ, ◌∷◌};
 ghost use Rattle.farm_base.specs.Contents.{content_digest};
 ghost use Rattle.protocol.specs.Names.{tenure_wants};
 ghost use Rattle.protocol.specs.Replay.{is_node};
 ghost use Rattle.protocol.specs.declared.answer.EventNote.TheVariants as note;
 ghost use Rattle.protocol.specs.declared.answer.NodeNote.TheVariants as node_note;
+ghost use Rattle.farmboard.specs.Ends.{version_of, finished_of};
 ghost use Rattle.world.specs.Setups.{IsSetup};
 ghost use Rattle.world.specs.Shown.{shown};
 
@@ -12,8 +13,11 @@ use super::event::{answer, asked, carry_out, is_among, is_delivered};
 use super::fault::FarmStep;
 use super::out::{InUse, has_node, note};
 use super::refusal::BoardRefusal;
-use super::tokens::{Accept, Asked, Granted, abandon_asked};
-use farm_base::{Ask, Copied, EVENTS, FolderName, Grant, Life, Mode, NodeId, Want, Wants};
+use super::tokens::{Accept, Asked, Finished, Granted, Running, abandon_asked};
+use farm_base::{
+    Ask, Content, Copied, EVENTS, FolderName, Grant, Items, Life, Mode, NodeId, Slot, Version,
+    Want, Wants,
+};
 use nodecore::AskState;
 use protocol::{Event, EventRefusal, How, Outcome};
 use schedule::Setup;
@@ -299,6 +303,27 @@ impl Board {
         }
     }
 
+    /// Ends an execution with what it leaves in each slot that it may write. Refused, it hands the token back.
+    pub fn finish(
+        &mut self,
+        alloc: Global,
+        token: Running,
+        lefts: Vec<(Slot, Content)>,
+    ) -> Result<Finished, (Running, BoardRefusal)>
+        ensures ok { IfOk result (λ f. TookOrNot self.old (Event.Finish token.node token.grant.ticket lefts.items) self.new (Ok tt)) }
+        ensures token { IfOk result (λ f. f ≡ finished_of token lefts.items) }
+        ensures err { IfErr result (λ e. (e.0 ≡ token) × Took self.old (Event.Finish token.node token.grant.ticket lefts.items) self.new (Err e.1)) }
+    {
+        let Ok(versions) = first_versions(alloc, lefts.as_slice()) else {
+            return Err((token, BoardRefusal::OutOfMemory));
+        };
+        let event = Event::Finish(token.node, token.grant.ticket, Items::new(lefts));
+        match self.disturb(alloc, event) {
+            Ok(()) => Ok(finished(token, versions)),
+            Err(refusal) => Err((token, refusal)),
+        }
+    }
+
     /// How an ask stands, if its node is in this life and made it.
     fn ask_state(
         &self,
@@ -380,5 +405,37 @@ fn one_want(alloc: Global, folder: FolderName) -> Result<Wants, AllocError>
     match Wants::of(wants) {
         Ok(wants) => Ok(wants),
         Err(_) => unreachable!(),
+    }
+}
+
+/// Room for a version of each slot, its number not known yet.
+fn first_versions(alloc: Global, lefts: &[(Slot, Content)]) -> Result<Vec<Version>, AllocError>
+    ensures { IfOk result (λ v. v.items ≡ map version_of lefts.now) }
+{
+    let mut versions = Vec::with_capacity(alloc, lefts.len())?;
+    for left in lefts {
+        let slot = left.0.copy(alloc)?;
+        versions.push(Version { slot, number: 0 })?;
+    }
+    Ok(versions)
+}
+
+/// The execution that is over.
+fn finished(token: Running, versions: Vec<Version>) -> Finished
+    ensures { result ≡ record { node = token.node; life = token.life; ask = token.grant.ask; ticket = token.grant.ticket; versions = versions.items } }
+{
+    let Running {
+        node,
+        life,
+        wants: _,
+        grant,
+        bases: _,
+    } = token;
+    Finished {
+        node,
+        life,
+        ask: grant.ask,
+        ticket: grant.ticket,
+        versions: Items::new(versions),
     }
 }
