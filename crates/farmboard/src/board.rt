@@ -1,0 +1,441 @@
+//! The board.
+ghost use Rattle.std.specs.Prelude.{◌≡◌, ◌+◌, ◌<◌, ◌≤◌, ◌↔◌, [], true, false, IfOk, IfErr, IfSome, IfNone, is_some, length, map, ℕ, ◌∷◌};
+ghost use Rattle.farm_base.specs.Contents.{content_digest};
+ghost use Rattle.protocol.specs.Names.{tenure_wants};
+ghost use Rattle.protocol.specs.Replay.{is_node};
+ghost use Rattle.protocol.specs.declared.answer.EventNote.TheVariants as note;
+ghost use Rattle.protocol.specs.declared.answer.NodeNote.TheVariants as node_note;
+ghost use Rattle.farmboard.specs.Ends.{version_of, finished_of};
+ghost use Rattle.world.specs.Setups.{IsSetup};
+ghost use Rattle.world.specs.Shown.{shown};
+
+use super::event::{answer, asked, carry_out, is_among, is_delivered};
+use super::fault::FarmStep;
+use super::out::{InUse, has_node, note};
+use super::refusal::BoardRefusal;
+use super::tokens::{Accept, Asked, Finished, Granted, Running, abandon_asked};
+use farm_base::{
+    Ask, Content, Copied, EVENTS, FolderName, Grant, Items, Life, Mode, NodeId, Slot, Version,
+    Want, Wants,
+};
+use nodecore::AskState;
+use protocol::{Event, EventRefusal, How, Outcome};
+use schedule::Setup;
+use std::alloc::{AllocError, Global};
+use std::marker::Model;
+use world::{StartRefusal, World};
+
+/// The world beside the schedule that led to it. Contracts see it as its history: its setup, its schedule, and the
+/// messages that it skipped.
+#[derive(Drop)]
+pub struct Board {
+    setup: Setup,
+    schedule: Vec<Event>,
+    skipped: Vec<u64>,
+    world: World,
+    /// No message up to this number is left to be delivered.
+    passed: u64,
+    /// The executions in use.
+    out: Vec<InUse>,
+}
+
+impl Model for Board {
+    ghost use Rattle.world.specs.Shown.{shown};
+    ghost use Rattle.farmboard.specs.History.{History};
+    ghost use Rattle.farmboard.specs.Boards.{IsBoard};
+
+    ghost Value = { History };
+
+    ghost view = { λ b. record { setup = b.setup; events = b.schedule.items; skipped = b.skipped.items } };
+
+    ghost invariant = { λ b. IsBoard (shown b.world) (record { setup = b.setup; events = b.schedule.items; skipped = b.skipped.items }) b.passed b.out.items };
+}
+
+impl Board {
+    ghost use Rattle.farmboard.specs.History.{farm_of, is_passed, Took, Did, IsNext, NoneLeft, DeliversNext, IsAskEvent};
+    ghost use Rattle.farmboard.specs.Out.{out_of};
+    ghost use Rattle.farmboard.specs.Faults.{Skips, TookOrNot, RestartsNode, Faults};
+    ghost use Rattle.farmboard.specs.Tokens.{is_in_life, state_of, IsAskOf, Accepts};
+
+    /// A board of a farm where nothing happened.
+    pub fn start(alloc: Global, setup: Setup) -> Result<Self, StartRefusal>
+        ensures board { IfOk result (λ b. b ≡ record { setup = setup; events = []; skipped = [] }) }
+        ensures setup { IfOk result (λ b. IsSetup setup) }
+        ensures bad { (result ≡ Err StartRefusal.BadSetup) ↔ (IsSetup setup → ⊥) }
+    {
+        let world = World::start(alloc, setup)?;
+        Ok(Board {
+            setup,
+            schedule: Vec::new(alloc),
+            skipped: Vec::new(alloc),
+            world,
+            passed: 0,
+            out: Vec::new(alloc),
+        })
+    }
+
+    /// The world, which is the one that the stored schedule leads to.
+    pub fn world(&self) -> &World
+        ensures { shown result.now ≡ farm_of self.now }
+    {
+        &self.world
+    }
+
+    pub fn setup(&self) -> Setup
+        ensures { result ≡ self.now.setup }
+    {
+        self.setup
+    }
+
+    pub fn schedule(&self) -> &[Event]
+        ensures { result.now ≡ self.now.events }
+    {
+        self.schedule.as_slice()
+    }
+
+    /// The setup, the schedule, and the world that they lead to.
+    pub fn into_parts(self) -> (Setup, Vec<Event>, World)
+        ensures setup { result.0 ≡ self.setup }
+        ensures schedule { result.1.items ≡ self.events }
+        ensures world { shown result.2 ≡ farm_of self }
+    {
+        let Board {
+            setup,
+            schedule,
+            skipped: _,
+            world,
+            passed: _,
+            out: _,
+        } = self;
+        (setup, schedule, world)
+    }
+
+    /// The executions in use: those of the tokens that are out.
+    pub fn out(&self) -> &[InUse]
+        ensures { result.now ≡ out_of self.now }
+    {
+        self.out.as_slice()
+    }
+
+    /// Carries out one event, and appends it where the world took or refused it.
+    fn take(&mut self, alloc: Global, event: Event) -> Result<Outcome, BoardRefusal>
+        ensures { Took self.old event self.new result }
+    {
+        if self.schedule.len() >= EVENTS {
+            return Err(BoardRefusal::HistoryFull);
+        }
+        let Ok(copy) = event.copy(alloc) else {
+            return Err(BoardRefusal::OutOfMemory);
+        };
+        if self.schedule.reserve(1).is_err() || self.out.reserve(1).is_err() {
+            return Err(BoardRefusal::OutOfMemory);
+        }
+        let Ok(outcome) = carry_out(&mut self.world, alloc, event) else {
+            return Err(BoardRefusal::OutOfMemory);
+        };
+        note(&mut self.out, &copy, &outcome);
+        self.schedule.push_reserved(copy);
+        answer(outcome)
+    }
+
+    /// Whether the message of this number was skipped, or a Deliver of the schedule names it.
+    fn is_passed(&self, number: u64) -> bool
+        ensures { result ≡ is_passed self.now number }
+    {
+        is_among(number, self.skipped.as_slice()) || is_delivered(number, self.schedule.as_slice())
+    }
+
+    /// How many messages were ever sent.
+    fn pool_len(&self) -> u64
+        ensures { result ≡ length (farm_of self.now).pool }
+    {
+        self.world.pool_len()
+    }
+
+    /// A number up to which no message is left.
+    fn passed(&self) -> u64
+        ensures { (k : ℕ) → 1 ≤ k → k ≤ result → is_passed self.now k ≡ true }
+    {
+        self.passed
+    }
+
+    /// The number of the next message, if one is left.
+    fn next(&self) -> Option<u64>
+        ensures some { IfSome result (IsNext self.now) }
+        ensures none { IfNone result (NoneLeft self.now) }
+    {
+        for number in self.passed()..self.pool_len() {
+            if !self.is_passed(number + 1) {
+                return Some(number + 1);
+            }
+        }
+        None
+    }
+
+    /// The present life of a node that is there.
+    fn life_of(&self, node: NodeId) -> Life
+        ensures { is_node (farm_of self.now) node ≡ true → result ≡ ((farm_of self.now).nodes node.0).life }
+    {
+        match self.world.node(node) {
+            Some(core) => core.life(),
+            None => Life(0),
+        }
+    }
+
+    /// Carries out the event of an ask. Only an ask is accepted as asked.
+    fn take_ask(&mut self, alloc: Global, event: Event) -> Result<Ask, BoardRefusal>
+        requires { IsAskEvent event }
+        ensures ok { IfOk result (λ a. Did self.old event self.new (note.Node (node_note.Asked a))) }
+        ensures err { IfErr result (λ e. Took self.old event self.new (Err e)) }
+    {
+        let outcome = self.take(alloc, event)?;
+        match asked(&outcome.note) {
+            Some(ask) => Ok(ask),
+            None => unreachable!(),
+        }
+    }
+
+    /// Makes a node ask for a lease.
+    pub fn ask(&mut self, alloc: Global, node: NodeId, wants: Wants) -> Result<Asked, BoardRefusal>
+        ensures ok { IfOk result (λ a. Did self.old (Event.Ask node wants) self.new (note.Node (node_note.Asked a.ask))) }
+        ensures token { IfOk result (λ a. IsAskOf self.old node wants a) }
+        ensures err { IfErr result (λ e. Took self.old (Event.Ask node wants) self.new (Err e)) }
+    {
+        let Ok(copy) = wants.copy(alloc) else {
+            return Err(BoardRefusal::OutOfMemory);
+        };
+        let life = self.life_of(node);
+        let ask = self.take_ask(alloc, Event::Ask(node, wants))?;
+        Ok(Asked {
+            node,
+            life,
+            ask,
+            wants: copy,
+        })
+    }
+
+    /// Makes a node ask for the tenure of a SHARED folder.
+    pub fn ask_tenure(
+        &mut self,
+        alloc: Global,
+        node: NodeId,
+        folder: FolderName,
+    ) -> Result<Asked, BoardRefusal>
+        requires { folder.mode ≡ Mode.Shared }
+        ensures ok { IfOk result (λ a. Did self.old (Event.Tenure node folder) self.new (note.Node (node_note.Asked a.ask))) }
+        ensures token { IfOk result (λ a. IsAskOf self.old node (tenure_wants folder) a) }
+        ensures err { IfErr result (λ e. Took self.old (Event.Tenure node folder) self.new (Err e)) }
+    {
+        let Ok(wants) = wants_of_tenure(alloc, &folder) else {
+            return Err(BoardRefusal::OutOfMemory);
+        };
+        let life = self.life_of(node);
+        let ask = self.take_ask(alloc, Event::Tenure(node, folder))?;
+        Ok(Asked {
+            node,
+            life,
+            ask,
+            wants,
+        })
+    }
+
+    /// Delivers the next message: the least number neither skipped nor named by a Deliver of the schedule. With none
+    /// left nothing is appended.
+    pub fn deliver_next(&mut self, alloc: Global) -> Result<Option<Outcome>, BoardRefusal>
+        ensures { DeliversNext self.old self.new result }
+    {
+        let Some(number) = self.next() else {
+            return Ok(None);
+        };
+        self.passed = number - 1;
+        let outcome = self.take(alloc, Event::Deliver(number))?;
+        Ok(Some(outcome))
+    }
+
+    /// Skips the next message.
+    fn skip(&mut self) -> Result<(), BoardRefusal>
+        ensures { Skips self.old self.new result }
+    {
+        let Some(number) = self.next() else {
+            return Err(BoardRefusal::Event(EventRefusal::NoSuchMessage));
+        };
+        if self.skipped.reserve(1).is_err() {
+            return Err(BoardRefusal::OutOfMemory);
+        }
+        self.skipped.push_reserved(number);
+        Ok(())
+    }
+
+    /// Carries out the event of a step.
+    fn disturb(&mut self, alloc: Global, event: Event) -> Result<(), BoardRefusal>
+        ensures { TookOrNot self.old event self.new result }
+    {
+        let _outcome = self.take(alloc, event)?;
+        Ok(())
+    }
+
+    /// Restarts a node, unless an execution on it is in use.
+    fn restart_node(&mut self, alloc: Global, node: NodeId) -> Result<(), BoardRefusal>
+        ensures { RestartsNode node self.old self.new result }
+    {
+        if has_node(self.out(), node) {
+            return Err(BoardRefusal::TokenOut);
+        }
+        self.disturb(alloc, Event::RestartNode(node))
+    }
+
+    /// Disturbs the farm.
+    pub fn fault(&mut self, alloc: Global, step: FarmStep) -> Result<(), BoardRefusal>
+        ensures { Faults step self.old self.new result }
+    {
+        match step {
+            FarmStep::Skip => self.skip(),
+            FarmStep::Again(message) => self.disturb(alloc, Event::Deliver(message)),
+            FarmStep::Resend(node) => self.disturb(alloc, Event::Resend(node)),
+            FarmStep::Nudge => self.disturb(alloc, Event::Nudge),
+            FarmStep::Withdraw(ticket) => self.disturb(alloc, Event::Withdraw(ticket)),
+            FarmStep::Prune(slot) => self.disturb(alloc, Event::Prune(slot)),
+            FarmStep::Retire(node) => self.disturb(alloc, Event::Retire(node)),
+            FarmStep::RestartNode(node) => self.restart_node(alloc, node),
+            FarmStep::RestartCoordinator => self.disturb(alloc, Event::RestartCoordinator),
+            FarmStep::FailSave(kept) => self.disturb(alloc, Event::FailSave(kept)),
+            FarmStep::Forge(node, content) => self.disturb(alloc, Event::Forge(node, content)),
+        }
+    }
+
+    /// Ends an execution with what it leaves in each slot that it may write. Refused, it hands the token back.
+    pub fn finish(
+        &mut self,
+        alloc: Global,
+        token: Running,
+        lefts: Vec<(Slot, Content)>,
+    ) -> Result<Finished, (Running, BoardRefusal)>
+        ensures ok { IfOk result (λ f. TookOrNot self.old (Event.Finish token.node token.grant.ticket lefts.items) self.new (Ok tt)) }
+        ensures token { IfOk result (λ f. f ≡ finished_of token lefts.items) }
+        ensures err { IfErr result (λ e. (e.0 ≡ token) × Took self.old (Event.Finish token.node token.grant.ticket lefts.items) self.new (Err e.1)) }
+    {
+        let Ok(versions) = first_versions(alloc, lefts.as_slice()) else {
+            return Err((token, BoardRefusal::OutOfMemory));
+        };
+        let event = Event::Finish(token.node, token.grant.ticket, Items::new(lefts));
+        match self.disturb(alloc, event) {
+            Ok(()) => Ok(finished(token, versions)),
+            Err(refusal) => Err((token, refusal)),
+        }
+    }
+
+    /// How an ask stands, if its node is in this life and made it.
+    fn ask_state(
+        &self,
+        alloc: Global,
+        node: NodeId,
+        life: Life,
+        ask: Ask,
+    ) -> Result<Option<Option<AskState>>, AllocError>
+        ensures gone { IfOk result (λ x. is_some x ≡ is_in_life (farm_of self.now) node life) }
+        ensures state { IfOk result (λ x. IfSome x (λ state. state ≡ state_of (farm_of self.now) node ask)) }
+    {
+        let Some(core) = self.world.node(node) else {
+            return Ok(None);
+        };
+        if core.life() != life {
+            return Ok(None);
+        }
+        Ok(Some(core.ask_state(alloc, ask)?))
+    }
+
+    /// What became of an ask. Nothing is appended.
+    pub fn accept(&self, alloc: Global, token: Asked) -> Result<Accept, (Asked, BoardRefusal)>
+        ensures ok { IfOk result (Accepts (farm_of self.now) token) }
+        ensures err { IfErr result (λ e. (e.0 ≡ token) × (e.1 ≡ BoardRefusal.OutOfMemory)) }
+    {
+        let Ok(state) = self.ask_state(alloc, token.node, token.life, token.ask) else {
+            return Err((token, BoardRefusal::OutOfMemory));
+        };
+        match state {
+            None => {
+                abandon_asked(token);
+                Ok(Accept::Lost)
+            }
+            Some(Some(AskState::Granted(grant))) => Ok(Accept::Granted(granted(token, grant))),
+            Some(Some(AskState::Over(How::Denied(why)))) => {
+                abandon_asked(token);
+                Ok(Accept::Denied(why))
+            }
+            Some(_) => Ok(Accept::Waiting(token)),
+        }
+    }
+}
+
+/// The ask with its lease.
+fn granted(token: Asked, grant: Grant) -> Granted
+    ensures { result ≡ record { node = token.node; life = token.life; wants = token.wants; grant = grant } }
+{
+    let Asked {
+        node,
+        life,
+        ask: _,
+        wants,
+    } = token;
+    Granted {
+        node,
+        life,
+        wants,
+        grant,
+    }
+}
+
+/// The wants of an ask for the tenure of a SHARED folder.
+fn wants_of_tenure(alloc: Global, folder: &FolderName) -> Result<Wants, AllocError>
+    requires { folder.now.mode ≡ Mode.Shared }
+    ensures { IfOk result (λ wants. wants ≡ tenure_wants folder.now) }
+{
+    one_want(alloc, folder.copy(alloc)?)
+}
+
+/// The wants of the folder alone, writable.
+fn one_want(alloc: Global, folder: FolderName) -> Result<Wants, AllocError>
+    ensures { IfOk result (λ wants. wants ≡ record { folder = folder; writable = true } ∷ []) }
+{
+    let mut wants = Vec::with_capacity(alloc, 1)?;
+    wants.push(Want {
+        folder,
+        writable: true,
+    })?;
+    match Wants::of(wants) {
+        Ok(wants) => Ok(wants),
+        Err(_) => unreachable!(),
+    }
+}
+
+/// Room for a version of each slot, its number not known yet.
+fn first_versions(alloc: Global, lefts: &[(Slot, Content)]) -> Result<Vec<Version>, AllocError>
+    ensures { IfOk result (λ v. v.items ≡ map version_of lefts.now) }
+{
+    let mut versions = Vec::with_capacity(alloc, lefts.len())?;
+    for left in lefts {
+        let slot = left.0.copy(alloc)?;
+        versions.push(Version { slot, number: 0 })?;
+    }
+    Ok(versions)
+}
+
+/// The execution that is over.
+fn finished(token: Running, versions: Vec<Version>) -> Finished
+    ensures { result ≡ record { node = token.node; life = token.life; ask = token.grant.ask; ticket = token.grant.ticket; versions = versions.items } }
+{
+    let Running {
+        node,
+        life,
+        wants: _,
+        grant,
+        bases: _,
+    } = token;
+    Finished {
+        node,
+        life,
+        ask: grant.ask,
+        ticket: grant.ticket,
+        versions: Items::new(versions),
+    }
+}

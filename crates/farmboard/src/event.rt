@@ -1,0 +1,85 @@
+ghost use Rattle.std.specs.Prelude.{◌≡◌, ◌==◌, IfOk, OnErr};
+ghost use Rattle.std.specs.List.{list_any};
+ghost use Rattle.farm_base.specs.Contents.{content_digest};
+ghost use Rattle.protocol.specs.Farm.{farm_limits};
+ghost use Rattle.protocol.specs.Replay.{step};
+ghost use Rattle.world.specs.Shown.{shown};
+ghost use Rattle.farmboard.specs.History.{answer_of, ask_told, ask_in, delivers};
+
+use super::refusal::BoardRefusal;
+use farm_base::Ask;
+use protocol::{Event, EventNote, EventRefusal, NodeNote, Outcome};
+use std::alloc::{AllocError, Global};
+use world::World;
+
+/// The outcome of one event of the world. Where memory ran out nothing is changed.
+pub(crate) fn carry_out(
+    world: &mut World,
+    alloc: Global,
+    event: Event,
+) -> Result<Result<Outcome, EventRefusal>, AllocError>
+    ensures ok { IfOk result (λ r. step content_digest farm_limits (shown world.old) event ≡ record { farm = shown world.new; outcome = r }) }
+    ensures err { OnErr result (shown world.new ≡ shown world.old) }
+{
+    match world.step(alloc, event) {
+        Ok(outcome) => Ok(Ok(outcome)),
+        Err(EventRefusal::OutOfMemory) => Err(AllocError),
+        Err(EventRefusal::NoSuchMessage) => Ok(Err(EventRefusal::NoSuchMessage)),
+        Err(EventRefusal::NoSuchNode) => Ok(Err(EventRefusal::NoSuchNode)),
+        Err(EventRefusal::Node(refusal)) => Ok(Err(EventRefusal::Node(refusal))),
+        Err(EventRefusal::Coord(refusal)) => Ok(Err(EventRefusal::Coord(refusal))),
+    }
+}
+
+/// The board's answer to an event with this outcome.
+pub(crate) fn answer(outcome: Result<Outcome, EventRefusal>) -> Result<Outcome, BoardRefusal>
+    ensures { result ≡ answer_of outcome }
+{
+    match outcome {
+        Ok(outcome) => Ok(outcome),
+        Err(refusal) => Err(BoardRefusal::Event(refusal)),
+    }
+}
+
+/// The number of the ask that a node made.
+fn asked_by_node(note: &NodeNote) -> Option<Ask>
+    ensures { result ≡ ask_told note.now }
+{
+    match note {
+        NodeNote::Asked(ask) => Some(*ask),
+        _ => None,
+    }
+}
+
+/// The number of the ask that was made.
+pub(crate) fn asked(note: &EventNote) -> Option<Ask>
+    ensures { result ≡ ask_in note.now }
+{
+    match note {
+        EventNote::Node(note) => asked_by_node(note),
+        _ => None,
+    }
+}
+
+/// Whether the event delivers the message of this number.
+fn delivers(number: u64, event: &Event) -> bool
+    ensures { result ≡ delivers number event.now }
+{
+    match event {
+        Event::Deliver(delivered) => *delivered == number,
+        _ => false,
+    }
+}
+
+/// Whether an event delivers the message of this number.
+pub(crate) fn is_delivered(number: u64, events: &[Event]) -> bool
+    ensures { result ≡ list_any (delivers number) events.now }
+{
+    events.iter().any(|event| delivers(number, event))
+}
+
+pub(crate) fn is_among(number: u64, numbers: &[u64]) -> bool
+    ensures { result ≡ list_any (λ n. n == number) numbers.now }
+{
+    numbers.iter().any(|other| *other == number)
+}

@@ -1,0 +1,20 @@
+use farm_base::{Content, NodeId, Slot, Ticket};
+use protocol::Kept;
+
+/// A step by which a farm is disturbed.
+#[derive(Debug, Drop)]
+pub enum FarmStep {
+    /// The next message is never delivered, unless again.
+    Skip,
+    /// The message of this number is delivered, for the first time or again.
+    Again(u64),
+    Resend(NodeId),
+    Nudge,
+    Withdraw(Ticket),
+    Prune(Slot),
+    Retire(NodeId),
+    RestartNode(NodeId),
+    RestartCoordinator,
+    FailSave(Kept),
+    Forge(NodeId, Content),
+}

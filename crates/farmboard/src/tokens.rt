@@ -1,0 +1,172 @@
+//! What is under way. A token has private fields, only a board makes it, and it has to be spent.
+ghost use Rattle.std.specs.Prelude.{◌≡◌};
+
+use farm_base::{Ask, Content, Grant, Items, Life, NodeId, Ticket, Version, Wants, Why};
+
+/// An ask that a node made in one of its lives.
+pub struct Asked {
+    pub(crate) node: NodeId,
+    pub(crate) life: Life,
+    pub(crate) ask: Ask,
+    pub(crate) wants: Wants,
+}
+
+/// An ask that was granted, with its lease.
+pub struct Granted {
+    pub(crate) node: NodeId,
+    pub(crate) life: Life,
+    pub(crate) wants: Wants,
+    pub(crate) grant: Grant,
+}
+
+/// An execution under a lease, with the content that each of its slots began from.
+pub struct Running {
+    pub(crate) node: NodeId,
+    pub(crate) life: Life,
+    pub(crate) wants: Wants,
+    pub(crate) grant: Grant,
+    pub(crate) bases: Items<Content>,
+}
+
+/// An execution that is over, with room for the versions that it adds.
+pub struct Finished {
+    pub(crate) node: NodeId,
+    pub(crate) life: Life,
+    pub(crate) ask: Ask,
+    pub(crate) ticket: Ticket,
+    pub(crate) versions: Items<Version>,
+}
+
+/// What became of an ask.
+pub enum Accept {
+    Granted(Granted),
+    /// The ask is neither granted nor denied.
+    Waiting(Asked),
+    Denied(Why),
+    /// The node has restarted since.
+    Lost,
+}
+
+impl Asked {
+    pub fn node(&self) -> NodeId
+        ensures { result ≡ self.now.node }
+    {
+        self.node
+    }
+
+    pub fn wants(&self) -> &Wants
+        ensures { result.now ≡ self.now.wants }
+    {
+        &self.wants
+    }
+}
+
+impl Granted {
+    pub fn node(&self) -> NodeId
+        ensures { result ≡ self.now.node }
+    {
+        self.node
+    }
+
+    pub fn wants(&self) -> &Wants
+        ensures { result.now ≡ self.now.wants }
+    {
+        &self.wants
+    }
+
+    pub fn grant(&self) -> &Grant
+        ensures { result.now ≡ self.now.grant }
+    {
+        &self.grant
+    }
+}
+
+impl Running {
+    pub fn node(&self) -> NodeId
+        ensures { result ≡ self.now.node }
+    {
+        self.node
+    }
+
+    pub fn wants(&self) -> &Wants
+        ensures { result.now ≡ self.now.wants }
+    {
+        &self.wants
+    }
+
+    pub fn grant(&self) -> &Grant
+        ensures { result.now ≡ self.now.grant }
+    {
+        &self.grant
+    }
+
+    /// The ticket that it began.
+    pub fn ticket(&self) -> Ticket
+        ensures { result ≡ self.now.grant.ticket }
+    {
+        self.grant.ticket
+    }
+
+    /// The content that each slot began from, in the order of the lease's slots.
+    pub fn bases(&self) -> &[Content]
+        ensures { result.now ≡ self.now.bases }
+    {
+        self.bases.as_slice()
+    }
+}
+
+impl Finished {
+    pub fn node(&self) -> NodeId
+        ensures { result ≡ self.now.node }
+    {
+        self.node
+    }
+
+    pub fn ticket(&self) -> Ticket
+        ensures { result ≡ self.now.ticket }
+    {
+        self.ticket
+    }
+}
+
+/// Spends an ask and makes no event.
+pub fn abandon_asked(token: Asked) {
+    let Asked {
+        node: _,
+        life: _,
+        ask: _,
+        wants: _,
+    } = token;
+}
+
+/// Spends a grant and makes no event.
+pub fn abandon_granted(token: Granted) {
+    let Granted {
+        node: _,
+        life: _,
+        wants: _,
+        grant: _,
+    } = token;
+}
+
+/// Spends an execution and makes no event. Its ticket stays listed as out.
+pub fn abandon_running(token: Running) {
+    let Running {
+        node: _,
+        life: _,
+        wants: _,
+        grant: _,
+        bases: _,
+    } = token;
+}
+
+/// Spends what is finished and makes no event.
+pub fn abandon_finished(token: Finished) {
+    let Finished {
+        node: _,
+        life: _,
+        ask: _,
+        ticket: _,
+        versions: _,
+    } = token;
+}
