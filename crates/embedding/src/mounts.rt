@@ -14,7 +14,10 @@ fn shown(alloc: Global, keyed: &Keyed) -> Result<String, AllocError> {
         for want in wants.as_slice() {
             let folder = want.folder.to_text(alloc)?;
             let writable = want.writable;
-            write!(text, "vertex {number} wants {folder}, writable {writable}\n")?;
+            write!(
+                text,
+                "vertex {number} wants {folder}, writable {writable}\n"
+            )?;
         }
         if needs_home(&wants) {
             write!(text, "vertex {number} needs a home\n")?;

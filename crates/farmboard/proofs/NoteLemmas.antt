@@ -19,6 +19,7 @@ use Rattle.protocol.specs.declared.answer.NodeRefusal.{NodeRefusal}
 use Rattle.protocol.specs.declared.answer.NodeRefusal.TheVariants as refusal
 use Rattle.protocol.specs.declared.answer.Outcome.{Outcome}
 use Rattle.farmboard.specs.History.{History, farm_of, outcome_of, ask_in, IsAskEvent, Took, Did}
+use Rattle.world.proofs.FewLemmas.{guarded}
 
 -- the node is there, and accepted the call with this work
 pub record Accepted (is : Bool) (a : NodeAnswer) (o : Outcome) : Type 0 where
@@ -35,10 +36,6 @@ accepted false n a s o h = absurd (cc)
 accepted true n (Err e) s o h = absurd (cc)
 accepted true n (Ok w) s o h = record { there = refl; work = w; answer = refl; note = note_of o _ h }
 
-pub unguarded : (b : Bool) (e : NodeRefusal) (r : NodeAnswer) (w : NodeWork) → guard b e r ≡ Ok w → r ≡ Ok w
-unguarded true e r w h = absurd (cc)
-unguarded false e r w h = h
-
 work_note : (v w : NodeWork) → ◌≡◌ {A = NodeAnswer} (Ok v) (Ok w) → w.note ≡ v.note
 work_note v w h = (let same : v ≡ w = cc in ap (λ (x : NodeWork). x.note) (sym same))
 
@@ -49,17 +46,17 @@ tells_ask h (event.Ask n wants) o i ok =
     let s : Farm = farm_of h in
     let x : Node = s.nodes n.0 in
     let t = accepted (is_node s n) n (asked farm_limits (at s n) wants x) s o ok in
-    let one = unguarded x.spent refusal.LivesSpent _ t.work t.answer in
-    let two = unguarded (not (at_home x.asks wants)) refusal.NotHomeHere _ t.work one in
-    let three = unguarded (not (nat_lt (length x.asks) farm_limits.greatest)) refusal.AsksSpent _ t.work two in
+    let one = guarded x.spent refusal.LivesSpent _ t.work t.answer in
+    let two = guarded (not (at_home x.asks wants)) refusal.NotHomeHere _ t.work one in
+    let three = guarded (not (nat_lt (length x.asks) farm_limits.greatest)) refusal.AsksSpent _ t.work two in
     (next_ask x, t.note ∙ ap note.Node (work_note _ t.work three))
 tells_ask h (event.Tenure n f) o i ok =
     let s : Farm = farm_of h in
     let x : Node = s.nodes n.0 in
     let t = accepted (is_node s n) n (asked_tenure farm_limits (at s n) f x) s o ok in
-    let one = unguarded x.spent refusal.LivesSpent _ t.work t.answer in
-    let two = unguarded (list_any (is_tenure_of (record f { mode = Shared })) x.asks) refusal.TenureHere _ t.work one in
-    let three = unguarded (not (nat_lt (length x.asks) farm_limits.greatest)) refusal.AsksSpent _ t.work two in
+    let one = guarded x.spent refusal.LivesSpent _ t.work t.answer in
+    let two = guarded (list_any (is_tenure_of (record f { mode = Shared })) x.asks) refusal.TenureHere _ t.work one in
+    let three = guarded (not (nat_lt (length x.asks) farm_limits.greatest)) refusal.AsksSpent _ t.work two in
     (next_ask x, t.note ∙ ap note.Node (work_note _ t.work three))
 tells_ask h (event.Deliver k) o i ok = absurd i
 tells_ask h (event.Begin n t) o i ok = absurd i

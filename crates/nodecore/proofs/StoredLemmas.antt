@@ -96,15 +96,11 @@ empty_first k q es false e h = rw e refl
 pub stored_are : {S : Type 0} (m : IndexMap Digest (List ℕ) S) → AreStored m.entries → store_each (values_of m.entries) (first_node content_digest).store ≡ store_in m
 stored_are m h = fun_ext (λ q. store_each_at m.entries (first_node content_digest).store q h.keyed ∙ empty_first (content_digest []) q m.entries _ refl h.empty)
 
-is_none_of : (o : Option (List ℕ)) → is_some o ≡ false → o ≡ None
-is_none_of None h = refl
-is_none_of (Some c) h = absurd (true≢false h)
-
 -- one content more stands under its digest
 pub stored_more : {S : Type 0} (m n : IndexMap Digest (List ℕ) S) (d : Digest) (c : List ℕ) → AreStored m.entries → d ≡ content_digest c → is_some (store_in m d) ≡ false
     → n.entries ≡ insert_entry digest_eq m.entries d c → ((q : Digest) → get digest_eq n q ≡ cond (digest_eq d q) (Some c) (get digest_eq m q)) → AreStored n.entries
 stored_more m n d c h is absent entries updated =
-    let pushed : n.entries ≡ m.entries ++ (d, c) ∷ [] = entries ∙ insert_entry-new digest_eq m d c (is_none_of (store_in m d) absent) in
+    let pushed : n.entries ≡ m.entries ++ (d, c) ∷ [] = entries ∙ insert_entry-new digest_eq m d c (some_or_none (store_in m d) ∙ ap (λ (b : Bool). cond b (store_in m d) None) absent) in
     let own : digest_eq d (content_digest c) ≡ true = ap (λ (z : Digest). digest_eq d z) (sym is) ∙ digest_eq-itself d in
     let keyed : list_all is_keyed (m.entries ++ (d, c) ∷ []) ≡ true = list_all-append is_keyed m.entries ((d, c) ∷ []) ∙ (λ j. h.keyed j && (own j && true)) in
     record {
@@ -168,12 +164,9 @@ stays (x ∷ xs) known v e h p =
     let parts = and_parts (agrees (known x.0.slot x.0.number) x.1) (agree_on xs (learn_one x known)) h in
     stays xs (learn_one x known) v e parts.1 (learn_stays x known v e (version_eq x.0 v) refl parts.0 p)
 
-none_contained : {X : Type 0} (x : X) → Contains [] x → ⊥
-none_contained x c = omega (arith, c.1)
-
 -- each version that agrees is known by its digest in the end
 learnt : (vs : List (Version × Digest)) (known : Slot → ℕ → Option Digest) (v : Version) (d : Digest) → agree_on vs known ≡ true → Contains vs (v, d) → learn_all vs known v.slot v.number ≡ Some d
-learnt [] known v d h c = absurd (none_contained (v, d) c)
+learnt [] known v d h c = absurd (omega (arith, c.1))
 learnt (x ∷ xs) known v d h c =
     let parts = and_parts (agrees (known x.0.slot x.0.number) x.1) (agree_on xs (learn_one x known)) h in
     let own : learn_one x known x.0.slot x.0.number ≡ Some x.1 = learnt_at x known x.0 true (version_eq-itself x.0) in

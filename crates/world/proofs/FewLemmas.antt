@@ -17,7 +17,8 @@ use Rattle.world.specs.declared.call.Call.{Call}
 use Rattle.world.specs.declared.call.Call.TheVariants as call
 use Rattle.world.specs.Tables.{called}
 
-guarded : (b : Bool) (e : NodeRefusal) (r : NodeAnswer) (w : NodeWork) → guard b e r ≡ Ok w → r ≡ Ok w
+-- a call that is refused under a test, and was done
+pub guarded : (b : Bool) (e : NodeRefusal) (r : NodeAnswer) (w : NodeWork) → guard b e r ≡ Ok w → r ≡ Ok w
 guarded true e r w h = absurd (cc)
 guarded false e r w h = h
 

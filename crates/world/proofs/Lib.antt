@@ -1,6 +1,6 @@
 mod SeatLemmas
 mod PoolLemmas
-mod FewLemmas
+pub mod FewLemmas
 mod TurnLemmas
 mod CallLemmas
 mod SafeLemmas
