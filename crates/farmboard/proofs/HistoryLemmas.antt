@@ -15,7 +15,7 @@ use Rattle.schedule.specs.declared.setup.Setup.{Setup}
 use Rattle.world.specs.Setups.{IsSetup}
 use Rattle.farmboard.specs.declared.refusal.BoardRefusal.{BoardRefusal}
 use Rattle.farmboard.specs.History.{History, farm_of, outcome_of, and_then, answer_of, Took, delivers, is_passed}
-use Rattle.farmboard.specs.declared.out.InUse.{InUse}
+use Rattle.farmboard.specs.declared.uses.InUse.{InUse}
 use Rattle.farmboard.specs.Out.{out_if, out_from, out_of}
 use Rattle.farmboard.specs.Boards.{IsBoard}
 

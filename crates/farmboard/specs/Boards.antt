@@ -3,7 +3,7 @@ use Rattle.std.specs.Prelude.{◌≡◌, ℕ, ◌≤◌, true, List, length}
 use Rattle.farm_base.specs.declared.limits.TheConstants.{EVENTS}
 use Rattle.protocol.specs.Replay.{Farm}
 use Rattle.world.specs.Setups.{IsSetup}
-use Rattle.farmboard.specs.declared.out.InUse.{InUse}
+use Rattle.farmboard.specs.declared.uses.InUse.{InUse}
 use Rattle.farmboard.specs.History.{History, farm_of, is_passed}
 use Rattle.farmboard.specs.Out.{out_of}
 

@@ -10,7 +10,7 @@ use Rattle.protocol.specs.declared.event.Event.{Event}
 use Rattle.protocol.specs.declared.event.Event.TheVariants.{Begin, Finish, Abort, RestartNode}
 use Rattle.protocol.specs.declared.answer.EventRefusal.{EventRefusal}
 use Rattle.protocol.specs.declared.answer.Outcome.{Outcome}
-use Rattle.farmboard.specs.declared.out.InUse.{InUse}
+use Rattle.farmboard.specs.declared.uses.InUse.{InUse}
 use Rattle.farmboard.specs.History.{History}
 
 abbrev pub is_on : NodeId → InUse → Bool

@@ -11,9 +11,9 @@ ghost use Rattle.world.specs.Shown.{shown};
 
 use super::event::{answer, asked, carry_out, is_among, is_delivered};
 use super::fault::FarmStep;
-use super::out::{InUse, has_node, note};
 use super::refusal::BoardRefusal;
 use super::tokens::{Accept, Asked, Finished, Granted, Running, abandon_asked};
+use super::uses::{InUse, has_node, note};
 use farm_base::{
     Ask, Content, Copied, EVENTS, FolderName, Grant, Items, Life, Mode, NodeId, Slot, Version,
     Want, Wants,

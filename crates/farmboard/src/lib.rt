@@ -4,15 +4,15 @@
 mod board;
 mod event;
 mod fault;
-mod out;
 mod refusal;
 mod tokens;
+mod uses;
 
 pub use board::Board;
 pub use fault::FarmStep;
-pub use out::InUse;
 pub use refusal::BoardRefusal;
 pub use tokens::{
     Accept, Asked, Finished, Granted, Running, abandon_asked, abandon_finished, abandon_granted,
     abandon_running,
 };
+pub use uses::InUse;

@@ -1,7 +1,7 @@
 use Rattle.std.proofs.Common.{◌≡◌, ◌<◌, List, length, ap, ◌∙◌, arith}
 use Rattle.farm_base.specs.declared.limits.TheConstants.{EVENTS}
 use Rattle.world.specs.Shown.{shown}
-use Rattle.farmboard.specs.declared.out.InUse.{InUse}
+use Rattle.farmboard.specs.declared.uses.InUse.{InUse}
 use Rattle.farmboard.specs.Out.{out_if}
 use Rattle.farmboard.proofs.HistoryLemmas.{board_pushed, took_pushed}
 use Rattle.farmboard.proofs.board.Board.take.Goals as goal
