@@ -1,5 +1,5 @@
-//! What an engineer who embeds the crates writes first, as docs/EMBEDDING.md quotes it: the folders of a definition, a
-//! farm of one coordinator and two nodes over a queue, and a job to its answer.
+//! What an engineer who embeds the crates writes first, as docs/SOLVING.md and docs/DRIVER.md quote it: the folders of
+//! a definition, a farm of one coordinator and two nodes over a queue, and a job to its answer.
 #![tactic(auto)]
 
 mod mounts;

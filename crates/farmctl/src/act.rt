@@ -6,10 +6,11 @@ ghost use Rattle.farmctl.specs.Failures.{failure_line};
 ghost use Rattle.farmctl.specs.Acts.{AnswersAll, FirstFault};
 
 use super::answer::answer;
-use super::command::{Command, command_of};
+use super::command::{Command, Options, Words, words_of};
+use super::explain::{Explanation, explained};
 use super::failure::Failure;
 use super::files::contents;
-use std::alloc::Global;
+use std::alloc::{AllocError, Global};
 use std::io::{self, Write};
 use std::rt::Files;
 
@@ -106,34 +107,87 @@ pub fn print_no_words<E: Write>(error: &io::Error, err: &mut E) -> u8
     }
 }
 
-/// Reads the words and the files that they name, and acts. The texts of usage faults and help are `clap`'s.
+/// What there is to say of a file, if the options ask for it.
+fn explanation(
+    alloc: Global,
+    words: &Words,
+    name: &str,
+    bytes: &io::Result<Vec<u8>>,
+) -> Result<Explanation, AllocError> {
+    let mut lines = String::new(alloc);
+    if words.options.explain || words.options.strict {
+        match bytes {
+            Ok(bytes) => return explained(alloc, words.command, name, bytes.as_slice()),
+            Err(error) => write!(lines, "{name}: {error}\n")?,
+        }
+    }
+    Ok(Explanation {
+        lines,
+        has_refused_event: false,
+    })
+}
+
+/// Prints the explanation behind what was printed, and returns the status.
+fn print_explanation<E: Write>(
+    options: Options,
+    explanation: &Explanation,
+    status: u8,
+    err: &mut E,
+) -> u8 {
+    let status = if status == DONE && options.strict && explanation.has_refused_event {
+        REFUSED
+    } else {
+        status
+    };
+    if options.explain && status <= REFUSED {
+        print(err, explanation.lines.as_str(), status)
+    } else {
+        status
+    }
+}
+
+/// Reads the file that the words name, acts, and explains what is refused if the words ask for it.
+fn act_on<R: Files + Input + AllocGlobal, O: Write, E: Write>(
+    rt: &R,
+    words: &Words,
+    out: &mut O,
+    err: &mut E,
+) -> Result<u8, AllocError> {
+    let alloc = rt.alloc();
+    let mut files = Vec::new(alloc);
+    let mut all = Explanation {
+        lines: String::new(alloc),
+        has_refused_event: false,
+    };
+    for name in &words.files {
+        let bytes = contents(rt, name, words.command.most_bytes());
+        if matches!(&bytes, Err(error) if matches!(error.kind(), io::ErrorKind::OutOfMemory)) {
+            return Err(AllocError);
+        }
+        if all.lines.is_empty() {
+            all = explanation(alloc, words, name, &bytes)?;
+        }
+        files.push((String::from_str(alloc, name)?, bytes.ok()))?;
+    }
+    let status = act(alloc, words.command, files, out, err);
+    Ok(print_explanation(words.options, &all, status, err))
+}
+
+/// Does what the words say. The texts of usage faults and help are `clap`'s.
 pub fn run<R: Files + Input + AllocGlobal, O: Write, E: Write>(
     rt: &R,
     words: &[String],
     out: &mut O,
     err: &mut E,
 ) -> u8 {
-    let (command, names) = match command_of(rt.alloc(), words) {
-        Ok(found) => found,
+    let words = match words_of(rt.alloc(), words) {
+        Ok(words) => words,
         Err(error) => return print_usage(rt.alloc(), &error, out, err),
     };
-    let mut files = Vec::new(rt.alloc());
-    for name in &names {
-        let bytes = match contents(rt, name, command.most_bytes()) {
-            Ok(bytes) => Some(bytes),
-            Err(error) if matches!(error.kind(), io::ErrorKind::OutOfMemory) => {
-                return print(err, "out of memory\n", MEMORY);
-            }
-            Err(_) => None,
-        };
-        let Ok(name) = String::from_str(rt.alloc(), name) else {
-            return print(err, "out of memory\n", MEMORY);
-        };
-        if files.push((name, bytes)).is_err() {
-            return print(err, "out of memory\n", MEMORY);
-        }
+    match act_on(rt, &words, out, err) {
+        Ok(status) => status,
+        Err(_) => print(err, "out of memory\n", MEMORY),
     }
-    act(rt.alloc(), command, files, out, err)
 }
 
 fn print_usage<O: Write, E: Write>(

@@ -88,7 +88,7 @@ fn listed(alloc: Global, graph: Graph) -> Result<String, AllocError>
 }
 
 /// The graph that the bytes of a file spell.
-fn graph_of(alloc: Global, bytes: Vec<u8>) -> Result<Graph, Failure>
+pub(crate) fn graph_of(alloc: Global, bytes: Vec<u8>) -> Result<Graph, Failure>
     ensures found { IfOk result (SpellsGraph bytes.items) }
     ensures refused { IfErr result (IsNoGraph bytes.items) }
 {

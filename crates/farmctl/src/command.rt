@@ -1,6 +1,6 @@
 //! The words of the command line.
 
-use clap::{Arg, Error};
+use clap::{Arg, ArgAction, Error};
 use opsproto::LIMIT;
 use std::alloc::{AllocError, Global};
 
@@ -27,6 +27,23 @@ impl Command {
             Command::Record => usize::MAX,
         }
     }
+}
+
+/// How a command answers.
+#[derive(Clone, Copy, Debug, PartialEq, Eq)]
+pub struct Options {
+    /// Whether to say in plain words why something is refused, on the standard error.
+    pub explain: bool,
+    /// Whether a replay with a refused event ends with status 1.
+    pub strict: bool,
+}
+
+/// What the words of the command line say.
+#[derive(Drop)]
+pub struct Words<'a> {
+    pub command: Command,
+    pub options: Options,
+    pub files: Vec<&'a str>,
 }
 
 /// What a definition's command reads.
@@ -99,13 +116,18 @@ fn record_command<'a>(alloc: Global) -> Result<clap::Command<'a>, AllocError> {
 }
 
 fn replay_command<'a>(alloc: Global) -> Result<clap::Command<'a>, AllocError> {
+    let strict = Arg::new(alloc, "strict")
+        .long("strict")
+        .action(ArgAction::SetTrue)
+        .help("Ends with status 1 if an event is refused");
     subcommand(
         alloc,
         "replay",
         "Prints what comes of each event of a schedule, and the versions of each folder after them",
         "Prints a line for each event, and then `SLOT NUMBER:TICKET:DIGITS..` for each slot that has a version.",
         "A schedule; `-` is the standard input",
-    )
+    )?
+    .arg(strict)
 }
 
 /// What the program's help says below its commands.
@@ -113,7 +135,7 @@ const NOTES: &str = "Without words it does `replay -`.
 
 Status:
   0  done
-  1  an input was refused, or can't be read
+  1  an input was refused, or can't be read; with --strict, an event was refused
   2  the words are no command
   3  memory ran out
   4  the answer could not be written
@@ -121,6 +143,11 @@ Status:
 Example: farmctl replay examples/fenced.schedule";
 
 fn farmctl<'a>(alloc: Global) -> Result<clap::Command<'a>, AllocError> {
+    let explain = Arg::new(alloc, "explain")
+        .long("explain")
+        .action(ArgAction::SetTrue)
+        .global(true)
+        .help("Says in plain words why something is refused, on the standard error");
     clap::Command::new(alloc, "farmctl")
         .bin_name("farmctl")?
         .version("0.1.0")
@@ -128,6 +155,7 @@ fn farmctl<'a>(alloc: Global) -> Result<clap::Command<'a>, AllocError> {
         .after_help(NOTES)
         .no_binary_name(true)
         .subcommand_required(true)
+        .arg(explain)?
         .subcommand(check_command(alloc)?)?
         .subcommand(keys_command(alloc)?)?
         .subcommand(wants_command(alloc)?)?
@@ -146,24 +174,35 @@ fn named(name: &str) -> Command {
     }
 }
 
-/// The command that the words spell, and the names of its files; without words, the replay of the standard
-/// input. An error is a usage fault, the help that was asked for, or out of memory.
-pub fn command_of<'a>(
-    alloc: Global,
-    words: &'a [String],
-) -> Result<(Command, Vec<&'a str>), Error> {
+/// What the words say; without words, the replay of the standard input. An error is a usage fault, the help that was
+/// asked for, or out of memory.
+pub fn words_of<'a>(alloc: Global, words: &'a [String]) -> Result<Words<'a>, Error> {
     let mut files = Vec::new(alloc);
+    let mut command = Command::Replay;
+    let mut options = Options {
+        explain: false,
+        strict: false,
+    };
     if words.is_empty() {
         files.push("-").map_err(AllocError::from)?;
-        return Ok((Command::Replay, files));
+        return Ok(Words {
+            command,
+            options,
+            files,
+        });
     }
     let matches = farmctl(alloc)?.try_get_matches_from(words)?;
-    let mut command = Command::Replay;
     if let Some((name, found)) = matches.subcommand() {
         command = named(name);
+        options.explain = found.get_flag("explain");
+        options.strict = matches!(command, Command::Replay) && found.get_flag("strict");
         if let Some(file) = found.get_str("FILE") {
             files.push(file).map_err(AllocError::from)?;
         }
     }
-    Ok((command, files))
+    Ok(Words {
+        command,
+        options,
+        files,
+    })
 }

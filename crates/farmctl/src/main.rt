@@ -5,8 +5,12 @@
 mod act;
 mod answer;
 mod command;
+mod explain;
+#[cfg(test)]
+mod explain_tests;
 mod failure;
 mod files;
+mod line_fault;
 mod printing;
 mod record;
 #[cfg(test)]

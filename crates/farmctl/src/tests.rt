@@ -151,7 +151,7 @@ const WORDS: [(&[&str], u8, &str); 6] = [
     (
         &["replay", "F", "G"],
         USAGE,
-        "error: unexpected argument 'G' found\n\nUsage: farmctl replay <FILE>\n",
+        "error: unexpected argument 'G' found\n\nUsage: farmctl replay [OPTIONS] <FILE>\n",
     ),
 ];
 
@@ -358,7 +358,7 @@ const EMPTY: &str = "e3b0c44298fc1c149afbf4c8996fb92427ae41e4649b934ca495991b785
 const ABC: &str = "ba7816bf8f01cfea414140de5dae2223b00361a396177a9cb410ff61f20015ad";
 
 /// A text with a line feed for each semicolon and what follows it.
-fn lines_of(alloc: Global, schedule: &str) -> Result<Vec<u8>, Fail> {
+pub(crate) fn lines_of(alloc: Global, schedule: &str) -> Result<Vec<u8>, Fail> {
     let text = schedule.replace(alloc, "; ", "\n")?;
     let mut bytes = Vec::new(alloc);
     bytes.extend_from_slice(text.as_bytes())?;
