@@ -3,4 +3,5 @@ pub mod Answers
 pub mod Failures
 pub mod Records
 pub mod Replays
+pub mod Runs
 pub mod Wants

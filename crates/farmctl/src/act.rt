@@ -6,10 +6,12 @@ ghost use Rattle.farmctl.specs.Failures.{failure_line};
 ghost use Rattle.farmctl.specs.Acts.{AnswersAll, FirstFault};
 
 use super::answer::answer;
-use super::command::{Command, Options, Words, words_of};
+use super::command::{Command, Options, Request, Words, words_of};
 use super::explain::{Explanation, explained};
 use super::failure::Failure;
 use super::files::contents;
+use super::running::solve;
+use super::scripted::Scripted;
 use std::alloc::{AllocError, Global};
 use std::io::{self, Write};
 use std::rt::Files;
@@ -26,7 +28,7 @@ pub const MEMORY: u8 = 3;
 pub const FAULT: u8 = 4;
 
 /// Writes a text, and returns the status, or `FAULT` if it can't be written.
-fn print<W: Write>(writer: &mut W, text: &str, status: u8) -> u8
+pub(crate) fn print<W: Write>(writer: &mut W, text: &str, status: u8) -> u8
     ensures status { result ≢ 4 → result ≡ status }
     ensures printed { result ≢ 4 → Appends (W.contents writer.old) (W.contents writer.new) text.now }
 {
@@ -39,7 +41,7 @@ fn print<W: Write>(writer: &mut W, text: &str, status: u8) -> u8
     }
 }
 
-fn print_failure<E: Write>(alloc: Global, failure: Failure, err: &mut E) -> u8
+pub(crate) fn print_failure<E: Write>(alloc: Global, failure: Failure, err: &mut E) -> u8
     ensures not_done { result ≢ 0 }
     ensures refused { result ≡ 1 → failure ≢ failures.Memory }
     ensures printed { result ≡ 1 → Appends (E.contents err.old) (E.contents err.new) (failure_line failure) }
@@ -54,7 +56,7 @@ fn print_failure<E: Write>(alloc: Global, failure: Failure, err: &mut E) -> u8
     }
 }
 
-fn print_unreadable<E: Write>(alloc: Global, name: &str, err: &mut E) -> u8
+pub(crate) fn print_unreadable<E: Write>(alloc: Global, name: &str, err: &mut E) -> u8
     ensures not_done { result ≢ 0 }
     ensures printed { result ≡ 1 → Appends (E.contents err.old) (E.contents err.new) (codes "unreadable " ++ name.now ++ codes "\n") }
 {
@@ -117,7 +119,7 @@ fn explanation(
     let mut lines = String::new(alloc);
     if words.options.explain || words.options.strict {
         match bytes {
-            Ok(bytes) => return explained(alloc, words.command, name, bytes.as_slice()),
+            Ok(bytes) => return explained(alloc, words.request, name, bytes.as_slice()),
             Err(error) => write!(lines, "{name}: {error}\n")?,
         }
     }
@@ -160,7 +162,7 @@ fn act_on<R: Files + Input + AllocGlobal, O: Write, E: Write>(
         has_refused_event: false,
     };
     for name in &words.files {
-        let bytes = contents(rt, name, words.command.most_bytes());
+        let bytes = contents(rt, name, words.request.most_bytes());
         if matches!(&bytes, Err(error) if matches!(error.kind(), io::ErrorKind::OutOfMemory)) {
             return Err(AllocError);
         }
@@ -169,7 +171,13 @@ fn act_on<R: Files + Input + AllocGlobal, O: Write, E: Write>(
         }
         files.push((String::from_str(alloc, name)?, bytes.ok()))?;
     }
-    let status = act(alloc, words.command, files, out, err);
+    let status = match words.request {
+        Request::Print(command) => act(alloc, command, files, out, err),
+        Request::Run { nodes } => {
+            let executor = Box::new(alloc, Scripted::new(alloc))?;
+            solve(alloc, nodes, files, executor, out, err)
+        }
+    };
     Ok(print_explanation(words.options, &all, status, err))
 }
 

@@ -1,6 +1,7 @@
 //! The words of the command line.
 
-use clap::{Arg, ArgAction, Error};
+use clap::builder::ValueParser;
+use clap::{Arg, ArgAction, ArgMatches, Error};
 use opsproto::LIMIT;
 use std::alloc::{AllocError, Global};
 
@@ -19,12 +20,21 @@ pub enum Command {
     Replay,
 }
 
-impl Command {
+/// What the program is asked to do.
+#[derive(Clone, Copy, Debug, PartialEq, Eq)]
+pub enum Request {
+    /// Prints what the command answers for a file.
+    Print(Command),
+    /// Builds definitions on a farm of this many nodes, and prints their answers.
+    Run { nodes: u32 },
+}
+
+impl Request {
     /// How much of a file is read: of a record all, else one byte past the limit, so that what is longer is refused.
     pub fn most_bytes(self) -> usize {
         match self {
-            Command::Check | Command::Keys | Command::Wants | Command::Replay => LIMIT + 1,
-            Command::Record => usize::MAX,
+            Request::Print(Command::Record) => usize::MAX,
+            _ => LIMIT + 1,
         }
     }
 }
@@ -41,7 +51,7 @@ pub struct Options {
 /// What the words of the command line say.
 #[derive(Drop)]
 pub struct Words<'a> {
-    pub command: Command,
+    pub request: Request,
     pub options: Options,
     pub files: Vec<&'a str>,
 }
@@ -130,6 +140,38 @@ fn replay_command<'a>(alloc: Global) -> Result<clap::Command<'a>, AllocError> {
     .arg(strict)
 }
 
+/// What the executor of `run` does.
+const SCRIPTS: &str =
+    "Prints `FILE DIGEST` or `FILE failed` for each file, in order, and then `commits C`: how many \
+executions added versions to cache folders.
+
+No command is really run. An execution does what its command's words say:
+  put DEST PATH TEXT   puts a file into the first cache mount at DEST
+  remove DEST PATH     removes one
+  fail                 fails
+Any other command changes nothing.";
+
+/// The greatest number of nodes that `run` takes.
+const MOST_NODES: u64 = 1;
+
+fn run_command<'a>(alloc: Global) -> Result<clap::Command<'a>, AllocError> {
+    let nodes = Arg::new(alloc, "nodes")
+        .long("nodes")
+        .value_name("N")
+        .required(true)
+        .value_parser(ValueParser::Unsigned(1, MOST_NODES))
+        .help("How many nodes the farm has; the files are built on them in turn");
+    let files = Arg::new(alloc, "FILE")
+        .required(true)
+        .num_args(1..)
+        .help(DEFINITION);
+    clap::Command::new(alloc, "run")
+        .about("Builds definitions on a farm, with executors that run scripts")
+        .after_help(SCRIPTS)
+        .arg(nodes)?
+        .arg(files)
+}
+
 /// What the program's help says below its commands.
 const NOTES: &str = "Without words it does `replay -`.
 
@@ -160,49 +202,61 @@ fn farmctl<'a>(alloc: Global) -> Result<clap::Command<'a>, AllocError> {
         .subcommand(keys_command(alloc)?)?
         .subcommand(wants_command(alloc)?)?
         .subcommand(record_command(alloc)?)?
-        .subcommand(replay_command(alloc)?)
+        .subcommand(replay_command(alloc)?)?
+        .subcommand(run_command(alloc)?)
 }
 
-/// The command of a name.
-fn named(name: &str) -> Command {
+/// What the command of this name is asked to do.
+fn named(name: &str, found: &ArgMatches) -> Request {
     match name {
-        "check" => Command::Check,
-        "keys" => Command::Keys,
-        "wants" => Command::Wants,
-        "record" => Command::Record,
-        _ => Command::Replay,
+        "check" => Request::Print(Command::Check),
+        "keys" => Request::Print(Command::Keys),
+        "wants" => Request::Print(Command::Wants),
+        "record" => Request::Print(Command::Record),
+        "run" => Request::Run {
+            nodes: found.get_one("nodes").unwrap_or(1),
+        },
+        _ => Request::Print(Command::Replay),
     }
+}
+
+/// The files that were named.
+fn files_of<'a>(alloc: Global, found: &ArgMatches<'a>) -> Result<Vec<&'a str>, AllocError> {
+    let mut files = Vec::new(alloc);
+    for file in found.get_strs("FILE").unwrap_or(&[]) {
+        files.push(*file)?;
+    }
+    Ok(files)
+}
+
+/// The replay of the standard input.
+fn default_words<'a>(alloc: Global) -> Result<Words<'a>, AllocError> {
+    Ok(Words {
+        request: Request::Print(Command::Replay),
+        options: Options {
+            explain: false,
+            strict: false,
+        },
+        files: vec![in alloc; "-"]?,
+    })
 }
 
 /// What the words say; without words, the replay of the standard input. An error is a usage fault, the help that was
 /// asked for, or out of memory.
 pub fn words_of<'a>(alloc: Global, words: &'a [String]) -> Result<Words<'a>, Error> {
-    let mut files = Vec::new(alloc);
-    let mut command = Command::Replay;
-    let mut options = Options {
-        explain: false,
-        strict: false,
-    };
     if words.is_empty() {
-        files.push("-").map_err(AllocError::from)?;
-        return Ok(Words {
-            command,
-            options,
-            files,
-        });
+        return Ok(default_words(alloc)?);
     }
     let matches = farmctl(alloc)?.try_get_matches_from(words)?;
-    if let Some((name, found)) = matches.subcommand() {
-        command = named(name);
-        options.explain = found.get_flag("explain");
-        options.strict = matches!(command, Command::Replay) && found.get_flag("strict");
-        if let Some(file) = found.get_str("FILE") {
-            files.push(file).map_err(AllocError::from)?;
-        }
-    }
+    let Some((name, found)) = matches.subcommand() else {
+        return Ok(default_words(alloc)?);
+    };
     Ok(Words {
-        command,
-        options,
-        files,
+        request: named(name, found),
+        options: Options {
+            explain: found.get_flag("explain"),
+            strict: name == "replay" && found.get_flag("strict"),
+        },
+        files: files_of(alloc, found)?,
     })
 }

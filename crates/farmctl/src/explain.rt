@@ -2,7 +2,7 @@
 //! printed here.
 
 use super::answer::graph_of;
-use super::command::Command;
+use super::command::{Command, Request};
 use super::failure::Failure;
 use super::line_fault::line_fault;
 use saverecord::{Record, RecordRefusal};
@@ -133,17 +133,17 @@ fn schedule_explained(alloc: Global, name: &str, bytes: &[u8]) -> Result<Explana
     }
 }
 
-/// What there is to say of a file that the command reads.
+/// What there is to say of a file that is read for this request.
 pub(crate) fn explained(
     alloc: Global,
-    command: Command,
+    request: Request,
     name: &str,
     bytes: &[u8],
 ) -> Result<Explanation, AllocError> {
-    let fault = match command {
-        Command::Check | Command::Keys | Command::Wants => definition_fault(alloc, bytes)?,
-        Command::Record => record_fault(alloc, bytes)?,
-        Command::Replay => return schedule_explained(alloc, name, bytes),
+    let fault = match request {
+        Request::Print(Command::Replay) => return schedule_explained(alloc, name, bytes),
+        Request::Print(Command::Record) => record_fault(alloc, bytes)?,
+        _ => definition_fault(alloc, bytes)?,
     };
     let lines = match fault {
         Some(fault) => format!(in alloc; "{name}: {fault}\n")?,

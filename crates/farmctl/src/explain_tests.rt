@@ -1,4 +1,4 @@
-use super::command::{Command, Options, words_of};
+use super::command::{Command, Options, Request, words_of};
 use super::explain::explained;
 use super::tests::lines_of;
 use std::alloc::Global;
@@ -90,7 +90,12 @@ const SCHEDULES: [(&str, &str); 20] = [
 fn wrong_schedule(alloc: Global, rows: &[(&str, &str)]) -> Result<Option<usize>, Fail> {
     for (place, (schedule, lines)) in rows.iter().enumerate() {
         let bytes = lines_of(alloc, *schedule)?;
-        let said = explained(alloc, Command::Replay, "F", bytes.as_slice())?;
+        let said = explained(
+            alloc,
+            Request::Print(Command::Replay),
+            "F",
+            bytes.as_slice(),
+        )?;
         let is_refused = lines.contains("event ") && !lines.contains("line ");
         if said.lines.as_str() != *lines || said.has_refused_event != is_refused {
             return Ok(Some(place));
@@ -120,7 +125,7 @@ const FILES: [(Command, &[u8], &str); 4] = [
 #[test]
 fn what_is_said_of_files(rt: HostRuntime) -> Result<(), Fail> {
     for (command, bytes, lines) in &FILES {
-        let said = explained(rt.alloc(), *command, "F", bytes)?;
+        let said = explained(rt.alloc(), Request::Print(*command), "F", bytes)?;
         assert_eq!(rt; said.lines.as_str(), *lines);
         assert!(rt; !said.has_refused_event);
     }

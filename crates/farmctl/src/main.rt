@@ -16,6 +16,10 @@ mod record;
 #[cfg(test)]
 mod record_tests;
 mod replaying;
+mod running;
+#[cfg(test)]
+mod running_tests;
+mod scripted;
 #[cfg(test)]
 mod tests;
 mod wants;

@@ -8,7 +8,7 @@ use std::io::Cursor;
 use std::test::Fail;
 
 /// An entry with no op, and the last entry, whose input is that one's output 0.
-const NO_OP: &str =
+pub(crate) const NO_OP: &str =
     "0a000a4b0a490a477368613235363a65336230633434323938666331633134396166626634633839393666623932343237616534316534363439623933346361343935393931623738353262383535";
 
 /// An exec op with a cache mount on `/go/pkg/mod`, up to the byte of its sharing.
@@ -76,7 +76,7 @@ pub(crate) fn wrong_row(
 }
 
 /// A definition of this op, whose output 0 is the result.
-fn spelled(alloc: Global, op: &[u8]) -> Result<Vec<u8>, Fail> {
+pub(crate) fn spelled(alloc: Global, op: &[u8]) -> Result<Vec<u8>, Fail> {
     let digest = Digest(<Sha256 as sha2::Digest>::digest(op)).to_text(alloc)?;
     let mut input = Vec::new(alloc);
     put_message(&mut input, 1, digest.as_bytes())?;
@@ -138,7 +138,7 @@ fn a_definition_cut_short(rt: HostRuntime) -> Result<(), Fail> {
 }
 
 /// Words, the status of the program, and the beginning of what it prints.
-const WORDS: [(&[&str], u8, &str); 6] = [
+const WORDS: [(&[&str], u8, &str); 10] = [
     (
         &["check", "nowhere.llb"],
         REFUSED,
@@ -146,6 +146,14 @@ const WORDS: [(&[&str], u8, &str); 6] = [
     ),
     (&["check"], USAGE, "error: "),
     (&["solve", "F"], USAGE, "error: "),
+    (&["run", "F"], USAGE, "error: "),
+    (&["run", "--nodes", "1"], USAGE, "error: "),
+    (&["run", "--nodes", "0", "F"], USAGE, "error: "),
+    (
+        &["run", "--nodes", "1", "nowhere.llb", "F"],
+        REFUSED,
+        "unreadable nowhere.llb\n",
+    ),
     (&["--help"], DONE, "The solving core"),
     (&["--version"], DONE, "farmctl 0.1.0\n"),
     (

@@ -1,0 +1,112 @@
+use super::act::{DONE, REFUSED};
+use super::running::solve;
+use super::scripted::Scripted;
+use super::tests::{NO_OP, spelled};
+use std::alloc::Global;
+use std::test::Fail;
+
+/// An exec op with a LOCKED cache mount at `/go/pkg/mod`, from behind its command's words on.
+const MOUNTS: &str =
+    "120e08ffffffffffffffffff011a012f122a08ffffffffffffffffff011a0b2f676f2f706b672f6d6f6420ffffffffffffffffff013003a201021002";
+
+/// Such an op up to its mounts, by its words, and the end of its line: the SHA-256 of its key and of the index 0, or `failed`.
+const X: (&str, &str) = (
+    "12410a030a0178",
+    "sha256:c625b55075b66d05d3533e86fd35b624567a08f5f60794ea07603eb176706767",
+);
+
+const PUT: (&str, &str) = (
+    "12560a180a037075740a0b2f676f2f706b672f6d6f640a01610a0178",
+    "sha256:9fb1b8d03624abe987ccf308c45e2eed038dffe0228bd38cf774c1a3f1084286",
+);
+
+const REMOVE: (&str, &str) = (
+    "12560a180a0672656d6f76650a0b2f676f2f706b672f6d6f640a0161",
+    "sha256:f6ac2b2f282a7eebe05ace4b966e6c043ee56b353c1e744b2d909d060c25d218",
+);
+/// `put` at a place where no cache mount is.
+const PUT_NOWHERE: (&str, &str) = (
+    "12530a150a037075740a082f6e6f77686572650a01610a0178",
+    "failed",
+);
+
+const FAIL: (&str, &str) = ("12440a060a046661696c", "failed");
+
+/// The files of a run, each of one op, and the line that ends what is printed.
+const RUNS: [(&[(&str, &str)], &str); 6] = [
+    (&[PUT], "commits 1\n"),
+    // Two files of one definition have one key, which is solved once.
+    (&[PUT, PUT], "commits 1\n"),
+    (&[X, PUT, REMOVE], "commits 3\n"),
+    (&[FAIL], "commits 0\n"),
+    (&[PUT_NOWHERE, PUT], "commits 1\n"),
+    (&[], "commits 0\n"),
+];
+
+/// The file of one op.
+fn file(alloc: Global, op: &str) -> Result<(String, Option<Vec<u8>>), Fail> {
+    let mut bytes = hex::decode(alloc, op)?;
+    let mounts = hex::decode(alloc, MOUNTS)?;
+    bytes.extend_from_slice(mounts.as_slice())?;
+    let definition = spelled(alloc, bytes.as_slice())?;
+    Ok((String::from_str(alloc, "F")?, Some(definition)))
+}
+
+/// The files of these ops, and what is printed for them.
+fn files_of(
+    alloc: Global,
+    ops: &[(&str, &str)],
+) -> Result<(Vec<(String, Option<Vec<u8>>)>, String), Fail> {
+    let mut files = Vec::new(alloc);
+    let mut lines = String::new(alloc);
+    for (op, answer) in ops {
+        files.push(file(alloc, op)?)?;
+        lines.push_str("F ")?;
+        lines.push_str(answer)?;
+        lines.push('\n')?;
+    }
+    Ok((files, lines))
+}
+
+#[test]
+fn what_runs_come_to(rt: HostRuntime) -> Result<(), Fail> {
+    let alloc = rt.alloc();
+    for (ops, commits) in &RUNS {
+        let (files, mut wanted) = files_of(alloc, ops)?;
+        wanted.push_str(commits)?;
+        let mut out = Vec::new(alloc);
+        let mut err = Vec::new(alloc);
+        let executor = Box::new(alloc, Scripted::new(alloc))?;
+        let status = solve(alloc, 1, files, executor, &mut out, &mut err);
+        assert_eq!(rt; status, DONE);
+        assert_eq!(rt; out.as_slice(), wanted.as_str().as_bytes());
+        assert!(rt; err.is_empty());
+    }
+    Ok(())
+}
+
+/// A file that can't be read, and one that is no graph, behind one that is: nothing is run.
+#[test]
+fn what_is_not_run(rt: HostRuntime) -> Result<(), Fail> {
+    let alloc = rt.alloc();
+    let bad: [(Option<&str>, &str); 2] = [
+        (None, "unreadable G\n"),
+        (Some(NO_OP), "refused NoOp 0\n"),
+    ];
+    for (bytes, line) in &bad {
+        let (mut files, _) = files_of(alloc, &[PUT])?;
+        let bytes = match bytes {
+            Some(bytes) => Some(hex::decode(alloc, bytes)?),
+            None => None,
+        };
+        files.push((String::from_str(alloc, "G")?, bytes))?;
+        let mut out = Vec::new(alloc);
+        let mut err = Vec::new(alloc);
+        let executor = Box::new(alloc, Scripted::new(alloc))?;
+        let status = solve(alloc, 1, files, executor, &mut out, &mut err);
+        assert_eq!(rt; status, REFUSED);
+        assert!(rt; out.is_empty());
+        assert_eq!(rt; err.as_slice(), line.as_bytes());
+    }
+    Ok(())
+}
