@@ -1,0 +1,10 @@
+//! A farm that solves jobs: by one executor in one thread, over the board of a farm.
+#![tactic(auto)]
+
+mod down;
+mod ends;
+mod fault;
+
+pub use down::DownCount;
+pub use ends::OneEnd;
+pub use fault::FarmFault;
