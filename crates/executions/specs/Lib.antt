@@ -1,2 +1,4 @@
-pub mod Calls
 pub mod TaskParts
+pub mod Calls
+pub mod Seen
+pub mod Left

@@ -3,7 +3,9 @@
 
 mod call;
 mod executor;
+mod left;
 mod refusal;
+mod seen;
 mod task;
 
 pub use call::{Call, ExecOutcome};
