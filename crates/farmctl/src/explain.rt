@@ -31,9 +31,9 @@ fn record_fault(alloc: Global, bytes: &[u8]) -> Result<Option<String>, AllocErro
 
 /// The line of this number, from 1.
 fn line_at(text: &[u8], wanted: u64) -> &[u8] {
-    let mut number = 0;
+    let mut number: u64 = 0;
     for line in text.split(|byte| *byte == b'\n') {
-        number += 1;
+        number = number.saturating_add(1);
         if number == wanted {
             return line;
         }
