@@ -3,6 +3,7 @@
 
 mod call;
 mod executor;
+mod given;
 mod left;
 mod refusal;
 mod seen;
@@ -10,5 +11,5 @@ mod task;
 
 pub use call::{Call, ExecOutcome};
 pub use executor::{Executor, Gate};
-pub use refusal::RunRefusal;
+pub use refusal::{RunRefusal, SharedRefusal};
 pub use task::{ExecTask, View};
