@@ -180,7 +180,7 @@ Status:
   1  an input was refused, or can't be read; with --strict, an event was refused
   2  the words are no command
   3  memory ran out
-  4  the answer could not be written
+  4  the answer could not be written, or a run ended with a fault
 
 Example: farmctl replay examples/fenced.schedule";
 
