@@ -1,5 +1,5 @@
 //! What `run` does with its files.
-ghost use Rattle.std.specs.Prelude.{◌≡◌, ◌≢◌, ◌++◌, ℕ, List, codes, length, map, IfOk, IfErr, OnOk};
+ghost use Rattle.std.specs.Prelude.{◌≡◌, ◌≢◌, ◌+◌, ◌++◌, ◌∷◌, [], ℕ, List, codes, length, map, IfOk, IfErr, OnOk};
 ghost use Rattle.std.specs.String.{string_bytes};
 ghost use Rattle.std.specs.Io.KnownBytes.{Appends};
 ghost use Rattle.farmctl.specs.declared.failure.Failure.TheVariants as failures;
@@ -16,7 +16,7 @@ use farm_base::NodeId;
 use jobs::Answer;
 use schedule::Setup;
 use solverkeys::Keyed;
-use std::alloc::{AllocError, Global};
+use std::alloc::{AllocError, AllocFailed, Global};
 use std::io::Write;
 
 /// The graph of a file's definition, with its keys.
@@ -52,6 +52,14 @@ impl From<AllocError> for InputFault {
     }
 }
 
+impl<T: Drop> From<AllocFailed<T>> for InputFault {
+    ghost from_gives = { λ _ fault. fault ≡ inputs.Refused failures.Memory };
+
+    fn from(_error: AllocFailed<T>) -> InputFault {
+        InputFault::Refused(Failure::Memory)
+    }
+}
+
 /// The files' names, and a job for each.
 #[derive(Drop)]
 struct Inputs {
@@ -66,7 +74,10 @@ fn push_input(
     nodes: u32,
     name: String,
     bytes: Option<Vec<u8>>,
-) -> Result<(), InputFault> {
+) -> Result<(), InputFault>
+    ensures names { OnOk result (map string_bytes inputs.new.names.items ≡ map string_bytes inputs.old.names.items ++ string_bytes name ∷ []) }
+    ensures jobs { OnOk result (length inputs.new.jobs.items ≡ length inputs.old.jobs.items + 1) }
+{
     let Some(bytes) = bytes else {
         return Err(InputFault::Unreadable(name));
     };
@@ -118,19 +129,22 @@ fn push_job(alloc: Global, text: &mut String, name: &str, answer: &Answer) -> Re
 
 /// The lines of the files, with their answers.
 fn lines(alloc: Global, names: &[String], answers: &[Answer]) -> Result<String, AllocError>
-    requires { length names.now ≡ length answers.now }
     ensures { IfOk result (λ text. string_bytes text ≡ job_lines (map string_bytes names.now) answers.now) }
 {
     let mut text = String::new(alloc);
-    for place in 0..names.len() {
-        push_job(alloc, &mut text, names[place].as_str(), &answers[place])?;
+    let mut rest = answers;
+    for name in names {
+        let [answer, others @ ..] = rest else {
+            break;
+        };
+        push_job(alloc, &mut text, name.as_str(), answer)?;
+        rest = others;
     }
     Ok(text)
 }
 
 /// What is printed for a run.
 fn run_text(alloc: Global, names: &[String], end: &OneEnd) -> Result<String, AllocError>
-    requires { length names.now ≡ length end.now.answers.items }
     ensures { IfOk result (λ text. string_bytes text ≡ job_lines (map string_bytes names.now) end.now.answers.items ++ commits_line end.now.commits) }
 {
     let mut text = lines(alloc, names, end.answers.as_slice())?;

@@ -5,64 +5,84 @@ use super::tests::{NO_OP, spelled};
 use std::alloc::Global;
 use std::test::Fail;
 
-/// An exec op with a LOCKED cache mount at `/go/pkg/mod`, from behind its command's words on.
+/// An exec op with a cache mount at `/go/pkg/mod`, from behind its command's words up to the byte of its sharing.
 const MOUNTS: &str =
-    "120e08ffffffffffffffffff011a012f122a08ffffffffffffffffff011a0b2f676f2f706b672f6d6f6420ffffffffffffffffff013003a201021002";
+    "120e08ffffffffffffffffff011a012f122a08ffffffffffffffffff011a0b2f676f2f706b672f6d6f6420ffffffffffffffffff013003a2010210";
 
-/// Such an op up to its mounts, by its words, and the end of its line: the SHA-256 of its key and of the index 0, or `failed`.
-const X: (&str, &str) = (
+/// Such an op up to its mounts, by its words; its sharing; and the end of its line: the SHA-256 of its key and of the
+/// index 0, or `failed`.
+type Op = (&'static str, &'static str, &'static str);
+
+const X: Op = (
     "12410a030a0178",
+    "02",
     "sha256:c625b55075b66d05d3533e86fd35b624567a08f5f60794ea07603eb176706767",
 );
 
-const PUT: (&str, &str) = (
+const PUT: Op = (
     "12560a180a037075740a0b2f676f2f706b672f6d6f640a01610a0178",
+    "02",
     "sha256:9fb1b8d03624abe987ccf308c45e2eed038dffe0228bd38cf774c1a3f1084286",
 );
 
-const REMOVE: (&str, &str) = (
+const PUT_SHARED: Op = (
+    "12560a180a037075740a0b2f676f2f706b672f6d6f640a01610a0178",
+    "00",
+    "sha256:24f3dfcf278abda5ed5cdafba2b96b2f1ac82457c8ac7a2c22d5b1fea159cb0c",
+);
+
+const PUT_PRIVATE: Op = (
+    "12560a180a037075740a0b2f676f2f706b672f6d6f640a01610a0178",
+    "01",
+    "sha256:92148185876a363ff0c1511ac18e04441613d4bf5a66b83fe92f640babaca0a5",
+);
+
+const REMOVE: Op = (
     "12560a180a0672656d6f76650a0b2f676f2f706b672f6d6f640a0161",
+    "02",
     "sha256:f6ac2b2f282a7eebe05ace4b966e6c043ee56b353c1e744b2d909d060c25d218",
 );
 /// `put` at a place where no cache mount is.
-const PUT_NOWHERE: (&str, &str) = (
+const PUT_NOWHERE: Op = (
     "12530a150a037075740a082f6e6f77686572650a01610a0178",
+    "02",
     "failed",
 );
 
-const FAIL: (&str, &str) = ("12440a060a046661696c", "failed");
+const FAIL: Op = ("12440a060a046661696c", "02", "failed");
 
-/// The files of a run, each of one op, and the line that ends what is printed.
-const RUNS: [(&[(&str, &str)], &str); 6] = [
+/// The files of a run, each of one op, and the line that ends what is printed. The tenure of a SHARED folder commits once,
+/// at the end.
+const RUNS: [(&[Op], &str); 7] = [
     (&[PUT], "commits 1\n"),
     // Two files of one definition have one key, which is solved once.
     (&[PUT, PUT], "commits 1\n"),
     (&[X, PUT, REMOVE], "commits 3\n"),
     (&[FAIL], "commits 0\n"),
     (&[PUT_NOWHERE, PUT], "commits 1\n"),
+    (&[PUT_SHARED, PUT_SHARED, PUT_PRIVATE], "commits 2\n"),
     (&[], "commits 0\n"),
 ];
 
 /// The file of one op.
-fn file(alloc: Global, op: &str) -> Result<(String, Option<Vec<u8>>), Fail> {
-    let mut bytes = hex::decode(alloc, op)?;
+fn file(alloc: Global, op: &Op) -> Result<(String, Option<Vec<u8>>), Fail> {
+    let mut bytes = hex::decode(alloc, op.0)?;
     let mounts = hex::decode(alloc, MOUNTS)?;
+    let sharing = hex::decode(alloc, op.1)?;
     bytes.extend_from_slice(mounts.as_slice())?;
+    bytes.extend_from_slice(sharing.as_slice())?;
     let definition = spelled(alloc, bytes.as_slice())?;
     Ok((String::from_str(alloc, "F")?, Some(definition)))
 }
 
 /// The files of these ops, and what is printed for them.
-fn files_of(
-    alloc: Global,
-    ops: &[(&str, &str)],
-) -> Result<(Vec<(String, Option<Vec<u8>>)>, String), Fail> {
+fn files_of(alloc: Global, ops: &[Op]) -> Result<(Vec<(String, Option<Vec<u8>>)>, String), Fail> {
     let mut files = Vec::new(alloc);
     let mut lines = String::new(alloc);
-    for (op, answer) in ops {
+    for op in ops {
         files.push(file(alloc, op)?)?;
         lines.push_str("F ")?;
-        lines.push_str(answer)?;
+        lines.push_str(op.2)?;
         lines.push('\n')?;
     }
     Ok((files, lines))
