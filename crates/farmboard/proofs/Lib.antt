@@ -1,2 +1,9 @@
+pub mod FarmLemmas
+pub mod TicketLemmas
+pub mod UseLemmas
 pub mod HistoryLemmas
 pub mod NoteLemmas
+pub mod NodeLemmas
+pub mod SettleLemmas
+pub mod LookLemmas
+pub mod BeginLemmas

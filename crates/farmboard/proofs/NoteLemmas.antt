@@ -28,7 +28,7 @@ pub record Accepted (is : Bool) (a : NodeAnswer) (o : Outcome) : Type 0 where
   pub answer : a ≡ Ok work
   pub note : o.note ≡ note.Node work.note
 
-note_of : (o p : Outcome) → ◌≡◌ {A = Result Outcome EventRefusal} (Ok p) (Ok o) → o.note ≡ p.note
+pub note_of : (o p : Outcome) → ◌≡◌ {A = Result Outcome EventRefusal} (Ok p) (Ok o) → o.note ≡ p.note
 note_of o p h = (let same : p ≡ o = cc in ap (λ (x : Outcome). x.note) (sym same))
 
 pub accepted : (b : Bool) (n : NodeId) (a : NodeAnswer) (s : Farm) (o : Outcome) → (at_node b n a s).outcome ≡ Ok o → Accepted b a o
@@ -36,7 +36,7 @@ accepted false n a s o h = absurd (cc)
 accepted true n (Err e) s o h = absurd (cc)
 accepted true n (Ok w) s o h = record { there = refl; work = w; answer = refl; note = note_of o _ h }
 
-work_note : (v w : NodeWork) → ◌≡◌ {A = NodeAnswer} (Ok v) (Ok w) → w.note ≡ v.note
+pub work_note : (v w : NodeWork) → ◌≡◌ {A = NodeAnswer} (Ok v) (Ok w) → w.note ≡ v.note
 work_note v w h = (let same : v ≡ w = cc in ap (λ (x : NodeWork). x.note) (sym same))
 
 -- an accepted ask tells its number

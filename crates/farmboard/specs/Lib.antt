@@ -4,3 +4,6 @@ pub mod Boards
 pub mod Faults
 pub mod Tokens
 pub mod Ends
+pub mod Begins
+pub mod Settling
+pub mod Counts

@@ -1,10 +1,13 @@
 -- Which executions are in use: from an accepted Begin to the accepted Finish or Abort of that ticket, or the accepted
 -- restart of that node. The rule is this project's own.
-use Rattle.std.specs.Prelude.{ℕ, Bool, true, false, ◌==◌, ◌&&◌, not, filter, List, [], ◌∷◌, ◌++◌, Result, Ok, Err}
+use Rattle.std.specs.Prelude.{◌≡◌, ℕ, Bool, true, false, ◌==◌, ◌&&◌, not, filter, List, [], ◌∷◌, ◌++◌, Some, Result, Ok, Err}
 use Rattle.std.specs.List.{list_any}
 use Rattle.farm_base.specs.Contents.{content_digest}
 use Rattle.protocol.specs.Farm.{farm_limits}
-use Rattle.protocol.specs.Names.{NodeId, Ticket}
+use Rattle.protocol.specs.Lists.{In, nth}
+use Rattle.protocol.specs.Names.{NodeId, Ticket, Want}
+use Rattle.protocol.specs.Machine.{Grant}
+use Rattle.protocol.specs.declared.ask.KeptAsk.TheVariants as ask
 use Rattle.protocol.specs.Replay.{Farm, opening, step}
 use Rattle.protocol.specs.declared.event.Event.{Event}
 use Rattle.protocol.specs.declared.event.Event.TheVariants.{Begin, Finish, Abort, RestartNode}
@@ -18,6 +21,15 @@ is_on n u = u.node.0 == n.0
 
 abbrev pub is_use_of : NodeId → Ticket → InUse → Bool
 is_use_of n t u = (u.node.0 == n.0) && (u.ticket.0 == t.0)
+
+-- the node executes an ask under the ticket
+abbrev pub Runs : Farm → InUse → Type 0
+Runs s u = (a : ℕ) × (wants : List Want) × (g : Grant) × (recalled : Bool) × (nth (s.nodes u.node.0).asks a ≡ Some (ask.Running wants g recalled)) × (g.ticket ≡ u.ticket)
+
+-- these are the executions of the farm's nodes
+pub record AreUsed (s : Farm) (uses : List InUse) : Type 0 where
+  pub each : (u : InUse) → In u uses → Runs s u
+  pub all : (u : InUse) → Runs s u → In u uses
 
 -- what is in use after an accepted event
 abbrev pub out_after : Event → List InUse → List InUse

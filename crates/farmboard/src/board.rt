@@ -1,6 +1,7 @@
 //! The board.
 ghost use Rattle.std.specs.Prelude.{◌≡◌, ◌+◌, ◌<◌, ◌≤◌, ◌↔◌, [], true, false, IfOk, IfErr, IfSome, IfNone, is_some, length, map, ℕ, ◌∷◌};
 ghost use Rattle.farm_base.specs.Contents.{content_digest};
+ghost use Rattle.farm_base.specs.declared.limits.TheConstants.{EVENTS};
 ghost use Rattle.protocol.specs.Names.{tenure_wants};
 ghost use Rattle.protocol.specs.Replay.{is_node};
 ghost use Rattle.protocol.specs.declared.answer.EventNote.TheVariants as note;
@@ -9,8 +10,10 @@ ghost use Rattle.farmboard.specs.Ends.{version_of, finished_of};
 ghost use Rattle.world.specs.Setups.{IsSetup};
 ghost use Rattle.world.specs.Shown.{shown};
 
-use super::event::{answer, asked, carry_out, is_among, is_delivered};
+use super::counts::{Counts, count, leases_at};
+use super::event::{answer, asked, carry_out};
 use super::fault::FarmStep;
+use super::passing::{is_among, pass};
 use super::refusal::BoardRefusal;
 use super::tokens::{Accept, Asked, Finished, Granted, Running, abandon_asked};
 use super::uses::{InUse, has_node, note};
@@ -33,10 +36,12 @@ pub struct Board {
     schedule: Vec<Event>,
     skipped: Vec<u64>,
     world: World,
-    /// No message up to this number is left to be delivered.
+    /// No message up to this number is left to be delivered, nor any of those `ahead`.
     passed: u64,
+    ahead: Vec<u64>,
     /// The executions in use.
     out: Vec<InUse>,
+    counts: Counts,
 }
 
 impl Model for Board {
@@ -48,12 +53,14 @@ impl Model for Board {
 
     ghost view = { λ b. record { setup = b.setup; events = b.schedule.items; skipped = b.skipped.items } };
 
-    ghost invariant = { λ b. IsBoard (shown b.world) (record { setup = b.setup; events = b.schedule.items; skipped = b.skipped.items }) b.passed b.out.items };
+    ghost invariant = { λ b. IsBoard (shown b.world) (record { setup = b.setup; events = b.schedule.items; skipped = b.skipped.items }) b.passed b.ahead.items b.out.items b.counts };
 }
 
 impl Board {
     ghost use Rattle.farmboard.specs.History.{farm_of, is_passed, Took, Did, IsNext, NoneLeft, DeliversNext, IsAskEvent};
-    ghost use Rattle.farmboard.specs.Out.{out_of};
+    ghost use Rattle.farmboard.specs.Out.{out_of, AreUsed};
+    ghost use Rattle.farmboard.specs.Counts.{counts_of, commits_of};
+    ghost use Rattle.farmboard.specs.Boards.{AreFew};
     ghost use Rattle.farmboard.specs.Faults.{Skips, TookOrNot, RestartsNode, Faults};
     ghost use Rattle.farmboard.specs.Tokens.{is_in_life, state_of, IsAskOf, Accepts};
 
@@ -70,7 +77,13 @@ impl Board {
             skipped: Vec::new(alloc),
             world,
             passed: 0,
+            ahead: Vec::new(alloc),
             out: Vec::new(alloc),
+            counts: Counts {
+                committed: 0,
+                kept: 0,
+                refused: 0,
+            },
         })
     }
 
@@ -105,20 +118,46 @@ impl Board {
             skipped: _,
             world,
             passed: _,
+            ahead: _,
             out: _,
+            counts: _,
         } = self;
         (setup, schedule, world)
     }
 
+    /// What the schedule counts.
+    pub fn counts(&self) -> Counts
+        ensures value { result ≡ counts_of self.now }
+        ensures few { AreFew result EVENTS }
+    {
+        self.counts
+    }
+
+    /// How many grants ended as committed. One that a failed save kept counts from the coordinator's restart on.
+    pub fn commits(&self) -> u64
+        ensures { result ≡ commits_of self.now }
+    {
+        let counts = self.counts();
+        counts.committed + counts.kept
+    }
+
+    /// How many events of the schedule were refused.
+    pub fn refused(&self) -> u64
+        ensures { result ≡ (counts_of self.now).refused }
+    {
+        self.counts().refused
+    }
+
     /// The executions in use: those of the tokens that are out.
     pub fn out(&self) -> &[InUse]
-        ensures { result.now ≡ out_of self.now }
+        ensures value { result.now ≡ out_of self.now }
+        ensures used { AreUsed (farm_of self.now) result.now }
     {
         self.out.as_slice()
     }
 
     /// Carries out one event, and appends it where the world took or refused it.
-    fn take(&mut self, alloc: Global, event: Event) -> Result<Outcome, BoardRefusal>
+    pub(crate) fn take(&mut self, alloc: Global, event: Event) -> Result<Outcome, BoardRefusal>
         ensures { Took self.old event self.new result }
     {
         if self.schedule.len() >= EVENTS {
@@ -127,22 +166,31 @@ impl Board {
         let Ok(copy) = event.copy(alloc) else {
             return Err(BoardRefusal::OutOfMemory);
         };
-        if self.schedule.reserve(1).is_err() || self.out.reserve(1).is_err() {
+        let Ok(leases) = leases_at(&self.world, alloc, &event) else {
+            return Err(BoardRefusal::OutOfMemory);
+        };
+        if self.schedule.reserve(1).is_err()
+            || self.out.reserve(1).is_err()
+            || self.ahead.reserve(1).is_err()
+        {
             return Err(BoardRefusal::OutOfMemory);
         }
         let Ok(outcome) = carry_out(&mut self.world, alloc, event) else {
             return Err(BoardRefusal::OutOfMemory);
         };
         note(&mut self.out, &copy, &outcome);
+        self.passed = pass(&mut self.ahead, self.passed, &copy);
+        self.counts = count(self.counts, leases.as_slice(), &self.world, &outcome);
         self.schedule.push_reserved(copy);
         answer(outcome)
     }
 
     /// Whether the message of this number was skipped, or a Deliver of the schedule names it.
     fn is_passed(&self, number: u64) -> bool
+        requires { 1 ≤ number }
         ensures { result ≡ is_passed self.now number }
     {
-        is_among(number, self.skipped.as_slice()) || is_delivered(number, self.schedule.as_slice())
+        number <= self.passed || is_among(number, self.ahead.as_slice())
     }
 
     /// How many messages were ever sent.
@@ -263,11 +311,12 @@ impl Board {
             return Err(BoardRefusal::OutOfMemory);
         }
         self.skipped.push_reserved(number);
+        self.passed = number;
         Ok(())
     }
 
     /// Carries out the event of a step.
-    fn disturb(&mut self, alloc: Global, event: Event) -> Result<(), BoardRefusal>
+    pub(crate) fn disturb(&mut self, alloc: Global, event: Event) -> Result<(), BoardRefusal>
         ensures { TookOrNot self.old event self.new result }
     {
         let _outcome = self.take(alloc, event)?;

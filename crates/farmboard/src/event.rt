@@ -1,10 +1,9 @@
-ghost use Rattle.std.specs.Prelude.{◌≡◌, ◌==◌, IfOk, OnErr};
-ghost use Rattle.std.specs.List.{list_any};
+ghost use Rattle.std.specs.Prelude.{◌≡◌, IfOk, OnErr};
 ghost use Rattle.farm_base.specs.Contents.{content_digest};
 ghost use Rattle.protocol.specs.Farm.{farm_limits};
 ghost use Rattle.protocol.specs.Replay.{step};
 ghost use Rattle.world.specs.Shown.{shown};
-ghost use Rattle.farmboard.specs.History.{answer_of, ask_told, ask_in, delivers};
+ghost use Rattle.farmboard.specs.History.{answer_of, ask_told, ask_in};
 
 use super::refusal::BoardRefusal;
 use farm_base::Ask;
@@ -59,27 +58,4 @@ pub(crate) fn asked(note: &EventNote) -> Option<Ask>
         EventNote::Node(note) => asked_by_node(note),
         _ => None,
     }
-}
-
-/// Whether the event delivers the message of this number.
-fn delivers(number: u64, event: &Event) -> bool
-    ensures { result ≡ delivers number event.now }
-{
-    match event {
-        Event::Deliver(delivered) => *delivered == number,
-        _ => false,
-    }
-}
-
-/// Whether an event delivers the message of this number.
-pub(crate) fn is_delivered(number: u64, events: &[Event]) -> bool
-    ensures { result ≡ list_any (delivers number) events.now }
-{
-    events.iter().any(|event| delivers(number, event))
-}
-
-pub(crate) fn is_among(number: u64, numbers: &[u64]) -> bool
-    ensures { result ≡ list_any (λ n. n == number) numbers.now }
-{
-    numbers.iter().any(|other| *other == number)
 }

@@ -47,6 +47,43 @@ pub enum Accept {
     Lost,
 }
 
+/// What `begin` would say of a grant.
+#[derive(Clone, Copy, Debug, PartialEq, Eq)]
+pub enum Look {
+    Ready,
+    /// The content of a base isn't here yet.
+    Missing,
+    /// The node restarted, is down, or gave the lease back.
+    Gone,
+}
+
+/// What became of a lease that was to be given back.
+#[derive(Clone, Copy, Debug, PartialEq, Eq)]
+pub enum Ended {
+    Sent,
+    /// The node no longer has the lease.
+    Stale,
+}
+
+/// The versions that an execution added under its ticket.
+#[derive(Debug, Drop)]
+pub struct Receipt {
+    pub ticket: Ticket,
+    /// By rising slot.
+    pub versions: Items<Version>,
+}
+
+/// What became of an execution that is over.
+pub enum Settled {
+    Receipt(Receipt),
+    /// It doesn't count.
+    Fenced,
+    /// Nothing is known of it yet.
+    Waiting(Finished),
+    /// Its node restarted, and its lease ended otherwise.
+    Lost,
+}
+
 impl Asked {
     pub fn node(&self) -> NodeId
         ensures { result ≡ self.now.node }

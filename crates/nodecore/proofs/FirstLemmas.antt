@@ -64,3 +64,11 @@ some_first test asks i h =
     let (j, at, f) = some_from test asks 0 i 0 (sym (position_from-zero (picks test) asks) ∙ h) in
     let same : j ≡ i = omega (arith, at) in
     subst (FirstAt test asks 0) same f
+
+picked_by : {A : Type 0} (test : KeptAsk → Option A) (asks : List KeptAsk) (o : Option ℕ) → position (picks test) asks ≡ o → is_some o ≡ is_some (first test asks 0)
+picked_by test asks None h = ap is_some (sym (none_first test asks h))
+picked_by test asks (Some i) h = (let f = some_first test asks i h in ap is_some (sym (f.found (i + 1) (omega arith))))
+
+-- an ask is picked exactly where there is a first one
+pub picked : {A : Type 0} (test : KeptAsk → Option A) (asks : List KeptAsk) → is_some (position (picks test) asks) ≡ is_some (first test asks 0)
+picked test asks = picked_by test asks (position (picks test) asks) refl

@@ -1,14 +1,14 @@
 -- What is stored and known, against the lists of it that a process keeps.
 use mathlib.Core.Path.{fun_ext}
-use Rattle.std.proofs.Common.{◌≡◌, ℕ, zero, suc, Bool, true, false, true≢false, cond, ◌&&◌, List, [], ◌∷◌, ◌++◌, drop, slice_get, refl, ap, sym, subst, ◌∙◌, inl, inr, Option, Some, None, is_some, arith}
-use Rattle.std.specs.Prelude.{if◌then◌else◌, Contains}
+use Rattle.std.specs.Option.{option_copied}
+use Rattle.std.proofs.Common.{◌≡◌, ℕ, Bool, true, false, true≢false, cond, Bor, ◌&&◌, List, [], ◌∷◌, ◌++◌, refl, ap, sym, subst, ◌∙◌, inl, inr, Option, Some, None, is_some, arith}
+use Rattle.std.specs.Prelude.{if◌then◌else◌, Contains, IfSome}
 use Rattle.std.specs.Cmp.{IsEquivalence}
 use Rattle.std.specs.List.{list_all, IsDistinct}
 use Rattle.std.specs.Map.{keys_of, values_of, lookup, update, update_all}
 use Rattle.std.proofs.lemmas.Cmp.{on_equiv, and_equiv, nat_eq_equiv}
 use Rattle.std.proofs.lemmas.List.Folds.{list_all-append}
 use Rattle.std.proofs.lemmas.List.Sums.{AllPass-from_list_all}
-use Rattle.std.proofs.lemmas.Map.Entries.{lookup_tail}
 use Rattle.std.proofs.lemmas.Map.Made.{update_all_none}
 use Rattle.std.proofs.lemmas.Map.Views.{lookup-from_Contains}
 use Rattle.indexmap.proofs.CallerLemmas.{insert_entry-new}
@@ -224,3 +224,22 @@ has_bases x y e slots h k d lt = has_base x y e _ (AllPass-from_list_all (λ (u 
 -- a test picks one ask first
 pub first_is : (test : KeptAsk → Option Held) (asks : List KeptAsk) (a b : ℕ) (h k : Held) → first test asks 0 ≡ Some (a, h) → first test asks 0 ≡ Some (b, k) → h ≡ k
 first_is test asks a b h k e f = ap (λ (p : ℕ × Held). p.1) (some_is (a, h) (b, k) (sym e ∙ f))
+
+keyed_step : (k d : Digest) (x c : List ℕ) (rest : Option (List ℕ)) (b : Bool) → digest_eq d k ≡ b → digest_eq k (content_digest x) ≡ true → (rest ≡ Some c → content_digest c ≡ d)
+    → cond b (Some x) rest ≡ Some c → content_digest c ≡ d
+keyed_step k d x c rest true e keyed others found =
+    let same : x ≡ c = some_is x c found in
+    ap content_digest (sym same) ∙ sym (digest_exact k (content_digest x) keyed) ∙ sym (digest_exact d k e)
+keyed_step k d x c rest false e keyed others found = others found
+
+-- what is found under a digest has that digest
+pub keyed_at : (es : List (Digest × List ℕ)) (d : Digest) (c : List ℕ) → list_all is_keyed es ≡ true → lookup (digest_eq d) es ≡ Some c → content_digest c ≡ d
+keyed_at [] d c h found = absurd (cc)
+keyed_at (e ∷ es) d c h found =
+    let parts = and_parts (is_keyed e) (list_all is_keyed es) h in
+    keyed_step e.0 d e.1 c (lookup (digest_eq d) es) (digest_eq d e.0) refl parts.0 (keyed_at es d c parts.1) found
+
+-- what is found has the digest under which it is found
+pub found_keyed : {S : Type 0} (m : IndexMap Digest (List ℕ) S) (d : Digest) (o : Option (Bor (List ℕ))) → AreStored m.entries → option_copied o ≡ store_in m d → IfSome o (λ content. content_digest content.now ≡ d)
+found_keyed m d None h found = tt
+found_keyed m d (Some c) h found = keyed_at m.entries d c.now h.keyed (sym found)

@@ -1,9 +1,10 @@
 -- What contracts see of the asks of a node.
-use Rattle.std.specs.Prelude.{◌≡◌, ℕ, ◌<◌, ◌≤◌, Bool, true, false, List, [], length, Some, slice_get, is_some}
+use Rattle.std.specs.Prelude.{◌≡◌, ℕ, ◌<◌, ◌≤◌, Bool, true, false, List, [], length, Option, Some, None, slice_get, is_some}
 use Rattle.farm_base.specs.declared.message.FromCoord as FromCoord
 use Rattle.farm_base.specs.declared.message.FromCoord.TheVariants as coord
 use Rattle.protocol.specs.Names.{Life, Ticket}
 use Rattle.protocol.specs.Machine.{Grant, GrantedSlot, News}
+use Rattle.protocol.specs.declared.answer.How.{How}
 use Rattle.protocol.specs.declared.ask.KeptAsk.{KeptAsk}
 use Rattle.protocol.specs.declared.ask.KeptAsk.TheVariants.{Open, Holding, Running, Finished, Over}
 use Rattle.protocol.specs.Nodes as node
@@ -27,6 +28,27 @@ slots_in (Holding wants g r) = g.slots
 slots_in (Running wants g r) = g.slots
 slots_in (Finished wants g news) = []
 slots_in (Over how) = []
+
+-- the lease of an ask that is granted or running
+abbrev pub lease_in : KeptAsk → Option Grant
+lease_in (Open wants tenure) = None
+lease_in (Holding wants g r) = Some g
+lease_in (Running wants g r) = Some g
+lease_in (Finished wants g news) = None
+lease_in (Over how) = None
+
+-- how an ask ended, None while it is present
+abbrev pub way_out : KeptAsk → Option How
+way_out (Open wants tenure) = None
+way_out (Holding wants g r) = None
+way_out (Running wants g r) = None
+way_out (Finished wants g news) = None
+way_out (Over how) = Some how
+
+-- the same of an ask that may not be there
+abbrev pub way_out_of : Option KeptAsk → Option How
+way_out_of None = None
+way_out_of (Some x) = way_out x
 
 -- the ask is granted or running as a tenure whose folder another ask uses
 abbrev pub is_in_use : List KeptAsk → ℕ → KeptAsk → Bool

@@ -1,12 +1,12 @@
 //! The asks of a node's present life.
-ghost use Rattle.std.specs.Prelude.{◌≡◌, ◌+◌, ◌<◌, Bool, List, Some, IfOk, is_some, length, position, slice_get};
+ghost use Rattle.std.specs.Prelude.{◌≡◌, ◌+◌, ◌<◌, Bool, List, Some, IfOk, is_some, length, option_copied, position, slice_get};
 ghost use Rattle.std.specs.List.{list_any};
 ghost use Rattle.farm_base.specs.Digests.{digest_eq};
 ghost use Rattle.protocol.specs.Names.{Want};
 ghost use Rattle.protocol.specs.World.{keeps};
 ghost use Rattle.protocol.specs.Nodes.{wants_folder, is_tenure_of, is_home_of, uses, at_home, held, running, finished, recallable, is_base, in_use, others_use};
 ghost use Rattle.protocol.specs.declared.ask.KeptAsk.{KeptAsk};
-ghost use Rattle.nodecore.specs.Asks.{ends_with, holds, is_in_use, is_open, is_over, is_sought, recalls, runs, slots_in, told_state, AreOver};
+ghost use Rattle.nodecore.specs.Asks.{ends_with, holds, is_in_use, is_open, is_over, is_sought, lease_in, recalls, runs, slots_in, told_state, way_out, AreOver};
 
 use super::message::AskState;
 use farm_base::{
@@ -214,6 +214,27 @@ pub(crate) fn slots(ask: &KeptAsk) -> &[GrantedSlot]
         KeptAsk::Holding { grant, .. } => grant.slots.as_slice(),
         KeptAsk::Running { grant, .. } => grant.slots.as_slice(),
         _ => &[],
+    }
+}
+
+/// The lease of an ask that is granted or running.
+pub(crate) fn lease(ask: &KeptAsk) -> Option<&Grant>
+    ensures { option_copied result ≡ lease_in ask.now }
+{
+    match ask {
+        KeptAsk::Holding { grant, .. } => Some(grant),
+        KeptAsk::Running { grant, .. } => Some(grant),
+        _ => None,
+    }
+}
+
+/// How an ask ended, if it is over.
+pub(crate) fn way_out(ask: &KeptAsk) -> Option<How>
+    ensures { result ≡ way_out ask.now }
+{
+    match ask {
+        KeptAsk::Over(how) => Some(*how),
+        _ => None,
     }
 }
 

@@ -5,6 +5,7 @@ mod asks;
 mod contents;
 mod fetching;
 mod kept;
+mod looks;
 mod message;
 mod node_core;
 mod receive;

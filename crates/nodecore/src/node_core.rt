@@ -186,7 +186,8 @@ impl NodeCore {
 
     /// The content that is stored under a digest, as that of a granted slot's base.
     pub fn content(&self, digest: &Digest) -> Option<&Content>
-        ensures { option_copied result ≡ (shown self.now).store digest.now }
+        ensures value { option_copied result ≡ (shown self.now).store digest.now }
+        ensures digest { IfSome result (λ content. content_digest content.now ≡ digest.now) }
     {
         self.contents.get(digest)
     }
@@ -296,7 +297,7 @@ impl NodeCore {
     }
 
     /// Whether all bases are stored.
-    fn has_all(&self, slots: &[GrantedSlot]) -> bool
+    pub(crate) fn has_all(&self, slots: &[GrantedSlot]) -> bool
         ensures { result ≡ all_stored (shown self.now) slots.now }
     {
         slots.iter().all(|slot| self.contents.has(&slot.digest))

@@ -1,5 +1,5 @@
 //! The contents that a node stores.
-ghost use Rattle.std.specs.Prelude.{◌≡◌, ◌≤◌, ◌<◌, ◌+◌, IfOk, OnOk, is_some, option_copied, vec_len};
+ghost use Rattle.std.specs.Prelude.{◌≡◌, ◌≤◌, ◌<◌, ◌+◌, IfOk, IfSome, OnOk, is_some, option_copied, vec_len};
 ghost use Rattle.indexmap.specs.IndexMap.{spare, values};
 ghost use Rattle.farm_base.specs.Contents.{content_digest};
 ghost use Rattle.protocol.specs.Nodes.{stored};
@@ -41,7 +41,8 @@ impl StoredContents {
 
     /// The content under a digest.
     pub(crate) fn get(&self, digest: &Digest) -> Option<&Content>
-        ensures { option_copied result ≡ store_in self.now.by_digest digest.now }
+        ensures value { option_copied result ≡ store_in self.now.by_digest digest.now }
+        ensures digest { IfSome result (λ content. content_digest content.now ≡ digest.now) }
     {
         self.by_digest.get(digest)
     }
