@@ -1,10 +1,10 @@
 -- What is kept of the SHARED folders that are open.
-use Rattle.std.specs.Prelude.{⊤, ◌≡◌, ℕ, ◌≤◌, true, List, length, Some, slice_get}
+use Rattle.std.specs.Prelude.{⊤, ◌≡◌, ℕ, ◌≤◌, List, length, Some, slice_get}
 use Rattle.executions.specs.declared.batch.Batch.{Batch}
 use Rattle.executions.specs.declared.live_shared.Open.{Open}
 use Rattle.executions.specs.declared.refusal.SharedRefusal.{SharedRefusal}
 use Rattle.executions.specs.declared.refusal.SharedRefusal.TheVariants.{Twice, TooLarge, OutOfMemory, NotOpen, BadContents}
-use Rattle.executions.specs.Live.{Opened, files_of, is_by}
+use Rattle.executions.specs.Live.{Opened, files_of}
 
 -- a contract sees no files: they are those that the batches make
 abbrev pub opened : Open → Opened

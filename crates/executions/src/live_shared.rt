@@ -1,5 +1,5 @@
 //! The SHARED folders that a node has open.
-ghost use Rattle.std.specs.Prelude.{⊤, ◌≡◌, ◌<◌, ◌≤◌, ℕ, List, [], map, length, true, false, Some, None, Ok, Err, slice_get, set, vec_len, IfOk, IfErr, IfSome, IfNone, OnErr, OnOk, is_some};
+ghost use Rattle.std.specs.Prelude.{◌≡◌, ◌<◌, [], map, length, Some, None, Ok, Err, slice_get, set, vec_len, IfOk, IfErr, IfSome, IfNone, OnErr, OnOk, is_some};
 ghost use Rattle.std.specs.List.{find, list_any};
 ghost use Rattle.farm_base.specs.Slots.{SlotParts};
 ghost use Rattle.farm_base.specs.declared.folder.FolderName.{FolderName as Name};
