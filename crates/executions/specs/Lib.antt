@@ -1,0 +1,9 @@
+pub mod TaskParts
+pub mod Calls
+pub mod Seen
+pub mod Left
+pub mod Refusals
+pub mod Leased
+pub mod Live
+pub mod Keeping
+pub mod Given

@@ -1,0 +1,113 @@
+//! What the executor of a lease is given.
+ghost use Rattle.std.specs.Prelude.{◌≡◌, ◌<◌, ℕ, List, length, IfOk, Contains};
+ghost use Rattle.std.specs.List.{AllZip};
+ghost use Rattle.farm_base.specs.declared.folder.Base.{Base};
+ghost use Rattle.cachemounts.specs.CacheViews.{IsView};
+ghost use Rattle.cachemounts.specs.CacheWants.{AreWants, mounts_in};
+ghost use Rattle.executions.specs.Given.{command_in, output_at, IsViewAt, IsGiven};
+ghost use Rattle.executions.specs.Seen.{folder_seen};
+
+use super::seen::Seen;
+use super::task::{ExecTask, View};
+use cachemounts::views;
+use farm_base::{Copied, Digest, Items, Want, Wants};
+use jobs::Task;
+use opsproto::{ExecOp, Kind, Mount};
+use solverkeys::Keyed;
+use std::alloc::{AllocError, Global};
+
+/// The command of an op that runs one.
+fn command_in(alloc: Global, kind: &Kind) -> Result<Option<ExecOp>, AllocError>
+    ensures { IfOk result (λ exec. exec ≡ command_in kind.now) }
+{
+    match kind {
+        Kind::Exec(exec) => Ok(Some(exec.copy(alloc)?)),
+        Kind::Opaque(_) | Kind::Bare => Ok(None),
+    }
+}
+
+/// The mounts of an op.
+fn mounts_in(kind: &Kind) -> &[Mount]
+    ensures { result.now ≡ mounts_in kind.now }
+{
+    match kind {
+        Kind::Exec(exec) => exec.mounts.as_slice(),
+        Kind::Opaque(_) | Kind::Bare => &[],
+    }
+}
+
+/// The output that a mount's input takes, if it has one.
+fn output_at(outputs: &[Digest], input: i64) -> Option<Digest>
+    ensures { result ≡ output_at outputs.now input }
+{
+    let place = usize::try_from(input).ok()?;
+    outputs.get(place).copied()
+}
+
+/// The view of the cache mount at the first place. The second is that of its folder among the wants.
+fn view_at(
+    alloc: Global,
+    seen: &Seen,
+    wants: &[Want],
+    outputs: &[Digest],
+    mounts: &[Mount],
+    places: (usize, usize),
+) -> Result<View, AllocError>
+    requires { (bases : List Base) × IsView bases mounts.now wants.now places }
+    ensures { IfOk result (IsViewAt (folder_seen seen.now.leased seen.now.shared) wants.now outputs.now mounts.now places) }
+{
+    let mount = &mounts[places.0];
+    let want = &wants[places.1];
+    Ok(View {
+        mount: places.0,
+        folder: want.folder.copy(alloc)?,
+        writable: want.writable,
+        files: seen.copy_of(alloc, &want.folder)?,
+        base: output_at(outputs, mount.input),
+    })
+}
+
+/// The views of the cache mounts at these places.
+fn views_at(
+    alloc: Global,
+    seen: &Seen,
+    wants: &[Want],
+    outputs: &[Digest],
+    mounts: &[Mount],
+    places: &[(usize, usize)],
+) -> Result<Vec<View>, AllocError>
+    requires { (bases : List Base) × ((places' : ℕ × ℕ) → Contains places.now places' → IsView bases mounts.now wants.now places') }
+    ensures { IfOk result (λ views. AllZip (IsViewAt (folder_seen seen.now.leased seen.now.shared) wants.now outputs.now mounts.now) places.now views.items) }
+{
+    let mut views = Vec::with_capacity(alloc, places.len())?;
+    for pair in places {
+        views.push(view_at(alloc, seen, wants, outputs, mounts, *pair)?)?;
+    }
+    Ok(views)
+}
+
+/// What an executor is given for a task. The task is the vertex of this number, which wants these folders.
+pub(crate) fn given(
+    alloc: Global,
+    seen: &Seen,
+    wants: &Wants,
+    task: &Task,
+    keyed: &Keyed,
+    vertex: usize,
+) -> Result<ExecTask, AllocError>
+    requires vertex { vertex < length keyed.now.graph.vertices }
+    requires wants { AreWants keyed.now.graph keyed.now.keys vertex wants.now }
+    ensures { IfOk result (IsGiven keyed.now vertex task.now (folder_seen seen.now.leased seen.now.shared) wants.now) }
+{
+    let op = keyed.graph().vertex(vertex).op.read(alloc)?;
+    let places = views(alloc, keyed.graph(), vertex, keyed.keys(), wants)?;
+    let mounts = mounts_in(op.kind());
+    let views = views_at(alloc, seen, wants.as_slice(), &task.inputs, mounts, &places)?;
+    Ok(ExecTask {
+        key: task.key,
+        stripped: Items::new(Vec::from_slice(alloc, op.stripped())?),
+        exec: command_in(alloc, op.kind())?,
+        inputs: Items::new(Vec::from_slice(alloc, task.inputs.as_slice())?),
+        views: Items::new(views),
+    })
+}

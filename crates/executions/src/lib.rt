@@ -1,0 +1,21 @@
+//! One execution under a lease.
+#![tactic(auto)]
+
+mod batch;
+mod call;
+mod executor;
+mod given;
+mod left;
+mod live_shared;
+mod refusal;
+mod run;
+mod seen;
+mod task;
+
+pub use batch::Batch;
+pub use call::{Call, ExecOutcome};
+pub use executor::{Executor, Gate};
+pub use live_shared::LiveShared;
+pub use refusal::{RunRefusal, SharedRefusal};
+pub use run::{Ran, run_leased};
+pub use task::{ExecTask, View};

@@ -1,0 +1,87 @@
+//! The folders that an execution under a lease sees.
+ghost use Rattle.std.specs.Prelude.{◌≡◌, IfOk};
+ghost use Rattle.std.specs.List.{zip};
+ghost use Rattle.std.specs.Map.{lookup};
+ghost use Rattle.std.specs.Option.{option_copied};
+ghost use Rattle.farm_base.specs.Folders.{folder_eq};
+ghost use Rattle.executions.specs.Seen.{read_one, read_all, folder_seen, IsOpened};
+
+use super::refusal::RunRefusal;
+use farm_base::{Content, Copied, FolderName, GrantedSlot, Items, Mode};
+use folders::{Folder, FolderRefusal};
+use std::alloc::{AllocError, Global};
+
+/// A folder and its name.
+pub(crate) type Named = (FolderName, Folder);
+
+/// The folders of a lease's slots, and the SHARED ones that were handed in.
+#[derive(Drop)]
+pub(crate) struct Seen {
+    pub(crate) leased: Items<Named>,
+    pub(crate) shared: Items<Named>,
+}
+
+/// The folder of a name, if one has it.
+pub(crate) fn find<'a>(folders: &'a [Named], name: &FolderName) -> Option<&'a Folder>
+    ensures { option_copied result ≡ lookup (folder_eq name.now) folders.now }
+{
+    for (other, folder) in folders {
+        if *name == *other {
+            return Some(folder);
+        }
+    }
+    None
+}
+
+impl Seen {
+    /// A copy of the folder of a name. It is empty where none has the name.
+    pub(crate) fn copy_of(&self, alloc: Global, name: &FolderName) -> Result<Folder, AllocError>
+        ensures { IfOk result (λ folder. folder ≡ folder_seen self.now.leased self.now.shared name.now) }
+    {
+        let found = match name.mode {
+            Mode::Shared => find(self.shared.as_slice(), name),
+            Mode::Private => find(self.leased.as_slice(), name),
+            Mode::Locked => find(self.leased.as_slice(), name),
+        };
+        match found {
+            Some(folder) => folder.copy(alloc),
+            None => Ok(Folder::new(alloc)),
+        }
+    }
+}
+
+/// The folder that the content of a slot spells.
+fn read_slot(alloc: Global, slot: &GrantedSlot, content: &Content) -> Result<Named, RunRefusal>
+    ensures { IsOpened result (read_one (slot.now, content.now)) }
+{
+    match Folder::read(alloc, content.bytes()) {
+        Ok(folder) => Ok((slot.slot.folder().copy(alloc)?, folder)),
+        Err(FolderRefusal::OutOfMemory) => Err(RunRefusal::OutOfMemory),
+        Err(
+            FolderRefusal::Truncated
+            | FolderRefusal::PathOrder
+            | FolderRefusal::NotUtf8
+            | FolderRefusal::TooLarge,
+        ) => Err(RunRefusal::BadContents(slot.slot.copy(alloc)?)),
+    }
+}
+
+/// The folders that the contents of a lease's slots spell.
+pub(crate) fn read_leased(
+    alloc: Global,
+    slots: &[GrantedSlot],
+    contents: &[Content],
+) -> Result<Items<Named>, RunRefusal>
+    ensures { IsOpened result (read_all (zip slots.now contents.now)) }
+{
+    let mut folders = Vec::new(alloc);
+    let mut rest = contents;
+    for slot in slots {
+        let [content, others @ ..] = rest else {
+            break;
+        };
+        folders.push(read_slot(alloc, slot, content)?)?;
+        rest = others;
+    }
+    Ok(Items::new(folders))
+}
