@@ -1,1 +1,3 @@
 pub mod Downs
+pub mod NewCalls
+pub mod Solved
