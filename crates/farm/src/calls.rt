@@ -31,12 +31,7 @@ impl Book {
     }
 
     /// The first new call for a key on a node.
-    pub(crate) fn find<'a>(
-        &self,
-        news: &[&'a [Call]],
-        node: NodeId,
-        key: &Key,
-    ) -> Option<&'a Call>
+    pub(crate) fn find<'a>(&self, news: &[&'a [Call]], node: NodeId, key: &Key) -> Option<&'a Call>
         ensures { IfSome result (λ call. IsCallFor (map (λ calls. calls.now) news.now) key.now call.now) }
     {
         let (executor, place) = *self.places.get(&Spot { node, key: *key })?;

@@ -1,10 +1,7 @@
-use Rattle.std.proofs.Common.{◌<◌, map, length, List, sym, ap, ◌∙◌, subst, Bor, arith}
-use Rattle.std.specs.Prelude.{IfSome}
-use Rattle.std.specs.List.{Contains}
+use Rattle.std.proofs.Common.{◌<◌, map, length, List, sym, ap, ◌∙◌, subst, Bor}
 use Rattle.std.proofs.lemmas.List.{get_or-map, length-map}
 use Rattle.std.proofs.lemmas.Option.{IfSome_then}
 use Rattle.executions.specs.declared.call.Call.{Call}
-use Rattle.farm.specs.NewCalls.{IsAmong}
 use Rattle.farm.proofs.calls.call_at.Goals as goal
 
 pub returns : goal.returns
