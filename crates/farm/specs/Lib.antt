@@ -1,3 +1,5 @@
 pub mod Downs
+pub mod Ends
 pub mod NewCalls
+pub mod Places
 pub mod Solved

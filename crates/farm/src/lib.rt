@@ -1,13 +1,20 @@
 //! A farm that solves jobs: by one executor in one thread, over the board of a farm.
 #![tactic(auto)]
 
+mod answers;
 mod calls;
 mod down;
 mod ends;
 mod fault;
+mod faults;
+mod one;
+mod run;
 mod solved;
 mod spot;
+mod steps;
+mod work;
 
 pub use down::DownCount;
 pub use ends::OneEnd;
 pub use fault::FarmFault;
+pub use one::Farm;

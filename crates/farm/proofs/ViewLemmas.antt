@@ -1,0 +1,16 @@
+-- The SHARED folders that are handed to an execution.
+use Rattle.std.proofs.Common.{◌≡◌, ◌++◌, ◌∷◌, ℕ, List, [], map, sym, subst}
+use Rattle.std.specs.List.{Contains}
+use Rattle.std.proofs.lemmas.List.{map-append}
+use Rattle.std.proofs.lemmas.List.Elements.{Contains-append_left}
+use Rattle.farm_base.specs.declared.folder.FolderName.{FolderName}
+use Rattle.farm_base.specs.declared.want.Want.{Want}
+use Rattle.folders.specs.Files.{Files}
+use Rattle.farm.specs.Places.{IsSeenIn}
+
+-- a folder that was there still is, with one more
+pub seen_push : (views : List (FolderName × Files)) (view : FolderName × Files) (want : Want) → IsSeenIn views want → IsSeenIn (views ++ view ∷ []) want
+seen_push views view want seen shared =
+    let name : FolderName × Files → FolderName = λ v. v.0 in
+    subst (λ (names : List FolderName). Contains names want.folder) (sym (map-append name views (view ∷ [])))
+    (Contains-append_left (map name views) (view.0 ∷ []) want.folder (seen shared))

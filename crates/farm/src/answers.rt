@@ -1,0 +1,36 @@
+//! The answers of the jobs.
+ghost use Rattle.std.specs.Prelude.{◌≡◌, ◌≢◌, All, IfOk, length};
+
+use super::fault::FarmFault;
+use super::faults::jobs_fault;
+use jobs::{Answer, JobId, Jobs, JobsRefusal};
+use std::alloc::Global;
+
+/// The answer of a job that doesn't wait. A result whose key is done without it has failed.
+fn answer_of(jobs: &Jobs, job: JobId) -> Result<Answer, FarmFault>
+    ensures { IfOk result (λ answer. answer ≢ Answer.Waiting) }
+{
+    match jobs.answer(job) {
+        Ok(Answer::Output(digest)) => Ok(Answer::Output(digest)),
+        Ok(Answer::Failed) => Ok(Answer::Failed),
+        Ok(Answer::Waiting) => Err(FarmFault::ReceiptLost),
+        Err(JobsRefusal::NoOutput(_)) => Ok(Answer::Failed),
+        Err(refusal) => Err(jobs_fault(refusal)),
+    }
+}
+
+/// The answers of this many jobs, in order.
+pub(crate) fn answers_of(
+    alloc: Global,
+    jobs: &Jobs,
+    count: usize,
+) -> Result<Vec<Answer>, FarmFault>
+    ensures count { IfOk result (λ answers. length answers.items ≡ count) }
+    ensures answered { IfOk result (λ answers. All (λ answer. answer ≢ Answer.Waiting) answers.items) }
+{
+    let mut answers = Vec::with_capacity(alloc, count)?;
+    for job in 0..count {
+        answers.push(answer_of(jobs, JobId(job))?)?;
+    }
+    Ok(answers)
+}
