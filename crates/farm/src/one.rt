@@ -58,11 +58,11 @@ impl Farm {
 /// The board and the jobs. Tenures that are still in use are given up.
 fn parts_of(run: Run) -> (Board, Jobs) {
     let Run { board, jobs, live } = run;
-    let mut left = live.into_running();
+    let mut left = live;
     while let Some(running) = left.pop() {
         abandon_running(running);
     }
-    left.destroy_empty();
+    let _batches = left.into_batches();
     (board, jobs)
 }
 

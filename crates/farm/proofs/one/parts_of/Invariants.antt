@@ -1,6 +1,6 @@
-use Rattle.std.specs.Vec.{vec_len}
+use Rattle.std.proofs.Common.{length}
 use Rattle.farm.proofs.one.parts_of.Given as goal
 
 -- each turn takes one
 abbrev pub decreases-loop-running : goal.decreases-loop-running
-decreases-loop-running l = vec_len l.left
+decreases-loop-running l = length l.left.folders
