@@ -4,6 +4,7 @@
 mod content;
 mod copied;
 mod digest;
+mod display;
 mod escape;
 mod folder;
 mod items;
@@ -21,7 +22,7 @@ mod want;
 
 pub use content::{Content, empty_digest};
 pub use copied::Copied;
-pub use digest::{BadDigestText, Digest, Key, are_bytes};
+pub use digest::{BadDigestText, BadKeyText, Digest, Key, are_bytes};
 pub use folder::{Base, FolderName, Index, Mode};
 pub use items::{Items, copy_all};
 pub use laws::{

@@ -61,7 +61,7 @@ fn parts(text: &str) -> Option<(Mode, &str, Option<Base>)>
 }
 
 /// The text of a mode.
-fn mode_name(mode: Mode) -> &'static str
+pub(crate) fn mode_name(mode: Mode) -> &'static str
     ensures { result.now ≡ mode_text mode }
 {
     match mode {
