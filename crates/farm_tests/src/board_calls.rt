@@ -1,9 +1,9 @@
-//! Each call of a board, and of the SHARED folders that are open on a node, with ample memory.
+//! One execution on a board, from its ask to its receipt, with ample memory.
 
 use farm_base::{Content, FolderName, NodeId, Slot, Ticket, Want, Wants};
 use farmboard::{
-    Accept, Asked, Board, BoardRefusal, Ended, FarmStep, Finished, Granted, Look, Receipt, Running,
-    Settled, abandon_asked, abandon_finished, abandon_granted, abandon_running,
+    Accept, Asked, Board, Finished, Granted, Receipt, Running, Settled, abandon_asked,
+    abandon_finished, abandon_granted, abandon_running,
 };
 use schedule::Setup;
 use std::alloc::Global;
@@ -133,74 +133,5 @@ fn one_execution_and_an_ask_for_a_tenure(rt: HostRuntime) -> Result<(), Fail> {
     abandon_asked(asked);
     assert_eq!(rt; board.schedule().len(), 8);
     assert_eq!(rt; board.refused(), 0);
-    Ok(())
-}
-
-fn told_look(look: Look) -> &'static str {
-    match look {
-        Look::Ready => "ready",
-        Look::Missing => "missing",
-        Look::Gone => "gone",
-    }
-}
-
-fn told_end(ended: Ended) -> &'static str {
-    match ended {
-        Ended::Sent => "sent",
-        Ended::Stale => "stale",
-    }
-}
-
-/// What comes of a lease whose base isn't there at first, of its execution, and of a lease whose node restarts.
-fn told(alloc: Global, board: &mut Board) -> Result<Vec<&'static str>, Fail> {
-    let mut told = Vec::with_capacity(alloc, 8)?;
-    let Some(lease) = leased(alloc, board, 2, "locked:apt", 2)? else {
-        return Ok(told);
-    };
-    told.push_reserved(told_look(board.look(&lease)));
-    deliver(alloc, board, 64);
-    told.push_reserved(told_look(board.look(&lease)));
-    let Some(running) = begun(alloc, board, lease) else {
-        return Ok(told);
-    };
-    match board.fault(alloc, FarmStep::RestartNode(NodeId(2))) {
-        Err(BoardRefusal::TokenOut) => told.push_reserved("token out"),
-        _ => told.push_reserved("restarted"),
-    }
-    match board.abort(alloc, running) {
-        Ok(ended) => told.push_reserved(told_end(ended)),
-        Err((running, _)) => abandon_running(running),
-    }
-    let Some(lease) = leased(alloc, board, 2, "locked:apt", 64)? else {
-        return Ok(told);
-    };
-    match board.fault(alloc, FarmStep::RestartNode(NodeId(2))) {
-        Ok(()) => told.push_reserved("restarted"),
-        Err(_) => told.push_reserved("refused"),
-    }
-    told.push_reserved(told_look(board.look(&lease)));
-    match board.give_back(alloc, lease) {
-        Ok(ended) => told.push_reserved(told_end(ended)),
-        Err((lease, _)) => abandon_granted(lease),
-    }
-    Ok(told)
-}
-
-#[test]
-fn what_a_look_tells(rt: HostRuntime) -> Result<(), Fail> {
-    let alloc = rt.alloc();
-    let mut board = Board::start(alloc, Setup { nodes: 2 })?;
-    let _receipt = execute(alloc, &mut board, "locked:apt")?;
-    let told = told(alloc, &mut board)?;
-    let wanted = [
-        "missing",
-        "ready",
-        "token out",
-        "sent",
-        "restarted",
-        "gone",
-        "stale",
-    ];
-    assert_eq!(rt; told.as_slice(), wanted.as_slice());
     Ok(())
 }

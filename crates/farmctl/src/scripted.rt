@@ -80,15 +80,17 @@ fn script_of(alloc: Global, task: &ExecTask, exec: &ExecOp) -> Result<Script, Al
 const OTHER_OUTPUTS: u64 = 16;
 
 /// The greatest index of an output that an execution gives.
-const LAST_OUTPUT: i64 = 63;
+const LAST_OUTPUT: u64 = 63;
 
 /// The number of outputs: one more than the greatest that a mount names.
 fn outputs_of(mounts: &[Mount]) -> u64 {
-    let mut last = -1;
+    let mut number: u64 = 0;
     for mount in mounts {
-        last = mount.output.max(last);
+        if let Ok(index) = u64::try_from(mount.output) {
+            number = number.max(index.min(LAST_OUTPUT).saturating_add(1));
+        }
     }
-    (last.min(LAST_OUTPUT) + 1) as u64
+    number
 }
 
 /// The output of this index: the SHA-256 of the key and the index.
