@@ -1,5 +1,5 @@
 //! Measures the crates. With no words it makes small inputs and prints what comes of them; with the word
-//! `read`, `keys`, `replay`, `save` or `run` it measures, each figure as a ratio of times in the same run.
+//! `read`, `keys`, `replay` or `save` it measures, each figure as a ratio of times in the same run.
 #![tactic(auto)]
 
 mod clock;
@@ -7,7 +7,6 @@ mod graphs;
 mod keys;
 mod read;
 mod replay;
-mod running;
 mod save;
 
 use std::{env, io};
@@ -28,10 +27,8 @@ fn main(rt: HostRuntime) -> anyhow::Result<()> {
                 replay::measure(&rt)
             } else if word.as_str() == "save" {
                 save::measure(&rt)
-            } else if word.as_str() == "run" {
-                running::measure(&rt)
             } else {
-                eprintln!(rt; "bench [read|keys|replay|save|run]")?;
+                eprintln!(rt; "bench [read|keys|replay|save]")?;
                 Ok(())
             }
         }

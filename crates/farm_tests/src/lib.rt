@@ -2,8 +2,6 @@
 #![tactic(auto)]
 
 #[cfg(test)]
-mod board_calls;
-#[cfg(test)]
 mod edits;
 #[cfg(test)]
 mod folder_bytes;
