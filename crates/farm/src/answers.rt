@@ -20,11 +20,7 @@ fn answer_of(jobs: &Jobs, job: JobId) -> Result<Answer, FarmFault>
 }
 
 /// The answers of this many jobs, in order.
-pub(crate) fn answers_of(
-    alloc: Global,
-    jobs: &Jobs,
-    count: usize,
-) -> Result<Vec<Answer>, FarmFault>
+pub(crate) fn answers_of(alloc: Global, jobs: &Jobs, count: usize) -> Result<Vec<Answer>, FarmFault>
     ensures count { IfOk result (λ answers. length answers.items ≡ count) }
     ensures answered { IfOk result (λ answers. All (λ answer. answer ≢ Answer.Waiting) answers.items) }
 {

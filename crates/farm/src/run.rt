@@ -82,11 +82,7 @@ impl Run {
     }
 
     /// Ends the tenures of these SHARED folders, in their order. What stands in the folders is committed.
-    fn close_all(
-        &mut self,
-        alloc: Global,
-        folders: &[FolderName],
-    ) -> Result<(), FarmFault> {
+    fn close_all(&mut self, alloc: Global, folders: &[FolderName]) -> Result<(), FarmFault> {
         for folder in folders {
             if self.live.is_open(folder) {
                 self.close(alloc, folder)?;
@@ -198,9 +194,7 @@ impl Run {
         match outcome {
             ExecOutcome::Done { outputs, edits } => {
                 self.keep(alloc, running, key, edits, news)?;
-                self.jobs
-                    .done(key, outputs.into_vec())
-                    .map_err(jobs_fault)
+                self.jobs.done(key, outputs.into_vec()).map_err(jobs_fault)
             }
             ExecOutcome::Failed(status) => {
                 give_up(alloc, &mut self.board, running)?;

@@ -143,11 +143,7 @@ pub(crate) fn finish(
 }
 
 /// Ends an execution that leaves nothing, and gives its lease back.
-pub(crate) fn give_up(
-    alloc: Global,
-    board: &mut Board,
-    running: Running,
-) -> Result<(), FarmFault> {
+pub(crate) fn give_up(alloc: Global, board: &mut Board, running: Running) -> Result<(), FarmFault> {
     match board.abort(alloc, running) {
         Ok(Ended::Sent) => deliver_all(alloc, board),
         Ok(Ended::Stale) => Err(FarmFault::ReceiptLost),

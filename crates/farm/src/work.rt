@@ -101,11 +101,7 @@ fn add_folders(
 }
 
 /// Adds the SHARED folders of some wants.
-fn add_wanted(
-    alloc: Global,
-    folders: &mut Vec<FolderName>,
-    wants: &Wants,
-) -> Result<(), AllocError>
+fn add_wanted(alloc: Global, folders: &mut Vec<FolderName>, wants: &Wants) -> Result<(), AllocError>
     requires { All (λ folder. folder.mode ≡ Mode.Shared) folders.old.items }
     ensures { OnOk result (All (λ folder. folder.mode ≡ Mode.Shared) folders.new.items) }
 {

@@ -12,7 +12,7 @@ returns-clause-replay c =
     let nodes : c.args.board.setup.nodes ≡ c.args.setup.nodes = search in
     let same : c.args.board.setup ≡ c.args.setup = λ j. record { nodes = nodes j } in
     let told = ap (λ (events : List Event). counts_of (replayed c.args.setup events)) c.into_parts-schedule.ensures.schedule
-        ∙ ap (λ (setup : Setup). counts_of (replayed setup c.args.board.events)) (sym same) ∙ counts_of-replayed c.args.board ∙ sym c.counts-counts.ensures.value in
+    ∙ ap (λ (setup : Setup). counts_of (replayed setup c.args.board.events)) (sym same) ∙ counts_of-replayed c.args.board ∙ sym c.counts-counts.ensures.value in
     ap (λ (counts : Counts). counts.refused) told ∙ search
 
 pub returns-clause-commits : goal.returns-clause-commits
@@ -20,5 +20,5 @@ returns-clause-commits c =
     let nodes : c.args.board.setup.nodes ≡ c.args.setup.nodes = search in
     let same : c.args.board.setup ≡ c.args.setup = λ j. record { nodes = nodes j } in
     let told = ap (λ (events : List Event). counts_of (replayed c.args.setup events)) c.into_parts-schedule.ensures.schedule
-        ∙ ap (λ (setup : Setup). counts_of (replayed setup c.args.board.events)) (sym same) ∙ counts_of-replayed c.args.board ∙ sym c.counts-counts.ensures.value in
+    ∙ ap (λ (setup : Setup). counts_of (replayed setup c.args.board.events)) (sym same) ∙ counts_of-replayed c.args.board ∙ sym c.counts-counts.ensures.value in
     sym (ap (λ (counts : Counts). counts.committed) told)

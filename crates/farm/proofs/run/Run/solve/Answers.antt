@@ -15,7 +15,7 @@ execute-requires g c =
     let at : slice_get place.keyed.now.graph.edges place.vertex ≡ Some edges = subst (λ (graph : GraphParts). slice_get graph.edges place.vertex ≡ Some edges) c.graph.ensures c.inputs_of.ensures in
     let same : length edges ≡ length c.args.task.inputs.items = search in
     let wants : c.in-Ok.running.wants ≡ c.in_ok-wants.wants =
-            subst (λ (r : Result Running Why). IfOk r (λ running. running.wants ≡ c.in_ok-wants.wants)) c.in-Ok.is c.in_ok-running.ensures in
+    subst (λ (r : Result Running Why). IfOk r (λ running. running.wants ≡ c.in_ok-wants.wants)) c.in-Ok.is c.in_ok-running.ensures in
     record {
       place = c.in-Some.ensures;
       inputs = ap (λ (es : List _). length es) (list_at-get place.keyed.now.graph.edges place.vertex edges at) ∙ same;
