@@ -2,6 +2,8 @@
 #![tactic(auto)]
 
 #[cfg(test)]
+mod board_calls;
+#[cfg(test)]
 mod edits;
 #[cfg(test)]
 mod folder_bytes;

@@ -1,7 +1,9 @@
 //! Texts of slots, folders and digests, and wants at their limits, worked out by hand. The digest is the SHA-256 of `abc`
 //! (FIPS 180-4).
 
-use farm_base::{Digest, FolderName, FolderRefusal, Slot, SlotRefusal, Want, Wants, WantsRefusal};
+use farm_base::{
+    Digest, FolderName, FolderRefusal, Key, Slot, SlotRefusal, Ticket, Want, Wants, WantsRefusal,
+};
 use std::alloc::Global;
 use std::test::Fail;
 
@@ -31,6 +33,8 @@ fn texts_of_slots(rt: HostRuntime) -> Result<(), Fail> {
                 assert!(rt; *wanted);
                 let spelled = slot.to_text(rt.alloc())?;
                 assert_eq!(rt; spelled.as_str(), *text);
+                let shown = slot.to_string(rt.alloc())?;
+                assert_eq!(rt; shown.as_str(), *text);
             }
             Err(refusal) => {
                 assert!(rt; !*wanted);
@@ -55,6 +59,8 @@ fn texts_of_folders_and_digests(rt: HostRuntime) -> Result<(), Fail> {
     let folder = FolderName::parse(rt.alloc(), based.as_str())?;
     let spelled = folder.to_text(rt.alloc())?;
     assert_eq!(rt; spelled.as_str(), based.as_str());
+    let shown = folder.to_string(rt.alloc())?;
+    assert_eq!(rt; shown.as_str(), based.as_str());
     let zeros = format!(in rt.alloc(); "locked:apt@{DIGITS}.07")?;
     let refused = FolderName::parse(rt.alloc(), zeros.as_str());
     assert!(rt; matches!(refused, Err(FolderRefusal::BadFolder)));
@@ -62,7 +68,15 @@ fn texts_of_folders_and_digests(rt: HostRuntime) -> Result<(), Fail> {
     let digest = Digest::parse(text.as_str())?;
     let spelled = digest.to_text(rt.alloc())?;
     assert_eq!(rt; spelled.as_str(), text.as_str());
+    let shown = digest.to_string(rt.alloc())?;
+    assert_eq!(rt; shown.as_str(), text.as_str());
     assert!(rt; Digest::parse(DIGITS).is_err());
+    let key = Key::parse(DIGITS)?;
+    let shown = key.to_string(rt.alloc())?;
+    assert_eq!(rt; shown.as_str(), DIGITS);
+    assert!(rt; Key::parse(text.as_str()).is_err());
+    let shown = format!(in rt.alloc(); "{} {:?}", Ticket(7), Digest(digest.0))?;
+    assert!(rt; shown.as_str().starts_with("7 sha256:ba78"));
     Ok(())
 }
 
