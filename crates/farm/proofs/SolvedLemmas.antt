@@ -1,8 +1,6 @@
 -- Flags of vertices, and what follows along the walks from a result.
-use Rattle.std.proofs.Common.{◌≡◌, ℕ, zero, suc, ◌+◌, ◌<◌, inl, inr, Bool, true, false, List, [], ◌∷◌, length, refl, ap, subst, arith}
+use Rattle.std.proofs.Common.{◌≡◌, ℕ, zero, suc, ◌+◌, ◌<◌, Bool, true, List, [], ◌∷◌, length, refl, ap, subst, arith}
 use Rattle.std.specs.List.{Contains}
-use Rattle.std.proofs.lemmas.Bool.{cases_lt}
-use Rattle.std.proofs.lemmas.List.{get_or_past}
 use Rattle.vertices.specs.Edges.{GoesTo, targets, list_at}
 use Rattle.vertices.specs.Flags.{flag_at}
 use Rattle.vertices.specs.Loading.{GraphParts}
@@ -11,13 +9,6 @@ use Rattle.vertices.proofs.OrderLaws.{walk_join}
 use Rattle.jobs.specs.Reaching.{IsNeeded}
 use Rattle.farm.specs.Solved.{IsClosed, Takes}
 use Rattle.farm.specs.Solved.Takes.{result, input}
-
--- what is flagged has a flag
-pub flag_within : (flags : List Bool) (n : ℕ) → flag_at flags n ≡ true → n < length flags
-flag_within flags n met = elim (cases_lt n (length flags)) [
-  | inl less ↦ less
-  | inr past ↦ (let none = get_or_past flags n false past in absurd (cc (met, none)))
-]
 
 -- what holds of each edge holds of each vertex to which one goes
 pub edge_of : (edges : List (ℕ × ℕ)) (input : ℕ) → Contains (targets edges) input → (edge : ℕ × ℕ) × Contains edges edge × (edge.0 ≡ input)

@@ -1,5 +1,6 @@
 -- What the events of executions do to their node.
 use Rattle.std.proofs.Common.{◌≡◌, ℕ, ◌+◌, Bool, true, false, not, ◌&&◌, List, [], ◌∷◌, length, Option, Some, None, is_some, Result, Ok, Err, refl, ap, sym, subst, ◌∙◌}
+use Rattle.std.proofs.lemmas.Bool.{and_parts, not-true}
 use Rattle.farm_base.specs.Contents.{content_digest}
 use Rattle.protocol.specs.Farm.{farm_limits}
 use Rattle.protocol.specs.Lists.{nth, set_nth, put}
@@ -133,14 +134,6 @@ running_either t (Running w g r ∷ xs) k h = keep (k + 1) (running t (Running w
 running_either t (Finished w g news ∷ xs) k h = running_either t xs (k + 1) h
 running_either t (Over how ∷ xs) k h = running_either t xs (k + 1) h
 
-and_parts : (a b : Bool) → (a && b) ≡ true → (a ≡ true) × (b ≡ true)
-and_parts true b h = (refl, h)
-and_parts false b h = absurd (cc)
-
-not_parts : (a : Bool) → not a ≡ true → a ≡ false
-not_parts true h = absurd (cc)
-not_parts false h = refl
-
 -- the node is there and up, and an ask of it has the ticket
 pub record HasTicket (s : Farm) (n : NodeId) (t : Ticket) : Type 0 where
   pub there : is_node s n ≡ true
@@ -154,7 +147,7 @@ has_ticket_if s n l t b either has =
     let two = and_parts (not (s.nodes n.0).spent) b one.1 in
     record {
       there = (and_parts (is_node s n) _ one.0).0;
-      up = not_parts (s.nodes n.0).spent two.0;
+      up = not-true (s.nodes n.0).spent two.0;
       some = either two.1;
     }
 

@@ -1,6 +1,6 @@
 -- The executions in use are those that nodes execute.
 use Rattle.std.proofs.Common.{◌≡◌, ℕ, ◌+◌, inl, inr, Bool, true, false, not, eqb, ◌&&◌, List, [], ◌∷◌, ◌++◌, filter, ◌⊎◌, Option, Some, None, Result, Ok, Err, refl, ap, sym, subst, ◌∙◌, arith}
-use Rattle.std.proofs.lemmas.Bool.Decides.{eqb_tells}
+use Rattle.std.proofs.lemmas.Bool.{and_from, and_parts, eq-eqb, eqb-true}
 use Rattle.farm_base.specs.Contents.{content_digest, empty_digest}
 use Rattle.protocol.specs.Farm.{farm_limits}
 use Rattle.protocol.specs.Lists.{In, nth}
@@ -38,13 +38,6 @@ in_end x (y ∷ xs) = inr (in_end x xs)
 use_is : (n : NodeId) (t : Ticket) (u : InUse) → u.node ≡ n → t ≡ u.ticket → u ≡ record { node = n; ticket = t }
 use_is n t u a b = λ j. record { node = a j; ticket = sym b j }
 
-both : (a b : Bool) → a ≡ true → b ≡ true → (a && b) ≡ true
-both a b p q = rw (p, q) refl
-
-parts : (a b : Bool) → (a && b) ≡ true → (a ≡ true) × (b ≡ true)
-parts true b h = (refl, h)
-parts false b h = absurd (cc)
-
 not_true : (b : Bool) → not b ≡ true → b ≡ true → ⊥
 not_true true h e = cc
 not_true false h e = cc
@@ -53,17 +46,11 @@ not_false : (b : Bool) → (b ≡ true → ⊥) → not b ≡ true
 not_false true h = absurd (h refl)
 not_false false h = refl
 
-same_number : (a b : ℕ) → a ≡ b → eqb a b ≡ true
-same_number a b e = elim (eqb_tells a b) [ inl t ↦ t.0 | inr f ↦ absurd (f.1 e) ]
-
-number_same : (a b : ℕ) → eqb a b ≡ true → a ≡ b
-number_same a b h = elim (eqb_tells a b) [ inl t ↦ t.1 | inr f ↦ (let bad : false ≡ true = sym f.0 ∙ h in absurd (cc)) ]
-
 of_use : (n : NodeId) (t : Ticket) (u : InUse) → u.node ≡ n → u.ticket ≡ t → is_use_of n t u ≡ true
-of_use n t u a b = both _ _ (same_number u.node.0 n.0 (ap (λ (z : NodeId). z.0) a)) (same_number u.ticket.0 t.0 (ap (λ (z : Ticket). z.0) b))
+of_use n t u a b = and_from _ _ (eq-eqb u.node.0 n.0 (ap (λ (z : NodeId). z.0) a)) (eq-eqb u.ticket.0 t.0 (ap (λ (z : Ticket). z.0) b))
 
 on_node : (n : NodeId) (u : InUse) → u.node ≡ n → is_on n u ≡ true
-on_node n u a = same_number u.node.0 n.0 (ap (λ (z : NodeId). z.0) a)
+on_node n u a = eq-eqb u.node.0 n.0 (ap (λ (z : NodeId). z.0) a)
 
 -- the event ends the execution
 abbrev Struck : Event → InUse → Type 0
@@ -108,10 +95,10 @@ module _ (uses : List InUse) (u : InUse) where
   after_still : (e : Event) → In u uses → (Ends u e → ⊥) → In u (out_after e uses)
   after_still (event.Begin n t) i goes = in_left u uses (record { node = n; ticket = t } ∷ []) i
   after_still (event.Finish n t lefts) i goes =
-      in_filter (λ v. not (is_use_of n t v)) u uses i (not_false (is_use_of n t u) (λ b. (let p = parts (eqb u.node.0 n.0) (eqb u.ticket.0 t.0) b in goes (number_same u.node.0 n.0 p.0, number_same u.ticket.0 t.0 p.1))))
+      in_filter (λ v. not (is_use_of n t v)) u uses i (not_false (is_use_of n t u) (λ b. (let p = and_parts (eqb u.node.0 n.0) (eqb u.ticket.0 t.0) b in goes (eqb-true u.node.0 n.0 p.0, eqb-true u.ticket.0 t.0 p.1))))
   after_still (event.Abort n t) i goes =
-      in_filter (λ v. not (is_use_of n t v)) u uses i (not_false (is_use_of n t u) (λ b. (let p = parts (eqb u.node.0 n.0) (eqb u.ticket.0 t.0) b in goes (number_same u.node.0 n.0 p.0, number_same u.ticket.0 t.0 p.1))))
-  after_still (event.RestartNode n) i goes = in_filter (λ v. not (is_on n v)) u uses i (not_false (is_on n u) (λ b. goes (number_same u.node.0 n.0 b)))
+      in_filter (λ v. not (is_use_of n t v)) u uses i (not_false (is_use_of n t u) (λ b. (let p = and_parts (eqb u.node.0 n.0) (eqb u.ticket.0 t.0) b in goes (eqb-true u.node.0 n.0 p.0, eqb-true u.ticket.0 t.0 p.1))))
+  after_still (event.RestartNode n) i goes = in_filter (λ v. not (is_on n v)) u uses i (not_false (is_on n u) (λ b. goes (eqb-true u.node.0 n.0 b)))
   after_still (event.Ask n wants) i goes = i
   after_still (event.Tenure n f) i goes = i
   after_still (event.Deliver k) i goes = i

@@ -6,6 +6,7 @@ use Rattle.std.specs.Prelude.{if◌then◌else◌, Contains, IfSome}
 use Rattle.std.specs.Cmp.{IsEquivalence}
 use Rattle.std.specs.List.{list_all, IsDistinct}
 use Rattle.std.specs.Map.{keys_of, values_of, lookup, update, update_all}
+use Rattle.std.proofs.lemmas.Bool.{and_parts}
 use Rattle.std.proofs.lemmas.Cmp.{on_equiv, and_equiv, nat_eq_equiv}
 use Rattle.std.proofs.lemmas.List.Folds.{list_all-append}
 use Rattle.std.proofs.lemmas.List.Sums.{AllPass-from_list_all}
@@ -66,10 +67,6 @@ put_at k q c st rest false true h e =
     let here : is_some (st q) ≡ false = ap (λ (d : Digest). is_some (st d)) (digest_exact q k e) ∙ h in
     rw (h, here, e) refl
 put_at k q c st rest false false h e = rw (h, e) refl
-
-and_parts : (a b : Bool) → (a && b) ≡ true → (a ≡ true) × (b ≡ true)
-and_parts true b h = (refl, h)
-and_parts false b h = absurd (true≢false (sym h))
 
 some_or_none : (o : Option (List ℕ)) → o ≡ cond (is_some o) o None
 some_or_none None = refl

@@ -1,7 +1,7 @@
 use Rattle.std.proofs.Common.{◌≡◌, ℕ, inl, inr, subst, arith}
 use Rattle.std.proofs.lemmas.Bool.{cases_lt}
 use Rattle.farm.specs.Solved.{IsClosedAt}
-use Rattle.farm.proofs.SolvedLemmas.{flag_within}
+use Rattle.jobs.proofs.ReachLemmas.{flag_within}
 use Rattle.farm.proofs.solved.is_closed.Goals as goal
 
 pub loop-number-preserved : goal.loop-number-preserved
