@@ -1,7 +1,7 @@
 //! Replays of schedules, against their length.
 
 use super::clock::{ROUNDS, seconds_since};
-use farm_base::{Content, FolderName, Items, NodeId, Slot, Ticket, Want, Wants};
+use farm_base::{Content, FolderName, Items, NodeId, Slot, Ticket, Wants};
 use std::alloc::Global;
 use std::rt::Clock;
 use std::time::Instant;
@@ -16,12 +16,8 @@ const MESSAGES_OF_A_LEASE: u64 = 4;
 
 /// The one want of each lease.
 pub fn wants(alloc: Global) -> anyhow::Result<Wants> {
-    let mut wants = Vec::new(alloc);
-    wants.push(Want {
-        folder: FolderName::parse(alloc, FOLDER)?,
-        writable: true,
-    })?;
-    Ok(Wants::of(wants)?)
+    let folder = FolderName::parse(alloc, FOLDER)?;
+    Ok(Wants::one(alloc, folder, true)?)
 }
 
 fn lefts(alloc: Global, bytes: Vec<u8>) -> anyhow::Result<Items<(Slot, Content)>> {

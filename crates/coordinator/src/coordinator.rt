@@ -301,6 +301,7 @@ impl<K: Keeper> Coordinator<K> {
         self.ledger.slots(alloc)
     }
 
+    /// Whether the slot is free, leased or retired.
     pub fn slot_state(&self, slot: &Slot) -> SlotState
         ensures { result ≡ state_of (record { live = self.now.held.live; retired = self.now.held.retired }) slot.now }
     {

@@ -40,19 +40,6 @@ fn is_said(message: &ToCoord) -> bool
     1 <= message.node.0 && message.node.0 <= NODES && 1 <= message.life.0 && is_request
 }
 
-/// The node that a message is for.
-fn receiver(message: &ToNode) -> NodeId {
-    match message {
-        ToNode::FromCoord(FromCoord::Granted(grant)) => grant.node,
-        ToNode::FromCoord(FromCoord::Committed { node, .. }) => *node,
-        ToNode::FromCoord(FromCoord::Fenced { node, .. }) => *node,
-        ToNode::FromCoord(FromCoord::Denied { node, .. }) => *node,
-        ToNode::FromCoord(FromCoord::Recall { node, .. }) => *node,
-        ToNode::Fetch(fetch) => fetch.node,
-        ToNode::Blob { node, .. } => *node,
-    }
-}
-
 /// A coordinator, two nodes, and the messages that are under way.
 #[derive(Drop)]
 struct Farm {
@@ -107,10 +94,10 @@ impl Farm {
                 }
             }
             Message::ToNode(message) => {
-                let core = self.core(receiver(message));
+                let core = self.core(message.node());
                 let room = core.most_sends(message);
                 self.queue.reserve(room)?;
-                let done = self.core(receiver(message)).handle(alloc, message)?;
+                let done = self.core(message.node()).handle(alloc, message)?;
                 let _note = self.send(done)?;
             }
         }
@@ -130,11 +117,8 @@ impl Farm {
 
     /// A node asks for the folder, and gets the ticket of the lease if that is free.
     fn lease(&mut self, alloc: Global, node: NodeId) -> anyhow::Result<Option<Ticket>> {
-        let want = Want {
-            folder: FolderName::parse(alloc, FOLDER)?,
-            writable: true,
-        };
-        let wants = Wants::of(vec![in alloc; want]?)?;
+        let folder = FolderName::parse(alloc, FOLDER)?;
+        let wants = Wants::one(alloc, folder, true)?;
         let asked = self.core(node).ask(alloc, wants)?;
         let NodeNote::Asked(ask) = self.send(asked)? else {
             return Ok(None);

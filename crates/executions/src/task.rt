@@ -38,6 +38,7 @@ impl Model for ExecTask {
 }
 
 impl ExecTask {
+    /// The solver key of the vertex.
     pub fn key(&self) -> Key
         ensures { result ≡ self.now.key }
     {

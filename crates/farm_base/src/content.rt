@@ -35,6 +35,7 @@ impl Content {
         Content { bytes, digest }
     }
 
+    /// The SHA-256 of the bytes, worked out when the content was made.
     pub fn digest(&self) -> Digest
         ensures value { result ≡ content_digest self.now }
         ensures digest { IsDigest result }
@@ -43,6 +44,7 @@ impl Content {
         self.digest
     }
 
+    /// The bytes of the folder.
     pub fn bytes(&self) -> &[u8]
         ensures value { result.now ≡ self.now }
         ensures bytes { IsBytes result.now }

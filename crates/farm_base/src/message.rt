@@ -1,4 +1,7 @@
 //! What the nodes and the coordinator tell each other.
+ghost use Rattle.std.specs.Prelude.{◌≡◌};
+ghost use Rattle.farm_base.specs.Receivers.{told_to, told_life, receiver};
+
 use super::content::Content;
 use super::copied::Copied;
 use super::digest::Digest;
@@ -158,6 +161,47 @@ pub enum ToNode {
 pub enum Message {
     ToCoord(ToCoord),
     ToNode(ToNode),
+}
+
+impl FromCoord {
+    /// The node that it is for.
+    pub fn node(&self) -> NodeId
+        ensures { result ≡ told_to self.now }
+    {
+        match self {
+            FromCoord::Granted(grant) => grant.node,
+            FromCoord::Committed { node, .. } => *node,
+            FromCoord::Fenced { node, .. } => *node,
+            FromCoord::Denied { node, .. } => *node,
+            FromCoord::Recall { node, .. } => *node,
+        }
+    }
+
+    /// The life of the node that it is for. A node that is in another life drops it.
+    pub fn life(&self) -> Life
+        ensures { result ≡ told_life self.now }
+    {
+        match self {
+            FromCoord::Granted(grant) => grant.life,
+            FromCoord::Committed { life, .. } => *life,
+            FromCoord::Fenced { life, .. } => *life,
+            FromCoord::Denied { life, .. } => *life,
+            FromCoord::Recall { life, .. } => *life,
+        }
+    }
+}
+
+impl ToNode {
+    /// The node that it is for.
+    pub fn node(&self) -> NodeId
+        ensures { result ≡ receiver self.now }
+    {
+        match self {
+            ToNode::FromCoord(told) => told.node(),
+            ToNode::Fetch(fetch) => fetch.node,
+            ToNode::Blob { node, .. } => *node,
+        }
+    }
 }
 
 impl Copied for Version {

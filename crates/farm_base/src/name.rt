@@ -100,6 +100,7 @@ impl FolderName {
         Ok(FolderName { id, mode, base })
     }
 
+    /// The one text of the folder: its mode, its id with escapes, and its base if it has one.
     pub fn to_text(&self, alloc: Global) -> Result<String, AllocError>
         ensures { IfOk result (λ text. string_bytes text ≡ folder_text self.now) }
     {
@@ -162,6 +163,7 @@ impl Slot {
         }
     }
 
+    /// The one text of the slot: that of its folder, with the instance of a PRIVATE one.
     pub fn to_text(&self, alloc: Global) -> Result<String, AllocError>
         ensures { IfOk result (λ text. string_bytes text ≡ slot_text self.now) }
     {

@@ -38,6 +38,7 @@ impl Slot {
         }
     }
 
+    /// A slot of the folder: instance 0 of a SHARED or LOCKED one, 1 to 4,096 of a PRIVATE one.
     pub fn new(folder: FolderName, instance: u32) -> Self
         requires { IsInstance folder.mode instance }
         ensures folder { result.folder ≡ folder }
@@ -46,12 +47,14 @@ impl Slot {
         Slot { folder, instance }
     }
 
+    /// The folder that the slot is of.
     pub fn folder(&self) -> &FolderName
         ensures { result.now ≡ self.now.folder }
     {
         &self.folder
     }
 
+    /// The number of the instance, 0 where the folder is not PRIVATE.
     pub fn instance(&self) -> u32
         ensures value { result ≡ self.now.instance }
         ensures valid { IsInstance self.now.folder.mode result }

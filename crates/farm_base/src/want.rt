@@ -1,4 +1,4 @@
-ghost use Rattle.std.specs.Prelude.{◌≡◌, ◌<◌, ◌≤◌, ◌↔◌, ◌≢◌, vec_len, length, IsPermutation, IfOk, IsErrOf};
+ghost use Rattle.std.specs.Prelude.{◌≡◌, ◌<◌, ◌≤◌, ◌↔◌, ◌≢◌, ◌∷◌, [], vec_len, length, IsPermutation, IfOk, IsErrOf};
 ghost use Rattle.std.specs.List.{IsDistinct, IsAllAdjacentAnswer};
 ghost use Rattle.std.specs.Ordering.{is_lt};
 ghost use Rattle.farm_base.specs.Folders.{folder_cmp, folder_eq};
@@ -45,6 +45,7 @@ impl Model for Wants {
     ghost invariant = { λ w. IsWants w.wants };
 }
 
+/// Why these are not the wants of an execution.
 #[derive(Debug, Drop, PartialEq, Eq, Error)]
 pub enum WantsRefusal {
     #[error("more than 16 folders")]
@@ -83,6 +84,18 @@ impl Wants {
         })
     }
 
+    /// The want of this folder alone.
+    pub fn one(alloc: Global, folder: FolderName, writable: bool) -> Result<Self, AllocError>
+        ensures { IfOk result (λ wants. wants ≡ record { folder = folder; writable = writable } ∷ []) }
+    {
+        let mut wants = Vec::with_capacity(alloc, 1)?;
+        wants.push(Want { folder, writable })?;
+        Ok(Wants {
+            wants: Items::new(wants),
+        })
+    }
+
+    /// The wants, by rising folder.
     pub fn as_slice(&self) -> &[Want]
         ensures same { result.now ≡ self.now }
         ensures sorted { IsWants result.now }

@@ -1,6 +1,6 @@
 //! One execution on a board, from its ask to its receipt, with ample memory.
 
-use farm_base::{Content, FolderName, NodeId, Slot, Ticket, Want, Wants};
+use farm_base::{Content, FolderName, NodeId, Slot, Ticket, Wants};
 use farmboard::{
     Accept, Asked, Board, Finished, Granted, Receipt, Running, Settled, abandon_asked,
     abandon_finished, abandon_granted, abandon_running,
@@ -11,11 +11,8 @@ use std::test::Fail;
 
 /// The wants of one folder, writable.
 fn wants_of(alloc: Global, folder: &str) -> Result<Wants, Fail> {
-    let want = Want {
-        folder: FolderName::parse(alloc, folder)?,
-        writable: true,
-    };
-    Ok(Wants::of(vec![in alloc; want]?)?)
+    let folder = FolderName::parse(alloc, folder)?;
+    Ok(Wants::one(alloc, folder, true)?)
 }
 
 /// Delivers up to this many messages.

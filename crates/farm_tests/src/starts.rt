@@ -39,13 +39,9 @@ fn said(alloc: Global, node: u32, life: u64, folder: &str) -> Result<ToCoord, Fa
     } else {
         let folder = FolderName::parse(alloc, folder)?;
         let tenure = folder.mode == Mode::Shared;
-        let want = Want {
-            folder,
-            writable: true,
-        };
         Request::Acquire {
             ask: Ask(1),
-            wants: Wants::of(vec![in alloc; want]?)?,
+            wants: Wants::one(alloc, folder, true)?,
             tenure,
         }
     };

@@ -94,12 +94,14 @@ impl Board {
         &self.world
     }
 
+    /// The setup that the board was started with.
     pub fn setup(&self) -> Setup
         ensures { result ≡ self.now.setup }
     {
         self.setup
     }
 
+    /// All events so far, refused ones too.
     pub fn schedule(&self) -> &[Event]
         ensures { result.now ≡ self.now.events }
     {
@@ -439,22 +441,7 @@ fn wants_of_tenure(alloc: Global, folder: &FolderName) -> Result<Wants, AllocErr
     requires { folder.now.mode ≡ Mode.Shared }
     ensures { IfOk result (λ wants. wants ≡ tenure_wants folder.now) }
 {
-    one_want(alloc, folder.copy(alloc)?)
-}
-
-/// The wants of the folder alone, writable.
-fn one_want(alloc: Global, folder: FolderName) -> Result<Wants, AllocError>
-    ensures { IfOk result (λ wants. wants ≡ record { folder = folder; writable = true } ∷ []) }
-{
-    let mut wants = Vec::with_capacity(alloc, 1)?;
-    wants.push(Want {
-        folder,
-        writable: true,
-    })?;
-    match Wants::of(wants) {
-        Ok(wants) => Ok(wants),
-        Err(_) => unreachable!(),
-    }
+    Wants::one(alloc, folder.copy(alloc)?, true)
 }
 
 /// Room for a version of each slot, its number not known yet.

@@ -85,12 +85,14 @@ pub enum Settled {
 }
 
 impl Asked {
+    /// The node that asked.
     pub fn node(&self) -> NodeId
         ensures { result ≡ self.now.node }
     {
         self.node
     }
 
+    /// The folders that it asked for.
     pub fn wants(&self) -> &Wants
         ensures { result.now ≡ self.now.wants }
     {
@@ -99,18 +101,21 @@ impl Asked {
 }
 
 impl Granted {
+    /// The node that has the lease.
     pub fn node(&self) -> NodeId
         ensures { result ≡ self.now.node }
     {
         self.node
     }
 
+    /// The folders that it asked for.
     pub fn wants(&self) -> &Wants
         ensures { result.now ≡ self.now.wants }
     {
         &self.wants
     }
 
+    /// The lease: its ticket, and the slots with the versions to begin from.
     pub fn grant(&self) -> &Grant
         ensures { result.now ≡ self.now.grant }
     {
@@ -119,18 +124,21 @@ impl Granted {
 }
 
 impl Running {
+    /// The node that executes.
     pub fn node(&self) -> NodeId
         ensures { result ≡ self.now.node }
     {
         self.node
     }
 
+    /// The folders that it asked for.
     pub fn wants(&self) -> &Wants
         ensures { result.now ≡ self.now.wants }
     {
         &self.wants
     }
 
+    /// The lease under which it executes.
     pub fn grant(&self) -> &Grant
         ensures { result.now ≡ self.now.grant }
     {
@@ -153,12 +161,14 @@ impl Running {
 }
 
 impl Finished {
+    /// The node that executed.
     pub fn node(&self) -> NodeId
         ensures { result ≡ self.now.node }
     {
         self.node
     }
 
+    /// The ticket of its lease.
     pub fn ticket(&self) -> Ticket
         ensures { result ≡ self.now.ticket }
     {

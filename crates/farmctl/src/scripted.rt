@@ -21,6 +21,7 @@ pub struct Scripted {
 }
 
 impl Scripted {
+    /// An executor that has carried out nothing.
     pub fn new(alloc: Global) -> Self {
         Scripted {
             alloc,

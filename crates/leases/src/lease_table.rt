@@ -99,6 +99,7 @@ fn is_private(want: &Want) -> bool
 }
 
 impl LeaseTable {
+    /// A table without leases, all slots free.
     pub fn new(alloc: Global) -> Self
         ensures live { result.live ≡ [] }
         ensures retired { result.retired ≡ [] }
@@ -196,6 +197,7 @@ impl LeaseTable {
         among(self.retired.as_slice(), slot)
     }
 
+    /// Whether the slot is free, leased or retired.
     pub fn slot_state(&self, slot: &Slot) -> SlotState
         ensures { result ≡ state_of self.now slot.now }
     {

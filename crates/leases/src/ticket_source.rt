@@ -24,6 +24,7 @@ impl Model for TicketSource {
     ghost invariant = { λ s. s.position ≤ s.ceiling };
 }
 
+/// The last ticket, 2^64 - 1, has been given.
 #[derive(Clone, Copy, Debug, PartialEq, Eq, Error)]
 #[error("the greatest ticket was given")]
 pub struct TicketsSpent;

@@ -4,7 +4,6 @@ pub mod NodeLemmas
 pub mod FirstLemmas
 pub mod KeptLemmas
 pub mod MapLemmas
-pub mod WantLemmas
 pub mod SendLemmas
 pub mod StoredLemmas
 mod OverLemmas

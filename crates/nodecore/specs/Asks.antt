@@ -2,7 +2,7 @@
 use Rattle.std.specs.Prelude.{◌≡◌, ℕ, ◌<◌, ◌≤◌, Bool, true, false, List, [], length, Option, Some, None, slice_get, is_some}
 use Rattle.farm_base.specs.declared.message.FromCoord as FromCoord
 use Rattle.farm_base.specs.declared.message.FromCoord.TheVariants as coord
-use Rattle.protocol.specs.Names.{Life, Ticket}
+use Rattle.protocol.specs.Names.{Ticket}
 use Rattle.protocol.specs.Machine.{Grant, GrantedSlot, News}
 use Rattle.protocol.specs.declared.answer.How.{How}
 use Rattle.protocol.specs.declared.ask.KeptAsk.{KeptAsk}
@@ -116,14 +116,6 @@ told_state (Holding wants g r) = told.Granted g
 told_state (Running wants g r) = told.Running g
 told_state (Finished wants g news) = told.Finished g.ticket
 told_state (Over how) = told.Over how
-
--- the life of the node that a message is for
-abbrev pub life_of : FromCoord.FromCoord → Life
-life_of (coord.Granted g) = g.life
-life_of (coord.Committed n l t versions) = l
-life_of (coord.Fenced n l t) = l
-life_of (coord.Denied n l a why) = l
-life_of (coord.Recall n l t) = l
 
 -- the slots of the lease that the coordinator grants, none where it says something else
 abbrev pub slots_told : FromCoord.FromCoord → List GrantedSlot

@@ -42,21 +42,6 @@ fn one_message(
     Ok(Items::new(sends))
 }
 
-/// The wants of an ask for the folder alone, writable.
-fn one_want(alloc: Global, folder: FolderName) -> Result<Wants, AllocError>
-    ensures { IfOk result (λ wants. wants ≡ record { folder = folder; writable = true } ∷ []) }
-{
-    let mut wants = Vec::with_capacity(alloc, 1)?;
-    wants.push(Want {
-        folder,
-        writable: true,
-    })?;
-    match Wants::of(wants) {
-        Ok(wants) => Ok(wants),
-        Err(_) => unreachable!(),
-    }
-}
-
 /// A node of the farm: what it keeps in its present life.
 #[derive(Drop)]
 pub struct NodeCore {
@@ -287,7 +272,7 @@ impl NodeCore {
         if self.asks.len() as u64 == GREATEST {
             return Err(NodeRefusal::AsksSpent);
         }
-        let Ok(wants) = one_want(alloc, folder) else {
+        let Ok(wants) = Wants::one(alloc, folder, true) else {
             return Err(NodeRefusal::OutOfMemory);
         };
         let Ok(done) = self.open(alloc, wants, true) else {

@@ -5,7 +5,6 @@ ghost use Rattle.protocol.specs.declared.ask.KeptAsk.{KeptAsk};
 ghost use Rattle.protocol.specs.Lists.{nth};
 ghost use Rattle.protocol.specs.Nodes.{heard, unless_spent, brought, denied, dropped, fetched, finished, gives_back, granted, takes, learned, first, recallable, recalled};
 ghost use Rattle.farm_base.specs.Contents.{content_digest};
-ghost use Rattle.nodecore.specs.Asks.{life_of};
 ghost use Rattle.nodecore.specs.Shown.{shown, place, work_of, message_work, Does, Answers};
 
 use super::asks::{Sought, any_base, hold, is_open, keeps, place_of, recall};
@@ -13,8 +12,8 @@ use super::contents::{bases, confirmed, learn};
 use super::message::NodeDone;
 use super::node_core::NodeCore;
 use farm_base::{
-    Ask, Confirmed, Content, Copied, Digest, FromCoord, Grant, Items, Life, Message, NodeId,
-    Request, Ticket, ToNode, Why,
+    Ask, Confirmed, Content, Copied, Digest, FromCoord, Grant, Items, Message, NodeId, Request,
+    Ticket, ToNode, Why,
 };
 use protocol::{How, KeptAsk, NodeNote, NodeRefusal};
 use std::alloc::{AllocError, Global};
@@ -26,19 +25,6 @@ pub(crate) fn silent(alloc: Global, note: NodeNote) -> NodeDone
     NodeDone {
         note,
         sends: Items::new(Vec::new(alloc)),
-    }
-}
-
-/// The life of the node that a message is for.
-fn life_of(message: &FromCoord) -> Life
-    ensures { result ≡ life_of message.now }
-{
-    match message {
-        FromCoord::Granted(grant) => grant.life,
-        FromCoord::Committed { life, .. } => *life,
-        FromCoord::Fenced { life, .. } => *life,
-        FromCoord::Denied { life, .. } => *life,
-        FromCoord::Recall { life, .. } => *life,
     }
 }
 
@@ -198,7 +184,7 @@ impl NodeCore {
         ensures work { Does (heard farm_limits (place self.old) message.now (shown self.old)) (shown self.old) (shown self.new) result }
         ensures place { place self.new ≡ place self.old }
     {
-        if life_of(message).0 != self.life.0 {
+        if message.life().0 != self.life.0 {
             return Ok(silent(alloc, NodeNote::OldLife));
         }
         match message {

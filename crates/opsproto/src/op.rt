@@ -66,12 +66,14 @@ impl Op {
         Ok(Op::new(Items::new(inputs), kind, Items::new(stripped)))
     }
 
+    /// The outputs of other ops that it takes, in order.
     pub fn inputs(&self) -> &[Input]
         ensures { result.now ≡ self.now.inputs }
     {
         self.inputs.as_slice()
     }
 
+    /// What it does: runs a command, or something that is not read further.
     pub fn kind(&self) -> &Kind
         ensures { result.now ≡ self.now.kind }
     {

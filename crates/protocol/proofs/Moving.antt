@@ -16,7 +16,7 @@ use Rattle.protocol.specs.World.{KeptAsk, Open, Holding, Running, Finished, Over
 use Rattle.protocol.specs.Nodes.{NodeWork, NodeAnswer, guard, Place, wants_folder, is_tenure_of, is_home_of, uses, at_home, others_use, in_use, Held, Sent, first, first_of, under, held, running, held_or_running, finished, recalled_if, recallable, is_stored, all_stored, is_missing, others, fetches_of, fetches, is_base, asked, asked_tenure, beginning, begun, Left, news_of, stored, leaving, finishing, finished_with, aborting, aborted, again, all_again, resent, restarted, gives_back, granted, learned, dropped, denied, recalled, of_life, heard, fetched, brought, unless_spent}
 use Rattle.farm_base.proofs.CompareLaws.{digest_exact}
 use Rattle.protocol.proofs.Base.{true_false, none_some, some_is, folder_eq_same, life_is, ticket_is, in_append, in_one, from_map, any_in, any_none, from_any, put_same, put_other, nth_in}
-use Rattle.protocol.specs.Replay.{told_to}
+use Rattle.farm_base.specs.Receivers.{told_to}
 use Rattle.protocol.proofs.Following.{slots_eq_is}
 use Rattle.farm_base.proofs.NameLaws.{folder_exact}
 

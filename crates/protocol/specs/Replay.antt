@@ -4,12 +4,11 @@ use Rattle.protocol.specs.Lists.{put, nth}
 use Rattle.protocol.specs.Names.{NodeId, Digest}
 use Rattle.protocol.specs.Machine.{Message, ToNode, Told, FromCoord}
 use Rattle.farm_base.specs.declared.message.Message.TheVariants as to
-use Rattle.farm_base.specs.declared.message.ToNode.TheVariants as to_node
+pub use Rattle.farm_base.specs.Receivers.{told_to, receiver}
 use Rattle.protocol.specs.Ledger.{Limits, Ledger, Work, begin_work, handled, withdrawn, retired, pruned, nudged, Saved, saves, reads}
 use Rattle.protocol.specs.Ledger as ledger
 use Rattle.protocol.specs.World.{Node, first_node}
 use Rattle.protocol.specs.Nodes.{Place, NodeWork, NodeAnswer, asked, asked_tenure, begun, finished_with, aborted, resent, restarted, may_restart, received, brought, unless_spent}
-use Rattle.farm_base.specs.declared.message.FromCoord.TheVariants as told
 use Rattle.protocol.specs.declared.answer.Kept.{Kept}
 use Rattle.protocol.specs.declared.answer.Kept.TheVariants.{Old, New}
 use Rattle.protocol.specs.declared.answer.CoordRefusal.{CoordRefusal}
@@ -106,19 +105,6 @@ restarts k n s =
     else refused (refusal.Node node.LivesSpent) (record s { nodes = put n.0 (record (s.nodes n.0) { spent = true }) s.nodes })
 
 -- deliveries
-
-abbrev pub told_to : FromCoord → NodeId
-told_to (told.Granted g) = g.node
-told_to (told.Committed n l t versions) = n
-told_to (told.Fenced n l t) = n
-told_to (told.Denied n l a why) = n
-told_to (told.Recall n l t) = n
-
--- the node that a message is for
-abbrev pub receiver : ToNode → NodeId
-receiver (to_node.FromCoord y) = told_to y
-receiver (to_node.Fetch y) = y.node
-receiver (to_node.Blob n c) = n
 
 abbrev pub delivered : (List ℕ → Digest) → Limits → Option Message → Farm → Turn
 delivered sha k None s = refused refusal.NoSuchMessage s

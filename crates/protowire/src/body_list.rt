@@ -33,6 +33,7 @@ impl Model for BodyList {
 impl BodyList {
     ghost use Rattle.std.specs.Prelude.{◌++◌, ◌∷◌, [], OnOk, OnErr};
 
+    /// No bodies.
     pub fn new(alloc: Global) -> Self
         ensures { result ≡ [] }
     {

@@ -42,6 +42,7 @@ impl Line {
         Line { versions }
     }
 
+    /// The versions, the first with number 1.
     pub fn versions(&self) -> &[LineVersion]
         ensures { result.now ≡ self.now }
     {

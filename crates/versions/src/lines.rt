@@ -81,6 +81,7 @@ impl Model for Lines {
 }
 
 impl Lines {
+    /// No slot has a version.
     pub fn new(alloc: Global) -> Self
         ensures { result ≡ [] }
     {
@@ -116,6 +117,7 @@ impl Lines {
         Ok(copy.lines)
     }
 
+    /// The line of the slot, None where it has no version.
     pub fn find(&self, slot: &Slot) -> Option<&Line>
         ensures value { unwrap_or (option_copied result) [] ≡ line_at self.now slot.now }
         ensures filled { IfSome result (λ line. line.now ≢ []) }

@@ -14,7 +14,7 @@ use Rattle.protocol.specs.declared.answer.NodeRefusal.TheVariants as node
 use Rattle.protocol.specs.declared.answer.EventNote.TheVariants as note
 use Rattle.protocol.specs.declared.answer.EventRefusal.{EventRefusal}
 use Rattle.protocol.specs.declared.answer.EventRefusal.TheVariants as refusal
-use Rattle.protocol.specs.Replay.{receiver}
+use Rattle.farm_base.specs.Receivers.{receiver}
 use Rattle.protocol.specs.declared.answer.Outcome.{Outcome}
 
 -- the number of the first message that is sent after `before` others, 0 if none is sent

@@ -2,11 +2,11 @@
 ghost use Rattle.std.specs.Prelude.{◌≡◌, ◌+◌, ◌<◌, length, IfOk, IfSome, IfNone, is_some};
 ghost use Rattle.protocol.specs.Nodes.{unless_spent};
 ghost use Rattle.nodecore.specs.Shown.{shown, place, message_work, Answers};
-ghost use Rattle.protocol.specs.Replay.{receiver};
+ghost use Rattle.farm_base.specs.Receivers.{receiver};
 ghost use Rattle.world.specs.Tables.{node_at, has, seat, called, AreSeated, AreFirst, OnlyNode, Restarts};
 
 use super::call::{Call, answer};
-use farm_base::{FromCoord, NodeId};
+use farm_base::NodeId;
 use nodecore::{NodeCore, NodeDone, ToNode};
 use protocol::NodeRefusal;
 use std::alloc::{AllocError, Global};
@@ -40,21 +40,6 @@ fn first_cores(alloc: Global, count: u32) -> Result<Vec<NodeCore>, AllocError>
         cores.push(NodeCore::start(alloc, NodeId(number + 1), count)?)?;
     }
     Ok(cores)
-}
-
-/// The node that a message is for.
-pub(crate) fn receiver(message: &ToNode) -> NodeId
-    ensures { result ≡ receiver message.now }
-{
-    match message {
-        ToNode::FromCoord(FromCoord::Granted(grant)) => grant.node,
-        ToNode::FromCoord(FromCoord::Committed { node, .. }) => *node,
-        ToNode::FromCoord(FromCoord::Fenced { node, .. }) => *node,
-        ToNode::FromCoord(FromCoord::Denied { node, .. }) => *node,
-        ToNode::FromCoord(FromCoord::Recall { node, .. }) => *node,
-        ToNode::Fetch(fetch) => fetch.node,
-        ToNode::Blob { node, .. } => *node,
-    }
 }
 
 impl Nodes {
@@ -103,7 +88,7 @@ impl Nodes {
         ensures none { IfNone result (self.new.cores.items ≡ self.old.cores.items) }
         ensures exact { is_some result ≡ has self.old.cores.items (receiver message.now) }
     {
-        let place = place_of(self.cores.as_slice(), receiver(message))?;
+        let place = place_of(self.cores.as_slice(), message.node())?;
         Some(self.cores[place].handle(alloc, message))
     }
 

@@ -16,7 +16,7 @@ ghost use Rattle.world.specs.Turns.{Came, FitsIn, from_node, from_coordinator, r
 ghost use Rattle.world.specs.Parts.{shown_parts};
 
 use super::call::Call;
-use super::nodes::{Nodes, receiver};
+use super::nodes::Nodes;
 use super::pool::{message_at, place_in, send_coordinator, send_node};
 use coordinator::Coordinator;
 use farm_base::{NodeId, Slot, Ticket};
@@ -114,7 +114,7 @@ impl Parts {
     {
         match message {
             Message::ToCoord(_) => self.coordinator.most_sends(),
-            Message::ToNode(message) => match self.nodes.get(receiver(message)) {
+            Message::ToNode(message) => match self.nodes.get(message.node()) {
                 None => 0,
                 Some(core) => core.most_sends(message),
             },

@@ -87,6 +87,7 @@ impl World {
         ensures { ∥ SafeAfter content_digest (shown self.now) ∥₁ }
     {}
 
+    /// The coordinator, which keeps its record in memory.
     pub fn coordinator(&self) -> &Coordinator<MemoryKeeper>
         ensures ledger { ledger result.now.held ≡ (shown self.now).ledger }
         ensures record { saved_in result.now.keeper.bytes ≡ (shown self.now).saved }

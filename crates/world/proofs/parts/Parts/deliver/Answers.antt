@@ -22,7 +22,7 @@ use Rattle.world.proofs.LawfulLemmas.{said_of}
 use Rattle.world.proofs.PoolLemmas.{found_at, same_read}
 use Rattle.world.proofs.CallLemmas.{call_done}
 use Rattle.world.proofs.TurnLemmas.{hears, came_none, came_done, came_refused, unmoved, came_as}
-use Rattle.protocol.specs.Replay.{receiver}
+use Rattle.farm_base.specs.Receivers.{receiver}
 use Rattle.world.proofs.parts.Parts.deliver.Goals as goal
 
 pub returns-in_default-hear : goal.returns-in_default-hear
