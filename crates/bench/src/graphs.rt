@@ -1,10 +1,15 @@
 //! Definitions that are made to be measured.
 
 use farm_base::{Digest, Items, Text};
-use opsproto::{Definition, ExecOp, Input, Meta, Mount, Op, write_definition, write_op};
+use opsproto::{CacheOpt, Definition, ExecOp, Input, Meta, Mount, Op, write_definition, write_op};
 use protowire::{BodyList, put_bytes};
 use sha2::Sha256;
 use std::alloc::{AllocError, Global};
+
+/// ops.proto's `MountType.CACHE`.
+const CACHE: i32 = 3;
+/// ops.proto's `CacheSharingOpt.LOCKED`.
+const LOCKED: i32 = 2;
 
 fn text(alloc: Global, text: &str) -> Result<Text, AllocError> {
     Ok(Text::new(String::from_str(alloc, text)?))
@@ -39,12 +44,41 @@ fn command(alloc: Global, number: usize, padding: &str) -> Result<Meta, AllocErr
     })
 }
 
+/// A cache mount of the LOCKED folder of this id.
+fn cache(alloc: Global, id: &str) -> Result<Mount, AllocError> {
+    Ok(Mount {
+        input: -1,
+        selector: text(alloc, "")?,
+        dest: text(alloc, "/cache")?,
+        output: -1,
+        readonly: false,
+        mount_type: CACHE,
+        cache: Some(CacheOpt {
+            id: text(alloc, id)?,
+            sharing: LOCKED,
+        }),
+    })
+}
+
 /// An exec vertex that takes the first output of each of these.
 fn step(
     alloc: Global,
     number: usize,
     inputs: &[&Digest],
     padding: &str,
+) -> Result<Vec<u8>, AllocError> {
+    let input = if inputs.is_empty() { -1 } else { 0 };
+    let mounts = vec![in alloc; root(alloc, input)?]?;
+    exec(alloc, number, inputs, padding, mounts)
+}
+
+/// An exec vertex with these mounts.
+fn exec(
+    alloc: Global,
+    number: usize,
+    inputs: &[&Digest],
+    padding: &str,
+    mounts: Vec<Mount>,
 ) -> Result<Vec<u8>, AllocError> {
     let mut named = Vec::new(alloc);
     for digest in inputs {
@@ -53,10 +87,9 @@ fn step(
             index: 0,
         })?;
     }
-    let input = if inputs.is_empty() { -1 } else { 0 };
     let exec = ExecOp {
         meta: Some(command(alloc, number, padding)?),
-        mounts: Items::new(vec![in alloc; root(alloc, input)?]?),
+        mounts: Items::new(mounts),
         network: 0,
         security: 0,
     };
@@ -105,6 +138,32 @@ pub fn chain(alloc: Global, count: usize, metadata: bool) -> Result<Vec<u8>, All
     }
     entries.push(&result(alloc, &last)?)?;
     written(alloc, entries, metadata)
+}
+
+/// A chain of vertices with a cache mount of the LOCKED folder of this id. No two chains of different numbers have a
+/// vertex in common.
+pub fn cached_chain(
+    alloc: Global,
+    chain: usize,
+    count: usize,
+    id: &str,
+) -> Result<Vec<u8>, AllocError> {
+    let mut entries = BodyList::new(alloc);
+    let mut last = digest_of(b"");
+    for place in 0..count {
+        let number = chain.saturating_mul(count).saturating_add(place);
+        let entry = if place == 0 {
+            let mounts = vec![in alloc; root(alloc, -1)?, cache(alloc, id)?]?;
+            exec(alloc, number, &[], "", mounts)?
+        } else {
+            let mounts = vec![in alloc; root(alloc, 0)?, cache(alloc, id)?]?;
+            exec(alloc, number, &[&last], "", mounts)?
+        };
+        last = digest_of(&entry);
+        entries.push(&entry)?;
+    }
+    entries.push(&result(alloc, &last)?)?;
+    written(alloc, entries, false)
 }
 
 /// A vertex that takes all of `count` others.

@@ -1,12 +1,14 @@
 //! Measures the crates. With no words it makes small inputs and prints what comes of them; with the word
-//! `read`, `keys`, `replay` or `save` it measures, each figure as a ratio of times in the same run.
+//! `read`, `keys`, `replay`, `save` or `run` it measures, each figure as a ratio of times in the same run.
 #![tactic(auto)]
 
 mod clock;
 mod graphs;
+mod hashing;
 mod keys;
 mod read;
 mod replay;
+mod run;
 mod save;
 
 use std::{env, io};
@@ -27,8 +29,10 @@ fn main(rt: HostRuntime) -> anyhow::Result<()> {
                 replay::measure(&rt)
             } else if word.as_str() == "save" {
                 save::measure(&rt)
+            } else if word.as_str() == "run" {
+                run::measure(&rt)
             } else {
-                eprintln!(rt; "bench [read|keys|replay|save]")?;
+                eprintln!(rt; "bench [read|keys|replay|save|run]")?;
                 Ok(())
             }
         }

@@ -14,7 +14,7 @@ mod task;
 
 pub use batch::Batch;
 pub use call::{Call, ExecOutcome};
-pub use executor::{Executor, Gate};
+pub use executor::{Executor, Gate, OpenGate};
 pub use live_shared::LiveShared;
 pub use refusal::{RunRefusal, SharedRefusal};
 pub use run::{Ran, run_leased};

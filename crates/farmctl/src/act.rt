@@ -11,10 +11,12 @@ use super::explain::{Explanation, explained};
 use super::failure::Failure;
 use super::files::contents;
 use super::running::solve;
-use super::scripted::Scripted;
+use super::scripted::scripted_executors;
 use std::alloc::{AllocError, Global};
 use std::io::{self, Write};
 use std::rt::Files;
+use std::sync::Wait;
+use std::thread::Threads;
 
 /// The answer was printed.
 pub const DONE: u8 = 0;
@@ -149,7 +151,7 @@ fn print_explanation<E: Write>(
 }
 
 /// Reads the file that the words name, acts, and explains what is refused if the words ask for it.
-fn act_on<R: Files + Input + AllocGlobal, O: Write, E: Write>(
+fn act_on<R: Files + Input + AllocGlobal + Threads + Wait + Sync, O: Write, E: Write>(
     rt: &R,
     words: &Words,
     out: &mut O,
@@ -173,16 +175,16 @@ fn act_on<R: Files + Input + AllocGlobal, O: Write, E: Write>(
     }
     let status = match words.request {
         Request::Print(command) => act(alloc, command, files, out, err),
-        Request::Run { nodes } => {
-            let executor = Box::new(alloc, Scripted::new(alloc))?;
-            solve(alloc, nodes, files, executor, out, err)
+        Request::Run { nodes, record } => {
+            let executors = scripted_executors(alloc, nodes)?;
+            solve(rt, alloc, files, executors, record, out, err)
         }
     };
     Ok(print_explanation(words.options, &all, status, err))
 }
 
 /// Does what the words say. The texts of usage faults and help are `clap`'s.
-pub fn run<R: Files + Input + AllocGlobal, O: Write, E: Write>(
+pub fn run<R: Files + Input + AllocGlobal + Threads + Wait + Sync, O: Write, E: Write>(
     rt: &R,
     words: &[String],
     out: &mut O,

@@ -2,6 +2,7 @@
 
 use clap::builder::ValueParser;
 use clap::{Arg, ArgAction, ArgMatches, Error};
+use farm_base::NODES;
 use opsproto::LIMIT;
 use std::alloc::{AllocError, Global};
 
@@ -22,14 +23,18 @@ pub enum Command {
 
 /// What the program is asked to do.
 #[derive(Clone, Copy, Debug, PartialEq, Eq)]
-pub enum Request {
+pub enum Request<'a> {
     /// Prints what the command answers for a file.
     Print(Command),
-    /// Builds definitions on a farm of this many nodes, and prints their answers.
-    Run { nodes: u32 },
+    /// Builds definitions on a farm of this many nodes, and prints their answers. The coordinator's record goes to this
+    /// path, if there is one.
+    Run {
+        nodes: u32,
+        record: Option<&'a str>,
+    },
 }
 
-impl Request {
+impl Request<'_> {
     /// How much of a file is read: of a record all, else one byte past the limit, so that what is longer is refused.
     pub fn most_bytes(self) -> usize {
         match self {
@@ -51,7 +56,7 @@ pub struct Options {
 /// What the words of the command line say.
 #[derive(Drop)]
 pub struct Words<'a> {
-    pub request: Request,
+    pub request: Request<'a>,
     pub options: Options,
     pub files: Vec<&'a str>,
 }
@@ -151,16 +156,17 @@ No command is really run. An execution does what its command's words say:
   fail                 fails
 Any other command changes nothing.";
 
-/// The greatest number of nodes that `run` takes.
-const MOST_NODES: u64 = 1;
-
 fn run_command<'a>(alloc: Global) -> Result<clap::Command<'a>, AllocError> {
     let nodes = Arg::new(alloc, "nodes")
         .long("nodes")
         .value_name("N")
         .required(true)
-        .value_parser(ValueParser::Unsigned(1, MOST_NODES))
+        .value_parser(ValueParser::Unsigned(1, NODES as u64))
         .help("How many nodes the farm has; the files are built on them in turn");
+    let record = Arg::new(alloc, "record")
+        .long("record")
+        .value_name("PATH")
+        .help("Keeps the coordinator's record in this file, as `farmctl record` reads it");
     let files = Arg::new(alloc, "FILE")
         .required(true)
         .num_args(1..)
@@ -169,6 +175,7 @@ fn run_command<'a>(alloc: Global) -> Result<clap::Command<'a>, AllocError> {
         .about("Builds definitions on a farm, with executors that run scripts")
         .after_help(SCRIPTS)
         .arg(nodes)?
+        .arg(record)?
         .arg(files)
 }
 
@@ -207,7 +214,7 @@ fn farmctl<'a>(alloc: Global) -> Result<clap::Command<'a>, AllocError> {
 }
 
 /// What the command of this name is asked to do.
-fn named(name: &str, found: &ArgMatches) -> Request {
+fn named<'a>(name: &str, found: &ArgMatches<'a>) -> Request<'a> {
     match name {
         "check" => Request::Print(Command::Check),
         "keys" => Request::Print(Command::Keys),
@@ -215,6 +222,7 @@ fn named(name: &str, found: &ArgMatches) -> Request {
         "record" => Request::Print(Command::Record),
         "run" => Request::Run {
             nodes: found.get_one("nodes").unwrap_or(1),
+            record: found.get_str("record"),
         },
         _ => Request::Print(Command::Replay),
     }

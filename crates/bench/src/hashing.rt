@@ -1,0 +1,85 @@
+//! An executor that hashes for a while.
+ghost use Rattle.std.specs.Prelude.{⊤};
+
+use executions::{Call, ExecOutcome, ExecTask, Executor};
+use farm_base::{Digest, Items, Key, NodeId};
+use sha2::Sha256;
+use std::alloc::{AllocError, Global};
+
+/// Hashes 64 KiB this many times for each task, changes no folder, and gives one output.
+#[derive(Drop)]
+pub struct Hashing {
+    alloc: Global,
+    rounds: u32,
+    calls: Vec<Call>,
+}
+
+/// What is hashed.
+const BLOCK: [u8; 65_536] = [7; 65_536];
+
+/// Hashes it this many times.
+fn hash(rounds: u32) {
+    for _ in 0..rounds {
+        let _digest = <Sha256 as sha2::Digest>::digest(&BLOCK);
+    }
+}
+
+/// The one output of a key.
+fn output(alloc: Global, key: Key) -> Result<Items<Digest>, AllocError> {
+    Ok(Items::new(vec![in alloc; key.0]?))
+}
+
+impl Executor for Hashing {
+    ghost history = { λ h. h.calls.items };
+
+    ghost answers = { λ h task outcome. ⊤ };
+
+    fn run(&mut self, task: &ExecTask) -> ExecOutcome {
+        let key = task.key();
+        let (Ok(outputs), Ok(kept)) = (output(self.alloc, key), output(self.alloc, key)) else {
+            return ExecOutcome::OutOfMemory;
+        };
+        if self.calls.reserve(1).is_err() {
+            return ExecOutcome::OutOfMemory;
+        }
+        hash(self.rounds);
+        self.calls.push_reserved(Call {
+            key,
+            result: Ok(kept),
+        });
+        ExecOutcome::Done {
+            outputs,
+            edits: Items::new(Vec::new(self.alloc)),
+        }
+    }
+
+    fn calls(&self) -> &[Call] {
+        self.calls.as_slice()
+    }
+}
+
+/// One such executor.
+pub fn executor(alloc: Global, rounds: u32) -> Result<Box<dyn Executor + Send>, AllocError> {
+    let calls = Vec::new(alloc);
+    Box::new(
+        alloc,
+        Hashing {
+            alloc,
+            rounds,
+            calls,
+        },
+    )
+}
+
+/// One for each of this many nodes.
+pub fn executors(
+    alloc: Global,
+    nodes: u32,
+    rounds: u32,
+) -> Result<Vec<(NodeId, Box<dyn Executor + Send>)>, AllocError> {
+    let mut executors = Vec::new(alloc);
+    for number in 0..nodes {
+        executors.push((NodeId(number + 1), executor(alloc, rounds)?))?;
+    }
+    Ok(executors)
+}
