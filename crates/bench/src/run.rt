@@ -55,7 +55,9 @@ fn print_growth<R: Print + Clock + AllocGlobal>(rt: &R) -> anyhow::Result<()> {
     let many = one_job(rt, "8,000 side by side", 8_001, wide(alloc, 8_000)?)?;
     let chains = long / short;
     let sides = many / few;
-    println!(rt; "growth for a key from 1,000 to 8,000: chains {chains:.2}, side by side {sides:.2}")?;
+    println!(rt;
+        "growth for a key from 1,000 to 8,000: chains {chains:.2}, side by side {sides:.2}"
+    )?;
     Ok(())
 }
 

@@ -7,7 +7,8 @@ use Rattle.protocol.specs.declared.event.Event.{Event}
 use Rattle.schedule.specs.declared.setup.Setup.{Setup}
 use Rattle.jobs.specs.declared.answer.Answer.{Answer}
 use Rattle.jobs.specs.declared.answer.Answer.TheVariants.{Waiting, Output, Failed}
-use Rattle.farm.specs.Ends.{RefusesNone, committed_of}
+use Rattle.saverecord.specs.Ledgers.{Holds}
+use Rattle.farmend.specs.Replays.{farm_after, commits_after}
 use Rattle.farmctl.specs.Acts.{File}
 
 -- `DIGEST`, or `failed`
@@ -34,12 +35,13 @@ commits_line commits = codes "commits " ++ decimal commits ++ codes "\n"
 abbrev pub names_of : List File → List (List ℕ)
 names_of files = map (λ (file : File). string_bytes file.0) files
 
--- what is printed for a run of files of these names: there is a schedule of the farm in which no event is refused; each file
--- has an answer, and as many commits are printed as events of the schedule were answered `committed`
-pub record IsRunOf (setup : Setup) (names : List (List ℕ)) (text : List ℕ) : Type 0 where
+-- what is printed for a run of files of these names, and what is saved: there is a schedule of the farm after which the
+-- coordinator's record is the saved one; each file has an answer; and as many commits are printed as grants of the schedule
+-- ended committed
+pub record IsRunOf (setup : Setup) (names : List (List ℕ)) (text saved : List ℕ) : Type 0 where
   pub events : List Event
   pub answers : List Answer
-  pub replay : RefusesNone setup events
+  pub record_is : Holds saved (farm_after setup events).saved
   pub count : length answers ≡ length names
   pub answered : All (λ (answer : Answer). answer ≢ Waiting) answers
-  pub text_is : text ≡ job_lines names answers ++ commits_line (committed_of setup events)
+  pub text_is : text ≡ job_lines names answers ++ commits_line (commits_after setup events)

@@ -1,5 +1,6 @@
 //! The words of the command line.
 
+use super::running::RunOptions;
 use clap::builder::ValueParser;
 use clap::{Arg, ArgAction, ArgMatches, Error};
 use farm_base::NODES;
@@ -26,12 +27,8 @@ pub enum Command {
 pub enum Request<'a> {
     /// Prints what the command answers for a file.
     Print(Command),
-    /// Builds definitions on a farm of this many nodes, and prints their answers. The coordinator's record goes to this
-    /// path, if there is one.
-    Run {
-        nodes: u32,
-        record: Option<&'a str>,
-    },
+    /// Builds definitions on a farm, and prints their answers.
+    Run(RunOptions<'a>),
 }
 
 impl Request<'_> {
@@ -220,10 +217,10 @@ fn named<'a>(name: &str, found: &ArgMatches<'a>) -> Request<'a> {
         "keys" => Request::Print(Command::Keys),
         "wants" => Request::Print(Command::Wants),
         "record" => Request::Print(Command::Record),
-        "run" => Request::Run {
+        "run" => Request::Run(RunOptions {
             nodes: found.get_one("nodes").unwrap_or(1),
             record: found.get_str("record"),
-        },
+        }),
         _ => Request::Print(Command::Replay),
     }
 }

@@ -10,14 +10,18 @@ ghost use Rattle.farmctl.specs.Runs.{answer_text, job_line, job_lines, commits_l
 use super::act::{DONE, FAULT, MEMORY, print, print_failure, print_unreadable};
 use super::answer::graph_of;
 use super::failure::Failure;
-use executions::Executor;
-use farm::{Farm, FarmFault, OneEnd};
+use executions::{Executor, OpenGate};
+use farm::{Farm, FarmEnd, FarmFault};
 use farm_base::NodeId;
 use jobs::Answer;
+use saverecord::{FileKeeper, Keeper, SaveFault};
 use schedule::Setup;
 use solverkeys::Keyed;
 use std::alloc::{AllocError, AllocFailed, Global};
-use std::io::Write;
+use std::io::{self, Write};
+use std::rt::Files;
+use std::sync::Wait;
+use std::thread::Threads;
 
 /// The graph of a file's definition, with its keys.
 fn keyed_of(alloc: Global, bytes: Vec<u8>) -> Result<Keyed, Failure>
@@ -144,7 +148,7 @@ fn lines(alloc: Global, names: &[String], answers: &[Answer]) -> Result<String, 
 }
 
 /// What is printed for a run.
-fn run_text(alloc: Global, names: &[String], end: &OneEnd) -> Result<String, AllocError>
+fn run_text(alloc: Global, names: &[String], end: &FarmEnd) -> Result<String, AllocError>
     ensures { IfOk result (λ text. string_bytes text ≡ job_lines (map string_bytes names.now) end.now.answers.items ++ commits_line end.now.commits) }
 {
     let mut text = lines(alloc, names, end.answers.as_slice())?;
@@ -193,42 +197,100 @@ fn print_input_fault<E: Write>(alloc: Global, fault: InputFault, err: &mut E) ->
     }
 }
 
-/// The lines of a run of these jobs.
-fn run_lines(
+/// What a run leaves to print and to keep.
+struct Report {
+    text: String,
+    /// The coordinator's record at the end.
+    record: Vec<u8>,
+}
+
+/// Runs these jobs on a farm without disturbances.
+fn report<R: Threads + Wait + Sync>(
+    rt: &R,
     alloc: Global,
     setup: Setup,
     inputs: Inputs,
-    executor: Box<dyn Executor + Send>,
-) -> Result<String, FarmFault>
+    executors: Vec<(NodeId, Box<dyn Executor + Send>)>,
+) -> Result<Report, FarmFault>
     requires { length inputs.names.items ≡ length inputs.jobs.items }
-    ensures { IfOk result (λ text. IsRunOf setup (map string_bytes inputs.names.items) (string_bytes text)) }
+    ensures { IfOk result (λ report. IsRunOf setup (map string_bytes inputs.names.items) (string_bytes report.text) report.record.items) }
 {
     let Inputs { names, jobs } = inputs;
-    let end = Farm::run_one(alloc, setup, jobs, executor)?;
+    let plan = Vec::new(alloc);
+    let end = Farm::run(rt, alloc, setup, jobs, executors, plan, &OpenGate)?;
     let text = run_text(alloc, names.as_slice(), &end)?;
-    Ok(text)
+    Ok(Report {
+        text,
+        record: end.saved,
+    })
 }
 
-/// Builds the definitions of files on a farm of one node, by the executor. Nothing is printed before the farm's end.
-/// Returns the status of the program.
-pub fn solve<O: Write, E: Write>(
+/// Keeps a record in the file of this path.
+fn keep<R: Files>(files: &R, alloc: Global, path: &str, record: Vec<u8>) -> io::Result<()> {
+    let mut keeper = FileKeeper::open(files, alloc, path)?;
+    match keeper.save(record) {
+        Ok(()) => Ok(()),
+        Err(SaveFault) => Err(io::Error::from(io::ErrorKind::Other)),
+    }
+}
+
+/// Keeps the record if a path is given for it, and prints the lines of the run.
+fn print_report<R: Files, O: Write, E: Write>(
+    files: &R,
     alloc: Global,
-    nodes: u32,
+    report: Report,
+    path: Option<&str>,
+    out: &mut O,
+    err: &mut E,
+) -> u8
+    ensures done { result ≡ 0 → Appends (O.contents out.old) (O.contents out.new) (string_bytes report.text) }
+    ensures never_refused { result ≢ 1 }
+{
+    let Report { text, record } = report;
+    if let Some(path) = path {
+        if let Err(error) = keep(files, alloc, path, record) {
+            return match error.kind() {
+                io::ErrorKind::OutOfMemory => print(err, "out of memory\n", MEMORY),
+                _ => print(err, "fault SaveFault\n", FAULT),
+            };
+        }
+    }
+    print(out, text.as_str(), DONE)
+}
+
+/// What `run` is asked to do.
+#[derive(Clone, Copy, Debug, PartialEq, Eq)]
+pub struct RunOptions<'a> {
+    pub nodes: u32,
+    /// Where to keep the coordinator's record, if anywhere.
+    pub record: Option<&'a str>,
+}
+
+/// Builds the definitions of files on a farm, by these executors. Nothing is printed before the farm's end. Returns the
+/// status of the program.
+pub fn solve<R: Files + AllocGlobal + Threads + Wait + Sync, O: Write, E: Write>(
+    rt: &R,
+    options: RunOptions<'_>,
     files: Vec<(String, Option<Vec<u8>>)>,
-    executor: Box<dyn Executor + Send>,
+    executors: Vec<(NodeId, Box<dyn Executor + Send>)>,
     out: &mut O,
     err: &mut E,
 ) -> u8
     // At status 0 the standard output has the lines of a run of the files.
-    ensures done { result ≡ 0 → (text : List ℕ) × IsRunOf (record { nodes = nodes }) (names_of files.items) text × Appends (O.contents out.old) (O.contents out.new) text }
+    ensures done { result ≡ 0 → (text : List ℕ) × (saved : List ℕ) × IsRunOf (record { nodes = options.nodes }) (names_of files.items) text saved
+        × Appends (O.contents out.old) (O.contents out.new) text }
     ensures quiet { result ≡ 1 → out.new ≡ out.old }
 {
-    let inputs = match inputs_of(alloc, nodes, files) {
+    let alloc = rt.alloc();
+    let setup = Setup {
+        nodes: options.nodes,
+    };
+    let inputs = match inputs_of(alloc, options.nodes, files) {
         Ok(inputs) => inputs,
         Err(fault) => return print_input_fault(alloc, fault, err),
     };
-    match run_lines(alloc, Setup { nodes }, inputs, executor) {
-        Ok(text) => print(out, text.as_str(), DONE),
+    match report(rt, alloc, setup, inputs, executors) {
+        Ok(report) => print_report(rt, alloc, report, options.record, out, err),
         Err(fault) => print_fault(alloc, fault, err),
     }
 }

@@ -1,8 +1,11 @@
-use super::act::{DONE, REFUSED};
-use super::running::solve;
-use super::scripted::Scripted;
+use super::act::{DONE, FAULT, REFUSED};
+use super::answer::answer;
+use super::command::Command;
+use super::running::{RunOptions, solve};
+use super::scripted::scripted_executors;
 use super::tests::{NO_OP, spelled};
 use std::alloc::Global;
+use std::fs;
 use std::test::Fail;
 
 /// An exec op with a cache mount at `/go/pkg/mod`, from behind its command's words up to the byte of its sharing.
@@ -51,17 +54,22 @@ const PUT_NOWHERE: Op = (
 
 const FAIL: Op = ("12440a060a046661696c", "02", "failed");
 
-/// The files of a run, each of one op, and the line that ends what is printed. The tenure of a SHARED folder commits once,
+/// The nodes of a run, its files, each of one op, and the line that ends what is printed. The tenure of a SHARED folder commits once,
 /// at the end.
-const RUNS: [(&[Op], &str); 7] = [
-    (&[PUT], "commits 1\n"),
+const RUNS: [(u32, &[Op], &str); 11] = [
+    (1, &[PUT], "commits 1\n"),
     // Two files of one definition have one key, which is solved once.
-    (&[PUT, PUT], "commits 1\n"),
-    (&[X, PUT, REMOVE], "commits 3\n"),
-    (&[FAIL], "commits 0\n"),
-    (&[PUT_NOWHERE, PUT], "commits 1\n"),
-    (&[PUT_SHARED, PUT_SHARED, PUT_PRIVATE], "commits 2\n"),
-    (&[], "commits 0\n"),
+    (1, &[PUT, PUT], "commits 1\n"),
+    // Each node has its own table of keys.
+    (2, &[PUT, PUT], "commits 2\n"),
+    (1, &[X, PUT, REMOVE], "commits 3\n"),
+    (3, &[X, PUT, REMOVE], "commits 3\n"),
+    (1, &[FAIL], "commits 0\n"),
+    (1, &[PUT_NOWHERE, PUT], "commits 1\n"),
+    (2, &[FAIL, PUT, PUT_NOWHERE, X], "commits 2\n"),
+    (1, &[PUT_SHARED, PUT_SHARED, PUT_PRIVATE], "commits 2\n"),
+    (8, &[PUT], "commits 1\n"),
+    (1, &[], "commits 0\n"),
 ];
 
 /// The file of one op.
@@ -89,15 +97,19 @@ fn files_of(alloc: Global, ops: &[Op]) -> Result<(Vec<(String, Option<Vec<u8>>)>
 }
 
 #[test]
-fn what_runs_come_to(rt: HostRuntime) -> Result<(), Fail> {
+fn runs_of_files(rt: HostRuntime) -> Result<(), Fail> {
     let alloc = rt.alloc();
-    for (ops, commits) in &RUNS {
+    for (nodes, ops, commits) in &RUNS {
         let (files, mut wanted) = files_of(alloc, ops)?;
         wanted.push_str(commits)?;
         let mut out = Vec::new(alloc);
         let mut err = Vec::new(alloc);
-        let executor = Box::new(alloc, Scripted::new(alloc))?;
-        let status = solve(alloc, 1, files, executor, &mut out, &mut err);
+        let options = RunOptions {
+            nodes: *nodes,
+            record: None,
+        };
+        let executors = scripted_executors(alloc, *nodes)?;
+        let status = solve(&rt, options, files, executors, &mut out, &mut err);
         assert_eq!(rt; status, DONE);
         assert_eq!(rt; out.as_slice(), wanted.as_str().as_bytes());
         assert!(rt; err.is_empty());
@@ -122,11 +134,60 @@ fn what_is_not_run(rt: HostRuntime) -> Result<(), Fail> {
         files.push((String::from_str(alloc, "G")?, bytes))?;
         let mut out = Vec::new(alloc);
         let mut err = Vec::new(alloc);
-        let executor = Box::new(alloc, Scripted::new(alloc))?;
-        let status = solve(alloc, 1, files, executor, &mut out, &mut err);
+        let options = RunOptions {
+            nodes: 1,
+            record: None,
+        };
+        let executors = scripted_executors(alloc, 1)?;
+        let status = solve(&rt, options, files, executors, &mut out, &mut err);
         assert_eq!(rt; status, REFUSED);
         assert!(rt; out.is_empty());
         assert_eq!(rt; err.as_slice(), line.as_bytes());
     }
+    Ok(())
+}
+
+/// What `farmctl record` prints of the record that a run of one file keeps: the folder of `a` with the content `x`.
+const RECORD: &str = "last 64
+life 1 1
+locked:/go/pkg/mod 1:1:226071355c810991e53b062e9e3db9747ddbfc162c91a2ceb7ed65379188eb0c
+";
+
+#[test]
+fn the_record_of_a_run(rt: HostRuntime) -> Result<(), Fail> {
+    let alloc = rt.alloc();
+    let (files, _) = files_of(alloc, &[PUT])?;
+    let mut out = Vec::new(alloc);
+    let mut err = Vec::new(alloc);
+    let options = RunOptions {
+        nodes: 1,
+        record: Some("run.record"),
+    };
+    let executors = scripted_executors(alloc, 1)?;
+    let status = solve(&rt, options, files, executors, &mut out, &mut err);
+    assert_eq!(rt; status, DONE);
+    let bytes = fs::read(&rt, "run.record")?;
+    fs::remove_file(&rt, "run.record")?;
+    let text = answer(alloc, Command::Record, bytes);
+    assert!(rt; matches!(&text, Ok(text) if text.as_str() == RECORD));
+    Ok(())
+}
+
+/// A record that can't be kept: nothing is printed to the standard output.
+#[test]
+fn a_record_nowhere(rt: HostRuntime) -> Result<(), Fail> {
+    let alloc = rt.alloc();
+    let (files, _) = files_of(alloc, &[PUT])?;
+    let mut out = Vec::new(alloc);
+    let mut err = Vec::new(alloc);
+    let options = RunOptions {
+        nodes: 1,
+        record: Some("nowhere/run.record"),
+    };
+    let executors = scripted_executors(alloc, 1)?;
+    let status = solve(&rt, options, files, executors, &mut out, &mut err);
+    assert_eq!(rt; status, FAULT);
+    assert!(rt; out.is_empty());
+    assert_eq!(rt; err.as_slice(), "fault SaveFault\n".as_bytes());
     Ok(())
 }
