@@ -1,0 +1,44 @@
+//! The new calls of the executors.
+ghost use Rattle.std.specs.Prelude.{◌≡◌, map, length, IfOk, IfSome};
+ghost use Rattle.farmend.specs.NewCalls.{AreNew};
+
+use super::calls::since;
+use super::hired::Hired;
+use executions::{Call, Executor};
+use farm_base::NodeId;
+use std::alloc::{AllocError, Global};
+
+/// The calls of the executors.
+pub(crate) fn calls_of<'a>(
+    alloc: Global,
+    executors: &'a [Box<dyn Executor + Send>],
+) -> Result<Vec<&'a [Call]>, AllocError>
+    ensures { IfOk result (λ all. map (λ calls. calls.now) all.items ≡ map (λ executor. history executor) executors.now) }
+{
+    let mut all = Vec::with_capacity(alloc, executors.len())?;
+    for executor in executors {
+        all.push(executor.calls())?;
+    }
+    Ok(all)
+}
+
+/// Each executor's node and new calls, if the calls of each begin with those that it had.
+pub(crate) fn news_of<'a>(
+    alloc: Global,
+    hired: &[Hired],
+    ends: &[&'a [Call]],
+) -> Result<Option<Vec<(NodeId, &'a [Call])>>, AllocError>
+    ensures { IfOk result (λ found. IfSome found (λ news. AreNew (map (λ each. each.node) hired.now) (map (λ each. each.had.items) hired.now) (map (λ calls. calls.now) ends.now) news.items)) }
+{
+    if hired.len() != ends.len() {
+        return Ok(None);
+    }
+    let mut news = Vec::with_capacity(alloc, hired.len())?;
+    for place in 0..hired.len() {
+        let Some(more) = since(ends[place], hired[place].had.as_slice()) else {
+            return Ok(None);
+        };
+        news.push((hired[place].node, more))?;
+    }
+    Ok(Some(news))
+}
