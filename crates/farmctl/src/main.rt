@@ -22,6 +22,8 @@ mod running_tests;
 mod scripted;
 #[cfg(test)]
 mod tests;
+#[cfg(test)]
+mod thread_tests;
 mod wants;
 #[cfg(test)]
 mod wants_tests;

@@ -14,7 +14,7 @@ const MOUNTS: &str =
 
 /// Such an op up to its mounts, by its words; its sharing; and the end of its line: the SHA-256 of its key and of the
 /// index 0, or `failed`.
-type Op = (&'static str, &'static str, &'static str);
+pub(crate) type Op = (&'static str, &'static str, &'static str);
 
 const X: Op = (
     "12410a030a0178",
@@ -34,7 +34,7 @@ const PUT_SHARED: Op = (
     "sha256:24f3dfcf278abda5ed5cdafba2b96b2f1ac82457c8ac7a2c22d5b1fea159cb0c",
 );
 
-const PUT_PRIVATE: Op = (
+pub(crate) const PUT_PRIVATE: Op = (
     "12560a180a037075740a0b2f676f2f706b672f6d6f640a01610a0178",
     "01",
     "sha256:92148185876a363ff0c1511ac18e04441613d4bf5a66b83fe92f640babaca0a5",
@@ -73,7 +73,7 @@ const RUNS: [(u32, &[Op], &str); 11] = [
 ];
 
 /// The file of one op.
-fn file(alloc: Global, op: &Op) -> Result<(String, Option<Vec<u8>>), Fail> {
+pub(crate) fn file(alloc: Global, op: &Op) -> Result<(String, Option<Vec<u8>>), Fail> {
     let mut bytes = hex::decode(alloc, op.0)?;
     let mounts = hex::decode(alloc, MOUNTS)?;
     let sharing = hex::decode(alloc, op.1)?;
