@@ -15,7 +15,7 @@ lines_of line slots = flat_map (λ s. line_text s (line s)) slots
 -- the slots that have a version, rising
 pub record AreSlots (line : Slot → List LineVersion) (slots : List Slot) : Type 0 where
   pub rise : IsStrictlySortedBy slot_cmp slots
-  pub just : (s : Slot) → list_any (λ x. slot_eq x s) slots ≡ not (is_nil (line s))
+  pub exact : (s : Slot) → list_any (λ x. slot_eq x s) slots ≡ not (is_nil (line s))
 
 -- the lines of the slots that have a version, in the slots' order
 abbrev pub ArePrinted : (Slot → List LineVersion) → List ℕ → Type 0
