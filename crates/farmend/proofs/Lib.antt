@@ -1,2 +1,4 @@
+mod NewsLemmas
+mod ReceiptLemmas
 pub mod ReplayLemmas
 pub mod SolvedLemmas

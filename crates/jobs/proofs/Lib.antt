@@ -5,7 +5,7 @@ mod ListLemmas
 mod MarkLemmas
 mod NeedLemmas
 mod ProgressLemmas
-mod ReachLemmas
+pub mod ReachLemmas
 mod ReadyLemmas
 mod RestLemmas
 mod ShapeLemmas
