@@ -1,3 +1,4 @@
+mod AnswerLemmas
 mod NewsLemmas
 mod ReceiptLemmas
 pub mod ReplayLemmas

@@ -1,16 +1,18 @@
 -- The new calls of executors, of each of them and of those on a node.
-use Rattle.std.proofs.Common.{⊤, ◌≡◌, ℕ, zero, suc, ◌<◌, ◌==◌, Bool, true, false, if◌then◌else◌, List, [], ◌∷◌, ◌++◌, drop, length, refl, sym, ap, ◌∙◌, subst, arith}
+use Rattle.std.proofs.Common.{◌≡◌, ℕ, zero, suc, ◌+◌, ◌<◌, ◌==◌, Bool, true, false, if◌then◌else◌, List, [], ◌∷◌, ◌++◌, map, take, drop, length, Some, slice_get, refl, sym, ap, ◌∙◌, subst, arith}
 use Rattle.std.specs.Borrow.{Bor}
 use Rattle.std.specs.List.{AllZip, Contains}
 use Rattle.std.proofs.Math.Seq.{drop-append_seam}
+use Rattle.std.proofs.lemmas.List.{map_push}
 use Rattle.farm_base.specs.declared.number.NodeId.{NodeId}
 use Rattle.executions.specs.Calls.{Grew}
 use Rattle.executions.specs.declared.call.Call.{Call}
-use Rattle.lists.proofs.Places.{Contains-head, Contains-tail, Contains-cases}
+use Rattle.lists.proofs.Places.{Contains-head, Contains-tail, take_push, AllZip-push}
 use Rattle.farmend.specs.NewCalls.{AreNew, new_calls, on_node}
+use Rattle.farmend.specs.declared.hired.Hired.{Hired}
 
 -- one executor more
-pub AreNew-push : (nodes : List NodeId) (hads ends : List (List Call)) (news : List (NodeId × Bor (List Call))) (node : NodeId) (had end : List Call) (each : NodeId × Bor (List Call))
+AreNew-push : (nodes : List NodeId) (hads ends : List (List Call)) (news : List (NodeId × Bor (List Call))) (node : NodeId) (had end : List Call) (each : NodeId × Bor (List Call))
     → AreNew nodes hads ends news → each.0 ≡ node → end ≡ had ++ each.1.now → AreNew (nodes ++ node ∷ []) (hads ++ had ∷ []) (ends ++ end ∷ []) (news ++ each ∷ [])
 AreNew-push [] [] [] [] node had end each all place grew = (place, grew, tt)
 AreNew-push (n ∷ nodes) (h ∷ hads) (e ∷ ends) (x ∷ news) node had end each all place grew = (all.0, all.1, AreNew-push nodes hads ends news node had end each all.2 place grew)
@@ -20,6 +22,19 @@ AreNew-push [] (h ∷ hads) ends news node had end each all place grew = absurd 
 AreNew-push (n ∷ nodes) [] ends news node had end each all place grew = absurd all
 AreNew-push (n ∷ nodes) (h ∷ hads) [] news node had end each all place grew = absurd all
 AreNew-push (n ∷ nodes) (h ∷ hads) (e ∷ ends) [] node had end each all place grew = absurd all
+
+-- what is made of a list up to one place more
+map_take : {X Y : Type 0} (f : X → Y) (xs : List X) (k : ℕ) (x : X) → slice_get xs k ≡ Some x → map f (take (k + 1) xs) ≡ map f (take k xs) ++ f x ∷ []
+map_take f xs k x at = ap (λ (ys : List _). map f ys) (take_push xs k x at) ∙ map_push f (take k xs) x
+
+-- one place more
+pub new_at : (hired : List Hired) (ends : List (Bor (List Call))) (k : ℕ) (news longer : List (NodeId × Bor (List Call))) (h : Hired) (end more : Bor (List Call))
+    → slice_get hired k ≡ Some h → slice_get ends k ≡ Some end → longer ≡ news ++ (h.node, more) ∷ [] → end.now ≡ h.had.items ++ more.now
+    → AreNew (map (λ each. each.node) (take k hired)) (map (λ each. each.had.items) (take k hired)) (map (λ calls. calls.now) (take k ends)) news
+    → AreNew (map (λ each. each.node) (take (k + 1) hired)) (map (λ each. each.had.items) (take (k + 1) hired)) (map (λ calls. calls.now) (take (k + 1) ends)) longer
+new_at hired ends k news longer h end more at_hired at_ends is grew all =
+    rw (map_take (λ (each : Hired). each.node) hired k h at_hired, map_take (λ (each : Hired). each.had.items) hired k h at_hired, map_take (λ (calls : Bor (List Call)). calls.now) ends k end at_ends, is)
+    (AreNew-push _ _ _ news h.node h.had.items end.now (h.node, more) all refl grew)
 
 -- the calls of each begin with those that it had
 pub grew_if_new : (nodes : List NodeId) (hads ends : List (List Call)) (news : List (NodeId × Bor (List Call))) → AreNew nodes hads ends news → AllZip Grew hads ends

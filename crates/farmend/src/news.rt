@@ -8,6 +8,12 @@ use executions::{Call, Executor};
 use farm_base::NodeId;
 use std::alloc::{AllocError, Global};
 
+fn calls_in(executor: &Box<dyn Executor + Send>) -> &[Call]
+    ensures { result.now ≡ history executor.now }
+{
+    executor.calls()
+}
+
 /// The calls of the executors.
 pub(crate) fn calls_of<'a>(
     alloc: Global,
@@ -17,7 +23,7 @@ pub(crate) fn calls_of<'a>(
 {
     let mut all = Vec::with_capacity(alloc, executors.len())?;
     for executor in executors {
-        all.push(executor.calls())?;
+        all.push(calls_in(executor))?;
     }
     Ok(all)
 }
@@ -35,10 +41,11 @@ pub(crate) fn news_of<'a>(
     }
     let mut news = Vec::with_capacity(alloc, hired.len())?;
     for place in 0..hired.len() {
-        let Some(more) = since(ends[place], hired[place].had.as_slice()) else {
+        let each = &hired[place];
+        let Some(more) = since(ends[place], each.had.as_slice()) else {
             return Ok(None);
         };
-        news.push((hired[place].node, more))?;
+        news.push((each.node, more))?;
     }
     Ok(Some(news))
 }

@@ -6,5 +6,5 @@ abbrev pub invariant-loop-node : goal.invariant-loop-node
 invariant-loop-node g l =
     record {
       nodes : map (λ each. each.node) l.hired.items ≡ map (λ each. each.0) (take l.node-index l.executors);
-      had : map (λ each. each.had.items) l.hired.items ≡ map (λ each. (goal.Executor-dyn g (each.1.vtable, each.1.value)).Executor.history each.1.value) (take l.node-index l.executors);
+      had : map (λ each. each.had.items) l.hired.items ≡ map (λ each. (goal.Executor-dyn g (each.1.vtable, each.1.value)).history each.1.value) (take l.node-index l.executors);
     }

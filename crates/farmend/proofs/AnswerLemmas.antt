@@ -1,0 +1,26 @@
+-- Answers that have their reasons.
+use Rattle.std.proofs.Common.{◌≡◌, ◌≢◌, ℕ, ◌+◌, List, [], ◌∷◌, take, Some, slice_get, sym, subst}
+use Rattle.std.specs.List.{All, AllZip}
+use Rattle.std.proofs.lemmas.List.Elements.{All-cons, All-nil}
+use Rattle.jobs.specs.declared.answer.Answer.{Answer}
+use Rattle.jobs.specs.declared.answer.Answer.TheVariants.{Waiting}
+use Rattle.lists.proofs.Places.{take_push, AllZip-push}
+
+-- pairs that match up to one place more
+pub zip_at : {A B : Type 0} (R : A → B → Type 0) (xs : List A) (ys : List B) (k : ℕ) (x : A) (y : B) → slice_get xs k ≡ Some x → slice_get ys k ≡ Some y
+    → AllZip R (take k xs) (take k ys) → R x y → AllZip R (take (k + 1) xs) (take (k + 1) ys)
+zip_at R xs ys k x y at_x at_y all one = rw (take_push xs k x at_x, take_push ys k y at_y) (AllZip-push R (take k xs) (take k ys) x y all one)
+
+-- what follows of each pair follows of all
+pub zip_weaker : {A B : Type 0} (R S : A → B → Type 0) (xs : List A) (ys : List B) → ((x : A) (y : B) → R x y → S x y) → AllZip R xs ys → AllZip S xs ys
+zip_weaker R S [] [] weaker all = tt
+zip_weaker R S [] (y ∷ ys) weaker all = absurd all
+zip_weaker R S (x ∷ xs) [] weaker all = absurd all
+zip_weaker R S (x ∷ xs) (y ∷ ys) weaker all = (weaker x y all.0, zip_weaker R S xs ys weaker all.1)
+
+-- what has a reason doesn't wait
+pub none_waits : {J : Type 0} (R : J → Answer → Type 0) (jobs : List J) (answers : List Answer) → ((job : J) → R job Waiting → ⊥) → AllZip R jobs answers → All (λ answer. answer ≢ Waiting) answers
+none_waits R [] [] never all = All-nil (λ (answer : Answer). answer ≢ Waiting)
+none_waits R [] (a ∷ answers) never all = absurd all
+none_waits R (j ∷ jobs) [] never all = absurd all
+none_waits R (j ∷ jobs) (a ∷ answers) never all = All-cons (λ (answer : Answer). answer ≢ Waiting) a answers (λ waits. never j (subst (R j) waits all.0)) (none_waits R jobs answers never all.1)
