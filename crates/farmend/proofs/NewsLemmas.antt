@@ -1,5 +1,5 @@
 -- The new calls of executors, of each of them and of those on a node.
-use Rattle.std.proofs.Common.{◌≡◌, ℕ, zero, suc, ◌+◌, ◌<◌, ◌==◌, Bool, true, false, if◌then◌else◌, List, [], ◌∷◌, ◌++◌, map, take, drop, length, Some, slice_get, refl, sym, ap, ◌∙◌, subst, arith}
+use Rattle.std.proofs.Common.{◌≡◌, ℕ, zero, suc, ◌+◌, ◌==◌, Bool, true, false, if◌then◌else◌, List, [], ◌∷◌, ◌++◌, map, take, drop, length, Some, slice_get, refl, sym, ap, ◌∙◌, subst, arith}
 use Rattle.std.specs.Borrow.{Bor}
 use Rattle.std.specs.List.{AllZip, Contains}
 use Rattle.std.proofs.Math.Seq.{drop-append_seam}
@@ -7,7 +7,7 @@ use Rattle.std.proofs.lemmas.List.{map_push}
 use Rattle.farm_base.specs.declared.number.NodeId.{NodeId}
 use Rattle.executions.specs.Calls.{Grew}
 use Rattle.executions.specs.declared.call.Call.{Call}
-use Rattle.lists.proofs.Places.{Contains-head, Contains-tail, take_push, AllZip-push}
+use Rattle.lists.proofs.Places.{Contains-head, Contains-tail, take_push}
 use Rattle.farmend.specs.NewCalls.{AreNew, new_calls, on_node}
 use Rattle.farmend.specs.declared.hired.Hired.{Hired}
 

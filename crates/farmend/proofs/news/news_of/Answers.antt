@@ -1,4 +1,4 @@
-use Rattle.std.proofs.Common.{◌++◌, List, length, refl, sym, ap, ◌∙◌, arith}
+use Rattle.std.proofs.Common.{◌++◌, List, length, refl, ap, ◌∙◌, arith}
 use Rattle.std.proofs.lemmas.Option.{slice_get_read}
 use Rattle.executions.specs.declared.call.Call.{Call}
 use Rattle.farmend.proofs.NewsLemmas.{new_at}
