@@ -1,2 +1,5 @@
+mod AnswerLemmas
+mod NewsLemmas
+mod ReceiptLemmas
 pub mod ReplayLemmas
 pub mod SolvedLemmas

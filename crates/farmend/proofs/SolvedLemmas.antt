@@ -1,5 +1,5 @@
 -- Flags of vertices, and what follows along the walks from a result.
-use Rattle.std.proofs.Common.{◌≡◌, ℕ, zero, suc, ◌+◌, ◌<◌, Bool, true, List, [], ◌∷◌, length, refl, ap, subst, arith}
+use Rattle.std.proofs.Common.{◌≡◌, ℕ, zero, suc, ◌+◌, Bool, true, List, [], ◌∷◌, refl, ap, subst, arith}
 use Rattle.std.specs.List.{Contains}
 use Rattle.vertices.specs.Edges.{GoesTo, targets, list_at}
 use Rattle.vertices.specs.Flags.{flag_at}

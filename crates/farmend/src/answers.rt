@@ -49,12 +49,13 @@ pub(crate) fn are_answered(
     let book = Book::of(alloc, news)?;
     for place in 0..jobs.len() {
         let (node, keyed) = &jobs[place];
+        let answer = answers[place];
         let made = Made {
             book: &book,
             news,
             node: *node,
         };
-        if !is_answered(alloc, world, made, keyed, answers[place])? {
+        if !is_answered(alloc, world, made, keyed, answer)? {
             return Ok(false);
         }
     }

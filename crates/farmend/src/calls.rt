@@ -51,10 +51,14 @@ fn call_at<'a>(
 ) -> Option<&'a Call>
     ensures { IfSome result (λ call. IsAmong (on_node node news.now) call.now) }
 {
-    if executor >= news.len() || news[executor].0 != node {
+    if executor >= news.len() {
         return None;
     }
-    call_in(news[executor].1, place)
+    let (home, calls) = news[executor];
+    if home != node {
+        return None;
+    }
+    call_in(calls, place)
 }
 
 fn call_in(calls: &[Call], place: usize) -> Option<&Call>

@@ -67,9 +67,7 @@ fn account(
         AllZip (λ job answer. IsAnswered (shown world.now) (new_calls job.0 nodes had ends) job.0 job.1 answer) jobs.now answers.now) }
 {
     let ends = calls_of(alloc, executors)?;
-    let Some(news) = news_of(alloc, hired, ends.as_slice())? else {
-        return Err(EndRefusal::Disagrees);
-    };
+    let news = news_of(alloc, hired, ends.as_slice())?;
     if !are_answered(alloc, world, news.as_slice(), jobs, answers)? {
         return Err(EndRefusal::Disagrees);
     }

@@ -6,19 +6,23 @@ ghost use Rattle.world.specs.Shown.{shown};
 ghost use Rattle.farmboard.specs.Settling.{number_on};
 ghost use Rattle.farmend.specs.Receipts.{StandsOn, tickets_of};
 
-use farm_base::{Ticket, Version};
+use farm_base::{Slot, Ticket, Version};
 use farmboard::Receipt;
 use std::alloc::{AllocError, Global};
 use world::World;
+
+/// The number of the version that stands on the slot's line under the ticket.
+fn number_on(world: &World, ticket: Ticket, slot: &Slot) -> Option<u64>
+    ensures { result ≡ number_on (shown world.now) ticket slot.now }
+{
+    world.coordinator().line(slot)?.number_of(ticket)
+}
 
 /// Whether a version stands on its slot's line, with its number, under the ticket.
 fn stands(world: &World, ticket: Ticket, version: &Version) -> bool
     ensures { IsTrue result → number_on (shown world.now) ticket version.now.slot ≡ Some version.now.number }
 {
-    match world.coordinator().line(&version.slot) {
-        Some(line) => line.number_of(ticket) == Some(version.number),
-        None => false,
-    }
+    number_on(world, ticket, &version.slot) == Some(version.number)
 }
 
 /// Whether the versions of a receipt stand on the lines under its ticket.
