@@ -1,11 +1,10 @@
 -- A record with an entry after it is of a lawful ledger.
-use Rattle.std.proofs.Common.{◌≡◌, ◌≤◌, ◌<◌, ℕ, List, [], ◌∷◌, ◌++◌, Bool, true, false, cond, ltb, Result, Ok, Err, inl, inr, refl, sym, ap, ◌∙◌, subst, arith}
-use Rattle.std.specs.Prelude.{All, nat_le, ◌&&◌}
+use Rattle.std.proofs.Common.{◌≡◌, ◌≤◌, ◌<◌, List, [], ◌∷◌, Bool, true, ltb, Ok, inl, inr, refl, sym, subst, arith}
+use Rattle.std.specs.Prelude.{All}
 use Rattle.std.specs.List.{list_all}
 use Rattle.std.specs.List.Sorted.{IsStrictlyIncreasing, IsStrictlySortedBy}
-use Rattle.std.proofs.lemmas.Bool.{cases_Bool, and_parts, leb-true, ltb-true}
+use Rattle.std.proofs.lemmas.Bool.{cases_Bool, ltb-true}
 use Rattle.std.proofs.lemmas.List.Elements.{All-append}
-use Rattle.codec.specs.Steps.{◌>>=◌}
 use Rattle.codec.proofs.Steps.{bind_ok}
 use Rattle.farm_base.specs.Slots.{slot_cmp}
 use Rattle.farm_base.specs.Contents.{content_digest}
@@ -14,7 +13,7 @@ use Rattle.leases.specs.Leases.{IsOpen}
 use Rattle.protocol.specs.Lists.{In}
 use Rattle.protocol.specs.Names.{Slot, slot_eq}
 use Rattle.protocol.specs.Machine.{LineVersion}
-use Rattle.protocol.specs.Ledger.{Ledger, Lease, has_slot}
+use Rattle.protocol.specs.Ledger.{Ledger, Lease}
 use Rattle.protocol.specs.Lawful.{IsLawful}
 use Rattle.protocol.proofs.Base.{all_in, from_any, slot_eq_is}
 use Rattle.protocol.proofs.LawfulFarms.{every_opening_is_lawful}
@@ -26,7 +25,6 @@ use Rattle.versions.specs.Ordered.{AreLines}
 use Rattle.versions.specs.declared.lines.SlotLine.{SlotLine}
 use Rattle.saverecord.specs.declared.record.Record.{Record}
 use Rattle.saverecord.specs.declared.refusal.Flaw.TheVariants.{Relation}
-use Rattle.saverecord.specs.declared.refusal.RecordRefusal.{RecordRefusal}
 use Rattle.saverecord.specs.Ledgers.{IsKept, blank, ledger_of}
 use Rattle.saverecord.specs.Logs.{with_version, with_versions, is_open}
 use Rattle.saverecord.proofs.Fields.{passed_ok}

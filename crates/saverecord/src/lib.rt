@@ -3,7 +3,7 @@
 
 mod entries;
 mod entry;
-// mod file_keeper;
+mod file_keeper;
 mod folding;
 mod keeper;
 mod laws;
@@ -18,7 +18,7 @@ mod slot;
 mod writing;
 
 pub use farm_base::NodeLife;
-// pub use file_keeper::FileKeeper;
+pub use file_keeper::FileKeeper;
 pub use keeper::{Keeper, MemoryKeeper};
 pub use laws::{what_is_kept_is_a_record, what_is_read_is_lawful};
 pub use log::Log;

@@ -1,5 +1,5 @@
-ghost use Rattle.std.specs.Prelude.{◌≡◌, ℕ, [], map, IfOk, OnOk, OnErr};
-ghost use Rattle.saverecord.specs.Texts.{whole_alone, with_text};
+ghost use Rattle.std.specs.Prelude.{◌≡◌, ℕ, List, [], IfOk, OnOk, OnErr};
+ghost use Rattle.saverecord.specs.Texts.{Texts, whole_alone, with_text};
 
 use farm_base::Items;
 use std::alloc::{AllocError, Global};
@@ -61,6 +61,13 @@ impl Log {
     {
         self.entries.push(Items::new(entry))?;
         Ok(())
+    }
+
+    /// Takes the last entry away, without wanting memory.
+    pub fn pop(&mut self)
+        ensures { (t : Texts) (entry : List ℕ) → self.old ≡ with_text entry t → self.new ≡ t }
+    {
+        self.entries.pop();
     }
 
     /// The same texts.
