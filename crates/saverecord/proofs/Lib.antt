@@ -13,3 +13,4 @@ pub mod KeptLemmas
 pub mod ReadLemmas
 pub mod InstanceLemmas
 pub mod FoldLemmas
+pub mod LogLemmas

@@ -58,10 +58,10 @@ fn from_coordinator(refusal: CoordRefusal) -> EventRefusal
 fn first_coordinator(alloc: Global) -> Result<Coordinator<MemoryKeeper>, AllocError>
     ensures ledger { IfOk result (λ c. ledger c.held ≡ first_ledger) }
     ensures up { IfOk result (λ c. c.down ≡ false) }
-    ensures bytes { IfOk result (λ c. c.keeper.bytes ≡ []) }
+    ensures texts { IfOk result (λ c. c.keeper.texts ≡ whole_alone []) }
     ensures armed { IfOk result (λ c. c.keeper.armed ≡ None) }
 {
-    match Coordinator::start(alloc, MemoryKeeper::new(Vec::new(alloc))) {
+    match Coordinator::start(alloc, MemoryKeeper::new(alloc, Vec::new(alloc))) {
         Ok(coordinator) => Ok(coordinator),
         Err(_) => Err(AllocError),
     }
