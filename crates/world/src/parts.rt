@@ -9,6 +9,7 @@ ghost use Rattle.protocol.specs.Ledger.{begin_work, withdrawn, pruned, nudged};
 ghost use Rattle.protocol.specs.Ledger.{opening as first_ledger};
 ghost use Rattle.protocol.specs.declared.answer.EventNote.TheVariants as note;
 ghost use Rattle.coordinator.specs.Held.{ledger};
+ghost use Rattle.saverecord.specs.Texts.{whole_alone};
 ghost use Rattle.protocol.specs.Replay.{opening, step, node_does, is_node, delivered, coordinated};
 ghost use Rattle.protocol.specs.Nodes.{resent};
 ghost use Rattle.world.specs.Tables.{called};
