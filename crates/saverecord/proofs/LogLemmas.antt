@@ -52,7 +52,7 @@ module _ (l : SlotLine) (es : List SlotLine) (up : Rise (l ∷ es)) where
     | inr r ↦ (
         let differ : slot_eq l.slot x ≡ false = subst (λ (z : Slot). slot_eq l.slot z ≡ false) r.2 (other r.0 r.1) in
         true_false (slot_eq l.slot x) e differ
-      )
+        )
   ]
 
   regrouped : (line : LineOf) (v : LineVersion) → l.line ≡ v ∷ [] → (x : Slot) → adds l.slot v line x ++ line_at es x ≡ line x ++ line_at (l ∷ es) x
@@ -63,10 +63,10 @@ module _ (l : SlotLine) (es : List SlotLine) (up : Rise (l ∷ es)) where
 
   next_follows : (line : LineOf) (v : LineVersion) → ((m : SlotLine) → In m es → Follows line m) → (m : SlotLine) → In m es → Follows (adds l.slot v line) m
   next_follows line v h m i = (
-    let f : Follows line m = h m i in
-    let same : adds l.slot v line m.slot ≡ line m.slot = rw (other m i) refl in
-    (f.0, f.1, subst (λ (vs : List LineVersion). is_above_all f.0.ticket vs ≡ true) (sym same) f.2)
-  )
+      let f : Follows line m = h m i in
+      let same : adds l.slot v line m.slot ≡ line m.slot = rw (other m i) refl in
+      (f.0, f.1, subst (λ (vs : List LineVersion). is_above_all f.0.ticket vs ≡ true) (sym same) f.2)
+      )
 
 pushes : (s : Slot) (vs : List LineVersion) (v : LineVersion) (line : LineOf) → vs ≡ v ∷ [] → is_above_all v.ticket (line s) ≡ true → with_version s vs line ≡ Ok (adds s v line)
 pushes s vs v line one above = rw one (rw above refl)
@@ -110,5 +110,8 @@ read_in [] r e = absurd (cc e)
 read_in (b ∷ bytes) r e = e
 
 -- a whole record alone holds its ledger
+pub whole_in : (bytes : List ℕ) (r : Record) → record_of bytes ≡ Ok r → ledger_in (whole_alone bytes) ≡ Ok (ledger_of r)
+whole_in bytes r again = ap (λ (x : Result Record RecordRefusal). x >>= λ r. with_entries [] (ledger_of r)) (read_in bytes r again)
+
 pub whole_holds : (bytes : List ℕ) (r : Record) (s : Saved) → record_of bytes ≡ Ok r → saves (ledger_of r) ≡ s → Holds (whole_alone bytes) s
-whole_holds bytes r s again saved = record { kept = ledger_of r; read = ap (λ (x : Result Record RecordRefusal). x >>= λ r. with_entries [] (ledger_of r)) (read_in bytes r again); saved = saved }
+whole_holds bytes r s again saved = record { kept = ledger_of r; read = whole_in bytes r again; saved = saved }

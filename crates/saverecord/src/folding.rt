@@ -4,10 +4,11 @@ ghost use Rattle.std.specs.List.{list_all};
 ghost use Rattle.saverecord.specs.Ledgers.{IsKept, blank, ledger_of, record_in};
 ghost use Rattle.saverecord.specs.Logs.{with_version, with_versions, is_open, with_entry, after_text, with_entries, ledger_in};
 ghost use Rattle.saverecord.specs.Parts.{Gives};
+ghost use Rattle.saverecord.specs.Texts.{whole_alone};
 ghost use Rattle.versions.specs.Line.{is_above_all};
 ghost use Rattle.versions.specs.Lines.{line_at};
 
-use super::laws::what_is_read_is_lawful;
+use super::laws::{what_is_kept_is_a_record, what_is_read_is_lawful};
 use super::log::Log;
 use super::record::Record;
 use super::refusal::{Flaw, RecordRefusal};
@@ -138,5 +139,15 @@ impl Log {
             record = with_text(alloc, record, text.as_slice())?;
         }
         Ok(record)
+    }
+
+    /// The whole record that holds the same as these texts, as `Record::write` writes it.
+    pub fn fold(&self, alloc: Global) -> Result<Vec<u8>, RecordRefusal>
+        ensures { IfOk result (λ bytes. ledger_in (whole_alone bytes.items) ≡ ledger_in self.now) }
+    {
+        what_is_kept_is_a_record();
+        let record = self.read(alloc)?;
+        let bytes = record.write(alloc)?;
+        Ok(bytes)
     }
 }
