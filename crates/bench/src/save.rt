@@ -1,4 +1,4 @@
-//! Events that save, against copying and hashing the bytes of their record once.
+//! Commits, which are saved, against the length of the record and against copying and hashing its bytes once.
 
 use super::clock::{ROUNDS, seconds_since};
 use super::replay::{FOLDER, wants};
@@ -9,6 +9,9 @@ use sha2::Sha256;
 use std::alloc::{AllocError, Global};
 use std::rt::Clock;
 use std::time::Instant;
+
+/// How many commits the time of one is spread over.
+const COMMITS: u32 = 1_000;
 
 /// The least times of a round.
 #[derive(Clone, Copy)]
@@ -43,7 +46,7 @@ fn record(alloc: Global, count: u32) -> Result<Vec<u8>, AllocError> {
 
 /// The coordinator of a record.
 fn started(alloc: Global, bytes: &[u8]) -> anyhow::Result<Coordinator<MemoryKeeper>> {
-    let keeper = MemoryKeeper::new(Vec::from_slice(alloc, bytes)?);
+    let keeper = MemoryKeeper::new(alloc, Vec::from_slice(alloc, bytes)?);
     match Coordinator::start(alloc, keeper) {
         Ok(coordinator) => Ok(coordinator),
         Err(not) => Err(not.refusal.into()),
@@ -110,28 +113,42 @@ fn hashing<R: Clock + AllocGlobal>(rt: &R, bytes: &[u8]) -> anyhow::Result<f64> 
     Ok(seconds_since(rt, start))
 }
 
-/// The times of a commit that saves a record, and of copying and hashing that record, measured in turn.
+/// The mean time of a commit to a record, spread over many of them.
+fn of_commits<R: Clock + AllocGlobal>(rt: &R, bytes: &[u8]) -> anyhow::Result<f64> {
+    let mut coordinator = started(rt.alloc(), bytes)?;
+    let mut total = 0.0;
+    for _ in 0..COMMITS {
+        if let Some(ticket) = leased(&mut coordinator, rt.alloc())? {
+            total += committing(rt, &mut coordinator, ticket)?;
+        }
+    }
+    Ok(total / f64::from(COMMITS))
+}
+
+/// The least times of a commit to a record, and of copying and hashing that record.
 fn measured<R: Clock + AllocGlobal>(rt: &R, count: u32) -> anyhow::Result<Times> {
     let bytes = record(rt.alloc(), count)?;
     let mut event = f64::INFINITY;
     let mut hash = f64::INFINITY;
     for _ in 0..ROUNDS {
-        let mut coordinator = started(rt.alloc(), &bytes)?;
-        if let Some(ticket) = leased(&mut coordinator, rt.alloc())? {
-            event = event.min(committing(rt, &mut coordinator, ticket)?);
-            hash = hash.min(hashing(rt, coordinator.keeper().bytes())?);
-        }
+        event = event.min(of_commits(rt, &bytes)?);
+        hash = hash.min(hashing(rt, &bytes)?);
     }
     Ok(Times { event, hash })
 }
 
-/// Prints, for records of about 100, 1,000 and 10,000 versions, the time of a commit, which saves the whole record,
+/// Prints, for records of 100, 1,000, 10,000 and 100,000 versions, the time of a commit, over that to a record of 100, and
 /// over the time of copying and hashing the record's bytes once.
 pub fn measure<R: Print + Clock + AllocGlobal>(rt: &R) -> anyhow::Result<()> {
-    for count in [100, 1_000, 10_000] {
+    let mut first = 0.0;
+    for count in [100, 1_000, 10_000, 100_000] {
         let times = measured(rt, count)?;
+        if count == 100 {
+            first = times.event;
+        }
+        let growth = times.event / first;
         let ratio = times.event / times.hash;
-        println!(rt; "save {count} versions: {ratio:.2} of copying and hashing its record")?;
+        println!(rt; "save {count} versions: {growth:.2} of a commit to 100, {ratio:.4} of copying and hashing its record")?;
     }
     Ok(())
 }

@@ -10,3 +10,4 @@ pub mod Recording
 pub mod Rightful
 pub mod Records
 pub mod Keeping
+pub mod Entries

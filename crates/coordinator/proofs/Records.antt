@@ -1,5 +1,5 @@
 -- The record of a ledger, and the ledger that a restart makes of a record.
-use Rattle.std.proofs.Common.{◌≡◌, ◌≤◌, ℕ, List, [], ◌∷◌, filter, Ok, sym, ap, ◌∙◌, subst, arith}
+use Rattle.std.proofs.Common.{◌≡◌, ◌≤◌, ℕ, List, [], ◌∷◌, filter, sym, ap, ◌∙◌, subst, arith}
 use Rattle.std.specs.Prelude.{All, AllPairs, map}
 use Rattle.std.specs.List.Sorted.{IsStrictlyIncreasing, IsStrictlySortedBy}
 use Rattle.std.proofs.lemmas.List.Elements.{All-filter}
@@ -14,14 +14,13 @@ use Rattle.protocol.specs.Machine.{LineVersion}
 use Rattle.protocol.specs.Ledger.{Lease, Ledger, Saved, is_saved, saves, reads}
 use Rattle.protocol.specs.Lawful.{AllApart, IsLawful}
 use Rattle.protocol.proofs.Lawfulness.{every_ledger_stays_lawful}
-use Rattle.protocol.proofs.LawfulFarms.{every_opening_is_lawful}
 use Rattle.protocol.proofs.Saving.{saved_twice}
-use Rattle.farm_base.specs.Contents.{content_digest}
 use Rattle.versions.specs.Lines.{LineOf, line_at}
 use Rattle.versions.specs.Ordered.{AreLines}
 use Rattle.saverecord.specs.declared.record.Record.{Record}
-use Rattle.saverecord.specs.Records.{opened, record_of}
-use Rattle.saverecord.specs.Ledgers.{IsKept, Holds, blank, record_in, saved_by, saved_in, ledger_of}
+use Rattle.saverecord.specs.Ledgers.{IsKept, ledger_of}
+use Rattle.saverecord.specs.Logs.{Holds, saved_by, saved_in}
+use Rattle.saverecord.specs.Texts.{Texts}
 use Rattle.saverecord.proofs.LedgerLemmas.{all_from_in}
 use Rattle.coordinator.specs.Sound.{IsRightful}
 use Rattle.leases.proofs.TableLemmas.{leases-filter}
@@ -87,33 +86,6 @@ rightful_of r kept = record {
 pub saves_again : (q : Ledger) → saves (reads (saves q)) ≡ saves q
 saves_again q = ap (λ l. record (saves q) { live = l }) (saved_twice q.live)
 
--- the bytes of a record are some
-pub read_in : (bytes : List ℕ) (r : Record) → record_of bytes ≡ Ok r → record_in bytes ≡ Ok r
-unfolding record_of opened
-read_in [] r e = absurd (cc e)
-read_in (b ∷ bytes) r e = e
-
--- what kept bytes hold, as a restart takes it up
-pub held_in : (bytes : List ℕ) (s : Saved) → Holds bytes s → saved_in bytes ≡ s
-held_in bytes s h = ap saved_by h.read ∙ h.saved
-
-nothing_rises : IsStrictlyIncreasing []
-nothing_rises = λ k h. absurd (omega (arith, h))
-
-nothing_sorted : IsStrictlySortedBy slot_cmp []
-unfolding IsStrictlySortedBy
-nothing_sorted = tt
-
--- a record of a farm where nothing happened
-pub blank_kept : IsKept blank
-blank_kept = record {
-  lawful = (every_opening_is_lawful content_digest NODES 0 (omega arith)).ledger;
-  lives_rise = nothing_rises;
-  lives = λ k d lt. absurd (omega arith);
-  nodes_rise = nothing_rises;
-  retired_rise = nothing_sorted;
-  slots_rise = λ k d lt. absurd (omega arith);
-  lines = record { rise = nothing_sorted; filled = λ k d lt. absurd (omega arith); tickets = λ k d lt. absurd (omega arith) };
-  past = λ s k d lt. absurd (omega arith);
-  ahead = λ k d lt. absurd (omega arith);
-}
+-- what kept texts hold, as a restart takes it up
+pub held_in : (t : Texts) (s : Saved) → Holds t s → saved_in t ≡ s
+held_in t s h = ap saved_by h.read ∙ h.saved

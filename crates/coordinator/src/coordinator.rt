@@ -24,7 +24,7 @@ ghost use Rattle.std.specs.Vec.{vec_capacity};
 
 use super::handled::Handled;
 use super::ledger::{Ledger, Prepared};
-use super::record::record_in;
+use super::text::{Sizes, keep};
 use farm_base::{Lease, NodeId, Parked, Slot, Ticket, ToCoord};
 use leases::SlotState;
 use protocol::{CoordRefusal, Kept};
@@ -62,26 +62,26 @@ pub struct NotStarted<K: Keeper> {
     pub refusal: CoordRefusal,
 }
 
-/// What the keeper's record holds, as a restart takes it up.
+/// What the keeper's texts hold, as a restart takes it up.
 fn load<K: Keeper>(keeper: &mut K, alloc: Global) -> Result<Ledger, CoordRefusal>
     ensures answer { Loads K.loading (K.kept keeper.old) keeper.old keeper.new result }
     ensures kept { K.kept keeper.new ≡ K.kept keeper.old }
     ensures cause { result ≡ Err CoordRefusal.LoadFault → HasFailed (K.failed keeper.old) (K.failed keeper.new) }
 {
-    let bytes = match keeper.load(alloc) {
-        Ok(bytes) => bytes,
+    let log = match keeper.load(alloc) {
+        Ok(log) => log,
         Err(KeeperRefusal::Fault) => return Err(CoordRefusal::LoadFault),
         Err(KeeperRefusal::OutOfMemory) => return Err(CoordRefusal::OutOfMemory),
     };
-    match record_in(alloc, bytes.as_slice()) {
-        Ok(read) => Ok(Ledger::of(alloc, read)),
+    match log.read(alloc) {
+        Ok(read) => Ok(Ledger::of(alloc, read, Sizes::of(&log))),
         Err(RecordRefusal::OutOfMemory) => Err(CoordRefusal::OutOfMemory),
         Err(_) => Err(CoordRefusal::BadRecord),
     }
 }
 
 impl<K: Keeper> Coordinator<K> {
-    /// The coordinator of what its keeper's record holds: of a farm where nothing happened, if none was saved yet.
+    /// The coordinator of what its keeper's texts hold: of a farm where nothing happened, if none was saved yet.
     /// Leases that the record has and a coordinator doesn't save are over.
     pub fn start(alloc: Global, mut keeper: K) -> Result<Self, NotStarted<K>>
         ensures started { IfOk result (λ c. TakesUp K.loading (K.kept keeper) keeper c) }
@@ -98,7 +98,7 @@ impl<K: Keeper> Coordinator<K> {
         }
     }
 
-    /// Starts again from what the keeper's record holds: parked asks are gone, and so are the leases that the record
+    /// Starts again from what the keeper's texts hold: parked asks are gone, and so are the leases that the record
     /// doesn't have.
     pub fn restart(&mut self, alloc: Global) -> Result<(), CoordRefusal>
         ensures answer { Restarts K.loading (K.kept self.old.keeper) self.old self.new result }
@@ -135,14 +135,21 @@ impl<K: Keeper> Coordinator<K> {
             return Err(CoordRefusal::OutOfMemory);
         };
         match to_save {
-            None => Ok(self.ledger.accept(prepared)),
-            Some(bytes) => match self.keeper.save(bytes) {
-                Ok(()) => Ok(self.ledger.accept(prepared)),
-                Err(_) => {
-                    self.down = true;
-                    Err(CoordRefusal::SaveFault)
+            None => {
+                let sizes = self.ledger.sizes();
+                Ok(self.ledger.accept(prepared, sizes))
+            }
+            Some(text) => {
+                let sizes = self.ledger.sizes().after(&text);
+                match keep(&mut self.keeper, text) {
+                    Ok(()) => Ok(self.ledger.accept(prepared, sizes)),
+                    Err(KeeperRefusal::OutOfMemory) => Err(CoordRefusal::OutOfMemory),
+                    Err(KeeperRefusal::Fault) => {
+                        self.down = true;
+                        Err(CoordRefusal::SaveFault)
+                    }
                 }
-            },
+            }
         }
     }
 
@@ -235,7 +242,7 @@ impl<K: Keeper> Coordinator<K> {
         Ok(handled)
     }
 
-    /// What its keeper has is a record, and while it is up, that of its ledger.
+    /// What its keeper has holds a ledger, and while it is up, that of its ledger.
     pub fn is_kept(&self)
         ensures { IsKeeping (K.kept self.now.keeper) self.now.held self.now.down }
     {
@@ -310,7 +317,7 @@ impl<K: Keeper> Coordinator<K> {
 }
 
 impl Coordinator<MemoryKeeper> {
-    /// Makes the next save fail and leave this. Until then a later call replaces this one.
+    /// Makes the next save or append fail and leave this. Until then a later call replaces this one.
     pub fn fail_next(&mut self, kept: Kept)
         ensures { self.new ≡ record self.old { keeper = record self.old.keeper { armed = Some kept } } }
     {

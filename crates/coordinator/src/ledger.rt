@@ -9,7 +9,10 @@ ghost use Rattle.protocol.specs.Lists.{is_nil};
 ghost use Rattle.protocol.specs.Names.{slot_eq, NodeId, Slot, Ticket};
 ghost use Rattle.protocol.specs.Machine.{ToCoord};
 ghost use Rattle.protocol.specs.Ledger.{Work, saves, reads, begin_work, handled, withdrawn, retired, pruned, nudged};
-ghost use Rattle.saverecord.specs.Ledgers.{IsKept, Holds, ledger_of};
+ghost use Rattle.saverecord.specs.Ledgers.{IsKept, ledger_of};
+ghost use Rattle.saverecord.specs.Logs.{Holds};
+ghost use Rattle.saverecord.specs.Texts.{Texts, whole_alone, with_text};
+ghost use Rattle.coordinator.specs.Keeping.{kept_with};
 ghost use Rattle.std.specs.Result.{result_err};
 ghost use Rattle.coordinator.specs.Held.{line_at, ledger};
 ghost use Rattle.versions.specs.Additions.{IsReady};
@@ -24,6 +27,7 @@ use super::draft::Draft;
 use super::handled::Handled;
 use super::record::{record_of, state_of};
 use super::state::State;
+use super::text::{Sizes, Text};
 use farm_base::{Items, Lease, NodeId, Parked, Slot, Ticket, ToCoord};
 use leases::SlotState;
 use protocol::{CoordNote, CoordRefusal};
@@ -37,6 +41,8 @@ use versions::{Added, Line, Lines, SlotLine};
 pub(crate) struct Ledger {
     state: State,
     lines: Lines,
+    /// How long the texts are that its keeper has.
+    sizes: Sizes,
 }
 
 impl Model for Ledger {
@@ -62,19 +68,23 @@ pub(crate) struct Prepared {
 
 impl Ledger {
     /// The ledger that a restart makes of a record.
-    pub(crate) fn of(alloc: Global, read: Record) -> Self
+    pub(crate) fn of(alloc: Global, read: Record, sizes: Sizes) -> Self
         requires { IsKept read }
         ensures { ledger result ≡ reads (saves (ledger_of read)) }
     {
         let (state, lines) = state_of(alloc, read);
-        Ledger { state, lines }
+        Ledger {
+            state,
+            lines,
+            sizes,
+        }
     }
 
-    /// The bytes of the record of an event that was worked out.
+    /// The whole record of an event that was worked out.
     fn record_bytes(&self, alloc: Global, prepared: &Prepared) -> Result<Vec<u8>, AllocError>
         requires rightful { IsRightful (kept (lines_with self.now.lines prepared.now.added) prepared.now.draft.state) }
         requires ready { IsReady self.now.lines prepared.now.added }
-        ensures { IfOk result (λ bytes. Holds bytes.items (saves (kept (lines_with self.now.lines prepared.now.added) prepared.now.draft.state))) }
+        ensures { IfOk result (λ bytes. Holds (whole_alone bytes.items) (saves (kept (lines_with self.now.lines prepared.now.added) prepared.now.draft.state))) }
     {
         let state = &prepared.draft.state;
         let record = record_of(alloc, state, &self.lines, &prepared.added)?;
@@ -82,22 +92,47 @@ impl Ledger {
         record.write(alloc)
     }
 
-    /// The bytes to be saved of an event that was worked out, if the record changed.
+    /// The entry of an event that was worked out: the record that it leaves, of the lines only what it adds.
+    fn entry_bytes(&self, alloc: Global, prepared: &Prepared) -> Result<Vec<u8>, AllocError>
+        requires rightful { IsRightful (kept (lines_with self.now.lines prepared.now.added) prepared.now.draft.state) }
+        requires ready { IsReady self.now.lines prepared.now.added }
+        requires block { self.now.ceiling ≤ prepared.now.draft.state.tickets.ceiling }
+        ensures { IfOk result (λ bytes. (t : Texts) → Holds t (saves (ledger self.now))
+            → Holds (with_text bytes.items t) (saves (kept (lines_with self.now.lines prepared.now.added) prepared.now.draft.state))) }
+    {
+        let state = &prepared.draft.state;
+        let entry = record_of(alloc, state, &Lines::new(alloc), &prepared.added)?;
+        what_is_kept_is_a_record();
+        entry.write(alloc)
+    }
+
+    /// The text to be saved of an event that was worked out, if the record changed: an entry, or the whole record where
+    /// the entries are long enough by now.
     pub(crate) fn to_save(
         &self,
         alloc: Global,
         prepared: &Prepared,
-    ) -> Result<Option<Vec<u8>>, AllocError>
+    ) -> Result<Option<Text>, AllocError>
         requires rightful { IsRightful (kept (lines_with self.now.lines prepared.now.added) prepared.now.draft.state) }
         requires ready { IsReady self.now.lines prepared.now.added }
-        ensures bytes { IfOk result (λ o. IfSome o (λ bytes. Holds bytes.items (saves (kept (lines_with self.now.lines prepared.now.added) prepared.now.draft.state)))) }
+        ensures text { IfOk result (λ o. IfSome o (λ text. (t : Texts) → Holds t (saves (ledger self.now))
+            → Holds (kept_with text t) (saves (kept (lines_with self.now.lines prepared.now.added) prepared.now.draft.state)))) }
         ensures changed { IfOk result (λ o. is_some o ≡ prepared.now.draft.changed) }
     {
-        if prepared.draft.changed {
-            Ok(Some(self.record_bytes(alloc, prepared)?))
-        } else {
-            Ok(None)
+        if !prepared.draft.changed {
+            return Ok(None);
         }
+        let falls = prepared.draft.state.tickets.ceiling().0 < self.state.tickets.ceiling().0;
+        if falls || self.sizes.is_due() {
+            Ok(Some(Text::Whole(self.record_bytes(alloc, prepared)?)))
+        } else {
+            Ok(Some(Text::Entry(self.entry_bytes(alloc, prepared)?)))
+        }
+    }
+
+    /// How long the texts are that its keeper has.
+    pub(crate) fn sizes(&self) -> Sizes {
+        self.sizes
     }
 
     /// A copy of the state, on which an event is worked out.
@@ -130,8 +165,8 @@ impl Ledger {
         Ok(Prepared { draft, added, room })
     }
 
-    /// Applies an event that was worked out.
-    pub(crate) fn accept(&mut self, prepared: Prepared) -> Handled
+    /// Applies an event that was worked out, after its save.
+    pub(crate) fn accept(&mut self, prepared: Prepared, sizes: Sizes) -> Handled
         requires rightful { IsRightful (kept (lines_with self.old.lines prepared.added) prepared.draft.state) }
         requires ready { IsReady self.old.lines prepared.added }
         requires empty { prepared.room.items ≡ [] }
@@ -144,6 +179,7 @@ impl Ledger {
         let Prepared { draft, added, room } = prepared;
         self.lines.add_to(added, room);
         self.state = draft.state;
+        self.sizes = sizes;
         Handled {
             sends: Items::new(draft.sends),
             note: draft.note,

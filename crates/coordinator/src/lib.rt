@@ -8,6 +8,7 @@ mod ledger;
 mod operator_calls;
 mod record;
 mod state;
+mod text;
 
 pub use coordinator::{Coordinator, NotStarted};
 pub use handled::Handled;

@@ -1,17 +1,16 @@
 //! The record of what a coordinator keeps, and what a restart makes of it.
 ghost use Rattle.std.specs.Prelude.{◌≡◌, IfOk, filter};
 ghost use Rattle.protocol.specs.Ledger.{saves, reads, is_saved};
-ghost use Rattle.saverecord.specs.Ledgers.{IsKept, ledger_of, record_in, blank};
-ghost use Rattle.saverecord.specs.Parts.{Gives};
+ghost use Rattle.saverecord.specs.Ledgers.{IsKept, ledger_of};
 ghost use Rattle.versions.specs.Additions.{IsReady};
 ghost use Rattle.coordinator.specs.Shown.{kept, lines_with};
 ghost use Rattle.coordinator.specs.Held.{line_at};
 ghost use Rattle.coordinator.specs.Sound.{IsRightful};
 
 use super::state::{State, is_saved};
-use farm_base::{Items, Lease, Ticket};
+use farm_base::{Items, Lease};
 use leases::{LeaseTable, Lives, RetiredNodes, TicketSource};
-use saverecord::{Record, RecordRefusal, what_is_read_is_lawful};
+use saverecord::Record;
 use std::alloc::{AllocError, Global};
 use versions::{Added, Lines};
 
@@ -22,7 +21,7 @@ fn keep_saved(leases: &mut Vec<Lease>)
     leases.retain(|lease| is_saved(lease));
 }
 
-/// The record of a state, and of the lines with what a commit adds to them.
+/// The record of a state, and of these lines with what a commit adds to them.
 pub(crate) fn record_of(
     alloc: Global,
     state: &State,
@@ -66,31 +65,4 @@ pub(crate) fn state_of(alloc: Global, read: Record) -> (State, Lines)
         parked: Vec::new(alloc),
     };
     (state, Lines::of(read.lines.into_vec()))
-}
-
-/// The record of a farm where nothing happened.
-fn blank(alloc: Global) -> Record
-    ensures { result ≡ blank }
-{
-    Record {
-        last: Ticket(0),
-        old_home: None,
-        lives: Items::new(Vec::new(alloc)),
-        retired_nodes: Items::new(Vec::new(alloc)),
-        leases: Items::new(Vec::new(alloc)),
-        retired: Items::new(Vec::new(alloc)),
-        lines: Items::new(Vec::new(alloc)),
-    }
-}
-
-/// The record that a keeper's bytes hold: none was saved yet where there are no bytes.
-pub(crate) fn record_in(alloc: Global, bytes: &[u8]) -> Result<Record, RecordRefusal>
-    ensures exact { Gives (λ r. r) result (record_in bytes.now) }
-    ensures kept { IfOk result IsKept }
-{
-    what_is_read_is_lawful();
-    if bytes.is_empty() {
-        return Ok(blank(alloc));
-    }
-    Record::read(alloc, bytes)
 }

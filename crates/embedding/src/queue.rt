@@ -51,7 +51,7 @@ struct Farm {
 
 impl Farm {
     fn start(alloc: Global) -> anyhow::Result<Farm> {
-        let keeper = MemoryKeeper::new(Vec::new(alloc));
+        let keeper = MemoryKeeper::new(alloc, Vec::new(alloc));
         let coordinator = match Coordinator::start(alloc, keeper) {
             Ok(coordinator) => coordinator,
             Err(not_started) => return Err(not_started.refusal.into()),

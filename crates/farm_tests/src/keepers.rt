@@ -1,8 +1,9 @@
 //! Keepers in memory, whose saves fail where they were told to, and in files, worked out by hand.
 
-use saverecord::{FileKeeper, Keeper, KeeperRefusal, Kept, MemoryKeeper};
-use std::alloc::Global;
+use saverecord::{FileKeeper, Keeper, KeeperRefusal, Kept, Log, MemoryKeeper};
+use std::alloc::{AllocError, Global};
 use std::fs;
+use std::rt::Files;
 use std::test::Fail;
 
 /// What the keeper is told of the next save, the bytes that are saved, whether that goes well, what is loaded after it,
@@ -21,12 +22,38 @@ fn saved<K: Keeper>(alloc: Global, keeper: &mut K, bytes: &[u8]) -> Result<(bool
     let Ok(loaded) = keeper.load(alloc) else {
         return Err("not loaded".into());
     };
-    Ok((ok, loaded))
+    let whole = Vec::from_slice(alloc, loaded.whole())?;
+    Ok((ok, whole))
+}
+
+/// The whole record and the entries of a log, parted by spaces.
+fn texts(alloc: Global, log: &Log) -> Result<Vec<u8>, AllocError> {
+    let mut texts = Vec::from_slice(alloc, log.whole())?;
+    for entry in log.entries() {
+        texts.push(b' ')?;
+        texts.extend_from_slice(entry.as_slice())?;
+    }
+    Ok(texts)
+}
+
+/// Appends some bytes, and gives whether that went well and what is loaded after it.
+fn appended<K: Keeper>(
+    alloc: Global,
+    keeper: &mut K,
+    bytes: &[u8],
+) -> Result<(bool, Vec<u8>), Fail> {
+    let bytes = Vec::from_slice(alloc, bytes)?;
+    let ok = keeper.append(bytes).is_ok();
+    let Ok(loaded) = keeper.load(alloc) else {
+        return Err("not loaded".into());
+    };
+    let texts = texts(alloc, &loaded)?;
+    Ok((ok, texts))
 }
 
 #[test]
 fn saves_that_fail(rt: HostRuntime) -> Result<(), Fail> {
-    let mut keeper = MemoryKeeper::new(Vec::new(rt.alloc()));
+    let mut keeper = MemoryKeeper::new(rt.alloc(), Vec::new(rt.alloc()));
     for (told, bytes, went_well, wanted, failures) in &SAVES {
         for kept in *told {
             keeper.fail_next(*kept);
@@ -34,7 +61,7 @@ fn saves_that_fail(rt: HostRuntime) -> Result<(), Fail> {
         let (ok, loaded) = saved(rt.alloc(), &mut keeper, *bytes)?;
         assert_eq!(rt; ok, *went_well);
         assert_eq!(rt; loaded.as_slice(), *wanted);
-        assert_eq!(rt; keeper.bytes(), *wanted);
+        assert_eq!(rt; keeper.log().whole(), *wanted);
         assert_eq!(rt; keeper.failures(), *failures);
     }
     assert_eq!(rt; keeper.saves(), 2);
@@ -46,19 +73,91 @@ fn saves_that_fail(rt: HostRuntime) -> Result<(), Fail> {
 fn records_in_files(rt: HostRuntime) -> Result<(), Fail> {
     let path = "kept.record";
     let mut first = FileKeeper::open(&rt, rt.alloc(), path)?;
-    assert!(rt; first.bytes().is_empty());
+    assert!(rt; first.log().whole().is_empty());
     let (ok, loaded) = saved(rt.alloc(), &mut first, b"one")?;
     assert!(rt; ok);
     assert_eq!(rt; loaded.as_slice(), b"one".as_slice());
     let mut second = FileKeeper::open(&rt, rt.alloc(), path)?;
-    assert_eq!(rt; second.bytes(), b"one".as_slice());
+    assert_eq!(rt; second.log().whole(), b"one".as_slice());
     fs::write(&rt, path, b"two".as_slice())?;
     assert!(rt; matches!(second.load(rt.alloc()), Err(KeeperRefusal::Fault)));
     assert_eq!(rt; second.failures(), 1);
     fs::remove_file(&rt, path)?;
+    fs::remove_file(&rt, "kept.record.log")?;
     let mut nowhere = FileKeeper::open(&rt, rt.alloc(), "nowhere/kept.record")?;
     let (ok, loaded) = saved(rt.alloc(), &mut nowhere, b"one")?;
     assert!(rt; !ok && loaded.is_empty());
     assert_eq!(rt; nowhere.failures(), 1);
+    Ok(())
+}
+
+/// What the keeper is told of the next append, the entry, whether that goes well, what is loaded after it, and the count of
+/// failures. A record `one` is kept before.
+const APPENDS: [(Option<Kept>, &[u8], bool, &[u8], u64); 4] = [
+    (None, b"a", true, b"one a", 0),
+    (Some(Kept::Old), b"b", false, b"one a", 1),
+    (Some(Kept::New), b"c", false, b"one a c", 2),
+    (None, b"d", true, b"one a c d", 2),
+];
+
+#[test]
+fn appends_that_fail(rt: HostRuntime) -> Result<(), Fail> {
+    let record = Vec::from_slice(rt.alloc(), b"one")?;
+    let mut keeper = MemoryKeeper::new(rt.alloc(), record);
+    for (told, entry, went_well, wanted, failures) in &APPENDS {
+        if let Some(kept) = told {
+            keeper.fail_next(*kept);
+        }
+        let (ok, loaded) = appended(rt.alloc(), &mut keeper, *entry)?;
+        assert_eq!(rt; ok, *went_well);
+        assert_eq!(rt; loaded.as_slice(), *wanted);
+        assert_eq!(rt; keeper.failures(), *failures);
+    }
+    assert_eq!(rt; keeper.saves(), 2);
+    let (ok, loaded) = saved(rt.alloc(), &mut keeper, b"two")?;
+    assert!(rt; ok && keeper.log().entries().is_empty());
+    assert_eq!(rt; loaded.as_slice(), b"two".as_slice());
+    Ok(())
+}
+
+/// The record of the files below: its last 32 bytes are the name under which the log knows it.
+const RECORD: &[u8; 40] = b"a record,the name of it is these 32 byte";
+
+/// What a file keeper that is opened on this record and this log has.
+fn opened<R: Files>(
+    rt: &R,
+    alloc: Global,
+    record: &[u8],
+    log: &[u8],
+) -> Result<Vec<u8>, Fail> {
+    fs::write(rt, "cut.record", record)?;
+    fs::write(rt, "cut.record.log", log)?;
+    let keeper = FileKeeper::open(rt, alloc, "cut.record")?;
+    let texts = texts(alloc, keeper.log())?;
+    Ok(texts)
+}
+
+/// A log of two entries, cut at each byte: what was cut short is gone, and all behind it.
+#[test]
+fn logs_in_files(rt: HostRuntime) -> Result<(), Fail> {
+    fs::write(&rt, "cut.record", RECORD.as_slice())?;
+    let mut keeper = FileKeeper::open(&rt, rt.alloc(), "cut.record")?;
+    let (ok, _) = appended(rt.alloc(), &mut keeper, b"first")?;
+    assert!(rt; ok);
+    let (ok, both) = appended(rt.alloc(), &mut keeper, b"second")?;
+    assert!(rt; ok);
+    assert!(rt; both.ends_with(b" first second"));
+    let log = fs::read(&rt, "cut.record.log")?;
+    assert_eq!(rt; log.len(), 91);
+    for len in 0..log.len() {
+        let kept = opened(&rt, rt.alloc(), RECORD.as_slice(), &log[..len])?;
+        let wanted = if len < 45 { 40 } else { 46 };
+        assert_eq!(rt; kept.len(), wanted);
+    }
+    let other = opened(&rt, rt.alloc(), b"of another record", log.as_slice())?;
+    assert_eq!(rt; other.as_slice(), b"of another record".as_slice());
+    assert!(rt; fs::read(&rt, "cut.record.log")?.is_empty());
+    fs::remove_file(&rt, "cut.record")?;
+    fs::remove_file(&rt, "cut.record.log")?;
     Ok(())
 }

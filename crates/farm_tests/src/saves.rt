@@ -1,7 +1,7 @@
 //! When the coordinator of a world saves, and what, worked out by hand. The records were made by a script apart from
 //! the program, with the SHA-256 of Python's hashlib.
 
-use saverecord::Record;
+use saverecord::{Log, RecordRefusal};
 use std::alloc::Global;
 use std::test::Fail;
 use world::{World, read_schedule};
@@ -37,19 +37,23 @@ const SAVES: [(&str, u64, &str); 4] = [
     ),
 ];
 
+/// The whole record that a log holds, no bytes where nothing was saved.
+fn folded(alloc: Global, log: &Log) -> Result<Vec<u8>, RecordRefusal> {
+    if log.whole().is_empty() {
+        return Ok(Vec::new(alloc));
+    }
+    log.fold(alloc)
+}
+
 #[test]
 fn what_is_saved(rt: HostRuntime) -> Result<(), Fail> {
     for (schedule, saves, wanted) in &SAVES {
         let schedule = schedule.replace(rt.alloc(), "; ", "\n")?;
         let world = world_after(rt.alloc(), schedule.as_str())?;
         let keeper = world.coordinator().keeper();
-        let text = hex::encode(rt.alloc(), keeper.bytes())?;
+        let text = hex::encode(rt.alloc(), &folded(rt.alloc(), keeper.log())?)?;
         assert_eq!(rt; text.as_str(), *wanted);
         assert_eq!(rt; keeper.saves(), *saves);
-        if !wanted.is_empty() {
-            let bytes = Record::read(rt.alloc(), keeper.bytes())?.write(rt.alloc())?;
-            assert_eq!(rt; bytes.as_slice(), keeper.bytes());
-        }
     }
     Ok(())
 }

@@ -145,7 +145,7 @@ fn answers<K: Keeper>(
 fn answers_after_a_start(rt: HostRuntime) -> Result<(), Fail> {
     for (spelled, messages, wanted) in &STARTS {
         let record = hex::decode(rt.alloc(), *spelled)?;
-        let text = answers(rt.alloc(), MemoryKeeper::new(record), *messages)?;
+        let text = answers(rt.alloc(), MemoryKeeper::new(rt.alloc(), record), *messages)?;
         assert_eq!(rt; text.as_str(), *wanted);
     }
     Ok(())
@@ -161,6 +161,7 @@ fn answers_over_a_file(rt: HostRuntime) -> Result<(), Fail> {
         assert_eq!(rt; text.as_str(), wanted);
     }
     fs::remove_file(&rt, path)?;
+    fs::remove_file(&rt, "farm.record.log")?;
     Ok(())
 }
 
@@ -184,7 +185,7 @@ fn nearly_spent(alloc: Global) -> Result<Vec<u8>, AllocError> {
 fn the_instances_of_a_folder(rt: HostRuntime) -> Result<(), Fail> {
     let record = nearly_spent(rt.alloc())?;
     let asks = [(1, 1, "private:npm"), (2, 1, "private:npm")];
-    let text = answers(rt.alloc(), MemoryKeeper::new(record), &asks)?;
+    let text = answers(rt.alloc(), MemoryKeeper::new(rt.alloc(), record), &asks)?;
     let wanted = "granted 1 private:npm#4096 to 1; denied InstancesSpent to 2; ";
     assert_eq!(rt; text.as_str(), wanted);
     Ok(())
@@ -200,11 +201,11 @@ const DAMAGED: [&str; 3] = [
 /// Whether a coordinator refuses these bytes as no record, and hands them back unchanged.
 fn is_refused(alloc: Global, bytes: &[u8]) -> Result<bool, AllocError> {
     let kept = Vec::from_slice(alloc, bytes)?;
-    match Coordinator::start(alloc, MemoryKeeper::new(kept)) {
+    match Coordinator::start(alloc, MemoryKeeper::new(alloc, kept)) {
         Ok(_) => Ok(false),
         Err(refused) => {
             let is_bad = refused.refusal == CoordRefusal::BadRecord;
-            Ok(is_bad && refused.keeper.bytes() == bytes)
+            Ok(is_bad && refused.keeper.log().whole() == bytes)
         }
     }
 }

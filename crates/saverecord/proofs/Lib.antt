@@ -12,3 +12,5 @@ pub mod LedgerLemmas
 pub mod KeptLemmas
 pub mod ReadLemmas
 pub mod InstanceLemmas
+pub mod FoldLemmas
+pub mod LogLemmas

@@ -1,5 +1,5 @@
 -- The ledger that a record keeps (docs/PROOFS.md, "The record"). The rules are this project's own.
-use Rattle.std.specs.Prelude.{◌≡◌, ℕ, ◌≤◌, Bool, List, [], ◌∷◌, map, All, None, Result, Ok, Err}
+use Rattle.std.specs.Prelude.{◌≡◌, ℕ, ◌≤◌, Bool, List, [], ◌∷◌, map, All, None, Result, Ok}
 use Rattle.std.specs.List.Sorted.{IsStrictlyIncreasing, IsStrictlySortedBy}
 use Rattle.farm_base.specs.declared.limits.TheConstants.{NODES}
 use Rattle.farm_base.specs.Digests.{IsBytes}
@@ -7,7 +7,7 @@ use Rattle.farm_base.specs.Slots.{slot_cmp}
 use Rattle.leases.specs.Leases.{Rises, IsOpen}
 use Rattle.leases.specs.Table.{among, life_at, is_among}
 use Rattle.protocol.specs.Names.{Slot, IsInstance}
-use Rattle.protocol.specs.Ledger.{Ledger, Lease, Saved, saves, opening}
+use Rattle.protocol.specs.Ledger.{Ledger, Lease}
 use Rattle.protocol.specs.Lawful.{IsLawful}
 use Rattle.versions.specs.Lines.{line_at}
 use Rattle.versions.specs.Ordered.{AreLines}
@@ -34,24 +34,10 @@ ledger_of r = record {
 abbrev pub blank : Record
 blank = record { last = record { 0 = 0 }; old_home = None; lives = []; retired_nodes = []; leases = []; retired = []; lines = [] }
 
--- the record that kept bytes hold: none was saved yet where there are no bytes
+-- the whole record that kept bytes hold: none was saved yet where there are no bytes
 abbrev pub record_in : List ℕ → Result Record RecordRefusal
 record_in [] = Ok blank
 record_in (b ∷ bytes) = record_of (b ∷ bytes)
-
-abbrev pub saved_by : Result Record RecordRefusal → Saved
-saved_by (Ok r) = saves (ledger_of r)
-saved_by (Err e) = saves opening
-
--- what kept bytes hold of a ledger. Those that are no record hold as little as none
-abbrev pub saved_in : List ℕ → Saved
-saved_in bytes = saved_by (record_in bytes)
-
--- the kept bytes are a record, and hold this
-pub record Holds (bytes : List ℕ) (s : Saved) : Type 0 where
-  pub kept : Record
-  pub read : record_in bytes ≡ Ok kept
-  pub saved : saves (ledger_of kept) ≡ s
 
 -- a record of a lawful ledger, each list in its order
 pub record IsKept (r : Record) : Type 0 where

@@ -6,5 +6,7 @@ pub mod Spelling
 pub mod Records
 pub mod Relations
 pub mod Fits
+pub mod Texts
 pub mod Keepers
 pub mod Ledgers
+pub mod Logs

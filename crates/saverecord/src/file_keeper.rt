@@ -1,30 +1,44 @@
-//! Keeps a record in a file.
-ghost use Rattle.std.specs.Prelude.{◌≡◌, ◌≤◌, ◌⊎◌, IfOk, OnOk, OnErr, Some, Err};
+//! Keeps a record in files.
+ghost use Rattle.std.specs.Prelude.{◌≡◌, ◌≢◌, ◌≤◌, ◌⊎◌, IfOk, OnOk, OnErr, Some, Err};
 ghost use Rattle.std.specs.Result.{is_ok, result_err};
 ghost use Rattle.saverecord.specs.Keepers.{HasFailed, Filed, FileSaves, FileLoads, counted_up};
+ghost use Rattle.saverecord.specs.Texts.{whole_alone, with_text};
 
 use super::keeper::Keeper;
+use super::log::Log;
 use super::refusal::{KeeperRefusal, SaveFault};
+use farm_base::Items;
 use std::alloc::{AllocError, Global};
-use std::fs::{self, OpenFile};
+use std::fs::{self, OpenFile, OpenOptions};
 use std::io::{self, ErrorKind, Read, Write};
 use std::marker::Model;
 use std::rt::Files;
 
-/// Keeps the bytes of a record in a file, one record whole at a time: a save writes a second file beside it, which then
-/// takes its place. So after a crash the file holds the old record or the new one.
+/// The name of no record.
+const NO_RECORD: [u8; 32] = [0; 32];
+
+/// Keeps a record in a file, and the entries after it in a second one (the path with `.log` behind it). A save writes a
+/// third file (`.new`), which then takes the record's place, and empties the log. So after a crash the files hold the
+/// old texts or the new ones.
 ///
-/// What is proved of it is said of the bytes that it knows the file to hold, which each load compares with those that
-/// it reads. That a file system gives back what was written, also after a crash, is trusted.
+/// In the log each entry stands behind the name of the record that it follows, which is the record's SHA-256, and its
+/// length. Entries of another record, and what was cut short, are none: opening and loading cut them off.
+///
+/// What is proved is said of the texts that it knows the files to hold, with which each load compares those that it
+/// reads. That a file system gives back what was written, also after a crash, is trusted.
 #[derive(Drop)]
 pub struct FileKeeper<'a, R: Files> {
     files: &'a R,
     path: String,
-    /// The second file.
+    /// The file that takes the record's place.
     draft: String,
-    /// The folder of both.
+    /// The file of the entries.
+    tail: String,
+    /// The folder of all three.
     folder: String,
-    bytes: Vec<u8>,
+    log: Log,
+    /// The length of the log's file.
+    tail_len: u64,
     failures: u64,
 }
 
@@ -33,7 +47,7 @@ impl<'a, R: Files> Model for FileKeeper<'a, R> {
 
     ghost Value = { Filed };
 
-    ghost view = { λ k. record { bytes = k.bytes.items; failures = k.failures } };
+    ghost view = { λ k. record { texts = k.log; failures = k.failures } };
 }
 
 /// The bytes of a file, none where there is no file.
@@ -65,45 +79,149 @@ fn folder_of(path: &str) -> &str {
     }
 }
 
+/// The name of a record in the log: its last 32 bytes, zeros where none was saved yet.
+fn name_of(whole: &[u8]) -> &[u8] {
+    match whole.len().checked_sub(32) {
+        None => &NO_RECORD,
+        Some(place) => &whole[place..],
+    }
+}
+
+/// The first entry of a log whose entries follow this record, and what stands behind it. None where no whole one stands
+/// there.
+fn first_entry<'b>(name: &[u8], bytes: &'b [u8]) -> Option<(&'b [u8], &'b [u8])> {
+    let rest = bytes.strip_prefix(name)?;
+    let (len, rest) = rest.split_first_chunk::<8>()?;
+    let len = u64::from_be_bytes(*len);
+    if len > rest.len() as u64 {
+        return None;
+    }
+    Some(rest.split_at(len as usize))
+}
+
+/// Adds the entries that follow the record, and gives how many bytes stand behind them.
+fn take_entries(alloc: Global, log: &mut Log, bytes: &[u8]) -> Result<usize, AllocError> {
+    let mut rest = bytes;
+    for _ in 0..bytes.len() {
+        let Some((entry, after)) = first_entry(name_of(log.whole()), rest) else {
+            return Ok(rest.len());
+        };
+        let entry = Vec::from_slice(alloc, entry)?;
+        log.push(entry)?;
+        rest = after;
+    }
+    Ok(rest.len())
+}
+
+/// Cuts a log's file to its first bytes, and waits until the device has it.
+fn cut<R: Files>(files: &R, path: &str, len: u64) -> io::Result<()> {
+    let file = OpenOptions::new()
+        .write(true)
+        .create(true)
+        .open(files, path)?;
+    file.set_len(len)?;
+    file.sync_all()
+}
+
+/// The texts of a record's file and of its log's, and the log's length. What the log has behind the entries that follow
+/// the record is cut off.
+fn read_texts<R: Files>(
+    files: &R,
+    alloc: Global,
+    path: &str,
+    tail: &str,
+) -> io::Result<(Log, u64)> {
+    let mut log = Log::of(alloc, read_file(files, alloc, path)?);
+    let bytes = read_file(files, alloc, tail)?;
+    let left = take_entries(alloc, &mut log, bytes.as_slice())?;
+    let len = bytes.len().saturating_sub(left) as u64;
+    if left > 0 {
+        cut(files, tail, len)?;
+    }
+    Ok((log, len))
+}
+
+/// Whether the entries are the same.
+fn are_same(entries: &[Items<u8>], others: &[Items<u8>]) -> bool {
+    entries.len() == others.len()
+        && entries
+            .iter()
+            .zip(others)
+            .all(|pair| pair.0.as_slice() == pair.1.as_slice())
+}
+
 impl<'a, R: Files> FileKeeper<'a, R> {
-    /// Keeps a record in the file of this path, beginning with what it holds; where there is no file, no record was
-    /// saved yet. A save also writes the path with `.new` behind it.
+    /// Keeps a record in the file of this path and its log, beginning with what they hold; where there is no file, no
+    /// record was saved yet. A save also writes the path with `.new` behind it.
     pub fn open(files: &'a R, alloc: Global, path: &str) -> io::Result<Self>
         ensures { IfOk result (λ k. k.failures ≡ 0) }
     {
+        let tail = format!(in alloc; "{path}.log")?;
+        let (log, tail_len) = read_texts(files, alloc, path, tail.as_str())?;
         Ok(FileKeeper {
             files,
             path: String::from_str(alloc, path)?,
             draft: format!(in alloc; "{path}.new")?,
+            tail,
             folder: String::from_str(alloc, folder_of(path))?,
-            bytes: read_file(files, alloc, path)?,
+            log,
+            tail_len,
             failures: 0,
         })
     }
 
-    /// The bytes that the file is known to hold.
-    pub fn bytes(&self) -> &[u8]
-        ensures { result.now ≡ self.now.bytes }
+    /// The texts that the files are known to hold.
+    pub fn log(&self) -> &Log
+        ensures { result.now ≡ self.now.texts }
     {
-        self.bytes.as_slice()
+        &self.log
     }
 
-    /// Puts a file of these bytes in the file's place.
+    /// Puts a file of these bytes in the record's place.
     fn replace(&self, bytes: &[u8]) -> io::Result<()> {
         write_file(self.files, self.draft.as_str(), bytes)?;
         fs::rename(self.files, self.draft.as_str(), self.path.as_str())
     }
 
-    /// Waits until the device has the file's new name.
+    /// Waits until the device has the files' names.
     fn sync_folder(&self) -> io::Result<()> {
         fs::open(self.files, self.folder.as_str())?.sync_all()
+    }
+
+    /// Empties the log, after a record took its place.
+    fn empty(&self) -> io::Result<()> {
+        cut(self.files, self.tail.as_str(), 0)?;
+        self.sync_folder()
+    }
+
+    /// Writes the last entry behind the log's first bytes, and waits until the device has it.
+    fn put_last(&self) -> io::Result<()> {
+        let Some(entry) = self.log.entries().last() else {
+            return Ok(());
+        };
+        let entry = entry.as_slice();
+        let tail = self.tail.as_str();
+        let mut file = OpenOptions::new()
+            .append(true)
+            .create(true)
+            .open(self.files, tail)?;
+        file.write_all(name_of(self.log.whole()))?;
+        file.write_all(&(entry.len() as u64).to_be_bytes())?;
+        file.write_all(entry)?;
+        file.sync_all()
+    }
+
+    /// Whether the files hold the texts that they are known to hold.
+    fn is_there(&self, alloc: Global) -> io::Result<bool> {
+        let (log, _) = read_texts(self.files, alloc, self.path.as_str(), self.tail.as_str())?;
+        Ok(log.whole() == self.log.whole() && are_same(log.entries(), self.log.entries()))
     }
 }
 
 impl<'a, R: Files> Keeper for FileKeeper<'a, R> {
     ghost use Rattle.saverecord.specs.Keepers.{FileSaves, FileLoads};
 
-    ghost kept = { λ k. k.bytes };
+    ghost kept = { λ k. k.texts };
 
     ghost failed = { λ k. k.failures };
 
@@ -112,33 +230,61 @@ impl<'a, R: Files> Keeper for FileKeeper<'a, R> {
     ghost loading = { FileLoads };
 
     fn save(&mut self, bytes: Vec<u8>) -> Result<(), SaveFault>
-        ensures exact { FileSaves self.old bytes.items (is_ok result) self.new }
-        ensures ok { OnOk result (self.new.bytes ≡ bytes.items) }
-        ensures fault { OnErr result ((self.new.bytes ≡ self.old.bytes) ⊎ (self.new.bytes ≡ bytes.items)) }
+        ensures exact { FileSaves self.old (whole_alone bytes.items) (is_ok result) self.new }
+        ensures ok { OnOk result (self.new.texts ≡ whole_alone bytes.items) }
+        ensures fault { OnErr result ((self.new.texts ≡ self.old.texts) ⊎ (self.new.texts ≡ whole_alone bytes.items)) }
         ensures cause { OnErr result (HasFailed self.old.failures self.new.failures) }
         ensures count { self.old.failures ≤ self.new.failures }
     {
-        if self.replace(bytes.as_slice()).is_err() {
+        // Entries that follow the record of these bytes are not to follow it again.
+        let stays = bytes.as_slice() == self.log.whole();
+        if !stays && self.replace(bytes.as_slice()).is_err() {
             self.failures = self.failures.saturating_add(1);
             return Err(SaveFault);
         }
-        self.bytes = bytes;
-        if self.sync_folder().is_err() {
+        self.log.replace(bytes);
+        self.tail_len = 0;
+        if self.empty().is_err() {
             self.failures = self.failures.saturating_add(1);
             return Err(SaveFault);
         }
         Ok(())
     }
 
-    fn load(&mut self, alloc: Global) -> Result<Vec<u8>, KeeperRefusal>
+    fn append(&mut self, entry: Vec<u8>) -> Result<(), KeeperRefusal>
+        ensures exact { result ≢ Err KeeperRefusal.OutOfMemory → FileSaves self.old (with_text entry.items self.old.texts) (is_ok result) self.new }
+        ensures ok { OnOk result (self.new.texts ≡ with_text entry.items self.old.texts) }
+        ensures fault { OnErr result ((self.new.texts ≡ self.old.texts) ⊎ (self.new.texts ≡ with_text entry.items self.old.texts)) }
+        ensures cause { result ≡ Err KeeperRefusal.Fault → HasFailed self.old.failures self.new.failures }
+        ensures same { result ≡ Err KeeperRefusal.OutOfMemory → self.new ≡ self.old }
+        ensures count { self.old.failures ≤ self.new.failures }
+    {
+        let len = (entry.len() as u64).saturating_add(40);
+        if self.log.push(entry).is_err() {
+            return Err(KeeperRefusal::OutOfMemory);
+        }
+        if self.put_last().is_err() {
+            let _uncut = cut(self.files, self.tail.as_str(), self.tail_len);
+            self.log.pop();
+            self.failures = self.failures.saturating_add(1);
+            return Err(KeeperRefusal::Fault);
+        }
+        self.tail_len = self.tail_len.saturating_add(len);
+        Ok(())
+    }
+
+    fn load(&mut self, alloc: Global) -> Result<Log, KeeperRefusal>
         ensures exact { FileLoads self.old (result_err result) self.new }
-        ensures bytes { IfOk result (λ bytes. bytes.items ≡ self.old.bytes) }
-        ensures kept { self.new.bytes ≡ self.old.bytes }
+        ensures texts { IfOk result (λ log. log ≡ self.old.texts) }
+        ensures kept { self.new.texts ≡ self.old.texts }
         ensures cause { result ≡ Err KeeperRefusal.Fault → HasFailed self.old.failures self.new.failures }
         ensures count { self.old.failures ≤ self.new.failures }
     {
-        match read_file(self.files, alloc, self.path.as_str()) {
-            Ok(bytes) if bytes == self.bytes => Ok(bytes),
+        match self.is_there(alloc) {
+            Ok(true) => match self.log.copy(alloc) {
+                Ok(log) => Ok(log),
+                Err(_) => Err(KeeperRefusal::OutOfMemory),
+            },
             Err(error) if error.kind() == ErrorKind::OutOfMemory => Err(KeeperRefusal::OutOfMemory),
             _ => {
                 self.failures = self.failures.saturating_add(1);

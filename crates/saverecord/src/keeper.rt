@@ -1,41 +1,53 @@
-//! Who keeps the bytes of a record.
-ghost use Rattle.std.specs.Prelude.{◌≡◌, ◌≢◌, ◌⊎◌, ◌≤◌, ℕ, Bool, List, [], Option, IfOk, OnOk, OnErr, IsOk, ◌↔◌, Some, None};
+//! Who keeps the texts of a record.
+ghost use Rattle.std.specs.Prelude.{◌≡◌, ◌≢◌, ◌⊎◌, ◌≤◌, ℕ, Bool, List, [], Option, Err, IfOk, OnOk, OnErr, IsOk, ◌↔◌, Some, None};
 ghost use Rattle.std.specs.Result.{is_ok, result_err};
 ghost use Rattle.saverecord.specs.Keepers.{HasFailed, saved, MemorySaves, MemoryLoads};
+ghost use Rattle.saverecord.specs.Texts.{Texts, whole_alone, with_text};
 
+use super::log::Log;
 use super::refusal::{KeeperRefusal, SaveFault};
 use protocol::Kept;
 use std::alloc::Global;
 use std::marker::Model;
 
-/// Keeps the bytes of a record. Empty bytes mean that no record was saved yet.
+/// Keeps a whole record, and the entries that follow it.
 pub trait Keeper: Drop {
+    ghost use Rattle.saverecord.specs.Texts.{Texts, whole_alone, with_text};
     ghost use Rattle.saverecord.specs.declared.refusal.KeeperRefusal.{KeeperRefusal};
 
     /// What a load gives.
-    ghost kept: { Self → List ℕ };
+    ghost kept: { Self → Texts };
 
     /// How often the device failed.
     ghost failed: { Self → ℕ };
 
-    /// What a save of these bytes may leave, and whether it succeeds.
-    ghost saving: { Self → List ℕ → Bool → Self → Type 0 };
+    /// What a save or an append that would keep these texts may leave, and whether it succeeds.
+    ghost saving: { Self → Texts → Bool → Self → Type 0 };
 
     /// What a load may refuse, and leave.
     ghost loading: { Self → Option KeeperRefusal → Self → Type 0 };
 
-    /// Keeps these bytes in place of the earlier ones. It takes no memory.
+    /// Keeps this whole record in place of all earlier texts. It takes no memory.
     fn save(&mut self, bytes: Vec<u8>) -> Result<(), SaveFault>
-        ensures exact { saving self.old bytes.items (is_ok result) self.new }
-        ensures ok { OnOk result (kept self.new ≡ bytes.items) }
-        ensures fault { OnErr result ((kept self.new ≡ kept self.old) ⊎ (kept self.new ≡ bytes.items)) }
+        ensures exact { saving self.old (whole_alone bytes.items) (is_ok result) self.new }
+        ensures ok { OnOk result (kept self.new ≡ whole_alone bytes.items) }
+        ensures fault { OnErr result ((kept self.new ≡ kept self.old) ⊎ (kept self.new ≡ whole_alone bytes.items)) }
         ensures cause { OnErr result (HasFailed (failed self.old) (failed self.new)) }
         ensures count { failed self.old ≤ failed self.new };
 
-    /// The bytes that are kept.
-    fn load(&mut self, alloc: Global) -> Result<Vec<u8>, KeeperRefusal>
+    /// Keeps this entry behind the texts that are kept. Where it wants memory that isn't there, nothing changes.
+    fn append(&mut self, entry: Vec<u8>) -> Result<(), KeeperRefusal>
+        ensures exact { result ≢ Err KeeperRefusal.OutOfMemory → saving self.old (with_text entry.items (kept self.old)) (is_ok result) self.new }
+        ensures ok { OnOk result (kept self.new ≡ with_text entry.items (kept self.old)) }
+        ensures fault { OnErr result ((kept self.new ≡ kept self.old) ⊎ (kept self.new ≡ with_text entry.items (kept self.old))) }
+        ensures cause { result ≡ Err KeeperRefusal.Fault → HasFailed (failed self.old) (failed self.new) }
+        ensures same { result ≡ Err KeeperRefusal.OutOfMemory → self.new ≡ self.old }
+        ensures count { failed self.old ≤ failed self.new };
+
+    /// The texts that are kept.
+    fn load(&mut self, alloc: Global) -> Result<Log, KeeperRefusal>
         ensures exact { loading self.old (result_err result) self.new }
-        ensures bytes { IfOk result (λ bytes. bytes.items ≡ kept self.old) }
+        ensures texts { IfOk result (λ log. log ≡ kept self.old) }
         ensures kept { kept self.new ≡ kept self.old }
         ensures cause { result ≡ Err KeeperRefusal.Fault → HasFailed (failed self.old) (failed self.new) }
         ensures count { failed self.old ≤ failed self.new };
@@ -45,10 +57,10 @@ pub trait Keeper: Drop {
         ensures { result ≡ failed self.now };
 }
 
-/// Keeps the bytes in memory. It fails only where it was told to.
+/// Keeps the texts in memory. It fails only where it was told to.
 #[derive(Debug, Drop)]
 pub struct MemoryKeeper {
-    bytes: Vec<u8>,
+    log: Log,
     armed: Option<Kept>,
     saves: u64,
     failures: u64,
@@ -59,37 +71,37 @@ impl Model for MemoryKeeper {
 
     ghost Value = { Memory };
 
-    ghost view = { λ k. record { bytes = k.bytes.items; armed = k.armed; saves = k.saves; failures = k.failures } };
+    ghost view = { λ k. record { texts = k.log; armed = k.armed; saves = k.saves; failures = k.failures } };
 }
 
 impl MemoryKeeper {
-    /// Keeps these bytes, without taking memory. Nothing has failed yet.
-    pub fn new(bytes: Vec<u8>) -> Self
-        ensures { result ≡ record { bytes = bytes.items; armed = None; saves = 0; failures = 0 } }
+    /// Keeps a whole record, or nothing where these are no bytes, without taking memory. Nothing has failed yet.
+    pub fn new(alloc: Global, bytes: Vec<u8>) -> Self
+        ensures { result ≡ record { texts = whole_alone bytes.items; armed = None; saves = 0; failures = 0 } }
     {
         MemoryKeeper {
-            bytes,
+            log: Log::of(alloc, bytes),
             armed: None,
             saves: 0,
             failures: 0,
         }
     }
 
-    /// The bytes that a load gives.
-    pub fn bytes(&self) -> &[u8]
-        ensures { result.now ≡ self.now.bytes }
+    /// The texts that a load gives.
+    pub fn log(&self) -> &Log
+        ensures { result.now ≡ self.now.texts }
     {
-        self.bytes.as_slice()
+        &self.log
     }
 
-    /// The number of successful saves. It stays at its greatest value.
+    /// The number of successful saves and appends. It stays at its greatest value.
     pub fn saves(&self) -> u64
         ensures { result ≡ self.now.saves }
     {
         self.saves
     }
 
-    /// Makes the next save fail and leave this. Until then a later call replaces this one.
+    /// Makes the next save or append fail and leave this. Until then a later call replaces this one.
     pub fn fail_next(&mut self, kept: Kept)
         ensures { self.new ≡ record self.old { armed = Some kept } }
     {
@@ -98,7 +110,7 @@ impl MemoryKeeper {
 }
 
 impl Keeper for MemoryKeeper {
-    ghost kept = { λ m. m.bytes };
+    ghost kept = { λ m. m.texts };
 
     ghost failed = { λ m. m.failures };
 
@@ -107,34 +119,55 @@ impl Keeper for MemoryKeeper {
     ghost loading = { MemoryLoads };
 
     fn save(&mut self, bytes: Vec<u8>) -> Result<(), SaveFault>
-        ensures exact { MemorySaves self.old bytes.items (is_ok result) self.new }
-        ensures ok { OnOk result (self.new.bytes ≡ bytes.items) }
-        ensures fault { OnErr result ((self.new.bytes ≡ self.old.bytes) ⊎ (self.new.bytes ≡ bytes.items)) }
+        ensures exact { MemorySaves self.old (whole_alone bytes.items) (is_ok result) self.new }
+        ensures ok { OnOk result (self.new.texts ≡ whole_alone bytes.items) }
+        ensures fault { OnErr result ((self.new.texts ≡ self.old.texts) ⊎ (self.new.texts ≡ whole_alone bytes.items)) }
         ensures cause { OnErr result (HasFailed self.old.failures self.new.failures) }
         ensures count { self.old.failures ≤ self.new.failures }
     {
         let Some(kept) = self.armed else {
-            self.bytes = bytes;
+            self.log.replace(bytes);
             self.saves = self.saves.saturating_add(1);
             return Ok(());
         };
         self.armed = None;
         self.failures = self.failures.saturating_add(1);
         if matches!(kept, Kept::New) {
-            self.bytes = bytes;
+            self.log.replace(bytes);
         }
         Err(SaveFault)
     }
 
-    fn load(&mut self, alloc: Global) -> Result<Vec<u8>, KeeperRefusal>
+    fn append(&mut self, entry: Vec<u8>) -> Result<(), KeeperRefusal>
+        ensures exact { result ≢ Err KeeperRefusal.OutOfMemory → MemorySaves self.old (with_text entry.items self.old.texts) (is_ok result) self.new }
+        ensures ok { OnOk result (self.new.texts ≡ with_text entry.items self.old.texts) }
+        ensures fault { OnErr result ((self.new.texts ≡ self.old.texts) ⊎ (self.new.texts ≡ with_text entry.items self.old.texts)) }
+        ensures cause { result ≡ Err KeeperRefusal.Fault → HasFailed self.old.failures self.new.failures }
+        ensures same { result ≡ Err KeeperRefusal.OutOfMemory → self.new ≡ self.old }
+        ensures count { self.old.failures ≤ self.new.failures }
+    {
+        let armed = self.armed;
+        if !matches!(armed, Some(Kept::Old)) && self.log.push(entry).is_err() {
+            return Err(KeeperRefusal::OutOfMemory);
+        }
+        if armed.is_none() {
+            self.saves = self.saves.saturating_add(1);
+            return Ok(());
+        }
+        self.armed = None;
+        self.failures = self.failures.saturating_add(1);
+        Err(KeeperRefusal::Fault)
+    }
+
+    fn load(&mut self, alloc: Global) -> Result<Log, KeeperRefusal>
         ensures exact { MemoryLoads self.old (result_err result) self.new }
-        ensures bytes { IfOk result (λ bytes. bytes.items ≡ self.old.bytes) }
-        ensures kept { self.new.bytes ≡ self.old.bytes }
+        ensures texts { IfOk result (λ log. log ≡ self.old.texts) }
+        ensures kept { self.new.texts ≡ self.old.texts }
         ensures cause { result ≡ Err KeeperRefusal.Fault → HasFailed self.old.failures self.new.failures }
         ensures count { self.old.failures ≤ self.new.failures }
     {
-        match Vec::from_slice(alloc, self.bytes.as_slice()) {
-            Ok(bytes) => Ok(bytes),
+        match self.log.copy(alloc) {
+            Ok(log) => Ok(log),
             Err(_) => Err(KeeperRefusal::OutOfMemory),
         }
     }

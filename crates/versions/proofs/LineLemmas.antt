@@ -1,12 +1,13 @@
 -- Tickets along a line, and the number of a ticket.
 use Rattle.std.proofs.Common.{◌≡◌, ◌≢◌, ℕ, zero, suc, ◌+◌, ◌-◌, ◌<◌, ◌≤◌, true, false, eqb, eq-eqb, List, [], ◌∷◌, ◌++◌, length, get_or, Some, None, Result, Ok, Err, Ordering, inl, inr, ltb, refl, sym, ap, ◌∙◌, subst, arith, length-append}
-use Rattle.std.specs.Prelude.{All, MatchResult}
+use Rattle.std.specs.Prelude.{All, MatchResult, nat_lt, slice_get}
+use Rattle.std.proofs.Math.Bool.{and-true, and-false}
 use Rattle.std.specs.Result.{result_ok}
 use Rattle.std.specs.List.{HoldsAt, position_from}
 use Rattle.std.specs.List.Sorted.{IsStrictlyIncreasing, IsSortedBy, IsSearchInRange, IsBinarySearchResult}
 use Rattle.std.specs.Ordering.{nat_cmp, is_lt}
 use Rattle.std.specs.declared.cmp.Ordering.TheVariants.{Less, Equal, Greater}
-use Rattle.std.proofs.lemmas.Bool.{cases_Bool, ne_eqb}
+use Rattle.std.proofs.lemmas.Bool.{cases_Bool, ne_eqb, and_parts, lt-ltb}
 use borrow.Author.Tests.{ltb-true, ltb-false}
 use Rattle.std.proofs.lemmas.Cmp.{nat_cmp_total, tied_itself}
 use Rattle.std.proofs.lemmas.List.{get_or-map, length-map, map-append, get_or_append_left, get_or-append_right}
@@ -15,8 +16,8 @@ use Rattle.std.proofs.lemmas.List.Sorted.{searchable_from_sorted}
 use Rattle.std.proofs.lemmas.Map.Lookups.{exact_unsigned}
 use Rattle.farm_base.specs.declared.message.LineVersion.{LineVersion}
 use Rattle.farm_base.specs.declared.number.Ticket.{Ticket}
-use Rattle.lists.proofs.Rising.{no_less}
-use Rattle.versions.specs.Line.{IsLine, tickets, ticket_in, number_in}
+use Rattle.lists.proofs.Rising.{no_less, tail_rises}
+use Rattle.versions.specs.Line.{IsLine, tickets, is_above_all, ticket_in, number_in}
 
 -- the version has the ticket
 abbrev pub Has : Ticket → LineVersion → Type 0
@@ -155,3 +156,20 @@ IsLine-push line v up above k inside =
     below i lt =
         let inside : i < length line = omega (arith, length-map line ticket_of) in
         rw (get_or-map ticket_of line i v 0 inside) (above i v inside)
+
+-- a ticket above the last is above all
+pub below_last : (t : Ticket) (line : List LineVersion) (v : LineVersion) → IsLine line → slice_get line (length line - 1) ≡ Some v → is_above_all t line ≡ nat_lt v.ticket.0 t.0
+below_last t [] v up e = absurd (cc e)
+below_last t (x ∷ []) v up e = (let same : x ≡ v = cc e in subst (λ (w : LineVersion). is_above_all t (x ∷ []) ≡ nat_lt w.ticket.0 t.0) same (and-true (nat_lt x.ticket.0 t.0)))
+below_last t (x ∷ y ∷ line) v up e =
+    let place : length (x ∷ y ∷ line) - 1 ≡ suc (length (y ∷ line) - 1) = omega arith in
+    let rest : is_above_all t (y ∷ line) ≡ nat_lt v.ticket.0 t.0 = below_last t (y ∷ line) v (tail_rises x.ticket.0 (tickets (y ∷ line)) up) (rw place at e) in
+    let less : x.ticket.0 < y.ticket.0 = up 0 (omega arith) in
+    elim (cases_Bool (nat_lt v.ticket.0 t.0)) [
+      | inl below ↦
+          let all : is_above_all t (y ∷ line) ≡ true = rest ∙ below in
+          let next : y.ticket.0 < t.0 = ltb-true y.ticket.0 t.0 (and_parts (nat_lt y.ticket.0 t.0) (is_above_all t line) all).0 in
+          let first : nat_lt x.ticket.0 t.0 ≡ true = lt-ltb x.ticket.0 t.0 (omega arith) in
+          rw first rest
+      | inr above ↦ rw (rest, above) (and-false (nat_lt x.ticket.0 t.0))
+    ]

@@ -1,6 +1,6 @@
 -- The line of versions of one slot.
-use Rattle.std.specs.Prelude.{ℕ, zero, suc, nat_eq, List, map, Option, None, slice_get}
-use Rattle.std.specs.List.{position_from}
+use Rattle.std.specs.Prelude.{ℕ, zero, suc, nat_eq, nat_lt, Bool, List, map, Option, None, slice_get}
+use Rattle.std.specs.List.{position_from, list_all}
 use Rattle.std.specs.List.Sorted.{IsStrictlyIncreasing}
 use Rattle.std.specs.Option.{option_map}
 use Rattle.farm_base.specs.declared.digest.Digest.{Digest}
@@ -14,6 +14,10 @@ tickets line = map (λ version. version.ticket.0) line
 -- a line: each ticket is above the one before it
 abbrev pub IsLine : List LineVersion → Type 0
 IsLine line = IsStrictlyIncreasing (tickets line)
+
+-- the ticket is above all on the line
+abbrev pub is_above_all : Ticket → List LineVersion → Bool
+is_above_all ticket line = list_all (λ version. nat_lt version.ticket.0 ticket.0) line
 
 -- the version of a number, counted from 1
 abbrev pub version_in : List LineVersion → ℕ → Option LineVersion

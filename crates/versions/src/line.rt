@@ -1,6 +1,6 @@
 ghost use Rattle.std.specs.Prelude.{◌≡◌, ◌≢◌, ℕ, ◌<◌, ◌^◌, [], ◌∷◌, ◌++◌, length, vec_len, All, IfOk, IfSome, IfNone, OnOk, OnErr};
 ghost use Rattle.std.specs.Vec.{vec_capacity};
-ghost use Rattle.versions.specs.Line.{IsLine, version_in, ticket_in, digest_in, number_in};
+ghost use Rattle.versions.specs.Line.{IsLine, is_above_all, version_in, ticket_in, digest_in, number_in};
 
 use farm_base::{Copied, Digest, LineVersion, Ticket};
 use std::alloc::{AllocError, Global};
@@ -91,11 +91,22 @@ impl Line {
         Some(search.ok()? as u64 + 1)
     }
 
+    /// Whether each ticket on the line is below this one.
+    pub fn is_below(&self, ticket: Ticket) -> bool
+        ensures { result ≡ is_above_all ticket self.now }
+    {
+        match self.versions.last() {
+            None => true,
+            Some(last) => last.ticket.0 < ticket.0,
+        }
+    }
+
     /// Adds a version.
     pub fn push(&mut self, ticket: Ticket, digest: Digest) -> Result<(), AllocError>
         requires { All (λ version. version.ticket.0 < ticket.0) self.old }
         ensures ok { OnOk result (self.new ≡ self.old ++ record { ticket = ticket; digest = digest } ∷ []) }
         ensures err { OnErr result (self.new ≡ self.old) }
+        ensures rises { IsLine self.new }
     {
         self.versions.push(LineVersion { ticket, digest })?;
         Ok(())

@@ -1,5 +1,5 @@
 //! The lines of slots, and what a commit adds to them.
-ghost use Rattle.std.specs.Prelude.{◌≡◌, ◌≢◌, not, ℕ, ◌<◌, ◌≤◌, ◌^◌, [], map, length, All, IfOk, IfSome, MatchResult, unwrap_or, option_copied, is_some, vec_len, ◌+◌, Some};
+ghost use Rattle.std.specs.Prelude.{◌≡◌, ◌≢◌, not, ℕ, ◌<◌, ◌≤◌, ◌^◌, [], map, length, All, IfOk, OnOk, ◌∷◌, IfSome, MatchResult, unwrap_or, option_copied, is_some, vec_len, ◌+◌, Some};
 ghost use Rattle.std.specs.List.{list_any};
 ghost use Rattle.std.specs.List.Sorted.{IsStrictlySortedBy};
 ghost use Rattle.std.specs.Vec.{vec_capacity};
@@ -11,12 +11,13 @@ ghost use Rattle.protocol.specs.Machine.{digest_for};
 ghost use Rattle.protocol.specs.Ledger.{last_digest, place, versions_of, on_all, granted_slot};
 ghost use Rattle.versions.specs.Lines.{line_at};
 ghost use Rattle.versions.specs.Additions.{HasRoom, IsAbove, AreReady, IsReady, adds, IsInserted};
+ghost use Rattle.versions.specs.Line.{is_above_all};
 ghost use Rattle.versions.specs.Ordered.{AreLines, IsPlace, IsGap, slots};
 ghost use Rattle.versions.specs.Lines.{lines_with, news_of, added_count};
 
 use super::line::{Line, Room};
 use farm_base::{
-    Confirmed, Copied, Digest, GrantedSlot, News, Slot, Ticket, copy_all, empty_digest,
+    Confirmed, Copied, Digest, GrantedSlot, LineVersion, News, Slot, Ticket, copy_all, empty_digest,
 };
 use std::alloc::{AllocError, Global};
 use std::cmp::Ordering;
@@ -157,6 +158,33 @@ impl Lines {
         match added {
             None => Vec::with_capacity(alloc, lines.len()),
             Some(added) => Vec::with_capacity(alloc, 2 * lines.len() + added.additions.len()),
+        }
+    }
+
+    /// Adds one version to a slot's line: the only one of the line that is given.
+    pub fn push(&mut self, more: SlotLine, version: LineVersion) -> Result<(), AllocError>
+        requires one { more.line ≡ version ∷ [] }
+        requires above { IsAbove self.old version.ticket more.slot }
+        ensures { OnOk result (line_at self.new ≡ adds more.slot version (line_at self.old)) }
+    {
+        push_line(&mut self.lines, more, version)
+    }
+
+    /// Gives the lines back, without taking memory.
+    pub fn into_vec(self) -> Vec<SlotLine>
+        ensures items { result.items ≡ self }
+        ensures sound { AreLines result.items }
+    {
+        self.lines
+    }
+
+    /// Whether a ticket is above all on a slot's line.
+    pub fn is_above(&self, ticket: Ticket, slot: &Slot) -> bool
+        ensures { result ≡ is_above_all ticket (line_at self.now slot.now) }
+    {
+        match self.find(slot) {
+            None => true,
+            Some(line) => line.is_below(ticket),
         }
     }
 
@@ -430,6 +458,25 @@ fn add(lines: &mut Vec<SlotLine>, ticket: Ticket, addition: Addition)
             .push_into(addition.room, ticket, addition.digest),
         Err(place) => insert_line(lines, place, ticket, addition),
     }
+}
+
+/// Adds one version to a slot's line: the only one of the line that is given.
+fn push_line(
+    lines: &mut Vec<SlotLine>,
+    more: SlotLine,
+    version: LineVersion,
+) -> Result<(), AllocError>
+    requires sound { AreLines lines.old.items }
+    requires one { more.line ≡ version ∷ [] }
+    requires above { IsAbove lines.old.items version.ticket more.slot }
+    ensures lines { OnOk result (line_at lines.new.items ≡ adds more.slot version (line_at lines.old.items)) }
+    ensures sound { AreLines lines.new.items }
+{
+    match place_of(lines.as_slice(), &more.slot) {
+        Ok(place) => lines[place].line.push(version.ticket, version.digest)?,
+        Err(place) => lines.insert(place, more)?,
+    }
+    Ok(())
 }
 
 /// Adds the line of a slot that has none.

@@ -12,7 +12,8 @@ use Rattle.protocol.specs.declared.answer.EventNote.TheVariants as note
 use Rattle.protocol.specs.declared.answer.EventRefusal.TheVariants as refusal
 use Rattle.protocol.specs.declared.answer.Outcome.{Outcome}
 use Rattle.saverecord.specs.Keepers.{Memory, saved_by, MemorySaves, MemoryLoads}
-use Rattle.saverecord.specs.Ledgers.{saved_in}
+use Rattle.saverecord.specs.Logs.{saved_in}
+use Rattle.saverecord.specs.Texts.{Texts}
 use Rattle.coordinator.specs.declared.handled.Handled.{Handled}
 use Rattle.coordinator.specs.Held.{ledger}
 use Rattle.coordinator.specs.Seen.{Seen}
@@ -37,12 +38,12 @@ module _ (s : Farm) (old new : Seen Memory) (before after : List Message) (h : H
   saved_as : (w : Work) (b : Bool) → old.down ≡ false → SavesIf MemorySaves b (saves w.ledger) old.keeper new.keeper → Does MemorySaves w old new h
       → settled b old.keeper.armed w (with_coordinator s old before) ≡ record { farm = with_coordinator s new after; outcome = Ok o }
   saved_as w false up same does =
-      worked_as (with_coordinator s old before) (with_coordinator s new after) w (saved_in old.keeper.bytes) h.sends h.note o does.sends does.note
-      (λ j. record s { ledger = does.ledger j; saved = saved_in (same j).bytes; down = (does.up ∙ sym up) j; armed = (same j).armed; pool = then_pool w does j }) told
+      worked_as (with_coordinator s old before) (with_coordinator s new after) w (saved_in old.keeper.texts) h.sends h.note o does.sends does.note
+      (λ j. record s { ledger = does.ledger j; saved = saved_in (same j).texts; down = (does.up ∙ sym up) j; armed = (same j).armed; pool = then_pool w does j }) told
   saved_as w true up save does =
       let free : old.keeper.armed ≡ None = unarmed old.keeper.armed save.left.succeeds in
-      let kept : new.keeper ≡ saved_by None old.keeper save.bytes = save.left.left ∙ ap (λ (a : Option Kept). saved_by a old.keeper save.bytes) free in
-      let holds : saved_in new.keeper.bytes ≡ saves w.ledger = ap (λ (m : Memory). saved_in m.bytes) kept ∙ held_in save.bytes (saves w.ledger) save.holds in
+      let kept : new.keeper ≡ saved_by None old.keeper save.texts = save.left.left ∙ ap (λ (a : Option Kept). saved_by a old.keeper save.texts) free in
+      let holds : saved_in new.keeper.texts ≡ saves w.ledger = ap (λ (m : Memory). saved_in m.texts) kept ∙ held_in save.texts (saves w.ledger) save.holds in
       ap (λ (a : Option Kept). settled true a w (with_coordinator s old before)) free
       ∙ worked_as (with_coordinator s old before) (with_coordinator s new after) w (saves w.ledger) h.sends h.note o does.sends does.note
       (λ j. record s { ledger = does.ledger j; saved = holds j; down = (does.up ∙ sym up) j; armed = (kept j).armed; pool = then_pool w does j }) told
@@ -109,19 +110,19 @@ module _ (s : Farm) (old new : Seen Memory) (pool : List Message) where
   stays : new ≡ old → end_farm ≡ start_farm
   stays same = ap (λ (c : Seen Memory). with_coordinator s c pool) same
 
-  fault_as : (w : Work) (bytes : List ℕ) (a : Option Kept) → false ≡ not (is_some a) → new.keeper ≡ saved_by a old.keeper bytes → saved_in bytes ≡ saves w.ledger → new.held ≡ old.held → new.down ≡ true
+  fault_as : (w : Work) (texts : Texts) (a : Option Kept) → false ≡ not (is_some a) → new.keeper ≡ saved_by a old.keeper texts → saved_in texts ≡ saves w.ledger → new.held ≡ old.held → new.down ≡ true
       → settled true a w start_farm ≡ record { farm = end_farm; outcome = Err (refusal.Coord coord.SaveFault) }
-  fault_as w bytes None fails kept holds held down = absurd (cc)
-  fault_as w bytes (Some Old) fails kept holds held down =
-      sym (λ j. record { farm = record s { ledger = ledger (held j); saved = saved_in (kept j).bytes; down = down j; armed = (kept j).armed; pool = pool }; outcome = Err (refusal.Coord coord.SaveFault) })
-  fault_as w bytes (Some New) fails kept holds held down =
-      let saved : saved_in new.keeper.bytes ≡ saves w.ledger = ap (λ (m : Memory). saved_in m.bytes) kept ∙ holds in
+  fault_as w texts None fails kept holds held down = absurd (cc)
+  fault_as w texts (Some Old) fails kept holds held down =
+      sym (λ j. record { farm = record s { ledger = ledger (held j); saved = saved_in (kept j).texts; down = down j; armed = (kept j).armed; pool = pool }; outcome = Err (refusal.Coord coord.SaveFault) })
+  fault_as w texts (Some New) fails kept holds held down =
+      let saved : saved_in new.keeper.texts ≡ saves w.ledger = ap (λ (m : Memory). saved_in m.texts) kept ∙ holds in
       sym (λ j. record { farm = record s { ledger = ledger (held j); saved = saved j; down = down j; armed = (kept j).armed; pool = pool }; outcome = Err (refusal.Coord coord.SaveFault) })
 
   fault : (w : Work) → Fails MemorySaves w old new → settled w.changed old.keeper.armed w start_farm ≡ record { farm = end_farm; outcome = Err (refusal.Coord coord.SaveFault) }
   fault w fails =
       ap (λ (b : Bool). settled b old.keeper.armed w start_farm) fails.changed
-      ∙ fault_as w fails.saved.bytes old.keeper.armed fails.saved.left.succeeds fails.saved.left.left (held_in fails.saved.bytes (saves w.ledger) fails.saved.holds) fails.held fails.down
+      ∙ fault_as w fails.saved.texts old.keeper.armed fails.saved.left.succeeds fails.saved.left.left (held_in fails.saved.texts (saves w.ledger) fails.saved.holds) fails.held fails.down
 
   unworked : (w : Work) (e : CoordRefusal) → Answers MemorySaves (Ok w) old new (Err e) → Came (coordinated false (Ok w) start_farm) start_farm end_farm (Err (from_coordinator e))
   unworked w coord.SaveFault a = fault w a
@@ -148,19 +149,19 @@ module _ (s : Farm) (old new : Seen Memory) (pool : List Message) where
 
   -- ---- a restart of the coordinator
 
-  pub restart_done : Restarts MemoryLoads old.keeper.bytes old new (Ok tt)
+  pub restart_done : Restarts MemoryLoads old.keeper.texts old new (Ok tt)
       → done note.Restarted [] start_farm (record start_farm { ledger = reads start_farm.saved; down = false }) ≡ record { farm = end_farm; outcome = Ok (record { note = note.Restarted; first = 0; sent = 0 }) }
   restart_done takes =
       let kept : new.keeper ≡ old.keeper = takes.loaded.same in
       sym (λ j. record {
-        farm = record s { ledger = takes.ledger j; saved = saved_in (kept j).bytes; down = takes.up j; armed = (kept j).armed; pool = pool };
+        farm = record s { ledger = takes.ledger j; saved = saved_in (kept j).texts; down = takes.up j; armed = (kept j).armed; pool = pool };
         outcome = Ok (record { note = note.Restarted; first = 0; sent = 0 });
       })
 
-  pub restart_refused : (e : CoordRefusal) (turn : Turn) → Restarts MemoryLoads old.keeper.bytes old new (Err e) → Came turn start_farm end_farm (Err (from_coordinator e))
+  pub restart_refused : (e : CoordRefusal) (turn : Turn) → Restarts MemoryLoads old.keeper.texts old new (Err e) → Came turn start_farm end_farm (Err (from_coordinator e))
   restart_refused coord.OutOfMemory turn a =
       let kept : new.keeper ≡ old.keeper = a.0.1.same in
-      λ j. record s { ledger = ledger (a.1 j); saved = saved_in (kept j).bytes; down = a.2 j; armed = (kept j).armed; pool = pool }
+      λ j. record s { ledger = ledger (a.1 j); saved = saved_in (kept j).texts; down = a.2 j; armed = (kept j).armed; pool = pool }
   restart_refused coord.LoadFault turn a = absurd (a.0.never refl)
   restart_refused coord.Down turn a = absurd a
   restart_refused coord.SaveFault turn a = absurd a

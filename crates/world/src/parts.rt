@@ -9,6 +9,7 @@ ghost use Rattle.protocol.specs.Ledger.{begin_work, withdrawn, pruned, nudged};
 ghost use Rattle.protocol.specs.Ledger.{opening as first_ledger};
 ghost use Rattle.protocol.specs.declared.answer.EventNote.TheVariants as note;
 ghost use Rattle.coordinator.specs.Held.{ledger};
+ghost use Rattle.saverecord.specs.Texts.{whole_alone};
 ghost use Rattle.protocol.specs.Replay.{opening, step, node_does, is_node, delivered, coordinated};
 ghost use Rattle.protocol.specs.Nodes.{resent};
 ghost use Rattle.world.specs.Tables.{called};
@@ -58,10 +59,10 @@ fn from_coordinator(refusal: CoordRefusal) -> EventRefusal
 fn first_coordinator(alloc: Global) -> Result<Coordinator<MemoryKeeper>, AllocError>
     ensures ledger { IfOk result (λ c. ledger c.held ≡ first_ledger) }
     ensures up { IfOk result (λ c. c.down ≡ false) }
-    ensures bytes { IfOk result (λ c. c.keeper.bytes ≡ []) }
+    ensures texts { IfOk result (λ c. c.keeper.texts ≡ whole_alone []) }
     ensures armed { IfOk result (λ c. c.keeper.armed ≡ None) }
 {
-    match Coordinator::start(alloc, MemoryKeeper::new(Vec::new(alloc))) {
+    match Coordinator::start(alloc, MemoryKeeper::new(alloc, Vec::new(alloc))) {
         Ok(coordinator) => Ok(coordinator),
         Err(_) => Err(AllocError),
     }

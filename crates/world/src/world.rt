@@ -6,7 +6,7 @@ ghost use Rattle.protocol.specs.Lawful.{IsEvent};
 ghost use Rattle.protocol.specs.Replay.{opening, step, is_node};
 ghost use Rattle.protocol.specs.Follows.{SafeAfter, SafeBetween};
 ghost use Rattle.coordinator.specs.Held.{ledger};
-ghost use Rattle.saverecord.specs.Ledgers.{saved_in};
+ghost use Rattle.saverecord.specs.Logs.{saved_in};
 ghost use Rattle.nodecore.specs.Shown as core;
 ghost use Rattle.world.specs.Meanings.{MeansAsTold, GrantsAtOnce};
 ghost use Rattle.world.specs.Parts.{shown_parts};
@@ -90,7 +90,7 @@ impl World {
     /// The coordinator, which keeps its record in memory.
     pub fn coordinator(&self) -> &Coordinator<MemoryKeeper>
         ensures ledger { ledger result.now.held ≡ (shown self.now).ledger }
-        ensures record { saved_in result.now.keeper.bytes ≡ (shown self.now).saved }
+        ensures record { saved_in result.now.keeper.texts ≡ (shown self.now).saved }
         ensures down { result.now.down ≡ (shown self.now).down }
         ensures armed { result.now.keeper.armed ≡ (shown self.now).armed }
     {

@@ -1,9 +1,10 @@
 use Rattle.std.proofs.Common.{◌≡◌, Ok, refl, sym, ap, ◌∙◌}
 use Rattle.protocol.specs.Ledger.{reads}
-use Rattle.saverecord.specs.Ledgers.{record_in, saved_by}
+use Rattle.saverecord.specs.Ledgers.{ledger_of}
+use Rattle.saverecord.specs.Logs.{ledger_in, saved_by}
 use Rattle.coordinator.proofs.coordinator.load.Goals as goal
 
-pub returns-in-Ok-record_in-clause-answer : goal.returns-in-Ok-record_in-clause-answer
-returns-in-Ok-record_in-clause-answer g c =
-    let read : record_in (g.K.Keeper.kept c.args.keeper.now) ≡ Ok c.in-Ok-record_in.read = ap record_in (sym (c.as_slice.ensures.value ∙ c.in-Ok.ensures.bytes)) ∙ c.in-Ok-record_in.ensures.exact in
-    (c.in-Ok.ensures.exact, (_, record { kept = c.in-Ok-record_in.read; read = read; saved = refl }), c.of.ensures ∙ ap reads (sym (ap saved_by read)))
+pub returns-in-Ok-read-clause-answer : goal.returns-in-Ok-read-clause-answer
+returns-in-Ok-read-clause-answer g c =
+    let read : ledger_in (g.K.Keeper.kept c.args.keeper.now) ≡ Ok (ledger_of c.in-Ok-read.read) = ap ledger_in (sym c.in-Ok.ensures.texts) ∙ c.in-Ok-read.ensures.exact in
+    (c.in-Ok.ensures.exact, (_, record { kept = ledger_of c.in-Ok-read.read; read = read; saved = refl }), c.of-in-Ok-read.ensures ∙ ap reads (sym (ap saved_by read)))

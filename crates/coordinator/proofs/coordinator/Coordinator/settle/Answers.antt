@@ -1,7 +1,9 @@
-use Rattle.std.proofs.Common.{◌≡◌, true, false, refl, sym, ap, ◌∙◌, subst}
+use Rattle.std.proofs.Common.{◌≡◌, true, false, inl, inr, refl, sym, ap, ◌∙◌, subst}
 use Rattle.std.specs.Prelude.{IfSome, is_some}
 use Rattle.protocol.specs.Ledger.{Ledger, saves}
-use Rattle.saverecord.specs.Ledgers.{Holds}
+use Rattle.saverecord.specs.Logs.{Holds}
+use Rattle.saverecord.specs.Texts.{Texts}
+use Rattle.coordinator.specs.Keeping.{kept_with}
 use Rattle.versions.specs.Lines.{lines_with}
 use Rattle.coordinator.specs.Held.{Held, line_at, ledger}
 use Rattle.coordinator.specs.Seen.{Seen}
@@ -21,8 +23,8 @@ accept-requires-clause-rightful g c =
     let held : c.self.inside.ledger ≡ c.args.self.now.held = ap (λ (s : Seen g.row.K.Denot). s.held) c.self.view_is in
     subst (λ (h : Held). IsRightful (kept (lines_with h.lines c.args.prepared.added) c.args.prepared.draft.state)) (sym held) c.requires.rightful
 
-pub accept-requires-in-Ok-save-clause-rightful : goal.accept-requires-in-Ok-save-clause-rightful
-accept-requires-in-Ok-save-clause-rightful g c =
+pub accept-requires-in-Ok-keep-clause-rightful : goal.accept-requires-in-Ok-keep-clause-rightful
+accept-requires-in-Ok-keep-clause-rightful g c =
     let held : c.self.inside.ledger ≡ c.args.self.now.held = ap (λ (s : Seen g.row.K.Denot). s.held) c.self.view_is in
     subst (λ (h : Held). IsRightful (kept (lines_with h.lines c.args.prepared.added) c.args.prepared.draft.state)) (sym held) c.requires.rightful
 
@@ -38,47 +40,75 @@ invariant_of-self g c =
     record { saved = c.self.invariant.saved; holds = c.self.invariant.holds; up = λ d. c.self.invariant.up d ∙ now }
 
 -- the record changed, and was saved
-pub invariant_of-self-in-Ok-save : goal.invariant_of-self-in-Ok-save
-invariant_of-self-in-Ok-save g c =
+pub invariant_of-self-in-Ok-keep : goal.invariant_of-self-in-Ok-keep
+invariant_of-self-in-Ok-keep g c =
     let q : Ledger = kept (lines_with c.self.inside.ledger.lines c.args.prepared.added) c.args.prepared.draft.state in
-    let holds : Holds c.in-Some.bytes.items (saves q) = subst (λ o. IfSome o (λ bytes. Holds bytes.items (saves q))) c.in-Some.is c.in-Ok.ensures.bytes in
+    let up : c.self.inside.down ≡ false = ap (λ (s : Seen g.row.K.Denot). s.down) c.self.view_is ∙ c.requires.up in
+    let before : Holds (g.K.Keeper.kept c.self.inside.keeper) (saves (ledger c.self.inside.ledger)) = subst (Holds (g.K.Keeper.kept c.self.inside.keeper)) (c.self.invariant.up up) c.self.invariant.holds in
+    let text : ((t : Texts) → Holds t (saves (ledger c.self.inside.ledger)) → Holds (kept_with c.in-Some.text t) (saves q)) =
+    subst (λ o. IfSome o (λ text. (t : Texts) → Holds t (saves (ledger c.self.inside.ledger)) → Holds (kept_with text t) (saves q))) c.in-Some.is c.in-Ok.ensures.text in
     record {
       saved = saves q;
-      holds = subst (λ bytes. Holds bytes (saves q)) (sym c.in-Ok-save.ensures.ok) holds;
-      up = λ d. ap saves (sym c.accept-in-Ok-save.ensures.ledger);
+      holds = subst (λ t. Holds t (saves q)) (sym c.in-Ok-keep.ensures.ok) (text (g.K.Keeper.kept c.self.inside.keeper) before);
+      up = λ d. ap saves (sym c.accept-in-Ok-keep.ensures.ledger);
     }
 
-pub returns-in-Ok-save-clause-answer : goal.returns-in-Ok-save-clause-answer
-returns-in-Ok-save-clause-answer g c =
+-- the save failed: the old texts are kept, or the new ones
+pub invariant_of-self-in-Err-Fault : goal.invariant_of-self-in-Err-Fault
+invariant_of-self-in-Err-Fault g c =
+    let q : Ledger = kept (lines_with c.self.inside.ledger.lines c.args.prepared.added) c.args.prepared.draft.state in
+    let up : c.self.inside.down ≡ false = ap (λ (s : Seen g.row.K.Denot). s.down) c.self.view_is ∙ c.requires.up in
+    let before : Holds (g.K.Keeper.kept c.self.inside.keeper) (saves (ledger c.self.inside.ledger)) = subst (Holds (g.K.Keeper.kept c.self.inside.keeper)) (c.self.invariant.up up) c.self.invariant.holds in
+    let text : ((t : Texts) → Holds t (saves (ledger c.self.inside.ledger)) → Holds (kept_with c.in-Some.text t) (saves q)) =
+    subst (λ o. IfSome o (λ text. (t : Texts) → Holds t (saves (ledger c.self.inside.ledger)) → Holds (kept_with text t) (saves q))) c.in-Some.is c.in-Ok.ensures.text in
+    elim c.in-Err-Fault.ensures.fault [
+      | inl old ↦ record { saved = c.self.invariant.saved; holds = subst (λ t. Holds t c.self.invariant.saved) (sym old) c.self.invariant.holds; up = λ d. absurd (cc d) }
+      | inr new ↦ record { saved = saves q; holds = subst (λ t. Holds t (saves q)) (sym new) (text (g.K.Keeper.kept c.self.inside.keeper) before); up = λ d. absurd (cc d) }
+    ]
+
+pub returns-in-Ok-keep-clause-answer : goal.returns-in-Ok-keep-clause-answer
+returns-in-Ok-keep-clause-answer g c =
     let held : c.self.inside.ledger ≡ c.args.self.now.held = ap (λ (s : Seen g.row.K.Denot). s.held) c.self.view_is in
     let keeper : c.self.inside.keeper ≡ c.args.self.now.keeper = ap (λ (s : Seen g.row.K.Denot). s.keeper) c.self.view_is in
     let q : (Held → Ledger) = λ h. kept (lines_with h.lines c.args.prepared.added) c.args.prepared.draft.state in
     let changed : c.args.prepared.draft.changed ≡ true = sym c.in-Ok.ensures.changed ∙ ap is_some c.in-Some.is in
-    let holds : Holds c.in-Some.bytes.items (saves (q c.self.inside.ledger)) = subst (λ o. IfSome o (λ bytes. Holds bytes.items (saves (q c.self.inside.ledger)))) c.in-Some.is c.in-Ok.ensures.bytes in
+    let up : c.self.inside.down ≡ false = ap (λ (s : Seen g.row.K.Denot). s.down) c.self.view_is ∙ c.requires.up in
+    let before : Holds (g.K.Keeper.kept c.self.inside.keeper) (saves (ledger c.self.inside.ledger)) = subst (Holds (g.K.Keeper.kept c.self.inside.keeper)) (c.self.invariant.up up) c.self.invariant.holds in
+    let text : ((t : Texts) → Holds t (saves (ledger c.self.inside.ledger)) → Holds (kept_with c.in-Some.text t) (saves (q c.self.inside.ledger))) =
+    subst (λ o. IfSome o (λ text. (t : Texts) → Holds t (saves (ledger c.self.inside.ledger)) → Holds (kept_with text t) (saves (q c.self.inside.ledger)))) c.in-Some.is c.in-Ok.ensures.text in
+    let new : Texts = kept_with c.in-Some.text (g.K.Keeper.kept c.self.inside.keeper) in
     record {
-      saved = subst (λ b. SavesIf g.K.Keeper.saving b (saves (q c.args.self.now.held)) c.args.self.now.keeper c.save.new.self) (sym changed) (record {
-        bytes = c.in-Some.bytes.items;
-        holds = subst (λ (h : Held). Holds c.in-Some.bytes.items (saves (q h))) held holds;
-        left = subst (λ k. g.K.Keeper.saving k c.in-Some.bytes.items true c.save.new.self) keeper c.in-Ok-save.ensures.exact;
+      saved = subst (λ b. SavesIf g.K.Keeper.saving b (saves (q c.args.self.now.held)) c.args.self.now.keeper c.keep.new.keeper) (sym changed) (record {
+        texts = new;
+        holds = subst (λ (h : Held). Holds new (saves (q h))) held (text (g.K.Keeper.kept c.self.inside.keeper) before);
+        left = subst (λ k. g.K.Keeper.saving k new true c.keep.new.keeper) keeper (c.in-Ok-keep.ensures.exact (λ e. cc e));
       });
-      ledger = c.accept-in-Ok-save.ensures.ledger ∙ ap q held;
-      up = ap (λ (s : Seen g.row.K.Denot). s.down) c.self.view_is ∙ c.requires.up;
-      sends = c.accept-in-Ok-save.ensures.sends;
-      note = c.accept-in-Ok-save.ensures.note;
+      ledger = c.accept-in-Ok-keep.ensures.ledger ∙ ap q held;
+      up = up;
+      sends = c.accept-in-Ok-keep.ensures.sends;
+      note = c.accept-in-Ok-keep.ensures.note;
     }
 
-pub returns-in-Err-clause-answer : goal.returns-in-Err-clause-answer
-returns-in-Err-clause-answer g c =
+pub returns-in-Ok-keep-clause-grow : goal.returns-in-Ok-keep-clause-grow
+returns-in-Ok-keep-clause-grow g c =
+    subst (λ (h : Held). OnlyGrow (line_at h.lines) (line_at c.accept-in-Ok-keep.new.self.lines)) (ap (λ (s : Seen g.row.K.Denot). s.held) c.self.view_is) c.accept-in-Ok-keep.ensures.grow
+
+pub returns-clause-answer : goal.returns-clause-answer
+returns-clause-answer g c =
     let held : c.self.inside.ledger ≡ c.args.self.now.held = ap (λ (s : Seen g.row.K.Denot). s.held) c.self.view_is in
     let keeper : c.self.inside.keeper ≡ c.args.self.now.keeper = ap (λ (s : Seen g.row.K.Denot). s.keeper) c.self.view_is in
     let q : (Held → Ledger) = λ h. kept (lines_with h.lines c.args.prepared.added) c.args.prepared.draft.state in
-    let holds : Holds c.in-Some.bytes.items (saves (q c.self.inside.ledger)) = subst (λ o. IfSome o (λ bytes. Holds bytes.items (saves (q c.self.inside.ledger)))) c.in-Some.is c.in-Ok.ensures.bytes in
+    let up : c.self.inside.down ≡ false = ap (λ (s : Seen g.row.K.Denot). s.down) c.self.view_is ∙ c.requires.up in
+    let before : Holds (g.K.Keeper.kept c.self.inside.keeper) (saves (ledger c.self.inside.ledger)) = subst (Holds (g.K.Keeper.kept c.self.inside.keeper)) (c.self.invariant.up up) c.self.invariant.holds in
+    let text : ((t : Texts) → Holds t (saves (ledger c.self.inside.ledger)) → Holds (kept_with c.in-Some.text t) (saves (q c.self.inside.ledger))) =
+    subst (λ o. IfSome o (λ text. (t : Texts) → Holds t (saves (ledger c.self.inside.ledger)) → Holds (kept_with text t) (saves (q c.self.inside.ledger)))) c.in-Some.is c.in-Ok.ensures.text in
+    let new : Texts = kept_with c.in-Some.text (g.K.Keeper.kept c.self.inside.keeper) in
     record {
       changed = sym c.in-Ok.ensures.changed ∙ ap is_some c.in-Some.is;
       saved = record {
-        bytes = c.in-Some.bytes.items;
-        holds = subst (λ (h : Held). Holds c.in-Some.bytes.items (saves (q h))) held holds;
-        left = subst (λ k. g.K.Keeper.saving k c.in-Some.bytes.items false c.save.new.self) keeper c.in-Err.ensures.exact;
+        texts = new;
+        holds = subst (λ (h : Held). Holds new (saves (q h))) held (text (g.K.Keeper.kept c.self.inside.keeper) before);
+        left = subst (λ k. g.K.Keeper.saving k new false c.keep.new.keeper) keeper ((rw c.in-Err-Fault.field-0-is at c.in-Err-Fault.ensures.exact) (λ e. cc e));
       };
       held = held;
       down = refl;
@@ -87,7 +117,3 @@ returns-in-Err-clause-answer g c =
 pub returns-in-None-clause-grow : goal.returns-in-None-clause-grow
 returns-in-None-clause-grow g c =
     subst (λ (h : Held). OnlyGrow (line_at h.lines) (line_at c.accept.new.self.lines)) (ap (λ (s : Seen g.row.K.Denot). s.held) c.self.view_is) c.accept.ensures.grow
-
-pub returns-in-Ok-save-clause-grow : goal.returns-in-Ok-save-clause-grow
-returns-in-Ok-save-clause-grow g c =
-    subst (λ (h : Held). OnlyGrow (line_at h.lines) (line_at c.accept-in-Ok-save.new.self.lines)) (ap (λ (s : Seen g.row.K.Denot). s.held) c.self.view_is) c.accept-in-Ok-save.ensures.grow

@@ -1,5 +1,5 @@
 use Rattle.farm_base.specs.Contents.{content_digest}
-use Rattle.saverecord.specs.Ledgers.{saved_in}
+use Rattle.saverecord.specs.Logs.{saved_in}
 use Rattle.protocol.specs.Replay.{opening}
 use Rattle.world.proofs.SeatLemmas.{all_first}
 use Rattle.world.proofs.parts.Parts.start.Goals as goal
@@ -8,7 +8,7 @@ pub returns : goal.returns
 returns c = λ j. record (opening content_digest c.args.count) {
   size = c.in_ok-nodes.ensures.len j;
   ledger = c.in_ok-coordinator.ensures.ledger j;
-  saved = saved_in (c.in_ok-coordinator.ensures.bytes j);
+  saved = saved_in (c.in_ok-coordinator.ensures.texts j);
   down = c.in_ok-coordinator.ensures.up j;
   armed = c.in_ok-coordinator.ensures.armed j;
   pool = c.new.ensures.items j;
