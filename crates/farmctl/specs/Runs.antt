@@ -7,7 +7,8 @@ use Rattle.protocol.specs.declared.event.Event.{Event}
 use Rattle.schedule.specs.declared.setup.Setup.{Setup}
 use Rattle.jobs.specs.declared.answer.Answer.{Answer}
 use Rattle.jobs.specs.declared.answer.Answer.TheVariants.{Waiting, Output, Failed}
-use Rattle.saverecord.specs.Ledgers.{Holds}
+use Rattle.saverecord.specs.Logs.{Holds}
+use Rattle.saverecord.specs.Texts.{whole_alone}
 use Rattle.farmend.specs.Replays.{farm_after, commits_after}
 use Rattle.farmctl.specs.Acts.{File}
 
@@ -41,7 +42,7 @@ names_of files = map (λ (file : File). string_bytes file.0) files
 pub record IsRunOf (setup : Setup) (names : List (List ℕ)) (text saved : List ℕ) : Type 0 where
   pub events : List Event
   pub answers : List Answer
-  pub record_is : Holds saved (farm_after setup events).saved
+  pub record_is : Holds (whole_alone saved) (farm_after setup events).saved
   pub count : length answers ≡ length names
   pub answered : All (λ (answer : Answer). answer ≢ Waiting) answers
   pub text_is : text ≡ job_lines names answers ++ commits_line (commits_after setup events)

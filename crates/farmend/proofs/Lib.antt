@@ -3,3 +3,4 @@ mod NewsLemmas
 mod ReceiptLemmas
 pub mod ReplayLemmas
 pub mod SolvedLemmas
+pub mod SavedLemmas

@@ -1,7 +1,8 @@
 //! The check of what a run leaves.
 ghost use Rattle.std.specs.Prelude.{◌≡◌, ◌≢◌, All, IfOk, OnOk, length, map, nat_eq};
 ghost use Rattle.std.specs.List.{AllZip, IsDistinct};
-ghost use Rattle.saverecord.specs.Ledgers.{Holds};
+ghost use Rattle.saverecord.specs.Logs.{Holds};
+ghost use Rattle.saverecord.specs.Texts.{whole_alone};
 ghost use Rattle.executions.specs.Calls.{Grew};
 ghost use Rattle.world.specs.Shown.{shown};
 ghost use Rattle.farmboard.specs.History.{farm_of};
@@ -21,18 +22,23 @@ use executions::Executor;
 use farm_base::NodeId;
 use farmboard::{Board, Receipt};
 use jobs::Answer;
+use saverecord::RecordRefusal;
 use schedule::Setup;
 use solverkeys::Keyed;
-use std::alloc::{AllocError, Global};
+use std::alloc::Global;
 use world::World;
 
-/// The bytes of the record of a farm's coordinator.
-fn saved_of(alloc: Global, world: &World) -> Result<Vec<u8>, AllocError>
-    ensures { IfOk result (λ saved. Holds saved.items (shown world.now).saved) }
+/// The record of a farm's coordinator, whole.
+fn saved_of(alloc: Global, world: &World) -> Result<Vec<u8>, EndRefusal>
+    ensures { IfOk result (λ saved. Holds (whole_alone saved.items) (shown world.now).saved) }
 {
     let coordinator = world.coordinator();
     coordinator.is_kept();
-    Vec::from_slice(alloc, coordinator.keeper().bytes())
+    match coordinator.keeper().log().fold(alloc) {
+        Ok(saved) => Ok(saved),
+        Err(RecordRefusal::OutOfMemory) => Err(EndRefusal::OutOfMemory),
+        Err(_) => Err(EndRefusal::Disagrees),
+    }
 }
 
 /// Whether the receipts are those of a board's commits: as many, on the lines, each under a ticket of its own.
@@ -81,7 +87,7 @@ fn judge(
     hired: &[Hired],
     back: &HandedBack,
 ) -> Result<Vec<u8>, EndRefusal>
-    ensures saved { IfOk result (λ saved. Holds saved.items (farm_of back.now.board).saved) }
+    ensures saved { IfOk result (λ saved. Holds (whole_alone saved.items) (farm_of back.now.board).saved) }
     ensures stand { OnOk result (All (StandsOn (farm_of back.now.board)) back.now.receipts.items) }
     ensures differ { OnOk result (IsDistinct nat_eq (tickets_of back.now.receipts.items)) }
     ensures count { OnOk result (length back.now.receipts.items ≡ commits_of back.now.board) }
@@ -109,7 +115,7 @@ pub fn check(
     back: HandedBack,
 ) -> Result<FarmEnd, EndRefusal>
     // The replay of the setup and the schedule has the bytes as its record, and these commits.
-    ensures saved { IfOk result (λ end. Holds end.saved.items (farm_after setup end.schedule.items).saved) }
+    ensures saved { IfOk result (λ end. Holds (whole_alone end.saved.items) (farm_after setup end.schedule.items).saved) }
     ensures commits { IfOk result (λ end. end.commits ≡ commits_after setup end.schedule.items) }
     // The receipts are on its lines, each under a ticket of its own, and as many as the commits.
     ensures receipts { IfOk result (λ end. All (StandsOn (farm_after setup end.schedule.items)) end.receipts.items) }
