@@ -1,4 +1,4 @@
-mod AnswerLemmas
+pub mod AnswerLemmas
 mod NewsLemmas
 mod ReceiptLemmas
 pub mod ReplayLemmas

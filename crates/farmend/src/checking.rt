@@ -7,8 +7,7 @@ ghost use Rattle.executions.specs.Calls.{Grew};
 ghost use Rattle.world.specs.Shown.{shown};
 ghost use Rattle.farmboard.specs.History.{farm_of};
 ghost use Rattle.farmboard.specs.Counts.{commits_of};
-ghost use Rattle.farmend.specs.Answers.{IsAnswered};
-ghost use Rattle.farmend.specs.NewCalls.{new_calls};
+ghost use Rattle.farmend.specs.Answers.{AreAnswered};
 ghost use Rattle.farmend.specs.Receipts.{StandsOn, tickets_of};
 ghost use Rattle.farmend.specs.Replays.{farm_after, commits_after};
 
@@ -66,11 +65,7 @@ fn account(
     answers: &[Answer],
 ) -> Result<(), EndRefusal>
     ensures calls { OnOk result (AllZip Grew (map (λ each. each.had.items) hired.now) (map (λ executor. history executor) executors.now)) }
-    ensures answers { OnOk result (
-        let nodes = map (λ each. each.node) hired.now in
-        let had = map (λ each. each.had.items) hired.now in
-        let ends = map (λ executor. history executor) executors.now in
-        AllZip (λ job answer. IsAnswered (shown world.now) (new_calls job.0 nodes had ends) job.0 job.1 answer) jobs.now answers.now) }
+    ensures answers { OnOk result (AreAnswered (shown world.now) (map (λ each. each.node) hired.now) (map (λ each. each.had.items) hired.now) (map (λ executor. history executor) executors.now) jobs.now answers.now) }
 {
     let ends = calls_of(alloc, executors)?;
     let news = news_of(alloc, hired, ends.as_slice())?;
@@ -92,11 +87,7 @@ fn judge(
     ensures differ { OnOk result (IsDistinct nat_eq (tickets_of back.now.receipts.items)) }
     ensures count { OnOk result (length back.now.receipts.items ≡ commits_of back.now.board) }
     ensures calls { OnOk result (AllZip Grew (map (λ each. each.had.items) hired.now) (map (λ executor. history executor) back.now.executors.items)) }
-    ensures answers { OnOk result (
-        let nodes = map (λ each. each.node) hired.now in
-        let had = map (λ each. each.had.items) hired.now in
-        let ends = map (λ executor. history executor) back.now.executors.items in
-        AllZip (λ job answer. IsAnswered (farm_of back.now.board) (new_calls job.0 nodes had ends) job.0 job.1 answer) jobs.now back.now.answers.items) }
+    ensures answers { OnOk result (AreAnswered (farm_of back.now.board) (map (λ each. each.node) hired.now) (map (λ each. each.had.items) hired.now) (map (λ executor. history executor) back.now.executors.items) jobs.now back.now.answers.items) }
 {
     let world = back.board.world();
     settle(alloc, &back.board, &back.receipts)?;
@@ -124,11 +115,7 @@ pub fn check(
     // The executors' calls begin with those that they had, in order.
     ensures calls { IfOk result (λ end. AllZip Grew (map (λ each. each.had.items) hired.now) (map (λ executor. history executor) end.executors.items)) }
     // There is one answer a job, each with its reason in the new calls on the job's node; none of them waits.
-    ensures answers { IfOk result (λ end.
-        let nodes = map (λ each. each.node) hired.now in
-        let had = map (λ each. each.had.items) hired.now in
-        let ends = map (λ executor. history executor) end.executors.items in
-        AllZip (λ job answer. IsAnswered (farm_after setup end.schedule.items) (new_calls job.0 nodes had ends) job.0 job.1 answer) jobs.now end.answers.items) }
+    ensures answers { IfOk result (λ end. AreAnswered (farm_after setup end.schedule.items) (map (λ each. each.node) hired.now) (map (λ each. each.had.items) hired.now) (map (λ executor. history executor) end.executors.items) jobs.now end.answers.items) }
     ensures answered { IfOk result (λ end. length end.answers.items ≡ length jobs.now) }
     ensures settled { IfOk result (λ end. All (λ answer. answer ≢ Answer.Waiting) end.answers.items) }
 {

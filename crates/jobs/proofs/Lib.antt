@@ -10,6 +10,6 @@ mod ReadyLemmas
 mod RestLemmas
 mod ShapeLemmas
 mod SpreadLemmas
-mod StayLemmas
+pub mod StayLemmas
 mod TableLemmas
 mod UserLemmas

@@ -10,7 +10,7 @@ use Rattle.world.specs.Shown.{shown}
 use Rattle.farmend.specs.Answers.{IsAnswered}
 use Rattle.farmend.specs.NewCalls.{new_calls, on_node}
 use Rattle.farmend.specs.declared.hired.Hired.{Hired}
-use Rattle.farmend.proofs.AnswerLemmas.{zip_weaker}
+use Rattle.jobs.proofs.StayLemmas.{zip_weaker}
 use Rattle.farmend.proofs.NewsLemmas.{grew_if_new, on_node_if_new}
 use Rattle.farmend.proofs.checking.account.Goals as goal
 

@@ -28,7 +28,7 @@ pub returns-clause-answers : goal.returns-clause-answers
 returns-clause-answers g c =
     let nodes : c.args.back.board.setup.nodes ≡ c.args.setup.nodes = search in
     let farm = farm_same c.args.back.board c.args.setup c.into_parts-schedule.result.1.items nodes c.into_parts-schedule.ensures.schedule in
-    answers_same _ _ _ _ _ _ c.args.jobs.now _ _ farm refl refl c.in_ok-saved.ensures.answers
+    answers_same _ _ _ _ _ _ _ _ c.args.jobs.now _ _ farm refl refl refl refl c.in_ok-saved.ensures.answers
 
 pub returns-clause-answered : goal.returns-clause-answered
 returns-clause-answered g c = sym (all_zip_length _ c.args.jobs.now c.args.back.answers.items c.in_ok-saved.ensures.answers)
