@@ -1,6 +1,7 @@
 use Rattle.std.proofs.Common.{◌≡◌, All, refl, sym, ◌∙◌, subst}
 use Rattle.protocol.specs.Replay.{Farm}
-use Rattle.saverecord.specs.Ledgers.{Holds}
+use Rattle.saverecord.specs.Texts.{whole_alone}
+use Rattle.saverecord.specs.Logs.{Holds}
 use Rattle.vertices.proofs.ZipLemmas.{all_zip_length}
 use Rattle.farmend.specs.Receipts.{StandsOn}
 use Rattle.farmend.proofs.AnswerLemmas.{answers_same, none_waits}
@@ -11,7 +12,7 @@ pub returns-clause-saved : goal.returns-clause-saved
 returns-clause-saved g c =
     let nodes : c.args.back.board.setup.nodes ≡ c.args.setup.nodes = search in
     let farm = farm_same c.args.back.board c.args.setup c.into_parts-schedule.result.1.items nodes c.into_parts-schedule.ensures.schedule in
-    subst (λ (s : Farm). Holds c.in_ok-saved.saved.items s.saved) farm c.in_ok-saved.ensures.saved
+    subst (λ (s : Farm). Holds (whole_alone c.in_ok-saved.saved.items) s.saved) farm c.in_ok-saved.ensures.saved
 
 pub returns-clause-commits : goal.returns-clause-commits
 returns-clause-commits g c =
