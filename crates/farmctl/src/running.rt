@@ -205,7 +205,7 @@ struct Report {
 }
 
 /// Runs these jobs on a farm without disturbances.
-fn report<R: Threads + Wait + Sync>(
+fn make_report<R: Threads + Wait + Sync>(
     rt: &R,
     alloc: Global,
     setup: Setup,
@@ -289,7 +289,7 @@ pub fn solve<R: Files + AllocGlobal + Threads + Wait + Sync, O: Write, E: Write>
         Ok(inputs) => inputs,
         Err(fault) => return print_input_fault(alloc, fault, err),
     };
-    match report(rt, alloc, setup, inputs, executors) {
+    match make_report(rt, alloc, setup, inputs, executors) {
         Ok(report) => print_report(rt, alloc, report, options.record, out, err),
         Err(fault) => print_fault(alloc, fault, err),
     }

@@ -81,7 +81,7 @@ impl Executor for Meeting {
 }
 
 /// Two executors that look for each other.
-fn meeting(alloc: Global) -> Result<Vec<(NodeId, Box<dyn Executor + Send>)>, Fail> {
+fn two_meeting(alloc: Global) -> Result<Vec<(NodeId, Box<dyn Executor + Send>)>, Fail> {
     let one = Arc::new(alloc, AtomicBool::new(false))?;
     let other = Arc::new(alloc, AtomicBool::new(false))?;
     let first = Meeting {
@@ -103,6 +103,7 @@ fn meeting(alloc: Global) -> Result<Vec<(NodeId, Box<dyn Executor + Send>)>, Fai
 }
 
 /// Holds each execution until both nodes have asked.
+#[derive(Drop)]
 struct Both {
     first: AtomicBool,
     second: AtomicBool,
@@ -147,7 +148,7 @@ fn two_at_once(rt: HostRuntime) -> Result<(), Fail> {
     let setup = Setup { nodes: 2 };
     let jobs = jobs_on(alloc, &[1, 2])?;
     let plan = Vec::new(alloc);
-    let end = Farm::run(&rt, alloc, setup, jobs, meeting(alloc)?, plan, &gate)?;
+    let end = Farm::run(&rt, alloc, setup, jobs, two_meeting(alloc)?, plan, &gate)?;
     assert_eq!(rt; end.answers.len(), 2);
     for answer in &end.answers {
         assert!(rt; matches!(answer, Answer::Output(_)));
@@ -159,6 +160,7 @@ fn two_at_once(rt: HostRuntime) -> Result<(), Fail> {
 }
 
 /// Lets no execution begin.
+#[derive(Clone, Copy)]
 struct Closed;
 
 impl Gate for Closed {
