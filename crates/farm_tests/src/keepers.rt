@@ -124,12 +124,7 @@ fn appends_that_fail(rt: HostRuntime) -> Result<(), Fail> {
 const RECORD: &[u8; 40] = b"the bytes of a record, and then its name";
 
 /// What a file keeper that is opened on this record and this log has.
-fn opened<R: Files>(
-    rt: &R,
-    alloc: Global,
-    record: &[u8],
-    log: &[u8],
-) -> Result<Vec<u8>, Fail> {
+fn opened<R: Files>(rt: &R, alloc: Global, record: &[u8], log: &[u8]) -> Result<Vec<u8>, Fail> {
     fs::write(rt, "cut.record", record)?;
     fs::write(rt, "cut.record.log", log)?;
     let keeper = FileKeeper::open(rt, alloc, "cut.record")?;
