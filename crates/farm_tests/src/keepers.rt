@@ -132,6 +132,13 @@ fn opened<R: Files>(rt: &R, alloc: Global, record: &[u8], log: &[u8]) -> Result<
     Ok(texts)
 }
 
+/// Whether a file keeper can't be opened on the record and this log.
+fn is_refused<R: Files>(rt: &R, alloc: Global, log: &[u8]) -> Result<bool, Fail> {
+    fs::write(rt, "cut.record", RECORD.as_slice())?;
+    fs::write(rt, "cut.record.log", log)?;
+    Ok(FileKeeper::open(rt, alloc, "cut.record").is_err())
+}
+
 /// A log of two entries, cut at each byte: what was cut short is gone, and all behind it. And with each byte of the first
 /// one changed: a head that was damaged is refused, and an entry that was is as it stands.
 #[test]
@@ -153,7 +160,7 @@ fn logs_in_files(rt: HostRuntime) -> Result<(), Fail> {
     for place in 0..29 {
         let mut damaged = Vec::from_slice(rt.alloc(), log.as_slice())?;
         damaged[place] ^= 1;
-        let is_refused = opened(&rt, rt.alloc(), RECORD.as_slice(), damaged.as_slice()).is_err();
+        let is_refused = is_refused(&rt, rt.alloc(), damaged.as_slice())?;
         assert_eq!(rt; is_refused, place < 24);
     }
     let other = opened(&rt, rt.alloc(), b"of another record", log.as_slice())?;
