@@ -236,7 +236,12 @@ impl<'a, R: Files> FileKeeper<'a, R> {
         file.write_all(&head)?;
         file.write_all(&check_of(&head))?;
         file.write_all(entry)?;
-        file.sync_all()
+        file.sync_all()?;
+        // The first entry may have made the file.
+        if self.tail_len == 0 {
+            self.sync_folder()?;
+        }
+        Ok(())
     }
 
     /// Whether the files hold the texts that they are known to hold.
