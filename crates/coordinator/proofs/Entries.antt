@@ -11,7 +11,7 @@ use Rattle.protocol.specs.Lists.{In}
 use Rattle.protocol.specs.Names.{Slot, slot_eq, Ticket}
 use Rattle.protocol.specs.Machine.{LineVersion, digest_for, version_of}
 use Rattle.protocol.specs.Ledger.{Ledger, Lease, Saved, is_saved, saves, reads}
-use Rattle.protocol.proofs.Base.{all_in, any_in, slot_eq_is, slot_eq_same}
+use Rattle.protocol.proofs.Base.{all_in, any_in, in_right, slot_eq_is, slot_eq_same}
 use Rattle.protocol.proofs.Saving.{saved_twice}
 use Rattle.versions.specs.Additions.{AreReady, IsReady}
 use Rattle.versions.specs.Line.{is_above_all}
@@ -36,10 +36,6 @@ all_later : {X : Type 0} (P : X → Type 0) (xs ys : List X) → All P (xs ++ ys
 all_later P [] ys h = h
 all_later P (x ∷ xs) ys h = all_later P xs ys (λ k d lt. h (suc k) d (omega arith))
 
-in_later : {X : Type 0} (x : X) (xs ys : List X) → In x ys → In x (xs ++ ys)
-in_later x [] ys i = i
-in_later x (y ∷ xs) ys i = inr (in_later x xs ys i)
-
 -- the lines with what is added are the lines, followed by what is added
 split_lines : (lines : List SlotLine) (o : Option Added) (s : Slot) → lines_with lines o s ≡ line_at lines s ++ lines_with [] o s
 split_lines lines None s = sym (append-nil (line_at lines s))
@@ -60,7 +56,7 @@ rightful_alone lines o s h = record {
       apart = h.lawful.core.apart;
       given = h.lawful.core.given;
       retired = h.lawful.core.retired;
-      versions = λ x v i. h.lawful.core.versions x v (subst (In v) (sym (split_lines lines o x)) (in_later v (line_at lines x) (lines_with [] o x) i));
+      versions = λ x v i. h.lawful.core.versions x v (subst (In v) (sym (split_lines lines o x)) (in_right v (line_at lines x) (lines_with [] o x) i));
       block = h.lawful.core.block;
       home = h.lawful.core.home;
       lives = h.lawful.core.lives;

@@ -120,16 +120,11 @@ fn appends_that_fail(rt: HostRuntime) -> Result<(), Fail> {
     Ok(())
 }
 
-/// The record of the files below: its last 32 bytes are the name under which the log knows it.
-const RECORD: &[u8; 40] = b"a record,the name of it is these 32 byte";
+/// The record of the files below: its last eight bytes are the name under which the log knows it.
+const RECORD: &[u8; 40] = b"the bytes of a record, and then its name";
 
 /// What a file keeper that is opened on this record and this log has.
-fn opened<R: Files>(
-    rt: &R,
-    alloc: Global,
-    record: &[u8],
-    log: &[u8],
-) -> Result<Vec<u8>, Fail> {
+fn opened<R: Files>(rt: &R, alloc: Global, record: &[u8], log: &[u8]) -> Result<Vec<u8>, Fail> {
     fs::write(rt, "cut.record", record)?;
     fs::write(rt, "cut.record.log", log)?;
     let keeper = FileKeeper::open(rt, alloc, "cut.record")?;
@@ -137,7 +132,15 @@ fn opened<R: Files>(
     Ok(texts)
 }
 
-/// A log of two entries, cut at each byte: what was cut short is gone, and all behind it.
+/// Whether a file keeper can't be opened on the record and this log.
+fn is_refused<R: Files>(rt: &R, alloc: Global, log: &[u8]) -> Result<bool, Fail> {
+    fs::write(rt, "cut.record", RECORD.as_slice())?;
+    fs::write(rt, "cut.record.log", log)?;
+    Ok(FileKeeper::open(rt, alloc, "cut.record").is_err())
+}
+
+/// A log of two entries, cut at each byte: what was cut short is gone, and all behind it. And with each byte of the first
+/// one changed: a head that was damaged is refused, and an entry that was is as it stands.
 #[test]
 fn logs_in_files(rt: HostRuntime) -> Result<(), Fail> {
     fs::write(&rt, "cut.record", RECORD.as_slice())?;
@@ -148,11 +151,17 @@ fn logs_in_files(rt: HostRuntime) -> Result<(), Fail> {
     assert!(rt; ok);
     assert!(rt; both.ends_with(b" first second"));
     let log = fs::read(&rt, "cut.record.log")?;
-    assert_eq!(rt; log.len(), 91);
+    assert_eq!(rt; log.len(), 59);
     for len in 0..log.len() {
         let kept = opened(&rt, rt.alloc(), RECORD.as_slice(), &log[..len])?;
-        let wanted = if len < 45 { 40 } else { 46 };
+        let wanted = if len < 29 { 40 } else { 46 };
         assert_eq!(rt; kept.len(), wanted);
+    }
+    for place in 0..29 {
+        let mut damaged = Vec::from_slice(rt.alloc(), log.as_slice())?;
+        damaged[place] ^= 1;
+        let is_refused = is_refused(&rt, rt.alloc(), damaged.as_slice())?;
+        assert_eq!(rt; is_refused, place < 24);
     }
     let other = opened(&rt, rt.alloc(), b"of another record", log.as_slice())?;
     assert_eq!(rt; other.as_slice(), b"of another record".as_slice());

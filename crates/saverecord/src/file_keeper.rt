@@ -8,21 +8,19 @@ use super::keeper::Keeper;
 use super::log::Log;
 use super::refusal::{KeeperRefusal, SaveFault};
 use farm_base::Items;
+use sha2::Sha256;
 use std::alloc::{AllocError, Global};
 use std::fs::{self, OpenFile, OpenOptions};
 use std::io::{self, ErrorKind, Read, Write};
 use std::marker::Model;
 use std::rt::Files;
 
-/// The name of no record.
-const NO_RECORD: [u8; 32] = [0; 32];
-
 /// Keeps a record in a file, and the entries after it in a second one (the path with `.log` behind it). A save writes a
 /// third file (`.new`), which then takes the record's place, and empties the log. So after a crash the files hold the
 /// old texts or the new ones.
 ///
-/// In the log each entry stands behind the name of the record that it follows, which is the record's SHA-256, and its
-/// length. Entries of another record, and what was cut short, are none: opening and loading cut them off.
+/// In the log each entry stands behind the name of the record that it follows, its length, and a check of both. Entries
+/// of another record, and what was cut short, are none: opening and loading cut them off. A damaged head is a fault.
 ///
 /// What is proved is said of the texts that it knows the files to hold, with which each load compares those that it
 /// reads. That a file system gives back what was written, also after a crash, is trusted.
@@ -79,31 +77,60 @@ fn folder_of(path: &str) -> &str {
     }
 }
 
-/// The name of a record in the log: its last 32 bytes, zeros where none was saved yet.
-fn name_of(whole: &[u8]) -> &[u8] {
-    match whole.len().checked_sub(32) {
-        None => &NO_RECORD,
-        Some(place) => &whole[place..],
+/// The name of a record in the log: its last eight bytes, which are of its digest; zeros where none was saved yet.
+fn name_of(whole: &[u8]) -> [u8; 8] {
+    match whole.last_chunk::<8>() {
+        None => [0; 8],
+        Some(name) => *name,
     }
 }
 
-/// The first entry of a log whose entries follow this record, and what stands behind it. None where no whole one stands
-/// there.
-fn first_entry<'b>(name: &[u8], bytes: &'b [u8]) -> Option<(&'b [u8], &'b [u8])> {
-    let rest = bytes.strip_prefix(name)?;
-    let (len, rest) = rest.split_first_chunk::<8>()?;
-    let len = u64::from_be_bytes(*len);
-    if len > rest.len() as u64 {
-        return None;
+/// What stands before an entry in the log: the name of the record that it follows, and its length.
+fn head_of(whole: &[u8], len: u64) -> [u8; 16] {
+    let mut head = [0; 16];
+    head[..8].copy_from_slice(&name_of(whole));
+    head[8..].copy_from_slice(&len.to_be_bytes());
+    head
+}
+
+/// What stands between the head of an entry and the entry: eight bytes of the head's SHA-256.
+fn check_of(head: &[u8; 16]) -> [u8; 8] {
+    let digest: [u8; 32] = <Sha256 as sha2::Digest>::digest(head.as_slice());
+    let mut check = [0; 8];
+    check.copy_from_slice(&digest[..8]);
+    check
+}
+
+/// An entry of a log, and what stands behind it.
+type Taken<'b> = Option<(&'b [u8], &'b [u8])>;
+
+/// The first entry of a log whose entries follow this record. None where it follows another one, or was cut short. A
+/// head that was damaged is an error.
+fn first_entry<'b>(whole: &[u8], bytes: &'b [u8]) -> io::Result<Taken<'b>> {
+    let Some((head, rest)) = bytes.split_first_chunk::<16>() else {
+        return Ok(None);
+    };
+    let Some((check, rest)) = rest.split_first_chunk::<8>() else {
+        return Ok(None);
+    };
+    if *check != check_of(head) {
+        return Err(io::Error::from(ErrorKind::InvalidData));
     }
-    Some(rest.split_at(len as usize))
+    let (name, len) = head.split_at(8);
+    let len = len
+        .last_chunk::<8>()
+        .map_or(0, |len| u64::from_be_bytes(*len));
+    if name != name_of(whole).as_slice() || len > rest.len() as u64 {
+        return Ok(None);
+    }
+    Ok(Some(rest.split_at(len as usize)))
 }
 
 /// Adds the entries that follow the record, and gives how many bytes stand behind them.
-fn take_entries(alloc: Global, log: &mut Log, bytes: &[u8]) -> Result<usize, AllocError> {
+fn take_entries(alloc: Global, log: &mut Log, bytes: &[u8]) -> io::Result<usize> {
     let mut rest = bytes;
     for _ in 0..bytes.len() {
-        let Some((entry, after)) = first_entry(name_of(log.whole()), rest) else {
+        let Some((entry, after)) = first_entry(log.whole(), rest)? else {
             return Ok(rest.len());
         };
         let entry = Vec::from_slice(alloc, entry)?;
@@ -205,10 +232,16 @@ impl<'a, R: Files> FileKeeper<'a, R> {
             .append(true)
             .create(true)
             .open(self.files, tail)?;
-        file.write_all(name_of(self.log.whole()))?;
-        file.write_all(&(entry.len() as u64).to_be_bytes())?;
+        let head = head_of(self.log.whole(), entry.len() as u64);
+        file.write_all(&head)?;
+        file.write_all(&check_of(&head))?;
         file.write_all(entry)?;
-        file.sync_all()
+        file.sync_all()?;
+        // The first entry may have made the file.
+        if self.tail_len == 0 {
+            self.sync_folder()?;
+        }
+        Ok(())
     }
 
     /// Whether the files hold the texts that they are known to hold.
@@ -259,7 +292,7 @@ impl<'a, R: Files> Keeper for FileKeeper<'a, R> {
         ensures same { result ≡ Err KeeperRefusal.OutOfMemory → self.new ≡ self.old }
         ensures count { self.old.failures ≤ self.new.failures }
     {
-        let len = (entry.len() as u64).saturating_add(40);
+        let len = (entry.len() as u64).saturating_add(24);
         if self.log.push(entry).is_err() {
             return Err(KeeperRefusal::OutOfMemory);
         }
