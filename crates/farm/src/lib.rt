@@ -13,6 +13,18 @@ mod solved;
 mod spot;
 mod steps;
 mod work;
+mod closing;
+mod desk;
+mod hall;
+mod home;
+mod many;
+mod opening;
+mod open_folders;
+mod plan;
+mod router;
+mod threads;
+mod worker;
+mod worker_steps;
 
 pub use down::DownCount;
 pub use ends::OneEnd;

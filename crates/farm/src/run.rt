@@ -229,7 +229,7 @@ impl Run {
 }
 
 /// The SHARED folders among the wants, as they stand.
-fn views_of(
+pub(crate) fn views_of(
     alloc: Global,
     live: &LiveShared,
     wants: &[Want],
@@ -261,7 +261,7 @@ fn add_view(
 }
 
 /// What the tenure of a SHARED folder leaves: the content in its one slot.
-fn lefts_of(
+pub(crate) fn lefts_of(
     alloc: Global,
     running: &Running,
     content: Content,
@@ -274,7 +274,7 @@ fn lefts_of(
 }
 
 /// Applies the edits of the SHARED folders.
-fn apply_shared(
+pub(crate) fn apply_shared(
     alloc: Global,
     live: &mut LiveShared,
     ticket: Ticket,

@@ -37,6 +37,12 @@ impl Work {
         self.jobs.as_slice()
     }
 
+    /// The jobs, in their order.
+    pub(crate) fn into_jobs(self) -> Vec<(NodeId, Keyed)> {
+        let Work { jobs, homes: _ } = self;
+        jobs
+    }
+
     /// How many keys there are, those of each node for themselves.
     pub(crate) fn count(&self) -> usize {
         self.homes.len()
