@@ -1,3 +1,4 @@
 pub mod CountLemmas
+pub mod Crosses
 pub mod SolvedLemmas
 pub mod ViewLemmas

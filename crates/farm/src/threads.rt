@@ -32,21 +32,18 @@ pub(crate) fn run_threads<R: Threads + Wait + Sync, G: Gate>(
 ) -> Ends {
     thread::scope(thread::scope_env(), rt, |scope| -> Ends {
         let mut children: Vec<JoinHandle<WorkerEnd>> = Vec::new(alloc);
-        let mut worker = 0;
-        for hired in executors {
+        for (worker, hired) in executors.into_iter().enumerate() {
             if children.reserve(1).is_err() {
                 hall.fail(rt, FarmFault::Memory);
                 break;
             }
-            let place = worker;
-            match scope.spawn(move || work(rt, alloc, hall, gate, place, hired)) {
+            match scope.spawn(move || work(rt, alloc, hall, gate, worker, hired)) {
                 Ok(child) => children.push_reserved(child),
                 Err(_) => {
                     hall.fail(rt, FarmFault::NoThread);
                     break;
                 }
             }
-            worker += 1;
         }
         let mut receipts = Vec::new(alloc);
         match route(rt, alloc, hall, plan) {
