@@ -1,4 +1,2 @@
-pub mod CountLemmas
 pub mod Crosses
-pub mod SolvedLemmas
 pub mod ViewLemmas

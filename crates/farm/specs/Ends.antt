@@ -1,13 +1,9 @@
 -- What the schedule of a run says when it is replayed (this project's own).
-use Rattle.std.specs.Prelude.{◌≡◌, ℕ, List, []}
+use Rattle.std.specs.Prelude.{◌≡◌, ℕ, List}
 use Rattle.protocol.specs.declared.event.Event.{Event}
 use Rattle.schedule.specs.declared.setup.Setup.{Setup}
-use Rattle.farmboard.specs.History.{History}
 use Rattle.farmboard.specs.Counts.{counts_of}
-
--- a farm of this setup, after these events
-abbrev pub replayed : Setup → List Event → History
-replayed setup events = record { setup = setup; events = events; skipped = [] }
+use Rattle.farmend.specs.Replays.{replayed}
 
 -- no event is refused
 abbrev pub RefusesNone : Setup → List Event → Type 0

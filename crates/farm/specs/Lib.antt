@@ -1,5 +1,3 @@
 pub mod Downs
 pub mod Ends
-pub mod NewCalls
 pub mod Places
-pub mod Solved

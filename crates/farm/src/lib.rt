@@ -2,15 +2,12 @@
 #![tactic(auto)]
 
 mod answers;
-mod calls;
 mod down;
 mod ends;
 mod fault;
 mod faults;
 mod one;
 mod run;
-mod solved;
-mod spot;
 mod steps;
 mod work;
 mod closing;

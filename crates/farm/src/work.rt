@@ -1,9 +1,9 @@
 //! The jobs with their graphs.
 ghost use Rattle.std.specs.Prelude.{◌≡◌, ◌<◌, length, All, IfOk, OnOk, IfSome, Some, slice_get};
 
-use super::spot::Spot;
 use cachemounts::wants_of;
 use farm_base::{Copied, FolderName, Key, Mode, NodeId, Wants};
+use farmend::Spot;
 use solverkeys::Keyed;
 use std::alloc::{AllocError, Global};
 use std::collections::HashMap;

@@ -5,11 +5,11 @@ mod ListLemmas
 mod MarkLemmas
 mod NeedLemmas
 mod ProgressLemmas
-mod ReachLemmas
+pub mod ReachLemmas
 mod ReadyLemmas
 mod RestLemmas
 mod ShapeLemmas
 mod SpreadLemmas
-mod StayLemmas
+pub mod StayLemmas
 mod TableLemmas
 mod UserLemmas

@@ -68,7 +68,8 @@ there_grows old new grows inputs there input has = let out = there input has in 
 pub ready_stays : (old new : List Entry) → Grows old new → IsDistinct key_eq (map key_of new) → AreHandedRight new → (n : ℕ) (r : IsReadyAt old n) → slice_get new n ≡ Some r.entry → IsReadyAt new n
 ready_stays old new grows unique right n r at = ready_from new unique right n r.entry at r.ready.waiting (there_grows old new grows r.entry.inputs r.ready.inputs)
 
-zip_weaker : {A B : Type 0} (R S : A → B → Type 0) (xs : List A) (ys : List B) → ((x : A) (y : B) → R x y → S x y) → AllZip R xs ys → AllZip S xs ys
+-- what follows of each pair follows of all
+pub zip_weaker : {A B : Type 0} (R S : A → B → Type 0) (xs : List A) (ys : List B) → ((x : A) (y : B) → R x y → S x y) → AllZip R xs ys → AllZip S xs ys
 zip_weaker R S [] [] more all = tt
 zip_weaker R S [] (y ∷ ys) more all = absurd all
 zip_weaker R S (x ∷ xs) [] more all = absurd all

@@ -3,8 +3,8 @@ use Rattle.protocol.specs.declared.event.Event.{Event}
 use Rattle.schedule.specs.declared.setup.Setup.{Setup}
 use Rattle.farmboard.specs.Counts.{counts_of}
 use Rattle.farmboard.specs.declared.counts.Counts.{Counts}
-use Rattle.farm.specs.Ends.{replayed}
-use Rattle.farm.proofs.CountLemmas.{counts_of-replayed}
+use Rattle.farmend.specs.Replays.{replayed}
+use Rattle.farmend.proofs.ReplayLemmas.{counts_of-replayed}
 use Rattle.farm.proofs.one.end_of.Goals as goal
 
 pub returns-clause-replay : goal.returns-clause-replay

@@ -1,4 +1,4 @@
-use Rattle.std.proofs.Common.{rules, ◌≡◌, IfOk, ℕ, length, sym, ◌∙◌, subst}
+use Rattle.std.proofs.Common.{rules, ◌≡◌, IfOk, ℕ, length, subst}
 use Rattle.farm.proofs.one.Farm.run_one.Goals as goal
 
 pub returns-clause-count : goal.returns-clause-count

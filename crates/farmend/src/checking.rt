@@ -1,0 +1,136 @@
+//! The check of what a run leaves.
+ghost use Rattle.std.specs.Prelude.{◌≡◌, ◌≢◌, All, IfOk, OnOk, length, map, nat_eq};
+ghost use Rattle.std.specs.List.{AllZip, IsDistinct};
+ghost use Rattle.saverecord.specs.Ledgers.{Holds};
+ghost use Rattle.executions.specs.Calls.{Grew};
+ghost use Rattle.world.specs.Shown.{shown};
+ghost use Rattle.farmboard.specs.History.{farm_of};
+ghost use Rattle.farmboard.specs.Counts.{commits_of};
+ghost use Rattle.farmend.specs.Answers.{AreAnswered};
+ghost use Rattle.farmend.specs.Receipts.{StandsOn, tickets_of};
+ghost use Rattle.farmend.specs.Replays.{farm_after, commits_after};
+
+use super::answers::are_answered;
+use super::end::{FarmEnd, HandedBack};
+use super::hired::Hired;
+use super::news::{calls_of, news_of};
+use super::receipts::{all_differ, all_stand};
+use super::refusal::EndRefusal;
+use executions::Executor;
+use farm_base::NodeId;
+use farmboard::{Board, Receipt};
+use jobs::Answer;
+use schedule::Setup;
+use solverkeys::Keyed;
+use std::alloc::{AllocError, Global};
+use world::World;
+
+/// The bytes of the record of a farm's coordinator.
+fn saved_of(alloc: Global, world: &World) -> Result<Vec<u8>, AllocError>
+    ensures { IfOk result (λ saved. Holds saved.items (shown world.now).saved) }
+{
+    let coordinator = world.coordinator();
+    coordinator.is_kept();
+    Vec::from_slice(alloc, coordinator.keeper().bytes())
+}
+
+/// Whether the receipts are those of a board's commits: as many, on the lines, each under a ticket of its own.
+fn settle(alloc: Global, board: &Board, receipts: &[Receipt]) -> Result<(), EndRefusal>
+    ensures stand { OnOk result (All (StandsOn (farm_of board.now)) receipts.now) }
+    ensures differ { OnOk result (IsDistinct nat_eq (tickets_of receipts.now)) }
+    ensures count { OnOk result (length receipts.now ≡ commits_of board.now) }
+{
+    if receipts.len() as u64 != board.commits() || !all_stand(board.world(), receipts) {
+        return Err(EndRefusal::Disagrees);
+    }
+    if !all_differ(alloc, receipts)? {
+        return Err(EndRefusal::Disagrees);
+    }
+    Ok(())
+}
+
+/// Whether each executor's calls begin with those that it had, and the new ones are the reasons of the answers.
+fn account(
+    alloc: Global,
+    world: &World,
+    jobs: &[(NodeId, Keyed)],
+    hired: &[Hired],
+    executors: &[Box<dyn Executor + Send>],
+    answers: &[Answer],
+) -> Result<(), EndRefusal>
+    ensures calls { OnOk result (AllZip Grew (map (λ each. each.had.items) hired.now) (map (λ executor. history executor) executors.now)) }
+    ensures answers { OnOk result (AreAnswered (shown world.now) (map (λ each. each.node) hired.now) (map (λ each. each.had.items) hired.now) (map (λ executor. history executor) executors.now) jobs.now answers.now) }
+{
+    let ends = calls_of(alloc, executors)?;
+    let news = news_of(alloc, hired, ends.as_slice())?;
+    if !are_answered(alloc, world, news.as_slice(), jobs, answers)? {
+        return Err(EndRefusal::Disagrees);
+    }
+    Ok(())
+}
+
+/// Whether all that was handed back agrees. It gives the bytes of the record.
+fn judge(
+    alloc: Global,
+    jobs: &[(NodeId, Keyed)],
+    hired: &[Hired],
+    back: &HandedBack,
+) -> Result<Vec<u8>, EndRefusal>
+    ensures saved { IfOk result (λ saved. Holds saved.items (farm_of back.now.board).saved) }
+    ensures stand { OnOk result (All (StandsOn (farm_of back.now.board)) back.now.receipts.items) }
+    ensures differ { OnOk result (IsDistinct nat_eq (tickets_of back.now.receipts.items)) }
+    ensures count { OnOk result (length back.now.receipts.items ≡ commits_of back.now.board) }
+    ensures calls { OnOk result (AllZip Grew (map (λ each. each.had.items) hired.now) (map (λ executor. history executor) back.now.executors.items)) }
+    ensures answers { OnOk result (AreAnswered (farm_of back.now.board) (map (λ each. each.node) hired.now) (map (λ each. each.had.items) hired.now) (map (λ executor. history executor) back.now.executors.items) jobs.now back.now.answers.items) }
+{
+    let world = back.board.world();
+    settle(alloc, &back.board, &back.receipts)?;
+    account(alloc, world, jobs, hired, &back.executors, &back.answers)?;
+    let saved = saved_of(alloc, world)?;
+    Ok(saved)
+}
+
+/// Checks what the threads of a run of these jobs handed back, by executors that were hired so. Agreed, it is what the
+/// run leaves. `Disagrees` where a clause doesn't hold, or the board is of another setup; `OutOfMemory`.
+pub fn check(
+    alloc: Global,
+    setup: Setup,
+    jobs: &[(NodeId, Keyed)],
+    hired: &[Hired],
+    back: HandedBack,
+) -> Result<FarmEnd, EndRefusal>
+    // The replay of the setup and the schedule has the bytes as its record, and these commits.
+    ensures saved { IfOk result (λ end. Holds end.saved.items (farm_after setup end.schedule.items).saved) }
+    ensures commits { IfOk result (λ end. end.commits ≡ commits_after setup end.schedule.items) }
+    // The receipts are on its lines, each under a ticket of its own, and as many as the commits.
+    ensures receipts { IfOk result (λ end. All (StandsOn (farm_after setup end.schedule.items)) end.receipts.items) }
+    ensures tickets { IfOk result (λ end. IsDistinct nat_eq (tickets_of end.receipts.items)) }
+    ensures count { IfOk result (λ end. length end.receipts.items ≡ end.commits) }
+    // The executors' calls begin with those that they had, in order.
+    ensures calls { IfOk result (λ end. AllZip Grew (map (λ each. each.had.items) hired.now) (map (λ executor. history executor) end.executors.items)) }
+    // There is one answer a job, each with its reason in the new calls on the job's node; none of them waits.
+    ensures answers { IfOk result (λ end. AreAnswered (farm_after setup end.schedule.items) (map (λ each. each.node) hired.now) (map (λ each. each.had.items) hired.now) (map (λ executor. history executor) end.executors.items) jobs.now end.answers.items) }
+    ensures answered { IfOk result (λ end. length end.answers.items ≡ length jobs.now) }
+    ensures settled { IfOk result (λ end. All (λ answer. answer ≢ Answer.Waiting) end.answers.items) }
+{
+    if back.board.setup().nodes != setup.nodes {
+        return Err(EndRefusal::Disagrees);
+    }
+    let saved = judge(alloc, jobs, hired, &back)?;
+    let HandedBack {
+        board,
+        executors,
+        receipts,
+        answers,
+    } = back;
+    let commits = board.commits();
+    let (_, schedule, _) = board.into_parts();
+    Ok(FarmEnd {
+        answers,
+        commits,
+        receipts,
+        saved,
+        schedule,
+        executors,
+    })
+}

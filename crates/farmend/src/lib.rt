@@ -1,0 +1,20 @@
+//! What a run of a farm leaves, and the check of it.
+#![tactic(auto)]
+
+mod answers;
+mod calls;
+mod checking;
+mod denials;
+mod end;
+mod hired;
+mod news;
+mod receipts;
+mod refusal;
+mod solved;
+mod spot;
+
+pub use checking::check;
+pub use end::{FarmEnd, HandedBack};
+pub use hired::Hired;
+pub use refusal::EndRefusal;
+pub use spot::Spot;
