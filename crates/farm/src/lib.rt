@@ -25,5 +25,6 @@ mod worker_steps;
 
 pub use down::DownCount;
 pub use ends::OneEnd;
+pub use farmend::FarmEnd;
 pub use fault::FarmFault;
 pub use one::Farm;

@@ -1,4 +1,13 @@
 //! A farm on threads.
+ghost use Rattle.std.specs.Prelude.{◌≡◌, ◌≢◌, All, IfOk, length, map, nat_eq};
+ghost use Rattle.std.specs.List.{AllZip, IsDistinct};
+ghost use Rattle.saverecord.specs.Ledgers.{Holds};
+ghost use Rattle.executions.specs.Calls.{Grew};
+ghost use Rattle.farmend.specs.Answers.{IsAnswered};
+ghost use Rattle.farmend.specs.NewCalls.{new_calls};
+ghost use Rattle.farmend.specs.Receipts.{StandsOn, tickets_of};
+ghost use Rattle.farmend.specs.Replays.{commits_after, farm_after};
+
 use super::answers::answer_of;
 use super::desk::Desk;
 use super::fault::FarmFault;
@@ -13,22 +22,13 @@ use super::worker::WorkerEnd;
 use executions::{Executor, Gate};
 use farm_base::NodeId;
 use farmboard::{Board, FarmStep, Receipt};
+use farmend::{FarmEnd, HandedBack, Hired, check};
 use jobs::{Answer, JobId};
 use schedule::Setup;
 use solverkeys::Keyed;
 use std::alloc::{AllocError, Global};
 use std::sync::Wait;
 use std::thread::Threads;
-
-/// What the threads leave.
-#[derive(Drop)]
-pub struct Left {
-    pub answers: Vec<Answer>,
-    pub board: Board,
-    pub jobs: Vec<(NodeId, Keyed)>,
-    pub executors: Vec<Box<dyn Executor + Send>>,
-    pub receipts: Vec<Receipt>,
-}
 
 /// The nodes of the workers.
 fn nodes_of(
@@ -82,7 +82,9 @@ fn answers_of<R: Wait>(
 }
 
 /// The board and the jobs.
-fn parts_of(hall: Hall) -> (Board, Vec<(NodeId, Keyed)>) {
+fn parts_of(hall: Hall) -> (Board, Vec<(NodeId, Keyed)>)
+    ensures { result.1.items ≡ hall.work.jobs.items }
+{
     let Hall {
         alloc: _,
         desk,
@@ -104,7 +106,15 @@ fn parts_of(hall: Hall) -> (Board, Vec<(NodeId, Keyed)>) {
 }
 
 impl Farm {
-    /// Solves the jobs on their nodes.
+    /// Solves the jobs on their nodes: one thread for each executor, beside a router in this one. It waits for all threads.
+    /// Each step of the plan disturbs the farm once there are so many events. The gate is asked before each execution.
+    ///
+    /// `BadSetup` where the setup isn't of 1 to 1,024 nodes, where the node of an executor isn't there, or where a job has
+    /// no executor on its node. `BadOutcome` of a key where its execution began from what isn't a folder, or where what it
+    /// leaves can't be kept. `GateHeld` of a key that the gate didn't let pass in 10,000,000 turns. `HistoryFull` where the
+    /// schedule is full; `Stalled` where nobody could go on, though all was sent again 1,000 times; `CoordinatorDown` where
+    /// the coordinator failed to restart eight times in a row; `NoThread`; `Memory`, the executors' too. `ReceiptLost`
+    /// where the board refuses something else, or the check at the end doesn't hold.
     pub fn run<R: Threads + Wait + Sync, G: Gate>(
         rt: &R,
         alloc: Global,
@@ -113,28 +123,60 @@ impl Farm {
         executors: Vec<(NodeId, Box<dyn Executor + Send>)>,
         fault_plan: Vec<(usize, FarmStep)>,
         gate: &G,
-    ) -> Result<Left, FarmFault> {
-        let board = Board::start(alloc, setup).map_err(start_fault)?;
-        let nodes = nodes_of(alloc, executors.as_slice())?;
-        if !are_staffed(setup.nodes, jobs.as_slice(), nodes.as_slice()) {
-            return Err(FarmFault::BadSetup);
-        }
-        let Submitted { tables, numbers } = submit_all(alloc, setup.nodes, jobs.as_slice())?;
-        let work = Work::of(alloc, jobs)?;
-        let hall = open(alloc, board, tables, work, nodes.len())?;
-        let ends = run_threads(rt, alloc, &hall, executors, Plan::of(fault_plan), gate);
-        if let Some(fault) = *hall.fault.lock(rt) {
-            return Err(fault);
-        }
-        let answers = answers_of(rt, alloc, &hall, numbers.as_slice())?;
-        let (executors, receipts) = gather(alloc, ends)?;
-        let (board, jobs) = parts_of(hall);
-        Ok(Left {
-            answers,
-            board,
-            jobs,
-            executors,
-            receipts,
-        })
+    ) -> Result<FarmEnd, FarmFault>
+        ensures saved { IfOk result (λ end. Holds end.saved.items (farm_after setup end.schedule.items).saved) }
+        ensures commits { IfOk result (λ end. end.commits ≡ commits_after setup end.schedule.items) }
+        ensures receipts { IfOk result (λ end. All (StandsOn (farm_after setup end.schedule.items)) end.receipts.items) }
+        ensures tickets { IfOk result (λ end. IsDistinct nat_eq (tickets_of end.receipts.items)) }
+        ensures count { IfOk result (λ end. length end.receipts.items ≡ end.commits) }
+        ensures calls { IfOk result (λ end. AllZip Grew (map (λ each. history each.1) executors.items) (map (λ executor. history executor) end.executors.items)) }
+        ensures answers { IfOk result (λ end.
+            let nodes = map (λ each. each.0) executors.items in
+            let had = map (λ each. history each.1) executors.items in
+            let ends = map (λ executor. history executor) end.executors.items in
+            AllZip (λ job answer. IsAnswered (farm_after setup end.schedule.items) (new_calls job.0 nodes had ends) job.0 job.1 answer) jobs.items end.answers.items) }
+        ensures answered { IfOk result (λ end. length end.answers.items ≡ length jobs.items) }
+        ensures settled { IfOk result (λ end. All (λ answer. answer ≢ Answer.Waiting) end.answers.items) }
+    {
+        let hired = Hired::all(alloc, executors.as_slice())?;
+        let (back, jobs) = solve_all(rt, alloc, setup, jobs, executors, fault_plan, gate)?;
+        let end = check(alloc, setup, jobs.as_slice(), hired.as_slice(), back)?;
+        Ok(end)
     }
+}
+
+/// Solves the jobs on their nodes. The answer is what the threads hand back, and the jobs.
+fn solve_all<R: Threads + Wait + Sync, G: Gate>(
+    rt: &R,
+    alloc: Global,
+    setup: Setup,
+    jobs: Vec<(NodeId, Keyed)>,
+    executors: Vec<(NodeId, Box<dyn Executor + Send>)>,
+    fault_plan: Vec<(usize, FarmStep)>,
+    gate: &G,
+) -> Result<(HandedBack, Vec<(NodeId, Keyed)>), FarmFault>
+    ensures { IfOk result (λ left. left.1.items ≡ jobs.items) }
+{
+    let board = Board::start(alloc, setup).map_err(start_fault)?;
+    let nodes = nodes_of(alloc, executors.as_slice())?;
+    if !are_staffed(setup.nodes, jobs.as_slice(), nodes.as_slice()) {
+        return Err(FarmFault::BadSetup);
+    }
+    let Submitted { tables, numbers } = submit_all(alloc, setup.nodes, jobs.as_slice())?;
+    let work = Work::of(alloc, jobs)?;
+    let hall = open(alloc, board, tables, work, nodes.len())?;
+    let ends = run_threads(rt, alloc, &hall, executors, Plan::of(fault_plan), gate);
+    if let Some(fault) = *hall.fault.lock(rt) {
+        return Err(fault);
+    }
+    let answers = answers_of(rt, alloc, &hall, numbers.as_slice())?;
+    let (executors, receipts) = gather(alloc, ends)?;
+    let (board, jobs) = parts_of(hall);
+    let back = HandedBack {
+        board,
+        executors,
+        receipts,
+        answers,
+    };
+    Ok((back, jobs))
 }

@@ -1,5 +1,5 @@
 //! A hall where the threads of a farm can begin.
-ghost use Rattle.std.specs.Prelude.{◌≡◌, IfOk, length};
+ghost use Rattle.std.specs.Prelude.{◌≡◌, IfOk};
 
 use super::desk::Desk;
 use super::fault::FarmFault;
@@ -106,7 +106,9 @@ pub(crate) fn open(
     tables: Vec<Jobs>,
     work: Work,
     workers: usize,
-) -> Result<Hall, AllocError> {
+) -> Result<Hall, AllocError>
+    ensures { IfOk result (λ hall. hall.work ≡ work) }
+{
     let desk = Desk {
         board,
         tenures: Vec::new(alloc),

@@ -22,6 +22,7 @@ pub(crate) struct Ends {
 }
 
 /// Starts a thread for each executor, routes in this one, and joins them. A fault is noted in the hall.
+#[tactic(auto, using(crate::proofs::Crosses::hall))]
 pub(crate) fn run_threads<R: Threads + Wait + Sync, G: Gate>(
     rt: &R,
     alloc: Global,

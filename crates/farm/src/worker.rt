@@ -1,6 +1,5 @@
 //! A worker: it solves the keys of its node, one after the other, by its executor.
 ghost use Rattle.std.specs.Prelude.{◌≡◌, All, IfOk};
-ghost use Rattle.executions.specs.Calls.{Grew};
 ghost use Rattle.farm.specs.Places.{Fits, IsSeenIn};
 
 use super::fault::FarmFault;
@@ -8,9 +7,8 @@ use super::faults::run_fault;
 use super::hall::Hall;
 use super::home::Next;
 use super::run::{apply_shared, views_of};
-use super::work::Place;
+use super::work::{Place, fit};
 use super::worker_steps::{Post, finish, give_up, lease};
-use cachemounts::wants_of;
 use executions::{ExecOutcome, Executor, Gate, Ran, run_leased};
 use farm_base::{Content, Digest, FolderName, Items, Key, NodeId, Slot, Ticket, Want};
 use farmboard::{Receipt, Running, abandon_running};
@@ -36,7 +34,6 @@ pub(crate) fn work<R: Wait, G: Gate>(
     worker: usize,
     hired: (NodeId, Box<dyn Executor + Send>),
 ) -> WorkerEnd
-    ensures { Grew (history hired.1) (history result.executor) }
 {
     let (node, mut executor) = hired;
     let mut receipts = Vec::new(alloc);
@@ -68,7 +65,6 @@ fn solve_all<R: Wait, G: Gate>(
     executor: &mut dyn Executor,
     receipts: &mut Vec<Receipt>,
 ) -> Result<(), FarmFault>
-    ensures { Grew (history executor.old) (history executor.new) }
 {
     for _ in rt.forever() {
         post.hall.go_on()?;
@@ -92,15 +88,8 @@ fn solve<R: Wait, G: Gate>(
     receipts: &mut Vec<Receipt>,
     task: Task,
 ) -> Result<(), FarmFault>
-    ensures { Grew (history executor.old) (history executor.new) }
 {
-    let Some(place) = post.hall.work.find(post.node, &task.key) else {
-        return Err(FarmFault::ReceiptLost);
-    };
-    if place.keyed.graph().inputs_of(place.vertex).len() != task.inputs.len() {
-        return Err(FarmFault::ReceiptLost);
-    }
-    let wants = wants_of(post.alloc, place.keyed, place.vertex)?;
+    let (place, wants) = fit(post.alloc, &post.hall.work, post.node, &task)?;
     match lease(rt, post, gate, &task.key, &wants)? {
         Ok(running) => execute(rt, post, executor, receipts, running, task, place),
         Err(why) => note_failed(rt, post, task.key, Fault::Denied(why)),
@@ -118,7 +107,6 @@ fn execute<R: Wait>(
     place: Place<'_>,
 ) -> Result<(), FarmFault>
     requires { Fits place task running.wants }
-    ensures { Grew (history executor.old) (history executor.new) }
 {
     match run_task(rt, post, executor, &running, &task, place) {
         Ok(ran) => take(rt, post, receipts, running, task.key, ran),
@@ -139,7 +127,6 @@ fn run_task<R: Wait>(
     place: Place<'_>,
 ) -> Result<Ran, FarmFault>
     requires { Fits place task.now running.now.wants }
-    ensures { Grew (history executor.old) (history executor.new) }
 {
     let Place { keyed, vertex } = place;
     let shared = views(rt, post, running.wants().as_slice())?;

@@ -1,5 +1,4 @@
 use Rattle.std.proofs.Common.{length}
-use Rattle.farm.proofs.Crosses.{hall}
 use Rattle.farm.proofs.open_folders.give_up_all.Given as goal
 
 -- each turn takes one
