@@ -119,3 +119,14 @@ const ENDED: u64 = u64::MAX;
 fn is_end(wait: u64) -> bool {
     wait == ENDED
 }
+
+/// What a thread sees of the others. It stands for the hall where threads are started: all threads may share it.
+pub(crate) trait Shared: Sync {
+    fn hall(&self) -> &Hall;
+}
+
+impl Shared for Hall {
+    fn hall(&self) -> &Hall {
+        self
+    }
+}

@@ -146,6 +146,7 @@ impl Farm {
 }
 
 /// Solves the jobs on their nodes. The answer is what the threads hand back, and the jobs.
+#[tactic(auto, using(crate::proofs::Crosses::hall))]
 fn solve_all<R: Threads + Wait + Sync, G: Gate>(
     rt: &R,
     alloc: Global,

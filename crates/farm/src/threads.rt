@@ -1,8 +1,6 @@
 //! The threads of a farm: one for each executor, beside the router.
-ghost use Rattle.std.specs.Prelude.{◌≡◌};
-
 use super::fault::FarmFault;
-use super::hall::Hall;
+use super::hall::Shared;
 use super::plan::Plan;
 use super::router::route;
 use super::worker::{WorkerEnd, work};
@@ -22,11 +20,10 @@ pub(crate) struct Ends {
 }
 
 /// Starts a thread for each executor, routes in this one, and joins them. A fault is noted in the hall.
-#[tactic(auto, using(crate::proofs::Crosses::hall))]
-pub(crate) fn run_threads<R: Threads + Wait + Sync, G: Gate>(
+pub(crate) fn run_threads<R: Threads + Wait + Sync, G: Gate, S: Shared>(
     rt: &R,
     alloc: Global,
-    hall: &Hall,
+    shared: &S,
     executors: Vec<(NodeId, Box<dyn Executor + Send>)>,
     plan: Plan,
     gate: &G,
@@ -35,26 +32,26 @@ pub(crate) fn run_threads<R: Threads + Wait + Sync, G: Gate>(
         let mut children: Vec<JoinHandle<WorkerEnd>> = Vec::new(alloc);
         for (worker, hired) in executors.into_iter().enumerate() {
             if children.reserve(1).is_err() {
-                hall.fail(rt, FarmFault::Memory);
+                shared.hall().fail(rt, FarmFault::Memory);
                 break;
             }
-            match scope.spawn(move || work(rt, alloc, hall, gate, worker, hired)) {
+            match scope.spawn(move || work(rt, alloc, shared.hall(), gate, worker, hired)) {
                 Ok(child) => children.push_reserved(child),
                 Err(_) => {
-                    hall.fail(rt, FarmFault::NoThread);
+                    shared.hall().fail(rt, FarmFault::NoThread);
                     break;
                 }
             }
         }
         let mut receipts = Vec::new(alloc);
-        match route(rt, alloc, hall, plan) {
+        match route(rt, alloc, shared.hall(), plan) {
             Ok(settled) => receipts = settled,
-            Err(fault) => hall.fail(rt, fault),
+            Err(fault) => shared.hall().fail(rt, fault),
         }
         let mut workers = Vec::new(alloc);
         for child in children {
             if workers.push(child.join(rt)).is_err() {
-                hall.fail(rt, FarmFault::Memory);
+                shared.hall().fail(rt, FarmFault::Memory);
             }
         }
         Ends { workers, receipts }
