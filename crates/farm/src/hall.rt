@@ -93,9 +93,8 @@ impl Hall {
 
     /// Whether each worker has ended, or has to wait as of this number of changes.
     pub(crate) fn all_wait(&self, changes: u64) -> bool {
-        self.waits
-            .iter()
-            .all(|wait| wait.load(Ordering::SeqCst) == changes || is_end(wait.load(Ordering::SeqCst)))
+        self.waits.iter().all(|wait| wait.load(Ordering::SeqCst) == changes
+            || is_end(wait.load(Ordering::SeqCst)))
     }
 
     /// Notes that a worker has ended.

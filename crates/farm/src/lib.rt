@@ -2,24 +2,24 @@
 #![tactic(auto)]
 
 mod answers;
+mod closing;
+mod desk;
 mod down;
 mod ends;
 mod fault;
 mod faults;
-mod one;
-mod run;
-mod steps;
-mod work;
-mod closing;
-mod desk;
 mod hall;
 mod home;
 mod many;
-mod opening;
+mod one;
 mod open_folders;
+mod opening;
 mod plan;
 mod router;
+mod run;
+mod steps;
 mod threads;
+mod work;
 mod worker;
 mod worker_steps;
 

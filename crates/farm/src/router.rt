@@ -108,7 +108,11 @@ impl Router {
         if self.disturb(rt, hall, desk)? {
             return Ok(true);
         }
-        let ends = if hall.all_ended() { Ends::All } else { Ends::Recalled };
+        let ends = if hall.all_ended() {
+            Ends::All
+        } else {
+            Ends::Recalled
+        };
         if end_next(rt, hall, desk, &mut self.leaving, ends)? || self.settle_all(desk)? {
             return Ok(true);
         }

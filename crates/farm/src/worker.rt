@@ -33,8 +33,7 @@ pub(crate) fn work<R: Wait, G: Gate>(
     gate: &G,
     worker: usize,
     hired: (NodeId, Box<dyn Executor + Send>),
-) -> WorkerEnd
-{
+) -> WorkerEnd {
     let (node, mut executor) = hired;
     let mut receipts = Vec::new(alloc);
     let worked = match hall.home(node) {
@@ -64,8 +63,7 @@ fn solve_all<R: Wait, G: Gate>(
     gate: &G,
     executor: &mut dyn Executor,
     receipts: &mut Vec<Receipt>,
-) -> Result<(), FarmFault>
-{
+) -> Result<(), FarmFault> {
     for _ in rt.forever() {
         post.hall.go_on()?;
         let seen = post.hall.changes();
@@ -87,8 +85,7 @@ fn solve<R: Wait, G: Gate>(
     executor: &mut dyn Executor,
     receipts: &mut Vec<Receipt>,
     task: Task,
-) -> Result<(), FarmFault>
-{
+) -> Result<(), FarmFault> {
     let (place, wants) = fit(post.alloc, &post.hall.work, post.node, &task)?;
     match lease(rt, post, gate, &task.key, &wants)? {
         Ok(running) => execute(rt, post, executor, receipts, running, task, place),
@@ -232,12 +229,7 @@ fn note_done<R: Wait>(
 }
 
 /// A key has failed.
-fn note_failed<R: Wait>(
-    rt: &R,
-    post: Post<'_>,
-    key: Key,
-    fault: Fault,
-) -> Result<(), FarmFault> {
+fn note_failed<R: Wait>(rt: &R, post: Post<'_>, key: Key, fault: Fault) -> Result<(), FarmFault> {
     let noted = post.home.jobs.lock(rt).failed(key, fault);
     post.hall.note_step();
     noted

@@ -11,8 +11,8 @@ use super::steps::tenure_of;
 use executions::Gate;
 use farm_base::{Content, FolderName, Key, Mode, NodeId, Slot, Want, Wants, Why};
 use farmboard::{
-    Accept, Asked, BoardRefusal, Finished, Granted, Look, Receipt, Running, Settled,
-    abandon_asked, abandon_finished, abandon_granted,
+    Accept, Asked, BoardRefusal, Finished, Granted, Look, Receipt, Running, Settled, abandon_asked,
+    abandon_finished, abandon_granted,
 };
 use std::alloc::Global;
 use std::sync::Wait;
@@ -69,11 +69,7 @@ fn give_back<R: Wait>(rt: &R, post: Post<'_>, granted: Granted) -> Result<(), Fa
 }
 
 /// Begins an execution once the contents are there from which it begins. None where its node restarted.
-fn begin<R: Wait>(
-    rt: &R,
-    post: Post<'_>,
-    first: Granted,
-) -> Result<Option<Running>, FarmFault>
+fn begin<R: Wait>(rt: &R, post: Post<'_>, first: Granted) -> Result<Option<Running>, FarmFault>
     ensures { IfOk result (λ begun. IfSome begun (λ running. running.wants ≡ first.wants)) }
 {
     let mut granted = first;
@@ -120,11 +116,7 @@ fn begin_now<R: Wait>(
 }
 
 /// Waits until a finished execution is settled. None where it doesn't count.
-fn settle<R: Wait>(
-    rt: &R,
-    post: Post<'_>,
-    first: Finished,
-) -> Result<Option<Receipt>, FarmFault> {
+fn settle<R: Wait>(rt: &R, post: Post<'_>, first: Finished) -> Result<Option<Receipt>, FarmFault> {
     let mut finished = first;
     for _ in rt.forever() {
         let seen = post.hall.changes();
@@ -258,7 +250,11 @@ fn hold_tenure<R: Wait>(
         if held {
             return Ok(None);
         }
-        let asked = post.hall.desk.lock(rt).ask_tenure(post.alloc, post.node, folder)?;
+        let asked = post
+            .hall
+            .desk
+            .lock(rt)
+            .ask_tenure(post.alloc, post.node, folder)?;
         let Some(asked) = asked else {
             post.hall.pause(rt, post.worker, seen)?;
             continue;
@@ -273,11 +269,7 @@ fn hold_tenure<R: Wait>(
 
 /// Waits until the tenures of the SHARED folders of these wants are in use, by rising folder. The answer is why one was
 /// denied, if it was.
-fn hold_tenures<R: Wait>(
-    rt: &R,
-    post: Post<'_>,
-    wants: &[Want],
-) -> Result<Option<Why>, FarmFault> {
+fn hold_tenures<R: Wait>(rt: &R, post: Post<'_>, wants: &[Want]) -> Result<Option<Why>, FarmFault> {
     for want in wants {
         if let Mode::Shared = want.folder.mode {
             if let Some(why) = hold_tenure(rt, post, &want.folder)? {
