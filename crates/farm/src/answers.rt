@@ -7,7 +7,7 @@ use jobs::{Answer, JobId, Jobs, JobsRefusal};
 use std::alloc::Global;
 
 /// The answer of a job that doesn't wait. A result whose key is done without it has failed.
-fn answer_of(jobs: &Jobs, job: JobId) -> Result<Answer, FarmFault>
+pub(crate) fn answer_of(jobs: &Jobs, job: JobId) -> Result<Answer, FarmFault>
     ensures { IfOk result (λ answer. answer ≢ Answer.Waiting) }
 {
     match jobs.answer(job) {

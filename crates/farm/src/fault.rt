@@ -2,6 +2,7 @@ ghost use Rattle.std.specs.Prelude.{◌≡◌};
 ghost use Rattle.farm.specs.declared.fault.FarmFault.TheVariants.{Memory};
 
 use farm_base::Key;
+use farmend::EndRefusal;
 use std::alloc::{AllocError, AllocFailed};
 use thiserror::Error;
 
@@ -45,5 +46,14 @@ impl<T: Drop> From<AllocFailed<T>> for FarmFault {
 
     fn from(_error: AllocFailed<T>) -> FarmFault {
         FarmFault::Memory
+    }
+}
+
+impl From<EndRefusal> for FarmFault {
+    fn from(refusal: EndRefusal) -> FarmFault {
+        match refusal {
+            EndRefusal::Disagrees => FarmFault::ReceiptLost,
+            EndRefusal::OutOfMemory => FarmFault::Memory,
+        }
     }
 }

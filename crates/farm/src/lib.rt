@@ -2,16 +2,29 @@
 #![tactic(auto)]
 
 mod answers;
+mod closing;
+mod desk;
 mod down;
 mod ends;
 mod fault;
 mod faults;
+mod hall;
+mod home;
+mod many;
 mod one;
+mod open_folders;
+mod opening;
+mod plan;
+mod router;
 mod run;
 mod steps;
+mod threads;
 mod work;
+mod worker;
+mod worker_steps;
 
 pub use down::DownCount;
 pub use ends::OneEnd;
+pub use farmend::FarmEnd;
 pub use fault::FarmFault;
 pub use one::Farm;

@@ -6,10 +6,11 @@ use super::answers::answers_of;
 use super::ends::OneEnd;
 use super::fault::FarmFault;
 use super::faults::start_fault;
+use super::open_folders::give_up_all;
 use super::run::{HOME, Run};
 use executions::{Executor, LiveShared};
 use farm_base::NodeId;
-use farmboard::{Board, abandon_running};
+use farmboard::Board;
 use jobs::{Answer, Jobs};
 use schedule::Setup;
 use solverkeys::Keyed;
@@ -58,11 +59,7 @@ impl Farm {
 /// The board and the jobs. Tenures that are still in use are given up.
 fn parts_of(run: Run) -> (Board, Jobs) {
     let Run { board, jobs, live } = run;
-    let mut left = live;
-    while let Some(running) = left.pop() {
-        abandon_running(running);
-    }
-    let _batches = left.into_batches();
+    give_up_all(live);
     (board, jobs)
 }
 

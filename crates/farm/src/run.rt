@@ -7,8 +7,7 @@ ghost use Rattle.farm.specs.Places.{Fits, IsSeenIn};
 use super::fault::FarmFault;
 use super::faults::{edits_fault, jobs_fault, run_fault, shared_fault};
 use super::steps::{finish, give_up, start, start_tenure};
-use super::work::{Place, Work, shared_folders};
-use cachemounts::wants_of;
+use super::work::{Place, Work, fit, shared_folders};
 use executions::{ExecOutcome, Executor, LiveShared, Ran, run_leased};
 use farm_base::{Content, Copied, FolderName, Items, Key, Mode, NodeId, Slot, Ticket, Want};
 use farmboard::{Board, Running, abandon_running};
@@ -127,13 +126,7 @@ impl Run {
         executor: &mut dyn Executor,
         task: Task,
     ) -> Result<(), FarmFault> {
-        let Some(place) = work.find(HOME, &task.key) else {
-            return Err(FarmFault::ReceiptLost);
-        };
-        if place.keyed.graph().inputs_of(place.vertex).len() != task.inputs.len() {
-            return Err(FarmFault::ReceiptLost);
-        }
-        let wants = wants_of(alloc, place.keyed, place.vertex)?;
+        let (place, wants) = fit(alloc, work, HOME, &task)?;
         match start(alloc, &mut self.board, HOME, wants)? {
             Ok(running) => self.execute(alloc, executor, running, task, place),
             Err(why) => self
@@ -229,7 +222,7 @@ impl Run {
 }
 
 /// The SHARED folders among the wants, as they stand.
-fn views_of(
+pub(crate) fn views_of(
     alloc: Global,
     live: &LiveShared,
     wants: &[Want],
@@ -261,7 +254,7 @@ fn add_view(
 }
 
 /// What the tenure of a SHARED folder leaves: the content in its one slot.
-fn lefts_of(
+pub(crate) fn lefts_of(
     alloc: Global,
     running: &Running,
     content: Content,
@@ -274,7 +267,7 @@ fn lefts_of(
 }
 
 /// Applies the edits of the SHARED folders.
-fn apply_shared(
+pub(crate) fn apply_shared(
     alloc: Global,
     live: &mut LiveShared,
     ticket: Ticket,

@@ -98,7 +98,7 @@ pub(crate) fn start_tenure(
 }
 
 /// The execution, which is that of a tenure.
-fn tenure_of(running: Running) -> Result<Running, FarmFault>
+pub(crate) fn tenure_of(running: Running) -> Result<Running, FarmFault>
     ensures { IfOk result (λ tenure. (tenure ≡ running) × (running.grant.tenure ≡ true)) }
 {
     if running.grant().tenure {

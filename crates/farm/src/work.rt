@@ -1,9 +1,12 @@
 //! The jobs with their graphs.
 ghost use Rattle.std.specs.Prelude.{◌≡◌, ◌<◌, length, All, IfOk, OnOk, IfSome, Some, slice_get};
+ghost use Rattle.farm.specs.Places.{Fits};
 
+use super::fault::FarmFault;
 use cachemounts::wants_of;
 use farm_base::{Copied, FolderName, Key, Mode, NodeId, Wants};
 use farmend::Spot;
+use jobs::Task;
 use solverkeys::Keyed;
 use std::alloc::{AllocError, Global};
 use std::collections::HashMap;
@@ -25,7 +28,9 @@ pub(crate) struct Place<'a> {
 impl Work {
     ghost use Rattle.farm.specs.Places.{IsPlaceOf};
 
-    pub(crate) fn of(alloc: Global, jobs: Vec<(NodeId, Keyed)>) -> Result<Self, AllocError> {
+    pub(crate) fn of(alloc: Global, jobs: Vec<(NodeId, Keyed)>) -> Result<Self, AllocError>
+        ensures { IfOk result (λ work. work.jobs.items ≡ jobs.items) }
+    {
         let mut homes = HashMap::new(alloc);
         for (job, (node, keyed)) in jobs.iter().enumerate() {
             add_keys(&mut homes, job, *node, keyed.keys())?;
@@ -35,6 +40,14 @@ impl Work {
 
     pub(crate) fn jobs(&self) -> &[(NodeId, Keyed)] {
         self.jobs.as_slice()
+    }
+
+    /// The jobs, in their order.
+    pub(crate) fn into_jobs(self) -> Vec<(NodeId, Keyed)>
+        ensures { result.items ≡ self.jobs.items }
+    {
+        let Work { jobs, homes: _ } = self;
+        jobs
     }
 
     /// How many keys there are, those of each node for themselves.
@@ -51,6 +64,25 @@ impl Work {
         let vertex = keyed.find(key)?;
         Some(Place { keyed, vertex })
     }
+}
+
+/// The vertex of a task on a node, and the wants of its execution.
+pub(crate) fn fit<'a>(
+    alloc: Global,
+    work: &'a Work,
+    node: NodeId,
+    task: &Task,
+) -> Result<(Place<'a>, Wants), FarmFault>
+    ensures { IfOk result (λ found. Fits found.0 task.now found.1) }
+{
+    let Some(place) = work.find(node, &task.key) else {
+        return Err(FarmFault::ReceiptLost);
+    };
+    if place.keyed.graph().inputs_of(place.vertex).len() != task.inputs.len() {
+        return Err(FarmFault::ReceiptLost);
+    }
+    let wants = wants_of(alloc, place.keyed, place.vertex)?;
+    Ok((place, wants))
 }
 
 /// Notes the job of each key that has none yet on the node.

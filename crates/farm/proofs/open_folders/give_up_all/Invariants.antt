@@ -1,5 +1,5 @@
 use Rattle.std.proofs.Common.{length}
-use Rattle.farm.proofs.one.parts_of.Given as goal
+use Rattle.farm.proofs.open_folders.give_up_all.Given as goal
 
 -- each turn takes one
 abbrev pub decreases-loop-running : goal.decreases-loop-running

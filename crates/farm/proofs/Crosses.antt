@@ -1,0 +1,91 @@
+-- What the threads of a farm share, or hand on, may cross threads.
+use denote.Param.Send.{IsSend, IsSync, recorded_send, struct_send, sendable}
+use denote.Struct.Declared.{shape}
+use Rattle.std.proofs.Crossing.{crosses}
+use Rattle.std.proofs.MapsCrossing as maps
+use Rattle.farm_base.specs.contracts.message.Message as Message
+use Rattle.protocol.specs.contracts.ask.KeptAsk as KeptAsk
+use Rattle.protocol.specs.contracts.event.Event as Event
+use Rattle.folders.specs.contracts.folder.Folder as Folder
+use Rattle.farmboard.specs.contracts.tokens.Running as Running
+use Rattle.executions.specs.contracts.batch.Batch as Batch
+use Rattle.executions.specs.contracts.live_shared.Open as Open
+use Rattle.nodecore.specs.contracts.stored.StoredContents as StoredContents
+use Rattle.nodecore.specs.contracts.node_core.NodeCore as NodeCore
+use Rattle.world.specs.contracts.world.World as World
+use Rattle.farmboard.specs.contracts.board.Board as Board
+use Rattle.farmboard.specs.contracts.board.Board.TheInside as Inside
+use Rattle.jobs.specs.contracts.jobs.Jobs as Jobs
+use Rattle.executions.specs.contracts.live_shared.LiveShared as LiveShared
+use Rattle.solverkeys.specs.contracts.keyed.Keyed as Keyed
+use Rattle.farm.specs.contracts.work.Work as Work
+use Rattle.farm.specs.contracts.home.NodeJobs as NodeJobs
+use Rattle.farm.specs.contracts.open_folders.OpenFolders as OpenFolders
+use Rattle.farm.specs.contracts.home.Home as Home
+use Rattle.farm.specs.contracts.desk.Desk as Desk
+use Rattle.farm.specs.contracts.hall.Hall as Hall
+
+pub message : IsSend Message.the_row
+message = search (sendable, crosses, maps.crosses) depth 60 fits 20000
+
+pub event : IsSend Event.the_row
+event = search (sendable, crosses, maps.crosses) depth 60 fits 20000
+
+pub kept_ask : IsSend KeptAsk.the_row
+kept_ask = search (sendable, crosses, maps.crosses) depth 60 fits 20000
+
+pub stored_contents : IsSend StoredContents.the_row
+stored_contents = search (sendable, crosses, maps.crosses) depth 60 fits 20000
+
+pub node_core : IsSend NodeCore.the_row
+node_core = search (sendable, crosses, maps.crosses, kept_ask, stored_contents) depth 60 fits 20000
+
+pub world : IsSend World.the_field.row
+world = search (sendable, crosses, maps.crosses, message, node_core) depth 60 fits 20000
+
+board_inside : IsSend Inside.the_row
+board_inside =
+    recorded_send Inside.the_field.row _ _ Inside.the_type.to_one
+    (struct_send (shape Inside.the_type) (search sendable depth 40, (search (crosses, event) depth 40, (search (sendable, crosses) depth 40, (world, (search (sendable, crosses) depth 40, (search (sendable, crosses) depth 40, (search (sendable, crosses) depth 40, (search (sendable, crosses) depth 40, tt)))))))))
+
+pub board : IsSend Board.the_row
+board = search (sendable, board_inside) depth 20
+
+pub jobs : IsSend Jobs.the_row
+jobs = search (sendable, crosses, maps.crosses) depth 60 fits 20000
+
+pub running : IsSend Running.the_row
+running = search (sendable, crosses, maps.crosses) depth 60 fits 20000
+
+pub folder : IsSend Folder.the_row
+folder = search (sendable, crosses, maps.crosses) depth 60 fits 20000
+
+pub batch : IsSend Batch.the_row
+batch = search (sendable, crosses, maps.crosses) depth 60 fits 20000
+
+pub open_folder : IsSend Open.the_row
+open_folder = search (sendable, crosses, maps.crosses, running, folder) depth 60 fits 20000
+
+pub live_shared : IsSend LiveShared.the_row
+live_shared = search (sendable, crosses, maps.crosses, batch, open_folder) depth 60 fits 20000
+
+pub keyed : IsSync Keyed.the_row
+keyed = search (sendable, crosses, maps.crosses) depth 60 fits 20000
+
+pub work : IsSync Work.the_row
+work = search (sendable, crosses, maps.crosses, keyed) depth 60 fits 20000
+
+pub node_jobs : IsSend NodeJobs.the_row
+node_jobs = search (sendable, crosses, maps.crosses, jobs) depth 60 fits 20000
+
+pub open_folders : IsSend OpenFolders.the_row
+open_folders = search (sendable, crosses, maps.crosses, live_shared) depth 60 fits 20000
+
+pub home : IsSync Home.the_row
+home = search (sendable, crosses, node_jobs, open_folders) depth 60 fits 20000
+
+pub desk : IsSend Desk.the_row
+desk = search (sendable, crosses, maps.crosses, board) depth 60 fits 20000
+
+pub hall : IsSync Hall.the_row
+hall = search (sendable, crosses, maps.crosses, home, desk, work) depth 60 fits 20000

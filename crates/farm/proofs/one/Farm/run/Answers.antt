@@ -1,0 +1,6 @@
+use Rattle.std.proofs.Common.{◌≡◌}
+use Rattle.farm.proofs.one.Farm.run.Goals as goal
+
+pub returns-clause-answers : goal.returns-clause-answers
+returns-clause-answers g c =
+    rw (c.as_slice-3.ensures.value, c.as_slice-2.ensures.value, c.in_ok-back.ensures, c.in_ok-hired.ensures.nodes, c.in_ok-hired.ensures.had, c.as_slice.ensures.value) at c.in_ok-end.ensures.answers

@@ -1,0 +1,123 @@
+//! The ends of tenures, whose folders are closed then.
+use super::desk::{Desk, Ends, Stage};
+use super::fault::FarmFault;
+use super::faults::shared_fault;
+use super::hall::Hall;
+use super::run::lefts_of;
+use super::worker::push_receipt;
+use farm_base::{Content, FolderName, NodeId};
+use farmboard::{Finished, Receipt, Running, Settled, abandon_finished, abandon_running};
+use std::alloc::Global;
+use std::sync::Wait;
+
+/// A tenure that ended and is not settled.
+pub(crate) struct Leaving {
+    node: NodeId,
+    folder: FolderName,
+    finished: Finished,
+}
+
+/// Spends what is not settled.
+pub(crate) fn abandon_all(leaving: Vec<Leaving>) {
+    let mut left = leaving;
+    while let Some(one) = left.pop() {
+        abandon(one);
+    }
+    left.into_iter().destroy_empty();
+}
+
+fn abandon(leaving: Leaving) {
+    let Leaving {
+        node: _,
+        folder: _,
+        finished,
+    } = leaving;
+    abandon_finished(finished);
+}
+
+/// Closes the folder of a tenure, and takes its content.
+fn close<R: Wait>(
+    rt: &R,
+    hall: &Hall,
+    node: NodeId,
+    folder: &FolderName,
+) -> Result<(Running, Content), FarmFault> {
+    let Some(home) = hall.home(node) else {
+        return Err(FarmFault::ReceiptLost);
+    };
+    let closed = home.open.lock(rt).live.close(hall.alloc, folder);
+    closed.map_err(shared_fault)
+}
+
+/// Ends a tenure with the content of its folder.
+fn finish(
+    alloc: Global,
+    desk: &mut Desk,
+    running: Running,
+    content: Content,
+) -> Result<Finished, FarmFault> {
+    match lefts_of(alloc, &running, content) {
+        Ok(lefts) => desk.finish(alloc, running, lefts),
+        Err(_) => {
+            abandon_running(running);
+            Err(FarmFault::Memory)
+        }
+    }
+}
+
+/// Ends the next tenure that is to end, if there is one. Whoever calls this has the lock of the desk until then: so
+/// no execution asks for the folder between.
+pub(crate) fn end_next<R: Wait>(
+    rt: &R,
+    hall: &Hall,
+    desk: &mut Desk,
+    leaving: &mut Vec<Leaving>,
+    ends: Ends,
+) -> Result<bool, FarmFault> {
+    let Some((node, folder)) = desk.next_to_end(hall.alloc, ends)? else {
+        return Ok(false);
+    };
+    if leaving.reserve(1).is_err() {
+        return Err(FarmFault::Memory);
+    }
+    let (running, content) = close(rt, hall, node, &folder)?;
+    let finished = finish(hall.alloc, desk, running, content)?;
+    desk.stage(node, &folder, Stage::Ending);
+    leaving.push_reserved(Leaving {
+        node,
+        folder,
+        finished,
+    });
+    Ok(true)
+}
+
+/// Looks whether the tenure that ended first is settled by now.
+pub(crate) fn settle_next(
+    desk: &mut Desk,
+    leaving: &mut Vec<Leaving>,
+    receipts: &mut Vec<Receipt>,
+) -> Result<bool, FarmFault> {
+    if leaving.is_empty() || leaving.reserve(1).is_err() {
+        return Ok(false);
+    }
+    let Leaving {
+        node,
+        folder,
+        finished,
+    } = leaving.remove(0);
+    let receipt = match desk.board.receipt(finished) {
+        Settled::Receipt(receipt) => Some(receipt),
+        Settled::Fenced | Settled::Lost => None,
+        Settled::Waiting(finished) => {
+            leaving.push_reserved(Leaving {
+                node,
+                folder,
+                finished,
+            });
+            return Ok(false);
+        }
+    };
+    desk.forget(node, &folder);
+    push_receipt(receipts, receipt)?;
+    Ok(true)
+}

@@ -1,0 +1,131 @@
+//! What the threads of a farm share.
+use super::desk::Desk;
+use super::fault::FarmFault;
+use super::home::Home;
+use super::work::Work;
+use farm_base::NodeId;
+use std::alloc::Global;
+use std::sync::atomic::{AtomicBool, AtomicU64, Ordering};
+use std::sync::{Mutex, Wait};
+use std::thread;
+
+/// What the threads of a farm share. Whoever holds the lock of the desk may take that of a home, and no other way round.
+#[derive(Drop)]
+pub(crate) struct Hall {
+    pub(crate) alloc: Global,
+    pub(crate) desk: Mutex<Desk>,
+    /// By node, from node 1 on.
+    pub(crate) homes: Vec<Home>,
+    pub(crate) work: Work,
+    /// The first fault.
+    pub(crate) fault: Mutex<Option<FarmFault>>,
+    pub(crate) stop: AtomicBool,
+    /// A number that changes with whatever may let a waiting worker go on.
+    pub(crate) changes: AtomicU64,
+    /// A number that changes with each step of a worker.
+    pub(crate) steps: AtomicU64,
+    /// For each worker the number of `changes` at which it last saw that it has to wait.
+    pub(crate) waits: Vec<AtomicU64>,
+    /// How many workers have ended.
+    pub(crate) ended: AtomicU64,
+}
+
+impl Hall {
+    /// What belongs to a node, if it is there.
+    pub(crate) fn home(&self, node: NodeId) -> Option<&Home> {
+        if node.0 == 0 {
+            return None;
+        }
+        self.homes.get(node.0 as usize - 1)
+    }
+
+    pub(crate) fn is_stopped(&self) -> bool {
+        self.stop.load(Ordering::SeqCst)
+    }
+
+    /// `Stalled` once all threads are to stop. It isn't what the run ends with: an earlier fault is.
+    pub(crate) fn go_on(&self) -> Result<(), FarmFault> {
+        if self.is_stopped() {
+            return Err(FarmFault::Stalled);
+        }
+        Ok(())
+    }
+
+    /// Notes a fault, if it is the first, and stops all threads.
+    pub(crate) fn fail<R: Wait>(&self, rt: &R, fault: FarmFault) {
+        let mut first = self.fault.lock(rt);
+        if first.is_none() {
+            *first = Some(fault);
+        }
+        self.stop.store(true, Ordering::SeqCst);
+    }
+
+    pub(crate) fn changes(&self) -> u64 {
+        self.changes.load(Ordering::SeqCst)
+    }
+
+    /// Notes a change.
+    pub(crate) fn note_change(&self) {
+        self.changes.fetch_add(1, Ordering::SeqCst);
+    }
+
+    /// Notes a step of a worker, which is a change.
+    pub(crate) fn note_step(&self) {
+        self.steps.fetch_add(1, Ordering::SeqCst);
+        self.note_change();
+    }
+
+    /// Waits until something changes, as of the number `seen` of changes at which a worker had to wait. `Stalled` once all
+    /// threads are to stop.
+    pub(crate) fn pause<R: Wait>(&self, rt: &R, worker: usize, seen: u64) -> Result<(), FarmFault> {
+        if let Some(wait) = self.waits.get(worker) {
+            wait.store(seen, Ordering::SeqCst);
+        }
+        for _ in rt.forever() {
+            self.go_on()?;
+            if self.changes() != seen {
+                return Ok(());
+            }
+            thread::yield_now();
+        }
+        unreachable!()
+    }
+
+    /// Whether each worker has ended, or has to wait as of this number of changes.
+    pub(crate) fn all_wait(&self, changes: u64) -> bool {
+        self.waits.iter().all(|wait| wait.load(Ordering::SeqCst) == changes
+            || is_end(wait.load(Ordering::SeqCst)))
+    }
+
+    /// Notes that a worker has ended.
+    pub(crate) fn end(&self, worker: usize) {
+        if let Some(wait) = self.waits.get(worker) {
+            wait.store(ENDED, Ordering::SeqCst);
+        }
+        self.ended.fetch_add(1, Ordering::SeqCst);
+        self.note_step();
+    }
+
+    /// Whether each worker has ended.
+    pub(crate) fn all_ended(&self) -> bool {
+        self.ended.load(Ordering::SeqCst) >= self.waits.len() as u64
+    }
+}
+
+/// The wait of a worker that has ended.
+const ENDED: u64 = u64::MAX;
+
+fn is_end(wait: u64) -> bool {
+    wait == ENDED
+}
+
+/// What a thread sees of the others. It stands for the hall where threads are started: all threads may share it.
+pub(crate) trait Shared: Sync {
+    fn hall(&self) -> &Hall;
+}
+
+impl Shared for Hall {
+    fn hall(&self) -> &Hall {
+        self
+    }
+}

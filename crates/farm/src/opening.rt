@@ -1,0 +1,129 @@
+//! A hall where the threads of a farm can begin.
+ghost use Rattle.std.specs.Prelude.{◌≡◌, IfOk};
+
+use super::desk::Desk;
+use super::fault::FarmFault;
+use super::faults::jobs_fault;
+use super::hall::Hall;
+use super::home::Home;
+use super::work::Work;
+use farm_base::NodeId;
+use farmboard::Board;
+use jobs::{JobId, Jobs};
+use solverkeys::Keyed;
+use std::alloc::{AllocError, Global};
+use std::sync::Mutex;
+use std::sync::atomic::{AtomicBool, AtomicU64};
+
+/// The jobs of each node, and for each job its node and its number there.
+#[derive(Drop)]
+pub(crate) struct Submitted {
+    pub(crate) tables: Vec<Jobs>,
+    pub(crate) numbers: Vec<(NodeId, JobId)>,
+}
+
+/// A table without jobs for each node.
+fn tables_of(alloc: Global, nodes: u32) -> Result<Vec<Jobs>, AllocError> {
+    let mut tables = Vec::new(alloc);
+    for _ in 0..nodes {
+        tables.push(Jobs::new(alloc))?;
+    }
+    Ok(tables)
+}
+
+/// The place of a node's table, if the node is there.
+fn place_of(node: NodeId, nodes: u32) -> Option<usize> {
+    if node.0 == 0 || node.0 > nodes {
+        return None;
+    }
+    Some(node.0 as usize - 1)
+}
+
+/// Submits a job on its node.
+fn submit(
+    alloc: Global,
+    tables: &mut Vec<Jobs>,
+    nodes: u32,
+    node: NodeId,
+    keyed: &Keyed,
+) -> Result<JobId, FarmFault> {
+    let Some(place) = place_of(node, nodes) else {
+        return Err(FarmFault::BadSetup);
+    };
+    match tables.get_mut(place) {
+        Some(table) => table.submit_keyed(alloc, keyed).map_err(jobs_fault),
+        None => Err(FarmFault::BadSetup),
+    }
+}
+
+/// Submits the jobs on their nodes. `BadSetup` where a node isn't there.
+pub(crate) fn submit_all(
+    alloc: Global,
+    nodes: u32,
+    jobs: &[(NodeId, Keyed)],
+) -> Result<Submitted, FarmFault> {
+    let mut tables = tables_of(alloc, nodes)?;
+    let mut numbers = Vec::with_capacity(alloc, jobs.len())?;
+    for (node, keyed) in jobs {
+        let number = submit(alloc, &mut tables, nodes, *node, keyed)?;
+        numbers.push((*node, number))?;
+    }
+    Ok(Submitted { tables, numbers })
+}
+
+/// Whether the nodes of all workers are there, and each job has a worker on its node.
+pub(crate) fn are_staffed(nodes: u32, jobs: &[(NodeId, Keyed)], workers: &[NodeId]) -> bool {
+    let are_there = workers.iter().all(|node| 1 <= node.0 && node.0 <= nodes);
+    are_there && jobs.iter().all(|job| is_among(job.0, workers))
+}
+
+fn is_among(node: NodeId, nodes: &[NodeId]) -> bool {
+    nodes.iter().any(|other| *other == node)
+}
+
+/// What belongs to each node.
+fn homes_of(alloc: Global, tables: Vec<Jobs>) -> Result<Vec<Home>, AllocError> {
+    let mut homes = Vec::with_capacity(alloc, tables.len())?;
+    for table in tables {
+        homes.push(Home::new(alloc, table))?;
+    }
+    Ok(homes)
+}
+
+/// What each worker waits for: nothing, at first.
+fn waits_of(alloc: Global, workers: usize) -> Result<Vec<AtomicU64>, AllocError> {
+    let mut waits = Vec::with_capacity(alloc, workers)?;
+    for _ in 0..workers {
+        waits.push(AtomicU64::new(0))?;
+    }
+    Ok(waits)
+}
+
+/// A hall for this number of workers.
+pub(crate) fn open(
+    alloc: Global,
+    board: Board,
+    tables: Vec<Jobs>,
+    work: Work,
+    workers: usize,
+) -> Result<Hall, AllocError>
+    ensures { IfOk result (λ hall. hall.work ≡ work) }
+{
+    let desk = Desk {
+        board,
+        tenures: Vec::new(alloc),
+        recalled: Vec::new(alloc),
+    };
+    Ok(Hall {
+        alloc,
+        desk: Mutex::new(desk),
+        homes: homes_of(alloc, tables)?,
+        work,
+        fault: Mutex::new(None),
+        stop: AtomicBool::new(false),
+        changes: AtomicU64::new(1),
+        steps: AtomicU64::new(0),
+        waits: waits_of(alloc, workers)?,
+        ended: AtomicU64::new(0),
+    })
+}

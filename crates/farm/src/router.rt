@@ -1,0 +1,209 @@
+//! The router: it delivers the messages, ends tenures, and disturbs the farm by its plan.
+use super::closing::{Leaving, abandon_all, end_next, settle_next};
+use super::desk::{Desk, Ends};
+use super::down::DownCount;
+use super::fault::FarmFault;
+use super::faults::board_fault;
+use super::hall::Hall;
+use super::plan::Plan;
+use farm_base::NodeId;
+use farmboard::{BoardRefusal, FarmStep, Receipt};
+use protocol::{EventNote, NodeNote};
+use std::alloc::Global;
+use std::sync::Wait;
+use std::sync::atomic::Ordering;
+use std::thread;
+
+/// How often in a row all is sent again where nobody can go on.
+const IDLE_ROUNDS: u32 = 1_000;
+
+/// What the router keeps.
+struct Router {
+    plan: Plan,
+    /// The tenures that ended and are not settled.
+    leaving: Vec<Leaving>,
+    /// The receipts of those that are.
+    receipts: Vec<Receipt>,
+    /// How often in a row all was sent again.
+    rounds: u32,
+    /// The number of the workers' steps then.
+    steps: u64,
+    downs: DownCount,
+}
+
+/// What a turn of the router did.
+enum Turn {
+    Acted,
+    /// Nothing, since a worker can go on.
+    Waits,
+    /// Nothing, since all is over.
+    Ends,
+}
+
+/// Routes until all workers have ended and all tenures are settled. The answer are the receipts of the tenures.
+pub(crate) fn route<R: Wait>(
+    rt: &R,
+    alloc: Global,
+    hall: &Hall,
+    plan: Plan,
+) -> Result<Vec<Receipt>, FarmFault> {
+    let mut router = Router {
+        plan,
+        leaving: Vec::new(alloc),
+        receipts: Vec::new(alloc),
+        rounds: 0,
+        steps: 0,
+        downs: DownCount::new(),
+    };
+    let routed = router.run(rt, hall);
+    let Router {
+        plan: _,
+        leaving,
+        receipts,
+        rounds: _,
+        steps: _,
+        downs: _,
+    } = router;
+    abandon_all(leaving);
+    routed?;
+    Ok(receipts)
+}
+
+impl Router {
+    fn run<R: Wait>(&mut self, rt: &R, hall: &Hall) -> Result<(), FarmFault> {
+        for _ in rt.forever() {
+            hall.go_on()?;
+            let changes = hall.changes();
+            match self.turn(rt, hall, changes)? {
+                Turn::Acted => hall.note_change(),
+                Turn::Waits => thread::yield_now(),
+                Turn::Ends => return Ok(()),
+            }
+        }
+        unreachable!()
+    }
+
+    /// One turn, in one hold of the lock.
+    fn turn<R: Wait>(&mut self, rt: &R, hall: &Hall, changes: u64) -> Result<Turn, FarmFault> {
+        let mut desk = hall.desk.lock(rt);
+        if self.act(rt, hall, &mut desk)? {
+            return Ok(Turn::Acted);
+        }
+        if hall.all_ended() && desk.tenures.is_empty() {
+            return Ok(Turn::Ends);
+        }
+        if !hall.all_wait(changes) || hall.changes() != changes {
+            return Ok(Turn::Waits);
+        }
+        self.send_again(hall, &mut desk)?;
+        Ok(Turn::Acted)
+    }
+
+    /// Does what is to be done next, if anything is.
+    fn act<R: Wait>(&mut self, rt: &R, hall: &Hall, desk: &mut Desk) -> Result<bool, FarmFault> {
+        if desk.board.world().coordinator().is_down() {
+            self.restart_coordinator(hall.alloc, desk)?;
+            return Ok(true);
+        }
+        if self.disturb(rt, hall, desk)? {
+            return Ok(true);
+        }
+        let ends = if hall.all_ended() {
+            Ends::All
+        } else {
+            Ends::Recalled
+        };
+        if end_next(rt, hall, desk, &mut self.leaving, ends)? || self.settle_all(desk)? {
+            return Ok(true);
+        }
+        deliver(hall.alloc, desk)
+    }
+
+    /// Carries out the next step of the plan. Before a node restarts, its tenures end that no execution uses.
+    fn disturb<R: Wait>(
+        &mut self,
+        rt: &R,
+        hall: &Hall,
+        desk: &mut Desk,
+    ) -> Result<bool, FarmFault> {
+        if let Some(node) = self.plan.next_restart(&desk.board) {
+            if end_next(rt, hall, desk, &mut self.leaving, Ends::OfNode(node))? {
+                return Ok(true);
+            }
+        }
+        self.plan.next(hall.alloc, desk)
+    }
+
+    /// Restarts the coordinator, which is down.
+    fn restart_coordinator(&mut self, alloc: Global, desk: &mut Desk) -> Result<(), FarmFault> {
+        match desk.board.fault(alloc, FarmStep::RestartCoordinator) {
+            Ok(()) => {
+                self.downs.worked();
+                Ok(())
+            }
+            Err(BoardRefusal::Event(_)) => {
+                if self.downs.failed() {
+                    return Err(FarmFault::CoordinatorDown);
+                }
+                Ok(())
+            }
+            Err(refusal) => Err(board_fault(refusal)),
+        }
+    }
+
+    /// Looks whether a tenure that ended is settled by now.
+    fn settle_all(&mut self, desk: &mut Desk) -> Result<bool, FarmFault> {
+        for _ in 0..self.leaving.len() {
+            if settle_next(desk, &mut self.leaving, &mut self.receipts)? {
+                return Ok(true);
+            }
+        }
+        Ok(false)
+    }
+
+    /// Makes each node and the coordinator send again what is open. `Stalled` where that was done too often in a row,
+    /// and no worker made a step in between.
+    fn send_again(&mut self, hall: &Hall, desk: &mut Desk) -> Result<(), FarmFault> {
+        let steps = hall.steps.load(Ordering::SeqCst);
+        if steps != self.steps {
+            self.steps = steps;
+            self.rounds = 0;
+        }
+        if self.rounds >= IDLE_ROUNDS {
+            return Err(FarmFault::Stalled);
+        }
+        self.rounds += 1;
+        resend_all(hall.alloc, desk)
+    }
+}
+
+/// Makes each node and the coordinator send again what is open.
+fn resend_all(alloc: Global, desk: &mut Desk) -> Result<(), FarmFault> {
+    for node in 0..desk.board.setup().nodes {
+        step(alloc, desk, FarmStep::Resend(NodeId(node + 1)))?;
+    }
+    step(alloc, desk, FarmStep::Nudge)
+}
+
+/// Carries out a step, which the farm may refuse.
+fn step(alloc: Global, desk: &mut Desk, step: FarmStep) -> Result<(), FarmFault> {
+    match desk.board.fault(alloc, step) {
+        Ok(()) | Err(BoardRefusal::Event(_)) => Ok(()),
+        Err(refusal) => Err(board_fault(refusal)),
+    }
+}
+
+/// Delivers the next message, if one is left.
+fn deliver(alloc: Global, desk: &mut Desk) -> Result<bool, FarmFault> {
+    match desk.board.deliver_next(alloc) {
+        Ok(Some(outcome)) => {
+            if let EventNote::Node(NodeNote::Recalled(ticket)) = outcome.note {
+                desk.recall(ticket)?;
+            }
+            Ok(true)
+        }
+        Ok(None) => Ok(false),
+        Err(BoardRefusal::Event(_)) => Ok(true),
+        Err(refusal) => Err(board_fault(refusal)),
+    }
+}

@@ -1,0 +1,59 @@
+//! The threads of a farm: one for each executor, beside the router.
+use super::fault::FarmFault;
+use super::hall::Shared;
+use super::plan::Plan;
+use super::router::route;
+use super::worker::{WorkerEnd, work};
+use executions::{Executor, Gate};
+use farm_base::NodeId;
+use farmboard::Receipt;
+use std::alloc::Global;
+use std::sync::Wait;
+use std::thread;
+use std::thread::{JoinHandle, Threads};
+
+/// What the threads hand back: what each worker does, and the receipts of the tenures.
+#[derive(Drop)]
+pub(crate) struct Ends {
+    pub(crate) workers: Vec<WorkerEnd>,
+    pub(crate) receipts: Vec<Receipt>,
+}
+
+/// Starts a thread for each executor, routes in this one, and joins them. A fault is noted in the hall.
+pub(crate) fn run_threads<R: Threads + Wait + Sync, G: Gate, S: Shared>(
+    rt: &R,
+    alloc: Global,
+    shared: &S,
+    executors: Vec<(NodeId, Box<dyn Executor + Send>)>,
+    plan: Plan,
+    gate: &G,
+) -> Ends {
+    thread::scope(thread::scope_env(), rt, |scope| -> Ends {
+        let mut children: Vec<JoinHandle<WorkerEnd>> = Vec::new(alloc);
+        for (worker, hired) in executors.into_iter().enumerate() {
+            if children.reserve(1).is_err() {
+                shared.hall().fail(rt, FarmFault::Memory);
+                break;
+            }
+            match scope.spawn(move || work(rt, alloc, shared.hall(), gate, worker, hired)) {
+                Ok(child) => children.push_reserved(child),
+                Err(_) => {
+                    shared.hall().fail(rt, FarmFault::NoThread);
+                    break;
+                }
+            }
+        }
+        let mut receipts = Vec::new(alloc);
+        match route(rt, alloc, shared.hall(), plan) {
+            Ok(settled) => receipts = settled,
+            Err(fault) => shared.hall().fail(rt, fault),
+        }
+        let mut workers = Vec::new(alloc);
+        for child in children {
+            if workers.push(child.join(rt)).is_err() {
+                shared.hall().fail(rt, FarmFault::Memory);
+            }
+        }
+        Ends { workers, receipts }
+    })
+}

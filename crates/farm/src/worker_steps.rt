@@ -1,0 +1,389 @@
+//! The steps of a worker on the board. Each takes the lock for itself, and waits without it.
+ghost use Rattle.std.specs.Prelude.{◌≡◌, IfOk, IfSome};
+ghost use Rattle.protocol.specs.Names.{tenure_wants};
+
+use super::desk::Stage;
+use super::fault::FarmFault;
+use super::faults::board_fault;
+use super::hall::Hall;
+use super::home::Home;
+use super::steps::tenure_of;
+use executions::Gate;
+use farm_base::{Content, FolderName, Key, Mode, NodeId, Slot, Want, Wants, Why};
+use farmboard::{
+    Accept, Asked, BoardRefusal, Finished, Granted, Look, Receipt, Running, Settled, abandon_asked,
+    abandon_finished, abandon_granted,
+};
+use std::alloc::Global;
+use std::sync::Wait;
+use std::thread;
+
+/// How often a gate is asked for one execution.
+const GATE_TURNS: u32 = 10_000_000;
+
+/// Where a worker stands: its place among the workers, and its node.
+#[derive(Clone, Copy)]
+pub(crate) struct Post<'a> {
+    pub(crate) alloc: Global,
+    pub(crate) hall: &'a Hall,
+    pub(crate) home: &'a Home,
+    pub(crate) worker: usize,
+    pub(crate) node: NodeId,
+}
+
+/// Waits until an ask is granted or denied. None where its node restarted.
+fn settle_ask<R: Wait>(
+    rt: &R,
+    post: Post<'_>,
+    first: Asked,
+) -> Result<Option<Result<Granted, Why>>, FarmFault>
+    ensures { IfOk result (λ settled. IfSome settled (λ known. IfOk known (λ granted. granted.wants ≡ first.wants))) }
+{
+    let mut asked = first;
+    for _ in rt.forever() {
+        let seen = post.hall.changes();
+        let accepted = post.hall.desk.lock(rt).board.accept(post.alloc, asked);
+        match accepted {
+            Ok(Accept::Granted(granted)) => return Ok(Some(Ok(granted))),
+            Ok(Accept::Denied(why)) => return Ok(Some(Err(why))),
+            Ok(Accept::Lost) => return Ok(None),
+            Ok(Accept::Waiting(token)) => asked = token,
+            Err((token, refusal)) => {
+                abandon_asked(token);
+                return Err(board_fault(refusal));
+            }
+        }
+        if let Err(fault) = post.hall.pause(rt, post.worker, seen) {
+            abandon_asked(asked);
+            return Err(fault);
+        }
+    }
+    unreachable!()
+}
+
+/// Gives a lease back that the node no longer has.
+fn give_back<R: Wait>(rt: &R, post: Post<'_>, granted: Granted) -> Result<(), FarmFault> {
+    let given = post.hall.desk.lock(rt).give_back(post.alloc, granted);
+    post.hall.note_step();
+    given
+}
+
+/// Begins an execution once the contents are there from which it begins. None where its node restarted.
+fn begin<R: Wait>(rt: &R, post: Post<'_>, first: Granted) -> Result<Option<Running>, FarmFault>
+    ensures { IfOk result (λ begun. IfSome begun (λ running. running.wants ≡ first.wants)) }
+{
+    let mut granted = first;
+    for _ in rt.forever() {
+        let seen = post.hall.changes();
+        let looked = post.hall.desk.lock(rt).board.look(&granted);
+        match looked {
+            Look::Ready => return begin_now(rt, post, granted),
+            Look::Missing => {}
+            Look::Gone => {
+                give_back(rt, post, granted)?;
+                return Ok(None);
+            }
+        }
+        if let Err(fault) = post.hall.pause(rt, post.worker, seen) {
+            abandon_granted(granted);
+            return Err(fault);
+        }
+    }
+    unreachable!()
+}
+
+/// Begins an execution. None where its node restarted.
+fn begin_now<R: Wait>(
+    rt: &R,
+    post: Post<'_>,
+    granted: Granted,
+) -> Result<Option<Running>, FarmFault>
+    ensures { IfOk result (λ begun. IfSome begun (λ running. running.wants ≡ granted.wants)) }
+{
+    let begun = post.hall.desk.lock(rt).board.begin(post.alloc, granted);
+    post.hall.note_step();
+    match begun {
+        Ok(running) => Ok(Some(running)),
+        Err((granted, BoardRefusal::Event(_))) => {
+            give_back(rt, post, granted)?;
+            Ok(None)
+        }
+        Err((granted, refusal)) => {
+            abandon_granted(granted);
+            Err(board_fault(refusal))
+        }
+    }
+}
+
+/// Waits until a finished execution is settled. None where it doesn't count.
+fn settle<R: Wait>(rt: &R, post: Post<'_>, first: Finished) -> Result<Option<Receipt>, FarmFault> {
+    let mut finished = first;
+    for _ in rt.forever() {
+        let seen = post.hall.changes();
+        let settled = post.hall.desk.lock(rt).board.receipt(finished);
+        match settled {
+            Settled::Receipt(receipt) => return Ok(Some(receipt)),
+            Settled::Fenced | Settled::Lost => return Ok(None),
+            Settled::Waiting(token) => finished = token,
+        }
+        if let Err(fault) = post.hall.pause(rt, post.worker, seen) {
+            abandon_finished(finished);
+            return Err(fault);
+        }
+    }
+    unreachable!()
+}
+
+/// Ends an execution with what it leaves, and waits until it is settled.
+pub(crate) fn finish<R: Wait>(
+    rt: &R,
+    post: Post<'_>,
+    running: Running,
+    lefts: Vec<(Slot, Content)>,
+) -> Result<Option<Receipt>, FarmFault> {
+    let finished = finish_use(rt, post, running, lefts);
+    post.hall.note_step();
+    settle(rt, post, finished?)
+}
+
+/// Ends an execution with what it leaves. It uses its SHARED folders no more.
+fn finish_use<R: Wait>(
+    rt: &R,
+    post: Post<'_>,
+    running: Running,
+    lefts: Vec<(Slot, Content)>,
+) -> Result<Finished, FarmFault> {
+    let mut desk = post.hall.desk.lock(rt);
+    desk.release(post.node, running.wants().as_slice());
+    desk.finish(post.alloc, running, lefts)
+}
+
+/// Ends an execution that leaves nothing.
+pub(crate) fn give_up<R: Wait>(rt: &R, post: Post<'_>, running: Running) -> Result<(), FarmFault> {
+    let given = post.hall.desk.lock(rt).give_up(post.alloc, running);
+    post.hall.note_step();
+    given
+}
+
+/// The tenure of a folder is not to be had now.
+fn forget<R: Wait>(rt: &R, post: Post<'_>, folder: &FolderName) {
+    post.hall.desk.lock(rt).forget(post.node, folder);
+    post.hall.note_step();
+}
+
+/// Takes a tenure that was asked for into use. None where the node restarted.
+fn start_tenure<R: Wait>(
+    rt: &R,
+    post: Post<'_>,
+    asked: Asked,
+) -> Result<Option<Result<Running, Why>>, FarmFault>
+    ensures { IfOk result (λ started. IfSome started (λ known. IfOk known (λ running. running.wants ≡ asked.wants))) }
+{
+    match settle_ask(rt, post, asked)? {
+        Some(Ok(granted)) => match begin(rt, post, granted)? {
+            Some(running) => Ok(Some(Ok(running))),
+            None => Ok(None),
+        },
+        Some(Err(why)) => Ok(Some(Err(why))),
+        None => Ok(None),
+    }
+}
+
+/// Opens the folder of a tenure.
+fn open<R: Wait>(
+    rt: &R,
+    post: Post<'_>,
+    folder: &FolderName,
+    running: Running,
+) -> Result<(), FarmFault>
+    requires shared { folder.now.mode ≡ Mode.Shared }
+    requires wants { running.wants ≡ tenure_wants folder.now }
+{
+    let running = tenure_of(running)?;
+    let ticket = running.ticket();
+    let opened = post.home.open.lock(rt).open(post.alloc, folder, running);
+    opened?;
+    let stage = Stage::InUse(ticket);
+    post.hall.desk.lock(rt).stage(post.node, folder, stage);
+    post.hall.note_step();
+    Ok(())
+}
+
+/// Takes the tenure of a folder into use, for which the node asked. The answer is why it was denied, if it was.
+fn take_tenure<R: Wait>(
+    rt: &R,
+    post: Post<'_>,
+    folder: &FolderName,
+    asked: Asked,
+) -> Result<Option<Why>, FarmFault>
+    requires shared { folder.now.mode ≡ Mode.Shared }
+    requires wants { asked.wants ≡ tenure_wants folder.now }
+{
+    match start_tenure(rt, post, asked)? {
+        Some(Ok(running)) => {
+            open(rt, post, folder, running)?;
+            Ok(None)
+        }
+        Some(Err(why)) => {
+            forget(rt, post, folder);
+            Ok(Some(why))
+        }
+        None => {
+            forget(rt, post, folder);
+            Ok(None)
+        }
+    }
+}
+
+/// Waits until the tenure of a SHARED folder is in use on the node, and asks for it where nobody did. The answer is why
+/// it was denied, if it was.
+fn hold_tenure<R: Wait>(
+    rt: &R,
+    post: Post<'_>,
+    folder: &FolderName,
+) -> Result<Option<Why>, FarmFault>
+    requires { folder.now.mode ≡ Mode.Shared }
+{
+    for _ in rt.forever() {
+        let seen = post.hall.changes();
+        let held = post.hall.desk.lock(rt).is_in_use(post.node, folder);
+        if held {
+            return Ok(None);
+        }
+        let asked = post
+            .hall
+            .desk
+            .lock(rt)
+            .ask_tenure(post.alloc, post.node, folder)?;
+        let Some(asked) = asked else {
+            post.hall.pause(rt, post.worker, seen)?;
+            continue;
+        };
+        post.hall.note_step();
+        if let Some(why) = take_tenure(rt, post, folder, asked)? {
+            return Ok(Some(why));
+        }
+    }
+    unreachable!()
+}
+
+/// Waits until the tenures of the SHARED folders of these wants are in use, by rising folder. The answer is why one was
+/// denied, if it was.
+fn hold_tenures<R: Wait>(rt: &R, post: Post<'_>, wants: &[Want]) -> Result<Option<Why>, FarmFault> {
+    for want in wants {
+        if let Mode::Shared = want.folder.mode {
+            if let Some(why) = hold_tenure(rt, post, &want.folder)? {
+                return Ok(Some(why));
+            }
+        }
+    }
+    Ok(None)
+}
+
+/// An execution of the node less uses the SHARED folders of these wants.
+fn release<R: Wait>(rt: &R, post: Post<'_>, wants: &Wants) {
+    post.hall.desk.lock(rt).release(post.node, wants.as_slice());
+    post.hall.note_step();
+}
+
+/// Asks for a lease and waits for it. None where it is to be asked for again.
+fn ask<R: Wait>(
+    rt: &R,
+    post: Post<'_>,
+    wants: &Wants,
+) -> Result<Option<Result<Granted, Why>>, FarmFault>
+    ensures { IfOk result (λ settled. IfSome settled (λ known. IfOk known (λ granted. granted.wants ≡ wants.now))) }
+{
+    let asked = post.hall.desk.lock(rt).ask(post.alloc, post.node, wants)?;
+    post.hall.note_change();
+    let Some(asked) = asked else {
+        return Ok(None);
+    };
+    match settle_ask(rt, post, asked)? {
+        Some(Ok(granted)) => Ok(Some(Ok(granted))),
+        Some(Err(why)) => {
+            release(rt, post, wants);
+            Ok(Some(Err(why)))
+        }
+        None => {
+            release(rt, post, wants);
+            Ok(None)
+        }
+    }
+}
+
+/// Asks the gate until the execution of the key may begin.
+fn pass_gate<G: Gate>(post: Post<'_>, gate: &G, key: &Key) -> Result<(), FarmFault> {
+    for _ in 0..GATE_TURNS {
+        if gate.pass(post.node, key) {
+            return Ok(());
+        }
+        post.hall.go_on()?;
+        thread::yield_now();
+    }
+    Err(FarmFault::GateHeld(*key))
+}
+
+/// Begins an execution that the gate lets pass. None where its node restarted.
+fn begin_gated<R: Wait, G: Gate>(
+    rt: &R,
+    post: Post<'_>,
+    gate: &G,
+    key: &Key,
+    granted: Granted,
+) -> Result<Option<Running>, FarmFault>
+    ensures { IfOk result (λ begun. IfSome begun (λ running. running.wants ≡ granted.wants)) }
+{
+    match pass_gate(post, gate, key) {
+        Ok(()) => begin(rt, post, granted),
+        Err(fault) => {
+            abandon_granted(granted);
+            Err(fault)
+        }
+    }
+}
+
+/// Asks for the lease of an execution, and begins it. None where it is to be asked for again.
+fn try_lease<R: Wait, G: Gate>(
+    rt: &R,
+    post: Post<'_>,
+    gate: &G,
+    key: &Key,
+    wants: &Wants,
+) -> Result<Option<Result<Running, Why>>, FarmFault>
+    ensures { IfOk result (λ leased. IfSome leased (λ known. IfOk known (λ running. running.wants ≡ wants.now))) }
+{
+    if let Some(why) = hold_tenures(rt, post, wants.as_slice())? {
+        return Ok(Some(Err(why)));
+    }
+    match ask(rt, post, wants)? {
+        Some(Ok(granted)) => match begin_gated(rt, post, gate, key, granted)? {
+            Some(running) => Ok(Some(Ok(running))),
+            None => {
+                release(rt, post, wants);
+                Ok(None)
+            }
+        },
+        Some(Err(why)) => Ok(Some(Err(why))),
+        None => Ok(None),
+    }
+}
+
+/// The lease of an execution, which has begun, or why it was denied.
+pub(crate) fn lease<R: Wait, G: Gate>(
+    rt: &R,
+    post: Post<'_>,
+    gate: &G,
+    key: &Key,
+    wants: &Wants,
+) -> Result<Result<Running, Why>, FarmFault>
+    ensures { IfOk result (λ leased. IfOk leased (λ running. running.wants ≡ wants.now)) }
+{
+    for _ in rt.forever() {
+        post.hall.go_on()?;
+        if let Some(leased) = try_lease(rt, post, gate, key, wants)? {
+            return Ok(leased);
+        }
+    }
+    unreachable!()
+}
