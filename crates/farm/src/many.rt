@@ -1,7 +1,8 @@
 //! A farm on threads.
 ghost use Rattle.std.specs.Prelude.{◌≡◌, ◌≢◌, All, IfOk, length, map, nat_eq};
 ghost use Rattle.std.specs.List.{AllZip, IsDistinct};
-ghost use Rattle.saverecord.specs.Ledgers.{Holds};
+ghost use Rattle.saverecord.specs.Logs.{Holds};
+ghost use Rattle.saverecord.specs.Texts.{whole_alone};
 ghost use Rattle.executions.specs.Calls.{Grew};
 ghost use Rattle.farmend.specs.Answers.{IsAnswered};
 ghost use Rattle.farmend.specs.NewCalls.{new_calls};
@@ -124,7 +125,7 @@ impl Farm {
         fault_plan: Vec<(usize, FarmStep)>,
         gate: &G,
     ) -> Result<FarmEnd, FarmFault>
-        ensures saved { IfOk result (λ end. Holds end.saved.items (farm_after setup end.schedule.items).saved) }
+        ensures saved { IfOk result (λ end. Holds (whole_alone end.saved.items) (farm_after setup end.schedule.items).saved) }
         ensures commits { IfOk result (λ end. end.commits ≡ commits_after setup end.schedule.items) }
         ensures receipts { IfOk result (λ end. All (StandsOn (farm_after setup end.schedule.items)) end.receipts.items) }
         ensures tickets { IfOk result (λ end. IsDistinct nat_eq (tickets_of end.receipts.items)) }
