@@ -148,7 +148,9 @@ pub fn measure<R: Print + Clock + AllocGlobal>(rt: &R) -> anyhow::Result<()> {
         }
         let growth = times.event / first;
         let ratio = times.event / times.hash;
-        println!(rt; "save {count} versions: {growth:.2} of a commit to 100, {ratio:.4} of copying and hashing its record")?;
+        println!(rt;
+            "save {count} versions: {growth:.2} of a commit to 100, {ratio:.4} of copying and hashing its record"
+        )?;
     }
     Ok(())
 }
