@@ -61,14 +61,12 @@ impl Executor for Hashing {
 /// One such executor.
 pub fn executor(alloc: Global, rounds: u32) -> Result<Box<dyn Executor + Send>, AllocError> {
     let calls = Vec::new(alloc);
-    Box::new(
+    let executor = Hashing {
         alloc,
-        Hashing {
-            alloc,
-            rounds,
-            calls,
-        },
-    )
+        rounds,
+        calls,
+    };
+    Ok(Box::new(alloc, executor)?)
 }
 
 /// One for each of this many nodes.
