@@ -24,7 +24,6 @@ mod worker;
 mod worker_steps;
 
 pub use down::DownCount;
-pub use ends::OneEnd;
-pub use farmend::FarmEnd;
+pub use ends::{FarmEnd, OneEnd};
 pub use fault::FarmFault;
 pub use one::Farm;

@@ -11,6 +11,7 @@ ghost use Rattle.farmend.specs.Replays.{commits_after, farm_after};
 
 use super::answers::answer_of;
 use super::desk::Desk;
+use super::ends::FarmEnd;
 use super::fault::FarmFault;
 use super::faults::start_fault;
 use super::hall::Hall;
@@ -23,7 +24,7 @@ use super::worker::WorkerEnd;
 use executions::{Executor, Gate};
 use farm_base::NodeId;
 use farmboard::{Board, FarmStep, Receipt};
-use farmend::{FarmEnd, HandedBack, Hired, check};
+use farmend::{HandedBack, Hired, calls_of, check};
 use jobs::{Answer, JobId};
 use schedule::Setup;
 use solverkeys::Keyed;
@@ -140,13 +141,36 @@ impl Farm {
         ensures settled { IfOk result (λ end. All (λ answer. answer ≢ Answer.Waiting) end.answers.items) }
     {
         let hired = Hired::all(alloc, executors.as_slice())?;
-        let (back, jobs) = solve_all(rt, alloc, setup, jobs, executors, fault_plan, gate)?;
-        let end = check(alloc, setup, jobs.as_slice(), hired.as_slice(), back)?;
-        Ok(end)
+        let Left {
+            back,
+            executors,
+            jobs,
+        } = solve_all(rt, alloc, setup, jobs, executors, fault_plan, gate)?;
+        let end = {
+            let ends = calls_of(alloc, executors.as_slice())?;
+            let (jobs, hired) = (jobs.as_slice(), hired.as_slice());
+            check(alloc, setup, jobs, hired, ends.as_slice(), back)?
+        };
+        Ok(FarmEnd {
+            answers: end.answers,
+            commits: end.commits,
+            receipts: end.receipts,
+            saved: end.saved,
+            schedule: end.schedule,
+            executors,
+        })
     }
 }
 
-/// Solves the jobs on their nodes. The answer is what the threads hand back, and the jobs.
+/// What the threads leave: what is checked, and the executors and jobs.
+#[derive(Drop)]
+struct Left {
+    back: HandedBack,
+    executors: Vec<Box<dyn Executor + Send>>,
+    jobs: Vec<(NodeId, Keyed)>,
+}
+
+/// Solves the jobs on their nodes.
 #[tactic(auto, using(crate::proofs::Crosses::hall))]
 fn solve_all<R: Threads + Wait + Sync, G: Gate>(
     rt: &R,
@@ -156,8 +180,8 @@ fn solve_all<R: Threads + Wait + Sync, G: Gate>(
     executors: Vec<(NodeId, Box<dyn Executor + Send>)>,
     fault_plan: Vec<(usize, FarmStep)>,
     gate: &G,
-) -> Result<(HandedBack, Vec<(NodeId, Keyed)>), FarmFault>
-    ensures { IfOk result (λ left. left.1.items ≡ jobs.items) }
+) -> Result<Left, FarmFault>
+    ensures { IfOk result (λ left. left.jobs.items ≡ jobs.items) }
 {
     let board = Board::start(alloc, setup).map_err(start_fault)?;
     let nodes = nodes_of(alloc, executors.as_slice())?;
@@ -176,9 +200,12 @@ fn solve_all<R: Threads + Wait + Sync, G: Gate>(
     let (board, jobs) = parts_of(hall);
     let back = HandedBack {
         board,
-        executors,
         receipts,
         answers,
     };
-    Ok((back, jobs))
+    Ok(Left {
+        back,
+        executors,
+        jobs,
+    })
 }

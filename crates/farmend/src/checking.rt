@@ -12,12 +12,12 @@ ghost use Rattle.farmend.specs.Receipts.{StandsOn, tickets_of};
 ghost use Rattle.farmend.specs.Replays.{farm_after, commits_after};
 
 use super::answers::are_answered;
-use super::end::{FarmEnd, HandedBack};
+use super::end::{HandedBack, RunEnd};
 use super::hired::Hired;
-use super::news::{calls_of, news_of};
+use super::news::news_of;
 use super::receipts::{all_differ, all_stand};
 use super::refusal::EndRefusal;
-use executions::Executor;
+use executions::Call;
 use farm_base::NodeId;
 use farmboard::{Board, Receipt};
 use jobs::Answer;
@@ -61,14 +61,13 @@ fn account(
     world: &World,
     jobs: &[(NodeId, Keyed)],
     hired: &[Hired],
-    executors: &[Box<dyn Executor + Send>],
+    ends: &[&[Call]],
     answers: &[Answer],
 ) -> Result<(), EndRefusal>
-    ensures calls { OnOk result (AllZip Grew (map (λ each. each.had.items) hired.now) (map (λ executor. history executor) executors.now)) }
-    ensures answers { OnOk result (AreAnswered (shown world.now) (map (λ each. each.node) hired.now) (map (λ each. each.had.items) hired.now) (map (λ executor. history executor) executors.now) jobs.now answers.now) }
+    ensures calls { OnOk result (AllZip Grew (map (λ each. each.had.items) hired.now) (map (λ calls. calls.now) ends.now)) }
+    ensures answers { OnOk result (AreAnswered (shown world.now) (map (λ each. each.node) hired.now) (map (λ each. each.had.items) hired.now) (map (λ calls. calls.now) ends.now) jobs.now answers.now) }
 {
-    let ends = calls_of(alloc, executors)?;
-    let news = news_of(alloc, hired, ends.as_slice())?;
+    let news = news_of(alloc, hired, ends)?;
     if !are_answered(alloc, world, news.as_slice(), jobs, answers)? {
         return Err(EndRefusal::Disagrees);
     }
@@ -80,31 +79,33 @@ fn judge(
     alloc: Global,
     jobs: &[(NodeId, Keyed)],
     hired: &[Hired],
+    ends: &[&[Call]],
     back: &HandedBack,
 ) -> Result<Vec<u8>, EndRefusal>
     ensures saved { IfOk result (λ saved. Holds (whole_alone saved.items) (farm_of back.now.board).saved) }
     ensures stand { OnOk result (All (StandsOn (farm_of back.now.board)) back.now.receipts.items) }
     ensures differ { OnOk result (IsDistinct nat_eq (tickets_of back.now.receipts.items)) }
     ensures count { OnOk result (length back.now.receipts.items ≡ commits_of back.now.board) }
-    ensures calls { OnOk result (AllZip Grew (map (λ each. each.had.items) hired.now) (map (λ executor. history executor) back.now.executors.items)) }
-    ensures answers { OnOk result (AreAnswered (farm_of back.now.board) (map (λ each. each.node) hired.now) (map (λ each. each.had.items) hired.now) (map (λ executor. history executor) back.now.executors.items) jobs.now back.now.answers.items) }
+    ensures calls { OnOk result (AllZip Grew (map (λ each. each.had.items) hired.now) (map (λ calls. calls.now) ends.now)) }
+    ensures answers { OnOk result (AreAnswered (farm_of back.now.board) (map (λ each. each.node) hired.now) (map (λ each. each.had.items) hired.now) (map (λ calls. calls.now) ends.now) jobs.now back.now.answers.items) }
 {
     let world = back.board.world();
     settle(alloc, &back.board, &back.receipts)?;
-    account(alloc, world, jobs, hired, &back.executors, &back.answers)?;
+    account(alloc, world, jobs, hired, ends, &back.answers)?;
     let saved = saved_of(alloc, world)?;
     Ok(saved)
 }
 
-/// Checks what the threads of a run of these jobs handed back, by executors that were hired so. Agreed, it is what the
-/// run leaves. `Disagrees` where a clause doesn't hold, or the board is of another setup; `OutOfMemory`.
+/// Checks what the threads of a run of these jobs handed back, by executors that were hired so and have these calls at the
+/// end. Agreed, it is what the run leaves. `Disagrees` where a clause doesn't hold, or the board is of another setup; `OutOfMemory`.
 pub fn check(
     alloc: Global,
     setup: Setup,
     jobs: &[(NodeId, Keyed)],
     hired: &[Hired],
+    ends: &[&[Call]],
     back: HandedBack,
-) -> Result<FarmEnd, EndRefusal>
+) -> Result<RunEnd, EndRefusal>
     // The replay of the setup and the schedule has the bytes as its record, and these commits.
     ensures saved { IfOk result (λ end. Holds (whole_alone end.saved.items) (farm_after setup end.schedule.items).saved) }
     ensures commits { IfOk result (λ end. end.commits ≡ commits_after setup end.schedule.items) }
@@ -113,30 +114,28 @@ pub fn check(
     ensures tickets { IfOk result (λ end. IsDistinct nat_eq (tickets_of end.receipts.items)) }
     ensures count { IfOk result (λ end. length end.receipts.items ≡ end.commits) }
     // The executors' calls begin with those that they had, in order.
-    ensures calls { IfOk result (λ end. AllZip Grew (map (λ each. each.had.items) hired.now) (map (λ executor. history executor) end.executors.items)) }
+    ensures calls { IfOk result (λ end. AllZip Grew (map (λ each. each.had.items) hired.now) (map (λ calls. calls.now) ends.now)) }
     // There is one answer a job, each with its reason in the new calls on the job's node; none of them waits.
-    ensures answers { IfOk result (λ end. AreAnswered (farm_after setup end.schedule.items) (map (λ each. each.node) hired.now) (map (λ each. each.had.items) hired.now) (map (λ executor. history executor) end.executors.items) jobs.now end.answers.items) }
+    ensures answers { IfOk result (λ end. AreAnswered (farm_after setup end.schedule.items) (map (λ each. each.node) hired.now) (map (λ each. each.had.items) hired.now) (map (λ calls. calls.now) ends.now) jobs.now end.answers.items) }
     ensures answered { IfOk result (λ end. length end.answers.items ≡ length jobs.now) }
     ensures settled { IfOk result (λ end. All (λ answer. answer ≢ Answer.Waiting) end.answers.items) }
 {
     if back.board.setup().nodes != setup.nodes {
         return Err(EndRefusal::Disagrees);
     }
-    let saved = judge(alloc, jobs, hired, &back)?;
+    let saved = judge(alloc, jobs, hired, ends, &back)?;
     let HandedBack {
         board,
-        executors,
         receipts,
         answers,
     } = back;
     let commits = board.commits();
     let (_, schedule, _) = board.into_parts();
-    Ok(FarmEnd {
+    Ok(RunEnd {
         answers,
         commits,
         receipts,
         saved,
         schedule,
-        executors,
     })
 }

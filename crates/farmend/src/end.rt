@@ -1,24 +1,21 @@
 //! What a run leaves.
-use executions::Executor;
 use farmboard::{Board, Receipt};
 use jobs::Answer;
 use protocol::Event;
 
-/// What the threads of a run hand back.
+/// What the threads of a run hand back, beside their executors.
 #[derive(Drop)]
 pub struct HandedBack {
     pub board: Board,
-    /// In the order in which they were handed in.
-    pub executors: Vec<Box<dyn Executor + Send>>,
     /// Those of the executions that left versions.
     pub receipts: Vec<Receipt>,
     /// The answer of each job, in their order.
     pub answers: Vec<Answer>,
 }
 
-/// What a run leaves.
+/// What a run leaves, beside its executors.
 #[derive(Drop)]
-pub struct FarmEnd {
+pub struct RunEnd {
     /// The answer of each job, in their order.
     pub answers: Vec<Answer>,
     /// How many grants ended as committed.
@@ -27,6 +24,4 @@ pub struct FarmEnd {
     /// The record of the coordinator, as bytes.
     pub saved: Vec<u8>,
     pub schedule: Vec<Event>,
-    /// In the order in which they were handed in.
-    pub executors: Vec<Box<dyn Executor + Send>>,
 }

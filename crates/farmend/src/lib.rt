@@ -14,7 +14,8 @@ mod solved;
 mod spot;
 
 pub use checking::check;
-pub use end::{FarmEnd, HandedBack};
+pub use end::{HandedBack, RunEnd};
 pub use hired::Hired;
+pub use news::calls_of;
 pub use refusal::EndRefusal;
 pub use spot::Spot;

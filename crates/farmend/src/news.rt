@@ -15,8 +15,8 @@ fn calls_in(executor: &Box<dyn Executor + Send>) -> &[Call]
     executor.calls()
 }
 
-/// The calls of the executors.
-pub(crate) fn calls_of<'a>(
+/// The calls that the executors have, in order.
+pub fn calls_of<'a>(
     alloc: Global,
     executors: &'a [Box<dyn Executor + Send>],
 ) -> Result<Vec<&'a [Call]>, AllocError>

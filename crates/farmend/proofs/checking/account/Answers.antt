@@ -15,22 +15,19 @@ use Rattle.farmend.proofs.NewsLemmas.{grew_if_new, on_node_if_new}
 use Rattle.farmend.proofs.checking.account.Goals as goal
 
 pub returns-clause-calls : goal.returns-clause-calls
-returns-clause-calls g c =
+returns-clause-calls c =
     let nodes = map (λ (each : Hired). each.node) c.args.hired.now in
     let hads = map (λ (each : Hired). each.had.items) c.args.hired.now in
     let now = λ (calls : Bor (List Call)). calls.now in
-    let same = ap (λ (xs : List (Bor (List Call))). map now xs) c.as_slice.ensures.value ∙ c.in_ok-ends.ensures in
-    subst (λ (ends : List (List Call)). AllZip Grew hads ends) same (grew_if_new nodes hads (map now c.as_slice.result.now) c.in_ok-news.news.items c.in_ok-news.ensures)
+    grew_if_new nodes hads (map now c.args.ends.now) c.in_ok-news.news.items c.in_ok-news.ensures
 
 pub returns-clause-answers : goal.returns-clause-answers
-returns-clause-answers g c =
+returns-clause-answers c =
     let farm = shown c.args.world.now in
     let nodes = map (λ (each : Hired). each.node) c.args.hired.now in
     let hads = map (λ (each : Hired). each.had.items) c.args.hired.now in
     let now = λ (calls : Bor (List Call)). calls.now in
     let news = c.in_ok-news.news.items in
-    let same = ap (λ (xs : List (Bor (List Call))). map now xs) c.as_slice.ensures.value ∙ c.in_ok-ends.ensures in
-    let calls = λ (node : NodeId). ap (on_node node) c.as_slice-2.ensures.value ∙ on_node_if_new node nodes hads (map now c.as_slice.result.now) news c.in_ok-news.ensures
-    ∙ ap (λ (ends : List (List Call)). new_calls node nodes hads ends) same in
-    zip_weaker (λ (job : NodeId × KeyedParts) (answer : Answer). IsAnswered farm (on_node job.0 c.as_slice-2.result.now) job.0 job.1 answer) _ c.args.jobs.now c.args.answers.now
+    let calls = λ (node : NodeId). ap (on_node node) c.as_slice.ensures.value ∙ on_node_if_new node nodes hads (map now c.args.ends.now) news c.in_ok-news.ensures in
+    zip_weaker (λ (job : NodeId × KeyedParts) (answer : Answer). IsAnswered farm (on_node job.0 c.as_slice.result.now) job.0 job.1 answer) _ c.args.jobs.now c.args.answers.now
     (λ job answer told. subst (λ (made : List (List Call)). IsAnswered farm made job.0 job.1 answer) (calls job.0) told) (c.in_ok-are_answered.ensures c.if-not-branch.false)
