@@ -160,7 +160,7 @@ fn run_command<'a>(alloc: Global) -> Result<clap::Command<'a>, AllocError> {
         .required(true)
         .value_parser(ValueParser::Unsigned(1, NODES as u64))
         .help("How many nodes the farm has; the files are built on them in turn");
-    let record = Arg::new(alloc, "record")
+    let path = Arg::new(alloc, "record")
         .long("record")
         .value_name("PATH")
         .help("Keeps the coordinator's record in this file, as `farmctl record` reads it");
@@ -172,7 +172,7 @@ fn run_command<'a>(alloc: Global) -> Result<clap::Command<'a>, AllocError> {
         .about("Builds definitions on a farm, with executors that run scripts")
         .after_help(SCRIPTS)
         .arg(nodes)?
-        .arg(record)?
+        .arg(path)?
         .arg(files)
 }
 
@@ -219,7 +219,7 @@ fn named<'a>(name: &str, found: &ArgMatches<'a>) -> Request<'a> {
         "record" => Request::Print(Command::Record),
         "run" => Request::Run(RunOptions {
             nodes: found.get_one("nodes").unwrap_or(1),
-            record: found.get_str("record"),
+            record_path: found.get_str("record"),
         }),
         _ => Request::Print(Command::Replay),
     }

@@ -201,7 +201,7 @@ fn print_input_fault<E: Write>(alloc: Global, fault: InputFault, err: &mut E) ->
 struct Report {
     text: String,
     /// The coordinator's record at the end.
-    record: Vec<u8>,
+    saved: Vec<u8>,
 }
 
 /// Runs these jobs on a farm without disturbances.
@@ -213,7 +213,7 @@ fn make_report<R: Threads + Wait + Sync>(
     executors: Vec<(NodeId, Box<dyn Executor + Send>)>,
 ) -> Result<Report, FarmFault>
     requires { length inputs.names.items ≡ length inputs.jobs.items }
-    ensures { IfOk result (λ report. IsRunOf setup (map string_bytes inputs.names.items) (string_bytes report.text) report.record.items) }
+    ensures { IfOk result (λ report. IsRunOf setup (map string_bytes inputs.names.items) (string_bytes report.text) report.saved.items) }
 {
     let Inputs { names, jobs } = inputs;
     let plan = Vec::new(alloc);
@@ -221,14 +221,14 @@ fn make_report<R: Threads + Wait + Sync>(
     let text = run_text(alloc, names.as_slice(), &end)?;
     Ok(Report {
         text,
-        record: end.saved,
+        saved: end.saved,
     })
 }
 
 /// Keeps a record in the file of this path.
-fn keep<R: Files>(files: &R, alloc: Global, path: &str, record: Vec<u8>) -> io::Result<()> {
+fn keep<R: Files>(files: &R, alloc: Global, path: &str, saved: Vec<u8>) -> io::Result<()> {
     let mut keeper = FileKeeper::open(files, alloc, path)?;
-    match keeper.save(record) {
+    match keeper.save(saved) {
         Ok(()) => Ok(()),
         Err(SaveFault) => Err(io::Error::from(io::ErrorKind::Other)),
     }
@@ -246,9 +246,9 @@ fn print_report<R: Files, O: Write, E: Write>(
     ensures done { result ≡ 0 → Appends (O.contents out.old) (O.contents out.new) (string_bytes report.text) }
     ensures never_refused { result ≢ 1 }
 {
-    let Report { text, record } = report;
+    let Report { text, saved } = report;
     if let Some(path) = path {
-        if let Err(error) = keep(files, alloc, path, record) {
+        if let Err(error) = keep(files, alloc, path, saved) {
             return match error.kind() {
                 io::ErrorKind::OutOfMemory => print(err, "out of memory\n", MEMORY),
                 _ => print(err, "fault SaveFault\n", FAULT),
@@ -262,8 +262,8 @@ fn print_report<R: Files, O: Write, E: Write>(
 #[derive(Clone, Copy, Debug, PartialEq, Eq)]
 pub struct RunOptions<'a> {
     pub nodes: u32,
-    /// Where to keep the coordinator's record, if anywhere.
-    pub record: Option<&'a str>,
+    /// The file in which to keep the coordinator's record, if any.
+    pub record_path: Option<&'a str>,
 }
 
 /// Builds the definitions of files on a farm, by these executors. Nothing is printed before the farm's end. Returns the
@@ -290,7 +290,7 @@ pub fn solve<R: Files + AllocGlobal + Threads + Wait + Sync, O: Write, E: Write>
         Err(fault) => return print_input_fault(alloc, fault, err),
     };
     match make_report(rt, alloc, setup, inputs, executors) {
-        Ok(report) => print_report(rt, alloc, report, options.record, out, err),
+        Ok(report) => print_report(rt, alloc, report, options.record_path, out, err),
         Err(fault) => print_fault(alloc, fault, err),
     }
 }

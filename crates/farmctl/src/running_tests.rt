@@ -106,7 +106,7 @@ fn runs_of_files(rt: HostRuntime) -> Result<(), Fail> {
         let mut err = Vec::new(alloc);
         let options = RunOptions {
             nodes: *nodes,
-            record: None,
+            record_path: None,
         };
         let executors = scripted_executors(alloc, *nodes)?;
         let status = solve(&rt, options, files, executors, &mut out, &mut err);
@@ -136,7 +136,7 @@ fn what_is_not_run(rt: HostRuntime) -> Result<(), Fail> {
         let mut err = Vec::new(alloc);
         let options = RunOptions {
             nodes: 1,
-            record: None,
+            record_path: None,
         };
         let executors = scripted_executors(alloc, 1)?;
         let status = solve(&rt, options, files, executors, &mut out, &mut err);
@@ -161,7 +161,7 @@ fn the_record_of_a_run(rt: HostRuntime) -> Result<(), Fail> {
     let mut err = Vec::new(alloc);
     let options = RunOptions {
         nodes: 1,
-        record: Some("run.record"),
+        record_path: Some("run.record"),
     };
     let executors = scripted_executors(alloc, 1)?;
     let status = solve(&rt, options, files, executors, &mut out, &mut err);
@@ -182,7 +182,7 @@ fn a_record_nowhere(rt: HostRuntime) -> Result<(), Fail> {
     let mut err = Vec::new(alloc);
     let options = RunOptions {
         nodes: 1,
-        record: Some("nowhere/run.record"),
+        record_path: Some("nowhere/run.record"),
     };
     let executors = scripted_executors(alloc, 1)?;
     let status = solve(&rt, options, files, executors, &mut out, &mut err);
