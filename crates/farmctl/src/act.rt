@@ -175,9 +175,9 @@ fn act_on<R: Files + Input + AllocGlobal + Threads + Wait + Sync, O: Write, E: W
     }
     let status = match words.request {
         Request::Print(command) => act(alloc, command, files, out, err),
-        Request::Run(options) => {
-            let executors = scripted_executors(alloc, options.nodes)?;
-            solve(rt, options, files, executors, out, err)
+        Request::Run { nodes, record_path } => {
+            let executors = scripted_executors(alloc, nodes)?;
+            solve(rt, nodes, record_path, files, executors, out, err)
         }
     };
     Ok(print_explanation(words.options, &all, status, err))

@@ -1,6 +1,5 @@
 //! The words of the command line.
 
-use super::running::RunOptions;
 use clap::builder::ValueParser;
 use clap::{Arg, ArgAction, ArgMatches, Error};
 use farm_base::NODES;
@@ -27,8 +26,12 @@ pub enum Command {
 pub enum Request<'a> {
     /// Prints what the command answers for a file.
     Print(Command),
-    /// Builds definitions on a farm, and prints their answers.
-    Run(RunOptions<'a>),
+    /// Builds definitions on a farm of this many nodes, and prints their answers. The coordinator's record goes to this
+    /// path, if there is one.
+    Run {
+        nodes: u32,
+        record_path: Option<&'a str>,
+    },
 }
 
 impl Request<'_> {
@@ -217,10 +220,10 @@ fn named<'a>(name: &str, found: &ArgMatches<'a>) -> Request<'a> {
         "keys" => Request::Print(Command::Keys),
         "wants" => Request::Print(Command::Wants),
         "record" => Request::Print(Command::Record),
-        "run" => Request::Run(RunOptions {
+        "run" => Request::Run {
             nodes: found.get_one("nodes").unwrap_or(1),
             record_path: found.get_str("record"),
-        }),
+        },
         _ => Request::Print(Command::Replay),
     }
 }

@@ -258,39 +258,29 @@ fn print_report<R: Files, O: Write, E: Write>(
     print(out, text.as_str(), DONE)
 }
 
-/// What `run` is asked to do.
-#[derive(Clone, Copy, Debug, PartialEq, Eq)]
-pub struct RunOptions<'a> {
-    pub nodes: u32,
-    /// The file in which to keep the coordinator's record, if any.
-    pub record_path: Option<&'a str>,
-}
-
-/// Builds the definitions of files on a farm, by these executors. Nothing is printed before the farm's end. Returns the
-/// status of the program.
+/// Builds the definitions of files on a farm of this many nodes, by these executors. The coordinator's record goes to this
+/// path, if there is one. Nothing is printed before the farm's end. Returns the status of the program.
 pub fn solve<R: Files + AllocGlobal + Threads + Wait + Sync, O: Write, E: Write>(
     rt: &R,
-    options: RunOptions<'_>,
+    nodes: u32,
+    record_path: Option<&str>,
     files: Vec<(String, Option<Vec<u8>>)>,
     executors: Vec<(NodeId, Box<dyn Executor + Send>)>,
     out: &mut O,
     err: &mut E,
 ) -> u8
     // At status 0 the standard output has the lines of a run of the files.
-    ensures done { result ≡ 0 → (text : List ℕ) × (saved : List ℕ) × IsRunOf (record { nodes = options.nodes }) (names_of files.items) text saved
+    ensures done { result ≡ 0 → (text : List ℕ) × (saved : List ℕ) × IsRunOf (record { nodes = nodes }) (names_of files.items) text saved
         × Appends (O.contents out.old) (O.contents out.new) text }
     ensures quiet { result ≡ 1 → out.new ≡ out.old }
 {
     let alloc = rt.alloc();
-    let setup = Setup {
-        nodes: options.nodes,
-    };
-    let inputs = match inputs_of(alloc, options.nodes, files) {
+    let inputs = match inputs_of(alloc, nodes, files) {
         Ok(inputs) => inputs,
         Err(fault) => return print_input_fault(alloc, fault, err),
     };
-    match make_report(rt, alloc, setup, inputs, executors) {
-        Ok(report) => print_report(rt, alloc, report, options.record_path, out, err),
+    match make_report(rt, alloc, Setup { nodes }, inputs, executors) {
+        Ok(report) => print_report(rt, alloc, report, record_path, out, err),
         Err(fault) => print_fault(alloc, fault, err),
     }
 }

@@ -1,7 +1,7 @@
 use super::act::{DONE, FAULT, REFUSED};
 use super::answer::answer;
 use super::command::Command;
-use super::running::{RunOptions, solve};
+use super::running::solve;
 use super::scripted::scripted_executors;
 use super::tests::{NO_OP, spelled};
 use std::alloc::Global;
@@ -104,12 +104,8 @@ fn runs_of_files(rt: HostRuntime) -> Result<(), Fail> {
         wanted.push_str(commits)?;
         let mut out = Vec::new(alloc);
         let mut err = Vec::new(alloc);
-        let options = RunOptions {
-            nodes: *nodes,
-            record_path: None,
-        };
         let executors = scripted_executors(alloc, *nodes)?;
-        let status = solve(&rt, options, files, executors, &mut out, &mut err);
+        let status = solve(&rt, *nodes, None, files, executors, &mut out, &mut err);
         assert_eq!(rt; status, DONE);
         assert_eq!(rt; out.as_slice(), wanted.as_str().as_bytes());
         assert!(rt; err.is_empty());
@@ -134,12 +130,8 @@ fn what_is_not_run(rt: HostRuntime) -> Result<(), Fail> {
         files.push((String::from_str(alloc, "G")?, bytes))?;
         let mut out = Vec::new(alloc);
         let mut err = Vec::new(alloc);
-        let options = RunOptions {
-            nodes: 1,
-            record_path: None,
-        };
         let executors = scripted_executors(alloc, 1)?;
-        let status = solve(&rt, options, files, executors, &mut out, &mut err);
+        let status = solve(&rt, 1, None, files, executors, &mut out, &mut err);
         assert_eq!(rt; status, REFUSED);
         assert!(rt; out.is_empty());
         assert_eq!(rt; err.as_slice(), line.as_bytes());
@@ -159,12 +151,9 @@ fn the_record_of_a_run(rt: HostRuntime) -> Result<(), Fail> {
     let (files, _) = files_of(alloc, &[PUT])?;
     let mut out = Vec::new(alloc);
     let mut err = Vec::new(alloc);
-    let options = RunOptions {
-        nodes: 1,
-        record_path: Some("run.record"),
-    };
+    let path = Some("run.record");
     let executors = scripted_executors(alloc, 1)?;
-    let status = solve(&rt, options, files, executors, &mut out, &mut err);
+    let status = solve(&rt, 1, path, files, executors, &mut out, &mut err);
     assert_eq!(rt; status, DONE);
     let bytes = fs::read(&rt, "run.record")?;
     fs::remove_file(&rt, "run.record")?;
@@ -180,12 +169,9 @@ fn a_record_nowhere(rt: HostRuntime) -> Result<(), Fail> {
     let (files, _) = files_of(alloc, &[PUT])?;
     let mut out = Vec::new(alloc);
     let mut err = Vec::new(alloc);
-    let options = RunOptions {
-        nodes: 1,
-        record_path: Some("nowhere/run.record"),
-    };
+    let path = Some("nowhere/run.record");
     let executors = scripted_executors(alloc, 1)?;
-    let status = solve(&rt, options, files, executors, &mut out, &mut err);
+    let status = solve(&rt, 1, path, files, executors, &mut out, &mut err);
     assert_eq!(rt; status, FAULT);
     assert!(rt; out.is_empty());
     assert_eq!(rt; err.as_slice(), "fault SaveFault\n".as_bytes());
