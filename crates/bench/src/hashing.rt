@@ -2,7 +2,7 @@
 ghost use Rattle.std.specs.Prelude.{⊤};
 
 use executions::{Call, ExecOutcome, ExecTask, Executor};
-use farm_base::{Digest, Items, Key, NodeId};
+use farm_base::{Digest, Items, Key};
 use sha2::Sha256;
 use std::alloc::{AllocError, Global};
 
@@ -12,6 +12,17 @@ pub struct Hashing {
     alloc: Global,
     rounds: u32,
     calls: Vec<Call>,
+}
+
+impl Hashing {
+    /// One that has carried out nothing.
+    pub fn new(alloc: Global, rounds: u32) -> Self {
+        Hashing {
+            alloc,
+            rounds,
+            calls: Vec::new(alloc),
+        }
+    }
 }
 
 /// What is hashed.
@@ -56,28 +67,4 @@ impl Executor for Hashing {
     fn calls(&self) -> &[Call] {
         self.calls.as_slice()
     }
-}
-
-/// One such executor.
-pub fn executor(alloc: Global, rounds: u32) -> Result<Box<dyn Executor + Send>, AllocError> {
-    let calls = Vec::new(alloc);
-    let executor = Hashing {
-        alloc,
-        rounds,
-        calls,
-    };
-    Ok(Box::new(alloc, executor)?)
-}
-
-/// One for each of this many nodes.
-pub fn executors(
-    alloc: Global,
-    nodes: u32,
-    rounds: u32,
-) -> Result<Vec<(NodeId, Box<dyn Executor + Send>)>, AllocError> {
-    let mut executors = Vec::new(alloc);
-    for number in 0..nodes {
-        executors.push((NodeId(number + 1), executor(alloc, rounds)?))?;
-    }
-    Ok(executors)
 }

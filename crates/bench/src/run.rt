@@ -2,8 +2,8 @@
 
 use super::clock::seconds_since;
 use super::graphs::{cached_chain, chain, wide};
-use super::hashing::{executor, executors};
-use executions::OpenGate;
+use super::hashing::Hashing;
+use executions::{Executor, OpenGate};
 use farm::Farm;
 use farm_base::NodeId;
 use opsproto::read_definition;
@@ -37,7 +37,7 @@ fn one_job<R: Print + Clock + AllocGlobal>(
 ) -> anyhow::Result<f64> {
     let alloc = rt.alloc();
     let jobs = vec![in alloc; (NodeId(1), keyed(alloc, bytes)?)]?;
-    let executor = executor(alloc, 0)?;
+    let executor: Box<dyn Executor + Send> = Box::new(alloc, Hashing::new(alloc, 0))?;
     let start = Instant::now(rt)?;
     let _end = Farm::run_one(alloc, Setup { nodes: 1 }, jobs, executor)?;
     let time = seconds_since(rt, start) / f64::from(keys);
@@ -86,7 +86,11 @@ fn many_jobs<R: Print + Clock + AllocGlobal + Threads + Wait + Sync>(
 ) -> anyhow::Result<(f64, u64)> {
     let alloc = rt.alloc();
     let jobs = cached_jobs(alloc, nodes, apart)?;
-    let executors = executors(alloc, nodes, ROUNDS)?;
+    let mut executors = Vec::new(alloc);
+    for number in 0..nodes {
+        let executor: Box<dyn Executor + Send> = Box::new(alloc, Hashing::new(alloc, ROUNDS))?;
+        executors.push((NodeId(number + 1), executor))?;
+    }
     let start = Instant::now(rt)?;
     let end = Farm::run(
         rt,

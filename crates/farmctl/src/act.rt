@@ -10,8 +10,7 @@ use super::command::{Command, Options, Request, Words, words_of};
 use super::explain::{Explanation, explained};
 use super::failure::Failure;
 use super::files::contents;
-use super::running::solve;
-use super::scripted::scripted_executors;
+use super::running::run_scripts;
 use std::alloc::{AllocError, Global};
 use std::io::{self, Write};
 use std::rt::Files;
@@ -176,8 +175,7 @@ fn act_on<R: Files + Input + AllocGlobal + Threads + Wait + Sync, O: Write, E: W
     let status = match words.request {
         Request::Print(command) => act(alloc, command, files, out, err),
         Request::Run { nodes, record_path } => {
-            let executors = scripted_executors(alloc, nodes)?;
-            solve(rt, nodes, record_path, files, executors, out, err)
+            run_scripts(rt, nodes, record_path, files, out, err)?
         }
     };
     Ok(print_explanation(words.options, &all, status, err))

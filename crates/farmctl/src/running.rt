@@ -10,6 +10,7 @@ ghost use Rattle.farmctl.specs.Runs.{answer_text, job_line, job_lines, commits_l
 use super::act::{DONE, FAULT, MEMORY, print, print_failure, print_unreadable};
 use super::answer::graph_of;
 use super::failure::Failure;
+use super::scripted::Scripted;
 use executions::{Executor, OpenGate};
 use farm::{Farm, FarmEnd, FarmFault};
 use farm_base::NodeId;
@@ -283,4 +284,22 @@ pub fn solve<R: Files + AllocGlobal + Threads + Wait + Sync, O: Write, E: Write>
         Ok(report) => print_report(rt, alloc, report, record_path, out, err),
         Err(fault) => print_fault(alloc, fault, err),
     }
+}
+
+/// Builds the definitions of files, by a scripted executor on each of this many nodes.
+pub fn run_scripts<R: Files + AllocGlobal + Threads + Wait + Sync, O: Write, E: Write>(
+    rt: &R,
+    nodes: u32,
+    record_path: Option<&str>,
+    files: Vec<(String, Option<Vec<u8>>)>,
+    out: &mut O,
+    err: &mut E,
+) -> Result<u8, AllocError> {
+    let alloc = rt.alloc();
+    let mut executors = Vec::new(alloc);
+    for number in 0..nodes {
+        let executor: Box<dyn Executor + Send> = Box::new(alloc, Scripted::new(alloc))?;
+        executors.push((NodeId(number + 1), executor))?;
+    }
+    Ok(solve(rt, nodes, record_path, files, executors, out, err))
 }

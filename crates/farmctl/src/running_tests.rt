@@ -1,8 +1,7 @@
 use super::act::{DONE, FAULT, REFUSED};
 use super::answer::answer;
 use super::command::Command;
-use super::running::solve;
-use super::scripted::scripted_executors;
+use super::running::run_scripts;
 use super::tests::{NO_OP, spelled};
 use std::alloc::Global;
 use std::fs;
@@ -104,8 +103,7 @@ fn runs_of_files(rt: HostRuntime) -> Result<(), Fail> {
         wanted.push_str(commits)?;
         let mut out = Vec::new(alloc);
         let mut err = Vec::new(alloc);
-        let executors = scripted_executors(alloc, *nodes)?;
-        let status = solve(&rt, *nodes, None, files, executors, &mut out, &mut err);
+        let status = run_scripts(&rt, *nodes, None, files, &mut out, &mut err)?;
         assert_eq!(rt; status, DONE);
         assert_eq!(rt; out.as_slice(), wanted.as_str().as_bytes());
         assert!(rt; err.is_empty());
@@ -130,8 +128,7 @@ fn what_is_not_run(rt: HostRuntime) -> Result<(), Fail> {
         files.push((String::from_str(alloc, "G")?, bytes))?;
         let mut out = Vec::new(alloc);
         let mut err = Vec::new(alloc);
-        let executors = scripted_executors(alloc, 1)?;
-        let status = solve(&rt, 1, None, files, executors, &mut out, &mut err);
+        let status = run_scripts(&rt, 1, None, files, &mut out, &mut err)?;
         assert_eq!(rt; status, REFUSED);
         assert!(rt; out.is_empty());
         assert_eq!(rt; err.as_slice(), line.as_bytes());
@@ -152,8 +149,7 @@ fn the_record_of_a_run(rt: HostRuntime) -> Result<(), Fail> {
     let mut out = Vec::new(alloc);
     let mut err = Vec::new(alloc);
     let path = Some("run.record");
-    let executors = scripted_executors(alloc, 1)?;
-    let status = solve(&rt, 1, path, files, executors, &mut out, &mut err);
+    let status = run_scripts(&rt, 1, path, files, &mut out, &mut err)?;
     assert_eq!(rt; status, DONE);
     let bytes = fs::read(&rt, "run.record")?;
     fs::remove_file(&rt, "run.record")?;
@@ -170,8 +166,7 @@ fn a_record_nowhere(rt: HostRuntime) -> Result<(), Fail> {
     let mut out = Vec::new(alloc);
     let mut err = Vec::new(alloc);
     let path = Some("nowhere/run.record");
-    let executors = scripted_executors(alloc, 1)?;
-    let status = solve(&rt, 1, path, files, executors, &mut out, &mut err);
+    let status = run_scripts(&rt, 1, path, files, &mut out, &mut err)?;
     assert_eq!(rt; status, FAULT);
     assert!(rt; out.is_empty());
     assert_eq!(rt; err.as_slice(), "fault SaveFault\n".as_bytes());

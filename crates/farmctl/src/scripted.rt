@@ -2,7 +2,7 @@
 ghost use Rattle.std.specs.Prelude.{⊤};
 
 use executions::{Call, ExecOutcome, ExecTask, Executor};
-use farm_base::{Copied, Digest, FolderName, Items, Key, NodeId, Text};
+use farm_base::{Copied, Digest, FolderName, Items, Key, Text};
 use folders::Edit;
 use opsproto::{ExecOp, Mount};
 use sha2::Sha256;
@@ -28,19 +28,6 @@ impl Scripted {
             calls: Vec::new(alloc),
         }
     }
-}
-
-/// An executor for each of this many nodes.
-pub fn scripted_executors(
-    alloc: Global,
-    nodes: u32,
-) -> Result<Vec<(NodeId, Box<dyn Executor + Send>)>, AllocError> {
-    let mut executors = Vec::new(alloc);
-    for number in 0..nodes {
-        let executor: Box<dyn Executor + Send> = Box::new(alloc, Scripted::new(alloc))?;
-        executors.push((NodeId(number + 1), executor))?;
-    }
-    Ok(executors)
 }
 
 /// The folder of the first cache mount at this place of the file system.

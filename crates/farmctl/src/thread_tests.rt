@@ -3,7 +3,7 @@ ghost use Rattle.std.specs.Prelude.{⊤};
 
 use super::answer::graph_of;
 use super::running_tests::{PUT_PRIVATE, file};
-use super::scripted::scripted_executors;
+use super::scripted::Scripted;
 use executions::{Call, ExecOutcome, ExecTask, Executor, Gate, OpenGate};
 use farm::{DownCount, Farm, FarmEnd, FarmFault};
 use farm_base::{Digest, Items, Key, NodeId};
@@ -178,7 +178,8 @@ fn run_one<R: Threads + Wait + Sync, G: Gate>(
     gate: &G,
 ) -> Result<Result<FarmEnd, FarmFault>, Fail> {
     let jobs = jobs_on(alloc, &[node])?;
-    let executors = scripted_executors(alloc, 1)?;
+    let executor: Box<dyn Executor + Send> = Box::new(alloc, Scripted::new(alloc))?;
+    let executors = vec![in alloc; (NodeId(1), executor)]?;
     let setup = Setup { nodes: 1 };
     Ok(Farm::run(rt, alloc, setup, jobs, executors, plan, gate))
 }
