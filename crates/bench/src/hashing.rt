@@ -1,5 +1,5 @@
 //! An executor that hashes for a while.
-ghost use Rattle.std.specs.Prelude.{⊤};
+ghost use Rattle.std.specs.Prelude.{⊤, ◌≡◌, ◌∷◌, [], IfOk};
 
 use executions::{Call, ExecOutcome, ExecTask, Executor};
 use farm_base::{Digest, Items, Key};
@@ -36,7 +36,9 @@ fn hash(rounds: u32) {
 }
 
 /// The one output of a key.
-fn output(alloc: Global, key: Key) -> Result<Items<Digest>, AllocError> {
+fn output(alloc: Global, key: Key) -> Result<Items<Digest>, AllocError>
+    ensures { IfOk result (λ outputs. outputs ≡ key.0 ∷ []) }
+{
     Ok(Items::new(vec![in alloc; key.0]?))
 }
 

@@ -1,5 +1,5 @@
 //! Runs that the threads of a farm alone can make: two executions at once, and runs with disturbances.
-ghost use Rattle.std.specs.Prelude.{⊤};
+ghost use Rattle.std.specs.Prelude.{⊤, ◌≡◌, ◌∷◌, [], IfOk};
 
 use super::answer::graph_of;
 use super::running_tests::{PUT_PRIVATE, file};
@@ -40,7 +40,9 @@ fn sees(flag: &AtomicBool) -> bool {
 }
 
 /// The one output of a key.
-fn output(alloc: Global, key: Key) -> Result<Items<Digest>, AllocError> {
+fn output(alloc: Global, key: Key) -> Result<Items<Digest>, AllocError>
+    ensures { IfOk result (λ outputs. outputs ≡ key.0 ∷ []) }
+{
     Ok(Items::new(vec![in alloc; key.0]?))
 }
 
