@@ -153,6 +153,7 @@ fn the_record_of_a_run(rt: HostRuntime) -> Result<(), Fail> {
     assert_eq!(rt; status, DONE);
     let bytes = fs::read(&rt, "run.record")?;
     fs::remove_file(&rt, "run.record")?;
+    fs::remove_file(&rt, "run.record.log")?;
     let text = answer(alloc, Command::Record, bytes);
     assert!(rt; matches!(&text, Ok(text) if text.as_str() == RECORD));
     Ok(())
