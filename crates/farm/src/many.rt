@@ -109,7 +109,7 @@ fn parts_of(hall: Hall) -> (Board, Vec<(NodeId, Keyed)>)
 
 impl Farm {
     /// Solves the jobs on their nodes: one thread for each executor, beside a router in this one. It waits for all threads.
-    /// Each step of the plan disturbs the farm once there are so many events. The gate is asked before each execution.
+    /// Each step of the plan disturbs the farm from its number of events on. The gate is asked before each execution.
     ///
     /// `BadSetup` where the setup isn't of 1 to 1,024 nodes, where the node of an executor isn't there, or where a job has
     /// no executor on its node. `BadOutcome` of a key where its execution began from what isn't a folder, or where what it
