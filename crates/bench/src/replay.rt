@@ -1,7 +1,7 @@
 //! Replays of schedules, against their length.
 
 use super::clock::{ROUNDS, seconds_since};
-use farm_base::{Content, FolderName, Items, NodeId, Slot, Ticket, Wants};
+use farm_base::{Content, FolderName, Items, Left, NodeId, Slot, Ticket, Wants};
 use std::alloc::Global;
 use std::rt::Clock;
 use std::time::Instant;
@@ -20,9 +20,12 @@ pub fn wants(alloc: Global) -> anyhow::Result<Wants> {
     Ok(Wants::one(alloc, folder, true)?)
 }
 
-fn lefts(alloc: Global, bytes: Vec<u8>) -> anyhow::Result<Items<(Slot, Content)>> {
+fn lefts(alloc: Global, bytes: Vec<u8>) -> anyhow::Result<Items<Left>> {
     let mut lefts = Vec::new(alloc);
-    lefts.push((Slot::parse(alloc, FOLDER)?, Content::of(bytes)))?;
+    lefts.push(Left {
+        slot: Slot::parse(alloc, FOLDER)?,
+        content: Content::of(bytes),
+    })?;
     Ok(Items::new(lefts))
 }
 

@@ -3,12 +3,11 @@
 
 mod folder;
 mod keyed;
-mod law;
+pub mod laws;
 mod mounted;
 mod viewing;
 mod wanting;
 
 pub use keyed::{views_of, wants_of};
-pub use law::wants_are_determined;
 pub use viewing::views;
 pub use wanting::{needs_home, wants};

@@ -4,10 +4,7 @@ ghost use Rattle.farm_base.specs.declared.limits.TheConstants.{NODES};
 ghost use Rattle.protocol.specs.Lawful.{IsSaid, is_tenure};
 
 use coordinator::Coordinator;
-use farm_base::{
-    Content, Copied, Digest, FolderName, FromCoord, Message, Mode, NODES, NodeId, Request, Slot,
-    Ticket, ToCoord, ToNode, Version, Want, Wants,
-};
+use farm_base::{Content, Copied, Digest, FolderName, FromCoord, Left, Message, Mode, NodeId, Request, Slot, Ticket, ToCoord, ToNode, Version, Want, Wants, NODES};
 use nodecore::{AskState, KeptContents, NodeCore, NodeDone, NodeNote};
 use saverecord::MemoryKeeper;
 use std::alloc::{AllocError, Global};
@@ -138,7 +135,7 @@ impl Farm {
         let begun = self.core(node).begin(alloc, ticket)?;
         let _begun = self.send(begun)?;
         let content = Content::of(Vec::from_slice(alloc, bytes)?);
-        let lefts = vec![in alloc; (Slot::parse(alloc, FOLDER)?, content)]?;
+        let lefts = vec![in alloc; Left { slot: Slot::parse(alloc, FOLDER)?, content }]?;
         let finished = self.core(node).finish(alloc, ticket, lefts)?;
         let _finished = self.send(finished)?;
         self.deliver_all(alloc)

@@ -6,6 +6,7 @@ use Rattle.std.specs.Option.{unwrap_or}
 use Rattle.farm_base.specs.Slots.{SlotParts}
 use Rattle.farm_base.specs.declared.folder.FolderName.{FolderName}
 use Rattle.farm_base.specs.declared.message.GrantedSlot.{GrantedSlot}
+use Rattle.farm_base.specs.declared.left.Left.{Left}
 use Rattle.farm_base.specs.declared.want.Want.{Want}
 use Rattle.farm_base.specs.Folders.{folder_eq}
 use Rattle.protocol.specs.Names.{is_shared}
@@ -60,15 +61,15 @@ abbrev pub is_left : GrantedSlot → Bool
 is_left u = u.writable && not (is_shared u.slot.folder.mode)
 
 -- the slot with the bytes of its folder: as it was changed, or as it was seen where it wasn't
-abbrev pub left_in : (FolderName → Files) → List Named → SlotParts → SlotParts × List ℕ
-left_in seen changed slot = (slot, folder_bytes (unwrap_or (lookup (folder_eq slot.folder) changed) (seen slot.folder)))
+abbrev pub left_in : (FolderName → Files) → List Named → SlotParts → Left
+left_in seen changed slot = record { slot = slot; content = folder_bytes (unwrap_or (lookup (folder_eq slot.folder) changed) (seen slot.folder)) }
 
 -- the content of each such slot at the end
-abbrev pub lefts : (FolderName → Files) → List Named → List GrantedSlot → List (SlotParts × List ℕ)
+abbrev pub lefts : (FolderName → Files) → List Named → List GrantedSlot → List Left
 lefts seen changed slots = map (λ u. left_in seen changed u.slot) (filter is_left slots)
 
 -- where the execution failed, nothing is left
-abbrev pub news_of : (FolderName → Files) → List GrantedSlot → ExecOutcome → List (SlotParts × List ℕ)
+abbrev pub news_of : (FolderName → Files) → List GrantedSlot → ExecOutcome → List Left
 news_of seen slots (Done outputs edits) = lefts seen (changed seen edits) slots
 news_of seen slots (Failed status) = []
 news_of seen slots OutOfMemory = []

@@ -10,7 +10,7 @@ ghost use Rattle.executions.specs.Seen.{folder_seen};
 use super::call::ExecOutcome;
 use super::refusal::RunRefusal;
 use super::seen::{Named, Seen, find};
-use farm_base::{Content, Copied, FolderName, GrantedSlot, Items, Mode, Slot, Want};
+use farm_base::{Content, Copied, FolderName, GrantedSlot, Items, Left, Mode, Slot, Want};
 use folders::{Edit, EditRefusal};
 use std::alloc::{AllocError, Global};
 
@@ -96,7 +96,7 @@ fn left(
     seen: &Seen,
     changed: &[Named],
     slot: &Slot,
-) -> Result<(Slot, Content), AllocError>
+) -> Result<Left, AllocError>
     ensures { IfOk result (λ left. left ≡ left_in (folder_seen seen.now.leased seen.now.shared) changed.now slot.now) }
 {
     let folder = match find(changed, slot.folder()) {
@@ -104,7 +104,10 @@ fn left(
         None => seen.copy_of(alloc, slot.folder())?,
     };
     let content = Content::of(folder.to_bytes(alloc)?);
-    Ok((slot.copy(alloc)?, content))
+    Ok(Left {
+        slot: slot.copy(alloc)?,
+        content,
+    })
 }
 
 /// The content of each slot that gets one.
@@ -113,7 +116,7 @@ fn lefts(
     seen: &Seen,
     changed: &[Named],
     slots: &[GrantedSlot],
-) -> Result<Vec<(Slot, Content)>, AllocError>
+) -> Result<Vec<Left>, AllocError>
     ensures { IfOk result (λ v. v.items ≡ lefts (folder_seen seen.now.leased seen.now.shared) changed.now slots.now) }
 {
     let mut lefts = Vec::new(alloc);
@@ -132,7 +135,7 @@ fn made(
     wants: &[Want],
     slots: &[GrantedSlot],
     edits: &[FolderEdits],
-) -> Result<Vec<(Slot, Content)>, RunRefusal>
+) -> Result<Vec<Left>, RunRefusal>
     ensures fit { IfOk result (λ v. can_be_made (folder_seen seen.now.leased seen.now.shared) wants.now edits.now ≡ true) }
     ensures news { IfOk result (λ v. v.items ≡ lefts (folder_seen seen.now.leased seen.now.shared) (changed (folder_seen seen.now.leased seen.now.shared) edits.now) slots.now) }
     ensures bad { result ≡ Err RunRefusal.BadEdits → can_be_made (folder_seen seen.now.leased seen.now.shared) wants.now edits.now ≡ false }
@@ -155,7 +158,7 @@ pub(crate) fn news_of(
     wants: &[Want],
     slots: &[GrantedSlot],
     outcome: &ExecOutcome,
-) -> Result<Vec<(Slot, Content)>, RunRefusal>
+) -> Result<Vec<Left>, RunRefusal>
     ensures answer { IfOk result (λ v. IsAnswer outcome.now) }
     ensures fit { IfOk result (λ v. is_fit (folder_seen seen.now.leased seen.now.shared) wants.now outcome.now ≡ true) }
     ensures news { IfOk result (λ v. v.items ≡ news_of (folder_seen seen.now.leased seen.now.shared) slots.now outcome.now) }

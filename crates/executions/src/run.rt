@@ -18,7 +18,7 @@ use super::given::given;
 use super::left::news_of;
 use super::refusal::RunRefusal;
 use super::seen::{Seen, read_leased};
-use farm_base::{Content, FolderName, Items, Slot};
+use farm_base::{FolderName, Items, Left};
 use farmboard::Running;
 use folders::Folder;
 use jobs::Task;
@@ -31,7 +31,7 @@ pub struct Ran {
     pub outcome: ExecOutcome,
     /// The content of each slot that the execution may write, but for those of SHARED folders: their edits are in the
     /// outcome.
-    pub news: Vec<(Slot, Content)>,
+    pub news: Vec<Left>,
 }
 
 /// Carries out one execution under a lease. The task is the vertex of this number, and `shared` has the folder of each

@@ -4,7 +4,7 @@ ghost use Rattle.protocol.specs.Names.{tenure_wants};
 
 use super::fault::FarmFault;
 use super::faults::board_fault;
-use farm_base::{Content, Copied, FolderName, Mode, NodeId, Slot, Ticket, Want, Wants};
+use farm_base::{Copied, FolderName, Left, Mode, NodeId, Ticket, Want, Wants};
 use farmboard::{
     Asked, Board, BoardRefusal, Finished, Granted, Running, abandon_granted, abandon_running,
 };
@@ -252,7 +252,7 @@ impl Desk {
         &mut self,
         alloc: Global,
         running: Running,
-        lefts: Vec<(Slot, Content)>,
+        lefts: Vec<Left>,
     ) -> Result<Finished, FarmFault> {
         match self.board.finish(alloc, running, lefts) {
             Ok(finished) => Ok(finished),

@@ -9,7 +9,7 @@ use super::faults::{edits_fault, jobs_fault, run_fault, shared_fault};
 use super::steps::{finish, give_up, start, start_tenure};
 use super::work::{Place, Work, fit, shared_folders};
 use executions::{ExecOutcome, Executor, LiveShared, Ran, run_leased};
-use farm_base::{Content, Copied, FolderName, Items, Key, Mode, NodeId, Slot, Ticket, Want};
+use farm_base::{Content, Copied, FolderName, Items, Key, Left, Mode, NodeId, Ticket, Want};
 use farmboard::{Board, Running, abandon_running};
 use folders::{Edit, Folder};
 use jobs::{Fault, Jobs, Task};
@@ -209,7 +209,7 @@ impl Run {
         running: Running,
         key: Key,
         edits: Items<(FolderName, Items<Edit>)>,
-        news: Vec<(Slot, Content)>,
+        news: Vec<Left>,
     ) -> Result<(), FarmFault> {
         match apply_shared(alloc, &mut self.live, running.ticket(), key, edits) {
             Ok(()) => finish(alloc, &mut self.board, running, news),
@@ -258,10 +258,13 @@ pub(crate) fn lefts_of(
     alloc: Global,
     running: &Running,
     content: Content,
-) -> Result<Vec<(Slot, Content)>, AllocError> {
+) -> Result<Vec<Left>, AllocError> {
     let mut lefts = Vec::with_capacity(alloc, 1)?;
     if let Some(granted) = running.grant().slots.as_slice().first() {
-        lefts.push((granted.slot.copy(alloc)?, content))?;
+        lefts.push(Left {
+            slot: granted.slot.copy(alloc)?,
+            content,
+        })?;
     }
     Ok(lefts)
 }

@@ -4,7 +4,7 @@ ghost use Rattle.executions.specs.Live.{IsTenureOf};
 
 use super::fault::FarmFault;
 use super::faults::board_fault;
-use farm_base::{Content, EVENTS, FolderName, Mode, NodeId, Slot, Wants, Why};
+use farm_base::{FolderName, Left, Mode, NodeId, Wants, Why, EVENTS};
 use farmboard::{
     Accept, Asked, Board, Ended, Finished, Granted, Running, Settled, abandon_asked,
     abandon_finished, abandon_granted, abandon_running,
@@ -126,7 +126,7 @@ pub(crate) fn finish(
     alloc: Global,
     board: &mut Board,
     running: Running,
-    lefts: Vec<(Slot, Content)>,
+    lefts: Vec<Left>,
 ) -> Result<(), FarmFault> {
     let finished = match board.finish(alloc, running, lefts) {
         Ok(finished) => finished,

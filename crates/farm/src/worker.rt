@@ -10,7 +10,7 @@ use super::run::{apply_shared, views_of};
 use super::work::{Place, fit};
 use super::worker_steps::{Post, finish, give_up, lease};
 use executions::{ExecOutcome, Executor, Gate, Ran, run_leased};
-use farm_base::{Content, Digest, FolderName, Items, Key, NodeId, Slot, Ticket, Want};
+use farm_base::{Digest, FolderName, Items, Key, Left, NodeId, Ticket, Want};
 use farmboard::{Receipt, Running, abandon_running};
 use folders::{Edit, Folder};
 use jobs::{Fault, Task};
@@ -179,7 +179,7 @@ fn keep<R: Wait>(
     running: Running,
     key: Key,
     edits: Items<(FolderName, Items<Edit>)>,
-    news: Vec<(Slot, Content)>,
+    news: Vec<Left>,
 ) -> Result<(), FarmFault> {
     if let Err(fault) = apply(rt, post, running.ticket(), key, edits) {
         abandon_running(running);

@@ -9,7 +9,7 @@ use super::hall::Hall;
 use super::home::Home;
 use super::steps::tenure_of;
 use executions::Gate;
-use farm_base::{Content, FolderName, Key, Mode, NodeId, Slot, Want, Wants, Why};
+use farm_base::{FolderName, Key, Left, Mode, NodeId, Want, Wants, Why};
 use farmboard::{
     Accept, Asked, BoardRefusal, Finished, Granted, Look, Receipt, Running, Settled, abandon_asked,
     abandon_finished, abandon_granted,
@@ -139,7 +139,7 @@ pub(crate) fn finish<R: Wait>(
     rt: &R,
     post: Post<'_>,
     running: Running,
-    lefts: Vec<(Slot, Content)>,
+    lefts: Vec<Left>,
 ) -> Result<Option<Receipt>, FarmFault> {
     let finished = finish_use(rt, post, running, lefts);
     post.hall.note_step();
@@ -151,7 +151,7 @@ fn finish_use<R: Wait>(
     rt: &R,
     post: Post<'_>,
     running: Running,
-    lefts: Vec<(Slot, Content)>,
+    lefts: Vec<Left>,
 ) -> Result<Finished, FarmFault> {
     let mut desk = post.hall.desk.lock(rt);
     desk.release(post.node, running.wants().as_slice());

@@ -8,8 +8,9 @@ mod display;
 mod escape;
 mod folder;
 mod items;
-mod laws;
+pub mod laws;
 mod lease;
+mod left;
 mod limits;
 mod message;
 mod name;
@@ -25,12 +26,8 @@ pub use copied::Copied;
 pub use digest::{BadDigestText, BadKeyText, Digest, Key, are_bytes};
 pub use folder::{Base, FolderName, Index, Mode};
 pub use items::{Items, copy_all};
-pub use laws::{
-    equal_digests_are_one, equal_names_are_one, equal_slots_are_one, equal_versions_are_one,
-    folders_are_ordered, is_name, is_slot, names_equal_themselves, one_digest_per_text,
-    one_folder_per_text, one_key_per_text, one_slot_per_text, slots_are_ordered,
-};
 pub use lease::{Lease, NodeLife, Parked};
+pub use left::Left;
 pub use limits::{EVENTS, GREATEST, INSTANCES, NODES};
 pub use message::{
     Confirmed, Fetch, FromCoord, Grant, GrantedSlot, LineVersion, Message, News, Request, ToCoord,

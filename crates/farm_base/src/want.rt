@@ -1,4 +1,4 @@
-ghost use Rattle.std.specs.Prelude.{◌≡◌, ◌<◌, ◌≤◌, ◌↔◌, ◌≢◌, ◌∷◌, [], vec_len, length, IsPermutation, IfOk, IsErrOf};
+ghost use Rattle.std.specs.Prelude.{◌≡◌, ◌<◌, ◌≤◌, ◌↔◌, ◌≢◌, ◌∷◌, [], vec_len, length, IsPermutation, Err, IfOk, IsErrOf};
 ghost use Rattle.std.specs.List.{IsDistinct, IsAllAdjacentAnswer};
 ghost use Rattle.std.specs.Ordering.{is_lt};
 ghost use Rattle.farm_base.specs.Folders.{folder_cmp, folder_eq};
@@ -101,6 +101,21 @@ impl Wants {
         ensures sorted { IsWants result.now }
     {
         self.wants.as_slice()
+    }
+}
+
+impl TryFrom<Vec<Want>> for Wants {
+    ghost use Rattle.farm_base.specs.declared.want.WantsRefusal.{WantsRefusal};
+
+    type Error = WantsRefusal;
+
+    ghost try_from_gives = { λ given result. IfOk result (λ wants. IsPermutation given.items wants × IsWants wants)
+        × (IsErrOf result WantsRefusal.TooManyWants ↔ (16 < vec_len given))
+        × (IsErrOf result WantsRefusal.SameFolderTwice ↔ ((vec_len given ≤ 16) × ¬ IsDistinct folder_eq (folders given.items)))
+        × (result ≢ Err WantsRefusal.OutOfMemory) };
+
+    fn try_from(wants: Vec<Want>) -> Result<Self, WantsRefusal> {
+        Wants::of(wants)
     }
 }
 

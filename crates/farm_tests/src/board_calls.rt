@@ -1,6 +1,6 @@
 //! One execution on a board, from its ask to its receipt, with ample memory.
 
-use farm_base::{Content, FolderName, NodeId, Slot, Ticket, Wants};
+use farm_base::{Content, FolderName, Left, NodeId, Slot, Ticket, Wants};
 use farmboard::{
     Accept, Asked, Board, Finished, Granted, Receipt, Running, Settled, abandon_asked,
     abandon_finished, abandon_granted, abandon_running,
@@ -57,7 +57,7 @@ fn finished(alloc: Global, board: &mut Board, running: Running, slot: Slot) -> O
         abandon_running(running);
         return None;
     };
-    let Ok(lefts) = vec![in alloc; (slot, Content::of(bytes))] else {
+    let Ok(lefts) = vec![in alloc; Left { slot, content: Content::of(bytes) }] else {
         abandon_running(running);
         return None;
     };

@@ -7,7 +7,7 @@ use Rattle.farmboard.specs.declared.tokens.Finished.{Finished}
 
 -- a version of the slot, its number not known yet
 abbrev pub version_of : Left → Version
-version_of x = record { slot = x.0; number = 0 }
+version_of x = record { slot = x.slot; number = 0 }
 
 -- the execution that is over, with the versions that it adds
 abbrev pub finished_of : Running → List Left → Finished

@@ -17,10 +17,7 @@ use super::passing::{is_among, pass};
 use super::refusal::BoardRefusal;
 use super::tokens::{Accept, Asked, Finished, Granted, Running, abandon_asked};
 use super::uses::{InUse, has_node, note};
-use farm_base::{
-    Ask, Content, Copied, EVENTS, FolderName, Grant, Items, Life, Mode, NodeId, Slot, Version,
-    Want, Wants,
-};
+use farm_base::{Ask, Copied, FolderName, Grant, Items, Left, Life, Mode, NodeId, Version, Want, Wants, EVENTS};
 use nodecore::AskState;
 use protocol::{Event, EventRefusal, How, Outcome};
 use schedule::Setup;
@@ -359,7 +356,7 @@ impl Board {
         &mut self,
         alloc: Global,
         token: Running,
-        lefts: Vec<(Slot, Content)>,
+        lefts: Vec<Left>,
     ) -> Result<Finished, (Running, BoardRefusal)>
         ensures ok { IfOk result (λ f. TookOrNot self.old (Event.Finish token.node token.grant.ticket lefts.items) self.new (Ok tt)) }
         ensures token { IfOk result (λ f. f ≡ finished_of token lefts.items) }
@@ -445,12 +442,12 @@ fn wants_of_tenure(alloc: Global, folder: &FolderName) -> Result<Wants, AllocErr
 }
 
 /// Room for a version of each slot, its number not known yet.
-fn first_versions(alloc: Global, lefts: &[(Slot, Content)]) -> Result<Vec<Version>, AllocError>
+fn first_versions(alloc: Global, lefts: &[Left]) -> Result<Vec<Version>, AllocError>
     ensures { IfOk result (λ v. v.items ≡ map version_of lefts.now) }
 {
     let mut versions = Vec::with_capacity(alloc, lefts.len())?;
     for left in lefts {
-        let slot = left.0.copy(alloc)?;
+        let slot = left.slot.copy(alloc)?;
         versions.push(Version { slot, number: 0 })?;
     }
     Ok(versions)

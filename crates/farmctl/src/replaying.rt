@@ -11,7 +11,8 @@ ghost use Rattle.farmctl.specs.Replays.{events_text, IsReplayed, IsUnread, Tells
 use super::failure::Failure;
 use schedule::{Event, ScheduleRefusal, read_schedule};
 use std::alloc::{AllocError, Global};
-use world::{EventRefusal, StartRefusal, World, every_replay_means, print_lines, print_outcome};
+use world::laws::every_replay_means;
+use world::{EventRefusal, StartRefusal, World, print_lines, print_outcome};
 
 /// Adds the line of an event, which the farm carries out.
 fn push_event(

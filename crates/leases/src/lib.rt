@@ -1,14 +1,13 @@
 //! Tickets, the leases that they number, and the lives and retirement of nodes.
 #![tactic(auto)]
 
-mod laws;
+pub mod laws;
 mod lease_table;
 mod lives;
 mod marks;
 mod retired_nodes;
 mod ticket_source;
 
-pub use laws::lowest_is_lowest;
 pub use lease_table::{Fit, LeaseTable, SlotState, holds_wanted};
 pub use lives::Lives;
 pub use retired_nodes::RetiredNodes;

@@ -53,12 +53,12 @@ stores m n d c e p h =
     rw absent (keep_shown m n d c h ∙ ap (λ (z : Digest). keep z c (store_in m)) e)
 
 pub stored-push : (sha : List ℕ → Digest) (xs : List Left) (x : Left) (store : Digest → Option (List ℕ))
-    → stored sha (xs ++ x ∷ []) store ≡ (if is_some (stored sha xs store (sha x.1)) then stored sha xs store else keep (sha x.1) x.1 (stored sha xs store))
+    → stored sha (xs ++ x ∷ []) store ≡ (if is_some (stored sha xs store (sha x.content)) then stored sha xs store else keep (sha x.content) x.content (stored sha xs store))
 stored-push sha [] x store = refl
-stored-push sha (y ∷ ys) x store = elim (is_some (store (sha y.1))) as (λ b. (if b then stored sha (ys ++ x ∷ []) store else stored sha (ys ++ x ∷ []) (keep (sha y.1) y.1 store))
-    ≡ (if is_some ((if b then stored sha ys store else stored sha ys (keep (sha y.1) y.1 store)) (sha x.1)) then (if b then stored sha ys store else stored sha ys (keep (sha y.1) y.1 store)) else keep (sha x.1) x.1 (if b then stored sha ys store else stored sha ys (keep (sha y.1) y.1 store)))) [
+stored-push sha (y ∷ ys) x store = elim (is_some (store (sha y.content))) as (λ b. (if b then stored sha (ys ++ x ∷ []) store else stored sha (ys ++ x ∷ []) (keep (sha y.content) y.content store))
+    ≡ (if is_some ((if b then stored sha ys store else stored sha ys (keep (sha y.content) y.content store)) (sha x.content)) then (if b then stored sha ys store else stored sha ys (keep (sha y.content) y.content store)) else keep (sha x.content) x.content (if b then stored sha ys store else stored sha ys (keep (sha y.content) y.content store)))) [
       | true ↦ stored-push sha ys x store
-      | false ↦ stored-push sha ys x (keep (sha y.1) y.1 store)
+      | false ↦ stored-push sha ys x (keep (sha y.content) y.content store)
     ]
 
 -- a map with the same entries

@@ -9,7 +9,7 @@ ghost use Rattle.nodecore.specs.Shown.{base_of, version_of};
 ghost use Rattle.nodecore.specs.Stored.{agree_on, agrees, known_in, learn_all, HaveOneDigestEach};
 
 use super::kept::ResumeRefusal;
-use farm_base::{Confirmed, Content, Copied, Digest, GrantedSlot, Items, News, Slot, Version};
+use farm_base::{Confirmed, Copied, Digest, GrantedSlot, Items, Left, News, Version};
 use indexmap::IndexMap;
 use std::alloc::{AllocError, Global};
 
@@ -103,21 +103,21 @@ pub(crate) fn known_from(
 }
 
 /// The news of what an execution leaves.
-pub(crate) fn news_of(alloc: Global, lefts: &[(Slot, Content)]) -> Result<Items<News>, AllocError>
+pub(crate) fn news_of(alloc: Global, lefts: &[Left]) -> Result<Items<News>, AllocError>
     ensures { IfOk result (λ news. news ≡ news_of content_digest lefts.now) }
 {
     let mut news = Vec::with_capacity(alloc, lefts.len())?;
     for left in lefts {
         news.push(News {
-            slot: left.0.copy(alloc)?,
-            digest: left.1.digest(),
+            slot: left.slot.copy(alloc)?,
+            digest: left.content.digest(),
         })?;
     }
     Ok(Items::new(news))
 }
 
 /// Whether an execution leaves exactly the slots that it may write, in their order.
-pub(crate) fn fits(lefts: &[(Slot, Content)], slots: &[GrantedSlot]) -> bool
+pub(crate) fn fits(lefts: &[Left], slots: &[GrantedSlot]) -> bool
     ensures { result ≡ slots_eq (slots_of (news_of content_digest lefts.now)) (written slots.now) }
 {
     let mut rest = lefts;
@@ -126,7 +126,7 @@ pub(crate) fn fits(lefts: &[(Slot, Content)], slots: &[GrantedSlot]) -> bool
             let [left, others @ ..] = rest else {
                 return false;
             };
-            if left.0 != slot.slot {
+            if left.slot != slot.slot {
                 return false;
             }
             rest = others;

@@ -16,10 +16,7 @@ use super::contents::{fits, known_from, news_of};
 use super::kept::{KeptContents, ResumeRefusal, ToKeep};
 use super::message::{AskState, NodeDone};
 use super::stored::StoredContents;
-use farm_base::{
-    Ask, Content, Copied, Digest, FolderName, GREATEST, GrantedSlot, Items, Life, Message, Mode,
-    NodeId, Request, Slot, Ticket, ToCoord, Version, Want, Wants,
-};
+use farm_base::{Ask, Content, Copied, Digest, FolderName, GrantedSlot, Items, Left, Life, Message, Mode, NodeId, Request, Ticket, ToCoord, Version, Want, Wants, GREATEST};
 use indexmap::IndexMap;
 use protocol::{How, KeptAsk, NodeNote, NodeRefusal};
 use std::alloc::{AllocError, Global};
@@ -344,7 +341,7 @@ impl NodeCore {
         &mut self,
         alloc: Global,
         ticket: Ticket,
-        lefts: Vec<(Slot, Content)>,
+        lefts: Vec<Left>,
     ) -> Result<NodeDone, NodeRefusal>
         ensures answer { Answers (finished_with content_digest (place self.old) ticket lefts.items (shown self.old)) (shown self.old) (shown self.new) result }
         ensures place { place self.new ≡ place self.old }
@@ -373,7 +370,7 @@ impl NodeCore {
         alloc: Global,
         index: usize,
         ticket: Ticket,
-        lefts: Vec<(Slot, Content)>,
+        lefts: Vec<Left>,
     ) -> Result<NodeDone, AllocError>
         requires { index < vec_len self.old.asks }
         ensures work { (h : Held)

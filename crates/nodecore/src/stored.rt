@@ -6,7 +6,7 @@ ghost use Rattle.protocol.specs.Nodes.{stored};
 ghost use Rattle.protocol.specs.World.{first_node};
 ghost use Rattle.nodecore.specs.Stored.{store_each, store_in, store_one, AreStored};
 
-use farm_base::{Content, Digest, Slot};
+use farm_base::{Content, Digest, Left};
 use indexmap::IndexMap;
 use indexmap::map::Values;
 use std::alloc::{AllocError, Global};
@@ -92,12 +92,12 @@ impl StoredContents {
     }
 
     /// Stores what an execution leaves, in the room that is there.
-    pub(crate) fn store_all(&mut self, lefts: Vec<(Slot, Content)>)
+    pub(crate) fn store_all(&mut self, lefts: Vec<Left>)
         requires { vec_len lefts ≤ spare self.old.by_digest }
         ensures { store_in self.new.by_digest ≡ stored content_digest lefts.items (store_in self.old.by_digest) }
     {
-        for (_, content) in lefts {
-            self.store(content);
+        for left in lefts {
+            self.store(left.content);
         }
     }
 }

@@ -172,14 +172,14 @@ recallable_is t (Over how) x e = none_some x e
 
 stored_ok : (sha : List ℕ → Digest) (lefts : List Left) (store : Digest → Option (List ℕ)) (d : Digest) (c : List ℕ) → stored sha lefts store d ≡ Some c → ((store d ≡ Some c) ⊎ (sha c ≡ d))
 stored_ok sha [] store d c e = inl e
-stored_ok sha (x ∷ xs) store d c e = elim (cases_Bool (is_some (store (sha x.1)))) [
+stored_ok sha (x ∷ xs) store d c e = elim (cases_Bool (is_some (store (sha x.content)))) [
   | inl t ↦ stored_ok sha xs store d c (rw t at e)
-  | inr t ↦ elim (stored_ok sha xs (keep (sha x.1) x.1 store) d c (rw t at e)) [
+  | inr t ↦ elim (stored_ok sha xs (keep (sha x.content) x.content store) d c (rw t at e)) [
     | inr same ↦ inr same
-    | inl old ↦ elim (cases_Bool (digest_eq d (sha x.1))) [
-      | inl q ↦ (let is : keep (sha x.1) x.1 store d ≡ Some x.1 = rw q in
-          inr (ap sha (some_is c x.1 (sym old ∙ is)) ∙ sym (digest_exact d (sha x.1) q)))
-      | inr q ↦ (let is : keep (sha x.1) x.1 store d ≡ store d = rw q in inl (sym is ∙ old))
+    | inl old ↦ elim (cases_Bool (digest_eq d (sha x.content))) [
+      | inl q ↦ (let is : keep (sha x.content) x.content store d ≡ Some x.content = rw q in
+          inr (ap sha (some_is c x.content (sym old ∙ is)) ∙ sym (digest_exact d (sha x.content) q)))
+      | inr q ↦ (let is : keep (sha x.content) x.content store d ≡ store d = rw q in inl (sym is ∙ old))
     ]
   ]
 ]
@@ -335,7 +335,7 @@ module _ (sha : List ℕ → Digest) (u : World) (n : NodeId) where
   begun_does t = on_guard here.spent _ _ (λ up. beginning_does t (first (held t) here.asks 0) refl)
 
   some_news : (l : Left) (ls : List Left) → news_of sha (l ∷ ls) ≢ []
-  some_news l ls e = (let bad : record { slot = l.0; digest = sha l.1 } ∷ news_of sha ls ≡ [] = e in cc)
+  some_news l ls e = (let bad : record { slot = l.slot; digest = sha l.content } ∷ news_of sha ls ≡ [] = e in cc)
 
   leaving_does : (size : ℕ) (a : ℕ) (h : Held) (lefts : List Left) → nth here.asks a ≡ Some (Running h.wants h.grant h.recalled) → Idle here.asks a h.wants h.grant → slots_of (news_of sha lefts) ≡ written h.grant.slots
       → OnAnswer (Ok (leaving sha (at size) a h lefts here))

@@ -115,10 +115,10 @@ not_some : (o : Option (List ℕ)) → is_some o ≡ false → o ≡ None
 not_some None h = refl
 not_some (Some c) h = (let bad : true ≡ false = h in cc)
 
-all_stored_so : (sha : List ℕ → Digest) (lefts : List Left) (store : Digest → Option (List ℕ)) → Stored sha (map (λ (z : Left). z.1) lefts) store (stored sha lefts store)
+all_stored_so : (sha : List ℕ → Digest) (lefts : List Left) (store : Digest → Option (List ℕ)) → Stored sha (map (λ (z : Left). z.content) lefts) store (stored sha lefts store)
 all_stored_so sha [] store = record { kept = λ d c e. e; named = λ d c e. inl e; all = λ c i. absurd i }
-all_stored_so sha (x ∷ xs) store = elim (cases_Bool (is_some (store (sha x.1)))) [
-  | inl t ↦ (let r = all_stored_so sha xs store in let old = stored_some (store (sha x.1)) t in rw t (record {
+all_stored_so sha (x ∷ xs) store = elim (cases_Bool (is_some (store (sha x.content)))) [
+  | inl t ↦ (let r = all_stored_so sha xs store in let old = stored_some (store (sha x.content)) t in rw t (record {
     kept = r.kept;
     named = λ d c e. elim (r.named d c e) [ inl o ↦ inl o | inr n ↦ inr (inr n.0, n.1) ];
     all = λ c i. elim i [
@@ -126,16 +126,16 @@ all_stored_so sha (x ∷ xs) store = elim (cases_Bool (is_some (store (sha x.1))
       | inr j ↦ r.all c j
     ];
   }))
-  | inr f ↦ (let none = not_some (store (sha x.1)) f in
-      let store' : Digest → Option (List ℕ) = keep (sha x.1) x.1 store in
+  | inr f ↦ (let none = not_some (store (sha x.content)) f in
+      let store' : Digest → Option (List ℕ) = keep (sha x.content) x.content store in
       let r = all_stored_so sha xs store' in rw f (record {
-        kept = λ d c e. r.kept d c (keep_kept (sha x.1) d x.1 c store none e);
+        kept = λ d c e. r.kept d c (keep_kept (sha x.content) d x.content c store none e);
         named = λ d c e. elim (r.named d c e) [
-          | inl o ↦ elim (keep_named (sha x.1) d x.1 c store o) [ inl q ↦ inl q | inr q ↦ inr (inl q.1, ap sha q.1 ∙ sym q.0) ]
+          | inl o ↦ elim (keep_named (sha x.content) d x.content c store o) [ inl q ↦ inl q | inr q ↦ inr (inl q.1, ap sha q.1 ∙ sym q.0) ]
           | inr n ↦ inr (inr n.0, n.1)
         ];
         all = λ c i. elim i [
-          | inl e ↦ (x.1, r.kept (sha c) x.1 (ap (λ z. store' (sha z)) e ∙ keep-same (sha x.1) x.1 store))
+          | inl e ↦ (x.content, r.kept (sha c) x.content (ap (λ z. store' (sha z)) e ∙ keep-same (sha x.content) x.content store))
           | inr j ↦ r.all c j
         ];
       }))
@@ -249,9 +249,9 @@ module _ (sha : List ℕ → Digest) (k : Limits) (n : NodeId) (size : ℕ) (x :
   pub begun_exact : (t : Ticket) → Exact None (Begin n t) (begun t x)
   begun_exact t = on_guard None (Begin n t) x.spent refusal.LivesSpent _ (λ down. down) (λ up. beginning_exact t (first (held t) x.asks 0) refl up)
 
-  slots-left : (lefts : List Left) → slots_of (news_of sha lefts) ≡ map (λ (z : Left). z.0) lefts
+  slots-left : (lefts : List Left) → slots_of (news_of sha lefts) ≡ map (λ (z : Left). z.slot) lefts
   slots-left [] = refl
-  slots-left (l ∷ ls) = (let r = slots-left ls in λ i. l.0 ∷ r i)
+  slots-left (l ∷ ls) = (let r = slots-left ls in λ i. l.slot ∷ r i)
 
   leaving_means : (t : Ticket) (lefts : List Left) (a : ℕ) (h : Held) → nth x.asks a ≡ Some (Running h.wants h.grant h.recalled) → h.grant.ticket ≡ t → slots_of (news_of sha lefts) ≡ written h.grant.slots → Means None (Finish n t lefts) (leaving sha at a h lefts x)
   leaving_means t [] a h at' ticket slots = (a, h.wants, h.grant, h.recalled, at', refl, (refl, refl))

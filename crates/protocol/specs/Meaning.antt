@@ -269,7 +269,7 @@ Leaves sha [] n x g wants a sends x' = (sends ≡ release n x.life g.ticket ∷ 
 Leaves sha (l ∷ ls) n x g wants a sends x' =
     let news : List News = news_of sha (l ∷ ls) in
     (sends ≡ commit n x.life g.ticket news ∷ []) × (slots_of news ≡ written g.slots)
-    × Stored sha (map (λ (z : Left). z.1) (l ∷ ls)) x.store x'.store × (x' ≡ record x { asks = set_nth x.asks a (Finished wants g news); store = x'.store })
+    × Stored sha (map (λ (z : Left). z.content) (l ∷ ls)) x.store x'.store × (x' ≡ record x { asks = set_nth x.asks a (Finished wants g news); store = x'.store })
 
 -- what the answer of a node says, x being the node before, x' the node after
 abbrev pub NodeMeans : (List ℕ → Digest) → Option Message → Event → NodeId → Node → NodeNote → List Message → Node → Type 0

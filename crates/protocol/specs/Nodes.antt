@@ -5,6 +5,7 @@ use Rattle.farm_base.specs.Folders.{folder_eq}
 use Rattle.protocol.specs.Lists.{nth, set_nth}
 use Rattle.protocol.specs.Names.{Slot, Shared, slots_eq, digest_eq, NodeId, Life, Ask, Ticket, Digest, Want, FolderName, wants_shared, tenure_wants}
 use Rattle.protocol.specs.Machine.{News, GrantedSlot, Confirmed, Grant, Message, ToNode, Fetches, Blob, FromCoord, hello, acquire, commit, release, written, slots_of}
+pub use Rattle.farm_base.specs.declared.left.Left.{Left}
 use Rattle.farm_base.specs.declared.message.ToNode.TheVariants as to_node
 use Rattle.protocol.specs.Ledger.{Limits}
 use Rattle.protocol.specs.World.{KeptAsk, Open, Holding, Running, Finished, Over, Node, keeps, learn_bases, learn_versions, keep, has_life}
@@ -204,17 +205,13 @@ beginning t x (Some (a, h)) = guard (not (all_stored x h.grant.slots)) refusal.C
 abbrev pub begun : Ticket → Node → NodeAnswer
 begun t x = guard x.spent refusal.LivesSpent (beginning t x (first (held t) x.asks 0))
 
--- a slot, and the content that an execution leaves in it
-abbrev pub Left : Type 0
-Left = Slot × List ℕ
-
 abbrev pub news_of : (List ℕ → Digest) → List Left → List News
-news_of sha lefts = map (λ x. record { slot = x.0; digest = sha x.1 }) lefts
+news_of sha lefts = map (λ x. record { slot = x.slot; digest = sha x.content }) lefts
 
 -- each content is stored. A digest that is stored already keeps its content
 abbrev pub stored : (List ℕ → Digest) → List Left → (Digest → Option (List ℕ)) → Digest → Option (List ℕ)
 stored sha [] store = store
-stored sha (x ∷ xs) store = if is_some (store (sha x.1)) then stored sha xs store else stored sha xs (keep (sha x.1) x.1 store)
+stored sha (x ∷ xs) store = if is_some (store (sha x.content)) then stored sha xs store else stored sha xs (keep (sha x.content) x.content store)
 
 abbrev pub gives_up : Place → ℕ → Ticket → NodeNote → Node → NodeWork
 gives_up at a t n x = record { node = becomes a (Over how.Other) x; sends = release at.node x.life t ∷ []; note = n }

@@ -1,7 +1,5 @@
-ghost use Rattle.std.specs.Prelude.{◌≡◌, IfOk};
-
 use super::answer::Kept;
-use farm_base::{Content, Copied, FolderName, Items, NodeId, Slot, Ticket, Wants};
+use farm_base::{Content, Copied, FolderName, Items, Left, NodeId, Slot, Ticket, Wants};
 use std::alloc::{AllocError, Global};
 
 /// One thing that happens in a farm.
@@ -16,7 +14,7 @@ pub enum Event {
     /// The node begins the execution that the ticket was granted for.
     Begin(NodeId, Ticket),
     /// The execution is over, and left these contents.
-    Finish(NodeId, Ticket, Items<(Slot, Content)>),
+    Finish(NodeId, Ticket, Items<Left>),
     /// The node gives the lease back.
     Abort(NodeId, Ticket),
     /// The node sends again what was not answered.
@@ -39,24 +37,6 @@ pub enum Event {
     FailSave(Kept),
 }
 
-/// A copy of what an execution left in a slot.
-fn copy_left(alloc: Global, left: &(Slot, Content)) -> Result<(Slot, Content), AllocError>
-    ensures { IfOk result (λ copy. copy ≡ left.now) }
-{
-    Ok((left.0.copy(alloc)?, left.1.copy(alloc)?))
-}
-
-/// Copies of what an execution left in each slot.
-fn copy_lefts(alloc: Global, lefts: &[(Slot, Content)]) -> Result<Vec<(Slot, Content)>, AllocError>
-    ensures { IfOk result (λ copy. copy.items ≡ lefts.now) }
-{
-    let mut copies = Vec::with_capacity(alloc, lefts.len())?;
-    for left in lefts {
-        copies.push(copy_left(alloc, left)?)?;
-    }
-    Ok(copies)
-}
-
 impl Copied for Event {
     fn copy(&self, alloc: Global) -> Result<Self, AllocError> {
         Ok(match self {
@@ -65,11 +45,7 @@ impl Copied for Event {
             Event::Deliver(message) => Event::Deliver(*message),
             Event::Begin(node, ticket) => Event::Begin(*node, *ticket),
             Event::Finish(node, ticket, lefts) => {
-                Event::Finish(
-                    *node,
-                    *ticket,
-                    Items::new(copy_lefts(alloc, lefts.as_slice())?),
-                )
+                Event::Finish(*node, *ticket, lefts.copy(alloc)?)
             }
             Event::Abort(node, ticket) => Event::Abort(*node, *ticket),
             Event::Resend(node) => Event::Resend(*node),

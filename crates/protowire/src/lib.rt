@@ -3,7 +3,7 @@
 
 mod body_list;
 mod field;
-mod laws;
+pub mod laws;
 mod lookup;
 mod reading;
 mod refusal;
@@ -13,10 +13,6 @@ mod writing;
 
 pub use body_list::BodyList;
 pub use field::{Field, Value};
-pub use laws::{
-    fields_are_determined, first_fault_decides, written_fields_are_fields,
-    written_numbers_are_shortest,
-};
 pub use lookup::{bodies, body_in, joined_body, last_member, last_varint, lone_body, lone_member};
 pub use reading::fields;
 pub use refusal::WireRefusal;

@@ -50,30 +50,30 @@ unlawful r OutOfMemory n ws given wants was bad many twice len each e h = cc bad
 -- ---- what was left
 
 -- where each slot is below the next
-pub rising-from_answer : (lefts : List Left) → AllAdjacentBelow (λ a b. true ≡ is_lt (slot_cmp a.0 b.0)) lefts (length lefts)
+pub rising-from_answer : (lefts : List Left) → AllAdjacentBelow (λ a b. true ≡ is_lt (slot_cmp a.slot b.slot)) lefts (length lefts)
     → IsStrictlySortedBy slot_cmp (left_slots lefts)
 unfolding IsStrictlySortedBy
 rising-from_answer [] h = tt
-rising-from_answer (l ∷ lefts) h = sorted_from_all_adjacent slot_total (left_slots (l ∷ lefts)) l.0 (λ k lt.
-    let inside : k + 1 < length (l ∷ lefts) = omega (arith, length-map (l ∷ lefts) (λ (x : Left). x.0)) in
-    let this = get_or-map (λ (x : Left). x.0) (l ∷ lefts) k l l.0 (omega arith) in
-    let next = get_or-map (λ (x : Left). x.0) (l ∷ lefts) (k + 1) l l.0 (omega arith) in
+rising-from_answer (l ∷ lefts) h = sorted_from_all_adjacent slot_total (left_slots (l ∷ lefts)) l.slot (λ k lt.
+    let inside : k + 1 < length (l ∷ lefts) = omega (arith, length-map (l ∷ lefts) (λ (x : Left). x.slot)) in
+    let this = get_or-map (λ (x : Left). x.slot) (l ∷ lefts) k l l.slot (omega arith) in
+    let next = get_or-map (λ (x : Left). x.slot) (l ∷ lefts) (k + 1) l l.slot (omega arith) in
     rw (this, next) (less-from_is_lt _ (h k l inside)))
 
 -- slots of which one isn't below the next don't rise
 falling-from_answer : (lefts : List Left) (k : ℕ) → k + 1 < length lefts
-    → ((d : Left) → false ≡ is_lt (slot_cmp (get_or lefts k d).0 (get_or lefts (k + 1) d).0)) → IsStrictlySortedBy slot_cmp (left_slots lefts) → ⊥
+    → ((d : Left) → false ≡ is_lt (slot_cmp (get_or lefts k d).slot (get_or lefts (k + 1) d).slot)) → IsStrictlySortedBy slot_cmp (left_slots lefts) → ⊥
 falling-from_answer [] k lt falls rising = absurd (omega arith)
 falling-from_answer (l ∷ lefts) k lt falls rising =
-    let len = length-map (l ∷ lefts) (λ (x : Left). x.0) in
-    let less = Less-from_sorted slot_cmp (left_slots (l ∷ lefts)) k (k + 1) l.0 rising (omega arith) (omega arith) in
-    let this = get_or-map (λ (x : Left). x.0) (l ∷ lefts) k l l.0 (omega arith) in
-    let next = get_or-map (λ (x : Left). x.0) (l ∷ lefts) (k + 1) l l.0 (omega arith) in
+    let len = length-map (l ∷ lefts) (λ (x : Left). x.slot) in
+    let less = Less-from_sorted slot_cmp (left_slots (l ∷ lefts)) k (k + 1) l.slot rising (omega arith) (omega arith) in
+    let this = get_or-map (λ (x : Left). x.slot) (l ∷ lefts) k l l.slot (omega arith) in
+    let next = get_or-map (λ (x : Left). x.slot) (l ∷ lefts) (k + 1) l l.slot (omega arith) in
     let below = rw (this, next) at less in
     not_less _ (falls l) below
 
 abbrev pub IsRising : List Left → Bool → Type 0
-IsRising lefts answer = IsAllAdjacentAnswer (λ a b answer. answer ≡ is_lt (slot_cmp a.0 b.0)) lefts answer
+IsRising lefts answer = IsAllAdjacentAnswer (λ a b answer. answer ≡ is_lt (slot_cmp a.slot b.slot)) lefts answer
 
 pub rising : (lefts : List Left) (answer : Bool) → IsRising lefts answer → answer ≡ true → IsStrictlySortedBy slot_cmp (left_slots lefts)
 rising lefts true h e = rising-from_answer lefts h

@@ -134,8 +134,8 @@ want_words wants h = All-map IsWord want_text wants (All-weaker IsWant (λ w. Is
 
 left_word : (l : Left) → IsLeft l → IsWord (left_text l)
 left_word l h =
-    All-append IsVisible (slot_text l.0) (61 ∷ encode_lower l.1) (slot_word l.0 h.slot)
-    (All-cons IsVisible 61 (encode_lower l.1) (omega arith, omega arith) (hex_word l.1 h.content))
+    All-append IsVisible (slot_text l.slot) (61 ∷ encode_lower l.content) (slot_word l.slot h.slot)
+    (All-cons IsVisible 61 (encode_lower l.content) (omega arith, omega arith) (hex_word l.content h.content))
 
 pub left_words : (lefts : List Left) → All IsLeft lefts → All IsWord (map left_text lefts)
 left_words lefts h = All-map IsWord left_text lefts (All-weaker IsLeft (λ l. IsWord (left_text l)) left_word lefts h)

@@ -31,8 +31,8 @@ want_text-injective a b ha hb e =
 
 pub left_text-injective : (a b : Left) → IsLeft a → IsLeft b → left_text a ≡ left_text b → a ≡ b
 left_text-injective a b ha hb e =
-    let parts = last_same 61 (slot_text a.0) (slot_text b.0) (encode_lower a.1) (encode_lower b.1) e
-    (encode-lacks 61 refl a.1 ha.content) (encode-lacks 61 refl b.1 hb.content) in
-    let slot = slot_text-injective a.0 b.0 ha.slot hb.slot parts.0 in
-    let content = encode-injective a.1 b.1 ha.content hb.content parts.1 in
-    λ i. (slot i, content i)
+    let parts = last_same 61 (slot_text a.slot) (slot_text b.slot) (encode_lower a.content) (encode_lower b.content) e
+    (encode-lacks 61 refl a.content ha.content) (encode-lacks 61 refl b.content hb.content) in
+    let slot = slot_text-injective a.slot b.slot ha.slot hb.slot parts.0 in
+    let content = encode-injective a.content b.content ha.content hb.content parts.1 in
+    λ i. record { slot = slot i; content = content i }

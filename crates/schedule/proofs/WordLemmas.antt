@@ -51,10 +51,10 @@ last_same c (v ∷ a) (w ∷ b) x y e lx ly =
 -- ---- what was left
 
 pub left_without : (word : List ℕ) (left : Left) → Lacks 61 word → word ≡ left_text left → ⊥
-left_without word left l e = Lacks-middle 61 (slot_text left.0) (encode_lower left.1) (subst (Lacks 61) e l)
+left_without word left l e = Lacks-middle 61 (slot_text left.slot) (encode_lower left.content) (subst (Lacks 61) e l)
 
 -- the parts of what was left are determined
 pub left_parts : (word slot digits : List ℕ) (left : Left) → IsLeft left → word ≡ slot ++ 61 ∷ digits → Lacks 61 digits → word ≡ left_text left
-    → (slot ≡ slot_text left.0) × (digits ≡ encode_lower left.1)
+    → (slot ≡ slot_text left.slot) × (digits ≡ encode_lower left.content)
 left_parts word slot digits left h e l is =
-    last_same 61 slot (slot_text left.0) digits (encode_lower left.1) (sym e ∙ is) l (encode-lacks 61 refl left.1 h.content)
+    last_same 61 slot (slot_text left.slot) digits (encode_lower left.content) (sym e ∙ is) l (encode-lacks 61 refl left.content h.content)

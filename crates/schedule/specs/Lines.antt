@@ -45,11 +45,11 @@ IsWant want = IsName want.folder
 
 -- no digit is `=`, so the last `=` separates the slot from the content's digits, which are lower case
 abbrev pub left_text : Left → List ℕ
-left_text left = slot_text left.0 ++ 61 ∷ encode_lower left.1
+left_text left = slot_text left.slot ++ 61 ∷ encode_lower left.content
 
 pub record IsLeft (left : Left) : Type 0 where
-  pub slot : IsSlot left.0
-  pub content : IsBytes left.1
+  pub slot : IsSlot left.slot
+  pub content : IsBytes left.content
 
 -- what the record holds after a save that failed: what it held before, or what was to be saved
 abbrev pub kept_text : Kept → List ℕ
@@ -58,7 +58,7 @@ kept_text New = codes "new"
 
 -- what was left, by rising slot
 abbrev pub left_slots : List Left → List SlotParts
-left_slots lefts = map (λ left. left.0) lefts
+left_slots lefts = map (λ left. left.slot) lefts
 
 abbrev pub AreLefts : List Left → Type 0
 AreLefts lefts = All IsLeft lefts × IsStrictlySortedBy slot_cmp (left_slots lefts)

@@ -1,7 +1,7 @@
 //! The language of schedules: the text that spells a farm's events, and the text of what came of them.
 #![tactic(auto)]
 
-mod laws;
+pub mod laws;
 mod line;
 mod note;
 mod outcome;
@@ -13,7 +13,6 @@ mod slot_line;
 mod verb;
 mod word;
 
-pub use laws::{a_line_spells_one_event, a_text_says_one_thing};
 pub use outcome::print_outcome;
 pub use protocol::Event;
 pub use reading::read_schedule;

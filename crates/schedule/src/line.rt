@@ -12,7 +12,7 @@ use super::refusal::LineRefusal;
 use super::verb::{Verb, verb_of};
 use super::word::{bytes_of, folder_of, kept_of, left_of, node_of, slot_of, ticket_of, want_of};
 use farm_base::reading::number;
-use farm_base::{Content, Items, Mode, Slot, Want, Wants};
+use farm_base::{Content, Items, Left, Mode, Want, Wants};
 use protocol::Event;
 use std::alloc::{AllocError, Global};
 
@@ -211,7 +211,7 @@ fn forge_of(alloc: Global, words: &[&str]) -> Result<Event, LineRefusal>
 }
 
 /// What was left, one item for each of these words.
-fn each_left(alloc: Global, words: &[&str]) -> Result<Vec<(Slot, Content)>, LineRefusal>
+fn each_left(alloc: Global, words: &[&str]) -> Result<Vec<Left>, LineRefusal>
     ensures spelled { IfOk result (λ lefts. texts words.now ≡ map left_text lefts.items) }
     ensures lefts { IfOk result (λ lefts. All IsLeft lefts.items) }
     ensures only { result ≡ Err LineRefusal.BadLine → (lefts : List Left) → All IsLeft lefts → texts words.now ≢ map left_text lefts }
@@ -224,21 +224,21 @@ fn each_left(alloc: Global, words: &[&str]) -> Result<Vec<(Slot, Content)>, Line
 }
 
 /// Whether each slot is below the next.
-fn rises(lefts: &[(Slot, Content)]) -> bool
-    ensures { IsAllAdjacentAnswer (λ a b answer. answer ≡ is_lt (slot_cmp a.0 b.0)) lefts.now result }
+fn rises(lefts: &[Left]) -> bool
+    ensures { IsAllAdjacentAnswer (λ a b answer. answer ≡ is_lt (slot_cmp a.slot b.slot)) lefts.now result }
 {
     lefts.is_sorted_by(is_below)
 }
 
 /// Whether the slot of one is below that of the other.
-fn is_below(one: &(Slot, Content), other: &(Slot, Content)) -> bool
-    ensures { result ≡ is_lt (slot_cmp one.now.0 other.now.0) }
+fn is_below(one: &Left, other: &Left) -> bool
+    ensures { result ≡ is_lt (slot_cmp one.now.slot other.now.slot) }
 {
-    one.0.cmp(&other.0).is_lt()
+    one.slot.cmp(&other.slot).is_lt()
 }
 
 /// What was left, one item for each of these words, with rising slots.
-fn lefts_of(alloc: Global, words: &[&str]) -> Result<Items<(Slot, Content)>, LineRefusal>
+fn lefts_of(alloc: Global, words: &[&str]) -> Result<Items<Left>, LineRefusal>
     ensures spelled { IfOk result (SpellLefts (texts words.now)) }
     ensures only { result ≡ Err LineRefusal.BadLine → (lefts : List Left) → SpellLefts (texts words.now) lefts → ⊥ }
 {

@@ -15,10 +15,8 @@ ghost use Rattle.schedule.specs.Lines.{node_text, ticket_text, kept_text, want_t
 
 use super::refusal::LineRefusal;
 use farm_base::reading::{after, number};
-use farm_base::{
-    Content, FolderName, FolderRefusal, NodeId, Slot, SlotRefusal, Ticket, Want, are_bytes,
-    is_name, is_slot,
-};
+use farm_base::{Content, FolderName, FolderRefusal, Left, NodeId, Slot, SlotRefusal, Ticket, Want, are_bytes};
+use farm_base::laws::{is_name, is_slot};
 use protocol::Kept;
 use std::alloc::Global;
 
@@ -138,7 +136,7 @@ fn last_split<'a>(text: &'a str, at: char) -> Option<(&'a str, &'a str)>
 }
 
 /// What was left in a slot, as a word spells it.
-pub(crate) fn left_of(alloc: Global, word: &str) -> Result<(Slot, Content), LineRefusal>
+pub(crate) fn left_of(alloc: Global, word: &str) -> Result<Left, LineRefusal>
     ensures spelled { IfOk result (λ left. word.now ≡ left_text left) }
     ensures left { IfOk result IsLeft }
     ensures only { result ≡ Err LineRefusal.BadLine → (left : Left) → IsLeft left → word.now ≢ left_text left }
@@ -148,5 +146,8 @@ pub(crate) fn left_of(alloc: Global, word: &str) -> Result<(Slot, Content), Line
     };
     let slot = slot_of(alloc, slot)?;
     let bytes = bytes_of(alloc, digits)?;
-    Ok((slot, Content::of(bytes)))
+    Ok(Left {
+        slot,
+        content: Content::of(bytes),
+    })
 }

@@ -4,9 +4,8 @@
 mod graph;
 mod key;
 mod keyed;
-mod law;
+pub mod laws;
 
 pub use graph::keys;
 pub use key::key_of;
 pub use keyed::Keyed;
-pub use law::{keys_tell_shapes, shape_is_determined, shapes_have_indexes};

@@ -5,7 +5,7 @@ mod building;
 mod edges;
 mod execs;
 mod graph;
-mod laws;
+pub mod laws;
 mod loading;
 mod order_entries;
 mod ordering;
@@ -16,7 +16,6 @@ mod unresolved;
 mod vertex;
 
 pub use graph::Graph;
-pub use laws::order_is_determined;
 pub use loading::load;
 pub use order_entries::order;
 pub use refusal::{LoadRefusal, OrderRefusal};

@@ -2,7 +2,7 @@ ghost use Rattle.nodecore.specs.Shown.{shown, place, Answers};
 ghost use Rattle.world.specs.Tables.{called};
 ghost use Rattle.std.specs.Prelude.{◌≡◌};
 
-use farm_base::{Content, FolderName, Items, NodeId, Slot, Ticket, Wants};
+use farm_base::{Content, FolderName, Items, Left, NodeId, Ticket, Wants};
 use nodecore::{NodeCore, NodeDone, ToNode};
 use protocol::NodeRefusal;
 use std::alloc::Global;
@@ -13,7 +13,7 @@ pub(crate) enum Call {
     Ask(Wants),
     Tenure(FolderName),
     Begin(Ticket),
-    Finish(Ticket, Items<(Slot, Content)>),
+    Finish(Ticket, Items<Left>),
     Abort(Ticket),
     /// A content arrives that nobody sent.
     Forge(Content),

@@ -2,7 +2,7 @@
 #![tactic(auto)]
 
 mod call;
-mod laws;
+pub mod laws;
 mod nodes;
 mod parts;
 mod pool;
@@ -11,7 +11,6 @@ mod replaying;
 mod world;
 
 pub use farm_base::{Message, ToNode};
-pub use laws::{every_replay_means, lines_have_one_text};
 pub use printing::print_lines;
 pub use protocol::{EventNote, EventRefusal, Outcome};
 pub use replaying::{ReplayRefusal, replay};

@@ -10,11 +10,11 @@ returns-in_err-slot-clause-only c = λ same left h e.
     let split = c.in-Some.ensures.found in
     let parts = left_parts c.args.word.now _ _ left h split.0 split.1 e in
     let bad = passed_on _ _ _ c.from_residual.ensures.1 same in
-    c.in_err-slot.ensures.only (ap Err bad) left.0 h.slot parts.0
+    c.in_err-slot.ensures.only (ap Err bad) left.slot h.slot parts.0
 
 pub returns-in_err-bytes-clause-only : goal.returns-in_err-bytes-clause-only
 returns-in_err-bytes-clause-only c = λ same left h e.
     let split = c.in-Some.ensures.found in
     let parts = left_parts c.args.word.now _ _ left h split.0 split.1 e in
     let bad = passed_on _ _ _ c.from_residual-in_err-bytes.ensures.1 same in
-    c.in_err-bytes.ensures.only (ap Err bad) left.1 h.content parts.1
+    c.in_err-bytes.ensures.only (ap Err bad) left.content h.content parts.1

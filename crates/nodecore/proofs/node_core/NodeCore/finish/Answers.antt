@@ -5,8 +5,8 @@ use Rattle.protocol.specs.declared.ask.KeptAsk.{KeptAsk}
 use Rattle.nodecore.specs.Asks.{slots_in}
 use Rattle.farm_base.specs.Contents.{content_digest}
 use Rattle.protocol.specs.Machine.{GrantedSlot, slots_of, written}
-use Rattle.protocol.specs.Names.{Slot, slots_eq}
-use Rattle.protocol.specs.Nodes.{news_of}
+use Rattle.protocol.specs.Names.{slots_eq}
+use Rattle.protocol.specs.Nodes.{Left, news_of}
 use Rattle.nodecore.specs.Shown.{shown, place}
 use Rattle.nodecore.proofs.FirstLemmas.{FirstAt, picks, some_first, none_first}
 use Rattle.nodecore.proofs.KeptLemmas.{running_at, read_at}
@@ -39,7 +39,7 @@ returns-then-not-fits-clause-answer c =
     let read = read_at k c.index.result.now (search rules) in
     let fit : fitting c.args.lefts.items f.what ≡ false =
     ap (λ (us : List GrantedSlot). slots_eq (slots_of (news_of content_digest c.args.lefts.items)) (written us)) (sym (c.slots.ensures ∙ ap slots_in read))
-    ∙ ap (λ (ls : List (Slot × List ℕ)). slots_eq (slots_of (news_of content_digest ls)) (written c.slots.result.now)) (sym c.as_slice-3.ensures.value)
+    ∙ ap (λ (ls : List Left). slots_eq (slots_of (news_of content_digest ls)) (written c.slots.result.now)) (sym c.as_slice-3.ensures.value)
     ∙ sym c.fits.ensures ∙ search rules in
     (finishes_wrong (place c.args.self.now) c.args.ticket c.args.lefts.items (shown c.args.self.now) (c.in-Some.place + 1) f.what c.if-self.false (f.found (c.in-Some.place + 1) (omega arith)) used fit, refl)
 
@@ -54,7 +54,7 @@ returns-clause-answer c =
     let read = read_at k c.index.result.now (search rules) in
     let fit : fitting c.args.lefts.items f.what ≡ true =
     ap (λ (us : List GrantedSlot). slots_eq (slots_of (news_of content_digest c.args.lefts.items)) (written us)) (sym (c.slots.ensures ∙ ap slots_in read))
-    ∙ ap (λ (ls : List (Slot × List ℕ)). slots_eq (slots_of (news_of content_digest ls)) (written c.slots.result.now)) (sym c.as_slice-3.ensures.value)
+    ∙ ap (λ (ls : List Left). slots_eq (slots_of (news_of content_digest ls)) (written c.slots.result.now)) (sym c.as_slice-3.ensures.value)
     ∙ sym c.fits.ensures ∙ search rules in
     finishes (place c.args.self.now) c.args.ticket c.args.lefts.items (shown c.args.self.now) _ (c.in-Some.place + 1) f.what c.if-self.false (f.found (c.in-Some.place + 1) (omega arith)) used fit (c.in-Ok.ensures.work f.what k.get k.ticket)
 

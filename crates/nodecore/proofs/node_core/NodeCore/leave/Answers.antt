@@ -2,10 +2,10 @@ use Rattle.std.proofs.Common.{◌≡◌, ◌+◌, ◌<◌, ◌∷◌, [], ℕ, L
 use Rattle.std.proofs.lemmas.Grind.{common_steps}
 use Rattle.std.proofs.lemmas.Option.{get_or_from_slice_get}
 use Rattle.farm_base.specs.Contents.{content_digest}
-use Rattle.protocol.specs.Names.{Slot, Digest}
+use Rattle.protocol.specs.Names.{Digest}
 use Rattle.protocol.specs.Machine.{News, commit}
 use Rattle.protocol.specs.declared.ask.KeptAsk.TheVariants.{Running, Finished}
-use Rattle.protocol.specs.Nodes.{news_of, stored}
+use Rattle.protocol.specs.Nodes.{Left, news_of, stored}
 use Rattle.nodecore.specs.Asks.{ends_with}
 use Rattle.nodecore.specs.Shown.{shown, place, store_in}
 use Rattle.nodecore.proofs.NodeLemmas.{left_work, set_at}
@@ -17,7 +17,7 @@ pub returns-clause-work : goal.returns-clause-work
 returns-clause-work c = λ h get ticket.
     let some : 0 < length c.args.lefts.items = grind (arith, common_steps) in
     let news : c.in_ok-news.news ≡ news_of content_digest c.args.lefts.items =
-    c.in_ok-news.ensures ∙ ap (λ (ls : List (Slot × List ℕ)). news_of content_digest ls) c.as_slice.ensures.value in
+    c.in_ok-news.ensures ∙ ap (λ (ls : List Left). news_of content_digest ls) c.as_slice.ensures.value in
     let old : c.index_mut.result.now ≡ Running h.wants h.grant h.recalled =
     c.index_mut.ensures.value ∙ get_or_from_slice_get c.args.self.now.asks.items c.args.index (Running h.wants h.grant h.recalled) c.index_mut.result.now get in
     let next : Finished h.wants h.grant c.in_ok-news.news ≡ c.finish.new.ask = sym (c.finish.ensures ∙ ap (ends_with c.in_ok-news.news) old) in

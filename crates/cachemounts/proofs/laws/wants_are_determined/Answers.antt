@@ -1,5 +1,5 @@
 use Rattle.cachemounts.proofs.OneLemmas.{one_wants}
-use Rattle.cachemounts.proofs.law.wants_are_determined.Goals as goal
+use Rattle.cachemounts.proofs.laws.wants_are_determined.Goals as goal
 
 pub returns : goal.returns
 returns c = one_wants
