@@ -4,6 +4,7 @@
 mod coordinator;
 mod draft;
 mod handled;
+pub mod laws;
 mod ledger;
 mod operator_calls;
 mod record;

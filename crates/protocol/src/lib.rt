@@ -1,14 +1,10 @@
 //! The protocol of leases over unreliable messages: its definitions, and its safety.
 #![tactic(auto)]
 
-ghost use Rattle.protocol.specs.Follows.{EveryScheduleIsSafe, EveryScheduleStaysSafe, EveryEventIsMoves, EveryDecisionFollows, FittingAskIsGranted};
-ghost use Rattle.protocol.specs.Chronicle.{EveryScheduleHasAChronicle, EveryScheduleMeans, EveryVersionIsAnswered, NoParkedAskIsReady, FittingMessageIsGranted, EveryFarmIsSaved, EveryRecordCovers, RestartReadsTheRecord};
-ghost use Rattle.protocol.specs.Lawful.{EveryLedgerStaysLawful, EveryFarmStaysLawful, EveryOpeningIsLawful};
-ghost use Rattle.protocol.specs.Safe.{EveryRunIsSafe, EveryRunStaysSafe};
-
 mod answer;
 mod ask;
 mod event;
+pub mod laws;
 
 pub use answer::{
     CoordNote, CoordRefusal, Decision, EventNote, EventRefusal, How, Kept, NodeNote, NodeRefusal,
@@ -16,76 +12,3 @@ pub use answer::{
 };
 pub use ask::KeptAsk;
 pub use event::Event;
-
-/// Every run of the world is safe, and stays so from any world to any later one: whatever is sent, lost,
-/// repeated, reordered, withdrawn or restarted. `sha` gives each content its digest; two contents with one
-/// digest are shown where they are the cause.
-pub fn every_run_is_safe()
-    ensures safe { EveryRunIsSafe }
-    ensures stays { EveryRunStaysSafe }
-{}
-
-/// The one run that the rules give a schedule is such a run: so every schedule is safe, after each of its
-/// prefixes, and stays so from each prefix to each longer one.
-pub fn every_schedule_is_safe()
-    ensures safe { EveryScheduleIsSafe }
-    ensures stays { EveryScheduleStaysSafe }
-{}
-
-/// Every schedule has a chronicle: a world after each event, safe, led to by moves, in which the event meant what
-/// its outcome says. So, in terms of events and answers alone: what is withdrawn, by a call, a retirement, a newer
-/// life or a restart, is never committed later and is on no line; each line grows by what the answers name, and by
-/// nothing else; no two executions share a PRIVATE or SHARED slot; two nodes hold one content for a version.
-pub fn every_schedule_means()
-    ensures chronicle { EveryScheduleHasAChronicle }
-    ensures headline { EveryScheduleMeans }
-    ensures versions { EveryVersionIsAnswered }
-{}
-
-/// Each event of a farm, from any world that it may be in, is a list of moves of the world, means what its outcome
-/// says, and is refused exactly where there is a reason to.
-pub fn every_event_is_moves()
-    ensures { EveryEventIsMoves }
-{}
-
-/// Each decision of the coordinator on what it keeps is a list of steps of the machine that forgets nothing,
-/// and leaves a ledger that agrees with it.
-pub fn every_decision_follows()
-    ensures { EveryDecisionFollows }
-{}
-
-/// An ask that the rules let be granted, of a node that isn't retired and of no older life, is granted in that call,
-/// where no parked ask could be granted.
-pub fn a_fitting_ask_is_granted()
-    ensures { FittingAskIsGranted }
-{}
-
-/// In a run each Acquire that is delivered meets such a ledger.
-pub fn a_fitting_message_is_granted()
-    ensures { FittingMessageIsGranted }
-{}
-
-/// In no farm of a run could a parked ask be granted: what frees a slot tries them again.
-pub fn no_parked_ask_is_ready()
-    ensures { NoParkedAskIsReady }
-{}
-
-/// While the coordinator is up the record is what the ledger saves, and after a failed save what a ledger of the machine
-/// that it kept saves. It covers all that was sent, and is all that a restart reads.
-pub fn every_record_is_enough()
-    ensures saved { EveryFarmIsSaved }
-    ensures covers { EveryRecordCovers }
-    ensures reads { RestartReadsTheRecord }
-{}
-
-/// What the coordinator does with a ledger of which a record can be written leaves such a ledger: its nodes, lives,
-/// asks and tickets are in their ranges, no two leases share a slot or are of one ask, and so on.
-pub fn every_ledger_stays_lawful()
-    ensures { EveryLedgerStaysLawful }
-{}
-
-/// So does each event of a farm, from its opening on.
-pub fn every_farm_stays_lawful()
-    ensures opening { EveryOpeningIsLawful }
-    ensures stays { EveryFarmStaysLawful }
-{}

@@ -11,7 +11,7 @@ ghost use Rattle.protocol.specs.declared.event.Event.{Event};
 ghost use Rattle.world.specs.Printing.{ArePrinted};
 ghost use Rattle.world.specs.Replays.{KeepsHeadline};
 
-use protocol::every_schedule_means;
+use protocol::laws::every_schedule_means;
 
 /// Every schedule has a chronicle, in which each event means what it answers, and the headline of this project
 /// holds after each part of it.

@@ -1,5 +1,5 @@
 use Rattle.protocol.proofs.Chronicles as chronicles
-use Rattle.protocol.proofs.every_schedule_means.Goals as goal
+use Rattle.protocol.proofs.laws.every_schedule_means.Goals as goal
 
 pub returns-clause-chronicle : goal.returns-clause-chronicle
 returns-clause-chronicle c = chronicles.every_schedule_has_a_chronicle

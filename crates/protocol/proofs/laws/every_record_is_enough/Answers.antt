@@ -1,5 +1,5 @@
 use Rattle.protocol.proofs.Chronicles as chronicles
-use Rattle.protocol.proofs.every_record_is_enough.Goals as goal
+use Rattle.protocol.proofs.laws.every_record_is_enough.Goals as goal
 
 pub returns-clause-saved : goal.returns-clause-saved
 returns-clause-saved c = chronicles.every_farm_is_saved

@@ -1,5 +1,5 @@
 use Rattle.protocol.proofs.LawfulFarms.{every_farm_stays_lawful, every_opening_is_lawful}
-use Rattle.protocol.proofs.every_farm_stays_lawful.Goals as goal
+use Rattle.protocol.proofs.laws.every_farm_stays_lawful.Goals as goal
 
 pub returns-clause-opening : goal.returns-clause-opening
 returns-clause-opening c = every_opening_is_lawful

@@ -1,5 +1,5 @@
 use Rattle.protocol.proofs.Safety as safety
-use Rattle.protocol.proofs.every_run_is_safe.Goals as goal
+use Rattle.protocol.proofs.laws.every_run_is_safe.Goals as goal
 
 pub returns-clause-safe : goal.returns-clause-safe
 returns-clause-safe c = safety.every_run_is_safe

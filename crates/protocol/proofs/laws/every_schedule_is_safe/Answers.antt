@@ -1,5 +1,5 @@
 use Rattle.protocol.proofs.Schedules as schedules
-use Rattle.protocol.proofs.every_schedule_is_safe.Goals as goal
+use Rattle.protocol.proofs.laws.every_schedule_is_safe.Goals as goal
 
 pub returns-clause-safe : goal.returns-clause-safe
 returns-clause-safe c = schedules.every_schedule_is_safe
