@@ -15,8 +15,8 @@ use Rattle.executions.specs.declared.refusal.RunRefusal.{RunRefusal}
 use Rattle.executions.specs.declared.refusal.RunRefusal.TheVariants.{BadContents, BadEdits, OutOfMemory}
 
 -- a slot of a lease, with the content that it began from
-abbrev pub Held : Type 0
-Held = GrantedSlot × List ℕ
+abbrev pub LeasedContent : Type 0
+LeasedContent = GrantedSlot × List ℕ
 
 -- a folder and its name
 abbrev pub Named : Type 0
@@ -27,11 +27,11 @@ abbrev pub read_as : GrantedSlot → Result Files FolderRefusal → Result Named
 read_as u (Ok files) = Ok (u.slot.folder, files)
 read_as u (Err refusal) = Err u.slot
 
-abbrev pub read_one : Held → Result Named SlotParts
+abbrev pub read_one : LeasedContent → Result Named SlotParts
 read_one h = read_as h.0 (folder_of h.1)
 
 -- the folders that the contents spell, or the first slot whose content spells none
-abbrev pub read_all : List Held → Result (List Named) SlotParts
+abbrev pub read_all : List LeasedContent → Result (List Named) SlotParts
 read_all [] = Ok []
 read_all (h ∷ hs) = read_one h >>= λ first. read_all hs >>= λ others. Ok (first ∷ others)
 

@@ -9,7 +9,7 @@ use Rattle.protocol.specs.Machine.{Grant}
 use Rattle.protocol.specs.World.{Node}
 use Rattle.protocol.specs.declared.ask.KeptAsk.{KeptAsk}
 use Rattle.protocol.specs.declared.ask.KeptAsk.TheVariants.{Open, Holding, Running, Finished, Over}
-use Rattle.protocol.specs.Nodes.{NodeWork, NodeAnswer, Held, first, first_of, held, running, held_or_running, begun, becomes, all_stored, in_use, aborted, aborting, guard}
+use Rattle.protocol.specs.Nodes.{NodeWork, NodeAnswer, HeldGrant, first, first_of, held, running, held_or_running, begun, becomes, all_stored, in_use, aborted, aborting, guard}
 use Rattle.protocol.specs.Replay.{Farm, Turn, is_node, at, at_node, moved, step}
 use Rattle.protocol.specs.declared.event.Event.{Event}
 use Rattle.protocol.specs.declared.event.Event.TheVariants as event
@@ -55,7 +55,7 @@ module _ (h : History) (n : NodeId) (t : Ticket) (g : Grant) (there : is_node (f
   abbrev pub here : Node
   here = (farm_of h).nodes n.0
 
-  abbrev pub ask : Held
+  abbrev pub ask : HeldGrant
   ask = may.holds.1
 
   abbrev pub work : NodeWork
@@ -109,11 +109,11 @@ module _ (h : History) (n : NodeId) (t : Ticket) (g : Grant) (there : is_node (f
 
 -- ---- leases that are given back
 
-keep : (k : ℕ) (o : Option Held) (p q : Option (ℕ × Held)) → (is_some p ≡ true → is_some q ≡ true) → is_some (first_of k o p) ≡ true → is_some (first_of k o q) ≡ true
+keep : (k : ℕ) (o : Option HeldGrant) (p q : Option (ℕ × HeldGrant)) → (is_some p ≡ true → is_some q ≡ true) → is_some (first_of k o p) ≡ true → is_some (first_of k o q) ≡ true
 keep k None p q f h = f h
 keep k (Some x) p q f h = refl
 
-skip : (k : ℕ) (o : Option Held) (q : Option (ℕ × Held)) → is_some q ≡ true → is_some (first_of k o q) ≡ true
+skip : (k : ℕ) (o : Option HeldGrant) (q : Option (ℕ × HeldGrant)) → is_some q ≡ true → is_some (first_of k o q) ≡ true
 skip k None q h = h
 skip k (Some x) q h = refl
 
@@ -163,7 +163,7 @@ module _ (h : History) (n : NodeId) (t : Ticket) where
       let one = guarded its_node.spent node.LivesSpent _ a.work a.answer in
       a.note ∙ by (first (held_or_running t) its_node.asks 0) refl a.work one
     where
-      by : (r : Option (ℕ × Held)) → first (held_or_running t) its_node.asks 0 ≡ r → (w : NodeWork) → aborting (at (farm_of h) n) its_node r ≡ Ok w → note.Node w.note ≡ note.Node (node_note.Aborted t)
+      by : (r : Option (ℕ × HeldGrant)) → first (held_or_running t) its_node.asks 0 ≡ r → (w : NodeWork) → aborting (at (farm_of h) n) its_node r ≡ Ok w → note.Node w.note ≡ note.Node (node_note.Aborted t)
       by None e w none = absurd (cc)
       by (Some r) e w one =
           let f = found (held_or_running t) its_node.asks r e in
@@ -179,7 +179,7 @@ module _ (h : History) (n : NodeId) (t : Ticket) where
       used true w e = (let same : refusal.Node node.TenureInUse ≡ r = cc in sym same)
       used false w e = absurd (cc)
 
-      by : (there spent : Bool) (o : Option (ℕ × Held)) → there ≡ true → spent ≡ false → is_some o ≡ true
+      by : (there spent : Bool) (o : Option (ℕ × HeldGrant)) → there ≡ true → spent ≡ false → is_some o ≡ true
           → (at_node there n (guard spent node.LivesSpent (aborting (at (farm_of h) n) its_node o)) (farm_of h)).outcome ≡ Err r → r ≡ refusal.Node node.TenureInUse
       by true false (Some q) a b c e = used (in_use its_node.asks q.0 q.1.wants q.1.grant) _ e
       by true false None a b c e = absurd (cc)

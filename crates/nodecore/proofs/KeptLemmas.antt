@@ -15,22 +15,22 @@ use Rattle.std.proofs.Common.{Result, Ok, Err, IfOk}
 use Rattle.std.specs.declared.alloc.AllocError.{AllocError}
 use Rattle.nodecore.specs.declared.message.NodeDone.{NodeDone}
 use Rattle.nodecore.specs.Shown.{work_of, Does}
-use Rattle.protocol.specs.Nodes.{Held, in_use, held, running, held_or_running, recallable, recalled_if, denied, nothing, becomes, granted, gives_back, of_life, NodeWork, Place}
+use Rattle.protocol.specs.Nodes.{HeldGrant, in_use, held, running, held_or_running, recallable, recalled_if, denied, nothing, becomes, granted, gives_back, of_life, NodeWork, Place}
 use Rattle.nodecore.specs.Asks.{recalls, is_open, is_in_use}
 
-abbrev pub held_ask : Held → KeptAsk
+abbrev pub held_ask : HeldGrant → KeptAsk
 held_ask h = Holding h.wants h.grant h.recalled
 
-abbrev pub running_ask : Held → KeptAsk
+abbrev pub running_ask : HeldGrant → KeptAsk
 running_ask h = Running h.wants h.grant h.recalled
 
 -- the ask at the place has its lease under the ticket, and its folders are in use where the protocol says so
-pub record FoundAt (t : Ticket) (asks : List KeptAsk) (i : ℕ) (h : Held) (s : KeptAsk) : Type 0 where
+pub record FoundAt (t : Ticket) (asks : List KeptAsk) (i : ℕ) (h : HeldGrant) (s : KeptAsk) : Type 0 where
   pub get : slice_get asks i ≡ Some s
   pub ticket : h.grant.ticket ≡ t
   pub uses : (all : List KeptAsk) (a : ℕ) → is_in_use all a s ≡ in_use all a h.wants h.grant
 
-found_at : (t : Ticket) (asks : List KeptAsk) (i : ℕ) (d : KeptAsk) (h : Held) (s : KeptAsk) → i < length asks → (get_or asks i d ≡ s) × (h.grant.ticket ≡ t) → ((all : List KeptAsk) (a : ℕ) → is_in_use all a s ≡ in_use all a h.wants h.grant) → FoundAt t asks i h s
+found_at : (t : Ticket) (asks : List KeptAsk) (i : ℕ) (d : KeptAsk) (h : HeldGrant) (s : KeptAsk) → i < length asks → (get_or asks i d ≡ s) × (h.grant.ticket ≡ t) → ((all : List KeptAsk) (a : ℕ) → is_in_use all a s ≡ in_use all a h.wants h.grant) → FoundAt t asks i h s
 found_at t asks i d h s inside is uses = record { get = slice_get-get_or asks i d inside ∙ ap (λ (x : KeptAsk). Some x) is.0; ticket = is.1; uses = uses }
 
 abbrev any_ask : KeptAsk
@@ -51,7 +51,7 @@ held_or_running_at t asks i f =
     ]
 
 -- what is read there
-pub read_at : {t : Ticket} {asks : List KeptAsk} {i : ℕ} {h : Held} {s : KeptAsk} → FoundAt t asks i h s → (d : KeptAsk) → d ≡ get_or asks i d → d ≡ s
+pub read_at : {t : Ticket} {asks : List KeptAsk} {i : ℕ} {h : HeldGrant} {s : KeptAsk} → FoundAt t asks i h s → (d : KeptAsk) → d ≡ get_or asks i d → d ≡ s
 read_at {t} {asks} {i} {h} {s} f d e = e ∙ get_or_from_slice_get asks i s d f.get
 
 -- a recalled ask

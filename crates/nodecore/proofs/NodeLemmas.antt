@@ -14,7 +14,7 @@ use Rattle.protocol.specs.Machine.{Message, News, commit, slots_of, written}
 use Rattle.protocol.specs.World.{Node, keep}
 use Rattle.protocol.specs.declared.ask.KeptAsk.{KeptAsk}
 use Rattle.protocol.specs.declared.ask.KeptAsk.TheVariants.{Running, Finished}
-use Rattle.protocol.specs.Nodes.{NodeAnswer, NodeWork, Place, Held, guard, first, held, held_or_running, begun, beginning, all_stored, becomes, aborted, aborting, in_use, gives_up, brought, is_base, running, Left, stored, leaving, leaves, news_of, finishing, finished_with}
+use Rattle.protocol.specs.Nodes.{NodeAnswer, NodeWork, Place, HeldGrant, guard, first, held, held_or_running, begun, beginning, all_stored, becomes, aborted, aborting, in_use, gives_up, brought, is_base, running, Left, stored, leaving, leaves, news_of, finishing, finished_with}
 use Rattle.protocol.specs.declared.answer.NodeNote.TheVariants as note
 use Rattle.protocol.specs.declared.answer.NodeRefusal.{NodeRefusal}
 use Rattle.protocol.specs.declared.answer.NodeRefusal.TheVariants as refusal
@@ -39,10 +39,10 @@ becomes_at x asks i k s is e = ap (λ (l : List KeptAsk). record x { asks = l })
 pub begins_not : (t : Ticket) (x : Node) → x.spent ≡ false → first (held t) x.asks 0 ≡ None → begun t x ≡ Err refusal.NoSuchTicket
 begins_not t x p q = passes _ _ p ∙ ap (beginning t x) q
 
-pub begins_missing : (t : Ticket) (x : Node) (a : ℕ) (h : Held) → x.spent ≡ false → first (held t) x.asks 0 ≡ Some (a, h) → all_stored x h.grant.slots ≡ false → begun t x ≡ Err refusal.ContentsMissing
+pub begins_missing : (t : Ticket) (x : Node) (a : ℕ) (h : HeldGrant) → x.spent ≡ false → first (held t) x.asks 0 ≡ Some (a, h) → all_stored x h.grant.slots ≡ false → begun t x ≡ Err refusal.ContentsMissing
 begins_missing t x a h p q r = passes _ _ p ∙ ap (beginning t x) q ∙ rw r refl
 
-pub begins : (t : Ticket) (x y : Node) (a : ℕ) (h : Held) (sends : List Message) → x.spent ≡ false → first (held t) x.asks 0 ≡ Some (a, h) → all_stored x h.grant.slots ≡ true → [] ≡ sends → becomes a (Running h.wants h.grant h.recalled) x ≡ y
+pub begins : (t : Ticket) (x y : Node) (a : ℕ) (h : HeldGrant) (sends : List Message) → x.spent ≡ false → first (held t) x.asks 0 ≡ Some (a, h) → all_stored x h.grant.slots ≡ true → [] ≡ sends → becomes a (Running h.wants h.grant h.recalled) x ≡ y
     → begun t x ≡ Ok (record { node = y; sends = sends; note = note.Begun t })
 begins t x y a h sends p q r m s = passes _ _ p ∙ ap (beginning t x) q ∙ rw r (λ j. Ok (record { node = s j; sends = m j; note = note.Begun t }))
 
@@ -51,10 +51,10 @@ begins t x y a h sends p q r m s = passes _ _ p ∙ ap (beginning t x) q ∙ rw 
 pub aborts_not : (at : Place) (t : Ticket) (x : Node) → x.spent ≡ false → first (held_or_running t) x.asks 0 ≡ None → aborted at t x ≡ Err refusal.NoSuchTicket
 aborts_not at t x p q = passes _ _ p ∙ ap (aborting at x) q
 
-pub aborts_in_use : (at : Place) (t : Ticket) (x : Node) (a : ℕ) (h : Held) → x.spent ≡ false → first (held_or_running t) x.asks 0 ≡ Some (a, h) → in_use x.asks a h.wants h.grant ≡ true → aborted at t x ≡ Err refusal.TenureInUse
+pub aborts_in_use : (at : Place) (t : Ticket) (x : Node) (a : ℕ) (h : HeldGrant) → x.spent ≡ false → first (held_or_running t) x.asks 0 ≡ Some (a, h) → in_use x.asks a h.wants h.grant ≡ true → aborted at t x ≡ Err refusal.TenureInUse
 aborts_in_use at t x a h p q r = passes _ _ p ∙ ap (aborting at x) q ∙ rw r refl
 
-pub aborts : (at : Place) (t : Ticket) (x : Node) (w : NodeWork) (a : ℕ) (h : Held) → x.spent ≡ false → first (held_or_running t) x.asks 0 ≡ Some (a, h) → in_use x.asks a h.wants h.grant ≡ false
+pub aborts : (at : Place) (t : Ticket) (x : Node) (w : NodeWork) (a : ℕ) (h : HeldGrant) → x.spent ≡ false → first (held_or_running t) x.asks 0 ≡ Some (a, h) → in_use x.asks a h.wants h.grant ≡ false
     → h.grant.ticket ≡ t → gives_up at a t (note.Aborted t) x ≡ w
     → aborted at t x ≡ Ok w
 aborts at t x w a h p q r e s =
@@ -84,29 +84,29 @@ brings c x y d e p q s =
 pub finishes_not : (at : Place) (t : Ticket) (lefts : List Left) (x : Node) → x.spent ≡ false → first (running t) x.asks 0 ≡ None → finished_with content_digest at t lefts x ≡ Err refusal.NotRunning
 finishes_not at t lefts x p q = passes _ _ p ∙ ap (finishing content_digest at lefts x) q
 
-pub finishes_in_use : (at : Place) (t : Ticket) (lefts : List Left) (x : Node) (a : ℕ) (h : Held) → x.spent ≡ false → first (running t) x.asks 0 ≡ Some (a, h) → in_use x.asks a h.wants h.grant ≡ true
+pub finishes_in_use : (at : Place) (t : Ticket) (lefts : List Left) (x : Node) (a : ℕ) (h : HeldGrant) → x.spent ≡ false → first (running t) x.asks 0 ≡ Some (a, h) → in_use x.asks a h.wants h.grant ≡ true
     → finished_with content_digest at t lefts x ≡ Err refusal.TenureInUse
 finishes_in_use at t lefts x a h p q r = passes _ _ p ∙ ap (finishing content_digest at lefts x) q ∙ rw r refl
 
-abbrev pub fitting : List Left → Held → Bool
+abbrev pub fitting : List Left → HeldGrant → Bool
 fitting lefts h = slots_eq (slots_of (news_of content_digest lefts)) (written h.grant.slots)
 
-pub finishes_wrong : (at : Place) (t : Ticket) (lefts : List Left) (x : Node) (a : ℕ) (h : Held) → x.spent ≡ false → first (running t) x.asks 0 ≡ Some (a, h) → in_use x.asks a h.wants h.grant ≡ false → fitting lefts h ≡ false
+pub finishes_wrong : (at : Place) (t : Ticket) (lefts : List Left) (x : Node) (a : ℕ) (h : HeldGrant) → x.spent ≡ false → first (running t) x.asks 0 ≡ Some (a, h) → in_use x.asks a h.wants h.grant ≡ false → fitting lefts h ≡ false
     → finished_with content_digest at t lefts x ≡ Err refusal.WrongNews
 finishes_wrong at t lefts x a h p q r s = passes _ _ p ∙ ap (finishing content_digest at lefts x) q ∙ passes _ _ r ∙ ap (λ (b : Bool). guard (not b) refusal.WrongNews (Ok (leaving content_digest at a h lefts x))) s
 
-pub finishes : (at : Place) (t : Ticket) (lefts : List Left) (x : Node) (w : NodeWork) (a : ℕ) (h : Held) → x.spent ≡ false → first (running t) x.asks 0 ≡ Some (a, h) → in_use x.asks a h.wants h.grant ≡ false → fitting lefts h ≡ true
+pub finishes : (at : Place) (t : Ticket) (lefts : List Left) (x : Node) (w : NodeWork) (a : ℕ) (h : HeldGrant) → x.spent ≡ false → first (running t) x.asks 0 ≡ Some (a, h) → in_use x.asks a h.wants h.grant ≡ false → fitting lefts h ≡ true
     → leaving content_digest at a h lefts x ≡ w → finished_with content_digest at t lefts x ≡ Ok w
 finishes at t lefts x w a h p q r s e = passes _ _ p ∙ ap (finishing content_digest at lefts x) q ∙ passes _ _ r ∙ ap (λ (b : Bool). guard (not b) refusal.WrongNews (Ok (leaving content_digest at a h lefts x))) s ∙ ap (λ (v : NodeWork). Ok v) e
 
-pub leaves_none : (at : Place) (a : ℕ) (h : Held) (lefts : List Left) (x : Node) (t : Ticket) → lefts ≡ [] → h.grant.ticket ≡ t → leaving content_digest at a h lefts x ≡ gives_up at a t (note.Finished t) x
+pub leaves_none : (at : Place) (a : ℕ) (h : HeldGrant) (lefts : List Left) (x : Node) (t : Ticket) → lefts ≡ [] → h.grant.ticket ≡ t → leaving content_digest at a h lefts x ≡ gives_up at a t (note.Finished t) x
 leaves_none at a h lefts x t e f = ap (λ (l : List Left). leaving content_digest at a h l x) e ∙ ap (λ (u : Ticket). gives_up at a u (note.Finished u) x) f
 
-pub leaves_some : (at : Place) (a : ℕ) (h : Held) (lefts : List Left) (x : Node) → 0 < length lefts → leaving content_digest at a h lefts x ≡ leaves content_digest at a h lefts x
+pub leaves_some : (at : Place) (a : ℕ) (h : HeldGrant) (lefts : List Left) (x : Node) → 0 < length lefts → leaving content_digest at a h lefts x ≡ leaves content_digest at a h lefts x
 leaves_some at a h [] x e = absurd (omega (arith, e))
 leaves_some at a h (l ∷ ls) x e = refl
 
-pub left_work : (at : Place) (t : Ticket) (a : ℕ) (h : Held) (lefts : List Left) (news : List News) (x : Node) (asks : List KeptAsk) (store : Digest → Option (List ℕ)) (sends : List Message) → 0 < length lefts
+pub left_work : (at : Place) (t : Ticket) (a : ℕ) (h : HeldGrant) (lefts : List Left) (news : List News) (x : Node) (asks : List KeptAsk) (store : Digest → Option (List ℕ)) (sends : List Message) → 0 < length lefts
     → h.grant.ticket ≡ t → news ≡ news_of content_digest lefts → set_nth x.asks a (Finished h.wants h.grant news) ≡ asks → stored content_digest lefts x.store ≡ store → commit at.node x.life t news ∷ [] ≡ sends
     → leaving content_digest at a h lefts x ≡ record { node = record x { asks = asks; store = store }; sends = sends; note = note.Finished t }
 left_work at t a h lefts news x asks store sends some ticket is asked stored_as said =

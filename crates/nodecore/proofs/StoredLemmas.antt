@@ -22,7 +22,7 @@ use Rattle.farm_base.proofs.CompareLaws.{digest_exact, digest_eq-itself, slot_eq
 use Rattle.lists.proofs.Places.{some_is, Contains-cases, Contains-head, Contains-tail}
 use Rattle.protocol.specs.Names.{Slot, Digest}
 use Rattle.protocol.specs.Machine.{GrantedSlot}
-use Rattle.protocol.specs.Nodes.{Held, all_stored, first}
+use Rattle.protocol.specs.Nodes.{HeldGrant, all_stored, first}
 use Rattle.protocol.specs.World.{Node, keep, first_node}
 use Rattle.protocol.specs.declared.ask.KeptAsk.{KeptAsk}
 use Rattle.nodecore.specs.Stored.{store_in, known_in, store_one, store_each, learn_one, learn_all, is_keyed, AreStored, HaveOneDigestEach, agrees, agree_on}
@@ -219,8 +219,8 @@ pub has_bases : (x y : Node) → x.store ≡ y.store → (slots : List GrantedSl
 has_bases x y e slots h k d lt = has_base x y e _ (AllPass-from_list_all (λ (u : GrantedSlot). is_some (x.store u.digest)) slots h k d lt)
 
 -- a test picks one ask first
-pub first_is : (test : KeptAsk → Option Held) (asks : List KeptAsk) (a b : ℕ) (h k : Held) → first test asks 0 ≡ Some (a, h) → first test asks 0 ≡ Some (b, k) → h ≡ k
-first_is test asks a b h k e f = ap (λ (p : ℕ × Held). p.1) (some_is (a, h) (b, k) (sym e ∙ f))
+pub first_is : (test : KeptAsk → Option HeldGrant) (asks : List KeptAsk) (a b : ℕ) (h k : HeldGrant) → first test asks 0 ≡ Some (a, h) → first test asks 0 ≡ Some (b, k) → h ≡ k
+first_is test asks a b h k e f = ap (λ (p : ℕ × HeldGrant). p.1) (some_is (a, h) (b, k) (sym e ∙ f))
 
 keyed_step : (k d : Digest) (x c : List ℕ) (rest : Option (List ℕ)) (b : Bool) → digest_eq d k ≡ b → digest_eq k (content_digest x) ≡ true → (rest ≡ Some c → content_digest c ≡ d)
     → cond b (Some x) rest ≡ Some c → content_digest c ≡ d

@@ -5,7 +5,7 @@ use Rattle.protocol.specs.World.{Node}
 use Rattle.protocol.specs.Names.{Digest, Ticket}
 use Rattle.protocol.specs.Machine.{Grant, GrantedSlot, Confirmed}
 use Rattle.farm_base.specs.declared.message.Version.{Version}
-use Rattle.protocol.specs.Nodes.{NodeWork, NodeAnswer, Place, Held, first, held, all_stored, received}
+use Rattle.protocol.specs.Nodes.{NodeWork, NodeAnswer, Place, HeldGrant, first, held, all_stored, received}
 use Rattle.farm_base.specs.Contents.{content_digest}
 use Rattle.protocol.specs.Farm.{farm_limits}
 use Rattle.farm_base.specs.declared.message.ToNode.{ToNode}
@@ -85,5 +85,5 @@ granted_slots (Blob n c) = []
 -- the ticket may begin, and under this lease: the node isn't down, an ask holds the ticket, and each base is stored
 pub record MayBegin (x : Node) (t : Ticket) (g : Grant) : Type 0 where
   pub up : x.spent ≡ false
-  pub holds : (a : ℕ) × (h : Held) × (first (held t) x.asks 0 ≡ Some (a, h)) × (h.grant ≡ g)
+  pub holds : (a : ℕ) × (h : HeldGrant) × (first (held t) x.asks 0 ≡ Some (a, h)) × (h.grant ≡ g)
   pub stored : all_stored x g.slots ≡ true

@@ -2,7 +2,7 @@ ghost use Rattle.std.specs.Prelude.{◌≡◌, ◌∷◌, [], ◌<◌, ◌+◌, 
 ghost use Rattle.protocol.specs.Lists.{nth};
 ghost use Rattle.protocol.specs.Machine.{Said};
 ghost use Rattle.protocol.specs.World.{first_node};
-ghost use Rattle.protocol.specs.Nodes.{Held, first, held, finished_with, leaving, aborted, all_stored, asked, asked_tenure, begun, gives_up, may_restart, opens, restarted};
+ghost use Rattle.protocol.specs.Nodes.{HeldGrant, first, held, finished_with, leaving, aborted, all_stored, asked, asked_tenure, begun, gives_up, may_restart, opens, restarted};
 ghost use Rattle.farm_base.specs.Contents.{content_digest};
 ghost use Rattle.protocol.specs.Farm.{farm_limits};
 ghost use Rattle.protocol.specs.declared.ask.KeptAsk.{KeptAsk};
@@ -292,7 +292,7 @@ impl NodeCore {
     /// begun; `ContentsMissing`, until the Blobs of the bases have come.
     pub fn begin(&mut self, alloc: Global, ticket: Ticket) -> Result<NodeDone, NodeRefusal>
         ensures answer { Answers (begun ticket (shown self.old)) (shown self.old) (shown self.new) result }
-        ensures bases { (at : ℕ) (h : Held) → first (held ticket) (shown self.old).asks 0 ≡ Some (at, h) → OnOk result (HasBases (shown self.new) h.grant.slots) }
+        ensures bases { (at : ℕ) (h : HeldGrant) → first (held ticket) (shown self.old).asks 0 ≡ Some (at, h) → OnOk result (HasBases (shown self.new) h.grant.slots) }
         ensures place { place self.new ≡ place self.old }
     {
         if self.spent {
@@ -373,7 +373,7 @@ impl NodeCore {
         lefts: Vec<Left>,
     ) -> Result<NodeDone, AllocError>
         requires { index < vec_len self.old.asks }
-        ensures work { (h : Held)
+        ensures work { (h : HeldGrant)
             → slice_get self.old.asks.items index ≡ Some (KeptAsk.Running h.wants h.grant h.recalled)
             → h.grant.ticket ≡ ticket
             → Does (leaving content_digest (place self.old) (index + 1) h lefts.items (shown self.old)) (shown self.old) (shown self.new) result }

@@ -3,7 +3,7 @@ use Rattle.std.proofs.Common.{◌≡◌, ◌≢◌, ℕ, zero, suc, ◌+◌, ◌
 use Rattle.std.proofs.lemmas.Bool.{cases_Bool, eqb-true, cases_eq}
 use Rattle.protocol.specs.Lists.{In, nth, set_nth}
 use Rattle.protocol.specs.Names.{Slot, slot_eq, digest_eq, NodeId, Life, Ask, Ticket, Digest, Want, FolderName, wants_shared, tenure_wants}
-use Rattle.protocol.specs.Machine.{GrantedSlot, Grant, News, Confirmed, Granted, Message, Told, Fetches, Blob, hello, acquire, commit, release, Machine, Answers, line, written, slots_of, Names, Stands}
+use Rattle.protocol.specs.Machine.{GrantedSlot, Grant, News, Confirmed, Granted, Message, Told, Fetches, Blob, hello, acquire, commit, release, Machine, AnswersAsk, line, written, slots_of, Names, Stands}
 use Rattle.farm_base.specs.declared.message.FromCoord.TheVariants as told
 use Rattle.protocol.specs.declared.answer.How.TheVariants as how
 use Rattle.protocol.specs.World.{KeptAsk, Open, Holding, Running, Finished, Over, Node, keeps, learn, learn_bases, learn_versions, keep, has_life, RunsTenure, Uses, Open_uses, Held_uses, Running_uses, Idle, Act, Asks, Asks_tenure, Asks_again, Greets, Takes, Gives_back, Begins, Finishes, Gives_up, Sends_commit, Learns, Drops, Is_denied, Is_recalled, Is_recalled_running, Stores, Asks_content, Sends_blob, Restarts, Stops, World}
@@ -212,7 +212,7 @@ module _ (sha : List ℕ → Digest) (w : World) (inv : Inv sha w) (n : NodeId) 
 
   -- a Grant that was sent to this life answers the ask that it names, with its wants
   grant_wanted : (g : Grant) → In (Granted g) w.machine.made → g.node ≡ n → g.life ≡ x.life → (s : KeptAsk) → nth x.asks g.ask.0 ≡ Some s
-      → (wants : List Want) × Wanted s wants g.tenure × Answers g wants × ForTenure g.tenure wants
+      → (wants : List Want) × Wanted s wants g.tenure × AnswersAsk g wants × ForTenure g.tenure wants
   grant_wanted g made at life s e =
       let r = inv.asked g made in
       let ok = inv.messages (acquire g.node g.life g.ask r.0 g.tenure) r.1 in
@@ -226,10 +226,10 @@ module _ (sha : List ℕ → Digest) (w : World) (inv : Inv sha w) (n : NodeId) 
         ok.1,
       )
 
-  taken : (g : Grant) (wants : List Want) (tenure : Bool) → In (Told (told.Granted g)) w.pool → g.node ≡ n → g.life ≡ x.life → nth x.asks g.ask.0 ≡ Some (Open wants tenure) → Answers g wants × (tenure ≡ g.tenure)
+  taken : (g : Grant) (wants : List Want) (tenure : Bool) → In (Told (told.Granted g)) w.pool → g.node ≡ n → g.life ≡ x.life → nth x.asks g.ask.0 ≡ Some (Open wants tenure) → AnswersAsk g wants × (tenure ≡ g.tenure)
   taken g wants tenure i at life e =
       let r = grant_wanted g (inv.messages (Told (told.Granted g)) i) at life (Open wants tenure) e in
-      (subst (Answers g) (sym r.1.0) r.2, r.1.1)
+      (subst (AnswersAsk g) (sym r.1.0) r.2, r.1.1)
 
   pub act_ahead : (sends : List Message) (x' : Node) → Act sha w.pool n x sends x' → Ahead x x'
   act_ahead sends x' (Asks wants h) = ahead_from x (record x { asks = x.asks ++ Open wants false ∷ [] }) refl (go_push x.asks (Open wants false))

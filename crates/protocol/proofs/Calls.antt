@@ -11,7 +11,7 @@ use Rattle.farm_base.specs.declared.message.Request.{Request}
 use Rattle.farm_base.specs.declared.message.Request.TheVariants.{Hello, Acquire, Commit, Release}
 use Rattle.protocol.specs.declared.answer.CoordNote.{CoordNote}
 use Rattle.protocol.specs.declared.answer.CoordNote.TheVariants as note
-use Rattle.protocol.specs.Ledger.{Limits, Ledger, Work, Lease, says, notes, has_slot, is_saved, writable_slots, grant_of, Decision, Give, Deny, Wait, elsewhere, decision, lease_for, gives, denies, parks, retried, is_of, lease_of, is_parked, holds_wanted, recall, recalls, decided, acquiring, has_ticket, lease_under, without, ends, commits, place, confirmed, versions_of, on_all, is_its, may_commit, may_release, confirms, answered, committing, released, answering}
+use Rattle.protocol.specs.Ledger.{Limits, Ledger, Work, Lease, says, notes, has_slot, is_saved, writable_slots, grant_of, Decision, Give, Deny, Wait, elsewhere, decision, lease_for, gives, denies, parks, retried, is_of, lease_of, is_parked, holds_wanted, recall, recalls, decided, acquiring, has_ticket, lease_under, without, ends, commits, place_on_line, confirmed, versions_of, on_all, is_its, may_commit, may_release, confirms, answered, committing, released, answering}
 use Rattle.protocol.specs.Follows.{lease_from, NoLease, Waits, Works, Goes_on}
 use Rattle.protocol.proofs.Base.{true_false, none_some, some_is, eqb_same, slot_eq_same, node_is, life_is, ticket_is, from_any, in_filter, from_filter, in_append, in_right, in_one, put_same, put_other}
 use Rattle.protocol.proofs.Lines.{line-end}
@@ -25,7 +25,7 @@ use Rattle.protocol.proofs.Following.{works_sound, slots_eq_is, slots_eq_same, S
 -- ---- places on a line
 
 -- the version of a ticket stands where its place says
-pub place_stands : (t : Ticket) (vs : List LineVersion) (k : ℕ) (x : ℕ × Digest) → place t vs k ≡ Some x → (j : ℕ) × (x.0 ≡ k + j + 1) × (slice_get vs j ≡ Some (record { ticket = t; digest = x.1 }))
+pub place_stands : (t : Ticket) (vs : List LineVersion) (k : ℕ) (x : ℕ × Digest) → place_on_line t vs k ≡ Some x → (j : ℕ) × (x.0 ≡ k + j + 1) × (slice_get vs j ≡ Some (record { ticket = t; digest = x.1 }))
 place_stands t [] k x e = none_some x e
 place_stands t (v ∷ vs) k x e = elim (cases_Bool (eqb v.ticket.0 t.0)) [
   | inl b ↦ (let is : (k + 1, v.digest) ≡ x = some_is (k + 1, v.digest) x (rw b at e) in
@@ -38,7 +38,7 @@ place_stands t (v ∷ vs) k x e = elim (cases_Bool (eqb v.ticket.0 t.0)) [
       (suc r.0, omega arith, r.2))
 ]
 
-place_found : (t : Ticket) (vs : List LineVersion) (k : ℕ) (v : LineVersion) → In v vs → v.ticket ≡ t → (x : ℕ × Digest) × (place t vs k ≡ Some x)
+place_found : (t : Ticket) (vs : List LineVersion) (k : ℕ) (v : LineVersion) → In v vs → v.ticket ≡ t → (x : ℕ × Digest) × (place_on_line t vs k ≡ Some x)
 place_found t [] k v i e = absurd i
 place_found t (u ∷ vs) k v i e = elim (cases_Bool (eqb u.ticket.0 t.0)) [
   | inl b ↦ ((k + 1, u.digest), rw b refl)
@@ -65,7 +65,7 @@ not_nil [] h = absurd (h refl)
 not_nil (x ∷ xs) h = refl
 
 module _ (empty : Digest) (m : Machine) (line' : Slot → List LineVersion) (lines : (s : Slot) → line' s ≡ line empty m s) (t : Ticket) where
-  confirmed_stands : (s : Slot) (o : Option (ℕ × Digest)) → place t (line' s) 0 ≡ o → (v : Confirmed) → In v (confirmed s o) → Stands empty m t v
+  confirmed_stands : (s : Slot) (o : Option (ℕ × Digest)) → place_on_line t (line' s) 0 ≡ o → (v : Confirmed) → In v (confirmed s o) → Stands empty m t v
   confirmed_stands s None e v i = absurd i
   confirmed_stands s (Some x) e v i =
       let r = place_stands t (line' s) 0 x e in
@@ -75,15 +75,15 @@ module _ (empty : Digest) (m : Machine) (line' : Slot → List LineVersion) (lin
 
   versions_stand : (news : List News) (v : Confirmed) → In v (versions_of line' t news) → Stands empty m t v
   versions_stand [] v i = absurd i
-  versions_stand (x ∷ xs) v i = elim (in_append v (confirmed x.slot (place t (line' x.slot) 0)) (versions_of line' t xs) i) [
-    | inl j ↦ confirmed_stands x.slot (place t (line' x.slot) 0) refl v j
+  versions_stand (x ∷ xs) v i = elim (in_append v (confirmed x.slot (place_on_line t (line' x.slot) 0)) (versions_of line' t xs) i) [
+    | inl j ↦ confirmed_stands x.slot (place_on_line t (line' x.slot) 0) refl v j
     | inr j ↦ versions_stand xs v j
   ]
 
   -- there is a version where the ticket is on the line of a slot
-  versions_some : (x : News) (xs : List News) → is_some (place t (line' x.slot) 0) ≡ true → versions_of line' t (x ∷ xs) ≢ []
+  versions_some : (x : News) (xs : List News) → is_some (place_on_line t (line' x.slot) 0) ≡ true → versions_of line' t (x ∷ xs) ≢ []
   versions_some x xs h e =
-      let r = some_test (place t (line' x.slot) 0) h in
+      let r = some_test (place_on_line t (line' x.slot) 0) h in
       no_confirmed (record { slot = x.slot; number = r.0.0; digest = r.0.1 }) (versions_of line' t xs)
       (sym (ap (λ o. confirmed x.slot o ++ versions_of line' t xs) r.1) ∙ e)
 
@@ -93,7 +93,7 @@ all_on line' t [] h = refl
 all_on line' t (x ∷ xs) h =
     let v = h x (inl refl) in
     let found = place_found t (line' x.slot) 0 v.0 v.1 v.2 in
-    let here : is_some (place t (line' x.slot) 0) ≡ true = ap is_some found.1 in
+    let here : is_some (place_on_line t (line' x.slot) 0) ≡ true = ap is_some found.1 in
     rw here (all_on line' t xs (λ y i. h y (inr i)))
 
 digest_found : (x : News) (xs : List News) → (d : Digest) × (digest_for x.slot (x ∷ xs) ≡ Some d)
@@ -402,7 +402,7 @@ module _ (k : Limits) (fits : k.instances ≤ 4096) (pool : List Message) (m : M
       wrong : Committed news ≡ Withdrawn → ⊥
       wrong q = (let bad : Committed news ≡ Withdrawn = q in cc)
 
-  confirm_it : (n : NodeId) (l : Life) (t : Ticket) (x : News) (xs : List News) (w : Work) (f : Fo w) → In (commit n l t (x ∷ xs)) pool → is_some (place t (w.ledger.line x.slot) 0) ≡ true → Fo (confirms n l t (x ∷ xs) w)
+  confirm_it : (n : NodeId) (l : Life) (t : Ticket) (x : News) (xs : List News) (w : Work) (f : Fo w) → In (commit n l t (x ∷ xs)) pool → is_some (place_on_line t (w.ledger.line x.slot) 0) ≡ true → Fo (confirms n l t (x ∷ xs) w)
   confirm_it n l t x xs w f asked on =
       let g = sent.commits n l t (x ∷ xs) asked in
       let made : In (Granted g.0) f.machine.made = (works_sound k.empty pool m f.machine w.sends sound f.works).0.made (Granted g.0) g.1 in
@@ -416,7 +416,7 @@ module _ (k : Limits) (fits : k.instances ≤ 4096) (pool : List Message) (m : M
       (Says_committed g.0 vs made (λ v i. subst (λ (z : Ticket). Stands k.empty f.machine z v) (sym g.2) (stand v i)) some))))
 
   -- after a commit the ticket is on the line of each of its slots
-  now_on : (t : Ticket) (x : News) (xs : List News) (line' : Slot → List LineVersion) → is_some (place t (line' x.slot ++ version_of t (digest_for x.slot (x ∷ xs))) 0) ≡ true
+  now_on : (t : Ticket) (x : News) (xs : List News) (line' : Slot → List LineVersion) → is_some (place_on_line t (line' x.slot ++ version_of t (digest_for x.slot (x ∷ xs))) 0) ≡ true
   now_on t x xs line' =
       let d = digest_found x xs in
       let v : LineVersion = record { ticket = t; digest = d.0 } in
@@ -427,7 +427,7 @@ module _ (k : Limits) (fits : k.instances ≤ 4096) (pool : List Message) (m : M
   answered_it : (b : Bool) (n : NodeId) (l : Life) (t : Ticket) (news : List News) (w : Work) (f : Fo w) → In (commit n l t news) pool → may_commit n l news (lease_under w.ledger.live t) ≡ false → (not (is_nil news) && on_all w.ledger.line t news) ≡ b → Fo (answered b n l t news w)
   answered_it true n l t [] w f asked may e = (let bad : false ≡ true = e in cc)
   answered_it true n l t (x ∷ xs) w f asked may e =
-      note_it (note.CommittedBefore t) (confirms n l t (x ∷ xs) w) (confirm_it n l t x xs w f asked (and_parts (is_some (place t (w.ledger.line x.slot) 0)) (on_all w.ledger.line t xs) e).0)
+      note_it (note.CommittedBefore t) (confirms n l t (x ∷ xs) w) (confirm_it n l t x xs w f asked (and_parts (is_some (place_on_line t (w.ledger.line x.slot) 0)) (on_all w.ledger.line t xs) e).0)
   answered_it false n l t news w f asked may e =
       let refused : (g : Grant) → Live f.machine g → (g.ticket ≡ t) → (g.node ≡ n) → (g.life ≡ l) → (slots_of news ≡ written g.slots) → (news ≢ []) → ⊥ =
       λ g live ticket node life slots some.

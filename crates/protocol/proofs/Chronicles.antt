@@ -18,7 +18,7 @@ use Rattle.protocol.specs.declared.answer.Kept.{Kept}
 use Rattle.protocol.specs.declared.answer.Kept.TheVariants.{Old, New}
 use Rattle.protocol.specs.Ledger.{Limits, Ledger, Lease, Saved, saves, reads, Work, is_saved, begin_work, handled, withdrawn, retired, pruned, nudged}
 use Rattle.protocol.specs.World.{Running, Node, World, Move, Node_moves, Machine_moves, Machine_says, Fails, Recovers, Moves, Still, Then, start}
-use Rattle.protocol.specs.Safe.{IsWithdrawn, InUse, Held, Rising}
+use Rattle.protocol.specs.Safe.{IsWithdrawn, InUse, HoldsContent, Rising}
 use Rattle.protocol.specs.Replay.{Event, Deliver, Begin, Withdraw, Retire, RestartCoordinator, Farm, settled, coordinated, delivered, step, run, opening, Tenure, Finish, Abort, Resend, Nudge, Prune, RestartNode, Forge, FailSave, Turn, refused, is_node, at_node, restarts, told_to}
 use Rattle.protocol.specs.Replay as replay
 use Rattle.protocol.specs.Nodes.{NodeAnswer, may_restart}
@@ -376,7 +376,7 @@ module _ (sha : List ℕ → Digest) (k : Limits) (farm : IsFarm sha k) where
     contents = λ late n n' x number c c' held held'.
         (let r = run_next sha k farm late u moves s shows in
         let since = every_run_stays_safe sha u r.world moves r.moves in
-        since.contents n n' x number c c' (subst (λ z. Held z x number c) (sym (shows.nodes n.0)) held) (subst (λ z. Held z x number c') (sym (r.shows.nodes n'.0)) held'));
+        since.contents n n' x number c c' (subst (λ z. HoldsContent z x number c) (sym (shows.nodes n.0)) held) (subst (λ z. HoldsContent z x number c') (sym (r.shows.nodes n'.0)) held'));
     restarted = λ up g i unsaved.
         (let n = step_next sha k farm u moves s shows RestartCoordinator in
         let ok = restart_ok s in

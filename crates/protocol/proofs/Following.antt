@@ -4,7 +4,7 @@ use Rattle.std.proofs.lemmas.Bool.{cases_Bool, and_parts, eqb-false, eqb-true, n
 use Rattle.std.specs.Prelude.{nat_lt}
 use Rattle.protocol.specs.Lists.{In}
 use Rattle.protocol.specs.Names.{Mode, Shared, Private, Locked, Slot, slot_eq, slots_eq, is_private, only_slot, IsInstance, Digest, NodeId, Life, Ask, Ticket, Want, FolderName, leased_wants, tenure_wants}
-use Rattle.protocol.specs.Machine.{Grant, GrantedSlot, News, Ending, Granted, Withdrawn, Message, FromCoord, Parked, Machine, Live, Free, Based, Answers, SameAsk, want_of, line, version_at, slots_of, Names, written, acquire, commit, release, IsPartOf, Ends_part, Keeps, Leaves, Step, Grants, Unparks, Steps, No_step, One_more, Says, Says_granted, Says_committed, Says_fenced, Says_denied, Says_recall}
+use Rattle.protocol.specs.Machine.{Grant, GrantedSlot, News, Ending, Granted, Withdrawn, Message, FromCoord, Parked, Machine, Live, Free, Based, AnswersAsk, SameAsk, want_of, line, version_at, slots_of, Names, written, acquire, commit, release, IsPartOf, Ends_part, Keeps, Leaves, Step, Grants, Unparks, Steps, No_step, One_more, Says, Says_granted, Says_committed, Says_fenced, Says_denied, Says_recall}
 use Rattle.farm_base.specs.declared.message.FromCoord.TheVariants as told
 use Rattle.farm_base.specs.declared.message.Why.{Why}
 use Rattle.protocol.specs.declared.answer.CoordNote.{CoordNote}
@@ -230,7 +230,7 @@ module _ (k : Limits) (fits : k.instances ≤ 4096) (pool : List Message) (m : M
       let s : Slot = slot_for k.instances (is_free q) r.0 in
       subst (λ (z : GrantedSlot). Free b z.slot × Based k.empty b z) (sym r.2)
       ((all r.0 r.1).0, (ap length (going.core.lines s), subst (λ v. Names k.empty v (length (q.line s)) (last_digest k.empty (q.line s))) (going.core.lines s) (names_last k.empty (q.line s))))) in
-      let answers : Answers g p.wants = record {
+      let answers : AnswersAsk g p.wants = record {
         shared = refl;
         slots = wants_back q ws;
         instances = λ u i. (let r = granted_from q ws u i in subst (λ (z : GrantedSlot). IsInstance z.slot.folder.mode z.slot.instance) (sym r.2) (all r.0 r.1).1);

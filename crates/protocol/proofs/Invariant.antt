@@ -3,7 +3,7 @@ use Rattle.std.proofs.Common.{◌≡◌, ◌≢◌, ℕ, ◌<◌, ◌≤◌, Lis
 use Rattle.std.specs.Prelude.{⊤}
 use Rattle.protocol.specs.Lists.{In, nth}
 use Rattle.protocol.specs.Names.{Slot, NodeId, Life, Ticket, Digest, Want, FolderName, wants_shared, tenure_wants}
-use Rattle.protocol.specs.Machine.{Grant, News, Confirmed, Ending, Committed, Released, Withdrawn, Died, Granted, Message, Said, ToCoord, FromCoord, acquire, WasHeard, Machine, Answers, line, written, slots_of, Names, Stands}
+use Rattle.protocol.specs.Machine.{Grant, News, Confirmed, Ending, Committed, Released, Withdrawn, Died, Granted, Message, Said, ToCoord, FromCoord, acquire, WasHeard, Machine, AnswersAsk, line, written, slots_of, Names, Stands}
 use Rattle.farm_base.specs.declared.message.Message.TheVariants as to
 use Rattle.farm_base.specs.declared.message.ToNode.TheVariants as to_node
 use Rattle.farm_base.specs.declared.message.Request.{Request}
@@ -46,9 +46,9 @@ Its m n l a g = In (Granted g) m.made × (g.node ≡ n) × (g.life ≡ l) × (g.
 
 abbrev pub StateOk : Machine → NodeId → Life → ℕ → KeptAsk → Type 0
 StateOk m n l a (Open wants tenure) = ForTenure tenure wants
-StateOk m n l a (Holding wants g r) = Its m n l a g × Answers g wants
-StateOk m n l a (Running wants g r) = Its m n l a g × Answers g wants
-StateOk m n l a (Finished wants g news) = Its m n l a g × Answers g wants × (slots_of news ≡ written g.slots) × (news ≢ [])
+StateOk m n l a (Holding wants g r) = Its m n l a g × AnswersAsk g wants
+StateOk m n l a (Running wants g r) = Its m n l a g × AnswersAsk g wants
+StateOk m n l a (Finished wants g news) = Its m n l a g × AnswersAsk g wants × (slots_of news ≡ written g.slots) × (news ≢ [])
 StateOk m n l a (Over how) = ⊤
 
 -- the ask is open, granted or running, and has the want
@@ -112,7 +112,7 @@ Fate nodes g Died = g.life.0 < (nodes g.node.0).life.0
 
 -- the grant answers an ask that was sent
 abbrev pub WasWanted : List Message → Grant → Type 0
-WasWanted pool g = (wants : List Want) × In (acquire g.node g.life g.ask wants g.tenure) pool × Answers g wants
+WasWanted pool g = (wants : List Want) × In (acquire g.node g.life g.ask wants g.tenure) pool × AnswersAsk g wants
 
 pub record Inv (sha : List ℕ → Digest) (w : World) : Type 0 where
   pub sound : Sound (sha []) w.machine

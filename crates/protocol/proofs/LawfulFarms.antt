@@ -26,7 +26,7 @@ use Rattle.protocol.specs.Machine.{Grant, GrantedSlot, Confirmed, Message, Told,
 use Rattle.protocol.specs.Ledger.{Limits, Ledger, Work, begin_work, handled, withdrawn, retired, pruned, nudged, nudge_all, saves, reads}
 use Rattle.protocol.specs.Ledger as ledger
 use Rattle.protocol.specs.World.{KeptAsk, Open, Holding, Running, Finished, Over, Node, keep}
-use Rattle.protocol.specs.Nodes.{Place, Left, NodeWork, NodeAnswer, guard, at_home, is_tenure_of, in_use, Held, Sent, is_stored, is_base, held, running, held_or_running, finished, news_of, recallable, recalled_if, first, first_of, fetches_of, fetches, others, opens, asked, asked_tenure, beginning, begun, gives_up, leaving, finishing, finished_with, aborting, aborted, again, all_again, resent, restarted, may_restart, nothing, gives_back, granted, learned, dropped, denied, recalled, of_life, heard, fetched, brought, received, unless_spent}
+use Rattle.protocol.specs.Nodes.{Place, Left, NodeWork, NodeAnswer, guard, at_home, is_tenure_of, in_use, HeldGrant, Sent, is_stored, is_base, held, running, held_or_running, finished, news_of, recallable, recalled_if, first, first_of, fetches_of, fetches, others, opens, asked, asked_tenure, beginning, begun, gives_up, leaving, finishing, finished_with, aborting, aborted, again, all_again, resent, restarted, may_restart, nothing, gives_back, granted, learned, dropped, denied, recalled, of_life, heard, fetched, brought, received, unless_spent}
 use Rattle.protocol.specs.Replay.{Event, Tenure, Deliver, Begin, Finish, Abort, Resend, Nudge, Withdraw, Prune, Retire, RestartNode, RestartCoordinator, Forge, FailSave, Farm, Turn, step, settled, settles, coordinated, is_node, at, moved, answered, at_node, node_does, restarts, receiver, delivered}
 use Rattle.protocol.specs.Replay as replay
 use Rattle.protocol.specs.Lawful.{IsNumber, IsSpeaker, AreAsked, IsMessage, IsLawful, IsLawfulWork, IsLawfulNode, IsLawfulFarm, EveryFarmStaysLawful, EveryOpeningIsLawful}
@@ -181,7 +181,7 @@ module _ (top : ℕ) where
     begun_acts : (t : Ticket) → ActsOk (begun t x)
     begun_acts t = guard_acts x.spent _ _ (by (first (held t) x.asks 0))
       where
-        by : (o : Option (ℕ × Held)) → ActsOk (beginning t x o)
+        by : (o : Option (ℕ × HeldGrant)) → ActsOk (beginning t x o)
         by None = err_acts refusal.NoSuchTicket
         by (Some (a, h)) = guard_acts _ _ _ (ok_acts (record { node = record x { asks = set_nth x.asks a (Running h.wants h.grant h.recalled) }; sends = []; note = note.Begun t }) (record { node = closes a (Running h.wants h.grant h.recalled) (running_closed h.wants h.grant h.recalled) _ refl refl; sends = none_sent }))
 
@@ -191,14 +191,14 @@ module _ (top : ℕ) where
     finished_acts : (sha : List ℕ → Digest) (t : Ticket) (lefts : List Left) → ActsOk (finished_with sha p t lefts x)
     finished_acts sha t lefts = guard_acts x.spent _ _ (by (first (running t) x.asks 0))
       where
-        leaving_acts : (a : ℕ) (h : Held) (lefts : List Left) → Acts (leaving sha p a h lefts x)
+        leaving_acts : (a : ℕ) (h : HeldGrant) (lefts : List Left) → Acts (leaving sha p a h lefts x)
         leaving_acts a h [] = gives_up_acts a h.grant.ticket (note.Finished h.grant.ticket)
         leaving_acts a h (l ∷ ls) = record {
           node = closes a (Finished h.wants h.grant (news_of sha (l ∷ ls))) (finished_closed h.wants h.grant (news_of sha (l ∷ ls))) _ refl refl;
           sends = one_sent (commit p.node x.life h.grant.ticket (news_of sha (l ∷ ls))) (record { speaker = speaker; request = tt });
         }
 
-        by : (o : Option (ℕ × Held)) → ActsOk (finishing sha p lefts x o)
+        by : (o : Option (ℕ × HeldGrant)) → ActsOk (finishing sha p lefts x o)
         by None = err_acts refusal.NotRunning
         by (Some (a, h)) =
             let wrong : Bool = not (slots_eq (slots_of (news_of sha lefts)) (written h.grant.slots)) in
@@ -208,7 +208,7 @@ module _ (top : ℕ) where
     aborted_acts : (t : Ticket) → ActsOk (aborted p t x)
     aborted_acts t = guard_acts x.spent _ _ (by (first (held_or_running t) x.asks 0))
       where
-        by : (o : Option (ℕ × Held)) → ActsOk (aborting p x o)
+        by : (o : Option (ℕ × HeldGrant)) → ActsOk (aborting p x o)
         by None = err_acts refusal.NoSuchTicket
         by (Some (a, h)) = guard_acts _ _ _ (ok_acts (gives_up p a h.grant.ticket (note.Aborted h.grant.ticket) x) (gives_up_acts a h.grant.ticket (note.Aborted h.grant.ticket)))
 

@@ -13,7 +13,7 @@ use Rattle.protocol.specs.declared.answer.How.TheVariants as how
 use Rattle.protocol.specs.declared.answer.NodeRefusal.{NodeRefusal}
 use Rattle.protocol.specs.Ledger.{Limits}
 use Rattle.protocol.specs.World.{KeptAsk, Open, Holding, Running, Finished, Over, Node, World, keeps, learn_bases, learn_versions, keep, has_life, IsTenureOf, Asked_tenure, Held_tenure, Running_tenure, Finished_tenure, RunsTenure, Uses, Open_uses, Held_uses, Running_uses, Idle, Act, Asks, Asks_tenure, Asks_again, Greets, Takes, Gives_back, Begins, Finishes, Gives_up, Sends_commit, Learns, Drops, Is_denied, Is_recalled, Is_recalled_running, Stores, Asks_content, Sends_blob, Restarts, Stops, Node_moves, Moves, Still, Then}
-use Rattle.protocol.specs.Nodes.{NodeWork, NodeAnswer, guard, Place, wants_folder, is_tenure_of, is_home_of, uses, at_home, others_use, in_use, Held, Sent, first, first_of, under, held, running, held_or_running, finished, recalled_if, recallable, is_stored, all_stored, is_missing, others, fetches_of, fetches, is_base, asked, asked_tenure, beginning, begun, Left, news_of, stored, leaving, finishing, finished_with, aborting, aborted, again, all_again, resent, restarted, gives_back, granted, learned, dropped, denied, recalled, of_life, heard, fetched, brought, unless_spent}
+use Rattle.protocol.specs.Nodes.{NodeWork, NodeAnswer, guard, Place, wants_folder, is_tenure_of, is_home_of, uses, at_home, others_use, in_use, HeldGrant, Sent, first, first_of, under, held, running, held_or_running, finished, recalled_if, recallable, is_stored, all_stored, is_missing, others, fetches_of, fetches, is_base, asked, asked_tenure, beginning, begun, Left, news_of, stored, leaving, finishing, finished_with, aborting, aborted, again, all_again, resent, restarted, gives_back, granted, learned, dropped, denied, recalled, of_life, heard, fetched, brought, unless_spent}
 use Rattle.farm_base.proofs.CompareLaws.{digest_exact}
 use Rattle.protocol.proofs.Base.{true_false, none_some, some_is, folder_eq_same, life_is, ticket_is, in_append, in_one, from_map, any_in, any_none, from_any, put_same, put_other, nth_in}
 use Rattle.farm_base.specs.Receivers.{told_to}
@@ -115,26 +115,26 @@ under_is g t x y e = elim (cases_Bool (eqb g.ticket.0 t.0)) [
   | inr b ↦ none_some y (rw b at e)
 ]
 
-pub held_is : (t : Ticket) (s : KeptAsk) (h : Held) → held t s ≡ Some h → (s ≡ Holding h.wants h.grant h.recalled) × (h.grant.ticket ≡ t)
+pub held_is : (t : Ticket) (s : KeptAsk) (h : HeldGrant) → held t s ≡ Some h → (s ≡ Holding h.wants h.grant h.recalled) × (h.grant.ticket ≡ t)
 held_is t (Open wants tenure) h e = none_some h e
 held_is t (Holding wants g r) h e = (let u = under_is g t (record { wants = wants; grant = g; recalled = r }) h e in
-    (ap (λ (z : Held). Holding z.wants z.grant z.recalled) u.1, ap (λ (z : Held). z.grant.ticket) (sym u.1) ∙ u.0))
+    (ap (λ (z : HeldGrant). Holding z.wants z.grant z.recalled) u.1, ap (λ (z : HeldGrant). z.grant.ticket) (sym u.1) ∙ u.0))
 held_is t (Running wants g r) h e = none_some h e
 held_is t (Finished wants g news) h e = none_some h e
 held_is t (Over how) h e = none_some h e
 
-pub running_is : (t : Ticket) (s : KeptAsk) (h : Held) → running t s ≡ Some h → (s ≡ Running h.wants h.grant h.recalled) × (h.grant.ticket ≡ t)
+pub running_is : (t : Ticket) (s : KeptAsk) (h : HeldGrant) → running t s ≡ Some h → (s ≡ Running h.wants h.grant h.recalled) × (h.grant.ticket ≡ t)
 running_is t (Open wants tenure) h e = none_some h e
 running_is t (Holding wants g r) h e = none_some h e
 running_is t (Running wants g r) h e = (let u = under_is g t (record { wants = wants; grant = g; recalled = r }) h e in
-    (ap (λ (z : Held). Running z.wants z.grant z.recalled) u.1, ap (λ (z : Held). z.grant.ticket) (sym u.1) ∙ u.0))
+    (ap (λ (z : HeldGrant). Running z.wants z.grant z.recalled) u.1, ap (λ (z : HeldGrant). z.grant.ticket) (sym u.1) ∙ u.0))
 running_is t (Finished wants g news) h e = none_some h e
 running_is t (Over how) h e = none_some h e
 
-pub either_is : (t : Ticket) (s : KeptAsk) (h : Held) → held_or_running t s ≡ Some h → ((s ≡ Holding h.wants h.grant h.recalled) ⊎ (s ≡ Running h.wants h.grant h.recalled)) × (h.grant.ticket ≡ t)
+pub either_is : (t : Ticket) (s : KeptAsk) (h : HeldGrant) → held_or_running t s ≡ Some h → ((s ≡ Holding h.wants h.grant h.recalled) ⊎ (s ≡ Running h.wants h.grant h.recalled)) × (h.grant.ticket ≡ t)
 either_is t (Open wants tenure) h e = none_some h e
-either_is t (Holding wants g r) h e = (let u = under_is g t (record { wants = wants; grant = g; recalled = r }) h e in (inl (ap (λ (z : Held). Holding z.wants z.grant z.recalled) u.1), ap (λ (z : Held). z.grant.ticket) (sym u.1) ∙ u.0))
-either_is t (Running wants g r) h e = (let u = under_is g t (record { wants = wants; grant = g; recalled = r }) h e in (inr (ap (λ (z : Held). Running z.wants z.grant z.recalled) u.1), ap (λ (z : Held). z.grant.ticket) (sym u.1) ∙ u.0))
+either_is t (Holding wants g r) h e = (let u = under_is g t (record { wants = wants; grant = g; recalled = r }) h e in (inl (ap (λ (z : HeldGrant). Holding z.wants z.grant z.recalled) u.1), ap (λ (z : HeldGrant). z.grant.ticket) (sym u.1) ∙ u.0))
+either_is t (Running wants g r) h e = (let u = under_is g t (record { wants = wants; grant = g; recalled = r }) h e in (inr (ap (λ (z : HeldGrant). Running z.wants z.grant z.recalled) u.1), ap (λ (z : HeldGrant). z.grant.ticket) (sym u.1) ∙ u.0))
 either_is t (Finished wants g news) h e = none_some h e
 either_is t (Over how) h e = none_some h e
 
@@ -321,11 +321,11 @@ module _ (sha : List ℕ → Digest) (u : World) (n : NodeId) where
       does (acquire n here.life (record { 0 = length here.asks + 1 }) (tenure_wants f) true ∷ []) (record here { asks = here.asks ++ Open (tenure_wants f) true ∷ [] })
       (Asks_tenure f (λ a s e t. true_false (is_tenure_of g s) (tenure_test g s t) (any_none (is_tenure_of g) s here.asks none (nth_in here.asks a s e)))))))
 
-  beginning_does : (t : Ticket) (o : Option (ℕ × Held)) → first (held t) here.asks 0 ≡ o → OnAnswer (beginning t here o)
+  beginning_does : (t : Ticket) (o : Option (ℕ × HeldGrant)) → first (held t) here.asks 0 ≡ o → OnAnswer (beginning t here o)
   beginning_does t None e = tt
   beginning_does t (Some r) e =
       let f = found (held t) here.asks r e in
-      let h : Held = r.1 in
+      let h : HeldGrant = r.1 in
       let is = held_is t f.0 h f.2 in
       on_guard (not (all_stored here h.grant.slots)) _ _ (λ all.
       does [] (record here { asks = set_nth here.asks r.0 (Running h.wants h.grant h.recalled) })
@@ -337,18 +337,18 @@ module _ (sha : List ℕ → Digest) (u : World) (n : NodeId) where
   some_news : (l : Left) (ls : List Left) → news_of sha (l ∷ ls) ≢ []
   some_news l ls e = (let bad : record { slot = l.slot; digest = sha l.content } ∷ news_of sha ls ≡ [] = e in cc)
 
-  leaving_does : (size : ℕ) (a : ℕ) (h : Held) (lefts : List Left) → nth here.asks a ≡ Some (Running h.wants h.grant h.recalled) → Idle here.asks a h.wants h.grant → slots_of (news_of sha lefts) ≡ written h.grant.slots
+  leaving_does : (size : ℕ) (a : ℕ) (h : HeldGrant) (lefts : List Left) → nth here.asks a ≡ Some (Running h.wants h.grant h.recalled) → Idle here.asks a h.wants h.grant → slots_of (news_of sha lefts) ≡ written h.grant.slots
       → OnAnswer (Ok (leaving sha (at size) a h lefts here))
   leaving_does size a h [] at' idle slots = does (release n here.life h.grant.ticket ∷ []) (record here { asks = set_nth here.asks a (Over how.Other) }) (Gives_up h.wants h.grant h.recalled a (inr at') idle)
   leaving_does size a h (l ∷ ls) at' idle slots =
       does (commit n here.life h.grant.ticket (news_of sha (l ∷ ls)) ∷ []) (record here { asks = set_nth here.asks a (Finished h.wants h.grant (news_of sha (l ∷ ls))); store = stored sha (l ∷ ls) here.store })
       (Finishes h.wants h.grant h.recalled a (news_of sha (l ∷ ls)) (stored sha (l ∷ ls) here.store) at' idle slots (some_news l ls) (stored_ok sha (l ∷ ls) here.store))
 
-  finishing_does : (size : ℕ) (t : Ticket) (lefts : List Left) (o : Option (ℕ × Held)) → first (running t) here.asks 0 ≡ o → OnAnswer (finishing sha (at size) lefts here o)
+  finishing_does : (size : ℕ) (t : Ticket) (lefts : List Left) (o : Option (ℕ × HeldGrant)) → first (running t) here.asks 0 ≡ o → OnAnswer (finishing sha (at size) lefts here o)
   finishing_does size t lefts None e = tt
   finishing_does size t lefts (Some r) e =
       let f = found (running t) here.asks r e in
-      let h : Held = r.1 in
+      let h : HeldGrant = r.1 in
       let is = running_is t f.0 h f.2 in
       on_guard (in_use here.asks r.0 h.wants h.grant) _ _ (λ idle. on_guard (not (slots_eq (slots_of (news_of sha lefts)) (written h.grant.slots))) _ _ (λ slots.
       leaving_does size r.0 h lefts (f.1 ∙ ap Some is.0) (idle_from here.asks r.0 h.wants h.grant idle) (slots_eq_is (slots_of (news_of sha lefts)) (written h.grant.slots) (not-false (slots_eq (slots_of (news_of sha lefts)) (written h.grant.slots)) slots))))
@@ -356,11 +356,11 @@ module _ (sha : List ℕ → Digest) (u : World) (n : NodeId) where
   pub finished_does : (size : ℕ) (t : Ticket) (lefts : List Left) → OnAnswer (finished_with sha (at size) t lefts here)
   finished_does size t lefts = on_guard here.spent _ _ (λ up. finishing_does size t lefts (first (running t) here.asks 0) refl)
 
-  aborting_does : (size : ℕ) (t : Ticket) (o : Option (ℕ × Held)) → first (held_or_running t) here.asks 0 ≡ o → OnAnswer (aborting (at size) here o)
+  aborting_does : (size : ℕ) (t : Ticket) (o : Option (ℕ × HeldGrant)) → first (held_or_running t) here.asks 0 ≡ o → OnAnswer (aborting (at size) here o)
   aborting_does size t None e = tt
   aborting_does size t (Some r) e =
       let f = found (held_or_running t) here.asks r e in
-      let h : Held = r.1 in
+      let h : HeldGrant = r.1 in
       on_guard (in_use here.asks r.0 h.wants h.grant) _ _ (λ idle.
       does (release n here.life h.grant.ticket ∷ []) (record here { asks = set_nth here.asks r.0 (Over how.Other) })
       (Gives_up h.wants h.grant h.recalled r.0 (elim (either_is t f.0 h f.2).0 [ inl is ↦ inl (f.1 ∙ ap Some is) | inr is ↦ inr (f.1 ∙ ap Some is) ]) (idle_from here.asks r.0 h.wants h.grant idle)))

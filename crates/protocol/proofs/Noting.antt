@@ -13,7 +13,7 @@ use Rattle.protocol.specs.declared.answer.NodeRefusal.{NodeRefusal}
 use Rattle.protocol.specs.declared.answer.NodeRefusal.TheVariants as refusal
 use Rattle.protocol.specs.Ledger.{Limits}
 use Rattle.protocol.specs.World.{KeptAsk, Open, Holding, Running, Finished, Over, Node, keeps, keep, RunsTenure, IsTenureOf, Asked_tenure, Held_tenure, Running_tenure, Finished_tenure, Uses, Open_uses, Held_uses, Running_uses, Idle}
-use Rattle.protocol.specs.Nodes.{NodeWork, NodeAnswer, guard, Place, wants_folder, is_tenure_of, is_home_of, uses, at_home, others_use, in_use, Held, Sent, first, under, held, running, held_or_running, finished, recallable, is_stored, all_stored, is_base, asked, asked_tenure, beginning, begun, Left, news_of, stored, leaving, finishing, finished_with, aborting, aborted, again, all_again, resent, gives_back, granted, learned, dropped, denied, recalled, of_life, heard, fetched, brought, unless_spent}
+use Rattle.protocol.specs.Nodes.{NodeWork, NodeAnswer, guard, Place, wants_folder, is_tenure_of, is_home_of, uses, at_home, others_use, in_use, HeldGrant, Sent, first, under, held, running, held_or_running, finished, recallable, is_stored, all_stored, is_base, asked, asked_tenure, beginning, begun, Left, news_of, stored, leaving, finishing, finished_with, aborting, aborted, again, all_again, resent, gives_back, granted, learned, dropped, denied, recalled, of_life, heard, fetched, brought, unless_spent}
 use Rattle.protocol.specs.Replay.{Event, Tenure, Deliver, Begin, Finish, Abort, Resend, Forge, told_to}
 use Rattle.protocol.specs.Replay as replay
 use Rattle.protocol.specs.Meaning.{Stored, NodeMeans}
@@ -207,27 +207,27 @@ module _ (sha : List ℕ → Digest) (k : Limits) (n : NodeId) (size : ℕ) (x :
 
   none_held : (t : Ticket) → first (held t) x.asks 0 ≡ None → (a : ℕ) (wants : List Want) (g : Grant) → HoldsUnder x t a wants g → ⊥
   none_held t e a wants g (at, ticket) =
-      let h : Held = record { wants = wants; grant = g; recalled = at.0 } in
+      let h : HeldGrant = record { wants = wants; grant = g; recalled = at.0 } in
       none_some h (sym (none_at (held t) x.asks e a (Holding wants g at.0) at.1) ∙ under_some g t h ticket)
 
   none_running : (t : Ticket) → first (running t) x.asks 0 ≡ None → (a : ℕ) (wants : List Want) (g : Grant) → RunsUnder x t a wants g → ⊥
   none_running t e a wants g (at, ticket) =
-      let h : Held = record { wants = wants; grant = g; recalled = at.0 } in
+      let h : HeldGrant = record { wants = wants; grant = g; recalled = at.0 } in
       none_some h (sym (none_at (running t) x.asks e a (Running wants g at.0) at.1) ∙ under_some g t h ticket)
 
   none_either : (t : Ticket) → first (held_or_running t) x.asks 0 ≡ None → (a : ℕ) (wants : List Want) (g : Grant) → HoldsUnder x t a wants g ⊎ RunsUnder x t a wants g → ⊥
   none_either t e a wants g (inl (at, ticket)) =
-      (let h : Held = record { wants = wants; grant = g; recalled = at.0 } in
+      (let h : HeldGrant = record { wants = wants; grant = g; recalled = at.0 } in
       none_some h (sym (none_at (held_or_running t) x.asks e a (Holding wants g at.0) at.1) ∙ under_some g t h ticket))
   none_either t e a wants g (inr (at, ticket)) =
-      (let h : Held = record { wants = wants; grant = g; recalled = at.0 } in
+      (let h : HeldGrant = record { wants = wants; grant = g; recalled = at.0 } in
       none_some h (sym (none_at (held_or_running t) x.asks e a (Running wants g at.0) at.1) ∙ under_some g t h ticket))
 
-  beginning_exact : (t : Ticket) (o : Option (ℕ × Held)) → first (held t) x.asks 0 ≡ o → x.spent ≡ false → Exact None (Begin n t) (beginning t x o)
+  beginning_exact : (t : Ticket) (o : Option (ℕ × HeldGrant)) → first (held t) x.asks 0 ≡ o → x.spent ≡ false → Exact None (Begin n t) (beginning t x o)
   beginning_exact t None e up = none_held t e
   beginning_exact t (Some r) e up =
       let f = found (held t) x.asks r e in
-      let h : Held = r.1 in
+      let h : HeldGrant = r.1 in
       let is = held_is t f.0 h f.2 in
       let at' : nth x.asks r.0 ≡ Some (Holding h.wants h.grant h.recalled) = f.1 ∙ ap Some is.0 in
       on_guard None (Begin n t) (not (all_stored x h.grant.slots)) refusal.ContentsMissing _
@@ -236,7 +236,7 @@ module _ (sha : List ℕ → Digest) (k : Limits) (n : NodeId) (size : ℕ) (x :
       (λ all. (let stored' : (u : GrantedSlot) → In u h.grant.slots → (c : List ℕ) × (x.store u.digest ≡ Some c) = λ u i. stored_some (x.store u.digest) (all_in (λ (v : GrantedSlot). is_stored x v.digest) h.grant.slots (not-false (all_stored x h.grant.slots) all) u i) in
       ((r.0, h.wants, h.grant, h.recalled, at', is.1, stored', refl, refl), none r.0 h at' is.1 stored')))
     where
-      none : (a : ℕ) (h : Held) → nth x.asks a ≡ Some (Holding h.wants h.grant h.recalled) → h.grant.ticket ≡ t → ((u : GrantedSlot) → In u h.grant.slots → (c : List ℕ) × (x.store u.digest ≡ Some c)) → (r : NodeRefusal) → NodeBecause k (Begin n t) x r → ⊥
+      none : (a : ℕ) (h : HeldGrant) → nth x.asks a ≡ Some (Holding h.wants h.grant h.recalled) → h.grant.ticket ≡ t → ((u : GrantedSlot) → In u h.grant.slots → (c : List ℕ) × (x.store u.digest ≡ Some c)) → (r : NodeRefusal) → NodeBecause k (Begin n t) x r → ⊥
       none a h at' ticket stored' refusal.LivesSpent z = true_false x.spent z up
       none a h at' ticket stored' refusal.NoSuchTicket z = z a h.wants h.grant ((h.recalled, at'), ticket)
       none a h at' ticket stored' refusal.ContentsMissing (b, wants, g, u, (holds, its), i, missing) =
@@ -253,15 +253,15 @@ module _ (sha : List ℕ → Digest) (k : Limits) (n : NodeId) (size : ℕ) (x :
   slots-left [] = refl
   slots-left (l ∷ ls) = (let r = slots-left ls in λ i. l.slot ∷ r i)
 
-  leaving_means : (t : Ticket) (lefts : List Left) (a : ℕ) (h : Held) → nth x.asks a ≡ Some (Running h.wants h.grant h.recalled) → h.grant.ticket ≡ t → slots_of (news_of sha lefts) ≡ written h.grant.slots → Means None (Finish n t lefts) (leaving sha at a h lefts x)
+  leaving_means : (t : Ticket) (lefts : List Left) (a : ℕ) (h : HeldGrant) → nth x.asks a ≡ Some (Running h.wants h.grant h.recalled) → h.grant.ticket ≡ t → slots_of (news_of sha lefts) ≡ written h.grant.slots → Means None (Finish n t lefts) (leaving sha at a h lefts x)
   leaving_means t [] a h at' ticket slots = (a, h.wants, h.grant, h.recalled, at', refl, (refl, refl))
   leaving_means t (l ∷ ls) a h at' ticket slots = (a, h.wants, h.grant, h.recalled, at', refl, (refl, slots, all_stored_so sha (l ∷ ls) x.store, refl))
 
-  finishing_exact : (t : Ticket) (lefts : List Left) (o : Option (ℕ × Held)) → first (running t) x.asks 0 ≡ o → x.spent ≡ false → Exact None (Finish n t lefts) (finishing sha at lefts x o)
+  finishing_exact : (t : Ticket) (lefts : List Left) (o : Option (ℕ × HeldGrant)) → first (running t) x.asks 0 ≡ o → x.spent ≡ false → Exact None (Finish n t lefts) (finishing sha at lefts x o)
   finishing_exact t lefts None e up = none_running t e
   finishing_exact t lefts (Some r) e up =
       let f = found (running t) x.asks r e in
-      let h : Held = r.1 in
+      let h : HeldGrant = r.1 in
       let is = running_is t f.0 h f.2 in
       let at' : nth x.asks r.0 ≡ Some (Running h.wants h.grant h.recalled) = f.1 ∙ ap Some is.0 in
       on_guard None (Finish n t lefts) (in_use x.asks r.0 h.wants h.grant) refusal.TenureInUse _
@@ -271,7 +271,7 @@ module _ (sha : List ℕ → Digest) (k : Limits) (n : NodeId) (size : ℕ) (x :
       (λ slots. (let same = slots_eq_is (slots_of (news_of sha lefts)) (written h.grant.slots) (not-false (slots_eq (slots_of (news_of sha lefts)) (written h.grant.slots)) slots) in
       (leaving_means t lefts r.0 h at' is.1 same, none r.0 h at' is.1 (idle_from x.asks r.0 h.wants h.grant idle) same))))
     where
-      none : (a : ℕ) (h : Held) → nth x.asks a ≡ Some (Running h.wants h.grant h.recalled) → h.grant.ticket ≡ t → Idle x.asks a h.wants h.grant → slots_of (news_of sha lefts) ≡ written h.grant.slots → (r : NodeRefusal) → NodeBecause k (Finish n t lefts) x r → ⊥
+      none : (a : ℕ) (h : HeldGrant) → nth x.asks a ≡ Some (Running h.wants h.grant h.recalled) → h.grant.ticket ≡ t → Idle x.asks a h.wants h.grant → slots_of (news_of sha lefts) ≡ written h.grant.slots → (r : NodeRefusal) → NodeBecause k (Finish n t lefts) x r → ⊥
       none a h at' ticket idle slots refusal.LivesSpent z = true_false x.spent z up
       none a h at' ticket idle slots refusal.NotRunning z = z a h.wants h.grant ((h.recalled, at'), ticket)
       none a h at' ticket idle slots refusal.TenureInUse (b, wants, g, (runs, its), used) =
@@ -287,11 +287,11 @@ module _ (sha : List ℕ → Digest) (k : Limits) (n : NodeId) (size : ℕ) (x :
   pub finished_exact : (t : Ticket) (lefts : List Left) → Exact None (Finish n t lefts) (finished_with sha at t lefts x)
   finished_exact t lefts = on_guard None (Finish n t lefts) x.spent refusal.LivesSpent _ (λ down. down) (λ up. finishing_exact t lefts (first (running t) x.asks 0) refl up)
 
-  aborting_exact : (t : Ticket) (o : Option (ℕ × Held)) → first (held_or_running t) x.asks 0 ≡ o → x.spent ≡ false → Exact None (Abort n t) (aborting at x o)
+  aborting_exact : (t : Ticket) (o : Option (ℕ × HeldGrant)) → first (held_or_running t) x.asks 0 ≡ o → x.spent ≡ false → Exact None (Abort n t) (aborting at x o)
   aborting_exact t None e up = none_either t e
   aborting_exact t (Some r) e up =
       let f = found (held_or_running t) x.asks r e in
-      let h : Held = r.1 in
+      let h : HeldGrant = r.1 in
       let is = either_is t f.0 h f.2 in
       let its : HoldsUnder x t r.0 h.wants h.grant ⊎ RunsUnder x t r.0 h.wants h.grant = elim is.0 [ inl q ↦ inl ((h.recalled, f.1 ∙ ap Some q), is.1) | inr q ↦ inr ((h.recalled, f.1 ∙ ap Some q), is.1) ] in
       on_guard None (Abort n t) (in_use x.asks r.0 h.wants h.grant) refusal.TenureInUse _
@@ -320,7 +320,7 @@ module _ (sha : List ℕ → Digest) (k : Limits) (n : NodeId) (size : ℕ) (x :
       run_hold : (ws ws' : List Want) (g g' : Grant) (r r' : Bool) → Running ws g r ≡ Holding ws' g' r' → (ws ≡ ws') × (g ≡ g')
       run_hold ws ws' g g' r r' e = absurd (cc)
 
-      none : (a : ℕ) (h : Held) → HoldsUnder x t a h.wants h.grant ⊎ RunsUnder x t a h.wants h.grant → Idle x.asks a h.wants h.grant → (r : NodeRefusal) → NodeBecause k (Abort n t) x r → ⊥
+      none : (a : ℕ) (h : HeldGrant) → HoldsUnder x t a h.wants h.grant ⊎ RunsUnder x t a h.wants h.grant → Idle x.asks a h.wants h.grant → (r : NodeRefusal) → NodeBecause k (Abort n t) x r → ⊥
       none a h its idle refusal.LivesSpent z = true_false x.spent z up
       none a h its idle refusal.NoSuchTicket z = z a h.wants h.grant its
       none a h (inl p) idle refusal.TenureInUse (b, wants, g, inl q, used) = used (same_idle a b (Holding h.wants h.grant p.0.0) (Holding wants g q.0.0) h.wants wants h.grant g p.0.1 q.0.1 refl refl (p.1 ∙ sym q.1) (hold_hold h.wants wants h.grant g p.0.0 q.0.0) idle)

@@ -4,10 +4,10 @@ use Rattle.std.proofs.lemmas.Bool.{cases_Bool, cases_order}
 use Rattle.std.proofs.lemmas.Bool.Decides.{nat_tests}
 use Rattle.protocol.specs.Lists.{In, nth}
 use Rattle.protocol.specs.Names.{Mode, Shared, Slot, IsInstance, is_alone, wants_shared, only_slot, Digest, NodeId, Life, Ticket, Want, FolderName, leased_wants, tenure_wants}
-use Rattle.protocol.specs.Machine.{Grant, News, LineVersion, Confirmed, Ending, Committed, Released, Withdrawn, Died, Made, Granted, Pruned, ticket_of, Answers, want_of, Told, Has, added, line, line_of, version_at, Names, Stands}
+use Rattle.protocol.specs.Machine.{Grant, News, LineVersion, Confirmed, Ending, Committed, Released, Withdrawn, Died, Made, Granted, Pruned, ticket_of, AnswersAsk, want_of, Told, Has, added, line, line_of, version_at, Names, Stands}
 use Rattle.farm_base.specs.declared.message.FromCoord.TheVariants as told
 use Rattle.protocol.specs.World.{KeptAsk, Running, World, start}
-use Rattle.protocol.specs.Safe.{InUse, Held, IsWithdrawn, OnALine, Rising, Falling, Safe, EveryRunIsSafe, EveryRunStaysSafe}
+use Rattle.protocol.specs.Safe.{InUse, HoldsContent, IsWithdrawn, OnALine, Rising, Falling, Safe, EveryRunIsSafe, EveryRunStaysSafe}
 use Rattle.lists.proofs.Places.{cases_list}
 use Rattle.protocol.proofs.Base.{in_one, in_append, from_map, get_in, some_is, slot_path}
 use Rattle.protocol.proofs.Lines.{Below, below_in, one_made, line_source, added_ticket, added_cases_one}
@@ -74,7 +74,7 @@ spent_running s wants g r e h =
     no_spent_self t h = let same : eqb t t ≡ true = grind (arith, nat_tests) in let bad : not true ≡ true = subst (λ b. not b ≡ true) same h in cc
 
 -- the one slot of a tenure
-tenure_slot : (g : Grant) (wants : List Want) (v : Want) → Answers g wants → g.tenure ≡ true → In v wants → Has g (only_slot v.folder)
+tenure_slot : (g : Grant) (wants : List Want) (v : Want) → AnswersAsk g wants → g.tenure ≡ true → In v wants → Has g (only_slot v.folder)
 tenure_slot g wants v answers t i =
     let f = answers.tenure t in
     let one : v ≡ record { folder = record f.0 { mode = Shared }; writable = true } = in_one v (record { folder = record f.0 { mode = Shared }; writable = true }) (subst (In v) f.1 i) in
@@ -86,7 +86,7 @@ tenure_slot g wants v answers t i =
     (r.0, r.1, slot_path r.0.slot (only_slot v.folder) folder instance)
 
 module _ (sha : List ℕ → Digest) (w : World) (inv : Inv sha w) where
-  in_use_ok : (n : NodeId) (g : Grant) (ws : List Want) (u : InUse w n g ws) → Its w.machine n (w.nodes n.0).life u.0 g × Answers g ws
+  in_use_ok : (n : NodeId) (g : Grant) (ws : List Want) (u : InUse w n g ws) → Its w.machine n (w.nodes n.0).life u.0 g × AnswersAsk g ws
   in_use_ok n g ws u = (inv.nodes n).states u.0 (Running ws g u.1) u.2
 
   in_use_its : (n : NodeId) (g : Grant) (ws : List Want) (u : InUse w n g ws) → Its w.machine n (w.nodes n.0).life u.0 g
@@ -172,7 +172,7 @@ module _ (sha : List ℕ → Digest) (w : World) (inv : Inv sha w) where
     at_home = home_of;
   }
 
-held_same : (sha : List ℕ → Digest) (w u : World) → Inv sha w → Inv sha u → Onward (sha []) w u → (n n' : NodeId) (s : Slot) (k : ℕ) (c c' : List ℕ) → Held (w.nodes n.0) s k c → Held (u.nodes n'.0) s k c' → sha c ≡ sha c'
+held_same : (sha : List ℕ → Digest) (w u : World) → Inv sha w → Inv sha u → Onward (sha []) w u → (n n' : NodeId) (s : Slot) (k : ℕ) (c c' : List ℕ) → HoldsContent (w.nodes n.0) s k c → HoldsContent (u.nodes n'.0) s k c' → sha c ≡ sha c'
 held_same sha w u inv inv' on n n' s k c c' h h' =
     let named : Names (sha []) (line (sha []) u.machine s) k h.0 = names_later (sha []) (line (sha []) w.machine s) (line (sha []) u.machine s) k h.0 (on.machine.lines s) ((inv.nodes n).known s k h.0 h.1) in
     let named' : Names (sha []) (line (sha []) u.machine s) k h'.0 = (inv'.nodes n').known s k h'.0 h'.1 in

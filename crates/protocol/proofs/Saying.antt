@@ -16,7 +16,7 @@ use Rattle.protocol.specs.declared.answer.CoordRefusal.TheVariants as refusal
 use Rattle.protocol.specs.declared.answer.CoordNote.{CoordNote}
 use Rattle.protocol.specs.declared.answer.CoordNote.TheVariants as note
 use Rattle.protocol.specs.declared.answer.EventNote.TheVariants as event
-use Rattle.protocol.specs.Ledger.{Limits, Ledger, Lease, Work, begin_work, says, notes, is_leased, grant_of, Decision, Give, Deny, Wait, elsewhere, decision, lease_for, gives, denies, carried_out, tried, stays, try_all, waiting, parks, retried, is_of, lease_of, is_parked, holds_wanted, recall, recalls, decided, acquiring, lease_under, ends, commits, place, versions_of, on_all, may_commit, confirms, committing, may_release, released, answering, is_older, is_older_ask, sees, is_home, newer_life, handled, withdraws, withdrawing, withdrawn, is_at, goes, retired, prunes, pruned, is_awaited, nudges, nudge_all, nudged}
+use Rattle.protocol.specs.Ledger.{Limits, Ledger, Lease, Work, begin_work, says, notes, is_leased, grant_of, Decision, Give, Deny, Wait, elsewhere, decision, lease_for, gives, denies, carried_out, tried, stays, try_all, waiting, parks, retried, is_of, lease_of, is_parked, holds_wanted, recall, recalls, decided, acquiring, lease_under, ends, commits, place_on_line, versions_of, on_all, may_commit, confirms, committing, may_release, released, answering, is_older, is_older_ask, sees, is_home, newer_life, handled, withdraws, withdrawing, withdrawn, is_at, goes, retired, prunes, pruned, is_awaited, nudges, nudge_all, nudged}
 use Rattle.protocol.specs.Ledger as ledger
 use Rattle.protocol.specs.Meaning.{commit_adds, request_adds, prune_adds, heard_lives, Again}
 use Rattle.protocol.proofs.Base.{put_same, put_other, in_filter, in_left, in_append, in_right, in_one, from_any, get_in, node_is, life_is, ask_is}
@@ -366,9 +366,9 @@ module _ (k : Limits) (y : ToCoord) (q : Ledger) where
   on_each : (line : Slot → List LineVersion) (t : Ticket) (news : List News) → on_all line t news ≡ true → (x : News) → In x news → (v : LineVersion) × In v (line x.slot) × (v.ticket ≡ t)
   on_each line t [] e x i = absurd i
   on_each line t (z ∷ zs) e x i =
-      let b = and_parts (is_some (place t (line z.slot) 0)) (on_all line t zs) e in
+      let b = and_parts (is_some (place_on_line t (line z.slot) 0)) (on_all line t zs) e in
       elim i [
-        | inl same ↦ subst (λ (u : News). (v : LineVersion) × In v (line u.slot) × (v.ticket ≡ t)) (sym same) (let r = some_test (place t (line z.slot) 0) b.0 in
+        | inl same ↦ subst (λ (u : News). (v : LineVersion) × In v (line u.slot) × (v.ticket ≡ t)) (sym same) (let r = some_test (place_on_line t (line z.slot) 0) b.0 in
             let s = place_stands t (line z.slot) 0 r.0 r.1 in
             (record { ticket = t; digest = r.0.1 }, get_in (line z.slot) s.0 (record { ticket = t; digest = r.0.1 }) s.2, refl))
         | inr j ↦ on_each line t zs b.1 x j

@@ -3,7 +3,7 @@ use Rattle.std.proofs.Common.{◌≡◌, ◌≢◌, ℕ, ◌+◌, ◌<◌, ◌�
 use Rattle.std.proofs.lemmas.Bool.{not-true, cases_order, cases_eq, cases_Bool}
 use Rattle.protocol.specs.Lists.{In, IsFrontOf, put}
 use Rattle.protocol.specs.Names.{Mode, Shared, Private, Locked, Slot, slot_eq, is_private, is_shared, is_alone, wants_shared, Digest, NodeId, Ticket, Want, leased_wants}
-use Rattle.protocol.specs.Machine.{GrantedSlot, Grant, LineVersion, Ending, Committed, Released, Withdrawn, Died, Made, Granted, Pruned, ticket_of, Message, Machine, Has, Live, Leased, Free, version_at, added, line, Names, Based, Answers, want_of, MayEnd, Parked, Step, Grants, Ends, Prunes, Sees, Retires, Parks, Unparks, Raises}
+use Rattle.protocol.specs.Machine.{GrantedSlot, Grant, LineVersion, Ending, Committed, Released, Withdrawn, Died, Made, Granted, Pruned, ticket_of, Message, Machine, Has, Live, Leased, Free, version_at, added, line, Names, Based, AnswersAsk, want_of, MayEnd, Parked, Step, Grants, Ends, Prunes, Sees, Retires, Parks, Unparks, Raises}
 use Rattle.protocol.proofs.Base.{cases_option, true_false, put_same, put_other, slot_eq_is, front_refl, front_trans, front_get, get_in, get_push_cases, in_map, from_filter}
 use Rattle.protocol.proofs.Lines.{Below, below_in, below_more, one_grant, granted_is, Gone, Apart, Extends, apart_later, apart_pair, Lawful, AllLawful, adds_cases, line-end, line_source, version_cases, added_cases_one, added_ticket}
 
@@ -58,7 +58,7 @@ leased_shared : (tenure : Bool) (wants : List Want) (w : Want) → In w (leased_
 leased_shared true wants w i h = refl
 leased_shared false wants w i h = (let r = from_filter (λ v. not (wants_shared v)) w wants i in true_false (wants_shared w) h (not-true (wants_shared w) r.1))
 
-pub answers_tenure : (g : Grant) (wants : List Want) (s : Slot) → Answers g wants → Has g s → is_shared s.folder.mode ≡ true → g.tenure ≡ true
+pub answers_tenure : (g : Grant) (wants : List Want) (s : Slot) → AnswersAsk g wants → Has g s → is_shared s.folder.mode ≡ true → g.tenure ≡ true
 answers_tenure g wants s answers has h =
     let i : In (want_of has.0) (leased_wants g.tenure wants) = subst (In (want_of has.0)) answers.slots (in_map want_of has.0 g.slots has.1) in
     leased_shared g.tenure wants (want_of has.0) i (subst (λ (z : Slot). is_shared z.folder.mode ≡ true) (sym has.2) h)

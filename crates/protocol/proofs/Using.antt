@@ -13,7 +13,7 @@ use Rattle.protocol.specs.declared.answer.NodeRefusal.{NodeRefusal}
 use Rattle.protocol.specs.declared.answer.NodeNote.TheVariants as node_note
 use Rattle.protocol.specs.Ledger.{Limits}
 use Rattle.protocol.specs.World.{KeptAsk, Open, Holding, Running, Finished, Over, Node, keeps, World}
-use Rattle.protocol.specs.Nodes.{NodeWork, NodeAnswer, guard, Place, is_tenure_of, at_home, in_use, Held, Sent, first, held, running, held_or_running, finished, recallable, is_stored, all_stored, is_base, asked, asked_tenure, beginning, begun, Left, news_of, leaving, finishing, finished_with, aborting, aborted, resent, gives_back, granted, learned, dropped, denied, recalled, of_life, heard, fetched, brought, unless_spent}
+use Rattle.protocol.specs.Nodes.{NodeWork, NodeAnswer, guard, Place, is_tenure_of, at_home, in_use, HeldGrant, Sent, first, held, running, held_or_running, finished, recallable, is_stored, all_stored, is_base, asked, asked_tenure, beginning, begun, Left, news_of, leaving, finishing, finished_with, aborting, aborted, resent, gives_back, granted, learned, dropped, denied, recalled, of_life, heard, fetched, brought, unless_spent}
 use Rattle.protocol.proofs.Base.{some_is, nth_set_cases, nth-set_same, nth-set_other, nth-append, nth_push_cases}
 use Rattle.protocol.proofs.Acts.{open_not_running, held_not_running}
 use Rattle.protocol.proofs.Steps.{same_grant}
@@ -124,11 +124,11 @@ module _ (x : Node) (one : OneEach x.asks) where
   abbrev pub Begun : Ticket → NodeWork → Type 0
   Begun t w = (w.note ≡ node_note.Begun t) × Turned x.asks w.node.asks (λ g. g.ticket ≡ t) NoGrant × ((g : Grant) × (ws : List Want) × (g.ticket ≡ t) × (Runs x.asks g ws → ⊥) × Runs w.node.asks g ws)
 
-  beginning_use : (t : Ticket) (o : Option (ℕ × Held)) → first (held t) x.asks 0 ≡ o → OnNode (Begun t) (beginning t x o)
+  beginning_use : (t : Ticket) (o : Option (ℕ × HeldGrant)) → first (held t) x.asks 0 ≡ o → OnNode (Begun t) (beginning t x o)
   beginning_use t None e = tt
   beginning_use t (Some r) e =
       let f = found (held t) x.asks r e in
-      let h : Held = r.1 in
+      let h : HeldGrant = r.1 in
       let is = held_is t f.0 h f.2 in
       let at : nth x.asks r.0 ≡ Some (Holding h.wants h.grant h.recalled) = f.1 ∙ ap Some is.0 in
       let new : KeptAsk = Running h.wants h.grant h.recalled in
@@ -157,7 +157,7 @@ module _ (x : Node) (one : OneEach x.asks) where
     | inr o ↦ o.0 (one i.0 a (Running ws g i.1) old g h o.1 at refl its (e ∙ sym ticket))
   ]
 
-  ended_turn : (a : ℕ) (new : KeptAsk) (h : Held) (t : Ticket) → nth x.asks a ≡ Some (Running h.wants h.grant h.recalled) → h.grant.ticket ≡ t → NotRunning new → Turned x.asks (set_nth x.asks a new) NoGrant (λ g. g.ticket ≡ t)
+  ended_turn : (a : ℕ) (new : KeptAsk) (h : HeldGrant) (t : Ticket) → nth x.asks a ≡ Some (Running h.wants h.grant h.recalled) → h.grant.ticket ≡ t → NotRunning new → Turned x.asks (set_nth x.asks a new) NoGrant (λ g. g.ticket ≡ t)
   ended_turn a new h t at ticket idle = turned_set x.asks a (Running h.wants h.grant h.recalled) new NoGrant (λ g. g.ticket ≡ t) at
       (λ g ws q e. absurd (idle ws g q e))
       (λ g ws q e. (let same : Running h.wants h.grant h.recalled ≡ Running ws g q = e in let one : h.grant ≡ g = cc in inr (ap (λ (z : Grant). z.ticket) (sym one) ∙ ticket)))
@@ -169,7 +169,7 @@ module _ (x : Node) (one : OneEach x.asks) where
   abbrev pub Stops : Ticket → NodeWork → Type 0
   Stops t w = (w.note ≡ node_note.Finished t) × EndsIn t w.node.asks
 
-  end_use : (a : ℕ) (new : KeptAsk) (h : Held) (t : Ticket) → nth x.asks a ≡ Some (Running h.wants h.grant h.recalled) → h.grant.ticket ≡ t → NotRunning new → EndsIn t (set_nth x.asks a new)
+  end_use : (a : ℕ) (new : KeptAsk) (h : HeldGrant) (t : Ticket) → nth x.asks a ≡ Some (Running h.wants h.grant h.recalled) → h.grant.ticket ≡ t → NotRunning new → EndsIn t (set_nth x.asks a new)
   end_use a new h t at ticket idle = (
     ended_turn a new h t at ticket idle,
     (
@@ -181,16 +181,16 @@ module _ (x : Node) (one : OneEach x.asks) where
     ),
   )
 
-  finishing_use : (sha : List ℕ → Digest) (at : Place) (t : Ticket) (lefts : List Left) (o : Option (ℕ × Held)) → first (running t) x.asks 0 ≡ o → OnNode (Stops t) (finishing sha at lefts x o)
+  finishing_use : (sha : List ℕ → Digest) (at : Place) (t : Ticket) (lefts : List Left) (o : Option (ℕ × HeldGrant)) → first (running t) x.asks 0 ≡ o → OnNode (Stops t) (finishing sha at lefts x o)
   finishing_use sha at t lefts None e = tt
   finishing_use sha at t lefts (Some r) e =
       let f = found (running t) x.asks r e in
-      let h : Held = r.1 in
+      let h : HeldGrant = r.1 in
       let is = running_is t f.0 h f.2 in
       let here : nth x.asks r.0 ≡ Some (Running h.wants h.grant h.recalled) = f.1 ∙ ap Some is.0 in
       on_guard (Stops t) (in_use x.asks r.0 h.wants h.grant) _ _ (λ idle. on_guard (Stops t) (not (slots_eq (slots_of (news_of sha lefts)) (written h.grant.slots))) _ _ (λ slots. by_lefts lefts r.0 h here is.1))
     where
-      by_lefts : (ls : List Left) (a : ℕ) (h : Held) → nth x.asks a ≡ Some (Running h.wants h.grant h.recalled) → h.grant.ticket ≡ t → Stops t (leaving sha at a h ls x)
+      by_lefts : (ls : List Left) (a : ℕ) (h : HeldGrant) → nth x.asks a ≡ Some (Running h.wants h.grant h.recalled) → h.grant.ticket ≡ t → Stops t (leaving sha at a h ls x)
       by_lefts [] a h here ticket = (ap node_note.Finished ticket, end_use a (Over how.Other) h t here ticket (λ ws g r e. (let bad : Over how.Other ≡ Running ws g r = e in cc)))
       by_lefts (l ∷ ls) a h here ticket = (ap node_note.Finished ticket, end_use a (Finished h.wants h.grant (news_of sha (l ∷ ls))) h t here ticket (λ ws g r e. (let bad : Finished h.wants h.grant (news_of sha (l ∷ ls)) ≡ Running ws g r = e in cc)))
 
@@ -201,11 +201,11 @@ module _ (x : Node) (one : OneEach x.asks) where
   abbrev pub Aborts : Ticket → NodeWork → Type 0
   Aborts t w = (w.note ≡ node_note.Aborted t) × Turned x.asks w.node.asks NoGrant (λ g. g.ticket ≡ t) × ((g : Grant) (ws : List Want) → g.ticket ≡ t → Runs w.node.asks g ws → ⊥)
 
-  aborting_use : (at : Place) (t : Ticket) (o : Option (ℕ × Held)) → first (held_or_running t) x.asks 0 ≡ o → OnNode (Aborts t) (aborting at x o)
+  aborting_use : (at : Place) (t : Ticket) (o : Option (ℕ × HeldGrant)) → first (held_or_running t) x.asks 0 ≡ o → OnNode (Aborts t) (aborting at x o)
   aborting_use at t None e = tt
   aborting_use at t (Some r) e =
       let f = found (held_or_running t) x.asks r e in
-      let h : Held = r.1 in
+      let h : HeldGrant = r.1 in
       let is = either_is t f.0 h f.2 in
       let over : NotRunning (Over how.Other) = λ ws g q z. (let bad : Over how.Other ≡ Running ws g q = z in cc) in
       on_guard (Aborts t) (in_use x.asks r.0 h.wants h.grant) _ _ (λ idle. elim is.0 [

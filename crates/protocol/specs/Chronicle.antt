@@ -12,7 +12,7 @@ use Rattle.protocol.specs.declared.answer.EventNote.TheVariants as note
 use Rattle.protocol.specs.declared.answer.Outcome.{Outcome}
 use Rattle.protocol.specs.Ledger.{Limits, Lease, is_saved, saves, Work, begin_work, grant_of, lease_for, handled}
 use Rattle.protocol.specs.World.{World, Moves, start}
-use Rattle.protocol.specs.Safe.{Held, Rising, Safe, SafeSince}
+use Rattle.protocol.specs.Safe.{HoldsContent, Rising, Safe, SafeSince}
 use Rattle.protocol.specs.Replay.{Event, Deliver, Begin, Withdraw, Retire, RestartCoordinator, Farm, step, run, opening}
 use Rattle.protocol.specs.Meaning.{adds, StopsAt, Means}
 use Rattle.protocol.specs.Reasons.{Fair}
@@ -83,7 +83,7 @@ pub record Headline (sha : List ℕ → Digest) (k : Limits) (s : Farm) : Type 0
   -- by exactly what the answer names
   pub answered : s.down ≡ false → (e : Event) (o : Outcome) → (step sha k s e).outcome ≡ Ok o → (x : Slot) → (step sha k s e).farm.ledger.line x ≡ s.ledger.line x ++ adds k.empty s.pool e o.note x
   -- two nodes hold one content for a version, then or later, or the two contents are a collision
-  pub contents : (late : List Event) (n n' : NodeId) (x : Slot) (number : ℕ) (c c' : List ℕ) → Held (s.nodes n.0) x number c → Held ((run sha k late s).nodes n'.0) x number c'
+  pub contents : (late : List Event) (n n' : NodeId) (x : Slot) (number : ℕ) (c c' : List ℕ) → HoldsContent (s.nodes n.0) x number c → HoldsContent ((run sha k late s).nodes n'.0) x number c'
       → (c ≡ c') ⊎ ((c ≢ c') × (sha c ≡ sha c'))
   -- of each lease that the record doesn't have, where the coordinator restarts
   pub restarted : s.down ≡ false → (g : Lease) → In g s.ledger.live → is_saved g ≡ false → StaysOut sha k (step sha k s RestartCoordinator).farm g.ticket

@@ -268,9 +268,9 @@ commits t news w = record w {
 }
 
 -- the number and digest of a ticket's version on a line, after k others
-abbrev pub place : Ticket → List LineVersion → ℕ → Option (ℕ × Digest)
-place t [] k = None
-place t (v ∷ vs) k = if v.ticket.0 == t.0 then Some (k + 1, v.digest) else place t vs (k + 1)
+abbrev pub place_on_line : Ticket → List LineVersion → ℕ → Option (ℕ × Digest)
+place_on_line t [] k = None
+place_on_line t (v ∷ vs) k = if v.ticket.0 == t.0 then Some (k + 1, v.digest) else place_on_line t vs (k + 1)
 
 abbrev pub confirmed : Slot → Option (ℕ × Digest) → List Confirmed
 confirmed s None = []
@@ -279,12 +279,12 @@ confirmed s (Some x) = record { slot = s; number = x.0; digest = x.1 } ∷ []
 -- the versions that the ticket has on the lines of these slots
 abbrev pub versions_of : (Slot → List LineVersion) → Ticket → List News → List Confirmed
 versions_of line t [] = []
-versions_of line t (x ∷ xs) = confirmed x.slot (place t (line x.slot) 0) ++ versions_of line t xs
+versions_of line t (x ∷ xs) = confirmed x.slot (place_on_line t (line x.slot) 0) ++ versions_of line t xs
 
 -- the ticket is on the line of each of these slots
 abbrev pub on_all : (Slot → List LineVersion) → Ticket → List News → Bool
 on_all line t [] = true
-on_all line t (x ∷ xs) = is_some (place t (line x.slot) 0) && on_all line t xs
+on_all line t (x ∷ xs) = is_some (place_on_line t (line x.slot) 0) && on_all line t xs
 
 abbrev pub is_its : NodeId → Life → Lease → Bool
 is_its n l g = (g.node.0 == n.0) && (g.life.0 == l.0)

@@ -150,7 +150,7 @@ abbrev pub Based : Digest → Machine → GrantedSlot → Type 0
 Based empty m u = (u.base ≡ length (line empty m u.slot)) × Names empty (line empty m u.slot) u.base u.digest
 
 -- the grant answers an ask with these wants
-pub record Answers (g : Grant) (wants : List Want) : Type 0 where
+pub record AnswersAsk (g : Grant) (wants : List Want) : Type 0 where
   pub shared : g.shared ≡ any_shared wants
   -- its slots are those of the wants, in their order
   pub slots : map want_of g.slots ≡ leased_wants g.tenure wants
@@ -189,7 +189,7 @@ pub data IsPartOf {A : Type 0} : List A → List A → Type 0 where
 pub data Step (empty : Digest) (pool : List Message) (m : Machine) : Machine → Type 0 where
   Grants : (g : Grant) (wants : List Want)
       → In (acquire g.node g.life g.ask wants g.tenure) pool
-      → Answers g wants
+      → AnswersAsk g wants
       → (m.gone g.node.0 ≡ false)
       → ((h : Grant) → Live m h → SameAsk g h → ⊥)
       -- a tenure waits until the old home is cleared, or is the old home's

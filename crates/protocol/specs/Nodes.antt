@@ -77,7 +77,7 @@ abbrev pub in_use : List KeptAsk → ℕ → List Want → Grant → Bool
 in_use asks a wants g = g.tenure && others_use a wants asks 0
 
 -- a granted ask, and whether it was recalled
-pub record Held : Type 0 where
+pub record HeldGrant : Type 0 where
   pub wants : List Want
   pub grant : Grant
   pub recalled : Bool
@@ -100,21 +100,21 @@ first test (s ∷ ss) k = first_of (k + 1) (test s) (first test ss (k + 1))
 abbrev pub under : {A : Type 0} → Grant → Ticket → A → Option A
 under g t x = if g.ticket.0 == t.0 then Some x else None
 
-abbrev pub held : Ticket → KeptAsk → Option Held
+abbrev pub held : Ticket → KeptAsk → Option HeldGrant
 held t (Open wants tenure) = None
 held t (Holding wants g r) = under g t (record { wants = wants; grant = g; recalled = r })
 held t (Running wants g r) = None
 held t (Finished wants g news) = None
 held t (Over how) = None
 
-abbrev pub running : Ticket → KeptAsk → Option Held
+abbrev pub running : Ticket → KeptAsk → Option HeldGrant
 running t (Open wants tenure) = None
 running t (Holding wants g r) = None
 running t (Running wants g r) = under g t (record { wants = wants; grant = g; recalled = r })
 running t (Finished wants g news) = None
 running t (Over how) = None
 
-abbrev pub held_or_running : Ticket → KeptAsk → Option Held
+abbrev pub held_or_running : Ticket → KeptAsk → Option HeldGrant
 held_or_running t (Open wants tenure) = None
 held_or_running t (Holding wants g r) = under g t (record { wants = wants; grant = g; recalled = r })
 held_or_running t (Running wants g r) = under g t (record { wants = wants; grant = g; recalled = r })
@@ -198,7 +198,7 @@ asked k at wants x = guard x.spent refusal.LivesSpent (guard (not (at_home x.ask
 abbrev pub asked_tenure : Limits → Place → FolderName → Node → NodeAnswer
 asked_tenure k at f x = guard x.spent refusal.LivesSpent (guard (list_any (is_tenure_of (record f { mode = Shared })) x.asks) refusal.TenureHere (guard (not (nat_lt (length x.asks) k.greatest)) refusal.AsksSpent (Ok (opens at (tenure_wants f) true x))))
 
-abbrev pub beginning : Ticket → Node → Option (ℕ × Held) → NodeAnswer
+abbrev pub beginning : Ticket → Node → Option (ℕ × HeldGrant) → NodeAnswer
 beginning t x None = Err refusal.NoSuchTicket
 beginning t x (Some (a, h)) = guard (not (all_stored x h.grant.slots)) refusal.ContentsMissing (Ok (record { node = becomes a (Running h.wants h.grant h.recalled) x; sends = []; note = note.Begun t }))
 
@@ -216,18 +216,18 @@ stored sha (x ∷ xs) store = if is_some (store (sha x.content)) then stored sha
 abbrev pub gives_up : Place → ℕ → Ticket → NodeNote → Node → NodeWork
 gives_up at a t n x = record { node = becomes a (Over how.Other) x; sends = release at.node x.life t ∷ []; note = n }
 
-abbrev pub leaves : (List ℕ → Digest) → Place → ℕ → Held → List Left → Node → NodeWork
+abbrev pub leaves : (List ℕ → Digest) → Place → ℕ → HeldGrant → List Left → Node → NodeWork
 leaves sha at a h lefts x = record {
   node = record (becomes a (Finished h.wants h.grant (news_of sha lefts)) x) { store = stored sha lefts x.store };
   sends = commit at.node x.life h.grant.ticket (news_of sha lefts) ∷ [];
   note = note.Finished h.grant.ticket;
 }
 
-abbrev pub leaving : (List ℕ → Digest) → Place → ℕ → Held → List Left → Node → NodeWork
+abbrev pub leaving : (List ℕ → Digest) → Place → ℕ → HeldGrant → List Left → Node → NodeWork
 leaving sha at a h [] x = gives_up at a h.grant.ticket (note.Finished h.grant.ticket) x
 leaving sha at a h (l ∷ ls) x = leaves sha at a h (l ∷ ls) x
 
-abbrev pub finishing : (List ℕ → Digest) → Place → List Left → Node → Option (ℕ × Held) → NodeAnswer
+abbrev pub finishing : (List ℕ → Digest) → Place → List Left → Node → Option (ℕ × HeldGrant) → NodeAnswer
 finishing sha at lefts x None = Err refusal.NotRunning
 finishing sha at lefts x (Some (a, h)) =
     guard (in_use x.asks a h.wants h.grant) refusal.TenureInUse (guard (not (slots_eq (slots_of (news_of sha lefts)) (written h.grant.slots))) refusal.WrongNews (Ok (leaving sha at a h lefts x)))
@@ -235,7 +235,7 @@ finishing sha at lefts x (Some (a, h)) =
 abbrev pub finished_with : (List ℕ → Digest) → Place → Ticket → List Left → Node → NodeAnswer
 finished_with sha at t lefts x = guard x.spent refusal.LivesSpent (finishing sha at lefts x (first (running t) x.asks 0))
 
-abbrev pub aborting : Place → Node → Option (ℕ × Held) → NodeAnswer
+abbrev pub aborting : Place → Node → Option (ℕ × HeldGrant) → NodeAnswer
 aborting at x None = Err refusal.NoSuchTicket
 aborting at x (Some (a, h)) = guard (in_use x.asks a h.wants h.grant) refusal.TenureInUse (Ok (gives_up at a h.grant.ticket (note.Aborted h.grant.ticket) x))
 

@@ -11,8 +11,8 @@ abbrev pub InUse : World → NodeId → Grant → List Want → Type 0
 InUse w n g wants = (a : ℕ) × (recalled : Bool) × (nth (w.nodes n.0).asks a ≡ Some (Running wants g recalled))
 
 -- the node holds the content for version k of the slot
-abbrev pub Held : Node → Slot → ℕ → List ℕ → Type 0
-Held x s k c = (d : Digest) × (x.known s k ≡ Some d) × (x.store d ≡ Some c)
+abbrev pub HoldsContent : Node → Slot → ℕ → List ℕ → Type 0
+HoldsContent x s k c = (d : Digest) × (x.known s k ≡ Some d) × (x.store d ≡ Some c)
 
 abbrev pub IsWithdrawn : Machine → Ticket → Type 0
 IsWithdrawn m t = (m.ending t.0 ≡ Some Withdrawn) ⊎ (m.ending t.0 ≡ Some Died)
@@ -60,7 +60,7 @@ pub record SafeSince (sha : List ℕ → Digest) (w u : World) : Type 0 where
   -- a line only grows
   pub lines : (s : Slot) → IsFrontOf (line (sha []) w.machine s) (line (sha []) u.machine s)
   -- two nodes, one of them earlier, hold one content for a version, or the two contents are a collision
-  pub contents : (n n' : NodeId) (s : Slot) (k : ℕ) (c c' : List ℕ) → Held (w.nodes n.0) s k c → Held (u.nodes n'.0) s k c'
+  pub contents : (n n' : NodeId) (s : Slot) (k : ℕ) (c c' : List ℕ) → HoldsContent (w.nodes n.0) s k c → HoldsContent (u.nodes n'.0) s k c'
       → (c ≡ c') ⊎ ((c ≢ c') × (sha c ≡ sha c'))
 
 abbrev pub EveryRunIsSafe : Type 0

@@ -16,36 +16,36 @@ use Rattle.protowire.proofs.VarintLaws.{varint_at_took, varint_at_again}
 -- ---- what a field holds
 
 -- what reading took
-pub record Held (type : ℕ) (text : List ℕ) (p : Payload) (rest : List ℕ) : Type 0 where
+pub record TakenField (type : ℕ) (text : List ℕ) (p : Payload) (rest : List ℕ) : Type 0 where
   pub front : List ℕ
   pub parts : text ≡ front ++ rest
   pub is_payload : IsPayload p front
   pub is_type : type ≡ wire_type p
 
-held_varint : (text : List ℕ) (p : Payload) (rest : List ℕ) → number_payload text ≡ Ok (p, rest) → Held 0 text p rest
+held_varint : (text : List ℕ) (p : Payload) (rest : List ℕ) → number_payload text ≡ Ok (p, rest) → TakenField 0 text p rest
 held_varint text p rest e =
     let s = bind_ok (varint_at text) (λ n. Ok (varint n.0, n.1)) (p, rest) e in
     let t = varint_at_took text s.0.0 s.0.1 s.1 in
     let q = pair_parts (varint s.0.0) p s.0.1 rest (ok_is {E = WireRefusal} (varint s.0.0, s.0.1) (p, rest) s.2) in
-    subst (λ (x : Payload × List ℕ). Held 0 text x.0 x.1) (ok_is {E = WireRefusal} (varint s.0.0, s.0.1) (p, rest) s.2)
+    subst (λ (x : Payload × List ℕ). TakenField 0 text x.0 x.1) (ok_is {E = WireRefusal} (varint s.0.0, s.0.1) (p, rest) s.2)
     (record { front = t.0; parts = t.2; is_payload = t.1; is_type = refl })
 
 held_fixed : (type len : ℕ) (held : Payload) (text : List ℕ) (p : Payload) (rest : List ℕ) → type ≡ wire_type held → ((front : List ℕ) → length front ≡ len → IsPayload held front)
-    → fixed_payload len held text ≡ Ok (p, rest) → Held type text p rest
+    → fixed_payload len held text ≡ Ok (p, rest) → TakenField type text p rest
 held_fixed type len held text p rest is fixed e =
     let s = bind_ok (front_at len text) (λ body. Ok (held, body.1)) (p, rest) e in
     let t = front_took Truncated len text s.0.0 s.0.1 s.1 in
-    subst (λ (x : Payload × List ℕ). Held type text x.0 x.1) (ok_is {E = WireRefusal} (held, s.0.1) (p, rest) s.2)
+    subst (λ (x : Payload × List ℕ). TakenField type text x.0 x.1) (ok_is {E = WireRefusal} (held, s.0.1) (p, rest) s.2)
     (record { front = s.0.0; parts = t.0; is_payload = fixed s.0.0 t.1; is_type = is })
 
-held_bytes : (text : List ℕ) (p : Payload) (rest : List ℕ) → bytes_payload text ≡ Ok (p, rest) → Held 2 text p rest
+held_bytes : (text : List ℕ) (p : Payload) (rest : List ℕ) → bytes_payload text ≡ Ok (p, rest) → TakenField 2 text p rest
 held_bytes text p rest e =
     let s = bind_ok (varint_at text) (λ len. front_at len.0 len.1 >>= λ body. Ok (bytes body.0, body.1)) (p, rest) e in
     let u = bind_ok (front_at s.0.0 s.0.1) (λ body. Ok (bytes body.0, body.1)) (p, rest) s.2 in
     let t = varint_at_took text s.0.0 s.0.1 s.1 in
     let b = front_took Truncated s.0.0 s.0.1 u.0.0 u.0.1 u.1 in
     let size : IsVarint t.0 (length u.0.0) = subst (λ (n : ℕ). IsVarint t.0 n) (sym b.1) t.1 in
-    subst (λ (x : Payload × List ℕ). Held 2 text x.0 x.1) (ok_is {E = WireRefusal} (bytes u.0.0, u.0.1) (p, rest) u.2)
+    subst (λ (x : Payload × List ℕ). TakenField 2 text x.0 x.1) (ok_is {E = WireRefusal} (bytes u.0.0, u.0.1) (p, rest) u.2)
     (record {
       front = t.0 ++ u.0.0;
       parts = parts_then text t.0 s.0.1 u.0.0 u.0.1 t.2 b.0;
@@ -53,10 +53,10 @@ held_bytes text p rest e =
       is_type = refl;
     })
 
-of_type : (k type : ℕ) (text : List ℕ) (p : Payload) (rest : List ℕ) → eqb type k ≡ true → Held k text p rest → Held type text p rest
-of_type k type text p rest e h = subst (λ (n : ℕ). Held n text p rest) (sym (eqb-true type k e)) h
+of_type : (k type : ℕ) (text : List ℕ) (p : Payload) (rest : List ℕ) → eqb type k ≡ true → TakenField k text p rest → TakenField type text p rest
+of_type k type text p rest e h = subst (λ (n : ℕ). TakenField n text p rest) (sym (eqb-true type k e)) h
 
-pub payload_took : (type : ℕ) (text : List ℕ) (p : Payload) (rest : List ℕ) → payload_at type text ≡ Ok (p, rest) → Held type text p rest
+pub payload_took : (type : ℕ) (text : List ℕ) (p : Payload) (rest : List ℕ) → payload_at type text ≡ Ok (p, rest) → TakenField type text p rest
 unfolding payload_at
 payload_took type text p rest e =
     let last : Result (Payload × List ℕ) WireRefusal = Err BadWireType in

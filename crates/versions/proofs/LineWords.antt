@@ -6,7 +6,7 @@ use Rattle.std.specs.List.{position_from}
 use Rattle.farm_base.specs.declared.digest.Digest.{Digest}
 use Rattle.protocol.specs.Names.{Slot, Ticket}
 use Rattle.protocol.specs.Machine.{LineVersion, digest_for}
-use Rattle.protocol.specs.Ledger.{last_digest, place}
+use Rattle.protocol.specs.Ledger.{last_digest, place_on_line}
 use Rattle.protocol.proofs.Base.{eqb_same}
 use Rattle.versions.specs.Line.{number_in, digest_in}
 use Rattle.versions.specs.declared.lines.Added.{Added}
@@ -25,7 +25,7 @@ last_digest-push e (x ∷ []) v = refl
 last_digest-push e (x ∷ y ∷ xs) v = last_digest-push e (y ∷ xs) v
 
 -- a ticket that is not on the line has no place
-pub place-none : (t : Ticket) (xs : List LineVersion) (k : ℕ) → position_from (λ v. eqb v.ticket.0 t.0) (k + 1) xs ≡ None → place t xs k ≡ None
+pub place-none : (t : Ticket) (xs : List LineVersion) (k : ℕ) → position_from (λ v. eqb v.ticket.0 t.0) (k + 1) xs ≡ None → place_on_line t xs k ≡ None
 place-none t [] k h = refl
 place-none t (v ∷ xs) k h = elim (cases_Bool (eqb v.ticket.0 t.0)) [
   | inl e ↦ (let bad : Some (k + 1) ≡ None = rw e at h in absurd (cc bad))
@@ -33,7 +33,7 @@ place-none t (v ∷ xs) k h = elim (cases_Bool (eqb v.ticket.0 t.0)) [
 ]
 
 place_some : (t : Ticket) (xs : List LineVersion) (k n : ℕ) → position_from (λ v. eqb v.ticket.0 t.0) (k + 1) xs ≡ Some n
-    → (j : ℕ) × (v : LineVersion) × (n ≡ k + 1 + j) × (slice_get xs j ≡ Some v) × (place t xs k ≡ Some (n, v.digest))
+    → (j : ℕ) × (v : LineVersion) × (n ≡ k + 1 + j) × (slice_get xs j ≡ Some v) × (place_on_line t xs k ≡ Some (n, v.digest))
 place_some t [] k n h = absurd (cc h)
 place_some t (v ∷ xs) k n h = elim (cases_Bool (eqb v.ticket.0 t.0)) [
   | inl e ↦ (let at : Some (k + 1) ≡ Some n = rw e at h in let same : k + 1 ≡ n = cc at in (0, v, omega arith, refl, rw e (ap (λ (m : ℕ). Some (m, v.digest)) same)))
@@ -41,7 +41,7 @@ place_some t (v ∷ xs) k n h = elim (cases_Bool (eqb v.ticket.0 t.0)) [
 ]
 
 -- the place of a ticket is its number with its digest
-pub place-number : (t : Ticket) (xs : List LineVersion) (n : ℕ) (d : Digest) → number_in xs t ≡ Some n → digest_in xs n ≡ Some d → place t xs 0 ≡ Some (n, d)
+pub place-number : (t : Ticket) (xs : List LineVersion) (n : ℕ) (d : Digest) → number_in xs t ≡ Some n → digest_in xs n ≡ Some d → place_on_line t xs 0 ≡ Some (n, d)
 place-number t xs n d h e =
     let r = place_some t xs 0 n h in
     let at : n ≡ suc r.0 = (let at : n ≡ 0 + 1 + r.0 = r.2 in omega arith) in
@@ -54,21 +54,21 @@ place-number t xs n d h e =
     by None = None
     by (Some v) = Some v.digest
 
-place-append : (t : Ticket) (xs ys : List LineVersion) (k : ℕ) (r : ℕ × Digest) → place t xs k ≡ Some r → place t (xs ++ ys) k ≡ Some r
+place-append : (t : Ticket) (xs ys : List LineVersion) (k : ℕ) (r : ℕ × Digest) → place_on_line t xs k ≡ Some r → place_on_line t (xs ++ ys) k ≡ Some r
 place-append t [] ys k r h = absurd (cc h)
 place-append t (v ∷ xs) ys k r h = elim (cases_Bool (eqb v.ticket.0 t.0)) [
   | inl e ↦ rw e (rw e at h)
   | inr e ↦ rw e (place-append t xs ys (k + 1) r (rw e at h))
 ]
 
-place-end : (t : Ticket) (xs : List LineVersion) (v : LineVersion) (k : ℕ) → place t xs k ≡ None → v.ticket.0 ≡ t.0 → place t (xs ++ v ∷ []) k ≡ Some (k + length xs + 1, v.digest)
+place-end : (t : Ticket) (xs : List LineVersion) (v : LineVersion) (k : ℕ) → place_on_line t xs k ≡ None → v.ticket.0 ≡ t.0 → place_on_line t (xs ++ v ∷ []) k ≡ Some (k + length xs + 1, v.digest)
 place-end t [] v k h e = (let same : eqb v.ticket.0 t.0 ≡ true = subst (λ (z : ℕ). eqb v.ticket.0 z ≡ true) e (eqb_same v.ticket.0) in rw same (ap (λ (n : ℕ). Some (n, v.digest)) (omega arith)))
 place-end t (x ∷ xs) v k h e = elim (cases_Bool (eqb x.ticket.0 t.0)) [
   | inl f ↦ (let bad : Some (k + 1, x.digest) ≡ None = rw f at h in absurd (cc bad))
   | inr f ↦ rw f (place-end t xs v (k + 1) (rw f at h) e ∙ ap (λ (n : ℕ). Some (n, v.digest)) (omega arith))
 ]
 
-place-other : (t : Ticket) (xs : List LineVersion) (v : LineVersion) (k : ℕ) → place t xs k ≡ None → v.ticket.0 ≢ t.0 → place t (xs ++ v ∷ []) k ≡ None
+place-other : (t : Ticket) (xs : List LineVersion) (v : LineVersion) (k : ℕ) → place_on_line t xs k ≡ None → v.ticket.0 ≢ t.0 → place_on_line t (xs ++ v ∷ []) k ≡ None
 place-other t [] v k h e = (let other : eqb v.ticket.0 t.0 ≡ false = ne_eqb v.ticket.0 t.0 e in rw other refl)
 place-other t (x ∷ xs) v k h e = elim (cases_Bool (eqb x.ticket.0 t.0)) [
   | inl f ↦ (let bad : Some (k + 1, x.digest) ≡ None = rw f at h in absurd (cc bad))
@@ -76,21 +76,21 @@ place-other t (x ∷ xs) v k h e = elim (cases_Bool (eqb x.ticket.0 t.0)) [
 ]
 
 -- a commit leaves the place of a ticket that is on the line as it was
-pub place-with : (lines : List SlotLine) (o : Option Added) (s : Slot) (t : Ticket) (r : ℕ × Digest) → place t (line_at lines s) 0 ≡ Some r → place t (lines_with lines o s) 0 ≡ Some r
+pub place-with : (lines : List SlotLine) (o : Option Added) (s : Slot) (t : Ticket) (r : ℕ × Digest) → place_on_line t (line_at lines s) 0 ≡ Some r → place_on_line t (lines_with lines o s) 0 ≡ Some r
 place-with lines None s t r h = h
 place-with lines (Some a) s t r h = place-append t (line_at lines s) _ 0 r h
 
 -- the version that the commit adds
-pub place-added : (lines : List SlotLine) (a : Added) (s : Slot) (t : Ticket) (d : Digest) → place t (line_at lines s) 0 ≡ None → a.ticket.0 ≡ t.0 → digest_for s (map news_of a.additions.items) ≡ Some d
-    → place t (lines_with lines (Some a) s) 0 ≡ Some (length (line_at lines s) + 1, d)
+pub place-added : (lines : List SlotLine) (a : Added) (s : Slot) (t : Ticket) (d : Digest) → place_on_line t (line_at lines s) 0 ≡ None → a.ticket.0 ≡ t.0 → digest_for s (map news_of a.additions.items) ≡ Some d
+    → place_on_line t (lines_with lines (Some a) s) 0 ≡ Some (length (line_at lines s) + 1, d)
 place-added lines a s t d none e h = rw h (place-end t (line_at lines s) (record { ticket = a.ticket; digest = d }) 0 none e ∙ ap (λ (n : ℕ). Some (n, d)) (omega arith))
 
 -- a ticket other than the commit's
-pub place-apart : (lines : List SlotLine) (a : Added) (s : Slot) (t : Ticket) → place t (line_at lines s) 0 ≡ None → a.ticket.0 ≢ t.0 → place t (lines_with lines (Some a) s) 0 ≡ None
+pub place-apart : (lines : List SlotLine) (a : Added) (s : Slot) (t : Ticket) → place_on_line t (line_at lines s) 0 ≡ None → a.ticket.0 ≢ t.0 → place_on_line t (lines_with lines (Some a) s) 0 ≡ None
 place-apart lines a s t none e = by (digest_for s (map news_of a.additions.items)) refl
   where
-    by : (o : Option Digest) → digest_for s (map news_of a.additions.items) ≡ o → place t (lines_with lines (Some a) s) 0 ≡ None
-    by None h = rw h (ap (λ (xs : List LineVersion). place t xs 0) (append-nil (line_at lines s)) ∙ none)
+    by : (o : Option Digest) → digest_for s (map news_of a.additions.items) ≡ o → place_on_line t (lines_with lines (Some a) s) 0 ≡ None
+    by None h = rw h (ap (λ (xs : List LineVersion). place_on_line t xs 0) (append-nil (line_at lines s)) ∙ none)
     by (Some d) h = rw h (place-other t (line_at lines s) (record { ticket = a.ticket; digest = d }) 0 none e)
 
 -- after a commit, the last digest is the one that it adds

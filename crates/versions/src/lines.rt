@@ -8,7 +8,7 @@ ghost use Rattle.farm_base.specs.Contents.{empty_digest};
 ghost use Rattle.protocol.specs.Lists.{is_nil};
 ghost use Rattle.protocol.specs.Names.{slot_eq};
 ghost use Rattle.protocol.specs.Machine.{digest_for};
-ghost use Rattle.protocol.specs.Ledger.{last_digest, place, versions_of, on_all, granted_slot};
+ghost use Rattle.protocol.specs.Ledger.{last_digest, place_on_line, versions_of, on_all, granted_slot};
 ghost use Rattle.versions.specs.Lines.{line_at};
 ghost use Rattle.versions.specs.Additions.{HasRoom, IsAbove, AreReady, IsReady, adds, IsInserted};
 ghost use Rattle.versions.specs.Line.{is_above_all};
@@ -309,13 +309,13 @@ pub fn granted_slots(
 
 /// The number and digest of a ticket's version on a slot's line.
 fn stands_at(lines: &Lines, ticket: Ticket, slot: &Slot) -> Option<(u64, Digest)>
-    ensures { result ≡ place ticket (line_at lines.now slot.now) 0 }
+    ensures { result ≡ place_on_line ticket (line_at lines.now slot.now) 0 }
 {
     on_line(lines.find(slot)?, ticket)
 }
 
 fn on_line(line: &Line, ticket: Ticket) -> Option<(u64, Digest)>
-    ensures { result ≡ place ticket line.now 0 }
+    ensures { result ≡ place_on_line ticket line.now 0 }
 {
     let number = line.number_of(ticket)?;
     let digest = line.digest_at(number)?;
@@ -329,7 +329,7 @@ fn place_with(
     ticket: Ticket,
     slot: &Slot,
 ) -> Option<(u64, Digest)>
-    ensures { result ≡ place ticket (lines_with lines.now added.now slot.now) 0 }
+    ensures { result ≡ place_on_line ticket (lines_with lines.now added.now slot.now) 0 }
 {
     if let Some(found) = stands_at(lines, ticket, slot) {
         return Some(found);

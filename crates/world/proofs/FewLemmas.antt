@@ -5,7 +5,7 @@ use Rattle.protocol.specs.Machine.{slots_of, written}
 use Rattle.protocol.specs.Names.{Ticket, Want, Shared, slots_eq, tenure_wants}
 use Rattle.protocol.specs.World.{Node, keep}
 use Rattle.protocol.specs.declared.ask.KeptAsk.TheVariants.{Running}
-use Rattle.protocol.specs.Nodes.{Place, Left, Held, NodeWork, NodeAnswer, guard, first, held, running, held_or_running, at_home, is_tenure_of, opens, beginning, becomes, all_stored, in_use, news_of, finishing, leaving, gives_up, aborting, is_stored, is_base, brought, nothing, unless_spent}
+use Rattle.protocol.specs.Nodes.{Place, Left, HeldGrant, NodeWork, NodeAnswer, guard, first, held, running, held_or_running, at_home, is_tenure_of, opens, beginning, becomes, all_stored, in_use, news_of, finishing, leaving, gives_up, aborting, is_stored, is_base, brought, nothing, unless_spent}
 use Rattle.protocol.specs.declared.answer.NodeRefusal.{NodeRefusal}
 use Rattle.protocol.specs.declared.answer.NodeRefusal.TheVariants as refusal
 use Rattle.protocol.specs.declared.answer.NodeNote.TheVariants as note
@@ -28,24 +28,24 @@ ok_is v w h = cc
 one : (v w : NodeWork) → length v.sends ≤ 1 → ◌≡◌ {A = NodeAnswer} (Ok v) (Ok w) → length w.sends ≤ 1
 one v w few h = subst (λ (u : NodeWork). length u.sends ≤ 1) (ok_is v w h) few
 
-begins_few : (t : Ticket) (x : Node) (o : Option (ℕ × Held)) (w : NodeWork) → beginning t x o ≡ Ok w → length w.sends ≤ 1
+begins_few : (t : Ticket) (x : Node) (o : Option (ℕ × HeldGrant)) (w : NodeWork) → beginning t x o ≡ Ok w → length w.sends ≤ 1
 begins_few t x None w h = absurd (cc)
 begins_few t x (Some (a, k)) w h =
     let v : NodeWork = record { node = becomes a (Running k.wants k.grant k.recalled) x; sends = []; note = note.Begun t } in
     one v w (omega arith) (guarded (not (all_stored x k.grant.slots)) refusal.ContentsMissing (Ok v) w h)
 
-leaves_few : (p : Place) (a : ℕ) (k : Held) (lefts : List Left) (x : Node) → length (leaving content_digest p a k lefts x).sends ≤ 1
+leaves_few : (p : Place) (a : ℕ) (k : HeldGrant) (lefts : List Left) (x : Node) → length (leaving content_digest p a k lefts x).sends ≤ 1
 leaves_few p a k [] x = omega arith
 leaves_few p a k (l ∷ ls) x = omega arith
 
-finishes_few : (p : Place) (lefts : List Left) (x : Node) (o : Option (ℕ × Held)) (w : NodeWork) → finishing content_digest p lefts x o ≡ Ok w → length w.sends ≤ 1
+finishes_few : (p : Place) (lefts : List Left) (x : Node) (o : Option (ℕ × HeldGrant)) (w : NodeWork) → finishing content_digest p lefts x o ≡ Ok w → length w.sends ≤ 1
 finishes_few p lefts x None w h = absurd (cc)
 finishes_few p lefts x (Some (a, k)) w h =
     let v : NodeWork = leaving content_digest p a k lefts x in
     let last : NodeAnswer = guard (not (slots_eq (slots_of (news_of content_digest lefts)) (written k.grant.slots))) refusal.WrongNews (Ok v) in
     one v w (leaves_few p a k lefts x) (guarded (not (slots_eq (slots_of (news_of content_digest lefts)) (written k.grant.slots))) refusal.WrongNews (Ok v) w (guarded (in_use x.asks a k.wants k.grant) refusal.TenureInUse last w h))
 
-aborts_few : (p : Place) (x : Node) (o : Option (ℕ × Held)) (w : NodeWork) → aborting p x o ≡ Ok w → length w.sends ≤ 1
+aborts_few : (p : Place) (x : Node) (o : Option (ℕ × HeldGrant)) (w : NodeWork) → aborting p x o ≡ Ok w → length w.sends ≤ 1
 aborts_few p x None w h = absurd (cc)
 aborts_few p x (Some (a, k)) w h =
     let v : NodeWork = gives_up p a k.grant.ticket (note.Aborted k.grant.ticket) x in

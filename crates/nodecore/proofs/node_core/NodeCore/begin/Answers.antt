@@ -1,7 +1,7 @@
 use Rattle.std.proofs.Common.{◌≡◌, List, ◌+◌, [], true, false, None, Some, refl, ap, sym, ◌∙◌, rules, arith}
 use Rattle.std.specs.List.{position}
 use Rattle.protocol.specs.declared.ask.KeptAsk.TheVariants.{Running}
-use Rattle.protocol.specs.Nodes.{Held, held, all_stored}
+use Rattle.protocol.specs.Nodes.{HeldGrant, held, all_stored}
 use Rattle.nodecore.specs.Asks.{slots_in, runs}
 use Rattle.nodecore.specs.Shown.{shown}
 use Rattle.nodecore.proofs.FirstLemmas.{FirstAt, picks, some_first, none_first}
@@ -47,7 +47,7 @@ returns-clause-bases c = λ number h found.
     let slots : c.slots.result.now ≡ f.what.grant.slots = c.slots.ensures ∙ ap slots_in read in
     let here : all_stored (shown c.args.self.now) f.what.grant.slots ≡ true = ap (all_stored (shown c.args.self.now)) (sym slots) ∙ sym c.has_all.ensures ∙ search rules in
     let same : f.what ≡ h = first_is (held c.args.ticket) c.args.self.now.asks.items (c.in-Some.place + 1) number f.what h (f.found (c.in-Some.place + 1) (omega arith)) found in
-    has_bases (shown c.args.self.now) _ refl h.grant.slots (ap (λ (g : Held). all_stored (shown c.args.self.now) g.grant.slots) (sym same) ∙ here)
+    has_bases (shown c.args.self.now) _ refl h.grant.slots (ap (λ (g : HeldGrant). all_stored (shown c.args.self.now) g.grant.slots) (sym same) ∙ here)
 
 pub invariant_of-self : goal.invariant_of-self
 invariant_of-self c =
