@@ -134,8 +134,11 @@ impl Farm {
         };
         let begun = self.core(node).begin(alloc, ticket)?;
         let _begun = self.send(begun)?;
-        let content = Content::of(Vec::from_slice(alloc, bytes)?);
-        let lefts = vec![in alloc; Left { slot: Slot::parse(alloc, FOLDER)?, content }]?;
+        let left = Left {
+            slot: Slot::parse(alloc, FOLDER)?,
+            content: Content::of(Vec::from_slice(alloc, bytes)?),
+        };
+        let lefts = vec![in alloc; left]?;
         let finished = self.core(node).finish(alloc, ticket, lefts)?;
         let _finished = self.send(finished)?;
         self.deliver_all(alloc)
