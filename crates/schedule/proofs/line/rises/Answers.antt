@@ -5,4 +5,4 @@ use Rattle.farm_base.specs.Slots.{slot_cmp}
 use Rattle.schedule.proofs.line.rises.Goals as goal
 
 pub returns : goal.returns
-returns c = c.is_sorted_by.ensures.cases (λ a b. is_lt (slot_cmp a.0 b.0)) (answers_always _ _ _ (λ f a r q k. search rules))
+returns c = c.is_sorted_by.ensures.cases (λ a b. is_lt (slot_cmp a.slot b.slot)) (answers_always _ _ _ (λ f a r q k. search rules))

@@ -4,11 +4,11 @@ use Rattle.nodecore.specs.Stored.{store_in, store_one}
 use Rattle.nodecore.proofs.MapLemmas.{stored-push}
 use Rattle.nodecore.proofs.stored.StoredContents.store_all.Goals as goal
 
-pub loop-content-preserved : goal.loop-content-preserved
-loop-content-preserved c =
+pub loop-left-preserved : goal.loop-left-preserved
+loop-left-preserved c =
     record {
       contents = c.store.ensures.store
-          ∙ ap (store_one c.in-Some.content) c.loop-content.invariant.contents
-          ∙ sym (stored-push content_digest c.loop-content.yielded (c.in-Some.field-0-0, c.in-Some.content) (store_in c.args.self.now.by_digest));
-      room = simp length-append (omega (arith, c.store.ensures.spare, c.loop-content.invariant.room));
+          ∙ ap (store_one c.in-Some.left.content) c.loop-left.invariant.contents
+          ∙ sym (stored-push content_digest c.loop-left.yielded c.in-Some.left (store_in c.args.self.now.by_digest));
+      room = simp length-append (omega (arith, c.store.ensures.spare, c.loop-left.invariant.room));
     }

@@ -5,8 +5,8 @@ use Rattle.protocol.specs.Nodes.{stored}
 use Rattle.nodecore.specs.Stored.{store_in}
 use Rattle.nodecore.proofs.stored.StoredContents.store_all.Given as goal
 
-abbrev pub invariant-loop-content : goal.invariant-loop-content
-invariant-loop-content l = record {
+abbrev pub invariant-loop-left : goal.invariant-loop-left
+invariant-loop-left l = record {
   contents : store_in l.self.by_digest ≡ stored content_digest l.yielded (store_in l.initial.self.by_digest);
   room : vec_len l.fn.lefts ≤ spare l.self.by_digest + length l.yielded;
 }
