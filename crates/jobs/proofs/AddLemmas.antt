@@ -34,7 +34,7 @@ use Rattle.jobs.specs.Spreading.{Marking, GetsMark, AreSpread}
 use Rattle.jobs.specs.Kept.{AreKept, AreListed}
 use Rattle.jobs.specs.Marks.{MarksFail, MarksCalled, is_marked, is_lacking, AreMarks, KeepsMarks}
 use Rattle.jobs.proofs.ProgressLemmas.{Grows, fails_grows, called_keeps}
-use Rattle.jobs.specs.ReadyLists.{AreHandedRight, IsList, IsSameList, ListsAll, HasRoom}
+use Rattle.jobs.specs.ReadyLists.{AreCursors, AreHandedRight, IsList, IsSameList, ListsAll, HasRoom}
 use Rattle.jobs.proofs.ReachLemmas.{flag_within, walk_more}
 use Rattle.jobs.proofs.SpreadLemmas.{MarksLacking, whole_marks}
 use Rattle.jobs.proofs.StayLemmas.{list_stays, list_same, all_same, ready_stays, there_grows}
@@ -347,9 +347,9 @@ taken_back old grown now marks h front ks unique es =
       marked = subst (λ (xs : List Entry). AreMarks xs marks) (sym same) h.marked;
     }
 
-pub listed_back : (old grown now : Table) (u v : Users) (was marks : List Bool) (todo next : Vec ℕ Global) (l m : ReadyList) (count : ℕ) → AreListed old u was todo l → next.items ≡ todo.items → vec_capacity todo ≤ vec_capacity next → marks ≡ was → IsSameUsers u v → IsSameList l m → IsFront old grown → count ≡ length old.entries.items
+pub listed_back : (old grown now : Table) (u v : Users) (was marks : List Bool) (todo next : Vec ℕ Global) (l m : ReadyList) (count : ℕ) → AreListed old u was todo l → next.items ≡ todo.items → vec_capacity todo ≤ vec_capacity next → marks ≡ was → IsSameUsers u v → IsSameList l m → m.cursors.items ≡ l.cursors.items → IsFront old grown → count ≡ length old.entries.items
     → now.numbers.keys ≡ take count grown.numbers.keys → IsUnique key_eq now.numbers → now.entries.items ≡ take count grown.entries.items → AreListed now v marks next m
-listed_back old grown now u v was marks todo next l m count h idle more unmarked still same front is ks unique es =
+listed_back old grown now u v was marks todo next l m count h idle more unmarked still same cursors front is ks unique es =
     let es_is : now.entries.items ≡ take (length old.entries.items) grown.entries.items = es ∙ ap (λ n. take n grown.entries.items) is in
     let back : now.entries.items ≡ old.entries.items = es_is ∙ front_take old.entries.items grown.entries.items front.entries in
     record {
@@ -363,6 +363,7 @@ listed_back old grown now u v was marks todo next l m count h idle more unmarked
       list = subst (λ (xs : List Entry). IsList xs m) (sym back) (list_same old.entries.items l m same h.list);
       all = subst (λ (xs : List Entry). ListsAll xs m) (sym back) (all_same old.entries.items l m same h.all);
       room = subst (λ (n : ℕ). HasRoom n m) (sym (ap length back)) (same.room (length old.entries.items) h.room);
+      cursors = subst (AreCursors now.entries.items) (sym cursors) (subst (λ (xs : List Entry). AreCursors xs l.cursors.items) (sym back) h.cursors);
     }
 
 -- ---- the list where keys are added

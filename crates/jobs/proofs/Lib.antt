@@ -1,6 +1,7 @@
 mod AddLemmas
 mod AnswerLemmas
 mod CauseLemmas
+mod CursorLemmas
 mod ListLemmas
 mod MarkLemmas
 mod NeedLemmas

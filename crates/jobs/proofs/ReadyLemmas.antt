@@ -1,21 +1,21 @@
 -- Which keys are ready.
-use Rattle.std.proofs.Common.{◌≡◌, ℕ, ◌+◌, ◌<◌, inl, inr, Bool, true, false, not, List, [], ◌∷◌, ◌++◌, length, take, set, get_or, Option, Some, None, is_some, IfSome, IfNone, slice_get, ap, sym, ◌∙◌, subst, arith}
+use Rattle.std.proofs.Common.{◌≡◌, ℕ, ◌+◌, ◌<◌, ◌≤◌, inl, inr, Bool, true, false, not, List, [], ◌∷◌, ◌++◌, length, take, set, get_or, Option, Some, None, is_some, IfSome, IfNone, slice_get, ap, sym, ◌∙◌, subst, arith}
 use Rattle.std.specs.Bool.{MatchBool}
 use Rattle.std.specs.List.{Contains, AllZip}
 use Rattle.std.proofs.lemmas.Bool.{cases_eq}
 use Rattle.std.proofs.lemmas.List.{length-set}
 use Rattle.std.proofs.lemmas.List.Elements.{Contains-get_or}
-use Rattle.std.proofs.lemmas.Option.{slice_get_within, get_or_from_slice_get, slice_get-get_or}
+use Rattle.std.proofs.lemmas.Option.{slice_get_within, slice_get-get_or}
 use Rattle.farm_base.specs.declared.digest.Digest.{Digest}
 use Rattle.farm_base.specs.declared.digest.Key.{Key}
-use Rattle.lists.proofs.Places.{AllZip-push, at_Contains, at_place, take_push, get_set_cases}
+use Rattle.lists.proofs.Places.{AllZip-push, Contains-at, at_Contains, at_place, some_is, take_push, get_set_cases}
 use Rattle.vertices.specs.Flags.{flag_at}
 use Rattle.jobs.specs.declared.entry.Entry.{Entry}
 use Rattle.jobs.specs.declared.entry.Progress.TheVariants.{Waiting, Out, Done}
 use Rattle.jobs.specs.declared.table.Table.{Table}
 use Rattle.jobs.specs.Failing.{HasOutput, AreThere, IsReady}
 use Rattle.jobs.specs.Kept.{AreKept}
-use Rattle.jobs.specs.ReadyLists.{IsReadyAt}
+use Rattle.jobs.specs.ReadyLists.{AreThereBefore, IsReadyAt}
 use Rattle.jobs.specs.Marks.{IsLost, is_marked, is_lacking, MarksLost, AreMarks}
 use Rattle.jobs.specs.Tables.{key_of, IsTable}
 use Rattle.jobs.proofs.MarkLemmas.{all_marked, distinct, one_entry, read_at}
@@ -56,29 +56,26 @@ if_some (Some x) b is unmet h = (x, h)
 
 module _ (es : List Entry) (inputs : List (Key × ℕ)) where
   -- one that isn't there
-  pub one_missing : (k : ℕ) (d : Key × ℕ) (r : Option Digest) (b : Bool) → k < length inputs → is_some r ≡ not b → b ≡ true
-      → IfNone r ((digest : Digest) → HasOutput es (get_or inputs k d) digest → ⊥) → AreThere es inputs → ⊥
-  one_missing k d r b within is met none all =
-      let has = all (get_or inputs k d) (Contains-get_or inputs k d within) in
+  pub one_missing : (k : ℕ) (input : Key × ℕ) (r : Option Digest) (b : Bool) → slice_get inputs k ≡ Some input → is_some r ≡ not b → b ≡ true
+      → IfNone r ((digest : Digest) → HasOutput es input digest → ⊥) → AreThere es inputs → ⊥
+  one_missing k input r b at is met none all =
+      let has = all input (Contains-at inputs k input at) in
       if_none r b is met none has.0 has.1
 
-  abbrev pub ThereBelow : ℕ → Type 0
-  ThereBelow count = (k : ℕ) (input : Key × ℕ) → k < count → slice_get inputs k ≡ Some input → (digest : Digest) × HasOutput es input digest
-
   -- one more that is there
-  pub one_more : (k : ℕ) (d : Key × ℕ) (r : Option Digest) (b : Bool) → ThereBelow k → is_some r ≡ not b → b ≡ false → IfSome r (HasOutput es (get_or inputs k d)) → ThereBelow (k + 1)
-  one_more k d r b below is unmet some j input lt e = elim (cases_eq j k) [
-    | inl same ↦ (let has = if_some {P = HasOutput es (get_or inputs k d)} r b is unmet some in
-        let one : get_or inputs k d ≡ input = get_or_from_slice_get inputs k input d (ap (slice_get inputs) (sym same) ∙ e) in
+  pub one_more : (k : ℕ) (input : Key × ℕ) (r : Option Digest) (b : Bool) → AreThereBefore es k inputs → slice_get inputs k ≡ Some input → is_some r ≡ not b → b ≡ false → IfSome r (HasOutput es input) → AreThereBefore es (k + 1) inputs
+  one_more k input r b before at is unmet some j other lt e = elim (cases_eq j k) [
+    | inl same ↦ (let has = if_some {P = HasOutput es input} r b is unmet some in
+        let one : input ≡ other = some_is input other (sym at ∙ ap (slice_get inputs) (sym same) ∙ e) in
         (has.0, subst (λ (i : Key × ℕ). HasOutput es i has.0) one has.1))
-    | inr apart ↦ below j input (omega (arith, lt, apart)) e
+    | inr apart ↦ before j other (omega (arith, lt, apart)) e
   ]
 
   -- all of them
-  pub all_there : (k : ℕ) → length inputs < k + 1 → ThereBelow k → AreThere es inputs
-  all_there k past below input has =
+  pub all_there : (k : ℕ) → length inputs ≤ k → AreThereBefore es k inputs → AreThere es inputs
+  all_there k past before input has =
       let a = at_Contains inputs input has in
-      below a.0 input (let within = slice_get_within inputs a.0 input a.1 in omega (arith, within, past)) a.1
+      before a.0 input (let within = slice_get_within inputs a.0 input a.1 in omega (arith, within, past)) a.1
 
 -- ---- one key
 

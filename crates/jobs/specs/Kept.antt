@@ -10,7 +10,7 @@ use Rattle.jobs.specs.declared.table.Table.{Table}
 use Rattle.jobs.specs.declared.users.Users.{Users}
 use Rattle.jobs.specs.History.{History}
 use Rattle.jobs.specs.Marks.{AreMarks}
-use Rattle.jobs.specs.ReadyLists.{AreHandedRight, IsList, ListsAll, HasRoom}
+use Rattle.jobs.specs.ReadyLists.{AreCursors, AreHandedRight, IsList, ListsAll, HasRoom}
 use Rattle.jobs.specs.Tables.{IsTable}
 use Rattle.jobs.specs.Users.{AreUsers, IsClosed}
 
@@ -35,3 +35,4 @@ pub record AreListed (table : Table) (users : Users) (marks : List Bool) (todo :
   pub list : IsList table.entries.items ready
   pub all : ListsAll table.entries.items ready
   pub room : HasRoom (length table.entries.items) ready
+  pub cursors : AreCursors table.entries.items ready.cursors.items

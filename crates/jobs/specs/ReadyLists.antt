@@ -1,14 +1,15 @@
 -- The list of the ready keys, in the order in which they are handed out (this project's own).
-use Rattle.std.specs.Prelude.{◌≡◌, ◌≤◌, ℕ, List, Some, length, drop, take, slice_get}
+use Rattle.std.specs.Prelude.{◌≡◌, ◌<◌, ◌≤◌, ℕ, List, Some, length, drop, take, slice_get, slice_index_or}
 use Rattle.std.specs.List.{AllZip, Contains, IsDistinct}
 use Rattle.std.specs.List.Sorted.{IsStrictlyIncreasing}
 use Rattle.std.specs.Vec.{vec_capacity}
 use Rattle.std.specs.Prelude.{nat_eq}
+use Rattle.farm_base.specs.declared.digest.Digest.{Digest}
 use Rattle.farm_base.specs.declared.digest.Key.{Key}
 use Rattle.jobs.specs.declared.entry.Entry.{Entry}
 use Rattle.jobs.specs.declared.entry.Progress.TheVariants.{Waiting}
 use Rattle.jobs.specs.declared.ready_list.ReadyList.{ReadyList}
-use Rattle.jobs.specs.Failing.{AreThere, IsReady}
+use Rattle.jobs.specs.Failing.{AreThere, HasOutput, IsReady}
 
 module _ (keys : List Entry) where
   -- the key of this number is ready
@@ -36,6 +37,15 @@ module _ (keys : List Entry) where
     pub only : (number : ℕ) → Contains numbers number → IsReadyAt number
     pub whole : (number : ℕ) → IsReadyAt number → Contains numbers number
     pub named : AllZip IsKeyAt numbers ready
+
+  -- each input before a place names an output that is there
+  abbrev pub AreThereBefore : ℕ → List (Key × ℕ) → Type 0
+  AreThereBefore place inputs = (lower : ℕ) (input : Key × ℕ) → lower < place → slice_get inputs lower ≡ Some input → (digest : Digest) × HasOutput keys input digest
+
+  -- each key has a cursor, and its inputs before that are there
+  pub record AreCursors (cursors : List ℕ) : Type 0 where
+    pub count : length cursors ≡ length keys
+    pub there : (number : ℕ) (entry : Entry) → slice_get keys number ≡ Some entry → AreThereBefore (slice_index_or cursors number 0) entry.inputs
 
   -- the inputs of what was handed out are there
   abbrev pub AreHandedRight : Type 0

@@ -82,7 +82,7 @@ pub(crate) fn add_all(
     Ok(())
 }
 
-/// Adds these keys, their users and their marks, and makes room for them in the list. Where memory
+/// Adds these keys, their users, their marks and their cursors, and makes room for them in the list. Where memory
 /// runs out some keys may be there.
 fn grow(
     alloc: Global,
@@ -110,11 +110,13 @@ fn grow(
     ensures marks { OnOk result (marks.new.items ≡ take (length table.new.entries.items) marks.old.items ++ replicate (length table.new.entries.items - length marks.old.items) false) }
     ensures room { OnOk result (HasRoom (length table.new.entries.items) ready.new) }
     ensures list { IsSameList ready.old ready.new }
+    ensures cursors { OnOk result (ready.new.cursors.items ≡ take (length table.new.entries.items) ready.old.cursors.items ++ replicate (length table.new.entries.items - length ready.old.cursors.items) 0) }
     ensures todo { todo.new.items ≡ todo.old.items }
     ensures todo_room { OnOk result (length table.new.entries.items ≤ vec_capacity todo.new) }
     ensures todo_capacity { vec_capacity todo.old ≤ vec_capacity todo.new }
     ensures err { OnErr result (marks.new.items ≡ marks.old.items) }
     ensures same_users { OnErr result (IsSameUsers users.old users.new) }
+    ensures same_cursors { OnErr result (ready.new.cursors.items ≡ ready.old.cursors.items) }
 {
     add_all(alloc, table, graph, keys, reached)?;
     let count = table.entries.len();
@@ -124,6 +126,7 @@ fn grow(
     marks.reserve(more)?;
     users.extend(table)?;
     marks.resize(count, false).unwrap();
+    ready.cursors.resize(count, 0).unwrap();
     Ok(())
 }
 

@@ -1,11 +1,11 @@
-ghost use Rattle.std.specs.Prelude.{◌≡◌, ◌<◌, ◌⊎◌, ℕ, length, slice_get, Some, IfOk, IfSome, IfNone};
+ghost use Rattle.std.specs.Prelude.{◌≡◌, ◌<◌, ◌≤◌, ◌⊎◌, ℕ, length, slice_get, Some, IfOk, IfSome, IfNone};
 ghost use Rattle.std.specs.Bool.{MatchBool};
 ghost use Rattle.std.specs.List.{AllZip, Contains};
 ghost use Rattle.farm_base.specs.declared.digest.Digest.{Digest as SpecDigest};
 ghost use Rattle.jobs.specs.declared.entry.Entry.{Entry as SpecEntry};
 ghost use Rattle.jobs.specs.Failing.{AreThere, HasOutput, IsReady};
 ghost use Rattle.jobs.specs.Kept.{AreKept};
-ghost use Rattle.jobs.specs.ReadyLists.{IsList, IsReadyAt, ListsAll, HasRoom, listed};
+ghost use Rattle.jobs.specs.ReadyLists.{AreCursors, AreThereBefore, IsList, IsReadyAt, ListsAll, HasRoom, listed};
 ghost use Rattle.jobs.specs.Tables.{IsTable};
 ghost use Rattle.jobs.specs.Users.{AreUsers, IsUser};
 
@@ -29,30 +29,58 @@ fn output_of(table: &Table, input: &(Key, u64)) -> Option<Digest>
     }
 }
 
-/// Whether each input names an output that is there.
-fn are_there(table: &Table, inputs: &[(Key, u64)]) -> bool
-    requires { IsTable table.now }
-    ensures { MatchBool result (AreThere table.now.entries.items inputs.now) (AreThere table.now.entries.items inputs.now → ⊥) }
+/// Whether each input names an output that is there. Those before the cursor do, and it moves on to the
+/// first that doesn't.
+fn are_there(table: &Table, inputs: &[(Key, u64)], cursor: &mut usize) -> bool
+    requires table { IsTable table.now }
+    requires before { AreThereBefore table.now.entries.items cursor.old inputs.now }
+    ensures there { MatchBool result (AreThere table.now.entries.items inputs.now) (AreThere table.now.entries.items inputs.now → ⊥) }
+    ensures before { AreThereBefore table.now.entries.items cursor.new inputs.now }
+    ensures moves { cursor.old ≤ cursor.new }
 {
-    for input in inputs {
+    while let Some(input) = inputs.get(*cursor) {
         if output_of(table, input).is_none() {
             return false;
         }
+        *cursor += 1;
     }
     true
 }
 
-/// Whether the key of a number can be solved.
-fn is_ready(table: &Table, marks: &[bool], number: usize) -> bool
+/// Whether the key of a number can be solved. Its inputs are looked at from its cursor on.
+fn is_ready(table: &Table, marks: &[bool], cursors: &mut Vec<usize>, number: usize) -> bool
     requires kept { AreKept table.now marks.now }
     requires within { number < length table.now.entries.items }
-    ensures { (entry : SpecEntry) → slice_get table.now.entries.items number ≡ Some entry
+    requires cursors { AreCursors table.now.entries.items cursors.old.items }
+    ensures ready { (entry : SpecEntry) → slice_get table.now.entries.items number ≡ Some entry
         → MatchBool result (IsReady table.now.entries.items entry) (IsReady table.now.entries.items entry → ⊥) }
+    ensures cursors { AreCursors table.now.entries.items cursors.new.items }
 {
+    if marks[number] {
+        return false;
+    }
     let entry = &table.entries[number];
     match entry.progress {
-        Progress::Waiting => !marks[number] && are_there(table, entry.inputs.as_slice()),
+        Progress::Waiting => are_there(table, entry.inputs.as_slice(), &mut cursors[number]),
         _ => false,
+    }
+}
+
+/// Lists the key of a number where it is ready and isn't listed yet.
+fn look_at(table: &Table, marks: &[bool], ready: &mut ReadyList, number: usize)
+    requires kept { AreKept table.now marks.now }
+    requires within { number < length table.now.entries.items }
+    requires cursors { AreCursors table.now.entries.items ready.old.cursors.items }
+    requires list { IsList table.now.entries.items ready.old }
+    requires room { HasRoom (length table.now.entries.items) ready.old }
+    ensures cursors { AreCursors table.now.entries.items ready.new.cursors.items }
+    ensures list { IsList table.now.entries.items ready.new }
+    ensures room { HasRoom (length table.now.entries.items) ready.new }
+    ensures listed { IsReadyAt table.now.entries.items number → Contains (listed ready.new) number }
+    ensures kept { (other : ℕ) → Contains (listed ready.old) other → Contains (listed ready.new) other }
+{
+    if is_ready(table, marks, &mut ready.cursors, number) {
+        ready.add(table, number);
     }
 }
 
@@ -60,16 +88,16 @@ fn is_ready(table: &Table, marks: &[bool], number: usize) -> bool
 pub(crate) fn list_ready(table: &Table, marks: &[bool], ready: &mut ReadyList, from: usize)
     requires kept { AreKept table.now marks.now }
     requires before { (number : ℕ) → number < from → IsReadyAt table.now.entries.items number → Contains (listed ready.old) number }
+    requires cursors { AreCursors table.now.entries.items ready.old.cursors.items }
     requires list { IsList table.now.entries.items ready.old }
     requires room { HasRoom (length table.now.entries.items) ready.old }
+    ensures cursors { AreCursors table.now.entries.items ready.new.cursors.items }
     ensures list { IsList table.now.entries.items ready.new }
     ensures all { ListsAll table.now.entries.items ready.new }
     ensures room { HasRoom (length table.now.entries.items) ready.new }
 {
     for number in from..table.entries.len() {
-        if is_ready(table, marks, number) {
-            ready.add(table, number);
-        }
+        look_at(table, marks, ready, number);
     }
 }
 
@@ -85,19 +113,18 @@ pub(crate) fn list_users(
     requires users { AreUsers table.now.entries.items users.now }
     requires count { length users.now.lasts.items ≡ length table.now.entries.items }
     requires within { number < length table.now.entries.items }
+    requires cursors { AreCursors table.now.entries.items ready.old.cursors.items }
     requires list { IsList table.now.entries.items ready.old }
     requires room { HasRoom (length table.now.entries.items) ready.old }
     requires others { (other : ℕ) → IsReadyAt table.now.entries.items other → Contains (listed ready.old) other ⊎ IsUser table.now.entries.items other number }
+    ensures cursors { AreCursors table.now.entries.items ready.new.cursors.items }
     ensures list { IsList table.now.entries.items ready.new }
     ensures all { ListsAll table.now.entries.items ready.new }
     ensures room { HasRoom (length table.now.entries.items) ready.new }
 {
     let mut next = users.lasts[number];
     while let Some(place) = next {
-        let user = users.links[place].user;
-        if is_ready(table, marks, user) {
-            ready.add(table, user);
-        }
+        look_at(table, marks, ready, users.links[place].user);
         next = users.befores[place];
     }
 }

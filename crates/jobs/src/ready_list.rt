@@ -14,6 +14,9 @@ pub(crate) struct ReadyList {
     /// Their numbers.
     pub numbers: Vec<usize>,
     pub keys: Vec<Key>,
+    /// For each submitted key how many of its first inputs are known to be there. What is there stays
+    /// there, so they aren't looked at again.
+    pub cursors: Vec<usize>,
 }
 
 /// Inserts an item in the room that is there.
@@ -27,18 +30,20 @@ fn put<T: Drop>(items: &mut Vec<T>, place: usize, item: T)
 }
 
 impl ReadyList {
-    ghost use Rattle.jobs.specs.ReadyLists.{IsList, IsReadyAt, IsSameList, ListsAll, HasRoom, listed};
+    ghost use Rattle.jobs.specs.ReadyLists.{AreCursors, IsList, IsReadyAt, IsSameList, ListsAll, HasRoom, listed};
     ghost use Rattle.jobs.specs.Tables.{IsTable};
 
     pub(crate) fn new(alloc: Global) -> Self
         ensures list { IsList [] result }
         ensures all { ListsAll [] result }
         ensures room { HasRoom 0 result }
+        ensures cursors { AreCursors [] result.cursors.items }
     {
         ReadyList {
             taken: 0,
             numbers: Vec::new(alloc),
             keys: Vec::new(alloc),
+            cursors: Vec::new(alloc),
         }
     }
 
@@ -54,10 +59,14 @@ impl ReadyList {
     pub(crate) fn reserve(&mut self, count: usize) -> Result<(), AllocError>
         ensures room { OnOk result (HasRoom count self.new) }
         ensures list { IsSameList self.old self.new }
+        ensures cursors { self.new.cursors.items ≡ self.old.cursors.items }
+        ensures cursor_room { OnOk result (count ≤ vec_capacity self.new.cursors) }
     {
         self.numbers
             .reserve(count.saturating_sub(self.numbers.len()))?;
-        self.keys.reserve(count.saturating_sub(self.keys.len()))
+        self.keys.reserve(count.saturating_sub(self.keys.len()))?;
+        self.cursors
+            .reserve(count.saturating_sub(self.cursors.len()))
     }
 
     /// The number of the first ready key.
@@ -78,6 +87,7 @@ impl ReadyList {
         ensures room { HasRoom (length table.now.entries.items) self.new }
         ensures added { Contains (listed self.new) number }
         ensures kept { (other : ℕ) → Contains (listed self.old) other → Contains (listed self.new) other }
+        ensures cursors { self.new.cursors ≡ self.old.cursors }
     {
         let Err(place) = self.numbers[self.taken..].binary_search(&number) else {
             return;
@@ -93,6 +103,7 @@ impl ReadyList {
         ensures taken { self.new.taken ≡ self.old.taken + 1 }
         ensures numbers { self.new.numbers.items ≡ self.old.numbers.items }
         ensures keys { self.new.keys.items ≡ self.old.keys.items }
+        ensures cursors { self.new.cursors ≡ self.old.cursors }
         ensures room { (count : ℕ) → HasRoom count self.old → HasRoom count self.new }
     {
         self.taken += 1;

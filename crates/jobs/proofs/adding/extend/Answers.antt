@@ -2,6 +2,7 @@ use Rattle.std.proofs.Common.{◌≡◌, ap, sym, subst, ◌∙◌, List, Bool, 
 use Rattle.jobs.specs.Marks.{AreMarks, MarksFail}
 use Rattle.jobs.specs.Spreading.{Marking}
 use Rattle.jobs.proofs.AddLemmas.{added_marks, added_users, added_list, added_right, between_size, listed_back}
+use Rattle.jobs.proofs.CursorLemmas.{cursors_added}
 use Rattle.jobs.proofs.MarkLemmas.{distinct}
 use Rattle.jobs.proofs.ProgressLemmas.{whole}
 use Rattle.jobs.proofs.ShapeLemmas.{ready_before}
@@ -27,13 +28,18 @@ list_ready-requires-clause-list c =
     added_list c.args.graph.now c.args.keys.now c.args.table.now.entries.items table.entries.items c.in-Ok.ensures.added c.grow.new.ready (distinct table c.in-Ok.ensures.table) c.requires.listed.right
     (list_same c.args.table.now.entries.items c.args.ready.now c.grow.new.ready c.in-Ok.ensures.list c.requires.listed.list)
 
+pub list_ready-requires-clause-cursors : goal.list_ready-requires-clause-cursors
+list_ready-requires-clause-cursors c =
+    cursors_added c.args.graph.now c.args.keys.now c.args.table.now.entries.items c.grow.new.table.entries.items c.in-Ok.ensures.added c.args.ready.now.cursors.items c.grow.new.ready.cursors.items c.in-Ok.ensures.cursors
+    c.requires.listed.cursors
+
 pub returns-in-Err-clause-listed : goal.returns-in-Err-clause-listed
 returns-in-Err-clause-listed c =
     let t = c.truncate.ensures in
     let e = c.in-Err.ensures in
     let len = c.args.table.now.entries.ok.0 in
     listed_back c.args.table.now c.grow.new.table c.truncate.new.self c.args.users.now c.grow.new.users c.args.marks.now.items c.grow.new.marks.items c.args.todo.now c.grow.new.todo c.args.ready.now c.grow.new.ready c.len-count.result c.requires.listed
-    e.todo e.todo_capacity e.err e.same_users e.list e.front
+    e.todo e.todo_capacity e.err e.same_users e.list e.same_cursors e.front
     (let n = c.len-count.ensures in omega (arith, n, len)) t.keys t.unique t.entries
 
 pub spread-requires-clause-users : goal.spread-requires-clause-users
@@ -117,4 +123,5 @@ returns-in-Ok-clause-listed c =
       list = c.list_ready.ensures.list;
       all = c.list_ready.ensures.all;
       room = c.list_ready.ensures.room;
+      cursors = c.list_ready.ensures.cursors;
     }

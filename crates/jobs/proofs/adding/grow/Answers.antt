@@ -9,3 +9,13 @@ extend-requires-clause-users c =
 
 pub returns-clause-closed : goal.returns-clause-closed
 returns-clause-closed c = c.in_ok-add_all.ensures.closed c.requires.closed
+
+pub returns-clause-list : goal.returns-clause-list
+returns-clause-list c =
+    let same = c.reserve.ensures.list in
+    record {
+      taken = same.taken;
+      numbers = same.numbers;
+      keys = same.keys;
+      room = λ count room. (let more = same.room count room in record { numbers = more.numbers; keys = more.keys });
+    }

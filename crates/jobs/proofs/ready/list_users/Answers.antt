@@ -2,25 +2,15 @@ use Rattle.std.proofs.Common.{◌≡◌, Some, ap, arith, inl, inr}
 use Rattle.std.specs.List.{Contains}
 use Rattle.jobs.specs.declared.users.Link.{Link}
 use Rattle.jobs.specs.ReadyLists.{IsReadyAt, listed}
-use Rattle.jobs.proofs.ReadyLemmas.{ready_met, ready_unmet}
 use Rattle.jobs.proofs.UserLemmas.{walk_step, walk_more, walk_last, last_below, steps_left, place_within, link_there, user_within, before_is, user_done}
 use Rattle.jobs.proofs.ready.list_users.Goals as goal
-use Rattle.jobs.proofs.ready.list_users.Goals.{then-is_ready, else-is_ready}
 
-pub is_ready-requires-clause-within : goal.is_ready-requires-clause-within
-is_ready-requires-clause-within c =
+pub look_at-requires-clause-within : goal.look_at-requires-clause-within
+look_at-requires-clause-within c =
     let es = c.args.table.now.entries.items in
     let u = c.args.users.now in
     let within = place_within u.links.items c.args.number _ c.in-Some.place c.loop-next.next c.in-Some.is c.loop-next.invariant.walk in
     user_within es u c.requires.users c.in-Some.place c.index.result.now (link_there u.links.items c.in-Some.place c.index.result.now within c.index.ensures)
-
-pub add-requires-clause-ready : goal.add-requires-clause-ready
-add-requires-clause-ready c =
-    let es = c.args.table.now.entries.items in
-    let u = c.args.users.now in
-    let within = place_within u.links.items c.args.number _ c.in-Some.place c.loop-next.next c.in-Some.is c.loop-next.invariant.walk in
-    let less = user_within es u c.requires.users c.in-Some.place c.index.result.now (link_there u.links.items c.in-Some.place c.index.result.now within c.index.ensures) in
-    ready_met es c.index.result.now.user c.is_ready.result less c.if-is_ready.true c.is_ready.ensures
 
 pub index-next-requires-in-Some : goal.index-next-requires-in-Some
 index-next-requires-in-Some c =
@@ -47,28 +37,20 @@ loop-next-preserved c =
     let links = u.links.items in
     let link = c.index.result.now in
     let inv = c.loop-next.invariant in
+    let e = c.look_at.ensures in
+    let now = c.look_at.new.ready in
     let within = place_within links c.args.number _ c.in-Some.place c.loop-next.next c.in-Some.is inv.walk in
     let at = link_there links c.in-Some.place link within c.index.ensures in
     let last = before_is u c.requires.users.linked c.requires.users.all c.in-Some.place link c.index-next-in-Some.result.now at c.index-next-in-Some.ensures in
-    elim c.if-is_ready.branch [
-      | then-is_ready w ↦ (let e = w.add.ensures in
-          let now = w.add.new.self in
-          rw w.ready-is (record {
-            list = e.list;
-            room = e.room;
-            kept = λ m x. e.kept m (inv.kept m x);
-            walk = walk_step links c.args.number (λ (x : Link). IsReadyAt es x.user → Contains (listed now) x.user) c.in-Some.place c.loop-next.next c.index-next-in-Some.result.now link c.in-Some.is at last (λ r. e.added)
-                (walk_more links c.args.number (λ (x : Link). IsReadyAt es x.user → Contains (listed c.loop-next.ready) x.user) (λ (x : Link). IsReadyAt es x.user → Contains (listed now) x.user) c.loop-next.next
-                (λ x before r. e.kept x.user (before r)) inv.walk);
-          }))
-      | else-is_ready w ↦ rw w.ready-is (record {
-        list = inv.list;
-        room = inv.room;
-        kept = inv.kept;
-        walk = walk_step links c.args.number (λ (x : Link). IsReadyAt es x.user → Contains (listed c.loop-next.ready) x.user) c.in-Some.place c.loop-next.next c.index-next-in-Some.result.now link c.in-Some.is at last
-            (λ r. absurd (ready_unmet es link.user c.is_ready.result w.if-is_ready.false c.is_ready.ensures r)) inv.walk;
-      })
-    ]
+    record {
+      cursors = e.cursors;
+      list = e.list;
+      room = e.room;
+      kept = λ m x. e.kept m (inv.kept m x);
+      walk = walk_step links c.args.number (λ (x : Link). IsReadyAt es x.user → Contains (listed now) x.user) c.in-Some.place c.loop-next.next c.index-next-in-Some.result.now link c.in-Some.is at last e.listed
+          (walk_more links c.args.number (λ (x : Link). IsReadyAt es x.user → Contains (listed c.loop-next.ready) x.user) (λ (x : Link). IsReadyAt es x.user → Contains (listed now) x.user) c.loop-next.next
+          (λ x before r. e.kept x.user (before r)) inv.walk);
+    }
 
 pub returns-clause-all : goal.returns-clause-all
 returns-clause-all c m r =

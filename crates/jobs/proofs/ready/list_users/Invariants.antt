@@ -1,12 +1,13 @@
 use Rattle.std.proofs.Common.{ℕ, length}
 use Rattle.std.specs.List.{Contains}
 use Rattle.jobs.specs.declared.users.Link.{Link}
-use Rattle.jobs.specs.ReadyLists.{IsList, IsReadyAt, HasRoom, listed}
+use Rattle.jobs.specs.ReadyLists.{AreCursors, IsList, IsReadyAt, HasRoom, listed}
 use Rattle.jobs.proofs.UserLemmas.{IsWalking, steps_left}
 use Rattle.jobs.proofs.ready.list_users.Given as goal
 
 abbrev pub invariant-loop-next : goal.invariant-loop-next
 invariant-loop-next l = record {
+  cursors : AreCursors l.table.entries.items l.ready.cursors.items;
   list : IsList l.table.entries.items l.ready;
   room : HasRoom (length l.table.entries.items) l.ready;
   kept : (m : ℕ) → Contains (listed l.fn.ready) m → Contains (listed l.ready) m;

@@ -1,5 +1,6 @@
 use Rattle.std.proofs.Common.{inl, inr, ap, sym, ◌∙◌, arith, length}
 use Rattle.std.proofs.lemmas.List.{length-set}
+use Rattle.jobs.proofs.CursorLemmas.{cursors_moved}
 use Rattle.jobs.proofs.MarkLemmas.{distinct}
 use Rattle.jobs.proofs.ShapeLemmas.{users_moved, closed_moved, ready_cases}
 use Rattle.jobs.proofs.StayLemmas.{list_moved, finished_right}
@@ -18,6 +19,13 @@ list_users-requires-clause-list c =
     let now_is = c.settle.ensures.entries out.0 out.1 in
     let right = finished_right es c.args.number out.0 out.1 c.args.progress now.entries.items out.2 now_is c.requires.listed.right in
     list_moved es c.args.number out.0 out.1 c.args.progress now.entries.items c.args.ready.now out.2 c.requires.ends now_is (distinct now c.settle.ensures.kept.numbered) right c.requires.listed.list
+
+pub list_users-requires-clause-cursors : goal.list_users-requires-clause-cursors
+list_users-requires-clause-cursors c =
+    let out = c.requires.out in
+    let was = out.2 in
+    cursors_moved c.args.table.now.entries.items c.args.number out.0 out.1 c.args.progress c.settle.new.table.entries.items c.args.ready.now.cursors.items (λ outputs done. cc (was, done)) (λ fault failed. cc (was, failed))
+    (c.settle.ensures.entries out.0 out.1) c.requires.listed.cursors
 
 pub list_users-requires-clause-others : goal.list_users-requires-clause-others
 list_users-requires-clause-others c m r =
@@ -45,4 +53,5 @@ returns-clause-listed c =
       list = c.list_users.ensures.list;
       all = c.list_users.ensures.all;
       room = c.list_users.ensures.room;
+      cursors = c.list_users.ensures.cursors;
     }

@@ -1,8 +1,12 @@
-use Rattle.std.proofs.Common.{ap, sym, subst, ◌∙◌, arith, length}
+use Rattle.std.proofs.Common.{ℕ, ap, sym, subst, ◌∙◌, arith, length}
 use Rattle.std.proofs.lemmas.List.{length-set}
 use Rattle.jobs.specs.declared.entry.Progress.TheVariants.{Out}
 use Rattle.std.proofs.lemmas.Option.{slice_get_within}
+use Rattle.std.specs.declared.alloc.Global.{Global}
+use Rattle.std.specs.declared.vec.Vec.{Vec}
 use Rattle.jobs.specs.History.{History, HasNoReady}
+use Rattle.jobs.specs.ReadyLists.{AreCursors}
+use Rattle.jobs.proofs.CursorLemmas.{cursors_moved}
 use Rattle.jobs.proofs.MarkLemmas.{distinct}
 use Rattle.jobs.proofs.ReadyLemmas.{marks_out}
 use Rattle.jobs.proofs.ShapeLemmas.{users_moved, closed_moved}
@@ -54,6 +58,9 @@ invariant_of-self c =
       list = list_taken es l h all n first c.take.new.self now.entries.items (distinct now numbered) c.self.invariant.right t.taken t.numbers t.keys now_is;
       all = all_taken es l h all n first c.take.new.self now.entries.items (distinct now numbered) c.self.invariant.right t.taken t.numbers t.keys now_is;
       room = taken_room es l c.take.new.self n r.entry now.entries.items now_is t.room c.self.invariant.room;
+      cursors = (let waiting = r.ready.waiting in
+          let kept = cursors_moved es n r.entry r.at Out now.entries.items l.cursors.items (λ outputs done. cc (waiting, done)) (λ fault failed. cc (waiting, failed)) now_is c.self.invariant.cursors in
+          subst (λ (v : Vec ℕ Global). AreCursors now.entries.items v.items) (sym t.cursors) kept);
     }
 
 pub returns-clause-taken : goal.returns-clause-taken

@@ -60,5 +60,5 @@ returns-clause-list c =
     (record { entry = r.entry; at = r.at; named = ap (λ (e : Entry). e.key) (read_at es c.args.number r.entry c.index.result.now r.at c.index.ensures) }) refl c.put.ensures.items c.put-2.ensures.items
 
 pub returns-clause-kept : goal.returns-clause-kept
-returns-clause-kept c = inserted_keeps c.args.table.now.entries.items c.args.self.now c.requires.list (record { taken = c.args.self.now.taken; numbers = c.put.new.items; keys = c.put-2.new.items })
+returns-clause-kept c = inserted_keeps c.args.table.now.entries.items c.args.self.now c.requires.list (record { taken = c.args.self.now.taken; numbers = c.put.new.items; keys = c.put-2.new.items; cursors = c.args.self.now.cursors })
     c.in-Err.place (c.args.self.now.taken + c.in-Err.place) c.args.number refl refl c.put.ensures.items
