@@ -4,7 +4,10 @@ ghost use Rattle.farm_base.specs.declared.limits.TheConstants.{NODES};
 ghost use Rattle.protocol.specs.Lawful.{IsSaid, is_tenure};
 
 use coordinator::Coordinator;
-use farm_base::{Content, Copied, Digest, FolderName, FromCoord, Left, Message, Mode, NodeId, Request, Slot, Ticket, ToCoord, ToNode, Version, Want, Wants, NODES};
+use farm_base::{
+    Content, Copied, Digest, FolderName, FromCoord, Left, Message, Mode, NODES, NodeId, Request,
+    Slot, Ticket, ToCoord, ToNode, Version, Want, Wants,
+};
 use nodecore::{AskState, KeptContents, NodeCore, NodeDone, NodeNote};
 use saverecord::MemoryKeeper;
 use std::alloc::{AllocError, Global};

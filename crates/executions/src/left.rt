@@ -91,12 +91,7 @@ fn is_left(slot: &GrantedSlot) -> bool
 }
 
 /// A slot and the bytes of its folder, as it was changed or seen.
-fn left(
-    alloc: Global,
-    seen: &Seen,
-    changed: &[Named],
-    slot: &Slot,
-) -> Result<Left, AllocError>
+fn left(alloc: Global, seen: &Seen, changed: &[Named], slot: &Slot) -> Result<Left, AllocError>
     ensures { IfOk result (λ left. left ≡ left_in (folder_seen seen.now.leased seen.now.shared) changed.now slot.now) }
 {
     let folder = match find(changed, slot.folder()) {

@@ -4,7 +4,7 @@ ghost use Rattle.executions.specs.Live.{IsTenureOf};
 
 use super::fault::FarmFault;
 use super::faults::board_fault;
-use farm_base::{FolderName, Left, Mode, NodeId, Wants, Why, EVENTS};
+use farm_base::{EVENTS, FolderName, Left, Mode, NodeId, Wants, Why};
 use farmboard::{
     Accept, Asked, Board, Ended, Finished, Granted, Running, Settled, abandon_asked,
     abandon_finished, abandon_granted, abandon_running,

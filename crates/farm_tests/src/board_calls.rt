@@ -57,7 +57,12 @@ fn finished(alloc: Global, board: &mut Board, running: Running, slot: Slot) -> O
         abandon_running(running);
         return None;
     };
-    let Ok(lefts) = vec![in alloc; Left { slot, content: Content::of(bytes) }] else {
+    let Ok(lefts) = vec![in alloc;
+        Left {
+            slot,
+            content: Content::of(bytes)
+        },
+    ] else {
         abandon_running(running);
         return None;
     };

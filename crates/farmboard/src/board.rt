@@ -17,7 +17,9 @@ use super::passing::{is_among, pass};
 use super::refusal::BoardRefusal;
 use super::tokens::{Accept, Asked, Finished, Granted, Running, abandon_asked};
 use super::uses::{InUse, has_node, note};
-use farm_base::{Ask, Copied, FolderName, Grant, Items, Left, Life, Mode, NodeId, Version, Want, Wants, EVENTS};
+use farm_base::{
+    Ask, Copied, EVENTS, FolderName, Grant, Items, Left, Life, Mode, NodeId, Version, Want, Wants,
+};
 use nodecore::AskState;
 use protocol::{Event, EventRefusal, How, Outcome};
 use schedule::Setup;

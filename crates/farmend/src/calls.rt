@@ -5,8 +5,8 @@ ghost use Rattle.farmend.specs.NewCalls.{IsAmong, IsCallFor, on_node, outputs_in
 
 use super::spot::Spot;
 use executions::Call;
-use farm_base::{Copied, Digest, Items, Key, NodeId};
 use farm_base::laws::equal_digests_are_one;
+use farm_base::{Copied, Digest, Items, Key, NodeId};
 use std::alloc::{AllocError, Global};
 use std::collections::HashMap;
 

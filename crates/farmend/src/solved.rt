@@ -9,8 +9,8 @@ ghost use Rattle.farmend.specs.Solved.{AreGiven, IsClosed, IsClosedAt, IsSolved,
 
 use super::calls::{Book, output_in};
 use executions::Call;
-use farm_base::{Digest, Key, NodeId};
 use farm_base::laws::equal_digests_are_one;
+use farm_base::{Digest, Key, NodeId};
 use solverkeys::Keyed;
 use std::alloc::{AllocError, Global};
 use vertices::Graph;

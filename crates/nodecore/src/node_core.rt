@@ -16,7 +16,10 @@ use super::contents::{fits, known_from, news_of};
 use super::kept::{KeptContents, ResumeRefusal, ToKeep};
 use super::message::{AskState, NodeDone};
 use super::stored::StoredContents;
-use farm_base::{Ask, Content, Copied, Digest, FolderName, GrantedSlot, Items, Left, Life, Message, Mode, NodeId, Request, Ticket, ToCoord, Version, Want, Wants, GREATEST};
+use farm_base::{
+    Ask, Content, Copied, Digest, FolderName, GREATEST, GrantedSlot, Items, Left, Life, Message,
+    Mode, NodeId, Request, Ticket, ToCoord, Version, Want, Wants,
+};
 use indexmap::IndexMap;
 use protocol::{How, KeptAsk, NodeNote, NodeRefusal};
 use std::alloc::{AllocError, Global};

@@ -9,8 +9,8 @@ ghost use Rattle.saverecord.specs.Spelling.{mode_bytes, id_bytes, base_bytes, sl
 use super::layout::Layout;
 use super::part::{take_digest, take_flag, take_id, take_u32, take_u64};
 use super::refusal::{Flaw, RecordRefusal};
-use farm_base::{Base, FolderName, INSTANCES, Index, Key, Mode, Slot};
 use farm_base::laws::is_slot;
+use farm_base::{Base, FolderName, INSTANCES, Index, Key, Mode, Slot};
 use std::alloc::{AllocError, Global};
 
 #[tactic(auto, unfolding(crate::specs::Slots::mode_at))]

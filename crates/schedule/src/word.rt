@@ -14,9 +14,11 @@ ghost use Rattle.hex.specs.Hex.{IsBytes, encode_lower};
 ghost use Rattle.schedule.specs.Lines.{node_text, ticket_text, kept_text, want_text, left_text, IsNode, IsTicket, IsWant, IsLeft, Left};
 
 use super::refusal::LineRefusal;
-use farm_base::reading::{after, number};
-use farm_base::{Content, FolderName, FolderRefusal, Left, NodeId, Slot, SlotRefusal, Ticket, Want, are_bytes};
 use farm_base::laws::{is_name, is_slot};
+use farm_base::reading::{after, number};
+use farm_base::{
+    Content, FolderName, FolderRefusal, Left, NodeId, Slot, SlotRefusal, Ticket, Want, are_bytes,
+};
 use protocol::Kept;
 use std::alloc::Global;
 

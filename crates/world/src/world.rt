@@ -19,7 +19,10 @@ use super::pool::message_at;
 use coordinator::Coordinator;
 use farm_base::{NODES, NodeId};
 use nodecore::{Message, NodeCore};
-use protocol::laws::{a_fitting_message_is_granted, every_event_is_moves, every_farm_stays_lawful, every_run_is_safe, every_schedule_is_safe};
+use protocol::laws::{
+    a_fitting_message_is_granted, every_event_is_moves, every_farm_stays_lawful, every_run_is_safe,
+    every_schedule_is_safe,
+};
 use protocol::{EventRefusal, Outcome};
 use saverecord::MemoryKeeper;
 use schedule::{Event, Setup};
