@@ -87,7 +87,10 @@ fn a_batch_is_made_once(rt: HostRuntime) -> Result<(), Fail> {
         give_up(live);
         let (again, content) = made?;
         assert_eq!(rt; again, Err(SharedRefusal::Twice));
-        assert_eq!(rt; content.bytes(), [0, 0, 0, 1, b'a', 0, 0, 0, 1, b'x'].as_slice());
+        assert_eq!(rt;
+            content.bytes(),
+            [0, 0, 0, 1, b'a', 0, 0, 0, 1, b'x'].as_slice()
+        );
     }
     Ok(())
 }
