@@ -1,4 +1,5 @@
 //! What the threads of a farm share.
+use super::bell::Bell;
 use super::desk::Desk;
 use super::fault::FarmFault;
 use super::home::Home;
@@ -7,7 +8,6 @@ use farm_base::NodeId;
 use std::alloc::Global;
 use std::sync::atomic::{AtomicBool, AtomicU64, Ordering};
 use std::sync::{Mutex, Wait};
-use std::thread;
 
 /// What the threads of a farm share. Whoever holds the lock of the desk may take that of a home, and no other way round.
 #[derive(Drop)]
@@ -20,8 +20,10 @@ pub(crate) struct Hall {
     /// The first fault.
     pub(crate) fault: Mutex<Option<FarmFault>>,
     pub(crate) stop: AtomicBool,
-    /// A number that changes with whatever may let a waiting worker go on.
-    pub(crate) changes: AtomicU64,
+    /// Rung by whatever may let a waiting worker go on.
+    pub(crate) changes: Bell,
+    /// Rung by whatever may let the router go on: each change, and each worker that begins to wait.
+    pub(crate) calls: Bell,
     /// A number that changes with each step of a worker.
     pub(crate) steps: AtomicU64,
     /// For each worker the number of `changes` at which it last saw that it has to wait.
@@ -51,22 +53,24 @@ impl Hall {
         Ok(())
     }
 
-    /// Notes a fault, if it is the first, and stops all threads.
+    /// Notes a fault, if it is the first, and stops all threads: those that wait are woken.
     pub(crate) fn fail<R: Wait>(&self, rt: &R, fault: FarmFault) {
         let mut first = self.fault.lock(rt);
         if first.is_none() {
             *first = Some(fault);
         }
         self.stop.store(true, Ordering::SeqCst);
+        self.note_change();
     }
 
     pub(crate) fn changes(&self) -> u64 {
-        self.changes.load(Ordering::SeqCst)
+        self.changes.rings()
     }
 
-    /// Notes a change.
+    /// Notes a change, which wakes all threads that wait.
     pub(crate) fn note_change(&self) {
-        self.changes.fetch_add(1, Ordering::SeqCst);
+        self.changes.ring();
+        self.calls.ring();
     }
 
     /// Notes a step of a worker, which is a change.
@@ -81,12 +85,13 @@ impl Hall {
         if let Some(wait) = self.waits.get(worker) {
             wait.store(seen, Ordering::SeqCst);
         }
+        self.calls.ring();
         for _ in rt.forever() {
             self.go_on()?;
             if self.changes() != seen {
                 return Ok(());
             }
-            thread::yield_now();
+            self.changes.wait(rt, seen);
         }
         unreachable!()
     }

@@ -2,6 +2,7 @@
 #![tactic(auto)]
 
 mod answers;
+mod bell;
 mod closing;
 mod desk;
 mod down;

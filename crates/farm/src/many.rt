@@ -95,6 +95,7 @@ fn parts_of(hall: Hall) -> (Board, Vec<(NodeId, Keyed)>)
         fault: _,
         stop: _,
         changes: _,
+        calls: _,
         steps: _,
         waits: _,
         ended: _,

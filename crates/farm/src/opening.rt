@@ -1,6 +1,7 @@
 //! A hall where the threads of a farm can begin.
 ghost use Rattle.std.specs.Prelude.{◌≡◌, IfOk};
 
+use super::bell::Bell;
 use super::desk::Desk;
 use super::fault::FarmFault;
 use super::faults::jobs_fault;
@@ -121,7 +122,8 @@ pub(crate) fn open(
         work,
         fault: Mutex::new(None),
         stop: AtomicBool::new(false),
-        changes: AtomicU64::new(1),
+        changes: Bell::new(),
+        calls: Bell::new(),
         steps: AtomicU64::new(0),
         waits: waits_of(alloc, workers)?,
         ended: AtomicU64::new(0),

@@ -12,7 +12,6 @@ use protocol::{EventNote, NodeNote};
 use std::alloc::Global;
 use std::sync::Wait;
 use std::sync::atomic::Ordering;
-use std::thread;
 
 /// How often in a row all is sent again where nobody can go on.
 const IDLE_ROUNDS: u32 = 1_000;
@@ -72,11 +71,12 @@ pub(crate) fn route<R: Wait>(
 impl Router {
     fn run<R: Wait>(&mut self, rt: &R, hall: &Hall) -> Result<(), FarmFault> {
         for _ in rt.forever() {
+            let called = hall.calls.rings();
             hall.go_on()?;
             let changes = hall.changes();
             match self.turn(rt, hall, changes)? {
                 Turn::Acted => hall.note_change(),
-                Turn::Waits => thread::yield_now(),
+                Turn::Waits => hall.calls.wait(rt, called),
                 Turn::Ends => return Ok(()),
             }
         }

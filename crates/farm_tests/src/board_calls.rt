@@ -1,4 +1,5 @@
 //! One execution on a board, from its ask to its receipt, with ample memory.
+ghost use Rattle.std.specs.Prelude.{◌≡◌, IfSome};
 
 use farm_base::{Content, FolderName, Left, NodeId, Slot, Ticket, Wants};
 use farmboard::{
@@ -16,7 +17,7 @@ fn wants_of(alloc: Global, folder: &str) -> Result<Wants, Fail> {
 }
 
 /// Delivers up to this many messages.
-fn deliver(alloc: Global, board: &mut Board, most: u64) {
+pub(crate) fn deliver(alloc: Global, board: &mut Board, most: u64) {
     for _ in 0..most {
         let Ok(Some(_)) = board.deliver_next(alloc) else {
             break;
@@ -25,7 +26,9 @@ fn deliver(alloc: Global, board: &mut Board, most: u64) {
 }
 
 /// The lease of an ask, if it has one.
-fn granted(alloc: Global, board: &Board, asked: Asked) -> Option<Granted> {
+pub(crate) fn granted(alloc: Global, board: &Board, asked: Asked) -> Option<Granted>
+    ensures { IfSome result (λ granted. granted.wants ≡ asked.wants) }
+{
     match board.accept(alloc, asked) {
         Ok(Accept::Granted(granted)) => Some(granted),
         Ok(Accept::Waiting(asked)) => {
@@ -41,7 +44,9 @@ fn granted(alloc: Global, board: &Board, asked: Asked) -> Option<Granted> {
     }
 }
 
-fn begun(alloc: Global, board: &mut Board, granted: Granted) -> Option<Running> {
+pub(crate) fn begun(alloc: Global, board: &mut Board, granted: Granted) -> Option<Running>
+    ensures { IfSome result (λ running. running.wants ≡ granted.wants) }
+{
     match board.begin(alloc, granted) {
         Ok(running) => Some(running),
         Err((granted, _)) => {

@@ -16,6 +16,8 @@ mod records;
 #[cfg(test)]
 mod saves;
 #[cfg(test)]
+mod shared_batches;
+#[cfg(test)]
 mod starts;
 #[cfg(test)]
 mod tickets;
