@@ -15,7 +15,7 @@ use std::test::Fail;
 fn put(alloc: Global, content: &str) -> Result<Vec<Edit>, AllocError> {
     let path = Text::new(String::from_str(alloc, "a")?);
     let content = Vec::from_slice(alloc, content.as_bytes())?;
-    vec![in alloc; Edit::Put(path, Items::new(content))]
+    Ok(vec![in alloc; Edit::Put(path, Items::new(content))]?)
 }
 
 /// The tenure of a SHARED folder, in use.
