@@ -4,7 +4,7 @@ use super::clock::seconds_since;
 use coordinator::{CoordNote, Coordinator};
 use farm_base::{Ask, FolderName, Life, NodeId, Request, Ticket, ToCoord, Wants};
 use saverecord::MemoryKeeper;
-use std::alloc::{AllocError, Global};
+use std::alloc::Global;
 use std::rt::Clock;
 use std::time::Instant;
 
@@ -28,15 +28,6 @@ fn started(alloc: Global) -> anyhow::Result<Coordinator<MemoryKeeper>> {
         Ok(coordinator) => Ok(coordinator),
         Err(not) => Err(not.refusal.into()),
     }
-}
-
-/// The text of a LOCKED folder.
-fn locked(alloc: Global, number: u32) -> Result<String, AllocError> {
-    let mut text = String::new(alloc);
-    text.push_str("locked:f")?;
-    let number = number.to_string(alloc)?;
-    text.push_str(number.as_str())?;
-    Ok(text)
 }
 
 /// Node 1 asks for a folder: the ticket of its lease, or None where the ask waits.
@@ -86,7 +77,7 @@ fn lease(
     count: u32,
 ) -> anyhow::Result<()> {
     for number in 0..count {
-        let folder = locked(alloc, number)?;
+        let folder = format!(in alloc; "locked:f{number}")?;
         ask(coordinator, alloc, number, folder.as_str())?;
     }
     Ok(())
