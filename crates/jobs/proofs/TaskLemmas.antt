@@ -11,7 +11,7 @@ use Rattle.jobs.specs.declared.entry.Progress.TheVariants.{Waiting, Out, Done, F
 use Rattle.jobs.specs.History.{History}
 use Rattle.jobs.specs.Tasks.{HandsOut, opens, submits, takes, finishes, fails}
 
-is_handed : Progress → Bool
+abbrev is_handed : Progress → Bool
 is_handed Waiting = false
 is_handed Out = true
 is_handed (Done outputs) = true
@@ -19,7 +19,7 @@ is_handed (Failed fault) = true
 
 
 -- how many of these keys were handed out
-handed : List Entry → ℕ
+abbrev handed : List Entry → ℕ
 handed keys = sum_by (λ e. cond (is_handed e.progress) 1 0) keys
 
 -- a key moves from one progress to another
