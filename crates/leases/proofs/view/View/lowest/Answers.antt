@@ -2,7 +2,7 @@ use Rattle.std.proofs.Common.{◌≡◌, ◌+◌, ◌-◌, false, not, get_or, s
 use Rattle.leases.specs.Table.{is_free}
 use Rattle.leases.proofs.MarkLemmas.{free-unmarked}
 use Rattle.leases.proofs.TableLemmas.{lowest-end, lowest-free, lowest-taken}
-use Rattle.leases.proofs.lease_table.LeaseTable.lowest.Goals as goal
+use Rattle.leases.proofs.view.View.lowest.Goals as goal
 
 pub returns-then-not-marks-instance-clause-value : goal.returns-then-not-marks-instance-clause-value
 returns-then-not-marks-instance-clause-value c =

@@ -6,7 +6,7 @@ use Rattle.farm_base.specs.Slots.{slot_cmp}
 use Rattle.protocol.specs.Names.{Slot, slot_eq}
 use Rattle.leases.specs.Table.{among}
 use Rattle.leases.proofs.RisingLemmas.{among-rising, rises-dedup}
-use Rattle.leases.proofs.lease_table.rising.Goals as goal
+use Rattle.leases.proofs.slots.rising.Goals as goal
 
 pub returns-clause-rising : goal.returns-clause-rising
 returns-clause-rising c = subst (IsStrictlySortedBy slot_cmp) (sym (dedup_is slot_eq c.sort.new.self.items c.dedup.new.self.items c.dedup.ensures.filtered)) (rises-dedup c.sort.new.self.items c.in_ok-sort.ensures.sorted)

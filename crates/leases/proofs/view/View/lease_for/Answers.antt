@@ -3,7 +3,7 @@ use Rattle.protocol.specs.Names.{Want}
 use Rattle.protocol.specs.Ledger.{all_taken}
 use Rattle.leases.specs.Table.{is_free, takes}
 use Rattle.leases.proofs.TableLemmas.{leased-filter, fits_both}
-use Rattle.leases.proofs.lease_table.LeaseTable.lease_for.Goals as goal
+use Rattle.leases.proofs.view.View.lease_for.Goals as goal
 
 pub slots_for-requires : goal.slots_for-requires
 slots_for-requires c =

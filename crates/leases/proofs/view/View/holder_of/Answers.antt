@@ -3,7 +3,7 @@ use Rattle.std.specs.List.{find}
 use Rattle.protocol.specs.Names.{Want}
 use Rattle.leases.specs.Table.{holds_some, takes}
 use Rattle.leases.proofs.TableLemmas.{leased-filter}
-use Rattle.leases.proofs.lease_table.LeaseTable.holder_of.Goals as goal
+use Rattle.leases.proofs.view.View.holder_of.Goals as goal
 
 pub returns : goal.returns
 returns c =
