@@ -49,12 +49,17 @@ impl TableChange {
     fn over<'t>(&'t self, table: &'t LeaseTable) -> View<'t>
         ensures { result ≡ changed table.now self.now }
     {
+        let leases = table.leases();
+        let ended = self.ended.as_slice();
+        let granted = self.granted.as_slice();
+        let retired = table.retired();
+        let newly_retired = self.retired.as_slice();
         View {
-            leases: table.leases(),
-            ended: self.ended.as_slice(),
-            granted: self.granted.as_slice(),
-            retired: table.retired(),
-            newly_retired: self.retired.as_slice(),
+            leases,
+            ended,
+            granted,
+            retired,
+            newly_retired,
         }
     }
 

@@ -8,6 +8,7 @@ ghost use Rattle.protocol.specs.Ledger.{has_slot, lease_of, lease_under, without
 ghost use Rattle.leases.specs.Leases.{AreLeases, IsBefore};
 ghost use Rattle.leases.specs.Table.{among, is_leased, fit_of, lease_for, state_of, holds_some, retires_some};
 
+use super::ending::{Ending, drop_ending};
 use super::held::{among, has_slot};
 use super::view::View;
 use farm_base::{Ask, Copied, Lease, Life, NodeId, Slot, Ticket, Wants, copy_all};
@@ -67,11 +68,13 @@ impl LeaseTable {
         ensures value { result ≡ self.now }
         ensures sound { AreLeases self.now.live }
     {
+        let leases = self.leases.as_slice();
+        let retired = self.retired.as_slice();
         View {
-            leases: self.leases.as_slice(),
+            leases,
             ended: &[],
             granted: &[],
-            retired: self.retired.as_slice(),
+            retired,
             newly_retired: &[],
         }
     }
@@ -223,7 +226,7 @@ impl LeaseTable {
     {
         let mut retired = self.unchanged().private_at(alloc, node)?;
         self.retired.append(&mut retired)?;
-        drop_all_of(&mut self.leases, node);
+        drop_ending(&mut self.leases, Ending::Node(node));
         Ok(())
     }
 
@@ -261,7 +264,7 @@ impl LeaseTable {
         ensures rest { self.new ≡ record self.old { live = filter (λ g. not (is_older node life g)) self.old.live } }
     {
         let ended = count_older(self.leases.as_slice(), node, life);
-        drop_older(&mut self.leases, node, life);
+        drop_ending(&mut self.leases, Ending::LivesBelow(node, life));
         ended
     }
 }
@@ -321,18 +324,6 @@ fn count_older(leases: &[Lease], node: NodeId, life: Life) -> usize
         .iter()
         .filter(|lease| lease.node == node && lease.life < life)
         .count()
-}
-
-fn drop_older(leases: &mut Vec<Lease>, node: NodeId, life: Life)
-    ensures { leases.new.items ≡ filter (λ g. not (is_older node life g)) leases.old.items }
-{
-    leases.retain(|lease| !(lease.node == node && lease.life < life));
-}
-
-fn drop_all_of(leases: &mut Vec<Lease>, node: NodeId)
-    ensures { leases.new.items ≡ filter (λ g. not (is_at node g)) leases.old.items }
-{
-    leases.retain(|lease| lease.node != node);
 }
 
 impl Copied for LeaseTable {

@@ -35,7 +35,7 @@ impl LeaseTable {
     pub fn with_room(self, change: &TableChange) -> Result<TableWithRoom, LeaseTable>
         ensures table { IfOk result (λ roomy. roomy.table ≡ self) }
         ensures room { IfOk result (λ roomy. HasRoom roomy change.now) }
-        ensures err { IfErr result (λ table. table ≡ self) }
+        ensures err { IfErr result (λ t. t ≡ self) }
     {
         let (mut leases, mut retired) = self.into_vecs();
         let (more_leases, more_slots) = change.added();

@@ -1,9 +1,8 @@
-use Rattle.std.proofs.Common.{◌∙◌, List, sym, ap, subst}
-use Rattle.std.specs.Prelude.{IsPermutation}
+use Rattle.std.proofs.Common.{◌∙◌, sym, ap, subst}
 use Rattle.std.specs.List.Sorted.{IsStrictlySortedBy}
 use Rattle.std.proofs.lemmas.List.Filters.{dedup_is}
 use Rattle.farm_base.specs.Slots.{slot_cmp}
-use Rattle.protocol.specs.Names.{Slot, slot_eq}
+use Rattle.protocol.specs.Names.{slot_eq}
 use Rattle.leases.specs.Table.{among}
 use Rattle.leases.proofs.RisingLemmas.{among-rising, rises-dedup}
 use Rattle.leases.proofs.slots.rising.Goals as goal
@@ -14,4 +13,4 @@ returns-clause-rising c = subst (IsStrictlySortedBy slot_cmp) (sym (dedup_is slo
 pub returns-clause-same : goal.returns-clause-same
 returns-clause-same c =
     ap among (dedup_is slot_eq c.sort.new.self.items c.dedup.new.self.items c.dedup.ensures.filtered)
-    ∙ among-rising c.args.slots.now c.sort.new.self.items (subst (λ (l : List Slot). IsPermutation l c.sort.new.self.items) c.in_ok-rising.ensures c.sort.ensures.permutation)
+    ∙ among-rising c.args.slots.items c.sort.new.self.items c.sort.ensures.permutation
