@@ -1,8 +1,9 @@
 //! Measures the crates. With no words it makes small inputs and prints what comes of them; with the word
-//! `read`, `keys`, `replay`, `save` or `run` it measures, each figure as a ratio of times in the same run.
+//! `read`, `keys`, `replay`, `save`, `events` or `run` it measures, each figure as a ratio of times in the same run.
 #![tactic(auto)]
 
 mod clock;
+mod event;
 mod graphs;
 mod hashing;
 mod keys;
@@ -29,10 +30,12 @@ fn main(rt: HostRuntime) -> anyhow::Result<()> {
                 replay::measure(&rt)
             } else if word.as_str() == "save" {
                 save::measure(&rt)
+            } else if word.as_str() == "events" {
+                event::measure(&rt)
             } else if word.as_str() == "run" {
                 run::measure(&rt)
             } else {
-                eprintln!(rt; "bench [read|keys|replay|save|run]")?;
+                eprintln!(rt; "bench [read|keys|replay|save|events|run]")?;
                 Ok(())
             }
         }

@@ -17,6 +17,7 @@ const COMMITS: u32 = 1_000;
 #[derive(Clone, Copy)]
 struct Times {
     event: f64,
+    start: f64,
     hash: f64,
 }
 
@@ -113,6 +114,13 @@ fn hashing<R: Clock + AllocGlobal>(rt: &R, bytes: &[u8]) -> anyhow::Result<f64> 
     Ok(seconds_since(rt, start))
 }
 
+/// The time of a start from the bytes.
+fn starting<R: Clock + AllocGlobal>(rt: &R, bytes: &[u8]) -> anyhow::Result<f64> {
+    let start = Instant::now(rt)?;
+    let _coordinator = started(rt.alloc(), bytes)?;
+    Ok(seconds_since(rt, start))
+}
+
 /// The mean time of a commit to a record, spread over many of them.
 fn of_commits<R: Clock + AllocGlobal>(rt: &R, bytes: &[u8]) -> anyhow::Result<f64> {
     let mut coordinator = started(rt.alloc(), bytes)?;
@@ -125,20 +133,22 @@ fn of_commits<R: Clock + AllocGlobal>(rt: &R, bytes: &[u8]) -> anyhow::Result<f6
     Ok(total / f64::from(COMMITS))
 }
 
-/// The least times of a commit to a record, and of copying and hashing that record.
+/// The least times of a commit to a record, of a start from it, and of copying and hashing its bytes.
 fn measured<R: Clock + AllocGlobal>(rt: &R, count: u32) -> anyhow::Result<Times> {
     let bytes = record(rt.alloc(), count)?;
     let mut event = f64::INFINITY;
+    let mut start = f64::INFINITY;
     let mut hash = f64::INFINITY;
     for _ in 0..ROUNDS {
         event = event.min(of_commits(rt, &bytes)?);
+        start = start.min(starting(rt, &bytes)?);
         hash = hash.min(hashing(rt, &bytes)?);
     }
-    Ok(Times { event, hash })
+    Ok(Times { event, start, hash })
 }
 
 /// Prints, for records of 100, 1,000, 10,000 and 100,000 versions, the time of a commit, over that to a record of 100, and
-/// over the time of copying and hashing the record's bytes once.
+/// over the time of copying and hashing the record's bytes once; and the time of a start, over the same.
 pub fn measure<R: Print + Clock + AllocGlobal>(rt: &R) -> anyhow::Result<()> {
     let mut first = 0.0;
     for count in [100, 1_000, 10_000, 100_000] {
@@ -148,8 +158,9 @@ pub fn measure<R: Print + Clock + AllocGlobal>(rt: &R) -> anyhow::Result<()> {
         }
         let growth = times.event / first;
         let ratio = times.event / times.hash;
+        let start = times.start / times.hash;
         println!(rt;
-            "save {count} versions: {growth:.2} of a commit to 100, {ratio:.4} of copying and hashing its record"
+            "save {count} versions: {growth:.2} of a commit to 100, {ratio:.4} of copying and hashing its record; start {start:.2} of that"
         )?;
     }
     Ok(())

@@ -8,9 +8,9 @@ abbrev pub ◌>>=◌ : {A B E : Type 0} → Result A E → (A → Result B E) �
 (Err e) >>= f = Err e
 
 -- a result, with view applied to its value
-abbrev pub shown : {X Y E : Type 0} → (X → Y) → Result X E → Result Y E
-shown view (Ok x) = Ok (view x)
-shown view (Err e) = Err e
+abbrev pub result_map : {X Y E : Type 0} → (X → Y) → Result X E → Result Y E
+result_map view (Ok x) = Ok (view x)
+result_map view (Err e) = Err e
 
 -- what was returned, with view applied to its value, is what reading gives, unless memory ran out
 abbrev pub GivesUnless : {X Y E : Type 0} → E → (X → Y) → Result X E → Result Y E → Type 0

@@ -1,7 +1,7 @@
 //! Reading folder bytes from the left.
 ghost use Rattle.std.specs.Prelude.{◌≡◌, None, length};
 ghost use Rattle.std.specs.Option.{option_copied};
-ghost use Rattle.codec.specs.Steps.{shown};
+ghost use Rattle.codec.specs.Steps.{result_map};
 ghost use Rattle.folders.specs.Reading.{Gives, number_at, sized_at, is_above, path_at, file_at, files_in, folder_of};
 
 use super::file::{File, file_of};
@@ -13,7 +13,7 @@ pub(crate) const MOST_BYTES: usize = 16 << 20;
 
 /// The number at the front, and what follows it.
 fn first_number(bytes: &[u8]) -> Result<(usize, &[u8]), FolderRefusal>
-    ensures { shown (λ x. (x.0, x.1.now)) result ≡ number_at bytes.now }
+    ensures { result_map (λ x. (x.0, x.1.now)) result ≡ number_at bytes.now }
 {
     if bytes.len() < 4 {
         return Err(FolderRefusal::Truncated);
@@ -26,7 +26,7 @@ fn first_number(bytes: &[u8]) -> Result<(usize, &[u8]), FolderRefusal>
 /// The bytes at the front, behind their length, and what follows them.
 #[tactic(auto, unfolding(crate::specs::Reading::sized_at))]
 fn first_sized(bytes: &[u8]) -> Result<(&[u8], &[u8]), FolderRefusal>
-    ensures { shown (λ x. (x.0.now, x.1.now)) result ≡ sized_at bytes.now }
+    ensures { result_map (λ x. (x.0.now, x.1.now)) result ≡ sized_at bytes.now }
 {
     let (len, rest) = first_number(bytes)?;
     if rest.len() < len {
@@ -48,7 +48,7 @@ fn is_above(last: Option<&str>, path: &str) -> bool
 /// The path at the front, and what follows it.
 #[tactic(auto, unfolding(crate::specs::Reading::path_at))]
 fn first_path<'a>(last: Option<&str>, bytes: &'a [u8]) -> Result<(&'a str, &'a [u8]), FolderRefusal>
-    ensures { shown (λ x. (x.0.now, x.1.now)) result ≡ path_at (option_copied last.entry) bytes.now }
+    ensures { result_map (λ x. (x.0.now, x.1.now)) result ≡ path_at (option_copied last.entry) bytes.now }
 {
     let (path, rest) = first_sized(bytes)?;
     let Ok(path) = str::from_utf8(path) else {
@@ -66,7 +66,7 @@ fn first_file<'a>(
     last: Option<&str>,
     bytes: &'a [u8],
 ) -> Result<(&'a str, &'a [u8], &'a [u8]), FolderRefusal>
-    ensures { shown (λ x. ((x.0.now, x.1.now), x.2.now)) result ≡ file_at (option_copied last.entry) bytes.now }
+    ensures { result_map (λ x. ((x.0.now, x.1.now), x.2.now)) result ≡ file_at (option_copied last.entry) bytes.now }
 {
     let (path, rest) = first_path(last, bytes)?;
     let (content, rest) = first_sized(rest)?;

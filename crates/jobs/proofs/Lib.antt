@@ -13,4 +13,5 @@ mod ShapeLemmas
 mod SpreadLemmas
 pub mod StayLemmas
 mod TableLemmas
+mod TaskLemmas
 mod UserLemmas

@@ -11,4 +11,5 @@ pub mod Rests
 pub mod Searching
 pub mod Spreading
 pub mod Tables
+pub mod Tasks
 pub mod Users

@@ -4,7 +4,7 @@ use Rattle.std.specs.Prelude.{unwrap_or}
 use Rattle.std.specs.List.{last_or}
 use Rattle.protowire.specs.declared.refusal.WireRefusal.{WireRefusal}
 use Rattle.protowire.specs.Fields.{Entry, Spelled}
-use Rattle.codec.specs.Steps.{◌>>=◌, shown}
+use Rattle.codec.specs.Steps.{◌>>=◌, result_map}
 use Rattle.protowire.specs.Reading.{fields_of}
 use Rattle.protowire.specs.Lookups.{bodies, bodies_of, at_most}
 use Rattle.opsproto.specs.Scalars.{text_in}
@@ -69,7 +69,7 @@ of_found None = Err TooLarge
 of_found (Some bs) = Ok (record { def = bs })
 
 -- a definition by its bodies, without a list of its fields
-pub by_bodies : (text : List ℕ) → definition_at text ≡ cond (ltb limit (length text)) (Err TooLarge) (wire (shown (at_most most_entries) (bodies_of 1 text)) >>= of_found)
+pub by_bodies : (text : List ℕ) → definition_at text ≡ cond (ltb limit (length text)) (Err TooLarge) (wire (result_map (at_most most_entries) (bodies_of 1 text)) >>= of_found)
 unfolding definition_at entries_of
 by_bodies text = ap (λ (r : Result Definition OpRefusal). cond (ltb limit (length text)) (Err TooLarge) r) (of_read (fields_of text))
   where
@@ -79,6 +79,6 @@ by_bodies text = ap (λ (r : Result Definition OpRefusal). cond (ltb limit (leng
 
     of_read : (read : Result (List Spelled) WireRefusal)
         → (wire (read >>= λ fs. Ok (says fs)) >>= λ es. cond (ltb most_entries (length (bodies 1 es))) (Err TooLarge) (made (bodies 1 es)))
-        ≡ (wire (shown (at_most most_entries) (read >>= λ fs. Ok (bodies 1 (says fs)))) >>= of_found)
+        ≡ (wire (result_map (at_most most_entries) (read >>= λ fs. Ok (bodies 1 (says fs)))) >>= of_found)
     of_read (Ok fs) = by_test (ltb most_entries (length (bodies 1 (says fs)))) (bodies 1 (says fs))
     of_read (Err e) = refl

@@ -1,5 +1,5 @@
 ghost use Rattle.std.specs.Prelude.{◌≡◌, List, length, IfOk, Ok};
-ghost use Rattle.codec.specs.Steps.{shown};
+ghost use Rattle.codec.specs.Steps.{result_map};
 ghost use Rattle.protowire.specs.Reading.{front_at, payload_at, field_at, fields_of, Gives};
 ghost use Rattle.protowire.specs.Fields.{Spelled, AreFields};
 ghost use Rattle.protowire.specs.Seen.{payload, spelled_all, StandInRow};
@@ -17,7 +17,7 @@ const ROOM: usize = 8;
 
 /// The first `len` bytes, and what follows them.
 fn first_bytes(bytes: &[u8], len: u64) -> Result<(&[u8], &[u8]), WireRefusal>
-    ensures { shown (λ x. (x.0.now, x.1.now)) result ≡ front_at len bytes.now }
+    ensures { result_map (λ x. (x.0.now, x.1.now)) result ≡ front_at len bytes.now }
 {
     if len > bytes.len() as u64 {
         return Err(WireRefusal::Truncated);
@@ -28,7 +28,7 @@ fn first_bytes(bytes: &[u8], len: u64) -> Result<(&[u8], &[u8]), WireRefusal>
 /// The value at the front, by its wire type, and what follows it.
 #[tactic(auto, unfolding(crate::specs::Reading::payload_at))]
 fn first_value(wire_type: u64, bytes: &[u8]) -> Result<(Value<'_>, &[u8]), WireRefusal>
-    ensures { shown (λ x. (payload x.0, x.1.now)) result ≡ payload_at wire_type bytes.now }
+    ensures { result_map (λ x. (payload x.0, x.1.now)) result ≡ payload_at wire_type bytes.now }
 {
     match wire_type {
         0 => {
@@ -55,7 +55,7 @@ fn first_value(wire_type: u64, bytes: &[u8]) -> Result<(Value<'_>, &[u8]), WireR
 /// The number and the value of the field at the front, and what follows it.
 #[tactic(auto, unfolding(crate::specs::Reading::field_at))]
 pub(crate) fn first_field(bytes: &[u8]) -> Result<(u32, Value<'_>, &[u8]), WireRefusal>
-    ensures { shown (λ x. (record { number = x.0; payload = payload x.1 }, x.2.now)) result ≡ field_at bytes.now }
+    ensures { result_map (λ x. (record { number = x.0; payload = payload x.1 }, x.2.now)) result ≡ field_at bytes.now }
 {
     let (tag, rest) = varint(bytes)?;
     let number = tag / 8;

@@ -1,5 +1,5 @@
 ghost use Rattle.std.specs.Prelude.{◌≡◌};
-ghost use Rattle.codec.specs.Steps.{shown};
+ghost use Rattle.codec.specs.Steps.{result_map};
 ghost use Rattle.protowire.specs.Reading.{varint_at};
 
 use super::refusal::WireRefusal;
@@ -7,7 +7,7 @@ use super::refusal::WireRefusal;
 /// The number at the front, and what follows it.
 #[tactic(auto, unfolding(crate::specs::Reading::varint_at))]
 pub(crate) fn varint(bytes: &[u8]) -> Result<(u64, &[u8]), WireRefusal>
-    ensures { shown (λ x. (x.0, x.1.now)) result ≡ varint_at bytes.now }
+    ensures { result_map (λ x. (x.0, x.1.now)) result ≡ varint_at bytes.now }
 {
     let mut number = 0;
     let mut weight = 1;

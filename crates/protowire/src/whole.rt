@@ -2,7 +2,7 @@
 
 ghost use Rattle.std.specs.Prelude.{◌≡◌, ◌≤◌, ◌++◌, ◌∷◌, [], length, take, IfOk, IfSome, OnOk};
 ghost use Rattle.std.specs.Option.{option_map};
-ghost use Rattle.codec.specs.Steps.{shown};
+ghost use Rattle.codec.specs.Steps.{result_map};
 ghost use Rattle.protowire.specs.Reading.{Gives};
 ghost use Rattle.protowire.specs.Seen.{payload};
 ghost use Rattle.protowire.specs.BodyLists.{AreWithin, pieces};
@@ -43,7 +43,7 @@ fn body_spans(
     number: u32,
     most: usize,
 ) -> Result<Option<Vec<Span>>, WireRefusal>
-    ensures value { Gives (option_map (λ spans. pieces message.now spans.items)) result (shown (at_most most) (bodies_of number message.now)) }
+    ensures value { Gives (option_map (λ spans. pieces message.now spans.items)) result (result_map (at_most most) (bodies_of number message.now)) }
     ensures within { IfOk result (λ found. IfSome found (λ spans. AreWithin (length message.now) spans.items)) }
 {
     let mut spans = Vec::new(alloc);
@@ -75,7 +75,7 @@ pub fn take_bodies(
     number: u32,
     most: usize,
 ) -> Result<Option<BodyList>, WireRefusal>
-    ensures { Gives (λ found. found) result (shown (at_most most) (bodies_of number message.items)) }
+    ensures { Gives (λ found. found) result (result_map (at_most most) (bodies_of number message.items)) }
 {
     match body_spans(alloc, message.as_slice(), number, most)? {
         None => Ok(None),

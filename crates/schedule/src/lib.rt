@@ -13,6 +13,7 @@ mod slot_line;
 mod verb;
 mod word;
 
+pub use note::print_note;
 pub use outcome::print_outcome;
 pub use protocol::Event;
 pub use reading::read_schedule;

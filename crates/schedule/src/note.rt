@@ -1,4 +1,4 @@
-ghost use Rattle.std.specs.Prelude.{◌≡◌, OnOk, ◌++◌, codes, decimal};
+ghost use Rattle.std.specs.Prelude.{◌≡◌, IfOk, OnOk, ◌++◌, codes, decimal};
 ghost use Rattle.std.specs.List.{flat_map};
 ghost use Rattle.std.specs.String.{string_bytes};
 ghost use Rattle.schedule.specs.Notes.{granted_text, grant_text, why_text, coord_note_text, node_note_text, note_text};
@@ -129,4 +129,13 @@ pub(crate) fn push_note(
         EventNote::Restarted => text.push_str("restarted"),
         EventNote::Armed => text.push_str("armed"),
     }
+}
+
+/// The text of what an event did, without the number and the messages that `print_outcome` adds.
+pub fn print_note(alloc: Global, note: &EventNote) -> Result<String, AllocError>
+    ensures { IfOk result (λ text. string_bytes text ≡ note_text note.now) }
+{
+    let mut text = String::new(alloc);
+    push_note(alloc, &mut text, note)?;
+    Ok(text)
 }

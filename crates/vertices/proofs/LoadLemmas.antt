@@ -21,7 +21,7 @@ use Rattle.vertices.specs.Asked.{Asks}
 use Rattle.vertices.specs.Sources.{IsSource, vertex_of}
 use Rattle.vertices.specs.declared.loading.Loading.{Loading}
 use Rattle.vertices.specs.Firsts.{IsTable, number_in}
-use Rattle.vertices.specs.Outcomes.{Answers}
+use Rattle.vertices.specs.Outcomes.{Meets}
 use Rattle.vertices.specs.Edges.{Numbers, IsEdge}
 use Rattle.opsproto.specs.declared.refusal.OpRefusal.{OpRefusal}
 use Rattle.opsproto.specs.declared.input.Input.{Input}
@@ -284,7 +284,7 @@ graph_answers entries last def op vertices given is reads read are h =
     then_last given def some all (vertices, definition_vertices entries last def vertices is are, checked)
 
 -- what a call answers to one check it answers to one that follows from it
-pub answers_weaker : {X : Type 0} (C D : Option LoadRefusal → Type 0) (r : Result X LoadRefusal) → ((given : Option LoadRefusal) → C given → D given) → Answers C r → Answers D r
+pub answers_weaker : {X : Type 0} (C D : Option LoadRefusal → Type 0) (r : Result X LoadRefusal) → ((given : Option LoadRefusal) → C given → D given) → Meets C r → Meets D r
 answers_weaker C D (Ok x) f h = f None h
 answers_weaker C D (Err e) f h = elim h [ inl memory ↦ inl memory | inr check ↦ inr (f (Some e) check) ]
 

@@ -39,7 +39,7 @@ abbrev pub refused : {X : Type 0} → Result X LoadRefusal → Option LoadRefusa
 refused (Ok x) = None
 refused (Err e) = Some e
 
--- a call answers as the check says, unless memory ran out
-abbrev pub Answers : {X : Type 0} → (Option LoadRefusal → Type 0) → Result X LoadRefusal → Type 0
-Answers C (Ok x) = C None
-Answers C (Err e) = (e ≡ OutOfMemory) ⊎ C (Some e)
+-- what a call gave meets the check, unless memory ran out
+abbrev pub Meets : {X : Type 0} → (Option LoadRefusal → Type 0) → Result X LoadRefusal → Type 0
+Meets C (Ok x) = C None
+Meets C (Err e) = (e ≡ OutOfMemory) ⊎ C (Some e)

@@ -2,7 +2,7 @@ ghost use Rattle.std.specs.Prelude.{◌≡◌, ◌<◌, ℕ, List, length, map, 
 ghost use Rattle.std.specs.List.{AllZip};
 ghost use Rattle.farm_base.specs.declared.digest.Digest.{Digest as SpecDigest};
 ghost use Rattle.vertices.specs.declared.vertex.Vertex.{Vertex as SpecVertex};
-ghost use Rattle.vertices.specs.Outcomes.{Each, Answers};
+ghost use Rattle.vertices.specs.Outcomes.{Each, Meets};
 ghost use Rattle.vertices.specs.Asked.{Asks};
 ghost use Rattle.vertices.specs.Edges.{AreEdges, Numbers, GoesTo, targets};
 ghost use Rattle.vertices.specs.Numbered.{AreNumbers, HasTargets};
@@ -24,7 +24,7 @@ fn vertex_edges(
     asked: &Asked,
 ) -> Result<Vec<(usize, u64)>, LoadRefusal>
     ensures check { (vertex : SpecVertex) (digests : List SpecDigest) (all : List SpecVertex) → Asks vertex asked.now
-        → Numbers digests all table.now → Answers (VertexCheck digests vertex) result }
+        → Numbers digests all table.now → Meets (VertexCheck digests vertex) result }
     ensures edges { (vertex : SpecVertex) (digests : List SpecDigest) (all : List SpecVertex) → Asks vertex asked.now
         → Numbers digests all table.now → IfOk result (λ edges. AreEdges all vertex.op.inputs edges.items) }
 {
@@ -42,7 +42,7 @@ fn edges_of_each(
     all: &[Asked],
 ) -> Result<Vec<Items<(usize, u64)>>, LoadRefusal>
     ensures check { (vertices : List SpecVertex) (digests : List SpecDigest) → AllZip Asks vertices all.now
-        → Numbers digests vertices table.now → Answers (Each (VertexCheck digests) vertices) result }
+        → Numbers digests vertices table.now → Meets (Each (VertexCheck digests) vertices) result }
     ensures edges { (vertices : List SpecVertex) (digests : List SpecDigest) → AllZip Asks vertices all.now
         → Numbers digests vertices table.now → IfOk result (λ edges. AllZip (λ v es. AreEdges vertices v.op.inputs es) vertices edges.items) }
 {
@@ -60,7 +60,7 @@ pub(crate) fn all_edges(
     all: Vec<Asked>,
 ) -> Result<Vec<Items<(usize, u64)>>, LoadRefusal>
     ensures check { (vertices : List SpecVertex) (digests : List SpecDigest) → AllZip Asks vertices all.items
-        → Numbers digests vertices table → Answers (Each (VertexCheck digests) vertices) result }
+        → Numbers digests vertices table → Meets (Each (VertexCheck digests) vertices) result }
     ensures edges { (vertices : List SpecVertex) (digests : List SpecDigest) → AllZip Asks vertices all.items
         → Numbers digests vertices table → IfOk result (λ edges. AllZip (λ v es. AreEdges vertices v.op.inputs es) vertices edges.items) }
 {

@@ -6,7 +6,7 @@ ghost use Rattle.opsproto.specs.Scalars.{Text};
 ghost use Rattle.opsproto.specs.declared.input.Input.{Input};
 ghost use Rattle.vertices.specs.declared.vertex.Vertex.{Vertex};
 ghost use Rattle.vertices.specs.Asked.{NamesAs};
-ghost use Rattle.vertices.specs.Outcomes.{Each, refused, Answers};
+ghost use Rattle.vertices.specs.Outcomes.{Each, refused, Meets};
 ghost use Rattle.vertices.specs.Edges.{IsDigestText, InputCheck, IsEdge, AreEdges, Numbers};
 
 use super::refusal::LoadRefusal;
@@ -99,7 +99,7 @@ pub(crate) fn edges_of(
     all: &[Named],
 ) -> Result<Vec<(usize, u64)>, LoadRefusal>
     ensures check { (inputs : List (Input Text)) (digests : List SpecDigest) (vertices : List Vertex) → AllZip NamesAs inputs all.now
-        → Numbers digests vertices table.now → Answers (Each (InputCheck digests place) inputs) result }
+        → Numbers digests vertices table.now → Meets (Each (InputCheck digests place) inputs) result }
     ensures edges { (inputs : List (Input Text)) (digests : List SpecDigest) (vertices : List Vertex) → AllZip NamesAs inputs all.now
         → Numbers digests vertices table.now → IfOk result (λ edges. AreEdges vertices inputs edges.items) }
 {

@@ -1,5 +1,5 @@
 ghost use Rattle.std.specs.Prelude.{◌≡◌, ◌≤◌, ℕ, List, length, take, IfOk, IfSome, slice_get};
-ghost use Rattle.vertices.specs.Outcomes.{Answers};
+ghost use Rattle.vertices.specs.Outcomes.{Meets};
 ghost use Rattle.vertices.specs.Edges.{Numbers, IsEdge};
 ghost use Rattle.vertices.specs.Loading.{ReadChecks, GraphCheck, DefinitionCheck, IsGraph, IsGraphOf};
 
@@ -31,7 +31,7 @@ impl Loading {
     /// Reads the first `count` entries, and makes a vertex of the first one of each digest.
     pub(crate) fn of(alloc: Global, entries: BodyList, count: usize) -> Result<Self, LoadRefusal>
         requires { count ≤ length entries }
-        ensures check { Answers (ReadChecks 0 (take count entries)) result }
+        ensures check { Meets (ReadChecks 0 (take count entries)) result }
         ensures entries { IfOk result (λ loading. loading.entries ≡ entries) }
         ensures loaded { IfOk result (IsLoaded (take count entries)) }
     {
@@ -64,7 +64,7 @@ impl Loading {
     fn graph(self, alloc: Global, place: usize, last: &[Input]) -> Result<Graph, LoadRefusal>
         requires loaded { (entries : List (List ℕ)) × IsLoaded entries self }
         ensures check { (digests : List Digest) → Numbers digests (vertices_in self) self.table
-            → Answers (GraphCheck digests place (vertices_in self) last.now) result }
+            → Meets (GraphCheck digests place (vertices_in self) last.now) result }
         ensures vertices { IfOk result (λ g. g.vertices ≡ vertices_in self) }
         ensures graph { IfOk result IsGraph }
         ensures result { IfOk result (λ g. IfSome (slice_get last.now 0) (λ input. IsEdge (vertices_in self) input g.result)) }
@@ -95,7 +95,7 @@ impl Loading {
 /// each vertex, by place, has inputs that name vertices, and does something that can be run; no
 /// vertex needs itself.
 pub fn load(alloc: Global, definition: Definition) -> Result<Graph, LoadRefusal>
-    ensures check { Answers (DefinitionCheck definition.def) result }
+    ensures check { Meets (DefinitionCheck definition.def) result }
     ensures graph { IfOk result (IsGraphOf definition.def) }
 {
     let Some(place) = definition.def.len().checked_sub(1) else {

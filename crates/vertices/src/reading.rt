@@ -2,7 +2,7 @@ ghost use Rattle.std.specs.Prelude.{◌≡◌, IfOk, Ok};
 ghost use Rattle.sha2.specs.Sha256.{sha256};
 ghost use Rattle.opsproto.specs.Ops.{op_at};
 ghost use Rattle.farm_base.specs.Digests.{IsDigest};
-ghost use Rattle.vertices.specs.Outcomes.{Answers};
+ghost use Rattle.vertices.specs.Outcomes.{Meets};
 ghost use Rattle.vertices.specs.Loading.{ReadCheck, digest_in};
 
 use super::refusal::LoadRefusal;
@@ -13,7 +13,7 @@ use std::alloc::Global;
 
 /// The op of the entry at a place.
 pub(crate) fn read_entry(alloc: Global, place: usize, bytes: &[u8]) -> Result<Op, LoadRefusal>
-    ensures check { Answers (ReadCheck place bytes.now) result }
+    ensures check { Meets (ReadCheck place bytes.now) result }
     ensures op { IfOk result (λ op. op_at bytes.now ≡ Ok op) }
 {
     match read_op(alloc, bytes) {

@@ -5,7 +5,7 @@ use Rattle.opsproto.specs.Ops.{op_at}
 use Rattle.opsproto.specs.Scalars.{Text}
 use Rattle.opsproto.specs.declared.input.Input.{Input}
 use Rattle.vertices.specs.declared.refusal.LoadRefusal.TheVariants.{OutOfMemory}
-use Rattle.vertices.specs.Outcomes.{Answers}
+use Rattle.vertices.specs.Outcomes.{Meets}
 use Rattle.vertices.specs.Loaded.{vertices_in}
 use Rattle.vertices.specs.Loading.{digests_in, ReadCheck, GraphCheck, DefinitionCheck}
 use Rattle.vertices.proofs.LoadLemmas.{last_split, has_last, entries_refused, last_refused, graph_answers, loaded_numbers, loaded_vertices, definition_vertices, definition_last, answers_weaker, graph_is}
@@ -58,7 +58,7 @@ returns-clause-check c =
     (λ given h. graph_answers entries last def c.in_ok-last.last (vertices_in loading) given split.0 c.in_ok-loading.ensures.check read
     (loaded_vertices entries loading loaded)
     (subst (λ (xs : List (Input Text)). GraphCheck (digests_in entries) (length entries) (vertices_in loading) xs given) c.inputs.ensures h))
-    (subst (λ (n : ℕ). Answers (GraphCheck (digests_in entries) n (vertices_in loading) c.inputs.result.now) c.graph.result) (sym split.1)
+    (subst (λ (n : ℕ). Meets (GraphCheck (digests_in entries) n (vertices_in loading) c.inputs.result.now) c.graph.result) (sym split.1)
     (c.graph.ensures.check (digests_in entries) (loaded_numbers entries loading loaded)))
 
 pub returns-clause-graph : goal.returns-clause-graph

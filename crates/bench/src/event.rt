@@ -1,0 +1,201 @@
+//! Events of a coordinator, against what it keeps: live leases, parked asks, and leased instances of a PRIVATE folder.
+
+use super::clock::seconds_since;
+use coordinator::{CoordNote, Coordinator};
+use farm_base::{Ask, FolderName, Life, NodeId, Request, Ticket, ToCoord, Wants};
+use saverecord::MemoryKeeper;
+use std::alloc::Global;
+use std::rt::Clock;
+use std::time::Instant;
+
+/// How many batches are timed. The least time counts.
+const BATCHES: u32 = 5;
+/// How many events of each kind a batch has.
+const TURNS: u32 = 40;
+/// What there is few and many of.
+const FEW: u32 = 16;
+const MANY: u32 = 16_000;
+/// How many slots are freed for which asks wait.
+const FREED: u32 = 8;
+/// How many of the first and the last grants of a PRIVATE folder are timed, of all its instances.
+const GRANTS: u32 = 100;
+const INSTANCES: u32 = 4_096;
+
+/// A coordinator of a farm where nothing happened.
+fn started(alloc: Global) -> anyhow::Result<Coordinator<MemoryKeeper>> {
+    let keeper = MemoryKeeper::new(alloc, Vec::new(alloc));
+    match Coordinator::start(alloc, keeper) {
+        Ok(coordinator) => Ok(coordinator),
+        Err(not) => Err(not.refusal.into()),
+    }
+}
+
+/// Node 1 asks for a folder: the ticket of its lease, or None where the ask waits.
+fn ask(
+    coordinator: &mut Coordinator<MemoryKeeper>,
+    alloc: Global,
+    number: u32,
+    folder: &str,
+) -> anyhow::Result<Option<Ticket>> {
+    let wants = Wants::one(alloc, FolderName::parse(alloc, folder)?, true)?;
+    let _wants = wants.as_slice();
+    let message = ToCoord {
+        node: NodeId(1),
+        life: Life(1),
+        request: Request::Acquire {
+            ask: Ask(u64::from(number) + 1),
+            wants,
+            tenure: false,
+        },
+    };
+    let handled = coordinator.handle(alloc, &message)?;
+    match &handled.note {
+        CoordNote::Granted(grant) => Ok(Some(grant.ticket)),
+        _ => Ok(None),
+    }
+}
+
+/// Node 1 gives a lease back.
+fn release(
+    coordinator: &mut Coordinator<MemoryKeeper>,
+    alloc: Global,
+    ticket: Ticket,
+) -> anyhow::Result<()> {
+    let message = ToCoord {
+        node: NodeId(1),
+        life: Life(1),
+        request: Request::Release { ticket },
+    };
+    let _handled = coordinator.handle(alloc, &message)?;
+    Ok(())
+}
+
+/// Leases this many LOCKED folders.
+fn lease(
+    coordinator: &mut Coordinator<MemoryKeeper>,
+    alloc: Global,
+    count: u32,
+) -> anyhow::Result<()> {
+    for number in 0..count {
+        let folder = format!(in alloc; "locked:f{number}")?;
+        ask(coordinator, alloc, number, folder.as_str())?;
+    }
+    Ok(())
+}
+
+/// The time of an event of a batch: a folder is leased and given back in turn.
+fn turning<R: Clock + AllocGlobal>(
+    rt: &R,
+    coordinator: &mut Coordinator<MemoryKeeper>,
+) -> anyhow::Result<f64> {
+    let start = Instant::now(rt)?;
+    for _ in 0..TURNS {
+        if let Some(ticket) = ask(coordinator, rt.alloc(), MANY, "locked:turn")? {
+            release(coordinator, rt.alloc(), ticket)?;
+        }
+    }
+    Ok(seconds_since(rt, start) / f64::from(2 * TURNS))
+}
+
+/// The time of an event while this many leases are live.
+fn with_leases<R: Clock + AllocGlobal>(rt: &R, count: u32) -> anyhow::Result<f64> {
+    let mut coordinator = started(rt.alloc())?;
+    lease(&mut coordinator, rt.alloc(), count)?;
+    let mut least = f64::INFINITY;
+    for _ in 0..BATCHES {
+        least = least.min(turning(rt, &mut coordinator)?);
+    }
+    Ok(least)
+}
+
+/// Asks for one folder, in the order of the numbers.
+fn wait(
+    coordinator: &mut Coordinator<MemoryKeeper>,
+    alloc: Global,
+    from: u32,
+    to: u32,
+) -> anyhow::Result<()> {
+    for number in from..to {
+        ask(coordinator, alloc, number, "locked:f")?;
+    }
+    Ok(())
+}
+
+/// The time of an ask of a batch, which waits.
+fn parking<R: Clock + AllocGlobal>(
+    rt: &R,
+    coordinator: &mut Coordinator<MemoryKeeper>,
+    from: u32,
+) -> anyhow::Result<f64> {
+    let start = Instant::now(rt)?;
+    wait(coordinator, rt.alloc(), from, from.saturating_add(TURNS))?;
+    Ok(seconds_since(rt, start) / f64::from(TURNS))
+}
+
+/// The time of a release that frees the slot for which the asks wait.
+fn freeing<R: Clock + AllocGlobal>(
+    rt: &R,
+    coordinator: &mut Coordinator<MemoryKeeper>,
+) -> anyhow::Result<f64> {
+    let start = Instant::now(rt)?;
+    for ticket in 0..FREED {
+        release(coordinator, rt.alloc(), Ticket(u64::from(ticket) + 1))?;
+    }
+    Ok(seconds_since(rt, start) / f64::from(FREED))
+}
+
+/// The times of an ask that waits beside this many, and of a release that frees the slot for which they wait.
+fn with_asks<R: Clock + AllocGlobal>(rt: &R, count: u32) -> anyhow::Result<(f64, f64)> {
+    let mut coordinator = started(rt.alloc())?;
+    wait(&mut coordinator, rt.alloc(), 0, count.saturating_add(1))?;
+    let freed = freeing(rt, &mut coordinator)?;
+    let mut least = f64::INFINITY;
+    for batch in 0..BATCHES {
+        let from = count.saturating_add(1).saturating_add(batch * TURNS);
+        least = least.min(parking(rt, &mut coordinator, from)?);
+    }
+    Ok((least, freed))
+}
+
+/// The time of a grant of a PRIVATE folder, of the asks of these numbers.
+fn granting<R: Clock + AllocGlobal>(
+    rt: &R,
+    coordinator: &mut Coordinator<MemoryKeeper>,
+    from: u32,
+    to: u32,
+) -> anyhow::Result<f64> {
+    let start = Instant::now(rt)?;
+    for number in from..to {
+        ask(coordinator, rt.alloc(), number, "private:p")?;
+    }
+    Ok(seconds_since(rt, start) / f64::from(to.saturating_sub(from)))
+}
+
+/// The time of one of the last grants of a PRIVATE folder, over that of one of the first.
+fn of_private<R: Clock + AllocGlobal>(rt: &R) -> anyhow::Result<f64> {
+    let mut coordinator = started(rt.alloc())?;
+    let first = granting(rt, &mut coordinator, 0, GRANTS)?;
+    granting(rt, &mut coordinator, GRANTS, INSTANCES - GRANTS)?;
+    let last = granting(rt, &mut coordinator, INSTANCES - GRANTS, INSTANCES)?;
+    Ok(last / first)
+}
+
+/// Prints how the time of an event grows with the live leases, with the parked asks, and with the leased instances of a
+/// PRIVATE folder.
+pub fn measure<R: Print + Clock + AllocGlobal>(rt: &R) -> anyhow::Result<()> {
+    let leases = with_leases(rt, MANY)? / with_leases(rt, FEW)?;
+    println!(rt; "events, {MANY} live leases: {leases:.2} of an event with {FEW}")?;
+    let (park_many, free_many) = with_asks(rt, MANY)?;
+    let (park_few, free_few) = with_asks(rt, FEW)?;
+    let parks = park_many / park_few;
+    let frees = free_many / free_few;
+    println!(rt; "events, {MANY} parked asks: {parks:.2} of an ask that waits beside {FEW}")?;
+    println!(rt;
+        "events, {MANY} asks for a slot that is freed: {frees:.2} of a release for which {FEW} wait"
+    )?;
+    let private = of_private(rt)?;
+    println!(rt;
+        "events, the last of {INSTANCES} PRIVATE grants: {private:.2} of the first {GRANTS}"
+    )?;
+    Ok(())
+}
