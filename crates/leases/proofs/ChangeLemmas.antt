@@ -24,9 +24,9 @@ filter_twice p q r h [] = refl
 filter_twice p q r h (x ∷ xs) = elim (cases_Bool (p x)) [
   | inl e ↦ (let both : r x ≡ true = h x ∙ ap (λ (b : Bool). b || q x) e in rw (both, e) (filter_twice p q r h xs))
   | inr e ↦ (let both : r x ≡ q x = h x ∙ ap (λ (b : Bool). b || q x) e in elim (cases_Bool (q x)) [
-      | inl f ↦ (let here : r x ≡ true = both ∙ f in rw (here, e, f) (filter_twice p q r h xs))
-      | inr f ↦ (let here : r x ≡ false = both ∙ f in rw (here, e, f) (ap (λ (ys : List A). x ∷ ys) (filter_twice p q r h xs)))
-    ])
+    | inl f ↦ (let here : r x ≡ true = both ∙ f in rw (here, e, f) (filter_twice p q r h xs))
+    | inr f ↦ (let here : r x ≡ false = both ∙ f in rw (here, e, f) (ap (λ ys. x ∷ ys) (filter_twice p q r h xs)))
+  ])
 ]
 
 -- what passes both of two tests
@@ -34,13 +34,13 @@ pub filter_both : {A : Type 0} (p q : A → Bool) (xs : List A) → filter (λ x
 filter_both p q [] = refl
 filter_both p q (x ∷ xs) = elim (cases_Bool (p x)) [
   | inl e ↦ elim (cases_Bool (q x)) [
-      | inl f ↦ rw (e, f, e) (ap (λ (ys : List A). x ∷ ys) (filter_both p q xs))
-      | inr f ↦ rw (e, f) (filter_both p q xs)
-    ]
+    | inl f ↦ rw (e, f, e) (ap (λ ys. x ∷ ys) (filter_both p q xs))
+    | inr f ↦ rw (e, f) (filter_both p q xs)
+  ]
   | inr e ↦ elim (cases_Bool (q x)) [
-      | inl f ↦ rw (e, f, e) (filter_both p q xs)
-      | inr f ↦ rw (e, f) (filter_both p q xs)
-    ]
+    | inl f ↦ rw (e, f, e) (filter_both p q xs)
+    | inr f ↦ rw (e, f) (filter_both p q xs)
+  ]
 ]
 
 -- a test of what another test keeps
@@ -72,28 +72,26 @@ ended_more es e live =
     filter_twice (has_ended es) (ends_lease e) (has_ended (es ++ e ∷ []))
     (λ g. list_any-append (λ (f : Ending). ends_lease f g) es (e ∷ []) ∙ ap (λ (b : Bool). has_ended es g || b) (or-false (ends_lease e g))) live
 
--- the leases that are left after one more ending
-pub live-ended : (t : Table) (c : Change) (e : Ending) → filter (λ g. not (has_ended (c.ended ++ e ∷ []) g)) t.live ++ filter (λ g. not (ends_lease e g)) c.granted ≡ filter (λ g. not (ends_lease e g)) (changed t c).live
-live-ended t c e =
-    ap (λ (gs : List Lease). gs ++ filter (λ g. not (ends_lease e g)) c.granted) (ended_more c.ended e t.live)
-    ∙ sym (filter-append (λ g. not (ends_lease e g)) (filter (λ g. not (has_ended c.ended g)) t.live) c.granted)
+-- the leases of the table after one more ending
+pub live-ended : (t : Table) (old new : Change) (e : Ending) → new.ended ≡ old.ended ++ e ∷ [] → new.granted ≡ filter (λ g. not (ends_lease e g)) old.granted
+    → (changed t new).live ≡ filter (λ g. not (ends_lease e g)) (changed t old).live
+live-ended t old new e ended granted =
+    ap (λ (es : List Ending). filter (λ g. not (has_ended es g)) t.live ++ new.granted) ended
+    ∙ ap (λ (gs : List Lease). filter (λ g. not (has_ended (old.ended ++ e ∷ []) g)) t.live ++ gs) granted
+    ∙ ap (λ (gs : List Lease). gs ++ filter (λ g. not (ends_lease e g)) old.granted) (ended_more old.ended e t.live)
+    ∙ sym (filter-append (λ g. not (ends_lease e g)) (filter (λ g. not (has_ended old.ended g)) t.live) old.granted)
 
--- the table after one more ending
-pub changed-ended : (t : Table) (c : Change) (e : Ending)
-    → changed t (record { ended = c.ended ++ e ∷ []; granted = filter (λ g. not (ends_lease e g)) c.granted; retired = c.retired }) ≡ record (changed t c) { live = filter (λ g. not (ends_lease e g)) (changed t c).live }
-changed-ended t c e =
-    let with_live : List Lease → Table = λ live. record { live = live; retired = t.retired ++ c.retired } in
-    ap with_live (live-ended t c e)
+-- they may be live together
+pub sound-ended : (t : Table) (old new : Change) (e : Ending) → new.ended ≡ old.ended ++ e ∷ [] → new.granted ≡ filter (λ g. not (ends_lease e g)) old.granted
+    → AreLeases (changed t old).live → AreLeases (changed t new).live
+sound-ended t old new e ended granted sound = subst AreLeases (sym (live-ended t old new e ended granted)) (leases-filter (λ g. not (ends_lease e g)) (changed t old).live sound)
 
--- leases of which some end
-pub sound-ended : (t : Table) (c : Change) (e : Ending) (live : List Lease) → live ≡ filter (λ g. not (ends_lease e g)) (changed t c).live → AreLeases (changed t c).live → AreLeases live
-sound-ended t c e live is sound = subst AreLeases (sym is) (leases-filter (λ g. not (ends_lease e g)) (changed t c).live sound)
-
--- the table after one more lease is granted
-pub changed-granted : (t : Table) (c : Change) (g : Lease) → changed t (record { ended = c.ended; granted = c.granted ++ g ∷ []; retired = c.retired }) ≡ record (changed t c) { live = (changed t c).live ++ g ∷ [] }
-changed-granted t c g =
-    let with_live : List Lease → Table = λ live. record { live = live; retired = t.retired ++ c.retired } in
-    ap with_live (sym (append_assoc (filter (λ h. not (has_ended c.ended h)) t.live) c.granted (g ∷ [])))
+-- the leases of the table after one more is granted
+pub live-granted : (t : Table) (old new : Change) (g : Lease) → new.ended ≡ old.ended → new.granted ≡ old.granted ++ g ∷ [] → (changed t new).live ≡ (changed t old).live ++ g ∷ []
+live-granted t old new g ended granted =
+    ap (λ (es : List Ending). filter (λ h. not (has_ended es h)) t.live ++ new.granted) ended
+    ∙ ap (λ (gs : List Lease). filter (λ h. not (has_ended old.ended h)) t.live ++ gs) granted
+    ∙ sym (append_assoc (filter (λ h. not (has_ended old.ended h)) t.live) old.granted (g ∷ []))
 
 -- ---- slots
 

@@ -191,7 +191,8 @@ impl TableChange {
         ensures err { OnErr result (self.new ≡ self.old) }
     {
         let slots = self.over(table).private_under(alloc, ticket)?;
-        self.withdraw_all(Ending::Ticket(ticket), slots)
+        self.withdraw_all(Ending::Ticket(ticket), slots)?;
+        Ok(())
     }
 
     /// Withdraws all leases of a node. Their PRIVATE slots are never granted again.
@@ -207,7 +208,8 @@ impl TableChange {
         ensures err { OnErr result (self.new ≡ self.old) }
     {
         let slots = self.over(table).private_at(alloc, node)?;
-        self.withdraw_all(Ending::Node(node), slots)
+        self.withdraw_all(Ending::Node(node), slots)?;
+        Ok(())
     }
 
     /// Ends these leases, and retires these slots. Room for the ending is made before anything changes.

@@ -11,10 +11,7 @@ use farm_base::{Copied, Lease, Mode, NodeId, Slot, copy_all};
 use std::alloc::{AllocError, Global};
 
 /// The PRIVATE slots of a lease.
-pub(crate) fn private_slots(
-    alloc: Global,
-    slots: &[(Slot, bool)],
-) -> Result<Vec<Slot>, AllocError>
+pub(crate) fn private_slots(alloc: Global, slots: &[(Slot, bool)]) -> Result<Vec<Slot>, AllocError>
     ensures { IfOk result (λ v. v.items ≡ private_slots slots.now) }
 {
     let mut private = Vec::new(alloc);

@@ -148,9 +148,7 @@ impl<'t> View<'t> {
             .iter()
             .filter(|lease| !has_ended(self.ended, lease))
             .chain(self.granted.iter())
-            .find(|lease| lease.node == node
-                && lease.life == life
-                && lease.ask == ask)
+            .find(|lease| lease.node == node && lease.life == life && lease.ask == ask)
     }
 
     /// The oldest lease that has the one slot of a folder for which an ask with these wants takes a slot.
