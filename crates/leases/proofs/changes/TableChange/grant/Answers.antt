@@ -16,8 +16,8 @@ returns-clause-found c =
     let new : Change = record { ended = c.self.inside.ended.items; granted = c.push.new.self.items; retired = c.self.inside.retired.items } in
     let is : c.in_ok-lease.lease ≡ lease seen = c.in_ok-lease.ensures.value ∙ ap lease c.over-view.ensures in
     let live : (changed c.args.table.now new).live ≡ seen.live ++ lease seen ∷ [] =
-        live-granted c.args.table.now c.args.self.now new c.in_ok-lease.lease (ap (λ (d : Change). d.ended) c.self.view_is) (c.in_ok-push.ensures.items ∙ ap (λ (d : Change). d.granted ++ c.in_ok-lease.lease ∷ []) c.self.view_is)
-        ∙ ap (λ (g : Lease). seen.live ++ g ∷ []) is in
+    live-granted c.args.table.now c.args.self.now new c.in_ok-lease.lease (ap (λ (d : Change). d.ended) c.self.view_is) (c.in_ok-push.ensures.items ∙ ap (λ (d : Change). d.granted ++ c.in_ok-lease.lease ∷ []) c.self.view_is)
+    ∙ ap (λ (g : Lease). seen.live ++ g ∷ []) is in
     ap (find (has_ticket c.args.ticket)) live ∙ lease_under-push seen.live (lease seen) c.requires.above
 
 pub returns-clause-sound : goal.returns-clause-sound
@@ -27,6 +27,6 @@ returns-clause-sound c sound =
     let new : Change = record { ended = c.self.inside.ended.items; granted = c.push.new.self.items; retired = c.self.inside.retired.items } in
     let is : c.in_ok-lease.lease ≡ lease seen = c.in_ok-lease.ensures.value ∙ ap lease c.over-view.ensures in
     let live : (changed c.args.table.now new).live ≡ seen.live ++ lease seen ∷ [] =
-        live-granted c.args.table.now c.args.self.now new c.in_ok-lease.lease (ap (λ (d : Change). d.ended) c.self.view_is) (c.in_ok-push.ensures.items ∙ ap (λ (d : Change). d.granted ++ c.in_ok-lease.lease ∷ []) c.self.view_is)
-        ∙ ap (λ (g : Lease). seen.live ++ g ∷ []) is in
+    live-granted c.args.table.now c.args.self.now new c.in_ok-lease.lease (ap (λ (d : Change). d.ended) c.self.view_is) (c.in_ok-push.ensures.items ∙ ap (λ (d : Change). d.granted ++ c.in_ok-lease.lease ∷ []) c.self.view_is)
+    ∙ ap (λ (g : Lease). seen.live ++ g ∷ []) is in
     subst AreLeases (sym live) (leases-push seen c.args.node c.args.life c.args.ask c.args.wants.now c.args.tenure c.args.ticket sound c.in_ok-lease.ensures.sorted c.requires.fits c.requires.above)

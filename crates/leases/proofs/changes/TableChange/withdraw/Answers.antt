@@ -12,3 +12,6 @@ returns-clause-retired c =
     let seen : Table = changed c.args.table.now c.args.self.now in
     let own : c.in_ok-slots.slots.items ≡ private_of (lease_under seen.live c.args.ticket) = c.in_ok-slots.ensures ∙ ap (λ (t : Table). private_of (lease_under t.live c.args.ticket)) c.over.ensures in
     ap among (c.in_ok-withdraw_all.ensures.retired c.args.table.now ∙ ap (λ (slots : List Slot). seen.retired ++ slots) own) ∙ retired-one (lease_under seen.live c.args.ticket) seen.retired
+
+pub returns-clause-sound : goal.returns-clause-sound
+returns-clause-sound c sound = c.in_ok-withdraw_all.ensures.sound c.args.table.now sound

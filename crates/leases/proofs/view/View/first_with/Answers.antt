@@ -12,6 +12,6 @@ pub returns : goal.returns
 returns c =
     find_from_yields_List (holds_some (filter (takes c.args.tenure) c.args.wants.now)) _ _ _ c.find.ensures.ran
     (YieldsList-from_chain (YieldsList-at c.chain.ensures.first (YieldsList-from_filter _ (λ g. not (has_ended c.self.inside.ended.now g)) (YieldsList-from_slice c.self.inside.leases.now cc) c.filter.ensures.closure (λ x b q k. search (rules, tests))))
-        (YieldsList-from_slice c.self.inside.granted.now cc) c.chain.ensures.first_done c.chain.ensures.second_done)
+    (YieldsList-from_slice c.self.inside.granted.now cc) c.chain.ensures.first_done c.chain.ensures.second_done)
     (λ x b q k. search (rules, tests))
     ∙ ap (λ (t : Table). find (holds_some (filter (takes c.args.tenure) c.args.wants.now)) t.live) c.self.view_is
