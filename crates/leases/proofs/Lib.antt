@@ -6,3 +6,4 @@ pub mod RisingLemmas
 pub mod PlaceLemmas
 pub mod LifeLemmas
 pub mod NodeLemmas
+pub mod ChangeLemmas

@@ -5,3 +5,4 @@ pub mod Lowest
 pub mod Marks
 pub mod Places
 pub mod Table
+pub mod Changes

@@ -1,20 +1,17 @@
-ghost use Rattle.std.specs.Prelude.{if◌then◌else◌, ◌≡◌, ◌≢◌, ℕ, ◌≤◌, ◌<◌, true, false, not, [], ◌∷◌, ◌++◌, filter, map, count_by, ◌&&◌, All, AllPairs, IfOk, IfSome, OnOk, OnErr, option_copied};
+ghost use Rattle.std.specs.Prelude.{◌≡◌, ◌<◌, not, [], ◌∷◌, ◌++◌, filter, count_by, ◌&&◌, All, AllPairs, IfOk, OnOk, OnErr, option_copied};
 ghost use Rattle.std.specs.List.{find, list_any, position_from};
 ghost use Rattle.std.specs.List.Sorted.{IsStrictlySortedBy};
 ghost use Rattle.farm_base.specs.Slots.{slot_cmp};
-ghost use Rattle.farm_base.specs.declared.limits.TheConstants.{INSTANCES};
 ghost use Rattle.farm_base.specs.Wanted.{IsWants};
-ghost use Rattle.protocol.specs.Names.{leased_wants, wants_shared, any_shared, is_private, only_slot};
-ghost use Rattle.protocol.specs.Ledger.{has_slot, some_lease, lowest, slot_for, all_taken, busy, lease_of, lease_under, without, is_older, has_ticket, is_at, retire_all};
+ghost use Rattle.protocol.specs.Names.{leased_wants};
+ghost use Rattle.protocol.specs.Ledger.{has_slot, lease_of, lease_under, without, is_older, has_ticket, is_at, retire_all};
 ghost use Rattle.leases.specs.Leases.{AreLeases, IsBefore};
-ghost use Rattle.leases.specs.Marks.{Marks};
-ghost use Rattle.leases.specs.Table.{among, is_leased, is_free, fit_of, lease_for, state_of, slots_of, takes, holds_some, private_slots, private_of, all_private, retires_some};
+ghost use Rattle.leases.specs.Table.{among, is_leased, fit_of, lease_for, state_of, holds_some, retires_some};
 
-use super::marks::{mark_all, mark_leased};
-use farm_base::{
-    Ask, Copied, FolderName, INSTANCES, Items, Lease, Life, Mode, NodeId, Slot, Ticket, Want,
-    Wants, copy_all,
-};
+use super::ending::{Ending, drop_ending};
+use super::held::{among, has_slot};
+use super::view::View;
+use farm_base::{Ask, Copied, Lease, Life, NodeId, Slot, Ticket, Wants, copy_all};
 use std::alloc::{AllocError, Global};
 use std::marker::Model;
 
@@ -54,50 +51,6 @@ impl Model for LeaseTable {
     ghost invariant = { λ t. AreLeases t.leases.items };
 }
 
-/// The number of marks for a folder's instances.
-const PLACES: usize = 4097;
-
-fn has_slot(slots: &[(Slot, bool)], slot: &Slot) -> bool
-    ensures { result ≡ has_slot slots.now slot.now }
-{
-    slots.iter().any(|held| held.0 == *slot)
-}
-
-fn some_lease(leases: &[Lease], slot: &Slot) -> bool
-    ensures { result ≡ some_lease leases.now slot.now }
-{
-    leases
-        .iter()
-        .any(|lease| has_slot(lease.slots.as_slice(), slot))
-}
-
-fn among(slots: &[Slot], slot: &Slot) -> bool
-    ensures { result ≡ among slots.now slot.now }
-{
-    slots.iter().any(|other| other == slot)
-}
-
-/// Whether a lease takes a slot for the want.
-fn takes(want: &Want, tenure: bool) -> bool
-    ensures { result ≡ takes tenure want.now }
-{
-    matches!(want.folder.mode, Mode::Shared) == tenure
-}
-
-fn any_shared(wants: &[Want]) -> bool
-    ensures { result ≡ any_shared wants.now }
-{
-    wants
-        .iter()
-        .any(|want| matches!(want.folder.mode, Mode::Shared))
-}
-
-fn is_private(want: &Want) -> bool
-    ensures { result ≡ is_private want.now.folder.mode }
-{
-    matches!(want.folder.mode, Mode::Private)
-}
-
 impl LeaseTable {
     /// A table without leases, all slots free.
     pub fn new(alloc: Global) -> Self
@@ -110,54 +63,20 @@ impl LeaseTable {
         }
     }
 
-    /// Marks the instances of a folder that are not free.
-    fn mark_taken(&self, marks: &mut [bool], folder: &FolderName)
-        ensures { Marks marks.old marks.new folder.now (λ s. not (is_free self.now s)) }
+    /// The table as it is, with no changes over it.
+    fn unchanged(&self) -> View<'_>
+        ensures value { result ≡ self.now }
+        ensures sound { AreLeases self.now.live }
     {
-        mark_leased(marks, folder, self.leases.as_slice());
-        mark_all(marks, folder, self.retired.as_slice());
-    }
-
-    /// The lowest free instance of a PRIVATE folder, or 0 if there is none.
-    fn lowest(&self, folder: &FolderName) -> u32
-        ensures value { result ≡ lowest (is_free self.now) folder.now 1 INSTANCES }
-        ensures range { result ≤ INSTANCES }
-    {
-        let mut marks = [false; PLACES];
-        self.mark_taken(&mut marks, folder);
-        for instance in 1..INSTANCES + 1 {
-            if !marks[instance as usize] {
-                return instance;
-            }
+        let leases = self.leases.as_slice();
+        let retired = self.retired.as_slice();
+        View {
+            leases,
+            ended: &[],
+            granted: &[],
+            retired,
+            newly_retired: &[],
         }
-        0
-    }
-
-    /// Whether a PRIVATE folder of these wants has no instance left.
-    fn all_taken(&self, wants: &[Want], tenure: bool) -> bool
-        ensures { result ≡ all_taken INSTANCES (is_free self.now) (filter (takes tenure) wants.now) }
-    {
-        wants
-            .iter()
-            .filter(|want| takes(want, tenure))
-            .any(|want| is_private(want) && self.lowest(&want.folder) == 0)
-    }
-
-    /// Whether the one slot of a folder is leased.
-    fn has_only_slot(&self, folder: &FolderName) -> bool
-        ensures { result ≡ is_leased self.now (only_slot folder.now) }
-    {
-        self.leases
-            .iter()
-            .any(|lease| has_only(lease.slots.as_slice(), folder))
-    }
-
-    /// Whether the one slot of another folder is leased.
-    fn is_busy(&self, wants: &[Want], tenure: bool) -> bool
-        ensures { result ≡ busy (is_leased self.now) (filter (takes tenure) wants.now) }
-    {
-        wants.iter().filter(|want| takes(want, tenure)).any(|want| !is_private(want)
-            && self.has_only_slot(&want.folder))
     }
 
     /// Whether an ask with these wants can be granted. A tenure takes a slot of its SHARED folder, any other
@@ -165,14 +84,7 @@ impl LeaseTable {
     pub fn fits(&self, wants: &Wants, tenure: bool) -> Fit
         ensures { result ≡ fit_of self.now tenure wants.now }
     {
-        let wants = wants.as_slice();
-        if self.all_taken(wants, tenure) {
-            Fit::InstancesSpent
-        } else if self.is_busy(wants, tenure) {
-            Fit::Busy
-        } else {
-            Fit::Fits
-        }
+        self.unchanged().fits(wants, tenure)
     }
 
     /// The lease that has a slot.
@@ -188,7 +100,7 @@ impl LeaseTable {
     pub fn is_leased(&self, slot: &Slot) -> bool
         ensures { result ≡ is_leased self.now slot.now }
     {
-        some_lease(self.leases.as_slice(), slot)
+        self.unchanged().is_leased(slot)
     }
 
     fn is_retired(&self, slot: &Slot) -> bool
@@ -218,63 +130,21 @@ impl LeaseTable {
         ensures value { option_copied result ≡ lease_under self.now.live ticket }
         ensures sound { AreLeases self.now.live }
     {
-        self.leases.iter().find(|lease| lease.ticket == ticket)
+        self.unchanged().lease(ticket)
     }
 
     /// The lease of an ask.
     pub fn lease_of(&self, node: NodeId, life: Life, ask: Ask) -> Option<&Lease>
         ensures { option_copied result ≡ lease_of self.now.live node life ask }
     {
-        self.leases.iter().find(|lease| lease.node == node
-            && lease.life == life
-            && lease.ask == ask)
+        self.unchanged().lease_of(node, life, ask)
     }
 
     /// The oldest lease that has the one slot of a folder for which an ask with these wants takes a slot.
     pub fn holder_of(&self, wants: &Wants, tenure: bool) -> Option<&Lease>
         ensures { option_copied result ≡ find (holds_some (leased_wants tenure wants.now)) self.now.live }
     {
-        self.first_with(wants.as_slice(), tenure)
-    }
-
-    fn first_with(&self, wants: &[Want], tenure: bool) -> Option<&Lease>
-        ensures { option_copied result ≡ find (holds_some (filter (takes tenure) wants.now)) self.now.live }
-    {
-        self.leases
-            .iter()
-            .find(|lease| holds_some(lease.slots.as_slice(), wants, tenure))
-    }
-
-    /// The slot that a want gets.
-    fn slot_for(&self, alloc: Global, want: &Want) -> Result<Slot, AllocError>
-        requires { is_private want.now.folder.mode ≡ true → lowest (is_free self.now) want.now.folder 1 INSTANCES ≢ 0 }
-        ensures { IfOk result (λ slot. slot ≡ slot_for INSTANCES (is_free self.now) want.now) }
-    {
-        let instance = match want.folder.mode {
-            Mode::Shared => 0,
-            Mode::Private => self.lowest(&want.folder),
-            Mode::Locked => 0,
-        };
-        Ok(Slot::new(want.folder.copy(alloc)?, instance))
-    }
-
-    /// The slots that some wants get.
-    fn slots_for(
-        &self,
-        alloc: Global,
-        wants: &[Want],
-        tenure: bool,
-    ) -> Result<Vec<(Slot, bool)>, AllocError>
-        requires { all_taken INSTANCES (is_free self.now) (filter (takes tenure) wants.now) ≡ false }
-        ensures { IfOk result (λ slots. slots.items ≡ slots_of self.now (filter (takes tenure) wants.now)) }
-    {
-        let mut slots = Vec::with_capacity(alloc, wants.len())?;
-        for want in wants {
-            if takes(want, tenure) {
-                slots.push((self.slot_for(alloc, want)?, want.writable))?;
-            }
-        }
-        Ok(slots)
+        self.unchanged().holder_of(wants, tenure)
     }
 
     /// The lease that an ask gets.
@@ -293,18 +163,8 @@ impl LeaseTable {
         ensures sound { AreLeases self.now.live }
         ensures sorted { IsWants wants.now }
     {
-        let _leases = &self.leases;
-        let wants = wants.as_slice();
-        let slots = self.slots_for(alloc, wants, tenure)?;
-        Ok(Lease {
-            ticket,
-            node,
-            life,
-            ask,
-            shared: any_shared(wants),
-            tenure,
-            slots: Items::new(slots),
-        })
+        self.unchanged()
+            .lease_for(alloc, node, life, ask, wants, tenure, ticket)
     }
 
     fn add(&mut self, lease: Lease) -> Result<(), AllocError>
@@ -353,19 +213,9 @@ impl LeaseTable {
         ensures retired { OnOk result (among self.new.retired ≡ retires_some (lease_under self.old.live ticket) (among self.old.retired)) }
         ensures err { OnErr result (self.new ≡ self.old) }
     {
-        let mut retired = self.private_under(alloc, ticket)?;
+        let mut retired = self.unchanged().private_under(alloc, ticket)?;
         self.retired.append(&mut retired)?;
         Ok(take_out(&mut self.leases, ticket))
-    }
-
-    /// The PRIVATE slots of the lease of a ticket.
-    fn private_under(&self, alloc: Global, ticket: Ticket) -> Result<Vec<Slot>, AllocError>
-        ensures { IfOk result (λ slots. slots.items ≡ private_of (lease_under self.now.live ticket)) }
-    {
-        match self.lease(ticket) {
-            Some(lease) => private_slots(alloc, lease.slots.as_slice()),
-            None => Ok(Vec::new(alloc)),
-        }
     }
 
     /// Withdraws all leases of a node. Their PRIVATE slots are never granted again.
@@ -374,9 +224,9 @@ impl LeaseTable {
         ensures retired { OnOk result (among self.new.retired ≡ retire_all (filter (is_at node) self.old.live) (among self.old.retired)) }
         ensures err { OnErr result (self.new ≡ self.old) }
     {
-        let mut retired = private_slots_of(alloc, self.leases.as_slice(), node)?;
+        let mut retired = self.unchanged().private_at(alloc, node)?;
         self.retired.append(&mut retired)?;
-        drop_all_of(&mut self.leases, node);
+        drop_ending(&mut self.leases, Ending::Node(node));
         Ok(())
     }
 
@@ -384,16 +234,14 @@ impl LeaseTable {
     pub fn has_lease_of(&self, node: NodeId) -> bool
         ensures { result ≡ list_any (is_at node) self.now.live }
     {
-        self.leases.iter().any(|lease| lease.node == node)
+        self.unchanged().has_lease_of(node)
     }
 
     /// Whether a node holds a tenure.
     pub fn has_tenure_of(&self, node: NodeId) -> bool
         ensures { result ≡ list_any (λ g. is_at node g && g.tenure) self.now.live }
     {
-        self.leases
-            .iter()
-            .any(|lease| lease.node == node && lease.tenure)
+        self.unchanged().has_tenure_of(node)
     }
 
     /// The leases, the oldest first.
@@ -403,13 +251,20 @@ impl LeaseTable {
         self.leases.as_slice()
     }
 
+    /// The slots that are never granted again.
+    pub(crate) fn retired(&self) -> &[Slot]
+        ensures { result.now ≡ self.now.retired }
+    {
+        self.retired.as_slice()
+    }
+
     /// Ends the leases of older lives of a node, and returns their number. Their slots are free again.
     pub fn end_lives_below(&mut self, node: NodeId, life: Life) -> usize
         ensures ended { result ≡ count_by (is_older node life) self.old.live }
         ensures rest { self.new ≡ record self.old { live = filter (λ g. not (is_older node life g)) self.old.live } }
     {
         let ended = count_older(self.leases.as_slice(), node, life);
-        drop_older(&mut self.leases, node, life);
+        drop_ending(&mut self.leases, Ending::LivesBelow(node, life));
         ended
     }
 }
@@ -421,9 +276,7 @@ impl LeaseTable {
         ensures rising { IfOk result (λ parts. IsStrictlySortedBy slot_cmp parts.1.items) }
         ensures retired { IfOk result (λ parts. among parts.1.items ≡ among self.now.retired) }
     {
-        let leases = copy_all(alloc, self.leases.as_slice())?;
-        let retired = rising(alloc, self.retired.as_slice())?;
-        Ok((leases, retired))
+        self.unchanged().to_parts(alloc)
     }
 
     /// The table of these leases and of these slots that are never granted again.
@@ -434,17 +287,16 @@ impl LeaseTable {
     {
         LeaseTable { leases, retired }
     }
-}
 
-/// These slots, each once, rising.
-fn rising(alloc: Global, slots: &[Slot]) -> Result<Vec<Slot>, AllocError>
-    ensures rising { IfOk result (λ v. IsStrictlySortedBy slot_cmp v.items) }
-    ensures same { IfOk result (λ v. among v.items ≡ among slots.now) }
-{
-    let mut rising = copy_all(alloc, slots)?;
-    rising.sort()?;
-    rising.dedup();
-    Ok(rising)
+    /// Gives the leases and the slots that are never granted again back, without taking memory.
+    pub(crate) fn into_vecs(self) -> (Vec<Lease>, Vec<Slot>)
+        ensures leases { result.0.items ≡ self.live }
+        ensures retired { result.1.items ≡ self.retired }
+        ensures sound { AreLeases self.live }
+    {
+        let LeaseTable { leases, retired } = self;
+        (leases, retired)
+    }
 }
 
 /// Removes the lease of a ticket, and returns it.
@@ -472,71 +324,6 @@ fn count_older(leases: &[Lease], node: NodeId, life: Life) -> usize
         .iter()
         .filter(|lease| lease.node == node && lease.life < life)
         .count()
-}
-
-fn drop_older(leases: &mut Vec<Lease>, node: NodeId, life: Life)
-    ensures { leases.new.items ≡ filter (λ g. not (is_older node life g)) leases.old.items }
-{
-    leases.retain(|lease| !(lease.node == node && lease.life < life));
-}
-
-fn drop_all_of(leases: &mut Vec<Lease>, node: NodeId)
-    ensures { leases.new.items ≡ filter (λ g. not (is_at node g)) leases.old.items }
-{
-    leases.retain(|lease| lease.node != node);
-}
-
-/// The PRIVATE slots of a lease.
-fn private_slots(alloc: Global, slots: &[(Slot, bool)]) -> Result<Vec<Slot>, AllocError>
-    ensures { IfOk result (λ v. v.items ≡ private_slots slots.now) }
-{
-    let mut private = Vec::new(alloc);
-    for held in slots {
-        if matches!(held.0.folder().mode, Mode::Private) {
-            private.push(held.0.copy(alloc)?)?;
-        }
-    }
-    Ok(private)
-}
-
-/// The PRIVATE slots of a node's leases.
-fn private_slots_of(alloc: Global, leases: &[Lease], node: NodeId) -> Result<Vec<Slot>, AllocError>
-    ensures { IfOk result (λ v. v.items ≡ all_private (filter (is_at node) leases.now)) }
-{
-    let mut private = Vec::new(alloc);
-    for lease in leases {
-        if lease.node == node {
-            let mut slots = private_slots(alloc, lease.slots.as_slice())?;
-            private.append(&mut slots)?;
-        }
-    }
-    Ok(private)
-}
-
-/// Whether the lease has the one slot of a folder for which an ask with these wants takes a slot.
-pub fn holds_wanted(lease: &Lease, wants: &Wants, tenure: bool) -> bool
-    ensures { result ≡ holds_some (leased_wants tenure wants.now) lease.now }
-{
-    holds_some(lease.slots.as_slice(), wants.as_slice(), tenure)
-}
-
-/// Whether the folder's one slot is among the lease's.
-fn has_only(slots: &[(Slot, bool)], folder: &FolderName) -> bool
-    ensures { result ≡ has_slot slots.now (only_slot folder.now) }
-{
-    slots
-        .iter()
-        .any(|held| held.0.folder() == folder && held.0.instance() == 0)
-}
-
-/// Whether the slots have the one slot of a folder for which an ask takes a slot.
-fn holds_some(slots: &[(Slot, bool)], wants: &[Want], tenure: bool) -> bool
-    ensures { result ≡ list_any (λ w. has_slot slots.now (only_slot w.folder)) (filter (takes tenure) wants.now) }
-{
-    wants
-        .iter()
-        .filter(|want| takes(want, tenure))
-        .any(|want| has_only(slots, &want.folder))
 }
 
 impl Copied for LeaseTable {

@@ -1,10 +1,12 @@
 //! Which instances of a folder are among some slots, in one pass.
-ghost use Rattle.std.specs.Prelude.{◌≡◌, ℕ, ◌<◌, ◌||◌, length, false, slice_index_or};
+ghost use Rattle.std.specs.Prelude.{◌≡◌, ℕ, ◌<◌, ◌&&◌, ◌||◌, not, length, filter, false, slice_index_or};
 ghost use Rattle.protocol.specs.Names.{slot_eq};
 ghost use Rattle.protocol.specs.Ledger.{has_slot, some_lease};
+ghost use Rattle.leases.specs.Changes.{has_ended};
 ghost use Rattle.leases.specs.Marks.{Marks};
 ghost use Rattle.leases.specs.Table.{among};
 
+use super::ending::{Ending, has_ended};
 use farm_base::{FolderName, Lease, Slot};
 
 /// Marks the instance of a slot, if the slot is of the folder.
@@ -32,6 +34,29 @@ pub(crate) fn mark_leased(marks: &mut [bool], folder: &FolderName, leases: &[Lea
 {
     for lease in leases {
         mark_lease(marks, folder, lease.slots.as_slice());
+    }
+}
+
+/// Marks the instances of a folder that a lease holds, unless it has ended.
+fn mark_standing(marks: &mut [bool], folder: &FolderName, lease: &Lease, ended: &[Ending])
+    ensures { Marks marks.old marks.new folder.now (λ s. not (has_ended ended.now lease.now) && has_slot lease.now.slots s) }
+{
+    if !has_ended(ended, lease) {
+        mark_lease(marks, folder, lease.slots.as_slice());
+    }
+}
+
+/// Marks the instances of a folder that any of these leases holds that has not ended.
+pub(crate) fn mark_all_standing(
+    marks: &mut [bool],
+    folder: &FolderName,
+    leases: &[Lease],
+    ended: &[Ending],
+)
+    ensures { Marks marks.old marks.new folder.now (λ s. some_lease (filter (λ g. not (has_ended ended.now g)) leases.now) s) }
+{
+    for lease in leases {
+        mark_standing(marks, folder, lease, ended);
     }
 }
 

@@ -14,5 +14,5 @@ pub returns-clause-retired : goal.returns-clause-retired
 returns-clause-retired c =
     let t : Table = c.args.self.now in
     let was : c.self.inside.retired.items ≡ t.retired = ap (λ (t : Table). t.retired) c.self.view_is in
-    let own : c.in_ok-retired.retired.items ≡ private_of (lease_under t.live c.args.ticket) = c.in_ok-retired.ensures in
+    let own : c.in_ok-retired.retired.items ≡ private_of (lease_under t.live c.args.ticket) = c.in_ok-retired.ensures ∙ ap (λ (seen : Table). private_of (lease_under seen.live c.args.ticket)) c.unchanged.ensures.value in
     ap among (c.in_ok-append.ensures.items ∙ ap (λ (slots : List Slot). slots ++ c.in_ok-retired.retired.items) was ∙ ap (λ (slots : List Slot). t.retired ++ slots) own) ∙ retired-one (lease_under t.live c.args.ticket) t.retired

@@ -1,0 +1,45 @@
+-- The changes of one event over a lease table.
+use Rattle.std.specs.Prelude.{ℕ, ◌+◌, ◌≤◌, Bool, not, List, ◌++◌, length, filter}
+use Rattle.std.specs.List.{list_any}
+use Rattle.farm_base.specs.declared.lease.Lease.{Lease}
+use Rattle.protocol.specs.Names.{Slot}
+use Rattle.protocol.specs.Ledger.{has_ticket, is_at, is_older}
+use Rattle.leases.specs.declared.ending.Ending.{Ending}
+use Rattle.leases.specs.declared.ending.Ending.TheVariants as ending
+use Rattle.leases.specs.Leases.{Table}
+
+-- changes over a lease table, as contracts see them
+pub record Change : Type 0 where
+  -- what ended of the table's leases
+  pub ended : List Ending
+  -- the leases that were granted since and have not ended, the oldest first
+  pub granted : List Lease
+  -- the PRIVATE slots that are not granted again either
+  pub retired : List Slot
+
+-- the lease is that of the ticket, of the node, or of a life of the node below this one
+abbrev pub ends_lease : Ending → Lease → Bool
+ends_lease (ending.Ticket t) g = has_ticket t g
+ends_lease (ending.Node n) g = is_at n g
+ends_lease (ending.LivesBelow n l) g = is_older n l g
+
+-- one of these endings ends the lease
+abbrev pub has_ended : List Ending → Lease → Bool
+has_ended ended g = list_any (λ e. ends_lease e g) ended
+
+-- the table with the changes
+abbrev pub changed : Table → Change → Table
+changed t c = record { live = filter (λ g. not (has_ended c.ended g)) t.live ++ c.granted; retired = t.retired ++ c.retired }
+
+-- a lease table with room, as contracts see it
+pub record RoomyTable : Type 0 where
+  pub table : Table
+  -- how many leases it can hold, those that it has among them
+  pub lease_room : ℕ
+  -- how many slots that are never granted again it can hold, likewise
+  pub slot_room : ℕ
+
+-- there is room for what the changes add
+pub record HasRoom (r : RoomyTable) (c : Change) : Type 0 where
+  pub leases : length r.table.live + length c.granted ≤ r.lease_room
+  pub slots : length r.table.retired + length c.retired ≤ r.slot_room

@@ -1,0 +1,264 @@
+//! The changes that one event makes, over a lease table that stays as it is until they are applied.
+ghost use Rattle.std.specs.Prelude.{◌≡◌, ◌<◌, not, [], ◌∷◌, ◌++◌, filter, length, All, IfOk, OnOk, OnErr, option_copied};
+ghost use Rattle.std.specs.List.{find, list_any};
+ghost use Rattle.std.specs.List.Sorted.{IsStrictlySortedBy};
+ghost use Rattle.farm_base.specs.Slots.{slot_cmp};
+ghost use Rattle.protocol.specs.Names.{leased_wants};
+ghost use Rattle.protocol.specs.Ledger.{lease_of, lease_under, without, is_older, is_at, retire_all};
+ghost use Rattle.leases.specs.Changes.{changed, ends_lease};
+ghost use Rattle.leases.specs.Leases.{Table, AreLeases};
+ghost use Rattle.leases.specs.Table.{among, is_leased, fit_of, lease_for, holds_some, retires_some};
+
+use super::ending::{Ending, drop_ending};
+use super::lease_table::{Fit, LeaseTable};
+use super::view::View;
+use farm_base::{Ask, Lease, Life, NodeId, Slot, Ticket, Wants};
+use std::alloc::{AllocError, Global};
+use std::marker::Model;
+
+/// Leases that were granted and that ended, and PRIVATE slots that are not granted again, since a table was as it is.
+/// The table is passed to each call that looks at it.
+#[derive(Debug, Drop)]
+pub struct TableChange {
+    ended: Vec<Ending>,
+    granted: Vec<Lease>,
+    retired: Vec<Slot>,
+}
+
+impl Model for TableChange {
+    ghost use Rattle.leases.specs.Changes.{Change};
+
+    ghost Value = { Change };
+
+    ghost view = { λ c. record { ended = c.ended.items; granted = c.granted.items; retired = c.retired.items } };
+}
+
+impl TableChange {
+    /// No change.
+    pub fn new(alloc: Global) -> Self
+        ensures { result ≡ record { ended = []; granted = []; retired = [] } }
+    {
+        TableChange {
+            ended: Vec::new(alloc),
+            granted: Vec::new(alloc),
+            retired: Vec::new(alloc),
+        }
+    }
+
+    /// The table with the changes.
+    fn over<'t>(&'t self, table: &'t LeaseTable) -> View<'t>
+        ensures { result ≡ changed table.now self.now }
+    {
+        let leases = table.leases();
+        let ended = self.ended.as_slice();
+        let granted = self.granted.as_slice();
+        let retired = table.retired();
+        let newly_retired = self.retired.as_slice();
+        View {
+            leases,
+            ended,
+            granted,
+            retired,
+            newly_retired,
+        }
+    }
+
+    /// Whether an ask with these wants can be granted. A tenure takes a slot of its SHARED folder, any other
+    /// ask of its other folders.
+    pub fn fits(&self, table: &LeaseTable, wants: &Wants, tenure: bool) -> Fit
+        ensures { result ≡ fit_of (changed table.now self.now) tenure wants.now }
+    {
+        self.over(table).fits(wants, tenure)
+    }
+
+    /// Whether a lease has the slot.
+    pub fn is_leased(&self, table: &LeaseTable, slot: &Slot) -> bool
+        ensures { result ≡ is_leased (changed table.now self.now) slot.now }
+    {
+        self.over(table).is_leased(slot)
+    }
+
+    /// The lease of a ticket.
+    pub fn lease<'t>(&'t self, table: &'t LeaseTable, ticket: Ticket) -> Option<&'t Lease>
+        ensures { option_copied result ≡ lease_under (changed table.now self.now).live ticket }
+    {
+        self.over(table).lease(ticket)
+    }
+
+    /// The lease of an ask.
+    pub fn lease_of<'t>(
+        &'t self,
+        table: &'t LeaseTable,
+        node: NodeId,
+        life: Life,
+        ask: Ask,
+    ) -> Option<&'t Lease>
+        ensures { option_copied result ≡ lease_of (changed table.now self.now).live node life ask }
+    {
+        self.over(table).lease_of(node, life, ask)
+    }
+
+    /// The oldest lease that has the one slot of a folder for which an ask with these wants takes a slot.
+    pub fn holder_of<'t>(
+        &'t self,
+        table: &'t LeaseTable,
+        wants: &Wants,
+        tenure: bool,
+    ) -> Option<&'t Lease>
+        ensures { option_copied result ≡ find (holds_some (leased_wants tenure wants.now)) (changed table.now self.now).live }
+    {
+        self.over(table).holder_of(wants, tenure)
+    }
+
+    /// Whether a node has a lease.
+    pub fn has_lease_of(&self, table: &LeaseTable, node: NodeId) -> bool
+        ensures { result ≡ list_any (is_at node) (changed table.now self.now).live }
+    {
+        self.over(table).has_lease_of(node)
+    }
+
+    /// Whether a life of a node below this one has a lease.
+    pub fn has_lease_below(&self, table: &LeaseTable, node: NodeId, life: Life) -> bool
+        ensures { result ≡ list_any (is_older node life) (changed table.now self.now).live }
+    {
+        self.over(table).has_lease_below(node, life)
+    }
+
+    /// Grants an ask. Of each PRIVATE folder the lowest free instance is taken.
+    pub fn grant(
+        &mut self,
+        alloc: Global,
+        table: &LeaseTable,
+        node: NodeId,
+        life: Life,
+        ask: Ask,
+        wants: &Wants,
+        tenure: bool,
+        ticket: Ticket,
+    ) -> Result<(), AllocError>
+        requires fits { fit_of (changed table.now self.old) tenure wants.now ≡ Fit.Fits }
+        requires above { All (λ g. g.ticket.0 < ticket.0) (changed table.now self.old).live }
+        ensures ok { OnOk result (changed table.now self.new ≡ record (changed table.now self.old) { live = (changed table.now self.old).live ++ lease_for (changed table.now self.old) node life ask wants.now tenure ticket ∷ [] }) }
+        ensures found { OnOk result (lease_under (changed table.now self.new).live ticket ≡ Some (lease_for (changed table.now self.old) node life ask wants.now tenure ticket)) }
+        ensures sound { OnOk result (AreLeases (changed table.now self.old).live → AreLeases (changed table.now self.new).live) }
+        ensures err { OnErr result (self.new ≡ self.old) }
+    {
+        let view = self.over(table);
+        let lease = view.lease_for(alloc, node, life, ask, wants, tenure, ticket)?;
+        self.granted.push(lease)?;
+        Ok(())
+    }
+
+    /// Ends the lease of a ticket. Its slots are free again.
+    pub fn end(&mut self, ticket: Ticket) -> Result<(), AllocError>
+        ensures ok { OnOk result ((t : Table) → changed t self.new ≡ record (changed t self.old) { live = without ticket (changed t self.old).live }) }
+        ensures sound { OnOk result ((t : Table) → AreLeases (changed t self.old).live → AreLeases (changed t self.new).live) }
+        ensures err { OnErr result (self.new ≡ self.old) }
+    {
+        self.end_all(Ending::Ticket(ticket))
+    }
+
+    /// Ends the leases of the lives of a node below this one. Their slots are free again.
+    pub fn end_lives_below(&mut self, node: NodeId, life: Life) -> Result<(), AllocError>
+        ensures ok { OnOk result ((t : Table) → changed t self.new ≡ record (changed t self.old) { live = filter (λ g. not (is_older node life g)) (changed t self.old).live }) }
+        ensures sound { OnOk result ((t : Table) → AreLeases (changed t self.old).live → AreLeases (changed t self.new).live) }
+        ensures err { OnErr result (self.new ≡ self.old) }
+    {
+        self.end_all(Ending::LivesBelow(node, life))
+    }
+
+    /// Ends these leases. Their slots are free again.
+    fn end_all(&mut self, ending: Ending) -> Result<(), AllocError>
+        ensures ok { OnOk result ((t : Table) → changed t self.new ≡ record (changed t self.old) { live = filter (λ g. not (ends_lease ending g)) (changed t self.old).live }) }
+        ensures sound { OnOk result ((t : Table) → AreLeases (changed t self.old).live → AreLeases (changed t self.new).live) }
+        ensures err { OnErr result (self.new ≡ self.old) }
+    {
+        self.ended.push(ending)?;
+        drop_ending(&mut self.granted, ending);
+        Ok(())
+    }
+
+    /// Withdraws the lease of a ticket. Its PRIVATE slots are never granted again.
+    pub fn withdraw(
+        &mut self,
+        alloc: Global,
+        table: &LeaseTable,
+        ticket: Ticket,
+    ) -> Result<(), AllocError>
+        ensures rest { OnOk result ((changed table.now self.new).live ≡ without ticket (changed table.now self.old).live) }
+        ensures retired { OnOk result (among (changed table.now self.new).retired ≡ retires_some (lease_under (changed table.now self.old).live ticket) (among (changed table.now self.old).retired)) }
+        ensures sound { OnOk result (AreLeases (changed table.now self.old).live → AreLeases (changed table.now self.new).live) }
+        ensures err { OnErr result (self.new ≡ self.old) }
+    {
+        let slots = self.over(table).private_under(alloc, ticket)?;
+        self.withdraw_all(Ending::Ticket(ticket), slots)?;
+        Ok(())
+    }
+
+    /// Withdraws all leases of a node. Their PRIVATE slots are never granted again.
+    pub fn withdraw_all_of(
+        &mut self,
+        alloc: Global,
+        table: &LeaseTable,
+        node: NodeId,
+    ) -> Result<(), AllocError>
+        ensures rest { OnOk result ((changed table.now self.new).live ≡ filter (λ g. not (is_at node g)) (changed table.now self.old).live) }
+        ensures retired { OnOk result (among (changed table.now self.new).retired ≡ retire_all (filter (is_at node) (changed table.now self.old).live) (among (changed table.now self.old).retired)) }
+        ensures sound { OnOk result (AreLeases (changed table.now self.old).live → AreLeases (changed table.now self.new).live) }
+        ensures err { OnErr result (self.new ≡ self.old) }
+    {
+        let slots = self.over(table).private_at(alloc, node)?;
+        self.withdraw_all(Ending::Node(node), slots)?;
+        Ok(())
+    }
+
+    /// Ends these leases, and retires these slots. Room for the ending is made before anything changes.
+    fn withdraw_all(&mut self, ending: Ending, slots: Vec<Slot>) -> Result<(), AllocError>
+        ensures live { OnOk result ((t : Table) → (changed t self.new).live ≡ filter (λ g. not (ends_lease ending g)) (changed t self.old).live) }
+        ensures retired { OnOk result ((t : Table) → (changed t self.new).retired ≡ (changed t self.old).retired ++ slots.items) }
+        ensures sound { OnOk result ((t : Table) → AreLeases (changed t self.old).live → AreLeases (changed t self.new).live) }
+        ensures err { OnErr result (self.new ≡ self.old) }
+    {
+        let mut slots = slots;
+        self.ended.reserve(1)?;
+        self.retired.append(&mut slots)?;
+        self.ended.push(ending).unwrap();
+        drop_ending(&mut self.granted, ending);
+        Ok(())
+    }
+
+    /// Copies of the leases, by rising ticket, and of the slots that are never granted again, rising.
+    pub fn to_parts(
+        &self,
+        alloc: Global,
+        table: &LeaseTable,
+    ) -> Result<(Vec<Lease>, Vec<Slot>), AllocError>
+        ensures leases { IfOk result (λ parts. parts.0.items ≡ (changed table.now self.now).live) }
+        ensures rising { IfOk result (λ parts. IsStrictlySortedBy slot_cmp parts.1.items) }
+        ensures retired { IfOk result (λ parts. among parts.1.items ≡ among (changed table.now self.now).retired) }
+    {
+        self.over(table).to_parts(alloc)
+    }
+
+    /// How many leases, and how many slots that are never granted again, it adds to a table.
+    pub(crate) fn added(&self) -> (usize, usize)
+        ensures leases { result.0 ≡ length self.now.granted }
+        ensures slots { result.1 ≡ length self.now.retired }
+    {
+        (self.granted.len(), self.retired.len())
+    }
+
+    /// Gives its parts, without taking memory.
+    pub(crate) fn into_parts(self) -> (Vec<Ending>, Vec<Lease>, Vec<Slot>)
+        ensures ended { result.0.items ≡ self.ended }
+        ensures granted { result.1.items ≡ self.granted }
+        ensures retired { result.2.items ≡ self.retired }
+    {
+        let TableChange {
+            ended,
+            granted,
+            retired,
+        } = self;
+        (ended, granted, retired)
+    }
+}

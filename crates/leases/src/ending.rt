@@ -1,0 +1,53 @@
+//! What ends leases.
+ghost use Rattle.std.specs.Prelude.{◌≡◌, ◌≤◌, not, filter};
+ghost use Rattle.std.specs.Vec.{vec_len, vec_capacity};
+ghost use Rattle.leases.specs.Changes.{ends_lease, has_ended};
+
+use farm_base::{Lease, Life, NodeId, Ticket};
+
+/// Leases that an event ends.
+#[derive(Clone, Copy, Debug)]
+pub enum Ending {
+    /// The lease of a ticket.
+    Ticket(Ticket),
+    /// The leases of a node.
+    Node(NodeId),
+    /// The leases of the lives of a node below this one.
+    LivesBelow(NodeId, Life),
+}
+
+impl Ending {
+    /// Whether it ends this lease.
+    fn ends(&self, lease: &Lease) -> bool
+        ensures { result ≡ ends_lease self.now lease.now }
+    {
+        match *self {
+            Ending::Ticket(ticket) => lease.ticket == ticket,
+            Ending::Node(node) => lease.node == node,
+            Ending::LivesBelow(node, life) => lease.node == node && lease.life < life,
+        }
+    }
+}
+
+/// Whether one of these ends the lease.
+pub(crate) fn has_ended(ended: &[Ending], lease: &Lease) -> bool
+    ensures { result ≡ has_ended ended.now lease.now }
+{
+    ended.iter().any(|ending| ending.ends(lease))
+}
+
+/// Removes the leases that have ended.
+pub(crate) fn drop_ended(leases: &mut Vec<Lease>, ended: &[Ending])
+    ensures items { leases.new.items ≡ filter (λ g. not (has_ended ended.now g)) leases.old.items }
+    ensures len { vec_len leases.new ≤ vec_len leases.old }
+    ensures capacity { vec_capacity leases.new ≡ vec_capacity leases.old }
+{
+    leases.retain(|lease| !has_ended(ended, lease));
+}
+
+/// Removes the leases that this ends.
+pub(crate) fn drop_ending(leases: &mut Vec<Lease>, ending: Ending)
+    ensures { leases.new.items ≡ filter (λ g. not (ends_lease ending g)) leases.old.items }
+{
+    leases.retain(|lease| !ending.ends(lease));
+}

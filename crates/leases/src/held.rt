@@ -1,0 +1,71 @@
+//! Tests of slots, of the leases that have them, and of the wants that take them.
+ghost use Rattle.std.specs.Prelude.{◌≡◌, filter};
+ghost use Rattle.std.specs.List.{list_any};
+ghost use Rattle.protocol.specs.Names.{leased_wants, any_shared, is_private, only_slot};
+ghost use Rattle.protocol.specs.Ledger.{has_slot};
+ghost use Rattle.leases.specs.Table.{among, takes, holds_some};
+
+use farm_base::{FolderName, Lease, Mode, Slot, Want, Wants};
+
+/// Whether a slot is among a lease's.
+pub(crate) fn has_slot(slots: &[(Slot, bool)], slot: &Slot) -> bool
+    ensures { result ≡ has_slot slots.now slot.now }
+{
+    slots.iter().any(|held| held.0 == *slot)
+}
+
+/// Whether a slot is among these.
+pub(crate) fn among(slots: &[Slot], slot: &Slot) -> bool
+    ensures { result ≡ among slots.now slot.now }
+{
+    slots.iter().any(|other| other == slot)
+}
+
+/// Whether a lease takes a slot for the want.
+pub(crate) fn takes(want: &Want, tenure: bool) -> bool
+    ensures { result ≡ takes tenure want.now }
+{
+    matches!(want.folder.mode, Mode::Shared) == tenure
+}
+
+/// Whether a want is of a SHARED folder.
+pub(crate) fn any_shared(wants: &[Want]) -> bool
+    ensures { result ≡ any_shared wants.now }
+{
+    wants
+        .iter()
+        .any(|want| matches!(want.folder.mode, Mode::Shared))
+}
+
+/// Whether the want is of a PRIVATE folder.
+pub(crate) fn is_private(want: &Want) -> bool
+    ensures { result ≡ is_private want.now.folder.mode }
+{
+    matches!(want.folder.mode, Mode::Private)
+}
+
+/// Whether the lease has the one slot of a folder for which an ask with these wants takes a slot.
+pub fn holds_wanted(lease: &Lease, wants: &Wants, tenure: bool) -> bool
+    ensures { result ≡ holds_some (leased_wants tenure wants.now) lease.now }
+{
+    holds_some(lease.slots.as_slice(), wants.as_slice(), tenure)
+}
+
+/// Whether the folder's one slot is among the lease's.
+pub(crate) fn has_only(slots: &[(Slot, bool)], folder: &FolderName) -> bool
+    ensures { result ≡ has_slot slots.now (only_slot folder.now) }
+{
+    slots
+        .iter()
+        .any(|held| held.0.folder() == folder && held.0.instance() == 0)
+}
+
+/// Whether the slots have the one slot of a folder for which an ask takes a slot.
+pub(crate) fn holds_some(slots: &[(Slot, bool)], wants: &[Want], tenure: bool) -> bool
+    ensures { result ≡ list_any (λ w. has_slot slots.now (only_slot w.folder)) (filter (takes tenure) wants.now) }
+{
+    wants
+        .iter()
+        .filter(|want| takes(want, tenure))
+        .any(|want| has_only(slots, &want.folder))
+}
