@@ -1,5 +1,5 @@
 -- The parts of a record as a format: those that are read are those that were written, and what was written is read again.
-use Rattle.std.proofs.Common.{◌≡◌, ℕ, zero, suc, ◌^◌, ◌<◌, ◌≤◌, Bool, eqb, List, [], ◌++◌, length, Option, Some, None, Ok, refl, sym, ap, subst, ◌∙◌, arith}
+use Rattle.std.proofs.Common.{◌≡◌, ℕ, zero, suc, ◌^◌, ◌≤◌, eqb, List, [], ◌++◌, length, Option, Some, None, Ok, refl, sym, ap, subst, ◌∙◌, arith}
 use Rattle.std.specs.Int.{w32, to_be_bytes}
 use Rattle.std.specs.List.{AllByRecursion}
 use Rattle.std.specs.List.Sorted.{IsStrictlySortedBy}
@@ -12,7 +12,6 @@ use Rattle.saverecord.specs.declared.layout.Layout.{Layout}
 use Rattle.saverecord.specs.declared.layout.Layout.TheVariants.{First, Second, Third}
 use Rattle.saverecord.specs.declared.record.Record.{Record}
 use Rattle.saverecord.specs.declared.refusal.Flaw.TheVariants.{Trailing}
-use Rattle.codec.specs.Steps.{◌>>=◌}
 use Rattle.saverecord.specs.Parts.{passed, number_at}
 use Rattle.saverecord.specs.Slots.{is_slot_above}
 use Rattle.saverecord.specs.Entries.{is_above}
@@ -93,19 +92,21 @@ body_format layout =
           then_takes nodes behind_lives c.rest_fits _ _ λ ns behind_nodes d are_nodes.
           then_takes leases behind_nodes d.rest_fits _ _ λ ls behind_leases l are_leases.
           then_takes retired behind_leases l.rest_fits _ _ λ ss behind_retired s are_retired.
-          then_takes lines behind_retired s.rest_fits _ _ λ vs rest v are_lines.
-          ((a and_then b) and_then (c and_then d) and_then l and_then s and_then v, record {
-            home = is_home;
-            lives_rise = numbers-from_row life_key xs are_lives.0;
-            lives = are_lives.1;
-            nodes_rise = numbers-from_row node_key ns are_nodes.0;
-            nodes = are_nodes.1;
-            leases_rise = numbers-from_row ticket_key ls are_leases.0;
-            leases = are_leases.1;
-            retired_rise = subst (IsStrictlySortedBy slot_cmp) (map-id ss) (sorted-from_row is_slot_above slot_cmp slot_tests slot_key None ss are_retired.0);
-            lines_rise = sorted-from_row is_slot_above slot_cmp slot_tests line_key None vs are_lines.0;
-            lines = are_lines.1;
-          });
+          then_takes lines behind_retired s.rest_fits _ _ λ vs rest v are_lines. (
+            (a and_then b) and_then (c and_then d) and_then l and_then s and_then v,
+            record {
+              home = is_home;
+              lives_rise = numbers-from_row life_key xs are_lives.0;
+              lives = are_lives.1;
+              nodes_rise = numbers-from_row node_key ns are_nodes.0;
+              nodes = are_nodes.1;
+              leases_rise = numbers-from_row ticket_key ls are_leases.0;
+              leases = are_leases.1;
+              retired_rise = subst (IsStrictlySortedBy slot_cmp) (map-id ss) (sorted-from_row is_slot_above slot_cmp slot_tests slot_key None ss are_retired.0);
+              lines_rise = sorted-from_row is_slot_above slot_cmp slot_tests line_key None vs are_lines.0;
+              lines = are_lines.1;
+            },
+          );
       again = λ r rest fits typed.
           let third = typed.0 in
           let own = typed.1 in

@@ -49,8 +49,8 @@ module _ {X K : Type 0} {read : Reader X} {layout : Layout} {spell : X → List 
   counted_format low high below = record {
     takes = λ bytes fits. then_takes (number_format w64 (2 ^ 64) wide64 low high below) bytes fits _ _ λ n after tn between.
         IfOk-weaker (each_at read layout None n after) _ _ (λ xs t.
-          let len = t.1.0 in
-          (subst (λ (k : ℕ). Takes bytes (to_be_bytes w64 k ++ flat_map spell xs.0) xs.1) (sym len) (tn and_then t.0), record { low_fits = omega arith; high_fits = omega arith; row = t.1.1; each = t.1.2 }))
+        let len = t.1.0 in
+        (subst (λ (k : ℕ). Takes bytes (to_be_bytes w64 k ++ flat_map spell xs.0) xs.1) (sym len) (tn and_then t.0), record { low_fits = omega arith; high_fits = omega arith; row = t.1.1; each = t.1.2 }))
         (each_takes None n after tn.rest_fits);
     again = λ xs rest fits typed.
         then_again (number_format w64 (2 ^ 64) wide64 low high below) (length xs) _ (begins (counted spell xs) rest) (fits.low_fits, fits.high_fits) tt _ λ after is.

@@ -3,7 +3,6 @@ use Rattle.std.proofs.Common.{◌≡◌, ℕ, zero, suc, ◌^◌, ◌<◌, ◌�
 use Rattle.std.specs.Int.{Width, w32, w64, byte_len, from_be_bytes, to_be_bytes}
 use Rattle.std.specs.Str.{IsUtf8, is_utf8}
 use Rattle.std.proofs.lemmas.Bool.{leb-true, le-leb, and_parts}
-use Rattle.codec.specs.Steps.{◌>>=◌}
 use Rattle.codec.proofs.Formats.{Any, IsSpelled, IsFormat, if_then, if_passed, ◌and_then◌, one_byte, begins, then_takes, then_again, last_again, refit, front_format}
 use Rattle.codec.proofs.Fronts.{IsBytes-front, Takes, IsWide, wide32, wide64}
 use Rattle.farm_base.specs.Digests.{IsBytes}
