@@ -14,11 +14,13 @@ const BATCHES: u32 = 5;
 const TURNS: u32 = 40;
 /// What there is few and many of.
 const FEW: u32 = 16;
+
 const MANY: u32 = 16_000;
 /// How many slots are freed for which asks wait.
 const FREED: u32 = 8;
 /// How many of the first and the last grants of a PRIVATE folder are timed, of all its instances.
 const GRANTS: u32 = 100;
+
 const INSTANCES: u32 = 4_096;
 
 /// A coordinator of a farm where nothing happened.

@@ -17,7 +17,6 @@ is_handed Out = true
 is_handed (Done outputs) = true
 is_handed (Failed fault) = true
 
-
 -- how many of these keys were handed out
 abbrev handed : List Entry → ℕ
 handed keys = sum_by (λ e. cond (is_handed e.progress) 1 0) keys
