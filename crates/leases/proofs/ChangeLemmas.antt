@@ -95,25 +95,6 @@ live-granted t old new g ended granted =
 
 -- ---- slots
 
--- marks for what is leased, granted, retired or newly retired
-pub taken_by : (a b r n o : Bool) → (n || (r || (b || (a || o)))) ≡ (not (not (a || b) && not (r || n)) || o)
-taken_by true true true true o = refl
-taken_by true true true false o = refl
-taken_by true true false true o = refl
-taken_by true true false false o = refl
-taken_by true false true true o = refl
-taken_by true false true false o = refl
-taken_by true false false true o = refl
-taken_by true false false false o = refl
-taken_by false true true true o = refl
-taken_by false true true false o = refl
-taken_by false true false true o = refl
-taken_by false true false false o = refl
-taken_by false false true true o = refl
-taken_by false false true false o = refl
-taken_by false false false true o = refl
-taken_by false false false false o = refl
-
 -- the PRIVATE slots of a node's leases, of those that the table has and of those that were granted since
 pub private_at-both : (n : NodeId) (live granted : List Lease)
     → all_private (filter (is_at n) live) ++ all_private (filter (is_at n) (filter (λ g. not (has_ended [] g)) granted)) ≡ all_private (filter (is_at n) (live ++ granted))
