@@ -2,7 +2,7 @@
 
 use super::clock::seconds_since;
 use coordinator::{CoordNote, Coordinator};
-use farm_base::{Ask, FolderName, Life, NodeId, Request, Ticket, ToCoord, Wants};
+use farm_base::{Ask, FolderName, INSTANCES, Life, NodeId, Request, Ticket, ToCoord, Wants};
 use saverecord::MemoryKeeper;
 use std::alloc::Global;
 use std::rt::Clock;
@@ -12,16 +12,14 @@ use std::time::Instant;
 const BATCHES: u32 = 5;
 /// How many events of each kind a batch has.
 const TURNS: u32 = 40;
-/// What there is few and many of.
+/// A coordinator that keeps little has this many leases or parked asks.
 const FEW: u32 = 16;
-
+/// One that keeps much has this many.
 const MANY: u32 = 16_000;
 /// How many slots are freed for which asks wait.
 const FREED: u32 = 8;
-/// How many of the first and the last grants of a PRIVATE folder are timed, of all its instances.
+/// How many of the first and of the last grants of a PRIVATE folder are timed.
 const GRANTS: u32 = 100;
-
-const INSTANCES: u32 = 4_096;
 
 /// A coordinator of a farm where nothing happened.
 fn started(alloc: Global) -> anyhow::Result<Coordinator<MemoryKeeper>> {
@@ -85,14 +83,15 @@ fn lease(
     Ok(())
 }
 
-/// The time of an event of a batch: a folder is leased and given back in turn.
+/// The time of an event of a batch: a folder is leased and given back in turn, by asks with the numbers from this one on.
 fn turning<R: Clock + AllocGlobal>(
     rt: &R,
     coordinator: &mut Coordinator<MemoryKeeper>,
+    from: u32,
 ) -> anyhow::Result<f64> {
     let start = Instant::now(rt)?;
-    for _ in 0..TURNS {
-        if let Some(ticket) = ask(coordinator, rt.alloc(), MANY, "locked:turn")? {
+    for number in from..from.saturating_add(TURNS) {
+        if let Some(ticket) = ask(coordinator, rt.alloc(), number, "locked:turn")? {
             release(coordinator, rt.alloc(), ticket)?;
         }
     }
@@ -104,8 +103,9 @@ fn with_leases<R: Clock + AllocGlobal>(rt: &R, count: u32) -> anyhow::Result<f64
     let mut coordinator = started(rt.alloc())?;
     lease(&mut coordinator, rt.alloc(), count)?;
     let mut least = f64::INFINITY;
-    for _ in 0..BATCHES {
-        least = least.min(turning(rt, &mut coordinator)?);
+    for batch in 0..BATCHES {
+        let from = count.saturating_add(batch * TURNS);
+        least = least.min(turning(rt, &mut coordinator, from)?);
     }
     Ok(least)
 }

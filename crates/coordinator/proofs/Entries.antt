@@ -1,11 +1,12 @@
 -- The entry of an event, behind the texts that hold the ledger before it, holds the ledger after it.
 use mathlib.Core.Path.{fun_ext}
-use Rattle.std.proofs.Common.{◌≡◌, ◌≢◌, ◌<◌, ◌≤◌, ℕ, suc, Bool, List, [], ◌∷◌, ◌++◌, true, ltb, leb, filter, Option, Some, None, Ok, inl, inr, refl, sym, ap, ◌∙◌, subst, arith}
+use Rattle.std.proofs.Common.{◌≡◌, ◌≢◌, ◌<◌, ◌≤◌, ℕ, Bool, List, [], ◌∷◌, ◌++◌, true, ltb, leb, length, filter, Option, Some, None, Ok, inl, inr, refl, sym, ap, ◌∙◌, subst, arith}
 use Rattle.std.specs.Prelude.{All, map, ◌&&◌}
 use Rattle.std.specs.List.{list_all}
 use Rattle.std.proofs.lemmas.Bool.{cases_Bool, and_from, le-leb, lt-ltb}
 use Rattle.std.proofs.lemmas.List.{append-nil}
-use Rattle.std.proofs.lemmas.List.Elements.{All-filter}
+use Rattle.std.proofs.Math.Seq.{drop-append_seam}
+use Rattle.std.proofs.lemmas.List.Elements.{All-drop, All-filter}
 use Rattle.leases.specs.Leases.{IsOpen}
 use Rattle.protocol.specs.Lists.{In}
 use Rattle.protocol.specs.Names.{Slot, slot_eq, Ticket}
@@ -26,28 +27,23 @@ use Rattle.saverecord.specs.Records.{record_of}
 use Rattle.saverecord.specs.Texts.{Texts, with_text}
 use Rattle.saverecord.proofs.LedgerLemmas.{all_from_in, passes_from_in, line_in}
 use Rattle.saverecord.proofs.LogLemmas.{Follows, added_all, entry_is, text_is, pushed_in}
-use Rattle.coordinator.specs.declared.state.State.{State}
-use Rattle.coordinator.specs.Shown.{kept, lines_with}
+use Rattle.coordinator.specs.Shown.{lines_with}
 use Rattle.coordinator.specs.Sound.{IsRightful}
 
 -- ---- the ledger with only the lines that an event adds
-
-all_later : {X : Type 0} (P : X → Type 0) (xs ys : List X) → All P (xs ++ ys) → All P ys
-all_later P [] ys h = h
-all_later P (x ∷ xs) ys h = all_later P xs ys (λ k d lt. h (suc k) d (omega arith))
 
 -- the lines with what is added are the lines, followed by what is added
 split_lines : (lines : List SlotLine) (o : Option Added) (s : Slot) → lines_with lines o s ≡ line_at lines s ++ lines_with [] o s
 split_lines lines None s = sym (append-nil (line_at lines s))
 split_lines lines (Some a) s = refl
 
-pub rightful_alone : (lines : List SlotLine) (o : Option Added) (s : State) → IsRightful (kept (lines_with lines o) s) → IsRightful (kept (lines_with [] o) s)
-rightful_alone lines o s h = record {
+pub rightful_alone : (lines : List SlotLine) (o : Option Added) (q : Ledger) → IsRightful (record q { line = lines_with lines o }) → IsRightful (record q { line = lines_with [] o })
+rightful_alone lines o q h = record {
   sound = record {
     leases = h.sound.leases;
     given = h.sound.given;
-    past = λ x. later (λ v. v.ticket.0 ≤ s.tickets.position) x (h.sound.past x);
-    ahead = all_from_in (IsOpen (lines_with [] o)) s.table.live (λ g i x has. later (λ v. v.ticket.0 < g.ticket.0) x (all_in (IsOpen (lines_with lines o)) s.table.live h.sound.ahead g i x has));
+    past = λ x. later (λ v. v.ticket.0 ≤ q.last) x (h.sound.past x);
+    ahead = all_from_in (IsOpen (lines_with [] o)) q.live (λ g i x has. later (λ v. v.ticket.0 < g.ticket.0) x (all_in (IsOpen (lines_with lines o)) q.live h.sound.ahead g i x has));
     asks = h.sound.asks;
   };
   lawful = record {
@@ -67,7 +63,7 @@ rightful_alone lines o s h = record {
 }
   where
     later : (P : LineVersion → Type 0) (x : Slot) → All P (lines_with lines o x) → All P (lines_with [] o x)
-    later P x all = all_later P (line_at lines x) (lines_with [] o x) (subst (All P) (split_lines lines o x) all)
+    later P x all = subst (All P) (drop-append_seam (line_at lines x) (lines_with [] o x)) (All-drop P (length (line_at lines x)) (line_at lines x ++ lines_with [] o x) (subst (All P) (split_lines lines o x) all))
 
 none_ready : (lines : List SlotLine) (t : Ticket) (xs : List Addition) → AreReady lines t xs → AreReady [] t xs
 none_ready lines t [] h = tt
@@ -99,13 +95,13 @@ each_added lines (Some a) l ready is full = one_added lines a.ticket a.additions
 
 -- ---- the texts with an entry
 
-module _ (lines : List SlotLine) (o : Option Added) (s : State) (e : Record) (rightful : IsRightful (kept (lines_with lines o) s)) (ready : IsReady lines o)
-    (same : ledger_of e ≡ reads (saves (kept (lines_with [] o) s))) (is_kept : IsKept e) where
+module _ (lines : List SlotLine) (o : Option Added) (q : Ledger) (e : Record) (rightful : IsRightful (record q { line = lines_with lines o })) (ready : IsReady lines o)
+    (same : ledger_of e ≡ reads (saves (record q { line = lines_with [] o }))) (is_kept : IsKept e) where
   abbrev pub added : LineOf
   added = lines_with lines o
 
   line_is : line_at e.lines ≡ lines_with [] o
-  line_is = ap (λ (q : Ledger). q.line) same
+  line_is = ap (λ (x : Ledger). x.line) same
 
   follows : (l : SlotLine) → In l e.lines → Follows (line_at lines) l
   follows l i =
@@ -117,28 +113,28 @@ module _ (lines : List SlotLine) (o : Option Added) (s : State) (e : Record) (ri
 
   opened : (g : Lease) → In g e.leases → is_open added g ≡ true
   opened g i =
-      let live : e.leases ≡ filter is_saved s.table.live = ap (λ (q : Ledger). q.live) same in
-      let ahead : IsOpen added g = all_in (IsOpen added) (filter is_saved s.table.live) (All-filter is_saved (IsOpen added) s.table.live rightful.sound.ahead) g (subst (In g) live i) in
+      let live : e.leases ≡ filter is_saved q.live = ap (λ (x : Ledger). x.live) same in
+      let ahead : IsOpen added g = all_in (IsOpen added) (filter is_saved q.live) (All-filter is_saved (IsOpen added) q.live rightful.sound.ahead) g (subst (In g) live i) in
       passes_from_in (λ (x : Slot × Bool). is_above_all g.ticket (added x.0)) g.slots
       (λ x j. above_all g.ticket (added x.0) (ahead x.0 (any_in (λ (y : Slot × Bool). slot_eq y.0 x.0) x g.slots j (slot_eq_same x.0))))
 
   abbrev pub after : Ledger
   after = record (ledger_of e) { line = added }
 
-  entry_after : (k : Ledger) → k.line ≡ line_at lines → k.ceiling ≤ s.tickets.ceiling → with_entry e k ≡ Ok after
+  entry_after : (k : Ledger) → k.line ≡ line_at lines → k.ceiling ≤ q.ceiling → with_entry e k ≡ Ok after
   entry_after k line low =
-      let last : e.last.0 ≡ s.tickets.ceiling = ap (λ (q : Ledger). q.ceiling) same in
+      let last : e.last.0 ≡ q.ceiling = ap (λ (x : Ledger). x.ceiling) same in
       let passes : (leb k.ceiling e.last.0 && list_all (is_open added) e.leases) ≡ true = and_from _ _ (le-leb k.ceiling e.last.0 (subst (λ n. k.ceiling ≤ n) (sym last) low)) (passes_from_in (is_open added) e.leases opened) in
       let read : with_versions e.lines k.line ≡ Ok added = ap (with_versions e.lines) line ∙ lines_after in
       entry_is e k added read passes
 
-  saves_after : saves after ≡ saves (kept added s)
+  saves_after : saves after ≡ saves (record q { line = added })
   saves_after =
-      ap (λ (q : Ledger). saves (record q { line = added })) same ∙ ap (λ gs. record (saves (kept added s)) { live = gs }) (saved_twice s.table.live)
+      ap (λ (x : Ledger). saves (record x { line = added })) same ∙ ap (λ gs. record (saves (record q { line = added })) { live = gs }) (saved_twice q.live)
 
-  pub entry_holds : (q : Ledger) (text : List ℕ) (t : Texts) → q.line ≡ line_at lines → q.ceiling ≤ s.tickets.ceiling → record_of text ≡ Ok e → Holds t (saves q) → Holds (with_text text t) (saves (kept added s))
-  entry_holds q text t line low again h =
+  pub entry_holds : (before : Ledger) (text : List ℕ) (t : Texts) → before.line ≡ line_at lines → before.ceiling ≤ q.ceiling → record_of text ≡ Ok e → Holds t (saves before) → Holds (with_text text t) (saves (record q { line = added }))
+  entry_holds before text t line low again h =
       let here : h.kept.line ≡ line_at lines = ap (λ (x : Saved). x.line) h.saved ∙ line in
-      let block : h.kept.ceiling ≤ s.tickets.ceiling = subst (λ n. n ≤ s.tickets.ceiling) (sym (ap (λ (x : Saved). x.ceiling) h.saved)) low in
+      let block : h.kept.ceiling ≤ q.ceiling = subst (λ n. n ≤ q.ceiling) (sym (ap (λ (x : Saved). x.ceiling) h.saved)) low in
       let read : after_text text h.kept ≡ Ok after = text_is text e h.kept after again (entry_after h.kept here block) in
       record { kept = after; read = pushed_in t text h.kept after h.read read; saved = saves_after }

@@ -1,6 +1,6 @@
 -- The record that a coordinator's keeper has, and the ledger that it keeps.
-use Rattle.std.proofs.Common.{◌≡◌, List, Bool, false, Result, Ok, Err, sym, ap, ◌∙◌, subst}
-use Rattle.std.specs.Prelude.{IfOk}
+use Rattle.std.proofs.Common.{◌≡◌, List, Bool, true, false, Option, Some, None, Result, Ok, Err, refl, sym, ap, ◌∙◌, subst}
+use Rattle.std.specs.Prelude.{IfOk, IfSome, is_some}
 use Rattle.protocol.specs.Machine.{FromCoord, ToCoord}
 use Rattle.protocol.specs.declared.answer.CoordNote.{CoordNote}
 use Rattle.protocol.specs.declared.answer.CoordRefusal.{CoordRefusal}
@@ -9,7 +9,9 @@ use Rattle.saverecord.specs.Logs.{Holds, saved_in}
 use Rattle.saverecord.specs.Texts.{Texts}
 use Rattle.coordinator.specs.Held.{Held, ledger}
 use Rattle.coordinator.specs.Seen.{Seen, IsKeeping}
-use Rattle.coordinator.specs.Settling.{Answers, SettlesWhile, Settles}
+use Rattle.coordinator.specs.Keeping.{kept_with, kept_with_some}
+use Rattle.coordinator.specs.Settling.{Answers, Saves, SavesIf, SettlesWhile, Settles}
+use Rattle.coordinator.specs.declared.text.Text.{Text}
 use Rattle.coordinator.specs.Promises.{GrantsAtOnce}
 use Rattle.coordinator.specs.declared.handled.Handled.{Handled}
 use Rattle.coordinator.proofs.Records.{saves_again, held_in}
@@ -32,3 +34,26 @@ pub at_once : {K : Type 0} (saving : K → Texts → Bool → K → Type 0) (w :
 at_once saving w old new (Ok h) y answer grants =
     subst (λ (n : CoordNote). GrantsAtOnce (ledger old.held) y n h.sends) (sym answer.note) (subst (λ (ys : List FromCoord). GrantsAtOnce (ledger old.held) y w.note ys) (sym answer.sends) grants)
 at_once saving w old new (Err e) y answer grants = tt
+
+-- ---- what a save leaves
+
+-- a text that is kept, if there is one, holds what is saved after, where no text means that nothing changed
+pub holds_after : (text : Option Text) (changed : Bool) (before after : Saved) (old new : Texts) → is_some text ≡ changed → IfSome text (λ x. (t : Texts) → Holds t before → Holds (kept_with x t) after)
+    → (changed ≡ false → after ≡ before) → Holds old before → new ≡ kept_with_some text old → Holds new after
+holds_after None changed before after old new some holds told h e = subst (Holds new) (sym (told (sym some))) (subst (λ t. Holds t before) (sym e) h)
+holds_after (Some x) changed before after old new some holds told h e = subst (λ t. Holds t after) (sym e) (holds old h)
+
+-- it was saved, if there was one
+pub saved_ok : {K P : Type 0} (saving : K → Texts → Bool → K → Type 0) (text : Option Text) (changed : Bool) (before after : Saved) (texts : Texts) (old new : K) → is_some text ≡ changed
+    → IfSome text (λ x. (t : Texts) → Holds t before → Holds (kept_with x t) after) → Holds texts before → IfSome text (λ x. P → saving old (kept_with x texts) true new) → P → (text ≡ None → new ≡ old)
+    → SavesIf saving changed after old new
+saved_ok saving None changed before after texts old new some holds h left p same = subst (λ b. SavesIf saving b after old new) some (same refl)
+saved_ok saving (Some x) changed before after texts old new some holds h left p same =
+    subst (λ b. SavesIf saving b after old new) some (record { texts = kept_with x texts; holds = holds texts h; left = left p })
+
+-- there was one, and its save failed
+pub saved_not : {K P : Type 0} (saving : K → Texts → Bool → K → Type 0) (text : Option Text) (changed : Bool) (before after : Saved) (texts : Texts) (old new : K) → is_some text ≡ changed
+    → IfSome text (λ x. (t : Texts) → Holds t before → Holds (kept_with x t) after) → Holds texts before → IfSome text (λ x. P → saving old (kept_with x texts) false new) → P → (text ≡ None → false ≡ true)
+    → (changed ≡ true) × Saves saving after false old new
+saved_not saving None changed before after texts old new some holds h left p never = (let bad : false ≡ true = never refl in absurd (cc bad))
+saved_not saving (Some x) changed before after texts old new some holds h left p never = (sym some, record { texts = kept_with x texts; holds = holds texts h; left = left p })

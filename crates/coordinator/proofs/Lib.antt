@@ -1,5 +1,7 @@
 pub mod StateWords
 pub mod Trying
+pub mod WaitingWords
+pub mod NewestWords
 pub mod SoundWords
 pub mod Kept
 pub mod Sends

@@ -1,9 +1,8 @@
 -- Trying an ask, by what is decided of it.
-use Rattle.std.proofs.Common.{◌≡◌, ℕ, List, [], ◌∷◌, ◌++◌, ◌+◌, ◌<◌, ◌≤◌, cond, Bool, true, false, ◌||◌, Option, Some, None, refl, sym, ◌∙◌, ap, inl, inr, arith, append_assoc}
+use Rattle.std.proofs.Common.{◌≡◌, ℕ, List, [], ◌∷◌, ◌<◌, ◌≤◌, Bool, true, false, ◌||◌, Option, Some, None, refl, sym, ◌∙◌, ap, inl, inr, arith}
 use Rattle.std.proofs.lemmas.Bool.{cases_Bool, eqb-true}
-use Rattle.std.specs.Prelude.{if◌then◌else◌, is_some, count_by, nat_lt}
+use Rattle.std.specs.Prelude.{is_some, nat_lt}
 use Rattle.std.specs.List.{list_any}
-use Rattle.std.proofs.lemmas.List.Sums.{sum_by-cons}
 use Rattle.std.proofs.lemmas.Bool.Decides.{nat_tests}
 use Rattle.protocol.specs.Names.{NodeId, Life, Ticket}
 use Rattle.protocol.specs.declared.answer.CoordNote.TheVariants as note
@@ -54,25 +53,6 @@ pub retried-is : (k : Limits) (w : Work) → retried k w ≡ parks (waiting k w.
 unfolding retried
 retried-is k w = refl
 
--- all parked asks were tried, while none was parked
-pub retried-from : (k : Limits) (w last : Work) (stay : List Parked) → try_all k w.ledger.parked (parks [] w) ≡ last → waiting k w.ledger.parked (parks [] w) ≡ stay → parks stay last ≡ retried k w
-retried-from k w last stay all rest =
-    let e : last ≡ parks [] (try_all k w.ledger.parked w) = sym all ∙ try_all-parks k w.ledger.parked w [] in
-    let s : stay ≡ waiting k w.ledger.parked w = sym rest ∙ waiting-parks k w.ledger.parked w [] in
-    ap (λ x. parks stay x) e ∙ ap (λ x. parks x (try_all k w.ledger.parked w)) s ∙ sym (retried-is k w)
-
--- one ask more was tried
-pub waiting-next : (k : Limits) (p : Parked) (rest : List Parked) (w : Work) (stay stay' total : List Parked) (b : Bool) → b ≡ stays k p w → stay' ≡ (if b then stay ++ p ∷ [] else stay)
-    → stay ++ waiting k (p ∷ rest) w ≡ total → stay' ++ waiting k rest (tried k p w) ≡ total
-waiting-next k p rest w stay stay' total true e s h =
-    let t : stays k p w ≡ true = sym e in
-    let all : stay ++ (p ∷ waiting k rest (tried k p w)) ≡ total = rw t at h in
-    ap (λ (x : List Parked). x ++ waiting k rest (tried k p w)) s ∙ append_assoc stay (p ∷ []) (waiting k rest (tried k p w)) ∙ all
-waiting-next k p rest w stay stay' total false e s h =
-    let t : stays k p w ≡ false = sym e in
-    let all : stay ++ waiting k rest (tried k p w) ≡ total = rw t at h in
-    ap (λ (x : List Parked). x ++ waiting k rest (tried k p w)) s ∙ all
-
 -- an ask that was not granted or parked before is decided
 pub acquiring-decides : (k : Limits) (o : Option Lease) (b : Bool) (p : Parked) (w : Work) → is_some o ≡ false → b ≡ false → acquiring k o b p w ≡ decided (decision k w.ledger p) k p w
 acquiring-decides k (Some g) b p w h e = (let bad : true ≡ false = h in absurd (cc bad))
@@ -80,21 +60,6 @@ acquiring-decides k None true p w h e = (let bad : true ≡ false = e in absurd 
 acquiring-decides k None false p w h e = refl
 
 -- where something ended
-pub any-count : {A : Type 0} (test : A → Bool) (xs : List A) → nat_lt 0 (count_by test xs) ≡ list_any test xs
-any-count test [] = refl
-any-count test (x ∷ xs) = elim (cases_Bool (test x)) [
-  | inl e ↦ (let c : count_by test (x ∷ xs) ≡ 1 + count_by test xs = sum_by-cons (λ y. cond (test y) 1 0) x xs ∙ ap (λ (b : Bool). cond b 1 0 + count_by test xs) e in
-      ap (nat_lt 0) c ∙ above (count_by test xs) ∙ sym (ap (λ (b : Bool). b || list_any test xs) e))
-  | inr e ↦ (let c : count_by test (x ∷ xs) ≡ 0 + count_by test xs = sum_by-cons (λ y. cond (test y) 1 0) x xs ∙ ap (λ (b : Bool). cond b 1 0 + count_by test xs) e in
-      ap (nat_lt 0) c ∙ same (count_by test xs) ∙ any-count test xs ∙ sym (ap (λ (b : Bool). b || list_any test xs) e))
-]
-  where
-    above : (b : ℕ) → nat_lt 0 (1 + b) ≡ true
-    above b = grind (arith, nat_tests)
-
-    same : (b : ℕ) → nat_lt 0 (0 + b) ≡ nat_lt 0 b
-    same b = grind (arith, nat_tests)
-
 pub newer_life-tries : (k : Limits) (n : NodeId) (l : Life) (w : Work) → (list_any (is_older n l) w.ledger.live || is_home n w.ledger.old_home) ≡ true → newer_life k n l w ≡ retried k (sees n l w)
 unfolding newer_life
 newer_life-tries k n l w e = rw e refl

@@ -1,4 +1,6 @@
 pub mod Held
+pub mod Waiting
+pub mod Newest
 pub mod Shown
 pub mod Sound
 pub mod Keeps

@@ -38,6 +38,11 @@ pub record Fails {K : Type 0} (saving : K → Texts → Bool → K → Type 0) (
   pub held : new.held ≡ old.held
   pub down : new.down ≡ true
 
+-- the answer is that the save failed
+abbrev pub is_save_fault : Result Handled CoordRefusal → Bool
+is_save_fault (Err SaveFault) = true
+is_save_fault result = false
+
 -- the answer of a coordinator that is up, where the rules make this work of the event
 abbrev pub Answers : {K : Type 0} → (K → Texts → Bool → K → Type 0) → Result Work CoordRefusal → Seen K → Seen K → Result Handled CoordRefusal → Type 0
 Answers saving (Ok w) old new (Ok h) = Does saving w old new h

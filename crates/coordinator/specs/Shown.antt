@@ -1,13 +1,19 @@
 -- What an event shows while it is worked out.
 use Rattle.std.specs.Prelude.{Bool, true, false, ◌||◌, List, Option, Some, None}
-use Rattle.protocol.specs.Names.{Ticket}
+use Rattle.std.specs.Option.{unwrap_or}
+use Rattle.farm_base.specs.declared.lease.NodeLife.{NodeLife}
+use Rattle.protocol.specs.Names.{Ticket, NodeId}
 use Rattle.protocol.specs.Machine.{FromCoord}
 use Rattle.protocol.specs.Ledger.{Ledger, Work, begin_work, Lease, is_saved, without, lease_under}
+use Rattle.leases.specs.Changes.{changed}
+use Rattle.leases.specs.Leases.{Table}
 use Rattle.leases.specs.Table.{among, retires_some}
 pub use Rattle.versions.specs.Lines.{LineOf, lines_with}
 use Rattle.coordinator.specs.declared.state.State.{State}
+use Rattle.coordinator.specs.declared.change.Change.{Change}
 use Rattle.coordinator.specs.declared.draft.Draft.{Draft}
-use Rattle.coordinator.specs.Held.{life_at, is_among}
+use Rattle.coordinator.specs.Held.{Held, life_at, is_among}
+use Rattle.coordinator.specs.Waiting.{waits_after}
 
 -- the ledger that a state shows, with these lines
 abbrev pub kept : LineOf → State → Ledger
@@ -20,12 +26,40 @@ kept line s = record {
   ceiling = s.tickets.ceiling;
   old_home = s.old_home;
   lives = life_at s.lives;
-  parked = s.parked.items;
+  parked = s.parked.asks.items;
+}
+
+-- ---- what an event changes, over what is held
+
+-- the leases, and the slots that are not granted again
+abbrev pub table_after : Held → Change → Table
+table_after h c = changed (record { live = h.live; retired = h.retired }) c.table
+
+-- the greatest lives
+abbrev pub lives_after : Held → Change → List NodeLife
+lives_after h c = unwrap_or c.lives h.lives
+
+-- the retired nodes
+abbrev pub gone_after : Held → Change → List NodeId
+gone_after h c = unwrap_or c.gone h.gone
+
+-- the ledger with the changes, and with these lines
+abbrev pub after : LineOf → Held → Change → Ledger
+after line h c = record {
+  live = (table_after h c).live;
+  retired = among (table_after h c).retired;
+  gone = is_among (gone_after h c);
+  line = line;
+  last = c.tickets.position;
+  ceiling = c.tickets.ceiling;
+  old_home = c.old_home;
+  lives = life_at (lives_after h c);
+  parked = waits_after h.parked c.parked;
 }
 
 -- the result of an event so far
-abbrev pub shown : LineOf → Draft → Work
-shown line d = record { ledger = kept line d.state; sends = d.sends.items; changed = d.changed; note = d.note }
+abbrev pub shown : LineOf → Held → Draft → Work
+shown line h d = record { ledger = after line h d.change; sends = d.sends.items; changed = d.changed; note = d.note }
 
 -- the record has the lease, if there is one
 abbrev pub saved_under : Option Lease → Bool

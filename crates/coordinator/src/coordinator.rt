@@ -4,7 +4,7 @@ ghost use Rattle.std.specs.List.Sorted.{IsStrictlySortedBy};
 ghost use Rattle.farm_base.specs.Slots.{slot_cmp};
 ghost use Rattle.farm_base.specs.declared.limits.TheConstants.{NODES};
 ghost use Rattle.leases.specs.Table.{state_of};
-ghost use Rattle.versions.specs.Lines.{lines_with, added_count, line_shown};
+ghost use Rattle.versions.specs.Lines.{lines_with, room_needed, line_shown};
 ghost use Rattle.protocol.specs.Farm.{farm_limits};
 ghost use Rattle.protocol.specs.Lists.{is_nil};
 ghost use Rattle.protocol.specs.Names.{slot_eq, NodeId, Slot, Ticket};
@@ -15,8 +15,8 @@ ghost use Rattle.coordinator.specs.Held.{line_at, ledger};
 ghost use Rattle.coordinator.specs.Promises.{OnlyGrow, GrantsAtOnce, ChangesAsTold};
 ghost use Rattle.coordinator.specs.Held.{Held};
 ghost use Rattle.coordinator.specs.Seen.{IsKeeping};
-ghost use Rattle.coordinator.specs.Settling.{Answers, Settles, Loads, TakesUp, Restarts};
-ghost use Rattle.coordinator.specs.Shown.{kept, shown};
+ghost use Rattle.coordinator.specs.Settling.{Answers, is_save_fault, Settles, Loads, TakesUp, Restarts};
+ghost use Rattle.coordinator.specs.Shown.{after, shown};
 ghost use Rattle.saverecord.specs.Keepers.{HasFailed};
 ghost use Rattle.coordinator.specs.Sound.{IsRightful};
 ghost use Rattle.versions.specs.Additions.{IsReady};
@@ -24,7 +24,7 @@ ghost use Rattle.std.specs.Vec.{vec_capacity};
 
 use super::handled::Handled;
 use super::ledger::{Ledger, Prepared};
-use super::text::{Sizes, keep};
+use super::text::Sizes;
 use farm_base::{Lease, NodeId, Parked, Slot, Ticket, ToCoord};
 use leases::SlotState;
 use protocol::{CoordRefusal, Kept};
@@ -74,10 +74,22 @@ fn load<K: Keeper>(keeper: &mut K, alloc: Global) -> Result<Ledger, CoordRefusal
         Err(KeeperRefusal::OutOfMemory) => return Err(CoordRefusal::OutOfMemory),
     };
     match log.read(alloc) {
-        Ok(read) => Ok(Ledger::of(alloc, read, Sizes::of(&log))),
+        Ok(read) => {
+            match Ledger::of(alloc, read, Sizes::of(&log)) {
+                Ok(ledger) => Ok(ledger),
+                Err(_) => Err(CoordRefusal::OutOfMemory),
+            }
+        }
         Err(RecordRefusal::OutOfMemory) => Err(CoordRefusal::OutOfMemory),
         Err(_) => Err(CoordRefusal::BadRecord),
     }
+}
+
+/// Whether the answer is that the save failed.
+fn is_save_fault(answer: &Result<Handled, CoordRefusal>) -> bool
+    ensures { result ≡ is_save_fault answer.now }
+{
+    matches!(answer, Err(CoordRefusal::SaveFault))
 }
 
 impl<K: Keeper> Coordinator<K> {
@@ -119,38 +131,21 @@ impl<K: Keeper> Coordinator<K> {
         }
     }
 
-    /// Saves an event that was worked out, where the record changed, and then applies it.
+    /// Saves an event that was worked out, where the record changed, and then applies it. Where the save fails it is down.
     fn settle(&mut self, alloc: Global, prepared: Prepared) -> Result<Handled, CoordRefusal>
         requires up { self.old.down ≡ false }
-        requires told { ChangesAsTold (ledger self.old.held) (Ok (shown (lines_with self.old.held.lines prepared.added) prepared.draft)) }
-        requires rightful { IsRightful (kept (lines_with self.old.held.lines prepared.added) prepared.draft.state) }
+        requires told { ChangesAsTold (ledger self.old.held) (Ok (shown (lines_with self.old.held.lines prepared.added) self.old.held prepared.draft)) }
+        requires rightful { IsRightful (after (lines_with self.old.held.lines prepared.added) self.old.held prepared.draft.change) }
         requires ready { IsReady self.old.held.lines prepared.added }
         requires empty { prepared.room.items ≡ [] }
-        requires larger { length self.old.held.lines + added_count prepared.added ≤ vec_capacity prepared.room }
-        ensures answer { Answers K.saving (Ok (shown (lines_with self.old.held.lines prepared.added) prepared.draft)) self.old self.new result }
+        requires larger { room_needed self.old.held.lines prepared.added ≤ vec_capacity prepared.room }
+        ensures answer { Answers K.saving (Ok (shown (lines_with self.old.held.lines prepared.added) self.old.held prepared.draft)) self.old self.new result }
         ensures cause { result ≡ Err CoordRefusal.SaveFault → HasFailed (K.failed self.old.keeper) (K.failed self.new.keeper) }
         ensures grow { OnlyGrow (line_at self.old.held.lines) (line_at self.new.held.lines) }
     {
-        let Ok(to_save) = self.ledger.to_save(alloc, &prepared) else {
-            return Err(CoordRefusal::OutOfMemory);
-        };
-        match to_save {
-            None => {
-                let sizes = self.ledger.sizes();
-                Ok(self.ledger.accept(prepared, sizes))
-            }
-            Some(text) => {
-                let sizes = self.ledger.sizes().after(&text);
-                match keep(&mut self.keeper, text) {
-                    Ok(()) => Ok(self.ledger.accept(prepared, sizes)),
-                    Err(KeeperRefusal::OutOfMemory) => Err(CoordRefusal::OutOfMemory),
-                    Err(KeeperRefusal::Fault) => {
-                        self.down = true;
-                        Err(CoordRefusal::SaveFault)
-                    }
-                }
-            }
-        }
+        let result = self.ledger.settle(alloc, &mut self.keeper, prepared);
+        self.down = is_save_fault(&result);
+        result
     }
 
     /// Does what a message asks, in one step. Its node is 1 to 1,024; its life and ask count from 1; a tenure is

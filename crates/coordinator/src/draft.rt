@@ -1,31 +1,35 @@
-//! An event as it is worked out, on a copy of the state.
+//! An event as it is worked out: the changes that it makes, over a state that stays as it is.
 ghost use Rattle.std.specs.Prelude.{if◌then◌else◌, ◌++◌, ◌∷◌, [], ◌≡◌, ◌≢◌, ◌≤◌, ◌&&◌, All, IfOk, OnOk, not, false, true, is_some, ◌||◌, Some, nat_lt};
 ghost use Rattle.std.specs.List.{find, list_any};
 ghost use Rattle.farm_base.specs.Contents.{empty_digest};
 ghost use Rattle.protocol.specs.Farm.{farm_limits};
 ghost use Rattle.leases.specs.Table.{fit_of};
 ghost use Rattle.leases.specs.declared.lease_table.Fit.{Fit};
-ghost use Rattle.protocol.specs.Ledger.{decision, decided, sees, is_older, is_home, ends, without, Lease, lease_for, grant_of, gives, denies, tried, stays, retried, elsewhere, recall, recalls, holds_wanted, acquiring, lease_of, is_parked, confirms, committing, may_commit, may_release, lease_under, released, newer_life, answering, handled};
-ghost use Rattle.coordinator.specs.Held.{line_at};
-ghost use Rattle.coordinator.specs.Shown.{LineOf, kept, shown, lines_with, ended, ended_committed};
+ghost use Rattle.protocol.specs.Ledger.{begin_work, decision, decided, sees, is_older, is_home, ends, without, Lease, lease_for, grant_of, gives, denies, tried, try_all, stays, waiting, retried, elsewhere, recall, recalls, holds_wanted, acquiring, lease_of, is_parked, confirms, committing, may_commit, may_release, lease_under, released, newer_life, answering, handled};
+ghost use Rattle.coordinator.specs.Held.{Held, line_at};
+ghost use Rattle.coordinator.specs.Keeps.{held};
+ghost use Rattle.farm_base.specs.Wanted.{IsWants};
+ghost use Rattle.coordinator.specs.Shown.{LineOf, kept, after, shown, table_after, lines_with, ended, ended_committed};
+ghost use Rattle.coordinator.specs.Waiting.{still_waiting, waits_after};
 ghost use Rattle.coordinator.specs.Sound.{IsSound};
 ghost use Rattle.versions.specs.Additions.{IsReady};
 
-use super::state::{
-    State, cleared, drop_older_asks, grant_of, is_home, is_parked, is_saved, is_some_saved,
-};
+use super::change::Change;
+use super::parked_change::{ParkedChange, kept, some_set, split_mark};
+use super::state::{State, cleared, grant_of, is_home, is_saved, is_some_saved};
 use farm_base::{
     Copied, FromCoord, Grant, Items, Life, News, NodeId, Parked, Request, Ticket, ToCoord, Why,
 };
+use leases::Ending;
 use protocol::{CoordNote, Decision};
 use std::alloc::{AllocError, Global};
 use std::mem;
-use versions::{Added, Lines, additions, all_stand, confirmed};
+use versions::{Added, additions, all_stand, confirmed};
 
-/// The state that an event leaves, and what it sends and tells.
+/// What an event changes, sends and tells.
 #[derive(Debug, Drop)]
 pub struct Draft {
-    pub state: State,
+    pub change: Change,
     pub sends: Vec<FromCoord>,
     /// Whether the record changes.
     pub changed: bool,
@@ -33,41 +37,61 @@ pub struct Draft {
 }
 
 impl Draft {
+    /// An event that changed nothing yet.
+    pub(crate) fn new(alloc: Global, base: &State) -> Result<Self, AllocError>
+        ensures { IfOk result (λ draft. (line : LineOf) → shown line (held base.now) draft ≡ begin_work (kept line base.now)) }
+    {
+        let change = Change::new(alloc, base)?;
+        Ok(Draft {
+            change,
+            sends: Vec::new(alloc),
+            changed: false,
+            note: CoordNote::Nothing,
+        })
+    }
+
     /// Grants what the ask wants.
     #[tactic(auto, unfolding(protocol::specs::Ledger::gives))]
     fn give(
         &mut self,
         alloc: Global,
-        lines: &Lines,
+        base: &State,
         added: &Option<Added>,
         p: &Parked,
     ) -> Result<Grant, AllocError>
-        requires given { All (λ g. g.ticket.0 ≤ self.old.state.tickets.position) self.old.state.table.live }
-        requires fits { fit_of self.old.state.table p.now.tenure p.now.wants ≡ Fit.Fits }
-        requires room { self.old.state.tickets.position ≢ u64.MAX }
-        ensures work { OnOk result (shown (lines_with lines.now added.now) self.new
-            ≡ gives farm_limits p.now (shown (lines_with lines.now added.now) self.old)) }
+        requires given { All (λ g. g.ticket.0 ≤ self.old.change.tickets.position) (table_after (held base.now) self.old.change).live }
+        requires fits { fit_of (table_after (held base.now) self.old.change) p.now.tenure p.now.wants ≡ Fit.Fits }
+        requires room { self.old.change.tickets.position ≢ u64.MAX }
+        ensures work { OnOk result (shown (lines_with base.now.lines added.now) (held base.now) self.new
+            ≡ gives farm_limits p.now (shown (lines_with base.now.lines added.now) (held base.now) self.old)) }
         ensures grant { IfOk result (λ grant. grant
-            ≡ grant_of empty_digest (lines_with lines.now added.now) (lease_for farm_limits (kept (lines_with lines.now added.now) self.old.state) p.now)) }
+            ≡ grant_of empty_digest (lines_with base.now.lines added.now) (lease_for farm_limits (after (lines_with base.now.lines added.now) (held base.now) self.old.change) p.now)) }
     {
-        let needs_block = self.state.tickets.needs_block();
-        let Ok(ticket) = self.state.tickets.next() else {
+        let needs_block = self.change.tickets.needs_block();
+        let Ok(ticket) = self.change.tickets.next() else {
             unreachable!();
         };
-        self.state
-            .table
-            .grant(alloc, p.node, p.life, p.ask, &p.wants, p.tenure, ticket)?;
-        let Some(lease) = self.state.table.lease(ticket) else {
+        self.change.table.grant(
+            alloc,
+            &base.table,
+            p.node,
+            p.life,
+            p.ask,
+            &p.wants,
+            p.tenure,
+            ticket,
+        )?;
+        let Some(lease) = self.change.table.lease(&base.table, ticket) else {
             unreachable!();
         };
-        let grant = grant_of(alloc, lines, added, lease)?;
+        let grant = grant_of(alloc, &base.lines, added, lease)?;
         self.changed = self.changed || needs_block || is_saved(lease);
         self.sends.push(FromCoord::Granted(grant.copy(alloc)?))?;
         Ok(grant)
     }
 
     fn deny(&mut self, p: &Parked, why: Why) -> Result<(), AllocError>
-        ensures { OnOk result ((line : LineOf) → shown line self.new ≡ denies why p.now (shown line self.old)) }
+        ensures { OnOk result ((line : LineOf) (h : Held) → shown line h self.new ≡ denies why p.now (shown line h self.old)) }
     {
         self.sends.push(FromCoord::Denied {
             node: p.node,
@@ -82,18 +106,18 @@ impl Draft {
     fn try_ask(
         &mut self,
         alloc: Global,
-        lines: &Lines,
+        base: &State,
         added: &Option<Added>,
         p: &Parked,
     ) -> Result<bool, AllocError>
-        requires { IsSound (kept (lines_with lines.now added.now) self.old.state) }
-        ensures work { OnOk result (shown (lines_with lines.now added.now) self.new
-            ≡ tried farm_limits p.now (shown (lines_with lines.now added.now) self.old)) }
-        ensures waits { IfOk result (λ waits. waits ≡ stays farm_limits p.now (shown (lines_with lines.now added.now) self.old)) }
+        requires { IsSound (after (lines_with base.now.lines added.now) (held base.now) self.old.change) }
+        ensures work { OnOk result (shown (lines_with base.now.lines added.now) (held base.now) self.new
+            ≡ tried farm_limits p.now (shown (lines_with base.now.lines added.now) (held base.now) self.old)) }
+        ensures waits { IfOk result (λ waits. waits ≡ stays farm_limits p.now (shown (lines_with base.now.lines added.now) (held base.now) self.old)) }
     {
-        match self.state.decide(p) {
+        match self.change.decide(base, p) {
             Decision::Give => {
-                self.give(alloc, lines, added, p)?;
+                self.give(alloc, base, added, p)?;
                 Ok(false)
             }
             Decision::Deny(why) => {
@@ -104,33 +128,90 @@ impl Draft {
         }
     }
 
+    /// Tries an ask unless it is over, and says whether it is over now.
+    fn try_unless(
+        &mut self,
+        alloc: Global,
+        base: &State,
+        added: &Option<Added>,
+        p: &Parked,
+        is_over: bool,
+    ) -> Result<bool, AllocError>
+        requires { IsSound (after (lines_with base.now.lines added.now) (held base.now) self.old.change) }
+        ensures work { OnOk result (shown (lines_with base.now.lines added.now) (held base.now) self.new
+            ≡ (if is_over then shown (lines_with base.now.lines added.now) (held base.now) self.old
+            else tried farm_limits p.now (shown (lines_with base.now.lines added.now) (held base.now) self.old))) }
+        ensures over { IfOk result (λ over. over ≡ (is_over || not (stays farm_limits p.now (shown (lines_with base.now.lines added.now) (held base.now) self.old)))) }
+    {
+        if is_over {
+            return Ok(true);
+        }
+        let waits = self.try_ask(alloc, base, added, p)?;
+        Ok(!waits)
+    }
+
+    /// Tries these asks, but for those that are marked as over, and marks those that wait no longer.
+    fn try_asks(
+        &mut self,
+        alloc: Global,
+        base: &State,
+        added: &Option<Added>,
+        asks: &[Parked],
+        over: &[bool],
+    ) -> Result<Vec<bool>, AllocError>
+        requires sound { IsSound (after (lines_with base.now.lines added.now) (held base.now) self.old.change) }
+        requires wants { All (λ p. IsWants p.wants) asks.now }
+        ensures work { OnOk result (shown (lines_with base.now.lines added.now) (held base.now) self.new
+            ≡ try_all farm_limits (still_waiting over.now asks.now) (shown (lines_with base.now.lines added.now) (held base.now) self.old)) }
+        ensures stay { IfOk result (λ marks. still_waiting marks.items asks.now
+            ≡ waiting farm_limits (still_waiting over.now asks.now) (shown (lines_with base.now.lines added.now) (held base.now) self.old)) }
+        ensures sound { OnOk result (IsSound (after (lines_with base.now.lines added.now) (held base.now) self.new.change)) }
+    {
+        let mut marks = over;
+        let mut done = Vec::with_capacity(alloc, asks.len())?;
+        for p in asks {
+            let (is_over, rest) = split_mark(marks);
+            done.push(self.try_unless(alloc, base, added, p, is_over)?)?;
+            marks = rest;
+        }
+        Ok(some_set(alloc, done))
+    }
+
     /// Tries the parked asks, in order of arrival.
     pub(crate) fn retry(
         &mut self,
         alloc: Global,
-        lines: &Lines,
+        base: &State,
         added: &Option<Added>,
     ) -> Result<(), AllocError>
-        requires { IsSound (kept (lines_with lines.now added.now) self.old.state) }
-        ensures { OnOk result (shown (lines_with lines.now added.now) self.new
-            ≡ retried farm_limits (shown (lines_with lines.now added.now) self.old)) }
+        requires sound { IsSound (after (lines_with base.now.lines added.now) (held base.now) self.old.change) }
+        requires wants { All (λ p. IsWants p.wants) base.now.parked.asks.items }
+        ensures { OnOk result (shown (lines_with base.now.lines added.now) (held base.now) self.new
+            ≡ retried farm_limits (shown (lines_with base.now.lines added.now) (held base.now) self.old)) }
     {
-        let parked = mem::replace(&mut self.state.parked, Vec::new(alloc));
-        let mut waiting = Vec::new(alloc);
-        for p in &parked {
-            let waits = self.try_ask(alloc, lines, added, p)?;
-            keep(alloc, &mut waiting, p, waits)?;
-        }
-        self.state.parked = waiting;
+        let ParkedChange { over, since } = mem::replace(
+            &mut self.change.parked,
+            ParkedChange::new(alloc),
+        );
+        let over = self.try_asks(
+            alloc,
+            base,
+            added,
+            base.parked.asks.as_slice(),
+            over.as_slice(),
+        )?;
+        let over_since = self.try_asks(alloc, base, added, since.as_slice(), &[])?;
+        let since = kept_of(alloc, since, over_since.as_slice())?;
+        self.change.parked = ParkedChange { over, since };
         Ok(())
     }
 
     /// Tells the holder of a slot that is wanted to give it up.
-    fn tell_holder(&mut self, p: &Parked) -> Result<(), AllocError>
-        ensures { OnOk result ((line : LineOf) → shown line self.new
-            ≡ recall (find (holds_wanted p.now) self.old.state.table.live) (shown line self.old)) }
+    fn tell_holder(&mut self, base: &State, p: &Parked) -> Result<(), AllocError>
+        ensures { OnOk result ((line : LineOf) → shown line (held base.now) self.new
+            ≡ recall (find (holds_wanted p.now) (table_after (held base.now) self.old.change).live) (shown line (held base.now) self.old)) }
     {
-        match self.state.table.holder_of(&p.wants, p.tenure) {
+        match self.change.table.holder_of(&base.table, &p.wants, p.tenure) {
             Some(lease) => {
                 self.sends.push(FromCoord::Recall {
                     node: lease.node,
@@ -144,14 +225,14 @@ impl Draft {
     }
 
     /// Tells the holder of the tenure that is asked for to give it up.
-    fn recall(&mut self, p: &Parked) -> Result<(), AllocError>
-        ensures { OnOk result ((line : LineOf) → shown line self.new
-            ≡ recalls (p.now.tenure && not (elsewhere (kept line self.old.state) p.now)) p.now (shown line self.old)) }
+    fn recall(&mut self, base: &State, p: &Parked) -> Result<(), AllocError>
+        ensures { OnOk result ((line : LineOf) → shown line (held base.now) self.new
+            ≡ recalls (p.now.tenure && not (elsewhere (after line (held base.now) self.old.change) p.now)) p.now (shown line (held base.now) self.old)) }
     {
-        if !self.state.is_awaited(p) {
+        if !self.change.is_awaited(p) {
             return Ok(());
         }
-        self.tell_holder(p)?;
+        self.tell_holder(base, p)?;
         Ok(())
     }
 
@@ -159,17 +240,17 @@ impl Draft {
     fn decide(
         &mut self,
         alloc: Global,
-        lines: &Lines,
+        base: &State,
         added: &Option<Added>,
         p: Parked,
     ) -> Result<(), AllocError>
-        requires { IsSound (kept (lines_with lines.now added.now) self.old.state) }
-        ensures { OnOk result (shown (lines_with lines.now added.now) self.new
-            ≡ decided (decision farm_limits (kept (lines_with lines.now added.now) self.old.state) p) farm_limits p (shown (lines_with lines.now added.now) self.old)) }
+        requires { IsSound (after (lines_with base.now.lines added.now) (held base.now) self.old.change) }
+        ensures { OnOk result (shown (lines_with base.now.lines added.now) (held base.now) self.new
+            ≡ decided (decision farm_limits (after (lines_with base.now.lines added.now) (held base.now) self.old.change) p) farm_limits p (shown (lines_with base.now.lines added.now) (held base.now) self.old)) }
     {
-        match self.state.decide(&p) {
+        match self.change.decide(base, &p) {
             Decision::Give => {
-                let grant = self.give(alloc, lines, added, &p)?;
+                let grant = self.give(alloc, base, added, &p)?;
                 self.note = CoordNote::Granted(grant);
             }
             Decision::Deny(why) => {
@@ -177,8 +258,8 @@ impl Draft {
                 self.note = CoordNote::Denied(why);
             }
             Decision::Wait => {
-                self.recall(&p)?;
-                self.state.parked.push(p)?;
+                self.recall(base, &p)?;
+                self.change.parked.park(p)?;
                 self.note = CoordNote::Parked;
             }
         }
@@ -189,19 +270,23 @@ impl Draft {
     fn grant_again(
         &mut self,
         alloc: Global,
-        lines: &Lines,
+        base: &State,
         added: &Option<Added>,
         p: &Parked,
     ) -> Result<bool, AllocError>
-        ensures found { IfOk result (λ found. found ≡ is_some (lease_of self.old.state.table.live p.now.node p.now.life p.now.ask)) }
-        ensures work { IfOk result (λ found. shown (lines_with lines.now added.now) self.new ≡ (if found
-            then acquiring farm_limits (lease_of self.old.state.table.live p.now.node p.now.life p.now.ask) false p.now (shown (lines_with lines.now added.now) self.old)
-            else shown (lines_with lines.now added.now) self.old)) }
+        ensures found { IfOk result (λ found. found ≡ is_some (lease_of (table_after (held base.now) self.old.change).live p.now.node p.now.life p.now.ask)) }
+        ensures work { IfOk result (λ found. shown (lines_with base.now.lines added.now) (held base.now) self.new ≡ (if found
+            then acquiring farm_limits (lease_of (table_after (held base.now) self.old.change).live p.now.node p.now.life p.now.ask) false p.now (shown (lines_with base.now.lines added.now) (held base.now) self.old)
+            else shown (lines_with base.now.lines added.now) (held base.now) self.old)) }
     {
-        let Some(lease) = self.state.table.lease_of(p.node, p.life, p.ask) else {
+        let Some(lease) = self
+            .change
+            .table
+            .lease_of(&base.table, p.node, p.life, p.ask)
+        else {
             return Ok(false);
         };
-        let grant = grant_of(alloc, lines, added, lease)?;
+        let grant = grant_of(alloc, &base.lines, added, lease)?;
         self.sends.push(FromCoord::Granted(grant.copy(alloc)?))?;
         self.note = CoordNote::GrantedBefore(grant);
         Ok(true)
@@ -210,22 +295,23 @@ impl Draft {
     fn acquire(
         &mut self,
         alloc: Global,
-        lines: &Lines,
+        base: &State,
         added: &Option<Added>,
         p: Parked,
     ) -> Result<(), AllocError>
-        requires { IsSound (kept (lines_with lines.now added.now) self.old.state) }
-        ensures { OnOk result (shown (lines_with lines.now added.now) self.new
-            ≡ acquiring farm_limits (lease_of self.old.state.table.live p.node p.life p.ask) (is_parked self.old.state.parked.items p.node p.life p.ask) p (shown (lines_with lines.now added.now) self.old)) }
+        requires { IsSound (after (lines_with base.now.lines added.now) (held base.now) self.old.change) }
+        ensures { OnOk result (shown (lines_with base.now.lines added.now) (held base.now) self.new
+            ≡ acquiring farm_limits (lease_of (table_after (held base.now) self.old.change).live p.node p.life p.ask) (is_parked (waits_after base.now.parked.asks.items self.old.change.parked) p.node p.life p.ask) p (shown (lines_with base.now.lines added.now) (held base.now) self.old)) }
     {
-        if self.grant_again(alloc, lines, added, &p)? {
+        if self.grant_again(alloc, base, added, &p)? {
             return Ok(());
         }
-        if is_parked(self.state.parked.as_slice(), p.node, p.life, p.ask) {
+        let parked = &base.parked;
+        if self.change.parked.waits(parked, p.node, p.life, p.ask) {
             self.note = CoordNote::Parked;
             return Ok(());
         }
-        self.decide(alloc, lines, added, p)?;
+        self.decide(alloc, base, added, p)?;
         Ok(())
     }
 
@@ -233,17 +319,17 @@ impl Draft {
     fn confirm(
         &mut self,
         alloc: Global,
-        lines: &Lines,
+        base: &State,
         added: &Option<Added>,
         node: NodeId,
         life: Life,
         ticket: Ticket,
         news: &[News],
     ) -> Result<(), AllocError>
-        ensures { OnOk result (shown (lines_with lines.now added.now) self.new
-            ≡ confirms node life ticket news.now (shown (lines_with lines.now added.now) self.old)) }
+        ensures { OnOk result (shown (lines_with base.now.lines added.now) (held base.now) self.new
+            ≡ confirms node life ticket news.now (shown (lines_with base.now.lines added.now) (held base.now) self.old)) }
     {
-        let versions = confirmed(alloc, lines, added, ticket, news)?;
+        let versions = confirmed(alloc, &base.lines, added, ticket, news)?;
         self.sends.push(FromCoord::Committed {
             node,
             life,
@@ -257,17 +343,17 @@ impl Draft {
     fn answer_again(
         &mut self,
         alloc: Global,
-        lines: &Lines,
+        base: &State,
         node: NodeId,
         life: Life,
         ticket: Ticket,
         news: &[News],
     ) -> Result<(), AllocError>
-        ensures { OnOk result (shown (line_at lines.now) self.new
-            ≡ committing farm_limits false node life ticket news.now (shown (line_at lines.now) self.old)) }
+        ensures { OnOk result (shown (line_at base.now.lines) (held base.now) self.new
+            ≡ committing farm_limits false node life ticket news.now (shown (line_at base.now.lines) (held base.now) self.old)) }
     {
-        if !news.is_empty() && all_stand(lines, ticket, news) {
-            self.confirm(alloc, lines, &None, node, life, ticket, news)?;
+        if !news.is_empty() && all_stand(&base.lines, ticket, news) {
+            self.confirm(alloc, base, &None, node, life, ticket, news)?;
             self.note = CoordNote::CommittedBefore(ticket);
         } else {
             self.sends.push(FromCoord::Fenced { node, life, ticket })?;
@@ -277,101 +363,117 @@ impl Draft {
     }
 
     /// Ends the lease of a ticket, where there is one.
-    fn end(&mut self, ticket: Ticket)
-        ensures { (line : LineOf) → shown line self.new ≡ ended ticket (shown line self.old) }
+    fn end(&mut self, base: &State, ticket: Ticket) -> Result<(), AllocError>
+        ensures { OnOk result ((line : LineOf) → shown line (held base.now) self.new ≡ ended ticket (shown line (held base.now) self.old)) }
     {
-        let ended = self.state.table.end(ticket);
-        self.changed = self.changed || is_some_saved(&ended);
+        let is_saved = is_some_saved(self.change.table.lease(&base.table, ticket));
+        self.change.table.end(ticket)?;
+        self.changed = self.changed || is_saved;
+        Ok(())
     }
 
     fn release(
         &mut self,
         alloc: Global,
-        lines: &Lines,
+        base: &State,
         node: NodeId,
         life: Life,
         ticket: Ticket,
     ) -> Result<(), AllocError>
-        requires { IsSound (kept (line_at lines.now) self.old.state) }
-        ensures { OnOk result (shown (line_at lines.now) self.new
-            ≡ released farm_limits (may_release node life (lease_under self.old.state.table.live ticket)) ticket (lease_under self.old.state.table.live ticket) (shown (line_at lines.now) self.old)) }
+        requires sound { IsSound (after (line_at base.now.lines) (held base.now) self.old.change) }
+        requires wants { All (λ p. IsWants p.wants) base.now.parked.asks.items }
+        ensures { OnOk result (shown (line_at base.now.lines) (held base.now) self.new
+            ≡ released farm_limits (may_release node life (lease_under (table_after (held base.now) self.old.change).live ticket)) ticket (lease_under (table_after (held base.now) self.old.change).live ticket) (shown (line_at base.now.lines) (held base.now) self.old)) }
     {
-        if !self.state.may_release(node, life, ticket) {
+        if !self.change.may_release(base, node, life, ticket) {
             return Ok(());
         }
-        self.end(ticket);
-        self.retry(alloc, lines, &None)?;
+        self.end(base, ticket)?;
+        self.retry(alloc, base, &None)?;
         self.note = CoordNote::Released(ticket);
         Ok(())
     }
 
     /// Ends the lease of a ticket whose versions the record has.
-    fn end_committed(&mut self, ticket: Ticket)
-        ensures { (line : LineOf) → shown line self.new ≡ ended_committed ticket (shown line self.old) }
+    fn end_committed(&mut self, ticket: Ticket) -> Result<(), AllocError>
+        ensures { OnOk result ((line : LineOf) (h : Held) → shown line h self.new ≡ ended_committed ticket (shown line h self.old)) }
     {
-        let _lease = self.state.table.end(ticket);
+        self.change.table.end(ticket)?;
         self.changed = true;
+        Ok(())
     }
 
     /// Adds the versions of a commit, if it counts.
     fn commit(
         &mut self,
         alloc: Global,
-        lines: &Lines,
+        base: &State,
         node: NodeId,
         life: Life,
         ticket: Ticket,
         news: &[News],
     ) -> Result<Option<Added>, AllocError>
-        requires { IsSound (kept (line_at lines.now) self.old.state) }
-        ensures work { IfOk result (λ added. shown (lines_with lines.now added) self.new
-            ≡ committing farm_limits (may_commit node life news.now (lease_under self.old.state.table.live ticket)) node life ticket news.now (shown (line_at lines.now) self.old)) }
-        ensures ready { IfOk result (IsReady lines.now) }
+        requires sound { IsSound (after (line_at base.now.lines) (held base.now) self.old.change) }
+        requires wants { All (λ p. IsWants p.wants) base.now.parked.asks.items }
+        ensures work { IfOk result (λ added. shown (lines_with base.now.lines added) (held base.now) self.new
+            ≡ committing farm_limits (may_commit node life news.now (lease_under (table_after (held base.now) self.old.change).live ticket)) node life ticket news.now (shown (line_at base.now.lines) (held base.now) self.old)) }
+        ensures ready { IfOk result (IsReady base.now.lines) }
     {
-        if !self.state.may_commit(node, life, ticket, news) {
-            self.answer_again(alloc, lines, node, life, ticket, news)?;
+        if !self.change.may_commit(base, node, life, ticket, news) {
+            self.answer_again(alloc, base, node, life, ticket, news)?;
             return Ok(None);
         }
-        let additions = additions(alloc, lines, news)?;
+        let additions = additions(alloc, &base.lines, news)?;
         let added = Some(Added { ticket, additions });
-        self.end_committed(ticket);
-        self.confirm(alloc, lines, &added, node, life, ticket, news)?;
-        self.retry(alloc, lines, &added)?;
+        self.end_committed(ticket)?;
+        self.confirm(alloc, base, &added, node, life, ticket, news)?;
+        self.retry(alloc, base, &added)?;
         self.note = CoordNote::Committed(ticket);
         Ok(added)
     }
 
     /// Ends what a newer life of a node ends, and says whether the parked asks are to be tried.
-    fn see(&mut self, node: NodeId, life: Life) -> Result<bool, AllocError>
+    fn see(
+        &mut self,
+        alloc: Global,
+        base: &State,
+        node: NodeId,
+        life: Life,
+    ) -> Result<bool, AllocError>
         requires { 1 ≤ life.0 }
-        ensures work { OnOk result ((line : LineOf) → shown line self.new ≡ sees node life (shown line self.old)) }
-        ensures due { IfOk result (λ due. due ≡ (list_any (is_older node life) self.old.state.table.live || is_home node self.old.state.old_home)) }
+        ensures work { OnOk result ((line : LineOf) → shown line (held base.now) self.new ≡ sees node life (shown line (held base.now) self.old)) }
+        ensures due { IfOk result (λ due. due ≡ (list_any (is_older node life) (table_after (held base.now) self.old.change).live || is_home node self.old.change.old_home)) }
     {
-        let was_home = is_home(node, self.state.old_home);
-        let ended = self.state.table.end_lives_below(node, life);
-        drop_older_asks(&mut self.state.parked, node, life);
-        self.state.lives.set(node, life)?;
-        self.state.old_home = cleared(node, self.state.old_home);
+        let was_home = is_home(node, self.change.old_home);
+        let had_leases = self.change.table.has_lease_below(&base.table, node, life);
+        self.change.table.end_lives_below(node, life)?;
+        let parked = base.parked.asks.as_slice();
+        self.change
+            .parked
+            .end(alloc, parked, Ending::LivesBelow(node, life))?;
+        self.change.set_life(alloc, base, node, life)?;
+        self.change.old_home = cleared(node, self.change.old_home);
         self.changed = true;
-        Ok(is_due(ended, was_home))
+        Ok(had_leases || was_home)
     }
 
     /// A newer life of a node: where something of it ended, the parked asks are tried.
     fn begin_life(
         &mut self,
         alloc: Global,
-        lines: &Lines,
+        base: &State,
         node: NodeId,
         life: Life,
     ) -> Result<(), AllocError>
-        requires sound { IsSound (kept (line_at lines.now) self.old.state) }
+        requires sound { IsSound (after (line_at base.now.lines) (held base.now) self.old.change) }
+        requires wants { All (λ p. IsWants p.wants) base.now.parked.asks.items }
         requires life { 1 ≤ life.0 }
-        ensures { OnOk result (shown (line_at lines.now) self.new ≡ newer_life farm_limits node life (shown (line_at lines.now) self.old)) }
+        ensures { OnOk result (shown (line_at base.now.lines) (held base.now) self.new ≡ newer_life farm_limits node life (shown (line_at base.now.lines) (held base.now) self.old)) }
     {
-        if !self.see(node, life)? {
+        if !self.see(alloc, base, node, life)? {
             return Ok(());
         }
-        self.retry(alloc, lines, &None)?;
+        self.retry(alloc, base, &None)?;
         Ok(())
     }
 
@@ -379,13 +481,14 @@ impl Draft {
     fn answer(
         &mut self,
         alloc: Global,
-        lines: &Lines,
+        base: &State,
         message: &ToCoord,
     ) -> Result<Option<Added>, AllocError>
-        requires { IsSound (kept (line_at lines.now) self.old.state) }
-        ensures work { IfOk result (λ added. shown (lines_with lines.now added) self.new
-            ≡ answering farm_limits message.now.node message.now.life message.now.request (shown (line_at lines.now) self.old)) }
-        ensures ready { IfOk result (IsReady lines.now) }
+        requires sound { IsSound (after (line_at base.now.lines) (held base.now) self.old.change) }
+        requires wants { All (λ p. IsWants p.wants) base.now.parked.asks.items }
+        ensures work { IfOk result (λ added. shown (lines_with base.now.lines added) (held base.now) self.new
+            ≡ answering farm_limits message.now.node message.now.life message.now.request (shown (line_at base.now.lines) (held base.now) self.old)) }
+        ensures ready { IfOk result (IsReady base.now.lines) }
     {
         match &message.request {
             Request::Hello => Ok(None),
@@ -397,13 +500,13 @@ impl Draft {
                     wants: wants.copy(alloc)?,
                     tenure: *tenure,
                 };
-                self.acquire(alloc, lines, &None, p)?;
+                self.acquire(alloc, base, &None, p)?;
                 Ok(None)
             }
             Request::Commit { ticket, news } => {
                 let added = self.commit(
                     alloc,
-                    lines,
+                    base,
                     message.node,
                     message.life,
                     *ticket,
@@ -412,7 +515,7 @@ impl Draft {
                 Ok(added)
             }
             Request::Release { ticket } => {
-                self.release(alloc, lines, message.node, message.life, *ticket)?;
+                self.release(alloc, base, message.node, message.life, *ticket)?;
                 Ok(None)
             }
         }
@@ -422,46 +525,38 @@ impl Draft {
     pub(crate) fn deliver(
         &mut self,
         alloc: Global,
-        lines: &Lines,
+        base: &State,
         message: &ToCoord,
     ) -> Result<Option<Added>, AllocError>
-        requires { IsSound (kept (line_at lines.now) self.old.state) }
-        ensures work { IfOk result (λ added. shown (lines_with lines.now added) self.new
-            ≡ handled farm_limits message.now (shown (line_at lines.now) self.old)) }
-        ensures ready { IfOk result (IsReady lines.now) }
+        requires sound { IsSound (after (line_at base.now.lines) (held base.now) self.old.change) }
+        requires wants { All (λ p. IsWants p.wants) base.now.parked.asks.items }
+        ensures work { IfOk result (λ added. shown (lines_with base.now.lines added) (held base.now) self.new
+            ≡ handled farm_limits message.now (shown (line_at base.now.lines) (held base.now) self.old)) }
+        ensures ready { IfOk result (IsReady base.now.lines) }
     {
-        if self.state.gone.contains(message.node) {
+        if self.change.is_gone(base, message.node) {
             self.note = CoordNote::NodeRetired;
             return Ok(None);
         }
-        let seen = self.state.lives.greatest(message.node);
+        let seen = self.change.greatest_life(base, message.node);
         if message.life.0 < seen {
             self.note = CoordNote::OldLife;
             return Ok(None);
         }
         if seen < message.life.0 {
-            self.begin_life(alloc, lines, message.node, message.life)?;
-            let added = self.answer(alloc, lines, message)?;
+            self.begin_life(alloc, base, message.node, message.life)?;
+            let added = self.answer(alloc, base, message)?;
             return Ok(added);
         }
-        let added = self.answer(alloc, lines, message)?;
+        let added = self.answer(alloc, base, message)?;
         Ok(added)
     }
 }
 
-/// Keeps an ask, if it waits.
-fn keep(alloc: Global, waiting: &mut Vec<Parked>, p: &Parked, waits: bool) -> Result<(), AllocError>
-    ensures { OnOk result (waiting.new.items ≡ (if waits then waiting.old.items ++ p.now ∷ [] else waiting.old.items)) }
+/// The asks that are not marked as over.
+fn kept_of(alloc: Global, asks: Vec<Parked>, over: &[bool]) -> Result<Vec<Parked>, AllocError>
+    ensures { IfOk result (λ v. v.items ≡ still_waiting over.now asks.items) }
 {
-    if waits {
-        waiting.push(p.copy(alloc)?)?;
-    }
-    Ok(())
-}
-
-/// Whether the parked asks are to be tried.
-fn is_due(ended: usize, was_home: bool) -> bool
-    ensures { result ≡ (nat_lt 0 ended || was_home) }
-{
-    0 < ended || was_home
+    let room = Vec::with_capacity(alloc, asks.len())?;
+    Ok(kept(asks, over, room))
 }

@@ -1,4 +1,4 @@
-ghost use Rattle.std.specs.Prelude.{◌≡◌, not, ◌+◌, ◌≤◌, List, [], IfOk, IfSome, OnOk, Option, Ok, None, false, is_some, option_copied, length};
+ghost use Rattle.std.specs.Prelude.{◌≡◌, not, ◌+◌, ◌≤◌, List, [], IfOk, IfSome, OnOk, Option, Ok, Err, None, false, is_some, option_copied, length};
 ghost use Rattle.std.specs.List.{list_any};
 ghost use Rattle.std.specs.List.Sorted.{IsStrictlySortedBy};
 ghost use Rattle.std.specs.Vec.{vec_capacity};
@@ -16,32 +16,44 @@ ghost use Rattle.coordinator.specs.Keeping.{kept_with};
 ghost use Rattle.std.specs.Result.{result_err};
 ghost use Rattle.coordinator.specs.Held.{line_at, ledger};
 ghost use Rattle.versions.specs.Additions.{IsReady};
-ghost use Rattle.coordinator.specs.Shown.{kept, shown};
-ghost use Rattle.versions.specs.Lines.{lines_with, added_count, line_shown};
+ghost use Rattle.std.specs.Option.{unwrap_or};
+ghost use Rattle.std.specs.Vec.{vec_len};
+ghost use Rattle.leases.specs.Newest.{node_room};
+ghost use Rattle.leases.specs.Changes.{changed, HasRoom};
+ghost use Rattle.leases.specs.Leases.{AreLeases};
+ghost use Rattle.saverecord.specs.Keepers.{HasFailed};
+ghost use Rattle.coordinator.specs.Keeps.{held};
+ghost use Rattle.coordinator.specs.Seen.{IsKeeping};
+ghost use Rattle.coordinator.specs.Settling.{Answers, is_save_fault};
+ghost use Rattle.coordinator.specs.Shown.{LineOf, kept, after, shown};
+ghost use Rattle.coordinator.specs.Waiting.{parking_room};
+ghost use Rattle.versions.specs.Lines.{lines_with, room_needed, line_shown};
 ghost use Rattle.coordinator.specs.Sound.{IsSound, IsRightful};
 ghost use Rattle.farm_base.specs.declared.limits.TheConstants.{NODES};
 ghost use Rattle.protocol.specs.Lawful.{IsNumber, IsSaid};
 ghost use Rattle.coordinator.specs.Promises.{OnlyGrow, ChangesAsTold};
 
+use super::change::Change;
 use super::draft::Draft;
 use super::handled::Handled;
+use super::parked_asks::ParkedAsks;
 use super::record::{record_of, state_of};
 use super::state::State;
-use super::text::{Sizes, Text};
+use super::text::{Sizes, Text, save};
 use farm_base::{Items, Lease, NodeId, Parked, Slot, Ticket, ToCoord};
-use leases::SlotState;
+use leases::{LeaseTable, SlotState, TableWithRoom};
 use protocol::{CoordNote, CoordRefusal};
-use saverecord::Record;
 use saverecord::laws::what_is_kept_is_a_record;
+use saverecord::{Keeper, Record};
 use std::alloc::{AllocError, Global};
 use std::marker::Model;
+use std::mem;
 use versions::{Added, Line, Lines, SlotLine};
 
 /// What a coordinator keeps of its farm: who may use which slot, and the lines of versions. Contracts see it as lists.
 #[derive(Debug, Drop)]
 pub(crate) struct Ledger {
     state: State,
-    lines: Lines,
     /// How long the texts are that its keeper has.
     sizes: Sizes,
 }
@@ -53,9 +65,9 @@ impl Model for Ledger {
 
     ghost use Rattle.coordinator.specs.Keeps.{held, keeps_sound};
 
-    ghost view = { λ c. held c.state c.lines };
+    ghost view = { λ c. held c.state };
 
-    ghost invariant = { λ c. keeps_sound c.state c.lines };
+    ghost invariant = { λ c. keeps_sound c.state };
 }
 
 /// An event that was worked out and not applied yet.
@@ -67,42 +79,93 @@ pub(crate) struct Prepared {
     pub room: Vec<SlotLine>,
 }
 
+/// Applies an event that was worked out, after its save, in the room that was made for it. It takes no memory.
+fn apply(
+    alloc: Global,
+    state: &mut State,
+    table: TableWithRoom,
+    parking: Vec<Parked>,
+    prepared: Prepared,
+) -> Handled
+    requires table_room { HasRoom table prepared.draft.change.table }
+    requires leases { AreLeases (changed table.table prepared.draft.change.table).live }
+    requires none_parked { parking.items ≡ [] }
+    requires parking { vec_len state.old.parked.asks + vec_len prepared.draft.change.parked.since ≤ parking_room prepared.draft.change.parked.over.items (vec_capacity state.old.parked.asks) (vec_capacity parking) }
+    requires newest { vec_len prepared.draft.change.parked.since ≤ node_room state.old.parked.newest }
+    requires ready { IsReady state.old.lines prepared.added }
+    requires empty { prepared.room.items ≡ [] }
+    requires larger { room_needed state.old.lines prepared.added ≤ vec_capacity prepared.room }
+    ensures lines { line_at state.new.lines ≡ lines_with state.old.lines prepared.added }
+    ensures ledger { (line : LineOf) → kept line state.new ≡ after line (record (held state.old) { live = table.table.live; retired = table.table.retired }) prepared.draft.change }
+    ensures sends { result.sends ≡ prepared.draft.sends.items }
+    ensures note { result.note ≡ prepared.draft.note }
+{
+    let Prepared { draft, added, room } = prepared;
+    let Change {
+        table: table_change,
+        tickets,
+        lives,
+        gone,
+        old_home,
+        parked,
+    } = draft.change;
+    let asks = mem::replace(&mut state.parked, ParkedAsks::new(alloc));
+    state.parked = parked.apply(asks, parking);
+    state.table = table.apply(table_change);
+    state.tickets = tickets;
+    update(&mut state.lives, lives);
+    update(&mut state.gone, gone);
+    state.old_home = old_home;
+    state.lines.add_to(added, room);
+    Handled {
+        sends: Items::new(draft.sends),
+        note: draft.note,
+    }
+}
+
+/// Puts what is new in the place of what was, if there is something new.
+fn update<T: Drop>(place: &mut T, new: Option<T>)
+    ensures { place.new ≡ unwrap_or new place.old }
+{
+    if let Some(new) = new {
+        *place = new;
+    }
+}
+
 impl Ledger {
     /// The ledger that a restart makes of a record.
-    pub(crate) fn of(alloc: Global, read: Record, sizes: Sizes) -> Self
+    pub(crate) fn of(alloc: Global, read: Record, sizes: Sizes) -> Result<Self, AllocError>
         requires { IsKept read }
-        ensures { ledger result ≡ reads (saves (ledger_of read)) }
+        ensures { IfOk result (λ made. ledger made ≡ reads (saves (ledger_of read))) }
     {
-        let (state, lines) = state_of(alloc, read);
-        Ledger {
-            state,
-            lines,
-            sizes,
-        }
+        let state = state_of(alloc, read)?;
+        Ok(Ledger { state, sizes })
     }
 
     /// The whole record of an event that was worked out.
     fn record_bytes(&self, alloc: Global, prepared: &Prepared) -> Result<Vec<u8>, AllocError>
-        requires rightful { IsRightful (kept (lines_with self.now.lines prepared.now.added) prepared.now.draft.state) }
+        requires rightful { IsRightful (after (lines_with self.now.lines prepared.now.added) self.now prepared.now.draft.change) }
         requires ready { IsReady self.now.lines prepared.now.added }
-        ensures { IfOk result (λ bytes. Holds (whole_alone bytes.items) (saves (kept (lines_with self.now.lines prepared.now.added) prepared.now.draft.state))) }
+        ensures { IfOk result (λ bytes. Holds (whole_alone bytes.items) (saves (after (lines_with self.now.lines prepared.now.added) self.now prepared.now.draft.change))) }
     {
-        let state = &prepared.draft.state;
-        let record = record_of(alloc, state, &self.lines, &prepared.added)?;
+        let change = &prepared.draft.change;
+        let lines = &self.state.lines;
+        let record = record_of(alloc, &self.state, change, lines, &prepared.added)?;
         what_is_kept_is_a_record();
         record.write(alloc)
     }
 
     /// The entry of an event that was worked out: the record that it leaves, of the lines only what it adds.
     fn entry_bytes(&self, alloc: Global, prepared: &Prepared) -> Result<Vec<u8>, AllocError>
-        requires rightful { IsRightful (kept (lines_with self.now.lines prepared.now.added) prepared.now.draft.state) }
+        requires rightful { IsRightful (after (lines_with self.now.lines prepared.now.added) self.now prepared.now.draft.change) }
         requires ready { IsReady self.now.lines prepared.now.added }
-        requires block { self.now.ceiling ≤ prepared.now.draft.state.tickets.ceiling }
+        requires block { self.now.ceiling ≤ prepared.now.draft.change.tickets.ceiling }
         ensures { IfOk result (λ bytes. (t : Texts) → Holds t (saves (ledger self.now))
-            → Holds (with_text bytes.items t) (saves (kept (lines_with self.now.lines prepared.now.added) prepared.now.draft.state))) }
+            → Holds (with_text bytes.items t) (saves (after (lines_with self.now.lines prepared.now.added) self.now prepared.now.draft.change))) }
     {
-        let state = &prepared.draft.state;
-        let entry = record_of(alloc, state, &Lines::new(alloc), &prepared.added)?;
+        let change = &prepared.draft.change;
+        let none = Lines::new(alloc);
+        let entry = record_of(alloc, &self.state, change, &none, &prepared.added)?;
         what_is_kept_is_a_record();
         entry.write(alloc)
     }
@@ -114,16 +177,17 @@ impl Ledger {
         alloc: Global,
         prepared: &Prepared,
     ) -> Result<Option<Text>, AllocError>
-        requires rightful { IsRightful (kept (lines_with self.now.lines prepared.now.added) prepared.now.draft.state) }
+        requires rightful { IsRightful (after (lines_with self.now.lines prepared.now.added) self.now prepared.now.draft.change) }
         requires ready { IsReady self.now.lines prepared.now.added }
         ensures text { IfOk result (λ o. IfSome o (λ text. (t : Texts) → Holds t (saves (ledger self.now))
-            → Holds (kept_with text t) (saves (kept (lines_with self.now.lines prepared.now.added) prepared.now.draft.state)))) }
+            → Holds (kept_with text t) (saves (after (lines_with self.now.lines prepared.now.added) self.now prepared.now.draft.change)))) }
         ensures changed { IfOk result (λ o. is_some o ≡ prepared.now.draft.changed) }
     {
         if !prepared.draft.changed {
             return Ok(None);
         }
-        let falls = prepared.draft.state.tickets.ceiling().0 < self.state.tickets.ceiling().0;
+        let ceiling = prepared.draft.change.tickets.ceiling();
+        let falls = ceiling.0 < self.state.tickets.ceiling().0;
         if falls || self.sizes.is_due() {
             Ok(Some(Text::Whole(self.record_bytes(alloc, prepared)?)))
         } else {
@@ -131,59 +195,67 @@ impl Ledger {
         }
     }
 
-    /// How long the texts are that its keeper has.
-    pub(crate) fn sizes(&self) -> Sizes {
-        self.sizes
-    }
-
-    /// A copy of the state, on which an event is worked out.
-    fn draft(&self, alloc: Global) -> Result<Draft, AllocError>
-        ensures work { IfOk result (λ draft. shown (line_at self.now.lines) draft ≡ begin_work (ledger self.now)) }
-        ensures sound { IfOk result (λ draft. IsSound (kept (line_at self.now.lines) draft.state)) }
-    {
-        Ok(Draft {
-            state: self.state.copy(alloc)?,
-            sends: Vec::new(alloc),
-            changed: false,
-            note: CoordNote::Nothing,
-        })
-    }
-
     /// Works out what a message does. Nothing changes before `accept`.
     pub(crate) fn prepare(&self, alloc: Global, message: &ToCoord) -> Result<Prepared, AllocError>
         requires { IsSaid NODES message.now }
-        ensures work { IfOk result (λ p. shown (lines_with self.now.lines p.added) p.draft
+        ensures work { IfOk result (λ p. shown (lines_with self.now.lines p.added) self.now p.draft
             ≡ handled farm_limits message.now (begin_work (ledger self.now))) }
         ensures told { IfOk result (λ p. ChangesAsTold (ledger self.now) (Ok (handled farm_limits message.now (begin_work (ledger self.now))))) }
-        ensures rightful { IfOk result (λ p. IsRightful (kept (lines_with self.now.lines p.added) p.draft.state)) }
+        ensures rightful { IfOk result (λ p. IsRightful (after (lines_with self.now.lines p.added) self.now p.draft.change)) }
         ensures ready { IfOk result (λ p. IsReady self.now.lines p.added) }
         ensures empty { IfOk result (λ p. p.room.items ≡ []) }
-        ensures larger { IfOk result (λ p. length self.now.lines + added_count p.added ≤ vec_capacity p.room) }
+        ensures larger { IfOk result (λ p. room_needed self.now.lines p.added ≤ vec_capacity p.room) }
     {
-        let mut draft = self.draft(alloc)?;
-        let added = draft.deliver(alloc, &self.lines, message)?;
-        let room = self.lines.room_to_add(alloc, &added)?;
+        let mut draft = Draft::new(alloc, &self.state)?;
+        let added = draft.deliver(alloc, &self.state, message)?;
+        let room = self.state.lines.room_to_add(alloc, &added)?;
         Ok(Prepared { draft, added, room })
     }
 
-    /// Applies an event that was worked out, after its save.
-    pub(crate) fn accept(&mut self, prepared: Prepared, sizes: Sizes) -> Handled
-        requires rightful { IsRightful (kept (lines_with self.old.lines prepared.added) prepared.draft.state) }
+    /// Saves an event that was worked out, where the record changed, and then applies it. The room that applying takes is
+    /// made before the save.
+    pub(crate) fn settle<K: Keeper>(
+        &mut self,
+        alloc: Global,
+        keeper: &mut K,
+        prepared: Prepared,
+    ) -> Result<Handled, CoordRefusal>
+        requires told { ChangesAsTold (ledger self.old) (Ok (shown (lines_with self.old.lines prepared.added) self.old prepared.draft)) }
+        requires rightful { IsRightful (after (lines_with self.old.lines prepared.added) self.old prepared.draft.change) }
         requires ready { IsReady self.old.lines prepared.added }
         requires empty { prepared.room.items ≡ [] }
-        requires larger { length self.old.lines + added_count prepared.added ≤ vec_capacity prepared.room }
-        ensures ledger { ledger self.new ≡ kept (lines_with self.old.lines prepared.added) prepared.draft.state }
-        ensures sends { result.sends ≡ prepared.draft.sends.items }
+        requires larger { room_needed self.old.lines prepared.added ≤ vec_capacity prepared.room }
+        requires keeping { IsKeeping (K.kept keeper.old) self.old false }
+        ensures answer { Answers K.saving (Ok (shown (lines_with self.old.lines prepared.added) self.old prepared.draft))
+            (record { held = self.old; keeper = keeper.old; down = false }) (record { held = self.new; keeper = keeper.new; down = is_save_fault result }) result }
+        ensures cause { result ≡ Err CoordRefusal.SaveFault → HasFailed (K.failed keeper.old) (K.failed keeper.new) }
+        ensures keeping { IsKeeping (K.kept keeper.new) self.new (is_save_fault result) }
         ensures grow { OnlyGrow (line_at self.old.lines) (line_at self.new.lines) }
-        ensures note { result.note ≡ prepared.draft.note }
     {
-        let Prepared { draft, added, room } = prepared;
-        self.lines.add_to(added, room);
-        self.state = draft.state;
-        self.sizes = sizes;
-        Handled {
-            sends: Items::new(draft.sends),
-            note: draft.note,
+        let Ok(to_save) = self.to_save(alloc, &prepared) else {
+            return Err(CoordRefusal::OutOfMemory);
+        };
+        let change = &prepared.draft.change;
+        let Ok(parking) = change.parked.room(alloc, &mut self.state.parked) else {
+            return Err(CoordRefusal::OutOfMemory);
+        };
+        let table = mem::replace(&mut self.state.table, LeaseTable::new(alloc));
+        let table = match table.with_room(alloc, &change.table) {
+            Ok(table) => table,
+            Err(table) => {
+                self.state.table = table;
+                return Err(CoordRefusal::OutOfMemory);
+            }
+        };
+        match save(keeper, self.sizes, to_save) {
+            Ok(sizes) => {
+                self.sizes = sizes;
+                Ok(apply(alloc, &mut self.state, table, parking, prepared))
+            }
+            Err(refusal) => {
+                self.state.table = table.into_table();
+                Err(refusal)
+            }
         }
     }
 
@@ -197,16 +269,16 @@ impl Ledger {
     /// Works out the withdrawal of a lease, which adds nothing to the lines.
     pub(crate) fn withdrawal(&self, alloc: Global, ticket: Ticket) -> Result<Prepared, AllocError>
         requires { result_err (withdrawn farm_limits ticket (begin_work (ledger self.now))) ≡ None }
-        ensures work { IfOk result (λ p. withdrawn farm_limits ticket (begin_work (ledger self.now)) ≡ Ok (shown (lines_with self.now.lines p.added) p.draft)) }
+        ensures work { IfOk result (λ p. withdrawn farm_limits ticket (begin_work (ledger self.now)) ≡ Ok (shown (lines_with self.now.lines p.added) self.now p.draft)) }
         ensures told { IfOk result (λ p. ChangesAsTold (ledger self.now) (withdrawn farm_limits ticket (begin_work (ledger self.now)))) }
-        ensures rightful { IfOk result (λ p. IsRightful (kept (lines_with self.now.lines p.added) p.draft.state)) }
+        ensures rightful { IfOk result (λ p. IsRightful (after (lines_with self.now.lines p.added) self.now p.draft.change)) }
         ensures ready { IfOk result (λ p. IsReady self.now.lines p.added) }
         ensures empty { IfOk result (λ p. p.room.items ≡ []) }
-        ensures larger { IfOk result (λ p. length self.now.lines + added_count p.added ≤ vec_capacity p.room) }
+        ensures larger { IfOk result (λ p. room_needed self.now.lines p.added ≤ vec_capacity p.room) }
     {
-        let mut draft = self.draft(alloc)?;
-        draft.withdraw(alloc, &self.lines, ticket)?;
-        let room = self.lines.room_to_add(alloc, &None)?;
+        let mut draft = Draft::new(alloc, &self.state)?;
+        draft.withdraw(alloc, &self.state, ticket)?;
+        let room = self.state.lines.room_to_add(alloc, &None)?;
         Ok(Prepared {
             draft,
             added: None,
@@ -225,16 +297,16 @@ impl Ledger {
     pub(crate) fn retirement(&self, alloc: Global, node: NodeId) -> Result<Prepared, AllocError>
         requires accepted { result_err (retired farm_limits node (begin_work (ledger self.now))) ≡ None }
         requires number { IsNumber NODES node }
-        ensures work { IfOk result (λ p. retired farm_limits node (begin_work (ledger self.now)) ≡ Ok (shown (lines_with self.now.lines p.added) p.draft)) }
+        ensures work { IfOk result (λ p. retired farm_limits node (begin_work (ledger self.now)) ≡ Ok (shown (lines_with self.now.lines p.added) self.now p.draft)) }
         ensures told { IfOk result (λ p. ChangesAsTold (ledger self.now) (retired farm_limits node (begin_work (ledger self.now)))) }
-        ensures rightful { IfOk result (λ p. IsRightful (kept (lines_with self.now.lines p.added) p.draft.state)) }
+        ensures rightful { IfOk result (λ p. IsRightful (after (lines_with self.now.lines p.added) self.now p.draft.change)) }
         ensures ready { IfOk result (λ p. IsReady self.now.lines p.added) }
         ensures empty { IfOk result (λ p. p.room.items ≡ []) }
-        ensures larger { IfOk result (λ p. length self.now.lines + added_count p.added ≤ vec_capacity p.room) }
+        ensures larger { IfOk result (λ p. room_needed self.now.lines p.added ≤ vec_capacity p.room) }
     {
-        let mut draft = self.draft(alloc)?;
-        draft.retire(alloc, &self.lines, node)?;
-        let room = self.lines.room_to_add(alloc, &None)?;
+        let mut draft = Draft::new(alloc, &self.state)?;
+        draft.retire(alloc, &self.state, node)?;
+        let room = self.state.lines.room_to_add(alloc, &None)?;
         Ok(Prepared {
             draft,
             added: None,
@@ -248,7 +320,7 @@ impl Ledger {
     {
         if self.state.table.is_leased(slot) {
             Some(CoordRefusal::SlotLeased)
-        } else if !self.lines.has_version(slot) {
+        } else if !self.state.lines.has_version(slot) {
             Some(CoordRefusal::NoSuchSlot)
         } else if self.state.has_ticket() {
             None
@@ -260,16 +332,16 @@ impl Ledger {
     /// Works out the prune of a slot's line.
     pub(crate) fn pruning(&self, alloc: Global, slot: &Slot) -> Result<Prepared, AllocError>
         requires { result_err (pruned farm_limits slot.now (begin_work (ledger self.now))) ≡ None }
-        ensures work { IfOk result (λ p. pruned farm_limits slot.now (begin_work (ledger self.now)) ≡ Ok (shown (lines_with self.now.lines p.added) p.draft)) }
+        ensures work { IfOk result (λ p. pruned farm_limits slot.now (begin_work (ledger self.now)) ≡ Ok (shown (lines_with self.now.lines p.added) self.now p.draft)) }
         ensures told { IfOk result (λ p. ChangesAsTold (ledger self.now) (pruned farm_limits slot.now (begin_work (ledger self.now)))) }
-        ensures rightful { IfOk result (λ p. IsRightful (kept (lines_with self.now.lines p.added) p.draft.state)) }
+        ensures rightful { IfOk result (λ p. IsRightful (after (lines_with self.now.lines p.added) self.now p.draft.change)) }
         ensures ready { IfOk result (λ p. IsReady self.now.lines p.added) }
         ensures empty { IfOk result (λ p. p.room.items ≡ []) }
-        ensures larger { IfOk result (λ p. length self.now.lines + added_count p.added ≤ vec_capacity p.room) }
+        ensures larger { IfOk result (λ p. room_needed self.now.lines p.added ≤ vec_capacity p.room) }
     {
-        let mut draft = self.draft(alloc)?;
-        let added = draft.prune(alloc, &self.lines, slot)?;
-        let room = self.lines.room_to_add(alloc, &added)?;
+        let mut draft = Draft::new(alloc, &self.state)?;
+        let added = draft.prune(alloc, &self.state, slot)?;
+        let room = self.state.lines.room_to_add(alloc, &added)?;
         Ok(Prepared { draft, added, room })
     }
 
@@ -281,7 +353,7 @@ impl Ledger {
         ensures ledger { OnOk result ((nudged farm_limits (begin_work (ledger self.now))).ledger ≡ ledger self.now) }
         ensures unchanged { OnOk result ((nudged farm_limits (begin_work (ledger self.now))).changed ≡ false) }
     {
-        let sends = self.state.remind_all(alloc, &self.lines)?;
+        let sends = self.state.remind_all(alloc)?;
         Ok(Handled {
             sends: Items::new(sends),
             note: CoordNote::Nudged,
@@ -292,7 +364,7 @@ impl Ledger {
     pub(crate) fn most_sends(&self) -> usize
         ensures { (y : ToCoord) → length (handled farm_limits y (begin_work (ledger self.now))).sends ≤ result }
     {
-        1 + self.state.parked.len()
+        1 + self.state.parked.asks.len()
     }
 
     /// The most messages that a withdrawal, a retirement or a prune can make it send.
@@ -301,7 +373,7 @@ impl Ledger {
         ensures retire { (n : NodeId) (w : Work) → retired farm_limits n (begin_work (ledger self.now)) ≡ Ok w → length w.sends ≤ result }
         ensures prune { (s : Slot) (w : Work) → pruned farm_limits s (begin_work (ledger self.now)) ≡ Ok w → length w.sends ≤ result }
     {
-        self.state.parked.len()
+        self.state.parked.asks.len()
     }
 
     /// The leases that are live, the oldest first.
@@ -315,14 +387,14 @@ impl Ledger {
     pub(crate) fn parked(&self) -> &[Parked]
         ensures { result.now ≡ self.now.parked }
     {
-        self.state.parked.as_slice()
+        self.state.parked.asks.as_slice()
     }
 
     /// The line of a slot, if it has a version.
     pub(crate) fn line(&self, slot: &Slot) -> Option<&Line>
         ensures { option_copied result ≡ line_shown (line_at self.now.lines slot.now) }
     {
-        self.lines.find(slot)
+        self.state.lines.find(slot)
     }
 
     /// The slots that have a version, rising.
@@ -330,7 +402,7 @@ impl Ledger {
         ensures rising { IfOk result (λ v. IsStrictlySortedBy slot_cmp v.items) }
         ensures exact { IfOk result (λ v. (s : _) → list_any (λ x. slot_eq x s) v.items ≡ not (is_nil (line_at self.now.lines s))) }
     {
-        self.lines.slots(alloc)
+        self.state.lines.slots(alloc)
     }
 
     pub(crate) fn slot_state(&self, slot: &Slot) -> SlotState

@@ -1,12 +1,15 @@
 //! The coordinator's decisions.
 #![tactic(auto)]
 
+mod change;
 mod coordinator;
 mod draft;
 mod handled;
 pub mod laws;
 mod ledger;
 mod operator_calls;
+mod parked_asks;
+mod parked_change;
 mod record;
 mod state;
 mod text;

@@ -8,13 +8,15 @@ ghost use Rattle.protocol.specs.Ledger.{begin_work, withdrawn, pruned, retired, 
 ghost use Rattle.versions.specs.Additions.{HasRoom, IsReady};
 ghost use Rattle.versions.specs.Lines.{lines_with, news_of};
 ghost use Rattle.coordinator.specs.Held.{line_at};
-ghost use Rattle.coordinator.specs.Shown.{LineOf, having_said, kept, shown, withdraws_under};
+ghost use Rattle.coordinator.specs.Keeps.{held};
+ghost use Rattle.farm_base.specs.Wanted.{IsWants};
+ghost use Rattle.coordinator.specs.Shown.{LineOf, having_said, kept, after, shown, withdraws_under};
 ghost use Rattle.coordinator.specs.Sound.{IsSound};
 
 use super::draft::Draft;
-use super::state::{State, drop_asks_of, grant_of, is_home, is_some_saved};
+use super::state::{State, grant_of, is_home, is_some_saved};
 use farm_base::{Copied, FromCoord, Lease, News, NodeId, Parked, Slot, Ticket, empty_digest};
-use leases::holds_wanted;
+use leases::{Ending, holds_wanted};
 use protocol::{CoordNote, CoordRefusal};
 use std::alloc::{AllocError, Global};
 use versions::{Added, Addition, Lines, additions};
@@ -74,23 +76,22 @@ impl State {
 
     /// Whether a parked ask is for the tenure that the lease is.
     fn is_waited_for(&self, lease: &Lease) -> bool
-        ensures { result ≡ is_awaited self.now.parked.items lease.now }
+        ensures { result ≡ is_awaited self.now.parked.asks.items lease.now }
     {
-        lease.tenure && is_asked_for(self.parked.as_slice(), lease)
+        lease.tenure && is_asked_for(self.parked.asks.as_slice(), lease)
     }
 
     /// Sends the Grant of a lease again, and asks for a tenure that is waited for.
     fn remind(
         &self,
         alloc: Global,
-        lines: &Lines,
         sends: &mut Vec<FromCoord>,
         lease: &Lease,
     ) -> Result<(), AllocError>
-        ensures { OnOk result (having_said sends.new.items (kept (line_at lines.now) self.now)
-            ≡ nudges farm_limits lease.now (having_said sends.old.items (kept (line_at lines.now) self.now))) }
+        ensures { OnOk result (having_said sends.new.items (kept (line_at self.now.lines) self.now)
+            ≡ nudges farm_limits lease.now (having_said sends.old.items (kept (line_at self.now.lines) self.now))) }
     {
-        let grant = grant_of(alloc, lines, &None, lease)?;
+        let grant = grant_of(alloc, &self.lines, &None, lease)?;
         sends.push(FromCoord::Granted(grant))?;
         if self.is_waited_for(lease) {
             sends.push(FromCoord::Recall {
@@ -103,18 +104,14 @@ impl State {
     }
 
     /// Reminds the holder of each lease of it, the oldest first.
-    pub(crate) fn remind_all(
-        &self,
-        alloc: Global,
-        lines: &Lines,
-    ) -> Result<Vec<FromCoord>, AllocError>
-        ensures { IfOk result (λ sends. having_said sends.items (kept (line_at lines.now) self.now)
-            ≡ nudge_all farm_limits self.now.table.live (begin_work (kept (line_at lines.now) self.now))) }
+    pub(crate) fn remind_all(&self, alloc: Global) -> Result<Vec<FromCoord>, AllocError>
+        ensures { IfOk result (λ sends. having_said sends.items (kept (line_at self.now.lines) self.now)
+            ≡ nudge_all farm_limits self.now.table.live (begin_work (kept (line_at self.now.lines) self.now))) }
     {
         let mut sends = Vec::new(alloc);
         let leases = self.table.leases();
         for lease in leases {
-            self.remind(alloc, lines, &mut sends, lease)?;
+            self.remind(alloc, &mut sends, lease)?;
         }
         Ok(sends)
     }
@@ -122,11 +119,12 @@ impl State {
 
 impl Draft {
     /// Withdraws the lease of a ticket, where there is one.
-    fn take_back(&mut self, alloc: Global, ticket: Ticket) -> Result<(), AllocError>
-        ensures { OnOk result ((line : LineOf) → shown line self.new ≡ withdraws_under ticket (shown line self.old)) }
+    fn take_back(&mut self, alloc: Global, base: &State, ticket: Ticket) -> Result<(), AllocError>
+        ensures { OnOk result ((line : LineOf) → shown line (held base.now) self.new ≡ withdraws_under ticket (shown line (held base.now) self.old)) }
     {
-        let withdrawn = self.state.table.withdraw(alloc, ticket)?;
-        self.changed = self.changed || is_some_saved(&withdrawn);
+        let is_saved = is_some_saved(self.change.table.lease(&base.table, ticket));
+        self.change.table.withdraw(alloc, &base.table, ticket)?;
+        self.changed = self.changed || is_saved;
         Ok(())
     }
 
@@ -134,40 +132,43 @@ impl Draft {
     pub(crate) fn withdraw(
         &mut self,
         alloc: Global,
-        lines: &Lines,
+        base: &State,
         ticket: Ticket,
     ) -> Result<(), AllocError>
-        requires sound { IsSound (kept (line_at lines.now) self.old.state) }
-        requires accepted { result_err (withdrawn farm_limits ticket (shown (line_at lines.now) self.old)) ≡ None }
-        ensures work { OnOk result (withdrawn farm_limits ticket (shown (line_at lines.now) self.old) ≡ Ok (shown (line_at lines.now) self.new)) }
-        ensures sound { OnOk result (IsSound (kept (line_at lines.now) self.new.state)) }
+        requires sound { IsSound (after (line_at base.now.lines) (held base.now) self.old.change) }
+        requires wants { All (λ p. IsWants p.wants) base.now.parked.asks.items }
+        requires accepted { result_err (withdrawn farm_limits ticket (shown (line_at base.now.lines) (held base.now) self.old)) ≡ None }
+        ensures work { OnOk result (withdrawn farm_limits ticket (shown (line_at base.now.lines) (held base.now) self.old) ≡ Ok (shown (line_at base.now.lines) (held base.now) self.new)) }
+        ensures sound { OnOk result (IsSound (after (line_at base.now.lines) (held base.now) self.new.change)) }
     {
-        self.take_back(alloc, ticket)?;
-        self.retry(alloc, lines, &None)?;
+        self.take_back(alloc, base, ticket)?;
+        self.retry(alloc, base, &None)?;
         self.note = CoordNote::Withdrawn(ticket);
         Ok(())
     }
 
     /// Tries the parked asks, where they are to be tried.
-    fn retry_if(&mut self, alloc: Global, lines: &Lines, due: bool) -> Result<(), AllocError>
-        requires { IsSound (kept (line_at lines.now) self.old.state) }
-        ensures { OnOk result (shown (line_at lines.now) self.new
-            ≡ (if due then retried farm_limits (shown (line_at lines.now) self.old) else shown (line_at lines.now) self.old)) }
+    fn retry_if(&mut self, alloc: Global, base: &State, due: bool) -> Result<(), AllocError>
+        requires sound { IsSound (after (line_at base.now.lines) (held base.now) self.old.change) }
+        requires wants { All (λ p. IsWants p.wants) base.now.parked.asks.items }
+        ensures { OnOk result (shown (line_at base.now.lines) (held base.now) self.new
+            ≡ (if due then retried farm_limits (shown (line_at base.now.lines) (held base.now) self.old) else shown (line_at base.now.lines) (held base.now) self.old)) }
     {
         if !due {
             return Ok(());
         }
-        self.retry(alloc, lines, &None)?;
+        self.retry(alloc, base, &None)?;
         Ok(())
     }
 
     /// Drops a node: its leases are withdrawn, its parked asks go, and nothing that it says is heard again.
-    fn drop_node(&mut self, alloc: Global, node: NodeId) -> Result<(), AllocError>
-        ensures { OnOk result ((line : LineOf) → shown line self.new ≡ goes node (shown line self.old)) }
+    fn drop_node(&mut self, alloc: Global, base: &State, node: NodeId) -> Result<(), AllocError>
+        ensures { OnOk result ((line : LineOf) → shown line (held base.now) self.new ≡ goes node (shown line (held base.now) self.old)) }
     {
-        self.state.table.withdraw_all_of(alloc, node)?;
-        drop_asks_of(&mut self.state.parked, node);
-        self.state.gone.insert(node)?;
+        self.change.table.withdraw_all_of(alloc, &base.table, node)?;
+        let parked = base.parked.asks.as_slice();
+        self.change.parked.end(alloc, parked, Ending::Node(node))?;
+        self.change.retire(alloc, base, node)?;
         self.changed = true;
         Ok(())
     }
@@ -176,17 +177,18 @@ impl Draft {
     pub(crate) fn retire(
         &mut self,
         alloc: Global,
-        lines: &Lines,
+        base: &State,
         node: NodeId,
     ) -> Result<(), AllocError>
-        requires sound { IsSound (kept (line_at lines.now) self.old.state) }
-        requires accepted { result_err (retired farm_limits node (shown (line_at lines.now) self.old)) ≡ None }
-        ensures work { OnOk result (retired farm_limits node (shown (line_at lines.now) self.old) ≡ Ok (shown (line_at lines.now) self.new)) }
-        ensures sound { OnOk result (IsSound (kept (line_at lines.now) self.new.state)) }
+        requires sound { IsSound (after (line_at base.now.lines) (held base.now) self.old.change) }
+        requires wants { All (λ p. IsWants p.wants) base.now.parked.asks.items }
+        requires accepted { result_err (retired farm_limits node (shown (line_at base.now.lines) (held base.now) self.old)) ≡ None }
+        ensures work { OnOk result (retired farm_limits node (shown (line_at base.now.lines) (held base.now) self.old) ≡ Ok (shown (line_at base.now.lines) (held base.now) self.new)) }
+        ensures sound { OnOk result (IsSound (after (line_at base.now.lines) (held base.now) self.new.change)) }
     {
-        let had_leases = self.state.table.has_lease_of(node);
-        self.drop_node(alloc, node)?;
-        self.retry_if(alloc, lines, had_leases)?;
+        let had_leases = self.change.table.has_lease_of(&base.table, node);
+        self.drop_node(alloc, base, node)?;
+        self.retry_if(alloc, base, had_leases)?;
         self.note = CoordNote::Retired(node);
         Ok(())
     }
@@ -195,17 +197,17 @@ impl Draft {
     pub(crate) fn prune(
         &mut self,
         alloc: Global,
-        lines: &Lines,
+        base: &State,
         slot: &Slot,
     ) -> Result<Option<Added>, AllocError>
-        requires sound { IsSound (kept (line_at lines.now) self.old.state) }
-        requires accepted { result_err (pruned farm_limits slot.now (shown (line_at lines.now) self.old)) ≡ None }
-        ensures work { IfOk result (λ added. pruned farm_limits slot.now (shown (line_at lines.now) self.old) ≡ Ok (shown (lines_with lines.now added) self.new)) }
-        ensures ready { IfOk result (IsReady lines.now) }
-        ensures sound { IfOk result (λ added. IsSound (kept (lines_with lines.now added) self.new.state)) }
+        requires sound { IsSound (after (line_at base.now.lines) (held base.now) self.old.change) }
+        requires accepted { result_err (pruned farm_limits slot.now (shown (line_at base.now.lines) (held base.now) self.old)) ≡ None }
+        ensures work { IfOk result (λ added. pruned farm_limits slot.now (shown (line_at base.now.lines) (held base.now) self.old) ≡ Ok (shown (lines_with base.now.lines added) (held base.now) self.new)) }
+        ensures ready { IfOk result (IsReady base.now.lines) }
+        ensures sound { IfOk result (λ added. IsSound (after (lines_with base.now.lines added) (held base.now) self.new.change)) }
     {
-        let additions = emptied(alloc, lines, slot)?;
-        let Ok(ticket) = self.state.tickets.next() else {
+        let additions = emptied(alloc, &base.lines, slot)?;
+        let Ok(ticket) = self.change.tickets.next() else {
             unreachable!();
         };
         self.changed = true;

@@ -1,9 +1,10 @@
 //! What the keeper is given, and how long what it has is.
-ghost use Rattle.std.specs.Prelude.{◌≡◌, ◌≢◌, ◌⊎◌, ◌≤◌, Err, OnOk, OnErr};
+ghost use Rattle.std.specs.Prelude.{◌≡◌, ◌≢◌, ◌⊎◌, ◌≤◌, true, None, Err, OnOk, OnErr, IfErr, IfSome};
 ghost use Rattle.std.specs.Result.{is_ok};
 ghost use Rattle.saverecord.specs.Keepers.{HasFailed};
-ghost use Rattle.coordinator.specs.Keeping.{kept_with};
+ghost use Rattle.coordinator.specs.Keeping.{kept_with, kept_with_some};
 
+use protocol::CoordRefusal;
 use saverecord::{Keeper, KeeperRefusal, Log};
 
 /// Entries are appended until they are this long together, and as long as the whole record.
@@ -59,7 +60,7 @@ impl Sizes {
 }
 
 /// Has the keeper keep a text.
-pub(crate) fn keep<K: Keeper>(keeper: &mut K, text: Text) -> Result<(), KeeperRefusal>
+fn keep<K: Keeper>(keeper: &mut K, text: Text) -> Result<(), KeeperRefusal>
     ensures exact { result ≢ Err KeeperRefusal.OutOfMemory → K.saving keeper.old (kept_with text (K.kept keeper.old)) (is_ok result) keeper.new }
     ensures ok { OnOk result (K.kept keeper.new ≡ kept_with text (K.kept keeper.old)) }
     ensures fault { OnErr result ((K.kept keeper.new ≡ K.kept keeper.old) ⊎ (K.kept keeper.new ≡ kept_with text (K.kept keeper.old))) }
@@ -73,5 +74,30 @@ pub(crate) fn keep<K: Keeper>(keeper: &mut K, text: Text) -> Result<(), KeeperRe
             Err(_) => Err(KeeperRefusal::Fault),
         },
         Text::Entry(bytes) => keeper.append(bytes),
+    }
+}
+
+/// Has the keeper keep a text, if there is one: the sizes of what it has then.
+pub(crate) fn save<K: Keeper>(
+    keeper: &mut K,
+    sizes: Sizes,
+    text: Option<Text>,
+) -> Result<Sizes, CoordRefusal>
+    ensures exact { IfSome text (λ text. result ≢ Err CoordRefusal.OutOfMemory → K.saving keeper.old (kept_with text (K.kept keeper.old)) (is_ok result) keeper.new) }
+    ensures ok { OnOk result (K.kept keeper.new ≡ kept_with_some text (K.kept keeper.old)) }
+    ensures fault { OnErr result ((K.kept keeper.new ≡ K.kept keeper.old) ⊎ (K.kept keeper.new ≡ kept_with_some text (K.kept keeper.old))) }
+    ensures cause { result ≡ Err CoordRefusal.SaveFault → HasFailed (K.failed keeper.old) (K.failed keeper.new) }
+    ensures same { result ≡ Err CoordRefusal.OutOfMemory → keeper.new ≡ keeper.old }
+    ensures nothing { text ≡ None → is_ok result ≡ true × (keeper.new ≡ keeper.old) }
+    ensures refusals { IfErr result (λ e. (e ≡ CoordRefusal.SaveFault) ⊎ (e ≡ CoordRefusal.OutOfMemory)) }
+{
+    let Some(text) = text else {
+        return Ok(sizes);
+    };
+    let sizes = sizes.after(&text);
+    match keep(keeper, text) {
+        Ok(()) => Ok(sizes),
+        Err(KeeperRefusal::OutOfMemory) => Err(CoordRefusal::OutOfMemory),
+        Err(KeeperRefusal::Fault) => Err(CoordRefusal::SaveFault),
     }
 }

@@ -41,7 +41,7 @@ pub node_core : IsSend NodeCore.the_row
 node_core = search (sendable, crosses, maps.crosses, kept_ask, stored_contents) depth 60 fits 20000
 
 pub world : IsSend World.the_field.row
-world = search (sendable, crosses, maps.crosses, message, node_core) depth 60 fits 20000
+world = search (sendable, crosses, maps.crosses, message, node_core) depth 120 fits 20000
 
 board_inside : IsSend Inside.the_row
 board_inside =

@@ -1,11 +1,13 @@
 -- A table with changes over it.
-use Rattle.std.proofs.Common.{◌≡◌, List, [], ◌∷◌, ◌++◌, Bool, true, false, not, ◌&&◌, ◌||◌, filter, refl, sym, ◌∙◌, ap, subst, append_assoc, inl, inr}
+use Rattle.std.proofs.Common.{◌≡◌, ℕ, ◌+◌, ◌<◌, ◌≤◌, List, [], ◌∷◌, ◌++◌, Bool, true, false, not, ◌&&◌, ◌||◌, filter, length, get_or, drop, refl, sym, ◌∙◌, ap, subst, append_assoc, inl, inr, arith}
+use Rattle.std.proofs.Math.ListN.{drop_of_length-le}
 use Rattle.std.proofs.Math.Bool.{or-false}
 use Rattle.std.proofs.lemmas.Bool.{cases_Bool}
 use Rattle.std.proofs.lemmas.Grind.{flat_map-append}
 use Rattle.std.proofs.lemmas.List.{append-nil}
 use Rattle.std.proofs.lemmas.List.Elements.{filter-append}
 use Rattle.std.proofs.lemmas.List.Folds.{list_any-append}
+use Rattle.std.proofs.lemmas.List.Filters.{length-filter_both}
 use Rattle.std.specs.List.{list_any}
 use Rattle.farm_base.specs.declared.lease.Lease.{Lease}
 use Rattle.protocol.specs.Names.{Slot, NodeId}
@@ -14,6 +16,7 @@ use Rattle.leases.specs.declared.ending.Ending.{Ending}
 use Rattle.leases.specs.Leases.{Table, AreLeases}
 use Rattle.leases.specs.Changes.{Change, changed, ends_lease, has_ended}
 use Rattle.leases.specs.Table.{all_private, private_slots}
+use Rattle.leases.proofs.MarkLemmas.{drop-item}
 use Rattle.leases.proofs.TableLemmas.{leases-filter}
 
 -- ---- filters
@@ -102,3 +105,22 @@ private_at-both n live granted =
     ap (λ (gs : List Lease). all_private (filter (is_at n) live) ++ all_private (filter (is_at n) gs)) (none_ended granted)
     ∙ sym (flat_map-append (λ (g : Lease). private_slots g.slots) (filter (is_at n) live) (filter (is_at n) granted))
     ∙ ap all_private (sym (filter-append (is_at n) live granted))
+
+-- ---- endings in turn
+
+-- after one of the endings
+pub ended_next : (ended : List Ending) (i : ℕ) (e d : Ending) (live now : List Lease) → i < length ended → e ≡ get_or ended i d → now ≡ filter (λ g. not (ends_lease e g)) live
+    → filter (λ g. not (has_ended (drop (i + 1) ended) g)) now ≡ filter (λ g. not (has_ended (drop i ended) g)) live
+ended_next ended i e d live now inside is left =
+    let first : drop i ended ≡ e ∷ drop (i + 1) ended = drop-item ended i d inside ∙ ap (λ (f : Ending). f ∷ drop (i + 1) ended) (sym is) in
+    ap (filter (λ g. not (has_ended (drop (i + 1) ended) g))) left
+    ∙ sym (filter_twice (ends_lease e) (has_ended (drop (i + 1) ended)) (has_ended (drop i ended)) (λ g. ap (λ (es : List Ending). has_ended es g) first) live)
+
+-- after all of them
+pub ended_all : (ended : List Ending) (i : ℕ) (live left : List Lease) → length ended ≤ i → filter (λ g. not (has_ended (drop i ended) g)) live ≡ left → live ≡ left
+ended_all ended i live left past h = sym (none_ended live) ∙ ap (λ (es : List Ending). filter (λ g. not (has_ended es g)) live) (sym (drop_of_length-le ended past)) ∙ h
+
+-- ---- room
+
+pub length-kept : (p : Lease → Bool) (live : List Lease) → length (filter p live) ≤ length live
+length-kept p live = omega (arith, length-filter_both p (λ g. not (p g)) (λ g. refl) live)

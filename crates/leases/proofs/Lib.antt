@@ -7,3 +7,6 @@ pub mod PlaceLemmas
 pub mod LifeLemmas
 pub mod NodeLemmas
 pub mod ChangeLemmas
+pub mod FindLemmas
+pub mod IndexLemmas
+pub mod NewestLemmas

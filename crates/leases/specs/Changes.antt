@@ -1,11 +1,12 @@
 -- The changes of one event over a lease table.
-use Rattle.std.specs.Prelude.{ℕ, ◌+◌, ◌≤◌, Bool, not, List, ◌++◌, length, filter}
+use Rattle.std.specs.Prelude.{◌≡◌, ℕ, ◌+◌, ◌≤◌, if◌then◌else◌, Bool, not, List, ◌++◌, length, filter, Option, Some, None}
 use Rattle.std.specs.List.{list_any}
 use Rattle.farm_base.specs.declared.lease.Lease.{Lease}
-use Rattle.protocol.specs.Names.{Slot}
+use Rattle.protocol.specs.Names.{Slot, FolderName, Ticket}
 use Rattle.protocol.specs.Ledger.{has_ticket, is_at, is_older}
 use Rattle.leases.specs.declared.ending.Ending.{Ending}
 use Rattle.leases.specs.declared.ending.Ending.TheVariants as ending
+use Rattle.leases.specs.Index.{index_entries}
 use Rattle.leases.specs.Leases.{Table}
 
 -- changes over a lease table, as contracts see them
@@ -27,6 +28,11 @@ ends_lease (ending.LivesBelow n l) g = is_older n l g
 abbrev pub has_ended : List Ending → Lease → Bool
 has_ended ended g = list_any (λ e. ends_lease e g) ended
 
+-- the lease, unless it has ended
+abbrev pub standing : List Ending → Option Lease → Option Lease
+standing ended None = None
+standing ended (Some g) = if has_ended ended g then None else Some g
+
 -- the table with the changes
 abbrev pub changed : Table → Change → Table
 changed t c = record { live = filter (λ g. not (has_ended c.ended g)) t.live ++ c.granted; retired = t.retired ++ c.retired }
@@ -38,8 +44,17 @@ pub record RoomyTable : Type 0 where
   pub lease_room : ℕ
   -- how many slots that are never granted again it can hold, likewise
   pub slot_room : ℕ
+  -- what its index of folders is to have of the granted leases
+  pub entries : List (FolderName × Ticket)
+  -- how many more folders the index can hold
+  pub index_room : ℕ
+  -- of how many more nodes it can note asks
+  pub ask_room : ℕ
 
 -- there is room for what the changes add
 pub record HasRoom (r : RoomyTable) (c : Change) : Type 0 where
   pub leases : length r.table.live + length c.granted ≤ r.lease_room
   pub slots : length r.table.retired + length c.retired ≤ r.slot_room
+  pub entries : r.entries ≡ index_entries c.granted
+  pub folders : length r.entries ≤ r.index_room
+  pub asks : length c.granted ≤ r.ask_room

@@ -1,5 +1,8 @@
 pub mod Tickets
 pub mod Leases
+pub mod Index
+pub mod Newest
+pub mod Live
 pub mod Lives
 pub mod Lowest
 pub mod Marks

@@ -49,18 +49,11 @@ impl TableChange {
     fn over<'t>(&'t self, table: &'t LeaseTable) -> View<'t>
         ensures { result ≡ changed table.now self.now }
     {
-        let leases = table.leases();
-        let ended = self.ended.as_slice();
-        let granted = self.granted.as_slice();
-        let retired = table.retired();
-        let newly_retired = self.retired.as_slice();
-        View {
-            leases,
-            ended,
-            granted,
-            retired,
-            newly_retired,
-        }
+        table.with_changes(
+            self.ended.as_slice(),
+            self.granted.as_slice(),
+            self.retired.as_slice(),
+        )
     }
 
     /// Whether an ask with these wants can be granted. A tenure takes a slot of its SHARED folder, any other
@@ -240,12 +233,12 @@ impl TableChange {
         self.over(table).to_parts(alloc)
     }
 
-    /// How many leases, and how many slots that are never granted again, it adds to a table.
-    pub(crate) fn added(&self) -> (usize, usize)
-        ensures leases { result.0 ≡ length self.now.granted }
+    /// The leases that it adds to a table, and how many slots that are never granted again.
+    pub(crate) fn added(&self) -> (&[Lease], usize)
+        ensures leases { result.0.now ≡ self.now.granted }
         ensures slots { result.1 ≡ length self.now.retired }
     {
-        (self.granted.len(), self.retired.len())
+        (self.granted.as_slice(), self.retired.len())
     }
 
     /// Gives its parts, without taking memory.

@@ -1,7 +1,7 @@
 //! What ends leases.
-ghost use Rattle.std.specs.Prelude.{◌≡◌, ◌≤◌, not, filter};
-ghost use Rattle.std.specs.Vec.{vec_len, vec_capacity};
-ghost use Rattle.leases.specs.Changes.{ends_lease, has_ended};
+ghost use Rattle.std.specs.Prelude.{◌≡◌, not, filter, option_copied};
+ghost use Rattle.std.specs.Vec.{vec_capacity};
+ghost use Rattle.leases.specs.Changes.{ends_lease, has_ended, standing};
 
 use farm_base::{Lease, Life, NodeId, Ticket};
 
@@ -18,7 +18,7 @@ pub enum Ending {
 
 impl Ending {
     /// Whether it ends this lease.
-    fn ends(&self, lease: &Lease) -> bool
+    pub(crate) fn ends(&self, lease: &Lease) -> bool
         ensures { result ≡ ends_lease self.now lease.now }
     {
         match *self {
@@ -36,18 +36,26 @@ pub(crate) fn has_ended(ended: &[Ending], lease: &Lease) -> bool
     ended.iter().any(|ending| ending.ends(lease))
 }
 
-/// Removes the leases that have ended.
-pub(crate) fn drop_ended(leases: &mut Vec<Lease>, ended: &[Ending])
-    ensures items { leases.new.items ≡ filter (λ g. not (has_ended ended.now g)) leases.old.items }
-    ensures len { vec_len leases.new ≤ vec_len leases.old }
-    ensures capacity { vec_capacity leases.new ≡ vec_capacity leases.old }
+/// The lease, unless it has ended.
+pub(crate) fn standing<'t>(lease: Option<&'t Lease>, ended: &[Ending]) -> Option<&'t Lease>
+    ensures { option_copied result ≡ standing ended.now (option_copied lease.entry) }
 {
-    leases.retain(|lease| !has_ended(ended, lease));
+    match lease {
+        None => None,
+        Some(lease) => {
+            if has_ended(ended, lease) {
+                None
+            } else {
+                Some(lease)
+            }
+        }
+    }
 }
 
 /// Removes the leases that this ends.
 pub(crate) fn drop_ending(leases: &mut Vec<Lease>, ending: Ending)
-    ensures { leases.new.items ≡ filter (λ g. not (ends_lease ending g)) leases.old.items }
+    ensures items { leases.new.items ≡ filter (λ g. not (ends_lease ending g)) leases.old.items }
+    ensures capacity { vec_capacity leases.new ≡ vec_capacity leases.old }
 {
     leases.retain(|lease| !ending.ends(lease));
 }

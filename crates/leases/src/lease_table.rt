@@ -1,17 +1,19 @@
-ghost use Rattle.std.specs.Prelude.{◌≡◌, ◌<◌, not, [], ◌∷◌, ◌++◌, filter, count_by, ◌&&◌, All, AllPairs, IfOk, OnOk, OnErr, option_copied};
-ghost use Rattle.std.specs.List.{find, list_any, position_from};
+ghost use Rattle.std.specs.Prelude.{◌≡◌, ◌<◌, not, [], ◌∷◌, ◌++◌, filter, count_by, ◌&&◌, All, IfOk, OnOk, OnErr, option_copied};
+ghost use Rattle.std.specs.List.{find, list_any};
 ghost use Rattle.std.specs.List.Sorted.{IsStrictlySortedBy};
 ghost use Rattle.farm_base.specs.Slots.{slot_cmp};
 ghost use Rattle.farm_base.specs.Wanted.{IsWants};
 ghost use Rattle.protocol.specs.Names.{leased_wants};
-ghost use Rattle.protocol.specs.Ledger.{has_slot, lease_of, lease_under, without, is_older, has_ticket, is_at, retire_all};
-ghost use Rattle.leases.specs.Leases.{AreLeases, IsBefore};
+ghost use Rattle.protocol.specs.Ledger.{has_slot, lease_of, lease_under, without, is_older, is_at, retire_all};
+ghost use Rattle.leases.specs.Changes.{changed};
+ghost use Rattle.leases.specs.Leases.{AreLeases};
 ghost use Rattle.leases.specs.Table.{among, is_leased, fit_of, lease_for, state_of, holds_some, retires_some};
 
-use super::ending::{Ending, drop_ending};
+use super::ending::Ending;
 use super::held::{among, has_slot};
+use super::live_leases::LiveLeases;
 use super::view::View;
-use farm_base::{Ask, Copied, Lease, Life, NodeId, Slot, Ticket, Wants, copy_all};
+use farm_base::{Ask, Lease, Life, NodeId, Slot, Ticket, Wants};
 use std::alloc::{AllocError, Global};
 use std::marker::Model;
 
@@ -37,18 +39,16 @@ pub enum SlotState {
 /// The leases that were granted and have not ended, and the PRIVATE slots that are never granted again.
 #[derive(Debug, Drop)]
 pub struct LeaseTable {
-    leases: Vec<Lease>,
+    live: LiveLeases,
     retired: Vec<Slot>,
 }
 
 impl Model for LeaseTable {
-    ghost use Rattle.leases.specs.Leases.{Table, AreLeases};
+    ghost use Rattle.leases.specs.Leases.{Table};
 
     ghost Value = { Table };
 
-    ghost view = { λ t. record { live = t.leases.items; retired = t.retired.items } };
-
-    ghost invariant = { λ t. AreLeases t.leases.items };
+    ghost view = { λ t. record { live = t.live.leases; retired = t.retired.items } };
 }
 
 impl LeaseTable {
@@ -58,25 +58,36 @@ impl LeaseTable {
         ensures retired { result.retired ≡ [] }
     {
         LeaseTable {
-            leases: Vec::new(alloc),
+            live: LiveLeases::new(alloc),
             retired: Vec::new(alloc),
+        }
+    }
+
+    /// The table with changes over it.
+    pub(crate) fn with_changes<'t>(
+        &'t self,
+        ended: &'t [Ending],
+        granted: &'t [Lease],
+        newly_retired: &'t [Slot],
+    ) -> View<'t>
+        ensures { result ≡ changed self.now (record { ended = ended.now; granted = granted.now; retired = newly_retired.now }) }
+    {
+        let live = &self.live;
+        let retired = self.retired.as_slice();
+        View {
+            live,
+            ended,
+            granted,
+            retired,
+            newly_retired,
         }
     }
 
     /// The table as it is, with no changes over it.
     fn unchanged(&self) -> View<'_>
-        ensures value { result ≡ self.now }
-        ensures sound { AreLeases self.now.live }
+        ensures { result ≡ self.now }
     {
-        let leases = self.leases.as_slice();
-        let retired = self.retired.as_slice();
-        View {
-            leases,
-            ended: &[],
-            granted: &[],
-            retired,
-            newly_retired: &[],
-        }
+        self.with_changes(&[], &[], &[])
     }
 
     /// Whether an ask with these wants can be granted. A tenure takes a slot of its SHARED folder, any other
@@ -91,7 +102,7 @@ impl LeaseTable {
     fn holder(&self, slot: &Slot) -> Option<&Lease>
         ensures { option_copied result ≡ find (λ g. has_slot g.slots slot.now) self.now.live }
     {
-        self.leases
+        self.leases()
             .iter()
             .find(|lease| has_slot(lease.slots.as_slice(), slot))
     }
@@ -130,7 +141,7 @@ impl LeaseTable {
         ensures value { option_copied result ≡ lease_under self.now.live ticket }
         ensures sound { AreLeases self.now.live }
     {
-        self.unchanged().lease(ticket)
+        self.live.under(ticket)
     }
 
     /// The lease of an ask.
@@ -160,19 +171,18 @@ impl LeaseTable {
     ) -> Result<Lease, AllocError>
         requires { fit_of self.now tenure wants.now ≡ Fit.Fits }
         ensures value { IfOk result (λ lease. lease ≡ lease_for self.now node life ask wants.now tenure ticket) }
-        ensures sound { AreLeases self.now.live }
         ensures sorted { IsWants wants.now }
     {
         self.unchanged()
             .lease_for(alloc, node, life, ask, wants, tenure, ticket)
     }
 
-    fn add(&mut self, lease: Lease) -> Result<(), AllocError>
-        requires { AreLeases (self.old.live ++ lease ∷ []) }
+    fn add(&mut self, alloc: Global, lease: Lease) -> Result<(), AllocError>
+        requires { AreLeases self.old.live → AreLeases (self.old.live ++ lease ∷ []) }
         ensures ok { OnOk result (self.new ≡ record self.old { live = self.old.live ++ lease ∷ [] }) }
         ensures err { OnErr result (self.new ≡ self.old) }
     {
-        self.leases.push(lease)?;
+        self.live.add(alloc, lease)?;
         Ok(())
     }
 
@@ -194,7 +204,7 @@ impl LeaseTable {
         ensures err { OnErr result (self.new ≡ self.old) }
     {
         let lease = self.lease_for(alloc, node, life, ask, wants, tenure, ticket)?;
-        self.add(lease)?;
+        self.add(alloc, lease)?;
         Ok(())
     }
 
@@ -203,7 +213,7 @@ impl LeaseTable {
         ensures ended { result ≡ lease_under self.old.live ticket }
         ensures rest { self.new ≡ record self.old { live = without ticket self.old.live } }
     {
-        take_out(&mut self.leases, ticket)
+        self.live.end(ticket)
     }
 
     /// Withdraws the lease of a ticket, and returns it. Its PRIVATE slots are never granted again.
@@ -215,7 +225,7 @@ impl LeaseTable {
     {
         let mut retired = self.unchanged().private_under(alloc, ticket)?;
         self.retired.append(&mut retired)?;
-        Ok(take_out(&mut self.leases, ticket))
+        Ok(self.live.end(ticket))
     }
 
     /// Withdraws all leases of a node. Their PRIVATE slots are never granted again.
@@ -226,7 +236,7 @@ impl LeaseTable {
     {
         let mut retired = self.unchanged().private_at(alloc, node)?;
         self.retired.append(&mut retired)?;
-        drop_ending(&mut self.leases, Ending::Node(node));
+        self.live.end_all(&Ending::Node(node));
         Ok(())
     }
 
@@ -248,7 +258,7 @@ impl LeaseTable {
     pub fn leases(&self) -> &[Lease]
         ensures { result.now ≡ self.now.live }
     {
-        self.leases.as_slice()
+        self.live.as_slice()
     }
 
     /// The slots that are never granted again.
@@ -263,8 +273,8 @@ impl LeaseTable {
         ensures ended { result ≡ count_by (is_older node life) self.old.live }
         ensures rest { self.new ≡ record self.old { live = filter (λ g. not (is_older node life g)) self.old.live } }
     {
-        let ended = count_older(self.leases.as_slice(), node, life);
-        drop_ending(&mut self.leases, Ending::LivesBelow(node, life));
+        let ended = count_older(self.leases(), node, life);
+        self.live.end_all(&Ending::LivesBelow(node, life));
         ended
     }
 }
@@ -279,42 +289,35 @@ impl LeaseTable {
         self.unchanged().to_parts(alloc)
     }
 
-    /// The table of these leases and of these slots that are never granted again.
-    pub fn from_parts(leases: Vec<Lease>, retired: Vec<Slot>) -> Self
+    /// The table of these leases and of these slots that are never granted again. Where memory is refused, both are dropped.
+    pub fn from_parts(
+        alloc: Global,
+        leases: Vec<Lease>,
+        retired: Vec<Slot>,
+    ) -> Result<Self, AllocError>
         requires { AreLeases leases.items }
-        ensures live { result.live ≡ leases.items }
+        ensures { IfOk result (λ table. table ≡ record { live = leases.items; retired = retired.items }) }
+    {
+        let live = LiveLeases::of(alloc, leases)?;
+        Ok(LeaseTable { live, retired })
+    }
+
+    /// The table of these.
+    pub(crate) fn of(live: LiveLeases, retired: Vec<Slot>) -> Self
+        ensures live { result.live ≡ live.leases }
         ensures retired { result.retired ≡ retired.items }
     {
-        LeaseTable { leases, retired }
+        LeaseTable { live, retired }
     }
 
-    /// Gives the leases and the slots that are never granted again back, without taking memory.
-    pub(crate) fn into_vecs(self) -> (Vec<Lease>, Vec<Slot>)
-        ensures leases { result.0.items ≡ self.live }
+    /// Gives the leases and the slots that are never granted again back.
+    pub(crate) fn into_live(self) -> (LiveLeases, Vec<Slot>)
+        ensures leases { result.0.leases ≡ self.live }
         ensures retired { result.1.items ≡ self.retired }
-        ensures sound { AreLeases self.live }
     {
-        let LeaseTable { leases, retired } = self;
-        (leases, retired)
+        let LeaseTable { live, retired } = self;
+        (live, retired)
     }
-}
-
-/// Removes the lease of a ticket, and returns it.
-fn take_out(leases: &mut Vec<Lease>, ticket: Ticket) -> Option<Lease>
-    requires { AllPairs IsBefore leases.old.items }
-    ensures ended { result ≡ lease_under leases.old.items ticket }
-    ensures rest { leases.new.items ≡ without ticket leases.old.items }
-{
-    match place_of(leases.as_slice(), ticket) {
-        None => None,
-        Some(place) => Some(leases.remove(place)),
-    }
-}
-
-fn place_of(leases: &[Lease], ticket: Ticket) -> Option<usize>
-    ensures { result ≡ position_from (has_ticket ticket) 0 leases.now }
-{
-    leases.iter().position(|lease| lease.ticket == ticket)
 }
 
 fn count_older(leases: &[Lease], node: NodeId, life: Life) -> usize
@@ -324,13 +327,4 @@ fn count_older(leases: &[Lease], node: NodeId, life: Life) -> usize
         .iter()
         .filter(|lease| lease.node == node && lease.life < life)
         .count()
-}
-
-impl Copied for LeaseTable {
-    fn copy(&self, alloc: Global) -> Result<Self, AllocError> {
-        Ok(LeaseTable {
-            leases: copy_all(alloc, self.leases.as_slice())?,
-            retired: copy_all(alloc, self.retired.as_slice())?,
-        })
-    }
 }

@@ -1,47 +1,51 @@
 //! Applying changes to a lease table, in room that was made for them.
-ghost use Rattle.std.specs.Prelude.{◌≡◌, ◌+◌, ◌≤◌, not, ◌++◌, filter, length, vec_len, IfOk, IfErr, OnOk};
+ghost use Rattle.std.specs.Prelude.{◌≡◌, ◌+◌, ◌≤◌, ◌++◌, length, vec_len, IfOk, IfErr, OnOk};
 ghost use Rattle.std.specs.Vec.{vec_capacity};
-ghost use Rattle.leases.specs.Changes.{changed, has_ended, HasRoom};
+ghost use Rattle.leases.specs.Changes.{changed, HasRoom};
+ghost use Rattle.leases.specs.Index.{index_entries};
 ghost use Rattle.leases.specs.Leases.{AreLeases};
 
 use super::changes::TableChange;
-use super::ending::{Ending, drop_ended};
 use super::lease_table::LeaseTable;
-use farm_base::{Lease, Slot};
-use std::alloc::AllocError;
+use super::live_leases::LiveLeases;
+use farm_base::{FolderName, Lease, Slot, Ticket};
+use std::alloc::{AllocError, Global};
 use std::marker::Model;
 
 /// A lease table with room for changes, so that applying them can't fail.
 #[derive(Debug, Drop)]
 pub struct TableWithRoom {
-    leases: Vec<Lease>,
+    live: LiveLeases,
     retired: Vec<Slot>,
+    /// What the index of folders is to have of the leases that the changes add.
+    entries: Vec<(FolderName, Ticket)>,
 }
 
 impl Model for TableWithRoom {
     ghost use Rattle.std.specs.Vec.{vec_capacity};
-    ghost use Rattle.leases.specs.Leases.{AreLeases};
     ghost use Rattle.leases.specs.Changes.{RoomyTable};
 
     ghost Value = { RoomyTable };
 
-    ghost view = { λ r. record { table = record { live = r.leases.items; retired = r.retired.items }; lease_room = vec_capacity r.leases; slot_room = vec_capacity r.retired } };
-
-    ghost invariant = { λ r. AreLeases r.leases.items };
+    ghost view = { λ r. record { table = record { live = r.live.leases; retired = r.retired.items }; lease_room = r.live.lease_room; slot_room = vec_capacity r.retired; entries = r.entries.items; index_room = r.live.index_room; ask_room = r.live.ask_room } };
 }
 
 impl LeaseTable {
     /// Makes room for changes. Where memory is refused, the table comes back as it was.
-    pub fn with_room(self, change: &TableChange) -> Result<TableWithRoom, LeaseTable>
+    pub fn with_room(self, alloc: Global, change: &TableChange) -> Result<TableWithRoom, LeaseTable>
         ensures table { IfOk result (λ roomy. roomy.table ≡ self) }
         ensures room { IfOk result (λ roomy. HasRoom roomy change.now) }
         ensures err { IfErr result (λ t. t ≡ self) }
     {
-        let (mut leases, mut retired) = self.into_vecs();
-        let (more_leases, more_slots) = change.added();
-        match make_room(&mut leases, &mut retired, more_leases, more_slots) {
-            Ok(()) => Ok(TableWithRoom { leases, retired }),
-            Err(_) => Err(LeaseTable::from_parts(leases, retired)),
+        let (mut live, mut retired) = self.into_live();
+        let (granted, more_slots) = change.added();
+        match make_room(alloc, &mut live, &mut retired, granted, more_slots) {
+            Ok(entries) => Ok(TableWithRoom {
+                live,
+                retired,
+                entries,
+            }),
+            Err(_) => Err(LeaseTable::of(live, retired)),
         }
     }
 }
@@ -53,47 +57,50 @@ impl TableWithRoom {
         requires sound { AreLeases (changed self.table change).live }
         ensures { result ≡ changed self.table change }
     {
-        let TableWithRoom { leases, retired } = self;
+        let TableWithRoom {
+            live,
+            retired,
+            entries,
+        } = self;
         let (ended, granted, slots) = change.into_parts();
-        let leases = with_granted(leases, ended.as_slice(), granted);
-        let retired = joined(retired, slots);
-        LeaseTable::from_parts(leases, retired)
+        let mut live = live;
+        live.end_each(ended.as_slice());
+        live.add_all(granted, entries);
+        LeaseTable::of(live, joined(retired, slots))
     }
 
     /// The table as it is.
     pub fn into_table(self) -> LeaseTable
         ensures { result ≡ self.table }
     {
-        let TableWithRoom { leases, retired } = self;
-        LeaseTable::from_parts(leases, retired)
+        let TableWithRoom {
+            live,
+            retired,
+            entries: _entries,
+        } = self;
+        LeaseTable::of(live, retired)
     }
 }
 
-/// Makes room for more leases and slots.
+/// Makes room for more leases and slots, and what the index of folders is to have of the leases.
 fn make_room(
-    leases: &mut Vec<Lease>,
+    alloc: Global,
+    live: &mut LiveLeases,
     retired: &mut Vec<Slot>,
-    more_leases: usize,
+    more: &[Lease],
     more_slots: usize,
-) -> Result<(), AllocError>
-    ensures leases { leases.new.items ≡ leases.old.items }
+) -> Result<Vec<(FolderName, Ticket)>, AllocError>
+    ensures leases { live.new.leases ≡ live.old.leases }
     ensures retired { retired.new.items ≡ retired.old.items }
-    ensures lease_room { OnOk result (vec_len leases.new + more_leases ≤ vec_capacity leases.new) }
+    ensures lease_room { OnOk result (length live.new.leases + length more.now ≤ live.new.lease_room) }
     ensures slot_room { OnOk result (vec_len retired.new + more_slots ≤ vec_capacity retired.new) }
+    ensures entries { IfOk result (λ entries. entries.items ≡ index_entries more.now) }
+    ensures index_room { IfOk result (λ entries. vec_len entries ≤ live.new.index_room) }
+    ensures ask_room { OnOk result (length more.now ≤ live.new.ask_room) }
 {
-    leases.reserve(more_leases)?;
+    let entries = live.room_for(alloc, more)?;
     retired.reserve(more_slots)?;
-    Ok(())
-}
-
-/// The leases that have not ended, and behind them those that were granted, for which there is room.
-fn with_granted(leases: Vec<Lease>, ended: &[Ending], granted: Vec<Lease>) -> Vec<Lease>
-    requires { vec_len leases + vec_len granted ≤ vec_capacity leases }
-    ensures { result.items ≡ filter (λ g. not (has_ended ended.now g)) leases.items ++ granted.items }
-{
-    let mut leases = leases;
-    drop_ended(&mut leases, ended);
-    joined(leases, granted)
+    Ok(entries)
 }
 
 /// The items of both, in the first, which has room for them.

@@ -6,13 +6,14 @@ ghost use Rattle.farm_base.specs.Slots.{slot_cmp};
 ghost use Rattle.farm_base.specs.declared.limits.TheConstants.{INSTANCES};
 ghost use Rattle.farm_base.specs.Wanted.{IsWants};
 ghost use Rattle.protocol.specs.Names.{leased_wants, is_private, only_slot};
-ghost use Rattle.protocol.specs.Ledger.{lowest, slot_for, all_taken, busy, lease_of, lease_under, is_older, is_at};
+ghost use Rattle.protocol.specs.Ledger.{has_slot, lowest, slot_for, all_taken, busy, lease_of, lease_under, is_older, is_at};
 ghost use Rattle.leases.specs.Marks.{Marks};
 ghost use Rattle.leases.specs.Table.{among, is_leased, is_free, fit_of, lease_for, slots_of, takes, holds_some, private_of, all_private};
 
-use super::ending::{Ending, has_ended};
+use super::ending::{Ending, has_ended, standing};
 use super::held::{any_shared, has_only, has_slot, holds_some, is_private, takes};
 use super::lease_table::Fit;
+use super::live_leases::LiveLeases;
 use super::marks::{mark_all, mark_all_standing, mark_leased};
 use super::slots::{add_copies, copy_standing, private_slots, private_slots_of, rising};
 use farm_base::{
@@ -26,7 +27,7 @@ use std::marker::Model;
 #[derive(Drop)]
 pub(crate) struct View<'t> {
     /// The leases of the table.
-    pub(crate) leases: &'t [Lease],
+    pub(crate) live: &'t LiveLeases,
     /// What ended of them.
     pub(crate) ended: &'t [Ending],
     /// The leases that were granted since.
@@ -43,7 +44,7 @@ impl<'t> Model for View<'t> {
 
     ghost Value = { Table };
 
-    ghost view = { λ v. changed (record { live = v.leases.now; retired = v.retired.now }) (record { ended = v.ended.now; granted = v.granted.now; retired = v.newly_retired.now }) };
+    ghost view = { λ v. changed (record { live = v.live.now.leases; retired = v.retired.now }) (record { ended = v.ended.now; granted = v.granted.now; retired = v.newly_retired.now }) };
 }
 
 /// The number of marks for a folder's instances.
@@ -54,7 +55,7 @@ impl<'t> View<'t> {
     fn mark_taken(&self, marks: &mut [bool], folder: &FolderName)
         ensures { Marks marks.old marks.new folder.now (λ s. not (is_free self.now s)) }
     {
-        mark_all_standing(marks, folder, self.leases, self.ended);
+        mark_all_standing(marks, folder, self.live.as_slice(), self.ended);
         mark_leased(marks, folder, self.granted);
         mark_all(marks, folder, self.retired);
         mark_all(marks, folder, self.newly_retired);
@@ -89,11 +90,18 @@ impl<'t> View<'t> {
     fn has_only_slot(&self, folder: &FolderName) -> bool
         ensures { result ≡ is_leased self.now (only_slot folder.now) }
     {
-        self.leases
-            .iter()
-            .filter(|lease| !has_ended(self.ended, lease))
-            .chain(self.granted.iter())
-            .any(|lease| has_only(lease.slots.as_slice(), folder))
+        self.holding(folder).is_some()
+    }
+
+    /// The lease that has the one slot of a folder.
+    fn holding(&self, folder: &FolderName) -> Option<&'t Lease>
+        ensures { option_copied result ≡ find (λ g. has_slot g.slots (only_slot folder.now)) self.now.live }
+    {
+        standing(self.live.holding(folder), self.ended).or(
+            self.granted
+                .iter()
+                .find(|lease| has_only(lease.slots.as_slice(), folder)),
+        )
     }
 
     /// Whether the one slot of another folder is leased.
@@ -122,7 +130,8 @@ impl<'t> View<'t> {
     pub(crate) fn is_leased(&self, slot: &Slot) -> bool
         ensures { result ≡ is_leased self.now slot.now }
     {
-        self.leases
+        self.live
+            .as_slice()
             .iter()
             .filter(|lease| !has_ended(self.ended, lease))
             .chain(self.granted.iter())
@@ -133,18 +142,29 @@ impl<'t> View<'t> {
     pub(crate) fn lease(&self, ticket: Ticket) -> Option<&'t Lease>
         ensures { option_copied result ≡ lease_under self.now.live ticket }
     {
-        self.leases
-            .iter()
-            .filter(|lease| !has_ended(self.ended, lease))
-            .chain(self.granted.iter())
-            .find(|lease| lease.ticket == ticket)
+        standing(self.live.under(ticket), self.ended).or(
+            self.granted.iter().find(|lease| lease.ticket == ticket),
+        )
     }
 
     /// The lease of an ask.
     pub(crate) fn lease_of(&self, node: NodeId, life: Life, ask: Ask) -> Option<&'t Lease>
         ensures { option_copied result ≡ lease_of self.now.live node life ask }
     {
-        self.leases
+        if !self.live.may_have(node, life, ask) {
+            return self.granted.iter().find(|lease| lease.node == node
+                && lease.life == life
+                && lease.ask == ask);
+        }
+        self.among_all(node, life, ask)
+    }
+
+    /// The lease of an ask, looked for among all.
+    fn among_all(&self, node: NodeId, life: Life, ask: Ask) -> Option<&'t Lease>
+        ensures { option_copied result ≡ lease_of self.now.live node life ask }
+    {
+        self.live
+            .as_slice()
             .iter()
             .filter(|lease| !has_ended(self.ended, lease))
             .chain(self.granted.iter())
@@ -161,7 +181,8 @@ impl<'t> View<'t> {
     fn first_with(&self, wants: &[Want], tenure: bool) -> Option<&'t Lease>
         ensures { option_copied result ≡ find (holds_some (filter (takes tenure) wants.now)) self.now.live }
     {
-        self.leases
+        self.live
+            .as_slice()
             .iter()
             .filter(|lease| !has_ended(self.ended, lease))
             .chain(self.granted.iter())
@@ -172,7 +193,8 @@ impl<'t> View<'t> {
     pub(crate) fn has_lease_of(&self, node: NodeId) -> bool
         ensures { result ≡ list_any (is_at node) self.now.live }
     {
-        self.leases
+        self.live
+            .as_slice()
             .iter()
             .filter(|lease| !has_ended(self.ended, lease))
             .chain(self.granted.iter())
@@ -183,7 +205,8 @@ impl<'t> View<'t> {
     pub(crate) fn has_tenure_of(&self, node: NodeId) -> bool
         ensures { result ≡ list_any (λ g. is_at node g && g.tenure) self.now.live }
     {
-        self.leases
+        self.live
+            .as_slice()
             .iter()
             .filter(|lease| !has_ended(self.ended, lease))
             .chain(self.granted.iter())
@@ -194,7 +217,8 @@ impl<'t> View<'t> {
     pub(crate) fn has_lease_below(&self, node: NodeId, life: Life) -> bool
         ensures { result ≡ list_any (is_older node life) self.now.live }
     {
-        self.leases
+        self.live
+            .as_slice()
             .iter()
             .filter(|lease| !has_ended(self.ended, lease))
             .chain(self.granted.iter())
@@ -281,7 +305,7 @@ impl<'t> View<'t> {
     pub(crate) fn private_at(&self, alloc: Global, node: NodeId) -> Result<Vec<Slot>, AllocError>
         ensures { IfOk result (λ slots. slots.items ≡ all_private (filter (is_at node) self.now.live)) }
     {
-        let mut private = private_slots_of(alloc, self.leases, self.ended, node)?;
+        let mut private = private_slots_of(alloc, self.live.as_slice(), self.ended, node)?;
         let mut granted = private_slots_of(alloc, self.granted, &[], node)?;
         private.append(&mut granted)?;
         Ok(private)
@@ -293,7 +317,7 @@ impl<'t> View<'t> {
         ensures rising { IfOk result (λ parts. IsStrictlySortedBy slot_cmp parts.1.items) }
         ensures retired { IfOk result (λ parts. among parts.1.items ≡ among self.now.retired) }
     {
-        let mut leases = copy_standing(alloc, self.leases, self.ended)?;
+        let mut leases = copy_standing(alloc, self.live.as_slice(), self.ended)?;
         add_copies(alloc, &mut leases, self.granted)?;
         let mut retired = copy_all(alloc, self.retired)?;
         add_copies(alloc, &mut retired, self.newly_retired)?;

@@ -3,3 +3,4 @@ pub mod LineWords
 pub mod Ordered
 pub mod Pushing
 pub mod Again
+pub mod Searching

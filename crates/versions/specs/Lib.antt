@@ -2,3 +2,4 @@ pub mod Additions
 pub mod Line
 pub mod Lines
 pub mod Ordered
+pub mod Probes

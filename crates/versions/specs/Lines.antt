@@ -1,5 +1,5 @@
 -- The lines of slots, and what contracts see of what a commit adds to them.
-use Rattle.std.specs.Prelude.{ℕ, if◌then◌else◌, List, [], ◌∷◌, ◌++◌, map, Option, Some, None}
+use Rattle.std.specs.Prelude.{ℕ, ◌+◌, if◌then◌else◌, List, [], ◌∷◌, ◌++◌, length, map, Option, Some, None}
 use Rattle.std.specs.Vec.{vec_len}
 use Rattle.protocol.specs.Names.{Slot, slot_eq}
 use Rattle.protocol.specs.Machine.{LineVersion, News, digest_for, version_of}
@@ -29,7 +29,7 @@ abbrev pub lines_with : List SlotLine → Option Added → LineOf
 lines_with lines None s = line_at lines s
 lines_with lines (Some a) s = line_at lines s ++ version_of a.ticket (digest_for s (map news_of a.additions.items))
 
--- how many lines a commit adds to
-abbrev pub added_count : Option Added → ℕ
-added_count None = 0
-added_count (Some a) = vec_len a.additions
+-- how many lines there has to be room for: none where nothing is added
+abbrev pub room_needed : List SlotLine → Option Added → ℕ
+room_needed lines None = 0
+room_needed lines (Some a) = length lines + vec_len a.additions

@@ -3,6 +3,8 @@
 
 mod line;
 mod lines;
+mod probes;
 
 pub use line::{Line, Room};
 pub use lines::{Added, Addition, Lines, SlotLine, additions, all_stand, confirmed, granted_slots};
+pub use probes::{LineProbes, Probed, search};

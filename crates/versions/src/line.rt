@@ -2,6 +2,7 @@ ghost use Rattle.std.specs.Prelude.{◌≡◌, ◌≢◌, ℕ, ◌<◌, ◌^◌,
 ghost use Rattle.std.specs.Vec.{vec_capacity};
 ghost use Rattle.versions.specs.Line.{IsLine, is_above_all, version_in, ticket_in, digest_in, number_in};
 
+use super::probes::{LineProbes, search};
 use farm_base::{Copied, Digest, LineVersion, Ticket};
 use std::alloc::{AllocError, Global};
 use std::marker::Model;
@@ -85,10 +86,7 @@ impl Line {
         ensures found { IfSome result (λ number. ticket_in self.now number ≡ Some ticket) }
         ensures only { IfNone result ((number : ℕ) → ticket_in self.now number ≢ Some ticket) }
     {
-        let search = self
-            .versions
-            .binary_search_by_key(&ticket, |version| version.ticket);
-        Some(search.ok()? as u64 + 1)
+        search(&mut LineProbes::of(self), ticket)
     }
 
     /// Whether each ticket on the line is below this one.

@@ -1,5 +1,5 @@
 //! The lines of slots, and what a commit adds to them.
-ghost use Rattle.std.specs.Prelude.{◌≡◌, ◌≢◌, not, ℕ, ◌<◌, ◌≤◌, ◌^◌, [], map, length, All, IfOk, OnOk, ◌∷◌, IfSome, MatchResult, unwrap_or, option_copied, is_some, vec_len, ◌+◌, Some};
+ghost use Rattle.std.specs.Prelude.{◌≡◌, ◌≢◌, not, ℕ, ◌<◌, ◌≤◌, ◌^◌, [], map, length, All, IfOk, IsOk, OnOk, ◌∷◌, IfSome, IfNone, MatchResult, unwrap_or, option_copied, is_some, vec_len, ◌+◌, Some};
 ghost use Rattle.std.specs.List.{list_any};
 ghost use Rattle.std.specs.List.Sorted.{IsStrictlySortedBy};
 ghost use Rattle.std.specs.Vec.{vec_capacity};
@@ -13,7 +13,7 @@ ghost use Rattle.versions.specs.Lines.{line_at};
 ghost use Rattle.versions.specs.Additions.{HasRoom, IsAbove, AreReady, IsReady, adds, IsInserted};
 ghost use Rattle.versions.specs.Line.{is_above_all};
 ghost use Rattle.versions.specs.Ordered.{AreLines, IsPlace, IsGap, slots};
-ghost use Rattle.versions.specs.Lines.{lines_with, news_of, added_count};
+ghost use Rattle.versions.specs.Lines.{lines_with, news_of, room_needed};
 
 use super::line::{Line, Room};
 use farm_base::{
@@ -145,18 +145,19 @@ impl Lines {
         Ok(slots)
     }
 
-    /// Room for the lines and what a commit adds.
+    /// Room for the lines and what a commit adds, and none where nothing is added, which takes no memory.
     pub fn room_to_add(
         &self,
         alloc: Global,
         added: &Option<Added>,
     ) -> Result<Vec<SlotLine>, AllocError>
         ensures empty { IfOk result (λ room. room.items ≡ []) }
-        ensures larger { IfOk result (λ room. length self.now + added_count added.now ≤ vec_capacity room) }
+        ensures nothing { IfNone added.now (IsOk result) }
+        ensures larger { IfOk result (λ room. room_needed self.now added.now ≤ vec_capacity room) }
     {
         let lines = self.lines.as_slice();
         match added {
-            None => Vec::with_capacity(alloc, lines.len()),
+            None => Ok(Vec::new(alloc)),
             Some(added) => Vec::with_capacity(alloc, 2 * lines.len() + added.additions.len()),
         }
     }
@@ -191,7 +192,7 @@ impl Lines {
     /// Adds what a commit adds, if it adds anything, in the room that was made for it.
     pub fn add_to(&mut self, added: Option<Added>, room: Vec<SlotLine>)
         requires empty { room.items ≡ [] }
-        requires larger { length self.old + added_count added ≤ vec_capacity room }
+        requires larger { room_needed self.old added ≤ vec_capacity room }
         requires ready { IsReady self.old added }
         ensures { line_at self.new ≡ lines_with self.old added }
     {

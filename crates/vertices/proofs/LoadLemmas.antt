@@ -27,7 +27,7 @@ use Rattle.opsproto.specs.declared.refusal.OpRefusal.{OpRefusal}
 use Rattle.opsproto.specs.declared.input.Input.{Input}
 use Rattle.opsproto.specs.Scalars.{Text}
 use Rattle.vertices.specs.Loading.{GraphParts, IsGraph, IsGraphOf, front, last_of, GraphCheck, VerticesCheck, DefinitionCheck, digest_in, digests_in, vertex_at, AreVertices, ReadCheck, ReadChecks}
-use Rattle.vertices.specs.Loaded.{IsLoaded, vertices_in}
+use Rattle.vertices.specs.Loaded.{IsLoaded, IsReadTo, vertices_in}
 use Rattle.vertices.proofs.TableLemmas.{first_once}
 
 -- ---- checks of entries by place
@@ -142,6 +142,16 @@ vertices_front entries count table h =
     let most = length-take count entries in
     let less : p < count = omega (arith, within, len, most) in
     ap (λ (b : List ℕ). let v : Vertex = record { place = p; digest = digest_in b; op = op_in b } in v) (sym (get_or-take count entries p [] less)))
+
+-- what the entries in front of a place leave, if no more are to be read
+pub loaded_of : (place : ℕ) (loading : Loading) → IsReadTo place loading → IsLoaded (take place loading.entries) loading
+loaded_of place loading h = record {
+  table = h.table;
+  vertices = h.vertices ∙ vertices_front loading.entries place loading.table h.table;
+  digests = h.digests;
+  sources = h.sources;
+  asked = h.asked;
+}
 
 -- the digests are digests
 pub digests_more : (digests : List Digest) (x : Digest) → ((d : Digest) → Contains digests d → IsDigest d) → IsDigest x

@@ -1,5 +1,5 @@
 -- What holds once the entries of a definition are read (this project's own).
-use Rattle.std.specs.Prelude.{◌≡◌, ℕ, List, map}
+use Rattle.std.specs.Prelude.{◌≡◌, ℕ, List, map, take}
 use Rattle.std.specs.List.{AllByRecursion, AllZip, Contains}
 use Rattle.farm_base.specs.declared.digest.Digest.{Digest}
 use Rattle.farm_base.specs.Digests.{IsDigest}
@@ -19,5 +19,13 @@ pub record IsLoaded (entries : List (List ℕ)) (loading : Loading) : Type 0 whe
   pub table : IsTable (digests_in entries) loading.table
   pub vertices : vertices_in loading ≡ map (vertex_at entries) loading.table.places.items
   pub digests : (digest : Digest) → Contains (digests_in entries) digest → IsDigest digest
+  pub sources : AllByRecursion (IsSource loading.entries) loading.sources.items
+  pub asked : AllZip Asks (vertices_in loading) loading.asked.items
+
+-- the same while they are read, once those in front of this place are
+pub record IsReadTo (place : ℕ) (loading : Loading) : Type 0 where
+  pub table : IsTable (digests_in (take place loading.entries)) loading.table
+  pub vertices : vertices_in loading ≡ map (vertex_at loading.entries) loading.table.places.items
+  pub digests : (digest : Digest) → Contains (digests_in (take place loading.entries)) digest → IsDigest digest
   pub sources : AllByRecursion (IsSource loading.entries) loading.sources.items
   pub asked : AllZip Asks (vertices_in loading) loading.asked.items

@@ -1,7 +1,7 @@
-ghost use Rattle.std.specs.Prelude.{◌≡◌, ◌≤◌, ℕ, List, length, take, IfOk, IfSome, slice_get};
+ghost use Rattle.std.specs.Prelude.{◌≡◌, ◌≤◌, ◌<◌, ◌+◌, ℕ, List, length, take, IfOk, OnOk, IfSome, Some, slice_get};
 ghost use Rattle.vertices.specs.Outcomes.{Meets};
 ghost use Rattle.vertices.specs.Edges.{Numbers, IsEdge};
-ghost use Rattle.vertices.specs.Loading.{ReadChecks, GraphCheck, DefinitionCheck, IsGraph, IsGraphOf};
+ghost use Rattle.vertices.specs.Loading.{ReadCheck, ReadChecks, GraphCheck, DefinitionCheck, IsGraph, IsGraphOf};
 
 use super::building::{all_edges, edge_order};
 use super::edges::edge_of;
@@ -13,7 +13,7 @@ use super::unresolved::{Asked, Named};
 use super::vertex::Source;
 use opsproto::{Definition, Input};
 use protowire::BodyList;
-use std::alloc::Global;
+use std::alloc::{AllocError, Global};
 
 /// The vertices of some entries, with the table of their digests and what is to be checked of them.
 #[derive(Drop)]
@@ -26,7 +26,43 @@ pub(crate) struct Loading {
 
 impl Loading {
     ghost use Rattle.farm_base.specs.declared.digest.Digest.{Digest};
-    ghost use Rattle.vertices.specs.Loaded.{IsLoaded, vertices_in};
+    ghost use Rattle.vertices.specs.Loaded.{IsLoaded, IsReadTo, vertices_in};
+
+    /// None of the entries read yet, with room for the vertices of `count` of them.
+    fn with_room(alloc: Global, entries: BodyList, count: usize) -> Result<Self, AllocError>
+        ensures entries { IfOk result (λ loading. loading.entries ≡ entries) }
+        ensures read { IfOk result (IsReadTo 0) }
+    {
+        Ok(Loading {
+            entries,
+            table: Table::with_room(alloc, count)?,
+            sources: Vec::with_capacity(alloc, count)?,
+            asked: Vec::with_capacity(alloc, count)?,
+        })
+    }
+
+    /// Reads the entry at the next place, and makes a vertex of it where its digest is new.
+    fn read(&mut self, alloc: Global, place: usize) -> Result<(), LoadRefusal>
+        requires place { place < length self.old.entries }
+        requires read { IsReadTo place self.old }
+        ensures check { (entry : List ℕ) → slice_get self.old.entries place ≡ Some entry → Meets (ReadCheck place entry) result }
+        ensures entries { self.new.entries ≡ self.old.entries }
+        ensures read { OnOk result (IsReadTo (place + 1) self.new) }
+    {
+        let entry = self.entries.body(place);
+        let op = read_entry(alloc, place, entry)?;
+        let digest = digest_of(entry);
+        if self.table.add(place, digest)? {
+            let stripped = digest_of(op.stripped());
+            self.sources.push(Source {
+                place,
+                digest,
+                stripped,
+            })?;
+            self.asked.push(Asked::of(alloc, place, &op)?)?;
+        }
+        Ok(())
+    }
 
     /// Reads the first `count` entries, and makes a vertex of the first one of each digest.
     pub(crate) fn of(alloc: Global, entries: BodyList, count: usize) -> Result<Self, LoadRefusal>
@@ -35,29 +71,11 @@ impl Loading {
         ensures entries { IfOk result (λ loading. loading.entries ≡ entries) }
         ensures loaded { IfOk result (IsLoaded (take count entries)) }
     {
-        let mut table = Table::with_room(alloc, count)?;
-        let mut sources = Vec::with_capacity(alloc, count)?;
-        let mut asked = Vec::with_capacity(alloc, count)?;
+        let mut loading = Loading::with_room(alloc, entries, count)?;
         for place in 0..count {
-            let entry = entries.body(place);
-            let op = read_entry(alloc, place, entry)?;
-            let digest = digest_of(entry);
-            if table.add(place, digest)? {
-                let stripped = digest_of(op.stripped());
-                sources.push(Source {
-                    place,
-                    digest,
-                    stripped,
-                })?;
-                asked.push(Asked::of(alloc, place, &op)?)?;
-            }
+            loading.read(alloc, place)?;
         }
-        Ok(Loading {
-            entries,
-            table,
-            sources,
-            asked,
-        })
+        Ok(loading)
     }
 
     /// The graph of the vertices. The first of these inputs, those of the last entry, names its result.

@@ -4,7 +4,7 @@ use Rattle.saverecord.specs.Ledgers.{ledger_of}
 use Rattle.saverecord.specs.Logs.{ledger_in, saved_by}
 use Rattle.coordinator.proofs.coordinator.load.Goals as goal
 
-pub returns-in-Ok-read-clause-answer : goal.returns-in-Ok-read-clause-answer
-returns-in-Ok-read-clause-answer g c =
+pub returns-in-Ok-of-clause-answer : goal.returns-in-Ok-of-clause-answer
+returns-in-Ok-of-clause-answer g c =
     let read : ledger_in (g.K.Keeper.kept c.args.keeper.now) ≡ Ok (ledger_of c.in-Ok-read.read) = ap ledger_in (sym c.in-Ok.ensures.texts) ∙ c.in-Ok-read.ensures.exact in
-    (c.in-Ok.ensures.exact, (_, record { kept = ledger_of c.in-Ok-read.read; read = read; saved = refl }), c.of-in-Ok-read.ensures ∙ ap reads (sym (ap saved_by read)))
+    (c.in-Ok.ensures.exact, (_, record { kept = ledger_of c.in-Ok-read.read; read = read; saved = refl }), c.in-Ok-of.ensures ∙ ap reads (sym (ap saved_by read)))

@@ -1,4 +1,4 @@
-use Rattle.std.proofs.Common.{◌≡◌, subst}
+use Rattle.std.proofs.Common.{subst}
 use Rattle.protocol.proofs.Base.{front_trans}
 use Rattle.coordinator.specs.Promises.{OnlyGrow}
 use Rattle.coordinator.specs.Shown.{LineOf}

@@ -1,7 +1,8 @@
-use Rattle.std.proofs.Common.{◌≡◌, false, List, ap, sym, ◌∙◌}
+use Rattle.std.proofs.Common.{◌≡◌, false, ap, sym, ◌∙◌}
 use Rattle.protocol.specs.Farm.{farm_limits}
 use Rattle.protocol.specs.Machine.{Parked}
 use Rattle.protocol.specs.Ledger.{Work, decision, decided, lease_of, is_parked}
+use Rattle.coordinator.specs.Keeps.{held}
 use Rattle.coordinator.specs.Shown.{LineOf, shown, lines_with}
 use Rattle.coordinator.proofs.Trying.{acquiring-decides}
 use Rattle.coordinator.proofs.draft.Draft.acquire.Goals as goal
@@ -9,11 +10,11 @@ use Rattle.coordinator.proofs.draft.Draft.acquire.Goals as goal
 pub returns : goal.returns
 returns c =
     let p : Parked = c.args.p in
-    let line : LineOf = lines_with c.args.lines.now c.args.added.now in
-    let w : Work = shown line c.args.self.now in
-    let same : shown line c.grant_again.new.self ≡ w = rw c.if-branch.false at c.in_ok-grant_again.ensures.work in
+    let line : LineOf = lines_with c.args.base.now.lines c.args.added.now in
+    let w : Work = shown line (held c.args.base.now) c.args.self.now in
+    let same : shown line (held c.args.base.now) c.grant_again.new.self ≡ w = rw c.if-branch.false at c.in_ok-grant_again.ensures.work in
     let parked : is_parked w.ledger.parked p.node p.life p.ask ≡ false =
-    ap (λ (x : Work). is_parked x.ledger.parked p.node p.life p.ask) (sym same) ∙ ap (λ (x : List Parked). is_parked x p.node p.life p.ask) (sym c.as_slice.ensures.value) ∙ sym c.is_parked.ensures ∙ c.if-is_parked.false in
+    ap (λ (x : Work). is_parked x.ledger.parked p.node p.life p.ask) (sym same) ∙ sym c.waits.ensures ∙ c.if-waits.false in
     c.in_ok-decide.ensures
     ∙ ap (λ (x : Work). decided (decision farm_limits x.ledger p) farm_limits p x) same
     ∙ sym (acquiring-decides farm_limits (lease_of w.ledger.live p.node p.life p.ask) (is_parked w.ledger.parked p.node p.life p.ask) p w (sym c.in_ok-grant_again.ensures.found ∙ c.if-branch.false) parked)

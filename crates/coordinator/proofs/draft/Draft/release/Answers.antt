@@ -1,6 +1,7 @@
 use Rattle.std.proofs.Common.{◌≡◌, true, ap, sym, ◌∙◌, subst}
 use Rattle.protocol.specs.Farm.{farm_limits}
 use Rattle.protocol.specs.declared.answer.CoordNote.TheVariants as note
+use Rattle.coordinator.specs.Keeps.{held}
 use Rattle.coordinator.specs.Held.{line_at}
 use Rattle.coordinator.specs.Shown.{LineOf, shown}
 use Rattle.coordinator.specs.Sound.{IsSound}
@@ -9,19 +10,19 @@ use Rattle.coordinator.proofs.Trying.{may_release-some, released-is, ended-is}
 use Rattle.coordinator.proofs.SoundWords.{sound-ends}
 use Rattle.coordinator.proofs.draft.Draft.release.Goals as goal
 
-pub retry-requires : goal.retry-requires
-retry-requires c =
-    let line : LineOf = line_at c.args.lines.now in
-    let w : Work = shown line c.args.self.now in
+pub retry-requires-clause-sound : goal.retry-requires-clause-sound
+retry-requires-clause-sound c =
+    let line : LineOf = line_at c.args.base.now.lines in
+    let w : Work = shown line (held c.args.base.now) c.args.self.now in
     let r = may_release-some c.args.node c.args.life (lease_under w.ledger.live c.args.ticket) (sym c.may_release.ensures ∙ c.if-not-may_release.false) in
     let P : Work → Type 0 = λ w. IsSound w.ledger in
-    subst P (sym (c.end.ensures line ∙ ended-is c.args.ticket w r.0 r.1)) (sound-ends r.0 w c.requires)
+    subst P (sym (c.in_ok-end.ensures line ∙ ended-is c.args.ticket w r.0 r.1)) (sound-ends r.0 w c.requires.sound)
 
 pub returns : goal.returns
 returns c =
-    let line : LineOf = line_at c.args.lines.now in
-    let w : Work = shown line c.args.self.now in
+    let line : LineOf = line_at c.args.base.now.lines in
+    let w : Work = shown line (held c.args.base.now) c.args.self.now in
     let may : may_release c.args.node c.args.life (lease_under w.ledger.live c.args.ticket) ≡ true = sym c.may_release.ensures ∙ c.if-not-may_release.false in
     let r = may_release-some c.args.node c.args.life (lease_under w.ledger.live c.args.ticket) may in
-    ap (λ (x : Work). notes (note.Released c.args.ticket) x) (c.in_ok-retry.ensures ∙ ap (retried farm_limits) (c.end.ensures line ∙ ended-is c.args.ticket w r.0 r.1))
+    ap (λ (x : Work). notes (note.Released c.args.ticket) x) (c.in_ok-retry.ensures ∙ ap (retried farm_limits) (c.in_ok-end.ensures line ∙ ended-is c.args.ticket w r.0 r.1))
     ∙ sym (released-is farm_limits (may_release c.args.node c.args.life (lease_under w.ledger.live c.args.ticket)) c.args.ticket (lease_under w.ledger.live c.args.ticket) r.0 w may r.1)

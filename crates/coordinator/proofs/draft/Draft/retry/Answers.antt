@@ -1,47 +1,58 @@
-use Rattle.std.proofs.Common.{◌≡◌, ◌+◌, ◌<◌, length, ◌++◌, ◌∷◌, [], List, drop, ap, sym, ◌∙◌, subst, arith, append-nil}
-use Rattle.std.proofs.lemmas.Grind.{common_steps}
-use Rattle.protocol.specs.Farm.{farm_limits}
-use Rattle.leases.proofs.MarkLemmas.{drop-item}
-use Rattle.protocol.specs.Machine.{Parked}
-use Rattle.protocol.specs.Ledger.{Work, parks, try_all, waiting, tried}
-use Rattle.coordinator.specs.Shown.{LineOf, shown, lines_with}
-use Rattle.coordinator.specs.Sound.{IsSound}
-use Rattle.coordinator.proofs.Trying.{waiting-next, retried-from}
-use Rattle.coordinator.proofs.SoundWords.{sound-tried}
-use Rattle.coordinator.proofs.draft.Draft.retry.Goals as goal
+use Rattle.std.proofs.Common.{◌≡◌, ◌++◌, [], Bool, List, length, refl, ap, sym, ◌∙◌, subst, append-nil}
+use Rattle.std.proofs.Math.Seq.{drop-append_seam}
+use Rattle.std.proofs.lemmas.List.Elements.{All-drop}
+use Rattle.std.specs.Prelude.{All}
 use Rattle.farm_base.specs.Wanted.{IsWants}
+use Rattle.protocol.specs.Farm.{farm_limits}
+use Rattle.protocol.specs.Machine.{Parked}
+use Rattle.protocol.specs.Ledger.{Work, parks, try_all, waiting}
+use Rattle.coordinator.specs.Keeps.{held}
+use Rattle.coordinator.specs.Shown.{LineOf, shown, lines_with}
+use Rattle.coordinator.specs.Waiting.{still_waiting, waits_after}
+use Rattle.coordinator.specs.declared.parked_change.ParkedChange.{ParkedChange}
+use Rattle.coordinator.proofs.SoundWords.{sound-parks}
+use Rattle.coordinator.proofs.WaitingWords.{still-none, retried-split}
+use Rattle.coordinator.proofs.draft.Draft.retry.Goals as goal
 
-pub loop-p-preserved : goal.loop-p-preserved
-loop-p-preserved c =
-    let line : LineOf = lines_with c.args.lines.now c.args.added.now in
-    let items : List Parked = c.deref-p-items.result.now in
-    let i = c.loop-p.p-index in
-    let p : Parked = c.p-item.result in
-    let w : Work = shown line c.loop-p.self in
-    let first : drop i items ≡ p ∷ drop (i + 1) items = drop-item items i p (omega arith) ∙ ap (λ (x : Parked). x ∷ drop (i + 1) items) (sym c.p-item.is) in
-    let done : shown line c.try_ask.new.self ≡ tried farm_limits p w = c.in_ok-waits.ensures.work in
-    let inside : i < length items = omega arith in
-    let P : Work → Type 0 = λ x. IsSound x.ledger in
-    record {
-      work = ap (try_all farm_limits (drop (i + 1) items)) done ∙ ap (λ (ps : List Parked). try_all farm_limits ps w) (sym first) ∙ c.loop-p.invariant.work;
-      waiting = ap (λ (x : Work). c.keep.new.waiting.items ++ waiting farm_limits (drop (i + 1) items) x) done
-          ∙ waiting-next farm_limits p (drop (i + 1) items) w c.loop-p.waiting.items c.keep.new.waiting.items _ c.in_ok-waits.waits c.in_ok-waits.ensures.waits c.in_ok-keep.ensures
-          (ap (λ (ps : List Parked). c.loop-p.waiting.items ++ waiting farm_limits ps w) (sym first) ∙ c.loop-p.invariant.waiting);
-      sound = subst P (sym done) (sound-tried farm_limits p w c.loop-p.invariant.sound (subst (λ (x : Parked). IsWants x.wants) (sym c.p-item.is) (c.loop-p.invariant.asks i p inside)));
-      asks = c.loop-p.invariant.asks;
-    }
+pub try_asks-requires-clause-sound : goal.try_asks-requires-clause-sound
+try_asks-requires-clause-sound c =
+    let parked : List Parked = c.args.base.now.parked.asks.items in
+    let all : waits_after parked c.replace-over.new.dest ≡ parked =
+    ap (λ (d : ParkedChange). waits_after parked d) c.replace-over.ensures.after
+    ∙ ap (λ (ms : List Bool). still_waiting ms parked ++ c.new.result.since.items) c.new.ensures.over
+    ∙ ap (λ (ps : List Parked). still_waiting [] parked ++ ps) c.new.ensures.since
+    ∙ append-nil (still_waiting [] parked) ∙ still-none parked in
+    sound-parks (waits_after parked c.replace-over.new.dest) (shown (lines_with c.args.base.now.lines c.args.added.now) (held c.args.base.now) c.args.self.now) c.requires.sound
+    (subst (All (λ p. IsWants p.wants)) (sym all) c.requires.wants)
+
+pub try_asks-requires-2-clause-wants : goal.try_asks-requires-2-clause-wants
+try_asks-requires-2-clause-wants c =
+    let xs : List Parked = still_waiting c.args.self.now.change.parked.over.items c.args.base.now.parked.asks.items in
+    let ys : List Parked = c.args.self.now.change.parked.since.items in
+    let P : Parked → Type 0 = λ p. IsWants p.wants in
+    let since : All P ys = subst (All P) (drop-append_seam xs ys) (All-drop P (length xs) (xs ++ ys) c.requires.sound.asks) in
+    subst (All P) (sym (c.as_slice-3.ensures.value ∙ ap (λ (d : ParkedChange). d.since.items) c.replace-over.ensures.value)) since
 
 pub returns : goal.returns
 returns c =
-    let line : LineOf = lines_with c.args.lines.now c.args.added.now in
-    let items : List Parked = c.deref-p-items.result.now in
-    let w : Work = shown line c.args.self.now in
-    let last : Work = shown line c.loop-p.self in
-    let none : drop c.loop-p.p-index items ≡ [] = grind (arith, common_steps) in
-    let was : items ≡ w.ledger.parked = c.deref-p-items.ensures.value ∙ ap (λ v. v.items) c.replace-parked.ensures.value in
-    let empty : c.replace-parked.new.dest.items ≡ [] = ap (λ v. v.items) c.replace-parked.ensures.after ∙ c.new.ensures.items in
-    retried-from farm_limits w last c.loop-p.waiting.items
-    (ap (λ (ps : List Parked). try_all farm_limits ps (parks [] w)) (sym was) ∙ ap (λ (ps : List Parked). try_all farm_limits items (parks ps w)) (sym empty)
-    ∙ sym c.loop-p.invariant.work ∙ ap (λ (ps : List Parked). try_all farm_limits ps last) none)
-    (ap (λ (ps : List Parked). waiting farm_limits ps (parks [] w)) (sym was) ∙ ap (λ (ps : List Parked). waiting farm_limits items (parks ps w)) (sym empty)
-    ∙ sym c.loop-p.invariant.waiting ∙ ap (λ (ps : List Parked). c.loop-p.waiting.items ++ waiting farm_limits ps last) none ∙ append-nil c.loop-p.waiting.items)
+    let line : LineOf = lines_with c.args.base.now.lines c.args.added.now in
+    let parked : List Parked = c.args.base.now.parked.asks.items in
+    let w : Work = shown line (held c.args.base.now) c.args.self.now in
+    let mid : Work = shown line (held c.args.base.now) c.try_asks.new.self in
+    let others : List Parked = waits_after parked c.replace-over.new.dest in
+    let xs : List Parked = still_waiting c.args.self.now.change.parked.over.items parked in
+    let ys : List Parked = c.args.self.now.change.parked.since.items in
+    let xs_is : still_waiting c.as_slice-2.result.now c.as_slice.result.now ≡ xs =
+    ap (λ (ms : List Bool). still_waiting ms c.as_slice.result.now) (c.as_slice-2.ensures.value ∙ ap (λ (d : ParkedChange). d.over.items) c.replace-over.ensures.value)
+    ∙ ap (still_waiting c.args.self.now.change.parked.over.items) c.as_slice.ensures.value in
+    let ys_is : still_waiting [] c.as_slice-3.result.now ≡ ys =
+    still-none c.as_slice-3.result.now ∙ c.as_slice-3.ensures.value ∙ ap (λ (d : ParkedChange). d.since.items) c.replace-over.ensures.value in
+    retried-split farm_limits w mid (shown line (held c.args.base.now) c.try_asks-2.new.self) xs ys others
+    (still_waiting c.in_ok-over.over.items parked) c.in_ok-since.since.items refl
+    (c.in_ok-over.ensures.work ∙ ap (λ (ps : List Parked). try_all farm_limits ps (parks others w)) xs_is)
+    (ap (still_waiting c.in_ok-over.over.items) (sym c.as_slice.ensures.value) ∙ c.in_ok-over.ensures.stay ∙ ap (λ (ps : List Parked). waiting farm_limits ps (parks others w)) xs_is)
+    (c.in_ok-over_since.ensures.work ∙ ap (λ (ps : List Parked). try_all farm_limits ps mid) ys_is)
+    (c.in_ok-since.ensures
+    ∙ ap (λ (ms : List Bool). still_waiting ms c.replace-over.result.since.items) c.as_slice-4.ensures.value
+    ∙ ap (still_waiting c.in_ok-over_since.over_since.items) (sym c.as_slice-3.ensures.value)
+    ∙ c.in_ok-over_since.ensures.stay ∙ ap (λ (ps : List Parked). waiting farm_limits ps mid) ys_is)

@@ -1,30 +1,37 @@
-use Rattle.std.proofs.Common.{◌≡◌, List, Ok, ap, sym, ◌∙◌, subst}
+use Rattle.std.proofs.Common.{◌≡◌, Ok, ap, sym, ◌∙◌, subst}
+use Rattle.std.specs.Result.{result_err}
 use Rattle.protocol.specs.Farm.{farm_limits}
-use Rattle.protocol.specs.Ledger.{begin_work, pruned}
-use Rattle.versions.specs.declared.lines.SlotLine.{SlotLine}
+use Rattle.protocol.specs.Ledger.{Work, begin_work, pruned}
 use Rattle.coordinator.specs.Held.{Held, line_at, ledger}
-use Rattle.coordinator.specs.Shown.{kept, shown, lines_with}
+use Rattle.coordinator.specs.Keeps.{held}
+use Rattle.coordinator.specs.Shown.{after, shown, lines_with}
 use Rattle.coordinator.specs.Sound.{IsSound, IsRightful}
 use Rattle.coordinator.proofs.Rightful.{rightful-pruned}
 use Rattle.coordinator.proofs.Recording.{pruned-told}
 use Rattle.coordinator.proofs.ledger.Ledger.pruning.Goals as goal
 
+pub prune-requires-clause-sound : goal.prune-requires-clause-sound
+prune-requires-clause-sound c =
+    let P : Work → Type 0 = λ w. IsSound w.ledger in
+    subst P (sym (c.in_ok-draft.ensures (line_at c.self.inside.state.lines))) c.self.invariant.sound
+
+pub prune-requires-clause-accepted : goal.prune-requires-clause-accepted
+prune-requires-clause-accepted c =
+    ap (λ (w : Work). result_err (pruned farm_limits c.args.slot.now w)) (c.in_ok-draft.ensures (line_at c.self.inside.state.lines))
+    ∙ ap (λ (h : Held). result_err (pruned farm_limits c.args.slot.now (begin_work (ledger h)))) c.self.view_is ∙ c.requires
+
 pub returns-clause-work : goal.returns-clause-work
 returns-clause-work c =
-    let lines : c.self.inside.lines ≡ c.args.self.now.lines = ap (λ (h : Held). h.lines) c.self.view_is in
-    ap (pruned farm_limits c.args.slot.now) (sym (ap (λ (ls : List SlotLine). shown (line_at ls) c.in_ok-draft.draft) lines ∙ c.in_ok-draft.ensures.work))
-    ∙ c.in_ok-added.ensures.work
-    ∙ ap (λ (ls : List SlotLine). Ok (shown (lines_with ls c.in_ok-added.added) c.prune.new.self)) lines
+    subst (λ (h : Held). pruned farm_limits c.args.slot.now (begin_work (ledger h)) ≡ Ok (shown (lines_with h.lines c.in_ok-added.added) h c.prune.new.self)) c.self.view_is
+    (ap (pruned farm_limits c.args.slot.now) (sym (c.in_ok-draft.ensures (line_at c.self.inside.state.lines))) ∙ c.in_ok-added.ensures.work)
 
 pub returns-clause-rightful : goal.returns-clause-rightful
 returns-clause-rightful c =
-    let lines : c.self.inside.lines ≡ c.args.self.now.lines = ap (λ (h : Held). h.lines) c.self.view_is in
-    let work : pruned farm_limits c.args.slot.now (begin_work (ledger c.args.self.now)) ≡ Ok (shown (lines_with c.args.self.now.lines c.in_ok-added.added) c.prune.new.self) =
-    ap (pruned farm_limits c.args.slot.now) (sym (ap (λ (ls : List SlotLine). shown (line_at ls) c.in_ok-draft.draft) lines ∙ c.in_ok-draft.ensures.work))
-    ∙ c.in_ok-added.ensures.work
-    ∙ ap (λ (ls : List SlotLine). Ok (shown (lines_with ls c.in_ok-added.added) c.prune.new.self)) lines in
-    rightful-pruned farm_limits c.args.slot.now (ledger c.args.self.now) (shown (lines_with c.args.self.now.lines c.in_ok-added.added) c.prune.new.self) (subst IsRightful (ap ledger c.self.view_is) c.self.invariant) work
-    (subst (λ (ls : List SlotLine). IsSound (kept (lines_with ls c.in_ok-added.added) c.prune.new.self.state)) lines c.in_ok-added.ensures.sound)
+    let s : Held = held c.self.inside.state in
+    let work : pruned farm_limits c.args.slot.now (begin_work (ledger s)) ≡ Ok (shown (lines_with s.lines c.in_ok-added.added) s c.prune.new.self) =
+    ap (pruned farm_limits c.args.slot.now) (sym (c.in_ok-draft.ensures (line_at s.lines))) ∙ c.in_ok-added.ensures.work in
+    subst (λ (h : Held). IsRightful (after (lines_with h.lines c.in_ok-added.added) h c.prune.new.self.change)) c.self.view_is
+    (rightful-pruned farm_limits c.args.slot.now (ledger s) (shown (lines_with s.lines c.in_ok-added.added) s c.prune.new.self) c.self.invariant work c.in_ok-added.ensures.sound)
 
 pub returns-clause-told : goal.returns-clause-told
 returns-clause-told c = pruned-told c.args.slot.now (ledger c.args.self.now)

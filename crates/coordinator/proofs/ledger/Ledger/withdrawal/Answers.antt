@@ -1,23 +1,40 @@
-use Rattle.std.proofs.Common.{◌≡◌, List, Ok, ap, sym, ◌∙◌, subst}
+use Rattle.std.proofs.Common.{◌≡◌, Ok, ap, sym, ◌∙◌, subst}
+use Rattle.std.specs.Result.{result_err}
 use Rattle.protocol.specs.Farm.{farm_limits}
-use Rattle.protocol.specs.Ledger.{begin_work, withdrawn}
-use Rattle.versions.specs.declared.lines.SlotLine.{SlotLine}
+use Rattle.protocol.specs.Ledger.{Work, begin_work, withdrawn}
 use Rattle.coordinator.specs.Held.{Held, line_at, ledger}
-use Rattle.coordinator.specs.Shown.{kept, shown}
+use Rattle.coordinator.specs.Keeps.{held}
+use Rattle.coordinator.specs.Shown.{after, shown}
 use Rattle.coordinator.specs.Sound.{IsSound, IsRightful}
 use Rattle.coordinator.proofs.Rightful.{rightful-withdrawn}
 use Rattle.coordinator.proofs.Recording.{withdrawn-told}
 use Rattle.coordinator.proofs.ledger.Ledger.withdrawal.Goals as goal
 
+pub withdraw-requires-clause-sound : goal.withdraw-requires-clause-sound
+withdraw-requires-clause-sound c =
+    let P : Work → Type 0 = λ w. IsSound w.ledger in
+    subst P (sym (c.in_ok-draft.ensures (line_at c.self.inside.state.lines))) c.self.invariant.sound
+
+pub withdraw-requires-clause-accepted : goal.withdraw-requires-clause-accepted
+withdraw-requires-clause-accepted c =
+    ap (λ (w : Work). result_err (withdrawn farm_limits c.args.ticket w)) (c.in_ok-draft.ensures (line_at c.self.inside.state.lines))
+    ∙ ap (λ (h : Held). result_err (withdrawn farm_limits c.args.ticket (begin_work (ledger h)))) c.self.view_is ∙ c.requires
+
+pub withdraw-requires-clause-wants : goal.withdraw-requires-clause-wants
+withdraw-requires-clause-wants c = c.self.invariant.sound.asks
+
+pub returns-clause-work : goal.returns-clause-work
+returns-clause-work c =
+    subst (λ (h : Held). withdrawn farm_limits c.args.ticket (begin_work (ledger h)) ≡ Ok (shown (line_at h.lines) h c.withdraw.new.self)) c.self.view_is
+    (ap (withdrawn farm_limits c.args.ticket) (sym (c.in_ok-draft.ensures (line_at c.self.inside.state.lines))) ∙ c.in_ok-withdraw.ensures.work)
+
 pub returns-clause-rightful : goal.returns-clause-rightful
 returns-clause-rightful c =
-    let lines : c.self.inside.lines ≡ c.args.self.now.lines = ap (λ (h : Held). h.lines) c.self.view_is in
-    let work : withdrawn farm_limits c.args.ticket (begin_work (ledger c.args.self.now)) ≡ Ok (shown (line_at c.args.self.now.lines) c.withdraw.new.self) =
-    ap (withdrawn farm_limits c.args.ticket) (sym (ap (λ (ls : List SlotLine). shown (line_at ls) c.in_ok-draft.draft) lines ∙ c.in_ok-draft.ensures.work))
-    ∙ c.in_ok-withdraw.ensures.work
-    ∙ ap (λ (ls : List SlotLine). Ok (shown (line_at ls) c.withdraw.new.self)) lines in
-    rightful-withdrawn farm_limits c.args.ticket (ledger c.args.self.now) (shown (line_at c.args.self.now.lines) c.withdraw.new.self) (subst IsRightful (ap ledger c.self.view_is) c.self.invariant) work
-    (subst (λ (ls : List SlotLine). IsSound (kept (line_at ls) c.withdraw.new.self.state)) lines c.in_ok-withdraw.ensures.sound)
+    let s : Held = held c.self.inside.state in
+    let work : withdrawn farm_limits c.args.ticket (begin_work (ledger s)) ≡ Ok (shown (line_at s.lines) s c.withdraw.new.self) =
+    ap (withdrawn farm_limits c.args.ticket) (sym (c.in_ok-draft.ensures (line_at s.lines))) ∙ c.in_ok-withdraw.ensures.work in
+    subst (λ (h : Held). IsRightful (after (line_at h.lines) h c.withdraw.new.self.change)) c.self.view_is
+    (rightful-withdrawn farm_limits c.args.ticket (ledger s) (shown (line_at s.lines) s c.withdraw.new.self) c.self.invariant work c.in_ok-withdraw.ensures.sound)
 
 pub returns-clause-told : goal.returns-clause-told
 returns-clause-told c = withdrawn-told c.args.ticket (ledger c.args.self.now) (subst IsRightful (ap ledger c.self.view_is) c.self.invariant).sound

@@ -6,5 +6,5 @@ use Rattle.coordinator.specs.Shown.{having_said, kept}
 use Rattle.coordinator.proofs.state.State.remind_all.Given as goal
 
 abbrev pub invariant-loop-lease : goal.invariant-loop-lease
-invariant-loop-lease l = nudge_all farm_limits (drop l.lease-index l.leases) (having_said l.sends.items (kept (line_at l.lines) l.self))
-    ≡ nudge_all farm_limits l.leases (begin_work (kept (line_at l.lines) l.self))
+invariant-loop-lease l = nudge_all farm_limits (drop l.lease-index l.leases) (having_said l.sends.items (kept (line_at l.self.lines) l.self))
+    ≡ nudge_all farm_limits l.leases (begin_work (kept (line_at l.self.lines) l.self))

@@ -5,9 +5,9 @@ use Rattle.leases.proofs.TableLemmas.{leases-push, lease_under-push}
 use Rattle.leases.proofs.lease_table.LeaseTable.grant.Goals as goal
 
 pub add-requires : goal.add-requires
-add-requires c =
+add-requires c sound =
     subst (λ g. AreLeases (c.args.self.now.live ++ g ∷ [])) (sym c.in_ok-lease.ensures.value)
-    (leases-push c.args.self.now c.args.node c.args.life c.args.ask c.args.wants.now c.args.tenure c.args.ticket c.in_ok-lease.ensures.sound c.in_ok-lease.ensures.sorted c.requires.fits c.requires.above)
+    (leases-push c.args.self.now c.args.node c.args.life c.args.ask c.args.wants.now c.args.tenure c.args.ticket sound c.in_ok-lease.ensures.sorted c.requires.fits c.requires.above)
 
 pub returns-clause-found : goal.returns-clause-found
 returns-clause-found c =

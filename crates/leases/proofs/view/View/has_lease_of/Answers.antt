@@ -11,7 +11,7 @@ use Rattle.leases.proofs.view.View.has_lease_of.Goals as goal
 pub returns : goal.returns
 returns c =
     any_from_yields_List (is_at c.args.node) _ _ _ c.any.ensures.ran
-    (YieldsList-from_chain (YieldsList-at c.chain.ensures.first (YieldsList-from_filter _ (λ g. not (has_ended c.self.inside.ended.now g)) (YieldsList-from_slice c.self.inside.leases.now cc) c.filter.ensures.closure (λ x b q k. search (rules, tests))))
+    (YieldsList-from_chain (YieldsList-at c.chain.ensures.first (YieldsList-from_filter _ (λ g. not (has_ended c.self.inside.ended.now g)) (YieldsList-from_slice c.self.inside.live.now.leases cc) c.filter.ensures.closure (λ x b q k. search (rules, tests))))
     (YieldsList-from_slice c.self.inside.granted.now cc) c.chain.ensures.first_done c.chain.ensures.second_done)
     (λ x b q k. search (rules, tests))
     ∙ ap (λ (t : Table). list_any (is_at c.args.node) t.live) c.self.view_is

@@ -1,4 +1,5 @@
 use Rattle.std.proofs.Common.{List, ◌++◌, not, filter, ap, ◌∙◌}
+use Rattle.farm_base.specs.declared.lease.Lease.{Lease}
 use Rattle.protocol.specs.Names.{Slot}
 use Rattle.protocol.specs.Ledger.{is_at}
 use Rattle.leases.specs.Changes.{has_ended}
@@ -11,6 +12,7 @@ pub returns : goal.returns
 returns c =
     c.in_ok-append.ensures.items
     ∙ ap (λ (slots : List Slot). slots ++ c.in_ok-granted.granted.items) c.in_ok-private.ensures
-    ∙ ap (λ (slots : List Slot). all_private (filter (is_at c.args.node) (filter (λ g. not (has_ended c.self.inside.ended.now g)) c.self.inside.leases.now)) ++ slots) c.in_ok-granted.ensures
-    ∙ private_at-both c.args.node (filter (λ g. not (has_ended c.self.inside.ended.now g)) c.self.inside.leases.now) c.self.inside.granted.now
+    ∙ ap (λ (gs : List Lease). all_private (filter (is_at c.args.node) (filter (λ g. not (has_ended c.self.inside.ended.now g)) gs)) ++ c.in_ok-granted.granted.items) c.as_slice.ensures.value
+    ∙ ap (λ (slots : List Slot). all_private (filter (is_at c.args.node) (filter (λ g. not (has_ended c.self.inside.ended.now g)) c.self.inside.live.now.leases)) ++ slots) c.in_ok-granted.ensures
+    ∙ private_at-both c.args.node (filter (λ g. not (has_ended c.self.inside.ended.now g)) c.self.inside.live.now.leases) c.self.inside.granted.now
     ∙ ap (λ (t : Table). all_private (filter (is_at c.args.node) t.live)) c.self.view_is

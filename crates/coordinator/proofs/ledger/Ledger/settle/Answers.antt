@@ -1,0 +1,132 @@
+use Rattle.std.proofs.Common.{◌≡◌, false, Ok, Err, inl, inr, refl, sym, ap, ◌∙◌, subst}
+use Rattle.protocol.specs.Ledger.{Ledger, Work, saves}
+use Rattle.protocol.specs.declared.answer.CoordRefusal.{CoordRefusal}
+use Rattle.protocol.specs.declared.answer.CoordRefusal.TheVariants.{SaveFault, OutOfMemory}
+use Rattle.saverecord.specs.Logs.{Holds}
+use Rattle.coordinator.specs.declared.state.State.{State}
+use Rattle.coordinator.specs.declared.change.Change.{Change}
+use Rattle.coordinator.specs.Held.{Held, line_at, ledger}
+use Rattle.coordinator.specs.Keeps.{held}
+use Rattle.coordinator.specs.Seen.{IsKeeping}
+use Rattle.coordinator.specs.Settling.{Answers, is_save_fault}
+use Rattle.coordinator.specs.Shown.{LineOf, kept, after, shown, lines_with}
+use Rattle.coordinator.specs.Sound.{IsRightful}
+use Rattle.coordinator.specs.Promises.{OnlyGrow}
+use Rattle.coordinator.proofs.Kept.{grows}
+use Rattle.coordinator.proofs.Keeping.{holds_after, saved_ok, saved_not}
+use Rattle.coordinator.proofs.ledger.Ledger.settle.Goals as goal
+
+pub invariant_of-self-in-Ok-save : goal.invariant_of-self-in-Ok-save
+invariant_of-self-in-Ok-save g c =
+    let s : State = c.self.inside.state in
+    let h : Held = c.args.self.now in
+    let change : Change = c.args.prepared.draft.change in
+    let table : c.in-Ok-with_room.table.table ≡ s.table = c.in-Ok-with_room.ensures.table ∙ c.replace-table.ensures.value in
+    let parked : c.room.new.parked.asks.items ≡ s.parked.asks.items = c.in-Ok-room.ensures.parked in
+    let was : held s ≡ h = c.self.view_is in
+    let base : record (held s) { live = c.in-Ok-with_room.table.table.live; retired = c.in-Ok-with_room.table.table.retired; parked = c.room.new.parked.asks.items } ≡ h =
+    (λ j. record (held s) { live = (table j).live; retired = (table j).retired; parked = parked j }) ∙ was in
+    let lines : line_at c.apply.new.state.lines ≡ lines_with h.lines c.args.prepared.added = c.apply.ensures.lines ∙ ap (λ (x : Held). lines_with x.lines c.args.prepared.added) was in
+    let ledger_is : kept (line_at c.apply.new.state.lines) c.apply.new.state ≡ after (lines_with h.lines c.args.prepared.added) h change =
+    c.apply.ensures.ledger (line_at c.apply.new.state.lines) ∙ ap (λ (x : Held). after (line_at c.apply.new.state.lines) x change) base ∙ ap (λ (f : LineOf). after f h change) lines in
+    subst IsRightful (sym ledger_is) c.requires.rightful
+
+pub returns-in-Ok-save-clause-answer : goal.returns-in-Ok-save-clause-answer
+returns-in-Ok-save-clause-answer g c =
+    let s : State = c.self.inside.state in
+    let h : Held = c.args.self.now in
+    let change : Change = c.args.prepared.draft.change in
+    let table : c.in-Ok-with_room.table.table ≡ s.table = c.in-Ok-with_room.ensures.table ∙ c.replace-table.ensures.value in
+    let parked : c.room.new.parked.asks.items ≡ s.parked.asks.items = c.in-Ok-room.ensures.parked in
+    let was : held s ≡ h = c.self.view_is in
+    let base : record (held s) { live = c.in-Ok-with_room.table.table.live; retired = c.in-Ok-with_room.table.table.retired; parked = c.room.new.parked.asks.items } ≡ h =
+    (λ j. record (held s) { live = (table j).live; retired = (table j).retired; parked = parked j }) ∙ was in
+    let lines : line_at c.apply.new.state.lines ≡ lines_with h.lines c.args.prepared.added = c.apply.ensures.lines ∙ ap (λ (x : Held). lines_with x.lines c.args.prepared.added) was in
+    let ledger_is : kept (line_at c.apply.new.state.lines) c.apply.new.state ≡ after (lines_with h.lines c.args.prepared.added) h change =
+    c.apply.ensures.ledger (line_at c.apply.new.state.lines) ∙ ap (λ (x : Held). after (line_at c.apply.new.state.lines) x change) base ∙ ap (λ (f : LineOf). after f h change) lines in
+    let before : Holds (g.K.Keeper.kept c.args.keeper.now) (saves (ledger h)) = subst (Holds (g.K.Keeper.kept c.args.keeper.now)) (c.requires.keeping.up refl) c.requires.keeping.holds in
+    record {
+      saved = saved_ok g.K.Keeper.saving c.in-Ok.to_save c.args.prepared.draft.changed (saves (ledger h)) (saves (after (lines_with h.lines c.args.prepared.added) h change)) (g.K.Keeper.kept c.args.keeper.now) c.args.keeper.now c.save.new.keeper
+          c.in-Ok.ensures.changed c.in-Ok.ensures.text before c.in-Ok-save.ensures.exact (λ e. cc e) (λ e. (c.in-Ok-save.ensures.nothing e).1);
+      ledger = ledger_is;
+      up = refl;
+      sends = c.apply.ensures.sends;
+      note = c.apply.ensures.note;
+    }
+
+pub returns-in-Ok-save-clause-keeping : goal.returns-in-Ok-save-clause-keeping
+returns-in-Ok-save-clause-keeping g c =
+    let s : State = c.self.inside.state in
+    let h : Held = c.args.self.now in
+    let change : Change = c.args.prepared.draft.change in
+    let table : c.in-Ok-with_room.table.table ≡ s.table = c.in-Ok-with_room.ensures.table ∙ c.replace-table.ensures.value in
+    let parked : c.room.new.parked.asks.items ≡ s.parked.asks.items = c.in-Ok-room.ensures.parked in
+    let was : held s ≡ h = c.self.view_is in
+    let base : record (held s) { live = c.in-Ok-with_room.table.table.live; retired = c.in-Ok-with_room.table.table.retired; parked = c.room.new.parked.asks.items } ≡ h =
+    (λ j. record (held s) { live = (table j).live; retired = (table j).retired; parked = parked j }) ∙ was in
+    let lines : line_at c.apply.new.state.lines ≡ lines_with h.lines c.args.prepared.added = c.apply.ensures.lines ∙ ap (λ (x : Held). lines_with x.lines c.args.prepared.added) was in
+    let ledger_is : kept (line_at c.apply.new.state.lines) c.apply.new.state ≡ after (lines_with h.lines c.args.prepared.added) h change =
+    c.apply.ensures.ledger (line_at c.apply.new.state.lines) ∙ ap (λ (x : Held). after (line_at c.apply.new.state.lines) x change) base ∙ ap (λ (f : LineOf). after f h change) lines in
+    let before : Holds (g.K.Keeper.kept c.args.keeper.now) (saves (ledger h)) = subst (Holds (g.K.Keeper.kept c.args.keeper.now)) (c.requires.keeping.up refl) c.requires.keeping.holds in
+    let now : Ledger = after (lines_with h.lines c.args.prepared.added) h change in
+    record {
+      saved = saves now;
+      holds = holds_after c.in-Ok.to_save c.args.prepared.draft.changed (saves (ledger h)) (saves now) (g.K.Keeper.kept c.args.keeper.now) (g.K.Keeper.kept c.save.new.keeper)
+          c.in-Ok.ensures.changed c.in-Ok.ensures.text c.requires.told before c.in-Ok-save.ensures.ok;
+      up = λ d. ap saves (sym ledger_is);
+    }
+
+pub returns-in-Ok-save-clause-grow : goal.returns-in-Ok-save-clause-grow
+returns-in-Ok-save-clause-grow g c =
+    let lines : line_at c.apply.new.state.lines ≡ lines_with c.args.self.now.lines c.args.prepared.added =
+    c.apply.ensures.lines ∙ ap (λ (x : Held). lines_with x.lines c.args.prepared.added) c.self.view_is in
+    subst (λ (f : LineOf). OnlyGrow (line_at c.args.self.now.lines) f) (sym lines) (grows c.args.self.now.lines c.args.prepared.added)
+
+pub returns-in-Err-save-clause-answer : goal.returns-in-Err-save-clause-answer
+returns-in-Err-save-clause-answer g c =
+    let s : State = c.self.inside.state in
+    let h : Held = c.args.self.now in
+    let change : Change = c.args.prepared.draft.change in
+    let table : c.into_table.result ≡ s.table = c.into_table.ensures ∙ c.in-Ok-with_room.ensures.table ∙ c.replace-table.ensures.value in
+    let parked : c.room.new.parked.asks.items ≡ s.parked.asks.items = c.in-Ok-room.ensures.parked in
+    let was : held s ≡ h = c.self.view_is in
+    let now : Held = record (held s) { live = c.into_table.result.live; retired = c.into_table.result.retired; parked = c.room.new.parked.asks.items } in
+    let same : now ≡ h = (λ j. record (held s) { live = (table j).live; retired = (table j).retired; parked = parked j }) ∙ was in
+    let before : Holds (g.K.Keeper.kept c.args.keeper.now) (saves (ledger h)) = subst (Holds (g.K.Keeper.kept c.args.keeper.now)) (c.requires.keeping.up refl) c.requires.keeping.holds in
+    let w : Work = shown (lines_with h.lines c.args.prepared.added) h c.args.prepared.draft in
+    let P : CoordRefusal → Type 0 = λ r. Answers g.K.Keeper.saving (Ok w) (record { held = h; keeper = c.args.keeper.now; down = false }) (record { held = now; keeper = c.save.new.keeper; down = is_save_fault (Err r) }) (Err r) in
+    elim c.in-Err-save.ensures.refusals [
+      | inl e ↦ subst P (sym e)
+          (let failed = saved_not g.K.Keeper.saving c.in-Ok.to_save c.args.prepared.draft.changed (saves (ledger h)) (saves w.ledger) (g.K.Keeper.kept c.args.keeper.now) c.args.keeper.now c.save.new.keeper
+          c.in-Ok.ensures.changed c.in-Ok.ensures.text before c.in-Err-save.ensures.exact (λ f. (let bad : SaveFault ≡ OutOfMemory = sym e ∙ ap (λ r. r) (cc f) in cc bad)) (λ f. (c.in-Err-save.ensures.nothing f).0) in
+          record { changed = failed.0; saved = failed.1; held = same; down = refl })
+      | inr e ↦ subst P (sym e) (refl, (let stays = c.in-Err-save.ensures.same (ap (λ r. Err r) e) in λ j. record { held = same j; keeper = stays j; down = false }))
+    ]
+
+pub returns-in-Err-save-clause-keeping : goal.returns-in-Err-save-clause-keeping
+returns-in-Err-save-clause-keeping g c =
+    let s : State = c.self.inside.state in
+    let h : Held = c.args.self.now in
+    let change : Change = c.args.prepared.draft.change in
+    let table : c.into_table.result ≡ s.table = c.into_table.ensures ∙ c.in-Ok-with_room.ensures.table ∙ c.replace-table.ensures.value in
+    let parked : c.room.new.parked.asks.items ≡ s.parked.asks.items = c.in-Ok-room.ensures.parked in
+    let was : held s ≡ h = c.self.view_is in
+    let now : Held = record (held s) { live = c.into_table.result.live; retired = c.into_table.result.retired; parked = c.room.new.parked.asks.items } in
+    let same : now ≡ h = (λ j. record (held s) { live = (table j).live; retired = (table j).retired; parked = parked j }) ∙ was in
+    let before : Holds (g.K.Keeper.kept c.args.keeper.now) (saves (ledger h)) = subst (Holds (g.K.Keeper.kept c.args.keeper.now)) (c.requires.keeping.up refl) c.requires.keeping.holds in
+    let w : Work = shown (lines_with h.lines c.args.prepared.added) h c.args.prepared.draft in
+    let P : CoordRefusal → Type 0 = λ r. IsKeeping (g.K.Keeper.kept c.save.new.keeper) now (is_save_fault (Err r)) in
+    elim c.in-Err-save.ensures.refusals [
+      | inl e ↦ subst P (sym e) (elim c.in-Err-save.ensures.fault [
+        | inl old ↦ record { saved = c.requires.keeping.saved; holds = subst (λ t. Holds t c.requires.keeping.saved) (sym old) c.requires.keeping.holds; up = λ d. absurd (cc d) }
+        | inr new ↦ record {
+          saved = saves w.ledger;
+          holds = holds_after c.in-Ok.to_save c.args.prepared.draft.changed (saves (ledger h)) (saves w.ledger) (g.K.Keeper.kept c.args.keeper.now) (g.K.Keeper.kept c.save.new.keeper)
+              c.in-Ok.ensures.changed c.in-Ok.ensures.text c.requires.told before new;
+          up = λ d. absurd (cc d);
+        }
+      ])
+      | inr e ↦ subst P (sym e)
+          (let stays = c.in-Err-save.ensures.same (ap (λ r. Err r) e) in
+          subst (λ k. IsKeeping (g.K.Keeper.kept k) now false) (sym stays) (subst (λ (x : Held). IsKeeping (g.K.Keeper.kept c.args.keeper.now) x false) (sym same) c.requires.keeping))
+    ]

@@ -1,0 +1,48 @@
+//! The asks that wait.
+ghost use Rattle.std.specs.Prelude.{◌≡◌, ◌≤◌, [], true, length};
+ghost use Rattle.protocol.specs.Machine.{Parked};
+ghost use Rattle.leases.specs.Newest.{knows, node_room};
+ghost use Rattle.coordinator.specs.Newest.{AreKnown};
+
+use farm_base::{Ask, Life, NodeId, Parked};
+use leases::NewestAsks;
+use std::alloc::Global;
+
+/// The asks that wait, in order of arrival. A node numbers its asks in turn, so nearly each new one is known not to wait
+/// without a look at them.
+#[derive(Debug, Drop)]
+pub struct ParkedAsks {
+    pub asks: Vec<Parked>,
+    pub newest: NewestAsks,
+    ghost known: { AreKnown newest asks.items },
+}
+
+/// Notes that these asks waited.
+pub(crate) fn note_all(newest: &mut NewestAsks, asks: &[Parked])
+    requires { length asks.now ≤ node_room newest.old }
+    ensures known { AreKnown newest.new asks.now }
+    ensures others { (q : Parked) → knows newest.old q.node q.life q.ask ≡ true → knows newest.new q.node q.life q.ask ≡ true }
+{
+    for p in asks {
+        newest.note(p.node, p.life, p.ask);
+    }
+}
+
+impl ParkedAsks {
+    /// No ask waits.
+    pub(crate) fn new(alloc: Global) -> Self
+        ensures { result.asks.items ≡ [] }
+    {
+        ParkedAsks {
+            asks: Vec::new(alloc),
+            newest: NewestAsks::new(alloc),
+        }
+    }
+
+    /// Whether an ask may be among them.
+    pub(crate) fn may_have(&self, node: NodeId, life: Life, ask: Ask) -> bool
+        ensures { result ≡ knows self.now.newest node life ask }
+    {
+        self.newest.may_have(node, life, ask)
+    }
+}

@@ -1,0 +1,113 @@
+-- What is found among leases: by a ticket, and among those that are kept.
+use Rattle.std.proofs.Common.{◌≡◌, ℕ, zero, suc, ◌+◌, ◌<◌, List, [], ◌∷◌, ◌++◌, Bool, true, false, not, eqb, eq-eqb, length, get_or, map, filter, Option, Some, None, is_some, Result, Ok, Err, Bor, refl, sym, ◌∙◌, ap, inl, inr, arith}
+use Rattle.std.proofs.lemmas.Bool.{cases_Bool, ne_eqb, eqb-true}
+use Rattle.std.proofs.lemmas.List.{get_or-map, length-map}
+use Rattle.std.proofs.lemmas.List.Elements.{All-tail}
+use Rattle.std.proofs.lemmas.List.Folds.{find-append}
+use Rattle.std.specs.Prelude.{if◌then◌else◌, All, AllPairs, MatchResult}
+use Rattle.std.specs.List.{find, position_from}
+use Rattle.std.specs.List.Sorted.{IsStrictlyIncreasing}
+use Rattle.std.specs.Option.{option_copied, option_or}
+use Rattle.std.specs.Result.{result_ok}
+use Rattle.farm_base.specs.declared.lease.Lease.{Lease}
+use Rattle.protocol.specs.Names.{Ticket}
+use Rattle.protocol.specs.Ledger.{has_ticket}
+use Rattle.leases.specs.declared.ending.Ending.{Ending}
+use Rattle.leases.specs.Changes.{has_ended, standing}
+use Rattle.leases.specs.Leases.{IsBefore}
+use Rattle.leases.specs.Places.{IsPlace, IsGap}
+use Rattle.leases.proofs.PlaceLemmas.{NoneBelow, none_below_place, none_in_gap}
+use Rattle.leases.proofs.TableLemmas.{AllPairs-head, AllPairs-tail}
+
+-- ---- among those that are kept
+
+-- at most one of them passes the test
+abbrev pub PassesOnce : (Lease → Bool) → List Lease → Type 0
+PassesOnce test live = AllPairs (λ g h. test g ≡ true → test h ≡ false) live
+
+abbrev unless : (Lease → Bool) → Option Lease → Option Lease
+unless gone None = None
+unless gone (Some g) = if gone g then None else Some g
+
+pub none_found : (test gone : Lease → Bool) (live : List Lease) → All (λ g. test g ≡ false) live → find test (filter (λ g. not (gone g)) live) ≡ None
+none_found test gone [] none = refl
+none_found test gone (g ∷ live) none =
+    let here : test g ≡ false = none 0 g (omega arith) in
+    let rest = none_found test gone live (All-tail (λ g. test g ≡ false) g live none) in
+    elim (cases_Bool (gone g)) [ inl e ↦ rw e rest | inr e ↦ rw (e, here) rest ]
+
+found_kept : (test gone : Lease → Bool) (live : List Lease) → PassesOnce test live → unless gone (find test live) ≡ find test (filter (λ g. not (gone g)) live)
+found_kept test gone [] once = refl
+found_kept test gone (g ∷ live) once =
+    let rest = found_kept test gone live (AllPairs-tail (λ g h. test g ≡ true → test h ≡ false) g live once) in
+    elim (cases_Bool (test g)) [
+      | inl t ↦
+          let none = none_found test gone live (λ k d inside. AllPairs-head (λ g h. test g ≡ true → test h ≡ false) g live once k d inside t) in
+          elim (cases_Bool (gone g)) [ inl e ↦ rw (t, e) (sym none) | inr e ↦ rw (t, e, t) refl ]
+      | inr t ↦ elim (cases_Bool (gone g)) [ inl e ↦ rw (t, e) rest | inr e ↦ rw (t, e, t) rest ]
+    ]
+
+standing-unless : (ended : List Ending) (o : Option Lease) → standing ended o ≡ unless (has_ended ended) o
+standing-unless ended None = refl
+standing-unless ended (Some g) = refl
+
+-- what at most one lease of a table passes, looked up in the table with changes
+pub found_over : (test : Lease → Bool) (ended : List Ending) (live granted : List Lease) → PassesOnce test live
+    → option_or (standing ended (find test live)) (find test granted) ≡ find test (filter (λ g. not (has_ended ended g)) live ++ granted)
+found_over test ended live granted once =
+    ap (λ (o : Option Lease). option_or o (find test granted)) (standing-unless ended (find test live) ∙ found_kept test (has_ended ended) live once)
+    ∙ sym (find-append test (filter (λ g. not (has_ended ended g)) live) granted)
+
+pub copied_or : (a b : Option (Bor Lease)) → option_copied (option_or a b) ≡ option_or (option_copied a) (option_copied b)
+copied_or None b = refl
+copied_or (Some x) b = refl
+
+pub is_some-copied : (o : Option (Bor Lease)) → is_some o ≡ is_some (option_copied o)
+is_some-copied None = refl
+is_some-copied (Some x) = refl
+
+-- ---- by a ticket
+
+-- at most one lease has the ticket
+pub ticket_once : (t : Ticket) (live : List Lease) → AllPairs IsBefore live → PassesOnce (has_ticket t) live
+ticket_once t live up i j d lt inside has =
+    let rises = up i j d lt inside in
+    let same = eqb-true (get_or live i d).ticket.0 t.0 has in
+    ne_eqb (get_or live j d).ticket.0 t.0 (λ e. omega arith)
+
+abbrev pub tickets : List Lease → List ℕ
+tickets live = map (λ g. g.ticket.0) live
+
+pub tickets_rise : (live : List Lease) → AllPairs IsBefore live → IsStrictlyIncreasing (tickets live)
+tickets_rise [] up k inside = absurd (omega arith)
+tickets_rise (g ∷ live) up k inside =
+    let len = length-map (g ∷ live) (λ (h : Lease). h.ticket.0) in
+    let this = get_or-map (λ (h : Lease). h.ticket.0) (g ∷ live) k g 0 (omega arith) in
+    let next = get_or-map (λ (h : Lease). h.ticket.0) (g ∷ live) (k + 1) g 0 (omega arith) in
+    let rises = up k (k + 1) g (omega arith) (omega arith) in
+    rw (this, next) rises
+
+position_at : (t : Ticket) (live : List Lease) (from k n : ℕ) → n ≡ from + k → NoneBelow t.0 (tickets live) k → k < length live → get_or (tickets live) k 0 ≡ t.0 → position_from (has_ticket t) from live ≡ Some n
+position_at t [] from k n is none inside at = absurd (omega arith)
+position_at t (g ∷ live) from zero n is none inside at =
+    let here : eqb g.ticket.0 t.0 ≡ true = eq-eqb g.ticket.0 t.0 at in
+    let same : from ≡ n = omega arith in
+    rw here (ap (λ (m : ℕ). Some m) same)
+position_at t (g ∷ live) from (suc k) n is none inside at =
+    let other : eqb g.ticket.0 t.0 ≡ false = ne_eqb g.ticket.0 t.0 (none 0 (omega arith)) in
+    rw other (position_at t live (from + 1) k n (omega arith) (λ i lt. none (suc i) (omega arith)) (omega arith) at)
+
+no_position : (t : Ticket) (live : List Lease) (from : ℕ) → NoneBelow t.0 (tickets live) (length (tickets live)) → position_from (has_ticket t) from live ≡ None
+no_position t [] from none = refl
+no_position t (g ∷ live) from none =
+    let other : eqb g.ticket.0 t.0 ≡ false = ne_eqb g.ticket.0 t.0 (none 0 (omega arith)) in
+    rw other (no_position t live (from + 1) (λ i lt. none (suc i) (omega arith)))
+
+-- what a search for a ticket says
+pub position_searched : (t : Ticket) (live : List Lease) (r : Result ℕ ℕ) → AllPairs IsBefore live → MatchResult r (IsPlace t.0 (tickets live)) (IsGap t.0 (tickets live))
+    → result_ok r ≡ position_from (has_ticket t) 0 live
+position_searched t live (Ok k) up place =
+    let len = length-map live (λ (g : Lease). g.ticket.0) in
+    let inside = place.inside in
+    sym (position_at t live 0 k k (omega arith) (none_below_place t.0 (tickets live) k (tickets_rise live up) place) (omega arith) place.number)
+position_searched t live (Err k) up gap = sym (no_position t live 0 (none_in_gap t.0 (tickets live) k gap))

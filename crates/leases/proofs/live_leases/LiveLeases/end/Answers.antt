@@ -1,0 +1,51 @@
+use Rattle.std.proofs.Common.{◌≡◌, List, Some, not, ap, subst, sym, ◌∙◌, length, arith}
+use Rattle.std.specs.Prelude.{AllPairs}
+use Rattle.std.specs.List.{find, position_from}
+use Rattle.farm_base.specs.declared.lease.Lease.{Lease}
+use Rattle.protocol.specs.Ledger.{has_ticket, without}
+use Rattle.leases.specs.Index.{ticket_at, AreIndexed}
+use Rattle.leases.specs.Leases.{AreLeases, IsBefore}
+use Rattle.leases.specs.Newest.{AreNoted}
+use Rattle.leases.proofs.IndexLemmas.{indexed-ended}
+use Rattle.leases.proofs.NewestLemmas.{noted-filter}
+use Rattle.leases.proofs.TableLemmas.{StandsAt, stands, missing, leases-filter}
+use Rattle.leases.proofs.live_leases.LiveLeases.end.Goals as goal
+
+pub place_of-requires : goal.place_of-requires
+place_of-requires c = subst (AllPairs IsBefore) (sym c.as_slice.ensures.value) c.self.invariant.sound.tickets
+
+pub returns-in-None-clause-ended : goal.returns-in-None-clause-ended
+returns-in-None-clause-ended c =
+    rw (← c.self.view_is) (sym (missing c.args.ticket c.self.inside.leases.items 0 (ap (position_from (has_ticket c.args.ticket) 0) (sym c.as_slice.ensures.value) ∙ sym c.place_of.ensures ∙ c.in-None.is)).0)
+
+pub returns-in-None-clause-rest : goal.returns-in-None-clause-rest
+returns-in-None-clause-rest c =
+    rw (← c.self.view_is) (sym (missing c.args.ticket c.self.inside.leases.items 0 (ap (position_from (has_ticket c.args.ticket) 0) (sym c.as_slice.ensures.value) ∙ sym c.place_of.ensures ∙ c.in-None.is)).1)
+
+pub remove-lease-requires : goal.remove-lease-requires
+remove-lease-requires c =
+    let s : StandsAt c.args.ticket c.self.inside.leases.items c.in-Some.place = stands _ _ _ (ap (position_from (has_ticket c.args.ticket) 0) (sym c.as_slice.ensures.value) ∙ sym c.place_of.ensures ∙ c.in-Some.is) in
+    omega (arith, s.inside, ap length c.as_slice.ensures.value, c.as_slice.ensures.len)
+
+pub returns-in-Some-clause-ended : goal.returns-in-Some-clause-ended
+returns-in-Some-clause-ended c =
+    let s : StandsAt c.args.ticket c.self.inside.leases.items c.in-Some.place = stands _ _ _ (ap (position_from (has_ticket c.args.ticket) 0) (sym c.as_slice.ensures.value) ∙ sym c.place_of.ensures ∙ c.in-Some.is) in
+    rw (← c.self.view_is) (ap (λ g. Some g) c.remove-lease.ensures.value ∙ sym (s.found c.remove-lease.result))
+
+pub returns-in-Some-clause-rest : goal.returns-in-Some-clause-rest
+returns-in-Some-clause-rest c =
+    let s : StandsAt c.args.ticket c.self.inside.leases.items c.in-Some.place = stands _ _ _ (ap (position_from (has_ticket c.args.ticket) 0) (sym c.as_slice.ensures.value) ∙ sym c.place_of.ensures ∙ c.in-Some.is) in
+    rw (← c.self.view_is) (c.remove-lease.ensures.items ∙ s.rest c.self.invariant.sound.tickets)
+
+pub invariant_of-self : goal.invariant_of-self
+invariant_of-self c =
+    let s : StandsAt c.args.ticket c.self.inside.leases.items c.in-Some.place = stands _ _ _ (ap (position_from (has_ticket c.args.ticket) 0) (sym c.as_slice.ensures.value) ∙ sym c.place_of.ensures ∙ c.in-Some.is) in
+    let live : List Lease = c.self.inside.leases.items in
+    let rest : c.remove-lease.new.self.items ≡ without c.args.ticket live = c.remove-lease.ensures.items ∙ s.rest c.self.invariant.sound.tickets in
+    let found : find (has_ticket c.args.ticket) live ≡ Some c.remove-lease.result = s.found c.remove-lease.result ∙ sym (ap (λ g. Some g) c.remove-lease.ensures.value) in
+    record {
+      sound = subst AreLeases (sym rest) (leases-filter (λ g. not (has_ticket c.args.ticket g)) live c.self.invariant.sound);
+      indexed = subst (AreIndexed (ticket_at c.forget.new.index)) (sym rest)
+          (indexed-ended (ticket_at c.self.inside.by_folder) (ticket_at c.forget.new.index) c.args.ticket live c.remove-lease.result found c.forget.ensures.others c.self.invariant.indexed);
+      noted = subst (AreNoted c.self.inside.newest) (sym rest) (noted-filter c.self.inside.newest (λ g. not (has_ticket c.args.ticket g)) live c.self.invariant.noted);
+    }

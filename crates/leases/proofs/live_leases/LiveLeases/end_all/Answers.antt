@@ -1,0 +1,20 @@
+use Rattle.std.proofs.Common.{List, not, filter, subst, sym}
+use Rattle.farm_base.specs.declared.lease.Lease.{Lease}
+use Rattle.leases.specs.Changes.{ends_lease}
+use Rattle.leases.specs.Index.{ticket_at, AreIndexed}
+use Rattle.leases.specs.Leases.{AreLeases}
+use Rattle.leases.specs.Newest.{AreNoted}
+use Rattle.leases.proofs.NewestLemmas.{noted-filter}
+use Rattle.leases.proofs.TableLemmas.{leases-filter}
+use Rattle.leases.proofs.live_leases.LiveLeases.end_all.Goals as goal
+
+pub invariant_of-self : goal.invariant_of-self
+invariant_of-self c =
+    let left : List Lease → List Lease = λ live. filter (λ g. not (ends_lease c.args.ending.now g)) live in
+    let was : AreIndexed (ticket_at c.self.inside.by_folder) c.as_slice.result.now = subst (AreIndexed (ticket_at c.self.inside.by_folder)) (sym c.as_slice.ensures.value) c.self.invariant.indexed in
+    record {
+      sound = subst AreLeases (sym c.drop_ending.ensures.items) (leases-filter (λ g. not (ends_lease c.args.ending.now g)) c.self.inside.leases.items c.self.invariant.sound);
+      indexed = subst (AreIndexed (ticket_at c.forget_ending.new.index)) (sym c.drop_ending.ensures.items)
+          (subst (λ live. AreIndexed (ticket_at c.forget_ending.new.index) (left live)) c.as_slice.ensures.value (c.forget_ending.ensures.others was));
+      noted = subst (AreNoted c.self.inside.newest) (sym c.drop_ending.ensures.items) (noted-filter c.self.inside.newest (λ g. not (ends_lease c.args.ending.now g)) c.self.inside.leases.items c.self.invariant.noted);
+    }

@@ -1,0 +1,217 @@
+//! The leases of a table, and the ways to find one of them.
+ghost use Rattle.std.specs.Prelude.{◌≡◌, ◌+◌, ◌≤◌, not, [], ◌∷◌, ◌++◌, filter, length, false, All, AllPairs, IfOk, OnOk, OnErr, option_copied, vec_len};
+ghost use Rattle.std.specs.Bool.{OnFalse};
+ghost use Rattle.std.specs.List.{find, position_from};
+ghost use Rattle.protocol.specs.Names.{only_slot};
+ghost use Rattle.protocol.specs.Ledger.{has_slot, has_ticket, is_of, lease_under, without};
+ghost use Rattle.leases.specs.Changes.{ends_lease, has_ended};
+ghost use Rattle.leases.specs.Index.{index_entries};
+ghost use Rattle.leases.specs.Leases.{AreLeases, IsBefore};
+
+use super::ending::{Ending, drop_ending};
+use super::folder_index::{entries_of, forget, forget_ending, index_of, put_all};
+use super::held::has_only;
+use super::newest_asks::{NewestAsks, note_all};
+use farm_base::{Ask, FolderName, Lease, Life, NodeId, Ticket};
+use indexmap::IndexMap;
+use std::alloc::{AllocError, Global};
+use std::marker::Model;
+
+/// Leases that may be live together, by rising ticket.
+#[derive(Debug, Drop)]
+pub(crate) struct LiveLeases {
+    leases: Vec<Lease>,
+    /// The ticket of the lease that has a folder's one slot, and none or an old one where no lease has it.
+    by_folder: IndexMap<FolderName, Ticket>,
+    /// The newest ask of each node that had a lease.
+    newest: NewestAsks,
+}
+
+impl Model for LiveLeases {
+    ghost use Rattle.std.specs.Vec.{vec_capacity};
+    ghost use Rattle.indexmap.specs.IndexMap.{spare};
+    ghost use Rattle.leases.specs.Index.{ticket_at};
+    ghost use Rattle.leases.specs.Live.{Live, AreLive};
+    ghost use Rattle.leases.specs.Newest.{node_room};
+
+    ghost Value = { Live };
+
+    ghost view = { λ l. record { leases = l.leases.items; lease_room = vec_capacity l.leases; index_room = spare l.by_folder; ask_room = node_room l.newest } };
+
+    ghost invariant = { λ l. AreLive (ticket_at l.by_folder) l.newest l.leases.items };
+}
+
+impl LiveLeases {
+    /// No leases.
+    pub(crate) fn new(alloc: Global) -> Self
+        ensures { result.leases ≡ [] }
+    {
+        LiveLeases {
+            leases: Vec::new(alloc),
+            by_folder: IndexMap::new(alloc),
+            newest: NewestAsks::new(alloc),
+        }
+    }
+
+    /// These leases.
+    pub(crate) fn of(alloc: Global, leases: Vec<Lease>) -> Result<Self, AllocError>
+        requires { AreLeases leases.items }
+        ensures { IfOk result (λ live. live.leases ≡ leases.items) }
+    {
+        let by_folder = index_of(alloc, leases.as_slice())?;
+        let mut newest = NewestAsks::new(alloc);
+        newest.reserve(leases.len())?;
+        note_all(&mut newest, leases.as_slice());
+        Ok(LiveLeases {
+            leases,
+            by_folder,
+            newest,
+        })
+    }
+
+    /// The leases, the oldest first.
+    pub(crate) fn as_slice(&self) -> &[Lease]
+        ensures value { result.now ≡ self.now.leases }
+        ensures sound { AreLeases self.now.leases }
+    {
+        self.leases.as_slice()
+    }
+
+    /// The lease of a ticket.
+    pub(crate) fn under(&self, ticket: Ticket) -> Option<&Lease>
+        ensures value { option_copied result ≡ lease_under self.now.leases ticket }
+        ensures sound { AreLeases self.now.leases }
+    {
+        match place_of(self.leases.as_slice(), ticket) {
+            None => None,
+            Some(place) => Some(&self.leases[place]),
+        }
+    }
+
+    /// The lease that has the one slot of a folder.
+    pub(crate) fn holding(&self, folder: &FolderName) -> Option<&Lease>
+        ensures value { option_copied result ≡ find (λ g. has_slot g.slots (only_slot folder.now)) self.now.leases }
+        ensures sound { AreLeases self.now.leases }
+    {
+        let ticket = self.by_folder.get(folder)?;
+        let lease = self.under(*ticket)?;
+        if has_only(lease.slots.as_slice(), folder) {
+            Some(lease)
+        } else {
+            None
+        }
+    }
+
+    /// Whether an ask may have a lease. One that is newer than each of its node that had one has none.
+    pub(crate) fn may_have(&self, node: NodeId, life: Life, ask: Ask) -> bool
+        ensures { OnFalse result (All (λ g. is_of node life ask g ≡ false) self.now.leases) }
+    {
+        self.newest.may_have(node, life, ask)
+    }
+
+    /// Adds a lease.
+    pub(crate) fn add(&mut self, alloc: Global, lease: Lease) -> Result<(), AllocError>
+        requires { AreLeases self.old.leases → AreLeases (self.old.leases ++ lease ∷ []) }
+        ensures ok { OnOk result (self.new.leases ≡ self.old.leases ++ lease ∷ []) }
+        ensures err { OnErr result (self.new.leases ≡ self.old.leases) }
+    {
+        let mut added = Vec::new(alloc);
+        added.push(lease)?;
+        let entries = self.room_for(alloc, added.as_slice())?;
+        self.add_all(added, entries);
+        Ok(())
+    }
+
+    /// Makes room for more leases, and what the index is to have of them.
+    pub(crate) fn room_for(
+        &mut self,
+        alloc: Global,
+        more: &[Lease],
+    ) -> Result<Vec<(FolderName, Ticket)>, AllocError>
+        ensures leases { self.new.leases ≡ self.old.leases }
+        ensures room { OnOk result (length self.new.leases + length more.now ≤ self.new.lease_room) }
+        ensures entries { IfOk result (λ entries. entries.items ≡ index_entries more.now) }
+        ensures folders { IfOk result (λ entries. vec_len entries ≤ self.new.index_room) }
+        ensures asks { OnOk result (length more.now ≤ self.new.ask_room) }
+        ensures sound { OnOk result (AreLeases self.new.leases) }
+    {
+        let entries = entries_of(alloc, more)?;
+        self.leases.reserve(more.len())?;
+        self.by_folder.reserve(entries.len())?;
+        self.newest.reserve(more.len())?;
+        Ok(entries)
+    }
+
+    /// Adds leases, for which there is room, with what the index is to have of them.
+    pub(crate) fn add_all(&mut self, leases: Vec<Lease>, entries: Vec<(FolderName, Ticket)>)
+        requires room { length self.old.leases + length leases.items ≤ self.old.lease_room }
+        requires entries { entries.items ≡ index_entries leases.items }
+        requires folders { vec_len entries ≤ self.old.index_room }
+        requires asks { length leases.items ≤ self.old.ask_room }
+        requires sound { AreLeases (self.old.leases ++ leases.items) }
+        ensures { self.new.leases ≡ self.old.leases ++ leases.items }
+    {
+        let mut leases = leases;
+        note_all(&mut self.newest, leases.as_slice());
+        self.leases.append(&mut leases).unwrap();
+        put_all(&mut self.by_folder, entries);
+    }
+
+    /// Takes out the lease of a ticket.
+    pub(crate) fn end(&mut self, ticket: Ticket) -> Option<Lease>
+        ensures ended { result ≡ lease_under self.old.leases ticket }
+        ensures rest { self.new.leases ≡ without ticket self.old.leases }
+        ensures room { self.new.lease_room ≡ self.old.lease_room }
+        ensures folders { self.old.index_room ≤ self.new.index_room }
+        ensures asks { self.new.ask_room ≡ self.old.ask_room }
+    {
+        match place_of(self.leases.as_slice(), ticket) {
+            None => None,
+            Some(place) => {
+                let lease = self.leases.remove(place);
+                forget(&mut self.by_folder, &lease);
+                Some(lease)
+            }
+        }
+    }
+
+    /// Takes out the leases that this ends.
+    pub(crate) fn end_all(&mut self, ending: &Ending)
+        ensures rest { self.new.leases ≡ filter (λ g. not (ends_lease ending.now g)) self.old.leases }
+        ensures room { self.new.lease_room ≡ self.old.lease_room }
+        ensures folders { self.old.index_room ≤ self.new.index_room }
+        ensures asks { self.new.ask_room ≡ self.old.ask_room }
+    {
+        match *ending {
+            Ending::Ticket(ticket) => {
+                let _ = self.end(ticket);
+            }
+            Ending::Node(_) | Ending::LivesBelow(_, _) => {
+                forget_ending(&mut self.by_folder, self.leases.as_slice(), ending);
+                drop_ending(&mut self.leases, *ending);
+            }
+        }
+    }
+
+    /// Takes out the leases that one of these ends.
+    pub(crate) fn end_each(&mut self, ended: &[Ending])
+        ensures rest { self.new.leases ≡ filter (λ g. not (has_ended ended.now g)) self.old.leases }
+        ensures room { self.new.lease_room ≡ self.old.lease_room }
+        ensures folders { self.old.index_room ≤ self.new.index_room }
+        ensures asks { self.new.ask_room ≡ self.old.ask_room }
+    {
+        for ending in ended {
+            self.end_all(ending);
+        }
+    }
+}
+
+/// The place of the lease of a ticket.
+fn place_of(leases: &[Lease], ticket: Ticket) -> Option<usize>
+    requires { AllPairs IsBefore leases.now }
+    ensures { result ≡ position_from (has_ticket ticket) 0 leases.now }
+{
+    leases
+        .binary_search_by_key(&ticket, |lease| lease.ticket)
+        .ok()
+}
