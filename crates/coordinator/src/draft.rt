@@ -16,11 +16,11 @@ ghost use Rattle.versions.specs.Additions.{IsReady};
 
 use super::change::Change;
 use super::parked_change::{ParkedChange, kept, some_set, split_mark};
-use super::state::{State, cleared, grant_of, is_home, is_saved, is_some_saved};
+use super::state::{State, cleared, grant_of, is_home, is_some_saved};
 use farm_base::{
     Copied, FromCoord, Grant, Items, Life, News, NodeId, Parked, Request, Ticket, ToCoord, Why,
 };
-use leases::Ending;
+use leases::{Ending, is_saved};
 use protocol::{CoordNote, Decision};
 use std::alloc::{AllocError, Global};
 use std::mem;

@@ -10,9 +10,9 @@ ghost use Rattle.coordinator.specs.Sound.{IsRightful};
 
 use super::change::Change;
 use super::parked_asks::ParkedAsks;
-use super::state::{State, is_saved};
+use super::state::State;
 use farm_base::{Items, Lease};
-use leases::{LeaseTable, Lives, RetiredNodes, TicketSource};
+use leases::{LeaseTable, Lives, RetiredNodes, TicketSource, is_saved};
 use saverecord::Record;
 use std::alloc::{AllocError, Global};
 use versions::{Added, Lines};

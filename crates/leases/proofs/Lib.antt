@@ -3,6 +3,7 @@ pub mod TableLemmas
 pub mod LowestLaw
 pub mod RetiredLemmas
 pub mod RisingLemmas
+pub mod SavedLemmas
 pub mod PlaceLemmas
 pub mod LifeLemmas
 pub mod NodeLemmas

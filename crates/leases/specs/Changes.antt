@@ -1,9 +1,9 @@
 -- The changes of one event over a lease table.
-use Rattle.std.specs.Prelude.{◌≡◌, ℕ, ◌+◌, ◌≤◌, if◌then◌else◌, Bool, not, List, ◌++◌, length, filter, Option, Some, None}
+use Rattle.std.specs.Prelude.{◌≡◌, ℕ, ◌+◌, ◌≤◌, if◌then◌else◌, Bool, not, ◌&&◌, List, [], ◌∷◌, ◌++◌, length, map, filter, Option, Some, None}
 use Rattle.std.specs.List.{list_any}
 use Rattle.farm_base.specs.declared.lease.Lease.{Lease}
 use Rattle.protocol.specs.Names.{Slot, FolderName, Ticket}
-use Rattle.protocol.specs.Ledger.{has_ticket, is_at, is_older}
+use Rattle.protocol.specs.Ledger.{has_ticket, is_at, is_older, is_saved}
 use Rattle.leases.specs.declared.ending.Ending.{Ending}
 use Rattle.leases.specs.declared.ending.Ending.TheVariants as ending
 use Rattle.leases.specs.Index.{index_entries}
@@ -36,6 +36,15 @@ standing ended (Some g) = if has_ended ended g then None else Some g
 -- the table with the changes
 abbrev pub changed : Table → Change → Table
 changed t c = record { live = filter (λ g. not (has_ended c.ended g)) t.live ++ c.granted; retired = t.retired ++ c.retired }
+
+-- the tickets of the leases that these end, of those that the record has
+abbrev pub saved_tickets : List Ending → List Lease → List Ticket
+saved_tickets ended leases = map (λ g. g.ticket) (filter (λ g. has_ended ended g && is_saved g) leases)
+
+-- the ticket of the lease, if there is one and the record has it
+abbrev pub ticket_of_saved : Option Lease → List Ticket
+ticket_of_saved None = []
+ticket_of_saved (Some g) = if is_saved g then g.ticket ∷ [] else []
 
 -- a lease table with room, as contracts see it
 pub record RoomyTable : Type 0 where
