@@ -206,8 +206,8 @@ impl LiveLeases {
     }
 }
 
-/// The place of the lease of a ticket, among leases by rising ticket.
-pub fn place_of(leases: &[Lease], ticket: Ticket) -> Option<usize>
+/// The place of the lease of a ticket.
+fn place_of(leases: &[Lease], ticket: Ticket) -> Option<usize>
     requires { AllPairs IsBefore leases.now }
     ensures { result ≡ position_from (has_ticket ticket) 0 leases.now }
 {

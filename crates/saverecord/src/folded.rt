@@ -1,6 +1,8 @@
 //! What texts hold while they are read, and the record that it makes.
 ghost use Rattle.std.specs.Prelude.{◌≡◌, IfOk};
 ghost use Rattle.std.specs.List.{list_all};
+ghost use Rattle.std.specs.List.Sorted.{IsStrictlySortedBy};
+ghost use Rattle.farm_base.specs.Slots.{slot_cmp};
 ghost use Rattle.leases.specs.Table.{among};
 ghost use Rattle.saverecord.specs.Ledgers.{IsKept, ledger_of};
 ghost use Rattle.saverecord.specs.Logs.{is_open, some_retired, fits, agreed, folded_ledger, IsReadable};
@@ -12,8 +14,8 @@ use super::record::Record;
 use super::refusal::{Flaw, RecordRefusal};
 use super::relation::are_apart;
 use farm_base::{Items, Lease, NodeId, Slot, Ticket};
-use leases::{Lives, RetiredNodes, rising};
-use std::alloc::Global;
+use leases::{Lives, RetiredNodes};
+use std::alloc::{AllocError, Global};
 use versions::Lines;
 
 /// What texts hold, up to an entry.
@@ -77,6 +79,17 @@ fn all_fit(folded: &Folded) -> bool
         .as_slice()
         .iter()
         .all(|lease| fits(folded, lease))
+}
+
+/// These slots, each once, rising.
+fn rising(slots: Vec<Slot>) -> Result<Vec<Slot>, AllocError>
+    ensures rising { IfOk result (λ v. IsStrictlySortedBy slot_cmp v.items) }
+    ensures same { IfOk result (λ v. among v.items ≡ among slots.items) }
+{
+    let mut rising = slots;
+    rising.sort()?;
+    rising.dedup();
+    Ok(rising)
 }
 
 impl Folded {
