@@ -26,7 +26,7 @@ use Rattle.saverecord.specs.declared.record.Record.{Record}
 use Rattle.saverecord.specs.declared.refusal.RecordRefusal.{RecordRefusal}
 use Rattle.saverecord.specs.Ledgers.{ledger_of, record_in}
 use Rattle.saverecord.specs.Logs.{Holds, with_version, with_versions, with_lines, with_entry, after_text, with_entries, is_open, ledger_in}
-use Rattle.saverecord.specs.Records.{opened, record_of}
+use Rattle.saverecord.specs.Records.{opened_by, record_of}
 use Rattle.saverecord.specs.Texts.{Texts, whole_alone, with_text}
 use Rattle.saverecord.proofs.LedgerLemmas.{each_in, line_from}
 
@@ -105,7 +105,7 @@ text_is text e k next again fits = ap (λ (r : Result Record RecordRefusal). r >
 
 -- the bytes of a record are some
 read_in : (bytes : List ℕ) (r : Record) → record_of bytes ≡ Ok r → record_in bytes ≡ Ok r
-unfolding record_of opened
+unfolding record_of opened_by
 read_in [] r e = absurd (cc e)
 read_in (b ∷ bytes) r e = e
 
