@@ -30,6 +30,6 @@ saved_tickets-one t [] up = refl
 saved_tickets-one t (g ∷ live) up = elim (cases_Bool (has_ticket t g)) [
   | inl e ↦
       let none = saved_tickets-absent t live (λ k d inside. AllPairs-head (λ x y. has_ticket t x ≡ true → has_ticket t y ≡ false) g live (ticket_once t (g ∷ live) up) k d inside e) in
-      elim (cases_Bool (is_saved g)) [ inl s ↦ rw (e, s, s, none) refl | inr s ↦ rw (e, s, s, none) refl ]
-  | inr e ↦ rw (e, e) (saved_tickets-one t live (AllPairs-tail IsBefore g live up))
+      elim (cases_Bool (is_saved g)) [ inl s ↦ rw (e, s) (ap (λ (ts : List Ticket). g.ticket ∷ ts) (sym none)) | inr s ↦ rw (e, s) (sym none) ]
+  | inr e ↦ rw e (saved_tickets-one t live (AllPairs-tail IsBefore g live up))
 ]

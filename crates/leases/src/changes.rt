@@ -9,7 +9,7 @@ ghost use Rattle.leases.specs.Changes.{changed, ends_lease, saved_tickets};
 ghost use Rattle.leases.specs.Leases.{Table, AreLeases};
 ghost use Rattle.leases.specs.Table.{among, is_leased, fit_of, lease_for, holds_some, retires_some};
 
-use super::ending::{Ending, drop_ending};
+use super::ending::{Ending, drop_ending, only};
 use super::lease_table::{Fit, LeaseTable};
 use super::saved::{saved_copies, saved_tickets, ticket_of_saved};
 use super::slots::rising;
@@ -239,10 +239,13 @@ impl TableChange {
     pub fn saved_ended(&self, alloc: Global, table: &LeaseTable) -> Result<Vec<Ticket>, AllocError>
         ensures { IfOk result (λ tickets. tickets.items ≡ saved_tickets self.now.ended table.now.live) }
     {
-        match self.ended.as_slice() {
-            [] => Ok(Vec::new(alloc)),
-            [Ending::Ticket(ticket)] => ticket_of_saved(alloc, table.lease(*ticket)),
-            ended => saved_tickets(alloc, table.leases(), ended),
+        let ended = self.ended.as_slice();
+        if ended.is_empty() {
+            return Ok(Vec::new(alloc));
+        }
+        match only(ended) {
+            Some(Ending::Ticket(ticket)) => ticket_of_saved(alloc, table.lease(ticket)),
+            _ => saved_tickets(alloc, table.leases(), ended),
         }
     }
 

@@ -1,18 +1,26 @@
-use Rattle.std.proofs.Common.{rules, ◌≡◌, ◌<◌, not, [], ◌∷◌, ◌++◌, filter, length, All, IfOk, OnOk, OnErr, option_copied, ℕ, ◌+◌, ◌-◌, ◌*◌, ◌≤◌, ◌/◌, ◌%◌, Bool, true, false, nat_eq, nat_lt, List, slice_index_or, slice_set, bit_and, bit_or, Fits, w8, w32, w64, Bor, MutBor}
-use Rattle.std.specs.List.{find, list_any}
-use Rattle.std.specs.List.Sorted.{IsStrictlySortedBy}
-use Rattle.farm_base.specs.Slots.{slot_cmp}
-use Rattle.protocol.specs.Names.{leased_wants}
-use Rattle.protocol.specs.Ledger.{lease_of, lease_under, without, is_older, is_at, is_saved, retire_all}
-use Rattle.leases.specs.Changes.{changed, ends_lease, saved_tickets}
-use Rattle.leases.specs.Leases.{Table, AreLeases}
-use Rattle.leases.specs.Table.{among, is_leased, fit_of, lease_for, holds_some, retires_some}
+use Rattle.std.proofs.Common.{◌≡◌, ◌∷◌, [], List, ap, sym, ◌∙◌, option_copied, subst, length, eqb-true}
+use Rattle.std.proofs.lemmas.List.{nil_from_length}
+use Rattle.std.specs.Prelude.{IfOk}
+use Rattle.farm_base.specs.declared.lease.Lease.{Lease}
+use Rattle.protocol.specs.Names.{Ticket}
+use Rattle.leases.specs.Changes.{Change, saved_tickets, ticket_of_saved}
+use Rattle.leases.specs.declared.ending.Ending.{Ending}
+use Rattle.leases.specs.declared.ending.Ending.TheVariants as ending
+use Rattle.leases.proofs.SavedLemmas.{saved_tickets-none, saved_tickets-one}
 use Rattle.leases.proofs.changes.TableChange.saved_ended.Goals as goal
 
--- src/changes.rt:239:5
-pub returns-in-empty : goal.returns-in-empty
-returns-in-empty c = ?
+pub returns-then-is_empty : goal.returns-then-is_empty
+returns-then-is_empty c =
+    let same : c.as_slice-ended.result.now ≡ c.args.self.now.ended = c.as_slice-ended.ensures.value ∙ ap (λ (x : Change). x.ended) c.self.view_is in
+    let none : c.as_slice-ended.result.now ≡ [] = nil_from_length c.as_slice-ended.result.now (eqb-true (length c.as_slice-ended.result.now) 0 (sym c.if-is_empty.ensures)) in
+    c.new.ensures.items ∙ saved_tickets-none c.args.table.now.live ∙ ap (λ (es : List Ending). saved_tickets es c.args.table.now.live) (sym none ∙ same)
 
--- src/changes.rt:239:5
-pub returns-in-Ticket : goal.returns-in-Ticket
-returns-in-Ticket c = ?
+pub returns-in-Some-Ticket : goal.returns-in-Some-Ticket
+returns-in-Some-Ticket c =
+    let live : List Lease = c.args.table.now.live in
+    let same : c.as_slice-ended.result.now ≡ c.args.self.now.ended = c.as_slice-ended.ensures.value ∙ ap (λ (x : Change). x.ended) c.self.view_is in
+    let one : c.as_slice-ended.result.now ≡ ending.Ticket c.in-Some-Ticket.ticket ∷ [] = c.in-Some-Ticket.ensures ∙ ap (λ (e : Ending). e ∷ []) c.in-Some-Ticket.field-0-is in
+    let all : ticket_of_saved (option_copied c.lease.result) ≡ saved_tickets c.args.self.now.ended live =
+    ap ticket_of_saved c.lease.ensures.value ∙ saved_tickets-one c.in-Some-Ticket.ticket live c.lease.ensures.sound.tickets ∙ ap (λ (es : List Ending). saved_tickets es live) (sym one ∙ same) in
+    let P : List Ticket → Type 0 = λ ts. IfOk c.ticket_of_saved.result (λ tickets. tickets.items ≡ ts) in
+    subst P all c.ticket_of_saved.ensures
