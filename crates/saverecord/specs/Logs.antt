@@ -2,17 +2,19 @@
 -- own (docs/FORMATS.md, "The log").
 use Rattle.std.specs.Prelude.{◌≡◌, ℕ, ◌≤◌, ◌-◌, nat_le, nat_lt, ◌==◌, not, ◌&&◌, ◌||◌, if◌then◌else◌, Bool, true, false, List, [], ◌∷◌, ◌++◌, length, map, filter, slice_get, All, AllPairs, Option, Some, None, is_some, Result, Ok, Err}
 use Rattle.std.specs.List.{list_all, list_any}
+use Rattle.std.specs.List.Sorted.{IsStrictlyIncreasing, IsStrictlySortedBy}
 use Rattle.codec.specs.Steps.{◌>>=◌}
 use Rattle.farm_base.specs.declared.lease.Lease.{Lease}
 use Rattle.farm_base.specs.declared.lease.NodeLife.{NodeLife}
 use Rattle.farm_base.specs.declared.limits.TheConstants.{NODES}
+use Rattle.farm_base.specs.Slots.{slot_cmp}
 use Rattle.leases.specs.Leases.{IsBefore, IsOpen, Rises}
 use Rattle.leases.specs.Table.{among, is_among, life_at}
 use Rattle.protocol.specs.Lawful.{IsNumber, IsSpeaker, AreAsked, want_of, IsLawful}
 use Rattle.protocol.specs.Lists.{put}
 use Rattle.protocol.specs.Names.{Slot, is_private, NodeId, Ticket, Want, leased_wants}
 use Rattle.protocol.specs.Machine.{LineVersion}
-use Rattle.protocol.specs.Ledger.{Ledger, Saved, saves, reads, opening, lease_under, without}
+use Rattle.protocol.specs.Ledger.{Ledger, Saved, saves, reads, opening, has_ticket, lease_under, without, is_saved}
 use Rattle.versions.specs.Additions.{adds}
 use Rattle.versions.specs.Line.{is_above_all}
 use Rattle.versions.specs.Lines.{LineOf, line_at}
@@ -76,9 +78,9 @@ with_gone (n ∷ ns) gone = with_gone ns (put n.0 true gone)
 abbrev pub with_retired : List Slot → (Slot → Bool) → Slot → Bool
 with_retired slots retired s = retired s || among slots s
 
--- no two slots of the lease are of one PRIVATE folder, and it is a tenure or has no SHARED slot
+-- the lease is one that is saved, no two of its slots are of one PRIVATE folder, and it is a tenure or has no SHARED slot
 abbrev pub is_coherent : Lease → Bool
-is_coherent g = no_two is_same_private g.slots && fits_tenure g
+is_coherent g = is_saved g && (no_two is_same_private g.slots && fits_tenure g)
 
 -- the entry's last ticket isn't below the one before it nor below its versions, it retires PRIVATE slots, and each of its
 -- leases is coherent
@@ -131,14 +133,14 @@ abbrev pub fits : Ledger → Lease → Bool
 fits q g = nat_le g.ticket.0 q.last && ((q.lives g.node.0 == g.life.0) && (not (q.gone g.node.0) && (not (some_retired q.retired g) && is_open q.line g)))
 
 -- the ledger, if each of its leases fits it, and no two have a slot or an ask in common
-unfoldable pub agreed : Ledger → Result Ledger RecordRefusal
+abbrev pub agreed : Ledger → Result Ledger RecordRefusal
 agreed q = passed Relation (list_all (fits q) q.live && no_two clash q.live) q
 
--- the ledger that texts hold
+-- the ledger that texts hold, which has no lease that isn't saved
 abbrev pub ledger_in : Texts → Result Ledger RecordRefusal
 ledger_in t = do
   whole ← record_in t.whole
-  folded ← with_entries t.entries (ledger_of whole)
+  folded ← with_entries t.entries (reads (saves (ledger_of whole)))
   agreed folded
 
 abbrev pub saved_by : Result Ledger RecordRefusal → Saved
@@ -192,9 +194,9 @@ pub record IsReadable (q : Ledger) : Type 0 where
 
 -- ---- what an entry says of an event
 
--- the ticket is among those that ended
+-- the lease's ticket is among those that ended
 abbrev pub has_ended : List Ticket → Lease → Bool
-has_ended ended g = list_any (λ t. t.0 == g.ticket.0) ended
+has_ended ended g = list_any (λ t. has_ticket t g) ended
 
 -- one version, which is above those that its slot has
 abbrev pub Follows : LineOf → SlotLine → Type 0
@@ -214,9 +216,19 @@ pub record IsChange (before after : Saved) (e : LogEntry) : Type 0 where
   pub line : (s : Slot) → after.line s ≡ before.line s ++ line_at e.lines s
   pub above : All (Follows before.line) e.lines
 
+-- each list of an entry is in order, and lives are counted from 1
+pub record AreInOrder (e : LogEntry) : Type 0 where
+  pub lives_rise : IsStrictlyIncreasing (map (λ x. x.node.0) e.lives)
+  pub counted : All (λ x. 1 ≤ x.life.0) e.lives
+  pub nodes_rise : IsStrictlyIncreasing (map (λ n. n.0) e.retired_nodes)
+  pub ended_rise : IsStrictlyIncreasing (map (λ t. t.0) e.ended)
+  pub retired_rise : IsStrictlySortedBy slot_cmp e.retired
+  pub lines_rise : IsStrictlySortedBy slot_cmp (map (λ l. l.slot) e.lines)
+
 -- what is saved of a ledger that a record can be written of
 pub record IsSaved (s : Saved) : Type 0 where
   pub lawful : IsLawful NODES (reads s)
   pub past : (x : Slot) → All (λ v. v.ticket.0 ≤ s.ceiling) (s.line x)
   pub ahead : All (IsOpen s.line) s.live
   pub rise : All Rises s.live
+  pub each : All (λ g. is_saved g ≡ true) s.live

@@ -4,6 +4,7 @@ ghost use Rattle.std.specs.List.{list_all};
 ghost use Rattle.std.specs.List.Sorted.{IsStrictlySortedBy};
 ghost use Rattle.farm_base.specs.Slots.{slot_cmp};
 ghost use Rattle.leases.specs.Table.{among};
+ghost use Rattle.protocol.specs.Ledger.{reads, saves};
 ghost use Rattle.saverecord.specs.Ledgers.{IsKept, ledger_of};
 ghost use Rattle.saverecord.specs.Logs.{is_open, some_retired, fits, agreed, folded_ledger, IsReadable};
 ghost use Rattle.saverecord.specs.Parts.{Gives};
@@ -12,7 +13,7 @@ ghost use Rattle.versions.specs.Lines.{line_at};
 
 use super::record::Record;
 use super::refusal::{Flaw, RecordRefusal};
-use super::relation::are_apart;
+use super::relation::{are_apart, is_saved};
 use farm_base::{Items, Lease, NodeId, Slot, Ticket};
 use leases::{Lives, RetiredNodes};
 use std::alloc::{AllocError, Global};
@@ -93,24 +94,25 @@ fn rising(slots: Vec<Slot>) -> Result<Vec<Slot>, AllocError>
 }
 
 impl Folded {
-    /// What a whole record holds, without taking memory.
+    /// What a whole record holds, but the leases that aren't saved, without taking memory.
     pub(crate) fn of(whole: Record) -> Self
         requires { IsKept whole }
-        ensures { folded_ledger result ≡ ledger_of whole }
+        ensures { folded_ledger result ≡ reads (saves (ledger_of whole)) }
     {
+        let mut leases = whole.leases.into_vec();
+        leases.retain(|lease| is_saved(lease));
         Folded {
             last: whole.last,
             old_home: whole.old_home,
             lives: Lives::of(whole.lives.into_vec()),
             retired_nodes: RetiredNodes::of(whole.retired_nodes.into_vec()),
-            leases: whole.leases.into_vec(),
+            leases,
             retired: whole.retired.into_vec(),
             lines: Lines::of(whole.lines.into_vec()),
         }
     }
 
     /// The record of all that was read, if its leases fit.
-    #[tactic(auto, unfolding(crate::specs::Logs::agreed))]
     pub(crate) fn into_record(self, alloc: Global) -> Result<Record, RecordRefusal>
         requires { IsReadable (folded_ledger self) }
         ensures exact { Gives ledger_of result (agreed (folded_ledger self)) }

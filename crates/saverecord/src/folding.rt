@@ -2,11 +2,11 @@
 ghost use Rattle.std.specs.Prelude.{◌≡◌, ◌≤◌, All, AllPairs, IfOk, Ok};
 ghost use Rattle.std.specs.List.{list_all, position_from};
 ghost use Rattle.leases.specs.Leases.{IsBefore};
-ghost use Rattle.leases.specs.Table.{is_among, life_at};
+ghost use Rattle.leases.specs.Table.{among, is_among, life_at};
 ghost use Rattle.protocol.specs.Ledger.{has_ticket};
 ghost use Rattle.saverecord.specs.Ledgers.{IsKept, blank, ledger_of, record_in};
 ghost use Rattle.saverecord.specs.LogEntries.{IsLogEntry};
-ghost use Rattle.saverecord.specs.Logs.{with_version, with_versions, without_one, without_all, are_newer, with_leases, with_lives, with_gone, is_coherent, may_follow, with_entry, after_text, ledger_in, folded_ledger, IsReadable};
+ghost use Rattle.saverecord.specs.Logs.{with_version, with_versions, without_one, without_all, are_newer, with_leases, with_lives, with_gone, with_retired, is_coherent, may_follow, with_entry, after_text, ledger_in, folded_ledger, IsReadable};
 ghost use Rattle.saverecord.specs.Parts.{Gives};
 ghost use Rattle.saverecord.specs.Texts.{whole_alone};
 ghost use Rattle.versions.specs.Lines.{line_at};
@@ -17,7 +17,7 @@ use super::log::Log;
 use super::log_entry::LogEntry;
 use super::record::Record;
 use super::refusal::{Flaw, RecordRefusal};
-use super::relation::{are_of_own_folders, are_private, fits_tenure, lines_up_to};
+use super::relation::{are_of_own_folders, are_private, fits_tenure, is_saved, lines_up_to};
 use farm_base::{Items, Lease, NodeId, NodeLife, Slot, Ticket};
 use leases::{Lives, RetiredNodes};
 use std::alloc::{AllocError, Global};
@@ -131,11 +131,20 @@ fn with_gone(mut nodes: RetiredNodes, more: &[NodeId]) -> Result<RetiredNodes, A
     Ok(nodes)
 }
 
-/// Whether no two slots of a lease are of one PRIVATE folder, and it is a tenure or has no SHARED slot.
+/// The retired slots with more of them.
+fn with_retired(mut slots: Vec<Slot>, mut more: Vec<Slot>) -> Result<Vec<Slot>, AllocError>
+    ensures { IfOk result (λ after. among after.items ≡ with_retired more.items (among slots.items)) }
+{
+    slots.append(&mut more)?;
+    Ok(slots)
+}
+
+/// Whether a lease is one that is saved, no two of its slots are of one PRIVATE folder, and it is a tenure or has no
+/// SHARED slot.
 fn is_coherent(lease: &Lease) -> bool
     ensures { result ≡ is_coherent lease.now }
 {
-    are_of_own_folders(lease.slots.as_slice()) && fits_tenure(lease)
+    is_saved(lease) && are_of_own_folders(lease.slots.as_slice()) && fits_tenure(lease)
 }
 
 fn are_coherent(leases: &[Lease]) -> bool
@@ -163,19 +172,26 @@ fn with_entry(before: Folded, entry: LogEntry) -> Result<Folded, RecordRefusal>
     if !may_follow(before.last, &entry) {
         return Err(RecordRefusal::NotCanonical(Flaw::Relation));
     }
-    let lines = with_versions(before.lines, entry.lines.into_vec())?;
-    let leases = with_leases(
-        before.leases,
-        entry.ended.as_slice(),
-        entry.leases.into_vec(),
-    )?;
-    let mut retired = before.retired;
-    retired.append(&mut entry.retired.into_vec())?;
+    let LogEntry {
+        last,
+        old_home,
+        lives,
+        retired_nodes,
+        ended,
+        leases,
+        retired,
+        lines,
+    } = entry;
+    let lines = with_versions(before.lines, lines.into_vec())?;
+    let leases = with_leases(before.leases, ended.as_slice(), leases.into_vec())?;
+    let lives = with_lives(before.lives, lives.as_slice())?;
+    let retired_nodes = with_gone(before.retired_nodes, retired_nodes.as_slice())?;
+    let retired = with_retired(before.retired, retired.into_vec())?;
     Ok(Folded {
-        last: entry.last,
-        old_home: entry.old_home,
-        lives: with_lives(before.lives, entry.lives.as_slice())?,
-        retired_nodes: with_gone(before.retired_nodes, entry.retired_nodes.as_slice())?,
+        last,
+        old_home,
+        lives,
+        retired_nodes,
         leases,
         retired,
         lines,
