@@ -21,13 +21,14 @@ use Rattle.protocol.proofs.Base.{all_in, any_in, eqb_same, from_filter, from_map
 use Rattle.protocol.proofs.Lawfulness.{every_ledger_stays_lawful}
 use Rattle.versions.specs.Additions.{AreReady, IsReady}
 use Rattle.versions.specs.Line.{is_above_all}
-use Rattle.versions.specs.Lines.{line_at, news_of}
+use Rattle.versions.specs.Lines.{LineOf, line_at, news_of}
+use Rattle.versions.specs.Ordered.{AreLines}
 use Rattle.versions.specs.declared.lines.Added.{Added}
 use Rattle.versions.specs.declared.lines.Addition.{Addition}
 use Rattle.versions.specs.declared.lines.SlotLine.{SlotLine}
 use Rattle.saverecord.specs.Logs.{Follows, IsSaved}
 use Rattle.saverecord.specs.Logs.{has_ended as is_ended}
-use Rattle.saverecord.proofs.LedgerLemmas.{all_from_in, none_from_in, passes_from_in}
+use Rattle.saverecord.proofs.LedgerLemmas.{all_from_in, line_in, none_from_in, passes_from_in}
 use Rattle.coordinator.specs.Shown.{lines_with}
 use Rattle.coordinator.specs.Sound.{IsRightful}
 use Rattle.coordinator.proofs.Records.{up_to}
@@ -63,9 +64,14 @@ one_added lines t (a ∷ xs) l ready is full = elim (cases_Bool (slot_eq a.slot 
   | inr e ↦ one_added lines t xs l ready.3 (rw e at is) full
 ]
 
-pub each_added : (lines : List SlotLine) (o : Option Added) (l : SlotLine) → IsReady lines o → l.line ≡ lines_with [] o l.slot → l.line ≢ [] → Follows (line_at lines) l
+each_added : (lines : List SlotLine) (o : Option Added) (l : SlotLine) → IsReady lines o → l.line ≡ lines_with [] o l.slot → l.line ≢ [] → Follows (line_at lines) l
 each_added lines None l ready is full = absurd (full is)
 each_added lines (Some a) l ready is full = one_added lines a.ticket a.additions.items l ready is full
+
+-- each line that is added has one version, above those that its slot has
+pub added_follow : (lines : List SlotLine) (o : Option Added) (more : List SlotLine) → IsReady lines o → AreLines more → line_at more ≡ lines_with [] o → All (Follows (line_at lines)) more
+added_follow lines o more ready sound same = all_from_in (Follows (line_at lines)) more
+(λ l i. each_added lines o l ready (sym (line_in more sound.rise l i) ∙ ap (λ (f : LineOf). f l.slot) same) (all_in (λ (l : SlotLine). l.line ≢ []) more sound.filled l i))
 
 -- ---- the leases that ended
 
