@@ -16,9 +16,9 @@ returns-in-None-clause-exact c =
 pub remove-requires : goal.remove-requires
 remove-requires c =
     let s : StandsAt c.args.ticket c.args.leases.items c.in-Some.place = stands _ _ _ (ap (position_from (has_ticket c.args.ticket) 0) (sym c.as_slice.ensures.value) ∙ sym c.place_of.ensures ∙ c.in-Some.is) in
-    s.inside
+    omega (arith, s.inside, ap length c.as_slice.ensures.value, c.as_slice.ensures.len)
 
-pub returns-clause-exact : goal.returns-clause-exact
-returns-clause-exact c =
+pub returns-in-Some-clause-exact : goal.returns-in-Some-clause-exact
+returns-in-Some-clause-exact c =
     let s : StandsAt c.args.ticket c.args.leases.items c.in-Some.place = stands _ _ _ (ap (position_from (has_ticket c.args.ticket) 0) (sym c.as_slice.ensures.value) ∙ sym c.place_of.ensures ∙ c.in-Some.is) in
     ap (λ (o : Option Lease). passed Relation (is_some o) (without c.args.ticket c.args.leases.items)) (s.found c.remove.result) ∙ ap (λ (gs : List Lease). Ok gs) (sym (c.remove.ensures.items ∙ s.rest c.requires))
