@@ -15,7 +15,7 @@ use Rattle.farm_base.specs.Slots.{slot_cmp}
 use Rattle.farm_base.specs.Contents.{content_digest}
 use Rattle.farm_base.specs.declared.lease.NodeLife.{NodeLife}
 use Rattle.farm_base.specs.declared.limits.TheConstants.{NODES}
-use Rattle.leases.specs.Leases.{IsBefore, IsOpen}
+use Rattle.leases.specs.Leases.{IsBefore, IsOpen, Rises}
 use Rattle.leases.specs.Lives.{AreLives}
 use Rattle.leases.specs.Table.{among, is_among, life_at}
 use Rattle.leases.proofs.FindLemmas.{tickets_rise}
@@ -220,6 +220,14 @@ module _ (e : LogEntry) (q : Ledger) (fits : IsLogEntry e) (typed : All HasInsta
         gone = gone_numbered e.retired_nodes q.gone fits.nodes readable.gone;
       }
 
+-- the steps of an entry, each of which went well
+pub entry_gives : (e : LogEntry) (q : Ledger) (line : LineOf) (live : List Lease) (next : Ledger) → may_follow q.ceiling e ≡ true → with_versions e.lines q.line ≡ Ok line → with_leases e.ended e.leases q.live ≡ Ok live
+    → changed e line live q ≡ next → with_entry e q ≡ Ok next
+entry_gives e q line live next follow lines leases made =
+    let first : with_entry e q ≡ (with_versions e.lines q.line >>= λ line. with_leases e.ended e.leases q.live >>= λ live. Ok (changed e line live q)) = rw follow refl in
+    first ∙ ap (λ (r : Result LineOf RecordRefusal). r >>= λ line. with_leases e.ended e.leases q.live >>= λ live. Ok (changed e line live q)) lines
+    ∙ ap (λ (r : Result (List Lease) RecordRefusal). r >>= λ live. Ok (changed e line live q)) leases ∙ ap Ok made
+
 entry_readable : (e : LogEntry) (q next : Ledger) → IsLogEntry e → All HasInstances e.leases → IsReadable q → with_entry e q ≡ Ok next → IsReadable next
 entry_readable e q next fits typed readable h =
     let p = test_ok (may_follow q.ceiling e) (NotCanonical Relation) (with_versions e.lines q.line >>= λ line. with_leases e.ended e.leases q.live >>= λ live. Ok (changed e line live q)) next h in
@@ -246,7 +254,7 @@ kept_readable r kept =
       ask = (holder g i).asker.ask;
       ticket = (holder g i).ticket;
       wants = (holder g i).wants;
-      rise = all_in _ r.leases kept.slots_rise g i;
+      rise = all_in Rises r.leases kept.slots_rise g i;
     }) in
     record {
       tickets = AllPairs-filter IsBefore is_saved r.leases (pairs_of r.leases kept.lawful.core.apart);
@@ -326,7 +334,7 @@ made_kept r readable lives nodes retired lines all apart = record {
   lives = lives.counted;
   nodes_rise = nodes;
   retired_rise = retired;
-  slots_rise = all_from_in _ r.leases (λ g i. (asked g i).rise);
+  slots_rise = all_from_in Rises r.leases (λ g i. (asked g i).rise);
   lines = lines;
   past = readable.past;
   ahead = all_from_in (IsOpen (line_at r.lines)) r.leases (λ g i. open_is (line_at r.lines) g (fit g i).opened);

@@ -35,7 +35,7 @@ use Rattle.saverecord.specs.Logs.{Holds, Follows, IsChange, IsSaved, AreInOrder,
 use Rattle.saverecord.specs.Parts.{passed}
 use Rattle.saverecord.specs.Relations.{lines_up_to, versions_up_to, no_two, is_same_private, fits_tenure}
 use Rattle.saverecord.specs.Texts.{Texts, with_text}
-use Rattle.saverecord.proofs.FoldLemmas.{lawful_agrees}
+use Rattle.saverecord.proofs.FoldLemmas.{entry_gives, lawful_agrees}
 use Rattle.saverecord.proofs.KeptLemmas.{home_fits, lease_folders, lease_is, own_folders, tenure_fits, tickets_rise}
 use Rattle.saverecord.proofs.LedgerLemmas.{all_from_in, each_in, each_from_in, passes_from_in, line_in}
 use Rattle.saverecord.proofs.LogLemmas.{added_all, agreed_is, filter_saved, pushed_in, read_saved}
@@ -65,8 +65,8 @@ stays_under t u apart (g ∷ live) = elim (cases_Bool (has_ticket t g)) [
       let other : has_ticket u g ≡ false = ne_eqb g.ticket.0 u.0 (λ h. apart (sym same ∙ h)) in
       rw (e, other) (stays_under t u apart live))
   | inr e ↦ elim (cases_Bool (has_ticket u g)) [
-    | inl f ↦ rw (e, f, f) refl
-    | inr f ↦ rw (e, f, f) (stays_under t u apart live)
+    | inl f ↦ rw (e, f) refl
+    | inr f ↦ rw (e, f) (stays_under t u apart live)
   ]
 ]
 
@@ -232,10 +232,7 @@ module _ (before after : Saved) (e : LogEntry) (fits : IsLogEntry e) (saved : Is
   }
 
   entry_after : with_entry e (reads before) ≡ Ok (reads after)
-  entry_after =
-      let first : with_entry e (reads before) ≡ (with_versions e.lines before.line >>= λ line. with_leases e.ended e.leases before.live >>= λ live. Ok (changed e line live (reads before))) = rw follows refl in
-      first ∙ ap (λ (r : Result LineOf RecordRefusal). r >>= λ line. with_leases e.ended e.leases before.live >>= λ live. Ok (changed e line live (reads before))) lines_are
-      ∙ ap (λ (r : Result (List Lease) RecordRefusal). r >>= λ live. Ok (changed e line live (reads before))) leases_are ∙ ap Ok same
+  entry_after = entry_gives e (reads before) line (rest ++ e.leases) (reads after) follows lines_are leases_are same
 
   -- behind a ledger of which that is saved, as texts hold it
   entry_behind : (k : Ledger) → filter is_saved k.live ≡ k.live → saves k ≡ before → with_entry e k ≡ Ok (reads after)

@@ -69,20 +69,20 @@ module _ {X : Type 0} (read : List ℕ → Result X RecordRefusal) where
       let made : X × List ℕ = (a.0, b.0) in
       subst (λ (y : X × List ℕ). Opens bytes y.1 × (read (take 8 bytes) ≡ Ok y.0)) (ok_is {E = RecordRefusal} made (x, body) b.2) (signed_takes bytes b.0 long fits b.1, a.1)
 
-  pub opened_again : (magic : List ℕ) (x : X) (body : List ℕ) → length magic ≡ 8 → read magic ≡ Ok x → opened_by read ((magic ++ body) ++ sha256 (magic ++ body)) ≡ Ok (x, body)
+  pub opened_again : (first : List ℕ) (x : X) (body : List ℕ) → length first ≡ 8 → read first ≡ Ok x → opened_by read ((first ++ body) ++ sha256 (first ++ body)) ≡ Ok (x, body)
   unfolding opened_by signed
-  opened_again magic x body eight is =
-      let text = magic ++ body in
+  opened_again first x body eight is =
+      let text = first ++ body in
       let bytes = text ++ sha256 text in
       let digest = length-sha256 text in
       let len : length bytes ≡ length text + 32 = omega (arith, length-append text (sha256 text), digest) in
-      let some : length text ≡ 8 + length body = omega (arith, length-append magic body) in
+      let some : length text ≡ 8 + length body = omega (arith, length-append first body) in
       let long : ltb (length bytes) 40 ≡ false = le-ltb (length bytes) 40 (omega arith) in
-      let front : take 8 bytes ≡ magic = ap (take 8) (append_assoc magic body (sha256 text)) ∙ take_at magic (body ++ sha256 text) 8 (sym eight) in
+      let front : take 8 bytes ≡ first = ap (take 8) (append_assoc first body (sha256 text)) ∙ take_at first (body ++ sha256 text) 8 eight in
       let place : length bytes - 32 ≡ length text = omega arith in
-      let first : take (length bytes - 32) bytes ≡ text = take_at text (sha256 text) (length bytes - 32) (sym place) in
+      let signed_part : take (length bytes - 32) bytes ≡ text = take_at text (sha256 text) (length bytes - 32) (sym place) in
       let last : drop (length bytes - 32) bytes ≡ sha256 text = drop_at text (sha256 text) (length bytes - 32) (sym place) in
-      rw (long, front, is, first, last, same_itself (sha256 text), drop_at magic body 8 (sym eight)) refl
+      rw (long, front, is, signed_part, last, same_itself (sha256 text), drop_at first body 8 eight) refl
 
 judged_third : (r s : Record) → judged Third r ≡ Ok s → (agrees r ≡ true) × (r ≡ s)
 unfolding judged

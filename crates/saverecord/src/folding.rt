@@ -64,11 +64,13 @@ fn without_one(mut leases: Vec<Lease>, ticket: Ticket) -> Result<Vec<Lease>, Rec
     ensures exact { Gives (λ v. v.items) result (without_one ticket leases.items) }
     ensures rise { IfOk result (λ v. AllPairs IsBefore v.items) }
 {
-    let Some(place) = place_of(leases.as_slice(), ticket) else {
-        return Err(RecordRefusal::NotCanonical(Flaw::Relation));
-    };
-    leases.remove(place);
-    Ok(leases)
+    match place_of(leases.as_slice(), ticket) {
+        None => Err(RecordRefusal::NotCanonical(Flaw::Relation)),
+        Some(place) => {
+            leases.remove(place);
+            Ok(leases)
+        }
+    }
 }
 
 /// The leases without those that ended.
