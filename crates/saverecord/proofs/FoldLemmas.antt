@@ -1,11 +1,11 @@
 -- What holds of what was read of texts, entry by entry, and of the record that is made at the end.
-use Rattle.std.proofs.Common.{◌≡◌, ℕ, zero, suc, ◌≤◌, ◌<◌, ◌-◌, List, [], ◌∷◌, ◌++◌, ◌⊎◌, Bool, true, false, ◌&&◌, ◌||◌, not, eqb, ltb, leb, length, map, Option, Some, None, Result, Ok, Err, inl, inr, refl, sym, ap, ◌∙◌, subst, arith}
+use Rattle.std.proofs.Common.{◌≡◌, ℕ, suc, ◌≤◌, ◌<◌, ◌-◌, List, [], ◌∷◌, ◌++◌, Bool, true, false, ◌&&◌, not, ltb, leb, length, map, Result, Ok, Err, inl, inr, refl, sym, ap, ◌∙◌, subst, arith}
 use Rattle.std.specs.Prelude.{All, AllPairs, IfOk, slice_get}
-use Rattle.std.specs.List.{list_all, list_any, AllByRecursion}
+use Rattle.std.specs.List.{list_all, AllByRecursion}
 use Rattle.std.specs.List.Sorted.{IsStrictlyIncreasing, IsStrictlySortedBy}
 use Rattle.std.specs.Ordering.{nat_cmp}
 use Rattle.std.specs.declared.cmp.Ordering.TheVariants.{Less}
-use Rattle.std.proofs.lemmas.Bool.{cases_Bool, ltb-true, lt-ltb, leb-true, le-leb, eqb-true, eq-eqb, and_parts, and_from, not-true, not_from_false, false_from_ne_true, or_cases}
+use Rattle.std.proofs.lemmas.Bool.{cases_Bool, ltb-true, lt-ltb, leb-true, le-leb, eqb-true, eq-eqb, and_parts, and_from, not-true, not_from_false, or_cases}
 use Rattle.std.proofs.lemmas.List.Elements.{All-append, All-filter, All-from_recursion}
 use Rattle.std.proofs.lemmas.List.Kept.{AllPairs-filter, AllPairs-cons}
 use Rattle.std.proofs.lemmas.Map.Keys.{sorted_from_strictly_increasing}
@@ -24,7 +24,7 @@ use Rattle.lists.proofs.Rising.{less-from_cmp}
 use Rattle.protocol.specs.Lists.{In}
 use Rattle.protocol.specs.Names.{Slot, slot_eq, is_private, NodeId, Ticket}
 use Rattle.protocol.specs.Machine.{LineVersion}
-use Rattle.protocol.specs.Ledger.{Ledger, Lease, has_slot, has_ticket, lease_under, without, is_saved, saves, reads}
+use Rattle.protocol.specs.Ledger.{Ledger, Lease, has_slot, has_ticket, without, is_saved, saves, reads}
 use Rattle.protocol.specs.Lawful.{IsLawful, IsCore, IsHolder, IsNumber, AllApart}
 use Rattle.protocol.proofs.Base.{all_in, any_in, any_none, from_any, in_map, put_all, slot_eq_is, slot_eq_same}
 use Rattle.protocol.proofs.LawfulFarms.{every_opening_is_lawful}
@@ -40,7 +40,7 @@ use Rattle.saverecord.specs.declared.record.Record.{Record}
 use Rattle.saverecord.specs.declared.refusal.Flaw.TheVariants.{Relation}
 use Rattle.saverecord.specs.declared.refusal.RecordRefusal.{RecordRefusal}
 use Rattle.saverecord.specs.declared.refusal.RecordRefusal.TheVariants.{NotCanonical}
-use Rattle.saverecord.specs.Fits.{IsNode, IsNodeLife, IsLease, IsVersion, IsSlotLine}
+use Rattle.saverecord.specs.Fits.{IsNode, IsNodeLife, IsLease, IsSlotLine}
 use Rattle.saverecord.specs.Ledgers.{IsKept, HasInstances, blank, ledger_of}
 use Rattle.saverecord.specs.LogEntries.{IsLogEntry}
 use Rattle.saverecord.specs.Logs.{with_version, with_versions, without_one, without_all, ticket_of, are_newer, with_leases, with_lives, with_gone, with_retired, is_coherent, may_follow, changed, with_entry, is_open, some_retired, fits, IsAsked, IsReadable, folded_ledger}

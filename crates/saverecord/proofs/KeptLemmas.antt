@@ -135,7 +135,6 @@ module _ (r : Record) (kept : IsKept r) where
   holder : (g : Lease) → In g r.leases → IsHolder NODES (life_at r.lives) (is_among r.retired_nodes) (among r.retired) g
   holder = kept.lawful.core.holders
 
-
   line_fits : (l : SlotLine) → In l r.lines → IsSlotLine l
   line_fits l i = record {
     some = some_in l.line (all_in (λ (l : SlotLine). l.line ≡ [] → ⊥) r.lines kept.lines.filled l i);

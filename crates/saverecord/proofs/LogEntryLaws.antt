@@ -1,5 +1,5 @@
 -- An entry of a log as a format: the entry that is read is the one that was written, and what was written is read again.
-use Rattle.std.proofs.Common.{◌≡◌, ℕ, eqb, cond, List, [], ◌++◌, length, take, Result, Ok, Err, refl, sym, ap, subst, ◌∙◌, true}
+use Rattle.std.proofs.Common.{◌≡◌, ℕ, eqb, List, [], ◌++◌, length, take, Result, Ok, Err, refl, sym, ap, subst, ◌∙◌}
 use Rattle.std.specs.Prelude.{IfOk, OnOk, codes}
 use Rattle.std.specs.Global.{Vec}
 use Rattle.std.specs.declared.alloc.AllocError.{AllocError}
@@ -11,7 +11,7 @@ use Rattle.farm_base.specs.Digests.{IsBytes}
 use Rattle.farm_base.specs.Slots.{slot_cmp}
 use Rattle.lists.proofs.Rising.{sorted-from_row, row-from_sorted}
 use Rattle.codec.proofs.Formats.{IsFormat, ◌and_then◌, begins, begins_assoc, took, then_takes, then_again, last_again}
-use Rattle.codec.proofs.Steps.{bind_ok, ok_is, passed_ok as test_ok}
+use Rattle.codec.proofs.Steps.{bind_ok, passed_ok as test_ok}
 use Rattle.sha2.specs.Sha256.{sha256}
 use Rattle.saverecord.specs.declared.layout.Layout.{Layout}
 use Rattle.saverecord.specs.declared.layout.Layout.TheVariants.{Third}
@@ -23,7 +23,7 @@ use Rattle.saverecord.specs.LogEntries.{place_bytes, nodes_bytes, leases_bytes, 
 use Rattle.saverecord.specs.Parts.{Gives, passed}
 use Rattle.saverecord.specs.Records.{is_same, opened_by}
 use Rattle.saverecord.specs.Slots.{is_slot_above}
-use Rattle.saverecord.specs.Spelling.{counted, ticket_bytes, node_bytes, node_life_bytes, slot_bytes, lease_bytes, line_bytes}
+use Rattle.saverecord.specs.Spelling.{counted, ticket_bytes, node_bytes, node_life_bytes, slot_bytes, line_bytes}
 use Rattle.saverecord.proofs.BodyLaws.{home_format}
 use Rattle.saverecord.proofs.EntryLaws.{list_format}
 use Rattle.saverecord.proofs.Fields.{passed_ok, any64}

@@ -1,8 +1,8 @@
 -- The entry of what an event changed can be written, and behind texts that hold the ledger before it holds the one after.
 use mathlib.Core.Path.{fun_ext}
-use Rattle.std.proofs.Common.{◌≡◌, ◌≢◌, ℕ, zero, suc, ◌<◌, ◌≤◌, ◌-◌, List, [], ◌∷◌, ◌++◌, ◌⊎◌, Bool, true, false, not, ◌&&◌, ◌||◌, eqb, leb, length, map, filter, Option, Some, None, Ok, Result, inl, inr, refl, sym, ap, ◌∙◌, subst, arith}
+use Rattle.std.proofs.Common.{◌≡◌, ◌≢◌, ℕ, zero, suc, ◌<◌, ◌≤◌, ◌-◌, List, [], ◌∷◌, ◌++◌, Bool, true, false, not, ◌||◌, eqb, leb, length, map, filter, Ok, Result, inl, inr, refl, sym, ap, ◌∙◌, subst, arith}
 use Rattle.std.specs.Prelude.{All, slice_get, is_some}
-use Rattle.std.specs.List.{list_all, find, AllByRecursion}
+use Rattle.std.specs.List.{AllByRecursion}
 use Rattle.std.specs.List.Sorted.{IsStrictlyIncreasing, IsStrictlySortedBy}
 use Rattle.std.specs.Ordering.{nat_cmp}
 use Rattle.std.specs.declared.cmp.Ordering.TheVariants.{Less}
@@ -13,7 +13,7 @@ use Rattle.std.proofs.lemmas.Map.Keys.{sorted_from_strictly_increasing, IsStrict
 use Rattle.codec.specs.Steps.{◌>>=◌}
 use Rattle.farm_base.specs.declared.lease.NodeLife.{NodeLife}
 use Rattle.farm_base.specs.declared.limits.TheConstants.{NODES}
-use Rattle.leases.specs.Leases.{IsOpen, Rises}
+use Rattle.leases.specs.Leases.{Rises}
 use Rattle.leases.specs.Table.{among}
 use Rattle.lists.proofs.Rising.{less-from_cmp}
 use Rattle.protocol.specs.Lists.{In, put}
@@ -28,16 +28,15 @@ use Rattle.versions.proofs.Ordered.{Rise}
 use Rattle.saverecord.specs.declared.log_entry.LogEntry.{LogEntry}
 use Rattle.saverecord.specs.declared.refusal.Flaw.TheVariants.{Relation}
 use Rattle.saverecord.specs.declared.refusal.RecordRefusal.{RecordRefusal}
-use Rattle.saverecord.specs.declared.refusal.RecordRefusal.TheVariants.{NotCanonical}
 use Rattle.saverecord.specs.Fits.{IsTicket, IsNode, IsNodeLife, IsLease, IsVersion, IsSlotLine}
 use Rattle.saverecord.specs.LogEntries.{entry_of, IsLogEntry}
-use Rattle.saverecord.specs.Logs.{Holds, Follows, IsChange, IsSaved, AreInOrder, has_ended, with_versions, without_one, without_all, ticket_of, are_newer, with_leases, with_lives, with_gone, is_coherent, may_follow, changed, with_entry, after_text, agreed, ledger_in}
+use Rattle.saverecord.specs.Logs.{Holds, Follows, IsChange, IsSaved, AreInOrder, has_ended, with_versions, without_one, without_all, ticket_of, are_newer, with_leases, with_lives, with_gone, is_coherent, may_follow, changed, with_entry, after_text}
 use Rattle.saverecord.specs.Parts.{passed}
-use Rattle.saverecord.specs.Relations.{lines_up_to, versions_up_to, no_two, is_same_private, fits_tenure}
+use Rattle.saverecord.specs.Relations.{versions_up_to}
 use Rattle.saverecord.specs.Texts.{Texts, with_text}
 use Rattle.saverecord.proofs.FoldLemmas.{entry_gives, lawful_agrees}
 use Rattle.saverecord.proofs.KeptLemmas.{home_fits, lease_folders, lease_is, own_folders, tenure_fits, tickets_rise}
-use Rattle.saverecord.proofs.LedgerLemmas.{all_from_in, each_in, each_from_in, passes_from_in, line_in}
+use Rattle.saverecord.proofs.LedgerLemmas.{each_in, each_from_in, passes_from_in, line_in}
 use Rattle.saverecord.proofs.LogLemmas.{added_all, agreed_is, filter_saved, pushed_in, read_saved}
 
 -- ---- leases that ended

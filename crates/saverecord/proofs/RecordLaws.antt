@@ -6,7 +6,6 @@ use Rattle.std.proofs.lemmas.List.{take_at, drop_at, take-append-drop, length-ap
 use Rattle.std.proofs.lemmas.Slice.Eq.{bytes_eq-Decides}
 use Rattle.sha2.specs.Sha256.{sha256}
 use Rattle.sha2.proofs.Facts256.{length-sha256}
-use Rattle.saverecord.specs.declared.layout.Layout.{Layout}
 use Rattle.saverecord.specs.declared.layout.Layout.TheVariants.{Third}
 use Rattle.saverecord.specs.declared.record.Record.{Record}
 use Rattle.saverecord.specs.declared.refusal.Flaw.TheVariants.{Relation}

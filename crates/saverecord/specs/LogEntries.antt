@@ -1,6 +1,6 @@
 -- An entry of a log: its bytes, how it is read, and what has to be met to write it. The rules are this project's own
 -- (docs/FORMATS.md, "The log").
-use Rattle.std.specs.Prelude.{ℕ, ◌<◌, ◌^◌, ◌-◌, ◌==◌, if◌then◌else◌, List, ◌++◌, length, map, Result, Ok, Err, codes}
+use Rattle.std.specs.Prelude.{ℕ, ◌<◌, ◌^◌, ◌==◌, if◌then◌else◌, List, ◌++◌, length, map, Result, Ok, Err, codes}
 use Rattle.std.specs.Int.{w64}
 use Rattle.std.specs.List.{AllByRecursion}
 use Rattle.std.specs.List.Sorted.{IsStrictlyIncreasing, IsStrictlySortedBy}

@@ -1,4 +1,4 @@
-use Rattle.std.proofs.Common.{◌≡◌, true, List, Ok, refl, ap, sym, ◌∙◌}
+use Rattle.std.proofs.Common.{◌≡◌, true, List, Ok, ap, sym, ◌∙◌}
 use Rattle.leases.specs.Table.{among, is_among, life_at}
 use Rattle.versions.specs.Lines.{line_at}
 use Rattle.versions.specs.declared.lines.SlotLine.{SlotLine}

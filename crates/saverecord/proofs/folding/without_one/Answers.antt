@@ -1,9 +1,9 @@
-use Rattle.std.proofs.Common.{◌≡◌, ◌∙◌, List, Option, Some, None, Ok, ap, sym, subst, inr, length, refl, arith}
+use Rattle.std.proofs.Common.{◌∙◌, List, Option, Ok, ap, sym, inr, length, arith}
 use Rattle.std.specs.List.{position_from}
 use Rattle.std.specs.Prelude.{is_some}
 use Rattle.farm_base.specs.declared.lease.Lease.{Lease}
 use Rattle.leases.proofs.TableLemmas.{StandsAt, stands, missing}
-use Rattle.protocol.specs.Ledger.{has_ticket, lease_under, without}
+use Rattle.protocol.specs.Ledger.{has_ticket, without}
 use Rattle.saverecord.specs.declared.refusal.Flaw.TheVariants.{Relation}
 use Rattle.saverecord.specs.Parts.{passed}
 use Rattle.saverecord.proofs.folding.without_one.Goals as goal

@@ -2,15 +2,13 @@ use Rattle.std.proofs.Common.{◌≡◌, true, List, ap, sym, subst, ◌∙◌}
 use Rattle.std.specs.List.{list_all}
 use Rattle.std.specs.List.Sorted.{IsStrictlyIncreasing, IsStrictlySortedBy}
 use Rattle.std.specs.Prelude.{map}
-use Rattle.farm_base.specs.Slots.{SlotParts, slot_cmp}
-use Rattle.farm_base.specs.declared.lease.NodeLife.{NodeLife}
+use Rattle.farm_base.specs.Slots.{slot_cmp}
 use Rattle.farm_base.specs.declared.number.NodeId.{NodeId}
 use Rattle.leases.specs.Lives.{AreLives}
 use Rattle.leases.specs.Table.{among, is_among, life_at}
 use Rattle.protocol.specs.Ledger.{Ledger}
 use Rattle.versions.specs.Lines.{line_at}
 use Rattle.versions.specs.Ordered.{AreLines}
-use Rattle.versions.specs.declared.lines.SlotLine.{SlotLine}
 use Rattle.saverecord.specs.Ledgers.{ledger_of}
 use Rattle.saverecord.specs.Logs.{fits, folded_ledger, IsReadable}
 use Rattle.saverecord.specs.Relations.{no_two, clash}

@@ -1,13 +1,8 @@
-use Rattle.std.proofs.Common.{◌≡◌, List, filter, ap, ◌∙◌, rules}
+use Rattle.std.proofs.Common.{◌≡◌, filter, ap, ◌∙◌, rules}
 use Rattle.std.proofs.lemmas.Fn.{filter_same}
-use Rattle.farm_base.specs.declared.lease.Lease.{Lease}
-use Rattle.farm_base.specs.declared.lease.NodeLife.{NodeLife}
-use Rattle.farm_base.specs.declared.number.NodeId.{NodeId}
-use Rattle.farm_base.specs.Slots.{SlotParts}
 use Rattle.leases.specs.Table.{among, is_among, life_at}
 use Rattle.protocol.specs.Ledger.{is_saved, saves, reads}
 use Rattle.versions.specs.Lines.{line_at}
-use Rattle.versions.specs.declared.lines.SlotLine.{SlotLine}
 use Rattle.saverecord.specs.Ledgers.{ledger_of}
 use Rattle.saverecord.proofs.folded.Folded.of.Goals as goal
 

@@ -14,6 +14,6 @@ loop-text-init c =
     record {
       readable = subst IsReadable (sym c.of-folded.ensures) (kept_readable whole c.in_ok-record_in.ensures.kept);
       folded = ap (λ (q : Ledger). with_entries c.entries-text-items.result.now q >>= agreed) c.of-folded.ensures
-      ∙ ap (λ (texts : List (List ℕ)). with_entries texts (reads (saves (ledger_of whole))) >>= agreed) c.entries-text-items.ensures
-      ∙ sym (ap (λ (x : Result Record RecordRefusal). x >>= λ w. with_entries c.args.self.now.entries (reads (saves (ledger_of w))) >>= agreed) (ap record_in (sym c.whole.ensures) ∙ c.in_ok-record_in.ensures.exact));
+          ∙ ap (λ (texts : List (List ℕ)). with_entries texts (reads (saves (ledger_of whole))) >>= agreed) c.entries-text-items.ensures
+          ∙ sym (ap (λ (x : Result Record RecordRefusal). x >>= λ w. with_entries c.args.self.now.entries (reads (saves (ledger_of w))) >>= agreed) (ap record_in (sym c.whole.ensures) ∙ c.in_ok-record_in.ensures.exact));
     }
