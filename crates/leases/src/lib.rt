@@ -5,6 +5,7 @@ mod changes;
 mod ending;
 mod folder_index;
 mod held;
+mod instances;
 pub mod laws;
 mod lease_table;
 mod live_leases;
@@ -14,6 +15,7 @@ mod newest_asks;
 mod retired_nodes;
 mod room;
 mod slots;
+mod taken_instances;
 mod ticket_source;
 mod view;
 

@@ -16,5 +16,6 @@ invariant_of-self c =
       sound = subst AreLeases (sym c.drop_ending.ensures.items) (leases-filter (λ g. not (ends_lease c.args.ending.now g)) c.self.inside.leases.items c.self.invariant.sound);
       indexed = subst (AreIndexed (ticket_at c.forget_ending.new.index)) (sym c.drop_ending.ensures.items)
           (subst (λ live. AreIndexed (ticket_at c.forget_ending.new.index) (left live)) c.as_slice.ensures.value (c.forget_ending.ensures.others was));
+      taken_is = ?taken;
       noted = subst (AreNoted c.self.inside.newest) (sym c.drop_ending.ensures.items) (noted-filter c.self.inside.newest (λ g. not (ends_lease c.args.ending.now g)) c.self.inside.leases.items c.self.invariant.noted);
     }
