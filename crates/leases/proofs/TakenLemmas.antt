@@ -236,14 +236,17 @@ beside_end ended k live s m w past h =
 -- ---- the instances that are not free
 
 not_free : (a b c d : Bool) → (d || (c || (b || a))) ≡ not (not (a || b) && not (c || d))
-not_free true b c true = refl
+not_free true b true true = refl
+not_free true b false true = refl
 not_free true b true false = refl
 not_free true true false false = refl
 not_free true false false false = refl
-not_free false true c true = refl
+not_free false true true true = refl
+not_free false true false true = refl
 not_free false true true false = refl
 not_free false true false false = refl
-not_free false false c true = refl
+not_free false false true true = refl
+not_free false false false true = refl
 not_free false false true false = refl
 not_free false false false false = refl
 
