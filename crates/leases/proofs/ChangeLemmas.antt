@@ -46,14 +46,6 @@ filter_both p q (x ∷ xs) = elim (cases_Bool (p x)) [
   ]
 ]
 
--- a test of what another test keeps
-pub any_kept : {A : Type 0} (keeps test : A → Bool) (xs : List A) → list_any (λ x. keeps x && test x) xs ≡ list_any test (filter keeps xs)
-any_kept keeps test [] = refl
-any_kept keeps test (x ∷ xs) = elim (cases_Bool (keeps x)) [
-  | inl e ↦ rw e (ap (λ (b : Bool). test x || b) (any_kept keeps test xs))
-  | inr e ↦ rw e (any_kept keeps test xs)
-]
-
 -- ---- no changes
 
 pub none_ended : (live : List Lease) → filter (λ g. not (has_ended [] g)) live ≡ live

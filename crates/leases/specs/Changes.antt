@@ -1,9 +1,9 @@
 -- The changes of one event over a lease table.
-use Rattle.std.specs.Prelude.{◌≡◌, ℕ, ◌+◌, ◌≤◌, if◌then◌else◌, Bool, not, List, ◌++◌, length, filter, Option, Some, None}
+use Rattle.std.specs.Prelude.{◌≡◌, ℕ, ◌+◌, ◌≤◌, if◌then◌else◌, Bool, not, ◌&&◌, List, ◌++◌, length, filter, Option, Some, None}
 use Rattle.std.specs.List.{list_any}
 use Rattle.farm_base.specs.declared.lease.Lease.{Lease}
 use Rattle.protocol.specs.Names.{Slot, FolderName, Ticket}
-use Rattle.protocol.specs.Ledger.{has_ticket, is_at, is_older}
+use Rattle.protocol.specs.Ledger.{has_slot, has_ticket, is_at, is_older}
 use Rattle.leases.specs.declared.ending.Ending.{Ending}
 use Rattle.leases.specs.declared.ending.Ending.TheVariants as ending
 use Rattle.leases.specs.Index.{index_entries}
@@ -28,6 +28,10 @@ ends_lease (ending.LivesBelow n l) g = is_older n l g
 -- one of these endings ends the lease
 abbrev pub has_ended : List Ending → Lease → Bool
 has_ended ended g = list_any (λ e. ends_lease e g) ended
+
+-- one of these leases that this ends has the slot
+abbrev pub frees : Ending → List Lease → Slot → Bool
+frees e leases s = list_any (λ g. ends_lease e g && has_slot g.slots s) leases
 
 -- the lease, unless it has ended
 abbrev pub standing : List Ending → Option Lease → Option Lease

@@ -1,11 +1,11 @@
 //! The leases of a table, and the ways to find one of them.
-ghost use Rattle.std.specs.Prelude.{◌≡◌, ℕ, ◌+◌, ◌≤◌, not, [], ◌∷◌, ◌++◌, ◌&&◌, filter, length, false, All, AllPairs, IfOk, OnOk, OnErr, option_copied, vec_len};
+ghost use Rattle.std.specs.Prelude.{◌≡◌, ℕ, ◌+◌, ◌≤◌, not, [], ◌∷◌, ◌++◌, filter, length, false, All, AllPairs, IfOk, OnOk, OnErr, option_copied, vec_len};
 ghost use Rattle.std.specs.Bool.{OnFalse};
-ghost use Rattle.std.specs.List.{find, list_any, position_from};
+ghost use Rattle.std.specs.List.{find, position_from};
 ghost use Rattle.farm_base.specs.declared.limits.TheConstants.{INSTANCES};
 ghost use Rattle.protocol.specs.Names.{only_slot};
 ghost use Rattle.protocol.specs.Ledger.{has_slot, has_ticket, is_of, lease_under, some_lease, without};
-ghost use Rattle.leases.specs.Changes.{ends_lease, has_ended};
+ghost use Rattle.leases.specs.Changes.{ends_lease, frees, has_ended};
 ghost use Rattle.leases.specs.Index.{index_entries};
 ghost use Rattle.leases.specs.Instances.{has, lease_instances};
 ghost use Rattle.leases.specs.Leases.{AreLeases, IsBefore};
@@ -136,7 +136,7 @@ impl LiveLeases {
 
     /// Takes the instances of a folder out that leases have which this ends.
     fn unmark_ended(&self, taken: &mut Instances, folder: &FolderName, ending: &Ending)
-        ensures { Unmarks taken.old taken.new folder.now (λ s. list_any (λ g. ends_lease ending.now g && has_slot g.slots s) self.now.leases) }
+        ensures { Unmarks taken.old taken.new folder.now (λ s. frees ending.now self.now.leases s) }
     {
         match *ending {
             Ending::Ticket(ticket) => {
@@ -171,11 +171,7 @@ impl LiveLeases {
     }
 
     /// Makes room for more leases, and what the indexes are to have of them.
-    pub(crate) fn room_for(
-        &mut self,
-        alloc: Global,
-        more: &[Lease],
-    ) -> Result<Entries, AllocError>
+    pub(crate) fn room_for(&mut self, alloc: Global, more: &[Lease]) -> Result<Entries, AllocError>
         ensures leases { self.new.leases ≡ self.old.leases }
         ensures room { OnOk result (length self.new.leases + length more.now ≤ self.new.lease_room) }
         ensures tickets { IfOk result (λ entries. entries.tickets.items ≡ index_entries more.now) }

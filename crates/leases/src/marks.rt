@@ -1,9 +1,7 @@
 //! Sets of a folder's instances, from the slots of leases.
-ghost use Rattle.std.specs.Prelude.{◌≡◌, ℕ, ◌≤◌, ◌&&◌, ◌||◌, not};
-ghost use Rattle.std.specs.List.{list_any};
 ghost use Rattle.protocol.specs.Names.{slot_eq};
 ghost use Rattle.protocol.specs.Ledger.{has_slot, some_lease};
-ghost use Rattle.leases.specs.Changes.{ends_lease};
+ghost use Rattle.leases.specs.Changes.{frees};
 ghost use Rattle.leases.specs.Marks.{Marks, Unmarks};
 ghost use Rattle.leases.specs.Table.{among};
 
@@ -72,7 +70,7 @@ pub(crate) fn unmark_ending(
     leases: &[Lease],
     ending: &Ending,
 )
-    ensures { Unmarks marks.old marks.new folder.now (λ s. list_any (λ g. ends_lease ending.now g && has_slot g.slots s) leases.now) }
+    ensures { Unmarks marks.old marks.new folder.now (λ s. frees ending.now leases.now s) }
 {
     for lease in leases {
         if ending.ends(lease) {

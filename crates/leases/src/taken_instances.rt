@@ -1,11 +1,11 @@
 //! The instances of folders that live leases have.
-ghost use Rattle.std.specs.Prelude.{◌≡◌, ◌≢◌, ◌==◌, ℕ, ◌+◌, ◌<◌, ◌≤◌, ◌++◌, ◌&&◌, ◌||◌, not, false, length, vec_len, IfOk, OnOk};
+ghost use Rattle.std.specs.Prelude.{◌≡◌, ◌==◌, ℕ, ◌+◌, ◌<◌, ◌≤◌, ◌++◌, ◌&&◌, ◌||◌, not, false, vec_len, IfOk, OnOk};
 ghost use Rattle.std.specs.List.{list_any};
 ghost use Rattle.farm_base.specs.Folders.{folder_eq};
 ghost use Rattle.farm_base.specs.declared.limits.TheConstants.{INSTANCES};
 ghost use Rattle.protocol.specs.Names.{FolderName};
-ghost use Rattle.protocol.specs.Ledger.{has_slot, some_lease};
-ghost use Rattle.leases.specs.Changes.{ends_lease};
+ghost use Rattle.protocol.specs.Ledger.{has_slot};
+ghost use Rattle.leases.specs.Changes.{frees};
 ghost use Rattle.leases.specs.Instances.{has, is_taken, folder_room, slot_instances, lease_instances, AreTaken};
 
 use super::ending::Ending;
@@ -97,7 +97,7 @@ impl TakenInstances {
 
     /// Takes the instances out that the leases have which this ends.
     pub(crate) fn remove_ending(&mut self, leases: &[Lease], ending: &Ending)
-        ensures free { (f : FolderName) (i : ℕ) → i ≤ INSTANCES → is_taken self.new f i ≡ (not (list_any (λ g. ends_lease ending.now g && has_slot g.slots (record { folder = f; instance = i })) leases.now) && is_taken self.old f i) }
+        ensures free { (f : FolderName) (i : ℕ) → i ≤ INSTANCES → is_taken self.new f i ≡ (not (frees ending.now leases.now (record { folder = f; instance = i })) && is_taken self.old f i) }
         ensures room { folder_room self.old ≤ folder_room self.new }
     {
         for lease in leases {
