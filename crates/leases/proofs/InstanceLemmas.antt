@@ -1,5 +1,5 @@
 -- Sets of instances, as bits of words.
-use Rattle.std.proofs.Common.{◌≡◌, ◌≢◌, ℕ, zero, suc, ◌+◌, ◌*◌, ◌-◌, ◌/◌, ◌%◌, ◌^◌, ◌<◌, ◌≤◌, List, Bool, true, false, not, ◌&&◌, ◌||◌, cond, eqb, eq-eqb, length, get_or, set, refl, sym, ◌∙◌, ap, inl, inr, arith}
+use Rattle.std.proofs.Common.{◌≡◌, ◌≢◌, ℕ, zero, suc, ◌+◌, ◌*◌, ◌-◌, ◌/◌, ◌%◌, ◌^◌, ◌<◌, List, Bool, true, false, not, ◌&&◌, ◌||◌, cond, eqb, eq-eqb, length, get_or, set, refl, sym, ◌∙◌, ap, inl, inr, arith}
 use Rattle.std.specs.Prelude.{All, replicate}
 use Rattle.std.specs.Int.{bit_at, bit_not, trailing_ones, w64}
 use Rattle.std.specs.Int.RustNames.{bit_or}

@@ -1,5 +1,5 @@
 -- The instances of folders that leases have.
-use Rattle.std.proofs.Common.{◌≡◌, ◌≢◌, ℕ, ◌+◌, ◌<◌, ◌≤◌, List, [], ◌∷◌, ◌++◌, Bool, true, false, not, ◌&&◌, ◌||◌, cond, eqb, length, get_or, drop, map, filter, Option, Some, None, refl, sym, ◌∙◌, ap, inl, inr, arith}
+use Rattle.std.proofs.Common.{◌≡◌, ℕ, ◌+◌, ◌<◌, ◌≤◌, List, [], ◌∷◌, ◌++◌, Bool, true, false, not, ◌&&◌, ◌||◌, cond, eqb, length, get_or, drop, filter, Option, Some, None, refl, sym, ◌∙◌, ap, inl, inr, arith}
 use Rattle.std.specs.Prelude.{All, AllPairs}
 use Rattle.std.specs.List.{find, list_any}
 use Rattle.std.proofs.Math.Bool.{or_comm}
@@ -17,7 +17,7 @@ use Rattle.leases.specs.Instances.{has_of, instances_of, slot_instances, lease_i
 use Rattle.leases.specs.declared.instances.Instances.{Instances}
 use Rattle.leases.specs.declared.ending.Ending.{Ending}
 use Rattle.leases.specs.Changes.{ends_lease, has_ended}
-use Rattle.leases.specs.Leases.{Table, AreApart}
+use Rattle.leases.specs.Leases.{AreApart}
 use Rattle.leases.specs.Table.{among, is_free}
 use Rattle.leases.proofs.FindLemmas.{PassesOnce}
 use Rattle.leases.proofs.MarkLemmas.{drop-item}
