@@ -10,4 +10,6 @@ pub mod NodeLemmas
 pub mod ChangeLemmas
 pub mod FindLemmas
 pub mod IndexLemmas
+pub mod InstanceLemmas
+pub mod TakenLemmas
 pub mod NewestLemmas

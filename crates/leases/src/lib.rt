@@ -5,6 +5,7 @@ mod changes;
 mod ending;
 mod folder_index;
 mod held;
+mod instances;
 pub mod laws;
 mod lease_table;
 mod live_leases;
@@ -15,6 +16,7 @@ mod retired_nodes;
 mod room;
 mod saved;
 mod slots;
+mod taken_instances;
 mod ticket_source;
 mod view;
 
