@@ -264,7 +264,7 @@ impl LiveLeases {
 }
 
 /// The place of the lease of a ticket.
-fn place_of(leases: &[Lease], ticket: Ticket) -> Option<usize>
+pub fn place_of(leases: &[Lease], ticket: Ticket) -> Option<usize>
     requires { AllPairs IsBefore leases.now }
     ensures { result ≡ position_from (has_ticket ticket) 0 leases.now }
 {

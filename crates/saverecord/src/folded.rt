@@ -1,8 +1,6 @@
 //! What texts hold while they are read, and the record that it makes.
 ghost use Rattle.std.specs.Prelude.{◌≡◌, IfOk};
 ghost use Rattle.std.specs.List.{list_all};
-ghost use Rattle.std.specs.List.Sorted.{IsStrictlySortedBy};
-ghost use Rattle.farm_base.specs.Slots.{slot_cmp};
 ghost use Rattle.leases.specs.Table.{among};
 ghost use Rattle.protocol.specs.Ledger.{reads, saves};
 ghost use Rattle.saverecord.specs.Ledgers.{IsKept, ledger_of};
@@ -13,9 +11,9 @@ ghost use Rattle.versions.specs.Lines.{line_at};
 
 use super::record::Record;
 use super::refusal::{Flaw, RecordRefusal};
-use super::relation::{are_apart, is_saved};
+use super::relation::are_apart;
 use farm_base::{Items, Lease, NodeId, Slot, Ticket};
-use leases::{Lives, RetiredNodes};
+use leases::{Lives, RetiredNodes, is_saved, rising};
 use std::alloc::{AllocError, Global};
 use versions::Lines;
 
@@ -80,17 +78,6 @@ fn all_fit(folded: &Folded) -> bool
         .as_slice()
         .iter()
         .all(|lease| fits(folded, lease))
-}
-
-/// These slots, each once, rising.
-fn rising(slots: Vec<Slot>) -> Result<Vec<Slot>, AllocError>
-    ensures rising { IfOk result (λ v. IsStrictlySortedBy slot_cmp v.items) }
-    ensures same { IfOk result (λ v. among v.items ≡ among slots.items) }
-{
-    let mut rising = slots;
-    rising.sort()?;
-    rising.dedup();
-    Ok(rising)
 }
 
 impl Folded {

@@ -1,9 +1,8 @@
 //! Reading what is kept: a whole record, and what each entry after it changes.
 ghost use Rattle.std.specs.Prelude.{◌≡◌, ◌≤◌, All, AllPairs, IfOk, Ok};
-ghost use Rattle.std.specs.List.{list_all, position_from};
+ghost use Rattle.std.specs.List.{list_all};
 ghost use Rattle.leases.specs.Leases.{IsBefore};
 ghost use Rattle.leases.specs.Table.{among, is_among, life_at};
-ghost use Rattle.protocol.specs.Ledger.{has_ticket};
 ghost use Rattle.saverecord.specs.Ledgers.{IsKept, blank, ledger_of, record_in};
 ghost use Rattle.saverecord.specs.LogEntries.{IsLogEntry};
 ghost use Rattle.saverecord.specs.Logs.{with_version, with_versions, without_one, without_all, are_newer, with_leases, with_lives, with_gone, with_retired, is_coherent, may_follow, with_entry, after_text, ledger_in, folded_ledger, IsReadable};
@@ -17,9 +16,9 @@ use super::log::Log;
 use super::log_entry::LogEntry;
 use super::record::Record;
 use super::refusal::{Flaw, RecordRefusal};
-use super::relation::{are_of_own_folders, are_private, fits_tenure, is_saved, lines_up_to};
+use super::relation::{are_of_own_folders, are_private, fits_tenure, lines_up_to};
 use farm_base::{Items, Lease, NodeId, NodeLife, Slot, Ticket};
-use leases::{Lives, RetiredNodes};
+use leases::{Lives, RetiredNodes, is_saved, place_of};
 use std::alloc::{AllocError, Global};
 use versions::{Lines, SlotLine};
 
@@ -46,16 +45,6 @@ fn with_versions(mut lines: Lines, more: Vec<SlotLine>) -> Result<Lines, RecordR
         lines = with_version(lines, line)?;
     }
     Ok(lines)
-}
-
-/// The place of the lease of a ticket.
-fn place_of(leases: &[Lease], ticket: Ticket) -> Option<usize>
-    requires { AllPairs IsBefore leases.now }
-    ensures { result ≡ position_from (has_ticket ticket) 0 leases.now }
-{
-    leases
-        .binary_search_by_key(&ticket, |lease| lease.ticket)
-        .ok()
 }
 
 /// The leases without that of a ticket, which has to be among them.

@@ -2,7 +2,7 @@
 ghost use Rattle.std.specs.Prelude.{◌≡◌, not};
 ghost use Rattle.std.specs.List.{list_all, list_any};
 ghost use Rattle.protocol.specs.Names.{is_private, is_shared};
-ghost use Rattle.protocol.specs.Ledger.{has_slot, is_saved};
+ghost use Rattle.protocol.specs.Ledger.{has_slot};
 ghost use Rattle.saverecord.specs.Relations.{no_two, tickets_up_to, versions_up_to, lines_up_to, lives_there, shares, is_same_ask, clash, has_retired, is_same_private, is_tenured, some_shared, fits_tenure, is_gone, is_above_line, is_above_lines, fits_record, agrees, is_home, is_at_home};
 
 use super::record::Record;
@@ -25,19 +25,6 @@ fn has_slot(slots: &[(Slot, bool)], slot: &Slot) -> bool
     ensures { result ≡ has_slot slots.now slot.now }
 {
     slots.iter().any(|held| held.0 == *slot)
-}
-
-fn some_private(slots: &[(Slot, bool)]) -> bool
-    ensures { result ≡ list_any (λ x. is_private x.0.folder.mode) slots.now }
-{
-    slots.iter().any(|held| is_private(held.0.folder().mode))
-}
-
-/// Whether a lease outlives a restart.
-pub(crate) fn is_saved(lease: &Lease) -> bool
-    ensures { result ≡ is_saved lease.now }
-{
-    lease.tenure || some_private(lease.slots.as_slice())
 }
 
 fn versions_up_to(last: u64, versions: &[LineVersion]) -> bool
