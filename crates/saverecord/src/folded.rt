@@ -14,7 +14,7 @@ use super::refusal::{Flaw, RecordRefusal};
 use super::relation::are_apart;
 use farm_base::{Items, Lease, NodeId, Slot, Ticket};
 use leases::{Lives, RetiredNodes, is_saved, rising};
-use std::alloc::{AllocError, Global};
+use std::alloc::Global;
 use versions::Lines;
 
 /// What texts hold, up to an entry.
