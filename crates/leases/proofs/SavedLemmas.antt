@@ -1,5 +1,5 @@
 -- The tickets of leases that end, of those that the record has.
-use Rattle.std.proofs.Common.{◌≡◌, ◌∷◌, [], List, Bool, true, false, ◌&&◌, ◌||◌, map, filter, refl, sym, ◌∙◌, ap, inl, inr, arith}
+use Rattle.std.proofs.Common.{◌≡◌, ◌∷◌, [], List, true, false, refl, sym, ap, inl, inr, arith}
 use Rattle.std.proofs.lemmas.Bool.{cases_Bool}
 use Rattle.std.proofs.lemmas.List.Elements.{All-tail}
 use Rattle.std.specs.Prelude.{All, AllPairs}
