@@ -71,7 +71,7 @@ each_added lines (Some a) l ready is full = one_added lines a.ticket a.additions
 -- each line that is added has one version, above those that its slot has
 pub added_follow : (lines : List SlotLine) (o : Option Added) (more : List SlotLine) → IsReady lines o → AreLines more → line_at more ≡ lines_with [] o → All (Follows (line_at lines)) more
 added_follow lines o more ready sound same = all_from_in (Follows (line_at lines)) more
-(λ l i. each_added lines o l ready (sym (line_in more sound.rise l i) ∙ ap (λ (f : LineOf). f l.slot) same) (all_in (λ (l : SlotLine). l.line ≢ []) more sound.filled l i))
+    (λ l i. each_added lines o l ready (sym (line_in more sound.rise l i) ∙ ap (λ (f : LineOf). f l.slot) same) (all_in (λ (l : SlotLine). l.line ≢ []) more sound.filled l i))
 
 -- ---- the leases that ended
 
@@ -110,7 +110,7 @@ second false b h = (let bad : false ≡ true = h in absurd (cc bad))
 -- each ticket that ended is that of a lease that the record has
 pub ended_there : (ended : List Ending) (live : List Lease) → All (λ t. is_some (lease_under (filter is_saved live) t) ≡ true) (saved_tickets ended live)
 ended_there ended live = all_from_in (λ (t : Ticket). is_some (lease_under (filter is_saved live) t) ≡ true) (saved_tickets ended live)
-(λ t i. (let o = of_saved ended live t i in
+    (λ t i. (let o = of_saved ended live t i in
     found_under (filter is_saved live) t o.0 (in_filter is_saved o.0 live o.1 (second _ _ o.2)) (eq-eqb o.0.ticket.0 t.0 (ap (λ (x : Ticket). x.0) (sym o.3)))))
 
 -- the ticket of a lease is among these exactly where the lease ended and the record has it
