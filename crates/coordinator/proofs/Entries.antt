@@ -77,6 +77,7 @@ added_follow lines o more ready sound same = all_from_in (Follows (line_at lines
 
 -- two leases with one ticket are one lease
 one_lease : (live : List Lease) → AllPairs IsBefore live → (g h : Lease) → In g live → In h live → g.ticket.0 ≡ h.ticket.0 → g ≡ h
+one_lease [] up g h i j same = elim i [ ]
 one_lease (x ∷ live) up g h (inl i) (inl j) same = i ∙ sym j
 one_lease (x ∷ live) up g h (inl i) (inr j) same =
     let later = all_in (IsBefore x) live (AllPairs-head IsBefore x live up) h j in
@@ -90,6 +91,7 @@ one_lease (x ∷ live) up g h (inr i) (inr j) same = one_lease live (AllPairs-ta
 
 -- a lease with the ticket is found
 found_under : (live : List Lease) (t : Ticket) (g : Lease) → In g live → has_ticket t g ≡ true → is_some (lease_under live t) ≡ true
+found_under [] t g i has = elim i [ ]
 found_under (x ∷ live) t g (inl i) has = (let here : has_ticket t x ≡ true = ap (has_ticket t) (sym i) ∙ has in rw here refl)
 found_under (x ∷ live) t g (inr i) has = elim (cases_Bool (has_ticket t x)) [
   | inl e ↦ rw e refl
@@ -136,7 +138,7 @@ left_saved test ended (g ∷ live) h =
     elim (cases_Bool (is_saved g)) [
       | inl s ↦ elim (cases_Bool (has_ended ended g)) [
         | inl e ↦ (let gone : test g ≡ true = rw (e, s) at here in rw (s, e, gone) rest)
-        | inr e ↦ (let stays : test g ≡ false = rw (e, s) at here in rw (e, s, stays) (ap (λ (gs : List Lease). g ∷ gs) rest))
+        | inr e ↦ (let stays : test g ≡ false = rw e at here in rw (e, s, stays) (ap (λ (gs : List Lease). g ∷ gs) rest))
       ]
       | inr s ↦ elim (cases_Bool (has_ended ended g)) [
         | inl e ↦ rw (e, s) rest

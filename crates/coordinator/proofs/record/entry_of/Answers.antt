@@ -22,8 +22,8 @@ use Rattle.coordinator.specs.Shown.{lines_with}
 use Rattle.coordinator.proofs.Entries.{split_lines, ready_alone, added_follow, ended_there, ended_rise, live_after}
 use Rattle.coordinator.proofs.record.entry_of.Goals as goal
 
-pub copy_with-lines-requires : goal.copy_with-lines-requires
-copy_with-lines-requires c = subst (λ (ls : List SlotLine). IsReady ls c.args.added.now) (sym c.new-none.ensures) (ready_alone c.args.state.now.lines c.args.added.now c.requires.ready)
+pub copy_with-requires : goal.copy_with-requires
+copy_with-requires c = subst (λ (ls : List SlotLine). IsReady ls c.args.added.now) (sym c.new-none.ensures) (ready_alone c.args.state.now.lines c.args.added.now c.requires.ready)
 
 pub returns-clause-change : goal.returns-clause-change
 returns-clause-change c =
