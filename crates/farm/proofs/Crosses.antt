@@ -12,6 +12,8 @@ use Rattle.executions.specs.contracts.batch.Batch as Batch
 use Rattle.executions.specs.contracts.live_shared.Open as Open
 use Rattle.nodecore.specs.contracts.stored.StoredContents as StoredContents
 use Rattle.nodecore.specs.contracts.node_core.NodeCore as NodeCore
+use Rattle.saverecord.specs.contracts.keeper.MemoryKeeper as MemoryKeeper
+use Rattle.coordinator.specs.contracts.ledger.Ledger as Ledger
 use Rattle.world.specs.contracts.world.World as World
 use Rattle.farmboard.specs.contracts.board.Board as Board
 use Rattle.farmboard.specs.contracts.board.Board.TheInside as Inside
@@ -40,8 +42,14 @@ stored_contents = search (sendable, crosses, maps.crosses) depth 60 fits 20000
 pub node_core : IsSend NodeCore.the_row
 node_core = search (sendable, crosses, maps.crosses, kept_ask, stored_contents) depth 60 fits 20000
 
+ledger : IsSend Ledger.the_row
+ledger = search (sendable, crosses, maps.crosses) depth 60 fits 20000
+
+keeper : IsSend MemoryKeeper.the_row
+keeper = search (sendable, crosses, maps.crosses) depth 60 fits 20000
+
 pub world : IsSend World.the_field.row
-world = search (sendable, crosses, maps.crosses, message, node_core) depth 120 fits 20000
+world = search (sendable, crosses, maps.crosses, message, node_core, ledger, keeper) depth 60 fits 20000
 
 board_inside : IsSend Inside.the_row
 board_inside =
