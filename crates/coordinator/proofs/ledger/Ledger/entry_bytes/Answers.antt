@@ -2,6 +2,7 @@ use Rattle.std.proofs.Common.{◌≡◌, ◌≤◌, List, refl, sym, ap, ◌∙�
 use Rattle.std.proofs.lemmas.Result.{IfOk-weaker}
 use Rattle.protocol.specs.Ledger.{Ledger, saves}
 use Rattle.versions.specs.Additions.{IsReady}
+use Rattle.saverecord.specs.LogEntries.{IsLogEntry}
 use Rattle.saverecord.specs.Logs.{Holds, IsSaved}
 use Rattle.saverecord.specs.Texts.{Texts, with_text}
 use Rattle.saverecord.proofs.LogLaws.{change_is_entry, entry_holds}
@@ -12,14 +13,14 @@ use Rattle.coordinator.specs.Sound.{IsRightful}
 use Rattle.coordinator.proofs.Entries.{rightful_saves}
 use Rattle.coordinator.proofs.ledger.Ledger.entry_bytes.Goals as goal
 
-pub entry_of-entry-requires-clause-before : goal.entry_of-entry-requires-clause-before
-entry_of-entry-requires-clause-before c = c.self.invariant.sound.leases
+pub entry_of-requires-clause-before : goal.entry_of-requires-clause-before
+entry_of-requires-clause-before c = c.self.invariant.sound.leases
 
-pub entry_of-entry-requires-clause-block : goal.entry_of-entry-requires-clause-block
-entry_of-entry-requires-clause-block c = subst (λ (h : Held). h.ceiling ≤ c.args.prepared.now.draft.change.tickets.ceiling) (sym c.self.view_is) c.requires.block
+pub entry_of-requires-clause-block : goal.entry_of-requires-clause-block
+entry_of-requires-clause-block c = subst (λ (h : Held). h.ceiling ≤ c.args.prepared.now.draft.change.tickets.ceiling) (sym c.self.view_is) c.requires.block
 
-pub entry_of-entry-requires-clause-ready : goal.entry_of-entry-requires-clause-ready
-entry_of-entry-requires-clause-ready c = subst (λ (h : Held). IsReady h.lines c.args.prepared.now.added) (sym c.self.view_is) c.requires.ready
+pub entry_of-requires-clause-ready : goal.entry_of-requires-clause-ready
+entry_of-requires-clause-ready c = subst (λ (h : Held). IsReady h.lines c.args.prepared.now.added) (sym c.self.view_is) c.requires.ready
 
 pub write-requires : goal.write-requires
 write-requires c =
@@ -33,6 +34,8 @@ returns c =
     let by : (Held → Ledger) = λ h. after (lines_with h.lines c.args.prepared.now.added) h c.args.prepared.now.draft.change in
     let h : Held = held c.self.inside.state in
     let sound : IsSaved (saves (by h)) = rightful_saves (by h) (subst (λ (x : Held). IsRightful (by x)) (sym c.self.view_is) c.requires.rightful) in
+    let is_entry : IsLogEntry c.in_ok-entry.entry =
+    change_is_entry (saves (ledger h)) (saves (by h)) c.in_ok-entry.entry (rightful_saves (ledger h) c.self.invariant) sound c.in_ok-entry.ensures.order c.in_ok-entry.ensures.change in
     IfOk-weaker c.write.result _ (λ bytes. (t : Texts) → Holds t (saves (ledger c.args.self.now)) → Holds (with_text bytes.items t) (saves (by c.args.self.now)))
     (λ bytes again. subst (λ (x : Held). (t : Texts) → Holds t (saves (ledger x)) → Holds (with_text bytes.items t) (saves (by x))) c.self.view_is
-    (entry_holds (saves (ledger h)) (saves (by h)) c.in_ok-entry.entry (write-requires c) sound c.in_ok-entry.ensures.change bytes.items again)) c.write.ensures.again
+    (entry_holds (saves (ledger h)) (saves (by h)) c.in_ok-entry.entry is_entry sound c.in_ok-entry.ensures.change bytes.items again)) c.write.ensures.again
