@@ -1,4 +1,4 @@
-use Rattle.std.proofs.Common.{◌≡◌, true, false, Ok, Err, inl, inr, refl, sym, ap, ◌∙◌, subst}
+use Rattle.std.proofs.Common.{◌≡◌, true, false, Result, Ok, Err, inl, inr, refl, sym, ap, ◌∙◌, subst}
 use Rattle.protocol.specs.Ledger.{Ledger, Work, saves}
 use Rattle.protocol.specs.declared.answer.CoordRefusal.{CoordRefusal}
 use Rattle.protocol.specs.declared.answer.CoordRefusal.TheVariants.{SaveFault, OutOfMemory}
@@ -18,8 +18,8 @@ use Rattle.coordinator.proofs.ledger.Ledger.settle.Goals as goal
 
 -- in places of their own, since a search at a goal below would read all that is known there
 
-err_is : {A : Type 0} (a b : CoordRefusal) → Err {A} a ≡ Err b → a ≡ b
-err_is a b e = cc e
+err_is : {A : Type 0} (x y : Result A CoordRefusal) (a b : CoordRefusal) → x ≡ Err a → y ≡ Err b → x ≡ y → a ≡ b
+err_is x y a b is also e = cc (is, also, e)
 
 not_memory : {P : Type 0} → SaveFault ≡ OutOfMemory → P
 not_memory e = absurd (cc e)
@@ -109,7 +109,7 @@ returns-in-Err-save-clause-answer g c =
     elim c.in-Err-save.ensures.refusals [
       | inl e ↦ subst P (sym e)
           (let failed = saved_not g.K.Keeper.saving c.in-Ok.to_save c.args.prepared.draft.changed (saves (ledger h)) (saves w.ledger) (g.K.Keeper.kept c.args.keeper.now) c.args.keeper.now c.save.new.keeper
-          c.in-Ok.ensures.changed c.in-Ok.ensures.text before c.in-Err-save.ensures.exact (λ f. not_memory (sym e ∙ err_is _ _ f)) (λ f. (c.in-Err-save.ensures.nothing f).0) in
+          c.in-Ok.ensures.changed c.in-Ok.ensures.text before c.in-Err-save.ensures.exact (λ f. not_memory (sym e ∙ err_is _ _ _ _ refl refl f)) (λ f. (c.in-Err-save.ensures.nothing f).0) in
           record { changed = failed.0; saved = failed.1; held = same; down = refl })
       | inr e ↦ subst P (sym e) (refl, (let stays = c.in-Err-save.ensures.same (ap (λ r. Err r) e) in λ j. record { held = same j; keeper = stays j; down = false }))
     ]
