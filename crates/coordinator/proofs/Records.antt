@@ -88,4 +88,5 @@ saves_again q = ap (λ l. record (saves q) { live = l }) (saved_twice q.live)
 
 -- what kept texts hold, as a restart takes it up
 pub held_in : (t : Texts) (s : Saved) → Holds t s → saved_in t ≡ s
+unfolding saved_in
 held_in t s h = ap saved_by h.read ∙ h.saved

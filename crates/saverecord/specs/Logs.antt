@@ -148,7 +148,7 @@ saved_by (Ok q) = saves q
 saved_by (Err e) = saves opening
 
 -- what texts hold of a ledger. Those that hold none hold as little as none
-abbrev pub saved_in : Texts → Saved
+unfoldable pub saved_in : Texts → Saved
 saved_in t = saved_by (ledger_in t)
 
 -- the texts hold a ledger, of which this is saved
