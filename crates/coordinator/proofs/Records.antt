@@ -26,7 +26,7 @@ use Rattle.coordinator.specs.Sound.{IsRightful}
 use Rattle.leases.proofs.TableLemmas.{leases-filter}
 
 -- versions up to a ticket are so up to a higher one
-pub up_to : (low high : ℕ) (vs : List LineVersion) → low ≤ high → All (λ v. v.ticket.0 ≤ low) vs → All (λ v. v.ticket.0 ≤ high) vs
+up_to : (low high : ℕ) (vs : List LineVersion) → low ≤ high → All (λ v. v.ticket.0 ≤ low) vs → All (λ v. v.ticket.0 ≤ high) vs
 up_to low high vs below all = λ k d h. (let under = all k d h in omega (arith, under, below))
 
 -- the record of what a ledger saves, each list in its order
@@ -88,5 +88,4 @@ saves_again q = ap (λ l. record (saves q) { live = l }) (saved_twice q.live)
 
 -- what kept texts hold, as a restart takes it up
 pub held_in : (t : Texts) (s : Saved) → Holds t s → saved_in t ≡ s
-unfolding saved_in
 held_in t s h = ap saved_by h.read ∙ h.saved

@@ -1,6 +1,7 @@
 -- What an event shows while it is worked out.
-use Rattle.std.specs.Prelude.{ℕ, Bool, true, false, ◌||◌, List, Option, Some, None}
-use Rattle.protocol.specs.Lists.{put}
+use Rattle.std.specs.Prelude.{Bool, true, false, ◌||◌, List, Option, Some, None}
+use Rattle.std.specs.Option.{unwrap_or}
+use Rattle.farm_base.specs.declared.lease.NodeLife.{NodeLife}
 use Rattle.protocol.specs.Names.{Ticket, NodeId}
 use Rattle.protocol.specs.Machine.{FromCoord}
 use Rattle.protocol.specs.Ledger.{Ledger, Work, begin_work, Lease, is_saved, without, lease_under}
@@ -10,7 +11,6 @@ use Rattle.leases.specs.Table.{among, retires_some}
 pub use Rattle.versions.specs.Lines.{LineOf, lines_with}
 use Rattle.coordinator.specs.declared.state.State.{State}
 use Rattle.coordinator.specs.declared.change.Change.{Change}
-use Rattle.coordinator.specs.declared.new_life.NewLife.{NewLife}
 use Rattle.coordinator.specs.declared.draft.Draft.{Draft}
 use Rattle.coordinator.specs.Held.{Held, life_at, is_among}
 use Rattle.coordinator.specs.Waiting.{waits_after}
@@ -35,27 +35,25 @@ kept line s = record {
 abbrev pub table_after : Held → Change → Table
 table_after h c = changed (record { live = h.live; retired = h.retired }) c.table
 
--- the greatest lives, with the one that began, if one did
-abbrev pub with_life : Option NewLife → (ℕ → ℕ) → ℕ → ℕ
-with_life None lives = lives
-with_life (Some x) lives = put x.node.0 x.life.0 lives
+-- the greatest lives
+abbrev pub lives_after : Held → Change → List NodeLife
+lives_after h c = unwrap_or c.lives h.lives
 
--- the retired nodes, with the one that was retired, if one was
-abbrev pub with_gone : Option NodeId → (ℕ → Bool) → ℕ → Bool
-with_gone None gone = gone
-with_gone (Some n) gone = put n.0 true gone
+-- the retired nodes
+abbrev pub gone_after : Held → Change → List NodeId
+gone_after h c = unwrap_or c.gone h.gone
 
 -- the ledger with the changes, and with these lines
 abbrev pub after : LineOf → Held → Change → Ledger
 after line h c = record {
   live = (table_after h c).live;
   retired = among (table_after h c).retired;
-  gone = with_gone c.gone (is_among h.gone);
+  gone = is_among (gone_after h c);
   line = line;
   last = c.tickets.position;
   ceiling = c.tickets.ceiling;
   old_home = c.old_home;
-  lives = with_life c.life (life_at h.lives);
+  lives = life_at (lives_after h c);
   parked = waits_after h.parked c.parked;
 }
 

@@ -1,14 +1,13 @@
 //! What one event changes of what the coordinator keeps beside the lines, and what is looked up with the changes so far.
-ghost use Rattle.std.specs.Prelude.{◌≡◌, ◌≢◌, ◌&&◌, not, None, IfOk};
-ghost use Rattle.std.specs.Option.{unwrap_or};
+ghost use Rattle.std.specs.Prelude.{◌≡◌, ◌≢◌, ◌≤◌, ◌&&◌, not, true, IfOk, OnOk};
 ghost use Rattle.protocol.specs.Farm.{farm_limits};
 ghost use Rattle.protocol.specs.Ledger.{decision, elsewhere, may_commit, may_release, lease_under};
+ghost use Rattle.protocol.specs.Lists.{put};
 ghost use Rattle.leases.specs.Table.{fit_of, life_at, is_among};
 ghost use Rattle.coordinator.specs.Held.{Held};
 ghost use Rattle.coordinator.specs.Keeps.{held};
-ghost use Rattle.coordinator.specs.Shown.{LineOf, after, table_after, with_life, with_gone, kept};
+ghost use Rattle.coordinator.specs.Shown.{LineOf, after, table_after, lives_after, gone_after, kept};
 
-use super::new_life::NewLife;
 use super::parked_change::ParkedChange;
 use super::state::{State, fit_slots};
 use farm_base::{Copied, Life, News, NodeId, Parked, Ticket, Why};
@@ -21,10 +20,10 @@ use std::alloc::{AllocError, Global};
 pub struct Change {
     pub table: TableChange,
     pub tickets: TicketSource,
-    /// The life that began, if one did.
-    pub life: Option<NewLife>,
-    /// The node that was retired, if one was.
-    pub gone: Option<NodeId>,
+    /// The lives, where one has begun.
+    pub lives: Option<Lives>,
+    /// The retired nodes, where one was retired.
+    pub gone: Option<RetiredNodes>,
     pub old_home: Option<NodeId>,
     pub parked: ParkedChange,
 }
@@ -32,83 +31,51 @@ pub struct Change {
 impl Change {
     /// No change.
     pub(crate) fn new(alloc: Global, base: &State) -> Result<Self, AllocError>
-        ensures ledger { IfOk result (λ change. (line : LineOf) → after line (held base.now) change ≡ kept line base.now) }
-        ensures life { IfOk result (λ change. change.life ≡ None) }
-        ensures gone { IfOk result (λ change. change.gone ≡ None) }
+        ensures { IfOk result (λ change. (line : LineOf) → after line (held base.now) change ≡ kept line base.now) }
     {
         let tickets = base.tickets.copy(alloc)?;
         Ok(Change {
             table: TableChange::new(alloc),
             tickets,
-            life: None,
+            lives: None,
             gone: None,
             old_home: base.old_home,
             parked: ParkedChange::new(alloc),
         })
     }
 
+    /// The greatest lives seen.
+    pub(crate) fn lives<'s>(&'s self, base: &'s State) -> &'s Lives
+        ensures { result.now ≡ lives_after (held base.now) self.now }
+    {
+        match &self.lives {
+            Some(lives) => lives,
+            None => &base.lives,
+        }
+    }
+
+    /// The retired nodes.
+    pub(crate) fn gone<'s>(&'s self, base: &'s State) -> &'s RetiredNodes
+        ensures { result.now ≡ gone_after (held base.now) self.now }
+    {
+        match &self.gone {
+            Some(gone) => gone,
+            None => &base.gone,
+        }
+    }
+
     /// Whether a node was retired.
     pub(crate) fn is_gone(&self, base: &State, node: NodeId) -> bool
-        ensures { result ≡ with_gone self.now.gone (is_among base.now.gone) node.0 }
+        ensures { result ≡ is_among (gone_after (held base.now) self.now) node.0 }
     {
-        match self.gone {
-            Some(gone) => node == gone || base.gone.contains(node),
-            None => base.gone.contains(node),
-        }
+        self.gone(base).contains(node)
     }
 
     /// The greatest life seen of a node, 0 where none was.
     pub(crate) fn greatest_life(&self, base: &State, node: NodeId) -> u64
-        ensures { result ≡ with_life self.now.life (life_at base.now.lives) node.0 }
+        ensures { result ≡ life_at (lives_after (held base.now) self.now) node.0 }
     {
-        match self.life {
-            Some(seen) => {
-                if node == seen.node {
-                    seen.life.0
-                } else {
-                    base.lives.greatest(node)
-                }
-            }
-            None => base.lives.greatest(node),
-        }
-    }
-
-    /// The greatest lives, if one began.
-    fn lives(&self, alloc: Global, base: &State) -> Result<Option<Lives>, AllocError>
-        ensures { IfOk result (λ lives. life_at (unwrap_or lives base.now.lives) ≡ with_life self.now.life (life_at base.now.lives)) }
-    {
-        let Some(seen) = self.life else {
-            return Ok(None);
-        };
-        let mut lives = base.lives.copy(alloc)?;
-        lives.set(seen.node, seen.life)?;
-        Ok(Some(lives))
-    }
-
-    /// The retired nodes, if one was retired.
-    fn retired_nodes(&self, alloc: Global, base: &State) -> Result<Option<RetiredNodes>, AllocError>
-        ensures { IfOk result (λ gone. is_among (unwrap_or gone base.now.gone) ≡ with_gone self.now.gone (is_among base.now.gone)) }
-    {
-        let Some(node) = self.gone else {
-            return Ok(None);
-        };
-        let mut gone = base.gone.copy(alloc)?;
-        gone.insert(node)?;
-        Ok(Some(gone))
-    }
-
-    /// The greatest lives and the retired nodes, where they change.
-    pub(crate) fn nodes(
-        &self,
-        alloc: Global,
-        base: &State,
-    ) -> Result<(Option<Lives>, Option<RetiredNodes>), AllocError>
-        ensures lives { IfOk result (λ nodes. life_at (unwrap_or nodes.0 base.now.lives) ≡ with_life self.now.life (life_at base.now.lives)) }
-        ensures gone { IfOk result (λ nodes. is_among (unwrap_or nodes.1 base.now.gone) ≡ with_gone self.now.gone (is_among base.now.gone)) }
-    {
-        let lives = self.lives(alloc, base)?;
-        let gone = self.retired_nodes(alloc, base)?;
-        Ok((lives, gone))
+        self.lives(base).greatest(node)
     }
 
     /// Whether a tenure is asked for while another node is the old home.
@@ -177,5 +144,39 @@ impl Change {
             Some(lease) => lease.node == node && lease.life == life,
             None => false,
         }
+    }
+
+    /// Sets the greatest life seen of a node.
+    pub(crate) fn set_life(
+        &mut self,
+        alloc: Global,
+        base: &State,
+        node: NodeId,
+        life: Life,
+    ) -> Result<(), AllocError>
+        requires { 1 ≤ life.0 }
+        ensures lives { OnOk result (life_at (lives_after (held base.now) self.new) ≡ put node.0 life.0 (life_at (lives_after (held base.now) self.old))) }
+        ensures rest { OnOk result (self.new ≡ record self.old { lives = self.new.lives }) }
+    {
+        let mut lives = self.lives(base).copy(alloc)?;
+        lives.set(node, life)?;
+        self.lives = Some(lives);
+        Ok(())
+    }
+
+    /// Marks a node as retired.
+    pub(crate) fn retire(
+        &mut self,
+        alloc: Global,
+        base: &State,
+        node: NodeId,
+    ) -> Result<(), AllocError>
+        ensures gone { OnOk result (is_among (gone_after (held base.now) self.new) ≡ put node.0 true (is_among (gone_after (held base.now) self.old))) }
+        ensures rest { OnOk result (self.new ≡ record self.old { gone = self.new.gone }) }
+    {
+        let mut gone = self.gone(base).copy(alloc)?;
+        gone.insert(node)?;
+        self.gone = Some(gone);
+        Ok(())
     }
 }

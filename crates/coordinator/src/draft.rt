@@ -1,5 +1,5 @@
 //! An event as it is worked out: the changes that it makes, over a state that stays as it is.
-ghost use Rattle.std.specs.Prelude.{if◌then◌else◌, ◌++◌, ◌∷◌, [], ◌≡◌, ◌≢◌, ◌≤◌, ◌&&◌, All, IfOk, OnOk, not, false, true, is_some, ◌||◌, Some, None, nat_lt};
+ghost use Rattle.std.specs.Prelude.{if◌then◌else◌, ◌++◌, ◌∷◌, [], ◌≡◌, ◌≢◌, ◌≤◌, ◌&&◌, All, IfOk, OnOk, not, false, true, is_some, ◌||◌, Some, nat_lt};
 ghost use Rattle.std.specs.List.{find, list_any};
 ghost use Rattle.farm_base.specs.Contents.{empty_digest};
 ghost use Rattle.protocol.specs.Farm.{farm_limits};
@@ -15,13 +15,12 @@ ghost use Rattle.coordinator.specs.Sound.{IsSound};
 ghost use Rattle.versions.specs.Additions.{IsReady};
 
 use super::change::Change;
-use super::new_life::NewLife;
 use super::parked_change::{ParkedChange, kept, some_set, split_mark};
-use super::state::{State, cleared, grant_of, is_home, is_some_saved};
+use super::state::{State, cleared, grant_of, is_home, is_saved, is_some_saved};
 use farm_base::{
     Copied, FromCoord, Grant, Items, Life, News, NodeId, Parked, Request, Ticket, ToCoord, Why,
 };
-use leases::{Ending, is_saved};
+use leases::Ending;
 use protocol::{CoordNote, Decision};
 use std::alloc::{AllocError, Global};
 use std::mem;
@@ -40,9 +39,7 @@ pub struct Draft {
 impl Draft {
     /// An event that changed nothing yet.
     pub(crate) fn new(alloc: Global, base: &State) -> Result<Self, AllocError>
-        ensures work { IfOk result (λ draft. (line : LineOf) → shown line (held base.now) draft ≡ begin_work (kept line base.now)) }
-        ensures life { IfOk result (λ draft. draft.change.life ≡ None) }
-        ensures gone { IfOk result (λ draft. draft.change.gone ≡ None) }
+        ensures { IfOk result (λ draft. (line : LineOf) → shown line (held base.now) draft ≡ begin_work (kept line base.now)) }
     {
         let change = Change::new(alloc, base)?;
         Ok(Draft {
@@ -443,8 +440,7 @@ impl Draft {
         node: NodeId,
         life: Life,
     ) -> Result<bool, AllocError>
-        requires counted { 1 ≤ life.0 }
-        requires first { self.old.change.life ≡ None }
+        requires { 1 ≤ life.0 }
         ensures work { OnOk result ((line : LineOf) → shown line (held base.now) self.new ≡ sees node life (shown line (held base.now) self.old)) }
         ensures due { IfOk result (λ due. due ≡ (list_any (is_older node life) (table_after (held base.now) self.old.change).live || is_home node self.old.change.old_home)) }
     {
@@ -455,7 +451,7 @@ impl Draft {
         self.change
             .parked
             .end(alloc, parked, Ending::LivesBelow(node, life))?;
-        self.change.life = Some(NewLife { node, life });
+        self.change.set_life(alloc, base, node, life)?;
         self.change.old_home = cleared(node, self.change.old_home);
         self.changed = true;
         Ok(had_leases || was_home)
@@ -472,7 +468,6 @@ impl Draft {
         requires sound { IsSound (after (line_at base.now.lines) (held base.now) self.old.change) }
         requires wants { All (λ p. IsWants p.wants) base.now.parked.asks.items }
         requires life { 1 ≤ life.0 }
-        requires first { self.old.change.life ≡ None }
         ensures { OnOk result (shown (line_at base.now.lines) (held base.now) self.new ≡ newer_life farm_limits node life (shown (line_at base.now.lines) (held base.now) self.old)) }
     {
         if !self.see(alloc, base, node, life)? {
@@ -535,7 +530,6 @@ impl Draft {
     ) -> Result<Option<Added>, AllocError>
         requires sound { IsSound (after (line_at base.now.lines) (held base.now) self.old.change) }
         requires wants { All (λ p. IsWants p.wants) base.now.parked.asks.items }
-        requires first { self.old.change.life ≡ None }
         ensures work { IfOk result (λ added. shown (lines_with base.now.lines added) (held base.now) self.new
             ≡ handled farm_limits message.now (shown (line_at base.now.lines) (held base.now) self.old)) }
         ensures ready { IfOk result (IsReady base.now.lines) }

@@ -163,13 +163,12 @@ impl Draft {
 
     /// Drops a node: its leases are withdrawn, its parked asks go, and nothing that it says is heard again.
     fn drop_node(&mut self, alloc: Global, base: &State, node: NodeId) -> Result<(), AllocError>
-        requires { self.old.change.gone ≡ None }
         ensures { OnOk result ((line : LineOf) → shown line (held base.now) self.new ≡ goes node (shown line (held base.now) self.old)) }
     {
         self.change.table.withdraw_all_of(alloc, &base.table, node)?;
         let parked = base.parked.asks.as_slice();
         self.change.parked.end(alloc, parked, Ending::Node(node))?;
-        self.change.gone = Some(node);
+        self.change.retire(alloc, base, node)?;
         self.changed = true;
         Ok(())
     }
@@ -184,7 +183,6 @@ impl Draft {
         requires sound { IsSound (after (line_at base.now.lines) (held base.now) self.old.change) }
         requires wants { All (λ p. IsWants p.wants) base.now.parked.asks.items }
         requires accepted { result_err (retired farm_limits node (shown (line_at base.now.lines) (held base.now) self.old)) ≡ None }
-        requires first { self.old.change.gone ≡ None }
         ensures work { OnOk result (retired farm_limits node (shown (line_at base.now.lines) (held base.now) self.old) ≡ Ok (shown (line_at base.now.lines) (held base.now) self.new)) }
         ensures sound { OnOk result (IsSound (after (line_at base.now.lines) (held base.now) self.new.change)) }
     {

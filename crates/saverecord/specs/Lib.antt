@@ -9,5 +9,4 @@ pub mod Fits
 pub mod Texts
 pub mod Keepers
 pub mod Ledgers
-pub mod LogEntries
 pub mod Logs

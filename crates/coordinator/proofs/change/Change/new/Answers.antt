@@ -10,8 +10,8 @@ use Rattle.coordinator.specs.Waiting.{still_waiting}
 use Rattle.coordinator.proofs.WaitingWords.{still-none}
 use Rattle.coordinator.proofs.change.Change.new.Goals as goal
 
-pub returns-clause-ledger : goal.returns-clause-ledger
-returns-clause-ledger c = λ line.
+pub returns : goal.returns
+returns c = λ line.
     let q : Ledger = kept line c.args.base.now in
     let t : Table = c.args.base.now.table in
     let asks : List Parked = c.args.base.now.parked.asks.items in

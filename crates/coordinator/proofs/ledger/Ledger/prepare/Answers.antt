@@ -12,7 +12,7 @@ use Rattle.coordinator.proofs.ledger.Ledger.prepare.Goals as goal
 pub deliver-requires-clause-sound : goal.deliver-requires-clause-sound
 deliver-requires-clause-sound c =
     let P : Work → Type 0 = λ w. IsSound w.ledger in
-    subst P (sym (c.in_ok-draft.ensures.work (line_at c.self.inside.state.lines))) c.self.invariant.sound
+    subst P (sym (c.in_ok-draft.ensures (line_at c.self.inside.state.lines))) c.self.invariant.sound
 
 pub deliver-requires-clause-wants : goal.deliver-requires-clause-wants
 deliver-requires-clause-wants c = c.self.invariant.sound.asks
@@ -21,13 +21,13 @@ pub returns-clause-work : goal.returns-clause-work
 returns-clause-work c =
     let line : LineOf = line_at c.self.inside.state.lines in
     subst (λ (h : Held). shown (lines_with h.lines c.in_ok-added.added) h c.deliver.new.self ≡ handled farm_limits c.args.message.now (begin_work (ledger h))) c.self.view_is
-    (c.in_ok-added.ensures.work ∙ ap (handled farm_limits c.args.message.now) (c.in_ok-draft.ensures.work line))
+    (c.in_ok-added.ensures.work ∙ ap (handled farm_limits c.args.message.now) (c.in_ok-draft.ensures line))
 
 pub returns-clause-rightful : goal.returns-clause-rightful
 returns-clause-rightful c =
     let s : Held = held c.self.inside.state in
     let work : shown (lines_with s.lines c.in_ok-added.added) s c.deliver.new.self ≡ handled farm_limits c.args.message.now (begin_work (ledger s)) =
-    c.in_ok-added.ensures.work ∙ ap (handled farm_limits c.args.message.now) (c.in_ok-draft.ensures.work (line_at s.lines)) in
+    c.in_ok-added.ensures.work ∙ ap (handled farm_limits c.args.message.now) (c.in_ok-draft.ensures (line_at s.lines)) in
     let P : Work → Type 0 = λ w. IsRightful w.ledger in
     subst (λ (h : Held). IsRightful (after (lines_with h.lines c.in_ok-added.added) h c.deliver.new.self.change)) c.self.view_is
     (subst P (sym work) (rightful-handled farm_limits c.args.message.now (ledger s) c.self.invariant c.requires))

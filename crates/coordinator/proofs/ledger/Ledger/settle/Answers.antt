@@ -1,4 +1,4 @@
-use Rattle.std.proofs.Common.{◌≡◌, true, false, Result, Ok, Err, inl, inr, refl, sym, ap, ◌∙◌, subst}
+use Rattle.std.proofs.Common.{◌≡◌, false, Ok, Err, inl, inr, refl, sym, ap, ◌∙◌, subst}
 use Rattle.protocol.specs.Ledger.{Ledger, Work, saves}
 use Rattle.protocol.specs.declared.answer.CoordRefusal.{CoordRefusal}
 use Rattle.protocol.specs.declared.answer.CoordRefusal.TheVariants.{SaveFault, OutOfMemory}
@@ -12,20 +12,9 @@ use Rattle.coordinator.specs.Settling.{Answers, is_save_fault}
 use Rattle.coordinator.specs.Shown.{LineOf, kept, after, shown, lines_with}
 use Rattle.coordinator.specs.Sound.{IsRightful}
 use Rattle.coordinator.specs.Promises.{OnlyGrow}
-use Rattle.coordinator.proofs.Kept.{grows, stays}
+use Rattle.coordinator.proofs.Kept.{grows}
 use Rattle.coordinator.proofs.Keeping.{holds_after, saved_ok, saved_not}
 use Rattle.coordinator.proofs.ledger.Ledger.settle.Goals as goal
-
--- in places of their own, since a search at a goal below would read all that is known there
-
-err_is : {A : Type 0} (x y : Result A CoordRefusal) (a b : CoordRefusal) → x ≡ Err a → y ≡ Err b → x ≡ y → a ≡ b
-err_is x y a b is also e = cc (is, also, e)
-
-not_memory : {P : Type 0} → SaveFault ≡ OutOfMemory → P
-not_memory e = absurd (cc e)
-
-not_down : {P : Type 0} → true ≡ false → P
-not_down e = absurd (cc e)
 
 pub invariant_of-self-in-Ok-save : goal.invariant_of-self-in-Ok-save
 invariant_of-self-in-Ok-save g c =
@@ -109,7 +98,7 @@ returns-in-Err-save-clause-answer g c =
     elim c.in-Err-save.ensures.refusals [
       | inl e ↦ subst P (sym e)
           (let failed = saved_not g.K.Keeper.saving c.in-Ok.to_save c.args.prepared.draft.changed (saves (ledger h)) (saves w.ledger) (g.K.Keeper.kept c.args.keeper.now) c.args.keeper.now c.save.new.keeper
-          c.in-Ok.ensures.changed c.in-Ok.ensures.text before c.in-Err-save.ensures.exact (λ f. not_memory (sym e ∙ err_is _ _ _ _ refl refl f)) (λ f. (c.in-Err-save.ensures.nothing f).0) in
+          c.in-Ok.ensures.changed c.in-Ok.ensures.text before c.in-Err-save.ensures.exact (λ f. (let bad : SaveFault ≡ OutOfMemory = sym e ∙ ap (λ r. r) (cc f) in cc bad)) (λ f. (c.in-Err-save.ensures.nothing f).0) in
           record { changed = failed.0; saved = failed.1; held = same; down = refl })
       | inr e ↦ subst P (sym e) (refl, (let stays = c.in-Err-save.ensures.same (ap (λ r. Err r) e) in λ j. record { held = same j; keeper = stays j; down = false }))
     ]
@@ -129,25 +118,15 @@ returns-in-Err-save-clause-keeping g c =
     let P : CoordRefusal → Type 0 = λ r. IsKeeping (g.K.Keeper.kept c.save.new.keeper) now (is_save_fault (Err r)) in
     elim c.in-Err-save.ensures.refusals [
       | inl e ↦ subst P (sym e) (elim c.in-Err-save.ensures.fault [
-        | inl old ↦ record { saved = c.requires.keeping.saved; holds = subst (λ t. Holds t c.requires.keeping.saved) (sym old) c.requires.keeping.holds; up = λ d. not_down d }
+        | inl old ↦ record { saved = c.requires.keeping.saved; holds = subst (λ t. Holds t c.requires.keeping.saved) (sym old) c.requires.keeping.holds; up = λ d. absurd (cc d) }
         | inr new ↦ record {
           saved = saves w.ledger;
           holds = holds_after c.in-Ok.to_save c.args.prepared.draft.changed (saves (ledger h)) (saves w.ledger) (g.K.Keeper.kept c.args.keeper.now) (g.K.Keeper.kept c.save.new.keeper)
               c.in-Ok.ensures.changed c.in-Ok.ensures.text c.requires.told before new;
-          up = λ d. not_down d;
+          up = λ d. absurd (cc d);
         }
       ])
       | inr e ↦ subst P (sym e)
           (let stays = c.in-Err-save.ensures.same (ap (λ r. Err r) e) in
           subst (λ k. IsKeeping (g.K.Keeper.kept k) now false) (sym stays) (subst (λ (x : Held). IsKeeping (g.K.Keeper.kept c.args.keeper.now) x false) (sym same) c.requires.keeping))
     ]
-
-pub returns-in-Err-clause-grow : goal.returns-in-Err-clause-grow
-returns-in-Err-clause-grow g c =
-    let s : State = c.self.inside.state in
-    subst (λ (x : Held). OnlyGrow (line_at x.lines) (line_at s.lines)) c.self.view_is (stays (line_at s.lines))
-
-pub returns-in-Err-save-clause-grow : goal.returns-in-Err-save-clause-grow
-returns-in-Err-save-clause-grow g c =
-    let s : State = c.self.inside.state in
-    subst (λ (x : Held). OnlyGrow (line_at x.lines) (line_at s.lines)) c.self.view_is (stays (line_at s.lines))
