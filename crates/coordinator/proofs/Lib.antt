@@ -2,6 +2,7 @@ pub mod StateWords
 pub mod Trying
 pub mod WaitingWords
 pub mod NewestWords
+pub mod IdleWords
 pub mod SoundWords
 pub mod Kept
 pub mod Sends

@@ -2,6 +2,7 @@ pub mod Held
 pub mod Waiting
 pub mod Newest
 pub mod Shown
+pub mod Idle
 pub mod Sound
 pub mod Keeps
 pub mod Promises

@@ -1,16 +1,18 @@
 //! What one event changes of what the coordinator keeps beside the lines, and what is looked up with the changes so far.
 ghost use Rattle.std.specs.Prelude.{◌≡◌, ◌≢◌, ◌≤◌, ◌&&◌, not, true, IfOk, OnOk};
+ghost use Rattle.protocol.specs.Names.{is_private};
 ghost use Rattle.protocol.specs.Farm.{farm_limits};
 ghost use Rattle.protocol.specs.Ledger.{decision, elsewhere, may_commit, may_release, lease_under};
 ghost use Rattle.protocol.specs.Lists.{put};
-ghost use Rattle.leases.specs.Table.{fit_of, life_at, is_among};
+ghost use Rattle.leases.specs.Table.{fit_of, life_at, is_among, is_leased};
 ghost use Rattle.coordinator.specs.Held.{Held};
+ghost use Rattle.coordinator.specs.Idle.{is_open, are_leased_again};
 ghost use Rattle.coordinator.specs.Keeps.{held};
 ghost use Rattle.coordinator.specs.Shown.{LineOf, after, table_after, lives_after, gone_after, kept};
 
 use super::parked_change::ParkedChange;
 use super::state::{State, fit_slots};
-use farm_base::{Copied, Life, News, NodeId, Parked, Ticket, Why};
+use farm_base::{Copied, Items, Life, Mode, News, NodeId, Parked, Slot, Ticket, Why};
 use leases::{Fit, Lives, RetiredNodes, TableChange, TicketSource};
 use protocol::Decision;
 use std::alloc::{AllocError, Global};
@@ -113,6 +115,36 @@ impl Change {
                     Err(_) => Decision::Deny(Why::TicketsSpent),
                 }
             }
+        }
+    }
+
+    /// Whether this is the slot of a LOCKED or SHARED folder that is not leased.
+    fn is_open(&self, base: &State, slot: &(Slot, bool)) -> bool
+        ensures { result ≡ (not (is_private slot.now.0.folder.mode) && not (is_leased (table_after (held base.now) self.now) slot.now.0)) }
+    {
+        !matches!(slot.0.folder().mode, Mode::Private)
+            && !self.table.is_leased(&base.table, &slot.0)
+    }
+
+    /// Whether one of these slots, of a LOCKED or SHARED folder, is not leased.
+    fn some_open(&self, base: &State, slots: &[(Slot, bool)]) -> bool
+        ensures { result ≡ is_open slots.now (table_after (held base.now) self.now).live }
+    {
+        slots.iter().any(|slot| self.is_open(base, slot))
+    }
+
+    /// Whether all slots that a lease gave back, of LOCKED and SHARED folders, are leased again. It is not said where the
+    /// slots aren't told.
+    pub(crate) fn are_leased_again(
+        &self,
+        base: &State,
+        freed: &Option<Items<(Slot, bool)>>,
+    ) -> bool
+        ensures { result ≡ are_leased_again freed.now (table_after (held base.now) self.now).live }
+    {
+        match freed {
+            Some(slots) => !self.some_open(base, slots.as_slice()),
+            None => false,
         }
     }
 

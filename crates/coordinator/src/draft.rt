@@ -7,6 +7,7 @@ ghost use Rattle.leases.specs.Table.{fit_of};
 ghost use Rattle.leases.specs.declared.lease_table.Fit.{Fit};
 ghost use Rattle.protocol.specs.Ledger.{begin_work, decision, decided, sees, is_older, is_home, ends, without, Lease, lease_for, grant_of, gives, denies, tried, try_all, stays, waiting, retried, elsewhere, recall, recalls, holds_wanted, acquiring, lease_of, is_parked, confirms, committing, may_commit, may_release, lease_under, released, newer_life, answering, handled};
 ghost use Rattle.coordinator.specs.Held.{Held, line_at};
+ghost use Rattle.coordinator.specs.Idle.{AreIdle};
 ghost use Rattle.coordinator.specs.Keeps.{held};
 ghost use Rattle.farm_base.specs.Wanted.{IsWants};
 ghost use Rattle.coordinator.specs.Shown.{LineOf, kept, after, shown, table_after, lines_with, ended, ended_committed};
@@ -18,7 +19,8 @@ use super::change::Change;
 use super::parked_change::{ParkedChange, kept, some_set, split_mark};
 use super::state::{State, cleared, grant_of, is_home, is_saved, is_some_saved};
 use farm_base::{
-    Copied, FromCoord, Grant, Items, Life, News, NodeId, Parked, Request, Ticket, ToCoord, Why,
+    Copied, FromCoord, Grant, Items, Life, News, NodeId, Parked, Request, Slot, Ticket, ToCoord,
+    Why,
 };
 use leases::Ending;
 use protocol::{CoordNote, Decision};
@@ -150,7 +152,8 @@ impl Draft {
         Ok(!waits)
     }
 
-    /// Tries these asks, but for those that are marked as over, and marks those that wait no longer.
+    /// Tries these asks, but for those that are marked as over, and marks those that wait no longer. Once the slots that were
+    /// freed are leased again, those that are left need no look: all of them wait.
     fn try_asks(
         &mut self,
         alloc: Global,
@@ -158,9 +161,11 @@ impl Draft {
         added: &Option<Added>,
         asks: &[Parked],
         over: &[bool],
+        freed: &Option<Items<(Slot, bool)>>,
     ) -> Result<Vec<bool>, AllocError>
         requires sound { IsSound (after (lines_with base.now.lines added.now) (held base.now) self.old.change) }
         requires wants { All (λ p. IsWants p.wants) asks.now }
+        requires idle { AreIdle freed.now (after (lines_with base.now.lines added.now) (held base.now) self.old.change) (still_waiting over.now asks.now) }
         ensures work { OnOk result (shown (lines_with base.now.lines added.now) (held base.now) self.new
             ≡ try_all farm_limits (still_waiting over.now asks.now) (shown (lines_with base.now.lines added.now) (held base.now) self.old)) }
         ensures stay { IfOk result (λ marks. still_waiting marks.items asks.now
@@ -168,8 +173,11 @@ impl Draft {
         ensures sound { OnOk result (IsSound (after (lines_with base.now.lines added.now) (held base.now) self.new.change)) }
     {
         let mut marks = over;
-        let mut done = Vec::with_capacity(alloc, asks.len())?;
+        let mut done = Vec::new(alloc);
         for p in asks {
+            if marks.is_empty() && self.change.are_leased_again(base, freed) {
+                return Ok(some_set(alloc, done));
+            }
             let (is_over, rest) = split_mark(marks);
             done.push(self.try_unless(alloc, base, added, p, is_over)?)?;
             marks = rest;
@@ -183,9 +191,11 @@ impl Draft {
         alloc: Global,
         base: &State,
         added: &Option<Added>,
+        freed: &Option<Items<(Slot, bool)>>,
     ) -> Result<(), AllocError>
         requires sound { IsSound (after (lines_with base.now.lines added.now) (held base.now) self.old.change) }
         requires wants { All (λ p. IsWants p.wants) base.now.parked.asks.items }
+        requires idle { AreIdle freed.now (after (lines_with base.now.lines added.now) (held base.now) self.old.change) (still_waiting self.old.change.parked.over.items base.now.parked.asks.items) }
         ensures { OnOk result (shown (lines_with base.now.lines added.now) (held base.now) self.new
             ≡ retried farm_limits (shown (lines_with base.now.lines added.now) (held base.now) self.old)) }
     {
@@ -199,8 +209,9 @@ impl Draft {
             added,
             base.parked.asks.as_slice(),
             over.as_slice(),
+            freed,
         )?;
-        let over_since = self.try_asks(alloc, base, added, since.as_slice(), &[])?;
+        let over_since = self.try_asks(alloc, base, added, since.as_slice(), &[], &None)?;
         let since = kept_of(alloc, since, over_since.as_slice())?;
         self.change.parked = ParkedChange { over, since };
         Ok(())
@@ -389,7 +400,7 @@ impl Draft {
             return Ok(());
         }
         self.end(base, ticket)?;
-        self.retry(alloc, base, &None)?;
+        self.retry(alloc, base, &None, &None)?;
         self.note = CoordNote::Released(ticket);
         Ok(())
     }
@@ -427,7 +438,7 @@ impl Draft {
         let added = Some(Added { ticket, additions });
         self.end_committed(ticket)?;
         self.confirm(alloc, base, &added, node, life, ticket, news)?;
-        self.retry(alloc, base, &added)?;
+        self.retry(alloc, base, &added, &None)?;
         self.note = CoordNote::Committed(ticket);
         Ok(added)
     }
@@ -473,7 +484,7 @@ impl Draft {
         if !self.see(alloc, base, node, life)? {
             return Ok(());
         }
-        self.retry(alloc, base, &None)?;
+        self.retry(alloc, base, &None, &None)?;
         Ok(())
     }
 

@@ -142,7 +142,7 @@ impl Draft {
         ensures sound { OnOk result (IsSound (after (line_at base.now.lines) (held base.now) self.new.change)) }
     {
         self.take_back(alloc, base, ticket)?;
-        self.retry(alloc, base, &None)?;
+        self.retry(alloc, base, &None, &None)?;
         self.note = CoordNote::Withdrawn(ticket);
         Ok(())
     }
@@ -157,7 +157,7 @@ impl Draft {
         if !due {
             return Ok(());
         }
-        self.retry(alloc, base, &None)?;
+        self.retry(alloc, base, &None, &None)?;
         Ok(())
     }
 
