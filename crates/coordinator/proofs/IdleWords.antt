@@ -1,21 +1,23 @@
 -- Parked asks that need no look.
-use Rattle.std.proofs.Common.{◌≡◌, ℕ, ◌<◌, List, [], ◌∷◌, ◌++◌, Bool, true, false, not, ◌&&◌, ◌||◌, eqb, cond, filter, get_or, Option, Some, None, refl, sym, ◌∙◌, ap, subst, inl, inr, arith}
+use Rattle.std.proofs.Common.{◌≡◌, ℕ, zero, suc, length, ◌<◌, List, [], ◌∷◌, ◌++◌, Bool, true, false, not, ◌&&◌, ◌||◌, eqb, cond, filter, get_or, Option, Some, None, refl, sym, ◌∙◌, ap, subst, inl, inr, arith}
 use Rattle.std.proofs.lemmas.Bool.{cases_Bool, and_parts, or_parts, not-true, eqb-true, ne_eqb}
-use Rattle.std.proofs.lemmas.List.Elements.{All-head, All-tail, All-cons, All-nil}
+use Rattle.std.proofs.lemmas.List.Elements.{All-head, All-tail, All-cons, All-nil, All-append}
 use Rattle.std.specs.Prelude.{All, AllPairs, nat_lt}
 use Rattle.std.specs.List.{list_any}
-use Rattle.protocol.specs.Lists.{In}
+use Rattle.protocol.specs.Lists.{In, is_nil}
 use Rattle.protocol.specs.Names.{Slot, slot_eq, is_private, only_slot, NodeId, Ticket, Want, leased_wants, wants_shared}
 use Rattle.protocol.specs.Machine.{Parked}
-use Rattle.protocol.specs.Ledger.{Limits, Ledger, Lease, Work, pick, elsewhere, another, all_taken, busy, lowest, is_free, is_leased, some_lease, has_slot, has_ticket, lease_under, without, decision, lease_for, gives, carried_out, tried, stays, try_all, waiting}
+use Rattle.protocol.specs.Ledger.{Limits, Ledger, Lease, Work, pick, elsewhere, another, all_taken, busy, lowest, is_free, is_leased, some_lease, has_slot, has_ticket, lease_under, without, decision, tried, parks, stays, try_all, waiting}
 use Rattle.protocol.specs.Follows.{NoneReady}
 use Rattle.protocol.specs.declared.answer.Decision.{Decision}
 use Rattle.protocol.specs.declared.answer.Decision.TheVariants.{Give, Deny, Wait}
 use Rattle.leases.specs.Leases.{IsBefore}
 use Rattle.leases.proofs.TableLemmas.{AllPairs-head, AllPairs-tail}
-use Rattle.protocol.proofs.Base.{true_false, any_in, from_any, any_none, from_filter, slot_eq_is, in_left}
+use Rattle.protocol.proofs.Base.{true_false, any_in, from_any, any_none, from_filter, slot_eq_is}
 use Rattle.coordinator.specs.Idle.{wants_private, slots_under, is_open, are_leased_again, waits_for, IsIdle, AreIdle, ArePlain}
 use Rattle.coordinator.specs.Waiting.{first_mark, later_marks, still_waiting}
+use Rattle.coordinator.proofs.NewestWords.{all-still}
+use Rattle.coordinator.proofs.ReadyWords.{Fewer, tried_fewer}
 use Rattle.coordinator.proofs.StateWords.{decision-is}
 use Rattle.coordinator.proofs.Trying.{tried-is, stays-is}
 
@@ -93,13 +95,8 @@ idle-waits k freed q p idle none =
 
 -- ---- trying others
 
--- all that is leased in the first ledger is leased in the second, and the old home is the same
-pub record Extends (q q' : Ledger) : Type 0 where
-  pub home : q'.old_home ≡ q.old_home
-  pub leased : (s : Slot) → is_leased q s ≡ true → is_leased q' s ≡ true
-
-idle-extends : (freed : List (Slot × Bool)) (q q' : Ledger) (p : Parked) → Extends q q' → IsIdle freed q p → IsIdle freed q' p
-idle-extends freed q q' p more idle =
+idle-fewer : (freed : List (Slot × Bool)) (q q' : Ledger) (p : Parked) → Fewer q q' → IsIdle freed q p → IsIdle freed q' p
+idle-fewer freed q q' p more idle =
     let wants : List Want = leased_wants p.tenure p.wants in
     record {
       plain = idle.plain;
@@ -114,26 +111,11 @@ idle-extends freed q q' p more idle =
           ]))));
     }
 
-gives-extends : (k : Limits) (p : Parked) (w : Work) → Extends w.ledger (gives k p w).ledger
-unfolding gives
-gives-extends k p w = record {
-  home = refl;
-  leased = λ s e. (let r = from_any (λ (g : Lease). has_slot g.slots s) w.ledger.live e in any_in (λ (g : Lease). has_slot g.slots s) r.0 (w.ledger.live ++ lease_for k w.ledger p ∷ []) (in_left r.0 w.ledger.live (lease_for k w.ledger p ∷ []) r.1) r.2);
-}
-
-carried-extends : (d : Decision) (k : Limits) (p : Parked) (w : Work) → Extends w.ledger (carried_out d k p w).ledger
-carried-extends Give k p w = gives-extends k p w
-carried-extends (Deny why) k p w = record { home = refl; leased = λ s e. e }
-carried-extends Wait k p w = record { home = refl; leased = λ s e. e }
-
-tried-extends : (k : Limits) (p : Parked) (w : Work) → Extends w.ledger (tried k p w).ledger
-tried-extends k p w = subst (λ (x : Work). Extends w.ledger x.ledger) (sym (tried-is k p w (decision k w.ledger p) refl)) (carried-extends (decision k w.ledger p) k p w)
-
 -- idle asks are still idle when another was tried, or was over
 idle-next : (k : Limits) (freed : List (Slot × Bool)) (p : Parked) (b : Bool) (w w' : Work) (ps : List Parked) → w' ≡ cond b w (tried k p w) → All (IsIdle freed w.ledger) ps → All (IsIdle freed w'.ledger) ps
 idle-next k freed p true w w' ps e idle = subst (λ (x : Work). All (IsIdle freed x.ledger) ps) (sym e) idle
 idle-next k freed p false w w' ps e idle =
-    subst (λ (x : Work). All (IsIdle freed x.ledger) ps) (sym e) (λ j d inside. idle-extends freed w.ledger (tried k p w).ledger (get_or ps j d) (tried-extends k p w) (idle j d inside))
+    subst (λ (x : Work). All (IsIdle freed x.ledger) ps) (sym e) (λ j d inside. idle-fewer freed w.ledger (tried k p w).ledger (get_or ps j d) (tried_fewer k p w) (idle j d inside))
 
 -- ---- asks that wait change nothing
 
@@ -197,16 +179,15 @@ still_leased t (x ∷ live) s before e = elim (cases_Bool (has_ticket t x)) [
     swapped false true h = refl
     swapped false false h = h
 
--- parked asks that could not be granted are idle when one lease ends
-pub idle-freed : (k : Limits) (t : Ticket) (q q' : Ledger) (ps : List Parked) → AllPairs IsBefore q.live → q'.live ≡ without t q.live → q'.old_home ≡ q.old_home
-    → ((p : Parked) → In p ps → decision k q p ≡ Give → ⊥) → not (nat_lt q.last k.greatest) ≡ false → All (λ p. wants_private p ≡ false) ps
-    → (p : Parked) → In p ps → wants_private p ≡ false → IsIdle (slots_under (lease_under q.live t)) q' p
-idle-freed k t q q' ps before live home none left plain p i here =
+-- a parked ask that could not be granted is idle when one lease ends
+idle-freed : (k : Limits) (t : Ticket) (q q' : Ledger) (p : Parked) → AllPairs IsBefore q.live → q'.live ≡ without t q.live → q'.old_home ≡ q.old_home
+    → (decision k q p ≡ Give → ⊥) → nat_lt q.last k.greatest ≡ true → wants_private p ≡ false → IsIdle (slots_under (lease_under q.live t)) q' p
+idle-freed k t q q' p before live home none left here =
     let freed : List (Slot × Bool) = slots_under (lease_under q.live t) in
     let wants : List Want = leased_wants p.tenure p.wants in
     let was : (elsewhere q p || busy (is_leased q) wants) ≡ true =
     picks_ready (elsewhere q p) (all_taken k.instances (is_free q) wants) (busy (is_leased q) wants) (not (nat_lt q.last k.greatest))
-    (never_taken k.instances (is_free q) wants (leased_plain p.tenure p.wants here)) left (λ e. none p i (decision-is k q p ∙ e)) in
+    (never_taken k.instances (is_free q) wants (leased_plain p.tenure p.wants here)) (ap not left) (λ e. none (decision-is k q p ∙ e)) in
     record {
       plain = here;
       waits = subst (λ o. ((p.tenure && another o p.node) || busy (λ s. is_leased q' s || has_slot freed s) wants) ≡ true) (sym home)
@@ -218,3 +199,39 @@ idle-freed k t q q' ps before live home none left plain p i here =
           subst (λ (gs : List Lease). (some_lease gs (only_slot w.folder) || has_slot freed (only_slot w.folder)) ≡ true) (sym live) (still_leased t q.live (only_slot w.folder) before b.1) in
           rw other on))));
     }
+
+in_get : {A : Type 0} (xs : List A) (j : ℕ) (d : A) → j < length xs → In (get_or xs j d) xs
+in_get [] j d inside = absurd (omega arith)
+in_get (x ∷ xs) zero d inside = inl refl
+in_get (x ∷ xs) (suc j) d inside = inr (in_get xs j d (omega arith))
+
+-- so are all, where none wants a PRIVATE folder
+pub are-idle-freed : (k : Limits) (t : Ticket) (q q' : Ledger) → AllPairs IsBefore q.live → q'.live ≡ without t q.live → q'.old_home ≡ q.old_home → q'.parked ≡ q.parked
+    → NoneReady k q → nat_lt q.last k.greatest ≡ true → ArePlain q.parked → All (IsIdle (slots_under (lease_under q.live t)) q') q'.parked
+are-idle-freed k t q q' before live home parked none left plain =
+    subst (λ (ps : List Parked). All (IsIdle (slots_under (lease_under q.live t)) q') ps) (sym parked)
+    (λ j d inside. idle-freed k t q q' (get_or q.parked j d) before live home (none (get_or q.parked j d) (in_get q.parked j d inside)) left (plain j d inside))
+
+-- which asks are parked has no say
+pub are-idle-parks : (freed : Option (List (Slot × Bool))) (ps qs : List Parked) (w : Work) → AreIdle freed w.ledger ps → AreIdle freed (parks qs w).ledger ps
+are-idle-parks None ps qs w idle = tt
+are-idle-parks (Some freed) ps qs w idle = λ j d inside. (let h = idle j d inside in record { plain = h.plain; waits = h.waits })
+
+-- the first of them
+pub are-idle-first : (freed : Option (List (Slot × Bool))) (q : Ledger) (xs ys : List Parked) → AreIdle freed q (xs ++ ys) → AreIdle freed q xs
+are-idle-first None q xs ys idle = tt
+are-idle-first (Some freed) q xs ys idle = all-first (IsIdle freed q) xs ys idle
+  where
+    all-first : (P : Parked → Type 0) (xs ys : List Parked) → All P (xs ++ ys) → All P xs
+    all-first P [] ys h = All-nil P
+    all-first P (x ∷ xs) ys h = All-cons P x xs (All-head P x (xs ++ ys) h) (all-first P xs ys (All-tail P x (xs ++ ys) h))
+
+-- none of the asks that are left and of those that came wants a PRIVATE folder
+pub plain-after : (asks since all : List Parked) (marks : List Bool) (b : Bool) → (b ≡ true → ArePlain asks) → all ≡ still_waiting marks asks ++ since
+    → (is_nil all || (b && not (list_any wants_private since))) ≡ true → ArePlain all
+plain-after asks since [] marks b was e h = All-nil (λ p. wants_private p ≡ false)
+plain-after asks since (x ∷ xs) marks b was e h =
+    let P : Parked → Type 0 = λ p. wants_private p ≡ false in
+    let both = and_parts b (not (list_any wants_private since)) h in
+    let new : All P since = λ j d inside. any_none wants_private (get_or since j d) since (not-true (list_any wants_private since) both.1) (in_get since j d inside) in
+    subst (All P) (sym e) (All-append P (still_waiting marks asks) since (all-still P marks asks (was both.0)) new)

@@ -2,13 +2,14 @@ pub mod StateWords
 pub mod Trying
 pub mod WaitingWords
 pub mod NewestWords
-pub mod IdleWords
 pub mod SoundWords
 pub mod Kept
 pub mod Sends
 pub mod OwnCalls
 pub mod Prunes
 pub mod OwnSends
+pub mod ReadyWords
+pub mod IdleWords
 pub mod Recording
 pub mod Rightful
 pub mod Records

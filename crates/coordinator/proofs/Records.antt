@@ -80,6 +80,7 @@ rightful_of r kept = record {
     asks = λ k d lt. absurd (omega arith);
   };
   lawful = (every_ledger_stays_lawful NODES farm_limits (ledger_of r) kept.lawful).restart;
+  waits = λ p i e. absurd i;
 }
 
 -- what a restart takes up saves the same

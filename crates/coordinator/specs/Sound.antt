@@ -9,6 +9,8 @@ pub use Rattle.leases.specs.Leases.{IsOpen}
 use Rattle.protocol.specs.Names.{Slot}
 use Rattle.protocol.specs.Ledger.{Ledger}
 use Rattle.protocol.specs.Lawful.{IsLawful}
+use Rattle.protocol.specs.Farm.{farm_limits}
+use Rattle.protocol.specs.Follows.{NoneReady}
 
 pub record IsSound (q : Ledger) : Type 0 where
   pub leases : AreLeases q.live
@@ -22,6 +24,8 @@ pub record IsSound (q : Ledger) : Type 0 where
 pub record IsRightful (q : Ledger) : Type 0 where
   pub sound : IsSound q
   pub lawful : IsLawful NODES q
+  -- no parked ask could be granted
+  pub waits : NoneReady farm_limits q
 
 -- what each request of the program is
 abbrev pub IsRequest : Request → Type 0

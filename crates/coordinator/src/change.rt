@@ -1,5 +1,5 @@
 //! What one event changes of what the coordinator keeps beside the lines, and what is looked up with the changes so far.
-ghost use Rattle.std.specs.Prelude.{◌≡◌, ◌≢◌, ◌≤◌, ◌&&◌, not, true, IfOk, OnOk};
+ghost use Rattle.std.specs.Prelude.{◌≡◌, ◌≢◌, ◌≤◌, ◌&&◌, not, true, nat_lt, IfOk, OnOk};
 ghost use Rattle.protocol.specs.Names.{is_private};
 ghost use Rattle.protocol.specs.Farm.{farm_limits};
 ghost use Rattle.protocol.specs.Ledger.{decision, elsewhere, may_commit, may_release, lease_under};
@@ -146,6 +146,13 @@ impl Change {
             Some(slots) => !self.some_open(base, slots.as_slice()),
             None => false,
         }
+    }
+
+    /// Whether a ticket can still be given.
+    pub(crate) fn has_ticket(&self) -> bool
+        ensures { result ≡ nat_lt self.now.tickets.position farm_limits.greatest }
+    {
+        self.tickets.peek().is_ok()
     }
 
     pub(crate) fn may_commit(

@@ -5,7 +5,8 @@ ghost use Rattle.farm_base.specs.Contents.{empty_digest};
 ghost use Rattle.protocol.specs.Farm.{farm_limits};
 ghost use Rattle.leases.specs.Table.{fit_of};
 ghost use Rattle.leases.specs.declared.lease_table.Fit.{Fit};
-ghost use Rattle.protocol.specs.Ledger.{begin_work, decision, decided, sees, is_older, is_home, ends, without, Lease, lease_for, grant_of, gives, denies, tried, try_all, stays, waiting, retried, elsewhere, recall, recalls, holds_wanted, acquiring, lease_of, is_parked, confirms, committing, may_commit, may_release, lease_under, released, newer_life, answering, handled};
+ghost use Rattle.protocol.specs.Follows.{NoneReady};
+ghost use Rattle.protocol.specs.Ledger.{Ledger, begin_work, decision, decided, sees, is_older, is_home, ends, without, Lease, lease_for, grant_of, gives, denies, tried, try_all, stays, waiting, retried, elsewhere, recall, recalls, holds_wanted, acquiring, lease_of, is_parked, confirms, committing, may_commit, may_release, lease_under, released, newer_life, answering, handled};
 ghost use Rattle.coordinator.specs.Held.{Held, line_at};
 ghost use Rattle.coordinator.specs.Idle.{AreIdle};
 ghost use Rattle.coordinator.specs.Keeps.{held};
@@ -195,7 +196,7 @@ impl Draft {
     ) -> Result<(), AllocError>
         requires sound { IsSound (after (lines_with base.now.lines added.now) (held base.now) self.old.change) }
         requires wants { All (λ p. IsWants p.wants) base.now.parked.asks.items }
-        requires idle { AreIdle freed.now (after (lines_with base.now.lines added.now) (held base.now) self.old.change) (still_waiting self.old.change.parked.over.items base.now.parked.asks.items) }
+        requires idle { AreIdle freed.now (after (lines_with base.now.lines added.now) (held base.now) self.old.change) (waits_after base.now.parked.asks.items self.old.change.parked) }
         ensures { OnOk result (shown (lines_with base.now.lines added.now) (held base.now) self.new
             ≡ retried farm_limits (shown (lines_with base.now.lines added.now) (held base.now) self.old)) }
     {
@@ -383,6 +384,29 @@ impl Draft {
         Ok(())
     }
 
+    /// The slots that the end of a ticket's lease frees. None are told where others can let a parked ask be decided too:
+    /// where one wants a PRIVATE folder, or no ticket is left.
+    pub(crate) fn freed_by(
+        &self,
+        alloc: Global,
+        base: &State,
+        ticket: Ticket,
+    ) -> Result<Option<Items<(Slot, bool)>>, AllocError>
+        requires sound { IsSound (after (line_at base.now.lines) (held base.now) self.now.change) }
+        requires waits { NoneReady farm_limits (after (line_at base.now.lines) (held base.now) self.now.change) }
+        ensures { IfOk result (λ freed. (q : Ledger) → q.live ≡ without ticket (table_after (held base.now) self.now.change).live → q.old_home ≡ self.now.change.old_home
+            → q.parked ≡ waits_after base.now.parked.asks.items self.now.change.parked → AreIdle freed q q.parked) }
+    {
+        let parked = &self.change.parked;
+        if !base.parked.plain || !parked.since.is_empty() || !self.change.has_ticket() {
+            return Ok(None);
+        }
+        match self.change.table.lease(&base.table, ticket) {
+            Some(lease) => Ok(Some(lease.slots.copy(alloc)?)),
+            None => Ok(None),
+        }
+    }
+
     fn release(
         &mut self,
         alloc: Global,
@@ -393,14 +417,16 @@ impl Draft {
     ) -> Result<(), AllocError>
         requires sound { IsSound (after (line_at base.now.lines) (held base.now) self.old.change) }
         requires wants { All (λ p. IsWants p.wants) base.now.parked.asks.items }
+        requires waits { NoneReady farm_limits (after (line_at base.now.lines) (held base.now) self.old.change) }
         ensures { OnOk result (shown (line_at base.now.lines) (held base.now) self.new
             ≡ released farm_limits (may_release node life (lease_under (table_after (held base.now) self.old.change).live ticket)) ticket (lease_under (table_after (held base.now) self.old.change).live ticket) (shown (line_at base.now.lines) (held base.now) self.old)) }
     {
         if !self.change.may_release(base, node, life, ticket) {
             return Ok(());
         }
+        let freed = self.freed_by(alloc, base, ticket)?;
         self.end(base, ticket)?;
-        self.retry(alloc, base, &None, &None)?;
+        self.retry(alloc, base, &None, &freed)?;
         self.note = CoordNote::Released(ticket);
         Ok(())
     }
@@ -426,6 +452,7 @@ impl Draft {
     ) -> Result<Option<Added>, AllocError>
         requires sound { IsSound (after (line_at base.now.lines) (held base.now) self.old.change) }
         requires wants { All (λ p. IsWants p.wants) base.now.parked.asks.items }
+        requires waits { NoneReady farm_limits (after (line_at base.now.lines) (held base.now) self.old.change) }
         ensures work { IfOk result (λ added. shown (lines_with base.now.lines added) (held base.now) self.new
             ≡ committing farm_limits (may_commit node life news.now (lease_under (table_after (held base.now) self.old.change).live ticket)) node life ticket news.now (shown (line_at base.now.lines) (held base.now) self.old)) }
         ensures ready { IfOk result (IsReady base.now.lines) }
@@ -436,9 +463,10 @@ impl Draft {
         }
         let additions = additions(alloc, &base.lines, news)?;
         let added = Some(Added { ticket, additions });
+        let freed = self.freed_by(alloc, base, ticket)?;
         self.end_committed(ticket)?;
         self.confirm(alloc, base, &added, node, life, ticket, news)?;
-        self.retry(alloc, base, &added, &None)?;
+        self.retry(alloc, base, &added, &freed)?;
         self.note = CoordNote::Committed(ticket);
         Ok(added)
     }
@@ -497,6 +525,7 @@ impl Draft {
     ) -> Result<Option<Added>, AllocError>
         requires sound { IsSound (after (line_at base.now.lines) (held base.now) self.old.change) }
         requires wants { All (λ p. IsWants p.wants) base.now.parked.asks.items }
+        requires waits { NoneReady farm_limits (after (line_at base.now.lines) (held base.now) self.old.change) }
         ensures work { IfOk result (λ added. shown (lines_with base.now.lines added) (held base.now) self.new
             ≡ answering farm_limits message.now.node message.now.life message.now.request (shown (line_at base.now.lines) (held base.now) self.old)) }
         ensures ready { IfOk result (IsReady base.now.lines) }
@@ -541,6 +570,7 @@ impl Draft {
     ) -> Result<Option<Added>, AllocError>
         requires sound { IsSound (after (line_at base.now.lines) (held base.now) self.old.change) }
         requires wants { All (λ p. IsWants p.wants) base.now.parked.asks.items }
+        requires waits { NoneReady farm_limits (after (line_at base.now.lines) (held base.now) self.old.change) }
         ensures work { IfOk result (λ added. shown (lines_with base.now.lines added) (held base.now) self.new
             ≡ handled farm_limits message.now (shown (line_at base.now.lines) (held base.now) self.old)) }
         ensures ready { IfOk result (IsReady base.now.lines) }

@@ -4,6 +4,7 @@ ghost use Rattle.std.specs.List.{list_any};
 ghost use Rattle.std.specs.Result.{result_err};
 ghost use Rattle.farm_base.specs.Contents.{empty_digest};
 ghost use Rattle.protocol.specs.Farm.{farm_limits};
+ghost use Rattle.protocol.specs.Follows.{NoneReady};
 ghost use Rattle.protocol.specs.Ledger.{begin_work, withdrawn, pruned, retired, retried, goes, holds_wanted, is_awaited, nudges, nudge_all};
 ghost use Rattle.versions.specs.Additions.{HasRoom, IsReady};
 ghost use Rattle.versions.specs.Lines.{lines_with, news_of};
@@ -137,12 +138,14 @@ impl Draft {
     ) -> Result<(), AllocError>
         requires sound { IsSound (after (line_at base.now.lines) (held base.now) self.old.change) }
         requires wants { All (λ p. IsWants p.wants) base.now.parked.asks.items }
+        requires waits { NoneReady farm_limits (after (line_at base.now.lines) (held base.now) self.old.change) }
         requires accepted { result_err (withdrawn farm_limits ticket (shown (line_at base.now.lines) (held base.now) self.old)) ≡ None }
         ensures work { OnOk result (withdrawn farm_limits ticket (shown (line_at base.now.lines) (held base.now) self.old) ≡ Ok (shown (line_at base.now.lines) (held base.now) self.new)) }
         ensures sound { OnOk result (IsSound (after (line_at base.now.lines) (held base.now) self.new.change)) }
     {
+        let freed = self.freed_by(alloc, base, ticket)?;
         self.take_back(alloc, base, ticket)?;
-        self.retry(alloc, base, &None, &None)?;
+        self.retry(alloc, base, &None, &freed)?;
         self.note = CoordNote::Withdrawn(ticket);
         Ok(())
     }

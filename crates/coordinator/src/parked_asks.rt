@@ -2,9 +2,11 @@
 ghost use Rattle.std.specs.Prelude.{◌≡◌, ◌≤◌, [], true, length};
 ghost use Rattle.protocol.specs.Machine.{Parked};
 ghost use Rattle.leases.specs.Newest.{knows, node_room};
+ghost use Rattle.std.specs.List.{list_any};
+ghost use Rattle.coordinator.specs.Idle.{wants_private, ArePlain};
 ghost use Rattle.coordinator.specs.Newest.{AreKnown};
 
-use farm_base::{Ask, Life, NodeId, Parked};
+use farm_base::{Ask, Life, Mode, NodeId, Parked};
 use leases::NewestAsks;
 use std::alloc::Global;
 
@@ -14,7 +16,27 @@ use std::alloc::Global;
 pub struct ParkedAsks {
     pub asks: Vec<Parked>,
     pub newest: NewestAsks,
+    /// Whether none of them wants a PRIVATE folder, as far as is known.
+    pub plain: bool,
     ghost known: { AreKnown newest asks.items },
+    ghost only_plain: { plain ≡ true → ArePlain asks.items },
+}
+
+/// Whether the ask wants a PRIVATE folder.
+fn wants_private(p: &Parked) -> bool
+    ensures { result ≡ wants_private p.now }
+{
+    let wants = p.wants.as_slice();
+    wants
+        .iter()
+        .any(|want| matches!(want.folder.mode, Mode::Private))
+}
+
+/// Whether one of these asks wants a PRIVATE folder.
+pub(crate) fn some_private(asks: &[Parked]) -> bool
+    ensures { result ≡ list_any wants_private asks.now }
+{
+    asks.iter().any(|p| wants_private(p))
 }
 
 /// Notes that these asks waited.
@@ -36,6 +58,7 @@ impl ParkedAsks {
         ParkedAsks {
             asks: Vec::new(alloc),
             newest: NewestAsks::new(alloc),
+            plain: true,
         }
     }
 

@@ -2,11 +2,12 @@
 ghost use Rattle.std.specs.Prelude.{◌≡◌, ◌∷◌, [], ◌++◌, ◌+◌, ◌<◌, ◌≤◌, ◌&&◌, ◌||◌, ◌==◌, not, filter, vec_len, IfOk, OnOk};
 ghost use Rattle.std.specs.List.{list_any};
 ghost use Rattle.protocol.specs.Ledger.{is_parked};
+ghost use Rattle.protocol.specs.Lists.{is_nil};
 ghost use Rattle.std.specs.Vec.{vec_capacity};
 ghost use Rattle.leases.specs.Newest.{node_room};
 ghost use Rattle.coordinator.specs.Waiting.{ends_ask, first_mark, later_marks, still_waiting, waits_after, parking_room};
 
-use super::parked_asks::{ParkedAsks, note_all};
+use super::parked_asks::{ParkedAsks, note_all, some_private};
 use farm_base::{Ask, Life, NodeId, Parked};
 use leases::Ending;
 use std::alloc::{AllocError, Global};
@@ -229,11 +230,21 @@ impl ParkedChange {
         requires newest { vec_len self.since ≤ node_room parked.newest }
         ensures { result.asks.items ≡ waits_after parked.asks.items self }
     {
-        let ParkedAsks { asks, newest } = parked;
+        let ParkedAsks {
+            asks,
+            newest,
+            plain,
+        } = parked;
         let mut newest = newest;
         note_all(&mut newest, self.since.as_slice());
+        let since_private = some_private(self.since.as_slice());
         let asks = self.apply_to(asks, room);
-        ParkedAsks { asks, newest }
+        let plain = plain_after(asks.as_slice(), plain, since_private);
+        ParkedAsks {
+            asks,
+            newest,
+            plain,
+        }
     }
 
     /// The asks that wait, in the room that was made for them.
@@ -249,6 +260,13 @@ impl ParkedChange {
             joined(kept(asks, over.as_slice(), room), since)
         }
     }
+}
+
+/// Whether none of the asks wants a PRIVATE folder: where there is none, or it was so and no other wants one.
+fn plain_after(asks: &[Parked], plain: bool, since_private: bool) -> bool
+    ensures { result ≡ (is_nil asks.now || (plain && not since_private)) }
+{
+    asks.is_empty() || (plain && !since_private)
 }
 
 /// The asks of both, in the first, which has room for them.

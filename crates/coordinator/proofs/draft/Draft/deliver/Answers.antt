@@ -1,5 +1,6 @@
 use Rattle.std.proofs.Common.{◌≡◌, ◌<◌, ◌≤◌, true, false, ap, sym, ◌∙◌, subst, arith}
 use Rattle.protocol.specs.Farm.{farm_limits}
+use Rattle.protocol.specs.Follows.{NoneReady}
 use Rattle.protocol.specs.Machine.{ToCoord}
 use Rattle.coordinator.specs.Keeps.{held}
 use Rattle.coordinator.specs.Held.{line_at}
@@ -7,6 +8,7 @@ use Rattle.coordinator.specs.Shown.{LineOf, shown}
 use Rattle.coordinator.specs.Sound.{IsSound}
 use Rattle.protocol.specs.Ledger.{Work, answering}
 use Rattle.coordinator.proofs.Trying.{handled-gone, handled-old, handled-new, handled-same}
+use Rattle.coordinator.proofs.ReadyWords.{newer_none}
 use Rattle.coordinator.proofs.SoundWords.{sound-newer_life}
 use Rattle.coordinator.proofs.draft.Draft.deliver.Goals as goal
 
@@ -31,6 +33,12 @@ answer-requires-clause-sound c =
     let line : LineOf = line_at c.args.base.now.lines in
     let P : Work → Type 0 = λ w. IsSound w.ledger in
     subst P (sym c.in_ok-begin_life.ensures) (sound-newer_life farm_limits c.args.message.now.node c.args.message.now.life (shown line (held c.args.base.now) c.args.self.now) c.requires.sound)
+
+pub answer-requires-clause-waits : goal.answer-requires-clause-waits
+answer-requires-clause-waits c =
+    let line : LineOf = line_at c.args.base.now.lines in
+    let P : Work → Type 0 = λ w. NoneReady farm_limits w.ledger in
+    subst P (sym c.in_ok-begin_life.ensures) (newer_none farm_limits c.args.message.now.node c.args.message.now.life (shown line (held c.args.base.now) c.args.self.now) c.requires.waits)
 
 pub returns-then-seen-message-clause-work : goal.returns-then-seen-message-clause-work
 returns-then-seen-message-clause-work c =

@@ -6,10 +6,12 @@ use Rattle.farm_base.specs.Wanted.{IsWants}
 use Rattle.protocol.specs.Farm.{farm_limits}
 use Rattle.protocol.specs.Machine.{Parked}
 use Rattle.protocol.specs.Ledger.{Work, parks, try_all, waiting}
+use Rattle.coordinator.specs.Idle.{AreIdle}
 use Rattle.coordinator.specs.Keeps.{held}
 use Rattle.coordinator.specs.Shown.{LineOf, shown, lines_with}
 use Rattle.coordinator.specs.Waiting.{still_waiting, waits_after}
 use Rattle.coordinator.specs.declared.parked_change.ParkedChange.{ParkedChange}
+use Rattle.coordinator.proofs.IdleWords.{are-idle-parks, are-idle-first}
 use Rattle.coordinator.proofs.SoundWords.{sound-parks}
 use Rattle.coordinator.proofs.WaitingWords.{still-none, retried-split}
 use Rattle.coordinator.proofs.draft.Draft.retry.Goals as goal
@@ -24,6 +26,18 @@ try_asks-requires-clause-sound c =
     ∙ append-nil (still_waiting [] parked) ∙ still-none parked in
     sound-parks (waits_after parked c.replace-over.new.dest) (shown (lines_with c.args.base.now.lines c.args.added.now) (held c.args.base.now) c.args.self.now) c.requires.sound
     (subst (All (λ p. IsWants p.wants)) (sym all) c.requires.wants)
+
+pub try_asks-requires-clause-idle : goal.try_asks-requires-clause-idle
+try_asks-requires-clause-idle c =
+    let parked : List Parked = c.args.base.now.parked.asks.items in
+    let w : Work = shown (lines_with c.args.base.now.lines c.args.added.now) (held c.args.base.now) c.args.self.now in
+    let others : List Parked = waits_after parked c.replace-over.new.dest in
+    let xs : List Parked = still_waiting c.args.self.now.change.parked.over.items parked in
+    let ys : List Parked = c.args.self.now.change.parked.since.items in
+    let xs_is : still_waiting c.as_slice-2.result.now c.as_slice.result.now ≡ xs =
+    ap (λ (ms : List Bool). still_waiting ms c.as_slice.result.now) (c.as_slice-2.ensures.value ∙ ap (λ (d : ParkedChange). d.over.items) c.replace-over.ensures.value)
+    ∙ ap (still_waiting c.args.self.now.change.parked.over.items) c.as_slice.ensures.value in
+    subst (AreIdle c.args.freed.now (parks others w).ledger) (sym xs_is) (are-idle-parks c.args.freed.now xs others w (are-idle-first c.args.freed.now w.ledger xs ys c.requires.idle))
 
 pub try_asks-requires-2-clause-wants : goal.try_asks-requires-2-clause-wants
 try_asks-requires-2-clause-wants c =

@@ -1,5 +1,7 @@
 use Rattle.std.proofs.Common.{◌≡◌, ◌+◌, ◌<◌, length, ◌++◌, ◌∷◌, [], Bool, true, false, cond, List, drop, ap, sym, ◌∙◌, subst, arith, append-nil, append_assoc}
+use Rattle.std.proofs.lemmas.Bool.{eqb-true}
 use Rattle.std.proofs.lemmas.Grind.{common_steps}
+use Rattle.std.proofs.lemmas.List.{nil_from_length}
 use Rattle.farm_base.specs.Wanted.{IsWants}
 use Rattle.protocol.specs.Farm.{farm_limits}
 use Rattle.protocol.specs.Machine.{Parked}
@@ -62,7 +64,8 @@ returns-then-are_leased_again-clause-stay c =
     let w : Work = shown (lines_with c.args.base.now.lines c.args.added.now) (held c.args.base.now) c.loop-p.self in
     let ps : List Parked = still_waiting c.loop-p.marks.now (drop c.loop-p.p-index c.args.asks.now) in
     let waits : waiting farm_limits ps w ≡ ps = skipped-waiting farm_limits ps w (are-idle-wait farm_limits c.args.freed.now w.ledger ps c.loop-p.invariant.idle (sym c.are_leased_again.ensures ∙ c.if-are_leased_again.true)) in
-    let none : c.loop-p.marks.now ≡ [] = ? in
+    let none : c.loop-p.marks.now ≡ [] =
+    (let zero : length c.loop-p.marks.now ≡ 0 = eqb-true (length c.loop-p.marks.now) 0 (sym c.is_empty.ensures ∙ c.if-is_empty.true) in nil_from_length c.loop-p.marks.now (omega arith)) in
     c.some_set.ensures c.args.asks.now ∙ ap (λ (xs : List Bool). still_waiting xs c.args.asks.now) (sym (append-nil c.loop-p.done.items))
     ∙ c.loop-p.invariant.stay [] (ap (λ (ms : List Bool). still_waiting ms (drop c.loop-p.p-index c.args.asks.now)) (sym none) ∙ sym waits)
 

@@ -1,5 +1,6 @@
 use Rattle.std.proofs.Common.{◌≡◌, ap, sym, ◌∙◌, subst}
 use Rattle.protocol.specs.Farm.{farm_limits}
+use Rattle.protocol.specs.Follows.{NoneReady}
 use Rattle.protocol.specs.Ledger.{Work, begin_work, handled}
 use Rattle.coordinator.specs.Held.{Held, line_at, ledger}
 use Rattle.coordinator.specs.Keeps.{held}
@@ -13,6 +14,11 @@ pub deliver-requires-clause-sound : goal.deliver-requires-clause-sound
 deliver-requires-clause-sound c =
     let P : Work → Type 0 = λ w. IsSound w.ledger in
     subst P (sym (c.in_ok-draft.ensures (line_at c.self.inside.state.lines))) c.self.invariant.sound
+
+pub deliver-requires-clause-waits : goal.deliver-requires-clause-waits
+deliver-requires-clause-waits c =
+    let P : Work → Type 0 = λ w. NoneReady farm_limits w.ledger in
+    subst P (sym (c.in_ok-draft.ensures (line_at c.self.inside.state.lines))) c.self.invariant.waits
 
 pub deliver-requires-clause-wants : goal.deliver-requires-clause-wants
 deliver-requires-clause-wants c = c.self.invariant.sound.asks
@@ -30,7 +36,7 @@ returns-clause-rightful c =
     c.in_ok-added.ensures.work ∙ ap (handled farm_limits c.args.message.now) (c.in_ok-draft.ensures (line_at s.lines)) in
     let P : Work → Type 0 = λ w. IsRightful w.ledger in
     subst (λ (h : Held). IsRightful (after (lines_with h.lines c.in_ok-added.added) h c.deliver.new.self.change)) c.self.view_is
-    (subst P (sym work) (rightful-handled farm_limits c.args.message.now (ledger s) c.self.invariant c.requires))
+    (subst P (sym work) (rightful-handled c.args.message.now (ledger s) c.self.invariant c.requires))
 
 pub returns-clause-told : goal.returns-clause-told
 returns-clause-told c = handled-told c.args.message.now (ledger c.args.self.now) (subst IsRightful (ap ledger c.self.view_is) c.self.invariant).sound

@@ -31,7 +31,7 @@ returns-clause-rightful c =
     let work : pruned farm_limits c.args.slot.now (begin_work (ledger s)) ≡ Ok (shown (lines_with s.lines c.in_ok-added.added) s c.prune.new.self) =
     ap (pruned farm_limits c.args.slot.now) (sym (c.in_ok-draft.ensures (line_at s.lines))) ∙ c.in_ok-added.ensures.work in
     subst (λ (h : Held). IsRightful (after (lines_with h.lines c.in_ok-added.added) h c.prune.new.self.change)) c.self.view_is
-    (rightful-pruned farm_limits c.args.slot.now (ledger s) (shown (lines_with s.lines c.in_ok-added.added) s c.prune.new.self) c.self.invariant work c.in_ok-added.ensures.sound)
+    (rightful-pruned c.args.slot.now (ledger s) (shown (lines_with s.lines c.in_ok-added.added) s c.prune.new.self) c.self.invariant work c.in_ok-added.ensures.sound)
 
 pub returns-clause-told : goal.returns-clause-told
 returns-clause-told c = pruned-told c.args.slot.now (ledger c.args.self.now)

@@ -34,7 +34,7 @@ returns-clause-rightful c =
     let work : retired farm_limits c.args.node (begin_work (ledger s)) ≡ Ok (shown (line_at s.lines) s c.retire.new.self) =
     ap (retired farm_limits c.args.node) (sym (c.in_ok-draft.ensures (line_at s.lines))) ∙ c.in_ok-retire.ensures.work in
     subst (λ (h : Held). IsRightful (after (line_at h.lines) h c.retire.new.self.change)) c.self.view_is
-    (rightful-retired farm_limits c.args.node (ledger s) (shown (line_at s.lines) s c.retire.new.self) c.self.invariant c.requires.number work c.in_ok-retire.ensures.sound)
+    (rightful-retired c.args.node (ledger s) (shown (line_at s.lines) s c.retire.new.self) c.self.invariant c.requires.number work c.in_ok-retire.ensures.sound)
 
 pub returns-clause-told : goal.returns-clause-told
 returns-clause-told c = retired-told c.args.node (ledger c.args.self.now)

@@ -1,6 +1,7 @@
 use Rattle.std.proofs.Common.{◌≡◌, Ok, ap, sym, ◌∙◌, subst}
 use Rattle.std.specs.Result.{result_err}
 use Rattle.protocol.specs.Farm.{farm_limits}
+use Rattle.protocol.specs.Follows.{NoneReady}
 use Rattle.protocol.specs.Ledger.{Work, begin_work, withdrawn}
 use Rattle.coordinator.specs.Held.{Held, line_at, ledger}
 use Rattle.coordinator.specs.Keeps.{held}
@@ -20,6 +21,11 @@ withdraw-requires-clause-accepted c =
     ap (λ (w : Work). result_err (withdrawn farm_limits c.args.ticket w)) (c.in_ok-draft.ensures (line_at c.self.inside.state.lines))
     ∙ ap (λ (h : Held). result_err (withdrawn farm_limits c.args.ticket (begin_work (ledger h)))) c.self.view_is ∙ c.requires
 
+pub withdraw-requires-clause-waits : goal.withdraw-requires-clause-waits
+withdraw-requires-clause-waits c =
+    let P : Work → Type 0 = λ w. NoneReady farm_limits w.ledger in
+    subst P (sym (c.in_ok-draft.ensures (line_at c.self.inside.state.lines))) c.self.invariant.waits
+
 pub withdraw-requires-clause-wants : goal.withdraw-requires-clause-wants
 withdraw-requires-clause-wants c = c.self.invariant.sound.asks
 
@@ -34,7 +40,7 @@ returns-clause-rightful c =
     let work : withdrawn farm_limits c.args.ticket (begin_work (ledger s)) ≡ Ok (shown (line_at s.lines) s c.withdraw.new.self) =
     ap (withdrawn farm_limits c.args.ticket) (sym (c.in_ok-draft.ensures (line_at s.lines))) ∙ c.in_ok-withdraw.ensures.work in
     subst (λ (h : Held). IsRightful (after (line_at h.lines) h c.withdraw.new.self.change)) c.self.view_is
-    (rightful-withdrawn farm_limits c.args.ticket (ledger s) (shown (line_at s.lines) s c.withdraw.new.self) c.self.invariant work c.in_ok-withdraw.ensures.sound)
+    (rightful-withdrawn c.args.ticket (ledger s) (shown (line_at s.lines) s c.withdraw.new.self) c.self.invariant work c.in_ok-withdraw.ensures.sound)
 
 pub returns-clause-told : goal.returns-clause-told
 returns-clause-told c = withdrawn-told c.args.ticket (ledger c.args.self.now) (subst IsRightful (ap ledger c.self.view_is) c.self.invariant).sound
