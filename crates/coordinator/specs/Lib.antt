@@ -1,7 +1,9 @@
 pub mod Held
 pub mod Waiting
+pub mod Queue
 pub mod Newest
 pub mod Shown
+pub mod Idle
 pub mod Sound
 pub mod Keeps
 pub mod Promises

@@ -7,6 +7,7 @@ mod draft;
 mod handled;
 pub mod laws;
 mod ledger;
+mod new_life;
 mod operator_calls;
 mod parked_asks;
 mod parked_change;

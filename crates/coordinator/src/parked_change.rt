@@ -4,9 +4,10 @@ ghost use Rattle.std.specs.List.{list_any};
 ghost use Rattle.protocol.specs.Ledger.{is_parked};
 ghost use Rattle.std.specs.Vec.{vec_capacity};
 ghost use Rattle.leases.specs.Newest.{node_room};
-ghost use Rattle.coordinator.specs.Waiting.{ends_ask, first_mark, later_marks, still_waiting, waits_after, parking_room};
+ghost use Rattle.coordinator.specs.Waiting.{ends_ask, first_mark, later_marks, still_waiting, waits_after};
+ghost use Rattle.coordinator.specs.Queue.{asks_of};
 
-use super::parked_asks::{ParkedAsks, note_all};
+use super::parked_asks::{ParkedAsks, note_all, pass_over, some_private, trimmed};
 use farm_base::{Ask, Life, NodeId, Parked};
 use leases::Ending;
 use std::alloc::{AllocError, Global};
@@ -157,7 +158,7 @@ impl ParkedChange {
 
     /// Whether an ask waits.
     pub(crate) fn waits(&self, parked: &ParkedAsks, node: NodeId, life: Life, ask: Ask) -> bool
-        ensures { result ≡ is_parked (waits_after parked.now.asks.items self.now) node life ask }
+        ensures { result ≡ is_parked (waits_after (asks_of parked.now) self.now) node life ask }
     {
         self.still_waits(parked, node, life, ask)
             || still_waits(self.since.as_slice(), &[], node, life, ask)
@@ -165,18 +166,12 @@ impl ParkedChange {
 
     /// Whether an ask that waited still does.
     fn still_waits(&self, parked: &ParkedAsks, node: NodeId, life: Life, ask: Ask) -> bool
-        ensures { result ≡ is_parked (still_waiting self.now.over.items parked.now.asks.items) node life ask }
+        ensures { result ≡ is_parked (still_waiting self.now.over.items (asks_of parked.now)) node life ask }
     {
         if !parked.may_have(node, life, ask) {
             return false;
         }
-        still_waits(
-            parked.asks.as_slice(),
-            self.over.as_slice(),
-            node,
-            life,
-            ask,
-        )
+        still_waits(parked.waiting(), self.over.as_slice(), node, life, ask)
     }
 
     /// Ends the asks of a node, or of its lives below one.
@@ -202,53 +197,51 @@ impl ParkedChange {
         Ok(())
     }
 
-    /// Makes room for the asks that wait once this is applied: beside those that wait where all of them stay, and else apart.
-    pub(crate) fn room(
-        &self,
-        alloc: Global,
-        parked: &mut ParkedAsks,
-    ) -> Result<Vec<Parked>, AllocError>
-        ensures parked { parked.new.asks.items ≡ parked.old.asks.items }
-        ensures empty { IfOk result (λ room. room.items ≡ []) }
-        ensures larger { IfOk result (λ room. vec_len parked.new.asks + vec_len self.now.since ≤ parking_room self.now.over.items (vec_capacity parked.new.asks) (vec_capacity room)) }
+    /// Makes room for the asks that wait since.
+    pub(crate) fn room(&self, parked: &mut ParkedAsks) -> Result<(), AllocError>
+        ensures parked { asks_of parked.new ≡ asks_of parked.old }
+        ensures larger { OnOk result (vec_len parked.new.asks + vec_len self.now.since ≤ vec_capacity parked.new.asks) }
         ensures newest { OnOk result (vec_len self.now.since ≤ node_room parked.new.newest) }
     {
         parked.newest.reserve(self.since.len())?;
-        if self.over.is_empty() {
-            parked.asks.reserve(self.since.len())?;
-            Ok(Vec::new(alloc))
-        } else {
-            Vec::with_capacity(alloc, parked.asks.len() + self.since.len())
-        }
+        parked.asks.reserve(self.since.len())
     }
 
     /// The asks that wait, in the room that was made for them. It takes no memory.
-    pub(crate) fn apply(self, parked: ParkedAsks, room: Vec<Parked>) -> ParkedAsks
-        requires empty { room.items ≡ [] }
-        requires larger { vec_len parked.asks + vec_len self.since ≤ parking_room self.over.items (vec_capacity parked.asks) (vec_capacity room) }
+    pub(crate) fn apply(self, parked: ParkedAsks) -> ParkedAsks
+        requires larger { vec_len parked.asks + vec_len self.since ≤ vec_capacity parked.asks }
         requires newest { vec_len self.since ≤ node_room parked.newest }
-        ensures { result.asks.items ≡ waits_after parked.asks.items self }
-    {
-        let ParkedAsks { asks, newest } = parked;
-        let mut newest = newest;
-        note_all(&mut newest, self.since.as_slice());
-        let asks = self.apply_to(asks, room);
-        ParkedAsks { asks, newest }
-    }
-
-    /// The asks that wait, in the room that was made for them.
-    fn apply_to(self, asks: Vec<Parked>, room: Vec<Parked>) -> Vec<Parked>
-        requires empty { room.items ≡ [] }
-        requires larger { vec_len asks + vec_len self.since ≤ parking_room self.over.items (vec_capacity asks) (vec_capacity room) }
-        ensures { result.items ≡ waits_after asks.items self }
+        ensures { asks_of result ≡ waits_after (asks_of parked) self }
     {
         let ParkedChange { over, since } = self;
-        if over.is_empty() {
-            joined(asks, since)
-        } else {
-            joined(kept(asks, over.as_slice(), room), since)
+        let ParkedAsks {
+            asks,
+            start,
+            newest,
+            plain,
+        } = parked;
+        let mut newest = newest;
+        note_all(&mut newest, since.as_slice());
+        let since_private = some_private(since.as_slice());
+        let mut asks = asks;
+        let start = pass_over(&mut asks, start, over.as_slice());
+        let asks = joined(asks, since);
+        let plain = plain_after(start == asks.len(), plain, since_private);
+        let (asks, start) = trimmed(asks, start);
+        ParkedAsks {
+            asks,
+            start,
+            newest,
+            plain,
         }
     }
+}
+
+/// Whether none of the asks wants a PRIVATE folder: where there is none, or it was so and no other wants one.
+fn plain_after(is_empty: bool, plain: bool, since_private: bool) -> bool
+    ensures { result ≡ (is_empty || (plain && not since_private)) }
+{
+    is_empty || (plain && !since_private)
 }
 
 /// The asks of both, in the first, which has room for them.

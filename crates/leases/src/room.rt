@@ -3,12 +3,13 @@ ghost use Rattle.std.specs.Prelude.{◌≡◌, ◌+◌, ◌≤◌, ◌++◌, len
 ghost use Rattle.std.specs.Vec.{vec_capacity};
 ghost use Rattle.leases.specs.Changes.{changed, HasRoom};
 ghost use Rattle.leases.specs.Index.{index_entries};
+ghost use Rattle.leases.specs.Instances.{lease_instances};
 ghost use Rattle.leases.specs.Leases.{AreLeases};
 
 use super::changes::TableChange;
 use super::lease_table::LeaseTable;
-use super::live_leases::LiveLeases;
-use farm_base::{FolderName, Lease, Slot, Ticket};
+use super::live_leases::{Entries, LiveLeases};
+use farm_base::{Lease, Slot};
 use std::alloc::{AllocError, Global};
 use std::marker::Model;
 
@@ -17,8 +18,8 @@ use std::marker::Model;
 pub struct TableWithRoom {
     live: LiveLeases,
     retired: Vec<Slot>,
-    /// What the index of folders is to have of the leases that the changes add.
-    entries: Vec<(FolderName, Ticket)>,
+    /// What the indexes are to have of the leases that the changes add.
+    entries: Entries,
 }
 
 impl Model for TableWithRoom {
@@ -27,7 +28,7 @@ impl Model for TableWithRoom {
 
     ghost Value = { RoomyTable };
 
-    ghost view = { λ r. record { table = record { live = r.live.leases; retired = r.retired.items }; lease_room = r.live.lease_room; slot_room = vec_capacity r.retired; entries = r.entries.items; index_room = r.live.index_room; ask_room = r.live.ask_room } };
+    ghost view = { λ r. record { table = record { live = r.live.leases; retired = r.retired.items }; lease_room = r.live.lease_room; slot_room = vec_capacity r.retired; tickets = r.entries.tickets.items; index_room = r.live.index_room; instances = r.entries.instances.items; instance_room = r.live.instance_room; ask_room = r.live.ask_room } };
 }
 
 impl LeaseTable {
@@ -82,20 +83,22 @@ impl TableWithRoom {
     }
 }
 
-/// Makes room for more leases and slots, and what the index of folders is to have of the leases.
+/// Makes room for more leases and slots, and what the indexes are to have of the leases.
 fn make_room(
     alloc: Global,
     live: &mut LiveLeases,
     retired: &mut Vec<Slot>,
     more: &[Lease],
     more_slots: usize,
-) -> Result<Vec<(FolderName, Ticket)>, AllocError>
+) -> Result<Entries, AllocError>
     ensures leases { live.new.leases ≡ live.old.leases }
     ensures retired { retired.new.items ≡ retired.old.items }
     ensures lease_room { OnOk result (length live.new.leases + length more.now ≤ live.new.lease_room) }
     ensures slot_room { OnOk result (vec_len retired.new + more_slots ≤ vec_capacity retired.new) }
-    ensures entries { IfOk result (λ entries. entries.items ≡ index_entries more.now) }
-    ensures index_room { IfOk result (λ entries. vec_len entries ≤ live.new.index_room) }
+    ensures tickets { IfOk result (λ entries. entries.tickets.items ≡ index_entries more.now) }
+    ensures index_room { IfOk result (λ entries. vec_len entries.tickets ≤ live.new.index_room) }
+    ensures instances { IfOk result (λ entries. entries.instances.items ≡ lease_instances more.now) }
+    ensures instance_room { IfOk result (λ entries. vec_len entries.instances ≤ live.new.instance_room) }
     ensures ask_room { OnOk result (length more.now ≤ live.new.ask_room) }
 {
     let entries = live.room_for(alloc, more)?;

@@ -16,6 +16,12 @@ add_all-requires-clause-room c =
     let has = ap (λ (r : RoomyTable). length r.table.live) c.self.view_is in
     omega (arith, c.requires.room.leases)
 
+pub add_all-requires-clause-taken : goal.add_all-requires-clause-taken
+add_all-requires-clause-taken c =
+    let room = ap (λ (r : RoomyTable). r.instance_room) c.self.view_is in
+    let new = ap (λ (r : RoomyTable). length r.instances) c.self.view_is in
+    omega (arith, c.requires.room.taken, c.end_each.ensures.taken)
+
 pub add_all-requires-clause-sound : goal.add_all-requires-clause-sound
 add_all-requires-clause-sound c =
     let left : Lease → Bool = λ g. not (has_ended c.args.change.ended g) in
