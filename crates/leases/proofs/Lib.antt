@@ -9,6 +9,7 @@ pub mod LifeLemmas
 pub mod NodeLemmas
 pub mod ChangeLemmas
 pub mod FindLemmas
+pub mod OldestLemmas
 pub mod IndexLemmas
 pub mod InstanceLemmas
 pub mod TakenLemmas

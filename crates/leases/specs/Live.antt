@@ -1,5 +1,5 @@
 -- The leases of a table, as it keeps them.
-use Rattle.std.specs.Prelude.{ℕ, Bool, List, Option}
+use Rattle.std.specs.Prelude.{if◌then◌else◌, nat_lt, ℕ, Bool, List, Option, Some, None}
 use Rattle.farm_base.specs.declared.lease.Lease.{Lease}
 use Rattle.protocol.specs.Names.{FolderName, Ticket}
 use Rattle.leases.specs.Index.{AreIndexed}
@@ -27,3 +27,9 @@ pub record AreLive (at : FolderName → Option Ticket) (taken : FolderName → �
   pub indexed : AreIndexed at leases
   pub taken_is : AreTaken taken leases
   pub noted : AreNoted newest leases
+
+-- the one with the lower ticket, of those that are there
+abbrev pub older : Option Lease → Option Lease → Option Lease
+older None o = o
+older (Some g) None = Some g
+older (Some g) (Some h) = if nat_lt h.ticket.0 g.ticket.0 then Some h else Some g

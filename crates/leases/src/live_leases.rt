@@ -9,16 +9,18 @@ ghost use Rattle.leases.specs.Changes.{ends_lease, frees, has_ended};
 ghost use Rattle.leases.specs.Index.{index_entries};
 ghost use Rattle.leases.specs.Instances.{has, lease_instances};
 ghost use Rattle.leases.specs.Leases.{AreLeases, IsBefore};
+ghost use Rattle.leases.specs.Live.{older};
 ghost use Rattle.leases.specs.Marks.{Unmarks};
+ghost use Rattle.leases.specs.Table.{holds_some, takes};
 
-use super::ending::{Ending, drop_ending};
+use super::ending::{Ending, drop_ending, standing};
 use super::folder_index::{entries_of, forget, forget_ending, index_of, put_all};
-use super::held::has_only;
+use super::held::{has_only, takes};
 use super::instances::Instances;
 use super::marks::{unmark_ending, unmark_lease};
 use super::newest_asks::{NewestAsks, note_all};
 use super::taken_instances::{TakenInstances, instances_of, taken_of};
-use farm_base::{Ask, FolderName, Lease, Life, NodeId, Ticket};
+use farm_base::{Ask, FolderName, Lease, Life, NodeId, Ticket, Want};
 use indexmap::IndexMap;
 use std::alloc::{AllocError, Global};
 use std::marker::Model;
@@ -121,6 +123,33 @@ impl LiveLeases {
         } else {
             None
         }
+    }
+
+    /// The lease that has the one slot of a folder, unless one of these ends it.
+    pub(crate) fn holding_beside(&self, folder: &FolderName, ended: &[Ending]) -> Option<&Lease>
+        ensures value { option_copied result ≡ find (λ g. has_slot g.slots (only_slot folder.now)) (filter (λ g. not (has_ended ended.now g)) self.now.leases) }
+        ensures sound { AreLeases self.now.leases }
+    {
+        standing(self.holding(folder), ended)
+    }
+
+    /// The oldest lease that none of these ends and that has the one slot of a folder for which an ask with these
+    /// wants takes a slot.
+    pub(crate) fn oldest_beside(
+        &self,
+        wants: &[Want],
+        tenure: bool,
+        ended: &[Ending],
+    ) -> Option<&Lease>
+        ensures { option_copied result ≡ find (holds_some (filter (takes tenure) wants.now)) (filter (λ g. not (has_ended ended.now g)) self.now.leases) }
+    {
+        let mut oldest = None;
+        for want in wants {
+            if takes(want, tenure) {
+                oldest = older(oldest, self.holding_beside(&want.folder, ended));
+            }
+        }
+        oldest
     }
 
     /// The instances of a folder that leases have which none of these ends.
@@ -259,6 +288,23 @@ impl LiveLeases {
     {
         for ending in ended {
             self.end_all(ending);
+        }
+    }
+}
+
+/// The one with the lower ticket, of those that are there.
+fn older<'t>(one: Option<&'t Lease>, other: Option<&'t Lease>) -> Option<&'t Lease>
+    ensures { option_copied result ≡ older (option_copied one.entry) (option_copied other.entry) }
+{
+    match (one, other) {
+        (None, other) => other,
+        (Some(one), None) => Some(one),
+        (Some(one), Some(other)) => {
+            if other.ticket < one.ticket {
+                Some(other)
+            } else {
+                Some(one)
+            }
         }
     }
 }

@@ -92,7 +92,7 @@ impl<'t> View<'t> {
     fn holding(&self, folder: &FolderName) -> Option<&'t Lease>
         ensures { option_copied result ≡ find (λ g. has_slot g.slots (only_slot folder.now)) self.now.live }
     {
-        standing(self.live.holding(folder), self.ended).or(
+        self.live.holding_beside(folder, self.ended).or(
             self.granted
                 .iter()
                 .find(|lease| has_only(lease.slots.as_slice(), folder)),
@@ -176,12 +176,11 @@ impl<'t> View<'t> {
     fn first_with(&self, wants: &[Want], tenure: bool) -> Option<&'t Lease>
         ensures { option_copied result ≡ find (holds_some (filter (takes tenure) wants.now)) self.now.live }
     {
-        self.live
-            .as_slice()
-            .iter()
-            .filter(|lease| !has_ended(self.ended, lease))
-            .chain(self.granted.iter())
-            .find(|lease| holds_some(lease.slots.as_slice(), wants, tenure))
+        self.live.oldest_beside(wants, tenure, self.ended).or(
+            self.granted
+                .iter()
+                .find(|lease| holds_some(lease.slots.as_slice(), wants, tenure)),
+        )
     }
 
     /// Whether a node has a lease.
