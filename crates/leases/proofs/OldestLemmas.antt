@@ -33,13 +33,13 @@ older_assoc (Some x) (Some y) (Some z) =
     let lower = cases_Bool (nat_lt z.ticket.0 y.ticket.0) in
     elim (cases_Bool (nat_lt y.ticket.0 x.ticket.0)) [
       | inl yx ↦ (let below = ltb-true y.ticket.0 x.ticket.0 yx in elim lower [
-          | inl zy ↦ (let next = ltb-true z.ticket.0 y.ticket.0 zy in rw (yx, zy) (sym (older_higher x z (omega arith))))
-          | inr zy ↦ rw (yx, zy, yx) refl
-        ])
+        | inl zy ↦ (let next = ltb-true z.ticket.0 y.ticket.0 zy in rw (yx, zy) (sym (older_higher x z (omega arith))))
+        | inr zy ↦ rw (yx, zy, yx) refl
+      ])
       | inr yx ↦ (let above = ltb-false y.ticket.0 x.ticket.0 yx in elim lower [
-          | inl zy ↦ rw (yx, zy) refl
-          | inr zy ↦ (let next = ltb-false z.ticket.0 y.ticket.0 zy in rw (yx, zy) (older_lower x z (omega arith) ∙ sym (older_lower x y above)))
-        ])
+        | inl zy ↦ rw (yx, zy) refl
+        | inr zy ↦ (let next = ltb-false z.ticket.0 y.ticket.0 zy in rw (yx, zy) (older_lower x z (omega arith) ∙ sym (older_lower x y above)))
+      ])
     ]
 
 -- ---- among leases whose tickets rise
@@ -69,13 +69,13 @@ found_either p q r (g ∷ live) either up =
     let above = AllPairs-head IsBefore g live up in
     elim (cases_Bool (p g)) [
       | inl a ↦ (let is : r g ≡ true = either g ∙ rw a refl in elim (cases_Bool (q g)) [
-          | inl b ↦ rw (is, a, b) (sym (older_lower g g (omega arith)))
-          | inr b ↦ rw (is, a, b) (sym (older_than_found g q live above))
-        ])
+        | inl b ↦ rw (is, a, b) (sym (older_lower g g (omega arith)))
+        | inr b ↦ rw (is, a, b) (sym (older_than_found g q live above))
+      ])
       | inr a ↦ (let is : r g ≡ q g = either g ∙ rw a refl in elim (cases_Bool (q g)) [
-          | inl b ↦ (let both : r g ≡ true = is ∙ b in rw (both, a, b) (sym (found_is_younger g p live above)))
-          | inr b ↦ (let none : r g ≡ false = is ∙ b in rw (none, a, b) (found_either p q r live either (AllPairs-tail IsBefore g live up)))
-        ])
+        | inl b ↦ (let both : r g ≡ true = is ∙ b in rw (both, a, b) (sym (found_is_younger g p live above)))
+        | inr b ↦ (let none : r g ≡ false = is ∙ b in rw (none, a, b) (found_either p q r live either (AllPairs-tail IsBefore g live up)))
+      ])
     ]
 
 -- ---- over the wants
