@@ -1,12 +1,12 @@
 -- Sets of instances, as bits of words.
-use Rattle.std.proofs.Common.{◌≡◌, ◌≢◌, ℕ, zero, suc, ◌+◌, ◌*◌, ◌-◌, ◌/◌, ◌%◌, ◌^◌, ◌<◌, List, Bool, true, false, not, ◌&&◌, ◌||◌, cond, eqb, eq-eqb, length, get_or, set, refl, sym, ◌∙◌, ap, inl, inr, arith}
+use Rattle.std.proofs.Common.{◌≡◌, ◌≢◌, ℕ, zero, suc, ◌+◌, ◌*◌, ◌-◌, ◌/◌, ◌%◌, ◌^◌, ◌<◌, ◌≤◌, max, List, Bool, true, false, not, ◌&&◌, ◌||◌, cond, eqb, eq-eqb, length, get_or, set, refl, sym, ◌∙◌, ap, inl, inr, arith}
 use Rattle.std.specs.Prelude.{All, replicate}
 use Rattle.std.specs.Int.{bit_at, bit_not, trailing_ones, w64}
 use Rattle.std.specs.Int.RustNames.{bit_or}
 use lib.Bits.{bit_and}
 use Rattle.std.proofs.lemmas.Bool.{cases_eq, cases_lt, ne_eqb}
-use Rattle.std.proofs.lemmas.List.{get_or-set_same, get_or-set_other}
-use Rattle.std.proofs.lemmas.Nat.Bits.{bit_at-zero, bit_at_ones, bit_at_set_same, bit_at_set_other, bit_at_clear_same, bit_at_clear_other, bit_at-trailing_ones}
+use Rattle.std.proofs.lemmas.List.{get_or-set_same, get_or-set_other, length-set}
+use Rattle.std.proofs.lemmas.Nat.Bits.{bit_at-lt, bit_at-zero, bit_at_ones, bit_at_or, bit_at_set_same, bit_at_set_other, bit_at_clear_same, bit_at_clear_other, bit_at-trailing_ones}
 use Rattle.std.proofs.Math.ListN.{get_or-eq_default}
 use Rattle.leases.specs.Instances.{bit_in}
 
@@ -121,3 +121,54 @@ bit_in-below words k i lacks full below = elim (cases_lt (i / 64) k) [
       let is : i ≡ 64 * k + (i - 64 * k) = omega arith in
       bit_is words i k (i - 64 * k) 1 is (omega arith) (lowest.2 (i - 64 * k) (omega arith))
 ]
+
+-- ---- one set added to another
+
+-- the words before a place have the bits of both sets, the others those of the set to which is added
+pub record AddedTo (place : ℕ) (more was words : List ℕ) : Type 0 where
+  pub as_many : length words ≡ length was
+  pub before : (k : ℕ) → k < place → get_or words k 0 ≡ bit_or (get_or was k 0) (get_or more k 0)
+  pub rest : (k : ℕ) → place ≤ k → get_or words k 0 ≡ get_or was k 0
+
+pub added-none : (more was : List ℕ) → AddedTo 0 more was was
+added-none more was = record {
+  as_many = refl;
+  before = λ k lt. absurd (omega arith);
+  rest = λ k le. refl;
+}
+
+-- the next word
+pub added-next : (place : ℕ) (more was words : List ℕ) → place < length words → AddedTo place more was words → AddedTo (place + 1) more was (set words place (bit_or (get_or words place 0) (get_or more place 0)))
+added-next place more was words inside h = record {
+  as_many = length-set words place (bit_or (get_or words place 0) (get_or more place 0)) ∙ h.as_many;
+  before = λ k lt. elim (cases_eq k place) [
+    | inl same ↦
+        ap (λ (n : ℕ). get_or (set words place (bit_or (get_or words place 0) (get_or more place 0))) n 0) same ∙ get_or-set_same words place (bit_or (get_or words place 0) (get_or more place 0)) 0 inside
+        ∙ ap (λ (w : ℕ). bit_or w (get_or more place 0)) (h.rest place (omega arith)) ∙ ap (λ (n : ℕ). bit_or (get_or was n 0) (get_or more n 0)) (sym same)
+    | inr other ↦ get_or-set_other words place k (bit_or (get_or words place 0) (get_or more place 0)) 0 other ∙ h.before k (omega arith)
+  ];
+  rest = λ k le. get_or-set_other words place k (bit_or (get_or words place 0) (get_or more place 0)) 0 (λ same. omega arith) ∙ h.rest k (omega arith);
+}
+
+either_is_one : (x y : ℕ) → x < 2 → y < 2 → eqb (max x y) 1 ≡ (eqb y 1 || eqb x 1)
+either_is_one zero zero lx ly = refl
+either_is_one zero (suc zero) lx ly = refl
+either_is_one (suc zero) zero lx ly = refl
+either_is_one (suc zero) (suc zero) lx ly = refl
+either_is_one (suc (suc x)) y lx ly = absurd (omega arith)
+either_is_one zero (suc (suc y)) lx ly = absurd (omega arith)
+either_is_one (suc zero) (suc (suc y)) lx ly = absurd (omega arith)
+
+-- a word with the bits of both
+pub bit_in-added : (more was words : List ℕ) (i : ℕ) → get_or words (i / 64) 0 ≡ bit_or (get_or was (i / 64) 0) (get_or more (i / 64) 0) → bit_in words i ≡ (bit_in more i || bit_in was i)
+bit_in-added more was words i is =
+    let a : ℕ = get_or was (i / 64) 0 in
+    let b : ℕ = get_or more (i / 64) 0 in
+    ap (λ (w : ℕ). eqb (bit_at w (i % 64)) 1) is ∙ ap (λ (n : ℕ). eqb n 1) (bit_at_or a b (i % 64))
+    ∙ either_is_one (bit_at a (i % 64)) (bit_at b (i % 64)) (bit_at-lt a (i % 64)) (bit_at-lt b (i % 64))
+
+-- past all words there is no bit
+pub bit_in-past : (more was words : List ℕ) (i : ℕ) → length more ≤ i / 64 → length was ≤ i / 64 → length words ≤ i / 64 → bit_in words i ≡ (bit_in more i || bit_in was i)
+bit_in-past more was words i no_more no_was none =
+    bit_in-zero words i (get_or-eq_default words 0 none)
+    ∙ sym (ap (λ (b : Bool). b || bit_in was i) (bit_in-zero more i (get_or-eq_default more 0 no_more)) ∙ bit_in-zero was i (get_or-eq_default was 0 no_was))

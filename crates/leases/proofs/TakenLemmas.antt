@@ -13,7 +13,7 @@ use Rattle.farm_base.specs.declared.lease.Lease.{Lease}
 use Rattle.farm_base.proofs.NameLaws.{folder_exact}
 use Rattle.protocol.specs.Names.{Slot, FolderName, slot_eq}
 use Rattle.protocol.specs.Ledger.{has_slot, some_lease}
-use Rattle.leases.specs.Instances.{has_of, instances_of, slot_instances, lease_instances, AreTaken}
+use Rattle.leases.specs.Instances.{has_of, instances_of, slot_instances, slot_names, lease_instances, AreTaken, AreRetired}
 use Rattle.leases.specs.declared.instances.Instances.{Instances}
 use Rattle.leases.specs.declared.ending.Ending.{Ending}
 use Rattle.leases.specs.Changes.{ends_lease, has_ended}
@@ -257,3 +257,17 @@ taken-changed live granted retired more s =
     not_free (some_lease live s) (some_lease granted s) (among retired s) (among more s)
     ∙ ap (λ (b : Bool). not (not b && not (among retired s || among more s))) (sym (list_any-append (λ (g : Lease). has_slot g.slots s) live granted))
     ∙ ap (λ (b : Bool). not (not (some_lease (live ++ granted) s) && not b)) (sym (list_any-append (λ (x : Slot). slot_eq x s) retired more))
+
+-- ---- slots that are never granted again
+
+-- an instance is among those of slots exactly if its slot is
+names_any : (slots : List Slot) (f : FolderName) (i : ℕ) → list_any (λ (e : FolderName × ℕ). folder_eq e.0 f && eqb e.1 i) (slot_names slots) ≡ among slots (record { folder = f; instance = i })
+names_any [] f i = refl
+names_any (x ∷ xs) f i = ap (λ (b : Bool). (folder_eq x.folder f && eqb x.instance i) || b) (names_any xs f i)
+
+-- slots are added
+pub retired-append : (before after : FolderName → ℕ → Bool) (slots more : List Slot) → AreRetired before slots
+    → ((f : FolderName) (i : ℕ) → i ≤ 4096 → after f i ≡ (list_any (λ (e : FolderName × ℕ). folder_eq e.0 f && eqb e.1 i) (slot_names more) || before f i)) → AreRetired after (slots ++ more)
+retired-append before after slots more are adds f i to =
+    let s : Slot = record { folder = f; instance = i } in
+    adds f i to ∙ (λ j. names_any more f i j || are f i to j) ∙ or_comm (among more s) (among slots s) ∙ sym (list_any-append (λ (x : Slot). slot_eq x s) slots more)

@@ -7,7 +7,7 @@ use Rattle.protocol.specs.Ledger.{has_slot, has_ticket, is_at, is_older, is_save
 use Rattle.leases.specs.declared.ending.Ending.{Ending}
 use Rattle.leases.specs.declared.ending.Ending.TheVariants as ending
 use Rattle.leases.specs.Index.{index_entries}
-use Rattle.leases.specs.Instances.{lease_instances}
+use Rattle.leases.specs.Instances.{lease_instances, slot_names}
 use Rattle.leases.specs.Leases.{Table}
 
 -- changes over a lease table, as contracts see them
@@ -68,6 +68,10 @@ pub record RoomyTable : Type 0 where
   pub instance_room : ℕ
   -- of how many more nodes it can note asks
   pub ask_room : ℕ
+  -- the folders and instances of the slots that the changes retire
+  pub retired_names : List (FolderName × ℕ)
+  -- of how many more folders it can note instances that are never granted again
+  pub retired_room : ℕ
 
 -- there is room for what the changes add
 pub record HasRoom (r : RoomyTable) (c : Change) : Type 0 where
@@ -78,3 +82,5 @@ pub record HasRoom (r : RoomyTable) (c : Change) : Type 0 where
   pub instances : r.instances ≡ lease_instances c.granted
   pub taken : length r.instances ≤ r.instance_room
   pub asks : length c.granted ≤ r.ask_room
+  pub retired : r.retired_names ≡ slot_names c.retired
+  pub noted : length r.retired_names ≤ r.retired_room

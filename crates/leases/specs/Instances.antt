@@ -8,6 +8,7 @@ use Rattle.farm_base.specs.declared.lease.Lease.{Lease}
 use Rattle.farm_base.specs.declared.limits.TheConstants.{INSTANCES}
 use Rattle.protocol.specs.Names.{Slot, FolderName}
 use Rattle.protocol.specs.Ledger.{some_lease}
+use Rattle.leases.specs.Table.{among}
 use Rattle.leases.specs.declared.instances.Instances.{Instances}
 use Rattle.leases.specs.declared.taken_instances.TakenInstances.{TakenInstances}
 
@@ -39,6 +40,22 @@ folder_room x = spare x.by_folder
 -- of 1 to 4,096, an instance is taken exactly if a lease has its slot
 abbrev pub AreTaken : (FolderName → ℕ → Bool) → List Lease → Type 0
 AreTaken taken leases = (f : FolderName) (i : ℕ) → 1 ≤ i → i ≤ INSTANCES → taken f i ≡ some_lease leases (record { folder = f; instance = i })
+
+-- slots that are never granted again, as contracts see them
+pub record Retired : Type 0 where
+  pub slots : List Slot
+  -- how many slots it can hold, those that it has among them
+  pub slot_room : ℕ
+  -- of how many more folders it can note instances
+  pub folder_room : ℕ
+
+-- an instance of up to 4,096 is taken exactly if its slot is among these
+abbrev pub AreRetired : (FolderName → ℕ → Bool) → List Slot → Type 0
+AreRetired taken slots = (f : FolderName) (i : ℕ) → i ≤ INSTANCES → taken f i ≡ among slots (record { folder = f; instance = i })
+
+-- the folder and the instance of each of these slots
+abbrev pub slot_names : List Slot → List (FolderName × ℕ)
+slot_names slots = map (λ s. (s.folder, s.instance)) slots
 
 -- the folder and the instance of each of these slots whose instance isn't 0
 abbrev pub slot_instances : List (Slot × Bool) → List (FolderName × ℕ)

@@ -1,5 +1,5 @@
 //! The changes that one event makes, over a lease table that stays as it is until they are applied.
-ghost use Rattle.std.specs.Prelude.{◌≡◌, ◌<◌, not, [], ◌∷◌, ◌++◌, filter, length, All, IfOk, OnOk, OnErr, option_copied};
+ghost use Rattle.std.specs.Prelude.{◌≡◌, ◌<◌, not, [], ◌∷◌, ◌++◌, filter, All, IfOk, OnOk, OnErr, option_copied};
 ghost use Rattle.std.specs.List.{find, list_any};
 ghost use Rattle.std.specs.List.Sorted.{IsStrictlySortedBy};
 ghost use Rattle.farm_base.specs.Slots.{slot_cmp};
@@ -265,12 +265,12 @@ impl TableChange {
         rising(slots)
     }
 
-    /// The leases that it adds to a table, and how many slots that are never granted again.
-    pub(crate) fn added(&self) -> (&[Lease], usize)
+    /// The leases that it adds to a table, and the slots that are never granted again.
+    pub(crate) fn added(&self) -> (&[Lease], &[Slot])
         ensures leases { result.0.now ≡ self.now.granted }
-        ensures slots { result.1 ≡ length self.now.retired }
+        ensures slots { result.1.now ≡ self.now.retired }
     {
-        (self.granted.as_slice(), self.retired.len())
+        (self.granted.as_slice(), self.retired.as_slice())
     }
 
     /// Gives its parts, without taking memory.

@@ -42,6 +42,15 @@ impl Instances {
         }
     }
 
+    /// Adds the instances of another set.
+    pub(crate) fn add_all(&mut self, others: &Instances)
+        ensures { (i : ℕ) → has self.new i ≡ (has others.now i || has self.old i) }
+    {
+        for place in 0..WORDS {
+            self.words[place] |= others.words[place];
+        }
+    }
+
     /// Whether it has no instance.
     pub(crate) fn is_empty(&self) -> bool
         ensures { OnTrue result ((i : ℕ) → has self.now i ≡ false) }

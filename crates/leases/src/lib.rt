@@ -13,6 +13,7 @@ mod lives;
 mod marks;
 mod newest_asks;
 mod retired_nodes;
+mod retired_slots;
 mod room;
 mod saved;
 mod slots;

@@ -16,6 +16,7 @@ use super::instances::Instances;
 use super::lease_table::Fit;
 use super::live_leases::LiveLeases;
 use super::marks::{mark_all, mark_leased};
+use super::retired_slots::RetiredSlots;
 use super::slots::{add_copies, copy_standing, private_slots, private_slots_of, rising};
 use farm_base::{
     Ask, Copied, FolderName, INSTANCES, Items, Lease, Life, Mode, NodeId, Slot, Ticket, Want,
@@ -34,7 +35,7 @@ pub(crate) struct View<'t> {
     /// The leases that were granted since.
     pub(crate) granted: &'t [Lease],
     /// The PRIVATE slots that the table never grants again.
-    pub(crate) retired: &'t [Slot],
+    pub(crate) retired: &'t RetiredSlots,
     /// Those that the changes add.
     pub(crate) newly_retired: &'t [Slot],
 }
@@ -45,7 +46,7 @@ impl<'t> Model for View<'t> {
 
     ghost Value = { Table };
 
-    ghost view = { λ v. changed (record { live = v.live.now.leases; retired = v.retired.now }) (record { ended = v.ended.now; granted = v.granted.now; retired = v.newly_retired.now }) };
+    ghost view = { λ v. changed (record { live = v.live.now.leases; retired = v.retired.now.slots }) (record { ended = v.ended.now; granted = v.granted.now; retired = v.newly_retired.now }) };
 }
 
 impl<'t> View<'t> {
@@ -55,7 +56,7 @@ impl<'t> View<'t> {
     {
         let mut taken = self.live.taken_beside(folder, self.ended);
         mark_leased(&mut taken, folder, self.granted);
-        mark_all(&mut taken, folder, self.retired);
+        taken.add_all(&self.retired.instances_of(folder));
         mark_all(&mut taken, folder, self.newly_retired);
         taken
     }
@@ -313,7 +314,7 @@ impl<'t> View<'t> {
     {
         let mut leases = copy_standing(alloc, self.live.as_slice(), self.ended)?;
         add_copies(alloc, &mut leases, self.granted)?;
-        let mut retired = copy_all(alloc, self.retired)?;
+        let mut retired = copy_all(alloc, self.retired.as_slice())?;
         add_copies(alloc, &mut retired, self.newly_retired)?;
         let retired = rising(retired)?;
         Ok((leases, retired))

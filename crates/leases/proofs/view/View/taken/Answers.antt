@@ -12,9 +12,8 @@ pub returns : goal.returns
 returns c i from to =
     let s : Slot = record { folder = c.args.folder.now; instance = i } in
     let live : List Lease = filter (λ g. not (has_ended c.self.inside.ended.now g)) c.self.inside.live.now.leases in
-    c.mark_all-2.ensures i to
-    ∙ ap (λ (b : Bool). among c.self.inside.newly_retired.now s || b) (c.mark_all.ensures i to
-    ∙ ap (λ (b : Bool). among c.self.inside.retired.now s || b) (c.mark_leased.ensures i to
-    ∙ ap (λ (b : Bool). some_lease c.self.inside.granted.now s || b) (c.taken_beside-taken.ensures i from to)))
-    ∙ taken-changed live c.self.inside.granted.now c.self.inside.retired.now c.self.inside.newly_retired.now s
+    c.mark_all.ensures i to
+    ∙ ap (λ (b : Bool). among c.self.inside.newly_retired.now s || b) (c.add_all.ensures i
+    ∙ (λ j. c.instances_of.ensures i to j || (c.mark_leased.ensures i to ∙ ap (λ (b : Bool). some_lease c.self.inside.granted.now s || b) (c.taken_beside-taken.ensures i from to)) j))
+    ∙ taken-changed live c.self.inside.granted.now c.self.inside.retired.now.slots c.self.inside.newly_retired.now s
     ∙ ap (λ (t : Table). not (is_free t s)) c.self.view_is
