@@ -5,7 +5,7 @@ use Rattle.std.proofs.lemmas.List.Elements.{All-head, All-tail, All-cons, All-ni
 use Rattle.std.specs.Prelude.{All, AllPairs, nat_lt}
 use Rattle.std.specs.List.{list_any}
 use Rattle.protocol.specs.Lists.{In}
-use Rattle.protocol.specs.Names.{Slot, slot_eq, is_private, only_slot, Ticket, Want, leased_wants, wants_shared}
+use Rattle.protocol.specs.Names.{Slot, slot_eq, is_private, only_slot, FolderName, Ticket, Want, leased_wants, wants_shared}
 use Rattle.protocol.specs.Machine.{Parked}
 use Rattle.protocol.specs.Ledger.{Limits, Ledger, Lease, Work, pick, elsewhere, another, all_taken, busy, lowest, is_free, is_leased, some_lease, has_slot, has_ticket, lease_under, without, decision, tried, parks, stays, try_all, waiting}
 use Rattle.protocol.specs.declared.answer.Decision.TheVariants.{Wait}
@@ -210,3 +210,39 @@ plain-after asks since all marks false b was none e h =
     let both = and_parts b (not (list_any wants_private since)) h in
     let new : All P since = all_from_in P since (λ p i. any_none wants_private p since (not-true (list_any wants_private since) both.1) i) in
     subst (All P) (sym e) (All-append P (still_waiting marks asks) since (all-still P marks asks (was both.0)) new)
+
+-- ---- slots that no ask wants
+
+has_slot-filter : (test : (Slot × Bool) → Bool) (s : Slot) (slots : List (Slot × Bool)) → ((x : Slot × Bool) → slot_eq x.0 s ≡ true → test x ≡ true) → has_slot slots s ≡ true → has_slot (filter test slots) s ≡ true
+has_slot-filter test s [] passes e = e
+has_slot-filter test s (x ∷ xs) passes e = elim (cases_Bool (slot_eq x.0 s)) [
+  | inl same ↦ (let kept = passes x same in rw kept (rw same refl))
+  | inr other ↦ (
+      let rest : has_slot (filter test xs) s ≡ true = has_slot-filter test s xs passes (rw other at e) in
+      elim (cases_Bool (test x)) [ inl kept ↦ rw kept (rw other rest) | inr dropped ↦ rw dropped rest ])
+]
+
+leased_among : (tenure : Bool) (w : Want) (wants : List Want) → In w (leased_wants tenure wants) → In w wants
+leased_among true w wants i = (from_filter wants_shared w wants i).0
+leased_among false w wants i = (from_filter (λ w. not (wants_shared w)) w wants i).0
+
+-- an ask doesn't wait for slots of folders that it doesn't want
+pub idle-wanted : (may : FolderName → Bool) (freed : List (Slot × Bool)) (q : Ledger) (p : Parked) → ((w : Want) → In w p.wants → may w.folder ≡ true) → IsIdle freed q p → IsIdle (filter (λ x. may x.0.folder) freed) q p
+idle-wanted may freed q p wanted idle =
+    let wants : List Want = leased_wants p.tenure p.wants in
+    let fewer : List (Slot × Bool) = filter (λ x. may x.0.folder) freed in
+    record {
+      plain = idle.plain;
+      waits = either_more (elsewhere q p) (busy (λ s. is_leased q s || has_slot freed s) wants) (busy (λ s. is_leased q s || has_slot fewer s) wants) idle.waits
+          (any_more (λ (w : Want). not (is_private w.folder.mode) && (is_leased q (only_slot w.folder) || has_slot freed (only_slot w.folder))) (λ (w : Want). not (is_private w.folder.mode) && (is_leased q (only_slot w.folder) || has_slot fewer (only_slot w.folder))) wants
+          (λ w i t. (let b = and_parts (not (is_private w.folder.mode)) (is_leased q (only_slot w.folder) || has_slot freed (only_slot w.folder)) t in
+          let other = b.0 in
+          elim (cases_Bool (is_leased q (only_slot w.folder))) [
+            | inl on ↦ rw (other, on) refl
+            | inr off ↦ (
+                let has : has_slot freed (only_slot w.folder) ≡ true = rw off at b.1 in
+                let kept : has_slot fewer (only_slot w.folder) ≡ true = has_slot-filter (λ x. may x.0.folder) (only_slot w.folder) freed
+                (λ x same. ap (λ (s : Slot). may s.folder) (slot_eq_is x.0 (only_slot w.folder) same) ∙ wanted w (leased_among p.tenure w p.wants i)) has in
+                rw (other, off) kept)
+          ])));
+    }

@@ -387,7 +387,7 @@ impl Draft {
         Ok(())
     }
 
-    /// The slots that the end of a ticket's lease frees. None are told where a parked ask may want a PRIVATE folder: it can be
+    /// The slots that the end of a ticket's lease frees, but for those that no parked ask wants. None are told where a parked ask may want a PRIVATE folder: it can be
     /// denied whatever is freed.
     pub(crate) fn freed_by(
         &self,
@@ -405,7 +405,7 @@ impl Draft {
             return Ok(None);
         }
         match self.change.table.lease(&base.table, ticket) {
-            Some(lease) => Ok(Some(lease.slots.copy(alloc)?)),
+            Some(lease) => Ok(Some(base.parked.wanted_of(alloc, lease.slots.as_slice())?)),
             None => Ok(None),
         }
     }

@@ -1,4 +1,4 @@
-ghost use Rattle.std.specs.Prelude.{◌≡◌, not, ◌+◌, ◌≤◌, List, [], IfOk, IfSome, OnOk, Option, Ok, Err, None, false, is_some, option_copied, length};
+ghost use Rattle.std.specs.Prelude.{◌≡◌, not, ◌+◌, ◌≤◌, List, [], IfOk, IfSome, OnOk, Option, Ok, Err, None, false, is_some, option_copied, length, map};
 ghost use Rattle.std.specs.List.{list_any};
 ghost use Rattle.std.specs.List.Sorted.{IsStrictlySortedBy};
 ghost use Rattle.std.specs.Vec.{vec_capacity};
@@ -28,6 +28,7 @@ ghost use Rattle.coordinator.specs.Settling.{Answers, is_save_fault};
 ghost use Rattle.coordinator.specs.Shown.{LineOf, kept, after, shown, with_life, with_gone};
 ghost use Rattle.versions.specs.Lines.{lines_with, room_needed, line_shown};
 ghost use Rattle.coordinator.specs.Sound.{IsSound, IsRightful};
+ghost use Rattle.coordinator.specs.Wanted.{wants_of, folder_room};
 ghost use Rattle.farm_base.specs.declared.limits.TheConstants.{NODES};
 ghost use Rattle.protocol.specs.Lawful.{IsNumber, IsSaid};
 ghost use Rattle.coordinator.specs.Promises.{OnlyGrow, ChangesAsTold};
@@ -90,6 +91,8 @@ fn apply(
     requires leases { AreLeases (changed table.table prepared.draft.change.table).live }
     requires parking { vec_len state.old.parked.asks + vec_len prepared.draft.change.parked.since ≤ vec_capacity state.old.parked.asks }
     requires newest { vec_len prepared.draft.change.parked.since ≤ node_room state.old.parked.newest }
+    requires folders { state.old.parked.folders.items ≡ map (λ w. w.folder) (wants_of prepared.draft.change.parked.since.items) }
+    requires counts { vec_len state.old.parked.folders ≤ folder_room state.old.parked.wanted }
     requires lives { life_at (unwrap_or nodes.0 state.old.lives) ≡ with_life prepared.draft.change.life (life_at state.old.lives) }
     requires gone { is_among (unwrap_or nodes.1 state.old.gone) ≡ with_gone prepared.draft.change.gone (is_among state.old.gone) }
     requires ready { IsReady state.old.lines prepared.added }
@@ -110,7 +113,7 @@ fn apply(
         parked,
     } = draft.change;
     let asks = mem::replace(&mut state.parked, ParkedAsks::new(alloc));
-    state.parked = parked.apply(asks);
+    state.parked = parked.apply(alloc, asks);
     state.table = table.apply(table_change);
     state.tickets = tickets;
     update(&mut state.lives, nodes.0);
@@ -233,7 +236,7 @@ impl Ledger {
             return Err(CoordRefusal::OutOfMemory);
         };
         let change = &prepared.draft.change;
-        let Ok(()) = change.parked.room(&mut self.state.parked) else {
+        let Ok(()) = change.parked.room(alloc, &mut self.state.parked) else {
             return Err(CoordRefusal::OutOfMemory);
         };
         let Ok(nodes) = change.nodes(alloc, &self.state) else {

@@ -14,6 +14,7 @@ mod parked_change;
 mod record;
 mod state;
 mod text;
+mod wanted_folders;
 
 pub use coordinator::{Coordinator, NotStarted};
 pub use handled::Handled;

@@ -1,16 +1,18 @@
 //! The asks that wait.
-ghost use Rattle.std.specs.Prelude.{◌≡◌, ◌≤◌, [], true, drop, length, vec_len};
+ghost use Rattle.std.specs.Prelude.{◌≡◌, ◌≤◌, [], true, drop, filter, length, vec_len, IfOk};
 ghost use Rattle.protocol.specs.Machine.{Parked};
 ghost use Rattle.leases.specs.Newest.{knows, node_room};
 ghost use Rattle.std.specs.List.{list_any};
 ghost use Rattle.coordinator.specs.Idle.{wants_private, ArePlain};
 ghost use Rattle.coordinator.specs.Newest.{AreKnown};
+ghost use Rattle.coordinator.specs.Wanted.{may_want, AreCounted};
 ghost use Rattle.coordinator.specs.Waiting.{still_waiting};
 ghost use Rattle.std.specs.Vec.{vec_capacity};
 
-use farm_base::{Ask, Life, Mode, NodeId, Parked};
+use super::wanted_folders::WantedFolders;
+use farm_base::{Ask, Copied, FolderName, Items, Life, Mode, NodeId, Parked, Slot};
 use leases::NewestAsks;
-use std::alloc::Global;
+use std::alloc::{AllocError, Global};
 
 /// The asks that wait, in order of arrival. A node numbers its asks in turn, so nearly each new one is known not to wait
 /// without a look at them.
@@ -23,9 +25,14 @@ pub struct ParkedAsks {
     pub newest: NewestAsks,
     /// Whether none of them wants a PRIVATE folder, as far as is known.
     pub plain: bool,
+    /// How often they want each folder.
+    pub wanted: WantedFolders,
+    /// The folders that asks to come want.
+    pub folders: Vec<FolderName>,
     ghost inside: { start ≤ vec_len asks },
     ghost known: { AreKnown newest (drop start asks.items) },
     ghost only_plain: { plain ≡ true → ArePlain (drop start asks.items) },
+    ghost counted: { AreCounted wanted (drop start asks.items) },
 }
 
 /// Whether the ask wants a PRIVATE folder.
@@ -82,6 +89,14 @@ pub(crate) fn pass_over(asks: &mut Vec<Parked>, start: usize, over: &[bool]) -> 
     first
 }
 
+/// The asks from `start` on.
+pub(crate) fn behind(asks: &[Parked], start: usize) -> &[Parked]
+    requires { start ≤ length asks.now }
+    ensures { result.now ≡ drop start asks.now }
+{
+    &asks[start..]
+}
+
 /// Drops the asks before `start`, once they are half of all, and says where the others begin.
 pub(crate) fn trimmed(asks: Vec<Parked>, start: usize) -> (Vec<Parked>, usize)
     requires { start ≤ vec_len asks }
@@ -108,6 +123,8 @@ impl ParkedAsks {
             start: 0,
             newest: NewestAsks::new(alloc),
             plain: true,
+            wanted: WantedFolders::new(alloc),
+            folders: Vec::new(alloc),
         }
     }
 
@@ -115,7 +132,24 @@ impl ParkedAsks {
     pub(crate) fn waiting(&self) -> &[Parked]
         ensures { result.now ≡ drop self.now.start self.now.asks.items }
     {
-        &self.asks.as_slice()[self.start..]
+        behind(self.asks.as_slice(), self.start)
+    }
+
+    /// Of these slots those whose folder an ask may want.
+    pub(crate) fn wanted_of(
+        &self,
+        alloc: Global,
+        slots: &[(Slot, bool)],
+    ) -> Result<Items<(Slot, bool)>, AllocError>
+        ensures { IfOk result (λ wanted. wanted ≡ filter (λ x. may_want self.now.wanted x.0.folder) slots.now) }
+    {
+        let mut wanted = Vec::new(alloc);
+        for held in slots {
+            if self.wanted.may_want(held.0.folder()) {
+                wanted.push((held.0.copy(alloc)?, held.1))?;
+            }
+        }
+        Ok(Items::new(wanted))
     }
 
     /// Whether an ask may be among them.

@@ -1,13 +1,15 @@
 //! The changes that one event makes, over the asks that wait, which stay as they are until they are applied.
-ghost use Rattle.std.specs.Prelude.{◌≡◌, ◌∷◌, [], ◌++◌, ◌+◌, ◌<◌, ◌≤◌, ◌&&◌, ◌||◌, ◌==◌, not, filter, vec_len, IfOk, OnOk};
+ghost use Rattle.std.specs.Prelude.{◌≡◌, ◌∷◌, [], ◌++◌, ◌+◌, ◌<◌, ◌≤◌, ◌&&◌, ◌||◌, ◌==◌, not, map, filter, vec_len, IfOk, OnOk};
 ghost use Rattle.std.specs.List.{list_any};
 ghost use Rattle.protocol.specs.Ledger.{is_parked};
 ghost use Rattle.std.specs.Vec.{vec_capacity};
 ghost use Rattle.leases.specs.Newest.{node_room};
 ghost use Rattle.coordinator.specs.Waiting.{ends_ask, first_mark, later_marks, still_waiting, waits_after};
 ghost use Rattle.coordinator.specs.Queue.{asks_of};
+ghost use Rattle.coordinator.specs.Wanted.{wants_of, folder_room, AreCounted};
 
-use super::parked_asks::{ParkedAsks, note_all, pass_over, some_private, trimmed};
+use super::parked_asks::{ParkedAsks, behind, note_all, pass_over, some_private, trimmed};
+use super::wanted_folders::{WantedFolders, folders_of};
 use farm_base::{Ask, Life, NodeId, Parked};
 use leases::Ending;
 use std::alloc::{AllocError, Global};
@@ -198,19 +200,25 @@ impl ParkedChange {
     }
 
     /// Makes room for the asks that wait since.
-    pub(crate) fn room(&self, parked: &mut ParkedAsks) -> Result<(), AllocError>
+    pub(crate) fn room(&self, alloc: Global, parked: &mut ParkedAsks) -> Result<(), AllocError>
         ensures parked { asks_of parked.new ≡ asks_of parked.old }
         ensures larger { OnOk result (vec_len parked.new.asks + vec_len self.now.since ≤ vec_capacity parked.new.asks) }
         ensures newest { OnOk result (vec_len self.now.since ≤ node_room parked.new.newest) }
+        ensures folders { OnOk result (parked.new.folders.items ≡ map (λ w. w.folder) (wants_of self.now.since.items)) }
+        ensures counts { OnOk result (vec_len parked.new.folders ≤ folder_room parked.new.wanted) }
     {
+        parked.folders = folders_of(alloc, self.since.as_slice())?;
+        parked.wanted.reserve(parked.folders.len())?;
         parked.newest.reserve(self.since.len())?;
         parked.asks.reserve(self.since.len())
     }
 
     /// The asks that wait, in the room that was made for them. It takes no memory.
-    pub(crate) fn apply(self, parked: ParkedAsks) -> ParkedAsks
+    pub(crate) fn apply(self, alloc: Global, parked: ParkedAsks) -> ParkedAsks
         requires larger { vec_len parked.asks + vec_len self.since ≤ vec_capacity parked.asks }
         requires newest { vec_len self.since ≤ node_room parked.newest }
+        requires folders { parked.folders.items ≡ map (λ w. w.folder) (wants_of self.since.items) }
+        requires counts { vec_len parked.folders ≤ folder_room parked.wanted }
         ensures { asks_of result ≡ waits_after (asks_of parked) self }
     {
         let ParkedChange { over, since } = self;
@@ -219,9 +227,14 @@ impl ParkedChange {
             start,
             newest,
             plain,
+            wanted,
+            folders,
         } = parked;
         let mut newest = newest;
         note_all(&mut newest, since.as_slice());
+        let mut wanted = wanted;
+        remove_over(&mut wanted, behind(asks.as_slice(), start), over.as_slice());
+        wanted.add_all(folders);
         let since_private = some_private(since.as_slice());
         let mut asks = asks;
         let start = pass_over(&mut asks, start, over.as_slice());
@@ -233,7 +246,27 @@ impl ParkedChange {
             start,
             newest,
             plain,
+            wanted,
+            folders: Vec::new(alloc),
         }
+    }
+}
+
+/// Counts the folders of the asks that are marked as over once less.
+fn remove_over(wanted: &mut WantedFolders, asks: &[Parked], over: &[bool])
+    ensures counted { AreCounted wanted.old asks.now → AreCounted wanted.new (still_waiting over.now asks.now) }
+    ensures room { folder_room wanted.old ≤ folder_room wanted.new }
+{
+    let mut marks = over;
+    for p in asks {
+        if marks.is_empty() {
+            return;
+        }
+        let (is_over, rest) = split_mark(marks);
+        if is_over {
+            wanted.remove_all(p.wants.as_slice());
+        }
+        marks = rest;
     }
 }
 
