@@ -1,5 +1,5 @@
 //! How often the asks that wait want each folder.
-ghost use Rattle.std.specs.Prelude.{◌≡◌, ℕ, ◌+◌, ◌-◌, ◌≤◌, ◌++◌, map, filter, vec_len, length, IfOk, OnOk};
+ghost use Rattle.std.specs.Prelude.{◌≡◌, ℕ, ◌+◌, ◌-◌, ◌<◌, ◌≤◌, ◌++◌, map, filter, vec_len, length, IfOk, OnOk};
 ghost use Rattle.protocol.specs.Names.{FolderName};
 ghost use Rattle.coordinator.specs.Wanted.{times, one_if, may_want, folder_room, of_folder, wants_of, Covers};
 ghost use Rattle.farm_base.specs.Folders.{folder_eq};
