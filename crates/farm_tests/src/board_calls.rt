@@ -121,6 +121,17 @@ fn execute(alloc: Global, board: &mut Board, folder: &str) -> Result<Option<Rece
     Ok(receipt(board, finished))
 }
 
+/// The ticket of a receipt, how many versions it names, and the number of the first.
+fn told(receipt: Receipt) -> (Ticket, usize, u64) {
+    let ticket = receipt.ticket;
+    let versions = receipt.versions.into_vec();
+    let first = match versions.first() {
+        Some(version) => version.number,
+        None => 0,
+    };
+    (ticket, versions.len(), first)
+}
+
 #[test]
 fn one_execution_and_an_ask_for_a_tenure(rt: HostRuntime) -> Result<(), Fail> {
     let alloc = rt.alloc();
@@ -128,10 +139,10 @@ fn one_execution_and_an_ask_for_a_tenure(rt: HostRuntime) -> Result<(), Fail> {
     let receipt = execute(alloc, &mut board, "locked:apt")?;
     assert!(rt; receipt.is_some());
     if let Some(receipt) = receipt {
-        assert_eq!(rt; receipt.ticket, Ticket(1));
-        let versions = receipt.versions.into_vec();
-        assert_eq!(rt; versions.len(), 1);
-        assert_eq!(rt; versions[0].number, 1);
+        let (ticket, versions, first) = told(receipt);
+        assert_eq!(rt; ticket, Ticket(1));
+        assert_eq!(rt; versions, 1);
+        assert_eq!(rt; first, 1);
     }
     assert_eq!(rt; board.commits(), 1);
     assert_eq!(rt; board.schedule().len(), 7);
