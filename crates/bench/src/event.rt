@@ -124,7 +124,7 @@ fn wait(
 }
 
 /// The time of an ask of a batch, which waits.
-fn parking<R: Clock + AllocGlobal>(
+fn time_to_park<R: Clock + AllocGlobal>(
     rt: &R,
     coordinator: &mut Coordinator<MemoryKeeper>,
     from: u32,
@@ -135,7 +135,7 @@ fn parking<R: Clock + AllocGlobal>(
 }
 
 /// The time of a release that frees the slot for which the asks wait.
-fn freeing<R: Clock + AllocGlobal>(
+fn time_to_free<R: Clock + AllocGlobal>(
     rt: &R,
     coordinator: &mut Coordinator<MemoryKeeper>,
 ) -> anyhow::Result<f64> {
@@ -146,17 +146,36 @@ fn freeing<R: Clock + AllocGlobal>(
     Ok(seconds_since(rt, start) / f64::from(FREED))
 }
 
-/// The times of an ask that waits beside this many, and of a release that frees the slot for which they wait.
-fn with_asks<R: Clock + AllocGlobal>(rt: &R, count: u32) -> anyhow::Result<(f64, f64)> {
+/// Times of events beside asks that wait for one slot.
+#[derive(Clone, Copy)]
+struct Waited {
+    /// Of an ask that waits too.
+    parking: f64,
+    /// Of a release that frees the slot.
+    freeing: f64,
+    /// Of an event that leases another folder or gives it back.
+    other: f64,
+}
+
+/// The times of events beside this many asks that wait.
+fn with_asks<R: Clock + AllocGlobal>(rt: &R, count: u32) -> anyhow::Result<Waited> {
     let mut coordinator = started(rt.alloc())?;
     wait(&mut coordinator, rt.alloc(), 0, count.saturating_add(1))?;
-    let freed = freeing(rt, &mut coordinator)?;
-    let mut least = f64::INFINITY;
-    for batch in 0..BATCHES {
-        let from = count.saturating_add(1).saturating_add(batch * TURNS);
-        least = least.min(parking(rt, &mut coordinator, from)?);
+    let freeing = time_to_free(rt, &mut coordinator)?;
+    let mut number = count.saturating_add(1);
+    let mut parking = f64::INFINITY;
+    let mut other = f64::INFINITY;
+    for _ in 0..BATCHES {
+        parking = parking.min(time_to_park(rt, &mut coordinator, number)?);
+        number = number.saturating_add(TURNS);
+        other = other.min(turning(rt, &mut coordinator, number)?);
+        number = number.saturating_add(TURNS);
     }
-    Ok((least, freed))
+    Ok(Waited {
+        parking,
+        freeing,
+        other,
+    })
 }
 
 /// The time of a grant of a PRIVATE folder, of the asks of these numbers.
@@ -187,14 +206,16 @@ fn of_private<R: Clock + AllocGlobal>(rt: &R) -> anyhow::Result<f64> {
 pub fn measure<R: Print + Clock + AllocGlobal>(rt: &R) -> anyhow::Result<()> {
     let leases = with_leases(rt, MANY)? / with_leases(rt, FEW)?;
     println!(rt; "events, {MANY} live leases: {leases:.2} of an event with {FEW}")?;
-    let (park_many, free_many) = with_asks(rt, MANY)?;
-    let (park_few, free_few) = with_asks(rt, FEW)?;
-    let parks = park_many / park_few;
-    let frees = free_many / free_few;
+    let many = with_asks(rt, MANY)?;
+    let few = with_asks(rt, FEW)?;
+    let parks = many.parking / few.parking;
+    let frees = many.freeing / few.freeing;
+    let others = many.other / few.other;
     println!(rt; "events, {MANY} parked asks: {parks:.2} of an ask that waits beside {FEW}")?;
     println!(rt;
         "events, {MANY} asks for a slot that is freed: {frees:.2} of a release for which {FEW} wait"
     )?;
+    println!(rt; "events, {MANY} asks for another slot: {others:.2} of an event beside {FEW}")?;
     let private = of_private(rt)?;
     println!(rt;
         "events, the last of {INSTANCES} PRIVATE grants: {private:.2} of the first {GRANTS}"

@@ -1,69 +1,45 @@
--- The entry of an event, behind the texts that hold the ledger before it, holds the ledger after it.
-use mathlib.Core.Path.{fun_ext}
-use Rattle.std.proofs.Common.{◌≡◌, ◌≢◌, ◌<◌, ◌≤◌, ℕ, Bool, List, [], ◌∷◌, ◌++◌, true, ltb, leb, length, filter, Option, Some, None, Ok, inl, inr, refl, sym, ap, ◌∙◌, subst, arith}
-use Rattle.std.specs.Prelude.{All, map, ◌&&◌}
-use Rattle.std.specs.List.{list_all}
-use Rattle.std.proofs.lemmas.Bool.{cases_Bool, and_from, le-leb, lt-ltb}
+-- What an entry has of an event: the leases that ended and were granted, the lines that it adds.
+use Rattle.std.proofs.Common.{◌≡◌, ◌≢◌, ℕ, Bool, List, [], ◌∷◌, ◌++◌, true, false, not, eq-eqb, filter, Option, Some, None, is_some, inl, inr, refl, sym, ap, ◌∙◌, subst, arith}
+use Rattle.std.specs.Prelude.{All, AllPairs, map, ◌&&◌}
+use Rattle.std.specs.List.Sorted.{IsStrictlyIncreasing}
+use Rattle.std.proofs.lemmas.Bool.{cases_Bool, ne_eqb}
 use Rattle.std.proofs.lemmas.List.{append-nil}
-use Rattle.std.proofs.Math.Seq.{drop-append_seam}
-use Rattle.std.proofs.lemmas.List.Elements.{All-drop, All-filter}
-use Rattle.leases.specs.Leases.{IsOpen}
+use Rattle.std.proofs.lemmas.List.Elements.{All-filter, filter-append}
+use Rattle.std.proofs.lemmas.List.Kept.{AllPairs-filter}
+use Rattle.farm_base.specs.declared.limits.TheConstants.{NODES}
+use Rattle.leases.specs.Changes.{has_ended, saved_tickets}
+use Rattle.leases.specs.declared.ending.Ending.{Ending}
+use Rattle.leases.specs.Leases.{IsBefore, IsOpen, Rises}
+use Rattle.leases.proofs.FindLemmas.{tickets_rise}
+use Rattle.protocol.specs.Farm.{farm_limits}
 use Rattle.protocol.specs.Lists.{In}
 use Rattle.protocol.specs.Names.{Slot, slot_eq, Ticket}
-use Rattle.protocol.specs.Machine.{LineVersion, digest_for, version_of}
-use Rattle.protocol.specs.Ledger.{Ledger, Lease, Saved, is_saved, saves, reads}
-use Rattle.protocol.proofs.Base.{all_in, any_in, in_right, slot_eq_is, slot_eq_same}
-use Rattle.protocol.proofs.Saving.{saved_twice}
+use Rattle.protocol.specs.Machine.{digest_for, version_of}
+use Rattle.protocol.specs.Ledger.{Ledger, Lease, is_saved, saves, has_ticket, lease_under}
+use Rattle.protocol.proofs.Base.{all_in, any_in, eqb_same, from_filter, from_map, in_filter, in_map, slot_eq_is, true_false}
+use Rattle.protocol.proofs.Lawfulness.{every_ledger_stays_lawful}
 use Rattle.versions.specs.Additions.{AreReady, IsReady}
 use Rattle.versions.specs.Line.{is_above_all}
 use Rattle.versions.specs.Lines.{LineOf, line_at, news_of}
+use Rattle.versions.specs.Ordered.{AreLines}
 use Rattle.versions.specs.declared.lines.Added.{Added}
 use Rattle.versions.specs.declared.lines.Addition.{Addition}
 use Rattle.versions.specs.declared.lines.SlotLine.{SlotLine}
-use Rattle.saverecord.specs.declared.record.Record.{Record}
-use Rattle.saverecord.specs.Ledgers.{IsKept, ledger_of}
-use Rattle.saverecord.specs.Logs.{Holds, with_versions, with_entry, after_text, is_open}
-use Rattle.saverecord.specs.Records.{record_of}
-use Rattle.saverecord.specs.Texts.{Texts, with_text}
-use Rattle.saverecord.proofs.LedgerLemmas.{all_from_in, passes_from_in, line_in}
-use Rattle.saverecord.proofs.LogLemmas.{Follows, added_all, entry_is, text_is, pushed_in}
+use Rattle.saverecord.specs.Logs.{Follows, IsSaved}
+use Rattle.saverecord.specs.Logs.{is_ended}
+use Rattle.saverecord.proofs.FoldLemmas.{above_all}
+use Rattle.saverecord.proofs.LedgerLemmas.{all_from_in, line_in, none_from_in}
 use Rattle.coordinator.specs.Shown.{lines_with}
 use Rattle.coordinator.specs.Sound.{IsRightful}
+use Rattle.coordinator.proofs.Recording.{own_tickets}
+use Rattle.coordinator.proofs.Records.{up_to}
 
--- ---- the ledger with only the lines that an event adds
+-- ---- the lines that an event adds
 
 -- the lines with what is added are the lines, followed by what is added
-split_lines : (lines : List SlotLine) (o : Option Added) (s : Slot) → lines_with lines o s ≡ line_at lines s ++ lines_with [] o s
+pub split_lines : (lines : List SlotLine) (o : Option Added) (s : Slot) → lines_with lines o s ≡ line_at lines s ++ lines_with [] o s
 split_lines lines None s = sym (append-nil (line_at lines s))
 split_lines lines (Some a) s = refl
-
-pub rightful_alone : (lines : List SlotLine) (o : Option Added) (q : Ledger) → IsRightful (record q { line = lines_with lines o }) → IsRightful (record q { line = lines_with [] o })
-rightful_alone lines o q h = record {
-  sound = record {
-    leases = h.sound.leases;
-    given = h.sound.given;
-    past = λ x. later (λ v. v.ticket.0 ≤ q.last) x (h.sound.past x);
-    ahead = all_from_in (IsOpen (lines_with [] o)) q.live (λ g i x has. later (λ v. v.ticket.0 < g.ticket.0) x (all_in (IsOpen (lines_with lines o)) q.live h.sound.ahead g i x has));
-    asks = h.sound.asks;
-  };
-  lawful = record {
-    core = record {
-      holders = h.lawful.core.holders;
-      apart = h.lawful.core.apart;
-      given = h.lawful.core.given;
-      retired = h.lawful.core.retired;
-      versions = λ x v i. h.lawful.core.versions x v (subst (In v) (sym (split_lines lines o x)) (in_right v (line_at lines x) (lines_with [] o x) i));
-      block = h.lawful.core.block;
-      home = h.lawful.core.home;
-      lives = h.lawful.core.lives;
-      gone = h.lawful.core.gone;
-    };
-    parked = record { each = h.lawful.parked.each; waits = h.lawful.parked.waits };
-  };
-}
-  where
-    later : (P : LineVersion → Type 0) (x : Slot) → All P (lines_with lines o x) → All P (lines_with [] o x)
-    later P x all = subst (All P) (drop-append_seam (line_at lines x) (lines_with [] o x)) (All-drop P (length (line_at lines x)) (line_at lines x ++ lines_with [] o x) (subst (All P) (split_lines lines o x) all))
 
 none_ready : (lines : List SlotLine) (t : Ticket) (xs : List Addition) → AreReady lines t xs → AreReady [] t xs
 none_ready lines t [] h = tt
@@ -74,9 +50,6 @@ ready_alone lines None h = tt
 ready_alone lines (Some a) h = none_ready lines a.ticket a.additions.items h
 
 -- ---- what is added is above the lines
-
-above_all : (t : Ticket) (vs : List LineVersion) → All (λ v. v.ticket.0 < t.0) vs → is_above_all t vs ≡ true
-above_all t vs h = passes_from_in (λ (v : LineVersion). ltb v.ticket.0 t.0) vs (λ v i. lt-ltb v.ticket.0 t.0 (all_in (λ (v : LineVersion). v.ticket.0 < t.0) vs h v i))
 
 one_added : (lines : List SlotLine) (t : Ticket) (xs : List Addition) (l : SlotLine) → AreReady lines t xs → l.line ≡ version_of t (digest_for l.slot (map news_of xs)) → l.line ≢ [] → Follows (line_at lines) l
 one_added lines t [] l ready is full = absurd (full is)
@@ -93,48 +66,94 @@ each_added : (lines : List SlotLine) (o : Option Added) (l : SlotLine) → IsRea
 each_added lines None l ready is full = absurd (full is)
 each_added lines (Some a) l ready is full = one_added lines a.ticket a.additions.items l ready is full
 
--- ---- the texts with an entry
+-- each line that is added has one version, above those that its slot has
+pub added_follow : (lines : List SlotLine) (o : Option Added) (more : List SlotLine) → IsReady lines o → AreLines more → line_at more ≡ lines_with [] o → All (Follows (line_at lines)) more
+added_follow lines o more ready sound same = all_from_in (Follows (line_at lines)) more
+    (λ l i. each_added lines o l ready (sym (line_in more sound.rise l i) ∙ ap (λ (f : LineOf). f l.slot) same) (all_in (λ (l : SlotLine). l.line ≢ []) more sound.filled l i))
 
-module _ (lines : List SlotLine) (o : Option Added) (q : Ledger) (e : Record) (rightful : IsRightful (record q { line = lines_with lines o })) (ready : IsReady lines o)
-    (same : ledger_of e ≡ reads (saves (record q { line = lines_with [] o }))) (is_kept : IsKept e) where
-  abbrev pub added : LineOf
-  added = lines_with lines o
+-- ---- the leases that ended
 
-  line_is : line_at e.lines ≡ lines_with [] o
-  line_is = ap (λ (x : Ledger). x.line) same
+-- a lease with the ticket is found
+found_under : (live : List Lease) (t : Ticket) (g : Lease) → In g live → has_ticket t g ≡ true → is_some (lease_under live t) ≡ true
+found_under [] t g i has = elim i [ ]
+found_under (x ∷ live) t g (inl i) has = (let here : has_ticket t x ≡ true = ap (has_ticket t) (sym i) ∙ has in rw here refl)
+found_under (x ∷ live) t g (inr i) has = elim (cases_Bool (has_ticket t x)) [
+  | inl e ↦ rw e refl
+  | inr e ↦ rw e (found_under live t g i has)
+]
 
-  follows : (l : SlotLine) → In l e.lines → Follows (line_at lines) l
-  follows l i =
-      let is : l.line ≡ lines_with [] o l.slot = sym (line_in e.lines is_kept.lines.rise l i) ∙ ap (λ (f : LineOf). f l.slot) line_is in
-      each_added lines o l ready is (all_in (λ (l : SlotLine). l.line ≢ []) e.lines is_kept.lines.filled l i)
+-- a ticket of these is that of a lease that ended and that the record has
+of_saved : (ended : List Ending) (live : List Lease) (t : Ticket) → In t (saved_tickets ended live) → (g : Lease) × In g live × ((has_ended ended g && is_saved g) ≡ true) × (t ≡ g.ticket)
+of_saved ended live t i =
+    let g = from_map (λ (g : Lease). g.ticket) t (filter (λ g. has_ended ended g && is_saved g) live) i in
+    let at = from_filter (λ g. has_ended ended g && is_saved g) g.0 live g.1 in
+    (g.0, at.0, at.1, g.2)
 
-  lines_after : with_versions e.lines (line_at lines) ≡ Ok added
-  lines_after = added_all e.lines (line_at lines) is_kept.lines.rise follows ∙ ap Ok (fun_ext (λ x. ap (λ (f : LineOf). line_at lines x ++ f x) line_is ∙ sym (split_lines lines o x)))
+second : (a b : Bool) → (a && b) ≡ true → b ≡ true
+second true b h = h
+second false b h = (let bad : false ≡ true = h in absurd (cc bad))
 
-  opened : (g : Lease) → In g e.leases → is_open added g ≡ true
-  opened g i =
-      let live : e.leases ≡ filter is_saved q.live = ap (λ (x : Ledger). x.live) same in
-      let ahead : IsOpen added g = all_in (IsOpen added) (filter is_saved q.live) (All-filter is_saved (IsOpen added) q.live rightful.sound.ahead) g (subst (In g) live i) in
-      passes_from_in (λ (x : Slot × Bool). is_above_all g.ticket (added x.0)) g.slots
-      (λ x j. above_all g.ticket (added x.0) (ahead x.0 (any_in (λ (y : Slot × Bool). slot_eq y.0 x.0) x g.slots j (slot_eq_same x.0))))
+-- each ticket that ended is that of a lease that the record has
+pub ended_there : (ended : List Ending) (live : List Lease) → All (λ t. is_some (lease_under (filter is_saved live) t) ≡ true) (saved_tickets ended live)
+ended_there ended live = all_from_in (λ (t : Ticket). is_some (lease_under (filter is_saved live) t) ≡ true) (saved_tickets ended live)
+    (λ t i. (let o = of_saved ended live t i in
+    found_under (filter is_saved live) t o.0 (in_filter is_saved o.0 live o.1 (second _ _ o.2)) (eq-eqb o.0.ticket.0 t.0 (ap (λ (x : Ticket). x.0) (sym o.3)))))
 
-  abbrev pub after : Ledger
-  after = record (ledger_of e) { line = added }
+-- the ticket of a lease is among these exactly where the lease ended and the record has it
+listed : (ended : List Ending) (live : List Lease) → AllPairs IsBefore live → (g : Lease) → In g live → is_ended (saved_tickets ended live) g ≡ (has_ended ended g && is_saved g)
+listed ended live up g i = elim (cases_Bool (has_ended ended g && is_saved g)) [
+  | inl e ↦
+      let there = in_map (λ (h : Lease). h.ticket) g (filter (λ h. has_ended ended h && is_saved h) live) (in_filter (λ h. has_ended ended h && is_saved h) g live i e) in
+      any_in (λ (t : Ticket). has_ticket t g) g.ticket (saved_tickets ended live) there (eqb_same g.ticket.0) ∙ sym e
+  | inr e ↦ none_from_in (λ (t : Ticket). has_ticket t g) (saved_tickets ended live)
+      (λ t j. (let o = of_saved ended live t j in
+      ne_eqb g.ticket.0 t.0 (λ same.
+      (let one : g ≡ o.0 = own_tickets live up g o.0 i o.1 (same ∙ ap (λ (x : Ticket). x.0) o.3) in
+      true_false (has_ended ended g && is_saved g) (ap (λ (h : Lease). has_ended ended h && is_saved h) one ∙ o.2) e)))) ∙ sym e
+]
 
-  entry_after : (k : Ledger) → k.line ≡ line_at lines → k.ceiling ≤ q.ceiling → with_entry e k ≡ Ok after
-  entry_after k line low =
-      let last : e.last.0 ≡ q.ceiling = ap (λ (x : Ledger). x.ceiling) same in
-      let passes : (leb k.ceiling e.last.0 && list_all (is_open added) e.leases) ≡ true = and_from _ _ (le-leb k.ceiling e.last.0 (subst (λ n. k.ceiling ≤ n) (sym last) low)) (passes_from_in (is_open added) e.leases opened) in
-      let read : with_versions e.lines k.line ≡ Ok added = ap (with_versions e.lines) line ∙ lines_after in
-      entry_is e k added read passes
+-- what is left of the saved leases without those that are listed
+left_saved : (test : Lease → Bool) (ended : List Ending) (live : List Lease) → ((g : Lease) → In g live → test g ≡ (has_ended ended g && is_saved g))
+    → filter is_saved (filter (λ g. not (has_ended ended g)) live) ≡ filter (λ g. not (test g)) (filter is_saved live)
+left_saved test ended [] h = refl
+left_saved test ended (g ∷ live) h =
+    let rest = left_saved test ended live (λ x i. h x (inr i)) in
+    let here = h g (inl refl) in
+    elim (cases_Bool (is_saved g)) [
+      | inl s ↦ elim (cases_Bool (has_ended ended g)) [
+        | inl e ↦ (let gone : test g ≡ true = rw (e, s) at here in rw (s, e, gone) rest)
+        | inr e ↦ (let stays : test g ≡ false = rw e at here in rw (e, s, stays) (ap (λ (gs : List Lease). g ∷ gs) rest))
+      ]
+      | inr s ↦ elim (cases_Bool (has_ended ended g)) [
+        | inl e ↦ rw (e, s) rest
+        | inr e ↦ rw (e, s) rest
+      ]
+    ]
 
-  saves_after : saves after ≡ saves (record q { line = added })
-  saves_after =
-      ap (λ (x : Ledger). saves (record x { line = added })) same ∙ ap (λ gs. record (saves (record q { line = added })) { live = gs }) (saved_twice q.live)
+-- the saved leases after an event: those before it without what ended, and those that were granted
+pub live_after : (ended : List Ending) (live granted : List Lease) → AllPairs IsBefore live
+    → filter is_saved (filter (λ g. not (has_ended ended g)) live ++ granted) ≡ filter (λ g. not (is_ended (saved_tickets ended live) g)) (filter is_saved live) ++ filter is_saved granted
+live_after ended live granted up =
+    filter-append is_saved (filter (λ g. not (has_ended ended g)) live) granted
+    ∙ ap (λ (gs : List Lease). gs ++ filter is_saved granted) (left_saved (is_ended (saved_tickets ended live)) ended live (listed ended live up))
 
-  pub entry_holds : (before : Ledger) (text : List ℕ) (t : Texts) → before.line ≡ line_at lines → before.ceiling ≤ q.ceiling → record_of text ≡ Ok e → Holds t (saves before) → Holds (with_text text t) (saves (record q { line = added }))
-  entry_holds before text t line low again h =
-      let here : h.kept.line ≡ line_at lines = ap (λ (x : Saved). x.line) h.saved ∙ line in
-      let block : h.kept.ceiling ≤ q.ceiling = subst (λ n. n ≤ q.ceiling) (sym (ap (λ (x : Saved). x.ceiling) h.saved)) low in
-      let read : after_text text h.kept ≡ Ok after = text_is text e h.kept after again (entry_after h.kept here block) in
-      record { kept = after; read = pushed_in t text h.kept after h.read read; saved = saves_after }
+numbers_of : (gs : List Lease) → map (λ g. g.ticket.0) gs ≡ map (λ t. t.0) (map (λ g. g.ticket) gs)
+numbers_of [] = refl
+numbers_of (g ∷ gs) = ap (λ (ns : List ℕ). g.ticket.0 ∷ ns) (numbers_of gs)
+
+-- their tickets rise
+pub ended_rise : (ended : List Ending) (live : List Lease) → AllPairs IsBefore live → IsStrictlyIncreasing (map (λ t. t.0) (saved_tickets ended live))
+ended_rise ended live up =
+    subst (λ (ns : List ℕ). IsStrictlyIncreasing ns) (numbers_of (filter (λ g. has_ended ended g && is_saved g) live))
+    (tickets_rise (filter (λ g. has_ended ended g && is_saved g) live) (AllPairs-filter IsBefore (λ g. has_ended ended g && is_saved g) live up))
+
+-- ---- what a rightful ledger saves
+
+pub rightful_saves : (q : Ledger) → IsRightful q → IsSaved (saves q)
+rightful_saves q h = record {
+  lawful = (every_ledger_stays_lawful NODES farm_limits q h.lawful).restart;
+  past = λ x. up_to q.last q.ceiling (q.line x) h.lawful.core.block (h.sound.past x);
+  ahead = All-filter is_saved (IsOpen q.line) q.live h.sound.ahead;
+  rise = All-filter is_saved Rises q.live h.sound.leases.slots;
+  each = all_from_in (λ (g : Lease). is_saved g ≡ true) (filter is_saved q.live) (λ g i. (from_filter is_saved g q.live i).1);
+}

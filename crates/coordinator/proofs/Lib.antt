@@ -1,6 +1,8 @@
 pub mod StateWords
 pub mod Trying
 pub mod WaitingWords
+pub mod PassedWords
+pub mod WantedWords
 pub mod NewestWords
 pub mod SoundWords
 pub mod Kept
@@ -8,6 +10,8 @@ pub mod Sends
 pub mod OwnCalls
 pub mod Prunes
 pub mod OwnSends
+pub mod HeldUp
+pub mod IdleWords
 pub mod Recording
 pub mod Rightful
 pub mod Records

@@ -10,7 +10,7 @@ use Rattle.coordinator.proofs.OwnCalls.{withdrawal, retirement}
 use Rattle.coordinator.proofs.Prunes.{pruning}
 
 -- what is accepted isn't refused
-accepted : (r : Result Work CoordRefusal) (w : Work) → r ≡ Ok w → result_err r ≡ None
+pub accepted : (r : Result Work CoordRefusal) (w : Work) → r ≡ Ok w → result_err r ≡ None
 accepted r w e = ap (λ (x : Result Work CoordRefusal). result_err x) e
 
 same_work : (r : Result Work CoordRefusal) (v w : Work) → r ≡ Ok v → r ≡ Ok w → length v.sends ≡ length w.sends

@@ -16,7 +16,7 @@ use Rattle.coordinator.specs.Promises.{ChangesAsTold}
 use Rattle.leases.proofs.TableLemmas.{AllPairs-head, AllPairs-tail}
 
 -- rising tickets are of one lease each
-own_tickets : (live : List Lease) → AllPairs IsBefore live → (x y : Lease) → In x live → In y live → x.ticket.0 ≡ y.ticket.0 → x ≡ y
+pub own_tickets : (live : List Lease) → AllPairs IsBefore live → (x y : Lease) → In x live → In y live → x.ticket.0 ≡ y.ticket.0 → x ≡ y
 own_tickets [] h x y i j e = absurd i
 own_tickets (g ∷ live) h x y (inl i) (inl j) e = i ∙ sym j
 own_tickets (g ∷ live) h x y (inl i) (inr j) e =

@@ -6,7 +6,7 @@ use Rattle.std.proofs.lemmas.List.Elements.{All-filter}
 use Rattle.std.proofs.lemmas.List.Kept.{AllPairs-cons}
 use Rattle.farm_base.specs.declared.limits.TheConstants.{NODES}
 use Rattle.farm_base.specs.Slots.{slot_cmp}
-use Rattle.leases.specs.Leases.{IsBefore, AreApart, Rises, AreLeases, IsOpen}
+use Rattle.leases.specs.Leases.{AreApart, Rises, AreLeases, IsOpen}
 use Rattle.leases.specs.Lives.{AreLives}
 use Rattle.protocol.specs.Farm.{farm_limits}
 use Rattle.protocol.specs.Names.{Slot}
@@ -21,12 +21,13 @@ use Rattle.saverecord.specs.declared.record.Record.{Record}
 use Rattle.saverecord.specs.Ledgers.{IsKept, ledger_of}
 use Rattle.saverecord.specs.Logs.{Holds, saved_by, saved_in}
 use Rattle.saverecord.specs.Texts.{Texts}
+use Rattle.saverecord.proofs.FoldLemmas.{pairs_of}
 use Rattle.saverecord.proofs.LedgerLemmas.{all_from_in}
 use Rattle.coordinator.specs.Sound.{IsRightful}
 use Rattle.leases.proofs.TableLemmas.{leases-filter}
 
 -- versions up to a ticket are so up to a higher one
-up_to : (low high : ℕ) (vs : List LineVersion) → low ≤ high → All (λ v. v.ticket.0 ≤ low) vs → All (λ v. v.ticket.0 ≤ high) vs
+pub up_to : (low high : ℕ) (vs : List LineVersion) → low ≤ high → All (λ v. v.ticket.0 ≤ low) vs → All (λ v. v.ticket.0 ≤ high) vs
 up_to low high vs below all = λ k d h. (let under = all k d h in omega (arith, under, below))
 
 -- the record of what a ledger saves, each list in its order
@@ -55,19 +56,14 @@ record_kept r q rightful same lives nodes retired lines = record {
     last : r.last.0 ≡ q.ceiling
     last = ap (λ (x : Ledger). x.last) same
 
--- of leases that are apart, tickets rise
-tickets_rise : (gs : List Lease) → AllApart gs → AllPairs IsBefore gs
-tickets_rise [] apart = λ i j d lt within. absurd (omega arith)
-tickets_rise (g ∷ gs) apart = AllPairs-cons IsBefore g gs (all_from_in (IsBefore g) gs (λ h i. (apart.0 h i).ticket)) (tickets_rise gs apart.1)
-
--- and no slot is in two
+-- of leases that are apart, no slot is in two
 slots_apart : (gs : List Lease) → AllApart gs → AllPairs AreApart gs
 slots_apart [] apart = λ i j d lt within. absurd (omega arith)
 slots_apart (g ∷ gs) apart = AllPairs-cons AreApart g gs (all_from_in (AreApart g) gs (λ h i. (apart.0 h i).slots)) (slots_apart gs apart.1)
 
 pub leases_of : (r : Record) → IsKept r → AreLeases (filter is_saved r.leases)
 leases_of r kept =
-    leases-filter is_saved r.leases (record { tickets = tickets_rise r.leases kept.lawful.core.apart; apart = slots_apart r.leases kept.lawful.core.apart; slots = kept.slots_rise })
+    leases-filter is_saved r.leases (record { tickets = pairs_of r.leases kept.lawful.core.apart; apart = slots_apart r.leases kept.lawful.core.apart; slots = kept.slots_rise })
 
 -- the ledger that a restart makes of a record is one that the coordinator may keep
 pub rightful_of : (r : Record) → IsKept r → IsRightful (reads (saves (ledger_of r)))
@@ -80,6 +76,7 @@ rightful_of r kept = record {
     asks = λ k d lt. absurd (omega arith);
   };
   lawful = (every_ledger_stays_lawful NODES farm_limits (ledger_of r) kept.lawful).restart;
+  held_up = λ p i. absurd i;
 }
 
 -- what a restart takes up saves the same
@@ -88,4 +85,5 @@ saves_again q = ap (λ l. record (saves q) { live = l }) (saved_twice q.live)
 
 -- what kept texts hold, as a restart takes it up
 pub held_in : (t : Texts) (s : Saved) → Holds t s → saved_in t ≡ s
+unfolding saved_in
 held_in t s h = ap saved_by h.read ∙ h.saved

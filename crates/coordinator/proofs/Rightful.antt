@@ -6,11 +6,14 @@ use Rattle.farm_base.specs.declared.message.Request.TheVariants.{Hello, Acquire,
 use Rattle.protocol.specs.Names.{NodeId, Slot, Ticket}
 use Rattle.protocol.specs.Machine.{ToCoord}
 use Rattle.protocol.specs.declared.answer.CoordRefusal.{CoordRefusal}
-use Rattle.protocol.specs.Ledger.{Limits, Ledger, Work, begin_work, handled, withdrawn, retired, pruned}
+use Rattle.protocol.specs.Ledger.{Ledger, Work, begin_work, handled, withdrawn, retired, pruned}
 use Rattle.protocol.specs.Lawful.{IsNumber, IsSaid, IsLawfulWork}
+use Rattle.protocol.specs.Farm.{farm_limits}
 use Rattle.protocol.specs.Lawful as lawful
 use Rattle.protocol.proofs.Lawfulness.{every_ledger_stays_lawful}
 use Rattle.coordinator.specs.Sound.{IsSound, IsRightful, IsRequest}
+use Rattle.coordinator.specs.Idle.{AreHeldUp}
+use Rattle.coordinator.proofs.HeldUp.{handled-held, withdrawn-held, retired-held, pruned-held}
 use Rattle.coordinator.proofs.SoundWords.{sound-handled}
 
 -- the wants of an Acquire are wants
@@ -20,21 +23,22 @@ request_of (Acquire a wants tenure) h = h.1.sorted
 request_of (Commit t news) h = tt
 request_of (Release t) h = tt
 
-pub rightful-handled : (k : Limits) (y : ToCoord) (q : Ledger) → IsRightful q → IsSaid NODES y → IsRightful (handled k y (begin_work q)).ledger
-rightful-handled k y q r said = record {
-  sound = sound-handled k y (begin_work q) r.sound (request_of y.request said.request);
-  lawful = (every_ledger_stays_lawful NODES k q r.lawful).message y said;
+pub rightful-handled : (y : ToCoord) (q : Ledger) → IsRightful q → IsSaid NODES y → IsRightful (handled farm_limits y (begin_work q)).ledger
+rightful-handled y q r said = record {
+  sound = sound-handled farm_limits y (begin_work q) r.sound (request_of y.request said.request);
+  lawful = (every_ledger_stays_lawful NODES farm_limits q r.lawful).message y said;
+  held_up = handled-held farm_limits y (begin_work q) r.held_up;
 }
 
 -- what a call worked out
-worked : (r : Result Work CoordRefusal) (w : Work) → r ≡ Ok w → IsLawfulWork NODES r → IsSound w.ledger → IsRightful w.ledger
-worked r w e law sound = record { sound = sound; lawful = subst (IsLawfulWork NODES) e law }
+worked : (r : Result Work CoordRefusal) (w : Work) → r ≡ Ok w → IsLawfulWork NODES r → IsSound w.ledger → AreHeldUp w.ledger → IsRightful w.ledger
+worked r w e law sound held = record { sound = sound; lawful = subst (IsLawfulWork NODES) e law; held_up = held }
 
-pub rightful-withdrawn : (k : Limits) (t : Ticket) (q : Ledger) (w : Work) → IsRightful q → withdrawn k t (begin_work q) ≡ Ok w → IsSound w.ledger → IsRightful w.ledger
-rightful-withdrawn k t q w r e sound = worked (withdrawn k t (begin_work q)) w e ((every_ledger_stays_lawful NODES k q r.lawful).withdraw t) sound
+pub rightful-withdrawn : (t : Ticket) (q : Ledger) (w : Work) → IsRightful q → withdrawn farm_limits t (begin_work q) ≡ Ok w → IsSound w.ledger → IsRightful w.ledger
+rightful-withdrawn t q w r e sound = worked (withdrawn farm_limits t (begin_work q)) w e ((every_ledger_stays_lawful NODES farm_limits q r.lawful).withdraw t) sound (withdrawn-held farm_limits t q w e)
 
-pub rightful-retired : (k : Limits) (n : NodeId) (q : Ledger) (w : Work) → IsRightful q → IsNumber NODES n → retired k n (begin_work q) ≡ Ok w → IsSound w.ledger → IsRightful w.ledger
-rightful-retired k n q w r number e sound = worked (retired k n (begin_work q)) w e ((every_ledger_stays_lawful NODES k q r.lawful).retire n number) sound
+pub rightful-retired : (n : NodeId) (q : Ledger) (w : Work) → IsRightful q → IsNumber NODES n → retired farm_limits n (begin_work q) ≡ Ok w → IsSound w.ledger → IsRightful w.ledger
+rightful-retired n q w r number e sound = worked (retired farm_limits n (begin_work q)) w e ((every_ledger_stays_lawful NODES farm_limits q r.lawful).retire n number) sound (retired-held farm_limits n q w e r.held_up)
 
-pub rightful-pruned : (k : Limits) (s : Slot) (q : Ledger) (w : Work) → IsRightful q → pruned k s (begin_work q) ≡ Ok w → IsSound w.ledger → IsRightful w.ledger
-rightful-pruned k s q w r e sound = worked (pruned k s (begin_work q)) w e ((every_ledger_stays_lawful NODES k q r.lawful).prune s) sound
+pub rightful-pruned : (s : Slot) (q : Ledger) (w : Work) → IsRightful q → pruned farm_limits s (begin_work q) ≡ Ok w → IsSound w.ledger → IsRightful w.ledger
+rightful-pruned s q w r e sound = worked (pruned farm_limits s (begin_work q)) w e ((every_ledger_stays_lawful NODES farm_limits q r.lawful).prune s) sound (pruned-held farm_limits s q w e r.held_up)

@@ -2,6 +2,7 @@
 use Rattle.coordinator.specs.declared.state.State.{State}
 use Rattle.coordinator.specs.Held.{Held, line_at}
 use Rattle.coordinator.specs.Shown.{kept}
+use Rattle.coordinator.specs.Queue.{asks_of}
 use Rattle.coordinator.specs.Sound.{IsRightful}
 
 abbrev pub held : State → Held
@@ -14,7 +15,7 @@ held s = record {
   ceiling = s.tickets.ceiling;
   old_home = s.old_home;
   lives = s.lives;
-  parked = s.parked.asks.items;
+  parked = asks_of s.parked;
 }
 
 abbrev pub keeps_sound : State → Type 0

@@ -1,7 +1,10 @@
 pub mod Held
 pub mod Waiting
+pub mod Queue
 pub mod Newest
+pub mod Wanted
 pub mod Shown
+pub mod Idle
 pub mod Sound
 pub mod Keeps
 pub mod Promises

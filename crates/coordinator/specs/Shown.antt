@@ -1,7 +1,6 @@
 -- What an event shows while it is worked out.
-use Rattle.std.specs.Prelude.{Bool, true, false, ◌||◌, List, Option, Some, None}
-use Rattle.std.specs.Option.{unwrap_or}
-use Rattle.farm_base.specs.declared.lease.NodeLife.{NodeLife}
+use Rattle.std.specs.Prelude.{ℕ, Bool, true, false, ◌||◌, List, Option, Some, None}
+use Rattle.protocol.specs.Lists.{put}
 use Rattle.protocol.specs.Names.{Ticket, NodeId}
 use Rattle.protocol.specs.Machine.{FromCoord}
 use Rattle.protocol.specs.Ledger.{Ledger, Work, begin_work, Lease, is_saved, without, lease_under}
@@ -11,9 +10,11 @@ use Rattle.leases.specs.Table.{among, retires_some}
 pub use Rattle.versions.specs.Lines.{LineOf, lines_with}
 use Rattle.coordinator.specs.declared.state.State.{State}
 use Rattle.coordinator.specs.declared.change.Change.{Change}
+use Rattle.coordinator.specs.declared.new_life.NewLife.{NewLife}
 use Rattle.coordinator.specs.declared.draft.Draft.{Draft}
 use Rattle.coordinator.specs.Held.{Held, life_at, is_among}
 use Rattle.coordinator.specs.Waiting.{waits_after}
+use Rattle.coordinator.specs.Queue.{asks_of}
 
 -- the ledger that a state shows, with these lines
 abbrev pub kept : LineOf → State → Ledger
@@ -26,7 +27,7 @@ kept line s = record {
   ceiling = s.tickets.ceiling;
   old_home = s.old_home;
   lives = life_at s.lives;
-  parked = s.parked.asks.items;
+  parked = asks_of s.parked;
 }
 
 -- ---- what an event changes, over what is held
@@ -35,25 +36,27 @@ kept line s = record {
 abbrev pub table_after : Held → Change → Table
 table_after h c = changed (record { live = h.live; retired = h.retired }) c.table
 
--- the greatest lives
-abbrev pub lives_after : Held → Change → List NodeLife
-lives_after h c = unwrap_or c.lives h.lives
+-- the greatest lives, with the one that began, if one did
+abbrev pub with_life : Option NewLife → (ℕ → ℕ) → ℕ → ℕ
+with_life None lives = lives
+with_life (Some x) lives = put x.node.0 x.life.0 lives
 
--- the retired nodes
-abbrev pub gone_after : Held → Change → List NodeId
-gone_after h c = unwrap_or c.gone h.gone
+-- the retired nodes, with the one that was retired, if one was
+abbrev pub with_gone : Option NodeId → (ℕ → Bool) → ℕ → Bool
+with_gone None gone = gone
+with_gone (Some n) gone = put n.0 true gone
 
 -- the ledger with the changes, and with these lines
 abbrev pub after : LineOf → Held → Change → Ledger
 after line h c = record {
   live = (table_after h c).live;
   retired = among (table_after h c).retired;
-  gone = is_among (gone_after h c);
+  gone = with_gone c.gone (is_among h.gone);
   line = line;
   last = c.tickets.position;
   ceiling = c.tickets.ceiling;
   old_home = c.old_home;
-  lives = life_at (lives_after h c);
+  lives = with_life c.life (life_at h.lives);
   parked = waits_after h.parked c.parked;
 }
 

@@ -9,6 +9,7 @@ pub use Rattle.leases.specs.Leases.{IsOpen}
 use Rattle.protocol.specs.Names.{Slot}
 use Rattle.protocol.specs.Ledger.{Ledger}
 use Rattle.protocol.specs.Lawful.{IsLawful}
+use Rattle.coordinator.specs.Idle.{AreHeldUp}
 
 pub record IsSound (q : Ledger) : Type 0 where
   pub leases : AreLeases q.live
@@ -22,6 +23,8 @@ pub record IsSound (q : Ledger) : Type 0 where
 pub record IsRightful (q : Ledger) : Type 0 where
   pub sound : IsSound q
   pub lawful : IsLawful NODES q
+  -- each parked ask waits for the old home or for a leased slot
+  pub held_up : AreHeldUp q
 
 -- what each request of the program is
 abbrev pub IsRequest : Request → Type 0

@@ -1,5 +1,5 @@
 -- The changes of one event over the asks that wait.
-use Rattle.std.specs.Prelude.{◌==◌, if◌then◌else◌, ℕ, Bool, false, List, [], ◌∷◌, ◌++◌}
+use Rattle.std.specs.Prelude.{◌==◌, if◌then◌else◌, Bool, false, List, [], ◌∷◌, ◌++◌}
 use Rattle.protocol.specs.Machine.{Parked}
 use Rattle.protocol.specs.Ledger.{is_older_ask}
 use Rattle.leases.specs.declared.ending.Ending.{Ending}
@@ -30,8 +30,3 @@ still_waiting marks (p ∷ ps) = if first_mark marks then still_waiting (later_m
 -- the asks that wait, with the changes
 abbrev pub waits_after : List Parked → ParkedChange → List Parked
 waits_after parked c = still_waiting c.over.items parked ++ c.since.items
-
--- how many asks there is room for: beside those that wait where all of them stay, and else apart
-abbrev pub parking_room : List Bool → ℕ → ℕ → ℕ
-parking_room [] beside apart = beside
-parking_room (m ∷ ms) beside apart = apart

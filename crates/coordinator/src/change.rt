@@ -1,16 +1,19 @@
 //! What one event changes of what the coordinator keeps beside the lines, and what is looked up with the changes so far.
-ghost use Rattle.std.specs.Prelude.{◌≡◌, ◌≢◌, ◌≤◌, ◌&&◌, not, true, IfOk, OnOk};
+ghost use Rattle.std.specs.Prelude.{◌≡◌, ◌≢◌, ◌&&◌, not, None, IfOk};
+ghost use Rattle.std.specs.Option.{unwrap_or};
+ghost use Rattle.protocol.specs.Names.{is_private};
 ghost use Rattle.protocol.specs.Farm.{farm_limits};
 ghost use Rattle.protocol.specs.Ledger.{decision, elsewhere, may_commit, may_release, lease_under};
-ghost use Rattle.protocol.specs.Lists.{put};
-ghost use Rattle.leases.specs.Table.{fit_of, life_at, is_among};
+ghost use Rattle.leases.specs.Table.{fit_of, life_at, is_among, is_leased};
 ghost use Rattle.coordinator.specs.Held.{Held};
+ghost use Rattle.coordinator.specs.Idle.{is_open, are_leased_again};
 ghost use Rattle.coordinator.specs.Keeps.{held};
-ghost use Rattle.coordinator.specs.Shown.{LineOf, after, table_after, lives_after, gone_after, kept};
+ghost use Rattle.coordinator.specs.Shown.{LineOf, after, table_after, with_life, with_gone, kept};
 
+use super::new_life::NewLife;
 use super::parked_change::ParkedChange;
 use super::state::{State, fit_slots};
-use farm_base::{Copied, Life, News, NodeId, Parked, Ticket, Why};
+use farm_base::{Copied, Items, Life, Mode, News, NodeId, Parked, Slot, Ticket, Why};
 use leases::{Fit, Lives, RetiredNodes, TableChange, TicketSource};
 use protocol::Decision;
 use std::alloc::{AllocError, Global};
@@ -20,10 +23,10 @@ use std::alloc::{AllocError, Global};
 pub struct Change {
     pub table: TableChange,
     pub tickets: TicketSource,
-    /// The lives, where one has begun.
-    pub lives: Option<Lives>,
-    /// The retired nodes, where one was retired.
-    pub gone: Option<RetiredNodes>,
+    /// The life that began, if one did.
+    pub life: Option<NewLife>,
+    /// The node that was retired, if one was.
+    pub gone: Option<NodeId>,
     pub old_home: Option<NodeId>,
     pub parked: ParkedChange,
 }
@@ -31,51 +34,83 @@ pub struct Change {
 impl Change {
     /// No change.
     pub(crate) fn new(alloc: Global, base: &State) -> Result<Self, AllocError>
-        ensures { IfOk result (λ change. (line : LineOf) → after line (held base.now) change ≡ kept line base.now) }
+        ensures ledger { IfOk result (λ change. (line : LineOf) → after line (held base.now) change ≡ kept line base.now) }
+        ensures life { IfOk result (λ change. change.life ≡ None) }
+        ensures gone { IfOk result (λ change. change.gone ≡ None) }
     {
         let tickets = base.tickets.copy(alloc)?;
         Ok(Change {
             table: TableChange::new(alloc),
             tickets,
-            lives: None,
+            life: None,
             gone: None,
             old_home: base.old_home,
             parked: ParkedChange::new(alloc),
         })
     }
 
-    /// The greatest lives seen.
-    pub(crate) fn lives<'s>(&'s self, base: &'s State) -> &'s Lives
-        ensures { result.now ≡ lives_after (held base.now) self.now }
-    {
-        match &self.lives {
-            Some(lives) => lives,
-            None => &base.lives,
-        }
-    }
-
-    /// The retired nodes.
-    pub(crate) fn gone<'s>(&'s self, base: &'s State) -> &'s RetiredNodes
-        ensures { result.now ≡ gone_after (held base.now) self.now }
-    {
-        match &self.gone {
-            Some(gone) => gone,
-            None => &base.gone,
-        }
-    }
-
     /// Whether a node was retired.
     pub(crate) fn is_gone(&self, base: &State, node: NodeId) -> bool
-        ensures { result ≡ is_among (gone_after (held base.now) self.now) node.0 }
+        ensures { result ≡ with_gone self.now.gone (is_among base.now.gone) node.0 }
     {
-        self.gone(base).contains(node)
+        match self.gone {
+            Some(gone) => node == gone || base.gone.contains(node),
+            None => base.gone.contains(node),
+        }
     }
 
     /// The greatest life seen of a node, 0 where none was.
     pub(crate) fn greatest_life(&self, base: &State, node: NodeId) -> u64
-        ensures { result ≡ life_at (lives_after (held base.now) self.now) node.0 }
+        ensures { result ≡ with_life self.now.life (life_at base.now.lives) node.0 }
     {
-        self.lives(base).greatest(node)
+        match self.life {
+            Some(seen) => {
+                if node == seen.node {
+                    seen.life.0
+                } else {
+                    base.lives.greatest(node)
+                }
+            }
+            None => base.lives.greatest(node),
+        }
+    }
+
+    /// The greatest lives, if one began.
+    fn lives(&self, alloc: Global, base: &State) -> Result<Option<Lives>, AllocError>
+        ensures { IfOk result (λ lives. life_at (unwrap_or lives base.now.lives) ≡ with_life self.now.life (life_at base.now.lives)) }
+    {
+        let Some(seen) = self.life else {
+            return Ok(None);
+        };
+        let mut lives = base.lives.copy(alloc)?;
+        lives.set(seen.node, seen.life)?;
+        Ok(Some(lives))
+    }
+
+    /// The retired nodes, if one was retired.
+    fn retired_nodes(&self, alloc: Global, base: &State) -> Result<Option<RetiredNodes>, AllocError>
+        ensures { IfOk result (λ gone. is_among (unwrap_or gone base.now.gone) ≡ with_gone self.now.gone (is_among base.now.gone)) }
+    {
+        let Some(node) = self.gone else {
+            return Ok(None);
+        };
+        let mut gone = base.gone.copy(alloc)?;
+        gone.insert(node)?;
+        Ok(Some(gone))
+    }
+
+    /// The greatest lives and the retired nodes, where they change.
+    pub(crate) fn nodes(
+        &self,
+        alloc: Global,
+        base: &State,
+    ) -> Result<(Option<Lives>, Option<RetiredNodes>), AllocError>
+        ensures lives { IfOk result (λ nodes. life_at (unwrap_or nodes.0 base.now.lives) ≡ with_life self.now.life (life_at base.now.lives)) }
+        ensures gone { IfOk result (λ nodes. is_among (unwrap_or nodes.1 base.now.gone) ≡ with_gone self.now.gone (is_among base.now.gone)) }
+    {
+        let lives = self.lives(alloc, base)?;
+        let gone = self.retired_nodes(alloc, base)?;
+        Ok((lives, gone))
     }
 
     /// Whether a tenure is asked for while another node is the old home.
@@ -116,6 +151,32 @@ impl Change {
         }
     }
 
+    /// Whether this is the slot of a LOCKED or SHARED folder that is not leased.
+    fn is_open(&self, base: &State, slot: &(Slot, bool)) -> bool
+        ensures { result ≡ (not (is_private slot.now.0.folder.mode) && not (is_leased (table_after (held base.now) self.now) slot.now.0)) }
+    {
+        !matches!(slot.0.folder().mode, Mode::Private)
+            && !self.table.is_leased(&base.table, &slot.0)
+    }
+
+    /// Whether one of these slots, of a LOCKED or SHARED folder, is not leased.
+    fn some_open(&self, base: &State, slots: &[(Slot, bool)]) -> bool
+        ensures { result ≡ is_open slots.now (table_after (held base.now) self.now).live }
+    {
+        slots.iter().any(|slot| self.is_open(base, slot))
+    }
+
+    /// Whether all slots that a lease gave back, of LOCKED and SHARED folders, are leased again. It is not said where the
+    /// slots aren't told.
+    pub(crate) fn are_leased_again(&self, base: &State, freed: &Option<Items<(Slot, bool)>>) -> bool
+        ensures { result ≡ are_leased_again freed.now (table_after (held base.now) self.now).live }
+    {
+        match freed {
+            Some(slots) => !self.some_open(base, slots.as_slice()),
+            None => false,
+        }
+    }
+
     pub(crate) fn may_commit(
         &self,
         base: &State,
@@ -144,39 +205,5 @@ impl Change {
             Some(lease) => lease.node == node && lease.life == life,
             None => false,
         }
-    }
-
-    /// Sets the greatest life seen of a node.
-    pub(crate) fn set_life(
-        &mut self,
-        alloc: Global,
-        base: &State,
-        node: NodeId,
-        life: Life,
-    ) -> Result<(), AllocError>
-        requires { 1 ≤ life.0 }
-        ensures lives { OnOk result (life_at (lives_after (held base.now) self.new) ≡ put node.0 life.0 (life_at (lives_after (held base.now) self.old))) }
-        ensures rest { OnOk result (self.new ≡ record self.old { lives = self.new.lives }) }
-    {
-        let mut lives = self.lives(base).copy(alloc)?;
-        lives.set(node, life)?;
-        self.lives = Some(lives);
-        Ok(())
-    }
-
-    /// Marks a node as retired.
-    pub(crate) fn retire(
-        &mut self,
-        alloc: Global,
-        base: &State,
-        node: NodeId,
-    ) -> Result<(), AllocError>
-        ensures gone { OnOk result (is_among (gone_after (held base.now) self.new) ≡ put node.0 true (is_among (gone_after (held base.now) self.old))) }
-        ensures rest { OnOk result (self.new ≡ record self.old { gone = self.new.gone }) }
-    {
-        let mut gone = self.gone(base).copy(alloc)?;
-        gone.insert(node)?;
-        self.gone = Some(gone);
-        Ok(())
     }
 }

@@ -1,26 +1,30 @@
 //! An event as it is worked out: the changes that it makes, over a state that stays as it is.
-ghost use Rattle.std.specs.Prelude.{if◌then◌else◌, ◌++◌, ◌∷◌, [], ◌≡◌, ◌≢◌, ◌≤◌, ◌&&◌, All, IfOk, OnOk, not, false, true, is_some, ◌||◌, Some, nat_lt};
+ghost use Rattle.std.specs.Prelude.{if◌then◌else◌, ◌++◌, ◌∷◌, [], ◌≡◌, ◌≢◌, ◌≤◌, ◌&&◌, All, IfOk, OnOk, not, false, true, is_some, ◌||◌, Some, None, nat_lt};
 ghost use Rattle.std.specs.List.{find, list_any};
 ghost use Rattle.farm_base.specs.Contents.{empty_digest};
 ghost use Rattle.protocol.specs.Farm.{farm_limits};
 ghost use Rattle.leases.specs.Table.{fit_of};
 ghost use Rattle.leases.specs.declared.lease_table.Fit.{Fit};
-ghost use Rattle.protocol.specs.Ledger.{begin_work, decision, decided, sees, is_older, is_home, ends, without, Lease, lease_for, grant_of, gives, denies, tried, try_all, stays, waiting, retried, elsewhere, recall, recalls, holds_wanted, acquiring, lease_of, is_parked, confirms, committing, may_commit, may_release, lease_under, released, newer_life, answering, handled};
+ghost use Rattle.protocol.specs.Ledger.{Ledger, begin_work, decision, decided, sees, is_older, is_home, ends, without, Lease, lease_for, grant_of, gives, denies, tried, try_all, stays, waiting, retried, elsewhere, recall, recalls, holds_wanted, acquiring, lease_of, is_parked, confirms, committing, may_commit, may_release, lease_under, released, newer_life, answering, handled};
 ghost use Rattle.coordinator.specs.Held.{Held, line_at};
+ghost use Rattle.coordinator.specs.Idle.{AreHeldUp, AreIdle};
 ghost use Rattle.coordinator.specs.Keeps.{held};
 ghost use Rattle.farm_base.specs.Wanted.{IsWants};
 ghost use Rattle.coordinator.specs.Shown.{LineOf, kept, after, shown, table_after, lines_with, ended, ended_committed};
 ghost use Rattle.coordinator.specs.Waiting.{still_waiting, waits_after};
+ghost use Rattle.coordinator.specs.Queue.{asks_of};
 ghost use Rattle.coordinator.specs.Sound.{IsSound};
 ghost use Rattle.versions.specs.Additions.{IsReady};
 
 use super::change::Change;
+use super::new_life::NewLife;
 use super::parked_change::{ParkedChange, kept, some_set, split_mark};
-use super::state::{State, cleared, grant_of, is_home, is_saved, is_some_saved};
+use super::state::{State, cleared, grant_of, is_home, is_some_saved};
 use farm_base::{
-    Copied, FromCoord, Grant, Items, Life, News, NodeId, Parked, Request, Ticket, ToCoord, Why,
+    Copied, FromCoord, Grant, Items, Life, News, NodeId, Parked, Request, Slot, Ticket, ToCoord,
+    Why,
 };
-use leases::Ending;
+use leases::{Ending, is_saved};
 use protocol::{CoordNote, Decision};
 use std::alloc::{AllocError, Global};
 use std::mem;
@@ -39,7 +43,9 @@ pub struct Draft {
 impl Draft {
     /// An event that changed nothing yet.
     pub(crate) fn new(alloc: Global, base: &State) -> Result<Self, AllocError>
-        ensures { IfOk result (λ draft. (line : LineOf) → shown line (held base.now) draft ≡ begin_work (kept line base.now)) }
+        ensures work { IfOk result (λ draft. (line : LineOf) → shown line (held base.now) draft ≡ begin_work (kept line base.now)) }
+        ensures life { IfOk result (λ draft. draft.change.life ≡ None) }
+        ensures gone { IfOk result (λ draft. draft.change.gone ≡ None) }
     {
         let change = Change::new(alloc, base)?;
         Ok(Draft {
@@ -150,7 +156,8 @@ impl Draft {
         Ok(!waits)
     }
 
-    /// Tries these asks, but for those that are marked as over, and marks those that wait no longer.
+    /// Tries these asks, but for those that are marked as over, and marks those that wait no longer. Once the slots that were
+    /// freed are leased again, those that are left need no look: all of them wait.
     fn try_asks(
         &mut self,
         alloc: Global,
@@ -158,9 +165,11 @@ impl Draft {
         added: &Option<Added>,
         asks: &[Parked],
         over: &[bool],
+        freed: &Option<Items<(Slot, bool)>>,
     ) -> Result<Vec<bool>, AllocError>
         requires sound { IsSound (after (lines_with base.now.lines added.now) (held base.now) self.old.change) }
         requires wants { All (λ p. IsWants p.wants) asks.now }
+        requires idle { AreIdle freed.now (after (lines_with base.now.lines added.now) (held base.now) self.old.change) (still_waiting over.now asks.now) }
         ensures work { OnOk result (shown (lines_with base.now.lines added.now) (held base.now) self.new
             ≡ try_all farm_limits (still_waiting over.now asks.now) (shown (lines_with base.now.lines added.now) (held base.now) self.old)) }
         ensures stay { IfOk result (λ marks. still_waiting marks.items asks.now
@@ -168,8 +177,11 @@ impl Draft {
         ensures sound { OnOk result (IsSound (after (lines_with base.now.lines added.now) (held base.now) self.new.change)) }
     {
         let mut marks = over;
-        let mut done = Vec::with_capacity(alloc, asks.len())?;
+        let mut done = Vec::new(alloc);
         for p in asks {
+            if marks.is_empty() && self.change.are_leased_again(base, freed) {
+                return Ok(some_set(alloc, done));
+            }
             let (is_over, rest) = split_mark(marks);
             done.push(self.try_unless(alloc, base, added, p, is_over)?)?;
             marks = rest;
@@ -183,9 +195,11 @@ impl Draft {
         alloc: Global,
         base: &State,
         added: &Option<Added>,
+        freed: &Option<Items<(Slot, bool)>>,
     ) -> Result<(), AllocError>
         requires sound { IsSound (after (lines_with base.now.lines added.now) (held base.now) self.old.change) }
-        requires wants { All (λ p. IsWants p.wants) base.now.parked.asks.items }
+        requires wants { All (λ p. IsWants p.wants) (asks_of base.now.parked) }
+        requires idle { AreIdle freed.now (after (lines_with base.now.lines added.now) (held base.now) self.old.change) (waits_after (asks_of base.now.parked) self.old.change.parked) }
         ensures { OnOk result (shown (lines_with base.now.lines added.now) (held base.now) self.new
             ≡ retried farm_limits (shown (lines_with base.now.lines added.now) (held base.now) self.old)) }
     {
@@ -197,10 +211,11 @@ impl Draft {
             alloc,
             base,
             added,
-            base.parked.asks.as_slice(),
+            base.parked.waiting(),
             over.as_slice(),
+            freed,
         )?;
-        let over_since = self.try_asks(alloc, base, added, since.as_slice(), &[])?;
+        let over_since = self.try_asks(alloc, base, added, since.as_slice(), &[], &None)?;
         let since = kept_of(alloc, since, over_since.as_slice())?;
         self.change.parked = ParkedChange { over, since };
         Ok(())
@@ -301,7 +316,7 @@ impl Draft {
     ) -> Result<(), AllocError>
         requires { IsSound (after (lines_with base.now.lines added.now) (held base.now) self.old.change) }
         ensures { OnOk result (shown (lines_with base.now.lines added.now) (held base.now) self.new
-            ≡ acquiring farm_limits (lease_of (table_after (held base.now) self.old.change).live p.node p.life p.ask) (is_parked (waits_after base.now.parked.asks.items self.old.change.parked) p.node p.life p.ask) p (shown (lines_with base.now.lines added.now) (held base.now) self.old)) }
+            ≡ acquiring farm_limits (lease_of (table_after (held base.now) self.old.change).live p.node p.life p.ask) (is_parked (waits_after (asks_of base.now.parked) self.old.change.parked) p.node p.life p.ask) p (shown (lines_with base.now.lines added.now) (held base.now) self.old)) }
     {
         if self.grant_again(alloc, base, added, &p)? {
             return Ok(());
@@ -372,6 +387,29 @@ impl Draft {
         Ok(())
     }
 
+    /// The slots that the end of a ticket's lease frees, but for those that no parked ask wants. None are told where a parked ask may want a PRIVATE folder: it can be
+    /// denied whatever is freed.
+    pub(crate) fn freed_by(
+        &self,
+        alloc: Global,
+        base: &State,
+        ticket: Ticket,
+    ) -> Result<Option<Items<(Slot, bool)>>, AllocError>
+        requires sound { IsSound (after (line_at base.now.lines) (held base.now) self.now.change) }
+        requires held_up { AreHeldUp (after (line_at base.now.lines) (held base.now) self.now.change) }
+        ensures { IfOk result (λ freed. (q : Ledger) → q.live ≡ without ticket (table_after (held base.now) self.now.change).live → q.old_home ≡ self.now.change.old_home
+            → q.parked ≡ waits_after (asks_of base.now.parked) self.now.change.parked → AreIdle freed q q.parked) }
+    {
+        let parked = &self.change.parked;
+        if !base.parked.plain || !parked.since.is_empty() {
+            return Ok(None);
+        }
+        match self.change.table.lease(&base.table, ticket) {
+            Some(lease) => Ok(Some(base.parked.wanted_of(alloc, lease.slots.as_slice())?)),
+            None => Ok(None),
+        }
+    }
+
     fn release(
         &mut self,
         alloc: Global,
@@ -381,15 +419,17 @@ impl Draft {
         ticket: Ticket,
     ) -> Result<(), AllocError>
         requires sound { IsSound (after (line_at base.now.lines) (held base.now) self.old.change) }
-        requires wants { All (λ p. IsWants p.wants) base.now.parked.asks.items }
+        requires wants { All (λ p. IsWants p.wants) (asks_of base.now.parked) }
+        requires held_up { AreHeldUp (after (line_at base.now.lines) (held base.now) self.old.change) }
         ensures { OnOk result (shown (line_at base.now.lines) (held base.now) self.new
             ≡ released farm_limits (may_release node life (lease_under (table_after (held base.now) self.old.change).live ticket)) ticket (lease_under (table_after (held base.now) self.old.change).live ticket) (shown (line_at base.now.lines) (held base.now) self.old)) }
     {
         if !self.change.may_release(base, node, life, ticket) {
             return Ok(());
         }
+        let freed = self.freed_by(alloc, base, ticket)?;
         self.end(base, ticket)?;
-        self.retry(alloc, base, &None)?;
+        self.retry(alloc, base, &None, &freed)?;
         self.note = CoordNote::Released(ticket);
         Ok(())
     }
@@ -414,7 +454,8 @@ impl Draft {
         news: &[News],
     ) -> Result<Option<Added>, AllocError>
         requires sound { IsSound (after (line_at base.now.lines) (held base.now) self.old.change) }
-        requires wants { All (λ p. IsWants p.wants) base.now.parked.asks.items }
+        requires wants { All (λ p. IsWants p.wants) (asks_of base.now.parked) }
+        requires held_up { AreHeldUp (after (line_at base.now.lines) (held base.now) self.old.change) }
         ensures work { IfOk result (λ added. shown (lines_with base.now.lines added) (held base.now) self.new
             ≡ committing farm_limits (may_commit node life news.now (lease_under (table_after (held base.now) self.old.change).live ticket)) node life ticket news.now (shown (line_at base.now.lines) (held base.now) self.old)) }
         ensures ready { IfOk result (IsReady base.now.lines) }
@@ -425,9 +466,10 @@ impl Draft {
         }
         let additions = additions(alloc, &base.lines, news)?;
         let added = Some(Added { ticket, additions });
+        let freed = self.freed_by(alloc, base, ticket)?;
         self.end_committed(ticket)?;
         self.confirm(alloc, base, &added, node, life, ticket, news)?;
-        self.retry(alloc, base, &added)?;
+        self.retry(alloc, base, &added, &freed)?;
         self.note = CoordNote::Committed(ticket);
         Ok(added)
     }
@@ -440,18 +482,19 @@ impl Draft {
         node: NodeId,
         life: Life,
     ) -> Result<bool, AllocError>
-        requires { 1 ≤ life.0 }
+        requires counted { 1 ≤ life.0 }
+        requires first { self.old.change.life ≡ None }
         ensures work { OnOk result ((line : LineOf) → shown line (held base.now) self.new ≡ sees node life (shown line (held base.now) self.old)) }
         ensures due { IfOk result (λ due. due ≡ (list_any (is_older node life) (table_after (held base.now) self.old.change).live || is_home node self.old.change.old_home)) }
     {
         let was_home = is_home(node, self.change.old_home);
         let had_leases = self.change.table.has_lease_below(&base.table, node, life);
         self.change.table.end_lives_below(node, life)?;
-        let parked = base.parked.asks.as_slice();
+        let parked = base.parked.waiting();
         self.change
             .parked
             .end(alloc, parked, Ending::LivesBelow(node, life))?;
-        self.change.set_life(alloc, base, node, life)?;
+        self.change.life = Some(NewLife { node, life });
         self.change.old_home = cleared(node, self.change.old_home);
         self.changed = true;
         Ok(had_leases || was_home)
@@ -466,14 +509,15 @@ impl Draft {
         life: Life,
     ) -> Result<(), AllocError>
         requires sound { IsSound (after (line_at base.now.lines) (held base.now) self.old.change) }
-        requires wants { All (λ p. IsWants p.wants) base.now.parked.asks.items }
+        requires wants { All (λ p. IsWants p.wants) (asks_of base.now.parked) }
         requires life { 1 ≤ life.0 }
+        requires first { self.old.change.life ≡ None }
         ensures { OnOk result (shown (line_at base.now.lines) (held base.now) self.new ≡ newer_life farm_limits node life (shown (line_at base.now.lines) (held base.now) self.old)) }
     {
         if !self.see(alloc, base, node, life)? {
             return Ok(());
         }
-        self.retry(alloc, base, &None)?;
+        self.retry(alloc, base, &None, &None)?;
         Ok(())
     }
 
@@ -485,7 +529,8 @@ impl Draft {
         message: &ToCoord,
     ) -> Result<Option<Added>, AllocError>
         requires sound { IsSound (after (line_at base.now.lines) (held base.now) self.old.change) }
-        requires wants { All (λ p. IsWants p.wants) base.now.parked.asks.items }
+        requires wants { All (λ p. IsWants p.wants) (asks_of base.now.parked) }
+        requires held_up { AreHeldUp (after (line_at base.now.lines) (held base.now) self.old.change) }
         ensures work { IfOk result (λ added. shown (lines_with base.now.lines added) (held base.now) self.new
             ≡ answering farm_limits message.now.node message.now.life message.now.request (shown (line_at base.now.lines) (held base.now) self.old)) }
         ensures ready { IfOk result (IsReady base.now.lines) }
@@ -529,7 +574,9 @@ impl Draft {
         message: &ToCoord,
     ) -> Result<Option<Added>, AllocError>
         requires sound { IsSound (after (line_at base.now.lines) (held base.now) self.old.change) }
-        requires wants { All (λ p. IsWants p.wants) base.now.parked.asks.items }
+        requires wants { All (λ p. IsWants p.wants) (asks_of base.now.parked) }
+        requires first { self.old.change.life ≡ None }
+        requires held_up { AreHeldUp (after (line_at base.now.lines) (held base.now) self.old.change) }
         ensures work { IfOk result (λ added. shown (lines_with base.now.lines added) (held base.now) self.new
             ≡ handled farm_limits message.now (shown (line_at base.now.lines) (held base.now) self.old)) }
         ensures ready { IfOk result (IsReady base.now.lines) }

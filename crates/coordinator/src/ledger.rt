@@ -1,10 +1,10 @@
-ghost use Rattle.std.specs.Prelude.{◌≡◌, not, ◌+◌, ◌≤◌, List, [], IfOk, IfSome, OnOk, Option, Ok, Err, None, false, is_some, option_copied, length};
+ghost use Rattle.std.specs.Prelude.{◌≡◌, not, ◌+◌, ◌≤◌, List, [], IfOk, IfSome, OnOk, Option, Ok, Err, None, false, is_some, option_copied, length, map};
 ghost use Rattle.std.specs.List.{list_any};
 ghost use Rattle.std.specs.List.Sorted.{IsStrictlySortedBy};
 ghost use Rattle.std.specs.Vec.{vec_capacity};
 ghost use Rattle.farm_base.specs.Slots.{slot_cmp};
 ghost use Rattle.protocol.specs.Farm.{farm_limits};
-ghost use Rattle.leases.specs.Table.{state_of};
+ghost use Rattle.leases.specs.Table.{state_of, life_at, is_among};
 ghost use Rattle.protocol.specs.Lists.{is_nil};
 ghost use Rattle.protocol.specs.Names.{slot_eq, NodeId, Slot, Ticket};
 ghost use Rattle.protocol.specs.Machine.{ToCoord};
@@ -25,10 +25,10 @@ ghost use Rattle.saverecord.specs.Keepers.{HasFailed};
 ghost use Rattle.coordinator.specs.Keeps.{held};
 ghost use Rattle.coordinator.specs.Seen.{IsKeeping};
 ghost use Rattle.coordinator.specs.Settling.{Answers, is_save_fault};
-ghost use Rattle.coordinator.specs.Shown.{LineOf, kept, after, shown};
-ghost use Rattle.coordinator.specs.Waiting.{parking_room};
+ghost use Rattle.coordinator.specs.Shown.{LineOf, kept, after, shown, with_life, with_gone};
 ghost use Rattle.versions.specs.Lines.{lines_with, room_needed, line_shown};
 ghost use Rattle.coordinator.specs.Sound.{IsSound, IsRightful};
+ghost use Rattle.coordinator.specs.Wanted.{wants_of, folder_room};
 ghost use Rattle.farm_base.specs.declared.limits.TheConstants.{NODES};
 ghost use Rattle.protocol.specs.Lawful.{IsNumber, IsSaid};
 ghost use Rattle.coordinator.specs.Promises.{OnlyGrow, ChangesAsTold};
@@ -37,18 +37,18 @@ use super::change::Change;
 use super::draft::Draft;
 use super::handled::Handled;
 use super::parked_asks::ParkedAsks;
-use super::record::{record_of, state_of};
+use super::record::{entry_of, record_of, state_of};
 use super::state::State;
 use super::text::{Sizes, Text, save};
 use farm_base::{Items, Lease, NodeId, Parked, Slot, Ticket, ToCoord};
-use leases::{LeaseTable, SlotState, TableWithRoom};
+use leases::{LeaseTable, Lives, RetiredNodes, SlotState, TableWithRoom};
 use protocol::{CoordNote, CoordRefusal};
 use saverecord::laws::what_is_kept_is_a_record;
 use saverecord::{Keeper, Record};
 use std::alloc::{AllocError, Global};
 use std::marker::Model;
 use std::mem;
-use versions::{Added, Line, Lines, SlotLine};
+use versions::{Added, Line, SlotLine};
 
 /// What a coordinator keeps of its farm: who may use which slot, and the lines of versions. Contracts see it as lists.
 #[derive(Debug, Drop)]
@@ -84,14 +84,17 @@ fn apply(
     alloc: Global,
     state: &mut State,
     table: TableWithRoom,
-    parking: Vec<Parked>,
+    nodes: (Option<Lives>, Option<RetiredNodes>),
     prepared: Prepared,
 ) -> Handled
     requires table_room { HasRoom table prepared.draft.change.table }
     requires leases { AreLeases (changed table.table prepared.draft.change.table).live }
-    requires none_parked { parking.items ≡ [] }
-    requires parking { vec_len state.old.parked.asks + vec_len prepared.draft.change.parked.since ≤ parking_room prepared.draft.change.parked.over.items (vec_capacity state.old.parked.asks) (vec_capacity parking) }
+    requires parking { vec_len state.old.parked.asks + vec_len prepared.draft.change.parked.since ≤ vec_capacity state.old.parked.asks }
     requires newest { vec_len prepared.draft.change.parked.since ≤ node_room state.old.parked.newest }
+    requires folders { state.old.parked.folders.items ≡ map (λ w. w.folder) (wants_of prepared.draft.change.parked.since.items) }
+    requires counts { vec_len state.old.parked.folders ≤ folder_room state.old.parked.wanted }
+    requires lives { life_at (unwrap_or nodes.0 state.old.lives) ≡ with_life prepared.draft.change.life (life_at state.old.lives) }
+    requires gone { is_among (unwrap_or nodes.1 state.old.gone) ≡ with_gone prepared.draft.change.gone (is_among state.old.gone) }
     requires ready { IsReady state.old.lines prepared.added }
     requires empty { prepared.room.items ≡ [] }
     requires larger { room_needed state.old.lines prepared.added ≤ vec_capacity prepared.room }
@@ -104,17 +107,17 @@ fn apply(
     let Change {
         table: table_change,
         tickets,
-        lives,
-        gone,
+        life: _,
+        gone: _,
         old_home,
         parked,
     } = draft.change;
     let asks = mem::replace(&mut state.parked, ParkedAsks::new(alloc));
-    state.parked = parked.apply(asks, parking);
+    state.parked = parked.apply(alloc, asks);
     state.table = table.apply(table_change);
     state.tickets = tickets;
-    update(&mut state.lives, lives);
-    update(&mut state.gone, gone);
+    update(&mut state.lives, nodes.0);
+    update(&mut state.gone, nodes.1);
     state.old_home = old_home;
     state.lines.add_to(added, room);
     Handled {
@@ -149,13 +152,12 @@ impl Ledger {
         ensures { IfOk result (λ bytes. Holds (whole_alone bytes.items) (saves (after (lines_with self.now.lines prepared.now.added) self.now prepared.now.draft.change))) }
     {
         let change = &prepared.draft.change;
-        let lines = &self.state.lines;
-        let record = record_of(alloc, &self.state, change, lines, &prepared.added)?;
+        let record = record_of(alloc, &self.state, change, &prepared.added)?;
         what_is_kept_is_a_record();
         record.write(alloc)
     }
 
-    /// The entry of an event that was worked out: the record that it leaves, of the lines only what it adds.
+    /// The entry of an event that was worked out: what it changes in the record.
     fn entry_bytes(&self, alloc: Global, prepared: &Prepared) -> Result<Vec<u8>, AllocError>
         requires rightful { IsRightful (after (lines_with self.now.lines prepared.now.added) self.now prepared.now.draft.change) }
         requires ready { IsReady self.now.lines prepared.now.added }
@@ -164,9 +166,7 @@ impl Ledger {
             → Holds (with_text bytes.items t) (saves (after (lines_with self.now.lines prepared.now.added) self.now prepared.now.draft.change))) }
     {
         let change = &prepared.draft.change;
-        let none = Lines::new(alloc);
-        let entry = record_of(alloc, &self.state, change, &none, &prepared.added)?;
-        what_is_kept_is_a_record();
+        let entry = entry_of(alloc, &self.state, change, &prepared.added)?;
         entry.write(alloc)
     }
 
@@ -236,7 +236,10 @@ impl Ledger {
             return Err(CoordRefusal::OutOfMemory);
         };
         let change = &prepared.draft.change;
-        let Ok(parking) = change.parked.room(alloc, &mut self.state.parked) else {
+        let Ok(()) = change.parked.room(alloc, &mut self.state.parked) else {
+            return Err(CoordRefusal::OutOfMemory);
+        };
+        let Ok(nodes) = change.nodes(alloc, &self.state) else {
             return Err(CoordRefusal::OutOfMemory);
         };
         let table = mem::replace(&mut self.state.table, LeaseTable::new(alloc));
@@ -250,7 +253,7 @@ impl Ledger {
         match save(keeper, self.sizes, to_save) {
             Ok(sizes) => {
                 self.sizes = sizes;
-                Ok(apply(alloc, &mut self.state, table, parking, prepared))
+                Ok(apply(alloc, &mut self.state, table, nodes, prepared))
             }
             Err(refusal) => {
                 self.state.table = table.into_table();
@@ -364,7 +367,7 @@ impl Ledger {
     pub(crate) fn most_sends(&self) -> usize
         ensures { (y : ToCoord) → length (handled farm_limits y (begin_work (ledger self.now))).sends ≤ result }
     {
-        1 + self.state.parked.asks.len()
+        1 + self.state.parked.waiting().len()
     }
 
     /// The most messages that a withdrawal, a retirement or a prune can make it send.
@@ -373,7 +376,7 @@ impl Ledger {
         ensures retire { (n : NodeId) (w : Work) → retired farm_limits n (begin_work (ledger self.now)) ≡ Ok w → length w.sends ≤ result }
         ensures prune { (s : Slot) (w : Work) → pruned farm_limits s (begin_work (ledger self.now)) ≡ Ok w → length w.sends ≤ result }
     {
-        self.state.parked.asks.len()
+        self.state.parked.waiting().len()
     }
 
     /// The leases that are live, the oldest first.
@@ -387,7 +390,7 @@ impl Ledger {
     pub(crate) fn parked(&self) -> &[Parked]
         ensures { result.now ≡ self.now.parked }
     {
-        self.state.parked.asks.as_slice()
+        self.state.parked.waiting()
     }
 
     /// The line of a slot, if it has a version.

@@ -7,12 +7,14 @@ mod draft;
 mod handled;
 pub mod laws;
 mod ledger;
+mod new_life;
 mod operator_calls;
 mod parked_asks;
 mod parked_change;
 mod record;
 mod state;
 mod text;
+mod wanted_folders;
 
 pub use coordinator::{Coordinator, NotStarted};
 pub use handled::Handled;

@@ -11,6 +11,8 @@ ghost use Rattle.coordinator.specs.Held.{line_at};
 ghost use Rattle.coordinator.specs.Keeps.{held};
 ghost use Rattle.farm_base.specs.Wanted.{IsWants};
 ghost use Rattle.coordinator.specs.Shown.{LineOf, having_said, kept, after, shown, withdraws_under};
+ghost use Rattle.coordinator.specs.Idle.{AreHeldUp};
+ghost use Rattle.coordinator.specs.Queue.{asks_of};
 ghost use Rattle.coordinator.specs.Sound.{IsSound};
 
 use super::draft::Draft;
@@ -76,9 +78,9 @@ impl State {
 
     /// Whether a parked ask is for the tenure that the lease is.
     fn is_waited_for(&self, lease: &Lease) -> bool
-        ensures { result ≡ is_awaited self.now.parked.asks.items lease.now }
+        ensures { result ≡ is_awaited (asks_of self.now.parked) lease.now }
     {
-        lease.tenure && is_asked_for(self.parked.asks.as_slice(), lease)
+        lease.tenure && is_asked_for(self.parked.waiting(), lease)
     }
 
     /// Sends the Grant of a lease again, and asks for a tenure that is waited for.
@@ -136,13 +138,15 @@ impl Draft {
         ticket: Ticket,
     ) -> Result<(), AllocError>
         requires sound { IsSound (after (line_at base.now.lines) (held base.now) self.old.change) }
-        requires wants { All (λ p. IsWants p.wants) base.now.parked.asks.items }
+        requires wants { All (λ p. IsWants p.wants) (asks_of base.now.parked) }
+        requires held_up { AreHeldUp (after (line_at base.now.lines) (held base.now) self.old.change) }
         requires accepted { result_err (withdrawn farm_limits ticket (shown (line_at base.now.lines) (held base.now) self.old)) ≡ None }
         ensures work { OnOk result (withdrawn farm_limits ticket (shown (line_at base.now.lines) (held base.now) self.old) ≡ Ok (shown (line_at base.now.lines) (held base.now) self.new)) }
         ensures sound { OnOk result (IsSound (after (line_at base.now.lines) (held base.now) self.new.change)) }
     {
+        let freed = self.freed_by(alloc, base, ticket)?;
         self.take_back(alloc, base, ticket)?;
-        self.retry(alloc, base, &None)?;
+        self.retry(alloc, base, &None, &freed)?;
         self.note = CoordNote::Withdrawn(ticket);
         Ok(())
     }
@@ -150,25 +154,26 @@ impl Draft {
     /// Tries the parked asks, where they are to be tried.
     fn retry_if(&mut self, alloc: Global, base: &State, due: bool) -> Result<(), AllocError>
         requires sound { IsSound (after (line_at base.now.lines) (held base.now) self.old.change) }
-        requires wants { All (λ p. IsWants p.wants) base.now.parked.asks.items }
+        requires wants { All (λ p. IsWants p.wants) (asks_of base.now.parked) }
         ensures { OnOk result (shown (line_at base.now.lines) (held base.now) self.new
             ≡ (if due then retried farm_limits (shown (line_at base.now.lines) (held base.now) self.old) else shown (line_at base.now.lines) (held base.now) self.old)) }
     {
         if !due {
             return Ok(());
         }
-        self.retry(alloc, base, &None)?;
+        self.retry(alloc, base, &None, &None)?;
         Ok(())
     }
 
     /// Drops a node: its leases are withdrawn, its parked asks go, and nothing that it says is heard again.
     fn drop_node(&mut self, alloc: Global, base: &State, node: NodeId) -> Result<(), AllocError>
+        requires { self.old.change.gone ≡ None }
         ensures { OnOk result ((line : LineOf) → shown line (held base.now) self.new ≡ goes node (shown line (held base.now) self.old)) }
     {
         self.change.table.withdraw_all_of(alloc, &base.table, node)?;
-        let parked = base.parked.asks.as_slice();
+        let parked = base.parked.waiting();
         self.change.parked.end(alloc, parked, Ending::Node(node))?;
-        self.change.retire(alloc, base, node)?;
+        self.change.gone = Some(node);
         self.changed = true;
         Ok(())
     }
@@ -181,8 +186,9 @@ impl Draft {
         node: NodeId,
     ) -> Result<(), AllocError>
         requires sound { IsSound (after (line_at base.now.lines) (held base.now) self.old.change) }
-        requires wants { All (λ p. IsWants p.wants) base.now.parked.asks.items }
+        requires wants { All (λ p. IsWants p.wants) (asks_of base.now.parked) }
         requires accepted { result_err (retired farm_limits node (shown (line_at base.now.lines) (held base.now) self.old)) ≡ None }
+        requires first { self.old.change.gone ≡ None }
         ensures work { OnOk result (retired farm_limits node (shown (line_at base.now.lines) (held base.now) self.old) ≡ Ok (shown (line_at base.now.lines) (held base.now) self.new)) }
         ensures sound { OnOk result (IsSound (after (line_at base.now.lines) (held base.now) self.new.change)) }
     {

@@ -1,12 +1,15 @@
 //! The changes that one event makes, over the asks that wait, which stay as they are until they are applied.
-ghost use Rattle.std.specs.Prelude.{◌≡◌, ◌∷◌, [], ◌++◌, ◌+◌, ◌<◌, ◌≤◌, ◌&&◌, ◌||◌, ◌==◌, not, filter, vec_len, IfOk, OnOk};
+ghost use Rattle.std.specs.Prelude.{◌≡◌, ◌∷◌, [], ◌++◌, ◌+◌, ◌<◌, ◌≤◌, ◌&&◌, ◌||◌, ◌==◌, not, map, filter, vec_len, IfOk, OnOk};
 ghost use Rattle.std.specs.List.{list_any};
 ghost use Rattle.protocol.specs.Ledger.{is_parked};
 ghost use Rattle.std.specs.Vec.{vec_capacity};
 ghost use Rattle.leases.specs.Newest.{node_room};
-ghost use Rattle.coordinator.specs.Waiting.{ends_ask, first_mark, later_marks, still_waiting, waits_after, parking_room};
+ghost use Rattle.coordinator.specs.Waiting.{ends_ask, first_mark, later_marks, still_waiting, waits_after};
+ghost use Rattle.coordinator.specs.Queue.{asks_of};
+ghost use Rattle.coordinator.specs.Wanted.{wants_of, folder_room, AreCounted};
 
-use super::parked_asks::{ParkedAsks, note_all};
+use super::parked_asks::{ParkedAsks, behind, note_all, pass_over, some_private, trimmed};
+use super::wanted_folders::{WantedFolders, folders_of};
 use farm_base::{Ask, Life, NodeId, Parked};
 use leases::Ending;
 use std::alloc::{AllocError, Global};
@@ -157,7 +160,7 @@ impl ParkedChange {
 
     /// Whether an ask waits.
     pub(crate) fn waits(&self, parked: &ParkedAsks, node: NodeId, life: Life, ask: Ask) -> bool
-        ensures { result ≡ is_parked (waits_after parked.now.asks.items self.now) node life ask }
+        ensures { result ≡ is_parked (waits_after (asks_of parked.now) self.now) node life ask }
     {
         self.still_waits(parked, node, life, ask)
             || still_waits(self.since.as_slice(), &[], node, life, ask)
@@ -165,18 +168,12 @@ impl ParkedChange {
 
     /// Whether an ask that waited still does.
     fn still_waits(&self, parked: &ParkedAsks, node: NodeId, life: Life, ask: Ask) -> bool
-        ensures { result ≡ is_parked (still_waiting self.now.over.items parked.now.asks.items) node life ask }
+        ensures { result ≡ is_parked (still_waiting self.now.over.items (asks_of parked.now)) node life ask }
     {
         if !parked.may_have(node, life, ask) {
             return false;
         }
-        still_waits(
-            parked.asks.as_slice(),
-            self.over.as_slice(),
-            node,
-            life,
-            ask,
-        )
+        still_waits(parked.waiting(), self.over.as_slice(), node, life, ask)
     }
 
     /// Ends the asks of a node, or of its lives below one.
@@ -202,53 +199,82 @@ impl ParkedChange {
         Ok(())
     }
 
-    /// Makes room for the asks that wait once this is applied: beside those that wait where all of them stay, and else apart.
-    pub(crate) fn room(
-        &self,
-        alloc: Global,
-        parked: &mut ParkedAsks,
-    ) -> Result<Vec<Parked>, AllocError>
-        ensures parked { parked.new.asks.items ≡ parked.old.asks.items }
-        ensures empty { IfOk result (λ room. room.items ≡ []) }
-        ensures larger { IfOk result (λ room. vec_len parked.new.asks + vec_len self.now.since ≤ parking_room self.now.over.items (vec_capacity parked.new.asks) (vec_capacity room)) }
+    /// Makes room for the asks that wait since.
+    pub(crate) fn room(&self, alloc: Global, parked: &mut ParkedAsks) -> Result<(), AllocError>
+        ensures parked { asks_of parked.new ≡ asks_of parked.old }
+        ensures larger { OnOk result (vec_len parked.new.asks + vec_len self.now.since ≤ vec_capacity parked.new.asks) }
         ensures newest { OnOk result (vec_len self.now.since ≤ node_room parked.new.newest) }
+        ensures folders { OnOk result (parked.new.folders.items ≡ map (λ w. w.folder) (wants_of self.now.since.items)) }
+        ensures counts { OnOk result (vec_len parked.new.folders ≤ folder_room parked.new.wanted) }
     {
+        parked.folders = folders_of(alloc, self.since.as_slice())?;
+        parked.wanted.reserve(parked.folders.len())?;
         parked.newest.reserve(self.since.len())?;
-        if self.over.is_empty() {
-            parked.asks.reserve(self.since.len())?;
-            Ok(Vec::new(alloc))
-        } else {
-            Vec::with_capacity(alloc, parked.asks.len() + self.since.len())
-        }
+        parked.asks.reserve(self.since.len())
     }
 
     /// The asks that wait, in the room that was made for them. It takes no memory.
-    pub(crate) fn apply(self, parked: ParkedAsks, room: Vec<Parked>) -> ParkedAsks
-        requires empty { room.items ≡ [] }
-        requires larger { vec_len parked.asks + vec_len self.since ≤ parking_room self.over.items (vec_capacity parked.asks) (vec_capacity room) }
+    pub(crate) fn apply(self, alloc: Global, parked: ParkedAsks) -> ParkedAsks
+        requires larger { vec_len parked.asks + vec_len self.since ≤ vec_capacity parked.asks }
         requires newest { vec_len self.since ≤ node_room parked.newest }
-        ensures { result.asks.items ≡ waits_after parked.asks.items self }
-    {
-        let ParkedAsks { asks, newest } = parked;
-        let mut newest = newest;
-        note_all(&mut newest, self.since.as_slice());
-        let asks = self.apply_to(asks, room);
-        ParkedAsks { asks, newest }
-    }
-
-    /// The asks that wait, in the room that was made for them.
-    fn apply_to(self, asks: Vec<Parked>, room: Vec<Parked>) -> Vec<Parked>
-        requires empty { room.items ≡ [] }
-        requires larger { vec_len asks + vec_len self.since ≤ parking_room self.over.items (vec_capacity asks) (vec_capacity room) }
-        ensures { result.items ≡ waits_after asks.items self }
+        requires folders { parked.folders.items ≡ map (λ w. w.folder) (wants_of self.since.items) }
+        requires counts { vec_len parked.folders ≤ folder_room parked.wanted }
+        ensures { asks_of result ≡ waits_after (asks_of parked) self }
     {
         let ParkedChange { over, since } = self;
-        if over.is_empty() {
-            joined(asks, since)
-        } else {
-            joined(kept(asks, over.as_slice(), room), since)
+        let ParkedAsks {
+            asks,
+            start,
+            newest,
+            plain,
+            wanted,
+            folders,
+        } = parked;
+        let mut newest = newest;
+        note_all(&mut newest, since.as_slice());
+        let mut wanted = wanted;
+        remove_over(&mut wanted, behind(asks.as_slice(), start), over.as_slice());
+        wanted.add_all(folders);
+        let since_private = some_private(since.as_slice());
+        let mut asks = asks;
+        let start = pass_over(&mut asks, start, over.as_slice());
+        let asks = joined(asks, since);
+        let plain = plain_after(start == asks.len(), plain, since_private);
+        let (asks, start) = trimmed(asks, start);
+        ParkedAsks {
+            asks,
+            start,
+            newest,
+            plain,
+            wanted,
+            folders: Vec::new(alloc),
         }
     }
+}
+
+/// Counts the folders of the asks that are marked as over once less.
+fn remove_over(wanted: &mut WantedFolders, asks: &[Parked], over: &[bool])
+    ensures counted { AreCounted wanted.old asks.now → AreCounted wanted.new (still_waiting over.now asks.now) }
+    ensures room { folder_room wanted.old ≤ folder_room wanted.new }
+{
+    let mut marks = over;
+    for p in asks {
+        if marks.is_empty() {
+            return;
+        }
+        let (is_over, rest) = split_mark(marks);
+        if is_over {
+            wanted.remove_all(p.wants.as_slice());
+        }
+        marks = rest;
+    }
+}
+
+/// Whether none of the asks wants a PRIVATE folder: where there is none, or it was so and no other wants one.
+fn plain_after(is_empty: bool, plain: bool, since_private: bool) -> bool
+    ensures { result ≡ (is_empty || (plain && not since_private)) }
+{
+    is_empty || (plain && !since_private)
 }
 
 /// The asks of both, in the first, which has room for them.

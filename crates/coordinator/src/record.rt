@@ -1,19 +1,26 @@
-//! The record of what a coordinator keeps, and what a restart makes of it.
-ghost use Rattle.std.specs.Prelude.{◌≡◌, IfOk, filter};
+//! The record of what a coordinator keeps, the entry of an event, and what a restart makes of a record.
+ghost use Rattle.std.specs.Prelude.{◌≡◌, ◌≤◌, ℕ, Bool, IfOk, filter, map};
+ghost use Rattle.std.specs.List.Sorted.{IsStrictlyIncreasing};
+ghost use Rattle.leases.specs.Leases.{AreLeases};
+ghost use Rattle.leases.specs.Lives.{AreLives};
+ghost use Rattle.leases.specs.Table.{life_at, is_among};
 ghost use Rattle.protocol.specs.Ledger.{saves, reads, is_saved};
 ghost use Rattle.saverecord.specs.Ledgers.{IsKept, ledger_of};
+ghost use Rattle.saverecord.specs.Logs.{with_lives, IsChange, AreInOrder};
+ghost use Rattle.saverecord.specs.Logs.{with_gone as with_nodes};
 ghost use Rattle.versions.specs.Additions.{IsReady};
 ghost use Rattle.coordinator.specs.Keeps.{held};
-ghost use Rattle.coordinator.specs.Shown.{after, kept, lines_with};
+ghost use Rattle.coordinator.specs.Shown.{after, kept, lines_with, with_life, with_gone};
 ghost use Rattle.coordinator.specs.Held.{line_at};
 ghost use Rattle.coordinator.specs.Sound.{IsRightful};
 
 use super::change::Change;
+use super::new_life::NewLife;
 use super::parked_asks::ParkedAsks;
-use super::state::{State, is_saved};
-use farm_base::{Items, Lease};
-use leases::{LeaseTable, Lives, RetiredNodes, TicketSource};
-use saverecord::Record;
+use super::state::State;
+use farm_base::{Items, Lease, NodeId, NodeLife};
+use leases::{LeaseTable, Lives, RetiredNodes, TicketSource, is_saved};
+use saverecord::{LogEntry, Record};
 use std::alloc::{AllocError, Global};
 use versions::{Added, Lines};
 
@@ -24,29 +31,104 @@ fn keep_saved(leases: &mut Vec<Lease>)
     leases.retain(|lease| is_saved(lease));
 }
 
-/// The record of a state with changes, and of these lines with what a commit adds to them.
+/// The lists of lives and of retired nodes that a record has, with what changes them.
+fn nodes_of(
+    alloc: Global,
+    state: &State,
+    change: &Change,
+) -> Result<(Vec<NodeLife>, Vec<NodeId>), AllocError>
+    ensures lives { IfOk result (λ nodes. life_at nodes.0.items ≡ with_life change.now.life (life_at state.now.lives)) }
+    ensures rising { IfOk result (λ nodes. AreLives nodes.0.items) }
+    ensures gone { IfOk result (λ nodes. is_among nodes.1.items ≡ with_gone change.now.gone (is_among state.now.gone)) }
+    ensures gone_rise { IfOk result (λ nodes. IsStrictlyIncreasing (map (λ n. n.0) nodes.1.items)) }
+{
+    let (lives, gone) = change.nodes(alloc, state)?;
+    let lives = match &lives {
+        Some(lives) => Vec::from_slice(alloc, lives.as_slice())?,
+        None => Vec::from_slice(alloc, state.lives.as_slice())?,
+    };
+    let gone = match &gone {
+        Some(gone) => Vec::from_slice(alloc, gone.as_slice())?,
+        None => Vec::from_slice(alloc, state.gone.as_slice())?,
+    };
+    Ok((lives, gone))
+}
+
+/// The record of a state with changes, and with what a commit adds to its lines.
 pub(crate) fn record_of(
     alloc: Global,
     state: &State,
     change: &Change,
-    lines: &Lines,
     added: &Option<Added>,
 ) -> Result<Record, AllocError>
-    requires rightful { IsRightful (after (lines_with lines.now added.now) (held state.now) change.now) }
-    requires ready { IsReady lines.now added.now }
-    ensures ledger { IfOk result (λ r. ledger_of r ≡ reads (saves (after (lines_with lines.now added.now) (held state.now) change.now))) }
+    requires rightful { IsRightful (after (lines_with state.now.lines added.now) (held state.now) change.now) }
+    requires ready { IsReady state.now.lines added.now }
+    ensures ledger { IfOk result (λ r. ledger_of r ≡ reads (saves (after (lines_with state.now.lines added.now) (held state.now) change.now))) }
     ensures kept { IfOk result IsKept }
 {
     let (mut leases, retired) = change.table.to_parts(alloc, &state.table)?;
     keep_saved(&mut leases);
-    let lives = Vec::from_slice(alloc, change.lives(state).as_slice())?;
-    let retired_nodes = Vec::from_slice(alloc, change.gone(state).as_slice())?;
-    let lines = lines.copy_with(alloc, added)?;
+    let (lives, retired_nodes) = nodes_of(alloc, state, change)?;
+    let lines = state.lines.copy_with(alloc, added)?;
     Ok(Record {
         last: change.tickets.ceiling(),
         old_home: change.old_home,
         lives: Items::new(lives),
         retired_nodes: Items::new(retired_nodes),
+        leases: Items::new(leases),
+        retired: Items::new(retired),
+        lines: Items::new(lines),
+    })
+}
+
+/// The life that began, if one did.
+fn begun(alloc: Global, life: Option<NewLife>) -> Result<Vec<NodeLife>, AllocError>
+    ensures lives { IfOk result (λ lives. (f : ℕ → ℕ) → with_lives lives.items f ≡ with_life life f) }
+    ensures order { IfOk result (λ lives. AreLives lives.items) }
+{
+    let mut lives = Vec::new(alloc);
+    if let Some(NewLife { node, life }) = life {
+        lives.push(NodeLife { node, life })?;
+    }
+    Ok(lives)
+}
+
+/// The node that was retired, if one was.
+fn retired_now(alloc: Global, gone: Option<NodeId>) -> Result<Vec<NodeId>, AllocError>
+    ensures nodes { IfOk result (λ nodes. (f : ℕ → Bool) → with_nodes nodes.items f ≡ with_gone gone f) }
+    ensures order { IfOk result (λ nodes. IsStrictlyIncreasing (map (λ n. n.0) nodes.items)) }
+{
+    let mut nodes = Vec::new(alloc);
+    if let Some(node) = gone {
+        nodes.push(node)?;
+    }
+    Ok(nodes)
+}
+
+/// The entry of changes over a state, and of what a commit adds to its lines.
+pub(crate) fn entry_of(
+    alloc: Global,
+    state: &State,
+    change: &Change,
+    added: &Option<Added>,
+) -> Result<LogEntry, AllocError>
+    requires before { AreLeases (held state.now).live }
+    requires block { state.now.tickets.ceiling ≤ change.now.tickets.ceiling }
+    requires ready { IsReady state.now.lines added.now }
+    ensures change { IfOk result (IsChange (saves (kept (line_at state.now.lines) state.now)) (saves (after (lines_with state.now.lines added.now) (held state.now) change.now))) }
+    ensures order { IfOk result AreInOrder }
+{
+    let ended = change.table.saved_ended(alloc, &state.table)?;
+    let leases = change.table.saved_granted(alloc)?;
+    let retired = change.table.newly_retired(alloc)?;
+    let none = Lines::new(alloc);
+    let lines = none.copy_with(alloc, added)?;
+    Ok(LogEntry {
+        last: change.tickets.ceiling(),
+        old_home: change.old_home,
+        lives: Items::new(begun(alloc, change.life)?),
+        retired_nodes: Items::new(retired_now(alloc, change.gone)?),
+        ended: Items::new(ended),
         leases: Items::new(leases),
         retired: Items::new(retired),
         lines: Items::new(lines),

@@ -9,7 +9,7 @@ ghost use Rattle.coordinator.specs.Shown.{lines_with, saved_under};
 
 use super::parked_asks::ParkedAsks;
 use farm_base::{Grant, Items, Lease, Mode, News, NodeId, Slot};
-use leases::{LeaseTable, Lives, RetiredNodes, TicketSource};
+use leases::{LeaseTable, Lives, RetiredNodes, TicketSource, is_saved};
 use std::alloc::{AllocError, Global};
 use versions::{Added, Lines, granted_slots};
 
@@ -81,13 +81,6 @@ pub(crate) fn grant_of(
     })
 }
 
-/// Whether the record has the lease.
-pub(crate) fn is_saved(lease: &Lease) -> bool
-    ensures { result ≡ is_saved lease.now }
-{
-    lease.tenure || has_private(lease.slots.as_slice())
-}
-
 pub(crate) fn is_some_saved(lease: Option<&Lease>) -> bool
     ensures { result ≡ saved_under (option_copied lease.entry) }
 {
@@ -95,12 +88,4 @@ pub(crate) fn is_some_saved(lease: Option<&Lease>) -> bool
         Some(lease) => is_saved(lease),
         None => false,
     }
-}
-
-fn has_private(slots: &[(Slot, bool)]) -> bool
-    ensures { result ≡ list_any (λ x. is_private x.0.folder.mode) slots.now }
-{
-    slots
-        .iter()
-        .any(|held| matches!(held.0.folder().mode, Mode::Private))
 }

@@ -121,24 +121,71 @@ fn execute(alloc: Global, board: &mut Board, folder: &str) -> Result<Option<Rece
     Ok(receipt(board, finished))
 }
 
+/// What a receipt says: its ticket, how many versions it names, and the number of the first.
+fn told(receipt: Receipt) -> (Ticket, usize, u64) {
+    let ticket = receipt.ticket;
+    let versions = receipt.versions.into_vec();
+    let first = match versions.first() {
+        Some(version) => version.number,
+        None => 0,
+    };
+    (ticket, versions.len(), first)
+}
+
+/// What a board counts: its commits, its events, the refused ones, and whether no token is out.
+#[derive(Clone, Copy, Debug, PartialEq, Eq)]
+struct Counts {
+    commits: u64,
+    events: usize,
+    refused: u64,
+    none_out: bool,
+}
+
+fn counted(board: &Board) -> Counts {
+    Counts {
+        commits: board.commits(),
+        events: board.schedule().len(),
+        refused: board.refused(),
+        none_out: board.out().is_empty(),
+    }
+}
+
+/// Executes on a folder of the board, and then asks for a tenure: what the receipt says, and the counts after each.
+fn execute_and_ask(
+    alloc: Global,
+    board: &mut Board,
+) -> Result<(Option<Receipt>, Counts, Counts), Fail> {
+    let folder = FolderName::parse(alloc, "shared:pip")?;
+    let receipt = execute(alloc, board, "locked:apt")?;
+    let executed = counted(board);
+    let asked = board.ask_tenure(alloc, NodeId(2), folder)?;
+    abandon_asked(asked);
+    Ok((receipt, executed, counted(board)))
+}
+
+/// The same on a board of its own.
+fn on_a_board(alloc: Global) -> Result<(Option<Receipt>, Counts, Counts), Fail> {
+    let mut board = Board::start(alloc, Setup { nodes: 2 })?;
+    execute_and_ask(alloc, &mut board)
+}
+
 #[test]
 fn one_execution_and_an_ask_for_a_tenure(rt: HostRuntime) -> Result<(), Fail> {
-    let alloc = rt.alloc();
-    let mut board = Board::start(alloc, Setup { nodes: 2 })?;
-    let receipt = execute(alloc, &mut board, "locked:apt")?;
+    let (receipt, executed, asked) = on_a_board(rt.alloc())?;
     assert!(rt; receipt.is_some());
     if let Some(receipt) = receipt {
-        assert_eq!(rt; receipt.ticket, Ticket(1));
-        let versions = receipt.versions.into_vec();
-        assert_eq!(rt; versions.len(), 1);
-        assert_eq!(rt; versions[0].number, 1);
+        assert_eq!(rt; told(receipt), (Ticket(1), 1, 1));
     }
-    assert_eq!(rt; board.commits(), 1);
-    assert_eq!(rt; board.schedule().len(), 7);
-    assert!(rt; board.out().is_empty());
-    let asked = board.ask_tenure(alloc, NodeId(2), FolderName::parse(alloc, "shared:pip")?)?;
-    abandon_asked(asked);
-    assert_eq!(rt; board.schedule().len(), 8);
-    assert_eq!(rt; board.refused(), 0);
+    assert_eq!(rt;
+        executed,
+        Counts {
+            commits: 1,
+            events: 7,
+            refused: 0,
+            none_out: true
+        }
+    );
+    assert_eq!(rt; asked.events, 8);
+    assert_eq!(rt; asked.refused, 0);
     Ok(())
 }

@@ -19,11 +19,15 @@ abbrev pub events_text : ℕ → List Event → Farm → List ℕ
 events_text number [] s = []
 events_text number (e ∷ es) s = outcome_text number (step content_digest farm_limits s e).outcome ++ events_text (number + 1) es (step content_digest farm_limits s e).farm
 
--- what is printed for a schedule: the lines of its events, and the lines of versions of the farm after them
-pub record IsReplayOf (setup : Setup) (events : List Event) (text : List ℕ) : Type 0 where
+-- what is printed for events in a farm: their lines, and the lines of versions of the farm after them
+pub record IsPrinted (s : Farm) (events : List Event) (text : List ℕ) : Type 0 where
   pub lines : List ℕ
-  pub printed : ArePrinted (run content_digest farm_limits events (opening content_digest setup.nodes)).ledger.line lines
-  pub text_is : text ≡ events_text 1 events (opening content_digest setup.nodes) ++ lines
+  pub printed : ArePrinted (run content_digest farm_limits events s).ledger.line lines
+  pub text_is : text ≡ events_text 1 events s ++ lines
+
+-- what is printed for a schedule: that for its events in a farm where nothing happened
+abbrev pub IsReplayOf : Setup → List Event → List ℕ → Type 0
+IsReplayOf setup events text = IsPrinted (opening content_digest setup.nodes) events text
 
 -- what the schedule means: its chronicle, and the headline of this project after each part of it
 pub record HasHeadline (setup : Setup) (events : List Event) : Type 0 where

@@ -6,7 +6,7 @@ ghost use Rattle.protocol.specs.Farm.{farm_limits};
 ghost use Rattle.schedule.specs.Printing.{outcome_text};
 ghost use Rattle.protocol.specs.Replay.{run, step};
 ghost use Rattle.world.specs.Shown.{shown};
-ghost use Rattle.farmctl.specs.Replays.{events_text, IsReplayed, IsUnread, TellsHeadline};
+ghost use Rattle.farmctl.specs.Replays.{events_text, IsPrinted, IsReplayed, IsUnread, TellsHeadline};
 
 use super::failure::Failure;
 use schedule::{Event, ScheduleRefusal, read_schedule};
@@ -47,6 +47,16 @@ fn event_lines(alloc: Global, world: &mut World, events: Vec<Event>) -> Result<S
     Ok(text)
 }
 
+/// A line for each event, which the farm carries out, and one for each slot that has a version then.
+fn printed(alloc: Global, world: &mut World, events: Vec<Event>) -> Result<String, AllocError>
+    ensures { IfOk result (λ text. IsPrinted (shown world.old) events.items (string_bytes text)) }
+{
+    let mut text = event_lines(alloc, world, events)?;
+    let lines = print_lines(alloc, world)?;
+    text.push_str(lines.as_str())?;
+    Ok(text)
+}
+
 /// A line for each event of the schedule that the bytes spell, and one for each slot that has a version then. The
 /// schedule has a chronicle, in which each event means what is printed of it, and the headline holds after each part.
 pub(crate) fn replayed(alloc: Global, bytes: &[u8]) -> Result<String, Failure>
@@ -65,8 +75,6 @@ pub(crate) fn replayed(alloc: Global, bytes: &[u8]) -> Result<String, Failure>
         Ok(world) => world,
     };
     every_replay_means();
-    let mut text = event_lines(alloc, &mut world, events)?;
-    let lines = print_lines(alloc, &world)?;
-    text.push_str(lines.as_str())?;
+    let text = printed(alloc, &mut world, events)?;
     Ok(text)
 }

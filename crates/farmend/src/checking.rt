@@ -96,6 +96,16 @@ fn judge(
     Ok(saved)
 }
 
+/// Whether a board is of this setup.
+fn agree(board: &Board, setup: Setup) -> Result<(), EndRefusal>
+    ensures { OnOk result (board.now.setup.nodes ≡ setup.nodes) }
+{
+    if board.setup().nodes != setup.nodes {
+        return Err(EndRefusal::Disagrees);
+    }
+    Ok(())
+}
+
 /// Checks what the threads of a run of these jobs handed back, by executors that were hired so and have these calls at the
 /// end. Agreed, it is what the run leaves. `Disagrees` where a clause doesn't hold, or the board is of another setup; `OutOfMemory`.
 pub fn check(
@@ -120,9 +130,7 @@ pub fn check(
     ensures answered { IfOk result (λ end. length end.answers.items ≡ length jobs.now) }
     ensures settled { IfOk result (λ end. All (λ answer. answer ≢ Answer.Waiting) end.answers.items) }
 {
-    if back.board.setup().nodes != setup.nodes {
-        return Err(EndRefusal::Disagrees);
-    }
+    agree(&back.board, setup)?;
     let saved = judge(alloc, jobs, hired, ends, &back)?;
     let HandedBack {
         board,

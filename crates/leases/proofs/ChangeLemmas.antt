@@ -8,7 +8,6 @@ use Rattle.std.proofs.lemmas.List.{append-nil}
 use Rattle.std.proofs.lemmas.List.Elements.{filter-append}
 use Rattle.std.proofs.lemmas.List.Folds.{list_any-append}
 use Rattle.std.proofs.lemmas.List.Filters.{length-filter_both}
-use Rattle.std.specs.List.{list_any}
 use Rattle.farm_base.specs.declared.lease.Lease.{Lease}
 use Rattle.protocol.specs.Names.{Slot, NodeId}
 use Rattle.protocol.specs.Ledger.{is_at}
@@ -44,14 +43,6 @@ filter_both p q (x ∷ xs) = elim (cases_Bool (p x)) [
     | inl f ↦ rw (e, f, e) (filter_both p q xs)
     | inr f ↦ rw (e, f) (filter_both p q xs)
   ]
-]
-
--- a test of what another test keeps
-pub any_kept : {A : Type 0} (keeps test : A → Bool) (xs : List A) → list_any (λ x. keeps x && test x) xs ≡ list_any test (filter keeps xs)
-any_kept keeps test [] = refl
-any_kept keeps test (x ∷ xs) = elim (cases_Bool (keeps x)) [
-  | inl e ↦ rw e (ap (λ (b : Bool). test x || b) (any_kept keeps test xs))
-  | inr e ↦ rw e (any_kept keeps test xs)
 ]
 
 -- ---- no changes

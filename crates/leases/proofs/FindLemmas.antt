@@ -51,11 +51,15 @@ standing-unless : (ended : List Ending) (o : Option Lease) → standing ended o 
 standing-unless ended None = refl
 standing-unless ended (Some g) = refl
 
--- what at most one lease of a table passes, looked up in the table with changes
+-- what at most one of these leases passes, unless it has ended
+pub found_standing : (test : Lease → Bool) (ended : List Ending) (live : List Lease) → PassesOnce test live → standing ended (find test live) ≡ find test (filter (λ g. not (has_ended ended g)) live)
+found_standing test ended live once = standing-unless ended (find test live) ∙ found_kept test (has_ended ended) live once
+
+-- the same, looked up in the table with changes
 pub found_over : (test : Lease → Bool) (ended : List Ending) (live granted : List Lease) → PassesOnce test live
     → option_or (standing ended (find test live)) (find test granted) ≡ find test (filter (λ g. not (has_ended ended g)) live ++ granted)
 found_over test ended live granted once =
-    ap (λ (o : Option Lease). option_or o (find test granted)) (standing-unless ended (find test live) ∙ found_kept test (has_ended ended) live once)
+    ap (λ (o : Option Lease). option_or o (find test granted)) (found_standing test ended live once)
     ∙ sym (find-append test (filter (λ g. not (has_ended ended g)) live) granted)
 
 pub copied_or : (a b : Option (Bor Lease)) → option_copied (option_or a b) ≡ option_or (option_copied a) (option_copied b)

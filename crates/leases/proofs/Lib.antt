@@ -3,10 +3,14 @@ pub mod TableLemmas
 pub mod LowestLaw
 pub mod RetiredLemmas
 pub mod RisingLemmas
+pub mod SavedLemmas
 pub mod PlaceLemmas
 pub mod LifeLemmas
 pub mod NodeLemmas
 pub mod ChangeLemmas
 pub mod FindLemmas
+pub mod OldestLemmas
 pub mod IndexLemmas
+pub mod InstanceLemmas
+pub mod TakenLemmas
 pub mod NewestLemmas

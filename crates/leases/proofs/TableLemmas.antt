@@ -1,6 +1,6 @@
 -- Leases that may be live together: adding one, and removing some.
-use Rattle.std.proofs.Common.{◌≡◌, ◌≢◌, ℕ, zero, suc, ◌+◌, ◌<◌, List, [], ◌∷◌, ◌++◌, Bool, true, false, not, ◌&&◌, eqb, length, get_or, map, filter, Some, None, refl, sym, ◌∙◌, ap, subst, inl, inr, arith}
-use Rattle.std.proofs.lemmas.Bool.{ne_eqb, cases_Bool, eqb-true, not-true, and_parts, or_parts}
+use Rattle.std.proofs.Common.{◌≡◌, ◌≢◌, ℕ, zero, suc, ◌+◌, ◌<◌, ◌≤◌, List, [], ◌∷◌, ◌++◌, Bool, true, false, not, ◌&&◌, eqb, length, get_or, map, filter, Some, None, refl, sym, ◌∙◌, ap, subst, inl, inr, arith}
+use Rattle.std.proofs.lemmas.Bool.{ne_eqb, cases_Bool, cases_eq, eqb-true, not-true, and_parts, or_parts}
 use Rattle.std.specs.Prelude.{All, AllPairs}
 use Rattle.std.specs.List.{list_any, find, position_from, remove, AllByRecursion}
 use Rattle.std.specs.List.Sorted.{IsStrictlySortedBy}
@@ -110,6 +110,40 @@ lowest-free free f i (suc k) h e = instances.lowest-free free f i k e
 
 pub lowest-taken : (free : Slot → Bool) (f : FolderName) (i k j : ℕ) → k ≡ suc j → free (record { folder = f; instance = i }) ≡ false → lowest free f i k ≡ lowest free f (i + 1) j
 lowest-taken free f i k j h e = ap (lowest free f i) h ∙ instances.lowest-taken free f i j e
+
+-- the lowest of the k instances from i on is j where j is free and none before it
+pub lowest-is : (free : Slot → Bool) (f : FolderName) (k i j : ℕ) → i ≤ j → j < i + k → free (record { folder = f; instance = j }) ≡ true → ((n : ℕ) → i ≤ n → n < j → free (record { folder = f; instance = n }) ≡ false) → lowest free f i k ≡ j
+lowest-is free f zero i j low high at before = absurd (omega arith)
+lowest-is free f (suc k) i j low high at before = elim (cases_eq i j) [
+  | inl same ↦ lowest-free free f i (suc k) (omega arith) (ap (λ (n : ℕ). free (record { folder = f; instance = n })) same ∙ at) ∙ same
+  | inr other ↦ lowest-taken free f i (suc k) k refl (before i (omega arith) (omega arith)) ∙ lowest-is free f k (i + 1) j (omega arith) (omega arith) at (λ n from lt. before n (omega arith) lt)
+]
+
+-- there is none where none of them is free
+pub lowest-none_free : (free : Slot → Bool) (f : FolderName) (k i : ℕ) → ((n : ℕ) → i ≤ n → n < i + k → free (record { folder = f; instance = n }) ≡ false) → lowest free f i k ≡ 0
+lowest-none_free free f zero i none = lowest-end free f i 0 refl
+lowest-none_free free f (suc k) i none = lowest-taken free f i (suc k) k refl (none i (omega arith) (omega arith)) ∙ lowest-none_free free f k (i + 1) (λ n from lt. none n (omega arith) (omega arith))
+
+not_false : (b c : Bool) → c ≡ not b → c ≡ false → b ≡ true
+not_false true c is h = refl
+not_false false c is h = (let bad : true ≡ false = sym is ∙ h in absurd (cc bad))
+
+not_taken : (b c : Bool) → c ≡ not b → c ≡ true → b ≡ false
+not_taken true c is h = (let bad : false ≡ true = sym is ∙ h in absurd (cc bad))
+not_taken false c is h = refl
+
+-- the lowest number that a set lacks, of the instances that aren't free and 0
+pub lowest-missing : (free : Slot → Bool) (f : FolderName) (had : ℕ → Bool) (n : ℕ) → ((i : ℕ) → 1 ≤ i → i ≤ 4096 → had i ≡ not (free (record { folder = f; instance = i }))) → had 0 ≡ true
+    → n ≤ 4096 → had n ≡ false → ((i : ℕ) → i < n → i ≤ 4096 → had i ≡ true) → lowest free f 1 4096 ≡ n
+lowest-missing free f had zero taken first to missing below = (let bad : true ≡ false = sym first ∙ missing in absurd (cc bad))
+lowest-missing free f had (suc n) taken first to missing below =
+    lowest-is free f 4096 1 (suc n) (omega arith) (omega arith) (not_false _ (had (suc n)) (taken (suc n) (omega arith) to) missing)
+    (λ i from lt. not_taken _ (had i) (taken i from (omega arith)) (below i lt (omega arith)))
+
+-- it lacks none of them
+pub lowest-all_there : (free : Slot → Bool) (f : FolderName) (had : ℕ → Bool) (n : ℕ) → ((i : ℕ) → 1 ≤ i → i ≤ 4096 → had i ≡ not (free (record { folder = f; instance = i })))
+    → 4096 < n → ((i : ℕ) → i < n → i ≤ 4096 → had i ≡ true) → lowest free f 1 4096 ≡ 0
+lowest-all_there free f had n taken past below = lowest-none_free free f 4096 1 (λ i from lt. not_taken _ (had i) (taken i from (omega arith)) (below i (omega arith) (omega arith)))
 
 -- the lowest free instance is free
 pub lowest_is_free : (free : Slot → Bool) (f : FolderName) (k i : ℕ) → lowest free f i k ≢ 0 → free (record { folder = f; instance = lowest free f i k }) ≡ true

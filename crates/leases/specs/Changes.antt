@@ -1,12 +1,13 @@
 -- The changes of one event over a lease table.
-use Rattle.std.specs.Prelude.{◌≡◌, ℕ, ◌+◌, ◌≤◌, if◌then◌else◌, Bool, not, List, ◌++◌, length, filter, Option, Some, None}
+use Rattle.std.specs.Prelude.{◌≡◌, ℕ, ◌+◌, ◌≤◌, if◌then◌else◌, Bool, not, ◌&&◌, List, [], ◌∷◌, ◌++◌, length, map, filter, Option, Some, None}
 use Rattle.std.specs.List.{list_any}
 use Rattle.farm_base.specs.declared.lease.Lease.{Lease}
 use Rattle.protocol.specs.Names.{Slot, FolderName, Ticket}
-use Rattle.protocol.specs.Ledger.{has_ticket, is_at, is_older}
+use Rattle.protocol.specs.Ledger.{has_slot, has_ticket, is_at, is_older, is_saved}
 use Rattle.leases.specs.declared.ending.Ending.{Ending}
 use Rattle.leases.specs.declared.ending.Ending.TheVariants as ending
 use Rattle.leases.specs.Index.{index_entries}
+use Rattle.leases.specs.Instances.{lease_instances, slot_names}
 use Rattle.leases.specs.Leases.{Table}
 
 -- changes over a lease table, as contracts see them
@@ -28,6 +29,10 @@ ends_lease (ending.LivesBelow n l) g = is_older n l g
 abbrev pub has_ended : List Ending → Lease → Bool
 has_ended ended g = list_any (λ e. ends_lease e g) ended
 
+-- one of these leases that this ends has the slot
+abbrev pub frees : Ending → List Lease → Slot → Bool
+frees e leases s = list_any (λ g. ends_lease e g && has_slot g.slots s) leases
+
 -- the lease, unless it has ended
 abbrev pub standing : List Ending → Option Lease → Option Lease
 standing ended None = None
@@ -37,6 +42,15 @@ standing ended (Some g) = if has_ended ended g then None else Some g
 abbrev pub changed : Table → Change → Table
 changed t c = record { live = filter (λ g. not (has_ended c.ended g)) t.live ++ c.granted; retired = t.retired ++ c.retired }
 
+-- the tickets of the leases that these end, of those that the record has
+abbrev pub saved_tickets : List Ending → List Lease → List Ticket
+saved_tickets ended leases = map (λ g. g.ticket) (filter (λ g. has_ended ended g && is_saved g) leases)
+
+-- the ticket of the lease, if there is one and the record has it
+abbrev pub ticket_of_saved : Option Lease → List Ticket
+ticket_of_saved None = []
+ticket_of_saved (Some g) = if is_saved g then g.ticket ∷ [] else []
+
 -- a lease table with room, as contracts see it
 pub record RoomyTable : Type 0 where
   pub table : Table
@@ -45,16 +59,28 @@ pub record RoomyTable : Type 0 where
   -- how many slots that are never granted again it can hold, likewise
   pub slot_room : ℕ
   -- what its index of folders is to have of the granted leases
-  pub entries : List (FolderName × Ticket)
+  pub tickets : List (FolderName × Ticket)
   -- how many more folders the index can hold
   pub index_room : ℕ
+  -- the instances that the granted leases have
+  pub instances : List (FolderName × ℕ)
+  -- of how many more folders it can note instances
+  pub instance_room : ℕ
   -- of how many more nodes it can note asks
   pub ask_room : ℕ
+  -- the folders and instances of the slots that the changes retire
+  pub retired_names : List (FolderName × ℕ)
+  -- of how many more folders it can note instances that are never granted again
+  pub retired_room : ℕ
 
 -- there is room for what the changes add
 pub record HasRoom (r : RoomyTable) (c : Change) : Type 0 where
   pub leases : length r.table.live + length c.granted ≤ r.lease_room
   pub slots : length r.table.retired + length c.retired ≤ r.slot_room
-  pub entries : r.entries ≡ index_entries c.granted
-  pub folders : length r.entries ≤ r.index_room
+  pub tickets : r.tickets ≡ index_entries c.granted
+  pub folders : length r.tickets ≤ r.index_room
+  pub instances : r.instances ≡ lease_instances c.granted
+  pub taken : length r.instances ≤ r.instance_room
   pub asks : length c.granted ≤ r.ask_room
+  pub retired : r.retired_names ≡ slot_names c.retired
+  pub noted : length r.retired_names ≤ r.retired_room

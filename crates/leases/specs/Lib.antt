@@ -1,6 +1,7 @@
 pub mod Tickets
 pub mod Leases
 pub mod Index
+pub mod Instances
 pub mod Newest
 pub mod Live
 pub mod Lives

@@ -1,8 +1,9 @@
 -- The leases of a table, as it keeps them.
-use Rattle.std.specs.Prelude.{ℕ, List, Option}
+use Rattle.std.specs.Prelude.{if◌then◌else◌, nat_lt, ℕ, Bool, List, Option, Some, None}
 use Rattle.farm_base.specs.declared.lease.Lease.{Lease}
 use Rattle.protocol.specs.Names.{FolderName, Ticket}
 use Rattle.leases.specs.Index.{AreIndexed}
+use Rattle.leases.specs.Instances.{AreTaken}
 use Rattle.leases.specs.Leases.{AreLeases}
 use Rattle.leases.specs.Newest.{AreNoted}
 use Rattle.leases.specs.declared.newest_asks.NewestAsks.{NewestAsks}
@@ -15,11 +16,20 @@ pub record Live : Type 0 where
   pub lease_room : ℕ
   -- how many more folders its index can hold
   pub index_room : ℕ
+  -- of how many more folders it can note instances
+  pub instance_room : ℕ
   -- of how many more nodes it can note asks
   pub ask_room : ℕ
 
--- leases that may be live together, with an index of their folders and the newest of their asks
-pub record AreLive (at : FolderName → Option Ticket) (newest : NewestAsks) (leases : List Lease) : Type 0 where
+-- leases that may be live together, with an index of their folders, their instances and the newest of their asks
+pub record AreLive (at : FolderName → Option Ticket) (taken : FolderName → ℕ → Bool) (newest : NewestAsks) (leases : List Lease) : Type 0 where
   pub sound : AreLeases leases
   pub indexed : AreIndexed at leases
+  pub taken_is : AreTaken taken leases
   pub noted : AreNoted newest leases
+
+-- the one with the lower ticket, of those that are there
+abbrev pub older : Option Lease → Option Lease → Option Lease
+older None o = o
+older (Some g) None = Some g
+older (Some g) (Some h) = if nat_lt h.ticket.0 g.ticket.0 then Some h else Some g

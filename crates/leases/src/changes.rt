@@ -1,18 +1,20 @@
 //! The changes that one event makes, over a lease table that stays as it is until they are applied.
-ghost use Rattle.std.specs.Prelude.{◌≡◌, ◌<◌, not, [], ◌∷◌, ◌++◌, filter, length, All, IfOk, OnOk, OnErr, option_copied};
+ghost use Rattle.std.specs.Prelude.{◌≡◌, ◌<◌, not, [], ◌∷◌, ◌++◌, filter, All, IfOk, OnOk, OnErr, option_copied};
 ghost use Rattle.std.specs.List.{find, list_any};
 ghost use Rattle.std.specs.List.Sorted.{IsStrictlySortedBy};
 ghost use Rattle.farm_base.specs.Slots.{slot_cmp};
 ghost use Rattle.protocol.specs.Names.{leased_wants};
-ghost use Rattle.protocol.specs.Ledger.{lease_of, lease_under, without, is_older, is_at, retire_all};
-ghost use Rattle.leases.specs.Changes.{changed, ends_lease};
+ghost use Rattle.protocol.specs.Ledger.{lease_of, lease_under, without, is_older, is_at, is_saved, retire_all};
+ghost use Rattle.leases.specs.Changes.{changed, ends_lease, saved_tickets};
 ghost use Rattle.leases.specs.Leases.{Table, AreLeases};
 ghost use Rattle.leases.specs.Table.{among, is_leased, fit_of, lease_for, holds_some, retires_some};
 
-use super::ending::{Ending, drop_ending};
+use super::ending::{Ending, drop_ending, only};
 use super::lease_table::{Fit, LeaseTable};
+use super::saved::{saved_copies, saved_tickets, ticket_of_saved};
+use super::slots::rising;
 use super::view::View;
-use farm_base::{Ask, Lease, Life, NodeId, Slot, Ticket, Wants};
+use farm_base::{Ask, Lease, Life, NodeId, Slot, Ticket, Wants, copy_all};
 use std::alloc::{AllocError, Global};
 use std::marker::Model;
 
@@ -233,12 +235,42 @@ impl TableChange {
         self.over(table).to_parts(alloc)
     }
 
-    /// The leases that it adds to a table, and how many slots that are never granted again.
-    pub(crate) fn added(&self) -> (&[Lease], usize)
-        ensures leases { result.0.now ≡ self.now.granted }
-        ensures slots { result.1 ≡ length self.now.retired }
+    /// The tickets of the table's leases that have ended, of those that the record has, rising.
+    pub fn saved_ended(&self, alloc: Global, table: &LeaseTable) -> Result<Vec<Ticket>, AllocError>
+        ensures { IfOk result (λ tickets. tickets.items ≡ saved_tickets self.now.ended table.now.live) }
     {
-        (self.granted.as_slice(), self.retired.len())
+        let ended = self.ended.as_slice();
+        if ended.is_empty() {
+            return Ok(Vec::new(alloc));
+        }
+        match only(ended) {
+            Some(Ending::Ticket(ticket)) => ticket_of_saved(alloc, table.lease(ticket)),
+            _ => saved_tickets(alloc, table.leases(), ended),
+        }
+    }
+
+    /// Copies of the leases that were granted and have not ended, of those that the record has, by rising ticket.
+    pub fn saved_granted(&self, alloc: Global) -> Result<Vec<Lease>, AllocError>
+        ensures { IfOk result (λ leases. leases.items ≡ filter is_saved self.now.granted) }
+    {
+        saved_copies(alloc, self.granted.as_slice())
+    }
+
+    /// Copies of the slots that are not granted again either, rising, each once.
+    pub fn newly_retired(&self, alloc: Global) -> Result<Vec<Slot>, AllocError>
+        ensures rising { IfOk result (λ slots. IsStrictlySortedBy slot_cmp slots.items) }
+        ensures same { IfOk result (λ slots. among slots.items ≡ among self.now.retired) }
+    {
+        let slots = copy_all(alloc, self.retired.as_slice())?;
+        rising(slots)
+    }
+
+    /// The leases that it adds to a table, and the slots that are never granted again.
+    pub(crate) fn added(&self) -> (&[Lease], &[Slot])
+        ensures leases { result.0.now ≡ self.now.granted }
+        ensures slots { result.1.now ≡ self.now.retired }
+    {
+        (self.granted.as_slice(), self.retired.as_slice())
     }
 
     /// Gives its parts, without taking memory.

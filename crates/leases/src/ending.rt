@@ -1,5 +1,5 @@
 //! What ends leases.
-ghost use Rattle.std.specs.Prelude.{◌≡◌, not, filter, option_copied};
+ghost use Rattle.std.specs.Prelude.{◌≡◌, ◌∷◌, [], not, filter, option_copied, IfSome};
 ghost use Rattle.std.specs.Vec.{vec_capacity};
 ghost use Rattle.leases.specs.Changes.{ends_lease, has_ended, standing};
 
@@ -34,6 +34,16 @@ pub(crate) fn has_ended(ended: &[Ending], lease: &Lease) -> bool
     ensures { result ≡ has_ended ended.now lease.now }
 {
     ended.iter().any(|ending| ending.ends(lease))
+}
+
+/// The one ending, if there is only one.
+pub(crate) fn only(ended: &[Ending]) -> Option<Ending>
+    ensures { IfSome result (λ ending. ended.now ≡ ending ∷ []) }
+{
+    if ended.len() != 1 {
+        return None;
+    }
+    ended.first().copied()
 }
 
 /// The lease, unless it has ended.

@@ -12,6 +12,7 @@ ghost use Rattle.leases.specs.Table.{among, is_leased, fit_of, lease_for, state_
 use super::ending::Ending;
 use super::held::{among, has_slot};
 use super::live_leases::LiveLeases;
+use super::retired_slots::RetiredSlots;
 use super::view::View;
 use farm_base::{Ask, Lease, Life, NodeId, Slot, Ticket, Wants};
 use std::alloc::{AllocError, Global};
@@ -40,7 +41,7 @@ pub enum SlotState {
 #[derive(Debug, Drop)]
 pub struct LeaseTable {
     live: LiveLeases,
-    retired: Vec<Slot>,
+    retired: RetiredSlots,
 }
 
 impl Model for LeaseTable {
@@ -48,7 +49,7 @@ impl Model for LeaseTable {
 
     ghost Value = { Table };
 
-    ghost view = { λ t. record { live = t.live.leases; retired = t.retired.items } };
+    ghost view = { λ t. record { live = t.live.leases; retired = t.retired.slots } };
 }
 
 impl LeaseTable {
@@ -59,7 +60,7 @@ impl LeaseTable {
     {
         LeaseTable {
             live: LiveLeases::new(alloc),
-            retired: Vec::new(alloc),
+            retired: RetiredSlots::new(alloc),
         }
     }
 
@@ -73,7 +74,7 @@ impl LeaseTable {
         ensures { result ≡ changed self.now (record { ended = ended.now; granted = granted.now; retired = newly_retired.now }) }
     {
         let live = &self.live;
-        let retired = self.retired.as_slice();
+        let retired = &self.retired;
         View {
             live,
             ended,
@@ -223,8 +224,8 @@ impl LeaseTable {
         ensures retired { OnOk result (among self.new.retired ≡ retires_some (lease_under self.old.live ticket) (among self.old.retired)) }
         ensures err { OnErr result (self.new ≡ self.old) }
     {
-        let mut retired = self.unchanged().private_under(alloc, ticket)?;
-        self.retired.append(&mut retired)?;
+        let retired = self.unchanged().private_under(alloc, ticket)?;
+        self.retired.add(alloc, retired)?;
         Ok(self.live.end(ticket))
     }
 
@@ -234,8 +235,8 @@ impl LeaseTable {
         ensures retired { OnOk result (among self.new.retired ≡ retire_all (filter (is_at node) self.old.live) (among self.old.retired)) }
         ensures err { OnErr result (self.new ≡ self.old) }
     {
-        let mut retired = self.unchanged().private_at(alloc, node)?;
-        self.retired.append(&mut retired)?;
+        let retired = self.unchanged().private_at(alloc, node)?;
+        self.retired.add(alloc, retired)?;
         self.live.end_all(&Ending::Node(node));
         Ok(())
     }
@@ -299,21 +300,22 @@ impl LeaseTable {
         ensures { IfOk result (λ table. table ≡ record { live = leases.items; retired = retired.items }) }
     {
         let live = LiveLeases::of(alloc, leases)?;
+        let retired = RetiredSlots::of(alloc, retired)?;
         Ok(LeaseTable { live, retired })
     }
 
     /// The table of these.
-    pub(crate) fn of(live: LiveLeases, retired: Vec<Slot>) -> Self
+    pub(crate) fn of(live: LiveLeases, retired: RetiredSlots) -> Self
         ensures live { result.live ≡ live.leases }
-        ensures retired { result.retired ≡ retired.items }
+        ensures retired { result.retired ≡ retired.slots }
     {
         LeaseTable { live, retired }
     }
 
     /// Gives the leases and the slots that are never granted again back.
-    pub(crate) fn into_live(self) -> (LiveLeases, Vec<Slot>)
+    pub(crate) fn into_live(self) -> (LiveLeases, RetiredSlots)
         ensures leases { result.0.leases ≡ self.live }
-        ensures retired { result.1.items ≡ self.retired }
+        ensures retired { result.1.slots ≡ self.retired }
     {
         let LeaseTable { live, retired } = self;
         (live, retired)

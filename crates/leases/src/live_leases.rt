@@ -1,18 +1,26 @@
 //! The leases of a table, and the ways to find one of them.
-ghost use Rattle.std.specs.Prelude.{◌≡◌, ◌+◌, ◌≤◌, not, [], ◌∷◌, ◌++◌, filter, length, false, All, AllPairs, IfOk, OnOk, OnErr, option_copied, vec_len};
+ghost use Rattle.std.specs.Prelude.{◌≡◌, ℕ, ◌+◌, ◌≤◌, not, [], ◌∷◌, ◌++◌, filter, length, false, All, AllPairs, IfOk, OnOk, OnErr, option_copied, vec_len};
 ghost use Rattle.std.specs.Bool.{OnFalse};
 ghost use Rattle.std.specs.List.{find, position_from};
+ghost use Rattle.farm_base.specs.declared.limits.TheConstants.{INSTANCES};
 ghost use Rattle.protocol.specs.Names.{only_slot};
-ghost use Rattle.protocol.specs.Ledger.{has_slot, has_ticket, is_of, lease_under, without};
-ghost use Rattle.leases.specs.Changes.{ends_lease, has_ended};
+ghost use Rattle.protocol.specs.Ledger.{has_slot, has_ticket, is_of, lease_under, some_lease, without};
+ghost use Rattle.leases.specs.Changes.{ends_lease, frees, has_ended};
 ghost use Rattle.leases.specs.Index.{index_entries};
+ghost use Rattle.leases.specs.Instances.{has, lease_instances};
 ghost use Rattle.leases.specs.Leases.{AreLeases, IsBefore};
+ghost use Rattle.leases.specs.Live.{older};
+ghost use Rattle.leases.specs.Marks.{Unmarks};
+ghost use Rattle.leases.specs.Table.{holds_some, takes};
 
-use super::ending::{Ending, drop_ending};
+use super::ending::{Ending, drop_ending, standing};
 use super::folder_index::{entries_of, forget, forget_ending, index_of, put_all};
-use super::held::has_only;
+use super::held::{has_only, takes};
+use super::instances::Instances;
+use super::marks::{unmark_ending, unmark_lease};
 use super::newest_asks::{NewestAsks, note_all};
-use farm_base::{Ask, FolderName, Lease, Life, NodeId, Ticket};
+use super::taken_instances::{TakenInstances, instances_of, taken_of};
+use farm_base::{Ask, FolderName, Lease, Life, NodeId, Ticket, Want};
 use indexmap::IndexMap;
 use std::alloc::{AllocError, Global};
 use std::marker::Model;
@@ -23,22 +31,34 @@ pub(crate) struct LiveLeases {
     leases: Vec<Lease>,
     /// The ticket of the lease that has a folder's one slot, and none or an old one where no lease has it.
     by_folder: IndexMap<FolderName, Ticket>,
+    /// The instances from 1 on that leases have, by folder.
+    taken: TakenInstances,
     /// The newest ask of each node that had a lease.
     newest: NewestAsks,
+}
+
+/// What the indexes are to have of more leases.
+#[derive(Debug, Drop)]
+pub(crate) struct Entries {
+    /// A ticket at each folder whose one slot a lease has.
+    pub(crate) tickets: Vec<(FolderName, Ticket)>,
+    /// The instances from 1 on that leases have.
+    pub(crate) instances: Vec<(FolderName, u32)>,
 }
 
 impl Model for LiveLeases {
     ghost use Rattle.std.specs.Vec.{vec_capacity};
     ghost use Rattle.indexmap.specs.IndexMap.{spare};
     ghost use Rattle.leases.specs.Index.{ticket_at};
+    ghost use Rattle.leases.specs.Instances.{is_taken, folder_room};
     ghost use Rattle.leases.specs.Live.{Live, AreLive};
     ghost use Rattle.leases.specs.Newest.{node_room};
 
     ghost Value = { Live };
 
-    ghost view = { λ l. record { leases = l.leases.items; lease_room = vec_capacity l.leases; index_room = spare l.by_folder; ask_room = node_room l.newest } };
+    ghost view = { λ l. record { leases = l.leases.items; lease_room = vec_capacity l.leases; index_room = spare l.by_folder; instance_room = folder_room l.taken; ask_room = node_room l.newest } };
 
-    ghost invariant = { λ l. AreLive (ticket_at l.by_folder) l.newest l.leases.items };
+    ghost invariant = { λ l. AreLive (ticket_at l.by_folder) (is_taken l.taken) l.newest l.leases.items };
 }
 
 impl LiveLeases {
@@ -49,6 +69,7 @@ impl LiveLeases {
         LiveLeases {
             leases: Vec::new(alloc),
             by_folder: IndexMap::new(alloc),
+            taken: TakenInstances::new(alloc),
             newest: NewestAsks::new(alloc),
         }
     }
@@ -59,12 +80,14 @@ impl LiveLeases {
         ensures { IfOk result (λ live. live.leases ≡ leases.items) }
     {
         let by_folder = index_of(alloc, leases.as_slice())?;
+        let taken = taken_of(alloc, leases.as_slice())?;
         let mut newest = NewestAsks::new(alloc);
         newest.reserve(leases.len())?;
         note_all(&mut newest, leases.as_slice());
         Ok(LiveLeases {
             leases,
             by_folder,
+            taken,
             newest,
         })
     }
@@ -102,6 +125,60 @@ impl LiveLeases {
         }
     }
 
+    /// The lease that has the one slot of a folder, unless one of these ends it.
+    pub(crate) fn holding_beside(&self, folder: &FolderName, ended: &[Ending]) -> Option<&Lease>
+        ensures value { option_copied result ≡ find (λ g. has_slot g.slots (only_slot folder.now)) (filter (λ g. not (has_ended ended.now g)) self.now.leases) }
+        ensures sound { AreLeases self.now.leases }
+    {
+        standing(self.holding(folder), ended)
+    }
+
+    /// The oldest lease that none of these ends and that has the one slot of a folder for which an ask with these
+    /// wants takes a slot.
+    pub(crate) fn oldest_beside(
+        &self,
+        wants: &[Want],
+        tenure: bool,
+        ended: &[Ending],
+    ) -> Option<&Lease>
+        ensures { option_copied result ≡ find (holds_some (filter (takes tenure) wants.now)) (filter (λ g. not (has_ended ended.now g)) self.now.leases) }
+    {
+        let mut oldest = None;
+        for want in wants {
+            if takes(want, tenure) {
+                oldest = older(oldest, self.holding_beside(&want.folder, ended));
+            }
+        }
+        oldest
+    }
+
+    /// The instances of a folder that leases have which none of these ends.
+    pub(crate) fn taken_beside(&self, folder: &FolderName, ended: &[Ending]) -> Instances
+        ensures { (i : ℕ) → 1 ≤ i → i ≤ INSTANCES → has result i ≡ some_lease (filter (λ g. not (has_ended ended.now g)) self.now.leases) (record { folder = folder.now; instance = i }) }
+    {
+        let mut taken = self.taken.of(folder);
+        for ending in ended {
+            self.unmark_ended(&mut taken, folder, ending);
+        }
+        taken
+    }
+
+    /// Takes the instances of a folder out that leases have which this ends.
+    fn unmark_ended(&self, taken: &mut Instances, folder: &FolderName, ending: &Ending)
+        ensures { Unmarks taken.old taken.new folder.now (λ s. frees ending.now self.now.leases s) }
+    {
+        match *ending {
+            Ending::Ticket(ticket) => {
+                if let Some(lease) = self.under(ticket) {
+                    unmark_lease(taken, folder, lease.slots.as_slice());
+                }
+            }
+            Ending::Node(_) | Ending::LivesBelow(_, _) => {
+                unmark_ending(taken, folder, self.leases.as_slice(), ending);
+            }
+        }
+    }
+
     /// Whether an ask may have a lease. One that is newer than each of its node that had one has none.
     pub(crate) fn may_have(&self, node: NodeId, life: Life, ask: Ask) -> bool
         ensures { OnFalse result (All (λ g. is_of node life ask g ≡ false) self.now.leases) }
@@ -122,39 +199,43 @@ impl LiveLeases {
         Ok(())
     }
 
-    /// Makes room for more leases, and what the index is to have of them.
-    pub(crate) fn room_for(
-        &mut self,
-        alloc: Global,
-        more: &[Lease],
-    ) -> Result<Vec<(FolderName, Ticket)>, AllocError>
+    /// Makes room for more leases, and what the indexes are to have of them.
+    pub(crate) fn room_for(&mut self, alloc: Global, more: &[Lease]) -> Result<Entries, AllocError>
         ensures leases { self.new.leases ≡ self.old.leases }
         ensures room { OnOk result (length self.new.leases + length more.now ≤ self.new.lease_room) }
-        ensures entries { IfOk result (λ entries. entries.items ≡ index_entries more.now) }
-        ensures folders { IfOk result (λ entries. vec_len entries ≤ self.new.index_room) }
+        ensures tickets { IfOk result (λ entries. entries.tickets.items ≡ index_entries more.now) }
+        ensures folders { IfOk result (λ entries. vec_len entries.tickets ≤ self.new.index_room) }
+        ensures instances { IfOk result (λ entries. entries.instances.items ≡ lease_instances more.now) }
+        ensures taken { IfOk result (λ entries. vec_len entries.instances ≤ self.new.instance_room) }
         ensures asks { OnOk result (length more.now ≤ self.new.ask_room) }
         ensures sound { OnOk result (AreLeases self.new.leases) }
     {
-        let entries = entries_of(alloc, more)?;
+        let tickets = entries_of(alloc, more)?;
+        let instances = instances_of(alloc, more)?;
         self.leases.reserve(more.len())?;
-        self.by_folder.reserve(entries.len())?;
+        self.by_folder.reserve(tickets.len())?;
+        self.taken.reserve(instances.len())?;
         self.newest.reserve(more.len())?;
-        Ok(entries)
+        Ok(Entries { tickets, instances })
     }
 
-    /// Adds leases, for which there is room, with what the index is to have of them.
-    pub(crate) fn add_all(&mut self, leases: Vec<Lease>, entries: Vec<(FolderName, Ticket)>)
+    /// Adds leases, for which there is room, with what the indexes are to have of them.
+    pub(crate) fn add_all(&mut self, leases: Vec<Lease>, entries: Entries)
         requires room { length self.old.leases + length leases.items ≤ self.old.lease_room }
-        requires entries { entries.items ≡ index_entries leases.items }
-        requires folders { vec_len entries ≤ self.old.index_room }
+        requires tickets { entries.tickets.items ≡ index_entries leases.items }
+        requires folders { vec_len entries.tickets ≤ self.old.index_room }
+        requires instances { entries.instances.items ≡ lease_instances leases.items }
+        requires taken { vec_len entries.instances ≤ self.old.instance_room }
         requires asks { length leases.items ≤ self.old.ask_room }
         requires sound { AreLeases (self.old.leases ++ leases.items) }
         ensures { self.new.leases ≡ self.old.leases ++ leases.items }
     {
+        let Entries { tickets, instances } = entries;
         let mut leases = leases;
         note_all(&mut self.newest, leases.as_slice());
         self.leases.append(&mut leases).unwrap();
-        put_all(&mut self.by_folder, entries);
+        put_all(&mut self.by_folder, tickets);
+        self.taken.add_all(instances);
     }
 
     /// Takes out the lease of a ticket.
@@ -163,6 +244,7 @@ impl LiveLeases {
         ensures rest { self.new.leases ≡ without ticket self.old.leases }
         ensures room { self.new.lease_room ≡ self.old.lease_room }
         ensures folders { self.old.index_room ≤ self.new.index_room }
+        ensures taken { self.old.instance_room ≤ self.new.instance_room }
         ensures asks { self.new.ask_room ≡ self.old.ask_room }
     {
         match place_of(self.leases.as_slice(), ticket) {
@@ -170,6 +252,7 @@ impl LiveLeases {
             Some(place) => {
                 let lease = self.leases.remove(place);
                 forget(&mut self.by_folder, &lease);
+                self.taken.remove_lease(&lease);
                 Some(lease)
             }
         }
@@ -180,6 +263,7 @@ impl LiveLeases {
         ensures rest { self.new.leases ≡ filter (λ g. not (ends_lease ending.now g)) self.old.leases }
         ensures room { self.new.lease_room ≡ self.old.lease_room }
         ensures folders { self.old.index_room ≤ self.new.index_room }
+        ensures taken { self.old.instance_room ≤ self.new.instance_room }
         ensures asks { self.new.ask_room ≡ self.old.ask_room }
     {
         match *ending {
@@ -188,6 +272,7 @@ impl LiveLeases {
             }
             Ending::Node(_) | Ending::LivesBelow(_, _) => {
                 forget_ending(&mut self.by_folder, self.leases.as_slice(), ending);
+                self.taken.remove_ending(self.leases.as_slice(), ending);
                 drop_ending(&mut self.leases, *ending);
             }
         }
@@ -198,6 +283,7 @@ impl LiveLeases {
         ensures rest { self.new.leases ≡ filter (λ g. not (has_ended ended.now g)) self.old.leases }
         ensures room { self.new.lease_room ≡ self.old.lease_room }
         ensures folders { self.old.index_room ≤ self.new.index_room }
+        ensures taken { self.old.instance_room ≤ self.new.instance_room }
         ensures asks { self.new.ask_room ≡ self.old.ask_room }
     {
         for ending in ended {
@@ -206,8 +292,25 @@ impl LiveLeases {
     }
 }
 
+/// The one with the lower ticket, of those that are there.
+fn older<'t>(one: Option<&'t Lease>, other: Option<&'t Lease>) -> Option<&'t Lease>
+    ensures { option_copied result ≡ older (option_copied one.entry) (option_copied other.entry) }
+{
+    match (one, other) {
+        (None, other) => other,
+        (Some(one), None) => Some(one),
+        (Some(one), Some(other)) => {
+            if other.ticket < one.ticket {
+                Some(other)
+            } else {
+                Some(one)
+            }
+        }
+    }
+}
+
 /// The place of the lease of a ticket.
-fn place_of(leases: &[Lease], ticket: Ticket) -> Option<usize>
+pub fn place_of(leases: &[Lease], ticket: Ticket) -> Option<usize>
     requires { AllPairs IsBefore leases.now }
     ensures { result ≡ position_from (has_ticket ticket) 0 leases.now }
 {

@@ -1,26 +1,25 @@
-//! Which instances of a folder are among some slots, in one pass.
-ghost use Rattle.std.specs.Prelude.{◌≡◌, ℕ, ◌<◌, ◌&&◌, ◌||◌, not, length, filter, false, slice_index_or};
+//! Sets of a folder's instances, from the slots of leases.
 ghost use Rattle.protocol.specs.Names.{slot_eq};
 ghost use Rattle.protocol.specs.Ledger.{has_slot, some_lease};
-ghost use Rattle.leases.specs.Changes.{has_ended};
-ghost use Rattle.leases.specs.Marks.{Marks};
+ghost use Rattle.leases.specs.Changes.{frees};
+ghost use Rattle.leases.specs.Marks.{Marks, Unmarks};
 ghost use Rattle.leases.specs.Table.{among};
 
-use super::ending::{Ending, has_ended};
+use super::ending::Ending;
+use super::instances::Instances;
 use farm_base::{FolderName, Lease, Slot};
 
-/// Marks the instance of a slot, if the slot is of the folder.
-fn mark(marks: &mut [bool], folder: &FolderName, slot: &Slot)
+/// Adds the instance of a slot, if the slot is of the folder.
+fn mark(marks: &mut Instances, folder: &FolderName, slot: &Slot)
     ensures { Marks marks.old marks.new folder.now (λ s. slot_eq slot.now s) }
 {
-    let instance = slot.instance() as usize;
-    if slot.folder() == folder && instance < marks.len() {
-        marks[instance] = true;
+    if slot.folder() == folder {
+        marks.insert(slot.instance());
     }
 }
 
-/// Marks the instances of a folder that a lease holds.
-fn mark_lease(marks: &mut [bool], folder: &FolderName, slots: &[(Slot, bool)])
+/// Adds the instances of a folder that a lease has.
+fn mark_lease(marks: &mut Instances, folder: &FolderName, slots: &[(Slot, bool)])
     ensures { Marks marks.old marks.new folder.now (λ s. has_slot slots.now s) }
 {
     for held in slots {
@@ -28,8 +27,8 @@ fn mark_lease(marks: &mut [bool], folder: &FolderName, slots: &[(Slot, bool)])
     }
 }
 
-/// Marks the instances of a folder that any of these leases holds.
-pub(crate) fn mark_leased(marks: &mut [bool], folder: &FolderName, leases: &[Lease])
+/// Adds the instances of a folder that any of these leases has.
+pub(crate) fn mark_leased(marks: &mut Instances, folder: &FolderName, leases: &[Lease])
     ensures { Marks marks.old marks.new folder.now (λ s. some_lease leases.now s) }
 {
     for lease in leases {
@@ -37,34 +36,45 @@ pub(crate) fn mark_leased(marks: &mut [bool], folder: &FolderName, leases: &[Lea
     }
 }
 
-/// Marks the instances of a folder that a lease holds, unless it has ended.
-fn mark_standing(marks: &mut [bool], folder: &FolderName, lease: &Lease, ended: &[Ending])
-    ensures { Marks marks.old marks.new folder.now (λ s. not (has_ended ended.now lease.now) && has_slot lease.now.slots s) }
-{
-    if !has_ended(ended, lease) {
-        mark_lease(marks, folder, lease.slots.as_slice());
-    }
-}
-
-/// Marks the instances of a folder that any of these leases holds that has not ended.
-pub(crate) fn mark_all_standing(
-    marks: &mut [bool],
-    folder: &FolderName,
-    leases: &[Lease],
-    ended: &[Ending],
-)
-    ensures { Marks marks.old marks.new folder.now (λ s. some_lease (filter (λ g. not (has_ended ended.now g)) leases.now) s) }
-{
-    for lease in leases {
-        mark_standing(marks, folder, lease, ended);
-    }
-}
-
-/// Marks the instances of a folder that are among these slots.
-pub(crate) fn mark_all(marks: &mut [bool], folder: &FolderName, slots: &[Slot])
+/// Adds the instances of a folder that are among these slots.
+pub(crate) fn mark_all(marks: &mut Instances, folder: &FolderName, slots: &[Slot])
     ensures { Marks marks.old marks.new folder.now (λ s. among slots.now s) }
 {
     for slot in slots {
         mark(marks, folder, slot);
+    }
+}
+
+/// Takes the instance of a slot out, if the slot is of the folder.
+fn unmark(marks: &mut Instances, folder: &FolderName, slot: &Slot)
+    ensures { Unmarks marks.old marks.new folder.now (λ s. slot_eq slot.now s) }
+{
+    if slot.folder() == folder {
+        marks.remove(slot.instance());
+    }
+}
+
+/// Takes the instances of a folder out that a lease has.
+pub(crate) fn unmark_lease(marks: &mut Instances, folder: &FolderName, slots: &[(Slot, bool)])
+    ensures { Unmarks marks.old marks.new folder.now (λ s. has_slot slots.now s) }
+{
+    for held in slots {
+        unmark(marks, folder, &held.0);
+    }
+}
+
+/// Takes the instances of a folder out that the leases have which this ends.
+pub(crate) fn unmark_ending(
+    marks: &mut Instances,
+    folder: &FolderName,
+    leases: &[Lease],
+    ending: &Ending,
+)
+    ensures { Unmarks marks.old marks.new folder.now (λ s. frees ending.now leases.now s) }
+{
+    for lease in leases {
+        if ending.ends(lease) {
+            unmark_lease(marks, folder, lease.slots.as_slice());
+        }
     }
 }

@@ -1,14 +1,15 @@
 //! Applying changes to a lease table, in room that was made for them.
-ghost use Rattle.std.specs.Prelude.{◌≡◌, ◌+◌, ◌≤◌, ◌++◌, length, vec_len, IfOk, IfErr, OnOk};
-ghost use Rattle.std.specs.Vec.{vec_capacity};
+ghost use Rattle.std.specs.Prelude.{◌≡◌, ◌+◌, ◌≤◌, length, vec_len, IfOk, IfErr, OnOk};
 ghost use Rattle.leases.specs.Changes.{changed, HasRoom};
 ghost use Rattle.leases.specs.Index.{index_entries};
+ghost use Rattle.leases.specs.Instances.{lease_instances, slot_names};
 ghost use Rattle.leases.specs.Leases.{AreLeases};
 
 use super::changes::TableChange;
 use super::lease_table::LeaseTable;
-use super::live_leases::LiveLeases;
-use farm_base::{FolderName, Lease, Slot, Ticket};
+use super::live_leases::{Entries, LiveLeases};
+use super::retired_slots::RetiredSlots;
+use farm_base::{FolderName, Lease, Slot};
 use std::alloc::{AllocError, Global};
 use std::marker::Model;
 
@@ -16,18 +17,19 @@ use std::marker::Model;
 #[derive(Debug, Drop)]
 pub struct TableWithRoom {
     live: LiveLeases,
-    retired: Vec<Slot>,
-    /// What the index of folders is to have of the leases that the changes add.
-    entries: Vec<(FolderName, Ticket)>,
+    retired: RetiredSlots,
+    /// What the indexes are to have of the leases that the changes add.
+    entries: Entries,
+    /// The folders and instances of the slots that the changes retire.
+    names: Vec<(FolderName, u32)>,
 }
 
 impl Model for TableWithRoom {
-    ghost use Rattle.std.specs.Vec.{vec_capacity};
     ghost use Rattle.leases.specs.Changes.{RoomyTable};
 
     ghost Value = { RoomyTable };
 
-    ghost view = { λ r. record { table = record { live = r.live.leases; retired = r.retired.items }; lease_room = r.live.lease_room; slot_room = vec_capacity r.retired; entries = r.entries.items; index_room = r.live.index_room; ask_room = r.live.ask_room } };
+    ghost view = { λ r. record { table = record { live = r.live.leases; retired = r.retired.slots }; lease_room = r.live.lease_room; slot_room = r.retired.slot_room; tickets = r.entries.tickets.items; index_room = r.live.index_room; instances = r.entries.instances.items; instance_room = r.live.instance_room; ask_room = r.live.ask_room; retired_names = r.names.items; retired_room = r.retired.folder_room } };
 }
 
 impl LeaseTable {
@@ -40,10 +42,11 @@ impl LeaseTable {
         let (mut live, mut retired) = self.into_live();
         let (granted, more_slots) = change.added();
         match make_room(alloc, &mut live, &mut retired, granted, more_slots) {
-            Ok(entries) => Ok(TableWithRoom {
+            Ok((entries, names)) => Ok(TableWithRoom {
                 live,
                 retired,
                 entries,
+                names,
             }),
             Err(_) => Err(LeaseTable::of(live, retired)),
         }
@@ -61,12 +64,15 @@ impl TableWithRoom {
             live,
             retired,
             entries,
+            names,
         } = self;
         let (ended, granted, slots) = change.into_parts();
         let mut live = live;
+        let mut retired = retired;
         live.end_each(ended.as_slice());
         live.add_all(granted, entries);
-        LeaseTable::of(live, joined(retired, slots))
+        retired.add_all(slots, names);
+        LeaseTable::of(live, retired)
     }
 
     /// The table as it is.
@@ -77,39 +83,33 @@ impl TableWithRoom {
             live,
             retired,
             entries: _entries,
+            names: _names,
         } = self;
         LeaseTable::of(live, retired)
     }
 }
 
-/// Makes room for more leases and slots, and what the index of folders is to have of the leases.
+/// Makes room for more leases and slots, and what the indexes are to have of the leases.
 fn make_room(
     alloc: Global,
     live: &mut LiveLeases,
-    retired: &mut Vec<Slot>,
+    retired: &mut RetiredSlots,
     more: &[Lease],
-    more_slots: usize,
-) -> Result<Vec<(FolderName, Ticket)>, AllocError>
+    more_slots: &[Slot],
+) -> Result<(Entries, Vec<(FolderName, u32)>), AllocError>
     ensures leases { live.new.leases ≡ live.old.leases }
-    ensures retired { retired.new.items ≡ retired.old.items }
+    ensures retired { retired.new.slots ≡ retired.old.slots }
     ensures lease_room { OnOk result (length live.new.leases + length more.now ≤ live.new.lease_room) }
-    ensures slot_room { OnOk result (vec_len retired.new + more_slots ≤ vec_capacity retired.new) }
-    ensures entries { IfOk result (λ entries. entries.items ≡ index_entries more.now) }
-    ensures index_room { IfOk result (λ entries. vec_len entries ≤ live.new.index_room) }
+    ensures slot_room { OnOk result (length retired.new.slots + length more_slots.now ≤ retired.new.slot_room) }
+    ensures tickets { IfOk result (λ made. made.0.tickets.items ≡ index_entries more.now) }
+    ensures index_room { IfOk result (λ made. vec_len made.0.tickets ≤ live.new.index_room) }
+    ensures instances { IfOk result (λ made. made.0.instances.items ≡ lease_instances more.now) }
+    ensures instance_room { IfOk result (λ made. vec_len made.0.instances ≤ live.new.instance_room) }
+    ensures names { IfOk result (λ made. made.1.items ≡ slot_names more_slots.now) }
+    ensures retired_room { IfOk result (λ made. vec_len made.1 ≤ retired.new.folder_room) }
     ensures ask_room { OnOk result (length more.now ≤ live.new.ask_room) }
 {
     let entries = live.room_for(alloc, more)?;
-    retired.reserve(more_slots)?;
-    Ok(entries)
-}
-
-/// The items of both, in the first, which has room for them.
-fn joined<T: Drop>(items: Vec<T>, more: Vec<T>) -> Vec<T>
-    requires { vec_len items + vec_len more ≤ vec_capacity items }
-    ensures { result.items ≡ items.items ++ more.items }
-{
-    let mut all = items;
-    let mut more = more;
-    all.append(&mut more).unwrap();
-    all
+    let names = retired.room_for(alloc, more_slots)?;
+    Ok((entries, names))
 }

@@ -73,7 +73,7 @@ pub(crate) fn add_copies<T: Copied + Drop>(
 }
 
 /// These slots, each once, rising.
-pub(crate) fn rising(slots: Vec<Slot>) -> Result<Vec<Slot>, AllocError>
+pub fn rising(slots: Vec<Slot>) -> Result<Vec<Slot>, AllocError>
     ensures rising { IfOk result (λ v. IsStrictlySortedBy slot_cmp v.items) }
     ensures same { IfOk result (λ v. among v.items ≡ among slots.items) }
 {

@@ -7,14 +7,16 @@ ghost use Rattle.farm_base.specs.declared.limits.TheConstants.{INSTANCES};
 ghost use Rattle.farm_base.specs.Wanted.{IsWants};
 ghost use Rattle.protocol.specs.Names.{leased_wants, is_private, only_slot};
 ghost use Rattle.protocol.specs.Ledger.{has_slot, lowest, slot_for, all_taken, busy, lease_of, lease_under, is_older, is_at};
-ghost use Rattle.leases.specs.Marks.{Marks};
+ghost use Rattle.leases.specs.Instances.{has};
 ghost use Rattle.leases.specs.Table.{among, is_leased, is_free, fit_of, lease_for, slots_of, takes, holds_some, private_of, all_private};
 
 use super::ending::{Ending, has_ended, standing};
 use super::held::{any_shared, has_only, has_slot, holds_some, is_private, takes};
+use super::instances::Instances;
 use super::lease_table::Fit;
 use super::live_leases::LiveLeases;
-use super::marks::{mark_all, mark_all_standing, mark_leased};
+use super::marks::{mark_all, mark_leased};
+use super::retired_slots::RetiredSlots;
 use super::slots::{add_copies, copy_standing, private_slots, private_slots_of, rising};
 use farm_base::{
     Ask, Copied, FolderName, INSTANCES, Items, Lease, Life, Mode, NodeId, Slot, Ticket, Want,
@@ -33,7 +35,7 @@ pub(crate) struct View<'t> {
     /// The leases that were granted since.
     pub(crate) granted: &'t [Lease],
     /// The PRIVATE slots that the table never grants again.
-    pub(crate) retired: &'t [Slot],
+    pub(crate) retired: &'t RetiredSlots,
     /// Those that the changes add.
     pub(crate) newly_retired: &'t [Slot],
 }
@@ -44,21 +46,19 @@ impl<'t> Model for View<'t> {
 
     ghost Value = { Table };
 
-    ghost view = { λ v. changed (record { live = v.live.now.leases; retired = v.retired.now }) (record { ended = v.ended.now; granted = v.granted.now; retired = v.newly_retired.now }) };
+    ghost view = { λ v. changed (record { live = v.live.now.leases; retired = v.retired.now.slots }) (record { ended = v.ended.now; granted = v.granted.now; retired = v.newly_retired.now }) };
 }
 
-/// The number of marks for a folder's instances.
-const PLACES: usize = 4097;
-
 impl<'t> View<'t> {
-    /// Marks the instances of a folder that are not free.
-    fn mark_taken(&self, marks: &mut [bool], folder: &FolderName)
-        ensures { Marks marks.old marks.new folder.now (λ s. not (is_free self.now s)) }
+    /// The instances of a folder that are not free.
+    fn taken(&self, folder: &FolderName) -> Instances
+        ensures { (i : ℕ) → 1 ≤ i → i ≤ INSTANCES → has result i ≡ not (is_free self.now (record { folder = folder.now; instance = i })) }
     {
-        mark_all_standing(marks, folder, self.live.as_slice(), self.ended);
-        mark_leased(marks, folder, self.granted);
-        mark_all(marks, folder, self.retired);
-        mark_all(marks, folder, self.newly_retired);
+        let mut taken = self.live.taken_beside(folder, self.ended);
+        mark_leased(&mut taken, folder, self.granted);
+        taken.add_all(&self.retired.instances_of(folder));
+        mark_all(&mut taken, folder, self.newly_retired);
+        taken
     }
 
     /// The lowest free instance of a PRIVATE folder, or 0 if there is none.
@@ -66,14 +66,10 @@ impl<'t> View<'t> {
         ensures value { result ≡ lowest (is_free self.now) folder.now 1 INSTANCES }
         ensures range { result ≤ INSTANCES }
     {
-        let mut marks = [false; PLACES];
-        self.mark_taken(&mut marks, folder);
-        for instance in 1..INSTANCES + 1 {
-            if !marks[instance as usize] {
-                return instance;
-            }
-        }
-        0
+        let mut taken = self.taken(folder);
+        taken.insert(0);
+        let lowest = taken.lowest_missing();
+        if lowest <= INSTANCES { lowest } else { 0 }
     }
 
     /// Whether a PRIVATE folder of these wants has no instance left.
@@ -97,7 +93,7 @@ impl<'t> View<'t> {
     fn holding(&self, folder: &FolderName) -> Option<&'t Lease>
         ensures { option_copied result ≡ find (λ g. has_slot g.slots (only_slot folder.now)) self.now.live }
     {
-        standing(self.live.holding(folder), self.ended).or(
+        self.live.holding_beside(folder, self.ended).or(
             self.granted
                 .iter()
                 .find(|lease| has_only(lease.slots.as_slice(), folder)),
@@ -181,12 +177,11 @@ impl<'t> View<'t> {
     fn first_with(&self, wants: &[Want], tenure: bool) -> Option<&'t Lease>
         ensures { option_copied result ≡ find (holds_some (filter (takes tenure) wants.now)) self.now.live }
     {
-        self.live
-            .as_slice()
-            .iter()
-            .filter(|lease| !has_ended(self.ended, lease))
-            .chain(self.granted.iter())
-            .find(|lease| holds_some(lease.slots.as_slice(), wants, tenure))
+        self.live.oldest_beside(wants, tenure, self.ended).or(
+            self.granted
+                .iter()
+                .find(|lease| holds_some(lease.slots.as_slice(), wants, tenure)),
+        )
     }
 
     /// Whether a node has a lease.
@@ -319,7 +314,7 @@ impl<'t> View<'t> {
     {
         let mut leases = copy_standing(alloc, self.live.as_slice(), self.ended)?;
         add_copies(alloc, &mut leases, self.granted)?;
-        let mut retired = copy_all(alloc, self.retired)?;
+        let mut retired = copy_all(alloc, self.retired.as_slice())?;
         add_copies(alloc, &mut retired, self.newly_retired)?;
         let retired = rising(retired)?;
         Ok((leases, retired))

@@ -47,7 +47,7 @@ unfolding home_at home_bytes
 home_again None rest fits typed = last_again home_number 0 (begins (to_be_bytes w32 0) rest) (omega arith, omega arith) tt _ refl
 home_again (Some n) rest fits typed = last_again home_number n.0 (begins (to_be_bytes w32 n.0) rest) (omega arith, fits.1) tt _ (ap (λ (o : Option NodeId). Ok (o, rest)) (some_home n.0 fits.0))
 
-home_format : IsFormat home_at home_bytes IsHome Any
+pub home_format : IsFormat home_at home_bytes IsHome Any
 unfolding home_at
 home_format = record { takes = λ bytes fits. then_takes home_number bytes fits _ _ λ n rest t between. home_fits n bytes rest t between.1; again = home_again }
 

@@ -18,7 +18,7 @@ use Rattle.saverecord.specs.declared.refusal.RecordRefusal.{RecordRefusal}
 use Rattle.codec.specs.Steps.{◌>>=◌}
 use Rattle.saverecord.specs.Parts.{Gives}
 use Rattle.saverecord.specs.Entries.{is_above}
-use Rattle.saverecord.specs.Records.{whole_body, opened, place_for, has_life, with_life, with_home, from_first, judged, record_of}
+use Rattle.saverecord.specs.Records.{whole_body, layout_of, opened, place_for, has_life, with_life, with_home, from_first, judged, record_of}
 use Rattle.saverecord.specs.Relations.{no_two, tickets_up_to, lines_up_to, lives_there, clash, has_retired, is_same_private, fits_tenure, is_gone, is_above_lines, fits_record, agrees, is_at_home}
 use Rattle.saverecord.specs.Spelling.{record_bytes}
 use Rattle.saverecord.specs.Fits.{IsNode, IsHome, IsNodeLife, HasParts, IsRecord, IsTypedRecord}
@@ -156,7 +156,7 @@ unfolding record_of
 read_fits bytes r fits e =
     let a = bind_ok (opened bytes) (λ parts. whole_body parts.0 parts.1 >>= λ body. judged parts.0 body) r e in
     let b = bind_ok (whole_body a.0.0 a.0.1) (λ body. judged a.0.0 body) r a.2 in
-    let o = opened_takes bytes a.0.0 a.0.1 fits a.1 in
+    let o = opened_takes layout_of bytes a.0.0 a.0.1 fits a.1 in
     let w = whole_takes a.0.0 a.0.1 b.0 o.0.fits b.1 in
     judged_fits a.0.0 b.0 r w.1 b.2
 

@@ -12,14 +12,16 @@ use Rattle.protocol.specs.Names.{Mode, Shared, Private, Locked}
 use Rattle.protocol.specs.Ledger.{Lease}
 use Rattle.saverecord.specs.declared.layout.Layout.{Layout}
 use Rattle.saverecord.specs.declared.layout.Layout.TheVariants.{First, Second, Third}
+use Rattle.saverecord.specs.declared.log_entry.LogEntry.{LogEntry}
 use Rattle.saverecord.specs.declared.record.Record.{Record}
 use Rattle.saverecord.specs.declared.refusal.Flaw.{Flaw}
 use Rattle.saverecord.specs.declared.refusal.Flaw.TheVariants.{Range, Order, Trailing, Relation}
 use Rattle.saverecord.specs.declared.refusal.RecordRefusal.{RecordRefusal}
 use Rattle.saverecord.specs.Parts.{passed, number_at, flag_at, id_at}
 use Rattle.saverecord.specs.Slots.{mode_at, base_at, has_instance, slot_at, is_slot_above, slot_after}
-use Rattle.saverecord.specs.Entries.{Reader, each_at, counted_at, node_at, positive_at, ticket_after, retired_at, node_life_at, leased_at, tenure_at, lease_at, line_at}
-use Rattle.saverecord.specs.Records.{home_at, list_at, retired_nodes_at, body_at, whole_body, opened, from_first, judged, record_of}
+use Rattle.saverecord.specs.Entries.{Reader, each_at, counted_at, node_at, positive_at, ticket_after, ended_at, retired_node_at, retired_at, node_life_at, leased_at, tenure_at, lease_at, line_at}
+use Rattle.saverecord.specs.Records.{home_at, list_at, retired_nodes_at, body_at, whole_body, opened_by, opened, from_first, judged, record_of}
+use Rattle.saverecord.specs.LogEntries.{parts_at, whole_parts, entry_layout, entry_of}
 use Rattle.saverecord.specs.Relations.{agrees, is_at_home}
 use Rattle.saverecord.specs.Ledgers.{HasInstance, HasInstances, ReadIsKept}
 use Rattle.saverecord.proofs.FirstLaws.{read_fits}
@@ -136,3 +138,32 @@ record_fits bytes = then RecordFits (opened bytes) _ (λ parts. then_with Record
 
 pub read_is_kept : ReadIsKept
 read_is_kept bytes r fits e = record_is_kept r (subst (λ (x : Result Record RecordRefusal). IfOk x RecordFits) e (record_fits bytes)) (read_fits bytes r fits e)
+
+-- ---- entries of a log
+
+abbrev EntryFits : LogEntry → Type 0
+EntryFits e = All HasInstances e.leases
+
+abbrev PartsFit : LogEntry × List ℕ → Type 0
+PartsFit x = EntryFits x.0
+
+parts_fit : (bytes : List ℕ) → IfOk (parts_at bytes) PartsFit
+unfolding parts_at
+parts_fit bytes =
+    then PartsFit (number_at w64 0 0xffff_ffff_ffff_ffff bytes) _ (λ last.
+    then PartsFit (home_at last.1) _ (λ home.
+    then PartsFit (list_at node_life_at Third home.1) _ (λ lives.
+    then PartsFit (list_at retired_node_at Third lives.1) _ (λ retired_nodes.
+    then PartsFit (list_at ended_at Third retired_nodes.1) _ (λ ended.
+    then_with (λ (x : List Lease × List ℕ). AllByRecursion HasInstances x.0) PartsFit (list_at lease_at Third ended.1) _ (counted_fits lease_at Third HasInstances (lease_fits Third) 0 0xffff_ffff_ffff_ffff ended.1) (λ leases q.
+    then PartsFit (list_at retired_at Third leases.1) _ (λ retired.
+    then PartsFit (list_at line_at Third retired.1) _ (λ lines.
+    All-from_recursion HasInstances leases.0 q))))))))
+
+whole_parts_fit : (bytes : List ℕ) → IfOk (whole_parts bytes) EntryFits
+unfolding whole_parts
+whole_parts_fit bytes = then_with PartsFit EntryFits (parts_at bytes) _ (parts_fit bytes) (λ parts h. if_passed EntryFits Trailing _ parts.0 (λ e. h))
+
+pub entry_instances : (bytes : List ℕ) (e : LogEntry) → entry_of bytes ≡ Ok e → All HasInstances e.leases
+unfolding entry_of
+entry_instances bytes e is = subst (λ (x : Result LogEntry RecordRefusal). IfOk x EntryFits) is (then EntryFits (opened_by entry_layout bytes) _ (λ parts. whole_parts_fit parts.1))

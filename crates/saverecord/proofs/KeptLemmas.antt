@@ -41,7 +41,7 @@ less_is : (a b : ℕ) → a < b → nat_cmp a b ≡ Less
 less_is a b h = sym (nat_cmp_is a b Less h)
 
 -- the older lease has the lower ticket
-tickets_rise : (leases : List Lease) → AllApart leases → IsStrictlySortedBy nat_cmp (map (λ g. g.ticket.0) leases)
+pub tickets_rise : (leases : List Lease) → AllApart leases → IsStrictlySortedBy nat_cmp (map (λ g. g.ticket.0) leases)
 unfolding IsStrictlySortedBy
 tickets_rise [] all = tt
 tickets_rise (g ∷ leases) all =
@@ -53,7 +53,7 @@ tickets_rise (g ∷ leases) all =
 apart_slots : (g h : Lease) → AreApart g h → shares g h ≡ false
 apart_slots g h apart = none_from_in (λ (x : Slot × Bool). has_slot h.slots x.0) g.slots (λ x i. apart.slots x.0 (any_in (λ (y : Slot × Bool). slot_eq y.0 x.0) x g.slots i (slot_eq_same x.0)))
 
-none_clash : (leases : List Lease) → AllApart leases → no_two clash leases ≡ true
+pub none_clash : (leases : List Lease) → AllApart leases → no_two clash leases ≡ true
 none_clash [] all = refl
 none_clash (g ∷ leases) all = and_from _ _
     (not_from_false (list_any (clash g) leases) (none_from_in (clash g) leases (λ h i. or_from (shares g h) (is_same_ask g h) (apart_slots g h (all.0 h i)) (same_ask g h ∙ (all.0 h i).ask))))
@@ -62,7 +62,7 @@ none_clash (g ∷ leases) all = and_from _ _
 -- ---- the slots of a lease
 
 -- slots of rising folders
-own_folders : (slots : List (Slot × Bool)) → IsStrictlySortedBy folder_cmp (folders (map want_of slots)) → no_two is_same_private slots ≡ true
+pub own_folders : (slots : List (Slot × Bool)) → IsStrictlySortedBy folder_cmp (folders (map want_of slots)) → no_two is_same_private slots ≡ true
 own_folders [] up = refl
 own_folders (x ∷ slots) up =
     let later : List FolderName = folders (map want_of slots) in
@@ -85,7 +85,7 @@ any_wanted : (slots : List (Slot × Bool)) → list_any wants_shared (map want_o
 any_wanted [] = refl
 any_wanted (x ∷ slots) = ap (λ b. is_shared x.0.folder.mode || b) (any_wanted slots)
 
-tenure_fits : (tenure : Bool) (slots : List (Slot × Bool)) (wants : List Want) → AreAsked tenure wants → map want_of slots ≡ leased_wants tenure wants → (if tenure then is_tenured slots else not (some_shared slots)) ≡ true
+pub tenure_fits : (tenure : Bool) (slots : List (Slot × Bool)) (wants : List Want) → AreAsked tenure wants → map want_of slots ≡ leased_wants tenure wants → (if tenure then is_tenured slots else not (some_shared slots)) ≡ true
 tenure_fits true slots wants asked e = tenure_slots slots wants (asked.one refl) e
 tenure_fits false slots wants asked e = not_from_false (some_shared slots) (sym (any_wanted slots) ∙ ap (list_any wants_shared) e
     ∙ none_from_in wants_shared (leased_wants false wants) (λ w i. not-true (wants_shared w) (from_filter (λ (w : Want). not (wants_shared w)) w wants i).1))
@@ -99,7 +99,7 @@ life_there (x ∷ lives) n l e some = elim (cases_Bool (eqb x.node.0 n)) [
   | inl same ↦ (let life : eqb x.life.0 l ≡ true = eq-eqb x.life.0 l (rw same at e) in rw (same, life) refl)
 ]
 
-home_fits : (o : Option NodeId) → ((h : NodeId) → o ≡ Some h → IsNumber NODES h) → IsHome o
+pub home_fits : (o : Option NodeId) → ((h : NodeId) → o ≡ Some h → IsNumber NODES h) → IsHome o
 home_fits None f = tt
 home_fits (Some h) f = f h refl
 
@@ -107,38 +107,33 @@ some_in : {A : Type 0} (xs : List A) → (xs ≡ [] → ⊥) → 1 ≤ length xs
 some_in [] full = absurd (full refl)
 some_in (x ∷ xs) full = omega arith
 
+pub lease_folders : (g : Lease) → ((wants : List Want) × AreAsked g.tenure wants × (map want_of g.slots ≡ leased_wants g.tenure wants)) → IsStrictlySortedBy folder_cmp (folders (map want_of g.slots))
+lease_folders g w = subst (λ (ws : List Want). IsStrictlySortedBy folder_cmp (folders ws)) (sym (w.2 ∙ leased-filter g.tenure w.0)) (wants_filter (takes g.tenure) w.0 w.1.sorted.1)
+
+few : (g : Lease) → ((wants : List Want) × AreAsked g.tenure wants × (map want_of g.slots ≡ leased_wants g.tenure wants)) → length g.slots ≤ 16
+few g w =
+    let all : length w.0 ≤ 16 = w.1.sorted.0 in
+    let slots : length (map want_of g.slots) ≡ length g.slots = length-map g.slots want_of in
+    let wanted : length (map want_of g.slots) ≡ length (filter (takes g.tenure) w.0) = ap length (w.2 ∙ leased-filter g.tenure w.0) in
+    let both = length-filter_both (takes g.tenure) (λ x. not (takes g.tenure x)) (λ x. refl) w.0 in
+    omega arith
+
+pub lease_is : {lives : ℕ → ℕ} {gone : ℕ → Bool} {retired : Slot → Bool} (g : Lease) → IsHolder NODES lives gone retired g → Rises g → IsLease g
+lease_is g h rise = record {
+  ticket = h.ticket;
+  node = h.asker.speaker.node;
+  life = h.asker.speaker.life;
+  ask = h.asker.ask;
+  few = few g h.wants;
+  rise = rise;
+}
+
 module _ (r : Record) (kept : IsKept r) where
   line_is : (l : SlotLine) → In l r.lines → line_at r.lines l.slot ≡ l.line
   line_is = line_in r.lines kept.lines.rise
 
   holder : (g : Lease) → In g r.leases → IsHolder NODES (life_at r.lives) (is_among r.retired_nodes) (among r.retired) g
   holder = kept.lawful.core.holders
-
-  folders_rise : (g : Lease) → In g r.leases → IsStrictlySortedBy folder_cmp (folders (map want_of g.slots))
-  folders_rise g i =
-      let w = (holder g i).wants in
-      subst (λ (ws : List Want). IsStrictlySortedBy folder_cmp (folders ws)) (sym (w.2 ∙ leased-filter g.tenure w.0)) (wants_filter (takes g.tenure) w.0 w.1.sorted.1)
-
-  few : (g : Lease) → In g r.leases → length g.slots ≤ 16
-  few g i =
-      let w = (holder g i).wants in
-      let all : length w.0 ≤ 16 = w.1.sorted.0 in
-      let slots : length (map want_of g.slots) ≡ length g.slots = length-map g.slots want_of in
-      let wanted : length (map want_of g.slots) ≡ length (filter (takes g.tenure) w.0) = ap length (w.2 ∙ leased-filter g.tenure w.0) in
-      let both = length-filter_both (takes g.tenure) (λ x. not (takes g.tenure x)) (λ x. refl) w.0 in
-      omega arith
-
-  lease_fits : (g : Lease) → In g r.leases → IsLease g
-  lease_fits g i =
-      let h = holder g i in
-      record {
-        ticket = h.ticket;
-        node = h.asker.speaker.node;
-        life = h.asker.speaker.life;
-        ask = h.asker.ask;
-        few = few g i;
-        rise = all_in Rises r.leases kept.slots_rise g i;
-      }
 
   line_fits : (l : SlotLine) → In l r.lines → IsSlotLine l
   line_fits l i = record {
@@ -157,7 +152,7 @@ module _ (r : Record) (kept : IsKept r) where
     nodes_rise = kept.nodes_rise;
     nodes = each_from_in IsNode r.retired_nodes (λ n i. kept.lawful.core.gone n.0 (any_in (λ (m : NodeId). eqb m.0 n.0) n r.retired_nodes i (eqb_same n.0)));
     leases_rise = IsStrictlyIncreasing-from_sorted (map (λ (g : Lease). g.ticket.0) r.leases) (tickets_rise r.leases kept.lawful.core.apart);
-    leases = each_from_in IsLease r.leases lease_fits;
+    leases = each_from_in IsLease r.leases (λ g i. lease_is g (holder g i) (all_in Rises r.leases kept.slots_rise g i));
     retired_rise = kept.retired_rise;
     lines_rise = kept.lines.rise;
     lines = each_from_in IsSlotLine r.lines line_fits;
@@ -182,7 +177,7 @@ module _ (r : Record) (kept : IsKept r) where
       let h = holder g i in
       and_from _ _ (life_there r.lives g.node.0 g.life.0 h.asker.life h.asker.speaker.life)
       (and_from _ _ (not_from_false _ (none_retired g i))
-      (and_from _ _ (own_folders g.slots (folders_rise g i))
+      (and_from _ _ (own_folders g.slots (lease_folders g h.wants))
       (and_from _ _ (tenure_fits g.tenure g.slots h.wants.0 h.wants.1 h.wants.2)
       (and_from _ _ (not_from_false _ h.asker.stays)
       (passes_from_in (λ (l : SlotLine). not (has_slot g.slots l.slot) || is_above_line g.ticket.0 l.line) r.lines (above_line g i))))))

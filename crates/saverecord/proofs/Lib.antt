@@ -13,4 +13,6 @@ pub mod KeptLemmas
 pub mod ReadLemmas
 pub mod InstanceLemmas
 pub mod FoldLemmas
+pub mod LogEntryLaws
 pub mod LogLemmas
+pub mod LogLaws

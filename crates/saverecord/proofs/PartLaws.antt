@@ -14,9 +14,9 @@ use Rattle.farm_base.specs.declared.lease.NodeLife.{NodeLife}
 use Rattle.versions.specs.declared.lines.SlotLine.{SlotLine}
 use Rattle.versions.specs.Line.{IsLine}
 use Rattle.saverecord.specs.Slots.{is_slot_above}
-use Rattle.saverecord.specs.Entries.{counted_at, is_above, node_at, positive_at, node_after, ticket_after, retired_node_at, node_life_at, retired_at, leased_at, tenure_at, lease_at, version_at, line_at}
-use Rattle.saverecord.specs.Spelling.{flag_bytes, slot_bytes, counted, node_bytes, node_life_bytes, leased_bytes, holder_bytes, lease_bytes, version_bytes, line_bytes}
-use Rattle.saverecord.specs.Fits.{IsNode, IsNodeLife, IsLease, IsVersion, IsSlotLine, IsTypedNode, IsTypedLife, IsTypedSlot, IsTypedLeased, IsTypedLease, IsTypedVersion, IsTypedLine}
+use Rattle.saverecord.specs.Entries.{counted_at, is_above, node_at, positive_at, node_after, ticket_after, ended_at, retired_node_at, node_life_at, retired_at, leased_at, tenure_at, lease_at, version_at, line_at}
+use Rattle.saverecord.specs.Spelling.{flag_bytes, slot_bytes, counted, ticket_bytes, node_bytes, node_life_bytes, leased_bytes, holder_bytes, lease_bytes, version_bytes, line_bytes}
+use Rattle.saverecord.specs.Fits.{IsTicket, IsNode, IsNodeLife, IsLease, IsVersion, IsSlotLine, IsTypedTicket, IsTypedNode, IsTypedLife, IsTypedSlot, IsTypedLeased, IsTypedLease, IsTypedVersion, IsTypedLine}
 use Rattle.codec.proofs.Formats.{Any, IsFormat, if_passed, ◌and_then◌, begins, took, then_takes, then_again, last_again, refit}
 use Rattle.codec.proofs.Fronts.{wide32, wide64}
 use Rattle.farm_base.specs.Digests.{IsBytes}
@@ -80,6 +80,14 @@ node_life_format layout = record {
             last_again positive_format x.life.0 is fits.1.life typed.1 _ refl;
       };
 }
+
+-- ---- tickets
+
+abbrev pub ended_key : Ticket → ℕ
+ended_key t = t.0
+
+pub ended_format : (layout : Layout) → IsEntry ended_at layout ticket_bytes is_above ended_key IsTicket IsTypedTicket
+ended_format layout = record { format = λ before. refit (ticket_after_format (option_map ended_key before)) (λ t fits. fits) (λ t fits typed. (fits, typed.1)) }
 
 -- ---- slots
 

@@ -62,7 +62,7 @@ above_all : (x : Slot × Bool) (slots : List (Slot × Bool)) → ((y : Slot × B
 above_all x [] f = tt
 above_all x (y ∷ slots) f = (f y (inl refl), above_all x slots (λ z i. f z (inr i)))
 
-folders_rise : (slots : List (Slot × Bool)) → IsStrictlySortedBy slot_cmp (map (λ x. x.0) slots) → All HasInstance slots → no_two is_same_private slots ≡ true → IsStrictlySortedBy folder_cmp (folders (map want_of slots))
+pub folders_rise : (slots : List (Slot × Bool)) → IsStrictlySortedBy slot_cmp (map (λ x. x.0) slots) → All HasInstance slots → no_two is_same_private slots ≡ true → IsStrictlySortedBy folder_cmp (folders (map want_of slots))
 unfolding IsStrictlySortedBy
 folders_rise [] up typed own = tt
 folders_rise (x ∷ slots) up typed own =
@@ -95,7 +95,7 @@ not_shared (x ∷ slots) h =
     let b = or_parts (is_shared x.0.folder.mode) (some_shared slots) h in
     rw b.0 (ap (λ (ws : List Want). want_of x ∷ ws) (not_shared slots b.1))
 
-wanted : (tenure : Bool) (slots : List (Slot × Bool)) → length slots ≤ 16 → IsStrictlySortedBy folder_cmp (folders (map want_of slots)) → (if tenure then is_tenured slots else not (some_shared slots)) ≡ true
+pub wanted : (tenure : Bool) (slots : List (Slot × Bool)) → length slots ≤ 16 → IsStrictlySortedBy folder_cmp (folders (map want_of slots)) → (if tenure then is_tenured slots else not (some_shared slots)) ≡ true
     → (wants : List Want) × AreAsked tenure wants × (map want_of slots ≡ leased_wants tenure wants)
 wanted true [] few up fits = absurd (cc fits)
 wanted true (x ∷ []) few up fits =
@@ -113,7 +113,7 @@ wanted false slots few up fits = (
 
 -- ---- leases
 
-all_apart : (leases : List Lease) → IsStrictlySortedBy nat_cmp (map (λ g. g.ticket.0) leases) → no_two clash leases ≡ true → AllApart leases
+pub all_apart : (leases : List Lease) → IsStrictlySortedBy nat_cmp (map (λ g. g.ticket.0) leases) → no_two clash leases ≡ true → AllApart leases
 unfolding IsStrictlySortedBy
 all_apart [] up none = tt
 all_apart (g ∷ leases) up none =
@@ -173,7 +173,7 @@ agreed r h =
 
 -- ---- parts
 
-home_is : (o : Option NodeId) (h : NodeId) → o ≡ Some h → IsHome o → IsNode h
+pub home_is : (o : Option NodeId) (h : NodeId) → o ≡ Some h → IsHome o → IsNode h
 home_is None h e fits = none_some h e
 home_is (Some x) h e fits = subst IsNode (some_is x h e) fits
 

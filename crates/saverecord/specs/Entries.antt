@@ -62,6 +62,9 @@ ticket_after before bytes = do
   ticket ← positive_at bytes
   passed Order (is_above before ticket.0) (record { 0 = ticket.0 }, ticket.1)
 
+abbrev pub ended_at : Reader Ticket
+ended_at layout before bytes = ticket_after (option_map (λ ticket. ticket.0) before) bytes
+
 abbrev pub retired_node_at : Reader NodeId
 retired_node_at layout before bytes = node_after (option_map (λ node. node.0) before) bytes
 

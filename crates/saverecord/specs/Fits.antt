@@ -6,6 +6,7 @@ use Rattle.farm_base.specs.declared.limits.TheConstants.{NODES}
 use Rattle.farm_base.specs.declared.lease.Lease.{Lease}
 use Rattle.farm_base.specs.declared.message.LineVersion.{LineVersion}
 use Rattle.farm_base.specs.declared.number.NodeId.{NodeId}
+use Rattle.farm_base.specs.declared.number.Ticket.{Ticket}
 use Rattle.farm_base.specs.Digests.{IsDigest}
 use Rattle.farm_base.specs.Names.{IsSlot}
 use Rattle.farm_base.specs.Slots.{SlotParts, slot_cmp}
@@ -18,6 +19,9 @@ use Rattle.saverecord.specs.Relations.{agrees}
 
 abbrev pub IsNode : NodeId → Type 0
 IsNode n = (1 ≤ n.0) × (n.0 ≤ NODES)
+
+abbrev pub IsTicket : Ticket → Type 0
+IsTicket t = 1 ≤ t.0
 
 abbrev pub IsHome : Option NodeId → Type 0
 IsHome None = Unit {0}
@@ -63,6 +67,9 @@ pub record IsRecord (r : Record) : Type 0 where
   pub relations : agrees r ≡ true
 
 -- ---- what the types guarantee
+
+abbrev pub IsTypedTicket : Ticket → Type 0
+IsTypedTicket t = t.0 < 2 ^ 64
 
 abbrev pub IsTypedNode : NodeId → Type 0
 IsTypedNode n = Unit {0}

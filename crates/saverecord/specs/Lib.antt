@@ -9,4 +9,5 @@ pub mod Fits
 pub mod Texts
 pub mod Keepers
 pub mod Ledgers
+pub mod LogEntries
 pub mod Logs

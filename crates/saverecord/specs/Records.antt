@@ -78,11 +78,22 @@ layout_of magic =
     else if is_same magic (codes "BKFARM03") then Ok Third
     else Err BadMagic
 
+-- the bytes between magic and digest, where the digest is that of all before it
+unfoldable pub signed : List ℕ → Result (List ℕ) RecordRefusal
+signed bytes =
+    if is_same (sha256 (take (length bytes - 32) bytes)) (drop (length bytes - 32) bytes) then Ok (drop 8 (take (length bytes - 32) bytes))
+    else Err BadDigest
+
+-- what a magic stands for, and the bytes between magic and digest
+unfoldable pub opened_by : {X : Type 0} → (List ℕ → Result X RecordRefusal) → List ℕ → Part X
+opened_by read bytes = if nat_lt (length bytes) 40 then Err Truncated else (do
+  layout ← read (take 8 bytes)
+  body ← signed bytes
+  Ok (layout, body))
+
 -- the layout, and the bytes between magic and digest
-unfoldable pub opened : List ℕ → Part Layout
-opened bytes = if nat_lt (length bytes) 40 then Err Truncated else (do
-  layout ← layout_of (take 8 bytes)
-  if is_same (sha256 (take (length bytes - 32) bytes)) (drop (length bytes - 32) bytes) then Ok (layout, drop 8 (take (length bytes - 32) bytes)) else Err BadDigest)
+abbrev pub opened : List ℕ → Part Layout
+opened bytes = opened_by layout_of bytes
 
 -- the place of the first life of a node above this one
 abbrev pub place_for : NodeId → List NodeLife → ℕ

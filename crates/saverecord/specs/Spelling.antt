@@ -8,6 +8,7 @@ use Rattle.farm_base.specs.declared.folder.Mode.TheVariants.{Shared, Private, Lo
 use Rattle.farm_base.specs.declared.lease.Lease.{Lease}
 use Rattle.farm_base.specs.declared.message.LineVersion.{LineVersion}
 use Rattle.farm_base.specs.declared.number.NodeId.{NodeId}
+use Rattle.farm_base.specs.declared.number.Ticket.{Ticket}
 use Rattle.farm_base.specs.Slots.{SlotParts}
 use Rattle.sha2.specs.Sha256.{sha256}
 use Rattle.farm_base.specs.declared.lease.NodeLife.{NodeLife}
@@ -47,6 +48,9 @@ slot_bytes s = mode_bytes s.folder.mode ++ (id_bytes s.folder.id ++ (base_bytes 
 -- the count, and each
 abbrev pub counted : {X : Type 0} → (X → List ℕ) → List X → List ℕ
 counted spell xs = number64 (length xs) ++ flat_map spell xs
+
+abbrev pub ticket_bytes : Ticket → List ℕ
+ticket_bytes t = number64 t.0
 
 abbrev pub node_bytes : NodeId → List ℕ
 node_bytes n = number32 n.0

@@ -3,9 +3,9 @@ ghost use Rattle.std.specs.Prelude.{◌≡◌, ◌<◌, ◌^◌, ◌++◌, Optio
 ghost use Rattle.std.specs.Int.{w64};
 ghost use Rattle.std.specs.Option.{option_map};
 ghost use Rattle.saverecord.specs.Parts.{Gives};
-ghost use Rattle.saverecord.specs.Entries.{is_above, node_at, positive_at, node_after, ticket_after, tenure_at, retired_node_at, node_life_at, retired_at, leased_at, lease_at, version_at, line_at};
-ghost use Rattle.saverecord.specs.Fits.{IsTypedNode, IsTypedLife, IsTypedSlot, IsTypedLeased, IsTypedLease, IsTypedVersion, IsTypedLine};
-ghost use Rattle.saverecord.specs.Spelling.{flag_bytes, node_bytes, node_life_bytes, slot_bytes, leased_bytes, holder_bytes, lease_bytes, version_bytes, line_bytes};
+ghost use Rattle.saverecord.specs.Entries.{is_above, node_at, positive_at, node_after, ticket_after, tenure_at, ended_at, retired_node_at, node_life_at, retired_at, leased_at, lease_at, version_at, line_at};
+ghost use Rattle.saverecord.specs.Fits.{IsTypedTicket, IsTypedNode, IsTypedLife, IsTypedSlot, IsTypedLeased, IsTypedLease, IsTypedVersion, IsTypedLine};
+ghost use Rattle.saverecord.specs.Spelling.{flag_bytes, ticket_bytes, node_bytes, node_life_bytes, slot_bytes, leased_bytes, holder_bytes, lease_bytes, version_bytes, line_bytes};
 
 use super::entry::{Entry, put_counted, take_counted};
 use super::layout::Layout;
@@ -78,6 +78,30 @@ fn put_flag(out: &mut Vec<u8>, flag: bool) -> Result<(), AllocError>
         out.push(0)?;
     }
     Ok(())
+}
+
+/// The ticket of a lease that ended.
+impl Entry for Ticket {
+    ghost reads = { ended_at };
+
+    ghost spells = { ticket_bytes };
+
+    ghost typed = { IsTypedTicket };
+
+    fn take<'a>(
+        _alloc: Global,
+        _layout: Layout,
+        before: Option<&Self>,
+        bytes: &'a [u8],
+    ) -> Result<(Self, &'a [u8]), RecordRefusal> {
+        take_ticket_after(before.map(|ticket| ticket.0), bytes)
+    }
+
+    fn put(&self, out: &mut Vec<u8>) -> Result<(), AllocError> {
+        let ticket = self.0;
+        out.extend_from_slice(&ticket.to_be_bytes())?;
+        Ok(())
+    }
 }
 
 impl Entry for NodeId {

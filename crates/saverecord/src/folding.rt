@@ -1,18 +1,24 @@
-//! Reading what is kept: a whole record, and the entries after it.
-ghost use Rattle.std.specs.Prelude.{◌≡◌, IfOk, Ok};
+//! Reading what is kept: a whole record, and what each entry after it changes.
+ghost use Rattle.std.specs.Prelude.{◌≡◌, ◌≤◌, All, AllPairs, IfOk, Ok};
 ghost use Rattle.std.specs.List.{list_all};
+ghost use Rattle.leases.specs.Leases.{IsBefore};
+ghost use Rattle.leases.specs.Table.{among, is_among, life_at};
 ghost use Rattle.saverecord.specs.Ledgers.{IsKept, blank, ledger_of, record_in};
-ghost use Rattle.saverecord.specs.Logs.{with_version, with_versions, is_open, with_entry, after_text, with_entries, ledger_in};
+ghost use Rattle.saverecord.specs.LogEntries.{IsLogEntry};
+ghost use Rattle.saverecord.specs.Logs.{with_version, with_versions, without_one, without_all, are_newer, with_leases, with_lives, with_gone, with_retired, is_coherent, may_follow, with_entry, after_text, ledger_in, folded_ledger, IsReadable};
 ghost use Rattle.saverecord.specs.Parts.{Gives};
 ghost use Rattle.saverecord.specs.Texts.{whole_alone};
-ghost use Rattle.versions.specs.Line.{is_above_all};
 ghost use Rattle.versions.specs.Lines.{line_at};
 
+use super::folded::Folded;
 use super::laws::{what_is_kept_is_a_record, what_is_read_is_lawful};
 use super::log::Log;
+use super::log_entry::LogEntry;
 use super::record::Record;
 use super::refusal::{Flaw, RecordRefusal};
-use farm_base::{Items, Lease, Ticket};
+use super::relation::{are_of_own_folders, are_private, fits_tenure, lines_up_to};
+use farm_base::{Items, Lease, NodeId, NodeLife, Slot, Ticket};
+use leases::{Lives, RetiredNodes, is_saved, place_of};
 use std::alloc::{AllocError, Global};
 use versions::{Lines, SlotLine};
 
@@ -41,31 +47,138 @@ fn with_versions(mut lines: Lines, more: Vec<SlotLine>) -> Result<Lines, RecordR
     Ok(lines)
 }
 
-/// Whether a lease's ticket is above all on the lines of its slots.
-fn is_open(lines: &Lines, lease: &Lease) -> bool
-    ensures { result ≡ is_open (line_at lines.now) lease.now }
+/// The leases without that of a ticket, which has to be among them.
+fn without_one(mut leases: Vec<Lease>, ticket: Ticket) -> Result<Vec<Lease>, RecordRefusal>
+    requires { AllPairs IsBefore leases.items }
+    ensures exact { Gives (λ v. v.items) result (without_one ticket leases.items) }
+    ensures rise { IfOk result (λ v. AllPairs IsBefore v.items) }
 {
-    lease
-        .slots
-        .as_slice()
-        .iter()
-        .all(|held| lines.is_above(lease.ticket, &held.0))
+    match place_of(leases.as_slice(), ticket) {
+        None => Err(RecordRefusal::NotCanonical(Flaw::Relation)),
+        Some(place) => {
+            leases.remove(place);
+            Ok(leases)
+        }
+    }
 }
 
-fn are_open(lines: &Lines, leases: &[Lease]) -> bool
-    ensures { result ≡ list_all (is_open (line_at lines.now)) leases.now }
+/// The leases without those that ended.
+fn without_all(mut leases: Vec<Lease>, ended: &[Ticket]) -> Result<Vec<Lease>, RecordRefusal>
+    requires { AllPairs IsBefore leases.items }
+    ensures { Gives (λ v. v.items) result (without_all ended.now leases.items) }
 {
-    leases.iter().all(|lease| is_open(lines, lease))
+    for ticket in ended {
+        leases = without_one(leases, *ticket)?;
+    }
+    Ok(leases)
 }
 
-/// A record with an entry after it.
-fn with_entry(before: Record, entry: Record) -> Result<Record, RecordRefusal>
-    requires before { IsKept before }
-    requires entry { IsKept entry }
-    ensures exact { Gives ledger_of result (with_entry entry (ledger_of before)) }
-    ensures kept { IfOk result IsKept }
+/// Whether the tickets of these leases are above those that are there.
+fn are_newer(leases: &[Lease], more: &[Lease]) -> bool
+    ensures { result ≡ are_newer leases.now more.now }
 {
-    let Record {
+    let last = match leases.last() {
+        None => 0,
+        Some(lease) => lease.ticket.0,
+    };
+    more.iter().all(|lease| last < lease.ticket.0)
+}
+
+/// The leases without those that ended, and behind them those that were granted.
+fn with_leases(
+    leases: Vec<Lease>,
+    ended: &[Ticket],
+    mut granted: Vec<Lease>,
+) -> Result<Vec<Lease>, RecordRefusal>
+    requires { AllPairs IsBefore leases.items }
+    ensures { Gives (λ v. v.items) result (with_leases ended.now granted.items leases.items) }
+{
+    let mut leases = without_all(leases, ended)?;
+    if !are_newer(leases.as_slice(), granted.as_slice()) {
+        return Err(RecordRefusal::NotCanonical(Flaw::Relation));
+    }
+    leases.append(&mut granted)?;
+    Ok(leases)
+}
+
+/// The lives with those that began.
+fn with_lives(mut lives: Lives, began: &[NodeLife]) -> Result<Lives, AllocError>
+    requires { All (λ x. 1 ≤ x.life.0) began.now }
+    ensures { IfOk result (λ after. life_at after ≡ with_lives began.now (life_at lives)) }
+{
+    for seen in began {
+        lives.set(seen.node, seen.life)?;
+    }
+    Ok(lives)
+}
+
+/// The retired nodes with more of them.
+fn with_gone(mut nodes: RetiredNodes, more: &[NodeId]) -> Result<RetiredNodes, AllocError>
+    ensures { IfOk result (λ after. is_among after ≡ with_gone more.now (is_among nodes)) }
+{
+    for node in more {
+        nodes.insert(*node)?;
+    }
+    Ok(nodes)
+}
+
+/// The retired slots with more of them.
+fn with_retired(mut slots: Vec<Slot>, mut more: Vec<Slot>) -> Result<Vec<Slot>, AllocError>
+    ensures { IfOk result (λ after. among after.items ≡ with_retired more.items (among slots.items)) }
+{
+    slots.append(&mut more)?;
+    Ok(slots)
+}
+
+/// Whether a lease is one that is saved, no two of its slots are of one PRIVATE folder, and it is a tenure or has no
+/// SHARED slot.
+fn is_coherent(lease: &Lease) -> bool
+    ensures { result ≡ is_coherent lease.now }
+{
+    is_saved(lease) && are_of_own_folders(lease.slots.as_slice()) && fits_tenure(lease)
+}
+
+fn are_coherent(leases: &[Lease]) -> bool
+    ensures { result ≡ list_all is_coherent leases.now }
+{
+    leases.iter().all(|lease| is_coherent(lease))
+}
+
+/// Whether an entry may follow one with this last ticket, for all that it says by itself.
+fn may_follow(last: Ticket, entry: &LogEntry) -> bool
+    ensures { result ≡ may_follow last.0 entry.now }
+{
+    last.0 <= entry.last.0
+        && lines_up_to(entry.last.0, entry.lines.as_slice())
+        && are_private(entry.retired.as_slice())
+        && are_coherent(entry.leases.as_slice())
+}
+
+/// What the texts hold with an entry.
+fn with_entry(before: Folded, entry: LogEntry) -> Result<Folded, RecordRefusal>
+    requires before { IsReadable (folded_ledger before) }
+    requires entry { IsLogEntry entry }
+    ensures { Gives folded_ledger result (with_entry entry (folded_ledger before)) }
+{
+    if !may_follow(before.last, &entry) {
+        return Err(RecordRefusal::NotCanonical(Flaw::Relation));
+    }
+    let LogEntry {
+        last,
+        old_home,
+        lives,
+        retired_nodes,
+        ended,
+        leases,
+        retired,
+        lines,
+    } = entry;
+    let lines = with_versions(before.lines, lines.into_vec())?;
+    let leases = with_leases(before.leases, ended.as_slice(), leases.into_vec())?;
+    let lives = with_lives(before.lives, lives.as_slice())?;
+    let retired_nodes = with_gone(before.retired_nodes, retired_nodes.as_slice())?;
+    let retired = with_retired(before.retired, retired.into_vec())?;
+    Ok(Folded {
         last,
         old_home,
         lives,
@@ -73,19 +186,6 @@ fn with_entry(before: Record, entry: Record) -> Result<Record, RecordRefusal>
         leases,
         retired,
         lines,
-    } = entry;
-    let lines = with_versions(Lines::of(before.lines.into_vec()), lines.into_vec())?;
-    if before.last.0 > last.0 || !are_open(&lines, leases.as_slice()) {
-        return Err(RecordRefusal::NotCanonical(Flaw::Relation));
-    }
-    Ok(Record {
-        last,
-        old_home,
-        lives,
-        retired_nodes,
-        leases,
-        retired,
-        lines: Items::new(lines.into_vec()),
     })
 }
 
@@ -116,29 +216,28 @@ fn record_in(alloc: Global, bytes: &[u8]) -> Result<Record, RecordRefusal>
     Record::read(alloc, bytes)
 }
 
-/// A record with an entry of these bytes after it.
-fn with_text(alloc: Global, before: Record, text: &[u8]) -> Result<Record, RecordRefusal>
-    requires { IsKept before }
-    ensures exact { Gives ledger_of result (after_text text.now (ledger_of before)) }
-    ensures kept { IfOk result IsKept }
+/// What the texts hold with an entry of these bytes.
+fn with_text(alloc: Global, before: Folded, text: &[u8]) -> Result<Folded, RecordRefusal>
+    requires { IsReadable (folded_ledger before) }
+    ensures exact { Gives folded_ledger result (after_text text.now (folded_ledger before)) }
+    ensures readable { IfOk result (λ after. IsReadable (folded_ledger after)) }
 {
-    what_is_read_is_lawful();
-    let entry = Record::read(alloc, text)?;
+    let entry = LogEntry::read(alloc, text)?;
     with_entry(before, entry)
 }
 
 impl Log {
-    /// The whole record that these texts hold: the entries folded into the record before them. Where nothing was saved
-    /// yet it is that of a farm where nothing happened.
+    /// The whole record that these texts hold: that of the whole text, with what each entry changed. Where nothing was
+    /// saved yet it is that of a farm where nothing happened.
     pub fn read(&self, alloc: Global) -> Result<Record, RecordRefusal>
         ensures exact { Gives ledger_of result (ledger_in self.now) }
         ensures kept { IfOk result IsKept }
     {
-        let mut record = record_in(alloc, self.whole())?;
+        let mut folded = Folded::of(record_in(alloc, self.whole())?);
         for text in self.entries() {
-            record = with_text(alloc, record, text.as_slice())?;
+            folded = with_text(alloc, folded, text.as_slice())?;
         }
-        Ok(record)
+        folded.into_record(alloc)
     }
 
     /// The whole record that holds the same as these texts, as `Record::write` writes it.

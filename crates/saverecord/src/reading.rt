@@ -4,7 +4,7 @@ ghost use Rattle.saverecord.specs.declared.record.Record.{Record};
 ghost use Rattle.saverecord.specs.Fits.{IsRecord, IsTypedRecord};
 ghost use Rattle.saverecord.specs.Spelling.{record_bytes};
 ghost use Rattle.saverecord.specs.Parts.{Gives};
-ghost use Rattle.saverecord.specs.Records.{home_of, home_at, list_at, retired_nodes_at, body_at, whole_body, layout_of, opened, place_for, has_life, with_life, with_home, from_first, judged, record_of};
+ghost use Rattle.saverecord.specs.Records.{home_of, home_at, list_at, retired_nodes_at, body_at, whole_body, layout_of, signed, opened, place_for, has_life, with_life, with_home, from_first, judged, record_of};
 
 use super::entry::{Entry, take_counted};
 use super::layout::Layout;
@@ -27,7 +27,7 @@ fn home_of(number: u32) -> Option<NodeId>
 }
 
 #[tactic(auto, unfolding(crate::specs::Records::home_at))]
-fn take_home(bytes: &[u8]) -> Result<(Option<NodeId>, &[u8]), RecordRefusal>
+pub(crate) fn take_home(bytes: &[u8]) -> Result<(Option<NodeId>, &[u8]), RecordRefusal>
     ensures { Gives (λ x. (x.0, x.1.now)) result (home_at bytes.now) }
 {
     let (home, rest) = take_u32(bytes, 0, NODES)?;
@@ -35,7 +35,7 @@ fn take_home(bytes: &[u8]) -> Result<(Option<NodeId>, &[u8]), RecordRefusal>
 }
 
 /// A list of any length.
-fn take_list<X: Entry>(
+pub(crate) fn take_list<X: Entry>(
     alloc: Global,
     layout: Layout,
     bytes: &[u8],
@@ -111,8 +111,22 @@ fn layout_of(magic: &[u8]) -> Result<Layout, RecordRefusal>
     }
 }
 
+/// The bytes between magic and digest, where the digest is that of all before it.
+#[tactic(auto, unfolding(crate::specs::Records::signed))]
+pub(crate) fn signed(bytes: &[u8]) -> Result<&[u8], RecordRefusal>
+    requires { 40 ≤ length bytes.now }
+    ensures { Gives (λ x. x.now) result (signed bytes.now) }
+{
+    let (signed, written) = bytes.split_at(bytes.len() - 32);
+    let digest: [u8; 32] = <Sha256 as sha2::Digest>::digest(signed);
+    if digest.as_slice() != written {
+        return Err(RecordRefusal::BadDigest);
+    }
+    Ok(&signed[8..])
+}
+
 /// The layout, and the bytes between magic and digest.
-#[tactic(auto, unfolding(crate::specs::Records::opened))]
+#[tactic(auto, unfolding(crate::specs::Records::opened_by))]
 fn open(bytes: &[u8]) -> Result<(Layout, &[u8]), RecordRefusal>
     ensures { Gives (λ x. (x.0, x.1.now)) result (opened bytes.now) }
 {
@@ -120,12 +134,8 @@ fn open(bytes: &[u8]) -> Result<(Layout, &[u8]), RecordRefusal>
         return Err(RecordRefusal::Truncated);
     }
     let layout = layout_of(&bytes[..8])?;
-    let (signed, written) = bytes.split_at(bytes.len() - 32);
-    let digest: [u8; 32] = <Sha256 as sha2::Digest>::digest(signed);
-    if digest.as_slice() != written {
-        return Err(RecordRefusal::BadDigest);
-    }
-    Ok((layout, &signed[8..]))
+    let body = signed(bytes)?;
+    Ok((layout, body))
 }
 
 /// The place of the first life of a node above this one.

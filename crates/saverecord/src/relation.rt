@@ -33,7 +33,7 @@ fn versions_up_to(last: u64, versions: &[LineVersion]) -> bool
     versions.iter().all(|version| version.ticket.0 <= last)
 }
 
-fn lines_up_to(last: u64, lines: &[SlotLine]) -> bool
+pub(crate) fn lines_up_to(last: u64, lines: &[SlotLine]) -> bool
     ensures { result ≡ lines_up_to last lines.now }
 {
     lines
@@ -84,7 +84,7 @@ fn clashes(lease: &Lease, others: &[Lease]) -> bool
 }
 
 /// Whether no two leases clash.
-fn are_apart(leases: &[Lease]) -> bool
+pub(crate) fn are_apart(leases: &[Lease]) -> bool
     ensures { result ≡ no_two clash leases.now }
 {
     for (i, lease) in leases.iter().enumerate() {
@@ -116,7 +116,7 @@ fn has_same_private(slot: &(Slot, bool), others: &[(Slot, bool)]) -> bool
 }
 
 /// Whether no two slots are of the same PRIVATE folder.
-fn are_of_own_folders(slots: &[(Slot, bool)]) -> bool
+pub(crate) fn are_of_own_folders(slots: &[(Slot, bool)]) -> bool
     ensures { result ≡ no_two is_same_private slots.now }
 {
     for (i, slot) in slots.iter().enumerate() {
@@ -142,7 +142,7 @@ fn some_shared(slots: &[(Slot, bool)]) -> bool
     slots.iter().any(|held| is_shared(held.0.folder().mode))
 }
 
-fn fits_tenure(lease: &Lease) -> bool
+pub(crate) fn fits_tenure(lease: &Lease) -> bool
     ensures { result ≡ fits_tenure lease.now }
 {
     if lease.tenure {
@@ -195,7 +195,7 @@ fn all_fit(saved: &Record) -> bool
         .all(|lease| fits_record(saved, lease))
 }
 
-fn are_private(slots: &[Slot]) -> bool
+pub(crate) fn are_private(slots: &[Slot]) -> bool
     ensures { result ≡ list_all (λ s. is_private s.folder.mode) slots.now }
 {
     slots.iter().all(|slot| is_private(slot.folder().mode))

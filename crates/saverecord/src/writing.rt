@@ -15,7 +15,7 @@ pub(crate) const MAGIC: &[u8; 8] = b"BKFARM03";
 
 /// The number of the node, or 0 for none.
 #[tactic(auto, unfolding(crate::specs::Spelling::home_bytes))]
-fn put_home(out: &mut Vec<u8>, home: Option<NodeId>) -> Result<(), AllocError>
+pub(crate) fn put_home(out: &mut Vec<u8>, home: Option<NodeId>) -> Result<(), AllocError>
     ensures { OnOk result (out.new.items ≡ out.old.items ++ home_bytes home) }
 {
     match home {

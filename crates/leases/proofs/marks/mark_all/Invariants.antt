@@ -1,7 +1,8 @@
-use Rattle.std.proofs.Common.{◌≡◌, ℕ, ◌<◌, ◌||◌, false, drop, length, get_or}
+use Rattle.std.proofs.Common.{◌≡◌, ℕ, ◌≤◌, ◌||◌, drop}
+use Rattle.leases.specs.Instances.{has}
 use Rattle.leases.specs.Table.{among}
 use Rattle.leases.proofs.marks.mark_all.Given as goal
 
 abbrev pub invariant-loop-slot : goal.invariant-loop-slot
-invariant-loop-slot l = (i : ℕ) → i < length l.marks
-    → (among (drop l.slot-index l.slots) (record { folder = l.folder; instance = i }) || get_or l.marks i false) ≡ (among l.slots (record { folder = l.folder; instance = i }) || get_or l.initial.marks i false)
+invariant-loop-slot l = (i : ℕ) → i ≤ 4096
+    → (among (drop l.slot-index l.slots) (record { folder = l.folder; instance = i }) || has l.marks i) ≡ (among l.slots (record { folder = l.folder; instance = i }) || has l.initial.marks i)

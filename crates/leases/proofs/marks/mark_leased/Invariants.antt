@@ -1,7 +1,8 @@
-use Rattle.std.proofs.Common.{◌≡◌, ℕ, ◌<◌, ◌||◌, false, drop, length, get_or}
+use Rattle.std.proofs.Common.{◌≡◌, ℕ, ◌≤◌, ◌||◌, drop}
 use Rattle.protocol.specs.Ledger.{some_lease}
+use Rattle.leases.specs.Instances.{has}
 use Rattle.leases.proofs.marks.mark_leased.Given as goal
 
 abbrev pub invariant-loop-lease : goal.invariant-loop-lease
-invariant-loop-lease l = (i : ℕ) → i < length l.marks
-    → (some_lease (drop l.lease-index l.leases) (record { folder = l.folder; instance = i }) || get_or l.marks i false) ≡ (some_lease l.leases (record { folder = l.folder; instance = i }) || get_or l.initial.marks i false)
+invariant-loop-lease l = (i : ℕ) → i ≤ 4096
+    → (some_lease (drop l.lease-index l.leases) (record { folder = l.folder; instance = i }) || has l.marks i) ≡ (some_lease l.leases (record { folder = l.folder; instance = i }) || has l.initial.marks i)

@@ -7,14 +7,15 @@ use Rattle.leases.specs.Table.{among}
 use Rattle.leases.proofs.ChangeLemmas.{changed-none}
 use Rattle.coordinator.specs.Shown.{kept}
 use Rattle.coordinator.specs.Waiting.{still_waiting}
+use Rattle.coordinator.specs.Queue.{asks_of}
 use Rattle.coordinator.proofs.WaitingWords.{still-none}
 use Rattle.coordinator.proofs.change.Change.new.Goals as goal
 
-pub returns : goal.returns
-returns c = λ line.
+pub returns-clause-ledger : goal.returns-clause-ledger
+returns-clause-ledger c = λ line.
     let q : Ledger = kept line c.args.base.now in
     let t : Table = c.args.base.now.table in
-    let asks : List Parked = c.args.base.now.parked.asks.items in
+    let asks : List Parked = asks_of c.args.base.now.parked in
     let table : changed t c.new.result ≡ t = ap (changed t) c.new.ensures ∙ changed-none t in
     let waits : still_waiting c.new-2.result.over.items asks ++ c.new-2.result.since.items ≡ asks =
     ap (λ (ms : List Bool). still_waiting ms asks ++ c.new-2.result.since.items) c.new-2.ensures.over

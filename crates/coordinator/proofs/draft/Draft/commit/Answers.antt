@@ -1,9 +1,10 @@
 use Rattle.std.proofs.Common.{◌≡◌, true, Bool, List, Some, ◌++◌, refl, ap, sym, ◌∙◌, subst}
 use Rattle.protocol.specs.Farm.{farm_limits}
 use Rattle.protocol.specs.declared.answer.CoordNote.TheVariants as note
+use Rattle.coordinator.specs.Idle.{AreIdle}
 use Rattle.coordinator.specs.Keeps.{held}
 use Rattle.coordinator.specs.Held.{line_at}
-use Rattle.coordinator.specs.Shown.{LineOf, shown, after, lines_with}
+use Rattle.coordinator.specs.Shown.{LineOf, shown, after, lines_with, ended_committed}
 use Rattle.coordinator.specs.Sound.{IsSound}
 use Rattle.protocol.specs.Machine.{News, digest_for, version_of}
 use Rattle.protocol.specs.Ledger.{Work, retried, notes, lease_under, may_commit, commits, confirms, committing, without}
@@ -21,6 +22,15 @@ retry-requires-clause-sound c =
     let done : shown line (held c.args.base.now) c.end_committed.new.self ≡ commits c.args.ticket c.args.news.now w = c.in_ok-end_committed.ensures line (held c.args.base.now) ∙ ap by c.in_ok-additions.ensures.news in
     let P : Work → Type 0 = λ w. IsSound w.ledger in
     subst P (sym (c.in_ok-confirm.ensures ∙ ap (confirms c.args.node c.args.life c.args.ticket c.args.news.now) done)) (sound-commits c.args.node c.args.life c.args.ticket c.args.news.now w c.requires.sound may)
+
+pub retry-requires-clause-idle : goal.retry-requires-clause-idle
+retry-requires-clause-idle c =
+    let a : Added = record { ticket = c.args.ticket; additions = c.in_ok-additions.additions } in
+    let line : LineOf = lines_with c.args.base.now.lines (Some a) in
+    let w : Work = shown line (held c.args.base.now) c.args.self.now in
+    let P : Work → Type 0 = λ w. AreIdle c.in_ok-freed.freed w.ledger w.ledger.parked in
+    subst P (sym (c.in_ok-confirm.ensures ∙ ap (confirms c.args.node c.args.life c.args.ticket c.args.news.now) (c.in_ok-end_committed.ensures line (held c.args.base.now))))
+    (c.in_ok-freed.ensures (ended_committed c.args.ticket w).ledger refl refl refl)
 
 pub returns-clause-work : goal.returns-clause-work
 returns-clause-work c =

@@ -7,6 +7,8 @@ use Rattle.coordinator.specs.Shown.{LineOf, shown}
 use Rattle.coordinator.specs.Sound.{IsSound}
 use Rattle.protocol.specs.Ledger.{Work, answering}
 use Rattle.coordinator.proofs.Trying.{handled-gone, handled-old, handled-new, handled-same}
+use Rattle.coordinator.specs.Idle.{AreHeldUp}
+use Rattle.coordinator.proofs.HeldUp.{newer_life-held}
 use Rattle.coordinator.proofs.SoundWords.{sound-newer_life}
 use Rattle.coordinator.proofs.draft.Draft.deliver.Goals as goal
 
@@ -31,6 +33,12 @@ answer-requires-clause-sound c =
     let line : LineOf = line_at c.args.base.now.lines in
     let P : Work → Type 0 = λ w. IsSound w.ledger in
     subst P (sym c.in_ok-begin_life.ensures) (sound-newer_life farm_limits c.args.message.now.node c.args.message.now.life (shown line (held c.args.base.now) c.args.self.now) c.requires.sound)
+
+pub answer-requires-clause-held_up : goal.answer-requires-clause-held_up
+answer-requires-clause-held_up c =
+    let line : LineOf = line_at c.args.base.now.lines in
+    let P : Work → Type 0 = λ w. AreHeldUp w.ledger in
+    subst P (sym c.in_ok-begin_life.ensures) (newer_life-held farm_limits c.args.message.now.node c.args.message.now.life (shown line (held c.args.base.now) c.args.self.now) c.requires.held_up)
 
 pub returns-then-seen-message-clause-work : goal.returns-then-seen-message-clause-work
 returns-then-seen-message-clause-work c =

@@ -5,7 +5,7 @@ use Rattle.protocol.specs.Ledger.{Ledger, Work}
 use Rattle.coordinator.specs.Shown.{kept}
 use Rattle.coordinator.proofs.draft.Draft.new.Goals as goal
 
-pub returns : goal.returns
-returns c = λ line.
+pub returns-clause-work : goal.returns-clause-work
+returns-clause-work c = λ line.
     let by : (Ledger → List FromCoord → Work) = λ q sends. record { ledger = q; sends = sends; changed = false; note = note.Nothing } in
-    ap (λ (q : Ledger). by q c.new-2.result.items) (c.in_ok-change.ensures line) ∙ ap (by (kept line c.args.base.now)) c.new-2.ensures.items
+    ap (λ (q : Ledger). by q c.new-2.result.items) (c.in_ok-change.ensures.ledger line) ∙ ap (by (kept line c.args.base.now)) c.new-2.ensures.items

@@ -1,9 +1,10 @@
-use Rattle.std.proofs.Common.{◌≡◌, true, ap, sym, ◌∙◌, subst}
+use Rattle.std.proofs.Common.{◌≡◌, true, refl, ap, sym, ◌∙◌, subst}
 use Rattle.protocol.specs.Farm.{farm_limits}
 use Rattle.protocol.specs.declared.answer.CoordNote.TheVariants as note
+use Rattle.coordinator.specs.Idle.{AreIdle}
 use Rattle.coordinator.specs.Keeps.{held}
 use Rattle.coordinator.specs.Held.{line_at}
-use Rattle.coordinator.specs.Shown.{LineOf, shown}
+use Rattle.coordinator.specs.Shown.{LineOf, shown, ended}
 use Rattle.coordinator.specs.Sound.{IsSound}
 use Rattle.protocol.specs.Ledger.{Work, retried, notes, lease_under, may_release}
 use Rattle.coordinator.proofs.Trying.{may_release-some, released-is, ended-is}
@@ -17,6 +18,13 @@ retry-requires-clause-sound c =
     let r = may_release-some c.args.node c.args.life (lease_under w.ledger.live c.args.ticket) (sym c.may_release.ensures ∙ c.if-not-may_release.false) in
     let P : Work → Type 0 = λ w. IsSound w.ledger in
     subst P (sym (c.in_ok-end.ensures line ∙ ended-is c.args.ticket w r.0 r.1)) (sound-ends r.0 w c.requires.sound)
+
+pub retry-requires-clause-idle : goal.retry-requires-clause-idle
+retry-requires-clause-idle c =
+    let line : LineOf = line_at c.args.base.now.lines in
+    let w : Work = shown line (held c.args.base.now) c.args.self.now in
+    let P : Work → Type 0 = λ w. AreIdle c.in_ok-freed.freed w.ledger w.ledger.parked in
+    subst P (sym (c.in_ok-end.ensures line)) (c.in_ok-freed.ensures (ended c.args.ticket w).ledger refl refl refl)
 
 pub returns : goal.returns
 returns c =

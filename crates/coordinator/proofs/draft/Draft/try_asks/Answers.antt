@@ -1,15 +1,19 @@
 use Rattle.std.proofs.Common.{◌≡◌, ◌+◌, ◌<◌, length, ◌++◌, ◌∷◌, [], Bool, true, false, cond, List, drop, ap, sym, ◌∙◌, subst, arith, append-nil, append_assoc}
+use Rattle.std.proofs.lemmas.Bool.{eqb-true}
 use Rattle.std.proofs.lemmas.Grind.{common_steps}
+use Rattle.std.proofs.lemmas.List.{nil_from_length}
 use Rattle.farm_base.specs.Wanted.{IsWants}
 use Rattle.protocol.specs.Farm.{farm_limits}
 use Rattle.protocol.specs.Machine.{Parked}
 use Rattle.protocol.specs.Ledger.{Work, try_all, waiting, tried}
 use Rattle.leases.proofs.MarkLemmas.{drop-item}
+use Rattle.coordinator.specs.Idle.{AreIdle}
 use Rattle.coordinator.specs.Keeps.{held}
 use Rattle.coordinator.specs.Shown.{LineOf, shown, lines_with}
 use Rattle.coordinator.specs.Sound.{IsSound}
 use Rattle.coordinator.specs.Waiting.{first_mark, later_marks, still_waiting}
 use Rattle.coordinator.proofs.SoundWords.{sound-tried}
+use Rattle.coordinator.proofs.IdleWords.{are-idle-next, are-idle-wait, skipped-work, skipped-waiting}
 use Rattle.coordinator.proofs.WaitingWords.{try-next, stay-next}
 use Rattle.coordinator.proofs.draft.Draft.try_asks.Goals as goal
 
@@ -44,7 +48,26 @@ loop-p-preserved c =
           (ap (still_waiting (_ ∷ ms)) first ∙ one ∙ ap (λ (ps : List Parked). waiting farm_limits (still_waiting c.loop-p.marks.now ps) w) (sym first)));
       sound = sound-unless p b w w' c.in_ok-try_unless.ensures.work c.loop-p.invariant.sound (subst (λ (x : Parked). IsWants x.wants) (sym c.p-item.is) (c.loop-p.invariant.wants i p inside));
       wants = c.loop-p.invariant.wants;
+      idle = subst (λ (ms : List Bool). AreIdle c.args.freed.now w'.ledger (still_waiting ms (drop (i + 1) items))) (sym rest)
+          (are-idle-next farm_limits c.args.freed.now p c.loop-p.marks.now (drop (i + 1) items) w w' b mark c.in_ok-try_unless.ensures.work
+          (subst (λ (ps : List Parked). AreIdle c.args.freed.now w.ledger (still_waiting c.loop-p.marks.now ps)) first c.loop-p.invariant.idle));
     }
+
+pub returns-then-are_leased_again-clause-work : goal.returns-then-are_leased_again-clause-work
+returns-then-are_leased_again-clause-work c =
+    let w : Work = shown (lines_with c.args.base.now.lines c.args.added.now) (held c.args.base.now) c.loop-p.self in
+    let ps : List Parked = still_waiting c.loop-p.marks.now (drop c.loop-p.p-index c.args.asks.now) in
+    sym (skipped-work farm_limits ps w (are-idle-wait farm_limits c.args.freed.now w.ledger ps c.loop-p.invariant.idle (sym c.are_leased_again.ensures ∙ c.if-are_leased_again.true))) ∙ c.loop-p.invariant.work
+
+pub returns-then-are_leased_again-clause-stay : goal.returns-then-are_leased_again-clause-stay
+returns-then-are_leased_again-clause-stay c =
+    let w : Work = shown (lines_with c.args.base.now.lines c.args.added.now) (held c.args.base.now) c.loop-p.self in
+    let ps : List Parked = still_waiting c.loop-p.marks.now (drop c.loop-p.p-index c.args.asks.now) in
+    let waits : waiting farm_limits ps w ≡ ps = skipped-waiting farm_limits ps w (are-idle-wait farm_limits c.args.freed.now w.ledger ps c.loop-p.invariant.idle (sym c.are_leased_again.ensures ∙ c.if-are_leased_again.true)) in
+    let none : c.loop-p.marks.now ≡ [] =
+    (let zero : length c.loop-p.marks.now ≡ 0 = eqb-true (length c.loop-p.marks.now) 0 (sym c.is_empty.ensures ∙ c.if-is_empty.true) in nil_from_length c.loop-p.marks.now (omega arith)) in
+    c.some_set.ensures c.args.asks.now ∙ ap (λ (xs : List Bool). still_waiting xs c.args.asks.now) (sym (append-nil c.loop-p.done.items))
+    ∙ c.loop-p.invariant.stay [] (ap (λ (ms : List Bool). still_waiting ms (drop c.loop-p.p-index c.args.asks.now)) (sym none) ∙ sym waits)
 
 pub returns-clause-work : goal.returns-clause-work
 returns-clause-work c =
@@ -57,5 +80,5 @@ returns-clause-stay c =
     let line : LineOf = lines_with c.args.base.now.lines c.args.added.now in
     let none : drop c.loop-p.p-index c.args.asks.now ≡ [] = grind (arith, common_steps) in
     let waits : (List Parked → List Parked) = λ ps. waiting farm_limits (still_waiting c.loop-p.marks.now ps) (shown line (held c.args.base.now) c.loop-p.self) in
-    c.some_set.ensures c.args.asks.now ∙ ap (λ (xs : List Bool). still_waiting xs c.args.asks.now) (sym (append-nil c.loop-p.done.items))
+    c.some_set-2.ensures c.args.asks.now ∙ ap (λ (xs : List Bool). still_waiting xs c.args.asks.now) (sym (append-nil c.loop-p.done.items))
     ∙ c.loop-p.invariant.stay [] (ap (still_waiting []) none ∙ ap waits (sym none))

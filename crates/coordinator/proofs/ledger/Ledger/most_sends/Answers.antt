@@ -1,10 +1,13 @@
-use Rattle.std.proofs.Common.{◌≡◌, length, ap, arith}
+use Rattle.std.proofs.Common.{◌≡◌, List, length, ap, arith}
+use Rattle.protocol.specs.Machine.{Parked}
 use Rattle.protocol.specs.Farm.{farm_limits}
 use Rattle.coordinator.specs.Held.{Held, ledger}
 use Rattle.coordinator.proofs.Sends.{handled_few}
+use Rattle.coordinator.specs.Queue.{asks_of}
 use Rattle.coordinator.proofs.ledger.Ledger.most_sends.Goals as goal
 
 pub returns : goal.returns
 returns c = λ y.
-    let parked : length c.self.inside.state.parked.asks.items ≡ length c.args.self.now.parked = ap (λ (h : Held). length h.parked) c.self.view_is in
-    omega (arith, handled_few farm_limits y (ledger c.args.self.now), parked, c.len.ensures, c.self.inside.state.parked.asks.ok.0)
+    let waiting : length c.waiting.result.now ≡ length (asks_of c.self.inside.state.parked) = ap (λ (ps : List Parked). length ps) c.waiting.ensures in
+    let parked : length (asks_of c.self.inside.state.parked) ≡ length c.args.self.now.parked = ap (λ (h : Held). length h.parked) c.self.view_is in
+    omega (arith, handled_few farm_limits y (ledger c.args.self.now), parked, waiting)

@@ -24,4 +24,4 @@ pub returns : goal.returns
 returns c =
     let q : (Held → Ledger) = λ h. after (lines_with h.lines c.args.prepared.now.added) h c.args.prepared.now.draft.change in
     let saved : saves (ledger_of c.in_ok-record.record) ≡ saves (q c.args.self.now) = ap saves c.in_ok-record.ensures.ledger ∙ saves_again (q (held c.self.inside.state)) ∙ ap (λ (h : Held). saves (q h)) c.self.view_is in
-    IfOk-weaker c.write.result _ (λ bytes. Holds (whole_alone bytes.items) (saves (q c.args.self.now))) (λ bytes again. whole_holds bytes.items c.in_ok-record.record (saves (q c.args.self.now)) again saved) c.write.ensures.again
+    IfOk-weaker c.write.result _ (λ bytes. Holds (whole_alone bytes.items) (saves (q c.args.self.now))) (λ bytes again. whole_holds bytes.items c.in_ok-record.record (saves (q c.args.self.now)) c.in_ok-record.ensures.kept again saved) c.write.ensures.again

@@ -1,4 +1,4 @@
-use Rattle.std.proofs.Common.{◌≡◌, false, Ok, Err, inl, inr, refl, sym, ap, ◌∙◌, subst}
+use Rattle.std.proofs.Common.{◌≡◌, true, false, Result, Ok, Err, inl, inr, refl, sym, ap, ◌∙◌, subst}
 use Rattle.protocol.specs.Ledger.{Ledger, Work, saves}
 use Rattle.protocol.specs.declared.answer.CoordRefusal.{CoordRefusal}
 use Rattle.protocol.specs.declared.answer.CoordRefusal.TheVariants.{SaveFault, OutOfMemory}
@@ -12,9 +12,21 @@ use Rattle.coordinator.specs.Settling.{Answers, is_save_fault}
 use Rattle.coordinator.specs.Shown.{LineOf, kept, after, shown, lines_with}
 use Rattle.coordinator.specs.Sound.{IsRightful}
 use Rattle.coordinator.specs.Promises.{OnlyGrow}
-use Rattle.coordinator.proofs.Kept.{grows}
+use Rattle.coordinator.proofs.Kept.{grows, stays}
 use Rattle.coordinator.proofs.Keeping.{holds_after, saved_ok, saved_not}
+use Rattle.coordinator.specs.Queue.{asks_of}
 use Rattle.coordinator.proofs.ledger.Ledger.settle.Goals as goal
+
+-- in places of their own, since a search at a goal below would read all that is known there
+
+err_is : {A : Type 0} (x y : Result A CoordRefusal) (a b : CoordRefusal) → x ≡ Err a → y ≡ Err b → x ≡ y → a ≡ b
+err_is x y a b is also e = cc (is, also, e)
+
+not_memory : {P : Type 0} → SaveFault ≡ OutOfMemory → P
+not_memory e = absurd (cc e)
+
+not_down : {P : Type 0} → true ≡ false → P
+not_down e = absurd (cc e)
 
 pub invariant_of-self-in-Ok-save : goal.invariant_of-self-in-Ok-save
 invariant_of-self-in-Ok-save g c =
@@ -22,9 +34,9 @@ invariant_of-self-in-Ok-save g c =
     let h : Held = c.args.self.now in
     let change : Change = c.args.prepared.draft.change in
     let table : c.in-Ok-with_room.table.table ≡ s.table = c.in-Ok-with_room.ensures.table ∙ c.replace-table.ensures.value in
-    let parked : c.room.new.parked.asks.items ≡ s.parked.asks.items = c.in-Ok-room.ensures.parked in
+    let parked : (asks_of c.room.new.parked) ≡ (asks_of s.parked) = c.in-Ok-room.ensures.parked in
     let was : held s ≡ h = c.self.view_is in
-    let base : record (held s) { live = c.in-Ok-with_room.table.table.live; retired = c.in-Ok-with_room.table.table.retired; parked = c.room.new.parked.asks.items } ≡ h =
+    let base : record (held s) { live = c.in-Ok-with_room.table.table.live; retired = c.in-Ok-with_room.table.table.retired; parked = (asks_of c.room.new.parked) } ≡ h =
     (λ j. record (held s) { live = (table j).live; retired = (table j).retired; parked = parked j }) ∙ was in
     let lines : line_at c.apply.new.state.lines ≡ lines_with h.lines c.args.prepared.added = c.apply.ensures.lines ∙ ap (λ (x : Held). lines_with x.lines c.args.prepared.added) was in
     let ledger_is : kept (line_at c.apply.new.state.lines) c.apply.new.state ≡ after (lines_with h.lines c.args.prepared.added) h change =
@@ -37,9 +49,9 @@ returns-in-Ok-save-clause-answer g c =
     let h : Held = c.args.self.now in
     let change : Change = c.args.prepared.draft.change in
     let table : c.in-Ok-with_room.table.table ≡ s.table = c.in-Ok-with_room.ensures.table ∙ c.replace-table.ensures.value in
-    let parked : c.room.new.parked.asks.items ≡ s.parked.asks.items = c.in-Ok-room.ensures.parked in
+    let parked : (asks_of c.room.new.parked) ≡ (asks_of s.parked) = c.in-Ok-room.ensures.parked in
     let was : held s ≡ h = c.self.view_is in
-    let base : record (held s) { live = c.in-Ok-with_room.table.table.live; retired = c.in-Ok-with_room.table.table.retired; parked = c.room.new.parked.asks.items } ≡ h =
+    let base : record (held s) { live = c.in-Ok-with_room.table.table.live; retired = c.in-Ok-with_room.table.table.retired; parked = (asks_of c.room.new.parked) } ≡ h =
     (λ j. record (held s) { live = (table j).live; retired = (table j).retired; parked = parked j }) ∙ was in
     let lines : line_at c.apply.new.state.lines ≡ lines_with h.lines c.args.prepared.added = c.apply.ensures.lines ∙ ap (λ (x : Held). lines_with x.lines c.args.prepared.added) was in
     let ledger_is : kept (line_at c.apply.new.state.lines) c.apply.new.state ≡ after (lines_with h.lines c.args.prepared.added) h change =
@@ -60,9 +72,9 @@ returns-in-Ok-save-clause-keeping g c =
     let h : Held = c.args.self.now in
     let change : Change = c.args.prepared.draft.change in
     let table : c.in-Ok-with_room.table.table ≡ s.table = c.in-Ok-with_room.ensures.table ∙ c.replace-table.ensures.value in
-    let parked : c.room.new.parked.asks.items ≡ s.parked.asks.items = c.in-Ok-room.ensures.parked in
+    let parked : (asks_of c.room.new.parked) ≡ (asks_of s.parked) = c.in-Ok-room.ensures.parked in
     let was : held s ≡ h = c.self.view_is in
-    let base : record (held s) { live = c.in-Ok-with_room.table.table.live; retired = c.in-Ok-with_room.table.table.retired; parked = c.room.new.parked.asks.items } ≡ h =
+    let base : record (held s) { live = c.in-Ok-with_room.table.table.live; retired = c.in-Ok-with_room.table.table.retired; parked = (asks_of c.room.new.parked) } ≡ h =
     (λ j. record (held s) { live = (table j).live; retired = (table j).retired; parked = parked j }) ∙ was in
     let lines : line_at c.apply.new.state.lines ≡ lines_with h.lines c.args.prepared.added = c.apply.ensures.lines ∙ ap (λ (x : Held). lines_with x.lines c.args.prepared.added) was in
     let ledger_is : kept (line_at c.apply.new.state.lines) c.apply.new.state ≡ after (lines_with h.lines c.args.prepared.added) h change =
@@ -88,9 +100,9 @@ returns-in-Err-save-clause-answer g c =
     let h : Held = c.args.self.now in
     let change : Change = c.args.prepared.draft.change in
     let table : c.into_table.result ≡ s.table = c.into_table.ensures ∙ c.in-Ok-with_room.ensures.table ∙ c.replace-table.ensures.value in
-    let parked : c.room.new.parked.asks.items ≡ s.parked.asks.items = c.in-Ok-room.ensures.parked in
+    let parked : (asks_of c.room.new.parked) ≡ (asks_of s.parked) = c.in-Ok-room.ensures.parked in
     let was : held s ≡ h = c.self.view_is in
-    let now : Held = record (held s) { live = c.into_table.result.live; retired = c.into_table.result.retired; parked = c.room.new.parked.asks.items } in
+    let now : Held = record (held s) { live = c.into_table.result.live; retired = c.into_table.result.retired; parked = (asks_of c.room.new.parked) } in
     let same : now ≡ h = (λ j. record (held s) { live = (table j).live; retired = (table j).retired; parked = parked j }) ∙ was in
     let before : Holds (g.K.Keeper.kept c.args.keeper.now) (saves (ledger h)) = subst (Holds (g.K.Keeper.kept c.args.keeper.now)) (c.requires.keeping.up refl) c.requires.keeping.holds in
     let w : Work = shown (lines_with h.lines c.args.prepared.added) h c.args.prepared.draft in
@@ -98,7 +110,7 @@ returns-in-Err-save-clause-answer g c =
     elim c.in-Err-save.ensures.refusals [
       | inl e ↦ subst P (sym e)
           (let failed = saved_not g.K.Keeper.saving c.in-Ok.to_save c.args.prepared.draft.changed (saves (ledger h)) (saves w.ledger) (g.K.Keeper.kept c.args.keeper.now) c.args.keeper.now c.save.new.keeper
-          c.in-Ok.ensures.changed c.in-Ok.ensures.text before c.in-Err-save.ensures.exact (λ f. (let bad : SaveFault ≡ OutOfMemory = sym e ∙ ap (λ r. r) (cc f) in cc bad)) (λ f. (c.in-Err-save.ensures.nothing f).0) in
+          c.in-Ok.ensures.changed c.in-Ok.ensures.text before c.in-Err-save.ensures.exact (λ f. not_memory (sym e ∙ err_is _ _ _ _ refl refl f)) (λ f. (c.in-Err-save.ensures.nothing f).0) in
           record { changed = failed.0; saved = failed.1; held = same; down = refl })
       | inr e ↦ subst P (sym e) (refl, (let stays = c.in-Err-save.ensures.same (ap (λ r. Err r) e) in λ j. record { held = same j; keeper = stays j; down = false }))
     ]
@@ -109,24 +121,34 @@ returns-in-Err-save-clause-keeping g c =
     let h : Held = c.args.self.now in
     let change : Change = c.args.prepared.draft.change in
     let table : c.into_table.result ≡ s.table = c.into_table.ensures ∙ c.in-Ok-with_room.ensures.table ∙ c.replace-table.ensures.value in
-    let parked : c.room.new.parked.asks.items ≡ s.parked.asks.items = c.in-Ok-room.ensures.parked in
+    let parked : (asks_of c.room.new.parked) ≡ (asks_of s.parked) = c.in-Ok-room.ensures.parked in
     let was : held s ≡ h = c.self.view_is in
-    let now : Held = record (held s) { live = c.into_table.result.live; retired = c.into_table.result.retired; parked = c.room.new.parked.asks.items } in
+    let now : Held = record (held s) { live = c.into_table.result.live; retired = c.into_table.result.retired; parked = (asks_of c.room.new.parked) } in
     let same : now ≡ h = (λ j. record (held s) { live = (table j).live; retired = (table j).retired; parked = parked j }) ∙ was in
     let before : Holds (g.K.Keeper.kept c.args.keeper.now) (saves (ledger h)) = subst (Holds (g.K.Keeper.kept c.args.keeper.now)) (c.requires.keeping.up refl) c.requires.keeping.holds in
     let w : Work = shown (lines_with h.lines c.args.prepared.added) h c.args.prepared.draft in
     let P : CoordRefusal → Type 0 = λ r. IsKeeping (g.K.Keeper.kept c.save.new.keeper) now (is_save_fault (Err r)) in
     elim c.in-Err-save.ensures.refusals [
       | inl e ↦ subst P (sym e) (elim c.in-Err-save.ensures.fault [
-        | inl old ↦ record { saved = c.requires.keeping.saved; holds = subst (λ t. Holds t c.requires.keeping.saved) (sym old) c.requires.keeping.holds; up = λ d. absurd (cc d) }
+        | inl old ↦ record { saved = c.requires.keeping.saved; holds = subst (λ t. Holds t c.requires.keeping.saved) (sym old) c.requires.keeping.holds; up = λ d. not_down d }
         | inr new ↦ record {
           saved = saves w.ledger;
           holds = holds_after c.in-Ok.to_save c.args.prepared.draft.changed (saves (ledger h)) (saves w.ledger) (g.K.Keeper.kept c.args.keeper.now) (g.K.Keeper.kept c.save.new.keeper)
               c.in-Ok.ensures.changed c.in-Ok.ensures.text c.requires.told before new;
-          up = λ d. absurd (cc d);
+          up = λ d. not_down d;
         }
       ])
       | inr e ↦ subst P (sym e)
           (let stays = c.in-Err-save.ensures.same (ap (λ r. Err r) e) in
           subst (λ k. IsKeeping (g.K.Keeper.kept k) now false) (sym stays) (subst (λ (x : Held). IsKeeping (g.K.Keeper.kept c.args.keeper.now) x false) (sym same) c.requires.keeping))
     ]
+
+pub returns-in-Err-clause-grow : goal.returns-in-Err-clause-grow
+returns-in-Err-clause-grow g c =
+    let s : State = c.self.inside.state in
+    subst (λ (x : Held). OnlyGrow (line_at x.lines) (line_at s.lines)) c.self.view_is (stays (line_at s.lines))
+
+pub returns-in-Err-save-clause-grow : goal.returns-in-Err-save-clause-grow
+returns-in-Err-save-clause-grow g c =
+    let s : State = c.self.inside.state in
+    subst (λ (x : Held). OnlyGrow (line_at x.lines) (line_at s.lines)) c.self.view_is (stays (line_at s.lines))

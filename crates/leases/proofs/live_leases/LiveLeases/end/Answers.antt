@@ -1,13 +1,16 @@
-use Rattle.std.proofs.Common.{◌≡◌, List, Some, not, ap, subst, sym, ◌∙◌, length, arith}
+use Rattle.std.proofs.Common.{◌≡◌, List, Bool, Some, not, ◌&&◌, ap, subst, sym, ◌∙◌, length, arith}
 use Rattle.std.specs.Prelude.{AllPairs}
 use Rattle.std.specs.List.{find, position_from}
 use Rattle.farm_base.specs.declared.lease.Lease.{Lease}
 use Rattle.protocol.specs.Ledger.{has_ticket, without}
 use Rattle.leases.specs.Index.{ticket_at, AreIndexed}
+use Rattle.leases.specs.Instances.{is_taken, AreTaken}
 use Rattle.leases.specs.Leases.{AreLeases, IsBefore}
 use Rattle.leases.specs.Newest.{AreNoted}
 use Rattle.leases.proofs.IndexLemmas.{indexed-ended}
 use Rattle.leases.proofs.NewestLemmas.{noted-filter}
+use Rattle.leases.proofs.FindLemmas.{ticket_once}
+use Rattle.leases.proofs.TakenLemmas.{taken-failing, any_with-once}
 use Rattle.leases.proofs.TableLemmas.{StandsAt, stands, missing, leases-filter}
 use Rattle.leases.proofs.live_leases.LiveLeases.end.Goals as goal
 
@@ -47,5 +50,10 @@ invariant_of-self c =
       sound = subst AreLeases (sym rest) (leases-filter (λ g. not (has_ticket c.args.ticket g)) live c.self.invariant.sound);
       indexed = subst (AreIndexed (ticket_at c.forget.new.index)) (sym rest)
           (indexed-ended (ticket_at c.self.inside.by_folder) (ticket_at c.forget.new.index) c.args.ticket live c.remove-lease.result found c.forget.ensures.others c.self.invariant.indexed);
+      taken_is = subst (AreTaken (is_taken c.remove_lease.new.self)) (sym rest)
+          (taken-failing (has_ticket c.args.ticket) (is_taken c.self.inside.taken) (is_taken c.remove_lease.new.self) live c.self.invariant.sound.apart c.self.invariant.taken_is
+          (λ f i to. c.remove_lease.ensures.free f i to
+          ∙ ap (λ (b : Bool). not b && is_taken c.self.inside.taken f i)
+          (sym (any_with-once (has_ticket c.args.ticket) live (record { folder = f; instance = i }) c.remove-lease.result (ticket_once c.args.ticket live c.self.invariant.sound.tickets) found))));
       noted = subst (AreNoted c.self.inside.newest) (sym rest) (noted-filter c.self.inside.newest (λ g. not (has_ticket c.args.ticket g)) live c.self.invariant.noted);
     }

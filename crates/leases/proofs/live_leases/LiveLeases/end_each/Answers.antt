@@ -7,6 +7,7 @@ loop-ending-preserved c = record {
   rest = ended_next c.args.ended.now c.loop-ending.ending-index _ _ c.loop-ending.self.leases c.end_all.new.self.leases (omega arith) refl c.end_all.ensures.rest ∙ c.loop-ending.invariant.rest;
   room = c.end_all.ensures.room ∙ c.loop-ending.invariant.room;
   folders = omega (arith, c.end_all.ensures.folders, c.loop-ending.invariant.folders);
+  taken = omega (arith, c.end_all.ensures.taken, c.loop-ending.invariant.taken);
   asks = c.end_all.ensures.asks ∙ c.loop-ending.invariant.asks;
 }
 

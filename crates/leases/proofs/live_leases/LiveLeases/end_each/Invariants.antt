@@ -7,5 +7,6 @@ invariant-loop-ending l = record {
   rest : filter (λ g. not (has_ended (drop l.ending-index l.ended) g)) l.self.leases ≡ filter (λ g. not (has_ended l.ended g)) l.initial.self.leases;
   room : l.self.lease_room ≡ l.initial.self.lease_room;
   folders : l.initial.self.index_room ≤ l.self.index_room;
+  taken : l.initial.self.instance_room ≤ l.self.instance_room;
   asks : l.self.ask_room ≡ l.initial.self.ask_room;
 }

@@ -16,6 +16,12 @@ add_all-requires-clause-room c =
     let has = ap (λ (r : RoomyTable). length r.table.live) c.self.view_is in
     omega (arith, c.requires.room.leases)
 
+pub add_all-requires-clause-taken : goal.add_all-requires-clause-taken
+add_all-requires-clause-taken c =
+    let room = ap (λ (r : RoomyTable). r.instance_room) c.self.view_is in
+    let new = ap (λ (r : RoomyTable). length r.instances) c.self.view_is in
+    omega (arith, c.requires.room.taken, c.end_each.ensures.taken)
+
 pub add_all-requires-clause-sound : goal.add_all-requires-clause-sound
 add_all-requires-clause-sound c =
     let left : Lease → Bool = λ g. not (has_ended c.args.change.ended g) in
@@ -34,8 +40,8 @@ returns c =
     ∙ ap (λ (r : RoomyTable). filter left r.table.live) c.self.view_is in
     let live : c.end_each.new.self.leases ++ c.into_parts-ended.result.1.items ≡ filter left c.args.self.table.live ++ c.args.change.granted =
     ap (λ (gs : List Lease). gs ++ c.into_parts-ended.result.1.items) kept ∙ ap (λ (gs : List Lease). filter left c.args.self.table.live ++ gs) c.into_parts-ended.ensures.granted in
-    let retired : c.joined.result.items ≡ c.args.self.table.retired ++ c.args.change.retired =
-    c.joined.ensures ∙ ap (λ (ss : List Slot). c.self.inside.retired.items ++ ss) c.into_parts-ended.ensures.retired ∙ ap (λ (r : RoomyTable). r.table.retired ++ c.args.change.retired) c.self.view_is in
+    let retired : c.add_all-2.new.self.slots ≡ c.args.self.table.retired ++ c.args.change.retired =
+    c.add_all-2.ensures ∙ ap (λ (ss : List Slot). c.self.inside.retired.slots ++ ss) c.into_parts-ended.ensures.retired ∙ ap (λ (r : RoomyTable). r.table.retired ++ c.args.change.retired) c.self.view_is in
     let live_is = c.of.ensures.live ∙ c.add_all.ensures ∙ live in
     let retired_is = c.of.ensures.retired ∙ retired in
     λ j. record { live = live_is j; retired = retired_is j }

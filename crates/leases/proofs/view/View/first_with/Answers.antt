@@ -1,17 +1,25 @@
-use Rattle.std.proofs.Common.{◌∙◌, not, filter, ap, rules, tests}
-use Rattle.std.specs.List.{find}
+use Rattle.std.proofs.Common.{◌≡◌, ◌∙◌, List, filter, not, Option, ap, sym, rules, tests}
+use Rattle.std.proofs.lemmas.List.Folds.{find-append}
 use Rattle.std.proofs.lemmas.Iterator.{YieldsList-from_slice}
-use Rattle.std.proofs.lemmas.Iterator.Consumers.{YieldsList-from_filter, YieldsList-from_chain, YieldsList-at}
 use Rattle.std.proofs.lemmas.Iterator.Search.{find_from_yields_List}
-use Rattle.leases.specs.Table.{holds_some, takes}
+use Rattle.std.specs.List.{find}
+use Rattle.std.specs.Option.{option_copied, option_or}
+use Rattle.farm_base.specs.declared.lease.Lease.{Lease}
 use Rattle.leases.specs.Changes.{has_ended}
 use Rattle.leases.specs.Leases.{Table}
+use Rattle.leases.specs.Table.{holds_some, takes}
+use Rattle.leases.proofs.FindLemmas.{copied_or}
 use Rattle.leases.proofs.view.View.first_with.Goals as goal
 
 pub returns : goal.returns
 returns c =
-    find_from_yields_List (holds_some (filter (takes c.args.tenure) c.args.wants.now)) _ _ _ c.find.ensures.ran
-    (YieldsList-from_chain (YieldsList-at c.chain.ensures.first (YieldsList-from_filter _ (λ g. not (has_ended c.self.inside.ended.now g)) (YieldsList-from_slice c.self.inside.live.now.leases cc) c.filter.ensures.closure (λ x b q k. search (rules, tests))))
-    (YieldsList-from_slice c.self.inside.granted.now cc) c.chain.ensures.first_done c.chain.ensures.second_done)
-    (λ x b q k. search (rules, tests))
-    ∙ ap (λ (t : Table). find (holds_some (filter (takes c.args.tenure) c.args.wants.now)) t.live) c.self.view_is
+    let live : List Lease = filter (λ g. not (has_ended c.self.inside.ended.now g)) c.self.inside.live.now.leases in
+    let has = holds_some (filter (takes c.args.tenure) c.args.wants.now) in
+    let granted : option_copied c.find.result ≡ find has c.self.inside.granted.now =
+    find_from_yields_List has _ _ _ c.find.ensures.ran (YieldsList-from_slice c.self.inside.granted.now cc) (λ x b q k. search (rules, tests)) in
+    ap option_copied c.or.ensures
+    ∙ copied_or c.oldest_beside.result c.find.result
+    ∙ ap (λ (o : Option Lease). option_or o (option_copied c.find.result)) c.oldest_beside.ensures
+    ∙ ap (option_or (find has live)) granted
+    ∙ sym (find-append has live c.self.inside.granted.now)
+    ∙ ap (λ (t : Table). find has t.live) c.self.view_is

@@ -1,21 +1,20 @@
-use Rattle.std.proofs.Common.{◌≡◌, ◌+◌, ◌-◌, false, not, get_or, sym, ◌∙◌, ap, arith}
+use Rattle.std.proofs.Common.{Bool, ◌||◌, sym, ◌∙◌, ap, arith}
+use Rattle.std.proofs.lemmas.Bool.{ne_eqb}
+use Rattle.leases.specs.Instances.{has}
 use Rattle.leases.specs.Table.{is_free}
-use Rattle.leases.proofs.MarkLemmas.{free-unmarked}
-use Rattle.leases.proofs.TableLemmas.{lowest-end, lowest-free, lowest-taken}
+use Rattle.leases.proofs.TableLemmas.{lowest-missing, lowest-all_there}
 use Rattle.leases.proofs.view.View.lowest.Goals as goal
 
-pub returns-then-not-marks-instance-clause-value : goal.returns-then-not-marks-instance-clause-value
-returns-then-not-marks-instance-clause-value c =
-    let i = c.loop-instance.instance in
-    let free : is_free c.args.self.now (record { folder = c.args.folder.now; instance = i }) ≡ not (get_or c.mark_taken.new.marks i false) = free-unmarked _ _ 4097 i (c.mark_taken.ensures i c.loop-instance-test.true) in
-    sym (c.loop-instance.invariant ∙ lowest-free (is_free c.args.self.now) c.args.folder.now i (4097 - i) (omega arith) (free ∙ ap not c.if-not-marks-instance.true))
+pub returns-then-lowest-le-INSTANCES-clause-value :
+    goal.returns-then-lowest-le-INSTANCES-clause-value
+returns-then-lowest-le-INSTANCES-clause-value c =
+    sym (lowest-missing (is_free c.args.self.now) c.args.folder.now (has c.insert.new.self) c.lowest_missing-lowest.result
+    (λ i from to. c.insert.ensures i to ∙ ap (λ (b : Bool). b || has c.taken-taken.result i) (ne_eqb 0 i (λ same. omega arith)) ∙ c.taken-taken.ensures i from to)
+    (c.insert.ensures 0 (omega arith)) c.if-lowest-le-INSTANCES.true (c.lowest_missing-lowest.ensures.missing c.if-lowest-le-INSTANCES.true) c.lowest_missing-lowest.ensures.below)
 
-pub loop-instance-preserved : goal.loop-instance-preserved
-loop-instance-preserved c =
-    let i = c.loop-instance.instance in
-    let free : is_free c.args.self.now (record { folder = c.args.folder.now; instance = i }) ≡ not (get_or c.mark_taken.new.marks i false) = free-unmarked _ _ 4097 i (c.mark_taken.ensures i c.loop-instance-test.true) in
-    c.loop-instance.invariant ∙ lowest-taken (is_free c.args.self.now) c.args.folder.now i (4097 - i) (4097 - (i + 1)) (omega arith) (free ∙ ap not c.if-not-marks-instance.false)
-
-pub returns-clause-value : goal.returns-clause-value
-returns-clause-value c =
-    sym (c.loop-instance.invariant ∙ lowest-end (is_free c.args.self.now) c.args.folder.now c.loop-instance.instance _ (omega arith))
+pub returns-else-lowest-le-INSTANCES-clause-value :
+    goal.returns-else-lowest-le-INSTANCES-clause-value
+returns-else-lowest-le-INSTANCES-clause-value c =
+    sym (lowest-all_there (is_free c.args.self.now) c.args.folder.now (has c.insert.new.self) c.lowest_missing-lowest.result
+    (λ i from to. c.insert.ensures i to ∙ ap (λ (b : Bool). b || has c.taken-taken.result i) (ne_eqb 0 i (λ same. omega arith)) ∙ c.taken-taken.ensures i from to)
+    (omega arith) c.lowest_missing-lowest.ensures.below)

@@ -1,6 +1,5 @@
-use Rattle.std.proofs.Common.{sym, ◌∙◌}
-use Rattle.saverecord.proofs.LogLemmas.{whole_in}
+use Rattle.saverecord.proofs.LogLemmas.{read_alone}
 use Rattle.saverecord.proofs.log.Log.fold.Goals as goal
 
 pub returns : goal.returns
-returns c = whole_in c.in_ok-bytes.bytes.items c.in_ok-record.record c.in_ok-bytes.ensures.again ∙ sym c.in_ok-record.ensures.exact
+returns c = read_alone c.args.self.now c.in_ok-bytes.bytes.items c.in_ok-record.record c.in_ok-record.ensures.kept c.in_ok-bytes.ensures.again c.in_ok-record.ensures.exact

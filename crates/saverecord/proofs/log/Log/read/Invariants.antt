@@ -1,10 +1,10 @@
 use Rattle.std.proofs.Common.{◌≡◌, drop}
-use Rattle.saverecord.specs.Ledgers.{IsKept, ledger_of}
-use Rattle.saverecord.specs.Logs.{with_entries, ledger_in}
+use Rattle.codec.specs.Steps.{◌>>=◌}
+use Rattle.saverecord.specs.Logs.{with_entries, agreed, ledger_in, folded_ledger, IsReadable}
 use Rattle.saverecord.proofs.log.Log.read.Given as goal
 
 abbrev pub invariant-loop-text : goal.invariant-loop-text
 invariant-loop-text l = record {
-  kept : IsKept l.record;
-  folded : with_entries (drop l.text-index l.text-items) (ledger_of l.record) ≡ ledger_in l.fn.self;
+  readable : IsReadable (folded_ledger l.folded);
+  folded : (with_entries (drop l.text-index l.text-items) (folded_ledger l.folded) >>= agreed) ≡ ledger_in l.fn.self;
 }

@@ -1,4 +1,4 @@
-use Rattle.std.proofs.Common.{◌≡◌, ℕ, ◌++◌, get_or, ◌<◌, ◌≤◌, true, map, List, Some, Ok, Err, length, ap, sym, ◌∙◌, subst, arith, rules}
+use Rattle.std.proofs.Common.{◌≡◌, ℕ, ◌++◌, get_or, ◌<◌, ◌≤◌, true, map, List, Some, Result, Ok, Err, length, ap, sym, ◌∙◌, subst, arith, rules}
 use Rattle.std.proofs.lemmas.Grind.{common_steps}
 use Rattle.farm_base.specs.Contents.{content_digest}
 use Rattle.protocol.specs.Farm.{farm_limits}
@@ -6,8 +6,9 @@ use Rattle.protocol.specs.Lists.{nth}
 use Rattle.protocol.specs.Names.{NodeId}
 use Rattle.protocol.specs.Machine.{Said, Told, ToCoord}
 use Rattle.protocol.specs.declared.answer.EventNote.TheVariants as note
-use Rattle.protocol.specs.Ledger.{handled, begin_work}
-use Rattle.protocol.specs.Replay.{Farm, is_node, node_does, delivered}
+use Rattle.protocol.specs.Ledger.{Work, handled, begin_work}
+use Rattle.protocol.specs.Replay.{Farm, Turn, coordinated, is_node, node_does, delivered}
+use Rattle.protocol.specs.declared.answer.CoordRefusal.{CoordRefusal}
 use Rattle.protocol.specs.declared.answer.EventRefusal.{EventRefusal}
 use Rattle.nodecore.specs.declared.node_core.NodeCore.{NodeCore}
 use Rattle.farm_base.specs.declared.message.Message as sent
@@ -15,12 +16,13 @@ use Rattle.farm_base.specs.declared.message.Message.TheVariants as message
 use Rattle.farm_base.specs.declared.message.ToNode.{ToNode}
 use Rattle.nodecore.specs.Shown.{Answers, message_work}
 use Rattle.world.specs.Tables.{seat, node_at}
-use Rattle.world.specs.Turns.{Came, FitsIn, first_number, from_node}
-use Rattle.world.specs.Parts.{shown_parts}
+use Rattle.world.specs.Turns.{Came, FitsIn, first_number, from_coordinator, from_node}
+use Rattle.coordinator.specs.Held.{ledger}
+use Rattle.world.specs.Parts.{shown_parts, with_coordinator}
 use Rattle.world.proofs.FewLemmas.{heard_count}
 use Rattle.world.proofs.LawfulLemmas.{said_of}
 use Rattle.world.proofs.PoolLemmas.{found_at, same_read}
-use Rattle.world.proofs.CallLemmas.{call_done}
+use Rattle.world.proofs.CallLemmas.{call_done, call_refused}
 use Rattle.world.proofs.TurnLemmas.{hears, came_none, came_done, came_refused, unmoved, came_as}
 use Rattle.farm_base.specs.Receivers.{receiver}
 use Rattle.world.proofs.parts.Parts.deliver.Goals as goal
@@ -119,6 +121,23 @@ returns-in-Ok c =
     (c.send_coordinator.ensures.pool ∙ ap (λ (l : List sent.Message). l ++ map Told c.in-Ok.handled.sends) same)
     (c.send_coordinator.ensures.outcome ∙ ap (λ (k : ℕ). record { note = note.Coord c.in-Ok.handled.note; first = first_number k (length c.in-Ok.handled.sends); sent = length c.in-Ok.handled.sends }) (ap length same))
     (Ok (handled farm_limits y (begin_work s.ledger))) c.in-Ok.ensures.answer
+
+pub returns-in-Err : goal.returns-in-Err
+returns-in-Err c =
+    let s : Farm = shown_parts c.args.self.now in
+    let pool : List sent.Message = c.args.self.now.pool.items in
+    let inside : c.in-Some.place < length pool = omega (arith, c.in-Some.ensures.inside) in
+    let same : c.reserve.new.self.items ≡ pool = c.reserve.ensures.items in
+    let y : ToCoord = c.in-ToCoord.message in
+    let here : nth pool c.args.number ≡ Some (Said y) = found_at pool c.reserve.new.self.items c.args.number c.in-Some.place c.index-2.result.now (message.ToCoord y) same c.in-Some.ensures.found inside (search rules) c.in-ToCoord.is in
+    let r : Result Work CoordRefusal = Ok (handled farm_limits y (begin_work (ledger c.args.self.now.coordinator.held))) in
+    let d : Turn = delivered content_digest farm_limits (nth pool c.args.number) s in
+    let is : d ≡ coordinated s.down r s = ap (λ o. delivered content_digest farm_limits o s) here in
+    let t : List sent.Message → Farm = λ l. with_coordinator s c.handle.new.self l in
+    subst (λ (e : EventRefusal). Came d s (t c.reserve.new.self.items) (Err e)) (sym c.from_coordinator.ensures)
+    (subst (λ (l : List sent.Message). Came d s (t l) (Err (from_coordinator c.in-Err.refusal))) (sym same)
+    (came_as (coordinated s.down r s) d s (t pool) (Err (from_coordinator c.in-Err.refusal)) (sym is)
+    (call_refused s c.args.self.now.coordinator c.handle.new.self pool r c.in-Err.refusal c.in-Err.ensures.answer)))
 
 pub handle-requires : goal.handle-requires
 handle-requires c =

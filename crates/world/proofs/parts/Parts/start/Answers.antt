@@ -5,6 +5,7 @@ use Rattle.world.proofs.SeatLemmas.{all_first}
 use Rattle.world.proofs.parts.Parts.start.Goals as goal
 
 pub returns : goal.returns
+unfolding saved_in
 returns c = λ j. record (opening content_digest c.args.count) {
   size = c.in_ok-nodes.ensures.len j;
   ledger = c.in_ok-coordinator.ensures.ledger j;

@@ -1,0 +1,11 @@
+ghost use Rattle.std.specs.Prelude.{◌≤◌};
+
+use farm_base::{Life, NodeId};
+
+/// A life of a node that began. Lives are counted from 1.
+#[derive(Clone, Copy, Debug)]
+pub struct NewLife {
+    pub node: NodeId,
+    pub life: Life,
+    pub ghost counted: { 1 ≤ life.0 },
+}
