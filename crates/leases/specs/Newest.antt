@@ -1,5 +1,5 @@
 -- Which asks may be among those that were noted, by the newest of each node.
-use Rattle.std.specs.Prelude.{◌≡◌, ◌==◌, ◌&&◌, ◌||◌, not, nat_lt, ℕ, Bool, true, false, All, List, Option, Some, None}
+use Rattle.std.specs.Prelude.{◌==◌, ◌&&◌, ◌||◌, not, nat_lt, ℕ, Bool, false, Option, Some, None}
 use Rattle.indexmap.specs.IndexMap.{IndexMap, get, spare}
 use Rattle.protocol.specs.Names.{NodeId, Life, Ask}
 use Rattle.leases.specs.declared.newest_asks.NewestAsk.{NewestAsk}

@@ -55,8 +55,16 @@ fn with_lease(entry: Option<&AskEntry>, lease: &Lease) -> AskEntry
             oldest: lease.ticket,
         },
         Some(entry) => AskEntry {
-            times: if entry.times < u64::MAX { entry.times + 1 } else { entry.times },
-            oldest: if lease.ticket < entry.oldest { lease.ticket } else { entry.oldest },
+            times: if entry.times < u64::MAX {
+                entry.times + 1
+            } else {
+                entry.times
+            },
+            oldest: if lease.ticket < entry.oldest {
+                lease.ticket
+            } else {
+                entry.oldest
+            },
         },
     }
 }

@@ -52,7 +52,7 @@ impl Model for LiveLeases {
     ghost use Rattle.leases.specs.Index.{ticket_at};
     ghost use Rattle.leases.specs.Instances.{is_taken, folder_room};
     ghost use Rattle.leases.specs.Live.{Live, AreLive};
-    
+
     ghost Value = { Live };
 
     ghost view = { λ l. record { leases = l.leases.items; lease_room = vec_capacity l.leases; index_room = spare l.by_folder; instance_room = folder_room l.taken; ask_room = ask_room l.asks } };

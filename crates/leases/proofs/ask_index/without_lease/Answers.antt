@@ -1,6 +1,5 @@
-use Rattle.std.proofs.Common.{◌-◌, ◌++◌, ◌∷◌, List, Option, Some, ap, subst, arith}
+use Rattle.std.proofs.Common.{◌-◌, ◌++◌, ◌∷◌, Option, Some, ap, subst, arith}
 use Rattle.std.specs.Option.{option_copied}
-use Rattle.farm_base.specs.declared.lease.Lease.{Lease}
 use Rattle.leases.specs.Asks.{Counts}
 use Rattle.leases.specs.declared.ask_index.AskEntry.{AskEntry}
 use Rattle.leases.proofs.AskLemmas.{counts-less}

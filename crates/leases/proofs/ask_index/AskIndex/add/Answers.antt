@@ -1,7 +1,6 @@
 use Rattle.std.proofs.Common.{◌≡◌, cond, Option, Some, ap, sym, ◌∙◌, subst}
 use Rattle.indexmap.specs.IndexMap.{get}
-use Rattle.farm_base.specs.declared.lease.Lease.{Lease}
-use Rattle.leases.specs.Asks.{ask_eq, name_of, Counts}
+use Rattle.leases.specs.Asks.{ask_eq, Counts}
 use Rattle.leases.specs.declared.ask_index.AskEntry.{AskEntry}
 use Rattle.leases.specs.declared.ask_index.AskName.{AskName}
 use Rattle.leases.proofs.AskLemmas.{asked-add}

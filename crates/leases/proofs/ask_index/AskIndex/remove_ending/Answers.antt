@@ -1,6 +1,4 @@
-use Rattle.std.proofs.Common.{◌≡◌, ◌+◌, ◌≤◌, ◌++◌, ◌∷◌, [], Bool, true, false, cond, not, List, filter, take, drop, drop_of_length-le, append_assoc, append-nil, ap, sym, ◌∙◌, subst, arith}
-use Rattle.std.proofs.lemmas.List.{take_more, take_all}
-use Rattle.std.proofs.lemmas.List.Elements.{filter-append}
+use Rattle.std.proofs.Common.{◌≡◌, ◌+◌, ◌≤◌, ◌++◌, ◌∷◌, [], Bool, cond, not, List, filter, take, drop, append_assoc, append-nil, ap, sym, ◌∙◌, subst, arith}
 use Rattle.farm_base.specs.declared.lease.Lease.{Lease}
 use Rattle.leases.specs.Asks.{ask_room, AreAsked}
 use Rattle.leases.specs.Changes.{ends_lease}

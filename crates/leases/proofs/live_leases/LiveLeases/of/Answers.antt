@@ -1,5 +1,4 @@
-use Rattle.std.proofs.Common.{List, subst, [], ◌++◌}
-use Rattle.farm_base.specs.declared.lease.Lease.{Lease}
+use Rattle.std.proofs.Common.{subst, []}
 use Rattle.leases.specs.Asks.{AreAsked}
 use Rattle.leases.specs.Index.{ticket_at, AreIndexed}
 use Rattle.leases.specs.Instances.{is_taken, AreTaken}
