@@ -27,14 +27,17 @@ entry_of x k = get ask_eq x.by_ask k
 abbrev pub ask_room : AskIndex → ℕ
 ask_room x = spare x.by_ask
 
+-- how many leases it says have the ask
 abbrev pub times_in : Option AskEntry → ℕ
 times_in None = 0
 times_in (Some e) = e.times
 
+-- below which ticket it says that none has the ask
 abbrev pub oldest_in : Option AskEntry → ℕ
 oldest_in None = 0
 oldest_in (Some e) = e.oldest.0
 
+-- the same, where there is an entry
 abbrev pub oldest_of : Option AskEntry → Option Ticket
 oldest_of None = None
 oldest_of (Some e) = Some e.oldest
