@@ -14,3 +14,4 @@ pub mod IndexLemmas
 pub mod InstanceLemmas
 pub mod TakenLemmas
 pub mod NewestLemmas
+pub mod AskLemmas

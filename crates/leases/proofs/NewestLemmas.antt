@@ -1,15 +1,11 @@
 -- Asks that may have been noted.
-use Rattle.std.proofs.Common.{◌≡◌, ℕ, Bool, true, false, not, ◌&&◌, ◌||◌, cond, List, ◌++◌, filter, get_or, Option, Some, None, refl, sym, ◌∙◌, ap, inl, inr, arith}
-use Rattle.std.specs.Prelude.{◌==◌, All, nat_lt}
+use Rattle.std.proofs.Common.{◌≡◌, ℕ, Bool, true, false, not, ◌&&◌, ◌||◌, cond, Option, Some, None, refl, sym, ◌∙◌, ap, inl, inr, arith}
+use Rattle.std.specs.Prelude.{◌==◌, nat_lt}
 use Rattle.std.proofs.lemmas.Bool.{cases_Bool, and_parts, eqb-true}
 use Rattle.std.proofs.lemmas.Bool.Decides.{nat_tests}
-use Rattle.std.proofs.lemmas.List.Elements.{All-append, All-filter}
-use Rattle.std.specs.Bool.{OnFalse}
-use Rattle.farm_base.specs.declared.lease.Lease.{Lease}
 use Rattle.protocol.specs.Names.{NodeId, Life, Ask}
-use Rattle.protocol.specs.Ledger.{is_of}
 use Rattle.indexmap.specs.IndexMap.{IndexMap, get}
-use Rattle.leases.specs.Newest.{node_eq, newest_of, is_known, knows, AreNoted}
+use Rattle.leases.specs.Newest.{node_eq, newest_of, is_known, knows}
 use Rattle.leases.specs.declared.newest_asks.NewestAsk.{NewestAsk}
 use Rattle.leases.specs.declared.newest_asks.NewestAsks.{NewestAsks}
 
@@ -28,30 +24,6 @@ unknown-other x m n k l b a known new = elim (cases_Bool ((m.0 == n.0) && (k.0 =
       )
   | inr e ↦ e
 ]
-
--- no lease is of an ask that is newer than each of its node
-pub unknown-none : (x : NewestAsks) (live : List Lease) (n : NodeId) (l : Life) (a : Ask) → AreNoted x live → knows x n l a ≡ false → All (λ g. is_of n l a g ≡ false) live
-unknown-none x live n l a noted new k d inside =
-    let g : Lease = get_or live k d in
-    unknown-other x g.node n g.life l g.ask a (noted k d inside) new
-
--- a fact of one side of a test
-pub on_false : {P : Type 0} (b : Bool) → (b ≡ false → P) → OnFalse b P
-on_false true f = tt
-on_false false f = f refl
-
-pub from_false : {P : Type 0} (b : Bool) → b ≡ false → OnFalse b P → P
-from_false true e h = absurd (cc e)
-from_false false e h = h
-
--- what is left was noted, of what was noted
-pub noted-filter : (x : NewestAsks) (p : Lease → Bool) (live : List Lease) → AreNoted x live → AreNoted x (filter p live)
-noted-filter x p live noted = All-filter p (λ g. knows x g.node g.life g.ask ≡ true) live noted
-
--- what was noted before and what was noted now
-pub noted-append : (x y : NewestAsks) (live more : List Lease) → ((n : NodeId) (l : Life) (a : Ask) → knows x n l a ≡ true → knows y n l a ≡ true) → AreNoted x live → AreNoted y more → AreNoted y (live ++ more)
-noted-append x y live more kept noted new =
-    All-append (λ g. knows y g.node g.life g.ask ≡ true) live more (λ k d inside. kept (get_or live k d).node (get_or live k d).life (get_or live k d).ask (noted k d inside)) new
 
 newer_not : (l a : ℕ) → not (nat_lt l l || ((l == l) && nat_lt a a)) ≡ true
 newer_not l a = grind (arith, nat_tests)

@@ -66,7 +66,7 @@ pub record RoomyTable : Type 0 where
   pub instances : List (FolderName × ℕ)
   -- of how many more folders it can note instances
   pub instance_room : ℕ
-  -- of how many more nodes it can note asks
+  -- how many more asks the index of asks can hold
   pub ask_room : ℕ
   -- the folders and instances of the slots that the changes retire
   pub retired_names : List (FolderName × ℕ)

@@ -1,7 +1,6 @@
 -- Which asks may be among those that were noted, by the newest of each node.
-use Rattle.std.specs.Prelude.{◌≡◌, ◌==◌, ◌&&◌, ◌||◌, not, nat_lt, ℕ, Bool, true, false, All, List, Option, Some, None}
+use Rattle.std.specs.Prelude.{◌==◌, ◌&&◌, ◌||◌, not, nat_lt, ℕ, Bool, false, Option, Some, None}
 use Rattle.indexmap.specs.IndexMap.{IndexMap, get, spare}
-use Rattle.farm_base.specs.declared.lease.Lease.{Lease}
 use Rattle.protocol.specs.Names.{NodeId, Life, Ask}
 use Rattle.leases.specs.declared.newest_asks.NewestAsk.{NewestAsk}
 use Rattle.leases.specs.declared.newest_asks.NewestAsks.{NewestAsks}
@@ -29,7 +28,3 @@ knows x n l a = is_known (newest_of x.by_node n) l a
 -- how many more nodes fit in without memory
 abbrev pub node_room : NewestAsks → ℕ
 node_room x = spare x.by_node
-
--- the ask of no lease is newer than each of its node
-abbrev pub AreNoted : NewestAsks → List Lease → Type 0
-AreNoted x leases = All (λ g. knows x g.node g.life g.ask ≡ true) leases

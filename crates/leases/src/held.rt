@@ -1,11 +1,11 @@
-//! Tests of slots, of the leases that have them, and of the wants that take them.
-ghost use Rattle.std.specs.Prelude.{◌≡◌, filter};
+//! Tests of slots, of the leases that have them, of the wants that take them, and of asks.
+ghost use Rattle.std.specs.Prelude.{◌≡◌, filter, option_copied};
 ghost use Rattle.std.specs.List.{list_any};
 ghost use Rattle.protocol.specs.Names.{leased_wants, any_shared, is_private, only_slot};
-ghost use Rattle.protocol.specs.Ledger.{has_slot};
+ghost use Rattle.protocol.specs.Ledger.{has_slot, is_of, lease_of};
 ghost use Rattle.leases.specs.Table.{among, takes, holds_some};
 
-use farm_base::{FolderName, Lease, Mode, Slot, Want, Wants};
+use farm_base::{Ask, FolderName, Lease, Life, Mode, NodeId, Slot, Want, Wants};
 
 /// Whether a slot is among a lease's.
 pub(crate) fn has_slot(slots: &[(Slot, bool)], slot: &Slot) -> bool
@@ -68,4 +68,18 @@ pub(crate) fn holds_some(slots: &[(Slot, bool)], wants: &[Want], tenure: bool) -
         .iter()
         .filter(|want| takes(want, tenure))
         .any(|want| has_only(slots, &want.folder))
+}
+
+/// Whether the lease has the ask.
+pub(crate) fn is_of(lease: &Lease, node: NodeId, life: Life, ask: Ask) -> bool
+    ensures { result ≡ is_of node life ask lease.now }
+{
+    lease.node == node && lease.life == life && lease.ask == ask
+}
+
+/// The first of these leases that has the ask.
+pub(crate) fn first_of(leases: &[Lease], node: NodeId, life: Life, ask: Ask) -> Option<&Lease>
+    ensures { option_copied result ≡ lease_of leases.now node life ask }
+{
+    leases.iter().find(|lease| is_of(lease, node, life, ask))
 }

@@ -103,6 +103,9 @@ impl LeaseTable {
     fn holder(&self, slot: &Slot) -> Option<&Lease>
         ensures { option_copied result ≡ find (λ g. has_slot g.slots slot.now) self.now.live }
     {
+        if slot.instance() == 0 {
+            return self.live.holding(slot.folder());
+        }
         self.leases()
             .iter()
             .find(|lease| has_slot(lease.slots.as_slice(), slot))

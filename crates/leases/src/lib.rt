@@ -1,6 +1,7 @@
 //! Tickets, the leases that they number, and the lives and retirement of nodes.
 #![tactic(auto)]
 
+mod ask_index;
 mod changes;
 mod ending;
 mod folder_index;

@@ -1,10 +1,9 @@
 //! The leases of a table, and the ways to find one of them.
-ghost use Rattle.std.specs.Prelude.{◌≡◌, ℕ, ◌+◌, ◌≤◌, not, [], ◌∷◌, ◌++◌, filter, length, false, All, AllPairs, IfOk, OnOk, OnErr, option_copied, vec_len};
-ghost use Rattle.std.specs.Bool.{OnFalse};
+ghost use Rattle.std.specs.Prelude.{◌≡◌, ℕ, ◌+◌, ◌≤◌, not, [], ◌∷◌, ◌++◌, filter, length, AllPairs, IfOk, OnOk, OnErr, option_copied, vec_len};
 ghost use Rattle.std.specs.List.{find, position_from};
 ghost use Rattle.farm_base.specs.declared.limits.TheConstants.{INSTANCES};
 ghost use Rattle.protocol.specs.Names.{only_slot};
-ghost use Rattle.protocol.specs.Ledger.{has_slot, has_ticket, is_of, lease_under, some_lease, without};
+ghost use Rattle.protocol.specs.Ledger.{has_slot, has_ticket, lease_of, lease_under, some_lease, without};
 ghost use Rattle.leases.specs.Changes.{ends_lease, frees, has_ended};
 ghost use Rattle.leases.specs.Index.{index_entries};
 ghost use Rattle.leases.specs.Instances.{has, lease_instances};
@@ -13,12 +12,12 @@ ghost use Rattle.leases.specs.Live.{older};
 ghost use Rattle.leases.specs.Marks.{Unmarks};
 ghost use Rattle.leases.specs.Table.{holds_some, takes};
 
+use super::ask_index::{AskIndex, AskName};
 use super::ending::{Ending, drop_ending, standing};
 use super::folder_index::{entries_of, forget, forget_ending, index_of, put_all};
-use super::held::{has_only, takes};
+use super::held::{first_of, has_only, is_of, takes};
 use super::instances::Instances;
 use super::marks::{unmark_ending, unmark_lease};
-use super::newest_asks::{NewestAsks, note_all};
 use super::taken_instances::{TakenInstances, instances_of, taken_of};
 use farm_base::{Ask, FolderName, Lease, Life, NodeId, Ticket, Want};
 use indexmap::IndexMap;
@@ -33,8 +32,8 @@ pub(crate) struct LiveLeases {
     by_folder: IndexMap<FolderName, Ticket>,
     /// The instances from 1 on that leases have, by folder.
     taken: TakenInstances,
-    /// The newest ask of each node that had a lease.
-    newest: NewestAsks,
+    /// How many leases have each ask, and the oldest of them.
+    asks: AskIndex,
 }
 
 /// What the indexes are to have of more leases.
@@ -49,16 +48,16 @@ pub(crate) struct Entries {
 impl Model for LiveLeases {
     ghost use Rattle.std.specs.Vec.{vec_capacity};
     ghost use Rattle.indexmap.specs.IndexMap.{spare};
+    ghost use Rattle.leases.specs.Asks.{ask_room};
     ghost use Rattle.leases.specs.Index.{ticket_at};
     ghost use Rattle.leases.specs.Instances.{is_taken, folder_room};
     ghost use Rattle.leases.specs.Live.{Live, AreLive};
-    ghost use Rattle.leases.specs.Newest.{node_room};
 
     ghost Value = { Live };
 
-    ghost view = { λ l. record { leases = l.leases.items; lease_room = vec_capacity l.leases; index_room = spare l.by_folder; instance_room = folder_room l.taken; ask_room = node_room l.newest } };
+    ghost view = { λ l. record { leases = l.leases.items; lease_room = vec_capacity l.leases; index_room = spare l.by_folder; instance_room = folder_room l.taken; ask_room = ask_room l.asks } };
 
-    ghost invariant = { λ l. AreLive (ticket_at l.by_folder) (is_taken l.taken) l.newest l.leases.items };
+    ghost invariant = { λ l. AreLive (ticket_at l.by_folder) (is_taken l.taken) l.asks l.leases.items };
 }
 
 impl LiveLeases {
@@ -70,7 +69,7 @@ impl LiveLeases {
             leases: Vec::new(alloc),
             by_folder: IndexMap::new(alloc),
             taken: TakenInstances::new(alloc),
-            newest: NewestAsks::new(alloc),
+            asks: AskIndex::new(alloc),
         }
     }
 
@@ -81,14 +80,14 @@ impl LiveLeases {
     {
         let by_folder = index_of(alloc, leases.as_slice())?;
         let taken = taken_of(alloc, leases.as_slice())?;
-        let mut newest = NewestAsks::new(alloc);
-        newest.reserve(leases.len())?;
-        note_all(&mut newest, leases.as_slice());
+        let mut asks = AskIndex::new(alloc);
+        asks.reserve(leases.len())?;
+        asks.add_all(leases.as_slice());
         Ok(LiveLeases {
             leases,
             by_folder,
             taken,
-            newest,
+            asks,
         })
     }
 
@@ -179,11 +178,18 @@ impl LiveLeases {
         }
     }
 
-    /// Whether an ask may have a lease. One that is newer than each of its node that had one has none.
-    pub(crate) fn may_have(&self, node: NodeId, life: Life, ask: Ask) -> bool
-        ensures { OnFalse result (All (λ g. is_of node life ask g ≡ false) self.now.leases) }
+    /// The lease of an ask.
+    pub(crate) fn of_ask(&self, node: NodeId, life: Life, ask: Ask) -> Option<&Lease>
+        ensures { option_copied result ≡ lease_of self.now.leases node life ask }
     {
-        self.newest.may_have(node, life, ask)
+        let ticket = self.asks.oldest(AskName { node, life, ask })?;
+        if let Some(lease) = self.under(ticket) {
+            if is_of(lease, node, life, ask) {
+                return Some(lease);
+            }
+        }
+        // The oldest lease of several with this ask has ended.
+        first_of(self.leases.as_slice(), node, life, ask)
     }
 
     /// Adds a lease.
@@ -215,7 +221,7 @@ impl LiveLeases {
         self.leases.reserve(more.len())?;
         self.by_folder.reserve(tickets.len())?;
         self.taken.reserve(instances.len())?;
-        self.newest.reserve(more.len())?;
+        self.asks.reserve(more.len())?;
         Ok(Entries { tickets, instances })
     }
 
@@ -232,7 +238,7 @@ impl LiveLeases {
     {
         let Entries { tickets, instances } = entries;
         let mut leases = leases;
-        note_all(&mut self.newest, leases.as_slice());
+        self.asks.add_all(leases.as_slice());
         self.leases.append(&mut leases).unwrap();
         put_all(&mut self.by_folder, tickets);
         self.taken.add_all(instances);
@@ -245,7 +251,7 @@ impl LiveLeases {
         ensures room { self.new.lease_room ≡ self.old.lease_room }
         ensures folders { self.old.index_room ≤ self.new.index_room }
         ensures taken { self.old.instance_room ≤ self.new.instance_room }
-        ensures asks { self.new.ask_room ≡ self.old.ask_room }
+        ensures asks { self.old.ask_room ≤ self.new.ask_room }
     {
         match place_of(self.leases.as_slice(), ticket) {
             None => None,
@@ -253,6 +259,7 @@ impl LiveLeases {
                 let lease = self.leases.remove(place);
                 forget(&mut self.by_folder, &lease);
                 self.taken.remove_lease(&lease);
+                self.asks.remove(&lease);
                 Some(lease)
             }
         }
@@ -264,7 +271,7 @@ impl LiveLeases {
         ensures room { self.new.lease_room ≡ self.old.lease_room }
         ensures folders { self.old.index_room ≤ self.new.index_room }
         ensures taken { self.old.instance_room ≤ self.new.instance_room }
-        ensures asks { self.new.ask_room ≡ self.old.ask_room }
+        ensures asks { self.old.ask_room ≤ self.new.ask_room }
     {
         match *ending {
             Ending::Ticket(ticket) => {
@@ -273,6 +280,7 @@ impl LiveLeases {
             Ending::Node(_) | Ending::LivesBelow(_, _) => {
                 forget_ending(&mut self.by_folder, self.leases.as_slice(), ending);
                 self.taken.remove_ending(self.leases.as_slice(), ending);
+                self.asks.remove_ending(self.leases.as_slice(), ending);
                 drop_ending(&mut self.leases, *ending);
             }
         }
@@ -284,7 +292,7 @@ impl LiveLeases {
         ensures room { self.new.lease_room ≡ self.old.lease_room }
         ensures folders { self.old.index_room ≤ self.new.index_room }
         ensures taken { self.old.instance_room ≤ self.new.instance_room }
-        ensures asks { self.new.ask_room ≡ self.old.ask_room }
+        ensures asks { self.old.ask_room ≤ self.new.ask_room }
     {
         for ending in ended {
             self.end_all(ending);

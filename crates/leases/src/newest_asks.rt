@@ -1,9 +1,9 @@
 //! The newest ask of each node.
-ghost use Rattle.std.specs.Prelude.{◌≡◌, ◌+◌, ◌<◌, ◌≤◌, true, length, option_copied, OnOk};
+ghost use Rattle.std.specs.Prelude.{◌≡◌, ◌+◌, ◌<◌, ◌≤◌, true, option_copied, OnOk};
 ghost use Rattle.protocol.specs.Names.{NodeId, Life, Ask};
-ghost use Rattle.leases.specs.Newest.{knows, is_known, node_room, AreNoted};
+ghost use Rattle.leases.specs.Newest.{knows, is_known, node_room};
 
-use farm_base::{Ask, Lease, Life, NodeId};
+use farm_base::{Ask, Life, NodeId};
 use indexmap::IndexMap;
 use std::alloc::{AllocError, Global};
 
@@ -67,16 +67,5 @@ impl NewestAsks {
         let Ok(_) = self.by_node.insert(node, NewestAsk { life, ask }) else {
             unreachable!();
         };
-    }
-}
-
-/// Notes the asks of leases.
-pub(crate) fn note_all(newest: &mut NewestAsks, leases: &[Lease])
-    requires { length leases.now ≤ node_room newest.old }
-    ensures noted { AreNoted newest.new leases.now }
-    ensures others { (n : NodeId) (l : Life) (a : Ask) → knows newest.old n l a ≡ true → knows newest.new n l a ≡ true }
-{
-    for lease in leases {
-        newest.note(lease.node, lease.life, lease.ask);
     }
 }

@@ -11,7 +11,7 @@ ghost use Rattle.leases.specs.Instances.{has};
 ghost use Rattle.leases.specs.Table.{among, is_leased, is_free, fit_of, lease_for, slots_of, takes, holds_some, private_of, all_private};
 
 use super::ending::{Ending, has_ended, standing};
-use super::held::{any_shared, has_only, has_slot, holds_some, is_private, takes};
+use super::held::{any_shared, first_of, has_only, has_slot, holds_some, is_of, is_private, takes};
 use super::instances::Instances;
 use super::lease_table::Fit;
 use super::live_leases::LiveLeases;
@@ -126,6 +126,9 @@ impl<'t> View<'t> {
     pub(crate) fn is_leased(&self, slot: &Slot) -> bool
         ensures { result ≡ is_leased self.now slot.now }
     {
+        if slot.instance() == 0 {
+            return self.has_only_slot(slot.folder());
+        }
         self.live
             .as_slice()
             .iter()
@@ -147,12 +150,16 @@ impl<'t> View<'t> {
     pub(crate) fn lease_of(&self, node: NodeId, life: Life, ask: Ask) -> Option<&'t Lease>
         ensures { option_copied result ≡ lease_of self.now.live node life ask }
     {
-        if !self.live.may_have(node, life, ask) {
-            return self.granted.iter().find(|lease| lease.node == node
-                && lease.life == life
-                && lease.ask == ask);
+        match self.live.of_ask(node, life, ask) {
+            None => first_of(self.granted, node, life, ask),
+            Some(lease) => {
+                if has_ended(self.ended, lease) {
+                    self.among_all(node, life, ask)
+                } else {
+                    Some(lease)
+                }
+            }
         }
-        self.among_all(node, life, ask)
     }
 
     /// The lease of an ask, looked for among all.
@@ -164,7 +171,7 @@ impl<'t> View<'t> {
             .iter()
             .filter(|lease| !has_ended(self.ended, lease))
             .chain(self.granted.iter())
-            .find(|lease| lease.node == node && lease.life == life && lease.ask == ask)
+            .find(|lease| is_of(lease, node, life, ask))
     }
 
     /// The oldest lease that has the one slot of a folder for which an ask with these wants takes a slot.

@@ -4,13 +4,12 @@ use Rattle.std.specs.Map.{update_all}
 use Rattle.farm_base.specs.Folders.{folder_eq}
 use Rattle.farm_base.specs.declared.lease.Lease.{Lease}
 use Rattle.protocol.specs.Names.{FolderName}
+use Rattle.leases.specs.Asks.{AreAsked}
 use Rattle.leases.specs.Instances.{is_taken, AreTaken}
 use Rattle.leases.specs.Index.{ticket_at, AreIndexed, index_entries}
 use Rattle.leases.specs.Leases.{AreLeases}
 use Rattle.leases.specs.Live.{Live}
-use Rattle.leases.specs.Newest.{AreNoted}
 use Rattle.leases.proofs.IndexLemmas.{indexed-all}
-use Rattle.leases.proofs.NewestLemmas.{noted-append}
 use Rattle.leases.proofs.TakenLemmas.{taken-append}
 use Rattle.leases.proofs.live_leases.LiveLeases.add_all.Goals as goal
 
@@ -26,9 +25,8 @@ invariant_of-self c =
       sound = subst AreLeases (sym items) sound;
       indexed = subst (AreIndexed (ticket_at c.put_all.new.index)) (sym items)
           (subst (λ at. AreIndexed at (live ++ more)) (sym index) (indexed-all more live (ticket_at c.self.inside.by_folder) sound.apart c.self.invariant.indexed));
-      taken_is = subst (AreTaken (is_taken c.add_all.new.self)) (sym items)
-          (taken-append (is_taken c.self.inside.taken) (is_taken c.add_all.new.self) live more c.self.invariant.taken_is
-          (λ f i to. c.add_all.ensures f i to ∙ ap (λ (es : List (FolderName × ℕ)). list_any (λ (e : FolderName × ℕ). folder_eq e.0 f && eqb e.1 i) es || is_taken c.self.inside.taken f i) c.requires.instances));
-      noted = subst (AreNoted c.note_all.new.newest) (sym items)
-          (noted-append c.self.inside.newest c.note_all.new.newest live more c.note_all.ensures.others c.self.invariant.noted (subst (AreNoted c.note_all.new.newest) c.as_slice.ensures.value c.note_all.ensures.noted));
+      taken_is = subst (AreTaken (is_taken c.add_all-2.new.self)) (sym items)
+          (taken-append (is_taken c.self.inside.taken) (is_taken c.add_all-2.new.self) live more c.self.invariant.taken_is
+          (λ f i to. c.add_all-2.ensures f i to ∙ ap (λ (es : List (FolderName × ℕ)). list_any (λ (e : FolderName × ℕ). folder_eq e.0 f && eqb e.1 i) es || is_taken c.self.inside.taken f i) c.requires.instances));
+      asked = subst (AreAsked c.add_all.new.self) (sym items) (subst (λ (gs : List Lease). AreAsked c.add_all.new.self (live ++ gs)) c.as_slice.ensures.value (c.add_all.ensures live c.self.invariant.asked));
     }

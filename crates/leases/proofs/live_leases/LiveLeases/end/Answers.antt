@@ -1,14 +1,14 @@
-use Rattle.std.proofs.Common.{◌≡◌, List, Bool, Some, not, ◌&&◌, ap, subst, sym, ◌∙◌, length, arith}
+use Rattle.std.proofs.Common.{◌≡◌, suc, List, Bool, Some, not, ◌&&◌, ap, subst, sym, ◌∙◌, length, take, drop, arith}
 use Rattle.std.specs.Prelude.{AllPairs}
 use Rattle.std.specs.List.{find, position_from}
 use Rattle.farm_base.specs.declared.lease.Lease.{Lease}
 use Rattle.protocol.specs.Ledger.{has_ticket, without}
+use Rattle.leases.specs.Asks.{AreAsked}
 use Rattle.leases.specs.Index.{ticket_at, AreIndexed}
 use Rattle.leases.specs.Instances.{is_taken, AreTaken}
 use Rattle.leases.specs.Leases.{AreLeases, IsBefore}
-use Rattle.leases.specs.Newest.{AreNoted}
 use Rattle.leases.proofs.IndexLemmas.{indexed-ended}
-use Rattle.leases.proofs.NewestLemmas.{noted-filter}
+use Rattle.leases.proofs.AskLemmas.{split_at}
 use Rattle.leases.proofs.FindLemmas.{ticket_once}
 use Rattle.leases.proofs.TakenLemmas.{taken-failing, any_with-once}
 use Rattle.leases.proofs.TableLemmas.{StandsAt, stands, missing, leases-filter}
@@ -55,5 +55,6 @@ invariant_of-self c =
           (λ f i to. c.remove_lease.ensures.free f i to
           ∙ ap (λ (b : Bool). not b && is_taken c.self.inside.taken f i)
           (sym (any_with-once (has_ticket c.args.ticket) live (record { folder = f; instance = i }) c.remove-lease.result (ticket_once c.args.ticket live c.self.invariant.sound.tickets) found))));
-      noted = subst (AreNoted c.self.inside.newest) (sym rest) (noted-filter c.self.inside.newest (λ g. not (has_ticket c.args.ticket g)) live c.self.invariant.noted);
+      asked = subst (AreAsked c.remove.new.self) (sym c.remove-lease.ensures.items)
+          (c.remove.ensures.asked (take c.in-Some.place live) (drop (suc c.in-Some.place) live) (subst (AreAsked c.self.inside.asks) (split_at live c.in-Some.place c.remove-lease.result s.inside c.remove-lease.ensures.value) c.self.invariant.asked));
     }

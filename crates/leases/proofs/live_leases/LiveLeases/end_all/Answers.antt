@@ -1,11 +1,10 @@
 use Rattle.std.proofs.Common.{List, not, ◌&&◌, filter, ap, subst, sym, ◌∙◌}
 use Rattle.farm_base.specs.declared.lease.Lease.{Lease}
+use Rattle.leases.specs.Asks.{AreAsked}
 use Rattle.leases.specs.Changes.{ends_lease}
 use Rattle.leases.specs.Index.{ticket_at, AreIndexed}
 use Rattle.leases.specs.Instances.{is_taken, AreTaken}
 use Rattle.leases.specs.Leases.{AreLeases}
-use Rattle.leases.specs.Newest.{AreNoted}
-use Rattle.leases.proofs.NewestLemmas.{noted-filter}
 use Rattle.leases.proofs.TableLemmas.{leases-filter}
 use Rattle.leases.proofs.TakenLemmas.{any_with, taken-failing}
 use Rattle.leases.proofs.live_leases.LiveLeases.end_all.Goals as goal
@@ -22,5 +21,7 @@ invariant_of-self c =
           (taken-failing (ends_lease c.args.ending.now) (is_taken c.self.inside.taken) (is_taken c.remove_ending.new.self) c.self.inside.leases.items c.self.invariant.sound.apart c.self.invariant.taken_is
           (λ f i to. c.remove_ending.ensures.free f i to
           ∙ ap (λ (gs : List Lease). not (any_with (ends_lease c.args.ending.now) gs (record { folder = f; instance = i })) && is_taken c.self.inside.taken f i) c.as_slice-in-Node.ensures.value));
-      noted = subst (AreNoted c.self.inside.newest) (sym c.drop_ending.ensures.items) (noted-filter c.self.inside.newest (λ g. not (ends_lease c.args.ending.now g)) c.self.inside.leases.items c.self.invariant.noted);
+      asked = subst (AreAsked c.remove_ending-in-Node.new.self) (sym c.drop_ending.ensures.items)
+          (subst (λ (live : List Lease). AreAsked c.remove_ending-in-Node.new.self (left live)) c.as_slice-in-Node-2.ensures.value
+          (c.remove_ending-in-Node.ensures.asked (subst (AreAsked c.self.inside.asks) (sym c.as_slice-in-Node-2.ensures.value) c.self.invariant.asked)));
     }

@@ -8,7 +8,7 @@ loop-ending-preserved c = record {
   room = c.end_all.ensures.room ∙ c.loop-ending.invariant.room;
   folders = omega (arith, c.end_all.ensures.folders, c.loop-ending.invariant.folders);
   taken = omega (arith, c.end_all.ensures.taken, c.loop-ending.invariant.taken);
-  asks = c.end_all.ensures.asks ∙ c.loop-ending.invariant.asks;
+  asks = omega (arith, c.end_all.ensures.asks, c.loop-ending.invariant.asks);
 }
 
 pub returns-clause-rest : goal.returns-clause-rest
