@@ -142,7 +142,7 @@ impl Farm {
         ensures settled { IfOk result (λ end. All (λ answer. answer ≢ Answer.Waiting) end.answers.items) }
     {
         let hired = Hired::all(alloc, executors.as_slice())?;
-        let Left {
+        let RunEnd {
             back,
             executors,
             jobs,
@@ -165,7 +165,7 @@ impl Farm {
 
 /// What the threads leave: what is checked, and the executors and jobs.
 #[derive(Drop)]
-struct Left {
+struct RunEnd {
     back: HandedBack,
     executors: Vec<Box<dyn Executor + Send>>,
     jobs: Vec<(NodeId, Keyed)>,
@@ -181,7 +181,7 @@ fn solve_all<R: Threads + Wait + Sync, G: Gate>(
     executors: Vec<(NodeId, Box<dyn Executor + Send>)>,
     fault_plan: Vec<(usize, FarmStep)>,
     gate: &G,
-) -> Result<Left, FarmFault>
+) -> Result<RunEnd, FarmFault>
     ensures { IfOk result (λ left. left.jobs.items ≡ jobs.items) }
 {
     let board = Board::start(alloc, setup).map_err(start_fault)?;
@@ -204,7 +204,7 @@ fn solve_all<R: Threads + Wait + Sync, G: Gate>(
         receipts,
         answers,
     };
-    Ok(Left {
+    Ok(RunEnd {
         back,
         executors,
         jobs,

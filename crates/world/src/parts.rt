@@ -93,6 +93,14 @@ impl Parts {
         })
     }
 
+    /// The same on the heap, where a large value is moved and let go at once.
+    pub(crate) fn boxed(alloc: Global, count: u32) -> Result<Box<Self>, AllocError>
+        ensures { IfOk result (λ parts. shown_parts parts.value ≡ opening content_digest count) }
+    {
+        let parts = Parts::start(alloc, count)?;
+        Ok(Box::new(alloc, parts)?)
+    }
+
     /// The node is asked for something.
     fn call(&mut self, alloc: Global, node: NodeId, call: Call) -> Result<Outcome, EventRefusal>
         ensures { Came (node_does node (called call) (shown_parts self.old)) (shown_parts self.old) (shown_parts self.new) result }

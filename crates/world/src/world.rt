@@ -33,8 +33,8 @@ use thiserror::Error;
 /// the protocol leads to each one, so each is safe.
 #[derive(Drop)]
 pub struct World {
-    parts: Parts,
-    ghost sound: { ∥ IsWorld (shown_parts parts) ∥₁ },
+    parts: Box<Parts>,
+    ghost sound: { ∥ IsWorld (shown_parts parts.value) ∥₁ },
 }
 
 /// Why a farm does not start.
@@ -75,7 +75,7 @@ impl World {
         if !is_setup(setup) {
             return Err(StartRefusal::BadSetup);
         }
-        let Ok(parts) = Parts::start(alloc, setup.nodes) else {
+        let Ok(parts) = Parts::boxed(alloc, setup.nodes) else {
             return Err(StartRefusal::OutOfMemory);
         };
         every_schedule_is_safe();
