@@ -98,16 +98,41 @@ fn turning<R: Clock + AllocGlobal>(
     Ok(seconds_since(rt, start) / f64::from(2 * TURNS))
 }
 
-/// The time of an event while this many leases are live.
-fn with_leases<R: Clock + AllocGlobal>(rt: &R, count: u32) -> anyhow::Result<f64> {
+/// The time of an ask of a batch that has a lease and comes again, as where its Grant was lost.
+fn asking_again<R: Clock + AllocGlobal>(
+    rt: &R,
+    coordinator: &mut Coordinator<MemoryKeeper>,
+    number: u32,
+) -> anyhow::Result<f64> {
+    let folder = format!(in rt.alloc(); "locked:f{number}")?;
+    let start = Instant::now(rt)?;
+    for _ in 0..TURNS {
+        ask(coordinator, rt.alloc(), number, folder.as_str())?;
+    }
+    Ok(seconds_since(rt, start) / f64::from(TURNS))
+}
+
+/// Times of events beside live leases.
+#[derive(Clone, Copy)]
+struct Leased {
+    /// Of an event that leases another folder or gives it back.
+    other: f64,
+    /// Of an ask that has the newest of the leases and comes again.
+    again: f64,
+}
+
+/// The times of events while this many leases are live.
+fn with_leases<R: Clock + AllocGlobal>(rt: &R, count: u32) -> anyhow::Result<Leased> {
     let mut coordinator = started(rt.alloc())?;
     lease(&mut coordinator, rt.alloc(), count)?;
-    let mut least = f64::INFINITY;
+    let mut other = f64::INFINITY;
+    let mut again = f64::INFINITY;
     for batch in 0..BATCHES {
         let from = count.saturating_add(batch * TURNS);
-        least = least.min(turning(rt, &mut coordinator, from)?);
+        other = other.min(turning(rt, &mut coordinator, from)?);
+        again = again.min(asking_again(rt, &mut coordinator, count.saturating_sub(1))?);
     }
-    Ok(least)
+    Ok(Leased { other, again })
 }
 
 /// Asks for one folder, in the order of the numbers.
@@ -204,8 +229,12 @@ fn of_private<R: Clock + AllocGlobal>(rt: &R) -> anyhow::Result<f64> {
 /// Prints how the time of an event grows with the live leases, with the parked asks, and with the leased instances of a
 /// PRIVATE folder.
 pub fn measure<R: Print + Clock + AllocGlobal>(rt: &R) -> anyhow::Result<()> {
-    let leases = with_leases(rt, MANY)? / with_leases(rt, FEW)?;
+    let most = with_leases(rt, MANY)?;
+    let least = with_leases(rt, FEW)?;
+    let leases = most.other / least.other;
+    let again = most.again / least.again;
     println!(rt; "events, {MANY} live leases: {leases:.2} of an event with {FEW}")?;
+    println!(rt; "events, {MANY} live leases: {again:.2} of an ask that comes again beside {FEW}")?;
     let many = with_asks(rt, MANY)?;
     let few = with_asks(rt, FEW)?;
     let parks = many.parking / few.parking;
