@@ -121,18 +121,27 @@ struct Leased {
     again: f64,
 }
 
-/// The times of events while this many leases are live.
-fn with_leases<R: Clock + AllocGlobal>(rt: &R, count: u32) -> anyhow::Result<Leased> {
-    let mut coordinator = started(rt.alloc())?;
-    lease(&mut coordinator, rt.alloc(), count)?;
+/// The times of events of a coordinator once this many leases are live.
+fn lease_and_time<R: Clock + AllocGlobal>(
+    rt: &R,
+    coordinator: &mut Coordinator<MemoryKeeper>,
+    count: u32,
+) -> anyhow::Result<Leased> {
+    lease(coordinator, rt.alloc(), count)?;
     let mut other = f64::INFINITY;
     let mut again = f64::INFINITY;
     for batch in 0..BATCHES {
         let from = count.saturating_add(batch * TURNS);
-        other = other.min(turning(rt, &mut coordinator, from)?);
-        again = again.min(asking_again(rt, &mut coordinator, count.saturating_sub(1))?);
+        other = other.min(turning(rt, coordinator, from)?);
+        again = again.min(asking_again(rt, coordinator, count.saturating_sub(1))?);
     }
     Ok(Leased { other, again })
+}
+
+/// The times of events while this many leases are live.
+fn with_leases<R: Clock + AllocGlobal>(rt: &R, count: u32) -> anyhow::Result<Leased> {
+    let mut coordinator = started(rt.alloc())?;
+    lease_and_time(rt, &mut coordinator, count)
 }
 
 /// Asks for one folder, in the order of the numbers.
@@ -182,18 +191,21 @@ struct Waited {
     other: f64,
 }
 
-/// The times of events beside this many asks that wait.
-fn with_asks<R: Clock + AllocGlobal>(rt: &R, count: u32) -> anyhow::Result<Waited> {
-    let mut coordinator = started(rt.alloc())?;
-    wait(&mut coordinator, rt.alloc(), 0, count.saturating_add(1))?;
-    let freeing = time_to_free(rt, &mut coordinator)?;
+/// The times of events of a coordinator once this many asks wait.
+fn park_and_time<R: Clock + AllocGlobal>(
+    rt: &R,
+    coordinator: &mut Coordinator<MemoryKeeper>,
+    count: u32,
+) -> anyhow::Result<Waited> {
+    wait(coordinator, rt.alloc(), 0, count.saturating_add(1))?;
+    let freeing = time_to_free(rt, coordinator)?;
     let mut number = count.saturating_add(1);
     let mut parking = f64::INFINITY;
     let mut other = f64::INFINITY;
     for _ in 0..BATCHES {
-        parking = parking.min(time_to_park(rt, &mut coordinator, number)?);
+        parking = parking.min(time_to_park(rt, coordinator, number)?);
         number = number.saturating_add(TURNS);
-        other = other.min(turning(rt, &mut coordinator, number)?);
+        other = other.min(turning(rt, coordinator, number)?);
         number = number.saturating_add(TURNS);
     }
     Ok(Waited {
@@ -201,6 +213,12 @@ fn with_asks<R: Clock + AllocGlobal>(rt: &R, count: u32) -> anyhow::Result<Waite
         freeing,
         other,
     })
+}
+
+/// The times of events beside this many asks that wait.
+fn with_asks<R: Clock + AllocGlobal>(rt: &R, count: u32) -> anyhow::Result<Waited> {
+    let mut coordinator = started(rt.alloc())?;
+    park_and_time(rt, &mut coordinator, count)
 }
 
 /// The time of a grant of a PRIVATE folder, of the asks of these numbers.
@@ -217,13 +235,21 @@ fn granting<R: Clock + AllocGlobal>(
     Ok(seconds_since(rt, start) / f64::from(to.saturating_sub(from)))
 }
 
-/// The time of one of the last grants of a PRIVATE folder, over that of one of the first.
+/// The time of one of the last grants of a PRIVATE folder to a coordinator, over that of one of the first.
+fn grant_all<R: Clock + AllocGlobal>(
+    rt: &R,
+    coordinator: &mut Coordinator<MemoryKeeper>,
+) -> anyhow::Result<f64> {
+    let first = granting(rt, coordinator, 0, GRANTS)?;
+    granting(rt, coordinator, GRANTS, INSTANCES - GRANTS)?;
+    let last = granting(rt, coordinator, INSTANCES - GRANTS, INSTANCES)?;
+    Ok(last / first)
+}
+
+/// The same of a farm where nothing happened.
 fn of_private<R: Clock + AllocGlobal>(rt: &R) -> anyhow::Result<f64> {
     let mut coordinator = started(rt.alloc())?;
-    let first = granting(rt, &mut coordinator, 0, GRANTS)?;
-    granting(rt, &mut coordinator, GRANTS, INSTANCES - GRANTS)?;
-    let last = granting(rt, &mut coordinator, INSTANCES - GRANTS, INSTANCES)?;
-    Ok(last / first)
+    grant_all(rt, &mut coordinator)
 }
 
 /// Prints how the time of an event grows with the live leases, with the parked asks, and with the leased instances of a

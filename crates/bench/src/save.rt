@@ -121,16 +121,24 @@ fn starting<R: Clock + AllocGlobal>(rt: &R, bytes: &[u8]) -> anyhow::Result<f64>
     Ok(seconds_since(rt, start))
 }
 
-/// The mean time of a commit to a record, spread over many of them.
-fn of_commits<R: Clock + AllocGlobal>(rt: &R, bytes: &[u8]) -> anyhow::Result<f64> {
-    let mut coordinator = started(rt.alloc(), bytes)?;
+/// The mean time of a commit to what a coordinator keeps, spread over many of them.
+fn commit_all<R: Clock + AllocGlobal>(
+    rt: &R,
+    coordinator: &mut Coordinator<MemoryKeeper>,
+) -> anyhow::Result<f64> {
     let mut total = 0.0;
     for _ in 0..COMMITS {
-        if let Some(ticket) = leased(&mut coordinator, rt.alloc())? {
-            total += committing(rt, &mut coordinator, ticket)?;
+        if let Some(ticket) = leased(coordinator, rt.alloc())? {
+            total += committing(rt, coordinator, ticket)?;
         }
     }
     Ok(total / f64::from(COMMITS))
+}
+
+/// The mean time of a commit to a record.
+fn of_commits<R: Clock + AllocGlobal>(rt: &R, bytes: &[u8]) -> anyhow::Result<f64> {
+    let mut coordinator = started(rt.alloc(), bytes)?;
+    commit_all(rt, &mut coordinator)
 }
 
 /// The least times of a commit to a record, of a start from it, and of copying and hashing its bytes.

@@ -5,7 +5,7 @@ ghost use Rattle.farm_base.specs.declared.limits.TheConstants.{NODES};
 ghost use Rattle.protocol.specs.Lawful.{AreAsked, IsRequest, IsSaid, is_tenure};
 
 use super::records::ALL_PARTS;
-use coordinator::{CoordNote, CoordRefusal, Coordinator};
+use coordinator::{CoordNote, CoordRefusal, Coordinator, Handled};
 use farm_base::{
     Ask, FolderName, FromCoord, Life, Mode, NODES, NodeId, Request, ToCoord, Want, Wants,
 };
@@ -114,6 +114,48 @@ fn in_words(alloc: Global, message: &FromCoord) -> Result<String, AllocError> {
     }
 }
 
+/// Adds in words what a coordinator did.
+fn add_words(alloc: Global, text: &mut String, handled: &Handled) -> Result<(), AllocError> {
+    if matches!(handled.note, CoordNote::Parked) {
+        text.push_str("parked; ")?;
+    }
+    for message in handled.sends.as_slice() {
+        let words = in_words(alloc, message)?;
+        text.push_str(words.as_str())?;
+    }
+    Ok(())
+}
+
+/// What a coordinator answers to a message of this node and life.
+fn answer<K: Keeper>(
+    alloc: Global,
+    coordinator: &mut Coordinator<K>,
+    node: u32,
+    life: u64,
+    folder: &str,
+) -> Result<Handled, Fail> {
+    let message = said(alloc, node, life, folder)?;
+    if !is_said(&message) {
+        return Err("out of range".into());
+    }
+    let handled = coordinator.handle(alloc, &message)?;
+    Ok(handled)
+}
+
+/// What a coordinator answers to each message.
+fn all_answers<K: Keeper>(
+    alloc: Global,
+    coordinator: &mut Coordinator<K>,
+    messages: &[(u32, u64, &str)],
+) -> Result<String, Fail> {
+    let mut text = String::new(alloc);
+    for (node, life, folder) in messages {
+        let handled = answer(alloc, coordinator, *node, *life, folder)?;
+        add_words(alloc, &mut text, &handled)?;
+    }
+    Ok(text)
+}
+
 /// What a coordinator over this keeper answers to each message.
 fn answers<K: Keeper>(
     alloc: Global,
@@ -123,22 +165,7 @@ fn answers<K: Keeper>(
     let Ok(mut coordinator) = Coordinator::start(alloc, keeper) else {
         return Err("not started".into());
     };
-    let mut text = String::new(alloc);
-    for (node, life, folder) in messages {
-        let message = said(alloc, *node, *life, folder)?;
-        if !is_said(&message) {
-            return Err("out of range".into());
-        }
-        let handled = coordinator.handle(alloc, &message)?;
-        if matches!(handled.note, CoordNote::Parked) {
-            text.push_str("parked; ")?;
-        }
-        for message in handled.sends.as_slice() {
-            let words = in_words(alloc, message)?;
-            text.push_str(words.as_str())?;
-        }
-    }
-    Ok(text)
+    all_answers(alloc, &mut coordinator, messages)
 }
 
 #[test]
