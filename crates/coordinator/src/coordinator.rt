@@ -134,12 +134,12 @@ impl<K: Keeper> Coordinator<K> {
     /// Saves an event that was worked out, where the record changed, and then applies it. Where the save fails it is down.
     fn settle(&mut self, alloc: Global, prepared: Prepared) -> Result<Handled, CoordRefusal>
         requires up { self.old.down ≡ false }
-        requires told { ChangesAsTold (ledger self.old.held) (Ok (shown (lines_with self.old.held.lines prepared.added) self.old.held prepared.draft)) }
-        requires rightful { IsRightful (after (lines_with self.old.held.lines prepared.added) self.old.held prepared.draft.change) }
+        requires told { ChangesAsTold (ledger self.old.held) (Ok (shown (lines_with self.old.held.lines prepared.added) self.old.held prepared.draft.value)) }
+        requires rightful { IsRightful (after (lines_with self.old.held.lines prepared.added) self.old.held prepared.draft.value.change) }
         requires ready { IsReady self.old.held.lines prepared.added }
         requires empty { prepared.room.items ≡ [] }
         requires larger { room_needed self.old.held.lines prepared.added ≤ vec_capacity prepared.room }
-        ensures answer { Answers K.saving (Ok (shown (lines_with self.old.held.lines prepared.added) self.old.held prepared.draft)) self.old self.new result }
+        ensures answer { Answers K.saving (Ok (shown (lines_with self.old.held.lines prepared.added) self.old.held prepared.draft.value)) self.old self.new result }
         ensures cause { result ≡ Err CoordRefusal.SaveFault → HasFailed (K.failed self.old.keeper) (K.failed self.new.keeper) }
         ensures grow { OnlyGrow (line_at self.old.held.lines) (line_at self.new.held.lines) }
     {

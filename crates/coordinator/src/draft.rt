@@ -42,7 +42,7 @@ pub struct Draft {
 
 impl Draft {
     /// An event that changed nothing yet.
-    pub(crate) fn new(alloc: Global, base: &State) -> Result<Self, AllocError>
+    fn new(alloc: Global, base: &State) -> Result<Self, AllocError>
         ensures work { IfOk result (λ draft. (line : LineOf) → shown line (held base.now) draft ≡ begin_work (kept line base.now)) }
         ensures life { IfOk result (λ draft. draft.change.life ≡ None) }
         ensures gone { IfOk result (λ draft. draft.change.gone ≡ None) }
@@ -54,6 +54,16 @@ impl Draft {
             changed: false,
             note: CoordNote::Nothing,
         })
+    }
+
+    /// An event that changed nothing yet, in a box: letting go of it is one step of a proof.
+    pub(crate) fn boxed(alloc: Global, base: &State) -> Result<Box<Self>, AllocError>
+        ensures work { IfOk result (λ draft. (line : LineOf) → shown line (held base.now) draft.value ≡ begin_work (kept line base.now)) }
+        ensures life { IfOk result (λ draft. draft.value.change.life ≡ None) }
+        ensures gone { IfOk result (λ draft. draft.value.change.gone ≡ None) }
+    {
+        let draft = Draft::new(alloc, base)?;
+        Ok(Box::new(alloc, draft)?)
     }
 
     /// Grants what the ask wants.

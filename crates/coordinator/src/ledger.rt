@@ -36,18 +36,17 @@ ghost use Rattle.coordinator.specs.Promises.{OnlyGrow, ChangesAsTold};
 use super::change::Change;
 use super::draft::Draft;
 use super::handled::Handled;
-use super::parked_asks::ParkedAsks;
 use super::record::{entry_of, record_of, state_of};
 use super::state::State;
+use super::table_room::{put_back, put_changed, take_table};
 use super::text::{Sizes, Text, save};
 use farm_base::{Items, Lease, NodeId, Parked, Slot, Ticket, ToCoord};
-use leases::{LeaseTable, Lives, RetiredNodes, SlotState, TableWithRoom};
+use leases::{Lives, RetiredNodes, SlotState, TableWithRoom};
 use protocol::{CoordNote, CoordRefusal};
 use saverecord::laws::what_is_kept_is_a_record;
 use saverecord::{Keeper, Record};
 use std::alloc::{AllocError, Global};
 use std::marker::Model;
-use std::mem;
 use versions::{Added, Line, SlotLine};
 
 /// What a coordinator keeps of its farm: who may use which slot, and the lines of versions. Contracts see it as lists.
@@ -73,7 +72,8 @@ impl Model for Ledger {
 /// An event that was worked out and not applied yet.
 #[derive(Debug, Drop)]
 pub(crate) struct Prepared {
-    pub draft: Draft,
+    /// In a box, so that letting go of it is one step of a proof.
+    pub draft: Box<Draft>,
     pub added: Option<Added>,
     /// Room for the lines, with those that are added.
     pub room: Vec<SlotLine>,
@@ -87,23 +87,29 @@ fn apply(
     nodes: (Option<Lives>, Option<RetiredNodes>),
     prepared: Prepared,
 ) -> Handled
-    requires table_room { HasRoom table prepared.draft.change.table }
-    requires leases { AreLeases (changed table.table prepared.draft.change.table).live }
-    requires parking { vec_len state.old.parked.asks + vec_len prepared.draft.change.parked.since ≤ vec_capacity state.old.parked.asks }
-    requires newest { vec_len prepared.draft.change.parked.since ≤ node_room state.old.parked.newest }
-    requires folders { state.old.parked.folders.items ≡ map (λ w. w.folder) (wants_of prepared.draft.change.parked.since.items) }
+    requires table_room { HasRoom table prepared.draft.value.change.table }
+    requires leases { AreLeases (changed table.table prepared.draft.value.change.table).live }
+    requires parking { vec_len state.old.parked.asks + vec_len prepared.draft.value.change.parked.since ≤ vec_capacity state.old.parked.asks }
+    requires newest { vec_len prepared.draft.value.change.parked.since ≤ node_room state.old.parked.newest }
+    requires folders { state.old.parked.folders.items ≡ map (λ w. w.folder) (wants_of prepared.draft.value.change.parked.since.items) }
     requires counts { vec_len state.old.parked.folders ≤ folder_room state.old.parked.wanted }
-    requires lives { life_at (unwrap_or nodes.0 state.old.lives) ≡ with_life prepared.draft.change.life (life_at state.old.lives) }
-    requires gone { is_among (unwrap_or nodes.1 state.old.gone) ≡ with_gone prepared.draft.change.gone (is_among state.old.gone) }
+    requires lives { life_at (unwrap_or nodes.0 state.old.lives) ≡ with_life prepared.draft.value.change.life (life_at state.old.lives) }
+    requires gone { is_among (unwrap_or nodes.1 state.old.gone) ≡ with_gone prepared.draft.value.change.gone (is_among state.old.gone) }
     requires ready { IsReady state.old.lines prepared.added }
     requires empty { prepared.room.items ≡ [] }
     requires larger { room_needed state.old.lines prepared.added ≤ vec_capacity prepared.room }
     ensures lines { line_at state.new.lines ≡ lines_with state.old.lines prepared.added }
-    ensures ledger { (line : LineOf) → kept line state.new ≡ after line (record (held state.old) { live = table.table.live; retired = table.table.retired }) prepared.draft.change }
-    ensures sends { result.sends ≡ prepared.draft.sends.items }
-    ensures note { result.note ≡ prepared.draft.note }
+    ensures ledger { (line : LineOf) → kept line state.new ≡ after line (record (held state.old) { live = table.table.live; retired = table.table.retired }) prepared.draft.value.change }
+    ensures sends { result.sends ≡ prepared.draft.value.sends.items }
+    ensures note { result.note ≡ prepared.draft.value.note }
 {
     let Prepared { draft, added, room } = prepared;
+    let Draft {
+        change,
+        sends,
+        changed: _,
+        note,
+    } = Box::into_inner(draft);
     let Change {
         table: table_change,
         tickets,
@@ -111,18 +117,17 @@ fn apply(
         gone: _,
         old_home,
         parked,
-    } = draft.change;
-    let asks = mem::replace(&mut state.parked, ParkedAsks::new(alloc));
-    state.parked = parked.apply(alloc, asks);
-    state.table = table.apply(table_change);
+    } = change;
+    parked.apply_in(alloc, &mut state.parked);
+    put_changed(&mut state.table, table, table_change);
     state.tickets = tickets;
     update(&mut state.lives, nodes.0);
     update(&mut state.gone, nodes.1);
     state.old_home = old_home;
     state.lines.add_to(added, room);
     Handled {
-        sends: Items::new(draft.sends),
-        note: draft.note,
+        sends: Items::new(sends),
+        note,
     }
 }
 
@@ -147,9 +152,9 @@ impl Ledger {
 
     /// The whole record of an event that was worked out.
     fn record_bytes(&self, alloc: Global, prepared: &Prepared) -> Result<Vec<u8>, AllocError>
-        requires rightful { IsRightful (after (lines_with self.now.lines prepared.now.added) self.now prepared.now.draft.change) }
+        requires rightful { IsRightful (after (lines_with self.now.lines prepared.now.added) self.now prepared.now.draft.value.change) }
         requires ready { IsReady self.now.lines prepared.now.added }
-        ensures { IfOk result (λ bytes. Holds (whole_alone bytes.items) (saves (after (lines_with self.now.lines prepared.now.added) self.now prepared.now.draft.change))) }
+        ensures { IfOk result (λ bytes. Holds (whole_alone bytes.items) (saves (after (lines_with self.now.lines prepared.now.added) self.now prepared.now.draft.value.change))) }
     {
         let change = &prepared.draft.change;
         let record = record_of(alloc, &self.state, change, &prepared.added)?;
@@ -159,11 +164,11 @@ impl Ledger {
 
     /// The entry of an event that was worked out: what it changes in the record.
     fn entry_bytes(&self, alloc: Global, prepared: &Prepared) -> Result<Vec<u8>, AllocError>
-        requires rightful { IsRightful (after (lines_with self.now.lines prepared.now.added) self.now prepared.now.draft.change) }
+        requires rightful { IsRightful (after (lines_with self.now.lines prepared.now.added) self.now prepared.now.draft.value.change) }
         requires ready { IsReady self.now.lines prepared.now.added }
-        requires block { self.now.ceiling ≤ prepared.now.draft.change.tickets.ceiling }
+        requires block { self.now.ceiling ≤ prepared.now.draft.value.change.tickets.ceiling }
         ensures { IfOk result (λ bytes. (t : Texts) → Holds t (saves (ledger self.now))
-            → Holds (with_text bytes.items t) (saves (after (lines_with self.now.lines prepared.now.added) self.now prepared.now.draft.change))) }
+            → Holds (with_text bytes.items t) (saves (after (lines_with self.now.lines prepared.now.added) self.now prepared.now.draft.value.change))) }
     {
         let change = &prepared.draft.change;
         let entry = entry_of(alloc, &self.state, change, &prepared.added)?;
@@ -177,11 +182,11 @@ impl Ledger {
         alloc: Global,
         prepared: &Prepared,
     ) -> Result<Option<Text>, AllocError>
-        requires rightful { IsRightful (after (lines_with self.now.lines prepared.now.added) self.now prepared.now.draft.change) }
+        requires rightful { IsRightful (after (lines_with self.now.lines prepared.now.added) self.now prepared.now.draft.value.change) }
         requires ready { IsReady self.now.lines prepared.now.added }
         ensures text { IfOk result (λ o. IfSome o (λ text. (t : Texts) → Holds t (saves (ledger self.now))
-            → Holds (kept_with text t) (saves (after (lines_with self.now.lines prepared.now.added) self.now prepared.now.draft.change)))) }
-        ensures changed { IfOk result (λ o. is_some o ≡ prepared.now.draft.changed) }
+            → Holds (kept_with text t) (saves (after (lines_with self.now.lines prepared.now.added) self.now prepared.now.draft.value.change)))) }
+        ensures changed { IfOk result (λ o. is_some o ≡ prepared.now.draft.value.changed) }
     {
         if !prepared.draft.changed {
             return Ok(None);
@@ -198,15 +203,15 @@ impl Ledger {
     /// Works out what a message does. Nothing changes before `accept`.
     pub(crate) fn prepare(&self, alloc: Global, message: &ToCoord) -> Result<Prepared, AllocError>
         requires { IsSaid NODES message.now }
-        ensures work { IfOk result (λ p. shown (lines_with self.now.lines p.added) self.now p.draft
+        ensures work { IfOk result (λ p. shown (lines_with self.now.lines p.added) self.now p.draft.value
             ≡ handled farm_limits message.now (begin_work (ledger self.now))) }
         ensures told { IfOk result (λ p. ChangesAsTold (ledger self.now) (Ok (handled farm_limits message.now (begin_work (ledger self.now))))) }
-        ensures rightful { IfOk result (λ p. IsRightful (after (lines_with self.now.lines p.added) self.now p.draft.change)) }
+        ensures rightful { IfOk result (λ p. IsRightful (after (lines_with self.now.lines p.added) self.now p.draft.value.change)) }
         ensures ready { IfOk result (λ p. IsReady self.now.lines p.added) }
         ensures empty { IfOk result (λ p. p.room.items ≡ []) }
         ensures larger { IfOk result (λ p. room_needed self.now.lines p.added ≤ vec_capacity p.room) }
     {
-        let mut draft = Draft::new(alloc, &self.state)?;
+        let mut draft = Draft::boxed(alloc, &self.state)?;
         let added = draft.deliver(alloc, &self.state, message)?;
         let room = self.state.lines.room_to_add(alloc, &added)?;
         Ok(Prepared { draft, added, room })
@@ -220,13 +225,13 @@ impl Ledger {
         keeper: &mut K,
         prepared: Prepared,
     ) -> Result<Handled, CoordRefusal>
-        requires told { ChangesAsTold (ledger self.old) (Ok (shown (lines_with self.old.lines prepared.added) self.old prepared.draft)) }
-        requires rightful { IsRightful (after (lines_with self.old.lines prepared.added) self.old prepared.draft.change) }
+        requires told { ChangesAsTold (ledger self.old) (Ok (shown (lines_with self.old.lines prepared.added) self.old prepared.draft.value)) }
+        requires rightful { IsRightful (after (lines_with self.old.lines prepared.added) self.old prepared.draft.value.change) }
         requires ready { IsReady self.old.lines prepared.added }
         requires empty { prepared.room.items ≡ [] }
         requires larger { room_needed self.old.lines prepared.added ≤ vec_capacity prepared.room }
         requires keeping { IsKeeping (K.kept keeper.old) self.old false }
-        ensures answer { Answers K.saving (Ok (shown (lines_with self.old.lines prepared.added) self.old prepared.draft))
+        ensures answer { Answers K.saving (Ok (shown (lines_with self.old.lines prepared.added) self.old prepared.draft.value))
             (record { held = self.old; keeper = keeper.old; down = false }) (record { held = self.new; keeper = keeper.new; down = is_save_fault result }) result }
         ensures cause { result ≡ Err CoordRefusal.SaveFault → HasFailed (K.failed keeper.old) (K.failed keeper.new) }
         ensures keeping { IsKeeping (K.kept keeper.new) self.new (is_save_fault result) }
@@ -242,13 +247,8 @@ impl Ledger {
         let Ok(nodes) = change.nodes(alloc, &self.state) else {
             return Err(CoordRefusal::OutOfMemory);
         };
-        let table = mem::replace(&mut self.state.table, LeaseTable::new(alloc));
-        let table = match table.with_room(alloc, &change.table) {
-            Ok(table) => table,
-            Err(table) => {
-                self.state.table = table;
-                return Err(CoordRefusal::OutOfMemory);
-            }
+        let Ok(table) = take_table(alloc, &mut self.state.table, &change.table) else {
+            return Err(CoordRefusal::OutOfMemory);
         };
         match save(keeper, self.sizes, to_save) {
             Ok(sizes) => {
@@ -256,7 +256,7 @@ impl Ledger {
                 Ok(apply(alloc, &mut self.state, table, nodes, prepared))
             }
             Err(refusal) => {
-                self.state.table = table.into_table();
+                put_back(&mut self.state.table, table);
                 Err(refusal)
             }
         }
@@ -272,14 +272,14 @@ impl Ledger {
     /// Works out the withdrawal of a lease, which adds nothing to the lines.
     pub(crate) fn withdrawal(&self, alloc: Global, ticket: Ticket) -> Result<Prepared, AllocError>
         requires { result_err (withdrawn farm_limits ticket (begin_work (ledger self.now))) ≡ None }
-        ensures work { IfOk result (λ p. withdrawn farm_limits ticket (begin_work (ledger self.now)) ≡ Ok (shown (lines_with self.now.lines p.added) self.now p.draft)) }
+        ensures work { IfOk result (λ p. withdrawn farm_limits ticket (begin_work (ledger self.now)) ≡ Ok (shown (lines_with self.now.lines p.added) self.now p.draft.value)) }
         ensures told { IfOk result (λ p. ChangesAsTold (ledger self.now) (withdrawn farm_limits ticket (begin_work (ledger self.now)))) }
-        ensures rightful { IfOk result (λ p. IsRightful (after (lines_with self.now.lines p.added) self.now p.draft.change)) }
+        ensures rightful { IfOk result (λ p. IsRightful (after (lines_with self.now.lines p.added) self.now p.draft.value.change)) }
         ensures ready { IfOk result (λ p. IsReady self.now.lines p.added) }
         ensures empty { IfOk result (λ p. p.room.items ≡ []) }
         ensures larger { IfOk result (λ p. room_needed self.now.lines p.added ≤ vec_capacity p.room) }
     {
-        let mut draft = Draft::new(alloc, &self.state)?;
+        let mut draft = Draft::boxed(alloc, &self.state)?;
         draft.withdraw(alloc, &self.state, ticket)?;
         let room = self.state.lines.room_to_add(alloc, &None)?;
         Ok(Prepared {
@@ -300,14 +300,14 @@ impl Ledger {
     pub(crate) fn retirement(&self, alloc: Global, node: NodeId) -> Result<Prepared, AllocError>
         requires accepted { result_err (retired farm_limits node (begin_work (ledger self.now))) ≡ None }
         requires number { IsNumber NODES node }
-        ensures work { IfOk result (λ p. retired farm_limits node (begin_work (ledger self.now)) ≡ Ok (shown (lines_with self.now.lines p.added) self.now p.draft)) }
+        ensures work { IfOk result (λ p. retired farm_limits node (begin_work (ledger self.now)) ≡ Ok (shown (lines_with self.now.lines p.added) self.now p.draft.value)) }
         ensures told { IfOk result (λ p. ChangesAsTold (ledger self.now) (retired farm_limits node (begin_work (ledger self.now)))) }
-        ensures rightful { IfOk result (λ p. IsRightful (after (lines_with self.now.lines p.added) self.now p.draft.change)) }
+        ensures rightful { IfOk result (λ p. IsRightful (after (lines_with self.now.lines p.added) self.now p.draft.value.change)) }
         ensures ready { IfOk result (λ p. IsReady self.now.lines p.added) }
         ensures empty { IfOk result (λ p. p.room.items ≡ []) }
         ensures larger { IfOk result (λ p. room_needed self.now.lines p.added ≤ vec_capacity p.room) }
     {
-        let mut draft = Draft::new(alloc, &self.state)?;
+        let mut draft = Draft::boxed(alloc, &self.state)?;
         draft.retire(alloc, &self.state, node)?;
         let room = self.state.lines.room_to_add(alloc, &None)?;
         Ok(Prepared {
@@ -335,14 +335,14 @@ impl Ledger {
     /// Works out the prune of a slot's line.
     pub(crate) fn pruning(&self, alloc: Global, slot: &Slot) -> Result<Prepared, AllocError>
         requires { result_err (pruned farm_limits slot.now (begin_work (ledger self.now))) ≡ None }
-        ensures work { IfOk result (λ p. pruned farm_limits slot.now (begin_work (ledger self.now)) ≡ Ok (shown (lines_with self.now.lines p.added) self.now p.draft)) }
+        ensures work { IfOk result (λ p. pruned farm_limits slot.now (begin_work (ledger self.now)) ≡ Ok (shown (lines_with self.now.lines p.added) self.now p.draft.value)) }
         ensures told { IfOk result (λ p. ChangesAsTold (ledger self.now) (pruned farm_limits slot.now (begin_work (ledger self.now)))) }
-        ensures rightful { IfOk result (λ p. IsRightful (after (lines_with self.now.lines p.added) self.now p.draft.change)) }
+        ensures rightful { IfOk result (λ p. IsRightful (after (lines_with self.now.lines p.added) self.now p.draft.value.change)) }
         ensures ready { IfOk result (λ p. IsReady self.now.lines p.added) }
         ensures empty { IfOk result (λ p. p.room.items ≡ []) }
         ensures larger { IfOk result (λ p. room_needed self.now.lines p.added ≤ vec_capacity p.room) }
     {
-        let mut draft = Draft::new(alloc, &self.state)?;
+        let mut draft = Draft::boxed(alloc, &self.state)?;
         let added = draft.prune(alloc, &self.state, slot)?;
         let room = self.state.lines.room_to_add(alloc, &added)?;
         Ok(Prepared { draft, added, room })

@@ -13,6 +13,7 @@ mod parked_asks;
 mod parked_change;
 mod record;
 mod state;
+mod table_room;
 mod text;
 mod wanted_folders;
 

@@ -13,6 +13,7 @@ use super::wanted_folders::{WantedFolders, folders_of};
 use farm_base::{Ask, Life, NodeId, Parked};
 use leases::Ending;
 use std::alloc::{AllocError, Global};
+use std::mem;
 
 /// Asks that wait no longer, and asks that wait since, where others wait.
 #[derive(Debug, Drop)]
@@ -213,8 +214,21 @@ impl ParkedChange {
         parked.asks.reserve(self.since.len())
     }
 
+    /// Changes the asks that wait, in the room that was made for them. It takes no memory. In a function of its own, since
+    /// letting go of what was there is many steps of a proof.
+    pub(crate) fn apply_in(self, alloc: Global, place: &mut ParkedAsks)
+        requires larger { vec_len place.old.asks + vec_len self.since ≤ vec_capacity place.old.asks }
+        requires newest { vec_len self.since ≤ node_room place.old.newest }
+        requires folders { place.old.folders.items ≡ map (λ w. w.folder) (wants_of self.since.items) }
+        requires counts { vec_len place.old.folders ≤ folder_room place.old.wanted }
+        ensures { asks_of place.new ≡ waits_after (asks_of place.old) self }
+    {
+        let parked = mem::replace(place, ParkedAsks::new(alloc));
+        *place = self.apply(alloc, parked);
+    }
+
     /// The asks that wait, in the room that was made for them. It takes no memory.
-    pub(crate) fn apply(self, alloc: Global, parked: ParkedAsks) -> ParkedAsks
+    fn apply(self, alloc: Global, parked: ParkedAsks) -> ParkedAsks
         requires larger { vec_len parked.asks + vec_len self.since ≤ vec_capacity parked.asks }
         requires newest { vec_len self.since ≤ node_room parked.newest }
         requires folders { parked.folders.items ≡ map (λ w. w.folder) (wants_of self.since.items) }

@@ -53,16 +53,23 @@ fn mounts(
     let mut root = mount(alloc, -1, "/", false)?;
     root.output = 0;
     let mut mounts = vec![in alloc; root]?;
-    for (input, dest, id, readonly) in caches {
-        let mut cache = mount(alloc, *input, *dest, *readonly)?;
-        cache.mount_type = 3;
-        cache.cache = Some(CacheOpt {
-            id: text(alloc, *id)?,
-            sharing,
-        });
-        mounts.push(cache)?;
+    for cache in caches {
+        mounts.push(cache_mount(alloc, *cache, sharing)?)?;
     }
     Ok(mounts)
+}
+
+/// A cache mount: its input, its dest, its id, and whether it is readonly.
+fn cache_mount(
+    alloc: Global,
+    (input, dest, id, readonly): (i64, &str, &str, bool),
+    sharing: i32,
+) -> Result<Mount, AllocError> {
+    let id = text(alloc, id)?;
+    let mut cache = mount(alloc, input, dest, readonly)?;
+    cache.mount_type = 3;
+    cache.cache = Some(CacheOpt { id, sharing });
+    Ok(cache)
 }
 
 /// The exec op that runs `x` with a root mount and these cache mounts, all of one sharing. Of each its input, its dest,
@@ -86,9 +93,10 @@ pub fn exec(
     })
 }
 
-/// The graph that a definition's bytes spell.
-pub fn load(alloc: Global, bytes: Vec<u8>) -> Result<Graph, Fail> {
-    Ok(vertices::load(alloc, read_definition(alloc, bytes)?)?)
+/// The graph that a definition's bytes spell, in a box: letting go of it is one step of a proof.
+pub fn load(alloc: Global, bytes: Vec<u8>) -> Result<Box<Graph>, Fail> {
+    let graph = vertices::load(alloc, read_definition(alloc, bytes)?)?;
+    Ok(Box::new(alloc, graph)?)
 }
 
 /// The entry that names an op's output 0 as the result.
@@ -101,13 +109,18 @@ fn result_of(alloc: Global, op: &[u8]) -> Result<Vec<u8>, Fail> {
     Ok(entry)
 }
 
-/// The graph of some ops, of which the last gives the result.
-pub fn graph_of(alloc: Global, ops: &[Vec<u8>]) -> Result<Graph, Fail> {
+/// The definition of some ops, of which the last gives the result.
+fn definition_of(alloc: Global, ops: &[Vec<u8>]) -> Result<Vec<u8>, Fail> {
+    let result = result_of(alloc, ops.last().ok_or("no op")?)?;
     let mut bytes = Vec::new(alloc);
     for op in ops {
         put_bytes(&mut bytes, 1, op)?;
     }
-    let result = result_of(alloc, ops.last().ok_or("no op")?)?;
     put_bytes(&mut bytes, 1, &result)?;
-    load(alloc, bytes)
+    Ok(bytes)
+}
+
+/// The graph of some ops, of which the last gives the result.
+pub fn graph_of(alloc: Global, ops: &[Vec<u8>]) -> Result<Box<Graph>, Fail> {
+    load(alloc, definition_of(alloc, ops)?)
 }

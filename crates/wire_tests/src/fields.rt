@@ -1,7 +1,7 @@
 //! Messages as lists of fields. Their bytes were spelled by hand from proto3's encoding.
 
 use protowire::{
-    Value, bodies, fields, joined_body, last_member, last_varint, put_bytes, put_message,
+    Field, Value, bodies, fields, joined_body, last_member, last_varint, put_bytes, put_message,
     put_varint,
 };
 use std::alloc::Global;
@@ -67,23 +67,40 @@ fn messages_of_fields(rt: HostRuntime) -> Result<(), Fail> {
     Ok(())
 }
 
+/// The joined bodies of the fields of a number.
+fn shown_joined(alloc: Global, found: &[Field<'_>], number: u32) -> Result<String, Fail> {
+    match joined_body(alloc, found, number)? {
+        Some(body) => Ok(hex::encode(alloc, &body)?),
+        None => Ok(String::from_str(alloc, "none")?),
+    }
+}
+
+/// The last of the fields of these numbers, and its joined bodies.
+fn shown_last(alloc: Global, found: &[Field<'_>], numbers: &[u32]) -> Result<String, Fail> {
+    let Some((number, body)) = last_member(alloc, found, numbers)? else {
+        return Ok(String::from_str(alloc, "none")?);
+    };
+    let body = hex::encode(alloc, &body)?;
+    Ok(format!(in alloc; "{number}={body}")?)
+}
+
+/// What looking up gives in fields.
+fn shown_lookups(alloc: Global, found: &[Field<'_>]) -> Result<String, Fail> {
+    let (one, two) = (last_varint(found, 1), last_varint(found, 2));
+    let joined = shown_joined(alloc, found, 2)?;
+    let bodies = bodies(alloc, found, 2)?.len();
+    let third = shown_last(alloc, found, &[2, 3])?;
+    let second = shown_last(alloc, found, &[2, 4])?;
+    let none = shown_last(alloc, found, &[4])?;
+    Ok(format!(in alloc; "{one:?} {two:?} {joined} {bodies} {third} {second} {none}")?)
+}
+
+/// Field 1 as 5, as `a` and as 7; field 2 as `b`; field 9 as 0; field 2 as `c`; field 3 as `d`; field 2 as `e`.
 #[test]
 fn what_is_looked_up(rt: HostRuntime) -> Result<(), Fail> {
-    let alloc = rt.alloc();
-    // Field 1 as 5, as `a` and as 7; field 2 as `b`; field 9 as 0; field 2 as `c`; field 3 as `d`; field 2 as `e`.
-    let bytes = hex::decode(alloc, "08050a0161080712016248001201631a0164120165")?;
-    let found = fields(alloc, &bytes)?;
-    assert_eq!(rt; last_varint(&found, 1), Some(7));
-    assert_eq!(rt; last_varint(&found, 2), None);
-    let joined = joined_body(alloc, &found, 2)?.ok_or("none")?;
-    assert_eq!(rt; joined.as_slice(), b"bce".as_slice());
-    assert_eq!(rt; bodies(alloc, &found, 2)?.len(), 3);
-    let (member, body) = last_member(alloc, &found, &[2, 3])?.ok_or("none")?;
-    assert_eq!(rt; member, 2);
-    assert_eq!(rt; body.as_slice(), b"e".as_slice());
-    let (_, body) = last_member(alloc, &found, &[2, 4])?.ok_or("none")?;
-    assert_eq!(rt; body.as_slice(), b"bce".as_slice());
-    assert!(rt; last_member(alloc, &found, &[4])?.is_none());
+    let bytes = hex::decode(rt.alloc(), "08050a0161080712016248001201631a0164120165")?;
+    let text = shown_lookups(rt.alloc(), &fields(rt.alloc(), &bytes)?)?;
+    assert_eq!(rt; text.as_str(), "Some(7) None 626365 3 2=65 2=626365 none");
     Ok(())
 }
 

@@ -153,24 +153,32 @@ fn shown_end(alloc: Global, end: Result<(), JobsRefusal>) -> Result<String, Allo
 }
 
 impl Play {
-    fn new(alloc: Global) -> Self {
-        Play {
+    /// In a box: letting go of it is one step of a proof.
+    fn boxed(alloc: Global) -> Result<Box<Self>, AllocError> {
+        let play = Play {
             jobs: Jobs::new(alloc),
             submitted: Vec::new(alloc),
             taken: Vec::new(alloc),
-        }
+        };
+        Ok(Box::new(alloc, play)?)
     }
 
     fn submit(&mut self, alloc: Global, definition: &str) -> Result<String, Fail> {
         let graph = load(alloc, hex::decode(alloc, definition)?)?;
         let keys = solverkeys::keys(alloc, &graph)?;
         let job = self.jobs.submit(alloc, &graph, keys.as_slice())?.0;
+        self.note(keys.as_slice())?;
+        Ok(format!(in alloc; "job {job}")?)
+    }
+
+    /// Notes the keys that were submitted first now.
+    fn note(&mut self, keys: &[Key]) -> Result<(), AllocError> {
         for key in keys {
-            if !self.submitted.contains(&key) {
-                self.submitted.push(key)?;
+            if !self.submitted.contains(key) {
+                self.submitted.push(*key)?;
             }
         }
-        Ok(format!(in alloc; "job {job}")?)
+        Ok(())
     }
 
     fn take(&mut self, alloc: Global) -> Result<String, Fail> {
@@ -261,7 +269,7 @@ impl Play {
 
 /// The place of the first call of a row that is not answered as expected, if there is one.
 fn wrong_call(alloc: Global, row: &[(Call, &str)]) -> Result<Option<usize>, Fail> {
-    let mut play = Play::new(alloc);
+    let mut play = Play::boxed(alloc)?;
     for (place, (call, expected)) in row.iter().enumerate() {
         let answer = play.call(alloc, *call)?;
         if answer.as_str() != *expected {
@@ -283,7 +291,7 @@ fn jobs_on_one_table(rt: HostRuntime) -> Result<(), Fail> {
 #[test]
 fn ready_keys_are_kept(rt: HostRuntime) -> Result<(), Fail> {
     let alloc = rt.alloc();
-    let mut play = Play::new(alloc);
+    let mut play = Play::boxed(alloc)?;
     for (call, expected, ready) in &KEPT {
         let answer = play.call(alloc, *call)?;
         assert_eq!(rt; answer.as_str(), *expected);

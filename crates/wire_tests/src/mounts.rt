@@ -89,10 +89,8 @@ fn two_mounts_of_a_folder(rt: HostRuntime) -> Result<(), Fail> {
     Ok(())
 }
 
-/// The first vertex is a source op, which wants nothing; the second mounts its output 5.
-#[test]
-fn an_output_as_base(rt: HostRuntime) -> Result<(), Fail> {
-    let alloc = rt.alloc();
+/// A graph of a source op, and of an exec op that mounts its output 5.
+fn with_base(alloc: Global) -> Result<Box<Graph>, Fail> {
     let source = hex::decode(alloc, "1a00")?;
     let input = Input {
         digest: digest_text(alloc, &source)?,
@@ -100,12 +98,23 @@ fn an_output_as_base(rt: HostRuntime) -> Result<(), Fail> {
     };
     let mounts = [(0, "/a", "", false), (-1, "/a", "", false)];
     let op = locked(alloc, vec![in alloc; input]?, &mounts)?;
-    let graph = graph_of(alloc, &[source, op])?;
-    let nothing = shown(alloc, &graph, 0)?;
+    graph_of(alloc, &[source, op])
+}
+
+/// What the exec op wants, with the key of the source op.
+fn wanted_with_base(alloc: Global, graph: &Graph) -> Result<String, Fail> {
+    let key = first_key(alloc, graph)?;
+    Ok(format!(in alloc; "locked:/a true locked:/a@{key}.5 true 1-1 2-0 ")?)
+}
+
+/// The source op wants nothing.
+#[test]
+fn an_output_as_base(rt: HostRuntime) -> Result<(), Fail> {
+    let graph = with_base(rt.alloc())?;
+    let nothing = shown(rt.alloc(), &graph, 0)?;
     assert_eq!(rt; nothing.as_str(), "");
-    let key = first_key(alloc, &graph)?;
-    let text = shown(alloc, &graph, 1)?;
-    let expected = format!(in alloc; "locked:/a true locked:/a@{key}.5 true 1-1 2-0 ")?;
+    let text = shown(rt.alloc(), &graph, 1)?;
+    let expected = wanted_with_base(rt.alloc(), &graph)?;
     assert_eq!(rt; text.as_str(), expected.as_str());
     Ok(())
 }

@@ -85,12 +85,16 @@ fn shown(alloc: Global, read: &Result<Op, OpRefusal>) -> Result<String, AllocErr
     }
 }
 
+/// What an op of these hexadecimal digits is.
+fn shown_op(alloc: Global, digits: &str) -> Result<String, Fail> {
+    let bytes = hex::decode(alloc, digits)?;
+    Ok(shown(alloc, &read_op(alloc, &bytes))?)
+}
+
 #[test]
 fn ops(rt: HostRuntime) -> Result<(), Fail> {
-    for (bytes, wanted) in &ROWS {
-        let bytes = hex::decode(rt.alloc(), *bytes)?;
-        let read = read_op(rt.alloc(), &bytes);
-        let text = shown(rt.alloc(), &read)?;
+    for (digits, wanted) in &ROWS {
+        let text = shown_op(rt.alloc(), *digits)?;
         assert_eq!(rt; text.as_str(), *wanted);
     }
     Ok(())
@@ -121,16 +125,25 @@ fn definition_of(alloc: Global, bytes: &[u8]) -> Result<Definition, OpRefusal> {
     read_definition(alloc, Vec::from_slice(alloc, bytes)?)
 }
 
+/// How many entries a definition has.
+fn entries(alloc: Global, bytes: &[u8]) -> Result<usize, OpRefusal> {
+    Ok(definition_of(alloc, bytes)?.def.len())
+}
+
+/// A definition, read and written again.
+fn written_again(alloc: Global, bytes: &[u8]) -> Result<Vec<u8>, OpRefusal> {
+    Ok(write_definition(alloc, &definition_of(alloc, bytes)?)?)
+}
+
 #[test]
 fn definitions(rt: HostRuntime) -> Result<(), Fail> {
     let alloc = rt.alloc();
     // No entry; metadata and source, which are skipped; one entry; one that is cut.
-    assert_eq!(rt; definition_of(alloc, b"")?.def.len(), 0);
-    assert_eq!(rt; definition_of(alloc, b"\x12\x00\x1a\x01\xff")?.def.len(), 0);
-    let definition = definition_of(alloc, b"\x0a\x00\x0a\x01\x0a")?;
-    assert_eq!(rt; definition.def.len(), 2);
-    let bytes = write_definition(alloc, &definition)?;
+    assert_eq!(rt; entries(alloc, b"")?, 0);
+    assert_eq!(rt; entries(alloc, b"\x12\x00\x1a\x01\xff")?, 0);
+    assert_eq!(rt; entries(alloc, b"\x0a\x00\x0a\x01\x0a")?, 2);
+    let bytes = written_again(alloc, b"\x0a\x00\x0a\x01\x0a")?;
     assert_eq!(rt; bytes.as_slice(), b"\x0a\x00\x0a\x01\x0a".as_slice());
-    assert!(rt; matches!(&definition_of(alloc, b"\x0a"), Err(OpRefusal::Wire(_))));
+    assert!(rt; matches!(entries(alloc, b"\x0a"), Err(OpRefusal::Wire(_))));
     Ok(())
 }

@@ -4,6 +4,7 @@
 use opsproto::read_definition;
 use std::alloc::Global;
 use std::test::Fail;
+use vertices::Graph;
 
 /// A definition, and the number of its vertices, the digest and the index of its result, and the result's solver key; or
 /// why it is refused.
@@ -27,16 +28,20 @@ const ROWS: [(&str, &str); 5] = [
     ),
 ];
 
-fn shown(alloc: Global, bytes: Vec<u8>) -> Result<String, Fail> {
-    let graph = match vertices::load(alloc, read_definition(alloc, bytes)?) {
-        Ok(graph) => graph,
-        Err(refusal) => return Ok(format!(in alloc; "{refusal:?}")?),
-    };
+/// The number of a graph's vertices, its result, and the result's key.
+fn shown_graph(alloc: Global, graph: &Graph) -> Result<String, Fail> {
     let (number, index) = graph.result();
     let len = graph.len();
     let digest = graph.vertex(number).digest.to_text(alloc)?;
-    let key = solverkeys::keys(alloc, &graph)?[number].to_text(alloc)?;
+    let key = solverkeys::keys(alloc, graph)?[number].to_text(alloc)?;
     Ok(format!(in alloc; "{len} {digest} {index} {key}")?)
+}
+
+fn shown(alloc: Global, bytes: Vec<u8>) -> Result<String, Fail> {
+    match vertices::load(alloc, read_definition(alloc, bytes)?) {
+        Ok(graph) => shown_graph(alloc, &graph),
+        Err(refusal) => Ok(format!(in alloc; "{refusal:?}")?),
+    }
 }
 
 #[test]

@@ -1,10 +1,10 @@
-use Rattle.std.proofs.Common.{◌≡◌, ◌≤◌, ◌+◌, ◌∷◌, [], ℕ, Bool, List, true, false, length, drop, sym, ◌∙◌, ap, subst, arith}
+use Rattle.std.proofs.Common.{◌≡◌, ◌≤◌, ◌+◌, ◌∷◌, [], ℕ, Bool, List, length, drop, sym, ◌∙◌, ap, subst, arith}
 use Rattle.std.proofs.lemmas.Bool.{eqb-true}
 use Rattle.std.proofs.lemmas.List.{nil_from_length}
 use Rattle.leases.proofs.MarkLemmas.{drop-item}
 use Rattle.protocol.specs.Names.{FolderName}
 use Rattle.protocol.specs.Machine.{Parked}
-use Rattle.coordinator.specs.Waiting.{first_mark, later_marks, still_waiting}
+use Rattle.coordinator.specs.Waiting.{later_marks, still_waiting}
 use Rattle.coordinator.specs.Wanted.{times, folder_room, of_folder, wants_of, AreCounted, Covers}
 use Rattle.coordinator.specs.declared.wanted_folders.WantedFolders.{WantedFolders}
 use Rattle.coordinator.proofs.WantedWords.{left_to_count, over-next, waits-next, unmarked-left, none-left, all-left}

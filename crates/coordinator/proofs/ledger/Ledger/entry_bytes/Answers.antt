@@ -1,3 +1,4 @@
+use Rattle.std.specs.Prelude.{IfOk}
 use Rattle.std.proofs.Common.{◌≤◌, sym, subst}
 use Rattle.std.proofs.lemmas.Result.{IfOk-weaker}
 use Rattle.protocol.specs.Ledger.{Ledger, saves}
@@ -6,6 +7,7 @@ use Rattle.saverecord.specs.LogEntries.{IsLogEntry}
 use Rattle.saverecord.specs.Logs.{Holds, IsSaved}
 use Rattle.saverecord.specs.Texts.{Texts, with_text}
 use Rattle.saverecord.proofs.LogLaws.{change_is_entry, entry_holds}
+use Rattle.coordinator.specs.declared.draft.Draft.{Draft}
 use Rattle.coordinator.specs.Held.{Held, ledger}
 use Rattle.coordinator.specs.Keeps.{held}
 use Rattle.coordinator.specs.Shown.{after, lines_with}
@@ -17,25 +19,33 @@ pub entry_of-requires-clause-before : goal.entry_of-requires-clause-before
 entry_of-requires-clause-before c = c.self.invariant.sound.leases
 
 pub entry_of-requires-clause-block : goal.entry_of-requires-clause-block
-entry_of-requires-clause-block c = subst (λ (h : Held). h.ceiling ≤ c.args.prepared.now.draft.change.tickets.ceiling) (sym c.self.view_is) c.requires.block
+entry_of-requires-clause-block c =
+    subst (λ (d : Draft). (held c.self.inside.state).ceiling ≤ d.change.tickets.ceiling) (sym c.deref.ensures)
+    (subst (λ (h : Held). h.ceiling ≤ c.args.prepared.now.draft.value.change.tickets.ceiling) (sym c.self.view_is) c.requires.block)
 
 pub entry_of-requires-clause-ready : goal.entry_of-requires-clause-ready
 entry_of-requires-clause-ready c = subst (λ (h : Held). IsReady h.lines c.args.prepared.now.added) (sym c.self.view_is) c.requires.ready
 
 pub write-requires : goal.write-requires
 write-requires c =
-    let by : (Held → Ledger) = λ h. after (lines_with h.lines c.args.prepared.now.added) h c.args.prepared.now.draft.change in
+    let by : (Held → Ledger) = λ h. after (lines_with h.lines c.args.prepared.now.added) h c.deref.result.now.change in
+    let rightful : IsRightful (by c.args.self.now) =
+    subst (λ (d : Draft). IsRightful (after (lines_with c.args.self.now.lines c.args.prepared.now.added) c.args.self.now d.change)) (sym c.deref.ensures) c.requires.rightful in
     let h : Held = held c.self.inside.state in
-    change_is_entry (saves (ledger h)) (saves (by h)) c.in_ok-entry.entry (rightful_saves (ledger h) c.self.invariant) (rightful_saves (by h) (subst (λ (x : Held). IsRightful (by x)) (sym c.self.view_is) c.requires.rightful))
+    change_is_entry (saves (ledger h)) (saves (by h)) c.in_ok-entry.entry (rightful_saves (ledger h) c.self.invariant) (rightful_saves (by h) (subst (λ (x : Held). IsRightful (by x)) (sym c.self.view_is) rightful))
     c.in_ok-entry.ensures.order c.in_ok-entry.ensures.change
 
 pub returns : goal.returns
 returns c =
-    let by : (Held → Ledger) = λ h. after (lines_with h.lines c.args.prepared.now.added) h c.args.prepared.now.draft.change in
+    let by : (Held → Ledger) = λ h. after (lines_with h.lines c.args.prepared.now.added) h c.deref.result.now.change in
+    let rightful : IsRightful (by c.args.self.now) =
+    subst (λ (d : Draft). IsRightful (after (lines_with c.args.self.now.lines c.args.prepared.now.added) c.args.self.now d.change)) (sym c.deref.ensures) c.requires.rightful in
     let h : Held = held c.self.inside.state in
-    let sound : IsSaved (saves (by h)) = rightful_saves (by h) (subst (λ (x : Held). IsRightful (by x)) (sym c.self.view_is) c.requires.rightful) in
+    let sound : IsSaved (saves (by h)) = rightful_saves (by h) (subst (λ (x : Held). IsRightful (by x)) (sym c.self.view_is) rightful) in
     let is_entry : IsLogEntry c.in_ok-entry.entry =
     change_is_entry (saves (ledger h)) (saves (by h)) c.in_ok-entry.entry (rightful_saves (ledger h) c.self.invariant) sound c.in_ok-entry.ensures.order c.in_ok-entry.ensures.change in
-    IfOk-weaker c.write.result _ (λ bytes. (t : Texts) → Holds t (saves (ledger c.args.self.now)) → Holds (with_text bytes.items t) (saves (by c.args.self.now)))
+    subst (λ (d : Draft). IfOk c.write.result (λ bytes. (t : Texts) → Holds t (saves (ledger c.args.self.now))
+    → Holds (with_text bytes.items t) (saves (after (lines_with c.args.self.now.lines c.args.prepared.now.added) c.args.self.now d.change)))) c.deref.ensures
+    (IfOk-weaker c.write.result _ (λ bytes. (t : Texts) → Holds t (saves (ledger c.args.self.now)) → Holds (with_text bytes.items t) (saves (by c.args.self.now)))
     (λ bytes again. subst (λ (x : Held). (t : Texts) → Holds t (saves (ledger x)) → Holds (with_text bytes.items t) (saves (by x))) c.self.view_is
-    (entry_holds (saves (ledger h)) (saves (by h)) c.in_ok-entry.entry is_entry sound c.in_ok-entry.ensures.change bytes.items again)) c.write.ensures.again
+    (entry_holds (saves (ledger h)) (saves (by h)) c.in_ok-entry.entry is_entry sound c.in_ok-entry.ensures.change bytes.items again)) c.write.ensures.again)

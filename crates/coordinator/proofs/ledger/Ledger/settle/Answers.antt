@@ -32,11 +32,11 @@ pub invariant_of-self-in-Ok-save : goal.invariant_of-self-in-Ok-save
 invariant_of-self-in-Ok-save g c =
     let s : State = c.self.inside.state in
     let h : Held = c.args.self.now in
-    let change : Change = c.args.prepared.draft.change in
-    let table : c.in-Ok-with_room.table.table ≡ s.table = c.in-Ok-with_room.ensures.table ∙ c.replace-table.ensures.value in
+    let change : Change = c.args.prepared.draft.value.change in
+    let table : c.in-Ok-take_table.table.table ≡ s.table = c.in-Ok-take_table.ensures.table in
     let parked : (asks_of c.room.new.parked) ≡ (asks_of s.parked) = c.in-Ok-room.ensures.parked in
     let was : held s ≡ h = c.self.view_is in
-    let base : record (held s) { live = c.in-Ok-with_room.table.table.live; retired = c.in-Ok-with_room.table.table.retired; parked = (asks_of c.room.new.parked) } ≡ h =
+    let base : record (held s) { live = c.in-Ok-take_table.table.table.live; retired = c.in-Ok-take_table.table.table.retired; parked = (asks_of c.room.new.parked) } ≡ h =
     (λ j. record (held s) { live = (table j).live; retired = (table j).retired; parked = parked j }) ∙ was in
     let lines : line_at c.apply.new.state.lines ≡ lines_with h.lines c.args.prepared.added = c.apply.ensures.lines ∙ ap (λ (x : Held). lines_with x.lines c.args.prepared.added) was in
     let ledger_is : kept (line_at c.apply.new.state.lines) c.apply.new.state ≡ after (lines_with h.lines c.args.prepared.added) h change =
@@ -47,18 +47,18 @@ pub returns-in-Ok-save-clause-answer : goal.returns-in-Ok-save-clause-answer
 returns-in-Ok-save-clause-answer g c =
     let s : State = c.self.inside.state in
     let h : Held = c.args.self.now in
-    let change : Change = c.args.prepared.draft.change in
-    let table : c.in-Ok-with_room.table.table ≡ s.table = c.in-Ok-with_room.ensures.table ∙ c.replace-table.ensures.value in
+    let change : Change = c.args.prepared.draft.value.change in
+    let table : c.in-Ok-take_table.table.table ≡ s.table = c.in-Ok-take_table.ensures.table in
     let parked : (asks_of c.room.new.parked) ≡ (asks_of s.parked) = c.in-Ok-room.ensures.parked in
     let was : held s ≡ h = c.self.view_is in
-    let base : record (held s) { live = c.in-Ok-with_room.table.table.live; retired = c.in-Ok-with_room.table.table.retired; parked = (asks_of c.room.new.parked) } ≡ h =
+    let base : record (held s) { live = c.in-Ok-take_table.table.table.live; retired = c.in-Ok-take_table.table.table.retired; parked = (asks_of c.room.new.parked) } ≡ h =
     (λ j. record (held s) { live = (table j).live; retired = (table j).retired; parked = parked j }) ∙ was in
     let lines : line_at c.apply.new.state.lines ≡ lines_with h.lines c.args.prepared.added = c.apply.ensures.lines ∙ ap (λ (x : Held). lines_with x.lines c.args.prepared.added) was in
     let ledger_is : kept (line_at c.apply.new.state.lines) c.apply.new.state ≡ after (lines_with h.lines c.args.prepared.added) h change =
     c.apply.ensures.ledger (line_at c.apply.new.state.lines) ∙ ap (λ (x : Held). after (line_at c.apply.new.state.lines) x change) base ∙ ap (λ (f : LineOf). after f h change) lines in
     let before : Holds (g.K.Keeper.kept c.args.keeper.now) (saves (ledger h)) = subst (Holds (g.K.Keeper.kept c.args.keeper.now)) (c.requires.keeping.up refl) c.requires.keeping.holds in
     record {
-      saved = saved_ok g.K.Keeper.saving c.in-Ok.to_save c.args.prepared.draft.changed (saves (ledger h)) (saves (after (lines_with h.lines c.args.prepared.added) h change)) (g.K.Keeper.kept c.args.keeper.now) c.args.keeper.now c.save.new.keeper
+      saved = saved_ok g.K.Keeper.saving c.in-Ok.to_save c.args.prepared.draft.value.changed (saves (ledger h)) (saves (after (lines_with h.lines c.args.prepared.added) h change)) (g.K.Keeper.kept c.args.keeper.now) c.args.keeper.now c.save.new.keeper
           c.in-Ok.ensures.changed c.in-Ok.ensures.text before c.in-Ok-save.ensures.exact (λ e. cc e) (λ e. (c.in-Ok-save.ensures.nothing e).1);
       ledger = ledger_is;
       up = refl;
@@ -70,11 +70,11 @@ pub returns-in-Ok-save-clause-keeping : goal.returns-in-Ok-save-clause-keeping
 returns-in-Ok-save-clause-keeping g c =
     let s : State = c.self.inside.state in
     let h : Held = c.args.self.now in
-    let change : Change = c.args.prepared.draft.change in
-    let table : c.in-Ok-with_room.table.table ≡ s.table = c.in-Ok-with_room.ensures.table ∙ c.replace-table.ensures.value in
+    let change : Change = c.args.prepared.draft.value.change in
+    let table : c.in-Ok-take_table.table.table ≡ s.table = c.in-Ok-take_table.ensures.table in
     let parked : (asks_of c.room.new.parked) ≡ (asks_of s.parked) = c.in-Ok-room.ensures.parked in
     let was : held s ≡ h = c.self.view_is in
-    let base : record (held s) { live = c.in-Ok-with_room.table.table.live; retired = c.in-Ok-with_room.table.table.retired; parked = (asks_of c.room.new.parked) } ≡ h =
+    let base : record (held s) { live = c.in-Ok-take_table.table.table.live; retired = c.in-Ok-take_table.table.table.retired; parked = (asks_of c.room.new.parked) } ≡ h =
     (λ j. record (held s) { live = (table j).live; retired = (table j).retired; parked = parked j }) ∙ was in
     let lines : line_at c.apply.new.state.lines ≡ lines_with h.lines c.args.prepared.added = c.apply.ensures.lines ∙ ap (λ (x : Held). lines_with x.lines c.args.prepared.added) was in
     let ledger_is : kept (line_at c.apply.new.state.lines) c.apply.new.state ≡ after (lines_with h.lines c.args.prepared.added) h change =
@@ -83,7 +83,7 @@ returns-in-Ok-save-clause-keeping g c =
     let now : Ledger = after (lines_with h.lines c.args.prepared.added) h change in
     record {
       saved = saves now;
-      holds = holds_after c.in-Ok.to_save c.args.prepared.draft.changed (saves (ledger h)) (saves now) (g.K.Keeper.kept c.args.keeper.now) (g.K.Keeper.kept c.save.new.keeper)
+      holds = holds_after c.in-Ok.to_save c.args.prepared.draft.value.changed (saves (ledger h)) (saves now) (g.K.Keeper.kept c.args.keeper.now) (g.K.Keeper.kept c.save.new.keeper)
           c.in-Ok.ensures.changed c.in-Ok.ensures.text c.requires.told before c.in-Ok-save.ensures.ok;
       up = λ d. ap saves (sym ledger_is);
     }
@@ -94,61 +94,56 @@ returns-in-Ok-save-clause-grow g c =
     c.apply.ensures.lines ∙ ap (λ (x : Held). lines_with x.lines c.args.prepared.added) c.self.view_is in
     subst (λ (f : LineOf). OnlyGrow (line_at c.args.self.now.lines) f) (sym lines) (grows c.args.self.now.lines c.args.prepared.added)
 
-pub returns-in-Err-save-clause-answer : goal.returns-in-Err-save-clause-answer
-returns-in-Err-save-clause-answer g c =
+pub returns-in-Err-clause-answer : goal.returns-in-Err-clause-answer
+returns-in-Err-clause-answer g c =
     let s : State = c.self.inside.state in
     let h : Held = c.args.self.now in
-    let change : Change = c.args.prepared.draft.change in
-    let table : c.into_table.result ≡ s.table = c.into_table.ensures ∙ c.in-Ok-with_room.ensures.table ∙ c.replace-table.ensures.value in
+    let change : Change = c.args.prepared.draft.value.change in
+    let table : c.put_back.new.place ≡ s.table = c.put_back.ensures ∙ c.in-Ok-take_table.ensures.table in
     let parked : (asks_of c.room.new.parked) ≡ (asks_of s.parked) = c.in-Ok-room.ensures.parked in
     let was : held s ≡ h = c.self.view_is in
-    let now : Held = record (held s) { live = c.into_table.result.live; retired = c.into_table.result.retired; parked = (asks_of c.room.new.parked) } in
+    let now : Held = record (held s) { live = c.put_back.new.place.live; retired = c.put_back.new.place.retired; parked = (asks_of c.room.new.parked) } in
     let same : now ≡ h = (λ j. record (held s) { live = (table j).live; retired = (table j).retired; parked = parked j }) ∙ was in
     let before : Holds (g.K.Keeper.kept c.args.keeper.now) (saves (ledger h)) = subst (Holds (g.K.Keeper.kept c.args.keeper.now)) (c.requires.keeping.up refl) c.requires.keeping.holds in
-    let w : Work = shown (lines_with h.lines c.args.prepared.added) h c.args.prepared.draft in
+    let w : Work = shown (lines_with h.lines c.args.prepared.added) h c.args.prepared.draft.value in
     let P : CoordRefusal → Type 0 = λ r. Answers g.K.Keeper.saving (Ok w) (record { held = h; keeper = c.args.keeper.now; down = false }) (record { held = now; keeper = c.save.new.keeper; down = is_save_fault (Err r) }) (Err r) in
-    elim c.in-Err-save.ensures.refusals [
+    elim c.in-Err.ensures.refusals [
       | inl e ↦ subst P (sym e)
-          (let failed = saved_not g.K.Keeper.saving c.in-Ok.to_save c.args.prepared.draft.changed (saves (ledger h)) (saves w.ledger) (g.K.Keeper.kept c.args.keeper.now) c.args.keeper.now c.save.new.keeper
-          c.in-Ok.ensures.changed c.in-Ok.ensures.text before c.in-Err-save.ensures.exact (λ f. not_memory (sym e ∙ err_is _ _ _ _ refl refl f)) (λ f. (c.in-Err-save.ensures.nothing f).0) in
+          (let failed = saved_not g.K.Keeper.saving c.in-Ok.to_save c.args.prepared.draft.value.changed (saves (ledger h)) (saves w.ledger) (g.K.Keeper.kept c.args.keeper.now) c.args.keeper.now c.save.new.keeper
+          c.in-Ok.ensures.changed c.in-Ok.ensures.text before c.in-Err.ensures.exact (λ f. not_memory (sym e ∙ err_is _ _ _ _ refl refl f)) (λ f. (c.in-Err.ensures.nothing f).0) in
           record { changed = failed.0; saved = failed.1; held = same; down = refl })
-      | inr e ↦ subst P (sym e) (refl, (let stays = c.in-Err-save.ensures.same (ap (λ r. Err r) e) in λ j. record { held = same j; keeper = stays j; down = false }))
+      | inr e ↦ subst P (sym e) (refl, (let stays = c.in-Err.ensures.same (ap (λ r. Err r) e) in λ j. record { held = same j; keeper = stays j; down = false }))
     ]
 
-pub returns-in-Err-save-clause-keeping : goal.returns-in-Err-save-clause-keeping
-returns-in-Err-save-clause-keeping g c =
+pub returns-in-Err-clause-keeping : goal.returns-in-Err-clause-keeping
+returns-in-Err-clause-keeping g c =
     let s : State = c.self.inside.state in
     let h : Held = c.args.self.now in
-    let change : Change = c.args.prepared.draft.change in
-    let table : c.into_table.result ≡ s.table = c.into_table.ensures ∙ c.in-Ok-with_room.ensures.table ∙ c.replace-table.ensures.value in
+    let change : Change = c.args.prepared.draft.value.change in
+    let table : c.put_back.new.place ≡ s.table = c.put_back.ensures ∙ c.in-Ok-take_table.ensures.table in
     let parked : (asks_of c.room.new.parked) ≡ (asks_of s.parked) = c.in-Ok-room.ensures.parked in
     let was : held s ≡ h = c.self.view_is in
-    let now : Held = record (held s) { live = c.into_table.result.live; retired = c.into_table.result.retired; parked = (asks_of c.room.new.parked) } in
+    let now : Held = record (held s) { live = c.put_back.new.place.live; retired = c.put_back.new.place.retired; parked = (asks_of c.room.new.parked) } in
     let same : now ≡ h = (λ j. record (held s) { live = (table j).live; retired = (table j).retired; parked = parked j }) ∙ was in
     let before : Holds (g.K.Keeper.kept c.args.keeper.now) (saves (ledger h)) = subst (Holds (g.K.Keeper.kept c.args.keeper.now)) (c.requires.keeping.up refl) c.requires.keeping.holds in
-    let w : Work = shown (lines_with h.lines c.args.prepared.added) h c.args.prepared.draft in
+    let w : Work = shown (lines_with h.lines c.args.prepared.added) h c.args.prepared.draft.value in
     let P : CoordRefusal → Type 0 = λ r. IsKeeping (g.K.Keeper.kept c.save.new.keeper) now (is_save_fault (Err r)) in
-    elim c.in-Err-save.ensures.refusals [
-      | inl e ↦ subst P (sym e) (elim c.in-Err-save.ensures.fault [
+    elim c.in-Err.ensures.refusals [
+      | inl e ↦ subst P (sym e) (elim c.in-Err.ensures.fault [
         | inl old ↦ record { saved = c.requires.keeping.saved; holds = subst (λ t. Holds t c.requires.keeping.saved) (sym old) c.requires.keeping.holds; up = λ d. not_down d }
         | inr new ↦ record {
           saved = saves w.ledger;
-          holds = holds_after c.in-Ok.to_save c.args.prepared.draft.changed (saves (ledger h)) (saves w.ledger) (g.K.Keeper.kept c.args.keeper.now) (g.K.Keeper.kept c.save.new.keeper)
+          holds = holds_after c.in-Ok.to_save c.args.prepared.draft.value.changed (saves (ledger h)) (saves w.ledger) (g.K.Keeper.kept c.args.keeper.now) (g.K.Keeper.kept c.save.new.keeper)
               c.in-Ok.ensures.changed c.in-Ok.ensures.text c.requires.told before new;
           up = λ d. not_down d;
         }
       ])
       | inr e ↦ subst P (sym e)
-          (let stays = c.in-Err-save.ensures.same (ap (λ r. Err r) e) in
+          (let stays = c.in-Err.ensures.same (ap (λ r. Err r) e) in
           subst (λ k. IsKeeping (g.K.Keeper.kept k) now false) (sym stays) (subst (λ (x : Held). IsKeeping (g.K.Keeper.kept c.args.keeper.now) x false) (sym same) c.requires.keeping))
     ]
 
 pub returns-in-Err-clause-grow : goal.returns-in-Err-clause-grow
 returns-in-Err-clause-grow g c =
-    let s : State = c.self.inside.state in
-    subst (λ (x : Held). OnlyGrow (line_at x.lines) (line_at s.lines)) c.self.view_is (stays (line_at s.lines))
-
-pub returns-in-Err-save-clause-grow : goal.returns-in-Err-save-clause-grow
-returns-in-Err-save-clause-grow g c =
     let s : State = c.self.inside.state in
     subst (λ (x : Held). OnlyGrow (line_at x.lines) (line_at s.lines)) c.self.view_is (stays (line_at s.lines))

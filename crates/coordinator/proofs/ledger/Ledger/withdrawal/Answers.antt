@@ -9,22 +9,23 @@ use Rattle.coordinator.specs.Shown.{after, shown}
 use Rattle.coordinator.specs.Sound.{IsSound, IsRightful}
 use Rattle.coordinator.proofs.Rightful.{rightful-withdrawn}
 use Rattle.coordinator.proofs.Recording.{withdrawn-told}
+use Rattle.coordinator.proofs.Kept.{begun}
 use Rattle.coordinator.proofs.ledger.Ledger.withdrawal.Goals as goal
 
 pub withdraw-requires-clause-sound : goal.withdraw-requires-clause-sound
 withdraw-requires-clause-sound c =
     let P : Work → Type 0 = λ w. IsSound w.ledger in
-    subst P (sym (c.in_ok-draft.ensures.work (line_at c.self.inside.state.lines))) c.self.invariant.sound
+    subst P (sym (begun (held c.self.inside.state) c.deref_mut.ensures.value (c.in_ok-draft.ensures.work (line_at c.self.inside.state.lines)))) c.self.invariant.sound
 
 pub withdraw-requires-clause-accepted : goal.withdraw-requires-clause-accepted
 withdraw-requires-clause-accepted c =
-    ap (λ (w : Work). result_err (withdrawn farm_limits c.args.ticket w)) (c.in_ok-draft.ensures.work (line_at c.self.inside.state.lines))
+    ap (λ (w : Work). result_err (withdrawn farm_limits c.args.ticket w)) (begun (held c.self.inside.state) c.deref_mut.ensures.value (c.in_ok-draft.ensures.work (line_at c.self.inside.state.lines)))
     ∙ ap (λ (h : Held). result_err (withdrawn farm_limits c.args.ticket (begin_work (ledger h)))) c.self.view_is ∙ c.requires
 
 pub withdraw-requires-clause-held_up : goal.withdraw-requires-clause-held_up
 withdraw-requires-clause-held_up c =
     let P : Work → Type 0 = λ w. AreHeldUp w.ledger in
-    subst P (sym (c.in_ok-draft.ensures.work (line_at c.self.inside.state.lines))) c.self.invariant.held_up
+    subst P (sym (begun (held c.self.inside.state) c.deref_mut.ensures.value (c.in_ok-draft.ensures.work (line_at c.self.inside.state.lines)))) c.self.invariant.held_up
 
 pub withdraw-requires-clause-wants : goal.withdraw-requires-clause-wants
 withdraw-requires-clause-wants c = c.self.invariant.sound.asks
@@ -32,13 +33,13 @@ withdraw-requires-clause-wants c = c.self.invariant.sound.asks
 pub returns-clause-work : goal.returns-clause-work
 returns-clause-work c =
     subst (λ (h : Held). withdrawn farm_limits c.args.ticket (begin_work (ledger h)) ≡ Ok (shown (line_at h.lines) h c.withdraw.new.self)) c.self.view_is
-    (ap (withdrawn farm_limits c.args.ticket) (sym (c.in_ok-draft.ensures.work (line_at c.self.inside.state.lines))) ∙ c.in_ok-withdraw.ensures.work)
+    (ap (withdrawn farm_limits c.args.ticket) (sym (begun (held c.self.inside.state) c.deref_mut.ensures.value (c.in_ok-draft.ensures.work (line_at c.self.inside.state.lines)))) ∙ c.in_ok-withdraw.ensures.work)
 
 pub returns-clause-rightful : goal.returns-clause-rightful
 returns-clause-rightful c =
     let s : Held = held c.self.inside.state in
     let work : withdrawn farm_limits c.args.ticket (begin_work (ledger s)) ≡ Ok (shown (line_at s.lines) s c.withdraw.new.self) =
-    ap (withdrawn farm_limits c.args.ticket) (sym (c.in_ok-draft.ensures.work (line_at s.lines))) ∙ c.in_ok-withdraw.ensures.work in
+    ap (withdrawn farm_limits c.args.ticket) (sym (begun s c.deref_mut.ensures.value (c.in_ok-draft.ensures.work (line_at s.lines)))) ∙ c.in_ok-withdraw.ensures.work in
     subst (λ (h : Held). IsRightful (after (line_at h.lines) h c.withdraw.new.self.change)) c.self.view_is
     (rightful-withdrawn c.args.ticket (ledger s) (shown (line_at s.lines) s c.withdraw.new.self) c.self.invariant work c.in_ok-withdraw.ensures.sound)
 
