@@ -100,20 +100,35 @@ fn ops(rt: HostRuntime) -> Result<(), Fail> {
     Ok(())
 }
 
-#[test]
-fn an_exec_op_is_written(rt: HostRuntime) -> Result<(), Fail> {
-    let alloc = rt.alloc();
+/// The body of an exec op with a LOCKED cache mount, as it is written.
+fn written_exec(alloc: Global) -> Result<String, Fail> {
     let exec = exec(alloc, &[(-1, "/go/pkg/mod", "", false)], 3)?;
     let body = write_exec(alloc, &exec)?;
-    let body = hex::encode(alloc, &body)?;
-    assert_eq!(rt; body.as_str(), CACHED.strip_prefix("1241").ok_or("prefix")?);
+    Ok(hex::encode(alloc, &body)?)
+}
+
+/// An exec op with an input.
+fn op_with_input(alloc: Global) -> Result<Op, AllocError> {
     let input = Input {
         digest: text(alloc, "d")?,
         index: -1,
     };
-    let op = Op::exec(alloc, vec![in alloc; input]?, &exec)?;
-    let bytes = write_op(alloc, &op)?;
-    let text = hex::encode(alloc, &bytes)?;
+    let inputs = vec![in alloc; input]?;
+    let exec = exec(alloc, &[(-1, "/go/pkg/mod", "", false)], 3)?;
+    Op::exec(alloc, inputs, &exec)
+}
+
+/// The same as it is written.
+fn written_op(alloc: Global) -> Result<String, Fail> {
+    let bytes = write_op(alloc, &op_with_input(alloc)?)?;
+    Ok(hex::encode(alloc, &bytes)?)
+}
+
+#[test]
+fn an_exec_op_is_written(rt: HostRuntime) -> Result<(), Fail> {
+    let body = written_exec(rt.alloc())?;
+    assert_eq!(rt; body.as_str(), CACHED.strip_prefix("1241").ok_or("prefix")?);
+    let text = written_op(rt.alloc())?;
     assert!(rt;
         text.as_str()
             .starts_with("0a0e0a016410ffffffffffffffffff011241")
