@@ -12,7 +12,7 @@ use super::task::{ExecTask, View};
 use cachemounts::views;
 use farm_base::{Copied, Digest, Items, Want, Wants};
 use jobs::Task;
-use opsproto::{ExecOp, Kind, Mount};
+use opsproto::{ExecOp, Kind, Mount, Op};
 use solverkeys::Keyed;
 use std::alloc::{AllocError, Global};
 
@@ -86,6 +86,36 @@ fn views_at(
     Ok(views)
 }
 
+/// What an executor is given for a task of this op, whose cache mounts and their folders among the wants have these places.
+fn given_by(
+    alloc: Global,
+    seen: &Seen,
+    wants: &[Want],
+    task: &Task,
+    op: &Op,
+    places: &[(usize, usize)],
+) -> Result<ExecTask, AllocError>
+    requires { (bases : List Base) × ((places' : ℕ × ℕ) → Contains places.now places' → IsView bases (mounts_in op.now.kind) wants.now places') }
+    ensures key { IfOk result (λ given. given.key ≡ task.now.key) }
+    ensures stripped { IfOk result (λ given. given.stripped ≡ op.now.stripped) }
+    ensures exec { IfOk result (λ given. given.exec ≡ command_in op.now.kind) }
+    ensures inputs { IfOk result (λ given. given.inputs ≡ task.now.inputs.items) }
+    ensures views { IfOk result (λ given. AllZip (IsViewAt (folder_seen seen.now.leased seen.now.shared) wants.now task.now.inputs.items (mounts_in op.now.kind)) places.now given.views) }
+{
+    let stripped = Vec::from_slice(alloc, op.stripped())?;
+    let inputs = Vec::from_slice(alloc, task.inputs.as_slice())?;
+    let mounts = mounts_in(op.kind());
+    let views = views_at(alloc, seen, wants, &task.inputs, mounts, places)?;
+    let exec = command_in(alloc, op.kind())?;
+    Ok(ExecTask {
+        key: task.key,
+        stripped: Items::new(stripped),
+        exec,
+        inputs: Items::new(inputs),
+        views: Items::new(views),
+    })
+}
+
 /// What an executor is given for a task. The task is the vertex of this number, which wants these folders.
 pub(crate) fn given(
     alloc: Global,
@@ -99,15 +129,7 @@ pub(crate) fn given(
     requires wants { AreWants keyed.now.graph keyed.now.keys vertex wants.now }
     ensures { IfOk result (IsGiven keyed.now vertex task.now (folder_seen seen.now.leased seen.now.shared) wants.now) }
 {
-    let op = keyed.graph().vertex(vertex).op.read(alloc)?;
     let places = views(alloc, keyed.graph(), vertex, keyed.keys(), wants)?;
-    let mounts = mounts_in(op.kind());
-    let views = views_at(alloc, seen, wants.as_slice(), &task.inputs, mounts, &places)?;
-    Ok(ExecTask {
-        key: task.key,
-        stripped: Items::new(Vec::from_slice(alloc, op.stripped())?),
-        exec: command_in(alloc, op.kind())?,
-        inputs: Items::new(Vec::from_slice(alloc, task.inputs.as_slice())?),
-        views: Items::new(views),
-    })
+    let op = keyed.graph().vertex(vertex).op.read(alloc)?;
+    given_by(alloc, seen, wants.as_slice(), task, &op, &places)
 }
