@@ -68,26 +68,45 @@ fn saves_that_fail(rt: HostRuntime) -> Result<(), Fail> {
     Ok(())
 }
 
+/// Opens a file keeper and saves `one`: whether nothing was there, whether the save went well, what is loaded after it, and
+/// the count of failures.
+fn save_one<R: Files>(
+    rt: &R,
+    alloc: Global,
+    path: &str,
+) -> Result<(bool, bool, Vec<u8>, u64), Fail> {
+    let mut keeper = FileKeeper::open(rt, alloc, path)?;
+    let is_new = keeper.log().whole().is_empty();
+    let (ok, loaded) = saved(alloc, &mut keeper, b"one")?;
+    Ok((is_new, ok, loaded, keeper.failures()))
+}
+
+/// Opens a file keeper and has another hand change the file: the record that was there, whether the load is a fault then, and
+/// the count of failures.
+fn load_changed<R: Files>(rt: &R, alloc: Global, path: &str) -> Result<(Vec<u8>, bool, u64), Fail> {
+    let mut keeper = FileKeeper::open(rt, alloc, path)?;
+    let whole = Vec::from_slice(alloc, keeper.log().whole())?;
+    fs::write(rt, path, b"two".as_slice())?;
+    let is_fault = matches!(keeper.load(alloc), Err(KeeperRefusal::Fault));
+    Ok((whole, is_fault, keeper.failures()))
+}
+
 /// A file that is not there, that was saved, that another hand changed, and that can't be made.
 #[test]
 fn records_in_files(rt: HostRuntime) -> Result<(), Fail> {
     let path = "kept.record";
-    let mut first = FileKeeper::open(&rt, rt.alloc(), path)?;
-    assert!(rt; first.log().whole().is_empty());
-    let (ok, loaded) = saved(rt.alloc(), &mut first, b"one")?;
-    assert!(rt; ok);
+    let (is_new, ok, loaded, _) = save_one(&rt, rt.alloc(), path)?;
+    assert!(rt; is_new && ok);
     assert_eq!(rt; loaded.as_slice(), b"one".as_slice());
-    let mut second = FileKeeper::open(&rt, rt.alloc(), path)?;
-    assert_eq!(rt; second.log().whole(), b"one".as_slice());
-    fs::write(&rt, path, b"two".as_slice())?;
-    assert!(rt; matches!(second.load(rt.alloc()), Err(KeeperRefusal::Fault)));
-    assert_eq!(rt; second.failures(), 1);
+    let (whole, is_fault, failures) = load_changed(&rt, rt.alloc(), path)?;
+    assert_eq!(rt; whole.as_slice(), b"one".as_slice());
+    assert!(rt; is_fault);
+    assert_eq!(rt; failures, 1);
     fs::remove_file(&rt, path)?;
     fs::remove_file(&rt, "kept.record.log")?;
-    let mut nowhere = FileKeeper::open(&rt, rt.alloc(), "nowhere/kept.record")?;
-    let (ok, loaded) = saved(rt.alloc(), &mut nowhere, b"one")?;
+    let (_, ok, loaded, failures) = save_one(&rt, rt.alloc(), "nowhere/kept.record")?;
     assert!(rt; !ok && loaded.is_empty());
-    assert_eq!(rt; nowhere.failures(), 1);
+    assert_eq!(rt; failures, 1);
     Ok(())
 }
 
@@ -139,16 +158,43 @@ fn is_refused<R: Files>(rt: &R, alloc: Global, log: &[u8]) -> Result<bool, Fail>
     Ok(FileKeeper::open(rt, alloc, "cut.record").is_err())
 }
 
+/// Appends two entries: what is loaded after both.
+fn append_two<K: Keeper>(alloc: Global, keeper: &mut K) -> Result<Vec<u8>, Fail> {
+    let (first, _) = appended(alloc, keeper, b"first")?;
+    let (second, both) = appended(alloc, keeper, b"second")?;
+    if !first || !second {
+        return Err("an append failed".into());
+    }
+    Ok(both)
+}
+
+/// The same by a file keeper, behind the record.
+fn append_two_to_files<R: Files>(rt: &R, alloc: Global) -> Result<Vec<u8>, Fail> {
+    fs::write(rt, "cut.record", RECORD.as_slice())?;
+    let mut keeper = FileKeeper::open(rt, alloc, "cut.record")?;
+    append_two(alloc, &mut keeper)
+}
+
+/// Whether a file keeper can't be opened on the record and this log with one byte changed.
+fn is_refused_damaged<R: Files>(
+    rt: &R,
+    alloc: Global,
+    log: &[u8],
+    place: usize,
+) -> Result<bool, Fail> {
+    let mut damaged = Vec::from_slice(alloc, log)?;
+    let Some(byte) = damaged.get_mut(place) else {
+        return Err("no such byte".into());
+    };
+    *byte ^= 1;
+    is_refused(rt, alloc, damaged.as_slice())
+}
+
 /// A log of two entries, cut at each byte: what was cut short is gone, and all behind it. And with each byte of the first
 /// one changed: a head that was damaged is refused, and an entry that was is as it stands.
 #[test]
 fn logs_in_files(rt: HostRuntime) -> Result<(), Fail> {
-    fs::write(&rt, "cut.record", RECORD.as_slice())?;
-    let mut keeper = FileKeeper::open(&rt, rt.alloc(), "cut.record")?;
-    let (ok, _) = appended(rt.alloc(), &mut keeper, b"first")?;
-    assert!(rt; ok);
-    let (ok, both) = appended(rt.alloc(), &mut keeper, b"second")?;
-    assert!(rt; ok);
+    let both = append_two_to_files(&rt, rt.alloc())?;
     assert!(rt; both.ends_with(b" first second"));
     let log = fs::read(&rt, "cut.record.log")?;
     assert_eq!(rt; log.len(), 59);
@@ -158,9 +204,7 @@ fn logs_in_files(rt: HostRuntime) -> Result<(), Fail> {
         assert_eq!(rt; kept.len(), wanted);
     }
     for place in 0..29 {
-        let mut damaged = Vec::from_slice(rt.alloc(), log.as_slice())?;
-        damaged[place] ^= 1;
-        let is_refused = is_refused(&rt, rt.alloc(), damaged.as_slice())?;
+        let is_refused = is_refused_damaged(&rt, rt.alloc(), log.as_slice(), place)?;
         assert_eq!(rt; is_refused, place < 24);
     }
     let other = opened(&rt, rt.alloc(), b"of another record", log.as_slice())?;
