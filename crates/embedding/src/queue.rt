@@ -40,26 +40,35 @@ fn is_said(message: &ToCoord) -> bool
     1 <= message.node.0 && message.node.0 <= NODES && 1 <= message.life.0 && is_request
 }
 
-/// A coordinator, two nodes, and the messages that are under way.
+/// A coordinator, two nodes, and the messages that are under way. What is in a box is let go of in one step, which makes
+/// proofs short.
 #[derive(Drop)]
 struct Farm {
-    coordinator: Coordinator<MemoryKeeper>,
-    first: NodeCore,
-    second: NodeCore,
+    coordinator: Box<Coordinator<MemoryKeeper>>,
+    first: Box<NodeCore>,
+    second: Box<NodeCore>,
     queue: VecDeque<Message>,
+}
+
+fn start_coordinator(alloc: Global) -> anyhow::Result<Box<Coordinator<MemoryKeeper>>> {
+    let keeper = MemoryKeeper::new(alloc, Vec::new(alloc));
+    match Coordinator::start(alloc, keeper) {
+        Ok(coordinator) => Ok(Box::new(alloc, coordinator)?),
+        Err(not_started) => Err(not_started.refusal.into()),
+    }
+}
+
+fn start_node(alloc: Global, node: NodeId) -> Result<Box<NodeCore>, AllocError> {
+    let core = NodeCore::start(alloc, node, 2)?;
+    Ok(Box::new(alloc, core)?)
 }
 
 impl Farm {
     fn start(alloc: Global) -> anyhow::Result<Farm> {
-        let keeper = MemoryKeeper::new(alloc, Vec::new(alloc));
-        let coordinator = match Coordinator::start(alloc, keeper) {
-            Ok(coordinator) => coordinator,
-            Err(not_started) => return Err(not_started.refusal.into()),
-        };
         Ok(Farm {
-            coordinator,
-            first: NodeCore::start(alloc, NodeId(1), 2)?,
-            second: NodeCore::start(alloc, NodeId(2), 2)?,
+            coordinator: start_coordinator(alloc)?,
+            first: start_node(alloc, NodeId(1))?,
+            second: start_node(alloc, NodeId(2))?,
             queue: VecDeque::new(alloc),
         })
     }
@@ -155,7 +164,7 @@ impl Farm {
             versions: kept_versions(alloc, &self.first)?,
         };
         let (core, done) = NodeCore::resume(alloc, NodeId(1), 2, last_life, kept)?;
-        self.first = core;
+        *self.first = core;
         let _life = self.send(done)?;
         self.deliver_all(alloc)
     }

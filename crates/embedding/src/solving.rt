@@ -47,14 +47,19 @@ fn text_of(alloc: Global, answer: &Answer) -> Result<String, AllocError> {
     }
 }
 
-/// The answer of a definition. Each key is taken at most once.
+/// The answer of a job for a graph. Each key is taken at most once.
+fn solve_all(alloc: Global, keyed: &Keyed, jobs: &mut Jobs) -> anyhow::Result<Answer> {
+    let job = jobs.submit_keyed(alloc, keyed)?;
+    for _ in 0..keyed.keys().len() {
+        solve(alloc, keyed, jobs)?;
+    }
+    Ok(jobs.answer(job)?)
+}
+
+/// The answer of a definition.
 pub fn answer(alloc: Global, bytes: Vec<u8>) -> anyhow::Result<String> {
     let graph = load(alloc, read_definition(alloc, bytes)?)?;
     let keyed = Keyed::of(alloc, graph)?;
-    let mut jobs = Jobs::new(alloc);
-    let job = jobs.submit_keyed(alloc, &keyed)?;
-    for _ in 0..keyed.keys().len() {
-        solve(alloc, &keyed, &mut jobs)?;
-    }
-    Ok(text_of(alloc, &jobs.answer(job)?)?)
+    let answer = solve_all(alloc, &keyed, &mut Jobs::new(alloc))?;
+    Ok(text_of(alloc, &answer)?)
 }
