@@ -36,20 +36,33 @@ fn remove(alloc: Global, path: &str) -> Result<Edit, AllocError> {
     Ok(Edit::Remove(Text::new(String::from_str(alloc, path)?)))
 }
 
+/// The edits of a row.
+fn edits_of(alloc: Global, row: &[(&str, Option<&str>)]) -> Result<Vec<Edit>, AllocError> {
+    let mut edits = Vec::new(alloc);
+    for (path, content) in row {
+        edits.push(match content {
+            Some(content) => put(alloc, *path, content.as_bytes())?,
+            None => remove(alloc, *path)?,
+        })?;
+    }
+    Ok(edits)
+}
+
+/// Makes the edits of a row, and gives the folder bytes after them in hexadecimal.
+fn edited(
+    alloc: Global,
+    folder: &mut Folder,
+    row: &[(&str, Option<&str>)],
+) -> Result<String, Fail> {
+    folder.apply(alloc, &edits_of(alloc, row)?)?;
+    Ok(hex::encode(alloc, &folder.to_bytes(alloc)?)?)
+}
+
 #[test]
 fn edits_of_a_folder(rt: HostRuntime) -> Result<(), Fail> {
     let mut folder = Folder::new(rt.alloc());
     for (row, wanted) in &ROWS {
-        let mut edits = Vec::new(rt.alloc());
-        for (path, content) in *row {
-            edits.push(match content {
-                Some(content) => put(rt.alloc(), path, content.as_bytes())?,
-                None => remove(rt.alloc(), path)?,
-            })?;
-        }
-        folder.apply(rt.alloc(), &edits)?;
-        let bytes = folder.to_bytes(rt.alloc())?;
-        let text = hex::encode(rt.alloc(), &bytes)?;
+        let text = edited(rt.alloc(), &mut folder, *row)?;
         assert_eq!(rt; text.as_str(), *wanted);
     }
     Ok(())

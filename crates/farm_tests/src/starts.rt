@@ -162,9 +162,8 @@ fn answers<K: Keeper>(
     keeper: K,
     messages: &[(u32, u64, &str)],
 ) -> Result<String, Fail> {
-    let Ok(mut coordinator) = Coordinator::start(alloc, keeper) else {
-        return Err("not started".into());
-    };
+    let started = Coordinator::start(alloc, keeper).ok();
+    let mut coordinator = started.ok_or("not started")?;
     all_answers(alloc, &mut coordinator, messages)
 }
 
@@ -228,13 +227,11 @@ const DAMAGED: [&str; 3] = [
 /// Whether a coordinator refuses these bytes as no record, and hands them back unchanged.
 fn is_refused(alloc: Global, bytes: &[u8]) -> Result<bool, AllocError> {
     let kept = Vec::from_slice(alloc, bytes)?;
-    match Coordinator::start(alloc, MemoryKeeper::new(alloc, kept)) {
-        Ok(_) => Ok(false),
-        Err(refused) => {
-            let is_bad = refused.refusal == CoordRefusal::BadRecord;
-            Ok(is_bad && refused.keeper.log().whole() == bytes)
-        }
-    }
+    let Some(refused) = Coordinator::start(alloc, MemoryKeeper::new(alloc, kept)).err() else {
+        return Ok(false);
+    };
+    let is_bad = refused.refusal == CoordRefusal::BadRecord;
+    Ok(is_bad && refused.keeper.log().whole() == bytes)
 }
 
 #[test]
