@@ -21,11 +21,11 @@ const FREED: u32 = 8;
 /// How many of the first and of the last grants of a PRIVATE folder are timed.
 const GRANTS: u32 = 100;
 
-/// A coordinator of a farm where nothing happened.
-fn started(alloc: Global) -> anyhow::Result<Coordinator<MemoryKeeper>> {
+/// A coordinator of a farm where nothing happened, in a box: letting go of it is one step of a proof.
+fn started(alloc: Global) -> anyhow::Result<Box<Coordinator<MemoryKeeper>>> {
     let keeper = MemoryKeeper::new(alloc, Vec::new(alloc));
     match Coordinator::start(alloc, keeper) {
-        Ok(coordinator) => Ok(coordinator),
+        Ok(coordinator) => Ok(Box::new(alloc, coordinator)?),
         Err(not) => Err(not.refusal.into()),
     }
 }

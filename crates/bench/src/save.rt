@@ -45,11 +45,11 @@ fn record(alloc: Global, count: u32) -> Result<Vec<u8>, AllocError> {
     Ok(out)
 }
 
-/// The coordinator of a record.
-fn started(alloc: Global, bytes: &[u8]) -> anyhow::Result<Coordinator<MemoryKeeper>> {
+/// The coordinator of a record, in a box: letting go of it is one step of a proof.
+fn started(alloc: Global, bytes: &[u8]) -> anyhow::Result<Box<Coordinator<MemoryKeeper>>> {
     let keeper = MemoryKeeper::new(alloc, Vec::from_slice(alloc, bytes)?);
     match Coordinator::start(alloc, keeper) {
-        Ok(coordinator) => Ok(coordinator),
+        Ok(coordinator) => Ok(Box::new(alloc, coordinator)?),
         Err(not) => Err(not.refusal.into()),
     }
 }
