@@ -72,6 +72,29 @@ fn step(
     exec(alloc, number, inputs, padding, mounts)
 }
 
+/// Inputs that name the first output of each of these.
+fn named(alloc: Global, inputs: &[&Digest]) -> Result<Vec<Input>, AllocError> {
+    let mut named = Vec::new(alloc);
+    for digest in inputs {
+        named.push(Input {
+            digest: Text::new(digest.to_text(alloc)?),
+            index: 0,
+        })?;
+    }
+    Ok(named)
+}
+
+/// What an exec vertex runs, with these mounts, in a box: letting go of it is one step of a proof.
+fn exec_op(alloc: Global, meta: Meta, mounts: Vec<Mount>) -> Result<Box<ExecOp>, AllocError> {
+    let exec = ExecOp {
+        meta: Some(meta),
+        mounts: Items::new(mounts),
+        network: 0,
+        security: 0,
+    };
+    Ok(Box::new(alloc, exec)?)
+}
+
 /// An exec vertex with these mounts.
 fn exec(
     alloc: Global,
@@ -80,20 +103,9 @@ fn exec(
     padding: &str,
     mounts: Vec<Mount>,
 ) -> Result<Vec<u8>, AllocError> {
-    let mut named = Vec::new(alloc);
-    for digest in inputs {
-        named.push(Input {
-            digest: Text::new(digest.to_text(alloc)?),
-            index: 0,
-        })?;
-    }
-    let exec = ExecOp {
-        meta: Some(command(alloc, number, padding)?),
-        mounts: Items::new(mounts),
-        network: 0,
-        security: 0,
-    };
-    write_op(alloc, &Op::exec(alloc, named, &exec)?)
+    let exec = exec_op(alloc, command(alloc, number, padding)?, mounts)?;
+    let op = Op::exec(alloc, named(alloc, inputs)?, &exec)?;
+    write_op(alloc, &op)
 }
 
 fn digest_of(bytes: &[u8]) -> Digest {

@@ -31,21 +31,33 @@ struct Messages {
     keys: BodyList,
 }
 
-fn needed_messages(alloc: Global, bytes: &[u8]) -> anyhow::Result<Messages> {
-    let graph = graph_of(alloc, Vec::from_slice(alloc, bytes)?)?;
-    let key = vec![in alloc; 1u8; 33 + 40 * 16_000]?;
+/// The stripped bytes of each vertex.
+fn stripped_of(alloc: Global, graph: &Graph) -> anyhow::Result<BodyList> {
     let mut stripped = BodyList::new(alloc);
-    let mut keys = BodyList::new(alloc);
+    for number in 0..graph.len() {
+        stripped.push(&graph.vertex(number).op.stripped(alloc)?)?;
+    }
+    Ok(stripped)
+}
+
+/// Bytes as long as the message of each vertex's key.
+fn messages_of(alloc: Global, graph: &Graph) -> anyhow::Result<BodyList> {
+    let message = vec![in alloc; 1u8; 33 + 40 * 16_000]?;
+    let mut messages = BodyList::new(alloc);
     for number in 0..graph.len() {
         let inputs = graph.inputs_of(number).len().min(16_000);
-        stripped.push(&graph.vertex(number).op.stripped(alloc)?)?;
-        keys.push(&key[..33 + 40 * inputs])?;
+        messages.push(&message[..33 + 40 * inputs])?;
     }
+    Ok(messages)
+}
+
+fn needed_messages(alloc: Global, bytes: &[u8]) -> anyhow::Result<Messages> {
     let ops = read_definition(alloc, Vec::from_slice(alloc, bytes)?)?.def;
+    let graph = graph_of(alloc, Vec::from_slice(alloc, bytes)?)?;
     Ok(Messages {
         ops,
-        stripped,
-        keys,
+        stripped: stripped_of(alloc, &graph)?,
+        keys: messages_of(alloc, &graph)?,
     })
 }
 

@@ -12,7 +12,10 @@ mod replay;
 mod run;
 mod save;
 
+use farm_base::Key;
+use std::alloc::Global;
 use std::{env, io};
+use world::World;
 
 fn main(rt: HostRuntime) -> anyhow::Result<()> {
     let mut word = env::args(&rt)?.skip(1);
@@ -42,26 +45,42 @@ fn main(rt: HostRuntime) -> anyhow::Result<()> {
     }
 }
 
-/// What comes of a chain of three vertices.
-fn small<R: Print + AllocGlobal>(rt: &R) -> anyhow::Result<()> {
-    let bytes = graphs::chain(rt.alloc(), 3, true)?;
-    let definition = opsproto::read_definition(rt.alloc(), bytes)?;
+/// The number of entries of a chain of three vertices, and its keys.
+fn small_keys(alloc: Global) -> anyhow::Result<(usize, Vec<Key>)> {
+    let bytes = graphs::chain(alloc, 3, true)?;
+    let definition = opsproto::read_definition(alloc, bytes)?;
     let entries = definition.def.len();
-    let graph = vertices::load(rt.alloc(), definition)?;
-    let keys = solverkeys::keys(rt.alloc(), &graph)?;
-    let count = keys.len();
-    println!(rt; "entries {entries} keys {count}")?;
-    for key in &keys {
+    let graph = vertices::load(alloc, definition)?;
+    Ok((entries, solverkeys::keys(alloc, &graph)?))
+}
+
+/// Prints a line for each key.
+fn print_keys<R: Print + AllocGlobal>(rt: &R, keys: &[Key]) -> anyhow::Result<()> {
+    for key in keys {
         let text = key.to_text(rt.alloc())?;
         println!(rt; "{text}")?;
     }
     Ok(())
 }
 
+/// What comes of a chain of three vertices.
+fn small<R: Print + AllocGlobal>(rt: &R) -> anyhow::Result<()> {
+    let (entries, keys) = small_keys(rt.alloc())?;
+    let count = keys.len();
+    println!(rt; "entries {entries} keys {count}")?;
+    print_keys(rt, keys.as_slice())
+}
+
+/// The world of two nodes that took turns with a folder, in a box: letting go of it is one step of a proof.
+fn turned(alloc: Global) -> anyhow::Result<Box<World>> {
+    let events = replay::events(alloc, 2, 28)?;
+    let world = world::replay(alloc, world::Setup { nodes: 2 }, events.as_slice())?;
+    Ok(Box::new(alloc, world)?)
+}
+
 /// What comes of two nodes that take turns with a folder.
 fn turns<R: Print + AllocGlobal>(rt: &R) -> anyhow::Result<()> {
-    let events = replay::events(rt.alloc(), 2, 28)?;
-    let world = world::replay(rt.alloc(), world::Setup { nodes: 2 }, events.as_slice())?;
+    let world = turned(rt.alloc())?;
     let messages = world.pool_len();
     let lines = world::print_lines(rt.alloc(), &world)?;
     print!(rt; "messages {messages}\n{lines}")?;

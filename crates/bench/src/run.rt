@@ -28,19 +28,24 @@ fn keyed(alloc: Global, bytes: Vec<u8>) -> anyhow::Result<Keyed> {
     Ok(Keyed::of(alloc, graph)?)
 }
 
-/// Seconds a key of one job on one node, with an executor that does nothing.
+/// Seconds of a run of one job on one node, with an executor that does nothing.
+fn time_of_one<R: Clock + AllocGlobal>(rt: &R, job: Keyed) -> anyhow::Result<f64> {
+    let alloc = rt.alloc();
+    let jobs = vec![in alloc; (NodeId(1), job)]?;
+    let executor: Box<dyn Executor + Send> = Box::new(alloc, Hashing::new(alloc, 0))?;
+    let start = Instant::now(rt)?;
+    let _end = Farm::run_one(alloc, Setup { nodes: 1 }, jobs, executor)?;
+    Ok(seconds_since(rt, start))
+}
+
+/// Seconds a key of one job on one node.
 fn one_job<R: Print + Clock + AllocGlobal>(
     rt: &R,
     name: &str,
     keys: u32,
     bytes: Vec<u8>,
 ) -> anyhow::Result<f64> {
-    let alloc = rt.alloc();
-    let jobs = vec![in alloc; (NodeId(1), keyed(alloc, bytes)?)]?;
-    let executor: Box<dyn Executor + Send> = Box::new(alloc, Hashing::new(alloc, 0))?;
-    let start = Instant::now(rt)?;
-    let _end = Farm::run_one(alloc, Setup { nodes: 1 }, jobs, executor)?;
-    let time = seconds_since(rt, start) / f64::from(keys);
+    let time = time_of_one(rt, keyed(rt.alloc(), bytes)?)? / f64::from(keys);
     let speed = 1.0 / time;
     println!(rt; "run {name}: {speed:.0} keys/s")?;
     Ok(time)
@@ -78,6 +83,16 @@ fn cached_jobs(alloc: Global, nodes: u32, apart: bool) -> anyhow::Result<Vec<(No
     Ok(jobs)
 }
 
+/// An executor for each node.
+fn executors(alloc: Global, nodes: u32) -> anyhow::Result<Vec<(NodeId, Box<dyn Executor + Send>)>> {
+    let mut executors = Vec::new(alloc);
+    for number in 0..nodes {
+        let executor: Box<dyn Executor + Send> = Box::new(alloc, Hashing::new(alloc, ROUNDS))?;
+        executors.push((NodeId(number + 1), executor))?;
+    }
+    Ok(executors)
+}
+
 /// Seconds of a run of these jobs, and how many commits it made.
 fn many_jobs<R: Print + Clock + AllocGlobal + Threads + Wait + Sync>(
     rt: &R,
@@ -86,11 +101,7 @@ fn many_jobs<R: Print + Clock + AllocGlobal + Threads + Wait + Sync>(
 ) -> anyhow::Result<(f64, u64)> {
     let alloc = rt.alloc();
     let jobs = cached_jobs(alloc, nodes, apart)?;
-    let mut executors = Vec::new(alloc);
-    for number in 0..nodes {
-        let executor: Box<dyn Executor + Send> = Box::new(alloc, Hashing::new(alloc, ROUNDS))?;
-        executors.push((NodeId(number + 1), executor))?;
-    }
+    let executors = executors(alloc, nodes)?;
     let start = Instant::now(rt)?;
     let end = Farm::run(
         rt,

@@ -1,4 +1,5 @@
-//! Tests of names, folders, records, tickets and coordinators: outside vectors, printed texts, and what comes at limits.
+//! Tests of names, folders, records, tickets, coordinators, runs on threads and what the program prints: outside vectors,
+//! printed texts, and what comes at limits.
 #![tactic(auto)]
 
 #[cfg(test)]
@@ -6,13 +7,21 @@ mod board_calls;
 #[cfg(test)]
 mod edits;
 #[cfg(test)]
+mod explanations;
+#[cfg(test)]
 mod folder_bytes;
 #[cfg(test)]
 mod keepers;
 #[cfg(test)]
 mod names;
 #[cfg(test)]
+mod printed;
+#[cfg(test)]
+mod record_texts;
+#[cfg(test)]
 mod records;
+#[cfg(test)]
+mod runs;
 #[cfg(test)]
 mod saves;
 #[cfg(test)]
@@ -20,4 +29,8 @@ mod shared_batches;
 #[cfg(test)]
 mod starts;
 #[cfg(test)]
+mod threads;
+#[cfg(test)]
 mod tickets;
+#[cfg(test)]
+mod wants_texts;

@@ -1,33 +1,7 @@
-//! The program: checks definitions of BuildKit, prints their solver keys and what records keep, and replays schedules of
-//! a farm.
+//! The program: it does what its words say. What its commands answer is in the crate `commands`.
 #![tactic(auto)]
 
-mod act;
-mod answer;
-mod command;
-mod explain;
-#[cfg(test)]
-mod explain_tests;
-mod failure;
-mod files;
-mod line_fault;
-mod printing;
-mod record;
-#[cfg(test)]
-mod record_tests;
-mod replaying;
-mod running;
-#[cfg(test)]
-mod running_tests;
-mod scripted;
-#[cfg(test)]
-mod tests;
-#[cfg(test)]
-mod thread_tests;
-mod wants;
-#[cfg(test)]
-mod wants_tests;
-
+use commands::{print_no_words, run};
 use std::process::ExitCode;
 use std::rt::Env;
 use std::{env, io};
@@ -45,8 +19,8 @@ fn main(rt: HostRuntime) -> ExitCode {
     let mut out = rt.stdout();
     let mut err = rt.stderr();
     let status = match words(&rt) {
-        Ok(words) => act::run(&rt, words.as_slice(), &mut out, &mut err),
-        Err(error) => act::print_no_words(&error, &mut err),
+        Ok(words) => run(&rt, words.as_slice(), &mut out, &mut err),
+        Err(error) => print_no_words(&error, &mut err),
     };
     ExitCode::from(status)
 }

@@ -1,5 +1,6 @@
-ghost use Rattle.std.specs.Prelude.{◌≡◌, ◌<◌, ◌≤◌, ◌-◌, ◌++◌, false, All, OnOk, OnErr, IfOk, length, take, replicate};
+ghost use Rattle.std.specs.Prelude.{◌≡◌, ◌<◌, ◌≤◌, ◌-◌, ◌++◌, ◌∷◌, [], false, Some, slice_get, All, OnOk, OnErr, IfOk, length, take, replicate};
 ghost use Rattle.std.specs.Vec.{vec_capacity};
+ghost use Rattle.farm_base.specs.declared.digest.Key.{Key as SpecKey};
 ghost use Rattle.vertices.specs.Loading.{IsGraph};
 ghost use Rattle.solverkeys.specs.GraphKeys.{AreKeys, TakesKeys};
 ghost use Rattle.jobs.specs.Adding.{AddsKey, AreAdded, IsFront};
@@ -10,6 +11,7 @@ ghost use Rattle.jobs.specs.Tables.{IsTable};
 ghost use Rattle.jobs.specs.Users.{AreUsers, IsClosed, IsSameUsers};
 
 use super::marking::{mark_new, spread};
+use super::reaching::reached;
 use super::ready::list_ready;
 use super::ready_list::ReadyList;
 use super::table::Table;
@@ -82,6 +84,39 @@ pub(crate) fn add_all(
     Ok(())
 }
 
+/// Makes room for `count` keys.
+fn make_room(
+    marks: &mut Vec<bool>,
+    todo: &mut Vec<usize>,
+    ready: &mut ReadyList,
+    count: usize,
+) -> Result<(), AllocError>
+    ensures marks { marks.new.items ≡ marks.old.items }
+    ensures marks_room { OnOk result (count ≤ vec_capacity marks.new) }
+    ensures todo { todo.new.items ≡ todo.old.items }
+    ensures todo_room { OnOk result (count ≤ vec_capacity todo.new) }
+    ensures todo_capacity { vec_capacity todo.old ≤ vec_capacity todo.new }
+    ensures list { IsSameList ready.old ready.new }
+    ensures room { OnOk result (HasRoom count ready.new) }
+    ensures cursors { ready.new.cursors.items ≡ ready.old.cursors.items }
+    ensures cursor_room { OnOk result (count ≤ vec_capacity ready.new.cursors) }
+{
+    ready.reserve(count)?;
+    todo.reserve(count)?;
+    marks.reserve(count.saturating_sub(marks.len()))
+}
+
+/// Adds marks and cursors up to `count` keys, in the room that is there. None is marked, and no input is known.
+fn fill(marks: &mut Vec<bool>, cursors: &mut Vec<usize>, count: usize)
+    requires marks { count ≤ vec_capacity marks.old }
+    requires cursors { count ≤ vec_capacity cursors.old }
+    ensures marks { marks.new.items ≡ take count marks.old.items ++ replicate (count - length marks.old.items) false }
+    ensures cursors { cursors.new.items ≡ take count cursors.old.items ++ replicate (count - length cursors.old.items) 0 }
+{
+    marks.resize(count, false).unwrap();
+    cursors.resize(count, 0).unwrap();
+}
+
 /// Adds these keys, their users, their marks and their cursors, and makes room for them in the list. Where memory
 /// runs out some keys may be there.
 fn grow(
@@ -120,19 +155,15 @@ fn grow(
 {
     add_all(alloc, table, graph, keys, reached)?;
     let count = table.entries.len();
-    ready.reserve(count)?;
-    todo.reserve(count)?;
-    let more = count.saturating_sub(marks.len());
-    marks.reserve(more)?;
+    make_room(marks, todo, ready, count)?;
     users.extend(table)?;
-    marks.resize(count, false).unwrap();
-    ready.cursors.resize(count, 0).unwrap();
+    fill(marks, &mut ready.cursors, count);
     Ok(())
 }
 
 /// Adds these keys, marks those that fail, and lists those that are ready. Where memory runs out
 /// nothing is changed.
-pub(crate) fn extend(
+fn extend(
     alloc: Global,
     table: &mut Table,
     users: &mut Users,
@@ -166,4 +197,53 @@ pub(crate) fn extend(
             Err(error)
         }
     }
+}
+
+/// The same, for the keys of the vertices that the graph's result depends on.
+fn extend_reached(
+    alloc: Global,
+    table: &mut Table,
+    users: &mut Users,
+    marks: &mut Vec<bool>,
+    todo: &mut Vec<usize>,
+    ready: &mut ReadyList,
+    graph: &Graph,
+    keys: &[Key],
+) -> Result<(), AllocError>
+    requires listed { AreListed table.old users.old marks.old.items todo.old ready.old }
+    requires keys { AreKeys graph.now keys.now }
+    ensures listed { AreListed table.new users.new marks.new.items todo.new ready.new }
+    ensures added { OnOk result (AreAdded graph.now keys.now table.old.entries.items table.new.entries.items) }
+    ensures err { OnErr result (table.new.entries.items ≡ table.old.entries.items) }
+{
+    let reached = reached(alloc, graph)?;
+    let flags = reached.as_slice();
+    extend(alloc, table, users, marks, todo, ready, graph, keys, flags)
+}
+
+/// Adds a job: its result, and the keys that this depends on. Where memory runs out nothing is changed.
+pub(crate) fn add_job(
+    alloc: Global,
+    results: &mut Vec<(Key, u64)>,
+    table: &mut Table,
+    users: &mut Users,
+    marks: &mut Vec<bool>,
+    todo: &mut Vec<usize>,
+    ready: &mut ReadyList,
+    graph: &Graph,
+    keys: &[Key],
+) -> Result<(), AllocError>
+    requires listed { AreListed table.old users.old marks.old.items todo.old ready.old }
+    requires keys { AreKeys graph.now keys.now }
+    ensures listed { AreListed table.new users.new marks.new.items todo.new ready.new }
+    ensures results { OnOk result ((key : SpecKey) → slice_get keys.now graph.now.result.0 ≡ Some key → results.new.items ≡ results.old.items ++ (key, graph.now.result.1) ∷ []) }
+    ensures added { OnOk result (AreAdded graph.now keys.now table.old.entries.items table.new.entries.items) }
+    ensures err { OnErr result (table.new.entries.items ≡ table.old.entries.items) }
+    ensures same_results { OnErr result (results.new.items ≡ results.old.items) }
+{
+    results.reserve(1)?;
+    extend_reached(alloc, table, users, marks, todo, ready, graph, keys)?;
+    let (result, index) = graph.result();
+    results.push_reserved((keys[result], index));
+    Ok(())
 }

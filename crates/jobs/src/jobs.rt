@@ -1,7 +1,7 @@
 ghost use Rattle.std.specs.Prelude.{◌≡◌, ◌≤◌, ◌++◌, ◌∷◌, ℕ, [], length, Some, None, slice_get, OnOk, OnErr, IfErr, IfNone, IfOk, IfSome, IsSomeAnd};
 ghost use Rattle.jobs.specs.declared.entry.Entry.{Entry as SpecEntry};
 ghost use Rattle.jobs.specs.declared.entry.Progress.{Progress as SpecProgress};
-ghost use Rattle.jobs.specs.declared.entry.Progress.TheVariants.{Out, Done, Failed};
+ghost use Rattle.jobs.specs.declared.entry.Progress.TheVariants.{Waiting, Out, Done, Failed};
 ghost use Rattle.jobs.specs.declared.answer.JobsRefusal.TheVariants as refusal;
 ghost use Rattle.farm_base.specs.declared.digest.Key.{Key as SpecKey};
 ghost use Rattle.solverkeys.specs.GraphKeys.{AreKeys};
@@ -12,13 +12,12 @@ ghost use Rattle.jobs.specs.History.{HasNoReady, IsAnswer, Moves, TakesFirst};
 ghost use Rattle.jobs.specs.Needs.{NeedsOutput};
 ghost use Rattle.jobs.specs.ReadyLists.{AreReadyKeys};
 
-use super::adding::extend;
+use super::adding::add_job;
 use super::answer::{Answer, Cause, JobId, JobsRefusal};
 use super::blaming::cause_of;
 use super::entry::{Fault, Progress, Task};
 use super::marking::answer_of;
 use super::needing::last_needed;
-use super::reaching::reached;
 use super::ready::task_of;
 use super::ready_list::ReadyList;
 use super::settling::finish;
@@ -87,20 +86,13 @@ impl Jobs {
         ensures refusal { IfErr result (λ refused. refused ≡ refusal.OutOfMemory) }
         ensures err { OnErr result (self.new ≡ self.old) }
     {
-        let reached = reached(alloc, graph)?;
         let job = JobId(self.results.len());
-        let (result, index) = graph.result();
-        self.results.push((keys[result], index))?;
-        let flags = reached.as_slice();
-        let (table, users) = (&mut self.table, &mut self.users);
+        let (results, table, users) = (&mut self.results, &mut self.table, &mut self.users);
         let (marks, todo, ready) = (&mut self.marks, &mut self.todo, &mut self.ready);
-        match extend(alloc, table, users, marks, todo, ready, graph, keys, flags) {
-            Ok(()) => Ok(job),
-            Err(error) => {
-                self.results.pop();
-                Err(error.into())
-            }
-        }
+        add_job(
+            alloc, results, table, users, marks, todo, ready, graph, keys,
+        )?;
+        Ok(job)
     }
 
     /// Adds a job, and the keys that its result depends on, as `submit` does. The keys are at hand, so
@@ -141,6 +133,23 @@ impl Jobs {
         self.ready.as_slice()
     }
 
+    /// Sets the progress of a key that is being solved, where that ends it.
+    fn end(&mut self, key: &Key, progress: Progress) -> Result<(), JobsRefusal>
+        requires { progress ≡ Waiting → ⊥ }
+        ensures ok { OnOk result (Moves self.old key.now Out progress self.new) }
+        ensures refusal { IfErr result (λ refused. refused ≡ refusal.NotRunningKey) }
+        ensures only { OnErr result ((entry : SpecEntry) → IsSubmitted self.old.keys key.now entry → entry.progress ≡ Out → ⊥) }
+        ensures err { OnErr result (self.new ≡ self.old) }
+    {
+        let Some(number) = self.table.number_out(key) else {
+            return Err(JobsRefusal::NotRunningKey);
+        };
+        let (table, marks) = (&mut self.table, self.marks.as_mut_slice());
+        let (todo, ready) = (&mut self.todo, &mut self.ready);
+        finish(table, &self.users, marks, todo, ready, number, progress);
+        Ok(())
+    }
+
     /// Takes the outputs of a key that is being solved.
     pub fn done(&mut self, key: Key, outputs: Vec<Digest>) -> Result<(), JobsRefusal>
         ensures ok { OnOk result (Moves self.old key Out (Done outputs.items) self.new) }
@@ -148,14 +157,7 @@ impl Jobs {
         ensures only { OnErr result ((entry : SpecEntry) → IsSubmitted self.old.keys key entry → entry.progress ≡ Out → ⊥) }
         ensures err { OnErr result (self.new ≡ self.old) }
     {
-        let Some(number) = self.table.number_out(&key) else {
-            return Err(JobsRefusal::NotRunningKey);
-        };
-        let progress = Progress::Done(Items::new(outputs));
-        let (table, marks) = (&mut self.table, self.marks.as_mut_slice());
-        let (todo, ready) = (&mut self.todo, &mut self.ready);
-        finish(table, &self.users, marks, todo, ready, number, progress);
-        Ok(())
+        self.end(&key, Progress::Done(Items::new(outputs)))
     }
 
     /// Notes that a key that is being solved has failed.
@@ -165,14 +167,7 @@ impl Jobs {
         ensures only { OnErr result ((entry : SpecEntry) → IsSubmitted self.old.keys key entry → entry.progress ≡ Out → ⊥) }
         ensures err { OnErr result (self.new ≡ self.old) }
     {
-        let Some(number) = self.table.number_out(&key) else {
-            return Err(JobsRefusal::NotRunningKey);
-        };
-        let progress = Progress::Failed(fault);
-        let (table, marks) = (&mut self.table, self.marks.as_mut_slice());
-        let (todo, ready) = (&mut self.todo, &mut self.ready);
-        finish(table, &self.users, marks, todo, ready, number, progress);
-        Ok(())
+        self.end(&key, Progress::Failed(fault))
     }
 
     /// The answer of a job. It takes no memory.

@@ -1,4 +1,5 @@
-ghost use Rattle.std.specs.Prelude.{◌≡◌, ◌<◌, ◌+◌, ℕ, All, OnOk, IfOk, length, vec_len};
+ghost use Rattle.std.specs.Prelude.{◌≡◌, ◌<◌, ◌+◌, ℕ, false, [], All, OnOk, IfOk, length, replicate, vec_len};
+ghost use Rattle.vertices.specs.Loading.{IsGraph};
 ghost use Rattle.vertices.specs.Sorting.{open_count};
 ghost use Rattle.jobs.specs.Reaching.{AreReached, Reaching};
 
@@ -24,17 +25,40 @@ fn flag_inputs(
     Ok(())
 }
 
+/// Flags the vertices that the result depends on, where none is flagged yet.
+fn flag_from_result(
+    graph: &Graph,
+    flags: &mut [bool],
+    todo: &mut Vec<usize>,
+) -> Result<(), AllocError>
+    requires graph { IsGraph graph.now }
+    requires flags { flags.old ≡ replicate (length graph.now.vertices) false }
+    requires todo { todo.old.items ≡ [] }
+    ensures { OnOk result (AreReached graph.now flags.new) }
+{
+    let (result, _) = graph.result();
+    flags[result] = true;
+    todo.push(result)?;
+    while let Some(number) = todo.pop() {
+        flag_inputs(flags, todo, graph.inputs_of(number))?;
+    }
+    Ok(())
+}
+
+/// The same, with a list of its own of those that are to be looked at.
+fn flag_needed(alloc: Global, graph: &Graph, flags: &mut [bool]) -> Result<(), AllocError>
+    requires { flags.old ≡ replicate (length graph.now.vertices) false }
+    ensures { OnOk result (AreReached graph.now flags.new) }
+{
+    let mut todo = Vec::with_capacity(alloc, graph.len())?;
+    flag_from_result(graph, flags, &mut todo)
+}
+
 /// For each vertex whether the result depends on it.
 pub(crate) fn reached(alloc: Global, graph: &Graph) -> Result<Vec<bool>, AllocError>
     ensures { IfOk result (λ flags. AreReached graph.now flags.items) }
 {
     let mut flags = vec![in alloc; false; graph.len()]?;
-    let mut todo = Vec::with_capacity(alloc, graph.len())?;
-    let (result, _) = graph.result();
-    flags[result] = true;
-    todo.push(result)?;
-    while let Some(number) = todo.pop() {
-        flag_inputs(flags.as_mut_slice(), &mut todo, graph.inputs_of(number))?;
-    }
+    flag_needed(alloc, graph, flags.as_mut_slice())?;
     Ok(flags)
 }

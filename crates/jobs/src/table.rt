@@ -1,4 +1,5 @@
-ghost use Rattle.std.specs.Prelude.{◌≡◌, ◌<◌, ◌++◌, ◌∷◌, ℕ, [], take, OnOk, IfSome, IfNone, length, slice_get, slice_set, Some, option_copied};
+ghost use Rattle.std.specs.Prelude.{◌≡◌, ◌<◌, ◌++◌, ◌∷◌, ℕ, [], take, OnOk, OnErr, IfSome, IfNone, length, slice_get, slice_set, Some, option_copied};
+ghost use Rattle.std.specs.Vec.{vec_len, vec_capacity};
 ghost use Rattle.jobs.specs.declared.entry.Entry.{Entry as SpecEntry};
 ghost use Rattle.jobs.specs.declared.entry.Progress.TheVariants.{Out, Waiting};
 
@@ -16,7 +17,7 @@ pub(crate) struct Table {
 
 impl Table {
     ghost use Rattle.jobs.specs.Failing.{IsSubmitted};
-    ghost use Rattle.indexmap.specs.IndexSet.{IsUnique};
+    ghost use Rattle.indexmap.specs.IndexSet.{IsUnique, insert_key};
     ghost use Rattle.jobs.specs.Adding.{IsFront};
     ghost use Rattle.jobs.specs.Tables.{IsTable, key_eq};
 
@@ -39,6 +40,19 @@ impl Table {
         self.numbers.get_index_of(key)
     }
 
+    /// Makes room for an entry, and gives a key its number. Where memory runs out it has none.
+    fn add_number(&mut self, key: Key) -> Result<(), AllocError>
+        ensures entries { self.new.entries.items ≡ self.old.entries.items }
+        ensures room { OnOk result (vec_len self.new.entries < vec_capacity self.new.entries) }
+        ensures keys { OnOk result (self.new.numbers.keys ≡ insert_key key_eq self.old.numbers.keys key) }
+        ensures unique { OnOk result (IsUnique key_eq self.new.numbers) }
+        ensures err { OnErr result (self.new.numbers.keys ≡ self.old.numbers.keys) }
+    {
+        self.entries.reserve(1)?;
+        self.numbers.insert_full(key)?;
+        Ok(())
+    }
+
     /// Adds a new key at the end.
     pub(crate) fn push(&mut self, key: Key, inputs: Items<(Key, u64)>) -> Result<(), AllocError>
         requires table { IsTable self.old }
@@ -47,12 +61,12 @@ impl Table {
         ensures table { OnOk result (IsTable self.new) }
         ensures entries { OnOk result (self.new.entries.items ≡ self.old.entries.items ++ record { key = key; inputs = inputs; progress = Waiting } ∷ []) }
     {
-        self.numbers.insert_full(key)?;
-        self.entries.push(Entry {
+        self.add_number(key)?;
+        self.entries.push_reserved(Entry {
             key,
             inputs,
             progress: Progress::Waiting,
-        })?;
+        });
         Ok(())
     }
 

@@ -7,7 +7,7 @@ use Rattle.std.proofs.lemmas.List.{drop_more, drop_all, append-nil}
 use Rattle.codec.specs.Steps.{◌>>=◌}
 use Rattle.opsproto.specs.declared.refusal.OpRefusal.{OpRefusal}
 use Rattle.opsproto.specs.declared.refusal.OpRefusal.TheVariants.{NotUtf8}
-use Rattle.opsproto.specs.Texts.{text_checked, each_checked}
+use Rattle.opsproto.specs.Texts.{text_checked, each_checked, with_front}
 
 pub text_passes : (number : ℕ) (text : List ℕ) → IsUtf8 text → text_checked number text ≡ Ok text
 text_passes number text h = rw (is_utf8-from_IsUtf8 text h) refl
@@ -15,9 +15,9 @@ text_passes number text h = rw (is_utf8-from_IsUtf8 text h) refl
 pub text_fails : (number : ℕ) (text : List ℕ) → (IsUtf8 text → ⊥) → text_checked number text ≡ Err (NotUtf8 number)
 text_fails number text no-text = rw (false_from_ne_true (is_utf8 text) (λ e. no-text (IsUtf8-from_is_utf8 text e))) refl
 
--- what was checked before, and what is still checked
-abbrev pub with_front : {X : Type 0} → List X → Result (List X) OpRefusal → Result (List X) OpRefusal
-with_front front read = read >>= λ xs. Ok (front ++ xs)
+pub no_front : {X : Type 0} (front : List X) (read : Result (List X) OpRefusal) → front ≡ [] → with_front front read ≡ read
+no_front front (Ok xs) none = ap (λ (zs : List _). Ok (zs ++ xs)) none
+no_front front (Err e) none = refl
 
 module _ {X : Type 0} (check : X → Result X OpRefusal) where
   regroup : (front : List X) (y : X) (read : Result (List X) OpRefusal) → with_front front (read >>= λ ys. Ok (y ∷ ys)) ≡ with_front (front ++ y ∷ []) read

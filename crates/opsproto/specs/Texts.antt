@@ -1,5 +1,5 @@
 -- Texts have to be UTF-8 (proto3 encoding). The first one that isn't decides, in the order of the fields.
-use Rattle.std.specs.Prelude.{ℕ, if◌then◌else◌, List, [], ◌∷◌, Option, Some, None, Result, Ok, Err}
+use Rattle.std.specs.Prelude.{ℕ, if◌then◌else◌, List, [], ◌∷◌, ◌++◌, Option, Some, None, Result, Ok, Err}
 use Rattle.std.specs.Str.{is_utf8}
 use Rattle.codec.specs.Steps.{◌>>=◌}
 use Rattle.opsproto.specs.declared.refusal.OpRefusal.{OpRefusal}
@@ -22,6 +22,10 @@ each_checked check (x ∷ xs) = do
   y ← check x
   ys ← each_checked check xs
   Ok (y ∷ ys)
+
+-- what was checked before, and what is still checked
+abbrev pub with_front : {X : Type 0} → List X → Result (List X) OpRefusal → Result (List X) OpRefusal
+with_front front read = read >>= λ xs. Ok (front ++ xs)
 
 -- one, if it is there
 abbrev pub optional_checked : {X : Type 0} → (X → Result X OpRefusal) → Option X → Result (Option X) OpRefusal

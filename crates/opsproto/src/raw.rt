@@ -6,7 +6,7 @@ ghost use Rattle.protowire.specs.Seen.{entries, spelled_all, StandInRow};
 ghost use Rattle.protowire.specs.Reading.{Gives};
 ghost use Rattle.protowire.specs.Lookups.{last_member};
 ghost use Rattle.opsproto.specs.Ops.{members, kind_of, kept, stripped_of, op_of};
-ghost use Rattle.opsproto.specs.RawOps.{parts};
+ghost use Rattle.opsproto.specs.RawOps.{parts, parts_in};
 
 use super::fields::Bytes;
 use super::input::Input;
@@ -65,19 +65,27 @@ fn stripped(alloc: Global, message: &[u8], fields: &[Field<'_>]) -> Result<Bytes
     Ok(Items::new(bytes))
 }
 
-#[tactic(auto, using(crate::proofs::ReadingLemmas::says_spelled), unfolding(crate::specs::Ops::op_of))]
-pub(crate) fn raw_op(alloc: Global, message: &[u8]) -> Result<RawOp, WireRefusal>
-    ensures { Gives parts result (op_of message.now) }
+/// What an op's fields mean.
+fn parts_of(alloc: Global, message: &[u8], fields: &[Field<'_>]) -> Result<RawOp, WireRefusal>
+    requires { StandInRow 0 fields.now (length message.now) }
+    ensures { Gives parts result (parts_in (entries fields.now) (joined (kept (spelled_all message.now fields.now)))) }
 {
-    let fields = protowire::fields(alloc, message)?;
-    let inputs = inputs_of(alloc, &fields)?;
-    let kind = kind_of(alloc, &fields)?;
-    let stripped = stripped(alloc, message, &fields)?;
+    let inputs = inputs_of(alloc, fields)?;
+    let kind = kind_of(alloc, fields)?;
+    let stripped = stripped(alloc, message, fields)?;
     Ok(RawOp {
         inputs,
         kind,
         stripped,
     })
+}
+
+#[tactic(auto, using(crate::proofs::ReadingLemmas::says_spelled), unfolding(crate::specs::Ops::op_of))]
+pub(crate) fn raw_op(alloc: Global, message: &[u8]) -> Result<RawOp, WireRefusal>
+    ensures { Gives parts result (op_of message.now) }
+{
+    let fields = protowire::fields(alloc, message)?;
+    parts_of(alloc, message, &fields)
 }
 
 /// The stripped bytes alone.

@@ -1,13 +1,14 @@
-ghost use Rattle.std.specs.Prelude.{◌≡◌};
+ghost use Rattle.std.specs.Prelude.{◌≡◌, ℕ, List, Ok};
 ghost use Rattle.opsproto.specs.Refusals.{Gives};
 ghost use Rattle.opsproto.specs.Texts.{each_checked, input_checked};
-ghost use Rattle.opsproto.specs.Ops.{kind_checked, op_at};
+ghost use Rattle.opsproto.specs.Ops.{kind_checked, op_at, op_checked, op_of};
+ghost use Rattle.opsproto.specs.RawOps.{parts};
 ghost use Rattle.opsproto.specs.Definitions.{definition_at};
 
 use super::definition::Definition;
 use super::fields::Bytes;
 use super::op::{Kind, Op};
-use super::raw::raw_op;
+use super::raw::{RawOp, raw_op};
 use super::refusal::OpRefusal;
 use super::texts::{exec_checked, inputs_checked};
 use std::alloc::Global;
@@ -31,8 +32,19 @@ fn kind_checked(alloc: Global, kind: Kind<Bytes>) -> Result<Kind, OpRefusal>
     }
 }
 
+/// An op of parts that some bytes spell, once its texts are checked.
+#[tactic(auto, unfolding(crate::specs::Ops::op_checked))]
+fn op_checked(alloc: Global, raw: RawOp) -> Result<Op, OpRefusal>
+    requires { (text : List ℕ) × (op_of text ≡ Ok (parts raw)) }
+    ensures { Gives (λ op. op) result (op_checked (parts raw)) }
+{
+    let inputs = inputs_checked(alloc, raw.inputs)?;
+    let kind = kind_checked(alloc, raw.kind)?;
+    Ok(Op::new(inputs, kind, raw.stripped))
+}
+
 /// Reads an op. Its size is checked first, then the forms of all its messages, then its texts.
-#[tactic(auto, unfolding(crate::specs::Ops::op_at, crate::specs::Ops::op_read, crate::specs::Ops::op_checked))]
+#[tactic(auto, unfolding(crate::specs::Ops::op_at, crate::specs::Ops::op_read))]
 pub fn read_op(alloc: Global, bytes: &[u8]) -> Result<Op, OpRefusal>
     ensures { Gives (λ op. op) result (op_at bytes.now) }
 {
@@ -40,9 +52,7 @@ pub fn read_op(alloc: Global, bytes: &[u8]) -> Result<Op, OpRefusal>
         return Err(OpRefusal::TooLarge);
     }
     let raw = raw_op(alloc, bytes)?;
-    let inputs = inputs_checked(alloc, raw.inputs)?;
-    let kind = kind_checked(alloc, raw.kind)?;
-    Ok(Op::new(inputs, kind, raw.stripped))
+    op_checked(alloc, raw)
 }
 
 /// Reads a definition. Its size is checked first, then its form, then the number of its entries. The definition keeps the

@@ -2,7 +2,7 @@
 
 ghost use Rattle.std.specs.Prelude.{◌≡◌};
 ghost use Rattle.opsproto.specs.Refusals.{Gives};
-ghost use Rattle.opsproto.specs.Texts.{text_checked, each_checked, optional_checked, input_checked, cache_checked, mount_checked, meta_checked, exec_checked};
+ghost use Rattle.opsproto.specs.Texts.{text_checked, each_checked, optional_checked, with_front, input_checked, cache_checked, mount_checked, meta_checked, exec_checked};
 
 use super::exec::{CacheOpt, ExecOp, Meta, Mount};
 use super::fields::Bytes;
@@ -20,14 +20,24 @@ fn text_checked(bytes: Bytes, number: u32) -> Result<Text, OpRefusal>
     }
 }
 
+/// Checks texts, and adds them at the end.
+#[tactic(auto, using(crate::proofs::TextLemmas::goes_on, crate::proofs::TextLemmas::stops, crate::proofs::TextLemmas::is_done))]
+fn check_texts(checked: &mut Vec<Text>, texts: Vec<Bytes>, number: u32) -> Result<(), OpRefusal>
+    ensures { Gives (λ _. checked.new.items) result (with_front checked.old.items (each_checked (text_checked number) texts.items)) }
+{
+    for text in texts {
+        checked.push(text_checked(text, number)?)?;
+    }
+    Ok(())
+}
+
+#[tactic(auto, using(crate::proofs::TextLemmas::no_front))]
 fn texts_checked(alloc: Global, texts: Items<Bytes>, number: u32) -> Result<Items<Text>, OpRefusal>
     ensures { Gives (λ v. v) result (each_checked (text_checked number) texts) }
 {
     let texts = texts.into_vec();
     let mut checked = Vec::with_capacity(alloc, texts.len())?;
-    for text in texts {
-        checked.push(text_checked(text, number)?)?;
-    }
+    check_texts(&mut checked, texts, number)?;
     Ok(Items::new(checked))
 }
 
@@ -96,17 +106,39 @@ fn found_meta_checked(alloc: Global, found: Option<Meta<Bytes>>) -> Result<Optio
     }
 }
 
+/// Checks mounts, and adds them at the end.
+#[tactic(auto, using(crate::proofs::TextLemmas::goes_on, crate::proofs::TextLemmas::stops, crate::proofs::TextLemmas::is_done))]
+fn check_mounts(checked: &mut Vec<Mount>, mounts: Vec<Mount<Bytes>>) -> Result<(), OpRefusal>
+    ensures { Gives (λ _. checked.new.items) result (with_front checked.old.items (each_checked mount_checked mounts.items)) }
+{
+    for mount in mounts {
+        checked.push(mount_checked(mount)?)?;
+    }
+    Ok(())
+}
+
+#[tactic(auto, using(crate::proofs::TextLemmas::no_front))]
 fn mounts_checked(alloc: Global, mounts: Items<Mount<Bytes>>) -> Result<Items<Mount>, OpRefusal>
     ensures { Gives (λ v. v) result (each_checked mount_checked mounts) }
 {
     let mounts = mounts.into_vec();
     let mut checked = Vec::with_capacity(alloc, mounts.len())?;
-    for mount in mounts {
-        checked.push(mount_checked(mount)?)?;
-    }
+    check_mounts(&mut checked, mounts)?;
     Ok(Items::new(checked))
 }
 
+/// Checks inputs, and adds them at the end.
+#[tactic(auto, using(crate::proofs::TextLemmas::goes_on, crate::proofs::TextLemmas::stops, crate::proofs::TextLemmas::is_done))]
+fn check_inputs(checked: &mut Vec<Input>, inputs: Vec<Input<Bytes>>) -> Result<(), OpRefusal>
+    ensures { Gives (λ _. checked.new.items) result (with_front checked.old.items (each_checked input_checked inputs.items)) }
+{
+    for input in inputs {
+        checked.push(input_checked(input)?)?;
+    }
+    Ok(())
+}
+
+#[tactic(auto, using(crate::proofs::TextLemmas::no_front))]
 pub(crate) fn inputs_checked(
     alloc: Global,
     inputs: Items<Input<Bytes>>,
@@ -115,9 +147,7 @@ pub(crate) fn inputs_checked(
 {
     let inputs = inputs.into_vec();
     let mut checked = Vec::with_capacity(alloc, inputs.len())?;
-    for input in inputs {
-        checked.push(input_checked(input)?)?;
-    }
+    check_inputs(&mut checked, inputs)?;
     Ok(Items::new(checked))
 }
 

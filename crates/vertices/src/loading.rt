@@ -1,7 +1,9 @@
-ghost use Rattle.std.specs.Prelude.{◌≡◌, ◌≤◌, ◌<◌, ◌+◌, ℕ, List, length, take, IfOk, OnOk, IfSome, Some, slice_get};
+ghost use Rattle.std.specs.Prelude.{◌≡◌, ◌≤◌, ◌<◌, ◌+◌, ℕ, List, length, take, IfOk, OnOk, IfSome, Ok, Some, slice_get};
+ghost use Rattle.farm_base.specs.Digests.{IsDigest};
+ghost use Rattle.opsproto.specs.Ops.{op_at};
 ghost use Rattle.vertices.specs.Outcomes.{Meets};
 ghost use Rattle.vertices.specs.Edges.{Numbers, IsEdge};
-ghost use Rattle.vertices.specs.Loading.{ReadCheck, ReadChecks, GraphCheck, DefinitionCheck, IsGraph, IsGraphOf};
+ghost use Rattle.vertices.specs.Loading.{ReadCheck, ReadChecks, GraphCheck, DefinitionCheck, IsGraph, IsGraphOf, digest_in};
 
 use super::building::{all_edges, edge_order};
 use super::edges::edge_of;
@@ -11,7 +13,8 @@ use super::refusal::LoadRefusal;
 use super::table::Table;
 use super::unresolved::{Asked, Named};
 use super::vertex::Source;
-use opsproto::{Definition, Input};
+use farm_base::Digest;
+use opsproto::{Definition, Input, Op};
 use protowire::BodyList;
 use std::alloc::{AllocError, Global};
 
@@ -52,6 +55,26 @@ impl Loading {
         let entry = self.entries.body(place);
         let op = read_entry(alloc, place, entry)?;
         let digest = digest_of(entry);
+        self.add(alloc, place, digest, &op)?;
+        Ok(())
+    }
+
+    /// Makes a vertex of the entry at the next place, which has this digest and this op, where the digest is new.
+    fn add(
+        &mut self,
+        alloc: Global,
+        place: usize,
+        digest: Digest,
+        op: &Op,
+    ) -> Result<(), AllocError>
+        requires place { place < length self.old.entries }
+        requires digest { IfSome (slice_get self.old.entries place) (λ entry. digest ≡ digest_in entry) }
+        requires digits { IsDigest digest }
+        requires op { IfSome (slice_get self.old.entries place) (λ entry. op_at entry ≡ Ok op.now) }
+        requires read { IsReadTo place self.old }
+        ensures entries { self.new.entries ≡ self.old.entries }
+        ensures read { OnOk result (IsReadTo (place + 1) self.new) }
+    {
         if self.table.add(place, digest)? {
             let stripped = digest_of(op.stripped());
             self.sources.push(Source {
@@ -59,7 +82,7 @@ impl Loading {
                 digest,
                 stripped,
             })?;
-            self.asked.push(Asked::of(alloc, place, &op)?)?;
+            self.asked.push(Asked::of(alloc, place, op)?)?;
         }
         Ok(())
     }

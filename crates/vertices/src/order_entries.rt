@@ -1,4 +1,4 @@
-ghost use Rattle.std.specs.Prelude.{◌≡◌, ◌<◌, ℕ, Some, List, length, slice_get, Contains, IfOk, IfSome, IfNone, OnOk};
+ghost use Rattle.std.specs.Prelude.{◌≡◌, ◌<◌, ℕ, [], Some, List, length, slice_get, Contains, IfOk, IfSome, IfNone, OnOk};
 ghost use Rattle.std.specs.List.{AllZip};
 ghost use Rattle.farm_base.specs.declared.digest.Digest.{Digest as SpecDigest};
 ghost use Rattle.vertices.specs.Firsts.{IsFirstAt, IsTable};
@@ -38,10 +38,19 @@ fn table_of(alloc: Global, entries: &[(Digest, Vec<Digest>)]) -> Result<Table, A
     ensures { IfOk result (IsTable (digests_of entries.now)) }
 {
     let mut table = Table::new(alloc);
+    add_all(&mut table, entries)?;
+    Ok(table)
+}
+
+/// Adds the digests of the entries to an empty table.
+fn add_all(table: &mut Table, entries: &[(Digest, Vec<Digest>)]) -> Result<(), AllocError>
+    requires { IsTable [] table.old }
+    ensures { OnOk result (IsTable (digests_of entries.now) table.new) }
+{
     for (place, entry) in entries.iter().enumerate() {
         table.add(place, entry.0)?;
     }
-    Ok(table)
+    Ok(())
 }
 
 /// The places of the inputs of each vertex, and nothing at the other places.

@@ -12,7 +12,7 @@ returns-clause-closed c = c.in_ok-add_all.ensures.closed c.requires.closed
 
 pub returns-clause-list : goal.returns-clause-list
 returns-clause-list c =
-    let same = c.reserve.ensures.list in
+    let same = c.make_room.ensures.list in
     record {
       taken = same.taken;
       numbers = same.numbers;

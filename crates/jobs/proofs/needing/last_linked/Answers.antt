@@ -1,10 +1,28 @@
-use Rattle.std.proofs.Common.{◌≡◌, ◌≤◌, ◌∙◌, ℕ, IsSomeAnd, refl, ap, sym, subst}
+use Rattle.std.proofs.Common.{◌≡◌, ◌≤◌, ◌∙◌, ℕ, IsSomeAnd, Some, refl, ap, sym, subst, arith}
 use Rattle.lists.proofs.Places.{some_is}
 use Rattle.jobs.specs.declared.users.Link.{Link}
 use Rattle.jobs.specs.Needs.{LinksOutput}
 use Rattle.jobs.proofs.NeedLemmas.{later_is, later_covers}
-use Rattle.jobs.proofs.UserLemmas.{walk_at, walk_step, walk_more, walk_last, place_within, link_there, before_is}
+use Rattle.jobs.proofs.UserLemmas.{walk_at, walk_step, walk_more, walk_last, last_below, steps_left, place_within, link_there, before_is}
 use Rattle.jobs.proofs.needing.last_linked.Goals as goal
+
+pub index-next-requires-in-Some : goal.index-next-requires-in-Some
+index-next-requires-in-Some c =
+    let u = c.args.users.now in
+    let within = place_within u.links.items c.args.number _ c.in-Some.place c.loop-next.next c.in-Some.is c.loop-next.invariant.walk in
+    let all = c.requires.all in
+    let len = u.befores.ok.0 in
+    omega (arith, within, all, len)
+
+pub loop-next-smaller : goal.loop-next-smaller
+loop-next-smaller c =
+    let u = c.args.users.now in
+    let within = place_within u.links.items c.args.number _ c.in-Some.place c.loop-next.next c.in-Some.is c.loop-next.invariant.walk in
+    let at = link_there u.links.items c.in-Some.place c.index-link.result.now within c.index-link.ensures in
+    let last = before_is u c.requires.linked c.requires.all c.in-Some.place c.index-link.result.now c.index-next-in-Some.result.now at c.index-next-in-Some.ensures in
+    let less = last_below u.links.items c.index-link.result.now.source c.in-Some.place c.index-next-in-Some.result.now last in
+    let now : steps_left c.loop-next.next ≡ steps_left (Some c.in-Some.place) = ap steps_left c.in-Some.is in
+    omega (arith, less, now)
 
 pub loop-next-preserved : goal.loop-next-preserved
 loop-next-preserved c =

@@ -1,0 +1,217 @@
+//! What the program does: reads, answers, prints.
+ghost use Rattle.std.specs.Prelude.{◌≡◌, ◌≢◌, ◌++◌, ℕ, List, codes};
+ghost use Rattle.std.specs.Io.KnownBytes.{Appends};
+ghost use Rattle.commands.specs.declared.failure.Failure.TheVariants as failures;
+ghost use Rattle.commands.specs.Failures.{failure_line};
+ghost use Rattle.commands.specs.Acts.{AnswersAll, FirstFault};
+
+use super::answers::answer;
+use super::command::{Command, Options, Request, Words, words_of};
+use super::explain::{Explanation, explained};
+use super::failure::Failure;
+use super::files::contents;
+use super::running::run_scripts;
+use std::alloc::{AllocError, Global};
+use std::io::{self, Write};
+use std::rt::Files;
+use std::sync::Wait;
+use std::thread::Threads;
+
+/// The answer was printed.
+pub const DONE: u8 = 0;
+/// An input was refused, or can't be read.
+pub const REFUSED: u8 = 1;
+/// The words are not a command.
+pub const USAGE: u8 = 2;
+/// Memory ran out.
+pub const MEMORY: u8 = 3;
+/// The answer could not be written.
+pub const FAULT: u8 = 4;
+
+/// Writes a text, and returns the status, or `FAULT` if it can't be written.
+pub(crate) fn print<W: Write>(writer: &mut W, text: &str, status: u8) -> u8
+    ensures status { result ≢ 4 → result ≡ status }
+    ensures printed { result ≢ 4 → Appends (W.contents writer.old) (W.contents writer.new) text.now }
+{
+    match writer.write_all(text.as_bytes()) {
+        Ok(()) => match writer.flush() {
+            Ok(()) => status,
+            Err(_) => FAULT,
+        },
+        Err(_) => FAULT,
+    }
+}
+
+pub(crate) fn print_failure<E: Write>(alloc: Global, failure: Failure, err: &mut E) -> u8
+    ensures not_done { result ≢ 0 }
+    ensures refused { result ≡ 1 → failure ≢ failures.Memory }
+    ensures printed { result ≡ 1 → Appends (E.contents err.old) (E.contents err.new) (failure_line failure) }
+{
+    let status = match failure {
+        Failure::Memory => MEMORY,
+        _ => REFUSED,
+    };
+    match failure.line(alloc) {
+        Ok(line) => print(err, line.as_str(), status),
+        Err(_) => print(err, "out of memory\n", MEMORY),
+    }
+}
+
+pub(crate) fn print_unreadable<E: Write>(alloc: Global, name: &str, err: &mut E) -> u8
+    ensures not_done { result ≢ 0 }
+    ensures printed { result ≡ 1 → Appends (E.contents err.old) (E.contents err.new) (codes "unreadable " ++ name.now ++ codes "\n") }
+{
+    match format!(in alloc; "unreadable {name}\n") {
+        Ok(line) => print(err, line.as_str(), REFUSED),
+        Err(_) => print(err, "out of memory\n", MEMORY),
+    }
+}
+
+/// Carries out a command on files, each with its bytes or `None` where it can't be read. Nothing is printed
+/// before all texts are made; the first fault decides. Returns the status of the program.
+pub fn act<O: Write, E: Write>(
+    alloc: Global,
+    command: Command,
+    files: Vec<(String, Option<Vec<u8>>)>,
+    out: &mut O,
+    err: &mut E,
+) -> u8
+    // At status 0 the standard output has the answers of all files, one after the other.
+    ensures done { result ≡ 0 → (text : List ℕ) × AnswersAll command files.items text × Appends (O.contents out.old) (O.contents out.new) text }
+    // At status 1 the standard error has the line of the first fault, and nothing is printed to the standard output.
+    ensures refused { result ≡ 1 → (line : List ℕ) × FirstFault command files.items line × Appends (E.contents err.old) (E.contents err.new) line }
+    ensures quiet { result ≡ 1 → out.new ≡ out.old }
+{
+    let mut all = String::new(alloc);
+    for (name, bytes) in files {
+        let Some(bytes) = bytes else {
+            return print_unreadable(alloc, name.as_str(), err);
+        };
+        match answer(alloc, command, bytes) {
+            Err(failure) => return print_failure(alloc, failure, err),
+            Ok(text) => {
+                if all.push_str(text.as_str()).is_err() {
+                    return print_failure(alloc, Failure::Memory, err);
+                }
+            }
+        }
+    }
+    print(out, all.as_str(), DONE)
+}
+
+/// Says why there are no words: memory ran out, or one of them is not UTF-8.
+pub fn print_no_words<E: Write>(error: &io::Error, err: &mut E) -> u8
+    ensures { result ≢ 0 }
+{
+    if matches!(error.kind(), io::ErrorKind::OutOfMemory) {
+        print(err, "out of memory\n", MEMORY)
+    } else {
+        print(err, "error: a word that is not UTF-8\n", USAGE)
+    }
+}
+
+/// What there is to say of a file, if the options ask for it.
+fn explanation(
+    alloc: Global,
+    words: &Words,
+    name: &str,
+    bytes: &io::Result<Vec<u8>>,
+) -> Result<Explanation, AllocError> {
+    let mut lines = String::new(alloc);
+    if words.options.explain || words.options.strict {
+        match bytes {
+            Ok(bytes) => return explained(alloc, words.request, name, bytes.as_slice()),
+            Err(error) => write!(lines, "{name}: {error}\n")?,
+        }
+    }
+    Ok(Explanation {
+        lines,
+        has_refused_event: false,
+    })
+}
+
+/// Prints the explanation behind what was printed, and returns the status.
+fn print_explanation<E: Write>(
+    options: Options,
+    explanation: &Explanation,
+    status: u8,
+    err: &mut E,
+) -> u8 {
+    let status = if status == DONE && options.strict && explanation.has_refused_event {
+        REFUSED
+    } else {
+        status
+    };
+    if options.explain && status <= REFUSED {
+        print(err, explanation.lines.as_str(), status)
+    } else {
+        status
+    }
+}
+
+/// Reads the file that the words name, acts, and explains what is refused if the words ask for it.
+fn act_on<R: Files + Input + AllocGlobal + Threads + Wait + Sync, O: Write, E: Write>(
+    rt: &R,
+    words: &Words,
+    out: &mut O,
+    err: &mut E,
+) -> Result<u8, AllocError> {
+    let alloc = rt.alloc();
+    let mut files = Vec::new(alloc);
+    let mut all = Explanation {
+        lines: String::new(alloc),
+        has_refused_event: false,
+    };
+    for name in &words.files {
+        let bytes = contents(rt, name, words.request.most_bytes());
+        if matches!(&bytes, Err(error) if matches!(error.kind(), io::ErrorKind::OutOfMemory)) {
+            return Err(AllocError);
+        }
+        if all.lines.is_empty() {
+            all = explanation(alloc, words, name, &bytes)?;
+        }
+        files.push((String::from_str(alloc, name)?, bytes.ok()))?;
+    }
+    let status = match words.request {
+        Request::Print(command) => act(alloc, command, files, out, err),
+        Request::Run { nodes, record_path } => {
+            run_scripts(rt, nodes, record_path, files, out, err)?
+        }
+    };
+    Ok(print_explanation(words.options, &all, status, err))
+}
+
+/// Does what the words say. The texts of usage faults and help are `clap`'s.
+pub fn run<R: Files + Input + AllocGlobal + Threads + Wait + Sync, O: Write, E: Write>(
+    rt: &R,
+    words: &[String],
+    out: &mut O,
+    err: &mut E,
+) -> u8 {
+    let words = match words_of(rt.alloc(), words) {
+        Ok(words) => words,
+        Err(error) => return print_usage(rt.alloc(), &error, out, err),
+    };
+    match act_on(rt, &words, out, err) {
+        Ok(status) => status,
+        Err(_) => print(err, "out of memory\n", MEMORY),
+    }
+}
+
+fn print_usage<O: Write, E: Write>(
+    alloc: Global,
+    error: &clap::Error,
+    out: &mut O,
+    err: &mut E,
+) -> u8 {
+    let Ok(text) = error.to_string(alloc) else {
+        return print(err, "out of memory\n", MEMORY);
+    };
+    if matches!(error.kind(), clap::error::ErrorKind::OutOfMemory) {
+        print(err, "out of memory\n", MEMORY)
+    } else if error.use_stderr() {
+        print(err, text.as_str(), USAGE)
+    } else {
+        print(out, text.as_str(), DONE)
+    }
+}
