@@ -83,16 +83,6 @@ fn cached_jobs(alloc: Global, nodes: u32, apart: bool) -> anyhow::Result<Vec<(No
     Ok(jobs)
 }
 
-/// An executor for each node.
-fn executors(alloc: Global, nodes: u32) -> anyhow::Result<Vec<(NodeId, Box<dyn Executor + Send>)>> {
-    let mut executors = Vec::new(alloc);
-    for number in 0..nodes {
-        let executor: Box<dyn Executor + Send> = Box::new(alloc, Hashing::new(alloc, ROUNDS))?;
-        executors.push((NodeId(number + 1), executor))?;
-    }
-    Ok(executors)
-}
-
 /// Seconds of a run of these jobs, and how many commits it made.
 fn many_jobs<R: Print + Clock + AllocGlobal + Threads + Wait + Sync>(
     rt: &R,
@@ -101,7 +91,11 @@ fn many_jobs<R: Print + Clock + AllocGlobal + Threads + Wait + Sync>(
 ) -> anyhow::Result<(f64, u64)> {
     let alloc = rt.alloc();
     let jobs = cached_jobs(alloc, nodes, apart)?;
-    let executors = executors(alloc, nodes)?;
+    let mut executors = Vec::new(alloc);
+    for number in 0..nodes {
+        let executor: Box<dyn Executor + Send> = Box::new(alloc, Hashing::new(alloc, ROUNDS))?;
+        executors.push((NodeId(number + 1), executor))?;
+    }
     let start = Instant::now(rt)?;
     let end = Farm::run(
         rt,
