@@ -1,5 +1,5 @@
 //! The live leases by ask.
-ghost use Rattle.std.specs.Prelude.{◌≡◌, ◌+◌, ◌<◌, ◌≤◌, [], ◌∷◌, ◌++◌, List, Some, filter, length, not, option_copied, OnOk};
+ghost use Rattle.std.specs.Prelude.{◌≡◌, ◌+◌, ◌<◌, ◌≤◌, [], ◌∷◌, ◌++◌, List, Some, filter, length, not, option_copied, IfSome, OnOk};
 ghost use Rattle.farm_base.specs.declared.lease.Lease.{Lease};
 ghost use Rattle.leases.specs.Asks.{name_of, entry_of, ask_room, oldest_of, Counts, AreAsked};
 ghost use Rattle.leases.specs.Changes.{ends_lease};
@@ -71,7 +71,9 @@ fn with_lease(entry: Option<&AskEntry>, lease: &Lease) -> AskEntry
 
 /// What an index is to have of an ask that one lease less has.
 fn without_lease(entry: Option<&AskEntry>) -> Option<AskEntry>
-    ensures { (front : List Lease) (lease : Lease) (back : List Lease) → Counts (option_copied entry.entry) (front ++ lease ∷ back) → Counts result (front ++ back) }
+    ensures counts { (front : List Lease) (lease : Lease) (back : List Lease) → Counts (option_copied entry.entry) (front ++ lease ∷ back) → Counts result (front ++ back) }
+    // An entry that counts no lease is not kept.
+    ensures some { IfSome result (λ left. 1 ≤ left.times) }
 {
     let entry = entry?;
     if entry.times <= 1 {

@@ -13,7 +13,7 @@ returns-in-Some-get_mut-clause-asked c front back all k =
     asked-less old new c.args.lease.now (Some c.in-Some.left) front back
     (subst (λ (n : AskName). (q : AskName) → get ask_eq new q ≡ cond (ask_eq n q) (Some c.in-Some.left) (get ask_eq old q)) c.of-name.ensures ((c.get_mut.follows.holds c.in-Some.left).3 (search rules)).0)
     (λ fs h bs x. subst (λ (o : Option AskEntry). Counts o (fs ++ bs)) c.in-Some.is
-    (c.without_lease-left.ensures fs h bs (subst (λ (o : Option AskEntry). Counts o (fs ++ h ∷ bs)) (ap (get ask_eq old) (sym c.of-name.ensures) ∙ sym c.get.ensures.value) x)))
+    (c.without_lease-left.ensures.counts fs h bs (subst (λ (o : Option AskEntry). Counts o (fs ++ h ∷ bs)) (ap (get ask_eq old) (sym c.of-name.ensures) ∙ sym c.get.ensures.value) x)))
     all k
 
 pub returns-in_default-clause-asked : goal.returns-in_default-clause-asked
@@ -23,5 +23,5 @@ returns-in_default-clause-asked c front back all k =
     asked-less old new c.args.lease.now None front back
     (subst (λ (n : AskName). (q : AskName) → get ask_eq new q ≡ cond (ask_eq n q) None (get ask_eq old q)) c.of-name.ensures c.swap_remove.ensures.updates.0)
     (λ fs h bs x. subst (λ (o : Option AskEntry). Counts o (fs ++ bs)) c.in_default.is
-    (c.without_lease-left.ensures fs h bs (subst (λ (o : Option AskEntry). Counts o (fs ++ h ∷ bs)) (ap (get ask_eq old) (sym c.of-name.ensures) ∙ sym c.get.ensures.value) x)))
+    (c.without_lease-left.ensures.counts fs h bs (subst (λ (o : Option AskEntry). Counts o (fs ++ h ∷ bs)) (ap (get ask_eq old) (sym c.of-name.ensures) ∙ sym c.get.ensures.value) x)))
     all k
