@@ -1,5 +1,5 @@
 -- Parked asks that need no look.
-use Rattle.std.proofs.Common.{◌≡◌, ℕ, ◌<◌, List, [], ◌∷◌, ◌++◌, Bool, true, false, not, ◌&&◌, ◌||◌, eqb, cond, filter, get_or, Option, Some, None, refl, sym, ◌∙◌, ap, subst, inl, inr, arith}
+use Rattle.std.proofs.Common.{◌≡◌, ℕ, zero, suc, ◌<◌, ◌≤◌, ◌+◌, ◌-◌, List, [], ◌∷◌, ◌++◌, Bool, true, false, not, ◌&&◌, ◌||◌, eqb, cond, filter, get_or, length, drop, drop_of_length-le, Option, Some, None, refl, sym, ◌∙◌, ap, subst, inl, inr, arith}
 use Rattle.std.proofs.lemmas.Bool.{cases_Bool, and_parts, not-true, eqb-true, ne_eqb}
 use Rattle.std.proofs.lemmas.List.Elements.{All-head, All-tail, All-cons, All-nil, All-append}
 use Rattle.std.specs.Prelude.{All, AllPairs, nat_lt}
@@ -13,8 +13,13 @@ use Rattle.leases.specs.Leases.{IsBefore}
 use Rattle.leases.proofs.TableLemmas.{AllPairs-head, AllPairs-tail}
 use Rattle.protocol.proofs.Base.{all_in, true_false, any_in, from_any, any_none, from_filter, slot_eq_is}
 use Rattle.saverecord.proofs.LedgerLemmas.{all_from_in}
-use Rattle.coordinator.specs.Idle.{wants_private, slots_under, is_open, are_leased_again, is_held_up, AreHeldUp, IsIdle, AreIdle, ArePlain}
-use Rattle.coordinator.specs.Waiting.{first_mark, later_marks, still_waiting}
+use Rattle.coordinator.specs.Idle.{wants_private, slots_under, is_open, is_held_up, AreHeldUp, IsIdle, AreIdle, ArePlain}
+use Rattle.farm_base.specs.Folders.{folder_eq}
+use Rattle.farm_base.proofs.CompareLaws.{folder_eq-itself}
+use Rattle.leases.proofs.MarkLemmas.{drop-item}
+use Rattle.coordinator.specs.Over.{still_at, still_waiting}
+use Rattle.coordinator.specs.Wanted.{WantsNone}
+use Rattle.coordinator.proofs.WaitingWords.{Begins, begins-before, stays-first}
 use Rattle.coordinator.proofs.NewestWords.{all-still}
 use Rattle.coordinator.proofs.HeldUp.{LeasesMore, tried-more, any_more, either_more}
 use Rattle.coordinator.proofs.StateWords.{decision-is}
@@ -94,44 +99,40 @@ idle-fewer freed q q' p more idle =
           ]))));
     }
 
--- idle asks are still idle when another was tried, or was over
-idle-next : (k : Limits) (freed : List (Slot × Bool)) (p : Parked) (b : Bool) (w w' : Work) (ps : List Parked) → w' ≡ cond b w (tried k p w) → All (IsIdle freed w.ledger) ps → All (IsIdle freed w'.ledger) ps
-idle-next k freed p true w w' ps e idle = subst (λ (x : Work). All (IsIdle freed x.ledger) ps) (sym e) idle
-idle-next k freed p false w w' ps e idle =
+-- idle asks are still idle when another was tried
+pub idle-next : (k : Limits) (freed : List (Slot × Bool)) (p : Parked) (w w' : Work) (ps : List Parked) → w' ≡ tried k p w → All (IsIdle freed w.ledger) ps → All (IsIdle freed w'.ledger) ps
+idle-next k freed p w w' ps e idle =
     subst (λ (x : Work). All (IsIdle freed x.ledger) ps) (sym e) (λ j d inside. idle-fewer freed w.ledger (tried k p w).ledger (get_or ps j d) (tried-more k p w) (idle j d inside))
 
 -- ---- asks that wait change nothing
 
-pub skipped-work : (k : Limits) (ps : List Parked) (w : Work) → All (λ p. decision k w.ledger p ≡ Wait) ps → try_all k ps w ≡ w
-skipped-work k [] w h = refl
-skipped-work k (p ∷ ps) w h =
-    ap (try_all k ps) (tried-is k p w Wait (All-head (λ p. decision k w.ledger p ≡ Wait) p ps h)) ∙ skipped-work k ps w (All-tail (λ p. decision k w.ledger p ≡ Wait) p ps h)
+-- asks that wait are passed over from one place to another
+pub record Passes (k : Limits) (asks : List Parked) (w : Work) (from to : ℕ) : Type 0 where
+  pub work : try_all k (drop from asks) w ≡ try_all k (drop to asks) w
+  pub stay : (os : List ℕ) → Begins to os → still_at to os (drop to asks) ≡ waiting k (drop to asks) w → still_at from os (drop from asks) ≡ waiting k (drop from asks) w
 
-pub skipped-waiting : (k : Limits) (ps : List Parked) (w : Work) → All (λ p. decision k w.ledger p ≡ Wait) ps → waiting k ps w ≡ ps
-skipped-waiting k [] w h = refl
-skipped-waiting k (p ∷ ps) w h =
-    let here = All-head (λ p. decision k w.ledger p ≡ Wait) p ps h in
-    let stay : stays k p w ≡ true = stays-is k p w Wait here in
+pub passes : (k : Limits) (asks : List Parked) (w : Work) (from n : ℕ) (d : Parked) → from + n ≤ length asks
+    → ((j : ℕ) → from ≤ j → j < from + n → decision k w.ledger (get_or asks j d) ≡ Wait) → Passes k asks w from (from + n)
+passes k asks w from zero d inside waits = (let same : from + 0 ≡ from = omega arith in subst (Passes k asks w from) (sym same) (record { work = refl; stay = λ os b h. h }))
+passes k asks w from (suc n) d inside waits =
+    let p : Parked = get_or asks from d in
+    let first : drop from asks ≡ p ∷ drop (from + 1) asks = drop-item asks from d (omega arith) in
+    let here : decision k w.ledger p ≡ Wait = waits from (omega arith) (omega arith) in
     let same : tried k p w ≡ w = tried-is k p w Wait here in
-    ap (λ (b : Bool). cond b (p ∷ waiting k ps (tried k p w)) (waiting k ps (tried k p w))) stay
-    ∙ ap (λ (x : Work). p ∷ waiting k ps x) same ∙ ap (λ (qs : List Parked). p ∷ qs) (skipped-waiting k ps w (All-tail (λ p. decision k w.ledger p ≡ Wait) p ps h))
-
--- all of them are idle, and the freed slots are leased again
-pub are-idle-wait : (k : Limits) (freed : Option (List (Slot × Bool))) (q : Ledger) (ps : List Parked) → AreIdle freed q ps → are_leased_again freed q.live ≡ true → All (λ p. decision k q p ≡ Wait) ps
-are-idle-wait k None q ps idle again = (let bad : false ≡ true = again in absurd (cc bad))
-are-idle-wait k (Some freed) q ps idle again = λ j d inside. idle-waits k freed q (get_or ps j d) (idle j d inside) (not-true (is_open freed q.live) again)
-
--- those that are left are idle when one was tried, unless it was over
-pub are-idle-next : (k : Limits) (freed : Option (List (Slot × Bool))) (p : Parked) (marks : List Bool) (ps : List Parked) (w w' : Work) (b : Bool) → b ≡ first_mark marks → w' ≡ cond b w (tried k p w)
-    → AreIdle freed w.ledger (still_waiting marks (p ∷ ps)) → AreIdle freed w'.ledger (still_waiting (later_marks marks) ps)
-are-idle-next k None p marks ps w w' b e f idle = tt
-are-idle-next k (Some freed) p marks ps w w' true e f idle =
-    let rest : List Parked = still_waiting (later_marks marks) ps in
-    idle-next k freed p true w w' rest f (subst (λ (x : Bool). All (IsIdle freed w.ledger) (cond x rest (p ∷ rest))) (sym e) idle)
-are-idle-next k (Some freed) p marks ps w w' false e f idle =
-    let rest : List Parked = still_waiting (later_marks marks) ps in
-    let all : All (IsIdle freed w.ledger) (p ∷ rest) = subst (λ (x : Bool). All (IsIdle freed w.ledger) (cond x rest (p ∷ rest))) (sym e) idle in
-    idle-next k freed p false w w' rest f (All-tail (IsIdle freed w.ledger) p rest all)
+    let stay : stays k p w ≡ true = stays-is k p w Wait here in
+    let to : from + 1 + n ≡ from + suc n = omega arith in
+    let rest : Passes k asks w (from + 1) (from + suc n) =
+    subst (Passes k asks w (from + 1)) to (passes k asks w (from + 1) n d (omega arith) (λ j low high. waits j (omega arith) (omega arith))) in
+    record {
+      work = ap (λ (ps : List Parked). try_all k ps w) first ∙ ap (try_all k (drop (from + 1) asks)) same ∙ rest.work;
+      stay = λ os b h.
+          ap (still_at from os) first
+          ∙ stays-first from os p (drop (from + 1) asks) (begins-before (from + 1) (from + suc n) os (omega arith) b)
+          ∙ ap (λ (qs : List Parked). p ∷ qs) (rest.stay os b h)
+          ∙ sym (ap (λ (qs : List Parked). waiting k qs w) first
+          ∙ ap (λ (b : Bool). cond b (p ∷ waiting k (drop (from + 1) asks) (tried k p w)) (waiting k (drop (from + 1) asks) (tried k p w))) stay
+          ∙ ap (λ (x : Work). p ∷ waiting k (drop (from + 1) asks) x) same);
+    }
 
 -- ---- a lease ends
 
@@ -202,16 +203,16 @@ are-idle-first (Some freed) q xs ys idle = all-first (IsIdle freed q) xs ys idle
     all-first P (x ∷ xs) ys h = All-cons P x xs (All-head P x (xs ++ ys) h) (all-first P xs ys (All-tail P x (xs ++ ys) h))
 
 -- none of the asks that are left and of those that came wants a PRIVATE folder
-pub plain-after : (asks since all : List Parked) (marks : List Bool) (empty b : Bool) → (b ≡ true → ArePlain asks) → (empty ≡ true → all ≡ []) → all ≡ still_waiting marks asks ++ since
+pub plain-after : (asks since all : List Parked) (over : List ℕ) (empty b : Bool) → (b ≡ true → ArePlain asks) → (empty ≡ true → all ≡ []) → all ≡ still_waiting over asks ++ since
     → (empty || (b && not (list_any wants_private since))) ≡ true → ArePlain all
-plain-after asks since all marks true b was none e h = subst ArePlain (sym (none refl)) (All-nil (λ p. wants_private p ≡ false))
-plain-after asks since all marks false b was none e h =
+plain-after asks since all over true b was none e h = subst ArePlain (sym (none refl)) (All-nil (λ p. wants_private p ≡ false))
+plain-after asks since all over false b was none e h =
     let P : Parked → Type 0 = λ p. wants_private p ≡ false in
     let both = and_parts b (not (list_any wants_private since)) h in
     let new : All P since = all_from_in P since (λ p i. any_none wants_private p since (not-true (list_any wants_private since) both.1) i) in
-    subst (All P) (sym e) (All-append P (still_waiting marks asks) since (all-still P marks asks (was both.0)) new)
+    subst (All P) (sym e) (All-append P (still_waiting over asks) since (all-still P 0 over asks (was both.0)) new)
 
--- ---- slots that no ask wants
+-- ---- an ask that wants no folder of the freed slots
 
 has_slot-filter : (test : (Slot × Bool) → Bool) (s : Slot) (slots : List (Slot × Bool)) → ((x : Slot × Bool) → slot_eq x.0 s ≡ true → test x ≡ true) → has_slot slots s ≡ true → has_slot (filter test slots) s ≡ true
 has_slot-filter test s [] passes e = e
@@ -246,3 +247,45 @@ idle-wanted may freed q p wanted idle =
                 rw (other, off) kept)
           ])));
     }
+
+-- an ask waits that wants no folder of the freed slots
+pub unwanted-waits : (k : Limits) (freed : List (Slot × Bool)) (q : Ledger) (p : Parked) → WantsNone freed p → IsIdle freed q p → decision k q p ≡ Wait
+unwanted-waits k freed q p none idle =
+    let may : FolderName → Bool = λ f. list_any (λ (w : Want). folder_eq f w.folder) p.wants in
+    let fewer : IsIdle (filter (λ (x : Slot × Bool). may x.0.folder) freed) q p =
+    idle-wanted may freed q p (λ w i. any_in (λ (v : Want). folder_eq w.folder v.folder) w p.wants i (folder_eq-itself w.folder)) idle in
+    let empty : filter (λ (x : Slot × Bool). may x.0.folder) freed ≡ [] =
+    filter-none (λ (x : Slot × Bool). may x.0.folder) freed (λ x i. none_of_list (λ (w : Want). folder_eq x.0.folder w.folder) p.wants
+    (λ w j. any_none (λ (held : Slot × Bool). folder_eq held.0.folder w.folder) x freed (none w j) i)) in
+    idle-waits k [] q p (subst (λ (xs : List (Slot × Bool)). IsIdle xs q p) empty fewer) refl
+  where
+    none_of_list : {A : Type 0} (test : A → Bool) (xs : List A) → ((x : A) → In x xs → test x ≡ false) → list_any test xs ≡ false
+    none_of_list test [] h = refl
+    none_of_list test (x ∷ xs) h = (let here = h x (inl refl) in rw here (none_of_list test xs (λ y i. h y (inr i))))
+
+    filter-none : {A : Type 0} (test : A → Bool) (xs : List A) → ((x : A) → In x xs → test x ≡ false) → filter test xs ≡ []
+    filter-none test [] h = refl
+    filter-none test (x ∷ xs) h = (let here = h x (inl refl) in rw here (filter-none test xs (λ y i. h y (inr i))))
+
+-- so do all of these, while they are idle
+pub unwanted-passes : (k : Limits) (freed : List (Slot × Bool)) (asks : List Parked) (w : Work) (from to : ℕ) (d : Parked) → from ≤ to → to ≤ length asks → All (IsIdle freed w.ledger) asks
+    → ((j : ℕ) → from ≤ j → j < to → WantsNone freed (get_or asks j d)) → Passes k asks w from to
+unwanted-passes k freed asks w from to d le inside idle none =
+    let same : from + (to - from) ≡ to = omega arith in
+    subst (Passes k asks w from) same (passes k asks w from (to - from) d (omega arith) (λ j low high. unwanted-waits k freed w.ledger (get_or asks j d) (none j low (omega arith)) (idle j d (omega arith))))
+
+-- all that are left wait once the freed slots are leased again
+pub closed-passes : (k : Limits) (freed : List (Slot × Bool)) (asks : List Parked) (w : Work) (from : ℕ) (d : Parked) → from ≤ length asks → All (IsIdle freed w.ledger) asks → is_open freed w.ledger.live ≡ false
+    → Passes k asks w from (length asks)
+closed-passes k freed asks w from d inside idle none =
+    let same : from + (length asks - from) ≡ length asks = omega arith in
+    subst (Passes k asks w from) same (passes k asks w from (length asks - from) d (omega arith) (λ j low high. idle-waits k freed w.ledger (get_or asks j d) (idle j d (omega arith)) none))
+
+-- all were passed over
+pub passed-work : (k : Limits) (asks : List Parked) (w : Work) (from : ℕ) → Passes k asks w from (length asks) → try_all k (drop from asks) w ≡ w
+passed-work k asks w from h = h.work ∙ ap (λ (ps : List Parked). try_all k ps w) (drop_of_length-le asks (omega arith))
+
+pub passed-stay : (k : Limits) (asks : List Parked) (w : Work) (from : ℕ) → Passes k asks w from (length asks) → still_at from [] (drop from asks) ≡ waiting k (drop from asks) w
+passed-stay k asks w from h =
+    let none : drop (length asks) asks ≡ [] = drop_of_length-le asks (omega arith) in
+    h.stay [] tt (ap (still_at (length asks) []) none ∙ sym (ap (λ (ps : List Parked). waiting k ps w) none))

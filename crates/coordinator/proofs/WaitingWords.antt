@@ -1,77 +1,100 @@
 -- The asks that wait, with the changes of one event.
-use Rattle.std.proofs.Common.{◌≡◌, Bool, true, false, not, ◌||◌, ◌&&◌, cond, List, [], ◌∷◌, ◌++◌, filter, refl, sym, ◌∙◌, ap}
-use Rattle.std.proofs.lemmas.Bool.{or_parts}
+use Rattle.std.proofs.Common.{◌≡◌, ◌≤◌, ◌<◌, ◌+◌, ℕ, Bool, true, false, not, ◌||◌, ◌&&◌, cond, eqb, List, [], ◌∷◌, ◌++◌, filter, get_or, length, drop, refl, sym, ◌∙◌, ap, subst, arith}
+use Rattle.std.proofs.lemmas.Bool.{ne_eqb}
+use Rattle.std.proofs.lemmas.Bool.Decides.{nat_tests}
 use Rattle.std.specs.List.{list_any}
 use Rattle.protocol.specs.Machine.{Parked}
 use Rattle.protocol.specs.Ledger.{Limits, Work, tried, stays, try_all, waiting, retried, parks}
-use Rattle.coordinator.specs.Waiting.{first_mark, later_marks, still_waiting}
+use Rattle.coordinator.specs.Over.{is_over_at, later_over, still_at}
 use Rattle.coordinator.proofs.Trying.{try_all-parks, waiting-parks, retried-is}
 
--- without marks all wait
-pub still-none : (ps : List Parked) → still_waiting [] ps ≡ ps
-still-none [] = refl
-still-none (p ∷ ps) = ap (λ (qs : List Parked). p ∷ qs) (still-none ps)
+-- where no place is told all stay
+pub still-none : {A : Type 0} (i : ℕ) (xs : List A) → still_at i [] xs ≡ xs
+still-none i [] = refl
+still-none i (x ∷ xs) = ap (λ ys. x ∷ ys) (still-none (i + 1) xs)
 
--- where no mark is set all wait
-pub still-unset : (marks : List Bool) (ps : List Parked) → list_any (λ m. m) marks ≡ false → still_waiting marks ps ≡ ps
-still-unset marks [] h = refl
-still-unset [] (p ∷ ps) h = ap (λ (qs : List Parked). p ∷ qs) (still-none ps)
-still-unset (m ∷ marks) (p ∷ ps) h =
-    let both = or_parts m (list_any (λ m. m) marks) h in
-    ap (λ (b : Bool). cond b (still_waiting marks ps) (p ∷ still_waiting marks ps)) both.0 ∙ ap (λ (qs : List Parked). p ∷ qs) (still-unset marks ps both.1)
+-- the first of the places is this one, or behind it
+abbrev pub Begins : ℕ → List ℕ → Type 0
+Begins i [] = Unit {0}
+Begins i (o ∷ os) = i ≤ o
+
+pub begins-before : (i j : ℕ) (os : List ℕ) → i ≤ j → Begins j os → Begins i os
+begins-before i j [] le b = tt
+begins-before i j (o ∷ os) le b = omega arith
+
+-- what is at the first of the places is over
+pub over-first : {A : Type 0} (i : ℕ) (os : List ℕ) (x : A) (xs : List A) → still_at i (i ∷ os) (x ∷ xs) ≡ still_at (i + 1) os xs
+over-first i os x xs = (let yes : eqb i i ≡ true = grind (arith, nat_tests) in rw yes refl)
+
+-- what is before the first of the places stays
+pub stays-first : {A : Type 0} (i : ℕ) (os : List ℕ) (x : A) (xs : List A) → Begins (i + 1) os → still_at i os (x ∷ xs) ≡ x ∷ still_at (i + 1) os xs
+stays-first i [] x xs b = refl
+stays-first i (o ∷ os) x xs b = (let no : eqb o i ≡ false = ne_eqb o i (λ e. omega arith) in rw no refl)
 
 -- what passes a test among those that wait
-pub any-still : (test : Parked → Bool) (marks : List Bool) (p : Parked) (ps : List Parked) (b : Bool) → b ≡ first_mark marks
-    → list_any test (still_waiting marks (p ∷ ps)) ≡ ((not b && test p) || list_any test (still_waiting (later_marks marks) ps))
-any-still test marks p ps true e = ap (λ (b : Bool). list_any test (cond b (still_waiting (later_marks marks) ps) (p ∷ still_waiting (later_marks marks) ps))) (sym e)
-any-still test marks p ps false e = ap (λ (b : Bool). list_any test (cond b (still_waiting (later_marks marks) ps) (p ∷ still_waiting (later_marks marks) ps))) (sym e)
+pub any-still : (test : Parked → Bool) (i : ℕ) (os : List ℕ) (p : Parked) (ps : List Parked) (b : Bool) → b ≡ is_over_at i os
+    → list_any test (still_at i os (p ∷ ps)) ≡ ((not b && test p) || list_any test (still_at (i + 1) (later_over i os) ps))
+any-still test i os p ps true e = ap (λ (b : Bool). list_any test (cond b (still_at (i + 1) (later_over i os) ps) (p ∷ still_at (i + 1) (later_over i os) ps))) (sym e)
+any-still test i os p ps false e = ap (λ (b : Bool). list_any test (cond b (still_at (i + 1) (later_over i os) ps) (p ∷ still_at (i + 1) (later_over i os) ps))) (sym e)
 
--- one mark more, of the asks that this test ends
-pub ended-next : (ends : Parked → Bool) (marks ms : List Bool) (p : Parked) (ps : List Parked) (b o : Bool) → b ≡ first_mark marks → o ≡ (b || ends p)
-    → still_waiting ms ps ≡ filter (λ q. not (ends q)) (still_waiting (later_marks marks) ps)
-    → still_waiting (o ∷ ms) (p ∷ ps) ≡ filter (λ q. not (ends q)) (still_waiting marks (p ∷ ps))
-ended-next ends marks ms p ps true o e f h =
-    ap (λ (x : Bool). cond x (still_waiting ms ps) (p ∷ still_waiting ms ps)) f ∙ h
-    ∙ ap (λ (x : Bool). filter (λ q. not (ends q)) (cond x (still_waiting (later_marks marks) ps) (p ∷ still_waiting (later_marks marks) ps))) e
-ended-next ends marks ms p ps false o e f h =
-    ap (λ (x : Bool). cond x (still_waiting ms ps) (p ∷ still_waiting ms ps)) f ∙ by (ends p) refl
-    ∙ ap (λ (x : Bool). filter (λ q. not (ends q)) (cond x (still_waiting (later_marks marks) ps) (p ∷ still_waiting (later_marks marks) ps))) e
-  where
-    by : (x : Bool) → ends p ≡ x → cond (ends p) (still_waiting ms ps) (p ∷ still_waiting ms ps) ≡ filter (λ q. not (ends q)) (p ∷ still_waiting (later_marks marks) ps)
-    by true g = rw g h
-    by false g = rw g (ap (λ (qs : List Parked). p ∷ qs) h)
+-- one place more, of the asks that this test ends
+pub ended-next : (ends : Parked → Bool) (i : ℕ) (os ms : List ℕ) (p : Parked) (ps : List Parked) (b o : Bool) → b ≡ is_over_at i os → o ≡ (b || ends p) → Begins (i + 1) ms
+    → still_at (i + 1) ms ps ≡ filter (λ q. not (ends q)) (still_at (i + 1) (later_over i os) ps)
+    → still_at i (cond o (i ∷ ms) ms) (p ∷ ps) ≡ filter (λ q. not (ends q)) (still_at i os (p ∷ ps))
+ended-next ends i os ms p ps true true e f begins h =
+    over-first i ms p ps ∙ h ∙ ap (λ (x : Bool). filter (λ q. not (ends q)) (cond x (still_at (i + 1) (later_over i os) ps) (p ∷ still_at (i + 1) (later_over i os) ps))) e
+ended-next ends i os ms p ps true false e f begins h = (let bad : false ≡ true = f in absurd (cc bad))
+ended-next ends i os ms p ps false true e f begins h =
+    let ended : ends p ≡ true = sym f in
+    let rest : List Parked = still_at (i + 1) (later_over i os) ps in
+    over-first i ms p ps ∙ h ∙ sym (ap (λ (x : Bool). cond (not x) (p ∷ filter (λ q. not (ends q)) rest) (filter (λ q. not (ends q)) rest)) ended)
+    ∙ ap (λ (x : Bool). filter (λ q. not (ends q)) (cond x rest (p ∷ rest))) e
+ended-next ends i os ms p ps false false e f begins h =
+    let stay : ends p ≡ false = sym f in
+    let rest : List Parked = still_at (i + 1) (later_over i os) ps in
+    stays-first i ms p ps begins ∙ ap (λ (qs : List Parked). p ∷ qs) h
+    ∙ sym (ap (λ (x : Bool). cond (not x) (p ∷ filter (λ q. not (ends q)) rest) (filter (λ q. not (ends q)) rest)) stay)
+    ∙ ap (λ (x : Bool). filter (λ q. not (ends q)) (cond x rest (p ∷ rest))) e
 
 -- ---- trying them
 
 -- one ask more was tried, unless it was over
-pub try-next : (k : Limits) (p : Parked) (marks : List Bool) (ps : List Parked) (w w' : Work) (b : Bool) → b ≡ first_mark marks → w' ≡ cond b w (tried k p w)
-    → try_all k (still_waiting (later_marks marks) ps) w' ≡ try_all k (still_waiting marks (p ∷ ps)) w
-try-next k p marks ps w w' true e f =
-    ap (try_all k (still_waiting (later_marks marks) ps)) f
-    ∙ ap (λ (x : Bool). try_all k (cond x (still_waiting (later_marks marks) ps) (p ∷ still_waiting (later_marks marks) ps)) w) e
-try-next k p marks ps w w' false e f =
-    ap (try_all k (still_waiting (later_marks marks) ps)) f
-    ∙ ap (λ (x : Bool). try_all k (cond x (still_waiting (later_marks marks) ps) (p ∷ still_waiting (later_marks marks) ps)) w) e
+pub try-next : (k : Limits) (p : Parked) (i : ℕ) (os : List ℕ) (ps : List Parked) (w w' : Work) (b : Bool) → b ≡ is_over_at i os → w' ≡ cond b w (tried k p w)
+    → try_all k (still_at (i + 1) (later_over i os) ps) w' ≡ try_all k (still_at i os (p ∷ ps)) w
+try-next k p i os ps w w' true e f =
+    ap (try_all k (still_at (i + 1) (later_over i os) ps)) f
+    ∙ ap (λ (x : Bool). try_all k (cond x (still_at (i + 1) (later_over i os) ps) (p ∷ still_at (i + 1) (later_over i os) ps)) w) e
+try-next k p i os ps w w' false e f =
+    ap (try_all k (still_at (i + 1) (later_over i os) ps)) f
+    ∙ ap (λ (x : Bool). try_all k (cond x (still_at (i + 1) (later_over i os) ps) (p ∷ still_at (i + 1) (later_over i os) ps)) w) e
 
--- and its mark says whether it is over now
-pub stay-next : (k : Limits) (p : Parked) (marks ms : List Bool) (ps : List Parked) (w w' : Work) (b o : Bool) → b ≡ first_mark marks → w' ≡ cond b w (tried k p w) → o ≡ (b || not (stays k p w))
-    → still_waiting ms ps ≡ waiting k (still_waiting (later_marks marks) ps) w'
-    → still_waiting (o ∷ ms) (p ∷ ps) ≡ waiting k (still_waiting marks (p ∷ ps)) w
-stay-next k p marks ms ps w w' true o e f g h =
-    ap (λ (x : Bool). cond x (still_waiting ms ps) (p ∷ still_waiting ms ps)) g
-    ∙ h ∙ ap (waiting k (still_waiting (later_marks marks) ps)) f
-    ∙ ap (λ (x : Bool). waiting k (cond x (still_waiting (later_marks marks) ps) (p ∷ still_waiting (later_marks marks) ps)) w) e
-stay-next k p marks ms ps w w' false o e f g h =
-    ap (λ (x : Bool). cond x (still_waiting ms ps) (p ∷ still_waiting ms ps)) g
-    ∙ by (stays k p w) refl
-    ∙ ap (λ (x : Bool). waiting k (cond x (still_waiting (later_marks marks) ps) (p ∷ still_waiting (later_marks marks) ps)) w) e
+-- and it is noted whether it is over now
+pub stay-one : (k : Limits) (p : Parked) (i : ℕ) (ms : List ℕ) (ps qs : List Parked) (w : Work) (o : Bool) → o ≡ not (stays k p w) → Begins (i + 1) ms
+    → still_at (i + 1) ms ps ≡ waiting k qs (tried k p w)
+    → still_at i (cond o (i ∷ ms) ms) (p ∷ ps) ≡ waiting k (p ∷ qs) w
+stay-one k p i ms ps qs w true e begins h =
+    let stay : true ≡ not (stays k p w) = e in
+    over-first i ms p ps ∙ h ∙ by (stays k p w) refl
   where
-    rest : still_waiting ms ps ≡ waiting k (still_waiting (later_marks marks) ps) (tried k p w)
-    rest = h ∙ ap (waiting k (still_waiting (later_marks marks) ps)) f
+    by : (x : Bool) → stays k p w ≡ x → waiting k qs (tried k p w) ≡ waiting k (p ∷ qs) w
+    by true f = (let bad : true ≡ false = e ∙ ap not f in absurd (cc bad))
+    by false f = rw f refl
+stay-one k p i ms ps qs w false e begins h = stays-first i ms p ps begins ∙ ap (λ (xs : List Parked). p ∷ xs) h ∙ by (stays k p w) refl
+  where
+    by : (x : Bool) → stays k p w ≡ x → p ∷ waiting k qs (tried k p w) ≡ waiting k (p ∷ qs) w
+    by true f = rw f refl
+    by false f = (let bad : false ≡ true = e ∙ ap not f in absurd (cc bad))
 
-    by : (x : Bool) → stays k p w ≡ x → cond (not (stays k p w)) (still_waiting ms ps) (p ∷ still_waiting ms ps) ≡ waiting k (p ∷ still_waiting (later_marks marks) ps) w
-    by true i = rw i (ap (λ (qs : List Parked). p ∷ qs) rest)
-    by false i = rw i rest
+pub stay-next : (k : Limits) (p : Parked) (i : ℕ) (os ms : List ℕ) (ps : List Parked) (w w' : Work) (b o : Bool) → b ≡ is_over_at i os → w' ≡ cond b w (tried k p w) → o ≡ (b || not (stays k p w)) → Begins (i + 1) ms
+    → still_at (i + 1) ms ps ≡ waiting k (still_at (i + 1) (later_over i os) ps) w'
+    → still_at i (cond o (i ∷ ms) ms) (p ∷ ps) ≡ waiting k (still_at i os (p ∷ ps)) w
+stay-next k p i os ms ps w w' true true e f g begins h =
+    over-first i ms p ps ∙ h ∙ ap (waiting k (still_at (i + 1) (later_over i os) ps)) f
+    ∙ ap (λ (x : Bool). waiting k (cond x (still_at (i + 1) (later_over i os) ps) (p ∷ still_at (i + 1) (later_over i os) ps)) w) e
+stay-next k p i os ms ps w w' true false e f g begins h = (let bad : false ≡ true = g in absurd (cc bad))
+stay-next k p i os ms ps w w' false o e f g begins h =
+    stay-one k p i ms ps (still_at (i + 1) (later_over i os) ps) w o g begins (h ∙ ap (waiting k (still_at (i + 1) (later_over i os) ps)) f)
+    ∙ ap (λ (x : Bool). waiting k (cond x (still_at (i + 1) (later_over i os) ps) (p ∷ still_at (i + 1) (later_over i os) ps)) w) e
 
 try_all-append : (k : Limits) (xs ys : List Parked) (w : Work) → try_all k (xs ++ ys) w ≡ try_all k ys (try_all k xs w)
 try_all-append k [] ys w = refl

@@ -1,156 +1,209 @@
--- How often folders are wanted, as it is counted.
-use Rattle.std.proofs.Common.{◌≡◌, ℕ, ◌+◌, ◌-◌, ◌<◌, ◌≤◌, ◌||◌, Bool, true, false, cond, List, [], ◌∷◌, ◌++◌, map, filter, length, length-append, drop, drop_of_length-le, Option, refl, sym, ◌∙◌, ap, subst, inl, inr, arith}
-use Rattle.std.specs.Prelude.{All}
+-- Which asks want each folder, as it is noted.
+use Rattle.std.proofs.Common.{◌≡◌, ℕ, zero, suc, ◌+◌, ◌<◌, ◌≤◌, Bool, true, false, cond, List, [], ◌∷◌, ◌++◌, length, drop, get_or, Option, Some, None, Result, Ok, Err, refl, sym, ◌∙◌, ap, subst, inl, inr, arith}
+use Rattle.std.specs.Prelude.{All, nat_lt}
 use Rattle.std.specs.List.{list_any}
-use Rattle.std.proofs.lemmas.Bool.{cases_Bool, cases_lt, lt-ltb}
-use Rattle.std.proofs.lemmas.Grind.{flat_map-append}
-use Rattle.std.proofs.lemmas.List.Elements.{filter-append}
-use Rattle.std.proofs.lemmas.List.Folds.{list_any-append}
+use Rattle.std.specs.List.Sorted.{IsNonDecreasing}
+use Rattle.std.specs.Ordering.{nat_cmp}
+use Rattle.std.specs.BTreeSet.{BTreeSet, contains, btree_set_len}
+use Rattle.std.specs.BTreeMap.{is_at}
+use Rattle.std.specs.Result.{is_ok}
+use Rattle.std.specs.List.Sorted.{IsBinarySearchResult}
+use Rattle.std.proofs.lemmas.List.Sorted.{searched}
+use Rattle.std.proofs.lemmas.List.{nil_from_length}
+use Rattle.std.proofs.lemmas.Bool.Decides.{nat_tests}
+use Rattle.std.proofs.lemmas.Bool.{cases_Bool, cases_lt}
+use Rattle.std.proofs.lemmas.List.Elements.{All-head, All-tail, All-cons, All-nil, All-append}
 use Rattle.indexmap.specs.IndexMap.{IndexMap, get}
 use Rattle.farm_base.specs.Folders.{folder_eq}
-use Rattle.farm_base.proofs.CompareLaws.{folder_eq-itself}
 use Rattle.farm_base.proofs.NameLaws.{folder_exact}
 use Rattle.protocol.specs.Lists.{In}
-use Rattle.protocol.specs.Names.{FolderName, Want}
+use Rattle.protocol.specs.Names.{FolderName, Slot, Want}
 use Rattle.protocol.specs.Machine.{Parked}
-use Rattle.protocol.proofs.Base.{any_in}
-use Rattle.saverecord.proofs.LedgerLemmas.{all_from_in}
-use Rattle.coordinator.specs.Waiting.{first_mark, later_marks, still_waiting}
-use Rattle.coordinator.specs.Wanted.{times_of, times, one_if, may_want, of_folder, wants_of, Covers, AreCounted}
+use Rattle.protocol.proofs.Base.{any_in, from_any}
+use Rattle.coordinator.specs.Over.{is_over_at, later_over, still_at}
+use Rattle.coordinator.specs.Numbers.{number_after, numbers_from, number_behind}
+use Rattle.coordinator.specs.Wanted.{has_number, notes_want, notes_some, IsIndexed, AreIndexed, Reaches, WantsNone}
 use Rattle.coordinator.specs.declared.wanted_folders.WantedFolders.{WantedFolders}
-use Rattle.coordinator.proofs.WaitingWords.{still-none}
+use Rattle.coordinator.proofs.NewestWords.{all-still}
+
+-- ---- numbers that rise
+
+-- none of the numbers is less than one before it
+abbrev pub GoUp : List ℕ → Type 0
+GoUp [] = Unit {0}
+GoUp (n ∷ ns) = All (λ m. n ≤ m) ns × GoUp ns
+
+pub up-from : (ns : List ℕ) → IsNonDecreasing ns → GoUp ns
+up-from [] h = tt
+up-from (n ∷ ns) h = (λ j d inside. h 0 (suc j) d (omega arith) (omega arith), up-from ns (λ i j d le inside. h (suc i) (suc j) d (omega arith) (omega arith)))
+
+pub up-to : (ns : List ℕ) → GoUp ns → IsNonDecreasing ns
+up-to [] h i j d le inside = absurd (omega arith)
+up-to (n ∷ ns) h zero zero d le inside = omega arith
+up-to (n ∷ ns) h zero (suc j) d le inside = h.0 j d (omega arith)
+up-to (n ∷ ns) h (suc i) zero d le inside = absurd (omega arith)
+up-to (n ∷ ns) h (suc i) (suc j) d le inside = up-to ns h.1 i j d (omega arith) (omega arith)
+
+up-still : (i : ℕ) (os ns : List ℕ) → GoUp ns → GoUp (still_at i os ns)
+up-still i os [] h = tt
+up-still i os (n ∷ ns) h = elim (cases_Bool (is_over_at i os)) [
+  | inl e ↦ rw e (up-still (i + 1) (later_over i os) ns h.1)
+  | inr e ↦ rw e (all-still (λ m. n ≤ m) (i + 1) (later_over i os) ns h.0, up-still (i + 1) (later_over i os) ns h.1)
+]
+
+all-le : (ns : List ℕ) (a b : ℕ) → a ≤ b → All (λ m. b ≤ m) ns → All (λ m. a ≤ m) ns
+all-le ns a b le h j d inside = (let more = h j d inside in omega arith)
+
+all-below : (ns : List ℕ) (a b : ℕ) → a ≤ b → All (λ m. m ≤ a) ns → All (λ m. m ≤ b) ns
+all-below ns a b le h j d inside = (let less = h j d inside in omega arith)
+
+up-append : (ms ns : List ℕ) (a : ℕ) → GoUp ms → All (λ m. m ≤ a) ms → GoUp ns → All (λ n. a ≤ n) ns → GoUp (ms ++ ns)
+up-append [] ns a up below next above = next
+up-append (m ∷ ms) ns a up below next above =
+    let here : m ≤ a = All-head (λ m. m ≤ a) m ms below in
+    (All-append (λ n. m ≤ n) ms ns up.0 (all-le ns m a here above), up-append ms ns a up.1 (All-tail (λ m. m ≤ a) m ms below) next above)
+
+after-le : (n : ℕ) → n ≤ number_after n
+after-le n = elim (cases_Bool (nat_lt n 18446744073709551615)) [ inl e ↦ rw e (omega arith) | inr e ↦ rw e (omega arith) ]
+
+from-above : (n a : ℕ) (ps : List Parked) → a ≤ n → All (λ m. a ≤ m) (numbers_from n ps)
+from-above n a [] le = All-nil (λ m. a ≤ m)
+from-above n a (p ∷ ps) le = (let more = after-le n in All-cons (λ m. a ≤ m) n (numbers_from (number_after n) ps) le (from-above (number_after n) a ps (omega arith)))
+
+from-up : (n : ℕ) (ps : List Parked) → GoUp (numbers_from n ps)
+from-up n [] = tt
+from-up n (p ∷ ps) = (from-above (number_after n) n ps (after-le n), from-up (number_after n) ps)
+
+pub behind-le : (n : ℕ) (ps : List Parked) → n ≤ number_behind n ps
+behind-le n [] = omega arith
+behind-le n (p ∷ ps) = (let more = after-le n in let rest = behind-le (number_after n) ps in omega arith)
+
+from-below : (n : ℕ) (ps : List Parked) → All (λ m. m ≤ number_behind n ps) (numbers_from n ps)
+from-below n [] = All-nil (λ m. m ≤ n)
+from-below n (p ∷ ps) =
+    let more = after-le n in
+    let rest = behind-le (number_after n) ps in
+    All-cons (λ m. m ≤ number_behind (number_after n) ps) n (numbers_from (number_after n) ps) (omega arith) (from-below (number_after n) ps)
+
+-- the numbers without those of asks that are over, and with those of asks that came
+pub changed-rise : (over ns : List ℕ) (n : ℕ) (ps : List Parked) → IsNonDecreasing ns → All (λ m. m ≤ n) ns → IsNonDecreasing (still_at 0 over ns ++ numbers_from n ps)
+changed-rise over ns n ps up below =
+    up-to (still_at 0 over ns ++ numbers_from n ps)
+    (up-append (still_at 0 over ns) (numbers_from n ps) n (up-still 0 over ns (up-from ns up)) (all-still (λ m. m ≤ n) 0 over ns below) (from-up n ps) (from-above n n ps (omega arith)))
+
+pub changed-below : (over ns : List ℕ) (n : ℕ) (ps : List Parked) → All (λ m. m ≤ n) ns → All (λ m. m ≤ number_behind n ps) (still_at 0 over ns ++ numbers_from n ps)
+changed-below over ns n ps below =
+    All-append (λ m. m ≤ number_behind n ps) (still_at 0 over ns) (numbers_from n ps)
+    (all-still (λ m. m ≤ number_behind n ps) 0 over ns (all-below ns n (number_behind n ps) (behind-le n ps) below)) (from-below n ps)
+
+-- ---- what is noted
+
+-- of these numbers nothing is dropped
+pub indexed-kept : (x y : WantedFolders) (ps : List Parked) (ns : List ℕ) → ((f : FolderName) (n : ℕ) → In n ns → notes_want x f n ≡ true → notes_want y f n ≡ true) → AreIndexed x ps ns → AreIndexed y ps ns
+indexed-kept x y [] [] kept h = tt
+indexed-kept x y [] (n ∷ ns) kept h = absurd h
+indexed-kept x y (p ∷ ps) [] kept h = absurd h
+indexed-kept x y (p ∷ ps) (n ∷ ns) kept h = (λ w i. kept w.folder n (inl refl) (h.0 w i), indexed-kept x y ps ns (λ f m i. kept f m (inr i)) h.1)
+
+pub indexed-still : (x : WantedFolders) (i : ℕ) (os : List ℕ) (ps : List Parked) (ns : List ℕ) → AreIndexed x ps ns → AreIndexed x (still_at i os ps) (still_at i os ns)
+indexed-still x i os [] [] h = tt
+indexed-still x i os [] (n ∷ ns) h = absurd h
+indexed-still x i os (p ∷ ps) [] h = absurd h
+indexed-still x i os (p ∷ ps) (n ∷ ns) h = elim (cases_Bool (is_over_at i os)) [
+  | inl e ↦ rw e (indexed-still x (i + 1) (later_over i os) ps ns h.1)
+  | inr e ↦ rw e (h.0, indexed-still x (i + 1) (later_over i os) ps ns h.1)
+]
+
+pub indexed-append : (x : WantedFolders) (ps qs : List Parked) (ns ms : List ℕ) → AreIndexed x ps ns → AreIndexed x qs ms → AreIndexed x (ps ++ qs) (ns ++ ms)
+indexed-append x [] qs [] ms h i = i
+indexed-append x [] qs (n ∷ ns) ms h i = absurd h
+indexed-append x (p ∷ ps) qs [] ms h i = absurd h
+indexed-append x (p ∷ ps) qs (n ∷ ns) ms h i = (h.0, indexed-append x ps qs ns ms h.1 i)
+
+pub indexed-length : (x : WantedFolders) (ps : List Parked) (ns : List ℕ) → AreIndexed x ps ns → length ns ≡ length ps
+indexed-length x [] [] h = refl
+indexed-length x [] (n ∷ ns) h = absurd h
+indexed-length x (p ∷ ps) [] h = absurd h
+indexed-length x (p ∷ ps) (n ∷ ns) h = (let rest = indexed-length x ps ns h.1 in omega arith)
+
+pub indexed-at : (x : WantedFolders) (ps : List Parked) (ns : List ℕ) (k : ℕ) (d : Parked) (e : ℕ) → AreIndexed x ps ns → k < length ps → IsIndexed x (get_or ns k e) (get_or ps k d)
+indexed-at x [] ns k d e h inside = absurd (omega arith)
+indexed-at x (p ∷ ps) [] k d e h inside = absurd h
+indexed-at x (p ∷ ps) (n ∷ ns) zero d e h inside = h.0
+indexed-at x (p ∷ ps) (n ∷ ns) (suc k) d e h inside = indexed-at x ps ns k d e h.1 (omega arith)
+
+-- an ask wants none of the folders of which it isn't noted that it wants them
+pub wants-none : (x : WantedFolders) (slots : List (Slot × Bool)) (n : ℕ) (p : Parked) → IsIndexed x n p → (notes_some x slots n ≡ true → ⊥) → WantsNone slots p
+wants-none x slots n p indexed none w i = elim (cases_Bool (list_any (λ (held : Slot × Bool). folder_eq held.0.folder w.folder) slots)) [
+  | inl t ↦ (
+      let r = from_any (λ (held : Slot × Bool). folder_eq held.0.folder w.folder) slots t in
+      let same : r.0.0.folder ≡ w.folder = folder_exact r.0.0.folder w.folder r.2 in
+      absurd (none (any_in (λ (held : Slot × Bool). notes_want x held.0.folder n) r.0 slots r.1 (ap (λ (f : FolderName). notes_want x f n) same ∙ indexed w i))))
+  | inr f ↦ f
+]
 
 -- ---- one folder
 
 -- an index that is set at one folder
-pub times-set : {S : Type 0} (m n : IndexMap FolderName ℕ S) (k f : FolderName) (y : Option ℕ) → ((q : FolderName) → get folder_eq n q ≡ cond (folder_eq k q) y (get folder_eq m q))
-    → times_of (get folder_eq n f) ≡ cond (folder_eq k f) (times_of y) (times_of (get folder_eq m f))
-times-set m n k f y set = ap times_of (set f) ∙ by (folder_eq k f)
-  where
-    by : (e : Bool) → times_of (cond e y (get folder_eq m f)) ≡ cond e (times_of y) (times_of (get folder_eq m f))
-    by true = refl
-    by false = refl
-
-pub same-times : {S : Type 0} (m : IndexMap FolderName ℕ S) (k f : FolderName) (n : ℕ) → Covers (times_of (get folder_eq m f)) n → folder_eq k f ≡ true → Covers (times_of (get folder_eq m k)) n
-same-times m k f n h e = subst (λ (g : FolderName). Covers (times_of (get folder_eq m g)) n) (sym (folder_exact k f e)) h
-
-pub covers-more : (e : Bool) (t old new n : ℕ) → new ≡ cond e t old → (e ≡ true → Covers t (n + 1)) → Covers old n → Covers new (n + one_if e)
-covers-more true t old new n is here h = subst (λ (z : ℕ). Covers z (n + 1)) (sym is) (here refl)
-covers-more false t old new n is here h = record { at_least = λ lt. (let at : old < 18446744073709551615 = omega (arith, is) in let covered = h.at_least at in omega (arith, is)) }
-
-pub covers-less : (e : Bool) (t old new n : ℕ) → new ≡ cond e t old → (e ≡ true → Covers t (n - 1)) → Covers old n → Covers new (n - one_if e)
-covers-less true t old new n is here h = subst (λ (z : ℕ). Covers z (n - 1)) (sym is) (here refl)
-covers-less false t old new n is here h = record { at_least = λ lt. (let at : old < 18446744073709551615 = omega (arith, is) in let covered = h.at_least at in omega (arith, is)) }
-
--- ---- several
-
-pub one-first : {A : Type 0} (test : A → Bool) (x : A) (xs : List A) → length (filter test (x ∷ xs)) ≡ one_if (test x) + length (filter test xs)
-one-first test x xs = elim (cases_Bool (test x)) [ inl e ↦ rw e (omega arith) | inr e ↦ rw e (omega arith) ]
-
-pub one-last : {A : Type 0} (test : A → Bool) (x : A) (xs : List A) → length (filter test (xs ++ x ∷ [])) ≡ length (filter test xs) + one_if (test x)
-one-last test x xs =
-    let one = one-first test x [] in
-    let split = ap length (filter-append test xs (x ∷ [])) ∙ length-append (filter test xs) (filter test (x ∷ [])) in
-    omega arith
-
-pub folders-filter : (f : FolderName) (wants : List Want) → length (filter (λ (g : FolderName). folder_eq g f) (map (λ (w : Want). w.folder) wants)) ≡ of_folder f wants
-folders-filter f [] = refl
-folders-filter f (w ∷ wants) =
-    let rest = folders-filter f wants in
-    let here = one-first (λ (g : FolderName). folder_eq g f) w.folder (map (λ (w : Want). w.folder) wants) in
-    let all = one-first (λ (v : Want). folder_eq v.folder f) w wants in
-    omega arith
-
--- ---- the wants of asks
-
-of_append : (f : FolderName) (xs ys : List Want) → of_folder f (xs ++ ys) ≡ of_folder f xs + of_folder f ys
-of_append f xs ys =
-    let test : Want → Bool = λ w. folder_eq w.folder f in
-    ap length (filter-append test xs ys) ∙ length-append (filter test xs) (filter test ys)
-
-of_first : (f : FolderName) (p : Parked) (ps : List Parked) → of_folder f (wants_of (p ∷ ps)) ≡ of_folder f p.wants + of_folder f (wants_of ps)
-of_first f p ps = of_append f p.wants (wants_of ps)
-
--- those that still wait want no folder more often than all
-still_fewer : (f : FolderName) (marks : List Bool) (ps : List Parked) → of_folder f (wants_of (still_waiting marks ps)) ≤ of_folder f (wants_of ps)
-still_fewer f marks [] = omega arith
-still_fewer f marks (p ∷ ps) =
-    let rest = still_fewer f (later_marks marks) ps in
-    let all = of_first f p ps in
-    elim (cases_Bool (first_mark marks)) [
-      | inl e ↦ rw e (omega arith)
-      | inr e ↦ (let kept = of_first f p (still_waiting (later_marks marks) ps) in rw e (omega arith))
-    ]
-
--- what a count covers while asks are looked at, of which some are over: as often as those that still wait want the folder, and
--- as those that are left do and are over
-abbrev pub left_to_count : FolderName → ℕ → List Bool → List Parked → ℕ
-left_to_count f still marks ps = still + of_folder f (wants_of ps) - of_folder f (wants_of (still_waiting marks ps))
-
--- an ask is over
-pub over-next : (f : FolderName) (still : ℕ) (marks : List Bool) (p : Parked) (ps : List Parked) (old new : ℕ) → first_mark marks ≡ true → Covers old (left_to_count f still marks (p ∷ ps))
-    → ((n : ℕ) → Covers old (n + of_folder f p.wants) → Covers new n) → Covers new (left_to_count f still (later_marks marks) ps)
-over-next f still marks p ps old new e h less =
-    let rest : List Parked = still_waiting (later_marks marks) ps in
-    let all = of_first f p ps in
-    let fewer = still_fewer f (later_marks marks) ps in
-    let is : of_folder f (wants_of (still_waiting marks (p ∷ ps))) ≡ of_folder f (wants_of rest) = ap (λ (b : Bool). of_folder f (wants_of (cond b rest (p ∷ rest)))) e in
-    less (left_to_count f still (later_marks marks) ps) (subst (Covers old) (omega arith) h)
-
--- an ask still waits
-pub waits-next : (f : FolderName) (still : ℕ) (marks : List Bool) (p : Parked) (ps : List Parked) (old : ℕ) → first_mark marks ≡ false → Covers old (left_to_count f still marks (p ∷ ps))
-    → Covers old (left_to_count f still (later_marks marks) ps)
-waits-next f still marks p ps old e h =
-    let rest : List Parked = still_waiting (later_marks marks) ps in
-    let all = of_first f p ps in
-    let kept = of_first f p rest in
-    let is : of_folder f (wants_of (still_waiting marks (p ∷ ps))) ≡ of_folder f (wants_of (p ∷ rest)) = ap (λ (b : Bool). of_folder f (wants_of (cond b rest (p ∷ rest)))) e in
-    subst (Covers old) (omega arith) h
-
--- no mark is left
-pub unmarked-left : (f : FolderName) (still : ℕ) (ps : List Parked) → left_to_count f still [] ps ≡ still
-unmarked-left f still ps = (let all = ap (λ (qs : List Parked). of_folder f (wants_of qs)) (still-none ps) in omega arith)
-
--- no ask is left
-pub none-left : (f : FolderName) (still : ℕ) (marks : List Bool) (ps : List Parked) (k : ℕ) → length ps ≤ k → left_to_count f still marks (drop k ps) ≡ still
-none-left f still marks ps k past = ap (λ (qs : List Parked). left_to_count f still marks qs) (drop_of_length-le ps past) ∙ (omega arith)
-
--- none was looked at
-pub all-left : (f : FolderName) (marks : List Bool) (ps : List Parked) → left_to_count f (of_folder f (wants_of (still_waiting marks ps))) marks ps ≡ of_folder f (wants_of ps)
-all-left f marks ps = omega arith
-
--- asks are added
-pub counted-joined : (f : FolderName) (xs ys : List Parked) (folders : List FolderName) (t : ℕ) → folders ≡ map (λ (w : Want). w.folder) (wants_of ys)
-    → Covers t (of_folder f (wants_of xs) + length (filter (λ (g : FolderName). folder_eq g f) folders)) → Covers t (of_folder f (wants_of (xs ++ ys)))
-counted-joined f xs ys folders t is h =
-    let more : length (filter (λ (g : FolderName). folder_eq g f) folders) ≡ of_folder f (wants_of ys) = ap (λ (gs : List FolderName). length (filter (λ (g : FolderName). folder_eq g f) gs)) is ∙ folders-filter f (wants_of ys) in
-    let both : of_folder f (wants_of (xs ++ ys)) ≡ of_folder f (wants_of xs) + of_folder f (wants_of ys) = ap (of_folder f) (flat_map-append (λ (p : Parked). p.wants) xs ys) ∙ of_append f (wants_of xs) (wants_of ys) in
-    subst (Covers t) (omega arith) h
-
--- ---- a folder that an ask wants
-
-one_at_least : {A : Type 0} (test : A → Bool) (xs : List A) → list_any test xs ≡ true → 1 ≤ length (filter test xs)
-one_at_least test [] e = absurd (cc e)
-one_at_least test (x ∷ xs) e = elim (cases_Bool (test x)) [
-  | inl t ↦ rw t (omega arith)
-  | inr f ↦ (let rest : list_any test xs ≡ true = rw f at e in rw f (one_at_least test xs rest))
+pub noted-set : {S : Type 0} (m m' : IndexMap FolderName (BTreeSet ℕ) S) (k f : FolderName) (y : Option (BTreeSet ℕ)) (n : ℕ) → ((q : FolderName) → get folder_eq m' q ≡ cond (folder_eq k q) y (get folder_eq m q))
+    → (has_number (get folder_eq m k) n ≡ true → has_number y n ≡ true) → has_number (get folder_eq m f) n ≡ true → has_number (get folder_eq m' f) n ≡ true
+noted-set m m' k f y n set more h = elim (cases_Bool (folder_eq k f)) [
+  | inl same ↦ ap (λ o. has_number o n) (set f ∙ ap (λ (b : Bool). cond b y (get folder_eq m f)) same)
+      ∙ more (ap (λ (g : FolderName). has_number (get folder_eq m g) n) (folder_exact k f same) ∙ h)
+  | inr other ↦ ap (λ o. has_number o n) (set f ∙ ap (λ (b : Bool). cond b y (get folder_eq m f)) other) ∙ h
 ]
 
-any_wants : (test : Want → Bool) (asks : List Parked) → list_any (λ p. list_any test p.wants) asks ≡ list_any test (wants_of asks)
-any_wants test [] = refl
-any_wants test (p ∷ ps) = ap (λ (b : Bool). list_any test p.wants || b) (any_wants test ps) ∙ sym (list_any-append test p.wants (wants_of ps))
+-- numbers that stay as they were, and with one more
+pub set-same : (s t : BTreeSet ℕ) (n : ℕ) → t.keys ≡ s.keys → contains nat_cmp s n ≡ true → contains nat_cmp t n ≡ true
+set-same s t n same h = ap (λ (ks : List ℕ). list_any (is_at (nat_cmp n)) ks) same ∙ h
 
-counted-wants : (x : WantedFolders) (asks : List Parked) (p : Parked) (w : Want) → AreCounted x asks → In p asks → In w p.wants → may_want x w.folder ≡ true
-counted-wants x asks p w counted i j =
-    let test : Want → Bool = λ v. folder_eq v.folder w.folder in
-    let some : list_any test (wants_of asks) ≡ true = sym (any_wants test asks) ∙ any_in (λ q. list_any test q.wants) p asks i (any_in test w p.wants j (folder_eq-itself w.folder)) in
-    let once = one_at_least test (wants_of asks) some in
-    let times_is : 0 < times x w.folder = elim (cases_lt (times x w.folder) 18446744073709551615) [
-      | inl lt ↦ (let covered = (counted w.folder).at_least lt in omega arith)
-      | inr ge ↦ omega arith
-    ] in
-    lt-ltb 0 (times x w.folder) times_is
+pub set-more : (s t : BTreeSet ℕ) (k n : ℕ) → ((q : ℕ) → contains nat_cmp t q ≡ cond (is_at (nat_cmp k) q) true (contains nat_cmp s q)) → contains nat_cmp s n ≡ true → contains nat_cmp t n ≡ true
+set-more s t k n set h = elim (cases_Bool (is_at (nat_cmp k) n)) [
+  | inl e ↦ set n ∙ ap (λ (b : Bool). cond b true (contains nat_cmp s n)) e
+  | inr e ↦ set n ∙ ap (λ (b : Bool). cond b true (contains nat_cmp s n)) e ∙ h
+]
 
--- each want of these asks is of a folder that may be wanted
-pub each-wanted : (x : WantedFolders) (asks : List Parked) → AreCounted x asks → All (λ p. (w : Want) → In w p.wants → may_want x w.folder ≡ true) asks
-each-wanted x asks counted = all_from_in (λ p. (w : Want) → In w p.wants → may_want x w.folder ≡ true) asks (λ p i w j. counted-wants x asks p w counted i j)
+-- and without one
+pub set-less : (s t : BTreeSet ℕ) (k n : ℕ) → ((q : ℕ) → contains nat_cmp t q ≡ cond (is_at (nat_cmp k) q) false (contains nat_cmp s q)) → (k ≡ n → ⊥) → contains nat_cmp s n ≡ true → contains nat_cmp t n ≡ true
+set-less s t k n set other h =
+    let no : is_at (nat_cmp k) n ≡ false = elim (cases_Bool (is_at (nat_cmp k) n)) [ inl e ↦ absurd (other (at_is k n e)) | inr e ↦ e ] in
+    set n ∙ ap (λ (b : Bool). cond b false (contains nat_cmp s n)) no ∙ h
+  where
+    at_is : (k n : ℕ) → is_at (nat_cmp k) n ≡ true → k ≡ n
+    at_is k n e = grind (arith, nat_tests)
+
+-- no number is in an empty set
+pub set-empty : (s : BTreeSet ℕ) (n : ℕ) → btree_set_len s ≡ 0 → contains nat_cmp s n ≡ true → ⊥
+set-empty s n none h = (let empty : s.keys ≡ [] = nil_from_length s.keys none in let bad : false ≡ true = sym (ap (λ (ks : List ℕ). list_any (is_at (nat_cmp n)) ks) empty) ∙ h in absurd (cc bad))
+
+-- ---- elements by place
+
+pub each_in : {A : Type 0} (P : A → Type 0) (xs : List A) → ((k : ℕ) (d : A) → k < length xs → P (get_or xs k d)) → (x : A) → In x xs → P x
+each_in P [] h x i = absurd i
+each_in P (y ∷ ys) h x (inl same) = subst P (sym same) (h 0 y (omega arith))
+each_in P (y ∷ ys) h x (inr i) = each_in P ys (λ k d inside. h (suc k) d (omega arith)) x i
+
+pub some_at : {A : Type 0} (test : A → Bool) (xs : List A) → list_any test xs ≡ true → (k : ℕ) × (d : A) × (k < length xs) × (test (get_or xs k d) ≡ true)
+some_at test [] h = (let bad : false ≡ true = h in absurd (cc bad))
+some_at test (x ∷ xs) h = elim (cases_Bool (test x)) [
+  | inl e ↦ (0, x, omega arith, e)
+  | inr e ↦ (let rest = some_at test xs (rw e at h) in (suc rest.0, rest.1, (let inside = rest.2 in omega arith), rest.3))
+]
+
+pub in_at : (xs : List ℕ) (x : ℕ) → In x xs → (k : ℕ) × (k < length xs) × (get_or xs k 0 ≡ x)
+in_at [] x i = absurd i
+in_at (y ∷ ys) x (inl same) = (0, omega arith, sym same)
+in_at (y ∷ ys) x (inr i) = (let rest = in_at ys x i in (suc rest.0, (let inside = rest.1 in omega arith), rest.2))
+
+-- what a binary search for a number that is there gives
+pub among-found : (xs : List ℕ) (x : ℕ) (r : Result ℕ ℕ) → IsBinarySearchResult (λ y. nat_cmp y x) xs r → IsNonDecreasing xs → In x xs → is_ok r ≡ true
+among-found xs x (Ok i) at up there = refl
+among-found xs x (Err i) at up there =
+    let parts = searched xs x (Err i) at (λ a b le inside. up a b 0 le inside) in
+    let r = in_at xs x there in
+    let same : get_or xs r.0 0 ≡ x = r.2 in
+    let inside : r.0 < length xs = r.1 in
+    elim (cases_lt r.0 i) [
+      | inl lt ↦ (let low = parts.1 r.0 lt in absurd (omega arith))
+      | inr ge ↦ (let high = parts.2 r.0 ge inside in absurd (omega arith))
+    ]

@@ -19,11 +19,6 @@ slots_under (Some g) = g.slots
 abbrev pub is_open : List (Slot × Bool) → List Lease → Bool
 is_open freed live = list_any (λ x. not (is_private x.0.folder.mode) && not (some_lease live x.0)) freed
 
--- no freed slot is open any more; it is not said where the slots aren't told
-abbrev pub are_leased_again : Option (List (Slot × Bool)) → List Lease → Bool
-are_leased_again None live = false
-are_leased_again (Some freed) live = not (is_open freed live)
-
 -- the ask waits for the old home, or for a slot that is leased
 abbrev pub is_held_up : Ledger → Parked → Bool
 is_held_up q p = elsewhere q p || busy (is_leased q) (leased_wants p.tenure p.wants)

@@ -1,5 +1,7 @@
 pub mod Held
+pub mod Over
 pub mod Waiting
+pub mod Numbers
 pub mod Queue
 pub mod Newest
 pub mod Wanted

@@ -1,44 +1,44 @@
--- How often asks want each folder.
-use Rattle.std.specs.Prelude.{nat_lt, ℕ, ◌≤◌, ◌<◌, Bool, true, false, List, length, filter, Option, Some, None}
-use Rattle.std.specs.List.{flat_map}
-use Rattle.indexmap.specs.IndexMap.{get, spare}
+-- Which of the asks that wait want each folder.
+use Rattle.std.specs.Prelude.{◌≡◌, ℕ, ◌≤◌, Bool, true, false, List, [], ◌∷◌, Option, Some, None}
+use Rattle.std.specs.List.{list_any}
+use Rattle.std.specs.Ordering.{nat_cmp}
+use Rattle.std.specs.BTreeSet.{BTreeSet, contains}
+use Rattle.indexmap.specs.IndexMap.{get}
 use Rattle.farm_base.specs.Folders.{folder_eq}
-use Rattle.protocol.specs.Names.{FolderName, Want}
+use Rattle.protocol.specs.Lists.{In}
+use Rattle.protocol.specs.Names.{FolderName, Slot, Want}
 use Rattle.protocol.specs.Machine.{Parked}
 use Rattle.coordinator.specs.declared.wanted_folders.WantedFolders.{WantedFolders}
 
-abbrev pub times_of : Option ℕ → ℕ
-times_of None = 0
-times_of (Some n) = n
+-- the number is among these, if there are some
+abbrev pub has_number : Option (BTreeSet ℕ) → ℕ → Bool
+has_number None n = false
+has_number (Some s) n = contains nat_cmp s n
 
--- how often it says that a folder is wanted
-abbrev pub times : WantedFolders → FolderName → ℕ
-times x f = times_of (get folder_eq x.by_folder f)
+-- it says that the ask with this number wants the folder
+abbrev pub notes_want : WantedFolders → FolderName → ℕ → Bool
+notes_want x f n = has_number (get folder_eq x.by_folder f) n
 
--- the folder may be wanted
-abbrev pub may_want : WantedFolders → FolderName → Bool
-may_want x f = nat_lt 0 (times x f)
+-- it says so of each folder that the ask wants
+abbrev pub IsIndexed : WantedFolders → ℕ → Parked → Type 0
+IsIndexed x n p = (w : Want) → In w p.wants → notes_want x w.folder n ≡ true
 
--- how many more folders fit in without memory
-abbrev pub folder_room : WantedFolders → ℕ
-folder_room x = spare x.by_folder
+-- it says so of each of the asks, which have these numbers
+abbrev pub AreIndexed : WantedFolders → List Parked → List ℕ → Type 0
+AreIndexed x [] [] = Unit {0}
+AreIndexed x [] (n ∷ ns) = ⊥
+AreIndexed x (p ∷ ps) [] = ⊥
+AreIndexed x (p ∷ ps) (n ∷ ns) = IsIndexed x n p × AreIndexed x ps ns
 
-abbrev pub one_if : Bool → ℕ
-one_if true = 1
-one_if false = 0
+-- there is a number, and it is at most this one
+abbrev pub Reaches : Option ℕ → ℕ → Type 0
+Reaches None n = ⊥
+Reaches (Some m) n = m ≤ n
 
--- the wants of asks
-abbrev pub wants_of : List Parked → List Want
-wants_of asks = flat_map (λ p. p.wants) asks
+-- it says that the ask with this number wants the folder of one of the slots
+abbrev pub notes_some : WantedFolders → List (Slot × Bool) → ℕ → Bool
+notes_some x slots n = list_any (λ held. notes_want x held.0.folder n) slots
 
--- how many of these wants are of the folder
-abbrev pub of_folder : FolderName → List Want → ℕ
-of_folder f wants = length (filter (λ w. folder_eq w.folder f) wants)
-
--- a count is at least this number, or has reached its greatest value
-pub record Covers (times n : ℕ) : Type 0 where
-  pub at_least : times < 18446744073709551615 → n ≤ times
-
--- each folder is counted at least as often as these asks want it
-abbrev pub AreCounted : WantedFolders → List Parked → Type 0
-AreCounted x asks = (f : FolderName) → Covers (times x f) (of_folder f (wants_of asks))
+-- the ask wants no folder of these slots
+abbrev pub WantsNone : List (Slot × Bool) → Parked → Type 0
+WantsNone slots p = (w : Want) → In w p.wants → list_any (λ held. folder_eq held.0.folder w.folder) slots ≡ false

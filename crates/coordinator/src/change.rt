@@ -6,14 +6,14 @@ ghost use Rattle.protocol.specs.Farm.{farm_limits};
 ghost use Rattle.protocol.specs.Ledger.{decision, elsewhere, may_commit, may_release, lease_under};
 ghost use Rattle.leases.specs.Table.{fit_of, life_at, is_among, is_leased};
 ghost use Rattle.coordinator.specs.Held.{Held};
-ghost use Rattle.coordinator.specs.Idle.{is_open, are_leased_again};
+ghost use Rattle.coordinator.specs.Idle.{is_open};
 ghost use Rattle.coordinator.specs.Keeps.{held};
 ghost use Rattle.coordinator.specs.Shown.{LineOf, after, table_after, with_life, with_gone, kept};
 
 use super::new_life::NewLife;
 use super::parked_change::ParkedChange;
 use super::state::{State, fit_slots};
-use farm_base::{Copied, Items, Life, Mode, News, NodeId, Parked, Slot, Ticket, Why};
+use farm_base::{Copied, Life, Mode, News, NodeId, Parked, Slot, Ticket, Why};
 use leases::{Fit, Lives, RetiredNodes, TableChange, TicketSource};
 use protocol::Decision;
 use std::alloc::{AllocError, Global};
@@ -159,22 +159,11 @@ impl Change {
             && !self.table.is_leased(&base.table, &slot.0)
     }
 
-    /// Whether one of these slots, of a LOCKED or SHARED folder, is not leased.
-    fn some_open(&self, base: &State, slots: &[(Slot, bool)]) -> bool
+    /// Whether one of the slots that a lease gave back, of a LOCKED or SHARED folder, is not leased again.
+    pub(crate) fn some_open(&self, base: &State, slots: &[(Slot, bool)]) -> bool
         ensures { result ≡ is_open slots.now (table_after (held base.now) self.now).live }
     {
         slots.iter().any(|slot| self.is_open(base, slot))
-    }
-
-    /// Whether all slots that a lease gave back, of LOCKED and SHARED folders, are leased again. It is not said where the
-    /// slots aren't told.
-    pub(crate) fn are_leased_again(&self, base: &State, freed: &Option<Items<(Slot, bool)>>) -> bool
-        ensures { result ≡ are_leased_again freed.now (table_after (held base.now) self.now).live }
-    {
-        match freed {
-            Some(slots) => !self.some_open(base, slots.as_slice()),
-            None => false,
-        }
     }
 
     pub(crate) fn may_commit(

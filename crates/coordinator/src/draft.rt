@@ -7,18 +7,21 @@ ghost use Rattle.leases.specs.Table.{fit_of};
 ghost use Rattle.leases.specs.declared.lease_table.Fit.{Fit};
 ghost use Rattle.protocol.specs.Ledger.{Ledger, begin_work, decision, decided, sees, is_older, is_home, ends, without, Lease, lease_for, grant_of, gives, denies, tried, try_all, stays, waiting, retried, elsewhere, recall, recalls, holds_wanted, acquiring, lease_of, is_parked, confirms, committing, may_commit, may_release, lease_under, released, newer_life, answering, handled};
 ghost use Rattle.coordinator.specs.Held.{Held, line_at};
-ghost use Rattle.coordinator.specs.Idle.{AreHeldUp, AreIdle};
+ghost use Rattle.coordinator.specs.Idle.{AreHeldUp, AreIdle, IsIdle};
 ghost use Rattle.coordinator.specs.Keeps.{held};
 ghost use Rattle.farm_base.specs.Wanted.{IsWants};
 ghost use Rattle.coordinator.specs.Shown.{LineOf, kept, after, shown, table_after, lines_with, ended, ended_committed};
-ghost use Rattle.coordinator.specs.Waiting.{still_waiting, waits_after};
+ghost use Rattle.coordinator.specs.Over.{still_waiting};
+ghost use Rattle.coordinator.specs.Waiting.{waits_after};
 ghost use Rattle.coordinator.specs.Queue.{asks_of};
 ghost use Rattle.coordinator.specs.Sound.{IsSound};
 ghost use Rattle.versions.specs.Additions.{IsReady};
 
 use super::change::Change;
 use super::new_life::NewLife;
-use super::parked_change::{ParkedChange, kept, some_set, split_mark};
+use super::over::{Over, split_over};
+use super::parked_change::ParkedChange;
+use super::passing::{take_out, without_first};
 use super::state::{State, cleared, grant_of, is_home, is_some_saved};
 use farm_base::{
     Copied, FromCoord, Grant, Items, Life, News, NodeId, Parked, Request, Slot, Ticket, ToCoord,
@@ -166,37 +169,114 @@ impl Draft {
         Ok(!waits)
     }
 
-    /// Tries these asks, but for those that are marked as over, and marks those that wait no longer. Once the slots that were
-    /// freed are leased again, those that are left need no look: all of them wait.
+    /// Tries these asks, but for those at places that are over, and says which wait no longer.
     fn try_asks(
         &mut self,
         alloc: Global,
         base: &State,
         added: &Option<Added>,
         asks: &[Parked],
-        over: &[bool],
-        freed: &Option<Items<(Slot, bool)>>,
-    ) -> Result<Vec<bool>, AllocError>
+        over: &[usize],
+    ) -> Result<Over, AllocError>
         requires sound { IsSound (after (lines_with base.now.lines added.now) (held base.now) self.old.change) }
         requires wants { All (λ p. IsWants p.wants) asks.now }
-        requires idle { AreIdle freed.now (after (lines_with base.now.lines added.now) (held base.now) self.old.change) (still_waiting over.now asks.now) }
         ensures work { OnOk result (shown (lines_with base.now.lines added.now) (held base.now) self.new
             ≡ try_all farm_limits (still_waiting over.now asks.now) (shown (lines_with base.now.lines added.now) (held base.now) self.old)) }
-        ensures stay { IfOk result (λ marks. still_waiting marks.items asks.now
+        ensures stay { IfOk result (λ done. still_waiting done.places.items asks.now
             ≡ waiting farm_limits (still_waiting over.now asks.now) (shown (lines_with base.now.lines added.now) (held base.now) self.old)) }
         ensures sound { OnOk result (IsSound (after (lines_with base.now.lines added.now) (held base.now) self.new.change)) }
     {
-        let mut marks = over;
-        let mut done = Vec::new(alloc);
-        for p in asks {
-            if marks.is_empty() && self.change.are_leased_again(base, freed) {
-                return Ok(some_set(alloc, done));
-            }
-            let (is_over, rest) = split_mark(marks);
-            done.push(self.try_unless(alloc, base, added, p, is_over)?)?;
-            marks = rest;
+        let mut rest = over;
+        let mut done = Over::new(alloc);
+        let mut place = 0;
+        while place < asks.len() {
+            let (is_over, later) = split_over(rest, place);
+            let over_now = self.try_unless(alloc, base, added, &asks[place], is_over)?;
+            done.note_if(place, over_now)?;
+            rest = later;
+            place += 1;
         }
-        Ok(some_set(alloc, done))
+        Ok(done)
+    }
+
+    /// Tries the parked asks that want the folder of a freed slot, until these slots are leased again, and says which wait no
+    /// longer. The others need no look: all of them wait.
+    fn try_wanting(
+        &mut self,
+        alloc: Global,
+        base: &State,
+        added: &Option<Added>,
+        freed: &[(Slot, bool)],
+    ) -> Result<Over, AllocError>
+        requires sound { IsSound (after (lines_with base.now.lines added.now) (held base.now) self.old.change) }
+        requires wants { All (λ p. IsWants p.wants) (asks_of base.now.parked) }
+        requires idle { All (IsIdle freed.now (after (lines_with base.now.lines added.now) (held base.now) self.old.change)) (asks_of base.now.parked) }
+        ensures work { OnOk result (shown (lines_with base.now.lines added.now) (held base.now) self.new
+            ≡ try_all farm_limits (asks_of base.now.parked) (shown (lines_with base.now.lines added.now) (held base.now) self.old)) }
+        ensures stay { IfOk result (λ done. still_waiting done.places.items (asks_of base.now.parked)
+            ≡ waiting farm_limits (asks_of base.now.parked) (shown (lines_with base.now.lines added.now) (held base.now) self.old)) }
+    {
+        let asks = base.parked.waiting();
+        let mut done = Over::new(alloc);
+        let mut place = 0;
+        while place < asks.len() && self.change.some_open(base, freed) {
+            place = base.parked.next(freed, place);
+            if place == asks.len() {
+                return Ok(done);
+            }
+            let waits = self.try_ask(alloc, base, added, &asks[place])?;
+            done.note_if(place, !waits)?;
+            place += 1;
+        }
+        Ok(done)
+    }
+
+    /// Tries the parked asks, in order of arrival.
+    fn retry_all(
+        &mut self,
+        alloc: Global,
+        base: &State,
+        added: &Option<Added>,
+    ) -> Result<(), AllocError>
+        requires sound { IsSound (after (lines_with base.now.lines added.now) (held base.now) self.old.change) }
+        requires wants { All (λ p. IsWants p.wants) (asks_of base.now.parked) }
+        ensures { OnOk result (shown (lines_with base.now.lines added.now) (held base.now) self.new
+            ≡ retried farm_limits (shown (lines_with base.now.lines added.now) (held base.now) self.old)) }
+    {
+        let ParkedChange { over, since } = mem::replace(
+            &mut self.change.parked,
+            ParkedChange::new(alloc),
+        );
+        let over = self.try_asks(alloc, base, added, base.parked.waiting(), over.as_slice())?;
+        let over_since = self.try_asks(alloc, base, added, since.as_slice(), &[])?;
+        let since = without(since, &over_since);
+        self.change.parked = ParkedChange { over, since };
+        Ok(())
+    }
+
+    /// Tries the parked asks, in order of arrival, where none is over and none came since. It looks at those alone that want
+    /// the folder of a freed slot.
+    fn retry_wanting(
+        &mut self,
+        alloc: Global,
+        base: &State,
+        added: &Option<Added>,
+        freed: &[(Slot, bool)],
+    ) -> Result<(), AllocError>
+        requires over { self.old.change.parked.over.places.items ≡ [] }
+        requires since { self.old.change.parked.since.items ≡ [] }
+        requires sound { IsSound (after (lines_with base.now.lines added.now) (held base.now) self.old.change) }
+        requires wants { All (λ p. IsWants p.wants) (asks_of base.now.parked) }
+        requires idle { All (IsIdle freed.now (after (lines_with base.now.lines added.now) (held base.now) self.old.change)) (asks_of base.now.parked) }
+        ensures { OnOk result (shown (lines_with base.now.lines added.now) (held base.now) self.new
+            ≡ retried farm_limits (shown (lines_with base.now.lines added.now) (held base.now) self.old)) }
+    {
+        let over = self.try_wanting(alloc, base, added, freed)?;
+        self.change.parked = ParkedChange {
+            over,
+            since: Vec::new(alloc),
+        };
+        Ok(())
     }
 
     /// Tries the parked asks, in order of arrival.
@@ -213,22 +293,16 @@ impl Draft {
         ensures { OnOk result (shown (lines_with base.now.lines added.now) (held base.now) self.new
             ≡ retried farm_limits (shown (lines_with base.now.lines added.now) (held base.now) self.old)) }
     {
-        let ParkedChange { over, since } = mem::replace(
-            &mut self.change.parked,
-            ParkedChange::new(alloc),
-        );
-        let over = self.try_asks(
-            alloc,
-            base,
-            added,
-            base.parked.waiting(),
-            over.as_slice(),
-            freed,
-        )?;
-        let over_since = self.try_asks(alloc, base, added, since.as_slice(), &[], &None)?;
-        let since = kept_of(alloc, since, over_since.as_slice())?;
-        self.change.parked = ParkedChange { over, since };
-        Ok(())
+        match freed {
+            Some(slots) => {
+                if self.change.parked.is_none() {
+                    self.retry_wanting(alloc, base, added, slots.as_slice())
+                } else {
+                    self.retry_all(alloc, base, added)
+                }
+            }
+            None => self.retry_all(alloc, base, added),
+        }
     }
 
     /// Tells the holder of a slot that is wanted to give it up.
@@ -397,7 +471,7 @@ impl Draft {
         Ok(())
     }
 
-    /// The slots that the end of a ticket's lease frees, but for those that no parked ask wants. None are told where a parked ask may want a PRIVATE folder: it can be
+    /// The slots that the end of a ticket's lease frees. None are told where a parked ask may want a PRIVATE folder: it can be
     /// denied whatever is freed.
     pub(crate) fn freed_by(
         &self,
@@ -415,7 +489,7 @@ impl Draft {
             return Ok(None);
         }
         match self.change.table.lease(&base.table, ticket) {
-            Some(lease) => Ok(Some(base.parked.wanted_of(alloc, lease.slots.as_slice())?)),
+            Some(lease) => Ok(Some(lease.slots.copy(alloc)?)),
             None => Ok(None),
         }
     }
@@ -610,10 +684,11 @@ impl Draft {
     }
 }
 
-/// The asks that are not marked as over.
-fn kept_of(alloc: Global, asks: Vec<Parked>, over: &[bool]) -> Result<Vec<Parked>, AllocError>
-    ensures { IfOk result (λ v. v.items ≡ still_waiting over.now asks.items) }
+/// The asks that are not at these places.
+fn without(asks: Vec<Parked>, over: &Over) -> Vec<Parked>
+    ensures { result.items ≡ still_waiting over.now.places.items asks.items }
 {
-    let room = Vec::with_capacity(alloc, asks.len())?;
-    Ok(kept(asks, over, room))
+    let mut asks = asks;
+    let start = take_out(&mut asks, 0, over);
+    without_first(asks, start)
 }

@@ -1,4 +1,4 @@
-ghost use Rattle.std.specs.Prelude.{◌≡◌, not, ◌+◌, ◌≤◌, List, [], IfOk, IfSome, OnOk, Option, Ok, Err, None, false, is_some, option_copied, length, map};
+ghost use Rattle.std.specs.Prelude.{◌≡◌, not, ◌≤◌, List, [], IfOk, IfSome, OnOk, Option, Ok, Err, None, false, is_some, option_copied, length};
 ghost use Rattle.std.specs.List.{list_any};
 ghost use Rattle.std.specs.List.Sorted.{IsStrictlySortedBy};
 ghost use Rattle.std.specs.Vec.{vec_capacity};
@@ -18,7 +18,6 @@ ghost use Rattle.coordinator.specs.Held.{line_at, ledger};
 ghost use Rattle.versions.specs.Additions.{IsReady};
 ghost use Rattle.std.specs.Option.{unwrap_or};
 ghost use Rattle.std.specs.Vec.{vec_len};
-ghost use Rattle.leases.specs.Newest.{node_room};
 ghost use Rattle.leases.specs.Changes.{changed, HasRoom};
 ghost use Rattle.leases.specs.Leases.{AreLeases};
 ghost use Rattle.saverecord.specs.Keepers.{HasFailed};
@@ -28,7 +27,7 @@ ghost use Rattle.coordinator.specs.Settling.{Answers, is_save_fault};
 ghost use Rattle.coordinator.specs.Shown.{LineOf, kept, after, shown, with_life, with_gone};
 ghost use Rattle.versions.specs.Lines.{lines_with, room_needed, line_shown};
 ghost use Rattle.coordinator.specs.Sound.{IsSound, IsRightful};
-ghost use Rattle.coordinator.specs.Wanted.{wants_of, folder_room};
+ghost use Rattle.coordinator.specs.Queue.{HasRoomFor};
 ghost use Rattle.farm_base.specs.declared.limits.TheConstants.{NODES};
 ghost use Rattle.protocol.specs.Lawful.{IsNumber, IsSaid};
 ghost use Rattle.coordinator.specs.Promises.{OnlyGrow, ChangesAsTold};
@@ -89,10 +88,7 @@ fn apply(
 ) -> Handled
     requires table_room { HasRoom table prepared.draft.value.change.table }
     requires leases { AreLeases (changed table.table prepared.draft.value.change.table).live }
-    requires parking { vec_len state.old.parked.asks + vec_len prepared.draft.value.change.parked.since ≤ vec_capacity state.old.parked.asks }
-    requires newest { vec_len prepared.draft.value.change.parked.since ≤ node_room state.old.parked.newest }
-    requires folders { state.old.parked.folders.items ≡ map (λ w. w.folder) (wants_of prepared.draft.value.change.parked.since.items) }
-    requires counts { vec_len state.old.parked.folders ≤ folder_room state.old.parked.wanted }
+    requires parking { HasRoomFor state.old.parked prepared.draft.value.change.parked.since.items }
     requires lives { life_at (unwrap_or nodes.0 state.old.lives) ≡ with_life prepared.draft.value.change.life (life_at state.old.lives) }
     requires gone { is_among (unwrap_or nodes.1 state.old.gone) ≡ with_gone prepared.draft.value.change.gone (is_among state.old.gone) }
     requires ready { IsReady state.old.lines prepared.added }

@@ -1,18 +1,19 @@
 //! The asks that wait.
-ghost use Rattle.std.specs.Prelude.{◌≡◌, ◌≤◌, [], true, drop, filter, length, vec_len, IfOk};
+ghost use Rattle.std.specs.Prelude.{◌≡◌, ◌≤◌, ◌<◌, ℕ, [], true, drop, length, vec_len, slice_index_or, nat_lt};
+ghost use Rattle.std.specs.List.Sorted.{IsNonDecreasing};
 ghost use Rattle.protocol.specs.Machine.{Parked};
 ghost use Rattle.leases.specs.Newest.{knows, node_room};
 ghost use Rattle.std.specs.List.{list_any};
 ghost use Rattle.coordinator.specs.Idle.{wants_private, ArePlain};
 ghost use Rattle.coordinator.specs.Newest.{AreKnown};
-ghost use Rattle.coordinator.specs.Wanted.{may_want, AreCounted};
-ghost use Rattle.coordinator.specs.Waiting.{still_waiting};
-ghost use Rattle.std.specs.Vec.{vec_capacity};
+ghost use Rattle.coordinator.specs.Wanted.{AreIndexed, WantsNone};
 
+use super::numbers::Numbers;
+use super::passing::behind;
 use super::wanted_folders::WantedFolders;
-use farm_base::{Ask, Copied, FolderName, Items, Life, Mode, NodeId, Parked, Slot};
+use farm_base::{Ask, Life, Mode, NodeId, Parked, Slot};
 use leases::NewestAsks;
-use std::alloc::{AllocError, Global};
+use std::alloc::Global;
 
 /// The asks that wait, in order of arrival. A node numbers its asks in turn, so nearly each new one is known not to wait
 /// without a look at them.
@@ -25,14 +26,14 @@ pub struct ParkedAsks {
     pub newest: NewestAsks,
     /// Whether none of them wants a PRIVATE folder, as far as is known.
     pub plain: bool,
-    /// How often they want each folder.
+    /// The number of each.
+    pub numbers: Numbers,
+    /// Which of them want each folder.
     pub wanted: WantedFolders,
-    /// The folders that asks to come want.
-    pub folders: Vec<FolderName>,
     ghost inside: { start ≤ vec_len asks },
     ghost known: { AreKnown newest (drop start asks.items) },
     ghost only_plain: { plain ≡ true → ArePlain (drop start asks.items) },
-    ghost counted: { AreCounted wanted (drop start asks.items) },
+    ghost indexed: { AreIndexed wanted (drop start asks.items) (drop numbers.start numbers.items.items) },
 }
 
 /// Whether the ask wants a PRIVATE folder.
@@ -63,54 +64,17 @@ pub(crate) fn note_all(newest: &mut NewestAsks, asks: &[Parked])
     }
 }
 
-/// Passes over the asks from `start` on that are marked as over: they move before the others, which stay in order and begin
-/// at the place that it gives.
-pub(crate) fn pass_over(asks: &mut Vec<Parked>, start: usize, over: &[bool]) -> usize
-    requires { start ≤ vec_len asks.old }
-    ensures left { drop result asks.new.items ≡ still_waiting over.now (drop start asks.old.items) }
-    ensures inside { result ≤ vec_len asks.new }
-    ensures len { vec_len asks.new ≡ vec_len asks.old }
-    ensures capacity { vec_capacity asks.new ≡ vec_capacity asks.old }
+/// How many of these numbers, which rise, are less than this one.
+fn count_below(numbers: &[u64], number: u64) -> usize
+    requires { IsNonDecreasing numbers.now }
+    ensures inside { result ≤ length numbers.now }
+    ensures below { (k : ℕ) → k < result → slice_index_or numbers.now k 0 < number }
 {
-    let waiting = asks.len() - start;
-    let mut place = if over.len() < waiting {
-        over.len()
-    } else {
-        waiting
-    };
-    let mut first = start + place;
-    while place > 0 {
-        place -= 1;
-        if !over[place] {
-            first -= 1;
-            asks.swap(start + place, first);
-        }
-    }
-    first
-}
-
-/// The asks from `start` on.
-pub(crate) fn behind(asks: &[Parked], start: usize) -> &[Parked]
-    requires { start ≤ length asks.now }
-    ensures { result.now ≡ drop start asks.now }
-{
-    &asks[start..]
-}
-
-/// Drops the asks before `start`, once they are half of all, and says where the others begin.
-pub(crate) fn trimmed(asks: Vec<Parked>, start: usize) -> (Vec<Parked>, usize)
-    requires { start ≤ vec_len asks }
-    ensures left { drop result.1 result.0.items ≡ drop start asks.items }
-    ensures inside { result.1 ≤ vec_len result.0 }
-{
-    let waiting = asks.len() - start;
-    if start < waiting {
-        return (asks, start);
-    }
-    let mut asks = asks;
-    asks.rotate_left(start);
-    asks.truncate(waiting);
-    (asks, 0)
+    numbers.partition_point(
+        |n: &u64| -> bool
+            ensures { result ≡ nat_lt n.now number }
+        { *n < number },
+    )
 }
 
 impl ParkedAsks {
@@ -123,8 +87,8 @@ impl ParkedAsks {
             start: 0,
             newest: NewestAsks::new(alloc),
             plain: true,
+            numbers: Numbers::new(alloc),
             wanted: WantedFolders::new(alloc),
-            folders: Vec::new(alloc),
         }
     }
 
@@ -135,21 +99,21 @@ impl ParkedAsks {
         behind(self.asks.as_slice(), self.start)
     }
 
-    /// Of these slots those whose folder an ask may want.
-    pub(crate) fn wanted_of(
-        &self,
-        alloc: Global,
-        slots: &[(Slot, bool)],
-    ) -> Result<Items<(Slot, bool)>, AllocError>
-        ensures { IfOk result (λ wanted. wanted ≡ filter (λ x. may_want self.now.wanted x.0.folder) slots.now) }
+    /// The place from this one on of the first ask that may want the folder of one of the slots, or behind the last ask.
+    pub(crate) fn next(&self, slots: &[(Slot, bool)], place: usize) -> usize
+        requires { place ≤ length (drop self.now.start self.now.asks.items) }
+        ensures forward { place ≤ result }
+        ensures inside { result ≤ length (drop self.now.start self.now.asks.items) }
+        ensures passed { (k : ℕ) (d : Parked) → place ≤ k → k < result → WantsNone slots.now (slice_index_or (drop self.now.start self.now.asks.items) k d) }
     {
-        let mut wanted = Vec::new(alloc);
-        for held in slots {
-            if self.wanted.may_want(held.0.folder()) {
-                wanted.push((held.0.copy(alloc)?, held.1))?;
-            }
+        let numbers = self.numbers.as_slice();
+        if place >= numbers.len() {
+            return place;
         }
-        Ok(Items::new(wanted))
+        match self.wanted.first_of_all(slots, numbers[place]) {
+            Some(first) => place.max(count_below(numbers, first)),
+            None => numbers.len(),
+        }
     }
 
     /// Whether an ask may be among them.

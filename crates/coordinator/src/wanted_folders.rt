@@ -1,132 +1,192 @@
-//! How often the asks that wait want each folder.
-ghost use Rattle.std.specs.Prelude.{◌≡◌, ℕ, ◌+◌, ◌-◌, ◌<◌, ◌≤◌, ◌++◌, map, filter, vec_len, length, IfOk, OnOk};
-ghost use Rattle.protocol.specs.Names.{FolderName};
-ghost use Rattle.coordinator.specs.Wanted.{times, one_if, may_want, folder_room, of_folder, wants_of, Covers};
+//! Which of the asks that wait want each folder.
+ghost use Rattle.std.specs.Prelude.{◌≡◌, ℕ, ◌≤◌, true, None, OnOk, IfSome};
+ghost use Rattle.std.specs.List.Sorted.{IsNonDecreasing};
+ghost use Rattle.std.specs.Ordering.{nat_cmp};
+ghost use Rattle.std.specs.BTreeSet.{contains};
 ghost use Rattle.farm_base.specs.Folders.{folder_eq};
+ghost use Rattle.indexmap.specs.IndexMap.{get};
+ghost use Rattle.protocol.specs.Lists.{In};
+ghost use Rattle.protocol.specs.Names.{FolderName, Want};
+ghost use Rattle.coordinator.specs.Numbers.{numbers_from};
+ghost use Rattle.coordinator.specs.Wanted.{notes_want, notes_some, AreIndexed, Reaches};
 
-use farm_base::{Copied, FolderName, Parked, Want};
+use super::numbers::{after, is_among};
+use farm_base::{Copied, FolderName, Parked, Slot, Want};
 use indexmap::IndexMap;
 use std::alloc::{AllocError, Global};
+use std::collections::BTreeSet;
 
-/// How often asks want each folder. A folder that none wants is not in it. Where a count has reached its greatest value, it
-/// stays there.
+/// The numbers of the asks that want each folder. Other numbers may be there too: of asks that are over, or that never came
+/// to wait since their event failed.
 #[derive(Debug, Drop)]
 pub struct WantedFolders {
-    by_folder: IndexMap<FolderName, u64>,
+    by_folder: IndexMap<FolderName, BTreeSet<u64>>,
+}
+
+/// Removes the numbers before the first of those that are waited with.
+fn drop_gone(numbers: &mut BTreeSet<u64>, waiting: &[u64])
+    requires { IsNonDecreasing waiting.now }
+    ensures { (n : ℕ) → In n waiting.now → contains nat_cmp numbers.old n ≡ true → contains nat_cmp numbers.new n ≡ true }
+{
+    while let Some(first) = first_gone(numbers, waiting) {
+        numbers.remove(&first);
+    }
+}
+
+/// The first of the numbers, if it isn't waited with.
+fn first_gone(numbers: &BTreeSet<u64>, waiting: &[u64]) -> Option<u64>
+    requires { IsNonDecreasing waiting.now }
+    ensures gone { IfSome result (λ first. In first waiting.now → ⊥) }
+    ensures there { IfSome result (λ first. contains nat_cmp numbers.now first ≡ true) }
+{
+    let first = *numbers.first()?;
+    if is_among(waiting, first) {
+        None
+    } else {
+        Some(first)
+    }
+}
+
+/// The first of the numbers from this one on.
+fn first_from(numbers: &BTreeSet<u64>, from: u64) -> Option<u64>
+    ensures { (n : ℕ) → from ≤ n → contains nat_cmp numbers.now n ≡ true → Reaches result n }
+{
+    numbers.range(from..).next().copied()
+}
+
+/// The lesser of two numbers, where there are some.
+fn least(a: Option<u64>, b: Option<u64>) -> Option<u64>
+    ensures left { (n : ℕ) → Reaches a n → Reaches result n }
+    ensures right { (n : ℕ) → Reaches b n → Reaches result n }
+{
+    match (a, b) {
+        (Some(a), Some(b)) => Some(a.min(b)),
+        (Some(a), None) => Some(a),
+        (None, b) => b,
+    }
 }
 
 impl WantedFolders {
     /// No folder is wanted.
     pub(crate) fn new(alloc: Global) -> Self
-        ensures { (f : FolderName) → times result f ≡ 0 }
     {
         WantedFolders {
             by_folder: IndexMap::new(alloc),
         }
     }
 
-    /// Whether an ask may want the folder.
-    pub(crate) fn may_want(&self, folder: &FolderName) -> bool
-        ensures { result ≡ may_want self.now folder.now }
+    /// Notes that the ask with this number wants the folder.
+    fn add(&mut self, alloc: Global, folder: &FolderName, number: u64) -> Result<(), AllocError>
+        ensures added { OnOk result (notes_want self.new folder.now number ≡ true) }
+        ensures kept { (f : FolderName) (n : ℕ) → notes_want self.old f n ≡ true → notes_want self.new f n ≡ true }
     {
-        self.times(folder) > 0
-    }
-
-    /// How often the folder is wanted.
-    fn times(&self, folder: &FolderName) -> u64
-        ensures { result ≡ times self.now folder.now }
-    {
-        match self.by_folder.get(folder) {
-            Some(times) => *times,
-            None => 0,
+        if let Some(numbers) = self.by_folder.get_mut(folder) {
+            numbers.insert(number)?;
+            return Ok(());
         }
+        self.add_first(alloc, folder, number)
     }
 
-    /// Makes room for more folders.
-    pub(crate) fn reserve(&mut self, folders: usize) -> Result<(), AllocError>
-        ensures same { (f : FolderName) → times self.new f ≡ times self.old f }
-        ensures room { OnOk result (folders ≤ folder_room self.new) }
+    /// Notes that the ask with this number wants the folder, for which none is noted.
+    fn add_first(
+        &mut self,
+        alloc: Global,
+        folder: &FolderName,
+        number: u64,
+    ) -> Result<(), AllocError>
+        requires { get folder_eq self.old.by_folder folder.now ≡ None }
+        ensures added { OnOk result (notes_want self.new folder.now number ≡ true) }
+        ensures kept { (f : FolderName) (n : ℕ) → notes_want self.old f n ≡ true → notes_want self.new f n ≡ true }
     {
-        self.by_folder.reserve(folders)
+        let mut numbers = BTreeSet::new(alloc);
+        numbers.insert(number)?;
+        self.by_folder.insert(folder.copy(alloc)?, numbers)?;
+        Ok(())
     }
 
-    /// Counts a folder once more.
-    fn add(&mut self, folder: FolderName)
-        requires { 0 < folder_room self.old }
-        ensures counted { (f : FolderName) (n : ℕ) → Covers (times self.old f) n → Covers (times self.new f) (n + one_if (folder_eq folder f)) }
-        ensures room { folder_room self.old ≤ folder_room self.new + 1 }
-    {
-        let times = one_more(self.times(&folder));
-        let Ok(_) = self.by_folder.insert(folder, times) else {
-            unreachable!();
-        };
-    }
-
-    /// Counts a folder once less.
-    fn remove(&mut self, folder: &FolderName)
-        ensures counted { (f : FolderName) (n : ℕ) → Covers (times self.old f) n → Covers (times self.new f) (n - one_if (folder_eq folder.now f)) }
-        ensures room { folder_room self.old ≤ folder_room self.new }
-    {
-        let times = self.times(folder);
-        if times == u64::MAX {
-            return;
-        }
-        if times <= 1 {
-            let _ = self.by_folder.swap_remove(folder);
-        } else if let Some(kept) = self.by_folder.get_mut(folder) {
-            *kept = times - 1;
-        }
-    }
-
-    /// Counts folders.
-    pub(crate) fn add_all(&mut self, folders: Vec<FolderName>)
-        requires { vec_len folders ≤ folder_room self.old }
-        ensures { (f : FolderName) (n : ℕ) → Covers (times self.old f) n → Covers (times self.new f) (n + length (filter (λ g. folder_eq g f) folders.items)) }
-    {
-        for folder in folders {
-            self.add(folder);
-        }
-    }
-
-    /// Counts the folders of wants once less.
-    pub(crate) fn remove_all(&mut self, wants: &[Want])
-        ensures counted { (f : FolderName) (n : ℕ) → Covers (times self.old f) (n + of_folder f wants.now) → Covers (times self.new f) n }
-        ensures room { folder_room self.old ≤ folder_room self.new }
+    /// Notes that the ask with this number wants the folders.
+    fn add_wants(&mut self, alloc: Global, wants: &[Want], number: u64) -> Result<(), AllocError>
+        ensures added { OnOk result ((w : Want) → In w wants.now → notes_want self.new w.folder number ≡ true) }
+        ensures kept { (f : FolderName) (n : ℕ) → notes_want self.old f n ≡ true → notes_want self.new f n ≡ true }
     {
         for want in wants {
-            self.remove(&want.folder);
+            self.add(alloc, &want.folder, number)?;
+        }
+        Ok(())
+    }
+
+    /// Notes which folders these asks want, whose numbers are in turn from this one on.
+    pub(crate) fn add_asks(
+        &mut self,
+        alloc: Global,
+        asks: &[Parked],
+        from: u64,
+    ) -> Result<(), AllocError>
+        ensures added { OnOk result (AreIndexed self.new asks.now (numbers_from from asks.now)) }
+        ensures kept { (f : FolderName) (n : ℕ) → notes_want self.old f n ≡ true → notes_want self.new f n ≡ true }
+    {
+        let mut number = from;
+        for p in asks {
+            self.add_wants(alloc, p.wants.as_slice(), number)?;
+            number = after(number);
+        }
+        Ok(())
+    }
+
+    /// Drops the first numbers of the folder, up to one that is waited with.
+    fn drop_first(&mut self, folder: &FolderName, waiting: &[u64])
+        requires { IsNonDecreasing waiting.now }
+        ensures { (f : FolderName) (n : ℕ) → In n waiting.now → notes_want self.old f n ≡ true → notes_want self.new f n ≡ true }
+    {
+        let Some(numbers) = self.by_folder.get_mut(folder) else {
+            return;
+        };
+        drop_gone(numbers, waiting);
+        if numbers.is_empty() {
+            self.by_folder.swap_remove(folder);
         }
     }
-}
 
-/// One more, unless the count has reached its greatest value.
-fn one_more(times: u64) -> u64
-    ensures { (n : ℕ) → Covers times n → Covers result (n + 1) }
-{
-    if times < u64::MAX { times + 1 } else { times }
-}
-
-/// Adds the folders of wants.
-fn add_folders(
-    alloc: Global,
-    folders: &mut Vec<FolderName>,
-    wants: &[Want],
-) -> Result<(), AllocError>
-    ensures { OnOk result (folders.new.items ≡ folders.old.items ++ map (λ w. w.folder) wants.now) }
-{
-    for want in wants {
-        folders.push(want.folder.copy(alloc)?)?;
+    /// Drops the first numbers of the folders of wants.
+    fn drop_wants(&mut self, wants: &[Want], waiting: &[u64])
+        requires { IsNonDecreasing waiting.now }
+        ensures { (f : FolderName) (n : ℕ) → In n waiting.now → notes_want self.old f n ≡ true → notes_want self.new f n ≡ true }
+    {
+        for want in wants {
+            self.drop_first(&want.folder, waiting);
+        }
     }
-    Ok(())
-}
 
-/// The folders that asks want, as often as they do.
-pub(crate) fn folders_of(alloc: Global, asks: &[Parked]) -> Result<Vec<FolderName>, AllocError>
-    ensures { IfOk result (λ folders. folders.items ≡ map (λ w. w.folder) (wants_of asks.now)) }
-{
-    let mut folders = Vec::new(alloc);
-    for p in asks {
-        add_folders(alloc, &mut folders, p.wants.as_slice())?;
+    /// Drops the first numbers of the folders that the asks at these places want, up to those that are waited with.
+    pub(crate) fn drop_over(&mut self, asks: &[Parked], over: &[usize], waiting: &[u64])
+        requires { IsNonDecreasing waiting.now }
+        ensures { (f : FolderName) (n : ℕ) → In n waiting.now → notes_want self.old f n ≡ true → notes_want self.new f n ≡ true }
+    {
+        for place in over {
+            if let Some(p) = asks.get(*place) {
+                self.drop_wants(p.wants.as_slice(), waiting);
+            }
+        }
     }
-    Ok(folders)
+
+    /// The first ask, by its number from this one on, that may want the folder.
+    fn first_of(&self, folder: &FolderName, from: u64) -> Option<u64>
+        ensures { (n : ℕ) → from ≤ n → notes_want self.now folder.now n ≡ true → Reaches result n }
+    {
+        match self.by_folder.get(folder) {
+            Some(numbers) => first_from(numbers, from),
+            None => None,
+        }
+    }
+
+    /// The first ask, by its number from this one on, that may want the folder of one of the slots.
+    pub(crate) fn first_of_all(&self, slots: &[(Slot, bool)], from: u64) -> Option<u64>
+        ensures { (n : ℕ) → from ≤ n → notes_some self.now slots.now n ≡ true → Reaches result n }
+    {
+        let mut first = None;
+        for held in slots {
+            first = least(first, self.first_of(held.0.folder(), from));
+        }
+        first
+    }
 }

@@ -1,0 +1,7 @@
+use Rattle.std.proofs.Common.{◌≡◌, ℕ, ◌<◌, ◌≤◌, List, length, get_or, true, Result, Ok, Err, refl, sym, ◌∙◌, ap, inl, inr, arith}
+use Rattle.protocol.specs.Lists.{In}
+use Rattle.coordinator.proofs.WantedWords.{among-found}
+use Rattle.coordinator.proofs.numbers.is_among.Goals as goal
+
+pub returns : goal.returns
+returns c = λ i. c.is_ok.ensures.value ∙ among-found c.args.numbers.now c.args.number c.binary_search.result c.binary_search.ensures.position c.requires i

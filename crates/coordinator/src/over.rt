@@ -1,0 +1,57 @@
+//! Places of what is over.
+ghost use Rattle.std.specs.Prelude.{◌≡◌, ℕ, ◌<◌, ◌∷◌, [], ◌++◌, true, length, slice_index_or, OnOk, if◌then◌else◌};
+ghost use Rattle.coordinator.specs.Over.{is_over_at, later_over, AreRising};
+
+use std::alloc::{AllocError, Global};
+
+/// The places of the items of a list that are over, rising.
+#[derive(Debug, Drop)]
+pub struct Over {
+    pub places: Vec<usize>,
+    ghost rising: { AreRising places.items },
+}
+
+/// Whether the first of these places is this one, and the places behind it.
+pub(crate) fn split_over(over: &[usize], place: usize) -> (bool, &[usize])
+    ensures first { result.0 ≡ is_over_at place over.now }
+    ensures rest { result.1.now ≡ later_over place over.now }
+{
+    match over.split_first() {
+        Some((first, rest)) => { if *first == place { (true, rest) } else { (false, over) } }
+        None => (false, over),
+    }
+}
+
+impl Over {
+    /// None is over.
+    pub(crate) fn new(alloc: Global) -> Self
+        ensures { result.places.items ≡ [] }
+    {
+        Over {
+            places: Vec::new(alloc),
+        }
+    }
+
+    pub(crate) fn is_empty(&self) -> bool
+        ensures { result ≡ true → self.now.places.items ≡ [] }
+    {
+        self.places.is_empty()
+    }
+
+    pub(crate) fn as_slice(&self) -> &[usize]
+        ensures { result.now ≡ self.now.places.items }
+    {
+        self.places.as_slice()
+    }
+
+    /// Notes a place behind the others, if what is there is over.
+    pub(crate) fn note_if(&mut self, place: usize, is_over: bool) -> Result<(), AllocError>
+        requires { (k : ℕ) → k < length self.old.places.items → slice_index_or self.old.places.items k 0 < place }
+        ensures { OnOk result (self.new.places.items ≡ (if is_over then self.old.places.items ++ place ∷ [] else self.old.places.items)) }
+    {
+        if is_over {
+            self.places.push(place)?;
+        }
+        Ok(())
+    }
+}
