@@ -1,12 +1,16 @@
 -- The asks that wait, with the changes of one event.
-use Rattle.std.proofs.Common.{◌≡◌, ◌≤◌, ◌<◌, ◌+◌, ℕ, Bool, true, false, not, ◌||◌, ◌&&◌, cond, eqb, List, [], ◌∷◌, ◌++◌, filter, get_or, length, drop, refl, sym, ◌∙◌, ap, subst, arith}
-use Rattle.std.proofs.lemmas.Bool.{ne_eqb}
+use Rattle.std.proofs.Common.{◌≡◌, ◌≤◌, ◌<◌, ◌+◌, ℕ, zero, suc, Bool, true, false, not, ◌||◌, ◌&&◌, cond, eqb, List, [], ◌∷◌, ◌++◌, filter, get_or, length, length-append, append_assoc, drop, refl, sym, ◌∙◌, ap, subst, inl, inr, arith}
+use Rattle.std.proofs.lemmas.Bool.{ne_eqb, cases_lt}
 use Rattle.std.proofs.lemmas.Bool.Decides.{nat_tests}
 use Rattle.std.specs.List.{list_any}
 use Rattle.protocol.specs.Machine.{Parked}
 use Rattle.protocol.specs.Ledger.{Limits, Work, tried, stays, try_all, waiting, retried, parks}
 use Rattle.coordinator.specs.Over.{is_over_at, later_over, still_at}
 use Rattle.coordinator.proofs.Trying.{try_all-parks, waiting-parks, retried-is}
+
+-- an ask that is never looked at
+abbrev pub any_ask : Parked
+any_ask = record { node = record { 0 = 0 }; life = record { 0 = 0 }; ask = record { 0 = 0 }; wants = []; tenure = false }
 
 -- where no place is told all stay
 pub still-none : {A : Type 0} (i : ℕ) (xs : List A) → still_at i [] xs ≡ xs
@@ -95,6 +99,39 @@ stay-next k p i os ms ps w w' true false e f g begins h = (let bad : false ≡ t
 stay-next k p i os ms ps w w' false o e f g begins h =
     stay-one k p i ms ps (still_at (i + 1) (later_over i os) ps) w o g begins (h ∙ ap (waiting k (still_at (i + 1) (later_over i os) ps)) f)
     ∙ ap (λ (x : Bool). waiting k (cond x (still_at (i + 1) (later_over i os) ps) (p ∷ still_at (i + 1) (later_over i os) ps)) w) e
+
+-- ---- places that are noted in turn
+
+-- those behind, if this one is noted or not
+pub noted-append : (o : Bool) (i : ℕ) (done now ms : List ℕ) → now ≡ cond o (done ++ i ∷ []) done → now ++ ms ≡ done ++ cond o (i ∷ ms) ms
+noted-append true i done now ms e = ap (λ (os : List ℕ). os ++ ms) e ∙ append_assoc done (i ∷ []) ms
+noted-append false i done now ms e = ap (λ (os : List ℕ). os ++ ms) e
+
+pub begins-noted : (o : Bool) (i : ℕ) (ms : List ℕ) → Begins (i + 1) ms → Begins i (cond o (i ∷ ms) ms)
+begins-noted true i ms b = omega arith
+begins-noted false i ms b = begins-before i (i + 1) ms (omega arith) b
+
+-- all of them are before the next
+pub noted-below : (o : Bool) (i : ℕ) (done now : List ℕ) (k : ℕ) → now ≡ cond o (done ++ i ∷ []) done → ((j : ℕ) → j < length done → get_or done j 0 < i) → k < length now → get_or now k 0 < i + 1
+noted-below true i done now k e below inside =
+    let len : length now ≡ length done + 1 = ap length e ∙ length-append done (i ∷ []) in
+    elim (cases_lt k (length done)) [
+      | inl lt ↦ (let less = below k lt in let is : get_or now k 0 ≡ get_or done k 0 = ap (λ (os : List ℕ). get_or os k 0) e ∙ get_or-append-left done (i ∷ []) k 0 lt in omega arith)
+      | inr ge ↦ (
+          let last : k ≡ length done = omega arith in
+          let is : get_or now k 0 ≡ i = ap (λ (os : List ℕ). get_or os k 0) e ∙ ap (λ (n : ℕ). get_or (done ++ i ∷ []) n 0) last ∙ get_or-last done i in
+          omega arith)
+    ]
+  where
+    get_or-append-left : (xs ys : List ℕ) (k : ℕ) (d : ℕ) → k < length xs → get_or (xs ++ ys) k d ≡ get_or xs k d
+    get_or-append-left [] ys k d h = absurd (omega arith)
+    get_or-append-left (x ∷ xs) ys zero d h = refl
+    get_or-append-left (x ∷ xs) ys (suc k) d h = get_or-append-left xs ys k d (omega arith)
+
+    get_or-last : (xs : List ℕ) (x : ℕ) → get_or (xs ++ x ∷ []) (length xs) 0 ≡ x
+    get_or-last [] x = refl
+    get_or-last (y ∷ xs) x = get_or-last xs x
+noted-below false i done now k e below inside = (let len : length now ≡ length done = ap length e in let less = below k (omega arith) in let is : get_or now k 0 ≡ get_or done k 0 = ap (λ (os : List ℕ). get_or os k 0) e in omega arith)
 
 try_all-append : (k : Limits) (xs ys : List Parked) (w : Work) → try_all k (xs ++ ys) w ≡ try_all k ys (try_all k xs w)
 try_all-append k [] ys w = refl

@@ -98,39 +98,50 @@ changed-below over ns n ps below =
 
 -- ---- what is noted
 
+pub indexed-nil : (x : WantedFolders) → AreIndexed x [] []
+indexed-nil x = (refl, λ k d inside. absurd (omega arith))
+
+pub indexed-head : (x : WantedFolders) (p : Parked) (ps : List Parked) (n : ℕ) (ns : List ℕ) → AreIndexed x (p ∷ ps) (n ∷ ns) → IsIndexed x n p
+indexed-head x p ps n ns h = h.1 0 p (omega arith)
+
+pub indexed-tail : (x : WantedFolders) (p : Parked) (ps : List Parked) (n : ℕ) (ns : List ℕ) → AreIndexed x (p ∷ ps) (n ∷ ns) → AreIndexed x ps ns
+indexed-tail x p ps n ns h = (let len = h.0 in (omega arith, λ k d inside. h.1 (suc k) d (omega arith)))
+
+pub indexed-cons : (x : WantedFolders) (p : Parked) (ps : List Parked) (n : ℕ) (ns : List ℕ) → IsIndexed x n p → AreIndexed x ps ns → AreIndexed x (p ∷ ps) (n ∷ ns)
+indexed-cons x p ps n ns here rest = (let len = rest.0 in (omega arith, λ k d inside. by k d inside))
+  where
+    by : (k : ℕ) (d : Parked) → k < length (p ∷ ps) → IsIndexed x (get_or (n ∷ ns) k 0) (get_or (p ∷ ps) k d)
+    by zero d inside = here
+    by (suc k) d inside = rest.1 k d (omega arith)
+
+no_number : {P : Type 0} (x : WantedFolders) (p : Parked) (ps : List Parked) → AreIndexed x (p ∷ ps) [] → P
+no_number x p ps h = (let len = h.0 in absurd (omega arith))
+
+no_ask : {P : Type 0} (x : WantedFolders) (n : ℕ) (ns : List ℕ) → AreIndexed x [] (n ∷ ns) → P
+no_ask x n ns h = (let len = h.0 in absurd (omega arith))
+
 -- of these numbers nothing is dropped
 pub indexed-kept : (x y : WantedFolders) (ps : List Parked) (ns : List ℕ) → ((f : FolderName) (n : ℕ) → In n ns → notes_want x f n ≡ true → notes_want y f n ≡ true) → AreIndexed x ps ns → AreIndexed y ps ns
-indexed-kept x y [] [] kept h = tt
-indexed-kept x y [] (n ∷ ns) kept h = absurd h
-indexed-kept x y (p ∷ ps) [] kept h = absurd h
-indexed-kept x y (p ∷ ps) (n ∷ ns) kept h = (λ w i. kept w.folder n (inl refl) (h.0 w i), indexed-kept x y ps ns (λ f m i. kept f m (inr i)) h.1)
+indexed-kept x y [] [] kept h = indexed-nil y
+indexed-kept x y [] (n ∷ ns) kept h = no_ask x n ns h
+indexed-kept x y (p ∷ ps) [] kept h = no_number x p ps h
+indexed-kept x y (p ∷ ps) (n ∷ ns) kept h =
+    indexed-cons y p ps n ns (λ w i. kept w.folder n (inl refl) (indexed-head x p ps n ns h w i)) (indexed-kept x y ps ns (λ f m i. kept f m (inr i)) (indexed-tail x p ps n ns h))
 
 pub indexed-still : (x : WantedFolders) (i : ℕ) (os : List ℕ) (ps : List Parked) (ns : List ℕ) → AreIndexed x ps ns → AreIndexed x (still_at i os ps) (still_at i os ns)
-indexed-still x i os [] [] h = tt
-indexed-still x i os [] (n ∷ ns) h = absurd h
-indexed-still x i os (p ∷ ps) [] h = absurd h
+indexed-still x i os [] [] h = indexed-nil x
+indexed-still x i os [] (n ∷ ns) h = no_ask x n ns h
+indexed-still x i os (p ∷ ps) [] h = no_number x p ps h
 indexed-still x i os (p ∷ ps) (n ∷ ns) h = elim (cases_Bool (is_over_at i os)) [
-  | inl e ↦ rw e (indexed-still x (i + 1) (later_over i os) ps ns h.1)
-  | inr e ↦ rw e (h.0, indexed-still x (i + 1) (later_over i os) ps ns h.1)
+  | inl e ↦ rw e (indexed-still x (i + 1) (later_over i os) ps ns (indexed-tail x p ps n ns h))
+  | inr e ↦ rw e (indexed-cons x p (still_at (i + 1) (later_over i os) ps) n (still_at (i + 1) (later_over i os) ns) (indexed-head x p ps n ns h) (indexed-still x (i + 1) (later_over i os) ps ns (indexed-tail x p ps n ns h)))
 ]
 
 pub indexed-append : (x : WantedFolders) (ps qs : List Parked) (ns ms : List ℕ) → AreIndexed x ps ns → AreIndexed x qs ms → AreIndexed x (ps ++ qs) (ns ++ ms)
 indexed-append x [] qs [] ms h i = i
-indexed-append x [] qs (n ∷ ns) ms h i = absurd h
-indexed-append x (p ∷ ps) qs [] ms h i = absurd h
-indexed-append x (p ∷ ps) qs (n ∷ ns) ms h i = (h.0, indexed-append x ps qs ns ms h.1 i)
-
-pub indexed-length : (x : WantedFolders) (ps : List Parked) (ns : List ℕ) → AreIndexed x ps ns → length ns ≡ length ps
-indexed-length x [] [] h = refl
-indexed-length x [] (n ∷ ns) h = absurd h
-indexed-length x (p ∷ ps) [] h = absurd h
-indexed-length x (p ∷ ps) (n ∷ ns) h = (let rest = indexed-length x ps ns h.1 in omega arith)
-
-pub indexed-at : (x : WantedFolders) (ps : List Parked) (ns : List ℕ) (k : ℕ) (d : Parked) (e : ℕ) → AreIndexed x ps ns → k < length ps → IsIndexed x (get_or ns k e) (get_or ps k d)
-indexed-at x [] ns k d e h inside = absurd (omega arith)
-indexed-at x (p ∷ ps) [] k d e h inside = absurd h
-indexed-at x (p ∷ ps) (n ∷ ns) zero d e h inside = h.0
-indexed-at x (p ∷ ps) (n ∷ ns) (suc k) d e h inside = indexed-at x ps ns k d e h.1 (omega arith)
+indexed-append x [] qs (n ∷ ns) ms h i = no_ask x n ns h
+indexed-append x (p ∷ ps) qs [] ms h i = no_number x p ps h
+indexed-append x (p ∷ ps) qs (n ∷ ns) ms h i = indexed-cons x p (ps ++ qs) n (ns ++ ms) (indexed-head x p ps n ns h) (indexed-append x ps qs ns ms (indexed-tail x p ps n ns h) i)
 
 -- an ask wants none of the folders of which it isn't noted that it wants them
 pub wants-none : (x : WantedFolders) (slots : List (Slot × Bool)) (n : ℕ) (p : Parked) → IsIndexed x n p → (notes_some x slots n ≡ true → ⊥) → WantsNone slots p
@@ -207,3 +218,10 @@ among-found xs x (Err i) at up there =
       | inl lt ↦ (let low = parts.1 r.0 lt in absurd (omega arith))
       | inr ge ↦ (let high = parts.2 r.0 ge inside in absurd (omega arith))
     ]
+
+-- an ask behind the place from which none is noted before it
+pub passed-none : (x : WantedFolders) (ps : List Parked) (ns : List ℕ) (slots : List (Slot × Bool)) (place k : ℕ) (d : Parked) (o : Option ℕ) → AreIndexed x ps ns → IsNonDecreasing ns → place ≤ k → k < length ps
+    → ((n : ℕ) → get_or ns place 0 ≤ n → notes_some x slots n ≡ true → Reaches o n) → (Reaches o (get_or ns k 0) → ⊥) → WantsNone slots (get_or ps k d)
+passed-none x ps ns slots place k d o indexed up le inside from none =
+    let len : length ns ≡ length ps = indexed.0 in
+    wants-none x slots (get_or ns k 0) (get_or ps k d) (indexed.1 k d inside) (λ some. none (from (get_or ns k 0) (up place k 0 le (omega arith)) some))

@@ -1,5 +1,5 @@
 -- Which of the asks that wait want each folder.
-use Rattle.std.specs.Prelude.{◌≡◌, ℕ, ◌≤◌, Bool, true, false, List, [], ◌∷◌, Option, Some, None}
+use Rattle.std.specs.Prelude.{◌≡◌, ℕ, ◌≤◌, ◌<◌, Bool, true, false, List, Option, Some, None, length, slice_index_or}
 use Rattle.std.specs.List.{list_any}
 use Rattle.std.specs.Ordering.{nat_cmp}
 use Rattle.std.specs.BTreeSet.{BTreeSet, contains}
@@ -25,10 +25,7 @@ IsIndexed x n p = (w : Want) → In w p.wants → notes_want x w.folder n ≡ tr
 
 -- it says so of each of the asks, which have these numbers
 abbrev pub AreIndexed : WantedFolders → List Parked → List ℕ → Type 0
-AreIndexed x [] [] = Unit {0}
-AreIndexed x [] (n ∷ ns) = ⊥
-AreIndexed x (p ∷ ps) [] = ⊥
-AreIndexed x (p ∷ ps) (n ∷ ns) = IsIndexed x n p × AreIndexed x ps ns
+AreIndexed x ps ns = (length ns ≡ length ps) × ((k : ℕ) (d : Parked) → k < length ps → IsIndexed x (slice_index_or ns k 0) (slice_index_or ps k d))
 
 -- there is a number, and it is at most this one
 abbrev pub Reaches : Option ℕ → ℕ → Type 0

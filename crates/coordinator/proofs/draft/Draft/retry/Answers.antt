@@ -1,73 +1,24 @@
-use Rattle.std.proofs.Common.{◌≡◌, ◌++◌, [], Bool, List, length, refl, ap, sym, ◌∙◌, subst, append-nil}
-use Rattle.std.proofs.Math.Seq.{drop-append_seam}
-use Rattle.std.proofs.lemmas.List.Elements.{All-drop}
+use Rattle.std.proofs.Common.{◌≡◌, ◌++◌, [], ℕ, List, Bool, ap, sym, ◌∙◌, subst, append-nil}
 use Rattle.std.specs.Prelude.{All}
-use Rattle.farm_base.specs.Wanted.{IsWants}
-use Rattle.protocol.specs.Farm.{farm_limits}
 use Rattle.protocol.specs.Machine.{Parked}
-use Rattle.protocol.specs.Ledger.{Work, parks, try_all, waiting}
-use Rattle.coordinator.specs.Idle.{AreIdle}
+use Rattle.protocol.specs.Names.{Slot}
+use Rattle.protocol.specs.Ledger.{Ledger}
+use Rattle.coordinator.specs.Idle.{AreIdle, IsIdle}
 use Rattle.coordinator.specs.Keeps.{held}
-use Rattle.coordinator.specs.Shown.{LineOf, shown, lines_with}
-use Rattle.coordinator.specs.Waiting.{still_waiting, waits_after}
+use Rattle.coordinator.specs.Over.{still_waiting}
 use Rattle.coordinator.specs.Queue.{asks_of}
-use Rattle.coordinator.specs.declared.parked_change.ParkedChange.{ParkedChange}
-use Rattle.coordinator.proofs.IdleWords.{are-idle-parks, are-idle-first}
-use Rattle.coordinator.proofs.SoundWords.{sound-parks}
-use Rattle.coordinator.proofs.WaitingWords.{still-none, retried-split}
+use Rattle.coordinator.specs.Shown.{after, lines_with}
+use Rattle.coordinator.specs.Waiting.{waits_after}
+use Rattle.coordinator.proofs.WaitingWords.{still-none}
 use Rattle.coordinator.proofs.draft.Draft.retry.Goals as goal
 
-pub try_asks-requires-clause-sound : goal.try_asks-requires-clause-sound
-try_asks-requires-clause-sound c =
-    let parked : List Parked = asks_of c.args.base.now.parked in
-    let all : waits_after parked c.replace-over.new.dest ≡ parked =
-    ap (λ (d : ParkedChange). waits_after parked d) c.replace-over.ensures.after
-    ∙ ap (λ (ms : List Bool). still_waiting ms parked ++ c.new.result.since.items) c.new.ensures.over
-    ∙ ap (λ (ps : List Parked). still_waiting [] parked ++ ps) c.new.ensures.since
-    ∙ append-nil (still_waiting [] parked) ∙ still-none parked in
-    sound-parks (waits_after parked c.replace-over.new.dest) (shown (lines_with c.args.base.now.lines c.args.added.now) (held c.args.base.now) c.args.self.now) c.requires.sound
-    (subst (All (λ p. IsWants p.wants)) (sym all) c.requires.wants)
-
-pub try_asks-requires-clause-idle : goal.try_asks-requires-clause-idle
-try_asks-requires-clause-idle c =
-    let parked : List Parked = asks_of c.args.base.now.parked in
-    let w : Work = shown (lines_with c.args.base.now.lines c.args.added.now) (held c.args.base.now) c.args.self.now in
-    let others : List Parked = waits_after parked c.replace-over.new.dest in
-    let xs : List Parked = still_waiting c.args.self.now.change.parked.over.items parked in
-    let ys : List Parked = c.args.self.now.change.parked.since.items in
-    let xs_is : still_waiting c.as_slice.result.now c.waiting.result.now ≡ xs =
-    ap (λ (ms : List Bool). still_waiting ms c.waiting.result.now) (c.as_slice.ensures.value ∙ ap (λ (d : ParkedChange). d.over.items) c.replace-over.ensures.value)
-    ∙ ap (still_waiting c.args.self.now.change.parked.over.items) c.waiting.ensures in
-    subst (AreIdle c.args.freed.now (parks others w).ledger) (sym xs_is) (are-idle-parks c.args.freed.now xs others w (are-idle-first c.args.freed.now w.ledger xs ys c.requires.idle))
-
-pub try_asks-requires-2-clause-wants : goal.try_asks-requires-2-clause-wants
-try_asks-requires-2-clause-wants c =
-    let xs : List Parked = still_waiting c.args.self.now.change.parked.over.items (asks_of c.args.base.now.parked) in
-    let ys : List Parked = c.args.self.now.change.parked.since.items in
-    let P : Parked → Type 0 = λ p. IsWants p.wants in
-    let since : All P ys = subst (All P) (drop-append_seam xs ys) (All-drop P (length xs) (xs ++ ys) c.requires.sound.asks) in
-    subst (All P) (sym (c.as_slice-2.ensures.value ∙ ap (λ (d : ParkedChange). d.since.items) c.replace-over.ensures.value)) since
-
-pub returns : goal.returns
-returns c =
-    let line : LineOf = lines_with c.args.base.now.lines c.args.added.now in
-    let parked : List Parked = asks_of c.args.base.now.parked in
-    let w : Work = shown line (held c.args.base.now) c.args.self.now in
-    let mid : Work = shown line (held c.args.base.now) c.try_asks.new.self in
-    let others : List Parked = waits_after parked c.replace-over.new.dest in
-    let xs : List Parked = still_waiting c.args.self.now.change.parked.over.items parked in
-    let ys : List Parked = c.args.self.now.change.parked.since.items in
-    let xs_is : still_waiting c.as_slice.result.now c.waiting.result.now ≡ xs =
-    ap (λ (ms : List Bool). still_waiting ms c.waiting.result.now) (c.as_slice.ensures.value ∙ ap (λ (d : ParkedChange). d.over.items) c.replace-over.ensures.value)
-    ∙ ap (still_waiting c.args.self.now.change.parked.over.items) c.waiting.ensures in
-    let ys_is : still_waiting [] c.as_slice-2.result.now ≡ ys =
-    still-none c.as_slice-2.result.now ∙ c.as_slice-2.ensures.value ∙ ap (λ (d : ParkedChange). d.since.items) c.replace-over.ensures.value in
-    retried-split farm_limits w mid (shown line (held c.args.base.now) c.try_asks-2.new.self) xs ys others
-    (still_waiting c.in_ok-over.over.items parked) c.in_ok-since.since.items refl
-    (c.in_ok-over.ensures.work ∙ ap (λ (ps : List Parked). try_all farm_limits ps (parks others w)) xs_is)
-    (ap (still_waiting c.in_ok-over.over.items) (sym c.waiting.ensures) ∙ c.in_ok-over.ensures.stay ∙ ap (λ (ps : List Parked). waiting farm_limits ps (parks others w)) xs_is)
-    (c.in_ok-over_since.ensures.work ∙ ap (λ (ps : List Parked). try_all farm_limits ps mid) ys_is)
-    (c.in_ok-since.ensures
-    ∙ ap (λ (ms : List Bool). still_waiting ms c.replace-over.result.since.items) c.as_slice-3.ensures.value
-    ∙ ap (still_waiting c.in_ok-over_since.over_since.items) (sym c.as_slice-2.ensures.value)
-    ∙ c.in_ok-over_since.ensures.stay ∙ ap (λ (ps : List Parked). waiting farm_limits ps mid) ys_is)
+pub retry_wanting-requires-clause-idle : goal.retry_wanting-requires-clause-idle
+retry_wanting-requires-clause-idle c =
+    let asks : List Parked = asks_of c.args.base.now.parked in
+    let q : Ledger = after (lines_with c.args.base.now.lines c.args.added.now) (held c.args.base.now) c.args.self.now.change in
+    let all : waits_after asks c.args.self.now.change.parked ≡ asks =
+    ap (λ (os : List ℕ). still_waiting os asks ++ c.args.self.now.change.parked.since.items) (c.is_none.ensures.over c.if-is_none.true)
+    ∙ ap (λ (ps : List Parked). still_waiting [] asks ++ ps) (c.is_none.ensures.since c.if-is_none.true) ∙ append-nil (still_waiting [] asks) ∙ still-none 0 asks in
+    let told = subst (λ o. AreIdle o q (waits_after asks c.args.self.now.change.parked)) c.in-Some.is c.requires.idle in
+    let listed = subst (λ (freed : List (Slot × Bool)). All (IsIdle freed q) (waits_after asks c.args.self.now.change.parked)) (sym c.as_slice.ensures) told in
+    subst (All (IsIdle c.as_slice.result.now q)) all listed

@@ -1,22 +1,26 @@
-use Rattle.std.proofs.Common.{◌≡◌, ◌++◌, Bool, List, drop}
+use Rattle.std.proofs.Common.{◌≡◌, ◌<◌, ◌≤◌, ◌-◌, ◌++◌, ℕ, List, drop, get_or, length}
 use Rattle.std.specs.Prelude.{All}
 use Rattle.farm_base.specs.Wanted.{IsWants}
 use Rattle.protocol.specs.Farm.{farm_limits}
 use Rattle.protocol.specs.Ledger.{try_all, waiting}
-use Rattle.coordinator.specs.Idle.{AreIdle}
 use Rattle.coordinator.specs.Keeps.{held}
+use Rattle.coordinator.specs.Over.{still_at}
 use Rattle.coordinator.specs.Shown.{after, shown, lines_with}
 use Rattle.coordinator.specs.Sound.{IsSound}
-use Rattle.coordinator.specs.Waiting.{still_waiting}
+use Rattle.coordinator.proofs.WaitingWords.{Begins}
 use Rattle.coordinator.proofs.draft.Draft.try_asks.Given as goal
 
-abbrev pub invariant-loop-p : goal.invariant-loop-p
-invariant-loop-p l = record {
-  work : try_all farm_limits (still_waiting l.marks (drop l.p-index l.asks)) (shown (lines_with l.base.lines l.added) (held l.base) l.self)
-      ≡ try_all farm_limits (still_waiting l.over l.asks) (shown (lines_with l.base.lines l.added) (held l.base) l.initial.self);
-  stay : (ms : List Bool) → still_waiting ms (drop l.p-index l.asks) ≡ waiting farm_limits (still_waiting l.marks (drop l.p-index l.asks)) (shown (lines_with l.base.lines l.added) (held l.base) l.self)
-      → still_waiting (l.done.items ++ ms) l.asks ≡ waiting farm_limits (still_waiting l.over l.asks) (shown (lines_with l.base.lines l.added) (held l.base) l.initial.self);
+abbrev pub invariant-loop-place : goal.invariant-loop-place
+invariant-loop-place l = record {
+  inside : l.place ≤ length l.asks;
+  below : (k : ℕ) → k < length l.done.places.items → get_or l.done.places.items k 0 < l.place;
+  work : try_all farm_limits (still_at l.place l.rest (drop l.place l.asks)) (shown (lines_with l.base.lines l.added) (held l.base) l.self)
+      ≡ try_all farm_limits (still_at 0 l.over l.asks) (shown (lines_with l.base.lines l.added) (held l.base) l.initial.self);
+  stay : (os : List ℕ) → Begins l.place os
+      → still_at l.place os (drop l.place l.asks) ≡ waiting farm_limits (still_at l.place l.rest (drop l.place l.asks)) (shown (lines_with l.base.lines l.added) (held l.base) l.self)
+      → still_at 0 (l.done.places.items ++ os) l.asks ≡ waiting farm_limits (still_at 0 l.over l.asks) (shown (lines_with l.base.lines l.added) (held l.base) l.initial.self);
   sound : IsSound (after (lines_with l.base.lines l.added) (held l.base) l.self.change);
-  wants : All (λ p. IsWants p.wants) l.asks;
-  idle : AreIdle l.freed (after (lines_with l.base.lines l.added) (held l.base) l.self.change) (still_waiting l.marks (drop l.p-index l.asks));
 }
+
+abbrev pub decreases-loop-place : goal.decreases-loop-place
+decreases-loop-place l = length l.asks - l.place
