@@ -221,6 +221,58 @@ fn with_asks<R: Clock + AllocGlobal>(rt: &R, count: u32) -> anyhow::Result<Waite
     park_and_time(rt, &mut coordinator, count)
 }
 
+/// The time of a release of a batch that frees a slot for which one ask waits, behind all others. The asks have the numbers from
+/// this one on, and the leases the tickets.
+fn time_to_free_last<R: Clock + AllocGlobal>(
+    rt: &R,
+    coordinator: &mut Coordinator<MemoryKeeper>,
+    number: u32,
+    ticket: u64,
+) -> anyhow::Result<f64> {
+    let mut seconds = 0.0;
+    for turn in 0..TURNS {
+        ask(
+            coordinator,
+            rt.alloc(),
+            number.saturating_add(turn),
+            "locked:g",
+        )?;
+        let start = Instant::now(rt)?;
+        release(
+            coordinator,
+            rt.alloc(),
+            Ticket(ticket.saturating_add(u64::from(turn))),
+        )?;
+        seconds += seconds_since(rt, start);
+    }
+    Ok(seconds / f64::from(TURNS))
+}
+
+/// The time of a release that frees a slot for which one ask waits, once this many wait for another slot.
+fn park_and_free_last<R: Clock + AllocGlobal>(
+    rt: &R,
+    coordinator: &mut Coordinator<MemoryKeeper>,
+    count: u32,
+) -> anyhow::Result<f64> {
+    wait(coordinator, rt.alloc(), 0, count.saturating_add(1))?;
+    let first = count.saturating_add(1);
+    let mut least = f64::INFINITY;
+    if let Some(Ticket(ticket)) = ask(coordinator, rt.alloc(), first, "locked:g")? {
+        for batch in 0..BATCHES {
+            let number = first.saturating_add(1).saturating_add(batch * TURNS);
+            let ticket = ticket.saturating_add(u64::from(batch * TURNS));
+            least = least.min(time_to_free_last(rt, coordinator, number, ticket)?);
+        }
+    }
+    Ok(least)
+}
+
+/// The same of a farm where nothing happened.
+fn with_last<R: Clock + AllocGlobal>(rt: &R, count: u32) -> anyhow::Result<f64> {
+    let mut coordinator = started(rt.alloc())?;
+    park_and_free_last(rt, &mut coordinator, count)
+}
+
 /// The time of a grant of a PRIVATE folder, of the asks of these numbers.
 fn granting<R: Clock + AllocGlobal>(
     rt: &R,
@@ -271,6 +323,10 @@ pub fn measure<R: Print + Clock + AllocGlobal>(rt: &R) -> anyhow::Result<()> {
         "events, {MANY} asks for a slot that is freed: {frees:.2} of a release for which {FEW} wait"
     )?;
     println!(rt; "events, {MANY} asks for another slot: {others:.2} of an event beside {FEW}")?;
+    let last = with_last(rt, MANY)? / with_last(rt, FEW)?;
+    println!(rt;
+        "events, one ask behind {MANY} for another slot: {last:.2} of a release behind {FEW}"
+    )?;
     let private = of_private(rt)?;
     println!(rt;
         "events, the last of {INSTANCES} PRIVATE grants: {private:.2} of the first {GRANTS}"

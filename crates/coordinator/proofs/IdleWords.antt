@@ -188,20 +188,6 @@ are-idle-freed t q q' before live home parked held plain =
     subst (λ (ps : List Parked). All (IsIdle (slots_under (lease_under q.live t)) q') ps) (sym parked)
     (all_from_in (IsIdle (slots_under (lease_under q.live t)) q') q.parked (λ p i. idle-freed t q q' p before live home (held p i) (all_in (λ r. wants_private r ≡ false) q.parked plain p i)))
 
--- which asks are parked has no say
-pub are-idle-parks : (freed : Option (List (Slot × Bool))) (ps qs : List Parked) (w : Work) → AreIdle freed w.ledger ps → AreIdle freed (parks qs w).ledger ps
-are-idle-parks None ps qs w idle = tt
-are-idle-parks (Some freed) ps qs w idle = λ j d inside. (let h = idle j d inside in record { plain = h.plain; waits = h.waits })
-
--- the first of them
-pub are-idle-first : (freed : Option (List (Slot × Bool))) (q : Ledger) (xs ys : List Parked) → AreIdle freed q (xs ++ ys) → AreIdle freed q xs
-are-idle-first None q xs ys idle = tt
-are-idle-first (Some freed) q xs ys idle = all-first (IsIdle freed q) xs ys idle
-  where
-    all-first : (P : Parked → Type 0) (xs ys : List Parked) → All P (xs ++ ys) → All P xs
-    all-first P [] ys h = All-nil P
-    all-first P (x ∷ xs) ys h = All-cons P x xs (All-head P x (xs ++ ys) h) (all-first P xs ys (All-tail P x (xs ++ ys) h))
-
 -- none of the asks that are left and of those that came wants a PRIVATE folder
 pub plain-after : (asks since all : List Parked) (over : List ℕ) (empty b : Bool) → (b ≡ true → ArePlain asks) → (empty ≡ true → all ≡ []) → all ≡ still_waiting over asks ++ since
     → (empty || (b && not (list_any wants_private since))) ≡ true → ArePlain all
@@ -212,7 +198,7 @@ plain-after asks since all over false b was none e h =
     let new : All P since = all_from_in P since (λ p i. any_none wants_private p since (not-true (list_any wants_private since) both.1) i) in
     subst (All P) (sym e) (All-append P (still_waiting over asks) since (all-still P 0 over asks (was both.0)) new)
 
--- ---- an ask that wants no folder of the freed slots
+-- ---- asks that want no folder of the freed slots
 
 has_slot-filter : (test : (Slot × Bool) → Bool) (s : Slot) (slots : List (Slot × Bool)) → ((x : Slot × Bool) → slot_eq x.0 s ≡ true → test x ≡ true) → has_slot slots s ≡ true → has_slot (filter test slots) s ≡ true
 has_slot-filter test s [] passes e = e

@@ -174,15 +174,6 @@ set-more s t k n set h = elim (cases_Bool (is_at (nat_cmp k) n)) [
   | inr e ↦ set n ∙ ap (λ (b : Bool). cond b true (contains nat_cmp s n)) e ∙ h
 ]
 
--- and without one
-pub set-less : (s t : BTreeSet ℕ) (k n : ℕ) → ((q : ℕ) → contains nat_cmp t q ≡ cond (is_at (nat_cmp k) q) false (contains nat_cmp s q)) → (k ≡ n → ⊥) → contains nat_cmp s n ≡ true → contains nat_cmp t n ≡ true
-set-less s t k n set other h =
-    let no : is_at (nat_cmp k) n ≡ false = elim (cases_Bool (is_at (nat_cmp k) n)) [ inl e ↦ absurd (other (at_is k n e)) | inr e ↦ e ] in
-    set n ∙ ap (λ (b : Bool). cond b false (contains nat_cmp s n)) no ∙ h
-  where
-    at_is : (k n : ℕ) → is_at (nat_cmp k) n ≡ true → k ≡ n
-    at_is k n e = grind (arith, nat_tests)
-
 -- no number is in an empty set
 pub set-empty : (s : BTreeSet ℕ) (n : ℕ) → btree_set_len s ≡ 0 → contains nat_cmp s n ≡ true → ⊥
 set-empty s n none h = (let empty : s.keys ≡ [] = nil_from_length s.keys none in let bad : false ≡ true = sym (ap (λ (ks : List ℕ). list_any (is_at (nat_cmp n)) ks) empty) ∙ h in absurd (cc bad))

@@ -37,7 +37,11 @@ pub(crate) fn is_among(numbers: &[u64], number: u64) -> bool
 pub(crate) fn after(number: u64) -> u64
     ensures { result ≡ number_after number }
 {
-    if number < u64::MAX { number + 1 } else { number }
+    if number < u64::MAX {
+        number + 1
+    } else {
+        number
+    }
 }
 
 /// Appends a number, for which there is room.

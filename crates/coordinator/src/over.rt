@@ -17,7 +17,13 @@ pub(crate) fn split_over(over: &[usize], place: usize) -> (bool, &[usize])
     ensures rest { result.1.now ≡ later_over place over.now }
 {
     match over.split_first() {
-        Some((first, rest)) => { if *first == place { (true, rest) } else { (false, over) } }
+        Some((first, rest)) => {
+            if *first == place {
+                (true, rest)
+            } else {
+                (false, over)
+            }
+        }
         None => (false, over),
     }
 }

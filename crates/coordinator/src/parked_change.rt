@@ -192,7 +192,11 @@ impl ParkedChange {
         note_all(&mut newest, since.as_slice());
         let numbers = numbers.changed(&over, since.as_slice());
         let mut wanted = wanted;
-        wanted.drop_over(behind(asks.as_slice(), start), over.as_slice(), numbers.as_slice());
+        wanted.drop_over(
+            behind(asks.as_slice(), start),
+            over.as_slice(),
+            numbers.as_slice(),
+        );
         let since_private = some_private(since.as_slice());
         let mut asks = asks;
         let start = take_out(&mut asks, start, &over);

@@ -68,8 +68,7 @@ fn least(a: Option<u64>, b: Option<u64>) -> Option<u64>
 
 impl WantedFolders {
     /// No folder is wanted.
-    pub(crate) fn new(alloc: Global) -> Self
-    {
+    pub(crate) fn new(alloc: Global) -> Self {
         WantedFolders {
             by_folder: IndexMap::new(alloc),
         }
