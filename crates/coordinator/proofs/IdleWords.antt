@@ -1,19 +1,19 @@
 -- Parked asks that need no look.
-use Rattle.std.proofs.Common.{◌≡◌, ℕ, zero, suc, ◌<◌, ◌≤◌, ◌+◌, ◌-◌, List, [], ◌∷◌, ◌++◌, Bool, true, false, not, ◌&&◌, ◌||◌, eqb, cond, filter, get_or, length, drop, drop_of_length-le, Option, Some, None, refl, sym, ◌∙◌, ap, subst, inl, inr, arith}
+use Rattle.std.proofs.Common.{◌≡◌, ℕ, zero, suc, ◌<◌, ◌≤◌, ◌+◌, ◌-◌, List, [], ◌∷◌, ◌++◌, Bool, true, false, not, ◌&&◌, ◌||◌, eqb, cond, filter, get_or, length, drop, drop_of_length-le, refl, sym, ◌∙◌, ap, subst, inl, inr, arith}
 use Rattle.std.proofs.lemmas.Bool.{cases_Bool, and_parts, not-true, eqb-true, ne_eqb}
-use Rattle.std.proofs.lemmas.List.Elements.{All-head, All-tail, All-cons, All-nil, All-append}
+use Rattle.std.proofs.lemmas.List.Elements.{All-head, All-tail, All-nil, All-append}
 use Rattle.std.specs.Prelude.{All, AllPairs, nat_lt}
 use Rattle.std.specs.List.{list_any}
 use Rattle.protocol.specs.Lists.{In}
 use Rattle.protocol.specs.Names.{Slot, slot_eq, is_private, only_slot, FolderName, Ticket, Want, leased_wants, wants_shared}
 use Rattle.protocol.specs.Machine.{Parked}
-use Rattle.protocol.specs.Ledger.{Limits, Ledger, Lease, Work, pick, elsewhere, another, all_taken, busy, lowest, is_free, is_leased, some_lease, has_slot, has_ticket, lease_under, without, decision, tried, parks, stays, try_all, waiting}
+use Rattle.protocol.specs.Ledger.{Limits, Ledger, Lease, Work, pick, elsewhere, another, all_taken, busy, lowest, is_free, is_leased, some_lease, has_slot, has_ticket, lease_under, without, decision, tried, stays, try_all, waiting}
 use Rattle.protocol.specs.declared.answer.Decision.TheVariants.{Wait}
 use Rattle.leases.specs.Leases.{IsBefore}
 use Rattle.leases.proofs.TableLemmas.{AllPairs-head, AllPairs-tail}
 use Rattle.protocol.proofs.Base.{all_in, true_false, any_in, from_any, any_none, from_filter, slot_eq_is}
 use Rattle.saverecord.proofs.LedgerLemmas.{all_from_in}
-use Rattle.coordinator.specs.Idle.{wants_private, slots_under, is_open, is_held_up, AreHeldUp, IsIdle, AreIdle, ArePlain}
+use Rattle.coordinator.specs.Idle.{wants_private, slots_under, is_open, is_held_up, AreHeldUp, IsIdle, ArePlain}
 use Rattle.farm_base.specs.Folders.{folder_eq}
 use Rattle.farm_base.proofs.CompareLaws.{folder_eq-itself}
 use Rattle.leases.proofs.MarkLemmas.{drop-item}

@@ -1,5 +1,5 @@
 -- Which asks want each folder, as it is noted.
-use Rattle.std.proofs.Common.{◌≡◌, ℕ, zero, suc, ◌+◌, ◌<◌, ◌≤◌, Bool, true, false, cond, List, [], ◌∷◌, ◌++◌, length, drop, get_or, Option, Some, None, Result, Ok, Err, refl, sym, ◌∙◌, ap, subst, inl, inr, arith}
+use Rattle.std.proofs.Common.{◌≡◌, ℕ, zero, suc, ◌+◌, ◌<◌, ◌≤◌, Bool, true, false, cond, List, [], ◌∷◌, ◌++◌, length, get_or, Option, Result, Ok, Err, refl, sym, ◌∙◌, ap, subst, inl, inr, arith}
 use Rattle.std.specs.Prelude.{All, nat_lt}
 use Rattle.std.specs.List.{list_any}
 use Rattle.std.specs.List.Sorted.{IsNonDecreasing}
@@ -10,14 +10,13 @@ use Rattle.std.specs.Result.{is_ok}
 use Rattle.std.specs.List.Sorted.{IsBinarySearchResult}
 use Rattle.std.proofs.lemmas.List.Sorted.{searched}
 use Rattle.std.proofs.lemmas.List.{nil_from_length}
-use Rattle.std.proofs.lemmas.Bool.Decides.{nat_tests}
 use Rattle.std.proofs.lemmas.Bool.{cases_Bool, cases_lt}
 use Rattle.std.proofs.lemmas.List.Elements.{All-head, All-tail, All-cons, All-nil, All-append}
 use Rattle.indexmap.specs.IndexMap.{IndexMap, get}
 use Rattle.farm_base.specs.Folders.{folder_eq}
 use Rattle.farm_base.proofs.NameLaws.{folder_exact}
 use Rattle.protocol.specs.Lists.{In}
-use Rattle.protocol.specs.Names.{FolderName, Slot, Want}
+use Rattle.protocol.specs.Names.{FolderName, Slot}
 use Rattle.protocol.specs.Machine.{Parked}
 use Rattle.protocol.proofs.Base.{any_in, from_any}
 use Rattle.coordinator.specs.Over.{is_over_at, later_over, still_at}

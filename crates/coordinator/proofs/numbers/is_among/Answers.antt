@@ -1,5 +1,4 @@
-use Rattle.std.proofs.Common.{◌≡◌, ℕ, ◌<◌, ◌≤◌, List, length, get_or, true, Result, Ok, Err, refl, sym, ◌∙◌, ap, inl, inr, arith}
-use Rattle.protocol.specs.Lists.{In}
+use Rattle.std.proofs.Common.{◌∙◌}
 use Rattle.coordinator.proofs.WantedWords.{among-found}
 use Rattle.coordinator.proofs.numbers.is_among.Goals as goal
 

@@ -1,10 +1,9 @@
-use Rattle.std.proofs.Common.{◌≡◌, ◌<◌, ◌+◌, ◌++◌, ◌∷◌, [], ℕ, Bool, List, cond, drop, drop_of_length-le, filter, get_or, length, not, ◌||◌, ap, sym, ◌∙◌, subst, arith, append-nil}
+use Rattle.std.proofs.Common.{◌≡◌, ◌<◌, ◌+◌, ◌++◌, ◌∷◌, [], ℕ, Bool, List, cond, drop, drop_of_length-le, filter, get_or, length, not, ◌||◌, ap, sym, ◌∙◌, arith, append-nil}
 use Rattle.protocol.specs.Machine.{Parked}
 use Rattle.leases.proofs.MarkLemmas.{drop-item}
 use Rattle.coordinator.specs.Over.{still_at}
 use Rattle.coordinator.specs.Waiting.{ends_ask}
 use Rattle.coordinator.proofs.WaitingWords.{ended-next, noted-append, noted-below, begins-noted}
-use Rattle.coordinator.proofs.PassedWords.{other_default}
 use Rattle.coordinator.proofs.parked_change.ended.Goals as goal
 
 pub loop-place-preserved : goal.loop-place-preserved

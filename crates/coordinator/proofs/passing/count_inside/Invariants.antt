@@ -1,4 +1,4 @@
-use Rattle.std.proofs.Common.{◌<◌, ◌≤◌, length, get_or, vec_len}
+use Rattle.std.proofs.Common.{◌<◌, ◌≤◌, get_or, vec_len}
 use Rattle.coordinator.proofs.passing.count_inside.Given as goal
 
 abbrev pub invariant-loop-left : goal.invariant-loop-left

@@ -1,4 +1,4 @@
-use Rattle.std.proofs.Common.{◌≡◌, ◌<◌, ◌≤◌, ◌+◌, ◌-◌, ℕ, List, length, drop, get_or, vec_len, refl, sym, ◌∙◌, ap, subst, arith}
+use Rattle.std.proofs.Common.{◌≡◌, ◌<◌, ◌+◌, ◌-◌, ℕ, List, length, drop, get_or, vec_len, refl, sym, ◌∙◌, ap, subst, arith}
 use Rattle.coordinator.specs.Over.{still_at}
 use Rattle.coordinator.proofs.WaitingWords.{Begins, begins-before}
 use Rattle.coordinator.proofs.PassedWords.{some_item, before_both, over_before, moved_before, other_default, begins_at, none_looked, below_other}

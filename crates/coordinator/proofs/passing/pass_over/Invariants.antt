@@ -1,4 +1,4 @@
-use Rattle.std.proofs.Common.{◌≡◌, ◌+◌, ◌<◌, ◌≤◌, ℕ, length, drop, get_or, vec_len}
+use Rattle.std.proofs.Common.{◌≡◌, ◌+◌, ◌<◌, ◌≤◌, ℕ, drop, get_or, vec_len}
 use Rattle.std.specs.Vec.{vec_capacity}
 use Rattle.coordinator.specs.Over.{still_at}
 use Rattle.coordinator.proofs.WaitingWords.{Begins}

@@ -1,4 +1,4 @@
-use Rattle.std.proofs.Common.{◌≡◌, ◌<◌, ◌≤◌, ◌+◌, ◌-◌, ℕ, List, length, drop, take, get_or, vec_len, ◌++◌, sym, ◌∙◌, ap, arith}
+use Rattle.std.proofs.Common.{◌≡◌, ◌<◌, ◌+◌, ◌-◌, ℕ, List, length, drop, take, get_or, vec_len, ◌++◌, ◌∙◌, ap, arith}
 use Rattle.coordinator.proofs.PassedWords.{other_default, one_taken}
 use Rattle.coordinator.proofs.passing.take_out.Goals as goal
 

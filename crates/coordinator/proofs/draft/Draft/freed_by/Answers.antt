@@ -1,11 +1,11 @@
-use Rattle.std.proofs.Common.{◌≡◌, ◌++◌, [], ℕ, List, length, Bool, Option, Some, true, false, sym, ◌∙◌, ap, subst, arith, append-nil}
+use Rattle.std.proofs.Common.{◌≡◌, ◌++◌, [], ℕ, List, length, Bool, Some, false, sym, ◌∙◌, ap, subst, arith, append-nil}
 use Rattle.std.specs.Prelude.{All, option_copied}
 use Rattle.std.specs.Vec.{vec_len}
 use Rattle.std.proofs.lemmas.Bool.{eqb-true}
 use Rattle.std.proofs.lemmas.List.{nil_from_length}
 use Rattle.protocol.specs.Names.{Slot}
 use Rattle.protocol.specs.Machine.{Parked}
-use Rattle.protocol.specs.Ledger.{Ledger, Lease, lease_under}
+use Rattle.protocol.specs.Ledger.{Ledger, lease_under}
 use Rattle.coordinator.specs.Held.{line_at}
 use Rattle.coordinator.specs.Idle.{slots_under, wants_private, IsIdle, ArePlain}
 use Rattle.coordinator.specs.Keeps.{held}

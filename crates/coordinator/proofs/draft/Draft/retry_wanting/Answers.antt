@@ -1,12 +1,11 @@
 use Rattle.std.proofs.Common.{◌≡◌, ◌++◌, [], ℕ, List, ap, sym, ◌∙◌, append-nil}
 use Rattle.protocol.specs.Farm.{farm_limits}
 use Rattle.protocol.specs.Machine.{Parked}
-use Rattle.protocol.specs.Ledger.{Work, parks, try_all, waiting, retried}
+use Rattle.protocol.specs.Ledger.{Work, parks, try_all, waiting}
 use Rattle.coordinator.specs.Keeps.{held}
 use Rattle.coordinator.specs.Over.{still_waiting}
 use Rattle.coordinator.specs.Queue.{asks_of}
 use Rattle.coordinator.specs.Shown.{LineOf, shown, lines_with}
-use Rattle.coordinator.specs.Waiting.{waits_after}
 use Rattle.coordinator.proofs.Trying.{retried-is}
 use Rattle.coordinator.proofs.WaitingWords.{still-none}
 use Rattle.coordinator.proofs.draft.Draft.retry_wanting.Goals as goal

@@ -1,6 +1,4 @@
 use Rattle.std.proofs.Common.{◌≡◌, ◌<◌, ◌≤◌, ◌-◌, ◌++◌, ℕ, List, drop, get_or, length}
-use Rattle.std.specs.Prelude.{All}
-use Rattle.farm_base.specs.Wanted.{IsWants}
 use Rattle.protocol.specs.Farm.{farm_limits}
 use Rattle.protocol.specs.Ledger.{try_all, waiting}
 use Rattle.coordinator.specs.Keeps.{held}

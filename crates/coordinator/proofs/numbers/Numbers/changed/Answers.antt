@@ -1,7 +1,6 @@
 use Rattle.std.proofs.Common.{◌≡◌, ◌≤◌, ◌++◌, ℕ, List, drop, length, vec_len, sym, ◌∙◌, ap, subst, arith}
 use Rattle.std.specs.Prelude.{All}
 use Rattle.std.specs.List.Sorted.{IsNonDecreasing}
-use Rattle.protocol.specs.Machine.{Parked}
 use Rattle.coordinator.specs.Numbers.{numbers_from, number_behind}
 use Rattle.coordinator.specs.Over.{still_at}
 use Rattle.coordinator.proofs.PassedWords.{behind_joined}

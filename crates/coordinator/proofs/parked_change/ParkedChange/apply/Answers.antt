@@ -11,7 +11,6 @@ use Rattle.coordinator.specs.Numbers.{numbers_from}
 use Rattle.coordinator.specs.Over.{still_waiting}
 use Rattle.coordinator.specs.Queue.{asks_of, numbers_of}
 use Rattle.coordinator.specs.Wanted.{AreIndexed}
-use Rattle.coordinator.specs.declared.wanted_folders.WantedFolders.{WantedFolders}
 use Rattle.coordinator.proofs.IdleWords.{plain-after}
 use Rattle.coordinator.proofs.NewestWords.{all-still}
 use Rattle.coordinator.proofs.PassedWords.{behind_joined}

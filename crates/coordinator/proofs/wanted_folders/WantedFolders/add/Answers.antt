@@ -1,4 +1,4 @@
-use Rattle.std.proofs.Common.{◌≡◌, true, Some, ap, sym, ◌∙◌, rules}
+use Rattle.std.proofs.Common.{Some, ap, ◌∙◌, rules}
 use Rattle.coordinator.specs.Wanted.{has_number}
 use Rattle.coordinator.proofs.WantedWords.{noted-set, set-same, set-more}
 use Rattle.coordinator.proofs.wanted_folders.WantedFolders.add.Goals as goal

@@ -1,11 +1,9 @@
-use Rattle.std.proofs.Common.{◌≡◌, ◌<◌, ◌≤◌, ◌+◌, ◌∷◌, [], ℕ, List, length, true, drop, drop_of_length-le, ap, sym, ◌∙◌, subst, arith}
+use Rattle.std.proofs.Common.{◌≡◌, ◌+◌, ◌∷◌, [], ℕ, List, drop, drop_of_length-le, ap, sym, ◌∙◌, subst, arith}
 use Rattle.protocol.specs.Machine.{Parked}
-use Rattle.protocol.specs.Names.{FolderName, Want}
 use Rattle.protocol.specs.Lists.{In}
 use Rattle.leases.proofs.MarkLemmas.{drop-item}
 use Rattle.coordinator.specs.Numbers.{numbers_from, number_after}
-use Rattle.coordinator.specs.Wanted.{notes_want, IsIndexed, AreIndexed}
-use Rattle.coordinator.specs.declared.wanted_folders.WantedFolders.{WantedFolders}
+use Rattle.coordinator.specs.Wanted.{IsIndexed, AreIndexed}
 use Rattle.coordinator.proofs.WantedWords.{indexed-cons, indexed-nil}
 use Rattle.coordinator.proofs.wanted_folders.WantedFolders.add_asks.Goals as goal
 

@@ -1,4 +1,4 @@
-use Rattle.std.proofs.Common.{◌≡◌, ◌<◌, ◌≤◌, length, true, arith}
+use Rattle.std.proofs.Common.{◌≡◌, true, arith}
 use Rattle.protocol.specs.Names.{Want}
 use Rattle.coordinator.specs.Wanted.{notes_want}
 use Rattle.coordinator.proofs.WantedWords.{each_in}

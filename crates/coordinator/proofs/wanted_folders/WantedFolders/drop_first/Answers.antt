@@ -1,4 +1,4 @@
-use Rattle.std.proofs.Common.{◌≡◌, true, Some, None, ap, sym, ◌∙◌, rules}
+use Rattle.std.proofs.Common.{Some, None, ap, sym, ◌∙◌, rules}
 use Rattle.coordinator.specs.Wanted.{has_number}
 use Rattle.coordinator.proofs.WantedWords.{noted-set, set-empty}
 use Rattle.coordinator.proofs.wanted_folders.WantedFolders.drop_first.Goals as goal

@@ -1,6 +1,6 @@
-use Rattle.std.proofs.Common.{◌≡◌, ◌<◌, ◌≤◌, Bool, false, true, length, arith}
+use Rattle.std.proofs.Common.{Bool, arith}
 use Rattle.protocol.specs.Names.{Slot}
-use Rattle.coordinator.specs.Wanted.{notes_want, Reaches}
+use Rattle.coordinator.specs.Wanted.{notes_want}
 use Rattle.coordinator.proofs.WantedWords.{some_at}
 use Rattle.coordinator.proofs.wanted_folders.WantedFolders.first_of_all.Goals as goal
 

@@ -1,4 +1,4 @@
-use Rattle.std.proofs.Common.{◌≡◌, ◌≤◌, ◌<◌, ℕ, true, get_or, drop}
+use Rattle.std.proofs.Common.{◌≡◌, ◌≤◌, ◌<◌, ℕ, true, get_or}
 use Rattle.protocol.specs.Names.{Slot}
 use Rattle.std.specs.Prelude.{Bool}
 use Rattle.coordinator.specs.Wanted.{notes_want, Reaches}
