@@ -23,7 +23,7 @@ pub struct WantedFolders {
     by_folder: IndexMap<FolderName, BTreeSet<u64>>,
 }
 
-/// Removes the numbers before the first of those that are waited with.
+/// Removes the first numbers, up to one of an ask that waits.
 fn drop_gone(numbers: &mut BTreeSet<u64>, waiting: &[u64])
     requires { IsNonDecreasing waiting.now }
     ensures { (n : ℕ) → In n waiting.now → contains nat_cmp numbers.old n ≡ true → contains nat_cmp numbers.new n ≡ true }
@@ -33,7 +33,7 @@ fn drop_gone(numbers: &mut BTreeSet<u64>, waiting: &[u64])
     }
 }
 
-/// The first of the numbers, if it isn't waited with.
+/// The first of the numbers, if its ask doesn't wait.
 fn first_gone(numbers: &BTreeSet<u64>, waiting: &[u64]) -> Option<u64>
     requires { IsNonDecreasing waiting.now }
     ensures gone { IfSome result (λ first. In first waiting.now → ⊥) }
@@ -132,7 +132,7 @@ impl WantedFolders {
         Ok(())
     }
 
-    /// Drops the first numbers of the folder, up to one that is waited with.
+    /// Drops the first numbers of the folder, up to one of an ask that waits.
     fn drop_first(&mut self, folder: &FolderName, waiting: &[u64])
         requires { IsNonDecreasing waiting.now }
         ensures { (f : FolderName) (n : ℕ) → In n waiting.now → notes_want self.old f n ≡ true → notes_want self.new f n ≡ true }
@@ -146,7 +146,7 @@ impl WantedFolders {
         }
     }
 
-    /// Drops the first numbers of the folders of wants.
+    /// Drops the first numbers of the folders of wants, up to one of an ask that waits.
     fn drop_wants(&mut self, wants: &[Want], waiting: &[u64])
         requires { IsNonDecreasing waiting.now }
         ensures { (f : FolderName) (n : ℕ) → In n waiting.now → notes_want self.old f n ≡ true → notes_want self.new f n ≡ true }
@@ -156,7 +156,7 @@ impl WantedFolders {
         }
     }
 
-    /// Drops the first numbers of the folders that the asks at these places want, up to those that are waited with.
+    /// Drops the first numbers of the folders that the asks at these places want, up to one of an ask that waits.
     pub(crate) fn drop_over(&mut self, asks: &[Parked], over: &[usize], waiting: &[u64])
         requires { IsNonDecreasing waiting.now }
         ensures { (f : FolderName) (n : ℕ) → In n waiting.now → notes_want self.old f n ≡ true → notes_want self.new f n ≡ true }
