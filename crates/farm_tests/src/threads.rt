@@ -203,7 +203,9 @@ fn repeated<F: Fn() -> FarmStep>(
     alloc: Global,
     count: usize,
     step: F,
-) -> Result<Vec<(usize, FarmStep)>, Fail> {
+) -> Result<Vec<(usize, FarmStep)>, Fail>
+    requires { F.IsAlwaysCallable step }
+{
     let mut plan = Vec::new(alloc);
     for _ in 0..count {
         plan.push((0, step()))?;
