@@ -1,5 +1,5 @@
 //! Which of the asks that wait want each folder.
-ghost use Rattle.std.specs.Prelude.{◌≡◌, ℕ, ◌≤◌, true, None, OnOk, IfSome};
+ghost use Rattle.std.specs.Prelude.{◌≡◌, ℕ, ◌≤◌, true, false, None, OnOk, IfSome};
 ghost use Rattle.std.specs.List.Sorted.{IsNonDecreasing};
 ghost use Rattle.std.specs.Ordering.{nat_cmp};
 ghost use Rattle.std.specs.BTreeSet.{contains};
@@ -68,7 +68,9 @@ fn least(a: Option<u64>, b: Option<u64>) -> Option<u64>
 
 impl WantedFolders {
     /// No folder is wanted.
-    pub(crate) fn new(alloc: Global) -> Self {
+    pub(crate) fn new(alloc: Global) -> Self
+        ensures { (f : FolderName) (n : ℕ) → notes_want result f n ≡ false }
+    {
         WantedFolders {
             by_folder: IndexMap::new(alloc),
         }
