@@ -4,8 +4,8 @@ use Rattle.std.specs.List.{list_any, find, flat_map}
 use Rattle.farm_base.specs.declared.limits.TheConstants.{INSTANCES}
 use Rattle.farm_base.specs.declared.lease.Lease.{Lease}
 use Rattle.farm_base.specs.declared.lease.NodeLife.{NodeLife}
-use Rattle.protocol.specs.Names.{Slot, slot_eq, is_private, only_slot, NodeId, Life, Ask, Ticket, Want, any_shared, wants_shared, leased_wants}
-use Rattle.protocol.specs.Ledger.{has_slot, some_lease, slot_for, all_taken, busy, retires}
+use Rattle.protocol.specs.Names.{FolderName, Slot, slot_eq, is_private, only_slot, NodeId, Life, Ask, Ticket, Want, any_shared, wants_shared, leased_wants}
+use Rattle.protocol.specs.Ledger.{has_slot, some_lease, lowest, slot_for, all_taken, busy, retires}
 use Rattle.leases.specs.declared.lease_table.Fit.{Fit}
 use Rattle.leases.specs.declared.lease_table.Fit.TheVariants.{Fits, Busy, InstancesSpent}
 use Rattle.leases.specs.declared.lease_table.SlotState.{SlotState}
@@ -21,6 +21,10 @@ among slots s = list_any (λ x. slot_eq x s) slots
 
 abbrev pub is_free : Table → Slot → Bool
 is_free t s = not (some_lease t.live s) && not (among t.retired s)
+
+-- no instance of the folder is free, of 1 to 4,096
+abbrev pub is_spent : (Slot → Bool) → FolderName → Bool
+is_spent free f = lowest free f 1 INSTANCES == 0
 
 -- no instance is left; or else the one slot of another folder is leased; or else the ask fits
 abbrev pub first_fit : Bool → Bool → Fit

@@ -7,14 +7,14 @@ ghost use Rattle.protocol.specs.Names.{leased_wants};
 ghost use Rattle.protocol.specs.Ledger.{lease_of, lease_under, without, is_older, is_at, is_saved, retire_all};
 ghost use Rattle.leases.specs.Changes.{changed, ends_lease, saved_tickets};
 ghost use Rattle.leases.specs.Leases.{Table, AreLeases};
-ghost use Rattle.leases.specs.Table.{among, is_leased, fit_of, lease_for, holds_some, retires_some};
+ghost use Rattle.leases.specs.Table.{among, is_free, is_leased, is_spent, fit_of, lease_for, holds_some, retires_some};
 
 use super::ending::{Ending, drop_ending, only};
 use super::lease_table::{Fit, LeaseTable};
 use super::saved::{saved_copies, saved_tickets, ticket_of_saved};
 use super::slots::rising;
 use super::view::View;
-use farm_base::{Ask, Lease, Life, NodeId, Slot, Ticket, Wants, copy_all};
+use farm_base::{Ask, FolderName, Lease, Life, NodeId, Slot, Ticket, Wants, copy_all};
 use std::alloc::{AllocError, Global};
 use std::marker::Model;
 
@@ -64,6 +64,13 @@ impl TableChange {
         ensures { result ≡ fit_of (changed table.now self.now) tenure wants.now }
     {
         self.over(table).fits(wants, tenure)
+    }
+
+    /// Whether no instance of a PRIVATE folder is free.
+    pub fn is_spent(&self, table: &LeaseTable, folder: &FolderName) -> bool
+        ensures { result ≡ is_spent (is_free (changed table.now self.now)) folder.now }
+    {
+        self.over(table).is_spent(folder)
     }
 
     /// Whether a lease has the slot.
@@ -265,8 +272,9 @@ impl TableChange {
         rising(slots)
     }
 
-    /// The leases that it adds to a table, and the slots that are never granted again.
-    pub(crate) fn added(&self) -> (&[Lease], &[Slot])
+    /// The leases that were granted and have not ended, the oldest first, and the PRIVATE slots that are not granted again
+    /// either.
+    pub fn added(&self) -> (&[Lease], &[Slot])
         ensures leases { result.0.now ≡ self.now.granted }
         ensures slots { result.1.now ≡ self.now.retired }
     {

@@ -8,7 +8,7 @@ ghost use Rattle.farm_base.specs.Wanted.{IsWants};
 ghost use Rattle.protocol.specs.Names.{leased_wants, is_private, only_slot};
 ghost use Rattle.protocol.specs.Ledger.{has_slot, lowest, slot_for, all_taken, busy, lease_of, lease_under, is_older, is_at};
 ghost use Rattle.leases.specs.Instances.{has};
-ghost use Rattle.leases.specs.Table.{among, is_leased, is_free, fit_of, lease_for, slots_of, takes, holds_some, private_of, all_private};
+ghost use Rattle.leases.specs.Table.{among, is_leased, is_free, is_spent, fit_of, lease_for, slots_of, takes, holds_some, private_of, all_private};
 
 use super::ending::{Ending, has_ended, standing};
 use super::held::{any_shared, first_of, has_only, has_slot, holds_some, is_of, is_private, takes};
@@ -72,6 +72,13 @@ impl<'t> View<'t> {
         if lowest <= INSTANCES { lowest } else { 0 }
     }
 
+    /// Whether no instance of a PRIVATE folder is free.
+    pub(crate) fn is_spent(&self, folder: &FolderName) -> bool
+        ensures { result ≡ is_spent (is_free self.now) folder.now }
+    {
+        self.lowest(folder) == 0
+    }
+
     /// Whether a PRIVATE folder of these wants has no instance left.
     fn all_taken(&self, wants: &[Want], tenure: bool) -> bool
         ensures { result ≡ all_taken INSTANCES (is_free self.now) (filter (takes tenure) wants.now) }
@@ -79,7 +86,7 @@ impl<'t> View<'t> {
         wants
             .iter()
             .filter(|want| takes(want, tenure))
-            .any(|want| is_private(want) && self.lowest(&want.folder) == 0)
+            .any(|want| is_private(want) && self.is_spent(&want.folder))
     }
 
     /// Whether the one slot of a folder is leased.
