@@ -11,6 +11,7 @@ pub mod OwnCalls
 pub mod Prunes
 pub mod OwnSends
 pub mod HeldUp
+pub mod SpentWords
 pub mod IdleWords
 pub mod Recording
 pub mod Rightful

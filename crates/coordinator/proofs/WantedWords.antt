@@ -21,7 +21,8 @@ use Rattle.protocol.specs.Machine.{Parked}
 use Rattle.protocol.proofs.Base.{any_in, from_any}
 use Rattle.coordinator.specs.Over.{is_over_at, later_over, still_at}
 use Rattle.coordinator.specs.Numbers.{number_after, numbers_from, number_behind}
-use Rattle.coordinator.specs.Wanted.{has_number, notes_want, notes_some, IsIndexed, AreIndexed, Reaches, WantsNone}
+use Rattle.coordinator.specs.Wanted.{has_number, notes_want, notes_some, notes_one, IsIndexed, AreIndexed, Reaches, WantsNone}
+use Rattle.coordinator.specs.Spent.{is_noted, WantsNoneOf}
 use Rattle.coordinator.specs.declared.wanted_folders.WantedFolders.{WantedFolders}
 use Rattle.coordinator.proofs.NewestWords.{all-still}
 
@@ -143,7 +144,16 @@ indexed-append x (p ∷ ps) qs [] ms h i = no_number x p ps h
 indexed-append x (p ∷ ps) qs (n ∷ ns) ms h i = indexed-cons x p (ps ++ qs) n (ns ++ ms) (indexed-head x p ps n ns h) (indexed-append x ps qs ns ms (indexed-tail x p ps n ns h) i)
 
 -- an ask wants none of the folders of which it isn't noted that it wants them
-pub wants-none : (x : WantedFolders) (slots : List (Slot × Bool)) (n : ℕ) (p : Parked) → IsIndexed x n p → (notes_some x slots n ≡ true → ⊥) → WantsNone slots p
+wants-none-of : (x : WantedFolders) (folders : List FolderName) (n : ℕ) (p : Parked) → IsIndexed x n p → (notes_one x folders n ≡ true → ⊥) → WantsNoneOf folders p
+wants-none-of x folders n p indexed none w i = elim (cases_Bool (is_noted folders w.folder)) [
+  | inl t ↦ (
+      let r = from_any (λ (f : FolderName). folder_eq f w.folder) folders t in
+      let same : r.0 ≡ w.folder = folder_exact r.0 w.folder r.2 in
+      absurd (none (any_in (λ (f : FolderName). notes_want x f n) r.0 folders r.1 (ap (λ (f : FolderName). notes_want x f n) same ∙ indexed w i))))
+  | inr f ↦ f
+]
+
+wants-none : (x : WantedFolders) (slots : List (Slot × Bool)) (n : ℕ) (p : Parked) → IsIndexed x n p → (notes_some x slots n ≡ true → ⊥) → WantsNone slots p
 wants-none x slots n p indexed none w i = elim (cases_Bool (list_any (λ (held : Slot × Bool). folder_eq held.0.folder w.folder) slots)) [
   | inl t ↦ (
       let r = from_any (λ (held : Slot × Bool). folder_eq held.0.folder w.folder) slots t in
@@ -209,9 +219,21 @@ among-found xs x (Err i) at up there =
       | inr ge ↦ (let high = parts.2 r.0 ge inside in absurd (omega arith))
     ]
 
--- an ask behind the place from which none is noted before it
+-- of an ask behind the place from which none is noted before it, it isn't noted that it wants any of these
+unnoted : (notes : ℕ → Bool) (ns : List ℕ) (place k : ℕ) (o : Option ℕ) → IsNonDecreasing ns → place ≤ k → k < length ns → ((n : ℕ) → get_or ns place 0 ≤ n → notes n ≡ true → Reaches o n)
+    → (Reaches o (get_or ns k 0) → ⊥) → notes (get_or ns k 0) ≡ true → ⊥
+unnoted notes ns place k o up le inside from none some = none (from (get_or ns k 0) (up place k 0 le inside) some)
+
+-- so it wants no folder of these slots
 pub passed-none : (x : WantedFolders) (ps : List Parked) (ns : List ℕ) (slots : List (Slot × Bool)) (place k : ℕ) (d : Parked) (o : Option ℕ) → AreIndexed x ps ns → IsNonDecreasing ns → place ≤ k → k < length ps
     → ((n : ℕ) → get_or ns place 0 ≤ n → notes_some x slots n ≡ true → Reaches o n) → (Reaches o (get_or ns k 0) → ⊥) → WantsNone slots (get_or ps k d)
 passed-none x ps ns slots place k d o indexed up le inside from none =
     let len : length ns ≡ length ps = indexed.0 in
-    wants-none x slots (get_or ns k 0) (get_or ps k d) (indexed.1 k d inside) (λ some. none (from (get_or ns k 0) (up place k 0 le (omega arith)) some))
+    wants-none x slots (get_or ns k 0) (get_or ps k d) (indexed.1 k d inside) (unnoted (notes_some x slots) ns place k o up le (omega arith) from none)
+
+-- and none of these folders
+pub passed-none-of : (x : WantedFolders) (ps : List Parked) (ns : List ℕ) (folders : List FolderName) (place k : ℕ) (d : Parked) (o : Option ℕ) → AreIndexed x ps ns → IsNonDecreasing ns → place ≤ k → k < length ps
+    → ((n : ℕ) → get_or ns place 0 ≤ n → notes_one x folders n ≡ true → Reaches o n) → (Reaches o (get_or ns k 0) → ⊥) → WantsNoneOf folders (get_or ps k d)
+passed-none-of x ps ns folders place k d o indexed up le inside from none =
+    let len : length ns ≡ length ps = indexed.0 in
+    wants-none-of x folders (get_or ns k 0) (get_or ps k d) (indexed.1 k d inside) (unnoted (notes_one x folders) ns place k o up le (omega arith) from none)

@@ -4,6 +4,7 @@ use Rattle.coordinator.specs.Held.{Held, line_at}
 use Rattle.coordinator.specs.Shown.{kept}
 use Rattle.coordinator.specs.Queue.{asks_of}
 use Rattle.coordinator.specs.Sound.{IsRightful}
+use Rattle.coordinator.specs.Spent.{AreNoted}
 
 abbrev pub held : State → Held
 held s = record {
@@ -18,5 +19,11 @@ held s = record {
   parked = asks_of s.parked;
 }
 
-abbrev pub keeps_sound : State → Type 0
-keeps_sound s = IsRightful (kept (line_at s.lines) s)
+-- the folders that parked asks want and that have no free instance are noted
+abbrev pub NotesSpent : State → Type 0
+NotesSpent s = AreNoted s.spent.folders.items (kept (line_at s.lines) s)
+
+-- a state that a coordinator may keep
+pub record IsKeepable (s : State) : Type 0 where
+  pub rightful : IsRightful (kept (line_at s.lines) s)
+  pub noted : NotesSpent s

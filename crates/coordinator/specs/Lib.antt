@@ -7,6 +7,7 @@ pub mod Newest
 pub mod Wanted
 pub mod Shown
 pub mod Idle
+pub mod Spent
 pub mod Sound
 pub mod Keeps
 pub mod Promises

@@ -36,6 +36,10 @@ Reaches (Some m) n = m ≤ n
 abbrev pub notes_some : WantedFolders → List (Slot × Bool) → ℕ → Bool
 notes_some x slots n = list_any (λ held. notes_want x held.0.folder n) slots
 
+-- it says that the ask with this number wants one of the folders
+abbrev pub notes_one : WantedFolders → List FolderName → ℕ → Bool
+notes_one x folders n = list_any (λ f. notes_want x f n) folders
+
 -- the ask wants no folder of these slots
 abbrev pub WantsNone : List (Slot × Bool) → Parked → Type 0
 WantsNone slots p = (w : Want) → In w p.wants → list_any (λ held. folder_eq held.0.folder w.folder) slots ≡ false

@@ -1,17 +1,20 @@
 //! What one event changes of what the coordinator keeps beside the lines, and what is looked up with the changes so far.
-ghost use Rattle.std.specs.Prelude.{◌≡◌, ◌≢◌, ◌&&◌, not, None, IfOk};
+ghost use Rattle.std.specs.Prelude.{◌≡◌, ◌≢◌, ◌≤◌, ◌<◌, ℕ, ◌&&◌, not, filter, length, slice_index_or, All, None, IfOk};
 ghost use Rattle.std.specs.Option.{unwrap_or};
 ghost use Rattle.protocol.specs.Names.{is_private};
 ghost use Rattle.protocol.specs.Farm.{farm_limits};
 ghost use Rattle.protocol.specs.Ledger.{decision, elsewhere, may_commit, may_release, lease_under};
-ghost use Rattle.leases.specs.Table.{fit_of, life_at, is_among, is_leased};
+ghost use Rattle.leases.specs.Table.{fit_of, life_at, is_among, is_free};
 ghost use Rattle.coordinator.specs.Held.{Held};
-ghost use Rattle.coordinator.specs.Idle.{is_open};
-ghost use Rattle.coordinator.specs.Keeps.{held};
+ghost use Rattle.coordinator.specs.Idle.{is_open, IsIdle};
+ghost use Rattle.coordinator.specs.Keeps.{held, NotesSpent};
+ghost use Rattle.coordinator.specs.Queue.{asks_of};
+ghost use Rattle.coordinator.specs.Spent.{IsNoted, AreNoted};
 ghost use Rattle.coordinator.specs.Shown.{LineOf, after, table_after, with_life, with_gone, kept};
 
 use super::new_life::NewLife;
 use super::parked_change::ParkedChange;
+use super::spent_folders::SpentFolders;
 use super::state::{State, fit_slots};
 use farm_base::{Copied, Life, Mode, News, NodeId, Parked, Slot, Ticket, Why};
 use leases::{Fit, Lives, RetiredNodes, TableChange, TicketSource};
@@ -153,17 +156,69 @@ impl Change {
 
     /// Whether this is the slot of a LOCKED or SHARED folder that is not leased.
     fn is_open(&self, base: &State, slot: &(Slot, bool)) -> bool
-        ensures { result ≡ (not (is_private slot.now.0.folder.mode) && not (is_leased (table_after (held base.now) self.now) slot.now.0)) }
+        ensures { result ≡ is_open (table_after (held base.now) self.now).live slot.now }
     {
         !matches!(slot.0.folder().mode, Mode::Private)
             && !self.table.is_leased(&base.table, &slot.0)
     }
 
-    /// Whether one of the slots that a lease gave back, of a LOCKED or SHARED folder, is not leased again.
-    pub(crate) fn some_open(&self, base: &State, slots: &[(Slot, bool)]) -> bool
-        ensures { result ≡ is_open slots.now (table_after (held base.now) self.now).live }
+    /// Drops those of the slots that are leased again, and those of PRIVATE folders.
+    fn keep_open(&self, base: &State, slots: &mut Vec<(Slot, bool)>)
+        ensures { slots.new.items ≡ filter (is_open (table_after (held base.now) self.now).live) slots.old.items }
     {
-        slots.iter().any(|slot| self.is_open(base, slot))
+        slots.retain(|slot| self.is_open(base, slot));
+    }
+
+    /// The PRIVATE folders of which no instance may be free now, of those that asks want which waited before.
+    pub(crate) fn spent(&self, alloc: Global, base: &State) -> Result<SpentFolders, AllocError>
+        ensures { IfOk result (λ spent. (p : Parked) → IsNoted base.now.spent.folders.items (is_free base.now.table) p
+            → IsNoted spent.folders.items (is_free (table_after (held base.now) self.now)) p) }
+    {
+        let mut spent = SpentFolders::new(alloc);
+        let (granted, retired) = self.table.added();
+        spent.note_folders(alloc, &base.table, &self.table, base.spent.as_slice())?;
+        spent.note_leases(alloc, &base.table, &self.table, granted)?;
+        spent.note_slots(alloc, &base.table, &self.table, retired)?;
+        Ok(spent)
+    }
+
+    /// The same of those that the asks want which wait then.
+    pub(crate) fn spent_after(
+        &self,
+        alloc: Global,
+        base: &State,
+    ) -> Result<SpentFolders, AllocError>
+        requires { NotesSpent base.now }
+        ensures { IfOk result (λ spent. (line : LineOf) → AreNoted spent.folders.items (after line (held base.now) self.now)) }
+    {
+        let mut spent = self.spent(alloc, base)?;
+        let since = self.parked.since.as_slice();
+        spent.note_asks(alloc, &base.table, &self.table, since)?;
+        Ok(spent)
+    }
+
+    /// The place from this one on of the first parked ask that may not wait now, or the place behind the last: an ask that wants
+    /// one of the freed slots, or a PRIVATE folder of which no instance may be free. Of the freed slots it drops those that are
+    /// leased again.
+    pub(crate) fn first_due(
+        &self,
+        alloc: Global,
+        base: &State,
+        freed: &mut Vec<(Slot, bool)>,
+        place: usize,
+    ) -> Result<usize, AllocError>
+        requires inside { place ≤ length (asks_of base.now.parked) }
+        requires noted { NotesSpent base.now }
+        requires idle { (line : LineOf) → All (IsIdle freed.old.items (after line (held base.now) self.now)) (asks_of base.now.parked) }
+        ensures forward { IfOk result (λ next. place ≤ next) }
+        ensures inside { IfOk result (λ next. next ≤ length (asks_of base.now.parked)) }
+        ensures passed { IfOk result (λ next. (line : LineOf) (k : ℕ) (d : Parked) → place ≤ k → k < next
+            → decision farm_limits (after line (held base.now) self.now) (slice_index_or (asks_of base.now.parked) k d) ≡ Decision.Wait) }
+        ensures idle { (line : LineOf) → All (IsIdle freed.new.items (after line (held base.now) self.now)) (asks_of base.now.parked) }
+    {
+        self.keep_open(base, freed);
+        let spent = self.spent(alloc, base)?;
+        Ok(base.parked.next(freed.as_slice(), spent.as_slice(), place))
     }
 
     pub(crate) fn may_commit(

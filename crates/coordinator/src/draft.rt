@@ -7,8 +7,8 @@ ghost use Rattle.leases.specs.Table.{fit_of};
 ghost use Rattle.leases.specs.declared.lease_table.Fit.{Fit};
 ghost use Rattle.protocol.specs.Ledger.{Ledger, begin_work, decision, decided, sees, is_older, is_home, ends, without, Lease, lease_for, grant_of, gives, denies, tried, try_all, stays, waiting, retried, elsewhere, recall, recalls, holds_wanted, acquiring, lease_of, is_parked, confirms, committing, may_commit, may_release, lease_under, released, newer_life, answering, handled};
 ghost use Rattle.coordinator.specs.Held.{Held, line_at};
-ghost use Rattle.coordinator.specs.Idle.{AreHeldUp, AreIdle, IsIdle};
-ghost use Rattle.coordinator.specs.Keeps.{held};
+ghost use Rattle.coordinator.specs.Idle.{AreHeldUp, IsIdle};
+ghost use Rattle.coordinator.specs.Keeps.{held, NotesSpent};
 ghost use Rattle.farm_base.specs.Wanted.{IsWants};
 ghost use Rattle.coordinator.specs.Shown.{LineOf, kept, after, shown, table_after, lines_with, ended, ended_committed};
 ghost use Rattle.coordinator.specs.Over.{still_waiting};
@@ -199,40 +199,38 @@ impl Draft {
         Ok(done)
     }
 
-    /// Tries the parked asks that want the folder of a freed slot, until these slots are leased again, and says which wait no
-    /// longer. The others need no look: all of them wait.
+    /// Tries the parked asks that want a freed slot that isn't leased again, or a PRIVATE folder of which no instance may be
+    /// free, and says which wait no longer. The others need no look: all of them wait.
     fn try_wanting(
         &mut self,
         alloc: Global,
         base: &State,
         added: &Option<Added>,
-        freed: &[(Slot, bool)],
+        freed: Vec<(Slot, bool)>,
     ) -> Result<Over, AllocError>
         requires sound { IsSound (after (lines_with base.now.lines added.now) (held base.now) self.old.change) }
         requires wants { All (λ p. IsWants p.wants) (asks_of base.now.parked) }
-        requires idle { All (IsIdle freed.now (after (lines_with base.now.lines added.now) (held base.now) self.old.change)) (asks_of base.now.parked) }
+        requires noted { NotesSpent base.now }
+        requires idle { All (IsIdle freed.items (after (lines_with base.now.lines added.now) (held base.now) self.old.change)) (asks_of base.now.parked) }
         ensures work { OnOk result (shown (lines_with base.now.lines added.now) (held base.now) self.new
             ≡ try_all farm_limits (asks_of base.now.parked) (shown (lines_with base.now.lines added.now) (held base.now) self.old)) }
         ensures stay { IfOk result (λ done. still_waiting done.places.items (asks_of base.now.parked)
             ≡ waiting farm_limits (asks_of base.now.parked) (shown (lines_with base.now.lines added.now) (held base.now) self.old)) }
     {
         let asks = base.parked.waiting();
+        let mut freed = freed;
         let mut done = Over::new(alloc);
-        let mut place = 0;
-        while place < asks.len() && self.change.some_open(base, freed) {
-            place = base.parked.next(freed, place);
-            if place == asks.len() {
-                return Ok(done);
-            }
+        let mut place = self.change.first_due(alloc, base, &mut freed, 0)?;
+        while place < asks.len() {
             let waits = self.try_ask(alloc, base, added, &asks[place])?;
             done.note_if(place, !waits)?;
-            place += 1;
+            place = self.change.first_due(alloc, base, &mut freed, place + 1)?;
         }
         Ok(done)
     }
 
     /// Tries the parked asks, in order of arrival.
-    fn retry_all(
+    pub(crate) fn retry_all(
         &mut self,
         alloc: Global,
         base: &State,
@@ -254,20 +252,21 @@ impl Draft {
         Ok(())
     }
 
-    /// Tries the parked asks, in order of arrival, where none is over and none came since. It looks at those alone that want
-    /// the folder of a freed slot.
+    /// Tries the parked asks, in order of arrival, where none is over and none came since. It looks at those alone that may not
+    /// wait.
     fn retry_wanting(
         &mut self,
         alloc: Global,
         base: &State,
         added: &Option<Added>,
-        freed: &[(Slot, bool)],
+        freed: Vec<(Slot, bool)>,
     ) -> Result<(), AllocError>
         requires over { self.old.change.parked.over.places.items ≡ [] }
         requires since { self.old.change.parked.since.items ≡ [] }
         requires sound { IsSound (after (lines_with base.now.lines added.now) (held base.now) self.old.change) }
         requires wants { All (λ p. IsWants p.wants) (asks_of base.now.parked) }
-        requires idle { All (IsIdle freed.now (after (lines_with base.now.lines added.now) (held base.now) self.old.change)) (asks_of base.now.parked) }
+        requires noted { NotesSpent base.now }
+        requires idle { All (IsIdle freed.items (after (lines_with base.now.lines added.now) (held base.now) self.old.change)) (asks_of base.now.parked) }
         ensures { OnOk result (shown (lines_with base.now.lines added.now) (held base.now) self.new
             ≡ retried farm_limits (shown (lines_with base.now.lines added.now) (held base.now) self.old)) }
     {
@@ -279,29 +278,25 @@ impl Draft {
         Ok(())
     }
 
-    /// Tries the parked asks, in order of arrival.
+    /// Tries the parked asks, in order of arrival, where a lease has ended that had these slots.
     pub(crate) fn retry(
         &mut self,
         alloc: Global,
         base: &State,
         added: &Option<Added>,
-        freed: &Option<Items<(Slot, bool)>>,
+        freed: Vec<(Slot, bool)>,
     ) -> Result<(), AllocError>
         requires sound { IsSound (after (lines_with base.now.lines added.now) (held base.now) self.old.change) }
         requires wants { All (λ p. IsWants p.wants) (asks_of base.now.parked) }
-        requires idle { AreIdle freed.now (after (lines_with base.now.lines added.now) (held base.now) self.old.change) (waits_after (asks_of base.now.parked) self.old.change.parked) }
+        requires noted { NotesSpent base.now }
+        requires idle { All (IsIdle freed.items (after (lines_with base.now.lines added.now) (held base.now) self.old.change)) (waits_after (asks_of base.now.parked) self.old.change.parked) }
         ensures { OnOk result (shown (lines_with base.now.lines added.now) (held base.now) self.new
             ≡ retried farm_limits (shown (lines_with base.now.lines added.now) (held base.now) self.old)) }
     {
-        match freed {
-            Some(slots) => {
-                if self.change.parked.is_none() {
-                    self.retry_wanting(alloc, base, added, slots.as_slice())
-                } else {
-                    self.retry_all(alloc, base, added)
-                }
-            }
-            None => self.retry_all(alloc, base, added),
+        if self.change.parked.is_none() {
+            self.retry_wanting(alloc, base, added, freed)
+        } else {
+            self.retry_all(alloc, base, added)
         }
     }
 
@@ -471,26 +466,21 @@ impl Draft {
         Ok(())
     }
 
-    /// The slots that the end of a ticket's lease frees. None are told where a parked ask may want a PRIVATE folder: it can be
-    /// denied whatever is freed.
+    /// The slots that the end of a ticket's lease frees.
     pub(crate) fn freed_by(
         &self,
         alloc: Global,
         base: &State,
         ticket: Ticket,
-    ) -> Result<Option<Items<(Slot, bool)>>, AllocError>
+    ) -> Result<Vec<(Slot, bool)>, AllocError>
         requires sound { IsSound (after (line_at base.now.lines) (held base.now) self.now.change) }
         requires held_up { AreHeldUp (after (line_at base.now.lines) (held base.now) self.now.change) }
         ensures { IfOk result (λ freed. (q : Ledger) → q.live ≡ without ticket (table_after (held base.now) self.now.change).live → q.old_home ≡ self.now.change.old_home
-            → q.parked ≡ waits_after (asks_of base.now.parked) self.now.change.parked → AreIdle freed q q.parked) }
+            → q.parked ≡ waits_after (asks_of base.now.parked) self.now.change.parked → All (IsIdle freed.items q) q.parked) }
     {
-        let parked = &self.change.parked;
-        if !base.parked.plain || !parked.since.is_empty() {
-            return Ok(None);
-        }
         match self.change.table.lease(&base.table, ticket) {
-            Some(lease) => Ok(Some(lease.slots.copy(alloc)?)),
-            None => Ok(None),
+            Some(lease) => Ok(lease.slots.copy(alloc)?.into_vec()),
+            None => Ok(Vec::new(alloc)),
         }
     }
 
@@ -504,6 +494,7 @@ impl Draft {
     ) -> Result<(), AllocError>
         requires sound { IsSound (after (line_at base.now.lines) (held base.now) self.old.change) }
         requires wants { All (λ p. IsWants p.wants) (asks_of base.now.parked) }
+        requires noted { NotesSpent base.now }
         requires held_up { AreHeldUp (after (line_at base.now.lines) (held base.now) self.old.change) }
         ensures { OnOk result (shown (line_at base.now.lines) (held base.now) self.new
             ≡ released farm_limits (may_release node life (lease_under (table_after (held base.now) self.old.change).live ticket)) ticket (lease_under (table_after (held base.now) self.old.change).live ticket) (shown (line_at base.now.lines) (held base.now) self.old)) }
@@ -513,7 +504,7 @@ impl Draft {
         }
         let freed = self.freed_by(alloc, base, ticket)?;
         self.end(base, ticket)?;
-        self.retry(alloc, base, &None, &freed)?;
+        self.retry(alloc, base, &None, freed)?;
         self.note = CoordNote::Released(ticket);
         Ok(())
     }
@@ -539,6 +530,7 @@ impl Draft {
     ) -> Result<Option<Added>, AllocError>
         requires sound { IsSound (after (line_at base.now.lines) (held base.now) self.old.change) }
         requires wants { All (λ p. IsWants p.wants) (asks_of base.now.parked) }
+        requires noted { NotesSpent base.now }
         requires held_up { AreHeldUp (after (line_at base.now.lines) (held base.now) self.old.change) }
         ensures work { IfOk result (λ added. shown (lines_with base.now.lines added) (held base.now) self.new
             ≡ committing farm_limits (may_commit node life news.now (lease_under (table_after (held base.now) self.old.change).live ticket)) node life ticket news.now (shown (line_at base.now.lines) (held base.now) self.old)) }
@@ -553,7 +545,7 @@ impl Draft {
         let freed = self.freed_by(alloc, base, ticket)?;
         self.end_committed(ticket)?;
         self.confirm(alloc, base, &added, node, life, ticket, news)?;
-        self.retry(alloc, base, &added, &freed)?;
+        self.retry(alloc, base, &added, freed)?;
         self.note = CoordNote::Committed(ticket);
         Ok(added)
     }
@@ -601,7 +593,7 @@ impl Draft {
         if !self.see(alloc, base, node, life)? {
             return Ok(());
         }
-        self.retry(alloc, base, &None, &None)?;
+        self.retry_all(alloc, base, &None)?;
         Ok(())
     }
 
@@ -614,6 +606,7 @@ impl Draft {
     ) -> Result<Option<Added>, AllocError>
         requires sound { IsSound (after (line_at base.now.lines) (held base.now) self.old.change) }
         requires wants { All (λ p. IsWants p.wants) (asks_of base.now.parked) }
+        requires noted { NotesSpent base.now }
         requires held_up { AreHeldUp (after (line_at base.now.lines) (held base.now) self.old.change) }
         ensures work { IfOk result (λ added. shown (lines_with base.now.lines added) (held base.now) self.new
             ≡ answering farm_limits message.now.node message.now.life message.now.request (shown (line_at base.now.lines) (held base.now) self.old)) }
@@ -659,6 +652,7 @@ impl Draft {
     ) -> Result<Option<Added>, AllocError>
         requires sound { IsSound (after (line_at base.now.lines) (held base.now) self.old.change) }
         requires wants { All (λ p. IsWants p.wants) (asks_of base.now.parked) }
+        requires noted { NotesSpent base.now }
         requires first { self.old.change.life ≡ None }
         requires held_up { AreHeldUp (after (line_at base.now.lines) (held base.now) self.old.change) }
         ensures work { IfOk result (λ added. shown (lines_with base.now.lines added) (held base.now) self.new

@@ -21,7 +21,7 @@ ghost use Rattle.std.specs.Vec.{vec_len};
 ghost use Rattle.leases.specs.Changes.{changed, HasRoom};
 ghost use Rattle.leases.specs.Leases.{AreLeases};
 ghost use Rattle.saverecord.specs.Keepers.{HasFailed};
-ghost use Rattle.coordinator.specs.Keeps.{held};
+ghost use Rattle.coordinator.specs.Keeps.{held, NotesSpent};
 ghost use Rattle.coordinator.specs.Seen.{IsKeeping};
 ghost use Rattle.coordinator.specs.Settling.{Answers, is_save_fault};
 ghost use Rattle.coordinator.specs.Shown.{LineOf, kept, after, shown, with_life, with_gone};
@@ -36,6 +36,7 @@ use super::change::Change;
 use super::draft::Draft;
 use super::handled::Handled;
 use super::record::{entry_of, record_of, state_of};
+use super::spent_folders::SpentFolders;
 use super::state::State;
 use super::table_room::{put_back, put_changed, take_table};
 use super::text::{Sizes, Text, save};
@@ -61,11 +62,11 @@ impl Model for Ledger {
 
     ghost Value = { Held };
 
-    ghost use Rattle.coordinator.specs.Keeps.{held, keeps_sound};
+    ghost use Rattle.coordinator.specs.Keeps.{held, IsKeepable};
 
     ghost view = { λ c. held c.state };
 
-    ghost invariant = { λ c. keeps_sound c.state };
+    ghost invariant = { λ c. IsKeepable c.state };
 }
 
 /// An event that was worked out and not applied yet.
@@ -84,6 +85,7 @@ fn apply(
     state: &mut State,
     table: TableWithRoom,
     nodes: (Option<Lives>, Option<RetiredNodes>),
+    spent: SpentFolders,
     prepared: Prepared,
 ) -> Handled
     requires table_room { HasRoom table prepared.draft.value.change.table }
@@ -96,6 +98,7 @@ fn apply(
     requires larger { room_needed state.old.lines prepared.added ≤ vec_capacity prepared.room }
     ensures lines { line_at state.new.lines ≡ lines_with state.old.lines prepared.added }
     ensures ledger { (line : LineOf) → kept line state.new ≡ after line (record (held state.old) { live = table.table.live; retired = table.table.retired }) prepared.draft.value.change }
+    ensures spent { state.new.spent ≡ spent }
     ensures sends { result.sends ≡ prepared.draft.value.sends.items }
     ensures note { result.note ≡ prepared.draft.value.note }
 {
@@ -120,6 +123,7 @@ fn apply(
     update(&mut state.lives, nodes.0);
     update(&mut state.gone, nodes.1);
     state.old_home = old_home;
+    state.spent = spent;
     state.lines.add_to(added, room);
     Handled {
         sends: Items::new(sends),
@@ -237,6 +241,9 @@ impl Ledger {
             return Err(CoordRefusal::OutOfMemory);
         };
         let change = &prepared.draft.change;
+        let Ok(spent) = change.spent_after(alloc, &self.state) else {
+            return Err(CoordRefusal::OutOfMemory);
+        };
         let Ok(()) = change.parked.room(alloc, &mut self.state.parked) else {
             return Err(CoordRefusal::OutOfMemory);
         };
@@ -249,7 +256,7 @@ impl Ledger {
         match save(keeper, self.sizes, to_save) {
             Ok(sizes) => {
                 self.sizes = sizes;
-                Ok(apply(alloc, &mut self.state, table, nodes, prepared))
+                Ok(apply(alloc, &mut self.state, table, nodes, spent, prepared))
             }
             Err(refusal) => {
                 put_back(&mut self.state.table, table);

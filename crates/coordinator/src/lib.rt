@@ -15,6 +15,7 @@ mod parked_asks;
 mod parked_change;
 mod passing;
 mod record;
+mod spent_folders;
 mod state;
 mod table_room;
 mod text;

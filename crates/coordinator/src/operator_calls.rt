@@ -8,7 +8,7 @@ ghost use Rattle.protocol.specs.Ledger.{begin_work, withdrawn, pruned, retired, 
 ghost use Rattle.versions.specs.Additions.{HasRoom, IsReady};
 ghost use Rattle.versions.specs.Lines.{lines_with, news_of};
 ghost use Rattle.coordinator.specs.Held.{line_at};
-ghost use Rattle.coordinator.specs.Keeps.{held};
+ghost use Rattle.coordinator.specs.Keeps.{held, NotesSpent};
 ghost use Rattle.farm_base.specs.Wanted.{IsWants};
 ghost use Rattle.coordinator.specs.Shown.{LineOf, having_said, kept, after, shown, withdraws_under};
 ghost use Rattle.coordinator.specs.Idle.{AreHeldUp};
@@ -140,13 +140,14 @@ impl Draft {
         requires sound { IsSound (after (line_at base.now.lines) (held base.now) self.old.change) }
         requires wants { All (λ p. IsWants p.wants) (asks_of base.now.parked) }
         requires held_up { AreHeldUp (after (line_at base.now.lines) (held base.now) self.old.change) }
+        requires noted { NotesSpent base.now }
         requires accepted { result_err (withdrawn farm_limits ticket (shown (line_at base.now.lines) (held base.now) self.old)) ≡ None }
         ensures work { OnOk result (withdrawn farm_limits ticket (shown (line_at base.now.lines) (held base.now) self.old) ≡ Ok (shown (line_at base.now.lines) (held base.now) self.new)) }
         ensures sound { OnOk result (IsSound (after (line_at base.now.lines) (held base.now) self.new.change)) }
     {
         let freed = self.freed_by(alloc, base, ticket)?;
         self.take_back(alloc, base, ticket)?;
-        self.retry(alloc, base, &None, &freed)?;
+        self.retry(alloc, base, &None, freed)?;
         self.note = CoordNote::Withdrawn(ticket);
         Ok(())
     }
@@ -161,7 +162,7 @@ impl Draft {
         if !due {
             return Ok(());
         }
-        self.retry(alloc, base, &None, &None)?;
+        self.retry_all(alloc, base, &None)?;
         Ok(())
     }
 

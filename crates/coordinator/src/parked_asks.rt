@@ -3,15 +3,14 @@ ghost use Rattle.std.specs.Prelude.{◌≡◌, ◌≤◌, ◌<◌, ℕ, [], true
 ghost use Rattle.std.specs.List.Sorted.{IsNonDecreasing};
 ghost use Rattle.protocol.specs.Machine.{Parked};
 ghost use Rattle.leases.specs.Newest.{knows, node_room};
-ghost use Rattle.std.specs.List.{list_any};
-ghost use Rattle.coordinator.specs.Idle.{wants_private, ArePlain};
+ghost use Rattle.coordinator.specs.Spent.{WantsNoneOf};
 ghost use Rattle.coordinator.specs.Newest.{AreKnown};
 ghost use Rattle.coordinator.specs.Wanted.{AreIndexed, WantsNone};
 
 use super::numbers::Numbers;
 use super::passing::behind;
 use super::wanted_folders::WantedFolders;
-use farm_base::{Ask, Life, Mode, NodeId, Parked, Slot};
+use farm_base::{Ask, FolderName, Life, NodeId, Parked, Slot};
 use leases::NewestAsks;
 use std::alloc::Global;
 
@@ -24,33 +23,13 @@ pub struct ParkedAsks {
     /// How many are over.
     pub start: usize,
     pub newest: NewestAsks,
-    /// Whether none of them wants a PRIVATE folder, as far as is known.
-    pub plain: bool,
     /// The number of each.
     pub numbers: Numbers,
     /// Which of them want each folder.
     pub wanted: WantedFolders,
     ghost inside: { start ≤ vec_len asks },
     ghost known: { AreKnown newest (drop start asks.items) },
-    ghost only_plain: { plain ≡ true → ArePlain (drop start asks.items) },
     ghost indexed: { AreIndexed wanted (drop start asks.items) (drop numbers.start numbers.items.items) },
-}
-
-/// Whether the ask wants a PRIVATE folder.
-fn wants_private(p: &Parked) -> bool
-    ensures { result ≡ wants_private p.now }
-{
-    let wants = p.wants.as_slice();
-    wants
-        .iter()
-        .any(|want| matches!(want.folder.mode, Mode::Private))
-}
-
-/// Whether one of these asks wants a PRIVATE folder.
-pub(crate) fn some_private(asks: &[Parked]) -> bool
-    ensures { result ≡ list_any wants_private asks.now }
-{
-    asks.iter().any(|p| wants_private(p))
 }
 
 /// Notes that these asks waited.
@@ -69,6 +48,7 @@ fn count_below(numbers: &[u64], number: u64) -> usize
     requires { IsNonDecreasing numbers.now }
     ensures inside { result ≤ length numbers.now }
     ensures below { (k : ℕ) → k < result → slice_index_or numbers.now k 0 < number }
+    ensures behind { (k : ℕ) → result ≤ k → k < length numbers.now → number ≤ slice_index_or numbers.now k 0 }
 {
     numbers.partition_point(
         |n: &u64| -> bool
@@ -86,7 +66,6 @@ impl ParkedAsks {
             asks: Vec::new(alloc),
             start: 0,
             newest: NewestAsks::new(alloc),
-            plain: true,
             numbers: Numbers::new(alloc),
             wanted: WantedFolders::new(alloc),
         }
@@ -99,18 +78,20 @@ impl ParkedAsks {
         behind(self.asks.as_slice(), self.start)
     }
 
-    /// The place from this one on of the first ask that may want the folder of one of the slots, or behind the last ask.
-    pub(crate) fn next(&self, slots: &[(Slot, bool)], place: usize) -> usize
+    /// The place from this one on of the first ask that may want the folder of one of the slots, or one of the folders, or the
+    /// place behind the last ask.
+    pub(crate) fn next(&self, slots: &[(Slot, bool)], folders: &[FolderName], place: usize) -> usize
         requires { place ≤ length (drop self.now.start self.now.asks.items) }
         ensures forward { place ≤ result }
         ensures inside { result ≤ length (drop self.now.start self.now.asks.items) }
-        ensures passed { (k : ℕ) (d : Parked) → place ≤ k → k < result → WantsNone slots.now (slice_index_or (drop self.now.start self.now.asks.items) k d) }
+        ensures slots { (k : ℕ) (d : Parked) → place ≤ k → k < result → WantsNone slots.now (slice_index_or (drop self.now.start self.now.asks.items) k d) }
+        ensures folders { (k : ℕ) (d : Parked) → place ≤ k → k < result → WantsNoneOf folders.now (slice_index_or (drop self.now.start self.now.asks.items) k d) }
     {
         let numbers = self.numbers.as_slice();
         if place >= numbers.len() {
             return place;
         }
-        match self.wanted.first_of_all(slots, numbers[place]) {
+        match self.wanted.first_of_all(slots, folders, numbers[place]) {
             Some(first) => place.max(count_below(numbers, first)),
             None => numbers.len(),
         }

@@ -7,7 +7,7 @@ ghost use Rattle.coordinator.specs.Waiting.{ends_ask, waits_after};
 ghost use Rattle.coordinator.specs.Queue.{asks_of, HasRoomFor};
 
 use super::over::{Over, split_over};
-use super::parked_asks::{ParkedAsks, note_all, some_private};
+use super::parked_asks::{ParkedAsks, note_all};
 use super::passing::{behind, take_out, trimmed};
 use farm_base::{Ask, Life, NodeId, Parked};
 use leases::Ending;
@@ -184,7 +184,6 @@ impl ParkedChange {
             asks,
             start,
             newest,
-            plain,
             numbers,
             wanted,
         } = parked;
@@ -197,28 +196,18 @@ impl ParkedChange {
             over.as_slice(),
             numbers.as_slice(),
         );
-        let since_private = some_private(since.as_slice());
         let mut asks = asks;
         let start = take_out(&mut asks, start, &over);
         let asks = joined(asks, since);
-        let plain = plain_after(start == asks.len(), plain, since_private);
         let (asks, start) = trimmed(asks, start);
         ParkedAsks {
             asks,
             start,
             newest,
-            plain,
             numbers,
             wanted,
         }
     }
-}
-
-/// Whether none of the asks wants a PRIVATE folder: where there is none, or it was so and no other wants one.
-fn plain_after(is_empty: bool, plain: bool, since_private: bool) -> bool
-    ensures { result ≡ (is_empty || (plain && not since_private)) }
-{
-    is_empty || (plain && !since_private)
 }
 
 /// The asks of both, in the first, which has room for them.

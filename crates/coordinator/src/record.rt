@@ -9,7 +9,7 @@ ghost use Rattle.saverecord.specs.Ledgers.{IsKept, ledger_of};
 ghost use Rattle.saverecord.specs.Logs.{with_lives, IsChange, AreInOrder};
 ghost use Rattle.saverecord.specs.Logs.{with_gone as with_nodes};
 ghost use Rattle.versions.specs.Additions.{IsReady};
-ghost use Rattle.coordinator.specs.Keeps.{held};
+ghost use Rattle.coordinator.specs.Keeps.{held, NotesSpent};
 ghost use Rattle.coordinator.specs.Shown.{after, kept, lines_with, with_life, with_gone};
 ghost use Rattle.coordinator.specs.Held.{line_at};
 ghost use Rattle.coordinator.specs.Sound.{IsRightful};
@@ -17,6 +17,7 @@ ghost use Rattle.coordinator.specs.Sound.{IsRightful};
 use super::change::Change;
 use super::new_life::NewLife;
 use super::parked_asks::ParkedAsks;
+use super::spent_folders::SpentFolders;
 use super::state::State;
 use farm_base::{Items, Lease, NodeId, NodeLife};
 use leases::{LeaseTable, Lives, RetiredNodes, TicketSource, is_saved};
@@ -138,7 +139,8 @@ pub(crate) fn entry_of(
 /// The state that a restart makes of a record. The leases that a coordinator doesn't save are over.
 pub(crate) fn state_of(alloc: Global, read: Record) -> Result<State, AllocError>
     requires { IsKept read }
-    ensures { IfOk result (λ state. kept (line_at state.lines) state ≡ reads (saves (ledger_of read))) }
+    ensures ledger { IfOk result (λ state. kept (line_at state.lines) state ≡ reads (saves (ledger_of read))) }
+    ensures noted { IfOk result NotesSpent }
 {
     let mut leases = read.leases.into_vec();
     keep_saved(&mut leases);
@@ -150,6 +152,7 @@ pub(crate) fn state_of(alloc: Global, read: Record) -> Result<State, AllocError>
         gone: RetiredNodes::of(read.retired_nodes.into_vec()),
         old_home: read.old_home,
         parked: ParkedAsks::new(alloc),
+        spent: SpentFolders::new(alloc),
         lines: Lines::of(read.lines.into_vec()),
     })
 }

@@ -8,6 +8,7 @@ ghost use Rattle.protocol.specs.Ledger.{grant_of, is_saved, is_home, writable_sl
 ghost use Rattle.coordinator.specs.Shown.{lines_with, saved_under};
 
 use super::parked_asks::ParkedAsks;
+use super::spent_folders::SpentFolders;
 use farm_base::{Grant, Items, Lease, Mode, News, NodeId, Slot};
 use leases::{LeaseTable, Lives, RetiredNodes, TicketSource, is_saved};
 use std::alloc::{AllocError, Global};
@@ -22,6 +23,8 @@ pub struct State {
     pub gone: RetiredNodes,
     pub old_home: Option<NodeId>,
     pub parked: ParkedAsks,
+    /// The PRIVATE folders that parked asks want and of which no instance may be free.
+    pub spent: SpentFolders,
     pub lines: Lines,
 }
 

@@ -8,7 +8,7 @@ ghost use Rattle.indexmap.specs.IndexMap.{get};
 ghost use Rattle.protocol.specs.Lists.{In};
 ghost use Rattle.protocol.specs.Names.{FolderName, Want};
 ghost use Rattle.coordinator.specs.Numbers.{numbers_from};
-ghost use Rattle.coordinator.specs.Wanted.{notes_want, notes_some, AreIndexed, Reaches};
+ghost use Rattle.coordinator.specs.Wanted.{notes_want, notes_some, notes_one, AreIndexed, Reaches};
 
 use super::numbers::{after, is_among};
 use farm_base::{Copied, FolderName, Parked, Slot, Want};
@@ -180,8 +180,8 @@ impl WantedFolders {
         }
     }
 
-    /// The first ask, by its number from this one on, that may want the folder of one of the slots.
-    pub(crate) fn first_of_all(&self, slots: &[(Slot, bool)], from: u64) -> Option<u64>
+    /// The same of the folder of one of the slots.
+    fn first_of_slots(&self, slots: &[(Slot, bool)], from: u64) -> Option<u64>
         ensures { (n : ℕ) → from ≤ n → notes_some self.now slots.now n ≡ true → Reaches result n }
     {
         let mut first = None;
@@ -189,5 +189,32 @@ impl WantedFolders {
             first = least(first, self.first_of(held.0.folder(), from));
         }
         first
+    }
+
+    /// The same of one of the folders.
+    fn first_of_folders(&self, folders: &[FolderName], from: u64) -> Option<u64>
+        ensures { (n : ℕ) → from ≤ n → notes_one self.now folders.now n ≡ true → Reaches result n }
+    {
+        let mut first = None;
+        for folder in folders {
+            first = least(first, self.first_of(folder, from));
+        }
+        first
+    }
+
+    /// The same of the folder of one of the slots, or of one of the folders.
+    pub(crate) fn first_of_all(
+        &self,
+        slots: &[(Slot, bool)],
+        folders: &[FolderName],
+        from: u64,
+    ) -> Option<u64>
+        ensures slots { (n : ℕ) → from ≤ n → notes_some self.now slots.now n ≡ true → Reaches result n }
+        ensures folders { (n : ℕ) → from ≤ n → notes_one self.now folders.now n ≡ true → Reaches result n }
+    {
+        least(
+            self.first_of_slots(slots, from),
+            self.first_of_folders(folders, from),
+        )
     }
 }

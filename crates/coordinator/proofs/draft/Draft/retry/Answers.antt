@@ -1,9 +1,8 @@
-use Rattle.std.proofs.Common.{◌≡◌, ◌++◌, [], ℕ, List, Bool, ap, sym, ◌∙◌, subst, append-nil}
+use Rattle.std.proofs.Common.{◌≡◌, ◌++◌, [], ℕ, List, ap, ◌∙◌, subst, append-nil}
 use Rattle.std.specs.Prelude.{All}
 use Rattle.protocol.specs.Machine.{Parked}
-use Rattle.protocol.specs.Names.{Slot}
 use Rattle.protocol.specs.Ledger.{Ledger}
-use Rattle.coordinator.specs.Idle.{AreIdle, IsIdle}
+use Rattle.coordinator.specs.Idle.{IsIdle}
 use Rattle.coordinator.specs.Keeps.{held}
 use Rattle.coordinator.specs.Over.{still_waiting}
 use Rattle.coordinator.specs.Queue.{asks_of}
@@ -19,6 +18,4 @@ retry_wanting-requires-clause-idle c =
     let all : waits_after asks c.args.self.now.change.parked ≡ asks =
     ap (λ (os : List ℕ). still_waiting os asks ++ c.args.self.now.change.parked.since.items) (c.is_none.ensures.over c.if-is_none.true)
     ∙ ap (λ (ps : List Parked). still_waiting [] asks ++ ps) (c.is_none.ensures.since c.if-is_none.true) ∙ append-nil (still_waiting [] asks) ∙ still-none 0 asks in
-    let told = subst (λ o. AreIdle o q (waits_after asks c.args.self.now.change.parked)) c.in-Some.is c.requires.idle in
-    let listed = subst (λ (freed : List (Slot × Bool)). All (IsIdle freed q) (waits_after asks c.args.self.now.change.parked)) (sym c.as_slice.ensures) told in
-    subst (All (IsIdle c.as_slice.result.now q)) all listed
+    subst (All (IsIdle c.args.freed.items q)) all c.requires.idle

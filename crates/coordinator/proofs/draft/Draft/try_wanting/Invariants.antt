@@ -6,7 +6,7 @@ use Rattle.coordinator.specs.Idle.{IsIdle}
 use Rattle.coordinator.specs.Keeps.{held}
 use Rattle.coordinator.specs.Over.{still_at}
 use Rattle.coordinator.specs.Queue.{asks_of}
-use Rattle.coordinator.specs.Shown.{after, shown, lines_with}
+use Rattle.coordinator.specs.Shown.{LineOf, after, shown, lines_with}
 use Rattle.coordinator.specs.Sound.{IsSound}
 use Rattle.coordinator.proofs.WaitingWords.{Begins}
 use Rattle.coordinator.proofs.draft.Draft.try_wanting.Given as goal
@@ -21,7 +21,7 @@ invariant-loop-place l = record {
       → still_at l.place os (drop l.place (asks_of l.base.parked)) ≡ waiting farm_limits (drop l.place (asks_of l.base.parked)) (shown (lines_with l.base.lines l.added) (held l.base) l.self)
       → still_at 0 (l.done.places.items ++ os) (asks_of l.base.parked) ≡ waiting farm_limits (asks_of l.base.parked) (shown (lines_with l.base.lines l.added) (held l.base) l.initial.self);
   sound : IsSound (after (lines_with l.base.lines l.added) (held l.base) l.self.change);
-  idle : All (IsIdle l.freed (after (lines_with l.base.lines l.added) (held l.base) l.self.change)) (asks_of l.base.parked);
+  idle : (line : LineOf) → All (IsIdle l.freed.items (after line (held l.base) l.self.change)) (asks_of l.base.parked);
 }
 
 abbrev pub decreases-loop-place : goal.decreases-loop-place

@@ -16,7 +16,7 @@ use Rattle.coordinator.proofs.Entries.{rightful_saves}
 use Rattle.coordinator.proofs.ledger.Ledger.entry_bytes.Goals as goal
 
 pub entry_of-requires-clause-before : goal.entry_of-requires-clause-before
-entry_of-requires-clause-before c = c.self.invariant.sound.leases
+entry_of-requires-clause-before c = c.self.invariant.rightful.sound.leases
 
 pub entry_of-requires-clause-block : goal.entry_of-requires-clause-block
 entry_of-requires-clause-block c =
@@ -32,7 +32,7 @@ write-requires c =
     let rightful : IsRightful (by c.args.self.now) =
     subst (λ (d : Draft). IsRightful (after (lines_with c.args.self.now.lines c.args.prepared.now.added) c.args.self.now d.change)) (sym c.deref.ensures) c.requires.rightful in
     let h : Held = held c.self.inside.state in
-    change_is_entry (saves (ledger h)) (saves (by h)) c.in_ok-entry.entry (rightful_saves (ledger h) c.self.invariant) (rightful_saves (by h) (subst (λ (x : Held). IsRightful (by x)) (sym c.self.view_is) rightful))
+    change_is_entry (saves (ledger h)) (saves (by h)) c.in_ok-entry.entry (rightful_saves (ledger h) c.self.invariant.rightful) (rightful_saves (by h) (subst (λ (x : Held). IsRightful (by x)) (sym c.self.view_is) rightful))
     c.in_ok-entry.ensures.order c.in_ok-entry.ensures.change
 
 pub returns : goal.returns
@@ -43,7 +43,7 @@ returns c =
     let h : Held = held c.self.inside.state in
     let sound : IsSaved (saves (by h)) = rightful_saves (by h) (subst (λ (x : Held). IsRightful (by x)) (sym c.self.view_is) rightful) in
     let is_entry : IsLogEntry c.in_ok-entry.entry =
-    change_is_entry (saves (ledger h)) (saves (by h)) c.in_ok-entry.entry (rightful_saves (ledger h) c.self.invariant) sound c.in_ok-entry.ensures.order c.in_ok-entry.ensures.change in
+    change_is_entry (saves (ledger h)) (saves (by h)) c.in_ok-entry.entry (rightful_saves (ledger h) c.self.invariant.rightful) sound c.in_ok-entry.ensures.order c.in_ok-entry.ensures.change in
     subst (λ (d : Draft). IfOk c.write.result (λ bytes. (t : Texts) → Holds t (saves (ledger c.args.self.now))
     → Holds (with_text bytes.items t) (saves (after (lines_with c.args.self.now.lines c.args.prepared.now.added) c.args.self.now d.change)))) c.deref.ensures
     (IfOk-weaker c.write.result _ (λ bytes. (t : Texts) → Holds t (saves (ledger c.args.self.now)) → Holds (with_text bytes.items t) (saves (by c.args.self.now)))

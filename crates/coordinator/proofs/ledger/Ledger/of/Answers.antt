@@ -4,4 +4,7 @@ use Rattle.coordinator.proofs.Records.{rightful_of}
 use Rattle.coordinator.proofs.ledger.Ledger.of.Goals as goal
 
 pub invariant_of-result : goal.invariant_of-result
-invariant_of-result c = subst IsRightful (sym c.in_ok-state.ensures) (rightful_of c.args.read c.requires)
+invariant_of-result c = record {
+  rightful = subst IsRightful (sym c.in_ok-state.ensures.ledger) (rightful_of c.args.read c.requires);
+  noted = c.in_ok-state.ensures.noted;
+}

@@ -14,7 +14,7 @@ use Rattle.coordinator.proofs.ledger.Ledger.pruning.Goals as goal
 pub prune-requires-clause-sound : goal.prune-requires-clause-sound
 prune-requires-clause-sound c =
     let P : Work → Type 0 = λ w. IsSound w.ledger in
-    subst P (sym (begun (held c.self.inside.state) c.deref_mut.ensures.value (c.in_ok-draft.ensures.work (line_at c.self.inside.state.lines)))) c.self.invariant.sound
+    subst P (sym (begun (held c.self.inside.state) c.deref_mut.ensures.value (c.in_ok-draft.ensures.work (line_at c.self.inside.state.lines)))) c.self.invariant.rightful.sound
 
 pub prune-requires-clause-accepted : goal.prune-requires-clause-accepted
 prune-requires-clause-accepted c =
@@ -32,7 +32,7 @@ returns-clause-rightful c =
     let work : pruned farm_limits c.args.slot.now (begin_work (ledger s)) ≡ Ok (shown (lines_with s.lines c.in_ok-added.added) s c.prune.new.self) =
     ap (pruned farm_limits c.args.slot.now) (sym (begun s c.deref_mut.ensures.value (c.in_ok-draft.ensures.work (line_at s.lines)))) ∙ c.in_ok-added.ensures.work in
     subst (λ (h : Held). IsRightful (after (lines_with h.lines c.in_ok-added.added) h c.prune.new.self.change)) c.self.view_is
-    (rightful-pruned c.args.slot.now (ledger s) (shown (lines_with s.lines c.in_ok-added.added) s c.prune.new.self) c.self.invariant work c.in_ok-added.ensures.sound)
+    (rightful-pruned c.args.slot.now (ledger s) (shown (lines_with s.lines c.in_ok-added.added) s c.prune.new.self) c.self.invariant.rightful work c.in_ok-added.ensures.sound)
 
 pub returns-clause-told : goal.returns-clause-told
 returns-clause-told c = pruned-told c.args.slot.now (ledger c.args.self.now)

@@ -14,7 +14,7 @@ use Rattle.coordinator.proofs.ledger.Ledger.retirement.Goals as goal
 pub retire-requires-clause-sound : goal.retire-requires-clause-sound
 retire-requires-clause-sound c =
     let P : Work → Type 0 = λ w. IsSound w.ledger in
-    subst P (sym (begun (held c.self.inside.state) c.deref_mut.ensures.value (c.in_ok-draft.ensures.work (line_at c.self.inside.state.lines)))) c.self.invariant.sound
+    subst P (sym (begun (held c.self.inside.state) c.deref_mut.ensures.value (c.in_ok-draft.ensures.work (line_at c.self.inside.state.lines)))) c.self.invariant.rightful.sound
 
 pub retire-requires-clause-accepted : goal.retire-requires-clause-accepted
 retire-requires-clause-accepted c =
@@ -22,7 +22,7 @@ retire-requires-clause-accepted c =
     ∙ ap (λ (h : Held). result_err (retired farm_limits c.args.node (begin_work (ledger h)))) c.self.view_is ∙ c.requires.accepted
 
 pub retire-requires-clause-wants : goal.retire-requires-clause-wants
-retire-requires-clause-wants c = c.self.invariant.sound.asks
+retire-requires-clause-wants c = c.self.invariant.rightful.sound.asks
 
 pub returns-clause-work : goal.returns-clause-work
 returns-clause-work c =
@@ -35,7 +35,7 @@ returns-clause-rightful c =
     let work : retired farm_limits c.args.node (begin_work (ledger s)) ≡ Ok (shown (line_at s.lines) s c.retire.new.self) =
     ap (retired farm_limits c.args.node) (sym (begun s c.deref_mut.ensures.value (c.in_ok-draft.ensures.work (line_at s.lines)))) ∙ c.in_ok-retire.ensures.work in
     subst (λ (h : Held). IsRightful (after (line_at h.lines) h c.retire.new.self.change)) c.self.view_is
-    (rightful-retired c.args.node (ledger s) (shown (line_at s.lines) s c.retire.new.self) c.self.invariant c.requires.number work c.in_ok-retire.ensures.sound)
+    (rightful-retired c.args.node (ledger s) (shown (line_at s.lines) s c.retire.new.self) c.self.invariant.rightful c.requires.number work c.in_ok-retire.ensures.sound)
 
 pub returns-clause-told : goal.returns-clause-told
 returns-clause-told c = retired-told c.args.node (ledger c.args.self.now)

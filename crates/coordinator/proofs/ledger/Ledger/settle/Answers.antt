@@ -1,16 +1,20 @@
 use Rattle.std.proofs.Common.{◌≡◌, true, false, Result, Ok, Err, inl, inr, refl, sym, ap, ◌∙◌, subst}
+use Rattle.leases.specs.Table.{among}
 use Rattle.protocol.specs.Ledger.{Ledger, Work, saves}
 use Rattle.protocol.specs.declared.answer.CoordRefusal.{CoordRefusal}
 use Rattle.protocol.specs.declared.answer.CoordRefusal.TheVariants.{SaveFault, OutOfMemory}
 use Rattle.saverecord.specs.Logs.{Holds}
 use Rattle.coordinator.specs.declared.state.State.{State}
 use Rattle.coordinator.specs.declared.change.Change.{Change}
+use Rattle.coordinator.specs.declared.draft.Draft.{Draft}
+use Rattle.coordinator.specs.declared.spent_folders.SpentFolders.{SpentFolders}
 use Rattle.coordinator.specs.Held.{Held, line_at, ledger}
-use Rattle.coordinator.specs.Keeps.{held}
+use Rattle.coordinator.specs.Keeps.{held, IsKeepable}
 use Rattle.coordinator.specs.Seen.{IsKeeping}
 use Rattle.coordinator.specs.Settling.{Answers, is_save_fault}
 use Rattle.coordinator.specs.Shown.{LineOf, kept, after, shown, lines_with}
 use Rattle.coordinator.specs.Sound.{IsRightful}
+use Rattle.coordinator.specs.Spent.{AreNoted}
 use Rattle.coordinator.specs.Promises.{OnlyGrow}
 use Rattle.coordinator.proofs.Kept.{grows, stays}
 use Rattle.coordinator.proofs.Keeping.{holds_after, saved_ok, saved_not}
@@ -28,6 +32,39 @@ not_memory e = absurd (cc e)
 not_down : {P : Type 0} → true ≡ false → P
 not_down e = absurd (cc e)
 
+-- a state whose ledger and noted folders are as they were
+rekept : (s t : State) → kept (line_at t.lines) t ≡ kept (line_at s.lines) s → t.spent ≡ s.spent → IsKeepable s → IsKeepable t
+rekept s t same spent was = record {
+  rightful = subst IsRightful (sym same) was.rightful;
+  noted = subst (λ (x : SpentFolders). AreNoted x.folders.items (kept (line_at t.lines) t)) (sym spent) (subst (AreNoted s.spent.folders.items) (sym same) was.noted);
+}
+
+pub invariant_of-self : goal.invariant_of-self
+invariant_of-self g c =
+    let s : State = c.self.inside.state in
+    let parked : (asks_of c.room.new.parked) ≡ (asks_of s.parked) = c.room.ensures.parked in
+    rekept s _ (λ j. record (kept (line_at s.lines) s) { parked = parked j }) refl c.self.invariant
+
+pub invariant_of-self-in_default-nodes : goal.invariant_of-self-in_default-nodes
+invariant_of-self-in_default-nodes g c =
+    let s : State = c.self.inside.state in
+    let parked : (asks_of c.room.new.parked) ≡ (asks_of s.parked) = c.in-Ok-room.ensures.parked in
+    rekept s _ (λ j. record (kept (line_at s.lines) s) { parked = parked j }) refl c.self.invariant
+
+pub invariant_of-self-in_default-take_table : goal.invariant_of-self-in_default-take_table
+invariant_of-self-in_default-take_table g c =
+    let s : State = c.self.inside.state in
+    let parked : (asks_of c.room.new.parked) ≡ (asks_of s.parked) = c.in-Ok-room.ensures.parked in
+    let table : c.take_table.new.place ≡ s.table = c.in_default-take_table.ensures.err in
+    rekept s _ (λ j. record (kept (line_at s.lines) s) { live = (table j).live; retired = among (table j).retired; parked = parked j }) refl c.self.invariant
+
+pub invariant_of-self-in-Err-save : goal.invariant_of-self-in-Err-save
+invariant_of-self-in-Err-save g c =
+    let s : State = c.self.inside.state in
+    let parked : (asks_of c.room.new.parked) ≡ (asks_of s.parked) = c.in-Ok-room.ensures.parked in
+    let table : c.put_back.new.place ≡ s.table = c.put_back.ensures ∙ c.in-Ok-take_table.ensures.table in
+    rekept s _ (λ j. record (kept (line_at s.lines) s) { live = (table j).live; retired = among (table j).retired; parked = parked j }) refl c.self.invariant
+
 pub invariant_of-self-in-Ok-save : goal.invariant_of-self-in-Ok-save
 invariant_of-self-in-Ok-save g c =
     let s : State = c.self.inside.state in
@@ -41,7 +78,14 @@ invariant_of-self-in-Ok-save g c =
     let lines : line_at c.apply.new.state.lines ≡ lines_with h.lines c.args.prepared.added = c.apply.ensures.lines ∙ ap (λ (x : Held). lines_with x.lines c.args.prepared.added) was in
     let ledger_is : kept (line_at c.apply.new.state.lines) c.apply.new.state ≡ after (lines_with h.lines c.args.prepared.added) h change =
     c.apply.ensures.ledger (line_at c.apply.new.state.lines) ∙ ap (λ (x : Held). after (line_at c.apply.new.state.lines) x change) base ∙ ap (λ (f : LineOf). after f h change) lines in
-    subst IsRightful (sym ledger_is) c.requires.rightful
+    let noted : AreNoted c.in-Ok-spent_after.spent.folders.items (after (lines_with h.lines c.args.prepared.added) (held s) change) =
+    subst (λ (d : Draft). AreNoted c.in-Ok-spent_after.spent.folders.items (after (lines_with h.lines c.args.prepared.added) (held s) d.change)) c.deref.ensures (c.in-Ok-spent_after.ensures (lines_with h.lines c.args.prepared.added)) in
+    record {
+      rightful = subst IsRightful (sym ledger_is) c.requires.rightful;
+      noted = subst (λ (x : SpentFolders). AreNoted x.folders.items (kept (line_at c.apply.new.state.lines) c.apply.new.state)) (sym c.apply.ensures.spent)
+          (subst (AreNoted c.in-Ok-spent_after.spent.folders.items) (sym ledger_is)
+          (subst (λ (x : Held). AreNoted c.in-Ok-spent_after.spent.folders.items (after (lines_with h.lines c.args.prepared.added) x change)) was noted));
+    }
 
 pub returns-in-Ok-save-clause-answer : goal.returns-in-Ok-save-clause-answer
 returns-in-Ok-save-clause-answer g c =

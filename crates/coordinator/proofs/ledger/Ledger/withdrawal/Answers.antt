@@ -15,7 +15,7 @@ use Rattle.coordinator.proofs.ledger.Ledger.withdrawal.Goals as goal
 pub withdraw-requires-clause-sound : goal.withdraw-requires-clause-sound
 withdraw-requires-clause-sound c =
     let P : Work → Type 0 = λ w. IsSound w.ledger in
-    subst P (sym (begun (held c.self.inside.state) c.deref_mut.ensures.value (c.in_ok-draft.ensures.work (line_at c.self.inside.state.lines)))) c.self.invariant.sound
+    subst P (sym (begun (held c.self.inside.state) c.deref_mut.ensures.value (c.in_ok-draft.ensures.work (line_at c.self.inside.state.lines)))) c.self.invariant.rightful.sound
 
 pub withdraw-requires-clause-accepted : goal.withdraw-requires-clause-accepted
 withdraw-requires-clause-accepted c =
@@ -25,10 +25,10 @@ withdraw-requires-clause-accepted c =
 pub withdraw-requires-clause-held_up : goal.withdraw-requires-clause-held_up
 withdraw-requires-clause-held_up c =
     let P : Work → Type 0 = λ w. AreHeldUp w.ledger in
-    subst P (sym (begun (held c.self.inside.state) c.deref_mut.ensures.value (c.in_ok-draft.ensures.work (line_at c.self.inside.state.lines)))) c.self.invariant.held_up
+    subst P (sym (begun (held c.self.inside.state) c.deref_mut.ensures.value (c.in_ok-draft.ensures.work (line_at c.self.inside.state.lines)))) c.self.invariant.rightful.held_up
 
 pub withdraw-requires-clause-wants : goal.withdraw-requires-clause-wants
-withdraw-requires-clause-wants c = c.self.invariant.sound.asks
+withdraw-requires-clause-wants c = c.self.invariant.rightful.sound.asks
 
 pub returns-clause-work : goal.returns-clause-work
 returns-clause-work c =
@@ -41,7 +41,7 @@ returns-clause-rightful c =
     let work : withdrawn farm_limits c.args.ticket (begin_work (ledger s)) ≡ Ok (shown (line_at s.lines) s c.withdraw.new.self) =
     ap (withdrawn farm_limits c.args.ticket) (sym (begun s c.deref_mut.ensures.value (c.in_ok-draft.ensures.work (line_at s.lines)))) ∙ c.in_ok-withdraw.ensures.work in
     subst (λ (h : Held). IsRightful (after (line_at h.lines) h c.withdraw.new.self.change)) c.self.view_is
-    (rightful-withdrawn c.args.ticket (ledger s) (shown (line_at s.lines) s c.withdraw.new.self) c.self.invariant work c.in_ok-withdraw.ensures.sound)
+    (rightful-withdrawn c.args.ticket (ledger s) (shown (line_at s.lines) s c.withdraw.new.self) c.self.invariant.rightful work c.in_ok-withdraw.ensures.sound)
 
 pub returns-clause-told : goal.returns-clause-told
-returns-clause-told c = withdrawn-told c.args.ticket (ledger c.args.self.now) (subst IsRightful (ap ledger c.self.view_is) c.self.invariant).sound
+returns-clause-told c = withdrawn-told c.args.ticket (ledger c.args.self.now) (subst IsRightful (ap ledger c.self.view_is) c.self.invariant.rightful).sound

@@ -1,17 +1,13 @@
-use Rattle.std.proofs.Common.{◌≡◌, ◌≤◌, ◌++◌, ℕ, true, not, ◌||◌, ◌&&◌, List, drop, drop_of_length-le, length, get_or, vec_len, eqb, sym, ◌∙◌, ap, subst, arith}
-use Rattle.std.specs.List.{list_any}
+use Rattle.std.proofs.Common.{◌≡◌, ◌++◌, ℕ, true, List, drop, length, get_or, vec_len, sym, ◌∙◌, ap, subst, arith}
 use Rattle.std.specs.Prelude.{All}
-use Rattle.std.proofs.lemmas.Bool.{eqb-true}
 use Rattle.std.proofs.lemmas.List.Elements.{All-append}
 use Rattle.protocol.specs.Lists.{In}
 use Rattle.protocol.specs.Machine.{Parked}
 use Rattle.leases.specs.Newest.{knows}
-use Rattle.coordinator.specs.Idle.{wants_private}
 use Rattle.coordinator.specs.Numbers.{numbers_from}
 use Rattle.coordinator.specs.Over.{still_waiting}
 use Rattle.coordinator.specs.Queue.{asks_of, numbers_of}
 use Rattle.coordinator.specs.Wanted.{AreIndexed}
-use Rattle.coordinator.proofs.IdleWords.{plain-after}
 use Rattle.coordinator.proofs.NewestWords.{all-still}
 use Rattle.coordinator.proofs.PassedWords.{behind_joined}
 use Rattle.coordinator.proofs.WantedWords.{indexed-kept, indexed-still, indexed-append}
@@ -38,10 +34,6 @@ invariant_of-result c =
     behind_joined c.take_out-start.new.items.items since c.joined-asks.result.items c.take_out-start.result (omega arith) c.joined-asks.ensures
     ∙ ap (λ (ps : List Parked). ps ++ since) c.take_out-start.ensures.left in
     let all : drop c.trimmed-asks.result.1 c.trimmed-asks.result.0.items ≡ still_waiting over asks ++ since = c.trimmed-asks.ensures.left ∙ joined in
-    let is_private : c.some_private-since_private.result ≡ list_any wants_private since = c.some_private-since_private.ensures ∙ ap (list_any wants_private) c.as_slice-6.ensures.value in
-    let len : vec_len c.joined-asks.result ≡ length c.joined-asks.result.items = c.joined-asks.result.ok.0 in
-    let past : eqb c.take_out-start.result (vec_len c.joined-asks.result) ≡ true → length c.joined-asks.result.items ≤ c.take_out-start.result =
-    λ e. omega (arith, eqb-true c.take_out-start.result (vec_len c.joined-asks.result) e) in
     let before : All P asks = λ k d inside. c.note_all.ensures.others (get_or asks k d) (c.args.parked.known k d inside) in
     let later : All P since = subst (All P) c.as_slice.ensures.value c.note_all.ensures.known in
     let numbers : List ℕ = numbers_of c.args.parked.numbers in
@@ -58,8 +50,4 @@ invariant_of-result c =
           (subst (AreIndexed c.drop_over.new.self (still_waiting over asks ++ since)) (sym numbers_are) kept);
       inside = c.trimmed-asks.ensures.inside;
       known = subst (All P) (sym all) (All-append P (still_waiting over asks) since (all-still P 0 over asks before) later);
-      only_plain = λ h.
-          plain-after asks since (drop c.trimmed-asks.result.1 c.trimmed-asks.result.0.items) over (eqb c.take_out-start.result (vec_len c.joined-asks.result)) c.args.parked.plain c.args.parked.only_plain
-          (λ e. c.trimmed-asks.ensures.left ∙ drop_of_length-le c.joined-asks.result.items (past e))
-          all (sym (λ j. eqb c.take_out-start.result (c.len.ensures j) || (c.args.parked.plain && not (is_private j))) ∙ sym c.plain_after-plain.ensures ∙ h);
     }

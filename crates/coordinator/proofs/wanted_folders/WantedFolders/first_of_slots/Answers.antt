@@ -2,7 +2,7 @@ use Rattle.std.proofs.Common.{Bool, arith}
 use Rattle.protocol.specs.Names.{Slot}
 use Rattle.coordinator.specs.Wanted.{notes_want}
 use Rattle.coordinator.proofs.WantedWords.{some_at}
-use Rattle.coordinator.proofs.wanted_folders.WantedFolders.first_of_all.Goals as goal
+use Rattle.coordinator.proofs.wanted_folders.WantedFolders.first_of_slots.Goals as goal
 
 pub returns : goal.returns
 returns c = λ n le some.

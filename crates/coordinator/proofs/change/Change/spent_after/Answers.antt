@@ -1,0 +1,24 @@
+use Rattle.std.proofs.Common.{List, ℕ, sym, subst, inl, inr}
+use Rattle.protocol.specs.Machine.{Parked}
+use Rattle.protocol.specs.Lists.{In}
+use Rattle.protocol.proofs.Base.{all_in, in_append}
+use Rattle.leases.specs.Table.{is_free}
+use Rattle.saverecord.proofs.LedgerLemmas.{all_from_in}
+use Rattle.coordinator.specs.Keeps.{held}
+use Rattle.coordinator.specs.Over.{still_waiting}
+use Rattle.coordinator.specs.Queue.{asks_of}
+use Rattle.coordinator.specs.Shown.{table_after}
+use Rattle.coordinator.specs.Spent.{IsNoted}
+use Rattle.coordinator.proofs.NewestWords.{all-still}
+use Rattle.coordinator.proofs.change.Change.spent_after.Goals as goal
+
+pub returns : goal.returns
+returns c = λ line p i.
+    let asks : List Parked = asks_of c.args.base.now.parked in
+    let over : List ℕ = c.args.self.now.parked.over.places.items in
+    let P : Parked → Type 0 = λ q. IsNoted c.note_asks.new.self.folders.items (is_free (table_after (held c.args.base.now) c.args.self.now)) q in
+    let before : (q : Parked) → In q asks → P q = λ q j. (λ w k spent. c.note_asks.ensures.kept w.folder (c.in_ok-spent.ensures q (c.requires q j) w k spent)) in
+    elim (in_append p (still_waiting over asks) c.args.self.now.parked.since.items i) [
+      | inl j ↦ all_in P (still_waiting over asks) (all-still P 0 over asks (all_from_in P asks before)) p j
+      | inr j ↦ c.in_ok-note_asks.ensures.noted p (subst (In p) (sym c.as_slice-since.ensures.value) j)
+    ]
