@@ -4,11 +4,11 @@ ghost use Rattle.protocol.specs.Names.{tenure_wants};
 
 use super::fault::FarmFault;
 use super::faults::board_fault;
-use farm_base::{Copied, FolderName, Left, Mode, NodeId, Ticket, Want, Wants};
+use farm_base::{Copied, EVENTS, FolderName, Left, Mode, NodeId, Ticket, Want, Wants};
 use farmboard::{
     Asked, Board, BoardRefusal, Finished, Granted, Running, abandon_granted, abandon_running,
 };
-use protocol::{EventRefusal, NodeRefusal};
+use protocol::{EventNote, EventRefusal, NodeNote, NodeRefusal};
 use std::alloc::{AllocError, Global};
 
 /// How the tenure of a SHARED folder stands on a node.
@@ -222,6 +222,39 @@ impl Desk {
             }
             Err(refusal) => Err(board_fault(refusal)),
         }
+    }
+
+    /// Delivers the next message, if one is left.
+    pub(crate) fn deliver(&mut self, alloc: Global) -> Result<bool, FarmFault> {
+        match self.board.deliver_next(alloc) {
+            Ok(Some(outcome)) => {
+                if let EventNote::Node(NodeNote::Recalled(ticket)) = outcome.note {
+                    self.recall(ticket)?;
+                }
+                Ok(true)
+            }
+            Ok(None) => Ok(false),
+            Err(BoardRefusal::Event(_)) => Ok(true),
+            Err(refusal) => Err(board_fault(refusal)),
+        }
+    }
+
+    /// Whether the router has to act before the next message: the coordinator is down, or there are `due` events.
+    fn is_held_up(&self, due: u64) -> bool {
+        self.board.world().coordinator().is_down() || self.board.schedule().len() as u64 >= due
+    }
+
+    /// Delivers the messages, and what is sent by that, until none is left or the router has to act. The answer is whether it
+    /// delivered one. Each delivery is an event, so they are at most as many as a schedule has.
+    pub(crate) fn deliver_all(&mut self, alloc: Global, due: u64) -> Result<bool, FarmFault> {
+        let mut delivered = false;
+        for _ in 0..=EVENTS {
+            if self.is_held_up(due) || !self.deliver(alloc)? {
+                return Ok(delivered);
+            }
+            delivered = true;
+        }
+        Err(FarmFault::HistoryFull)
     }
 
     /// Gives a lease back that was not used, or that the node no longer has.

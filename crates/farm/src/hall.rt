@@ -22,8 +22,13 @@ pub(crate) struct Hall {
     pub(crate) stop: AtomicBool,
     /// Rung by whatever may let a waiting worker go on.
     pub(crate) changes: Bell,
-    /// Rung by whatever may let the router go on: each change, and each worker that begins to wait.
+    /// Rung by whatever may let the router go on: each worker that begins to wait or ends, and each change where a tenure may
+    /// have to end.
     pub(crate) calls: Bell,
+    /// Whether a job has a SHARED folder, so that there are tenures.
+    pub(crate) shares: bool,
+    /// The number of events from which on a step of the router's plan is due.
+    pub(crate) due: AtomicU64,
     /// A number that changes with each step of a worker.
     pub(crate) steps: AtomicU64,
     /// For each worker the number of `changes` at which it last saw that it has to wait.
@@ -60,17 +65,30 @@ impl Hall {
             *first = Some(fault);
         }
         self.stop.store(true, Ordering::SeqCst);
-        self.note_change();
+        self.changes.ring();
+        self.calls.ring();
     }
 
     pub(crate) fn changes(&self) -> u64 {
         self.changes.rings()
     }
 
-    /// Notes a change, which wakes all threads that wait.
+    /// Notes a change, which wakes the workers that wait, and the router where it may have to end a tenure.
     pub(crate) fn note_change(&self) {
         self.changes.ring();
-        self.calls.ring();
+        if self.shares {
+            self.calls.ring();
+        }
+    }
+
+    /// The number of events from which on the router has to act before a message is delivered.
+    pub(crate) fn due(&self) -> u64 {
+        self.due.load(Ordering::SeqCst)
+    }
+
+    /// Notes the number of events from which on the next step of the plan is due.
+    pub(crate) fn await_step(&self, due: u64) {
+        self.due.store(due, Ordering::SeqCst);
     }
 
     /// Notes a step of a worker, which is a change.
@@ -82,6 +100,9 @@ impl Hall {
     /// Waits until something changes, as of the number `seen` of changes at which a worker had to wait. `Stalled` once all
     /// threads are to stop.
     pub(crate) fn pause<R: Wait>(&self, rt: &R, worker: usize, seen: u64) -> Result<(), FarmFault> {
+        if self.changes() != seen {
+            return self.go_on();
+        }
         if let Some(wait) = self.waits.get(worker) {
             wait.store(seen, Ordering::SeqCst);
         }
@@ -109,6 +130,7 @@ impl Hall {
         }
         self.ended.fetch_add(1, Ordering::SeqCst);
         self.note_step();
+        self.calls.ring();
     }
 
     /// Whether each worker has ended.

@@ -96,6 +96,8 @@ fn parts_of(hall: Hall) -> (Board, Vec<(NodeId, Keyed)>)
         stop: _,
         changes: _,
         calls: _,
+        shares: _,
+        due: _,
         steps: _,
         waits: _,
         ended: _,
@@ -191,8 +193,9 @@ fn solve_all<R: Threads + Wait + Sync, G: Gate>(
     }
     let Submitted { tables, numbers } = submit_all(alloc, setup.nodes, jobs.as_slice())?;
     let work = Work::of(alloc, jobs)?;
-    let hall = open(alloc, board, tables, work, nodes.len())?;
-    let ends = run_threads(rt, alloc, &hall, executors, Plan::of(fault_plan), gate);
+    let plan = Plan::of(fault_plan);
+    let hall = open(alloc, board, tables, work, nodes.len(), plan.next_due())?;
+    let ends = run_threads(rt, alloc, &hall, executors, plan, gate);
     if let Some(fault) = *hall.fault.lock(rt) {
         return Err(fault);
     }

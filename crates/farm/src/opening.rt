@@ -7,7 +7,7 @@ use super::fault::FarmFault;
 use super::faults::jobs_fault;
 use super::hall::Hall;
 use super::home::Home;
-use super::work::Work;
+use super::work::{Work, shared_folders};
 use farm_base::NodeId;
 use farmboard::Board;
 use jobs::{JobId, Jobs};
@@ -100,13 +100,14 @@ fn waits_of(alloc: Global, workers: usize) -> Result<Vec<AtomicU64>, AllocError>
     Ok(waits)
 }
 
-/// A hall for this number of workers.
+/// A hall for this number of workers. From `due` events on the router has to act before a message is delivered.
 pub(crate) fn open(
     alloc: Global,
     board: Board,
     tables: Vec<Jobs>,
     work: Work,
     workers: usize,
+    due: u64,
 ) -> Result<Hall, AllocError>
     ensures { IfOk result (λ hall. hall.work ≡ work) }
 {
@@ -115,6 +116,7 @@ pub(crate) fn open(
         tenures: Vec::new(alloc),
         recalled: Vec::new(alloc),
     };
+    let shares = !shared_folders(alloc, work.jobs())?.is_empty();
     Ok(Hall {
         alloc,
         desk: Mutex::new(desk),
@@ -124,6 +126,8 @@ pub(crate) fn open(
         stop: AtomicBool::new(false),
         changes: Bell::new(),
         calls: Bell::new(),
+        shares,
+        due: AtomicU64::new(due),
         steps: AtomicU64::new(0),
         waits: waits_of(alloc, workers)?,
         ended: AtomicU64::new(0),

@@ -42,6 +42,14 @@ impl Plan {
         }
     }
 
+    /// The number of events from which on the next step is due: more than a schedule has, where no step is left.
+    pub(crate) fn next_due(&self) -> u64 {
+        match self.left.last() {
+            Some((from, _)) => *from as u64,
+            None => u64::MAX,
+        }
+    }
+
     /// The node that is to restart next.
     pub(crate) fn next_restart(&self, board: &Board) -> Option<NodeId> {
         match self.due(board.schedule().len()) {

@@ -1,4 +1,5 @@
-//! The router: it delivers the messages, ends tenures, and disturbs the farm by its plan.
+//! The router: it ends tenures, disturbs the farm by its plan, restarts the coordinator, and delivers the messages that no worker
+//! does.
 use super::closing::{Leaving, abandon_all, end_next, settle_next};
 use super::desk::{Desk, Ends};
 use super::down::DownCount;
@@ -8,7 +9,6 @@ use super::hall::Hall;
 use super::plan::Plan;
 use farm_base::NodeId;
 use farmboard::{BoardRefusal, FarmStep, Receipt};
-use protocol::{EventNote, NodeNote};
 use std::alloc::Global;
 use std::sync::Wait;
 use std::sync::atomic::Ordering;
@@ -116,7 +116,7 @@ impl Router {
         if end_next(rt, hall, desk, &mut self.leaving, ends)? || self.settle_all(desk)? {
             return Ok(true);
         }
-        deliver(hall.alloc, desk)
+        desk.deliver(hall.alloc)
     }
 
     /// Carries out the next step of the plan. Before a node restarts, its tenures end that no execution uses.
@@ -131,7 +131,9 @@ impl Router {
                 return Ok(true);
             }
         }
-        self.plan.next(hall.alloc, desk)
+        let disturbed = self.plan.next(hall.alloc, desk);
+        hall.await_step(self.plan.next_due());
+        disturbed
     }
 
     /// Restarts the coordinator, which is down.
@@ -189,21 +191,6 @@ fn resend_all(alloc: Global, desk: &mut Desk) -> Result<(), FarmFault> {
 fn step(alloc: Global, desk: &mut Desk, step: FarmStep) -> Result<(), FarmFault> {
     match desk.board.fault(alloc, step) {
         Ok(()) | Err(BoardRefusal::Event(_)) => Ok(()),
-        Err(refusal) => Err(board_fault(refusal)),
-    }
-}
-
-/// Delivers the next message, if one is left.
-fn deliver(alloc: Global, desk: &mut Desk) -> Result<bool, FarmFault> {
-    match desk.board.deliver_next(alloc) {
-        Ok(Some(outcome)) => {
-            if let EventNote::Node(NodeNote::Recalled(ticket)) = outcome.note {
-                desk.recall(ticket)?;
-            }
-            Ok(true)
-        }
-        Ok(None) => Ok(false),
-        Err(BoardRefusal::Event(_)) => Ok(true),
         Err(refusal) => Err(board_fault(refusal)),
     }
 }

@@ -1,4 +1,5 @@
-//! The steps of a worker on the board. Each takes the lock for itself, and waits without it.
+//! The steps of a worker on the board. Each takes the lock for itself, and waits without it. Before a worker looks what became of
+//! what it sent, it delivers the messages itself, so that no thread has to be woken for that.
 ghost use Rattle.std.specs.Prelude.{◌≡◌, IfOk, IfSome};
 ghost use Rattle.protocol.specs.Names.{tenure_wants};
 
@@ -31,6 +32,16 @@ pub(crate) struct Post<'a> {
     pub(crate) node: NodeId,
 }
 
+/// Delivers the messages, unless the router has to act first.
+fn deliver<R: Wait>(rt: &R, post: Post<'_>) -> Result<(), FarmFault> {
+    let due = post.hall.due();
+    let delivered = post.hall.desk.lock(rt).deliver_all(post.alloc, due);
+    if delivered? {
+        post.hall.note_change();
+    }
+    Ok(())
+}
+
 /// Waits until an ask is granted or denied. None where its node restarted.
 fn settle_ask<R: Wait>(
     rt: &R,
@@ -42,6 +53,10 @@ fn settle_ask<R: Wait>(
     let mut asked = first;
     for _ in rt.forever() {
         let seen = post.hall.changes();
+        if let Err(fault) = deliver(rt, post) {
+            abandon_asked(asked);
+            return Err(fault);
+        }
         let accepted = post.hall.desk.lock(rt).board.accept(post.alloc, asked);
         match accepted {
             Ok(Accept::Granted(granted)) => return Ok(Some(Ok(granted))),
@@ -75,6 +90,10 @@ fn begin<R: Wait>(rt: &R, post: Post<'_>, first: Granted) -> Result<Option<Runni
     let mut granted = first;
     for _ in rt.forever() {
         let seen = post.hall.changes();
+        if let Err(fault) = deliver(rt, post) {
+            abandon_granted(granted);
+            return Err(fault);
+        }
         let looked = post.hall.desk.lock(rt).board.look(&granted);
         match looked {
             Look::Ready => return begin_now(rt, post, granted),
@@ -120,6 +139,10 @@ fn settle<R: Wait>(rt: &R, post: Post<'_>, first: Finished) -> Result<Option<Rec
     let mut finished = first;
     for _ in rt.forever() {
         let seen = post.hall.changes();
+        if let Err(fault) = deliver(rt, post) {
+            abandon_finished(finished);
+            return Err(fault);
+        }
         let settled = post.hall.desk.lock(rt).board.receipt(finished);
         match settled {
             Settled::Receipt(receipt) => return Ok(Some(receipt)),
