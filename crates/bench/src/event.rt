@@ -2,7 +2,7 @@
 
 use super::clock::seconds_since;
 use coordinator::{CoordNote, Coordinator};
-use farm_base::{Ask, FolderName, INSTANCES, Life, NodeId, Request, Ticket, ToCoord, Wants};
+use farm_base::{Ask, FolderName, INSTANCES, Life, NodeId, Request, Ticket, ToCoord, Want, Wants};
 use saverecord::MemoryKeeper;
 use std::alloc::Global;
 use std::rt::Clock;
@@ -30,14 +30,31 @@ fn started(alloc: Global) -> anyhow::Result<Box<Coordinator<MemoryKeeper>>> {
     }
 }
 
-/// Node 1 asks for a folder: the ticket of its lease, or None where the ask waits.
+/// What asks want that wait for one slot.
+const SLOT: [&str; 1] = ["locked:f"];
+/// The same, and an instance of a PRIVATE folder.
+const SLOT_AND_INSTANCE: [&str; 2] = ["locked:f", "private:p"];
+
+/// Wants of these folders, writable.
+fn wants_of(alloc: Global, folders: &[&str]) -> anyhow::Result<Wants> {
+    let mut wants = Vec::new(alloc);
+    for folder in folders {
+        wants.push(Want {
+            folder: FolderName::parse(alloc, folder)?,
+            writable: true,
+        })?;
+    }
+    Ok(Wants::of(wants)?)
+}
+
+/// Node 1 asks for folders: the ticket of its lease, or None where the ask waits.
 fn ask(
     coordinator: &mut Coordinator<MemoryKeeper>,
     alloc: Global,
     number: u32,
-    folder: &str,
+    folders: &[&str],
 ) -> anyhow::Result<Option<Ticket>> {
-    let wants = Wants::one(alloc, FolderName::parse(alloc, folder)?, true)?;
+    let wants = wants_of(alloc, folders)?;
     let _wants = wants.as_slice();
     let message = ToCoord {
         node: NodeId(1),
@@ -78,7 +95,7 @@ fn lease(
 ) -> anyhow::Result<()> {
     for number in 0..count {
         let folder = format!(in alloc; "locked:f{number}")?;
-        ask(coordinator, alloc, number, folder.as_str())?;
+        ask(coordinator, alloc, number, &[folder.as_str()])?;
     }
     Ok(())
 }
@@ -91,7 +108,7 @@ fn turning<R: Clock + AllocGlobal>(
 ) -> anyhow::Result<f64> {
     let start = Instant::now(rt)?;
     for number in from..from.saturating_add(TURNS) {
-        if let Some(ticket) = ask(coordinator, rt.alloc(), number, "locked:turn")? {
+        if let Some(ticket) = ask(coordinator, rt.alloc(), number, &["locked:turn"])? {
             release(coordinator, rt.alloc(), ticket)?;
         }
     }
@@ -107,7 +124,7 @@ fn asking_again<R: Clock + AllocGlobal>(
     let folder = format!(in rt.alloc(); "locked:f{number}")?;
     let start = Instant::now(rt)?;
     for _ in 0..TURNS {
-        ask(coordinator, rt.alloc(), number, folder.as_str())?;
+        ask(coordinator, rt.alloc(), number, &[folder.as_str()])?;
     }
     Ok(seconds_since(rt, start) / f64::from(TURNS))
 }
@@ -144,15 +161,16 @@ fn with_leases<R: Clock + AllocGlobal>(rt: &R, count: u32) -> anyhow::Result<Lea
     lease_and_time(rt, &mut coordinator, count)
 }
 
-/// Asks for one folder, in the order of the numbers.
+/// Asks for the same folders, in the order of the numbers.
 fn wait(
     coordinator: &mut Coordinator<MemoryKeeper>,
     alloc: Global,
     from: u32,
     to: u32,
+    folders: &[&str],
 ) -> anyhow::Result<()> {
     for number in from..to {
-        ask(coordinator, alloc, number, "locked:f")?;
+        ask(coordinator, alloc, number, folders)?;
     }
     Ok(())
 }
@@ -164,7 +182,13 @@ fn time_to_park<R: Clock + AllocGlobal>(
     from: u32,
 ) -> anyhow::Result<f64> {
     let start = Instant::now(rt)?;
-    wait(coordinator, rt.alloc(), from, from.saturating_add(TURNS))?;
+    wait(
+        coordinator,
+        rt.alloc(),
+        from,
+        from.saturating_add(TURNS),
+        &SLOT,
+    )?;
     Ok(seconds_since(rt, start) / f64::from(TURNS))
 }
 
@@ -197,7 +221,7 @@ fn park_and_time<R: Clock + AllocGlobal>(
     coordinator: &mut Coordinator<MemoryKeeper>,
     count: u32,
 ) -> anyhow::Result<Waited> {
-    wait(coordinator, rt.alloc(), 0, count.saturating_add(1))?;
+    wait(coordinator, rt.alloc(), 0, count.saturating_add(1), &SLOT)?;
     let freeing = time_to_free(rt, coordinator)?;
     let mut number = count.saturating_add(1);
     let mut parking = f64::INFINITY;
@@ -235,7 +259,7 @@ fn time_to_free_last<R: Clock + AllocGlobal>(
             coordinator,
             rt.alloc(),
             number.saturating_add(turn),
-            "locked:g",
+            &["locked:g"],
         )?;
         let start = Instant::now(rt)?;
         release(
@@ -248,16 +272,17 @@ fn time_to_free_last<R: Clock + AllocGlobal>(
     Ok(seconds / f64::from(TURNS))
 }
 
-/// The time of a release that frees a slot for which one ask waits, once this many wait for another slot.
+/// The time of a release that frees a slot for which one ask waits, once this many wait for another slot, and want these folders.
 fn park_and_free_last<R: Clock + AllocGlobal>(
     rt: &R,
     coordinator: &mut Coordinator<MemoryKeeper>,
     count: u32,
+    folders: &[&str],
 ) -> anyhow::Result<f64> {
-    wait(coordinator, rt.alloc(), 0, count.saturating_add(1))?;
+    wait(coordinator, rt.alloc(), 0, count.saturating_add(1), folders)?;
     let first = count.saturating_add(1);
     let mut least = f64::INFINITY;
-    if let Some(Ticket(ticket)) = ask(coordinator, rt.alloc(), first, "locked:g")? {
+    if let Some(Ticket(ticket)) = ask(coordinator, rt.alloc(), first, &["locked:g"])? {
         for batch in 0..BATCHES {
             let number = first.saturating_add(1).saturating_add(batch * TURNS);
             let ticket = ticket.saturating_add(u64::from(batch * TURNS));
@@ -268,9 +293,9 @@ fn park_and_free_last<R: Clock + AllocGlobal>(
 }
 
 /// The same of a farm where nothing happened.
-fn with_last<R: Clock + AllocGlobal>(rt: &R, count: u32) -> anyhow::Result<f64> {
+fn with_last<R: Clock + AllocGlobal>(rt: &R, count: u32, folders: &[&str]) -> anyhow::Result<f64> {
     let mut coordinator = started(rt.alloc())?;
-    park_and_free_last(rt, &mut coordinator, count)
+    park_and_free_last(rt, &mut coordinator, count, folders)
 }
 
 /// The time of a grant of a PRIVATE folder, of the asks of these numbers.
@@ -282,7 +307,7 @@ fn granting<R: Clock + AllocGlobal>(
 ) -> anyhow::Result<f64> {
     let start = Instant::now(rt)?;
     for number in from..to {
-        ask(coordinator, rt.alloc(), number, "private:p")?;
+        ask(coordinator, rt.alloc(), number, &["private:p"])?;
     }
     Ok(seconds_since(rt, start) / f64::from(to.saturating_sub(from)))
 }
@@ -304,6 +329,19 @@ fn of_private<R: Clock + AllocGlobal>(rt: &R) -> anyhow::Result<f64> {
     grant_all(rt, &mut coordinator)
 }
 
+/// Prints how the time of a release that one ask waits for grows with asks that wait for another slot.
+fn print_last<R: Print + Clock + AllocGlobal>(rt: &R) -> anyhow::Result<()> {
+    let slot = with_last(rt, MANY, &SLOT)? / with_last(rt, FEW, &SLOT)?;
+    println!(rt;
+        "events, one ask behind {MANY} for another slot: {slot:.2} of a release behind {FEW}"
+    )?;
+    let both = with_last(rt, MANY, &SLOT_AND_INSTANCE)? / with_last(rt, FEW, &SLOT_AND_INSTANCE)?;
+    println!(rt;
+        "events, one ask behind {MANY} for another slot and an instance: {both:.2} of a release behind {FEW}"
+    )?;
+    Ok(())
+}
+
 /// Prints how the time of an event grows with the live leases, with the parked asks, and with the leased instances of a
 /// PRIVATE folder.
 pub fn measure<R: Print + Clock + AllocGlobal>(rt: &R) -> anyhow::Result<()> {
@@ -323,10 +361,7 @@ pub fn measure<R: Print + Clock + AllocGlobal>(rt: &R) -> anyhow::Result<()> {
         "events, {MANY} asks for a slot that is freed: {frees:.2} of a release for which {FEW} wait"
     )?;
     println!(rt; "events, {MANY} asks for another slot: {others:.2} of an event beside {FEW}")?;
-    let last = with_last(rt, MANY)? / with_last(rt, FEW)?;
-    println!(rt;
-        "events, one ask behind {MANY} for another slot: {last:.2} of a release behind {FEW}"
-    )?;
+    print_last(rt)?;
     let private = of_private(rt)?;
     println!(rt;
         "events, the last of {INSTANCES} PRIVATE grants: {private:.2} of the first {GRANTS}"

@@ -29,7 +29,7 @@ impl Hashing {
 const BLOCK: [u8; 65_536] = [7; 65_536];
 
 /// Hashes it this many times.
-fn hash(rounds: u32) {
+pub fn hash(rounds: u32) {
     for _ in 0..rounds {
         let _digest = <Sha256 as sha2::Digest>::digest(&BLOCK);
     }

@@ -2,17 +2,19 @@
 
 use super::clock::seconds_since;
 use super::graphs::{cached_chain, chain, wide};
-use super::hashing::Hashing;
+use super::hashing::{Hashing, hash};
 use executions::{Executor, OpenGate};
 use farm::Farm;
 use farm_base::NodeId;
+use jobs::Jobs;
 use opsproto::read_definition;
 use schedule::Setup;
 use solverkeys::Keyed;
 use std::alloc::Global;
 use std::rt::Clock;
 use std::sync::Wait;
-use std::thread::Threads;
+use std::thread;
+use std::thread::{JoinHandle, Threads};
 use std::time::Instant;
 use vertices::load;
 
@@ -22,6 +24,12 @@ const JOBS: usize = 64;
 const VERTICES: usize = 100;
 /// How often an executor hashes 64 KiB for a task, so that it takes about a millisecond.
 const ROUNDS: u32 = 4;
+/// On how many nodes the jobs run, and on how many threads as much is hashed without a farm.
+const NODES: [u32; 3] = [1, 2, 4];
+/// How often each of them is run, in turn, and jobs alone. The least time counts.
+const RUNS: u32 = 3;
+/// How often 64 KiB are hashed in all without a farm.
+const HASHED: u32 = 2_560;
 
 fn keyed(alloc: Global, bytes: Vec<u8>) -> anyhow::Result<Keyed> {
     let graph = load(alloc, read_definition(alloc, bytes)?)?;
@@ -66,6 +74,52 @@ fn print_growth<R: Print + Clock + AllocGlobal>(rt: &R) -> anyhow::Result<()> {
     Ok(())
 }
 
+/// Hands out this number of keys at most, and gives each one output.
+fn solve_all(alloc: Global, jobs: &mut Jobs, keys: u32) -> anyhow::Result<()> {
+    for _ in 0..keys {
+        let Some(task) = jobs.take_ready(alloc)? else {
+            return Ok(());
+        };
+        let outputs = vec![in alloc; task.key.0]?;
+        jobs.done(task.key, outputs)?;
+    }
+    Ok(())
+}
+
+/// Seconds of a table of one job alone, without a farm.
+fn time_of_table<R: Clock + AllocGlobal>(rt: &R, keys: u32, job: &Keyed) -> anyhow::Result<f64> {
+    let start = Instant::now(rt)?;
+    let mut jobs = Jobs::new(rt.alloc());
+    let _number = jobs.submit_keyed(rt.alloc(), job)?;
+    solve_all(rt.alloc(), &mut jobs, keys)?;
+    Ok(seconds_since(rt, start))
+}
+
+/// The least seconds a key of a table of one job alone.
+fn time_of_key<R: Clock + AllocGlobal>(rt: &R, keys: u32, bytes: Vec<u8>) -> anyhow::Result<f64> {
+    let job = keyed(rt.alloc(), bytes)?;
+    let mut least = f64::INFINITY;
+    for _ in 0..RUNS {
+        least = least.min(time_of_table(rt, keys, &job)?);
+    }
+    Ok(least / f64::from(keys))
+}
+
+/// How the time of a key in a table of jobs grows with its keys, up to more than a schedule has room for.
+fn print_table_growth<R: Print + Clock + AllocGlobal>(rt: &R) -> anyhow::Result<()> {
+    let alloc = rt.alloc();
+    let short = time_of_key(rt, 1_000, chain(alloc, 1_000, false)?)?;
+    let long = time_of_key(rt, 64_000, chain(alloc, 64_000, false)?)?;
+    let few = time_of_key(rt, 1_001, wide(alloc, 1_000)?)?;
+    let many = time_of_key(rt, 64_001, wide(alloc, 64_000)?)?;
+    let chains = long / short;
+    let sides = many / few;
+    println!(rt;
+        "growth for a key of jobs alone from 1,000 to 64,000: chains {chains:.2}, side by side {sides:.2}"
+    )?;
+    Ok(())
+}
+
 /// Jobs in turn on the nodes, each on a folder of its own, or all on one.
 fn cached_jobs(alloc: Global, nodes: u32, apart: bool) -> anyhow::Result<Vec<(NodeId, Keyed)>> {
     let mut jobs = Vec::new(alloc);
@@ -83,17 +137,18 @@ fn cached_jobs(alloc: Global, nodes: u32, apart: bool) -> anyhow::Result<Vec<(No
     Ok(jobs)
 }
 
-/// Seconds of a run of these jobs, and how many commits it made.
+/// Seconds of a run of these jobs, and how many commits it made. Of each task an executor hashes 64 KiB this often.
 fn many_jobs<R: Print + Clock + AllocGlobal + Threads + Wait + Sync>(
     rt: &R,
     nodes: u32,
     apart: bool,
+    rounds: u32,
 ) -> anyhow::Result<(f64, u64)> {
     let alloc = rt.alloc();
     let jobs = cached_jobs(alloc, nodes, apart)?;
     let mut executors = Vec::new(alloc);
     for number in 0..nodes {
-        let executor: Box<dyn Executor + Send> = Box::new(alloc, Hashing::new(alloc, ROUNDS))?;
+        let executor: Box<dyn Executor + Send> = Box::new(alloc, Hashing::new(alloc, rounds))?;
         executors.push((NodeId(number + 1), executor))?;
     }
     let start = Instant::now(rt)?;
@@ -109,25 +164,99 @@ fn many_jobs<R: Print + Clock + AllocGlobal + Threads + Wait + Sync>(
     Ok((seconds_since(rt, start), end.commits))
 }
 
+/// Runs these jobs once on each number of nodes, and keeps the time where it is less than the one before. The answer is how many
+/// commits each run made.
+fn run_each<R: Print + Clock + AllocGlobal + Threads + Wait + Sync>(
+    rt: &R,
+    apart: bool,
+    rounds: u32,
+    times: &mut [f64; 3],
+) -> anyhow::Result<u64> {
+    let mut commits = 0;
+    for (least, nodes) in times.iter_mut().zip(NODES.iter()) {
+        let (time, made) = many_jobs(rt, *nodes, apart, rounds)?;
+        *least = least.min(time);
+        commits = made;
+    }
+    Ok(commits)
+}
+
+/// Prints, for 64 jobs on each number of nodes, how many commits are made in a second, and how much faster that is than on 1.
+fn print_farms<R: Print + Clock + AllocGlobal + Threads + Wait + Sync>(
+    rt: &R,
+    name: &str,
+    apart: bool,
+    rounds: u32,
+) -> anyhow::Result<()> {
+    let mut times = [f64::INFINITY; 3];
+    let mut commits = 0;
+    for _ in 0..RUNS {
+        commits = run_each(rt, apart, rounds, &mut times)?;
+    }
+    let commits = f64::from(u32::try_from(commits).unwrap_or(u32::MAX));
+    for (time, nodes) in times.iter().zip(NODES.iter()) {
+        let speed = commits / *time;
+        let faster = times[0] / *time;
+        println!(rt;
+            "run 64 jobs of 100, {name}, nodes {nodes}: {speed:.0} commits/s, {faster:.2} times 1 node"
+        )?;
+    }
+    Ok(())
+}
+
+/// Seconds in which threads hash, each its share of what is hashed in all.
+fn time_of_hashing<R: Clock + AllocGlobal + Threads + Wait + Sync>(
+    rt: &R,
+    threads: u32,
+) -> anyhow::Result<f64> {
+    let alloc = rt.alloc();
+    let share = HASHED.checked_div(threads).unwrap_or(HASHED);
+    let start = Instant::now(rt)?;
+    thread::scope(thread::scope_env(), rt, |scope| {
+        let mut children: Vec<JoinHandle<()>> = Vec::new(alloc);
+        for _ in 0..threads {
+            if children.reserve(1).is_err() {
+                break;
+            }
+            match scope.spawn(move || hash(share)) {
+                Ok(child) => children.push_reserved(child),
+                Err(_) => break,
+            }
+        }
+        for child in children {
+            child.join(rt);
+        }
+    });
+    Ok(seconds_since(rt, start))
+}
+
+/// Prints how much faster threads hash than one, without a farm: what the machine gives.
+fn print_machine<R: Print + Clock + AllocGlobal + Threads + Wait + Sync>(
+    rt: &R,
+) -> anyhow::Result<()> {
+    let mut times = [f64::INFINITY; 3];
+    for turn in 0..3 * RUNS {
+        let place = (turn % 3) as usize;
+        let time = time_of_hashing(rt, NODES[place])?;
+        times[place] = times[place].min(time);
+    }
+    for (time, threads) in times.iter().zip(NODES.iter()) {
+        let faster = times[0] / *time;
+        println!(rt; "hashing alone, threads {threads}: {faster:.2} times 1 thread")?;
+    }
+    Ok(())
+}
+
 /// Prints how many keys of one job are solved in a second; and for 64 jobs of 100 vertices with a LOCKED folder, on 1, 2
-/// and 4 nodes, how many commits are made in a second, and how much faster that is than on 1.
+/// and 4 nodes, how many commits are made in a second, and how much faster that is than on 1. Where nothing is hashed the farm
+/// alone is measured, and without a farm the machine.
 pub fn measure<R: Print + Clock + AllocGlobal + Threads + Wait + Sync>(
     rt: &R,
 ) -> anyhow::Result<()> {
     print_growth(rt)?;
-    for (name, apart) in [("a folder each", true), ("one folder", false)] {
-        let mut alone = 0.0;
-        for nodes in [1, 2, 4] {
-            let (time, commits) = many_jobs(rt, nodes, apart)?;
-            if nodes == 1 {
-                alone = time;
-            }
-            let speed = f64::from(u32::try_from(commits).unwrap_or(u32::MAX)) / time;
-            let faster = alone / time;
-            println!(rt;
-                "run 64 jobs of 100, {name}, nodes {nodes}: {speed:.0} commits/s, {faster:.2} times 1 node"
-            )?;
-        }
-    }
-    Ok(())
+    print_table_growth(rt)?;
+    print_machine(rt)?;
+    print_farms(rt, "a folder each", true, ROUNDS)?;
+    print_farms(rt, "one folder", false, ROUNDS)?;
+    print_farms(rt, "a folder each, nothing hashed", true, 0)
 }
