@@ -162,16 +162,16 @@ none_picked test live s none on =
     let r = from_any (λ (g : Lease). has_slot g.slots s) live on in
     any_in (λ (g : Lease). has_slot g.slots s) r.0 (filter (λ g. not (test g)) live) (in_filter (λ (g : Lease). not (test g)) r.0 live r.1 (ap not (any_none test r.0 live none r.1))) r.2
 
-other_home : (n : NodeId) (o : Option NodeId) → is_home n o ≡ false → cleared n o ≡ o
-other_home n None h = refl
-other_home n (Some x) h = (let e : eqb x.0 n.0 ≡ false = h in rw e refl)
+pub other-home : (n : NodeId) (o : Option NodeId) → is_home n o ≡ false → cleared n o ≡ o
+other-home n None h = refl
+other-home n (Some x) h = (let e : eqb x.0 n.0 ≡ false = h in rw e refl)
 
 pub newer_life-held : (k : Limits) (n : NodeId) (l : Life) (w : Work) → AreHeldUp w.ledger → AreHeldUp (newer_life k n l w).ledger
 unfolding newer_life
 newer_life-held k n l w held = elim (cases_Bool (list_any (is_older n l) w.ledger.live || is_home n w.ledger.old_home)) [
   | inl t ↦ rw t (retried-held k (sees n l w))
   | inr t ↦ rw t (let o = or_parts (list_any (is_older n l) w.ledger.live) (is_home n w.ledger.old_home) t in
-      keeps w.ledger (sees n l w).ledger (record { home = other_home n w.ledger.old_home o.1; leased = λ s e. none_picked (is_older n l) w.ledger.live s o.0 e })
+      keeps w.ledger (sees n l w).ledger (record { home = other-home n w.ledger.old_home o.1; leased = λ s e. none_picked (is_older n l) w.ledger.live s o.0 e })
       (λ p i. (from_filter (λ (r : Parked). not (is_older_ask n l r)) p w.ledger.parked i).0) held)
 ]
 

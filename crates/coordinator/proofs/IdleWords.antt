@@ -1,28 +1,30 @@
 -- Parked asks that need no look.
-use Rattle.std.proofs.Common.{◌≡◌, ℕ, zero, suc, ◌<◌, ◌≤◌, ◌+◌, ◌-◌, List, [], ◌∷◌, Bool, true, false, not, ◌&&◌, ◌||◌, eqb, cond, filter, get_or, length, drop, refl, sym, ◌∙◌, ap, subst, inl, inr, arith}
+use Rattle.std.proofs.Common.{◌≡◌, ℕ, zero, suc, ◌<◌, ◌≤◌, ◌+◌, ◌-◌, List, [], ◌∷◌, ◌++◌, Bool, true, false, not, ◌&&◌, ◌||◌, eqb, cond, filter, get_or, length, drop, refl, sym, ◌∙◌, ap, subst, inl, inr, arith}
 use Rattle.std.proofs.lemmas.Bool.{cases_Bool, and_parts, eqb-true, ne_eqb}
+use Rattle.std.proofs.lemmas.List.Folds.{list_any-append}
 use Rattle.std.proofs.lemmas.List.Elements.{All-head, All-tail}
 use Rattle.std.specs.Prelude.{All, AllPairs, nat_lt}
-use Rattle.std.specs.List.{list_any}
+use Rattle.std.specs.List.{list_any, flat_map}
 use Rattle.protocol.specs.Lists.{In}
 use Rattle.protocol.specs.Names.{Slot, slot_eq, is_private, only_slot, FolderName, Ticket, Want, leased_wants, wants_shared}
 use Rattle.protocol.specs.Machine.{Parked}
 use Rattle.protocol.specs.Ledger.{Limits, Ledger, Lease, Work, pick, elsewhere, another, all_taken, busy, lowest, is_free, is_leased, some_lease, has_slot, has_ticket, lease_under, without, decision, tried, stays, try_all, waiting}
 use Rattle.protocol.specs.declared.answer.Decision.TheVariants.{Wait}
+use Rattle.leases.specs.Changes.{ends_lease, slots_ended}
 use Rattle.leases.specs.Leases.{IsBefore}
+use Rattle.leases.specs.declared.ending.Ending.{Ending}
 use Rattle.leases.proofs.TableLemmas.{AllPairs-head, AllPairs-tail}
 use Rattle.protocol.proofs.Base.{true_false, any_in, from_any, from_filter, slot_eq_is}
-use Rattle.saverecord.proofs.LedgerLemmas.{all_from_in}
-use Rattle.coordinator.specs.Idle.{slots_under, is_open, is_held_up, AreHeldUp, IsIdle}
+use Rattle.coordinator.specs.Idle.{slots_under, is_open, is_held_up, AreHeldUp, IsIdle, AreIdle}
 use Rattle.coordinator.specs.Spent.{is_private_spent, is_noted, IsNoted, WantsNoneOf}
 use Rattle.farm_base.specs.declared.limits.TheConstants.{INSTANCES}
 use Rattle.protocol.specs.Farm.{farm_limits}
 use Rattle.farm_base.specs.Folders.{folder_eq}
 use Rattle.farm_base.proofs.CompareLaws.{folder_eq-itself}
 use Rattle.leases.proofs.MarkLemmas.{drop-item}
-use Rattle.coordinator.specs.Over.{still_at}
+use Rattle.coordinator.specs.Over.{Begins, still_at}
 use Rattle.coordinator.specs.Wanted.{WantsNone}
-use Rattle.coordinator.proofs.WaitingWords.{Begins, begins-before, stays-first}
+use Rattle.coordinator.proofs.WaitingWords.{begins-before, stays-first}
 use Rattle.coordinator.proofs.HeldUp.{LeasesMore, tried-more, any_more, either_more}
 use Rattle.coordinator.proofs.StateWords.{decision-is}
 use Rattle.coordinator.proofs.Trying.{tried-is, stays-is}
@@ -49,45 +51,53 @@ idle-fewer freed q q' p more idle =
     ]))))
 
 -- idle asks are still idle when another was tried
-pub idle-next : (k : Limits) (freed : List (Slot × Bool)) (p : Parked) (w w' : Work) (ps : List Parked) → w' ≡ tried k p w → All (IsIdle freed w.ledger) ps → All (IsIdle freed w'.ledger) ps
-idle-next k freed p w w' ps e idle =
-    subst (λ (x : Work). All (IsIdle freed x.ledger) ps) (sym e) (λ j d inside. idle-fewer freed w.ledger (tried k p w).ledger (get_or ps j d) (tried-more k p w) (idle j d inside))
+idle-next : (k : Limits) (freed : List (Slot × Bool)) (p : Parked) (w w' : Work) (ps : List Parked) → w' ≡ tried k p w → AreIdle freed w.ledger ps → AreIdle freed w'.ledger ps
+idle-next k freed p w w' ps e idle = subst (λ (x : Work). AreIdle freed x.ledger ps) (sym e) (λ q i. idle-fewer freed w.ledger (tried k p w).ledger q (tried-more k p w) (idle q i))
+
+-- the same, unless it was over
+pub idle-unless : (k : Limits) (freed : List (Slot × Bool)) (p : Parked) (b : Bool) (w w' : Work) (ps : List Parked) → w' ≡ cond b w (tried k p w) → AreIdle freed w.ledger ps → AreIdle freed w'.ledger ps
+idle-unless k freed p true w w' ps e idle = subst (λ (x : Work). AreIdle freed x.ledger ps) (sym e) idle
+idle-unless k freed p false w w' ps e idle = idle-next k freed p w w' ps e idle
 
 -- ---- asks that wait change nothing
 
--- asks that wait are passed over from one place to another
-pub record Passes (k : Limits) (asks : List Parked) (w : Work) (from to : ℕ) : Type 0 where
-  pub work : try_all k (drop from asks) w ≡ try_all k (drop to asks) w
-  pub stay : (os : List ℕ) → Begins to os → still_at to os (drop to asks) ≡ waiting k (drop to asks) w → still_at from os (drop from asks) ≡ waiting k (drop from asks) w
+-- asks that wait, of which none is at these places, are passed over from one place to another
+pub record Passes (k : Limits) (asks : List Parked) (over : List ℕ) (w : Work) (from to : ℕ) : Type 0 where
+  pub work : try_all k (still_at from over (drop from asks)) w ≡ try_all k (still_at to over (drop to asks)) w
+  pub stay : (os : List ℕ) → Begins to os → still_at to os (drop to asks) ≡ waiting k (still_at to over (drop to asks)) w → still_at from os (drop from asks) ≡ waiting k (still_at from over (drop from asks)) w
 
-passes : (k : Limits) (asks : List Parked) (w : Work) (from n : ℕ) (d : Parked) → from + n ≤ length asks
-    → ((j : ℕ) → from ≤ j → j < from + n → decision k w.ledger (get_or asks j d) ≡ Wait) → Passes k asks w from (from + n)
-passes k asks w from zero d inside waits = (let same : from + 0 ≡ from = omega arith in subst (Passes k asks w from) (sym same) (record { work = refl; stay = λ os b h. h }))
-passes k asks w from (suc n) d inside waits =
+passes : (k : Limits) (asks : List Parked) (over : List ℕ) (w : Work) (from n : ℕ) (d : Parked) → from + n ≤ length asks → Begins (from + n) over
+    → ((j : ℕ) → from ≤ j → j < from + n → decision k w.ledger (get_or asks j d) ≡ Wait) → Passes k asks over w from (from + n)
+passes k asks over w from zero d inside begins waits = (let same : from + 0 ≡ from = omega arith in subst (Passes k asks over w from) (sym same) (record { work = refl; stay = λ os b h. h }))
+passes k asks over w from (suc n) d inside begins waits =
     let p : Parked = get_or asks from d in
     let first : drop from asks ≡ p ∷ drop (from + 1) asks = drop-item asks from d (omega arith) in
     let here : decision k w.ledger p ≡ Wait = waits from (omega arith) (omega arith) in
     let same : tried k p w ≡ w = tried-is k p w Wait here in
     let stay : stays k p w ≡ true = stays-is k p w Wait here in
     let to : from + 1 + n ≡ from + suc n = omega arith in
-    let rest : Passes k asks w (from + 1) (from + suc n) =
-    subst (Passes k asks w (from + 1)) to (passes k asks w (from + 1) n d (omega arith) (λ j low high. waits j (omega arith) (omega arith))) in
+    let left : List Parked = still_at (from + 1) over (drop (from + 1) asks) in
+    let split : still_at from over (drop from asks) ≡ p ∷ left =
+    ap (still_at from over) first ∙ stays-first from over p (drop (from + 1) asks) (begins-before (from + 1) (from + suc n) over (omega arith) begins) in
+    let rest : Passes k asks over w (from + 1) (from + suc n) =
+    subst (Passes k asks over w (from + 1)) to (passes k asks over w (from + 1) n d (omega arith) (subst (λ m. Begins m over) (sym to) begins) (λ j low high. waits j (omega arith) (omega arith))) in
     record {
-      work = ap (λ (ps : List Parked). try_all k ps w) first ∙ ap (try_all k (drop (from + 1) asks)) same ∙ rest.work;
+      work = ap (λ (ps : List Parked). try_all k ps w) split ∙ ap (try_all k left) same ∙ rest.work;
       stay = λ os b h.
           ap (still_at from os) first
           ∙ stays-first from os p (drop (from + 1) asks) (begins-before (from + 1) (from + suc n) os (omega arith) b)
           ∙ ap (λ (qs : List Parked). p ∷ qs) (rest.stay os b h)
-          ∙ sym (ap (λ (qs : List Parked). waiting k qs w) first
-          ∙ ap (λ (b : Bool). cond b (p ∷ waiting k (drop (from + 1) asks) (tried k p w)) (waiting k (drop (from + 1) asks) (tried k p w))) stay
-          ∙ ap (λ (x : Work). p ∷ waiting k (drop (from + 1) asks) x) same);
+          ∙ sym (ap (λ (qs : List Parked). waiting k qs w) split
+          ∙ ap (λ (b : Bool). cond b (p ∷ waiting k left (tried k p w)) (waiting k left (tried k p w))) stay
+          ∙ ap (λ (x : Work). p ∷ waiting k left x) same);
     }
 
 -- so are all those that wait
-pub waited-passes : (k : Limits) (asks : List Parked) (w : Work) (from to : ℕ) (d : Parked) → from ≤ to → to ≤ length asks → ((j : ℕ) → from ≤ j → j < to → decision k w.ledger (get_or asks j d) ≡ Wait) → Passes k asks w from to
-waited-passes k asks w from to d le inside waits =
+pub waited-passes : (k : Limits) (asks : List Parked) (over : List ℕ) (w : Work) (from to : ℕ) (d : Parked) → from ≤ to → to ≤ length asks → Begins to over
+    → ((j : ℕ) → from ≤ j → j < to → decision k w.ledger (get_or asks j d) ≡ Wait) → Passes k asks over w from to
+waited-passes k asks over w from to d le inside begins waits =
     let same : from + (to - from) ≡ to = omega arith in
-    subst (Passes k asks w from) same (passes k asks w from (to - from) d (omega arith) (λ j low high. waits j low (omega arith)))
+    subst (Passes k asks over w from) same (passes k asks over w from (to - from) d (omega arith) (subst (λ m. Begins m over) (sym same) begins) (λ j low high. waits j low (omega arith)))
 
 -- ---- a lease ends
 
@@ -118,27 +128,59 @@ still_leased t (x ∷ live) s before e = elim (cases_Bool (has_ticket t x)) [
     swapped false true h = refl
     swapped false false h = h
 
--- a parked ask that was held up is idle when one lease ends
-idle-freed : (t : Ticket) (q q' : Ledger) (p : Parked) → AllPairs IsBefore q.live → q'.live ≡ without t q.live → q'.old_home ≡ q.old_home
-    → is_held_up q p ≡ true → IsIdle (slots_under (lease_under q.live t)) q' p
-idle-freed t q q' p before live home was =
-    let freed : List (Slot × Bool) = slots_under (lease_under q.live t) in
+-- a parked ask that was held up is idle where each slot that was leased is leased, or is free since
+idle-since : (freed : List (Slot × Bool)) (q q' : Ledger) (p : Parked) → q'.old_home ≡ q.old_home → ((s : Slot) → some_lease q.live s ≡ true → (some_lease q'.live s || has_slot freed s) ≡ true)
+    → is_held_up q p ≡ true → IsIdle freed q' p
+idle-since freed q q' p home still was =
     let wants : List Want = leased_wants p.tenure p.wants in
     subst (λ o. ((p.tenure && another o p.node) || busy (λ s. is_leased q' s || has_slot freed s) wants) ≡ true) (sym home)
     (either_more (elsewhere q p) (busy (is_leased q) wants) (busy (λ s. is_leased q' s || has_slot freed s) wants) was
     (any_more (λ (w : Want). not (is_private w.folder.mode) && is_leased q (only_slot w.folder)) (λ (w : Want). not (is_private w.folder.mode) && (is_leased q' (only_slot w.folder) || has_slot freed (only_slot w.folder))) wants
     (λ w i t'. (let b = and_parts (not (is_private w.folder.mode)) (is_leased q (only_slot w.folder)) t' in
     let other = b.0 in
-    let on : (some_lease q'.live (only_slot w.folder) || has_slot freed (only_slot w.folder)) ≡ true =
-    subst (λ (gs : List Lease). (some_lease gs (only_slot w.folder) || has_slot freed (only_slot w.folder)) ≡ true) (sym live) (still_leased t q.live (only_slot w.folder) before b.1) in
+    let on = still (only_slot w.folder) b.1 in
     rw other on))))
 
--- so are all
+-- all that were held up are idle when one lease ends
 pub are-idle-freed : (t : Ticket) (q q' : Ledger) → AllPairs IsBefore q.live → q'.live ≡ without t q.live → q'.old_home ≡ q.old_home → q'.parked ≡ q.parked
-    → AreHeldUp q → All (IsIdle (slots_under (lease_under q.live t)) q') q'.parked
-are-idle-freed t q q' before live home parked held =
-    subst (λ (ps : List Parked). All (IsIdle (slots_under (lease_under q.live t)) q') ps) (sym parked)
-    (all_from_in (IsIdle (slots_under (lease_under q.live t)) q') q.parked (λ p i. idle-freed t q q' p before live home (held p i)))
+    → AreHeldUp q → AreIdle (slots_under (lease_under q.live t)) q' q'.parked
+are-idle-freed t q q' before live home parked held p i =
+    let freed : List (Slot × Bool) = slots_under (lease_under q.live t) in
+    idle-since freed q q' p home
+    (λ s e. subst (λ (gs : List Lease). (some_lease gs s || has_slot freed s) ≡ true) (sym live) (still_leased t q.live s before e))
+    (held p (subst (In p) parked i))
+
+-- ---- leases end
+
+-- what was leased is leased, or is free since
+still_leased_beside : (ends : Lease → Bool) (live : List Lease) (s : Slot) → some_lease live s ≡ true
+    → (some_lease (filter (λ g. not (ends g)) live) s || has_slot (flat_map (λ g. g.slots) (filter ends live)) s) ≡ true
+still_leased_beside ends [] s e = (let bad : false ≡ true = e in absurd (cc bad))
+still_leased_beside ends (x ∷ live) s e = elim (cases_Bool (ends x)) [
+  | inl t ↦ (
+      let more : has_slot (x.slots ++ flat_map (λ g. g.slots) (filter ends live)) s ≡ (has_slot x.slots s || has_slot (flat_map (λ g. g.slots) (filter ends live)) s) =
+      list_any-append (λ (y : Slot × Bool). slot_eq y.0 s) x.slots (flat_map (λ g. g.slots) (filter ends live)) in
+      rw t (rw more (elim (cases_Bool (has_slot x.slots s)) [
+        | inl has ↦ rw has (or_true (some_lease (filter (λ g. not (ends g)) live) s))
+        | inr not_has ↦ rw not_has (still_leased_beside ends live s (rw not_has at e))
+      ])))
+  | inr f ↦ rw f (elim (cases_Bool (has_slot x.slots s)) [
+    | inl has ↦ rw has refl
+    | inr not_has ↦ rw not_has (still_leased_beside ends live s (rw not_has at e))
+  ])
+]
+  where
+    or_true : (a : Bool) → (a || true) ≡ true
+    or_true true = refl
+    or_true false = refl
+
+-- all that were held up and still wait are idle when these leases end
+pub are-idle-ended : (e : Ending) (q q' : Ledger) (test : Parked → Bool) → q'.live ≡ filter (λ g. not (ends_lease e g)) q.live → q'.old_home ≡ q.old_home → q'.parked ≡ filter test q.parked
+    → AreHeldUp q → AreIdle (slots_ended e q.live) q' q'.parked
+are-idle-ended e q q' test live home parked held p i =
+    idle-since (slots_ended e q.live) q q' p home
+    (λ s on. subst (λ (gs : List Lease). (some_lease gs s || has_slot (slots_ended e q.live) s) ≡ true) (sym live) (still_leased_beside (ends_lease e) q.live s on))
+    (held p (from_filter test p q.parked (subst (In p) parked i)).0)
 
 -- ---- asks that want no folder of the freed slots
 
@@ -151,9 +193,9 @@ has_slot-filter test s (x ∷ xs) passes e = elim (cases_Bool (slot_eq x.0 s)) [
       elim (cases_Bool (test x)) [ inl kept ↦ rw kept (rw other rest) | inr dropped ↦ rw dropped rest ])
 ]
 
-leased_among : (tenure : Bool) (w : Want) (wants : List Want) → In w (leased_wants tenure wants) → In w wants
-leased_among true w wants i = (from_filter wants_shared w wants i).0
-leased_among false w wants i = (from_filter (λ w. not (wants_shared w)) w wants i).0
+pub leased-among : (tenure : Bool) (w : Want) (wants : List Want) → In w (leased_wants tenure wants) → In w wants
+leased-among true w wants i = (from_filter wants_shared w wants i).0
+leased-among false w wants i = (from_filter (λ w. not (wants_shared w)) w wants i).0
 
 -- of the freed slots those are enough that are not leased again
 idle-open : (freed : List (Slot × Bool)) (q : Ledger) (p : Parked) → IsIdle freed q p → IsIdle (filter (is_open q.live) freed) q p
@@ -174,15 +216,15 @@ idle-open freed q p idle =
           rw (other, off) kept)
     ])))
 
-pub are-idle-open : (freed : List (Slot × Bool)) (q : Ledger) (ps : List Parked) → All (IsIdle freed q) ps → All (IsIdle (filter (is_open q.live) freed) q) ps
-are-idle-open freed q ps idle = λ j d inside. idle-open freed q (get_or ps j d) (idle j d inside)
+pub are-idle-open : (freed : List (Slot × Bool)) (q : Ledger) (ps : List Parked) → AreIdle freed q ps → AreIdle (filter (is_open q.live) freed) q ps
+are-idle-open freed q ps idle p i = idle-open freed q p (idle p i)
 
 -- an ask waits that wants no folder of the freed slots, and no PRIVATE folder of which no instance is free
 pub unwanted-waits : (freed : List (Slot × Bool)) (noted : List FolderName) (q : Ledger) (p : Parked) → IsIdle freed q p → IsNoted noted (is_free q) p → WantsNone freed p → WantsNoneOf noted p → decision farm_limits q p ≡ Wait
 unwanted-waits freed noted q p idle known none free =
     let wants : List Want = leased_wants p.tenure p.wants in
     decision-is farm_limits q p ∙ picks_wait (elsewhere q p) (all_taken INSTANCES (is_free q) wants) (busy (is_leased q) wants) (not (nat_lt q.last farm_limits.greatest))
-    (none_of_list (λ (w : Want). is_private w.folder.mode && eqb (lowest (is_free q) w.folder 1 INSTANCES) 0) wants (λ w i. left w (leased_among p.tenure w p.wants i)))
+    (none_of_list (λ (w : Want). is_private w.folder.mode && eqb (lowest (is_free q) w.folder 1 INSTANCES) 0) wants (λ w i. left w (leased-among p.tenure w p.wants i)))
     (either_more (elsewhere q p) (busy (λ s. is_leased q s || has_slot freed s) wants) (busy (is_leased q) wants) idle
     (any_more (λ (w : Want). not (is_private w.folder.mode) && (is_leased q (only_slot w.folder) || has_slot freed (only_slot w.folder))) (λ (w : Want). not (is_private w.folder.mode) && is_leased q (only_slot w.folder)) wants
     (λ w i t. (let b = and_parts (not (is_private w.folder.mode)) (is_leased q (only_slot w.folder) || has_slot freed (only_slot w.folder)) t in
@@ -195,7 +237,7 @@ unwanted-waits freed noted q p idle known none free =
           let same : r.0.0.folder ≡ w.folder = ap (λ (s : Slot). s.folder) (slot_eq_is r.0.0 (only_slot w.folder) r.2) in
           let among : list_any (λ (x : Slot × Bool). folder_eq x.0.folder w.folder) freed ≡ true =
           any_in (λ (x : Slot × Bool). folder_eq x.0.folder w.folder) r.0 freed r.1 (ap (λ (f : FolderName). folder_eq f w.folder) same ∙ folder_eq-itself w.folder) in
-          true_false (list_any (λ (x : Slot × Bool). folder_eq x.0.folder w.folder) freed) among (none w (leased_among p.tenure w p.wants i)))
+          true_false (list_any (λ (x : Slot × Bool). folder_eq x.0.folder w.folder) freed) among (none w (leased-among p.tenure w p.wants i)))
     ]))))
   where
     none_of_list : {A : Type 0} (test : A → Bool) (xs : List A) → ((x : A) → In x xs → test x ≡ false) → list_any test xs ≡ false

@@ -11,8 +11,9 @@ pub mod OwnCalls
 pub mod Prunes
 pub mod OwnSends
 pub mod HeldUp
-pub mod SpentWords
+pub mod OverWords
 pub mod IdleWords
+pub mod SpentWords
 pub mod Recording
 pub mod Rightful
 pub mod Records

@@ -6,8 +6,8 @@ use Rattle.std.proofs.lemmas.Bool.{cases_lt}
 use Rattle.std.proofs.lemmas.List.{drop-append-le, drop-set, drop-set-lt, get_or-set_other, length-set}
 use Rattle.std.proofs.lemmas.List.Edits.{swap_is}
 use Rattle.leases.proofs.MarkLemmas.{drop-item}
-use Rattle.coordinator.specs.Over.{still_at, AreRising}
-use Rattle.coordinator.proofs.WaitingWords.{Begins, over-first, stays-first, still-none}
+use Rattle.coordinator.specs.Over.{Begins, still_at, AreRising}
+use Rattle.coordinator.proofs.WaitingWords.{over-first, stays-first, still-none}
 
 -- an item of a list that has some
 pub some_item : {A : Type 0} (xs : List A) → 0 < length xs → A

@@ -1,5 +1,5 @@
 -- What a ledger keeps to, over all that a message does.
-use Rattle.std.proofs.Common.{◌≡◌, ℕ, ◌+◌, ◌<◌, ◌≤◌, List, [], ◌∷◌, ◌++◌, Bool, true, false, not, ◌&&◌, ◌||◌, get_or, map, filter, Option, Some, None, refl, sym, ◌∙◌, ap, subst, inl, inr, arith}
+use Rattle.std.proofs.Common.{◌≡◌, ℕ, ◌+◌, ◌<◌, ◌≤◌, List, [], ◌∷◌, ◌++◌, Bool, true, false, not, ◌&&◌, ◌||◌, get_or, map, filter, Option, Some, None, refl, sym, ◌∙◌, ap, subst, inl, inr, arith, cond}
 use Rattle.std.proofs.lemmas.Bool.{cases_Bool, not-true, and_parts, or_parts, eqb-true}
 use Rattle.std.specs.Prelude.{All, AllPairs, nat_lt}
 use Rattle.std.specs.List.{list_any, find, AllByRecursion}
@@ -83,6 +83,11 @@ pub sound-tried : (k : Limits) (p : Parked) (w : Work) → IsSound w.ledger → 
 sound-tried k p w s wants =
     let P : Work → Type 0 = λ x. IsSound x.ledger in
     subst P (sym (tried-is k p w (decision k w.ledger p) refl)) (sound-carried (decision k w.ledger p) k p w s wants refl)
+
+-- the same, unless the ask was over
+pub sound-unless : (k : Limits) (p : Parked) (b : Bool) (w w' : Work) → w' ≡ cond b w (tried k p w) → IsSound w.ledger → IsWants p.wants → IsSound w'.ledger
+sound-unless k p true w w' e s wants = (let P : Work → Type 0 = λ x. IsSound x.ledger in subst P (sym e) s)
+sound-unless k p false w w' e s wants = (let P : Work → Type 0 = λ x. IsSound x.ledger in subst P (sym e) (sound-tried k p w s wants))
 
 -- each ask has wants
 abbrev AllWants : List Parked → Type 0

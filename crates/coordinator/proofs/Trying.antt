@@ -59,14 +59,20 @@ acquiring-decides k (Some g) b p w h e = (let bad : true ≡ false = h in absurd
 acquiring-decides k None true p w h e = (let bad : true ≡ false = e in absurd (cc bad))
 acquiring-decides k None false p w h e = refl
 
--- where something ended
-pub newer_life-tries : (k : Limits) (n : NodeId) (l : Life) (w : Work) → (list_any (is_older n l) w.ledger.live || is_home n w.ledger.old_home) ≡ true → newer_life k n l w ≡ retried k (sees n l w)
+-- where the old home was cleared
+pub newer_life-home : (k : Limits) (n : NodeId) (l : Life) (w : Work) → is_home n w.ledger.old_home ≡ true → newer_life k n l w ≡ retried k (sees n l w)
 unfolding newer_life
-newer_life-tries k n l w e = rw e refl
+newer_life-home k n l w e = rw e (elim (cases_Bool (list_any (is_older n l) w.ledger.live)) [ inl t ↦ rw t refl | inr f ↦ rw f refl ])
 
-pub newer_life-sees : (k : Limits) (n : NodeId) (l : Life) (w : Work) → (list_any (is_older n l) w.ledger.live || is_home n w.ledger.old_home) ≡ false → newer_life k n l w ≡ sees n l w
+-- where a lease ended
+pub newer_life-leases : (k : Limits) (n : NodeId) (l : Life) (w : Work) → list_any (is_older n l) w.ledger.live ≡ true → newer_life k n l w ≡ retried k (sees n l w)
 unfolding newer_life
-newer_life-sees k n l w e = rw e refl
+newer_life-leases k n l w e = rw e refl
+
+-- where neither was
+pub newer_life-sees : (k : Limits) (n : NodeId) (l : Life) (w : Work) → list_any (is_older n l) w.ledger.live ≡ false → is_home n w.ledger.old_home ≡ false → newer_life k n l w ≡ sees n l w
+unfolding newer_life
+newer_life-sees k n l w e f = rw (e, f) refl
 
 -- what is released was leased
 pub may_release-some : (n : NodeId) (l : Life) (o : Option Lease) → may_release n l o ≡ true → (g : Lease) × (o ≡ Some g)

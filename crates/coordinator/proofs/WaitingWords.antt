@@ -5,7 +5,7 @@ use Rattle.std.proofs.lemmas.Bool.Decides.{nat_tests}
 use Rattle.std.specs.List.{list_any}
 use Rattle.protocol.specs.Machine.{Parked}
 use Rattle.protocol.specs.Ledger.{Limits, Work, tried, stays, try_all, waiting, retried, parks}
-use Rattle.coordinator.specs.Over.{is_over_at, later_over, still_at}
+use Rattle.coordinator.specs.Over.{is_over_at, later_over, Begins, still_at}
 use Rattle.coordinator.proofs.Trying.{try_all-parks, waiting-parks, retried-is}
 
 -- an ask that is never looked at
@@ -16,11 +16,6 @@ any_ask = record { node = record { 0 = 0 }; life = record { 0 = 0 }; ask = recor
 pub still-none : {A : Type 0} (i : ℕ) (xs : List A) → still_at i [] xs ≡ xs
 still-none i [] = refl
 still-none i (x ∷ xs) = ap (λ ys. x ∷ ys) (still-none (i + 1) xs)
-
--- the first of the places is this one, or behind it
-abbrev pub Begins : ℕ → List ℕ → Type 0
-Begins i [] = Unit {0}
-Begins i (o ∷ os) = i ≤ o
 
 pub begins-before : (i j : ℕ) (os : List ℕ) → i ≤ j → Begins j os → Begins i os
 begins-before i j [] le b = tt

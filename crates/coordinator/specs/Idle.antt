@@ -1,4 +1,4 @@
--- Which parked asks need no look once the slots of one lease are free.
+-- Which parked asks need no look once slots are free.
 use Rattle.std.specs.Prelude.{◌≡◌, Bool, true, not, ◌&&◌, ◌||◌, List, [], Option, Some, None}
 use Rattle.protocol.specs.Lists.{In}
 use Rattle.protocol.specs.Names.{Slot, is_private, leased_wants}
@@ -29,3 +29,7 @@ waits_for freed q p = elsewhere q p || busy (λ s. is_leased q s || has_slot fre
 -- only the freed slots can let the ask be granted
 abbrev pub IsIdle : List (Slot × Bool) → Ledger → Parked → Type 0
 IsIdle freed q p = waits_for freed q p ≡ true
+
+-- so it is with each of these asks
+abbrev pub AreIdle : List (Slot × Bool) → Ledger → List Parked → Type 0
+AreIdle freed q ps = (p : Parked) → In p ps → IsIdle freed q p

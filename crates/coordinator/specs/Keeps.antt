@@ -10,12 +10,12 @@ abbrev pub held : State → Held
 held s = record {
   live = s.table.live;
   retired = s.table.retired;
-  gone = s.gone;
+  gone = s.gone.retired;
   lines = s.lines;
   last = s.tickets.position;
   ceiling = s.tickets.ceiling;
   old_home = s.old_home;
-  lives = s.lives;
+  lives = s.lives.seen;
   parked = asks_of s.parked;
 }
 

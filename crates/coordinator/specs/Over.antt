@@ -1,5 +1,5 @@
 -- Places in a list of what is over.
-use Rattle.std.specs.Prelude.{◌<◌, ◌+◌, ℕ, if◌then◌else◌, Bool, false, List, [], ◌∷◌, nat_eq, length, slice_index_or}
+use Rattle.std.specs.Prelude.{◌<◌, ◌≤◌, ◌+◌, ℕ, if◌then◌else◌, Bool, false, List, [], ◌∷◌, nat_eq, length, slice_index_or}
 
 -- the first of these places is this one
 abbrev pub is_over_at : ℕ → List ℕ → Bool
@@ -10,6 +10,11 @@ is_over_at i (o ∷ os) = nat_eq o i
 abbrev pub later_over : ℕ → List ℕ → List ℕ
 later_over i [] = []
 later_over i (o ∷ os) = if nat_eq o i then os else o ∷ os
+
+-- the first of these places is this one, or behind it
+abbrev pub Begins : ℕ → List ℕ → Type 0
+Begins i [] = Unit {0}
+Begins i (o ∷ os) = i ≤ o
 
 -- of a list whose first has this place what is not at these places
 abbrev pub still_at : {A : Type 0} → ℕ → List ℕ → List A → List A

@@ -21,12 +21,12 @@ abbrev pub kept : LineOf → State → Ledger
 kept line s = record {
   live = s.table.live;
   retired = among s.table.retired;
-  gone = is_among s.gone;
+  gone = is_among s.gone.retired;
   line = line;
   last = s.tickets.position;
   ceiling = s.tickets.ceiling;
   old_home = s.old_home;
-  lives = life_at s.lives;
+  lives = life_at s.lives.seen;
   parked = asks_of s.parked;
 }
 

@@ -1,23 +1,25 @@
 //! What one event changes of what the coordinator keeps beside the lines, and what is looked up with the changes so far.
-ghost use Rattle.std.specs.Prelude.{◌≡◌, ◌≢◌, ◌≤◌, ◌<◌, ℕ, ◌&&◌, not, filter, length, slice_index_or, All, None, IfOk};
-ghost use Rattle.std.specs.Option.{unwrap_or};
+ghost use Rattle.std.specs.Prelude.{◌≡◌, ◌≢◌, ◌≤◌, ◌<◌, ℕ, ◌&&◌, not, drop, filter, length, slice_index_or, None, IfOk};
+ghost use Rattle.protocol.specs.Lists.{In};
 ghost use Rattle.protocol.specs.Names.{is_private};
 ghost use Rattle.protocol.specs.Farm.{farm_limits};
 ghost use Rattle.protocol.specs.Ledger.{decision, elsewhere, may_commit, may_release, lease_under};
 ghost use Rattle.leases.specs.Table.{fit_of, life_at, is_among, is_free};
 ghost use Rattle.coordinator.specs.Held.{Held};
-ghost use Rattle.coordinator.specs.Idle.{is_open, IsIdle};
+ghost use Rattle.coordinator.specs.Idle.{is_open, AreIdle};
 ghost use Rattle.coordinator.specs.Keeps.{held, NotesSpent};
+ghost use Rattle.coordinator.specs.Over.{Begins, still_at};
 ghost use Rattle.coordinator.specs.Queue.{asks_of};
 ghost use Rattle.coordinator.specs.Spent.{IsNoted, AreNoted};
 ghost use Rattle.coordinator.specs.Shown.{LineOf, after, table_after, with_life, with_gone, kept};
 
 use super::new_life::NewLife;
+use super::over::first_over;
 use super::parked_change::ParkedChange;
 use super::spent_folders::SpentFolders;
 use super::state::{State, fit_slots};
 use farm_base::{Copied, Life, Mode, News, NodeId, Parked, Slot, Ticket, Why};
-use leases::{Fit, Lives, RetiredNodes, TableChange, TicketSource};
+use leases::{Fit, TableChange, TicketSource};
 use protocol::Decision;
 use std::alloc::{AllocError, Global};
 
@@ -54,7 +56,7 @@ impl Change {
 
     /// Whether a node was retired.
     pub(crate) fn is_gone(&self, base: &State, node: NodeId) -> bool
-        ensures { result ≡ with_gone self.now.gone (is_among base.now.gone) node.0 }
+        ensures { result ≡ with_gone self.now.gone (is_among base.now.gone.retired) node.0 }
     {
         match self.gone {
             Some(gone) => node == gone || base.gone.contains(node),
@@ -64,7 +66,7 @@ impl Change {
 
     /// The greatest life seen of a node, 0 where none was.
     pub(crate) fn greatest_life(&self, base: &State, node: NodeId) -> u64
-        ensures { result ≡ with_life self.now.life (life_at base.now.lives) node.0 }
+        ensures { result ≡ with_life self.now.life (life_at base.now.lives.seen) node.0 }
     {
         match self.life {
             Some(seen) => {
@@ -76,44 +78,6 @@ impl Change {
             }
             None => base.lives.greatest(node),
         }
-    }
-
-    /// The greatest lives, if one began.
-    fn lives(&self, alloc: Global, base: &State) -> Result<Option<Lives>, AllocError>
-        ensures { IfOk result (λ lives. life_at (unwrap_or lives base.now.lives) ≡ with_life self.now.life (life_at base.now.lives)) }
-    {
-        let Some(seen) = self.life else {
-            return Ok(None);
-        };
-        let mut lives = base.lives.copy(alloc)?;
-        lives.set(seen.node, seen.life)?;
-        Ok(Some(lives))
-    }
-
-    /// The retired nodes, if one was retired.
-    fn retired_nodes(&self, alloc: Global, base: &State) -> Result<Option<RetiredNodes>, AllocError>
-        ensures { IfOk result (λ gone. is_among (unwrap_or gone base.now.gone) ≡ with_gone self.now.gone (is_among base.now.gone)) }
-    {
-        let Some(node) = self.gone else {
-            return Ok(None);
-        };
-        let mut gone = base.gone.copy(alloc)?;
-        gone.insert(node)?;
-        Ok(Some(gone))
-    }
-
-    /// The greatest lives and the retired nodes, where they change.
-    pub(crate) fn nodes(
-        &self,
-        alloc: Global,
-        base: &State,
-    ) -> Result<(Option<Lives>, Option<RetiredNodes>), AllocError>
-        ensures lives { IfOk result (λ nodes. life_at (unwrap_or nodes.0 base.now.lives) ≡ with_life self.now.life (life_at base.now.lives)) }
-        ensures gone { IfOk result (λ nodes. is_among (unwrap_or nodes.1 base.now.gone) ≡ with_gone self.now.gone (is_among base.now.gone)) }
-    {
-        let lives = self.lives(alloc, base)?;
-        let gone = self.retired_nodes(alloc, base)?;
-        Ok((lives, gone))
     }
 
     /// Whether a tenure is asked for while another node is the old home.
@@ -169,20 +133,21 @@ impl Change {
         slots.retain(|slot| self.is_open(base, slot));
     }
 
-    /// The PRIVATE folders of which no instance may be free now, of those that asks want which waited before.
+    /// The PRIVATE folders that waiting asks may want and of which no instance is free, before asks that wait since.
     pub(crate) fn spent(&self, alloc: Global, base: &State) -> Result<SpentFolders, AllocError>
         ensures { IfOk result (λ spent. (p : Parked) → IsNoted base.now.spent.folders.items (is_free base.now.table) p
             → IsNoted spent.folders.items (is_free (table_after (held base.now) self.now)) p) }
     {
         let mut spent = SpentFolders::new(alloc);
-        let (granted, retired) = self.table.added();
+        let (granted, _) = self.table.added();
+        let retired = self.table.newly_retired(alloc)?;
         spent.note_folders(alloc, &base.table, &self.table, base.spent.as_slice())?;
         spent.note_leases(alloc, &base.table, &self.table, granted)?;
-        spent.note_slots(alloc, &base.table, &self.table, retired)?;
+        spent.note_slots(alloc, &base.table, &self.table, retired.as_slice())?;
         Ok(spent)
     }
 
-    /// The same of those that the asks want which wait then.
+    /// The PRIVATE folders that waiting asks may want and of which no instance is free, with those of asks that wait since.
     pub(crate) fn spent_after(
         &self,
         alloc: Global,
@@ -197,28 +162,33 @@ impl Change {
         Ok(spent)
     }
 
-    /// The place from this one on of the first parked ask that may not wait now, or the place behind the last: an ask that wants
-    /// one of the freed slots, or a PRIVATE folder of which no instance may be free. Of the freed slots it drops those that are
-    /// leased again.
+    /// The place from this one on of the first parked ask that is over or may not wait now, or the place behind the last. It may
+    /// not wait if it wants one of the freed slots, or a PRIVATE folder of which no instance is free. Of the freed slots it drops
+    /// those that are leased again.
     pub(crate) fn first_due(
         &self,
-        alloc: Global,
         base: &State,
         freed: &mut Vec<(Slot, bool)>,
+        spent: &SpentFolders,
+        over: &[usize],
         place: usize,
-    ) -> Result<usize, AllocError>
+    ) -> usize
         requires inside { place ≤ length (asks_of base.now.parked) }
-        requires noted { NotesSpent base.now }
-        requires idle { (line : LineOf) → All (IsIdle freed.old.items (after line (held base.now) self.now)) (asks_of base.now.parked) }
-        ensures forward { IfOk result (λ next. place ≤ next) }
-        ensures inside { IfOk result (λ next. next ≤ length (asks_of base.now.parked)) }
-        ensures passed { IfOk result (λ next. (line : LineOf) (k : ℕ) (d : Parked) → place ≤ k → k < next
-            → decision farm_limits (after line (held base.now) self.now) (slice_index_or (asks_of base.now.parked) k d) ≡ Decision.Wait) }
-        ensures idle { (line : LineOf) → All (IsIdle freed.new.items (after line (held base.now) self.now)) (asks_of base.now.parked) }
+        requires over { Begins place over.now }
+        requires noted { (p : Parked) → In p (asks_of base.now.parked) → IsNoted spent.now.folders.items (is_free (table_after (held base.now) self.now)) p }
+        requires idle { (line : LineOf) → AreIdle freed.old.items (after line (held base.now) self.now) (still_at place over.now (drop place (asks_of base.now.parked))) }
+        ensures forward { place ≤ result }
+        ensures inside { result ≤ length (asks_of base.now.parked) }
+        ensures over { Begins result over.now }
+        ensures passed { (line : LineOf) (k : ℕ) (d : Parked) → place ≤ k → k < result
+            → decision farm_limits (after line (held base.now) self.now) (slice_index_or (asks_of base.now.parked) k d) ≡ Decision.Wait }
+        ensures idle { (line : LineOf) → AreIdle freed.new.items (after line (held base.now) self.now) (still_at place over.now (drop place (asks_of base.now.parked))) }
     {
         self.keep_open(base, freed);
-        let spent = self.spent(alloc, base)?;
-        Ok(base.parked.next(freed.as_slice(), spent.as_slice(), place))
+        first_over(
+            over,
+            base.parked.next(freed.as_slice(), spent.as_slice(), place),
+        )
     }
 
     pub(crate) fn may_commit(

@@ -1,18 +1,19 @@
 //! An event as it is worked out: the changes that it makes, over a state that stays as it is.
-ghost use Rattle.std.specs.Prelude.{if◌then◌else◌, ◌++◌, ◌∷◌, [], ◌≡◌, ◌≢◌, ◌≤◌, ◌&&◌, All, IfOk, OnOk, not, false, true, is_some, ◌||◌, Some, None, nat_lt};
+ghost use Rattle.std.specs.Prelude.{if◌then◌else◌, ◌++◌, ◌∷◌, [], ◌≡◌, ◌≢◌, ◌≤◌, ◌&&◌, All, IfOk, OnOk, filter, not, false, true, is_some, ◌||◌, Some, None, nat_lt};
 ghost use Rattle.std.specs.List.{find, list_any};
 ghost use Rattle.farm_base.specs.Contents.{empty_digest};
 ghost use Rattle.protocol.specs.Farm.{farm_limits};
+ghost use Rattle.leases.specs.Changes.{ends_lease};
 ghost use Rattle.leases.specs.Table.{fit_of};
 ghost use Rattle.leases.specs.declared.lease_table.Fit.{Fit};
 ghost use Rattle.protocol.specs.Ledger.{Ledger, begin_work, decision, decided, sees, is_older, is_home, ends, without, Lease, lease_for, grant_of, gives, denies, tried, try_all, stays, waiting, retried, elsewhere, recall, recalls, holds_wanted, acquiring, lease_of, is_parked, confirms, committing, may_commit, may_release, lease_under, released, newer_life, answering, handled};
 ghost use Rattle.coordinator.specs.Held.{Held, line_at};
-ghost use Rattle.coordinator.specs.Idle.{AreHeldUp, IsIdle};
+ghost use Rattle.coordinator.specs.Idle.{AreHeldUp, AreIdle};
 ghost use Rattle.coordinator.specs.Keeps.{held, NotesSpent};
 ghost use Rattle.farm_base.specs.Wanted.{IsWants};
 ghost use Rattle.coordinator.specs.Shown.{LineOf, kept, after, shown, table_after, lines_with, ended, ended_committed};
 ghost use Rattle.coordinator.specs.Over.{still_waiting};
-ghost use Rattle.coordinator.specs.Waiting.{waits_after};
+ghost use Rattle.coordinator.specs.Waiting.{ends_ask, waits_after};
 ghost use Rattle.coordinator.specs.Queue.{asks_of};
 ghost use Rattle.coordinator.specs.Sound.{IsSound};
 ghost use Rattle.versions.specs.Additions.{IsReady};
@@ -199,32 +200,41 @@ impl Draft {
         Ok(done)
     }
 
-    /// Tries the parked asks that want a freed slot that isn't leased again, or a PRIVATE folder of which no instance may be
-    /// free, and says which wait no longer. The others need no look: all of them wait.
+    /// Tries the parked asks, but for those that are over, and says which wait no longer. It looks at those alone that want a
+    /// freed slot that isn't leased again, or a PRIVATE folder of which no instance is free: all others wait.
     fn try_wanting(
         &mut self,
         alloc: Global,
         base: &State,
         added: &Option<Added>,
+        over: &Over,
         freed: Vec<(Slot, bool)>,
     ) -> Result<Over, AllocError>
         requires sound { IsSound (after (lines_with base.now.lines added.now) (held base.now) self.old.change) }
         requires wants { All (λ p. IsWants p.wants) (asks_of base.now.parked) }
         requires noted { NotesSpent base.now }
-        requires idle { All (IsIdle freed.items (after (lines_with base.now.lines added.now) (held base.now) self.old.change)) (asks_of base.now.parked) }
+        requires idle { (line : LineOf) → AreIdle freed.items (after line (held base.now) self.old.change) (still_waiting over.now.places.items (asks_of base.now.parked)) }
         ensures work { OnOk result (shown (lines_with base.now.lines added.now) (held base.now) self.new
-            ≡ try_all farm_limits (asks_of base.now.parked) (shown (lines_with base.now.lines added.now) (held base.now) self.old)) }
+            ≡ try_all farm_limits (still_waiting over.now.places.items (asks_of base.now.parked)) (shown (lines_with base.now.lines added.now) (held base.now) self.old)) }
         ensures stay { IfOk result (λ done. still_waiting done.places.items (asks_of base.now.parked)
-            ≡ waiting farm_limits (asks_of base.now.parked) (shown (lines_with base.now.lines added.now) (held base.now) self.old)) }
+            ≡ waiting farm_limits (still_waiting over.now.places.items (asks_of base.now.parked)) (shown (lines_with base.now.lines added.now) (held base.now) self.old)) }
     {
         let asks = base.parked.waiting();
         let mut freed = freed;
+        let mut spent = self.change.spent(alloc, base)?;
+        let mut rest = over.as_slice();
         let mut done = Over::new(alloc);
-        let mut place = self.change.first_due(alloc, base, &mut freed, 0)?;
+        let mut place = self.change.first_due(base, &mut freed, &spent, rest, 0);
         while place < asks.len() {
-            let waits = self.try_ask(alloc, base, added, &asks[place])?;
-            done.note_if(place, !waits)?;
-            place = self.change.first_due(alloc, base, &mut freed, place + 1)?;
+            let p = &asks[place];
+            let (is_over, later) = split_over(rest, place);
+            let over_now = self.try_unless(alloc, base, added, p, is_over)?;
+            done.note_if(place, over_now)?;
+            spent.note_wants(alloc, &base.table, &self.change.table, p.wants.as_slice())?;
+            rest = later;
+            place = self
+                .change
+                .first_due(base, &mut freed, &spent, rest, place + 1);
         }
         Ok(done)
     }
@@ -252,8 +262,7 @@ impl Draft {
         Ok(())
     }
 
-    /// Tries the parked asks, in order of arrival, where none is over and none came since. It looks at those alone that may not
-    /// wait.
+    /// Tries the parked asks, in order of arrival, where none came since. It looks at those alone that may not wait.
     fn retry_wanting(
         &mut self,
         alloc: Global,
@@ -261,16 +270,16 @@ impl Draft {
         added: &Option<Added>,
         freed: Vec<(Slot, bool)>,
     ) -> Result<(), AllocError>
-        requires over { self.old.change.parked.over.places.items ≡ [] }
         requires since { self.old.change.parked.since.items ≡ [] }
         requires sound { IsSound (after (lines_with base.now.lines added.now) (held base.now) self.old.change) }
         requires wants { All (λ p. IsWants p.wants) (asks_of base.now.parked) }
         requires noted { NotesSpent base.now }
-        requires idle { All (IsIdle freed.items (after (lines_with base.now.lines added.now) (held base.now) self.old.change)) (asks_of base.now.parked) }
+        requires idle { AreIdle freed.items (after (lines_with base.now.lines added.now) (held base.now) self.old.change) (waits_after (asks_of base.now.parked) self.old.change.parked) }
         ensures { OnOk result (shown (lines_with base.now.lines added.now) (held base.now) self.new
             ≡ retried farm_limits (shown (lines_with base.now.lines added.now) (held base.now) self.old)) }
     {
-        let over = self.try_wanting(alloc, base, added, freed)?;
+        let before = mem::replace(&mut self.change.parked, ParkedChange::new(alloc));
+        let over = self.try_wanting(alloc, base, added, &before.over, freed)?;
         self.change.parked = ParkedChange {
             over,
             since: Vec::new(alloc),
@@ -278,7 +287,8 @@ impl Draft {
         Ok(())
     }
 
-    /// Tries the parked asks, in order of arrival, where a lease has ended that had these slots.
+    /// Tries the parked asks, in order of arrival, where leases have ended that had these slots. Where many slots are free at
+    /// once, looking up who wants each would cost more than to try all asks.
     pub(crate) fn retry(
         &mut self,
         alloc: Global,
@@ -289,11 +299,12 @@ impl Draft {
         requires sound { IsSound (after (lines_with base.now.lines added.now) (held base.now) self.old.change) }
         requires wants { All (λ p. IsWants p.wants) (asks_of base.now.parked) }
         requires noted { NotesSpent base.now }
-        requires idle { All (IsIdle freed.items (after (lines_with base.now.lines added.now) (held base.now) self.old.change)) (waits_after (asks_of base.now.parked) self.old.change.parked) }
+        requires idle { AreIdle freed.items (after (lines_with base.now.lines added.now) (held base.now) self.old.change) (waits_after (asks_of base.now.parked) self.old.change.parked) }
         ensures { OnOk result (shown (lines_with base.now.lines added.now) (held base.now) self.new
             ≡ retried farm_limits (shown (lines_with base.now.lines added.now) (held base.now) self.old)) }
     {
-        if self.change.parked.is_none() {
+        let asks = base.parked.waiting().len();
+        if self.change.parked.since.is_empty() && freed.len() <= asks / freed.len().max(1) {
             self.retry_wanting(alloc, base, added, freed)
         } else {
             self.retry_all(alloc, base, added)
@@ -476,12 +487,27 @@ impl Draft {
         requires sound { IsSound (after (line_at base.now.lines) (held base.now) self.now.change) }
         requires held_up { AreHeldUp (after (line_at base.now.lines) (held base.now) self.now.change) }
         ensures { IfOk result (λ freed. (q : Ledger) → q.live ≡ without ticket (table_after (held base.now) self.now.change).live → q.old_home ≡ self.now.change.old_home
-            → q.parked ≡ waits_after (asks_of base.now.parked) self.now.change.parked → All (IsIdle freed.items q) q.parked) }
+            → q.parked ≡ waits_after (asks_of base.now.parked) self.now.change.parked → AreIdle freed.items q q.parked) }
     {
         match self.change.table.lease(&base.table, ticket) {
             Some(lease) => Ok(lease.slots.copy(alloc)?.into_vec()),
             None => Ok(Vec::new(alloc)),
         }
+    }
+
+    /// The slots that the end of a node's leases frees, or of those of its older lives.
+    pub(crate) fn freed_by_node(
+        &self,
+        alloc: Global,
+        base: &State,
+        ending: Ending,
+    ) -> Result<Vec<(Slot, bool)>, AllocError>
+        requires { AreHeldUp (after (line_at base.now.lines) (held base.now) self.now.change) }
+        ensures { IfOk result (λ freed. (q : Ledger) → q.live ≡ filter (λ g. not (ends_lease ending g)) (table_after (held base.now) self.now.change).live → q.old_home ≡ self.now.change.old_home
+            → q.parked ≡ filter (λ p. not (ends_ask ending p)) (waits_after (asks_of base.now.parked) self.now.change.parked) → AreIdle freed.items q q.parked) }
+    {
+        let slots = self.change.table.slots_ended(alloc, &base.table, ending)?;
+        Ok(slots)
     }
 
     fn release(
@@ -550,21 +576,18 @@ impl Draft {
         Ok(added)
     }
 
-    /// Ends what a newer life of a node ends, and says whether the parked asks are to be tried.
+    /// Ends what a newer life of a node ends.
     fn see(
         &mut self,
         alloc: Global,
         base: &State,
         node: NodeId,
         life: Life,
-    ) -> Result<bool, AllocError>
+    ) -> Result<(), AllocError>
         requires counted { 1 ≤ life.0 }
         requires first { self.old.change.life ≡ None }
-        ensures work { OnOk result ((line : LineOf) → shown line (held base.now) self.new ≡ sees node life (shown line (held base.now) self.old)) }
-        ensures due { IfOk result (λ due. due ≡ (list_any (is_older node life) (table_after (held base.now) self.old.change).live || is_home node self.old.change.old_home)) }
+        ensures { OnOk result ((line : LineOf) → shown line (held base.now) self.new ≡ sees node life (shown line (held base.now) self.old)) }
     {
-        let was_home = is_home(node, self.change.old_home);
-        let had_leases = self.change.table.has_lease_below(&base.table, node, life);
         self.change.table.end_lives_below(node, life)?;
         let parked = base.parked.waiting();
         self.change
@@ -573,10 +596,10 @@ impl Draft {
         self.change.life = Some(NewLife { node, life });
         self.change.old_home = cleared(node, self.change.old_home);
         self.changed = true;
-        Ok(had_leases || was_home)
+        Ok(())
     }
 
-    /// A newer life of a node: where something of it ended, the parked asks are tried.
+    /// A newer life of a node: where a lease of it ended, or the old home was cleared, the parked asks are tried.
     fn begin_life(
         &mut self,
         alloc: Global,
@@ -586,14 +609,21 @@ impl Draft {
     ) -> Result<(), AllocError>
         requires sound { IsSound (after (line_at base.now.lines) (held base.now) self.old.change) }
         requires wants { All (λ p. IsWants p.wants) (asks_of base.now.parked) }
+        requires noted { NotesSpent base.now }
+        requires held_up { AreHeldUp (after (line_at base.now.lines) (held base.now) self.old.change) }
         requires life { 1 ≤ life.0 }
         requires first { self.old.change.life ≡ None }
         ensures { OnOk result (shown (line_at base.now.lines) (held base.now) self.new ≡ newer_life farm_limits node life (shown (line_at base.now.lines) (held base.now) self.old)) }
     {
-        if !self.see(alloc, base, node, life)? {
-            return Ok(());
+        let was_home = is_home(node, self.change.old_home);
+        let had_leases = self.change.table.has_lease_below(&base.table, node, life);
+        let freed = self.freed_by_node(alloc, base, Ending::LivesBelow(node, life))?;
+        self.see(alloc, base, node, life)?;
+        if was_home {
+            self.retry_all(alloc, base, &None)?;
+        } else if had_leases {
+            self.retry(alloc, base, &None, freed)?;
         }
-        self.retry_all(alloc, base, &None)?;
         Ok(())
     }
 

@@ -1,10 +1,10 @@
-ghost use Rattle.std.specs.Prelude.{◌≡◌, not, ◌≤◌, List, [], IfOk, IfSome, OnOk, Option, Ok, Err, None, false, is_some, option_copied, length};
+ghost use Rattle.std.specs.Prelude.{◌≡◌, not, ◌+◌, ◌≤◌, List, [], IfOk, IfSome, OnOk, Option, Ok, Err, None, false, is_some, option_copied, length};
 ghost use Rattle.std.specs.List.{list_any};
 ghost use Rattle.std.specs.List.Sorted.{IsStrictlySortedBy};
 ghost use Rattle.std.specs.Vec.{vec_capacity};
 ghost use Rattle.farm_base.specs.Slots.{slot_cmp};
 ghost use Rattle.protocol.specs.Farm.{farm_limits};
-ghost use Rattle.leases.specs.Table.{state_of, life_at, is_among};
+ghost use Rattle.leases.specs.Table.{state_of};
 ghost use Rattle.protocol.specs.Lists.{is_nil};
 ghost use Rattle.protocol.specs.Names.{slot_eq, NodeId, Slot, Ticket};
 ghost use Rattle.protocol.specs.Machine.{ToCoord};
@@ -16,7 +16,6 @@ ghost use Rattle.coordinator.specs.Keeping.{kept_with};
 ghost use Rattle.std.specs.Result.{result_err};
 ghost use Rattle.coordinator.specs.Held.{line_at, ledger};
 ghost use Rattle.versions.specs.Additions.{IsReady};
-ghost use Rattle.std.specs.Option.{unwrap_or};
 ghost use Rattle.std.specs.Vec.{vec_len};
 ghost use Rattle.leases.specs.Changes.{changed, HasRoom};
 ghost use Rattle.leases.specs.Leases.{AreLeases};
@@ -24,7 +23,7 @@ ghost use Rattle.saverecord.specs.Keepers.{HasFailed};
 ghost use Rattle.coordinator.specs.Keeps.{held, NotesSpent};
 ghost use Rattle.coordinator.specs.Seen.{IsKeeping};
 ghost use Rattle.coordinator.specs.Settling.{Answers, is_save_fault};
-ghost use Rattle.coordinator.specs.Shown.{LineOf, kept, after, shown, with_life, with_gone};
+ghost use Rattle.coordinator.specs.Shown.{LineOf, kept, after, shown};
 ghost use Rattle.versions.specs.Lines.{lines_with, room_needed, line_shown};
 ghost use Rattle.coordinator.specs.Sound.{IsSound, IsRightful};
 ghost use Rattle.coordinator.specs.Queue.{HasRoomFor};
@@ -35,13 +34,14 @@ ghost use Rattle.coordinator.specs.Promises.{OnlyGrow, ChangesAsTold};
 use super::change::Change;
 use super::draft::Draft;
 use super::handled::Handled;
+use super::nodes::{begin, retire};
 use super::record::{entry_of, record_of, state_of};
 use super::spent_folders::SpentFolders;
 use super::state::State;
 use super::table_room::{put_back, put_changed, take_table};
 use super::text::{Sizes, Text, save};
 use farm_base::{Items, Lease, NodeId, Parked, Slot, Ticket, ToCoord};
-use leases::{Lives, RetiredNodes, SlotState, TableWithRoom};
+use leases::{SlotState, TableWithRoom};
 use protocol::{CoordNote, CoordRefusal};
 use saverecord::laws::what_is_kept_is_a_record;
 use saverecord::{Keeper, Record};
@@ -84,15 +84,14 @@ fn apply(
     alloc: Global,
     state: &mut State,
     table: TableWithRoom,
-    nodes: (Option<Lives>, Option<RetiredNodes>),
     spent: SpentFolders,
     prepared: Prepared,
 ) -> Handled
     requires table_room { HasRoom table prepared.draft.value.change.table }
     requires leases { AreLeases (changed table.table prepared.draft.value.change.table).live }
     requires parking { HasRoomFor state.old.parked prepared.draft.value.change.parked.since.items }
-    requires lives { life_at (unwrap_or nodes.0 state.old.lives) ≡ with_life prepared.draft.value.change.life (life_at state.old.lives) }
-    requires gone { is_among (unwrap_or nodes.1 state.old.gone) ≡ with_gone prepared.draft.value.change.gone (is_among state.old.gone) }
+    requires lives { length state.old.lives.seen + 1 ≤ state.old.lives.room }
+    requires gone { length state.old.gone.retired + 1 ≤ state.old.gone.room }
     requires ready { IsReady state.old.lines prepared.added }
     requires empty { prepared.room.items ≡ [] }
     requires larger { room_needed state.old.lines prepared.added ≤ vec_capacity prepared.room }
@@ -112,16 +111,16 @@ fn apply(
     let Change {
         table: table_change,
         tickets,
-        life: _,
-        gone: _,
+        life,
+        gone,
         old_home,
         parked,
     } = change;
     parked.apply_in(alloc, &mut state.parked);
     put_changed(&mut state.table, table, table_change);
     state.tickets = tickets;
-    update(&mut state.lives, nodes.0);
-    update(&mut state.gone, nodes.1);
+    begin(&mut state.lives, life);
+    retire(&mut state.gone, gone);
     state.old_home = old_home;
     state.spent = spent;
     state.lines.add_to(added, room);
@@ -131,13 +130,17 @@ fn apply(
     }
 }
 
-/// Puts what is new in the place of what was, if there is something new.
-fn update<T: Drop>(place: &mut T, new: Option<T>)
-    ensures { place.new ≡ unwrap_or new place.old }
+/// Makes room in a state for what an event changes, beside that of the table and of the lines. Nothing else changes.
+fn make_room(alloc: Global, state: &mut State, change: &Change) -> Result<(), AllocError>
+    ensures held { held state.new ≡ held state.old }
+    ensures spent { state.new.spent ≡ state.old.spent }
+    ensures life_room { OnOk result (length state.new.lives.seen + 1 ≤ state.new.lives.room) }
+    ensures gone_room { OnOk result (length state.new.gone.retired + 1 ≤ state.new.gone.room) }
+    ensures parking { OnOk result (HasRoomFor state.new.parked change.now.parked.since.items) }
 {
-    if let Some(new) = new {
-        *place = new;
-    }
+    state.lives.reserve(1)?;
+    state.gone.reserve(1)?;
+    change.parked.room(alloc, &mut state.parked)
 }
 
 impl Ledger {
@@ -244,10 +247,7 @@ impl Ledger {
         let Ok(spent) = change.spent_after(alloc, &self.state) else {
             return Err(CoordRefusal::OutOfMemory);
         };
-        let Ok(()) = change.parked.room(alloc, &mut self.state.parked) else {
-            return Err(CoordRefusal::OutOfMemory);
-        };
-        let Ok(nodes) = change.nodes(alloc, &self.state) else {
+        let Ok(()) = make_room(alloc, &mut self.state, change) else {
             return Err(CoordRefusal::OutOfMemory);
         };
         let Ok(table) = take_table(alloc, &mut self.state.table, &change.table) else {
@@ -256,7 +256,7 @@ impl Ledger {
         match save(keeper, self.sizes, to_save) {
             Ok(sizes) => {
                 self.sizes = sizes;
-                Ok(apply(alloc, &mut self.state, table, nodes, spent, prepared))
+                Ok(apply(alloc, &mut self.state, table, spent, prepared))
             }
             Err(refusal) => {
                 put_back(&mut self.state.table, table);

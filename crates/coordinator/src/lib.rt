@@ -8,6 +8,7 @@ mod handled;
 pub mod laws;
 mod ledger;
 mod new_life;
+mod nodes;
 mod numbers;
 mod operator_calls;
 mod over;

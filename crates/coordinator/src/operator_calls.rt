@@ -11,8 +11,9 @@ ghost use Rattle.coordinator.specs.Held.{line_at};
 ghost use Rattle.coordinator.specs.Keeps.{held, NotesSpent};
 ghost use Rattle.farm_base.specs.Wanted.{IsWants};
 ghost use Rattle.coordinator.specs.Shown.{LineOf, having_said, kept, after, shown, withdraws_under};
-ghost use Rattle.coordinator.specs.Idle.{AreHeldUp};
+ghost use Rattle.coordinator.specs.Idle.{AreHeldUp, AreIdle};
 ghost use Rattle.coordinator.specs.Queue.{asks_of};
+ghost use Rattle.coordinator.specs.Waiting.{waits_after};
 ghost use Rattle.coordinator.specs.Sound.{IsSound};
 
 use super::draft::Draft;
@@ -152,17 +153,25 @@ impl Draft {
         Ok(())
     }
 
-    /// Tries the parked asks, where they are to be tried.
-    fn retry_if(&mut self, alloc: Global, base: &State, due: bool) -> Result<(), AllocError>
+    /// Tries the parked asks if they are to be tried, since leases have ended that had these slots.
+    fn retry_if(
+        &mut self,
+        alloc: Global,
+        base: &State,
+        due: bool,
+        freed: Vec<(Slot, bool)>,
+    ) -> Result<(), AllocError>
         requires sound { IsSound (after (line_at base.now.lines) (held base.now) self.old.change) }
         requires wants { All (λ p. IsWants p.wants) (asks_of base.now.parked) }
+        requires noted { NotesSpent base.now }
+        requires idle { AreIdle freed.items (after (line_at base.now.lines) (held base.now) self.old.change) (waits_after (asks_of base.now.parked) self.old.change.parked) }
         ensures { OnOk result (shown (line_at base.now.lines) (held base.now) self.new
             ≡ (if due then retried farm_limits (shown (line_at base.now.lines) (held base.now) self.old) else shown (line_at base.now.lines) (held base.now) self.old)) }
     {
         if !due {
             return Ok(());
         }
-        self.retry_all(alloc, base, &None)?;
+        self.retry(alloc, base, &None, freed)?;
         Ok(())
     }
 
@@ -188,14 +197,17 @@ impl Draft {
     ) -> Result<(), AllocError>
         requires sound { IsSound (after (line_at base.now.lines) (held base.now) self.old.change) }
         requires wants { All (λ p. IsWants p.wants) (asks_of base.now.parked) }
+        requires noted { NotesSpent base.now }
+        requires held_up { AreHeldUp (after (line_at base.now.lines) (held base.now) self.old.change) }
         requires accepted { result_err (retired farm_limits node (shown (line_at base.now.lines) (held base.now) self.old)) ≡ None }
         requires first { self.old.change.gone ≡ None }
         ensures work { OnOk result (retired farm_limits node (shown (line_at base.now.lines) (held base.now) self.old) ≡ Ok (shown (line_at base.now.lines) (held base.now) self.new)) }
         ensures sound { OnOk result (IsSound (after (line_at base.now.lines) (held base.now) self.new.change)) }
     {
         let had_leases = self.change.table.has_lease_of(&base.table, node);
+        let freed = self.freed_by_node(alloc, base, Ending::Node(node))?;
         self.drop_node(alloc, base, node)?;
-        self.retry_if(alloc, base, had_leases)?;
+        self.retry_if(alloc, base, had_leases, freed)?;
         self.note = CoordNote::Retired(node);
         Ok(())
     }

@@ -1,6 +1,6 @@
 //! Places of what is over.
-ghost use Rattle.std.specs.Prelude.{◌≡◌, ℕ, ◌<◌, ◌∷◌, [], ◌++◌, true, length, slice_index_or, OnOk, if◌then◌else◌};
-ghost use Rattle.coordinator.specs.Over.{is_over_at, later_over, AreRising};
+ghost use Rattle.std.specs.Prelude.{◌≡◌, ℕ, ◌<◌, ◌≤◌, ◌∷◌, [], ◌++◌, length, slice_index_or, OnOk, if◌then◌else◌};
+ghost use Rattle.coordinator.specs.Over.{is_over_at, later_over, Begins, AreRising};
 
 use std::alloc::{AllocError, Global};
 
@@ -28,6 +28,18 @@ pub(crate) fn split_over(over: &[usize], place: usize) -> (bool, &[usize])
     }
 }
 
+/// The first of these places, or this one if it is before them.
+pub(crate) fn first_over(over: &[usize], place: usize) -> usize
+    ensures before { result ≤ place }
+    ensures first { Begins result over.now }
+    ensures forward { (k : ℕ) → k ≤ place → Begins k over.now → k ≤ result }
+{
+    match over.first() {
+        Some(first) => place.min(*first),
+        None => place,
+    }
+}
+
 impl Over {
     /// None is over.
     pub(crate) fn new(alloc: Global) -> Self
@@ -36,12 +48,6 @@ impl Over {
         Over {
             places: Vec::new(alloc),
         }
-    }
-
-    pub(crate) fn is_empty(&self) -> bool
-        ensures { result ≡ true → self.now.places.items ≡ [] }
-    {
-        self.places.is_empty()
     }
 
     pub(crate) fn as_slice(&self) -> &[usize]

@@ -1,5 +1,5 @@
 //! The changes that one event makes, over the asks that wait, which stay as they are until they are applied.
-ghost use Rattle.std.specs.Prelude.{◌≡◌, ◌∷◌, [], ◌++◌, ◌+◌, ◌≤◌, ◌&&◌, ◌||◌, ◌==◌, not, true, filter, vec_len, IfOk, OnOk};
+ghost use Rattle.std.specs.Prelude.{◌≡◌, ◌∷◌, [], ◌++◌, ◌+◌, ◌≤◌, ◌&&◌, ◌||◌, ◌==◌, not, filter, vec_len, IfOk, OnOk};
 ghost use Rattle.protocol.specs.Ledger.{is_parked};
 ghost use Rattle.std.specs.Vec.{vec_capacity};
 ghost use Rattle.coordinator.specs.Over.{still_waiting};
@@ -102,14 +102,6 @@ impl ParkedChange {
             over: Over::new(alloc),
             since: Vec::new(alloc),
         }
-    }
-
-    /// Whether no ask is over, and none waits since.
-    pub(crate) fn is_none(&self) -> bool
-        ensures over { result ≡ true → self.now.over.places.items ≡ [] }
-        ensures since { result ≡ true → self.now.since.items ≡ [] }
-    {
-        self.over.is_empty() && self.since.is_empty()
     }
 
     /// Whether an ask waits.

@@ -3,7 +3,6 @@ ghost use Rattle.std.specs.Prelude.{◌≡◌, ◌≤◌, ℕ, Bool, IfOk, filte
 ghost use Rattle.std.specs.List.Sorted.{IsStrictlyIncreasing};
 ghost use Rattle.leases.specs.Leases.{AreLeases};
 ghost use Rattle.leases.specs.Lives.{AreLives};
-ghost use Rattle.leases.specs.Table.{life_at, is_among};
 ghost use Rattle.protocol.specs.Ledger.{saves, reads, is_saved};
 ghost use Rattle.saverecord.specs.Ledgers.{IsKept, ledger_of};
 ghost use Rattle.saverecord.specs.Logs.{with_lives, IsChange, AreInOrder};
@@ -16,6 +15,7 @@ ghost use Rattle.coordinator.specs.Sound.{IsRightful};
 
 use super::change::Change;
 use super::new_life::NewLife;
+use super::nodes::{lives_with, nodes_with};
 use super::parked_asks::ParkedAsks;
 use super::spent_folders::SpentFolders;
 use super::state::State;
@@ -32,29 +32,6 @@ fn keep_saved(leases: &mut Vec<Lease>)
     leases.retain(|lease| is_saved(lease));
 }
 
-/// The lists of lives and of retired nodes that a record has, with what changes them.
-fn nodes_of(
-    alloc: Global,
-    state: &State,
-    change: &Change,
-) -> Result<(Vec<NodeLife>, Vec<NodeId>), AllocError>
-    ensures lives { IfOk result (λ nodes. life_at nodes.0.items ≡ with_life change.now.life (life_at state.now.lives)) }
-    ensures rising { IfOk result (λ nodes. AreLives nodes.0.items) }
-    ensures gone { IfOk result (λ nodes. is_among nodes.1.items ≡ with_gone change.now.gone (is_among state.now.gone)) }
-    ensures gone_rise { IfOk result (λ nodes. IsStrictlyIncreasing (map (λ n. n.0) nodes.1.items)) }
-{
-    let (lives, gone) = change.nodes(alloc, state)?;
-    let lives = match &lives {
-        Some(lives) => Vec::from_slice(alloc, lives.as_slice())?,
-        None => Vec::from_slice(alloc, state.lives.as_slice())?,
-    };
-    let gone = match &gone {
-        Some(gone) => Vec::from_slice(alloc, gone.as_slice())?,
-        None => Vec::from_slice(alloc, state.gone.as_slice())?,
-    };
-    Ok((lives, gone))
-}
-
 /// The record of a state with changes, and with what a commit adds to its lines.
 pub(crate) fn record_of(
     alloc: Global,
@@ -69,7 +46,8 @@ pub(crate) fn record_of(
 {
     let (mut leases, retired) = change.table.to_parts(alloc, &state.table)?;
     keep_saved(&mut leases);
-    let (lives, retired_nodes) = nodes_of(alloc, state, change)?;
+    let lives = lives_with(alloc, &state.lives, change.life)?;
+    let retired_nodes = nodes_with(alloc, &state.gone, change.gone)?;
     let lines = state.lines.copy_with(alloc, added)?;
     Ok(Record {
         last: change.tickets.ceiling(),

@@ -1,5 +1,5 @@
 //! PRIVATE folders of which no instance may be free.
-ghost use Rattle.std.specs.Prelude.{◌≡◌, [], Bool, true, OnOk};
+ghost use Rattle.std.specs.Prelude.{◌≡◌, ◌-◌, ◌≤◌, ◌<◌, [], Bool, true, length, slice_index_or, OnOk};
 ghost use Rattle.protocol.specs.Lists.{In};
 ghost use Rattle.protocol.specs.Names.{FolderName, Slot, Want};
 ghost use Rattle.protocol.specs.Machine.{Parked};
@@ -23,6 +23,17 @@ fn is_spent(table: &LeaseTable, change: &TableChange, folder: &FolderName) -> bo
     ensures { result ≡ is_private_spent (is_free (changed table.now change.now)) folder.now }
 {
     matches!(folder.mode, Mode::Private) && change.is_spent(table, folder)
+}
+
+/// Whether the slot before the one at this place is of the same folder.
+fn is_repeated(slots: &[Slot], place: usize) -> bool
+    requires { place < length slots.now }
+    ensures { result ≡ true → (d : Slot) → (1 ≤ place) × ((slice_index_or slots.now (place - 1) d).folder ≡ (slice_index_or slots.now place d).folder) }
+{
+    if place == 0 {
+        return false;
+    }
+    *slots[place - 1].folder() == *slots[place].folder()
 }
 
 impl SpentFolders {
@@ -83,7 +94,7 @@ impl SpentFolders {
         Ok(())
     }
 
-    /// Notes those of these slots.
+    /// Notes those of these slots. Of slots of one folder that come one after the other it looks at the first alone.
     pub(crate) fn note_slots(
         &mut self,
         alloc: Global,
@@ -94,8 +105,12 @@ impl SpentFolders {
         ensures noted { OnOk result ((s : Slot) → In s slots.now → is_private_spent (is_free (changed table.now change.now)) s.folder ≡ true → is_noted self.new.folders.items s.folder ≡ true) }
         ensures kept { (f : FolderName) → is_noted self.old.folders.items f ≡ true → is_noted self.new.folders.items f ≡ true }
     {
-        for slot in slots {
-            self.note(alloc, table, change, slot.folder())?;
+        let mut place = 0;
+        while place < slots.len() {
+            if !is_repeated(slots, place) {
+                self.note(alloc, table, change, slots[place].folder())?;
+            }
+            place += 1;
         }
         Ok(())
     }
@@ -136,7 +151,7 @@ impl SpentFolders {
     }
 
     /// Notes those of wants.
-    fn note_wants(
+    pub(crate) fn note_wants(
         &mut self,
         alloc: Global,
         table: &LeaseTable,

@@ -3,6 +3,7 @@ use Rattle.std.proofs.Common.{◌≡◌, ℕ, ◌+◌, ◌<◌, ◌≤◌, List,
 use Rattle.std.proofs.Math.ListN.{drop_of_length-le}
 use Rattle.std.proofs.Math.Bool.{or-false}
 use Rattle.std.proofs.lemmas.Bool.{cases_Bool}
+use Rattle.std.specs.List.{flat_map}
 use Rattle.std.proofs.lemmas.Grind.{flat_map-append}
 use Rattle.std.proofs.lemmas.List.{append-nil}
 use Rattle.std.proofs.lemmas.List.Elements.{filter-append}
@@ -13,7 +14,7 @@ use Rattle.protocol.specs.Names.{Slot, NodeId}
 use Rattle.protocol.specs.Ledger.{is_at}
 use Rattle.leases.specs.declared.ending.Ending.{Ending}
 use Rattle.leases.specs.Leases.{Table, AreLeases}
-use Rattle.leases.specs.Changes.{Change, changed, ends_lease, has_ended}
+use Rattle.leases.specs.Changes.{Change, changed, ends_lease, has_ended, slots_ended}
 use Rattle.leases.specs.Table.{all_private, private_slots}
 use Rattle.leases.proofs.MarkLemmas.{drop-item}
 use Rattle.leases.proofs.TableLemmas.{leases-filter}
@@ -96,6 +97,14 @@ private_at-both n live granted =
     ap (λ (gs : List Lease). all_private (filter (is_at n) live) ++ all_private (filter (is_at n) gs)) (none_ended granted)
     ∙ sym (flat_map-append (λ (g : Lease). private_slots g.slots) (filter (is_at n) live) (filter (is_at n) granted))
     ∙ ap all_private (sym (filter-append (is_at n) live granted))
+
+-- the slots of the leases that this ends, likewise
+pub slots_ended-both : (e : Ending) (live granted : List Lease)
+    → slots_ended e live ++ slots_ended e (filter (λ g. not (has_ended [] g)) granted) ≡ slots_ended e (live ++ granted)
+slots_ended-both e live granted =
+    ap (λ (gs : List Lease). slots_ended e live ++ slots_ended e gs) (none_ended granted)
+    ∙ sym (flat_map-append (λ (g : Lease). g.slots) (filter (ends_lease e) live) (filter (ends_lease e) granted))
+    ∙ ap (flat_map (λ (g : Lease). g.slots)) (sym (filter-append (ends_lease e) live granted))
 
 -- ---- endings in turn
 

@@ -1,6 +1,6 @@
 -- The changes of one event over a lease table.
 use Rattle.std.specs.Prelude.{◌≡◌, ℕ, ◌+◌, ◌≤◌, if◌then◌else◌, Bool, not, ◌&&◌, List, [], ◌∷◌, ◌++◌, length, map, filter, Option, Some, None}
-use Rattle.std.specs.List.{list_any}
+use Rattle.std.specs.List.{list_any, flat_map}
 use Rattle.farm_base.specs.declared.lease.Lease.{Lease}
 use Rattle.protocol.specs.Names.{Slot, FolderName, Ticket}
 use Rattle.protocol.specs.Ledger.{has_slot, has_ticket, is_at, is_older, is_saved}
@@ -32,6 +32,10 @@ has_ended ended g = list_any (λ e. ends_lease e g) ended
 -- one of these leases that this ends has the slot
 abbrev pub frees : Ending → List Lease → Slot → Bool
 frees e leases s = list_any (λ g. ends_lease e g && has_slot g.slots s) leases
+
+-- the slots of the leases that this ends
+abbrev pub slots_ended : Ending → List Lease → List (Slot × Bool)
+slots_ended e leases = flat_map (λ g. g.slots) (filter (ends_lease e) leases)
 
 -- the lease, unless it has ended
 abbrev pub standing : List Ending → Option Lease → Option Lease

@@ -5,7 +5,7 @@ ghost use Rattle.std.specs.List.Sorted.{IsStrictlySortedBy};
 ghost use Rattle.farm_base.specs.Slots.{slot_cmp};
 ghost use Rattle.protocol.specs.Names.{leased_wants};
 ghost use Rattle.protocol.specs.Ledger.{lease_of, lease_under, without, is_older, is_at, is_saved, retire_all};
-ghost use Rattle.leases.specs.Changes.{changed, ends_lease, saved_tickets};
+ghost use Rattle.leases.specs.Changes.{changed, ends_lease, saved_tickets, slots_ended};
 ghost use Rattle.leases.specs.Leases.{Table, AreLeases};
 ghost use Rattle.leases.specs.Table.{among, is_free, is_leased, is_spent, fit_of, lease_for, holds_some, retires_some};
 
@@ -124,6 +124,18 @@ impl TableChange {
         ensures { result ≡ list_any (is_older node life) (changed table.now self.now).live }
     {
         self.over(table).has_lease_below(node, life)
+    }
+
+    /// Copies of the slots of the leases that this would end, and whether each may be written.
+    pub fn slots_ended(
+        &self,
+        alloc: Global,
+        table: &LeaseTable,
+        ending: Ending,
+    ) -> Result<Vec<(Slot, bool)>, AllocError>
+        ensures { IfOk result (λ slots. slots.items ≡ slots_ended ending (changed table.now self.now).live) }
+    {
+        self.over(table).slots_ended(alloc, ending)
     }
 
     /// Grants an ask. Of each PRIVATE folder the lowest free instance is taken.

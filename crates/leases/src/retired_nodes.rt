@@ -1,10 +1,10 @@
-ghost use Rattle.std.specs.Prelude.{◌≡◌, true, [], map, MatchResult, OnOk, OnErr};
+ghost use Rattle.std.specs.Prelude.{◌≡◌, ◌+◌, ◌≤◌, true, [], length, map, MatchResult, OnOk};
 ghost use Rattle.std.specs.List.Sorted.{IsStrictlyIncreasing};
 ghost use Rattle.protocol.specs.Lists.{put};
 ghost use Rattle.leases.specs.Places.{IsPlace, IsGap};
 ghost use Rattle.leases.specs.Table.{is_among};
 
-use farm_base::{Copied, NodeId};
+use farm_base::NodeId;
 use std::alloc::{AllocError, Global};
 use std::marker::Model;
 
@@ -15,13 +15,14 @@ pub struct RetiredNodes {
 }
 
 impl Model for RetiredNodes {
-    ghost use Rattle.std.specs.Prelude.{List, map};
+    ghost use Rattle.std.specs.Prelude.{map};
     ghost use Rattle.std.specs.List.Sorted.{IsStrictlyIncreasing};
-    ghost use Rattle.farm_base.specs.declared.number.NodeId.{NodeId};
+    ghost use Rattle.std.specs.Vec.{vec_capacity};
+    ghost use Rattle.leases.specs.Lives.{RoomyNodes};
 
-    ghost Value = { List NodeId };
+    ghost Value = { RoomyNodes };
 
-    ghost view = { λ r. r.nodes.items };
+    ghost view = { λ r. record { retired = r.nodes.items; room = vec_capacity r.nodes } };
 
     ghost invariant = { λ r. IsStrictlyIncreasing (map (λ n. n.0) r.nodes.items) };
 }
@@ -37,7 +38,7 @@ fn place_of(nodes: &[NodeId], node: NodeId) -> Result<usize, usize>
 impl RetiredNodes {
     /// No node is retired.
     pub fn new(alloc: Global) -> Self
-        ensures { result ≡ [] }
+        ensures { result.retired ≡ [] }
     {
         RetiredNodes {
             nodes: Vec::new(alloc),
@@ -47,41 +48,49 @@ impl RetiredNodes {
     /// The nodes of a list that rises, without taking memory.
     pub fn of(nodes: Vec<NodeId>) -> Self
         requires { IsStrictlyIncreasing (map (λ n. n.0) nodes.items) }
-        ensures { result ≡ nodes.items }
+        ensures { result.retired ≡ nodes.items }
     {
         RetiredNodes { nodes }
     }
 
+    /// Gives the nodes, rising, without taking memory.
+    pub fn into_vec(self) -> Vec<NodeId>
+        ensures value { result.items ≡ self.retired }
+        ensures rise { IsStrictlyIncreasing (map (λ n. n.0) self.retired) }
+    {
+        self.nodes
+    }
+
     /// The nodes, rising.
     pub fn as_slice(&self) -> &[NodeId]
-        ensures value { result.now ≡ self.now }
-        ensures rise { IsStrictlyIncreasing (map (λ n. n.0) self.now) }
+        ensures value { result.now ≡ self.now.retired }
+        ensures rise { IsStrictlyIncreasing (map (λ n. n.0) self.now.retired) }
     {
         self.nodes.as_slice()
     }
 
     /// Whether a node was retired.
     pub fn contains(&self, node: NodeId) -> bool
-        ensures { result ≡ is_among self.now node.0 }
+        ensures { result ≡ is_among self.now.retired node.0 }
     {
         place_of(self.nodes.as_slice(), node).is_ok()
     }
 
-    /// Marks a node as retired.
-    pub fn insert(&mut self, node: NodeId) -> Result<(), AllocError>
-        ensures ok { OnOk result (is_among self.new ≡ put node.0 true (is_among self.old)) }
-        ensures err { OnErr result (self.new ≡ self.old) }
+    /// Makes room for more nodes.
+    pub fn reserve(&mut self, nodes: usize) -> Result<(), AllocError>
+        ensures retired { self.new.retired ≡ self.old.retired }
+        ensures room { OnOk result (length self.new.retired + nodes ≤ self.new.room) }
+    {
+        self.nodes.reserve(nodes)
+    }
+
+    /// Marks a node as retired. There has to be room for one more, and it takes no memory.
+    pub fn insert(&mut self, node: NodeId)
+        requires { length self.old.retired + 1 ≤ self.old.room }
+        ensures { is_among self.new.retired ≡ put node.0 true (is_among self.old.retired) }
     {
         if let Err(place) = place_of(self.nodes.as_slice(), node) {
-            self.nodes.insert(place, node)?;
+            self.nodes.insert(place, node).unwrap();
         }
-        Ok(())
-    }
-}
-
-impl Copied for RetiredNodes {
-    fn copy(&self, alloc: Global) -> Result<Self, AllocError> {
-        let nodes = Vec::from_slice(alloc, self.nodes.as_slice())?;
-        Ok(RetiredNodes { nodes })
     }
 }

@@ -3,7 +3,7 @@ ghost use Rattle.std.specs.Prelude.{◌≡◌, ◌++◌, not, filter, IfOk, OnOk
 ghost use Rattle.std.specs.List.Sorted.{IsStrictlySortedBy};
 ghost use Rattle.farm_base.specs.Slots.{slot_cmp};
 ghost use Rattle.protocol.specs.Ledger.{is_at};
-ghost use Rattle.leases.specs.Changes.{has_ended};
+ghost use Rattle.leases.specs.Changes.{has_ended, slots_ended};
 ghost use Rattle.leases.specs.Table.{among, private_slots, all_private};
 
 use super::ending::{Ending, has_ended};
@@ -40,6 +40,24 @@ pub(crate) fn private_slots_of(
         }
     }
     Ok(private)
+}
+
+/// Copies of the slots of the leases that this ends, of those that have not ended.
+pub(crate) fn slots_ended(
+    alloc: Global,
+    leases: &[Lease],
+    ended: &[Ending],
+    ending: Ending,
+) -> Result<Vec<(Slot, bool)>, AllocError>
+    ensures { IfOk result (λ v. v.items ≡ slots_ended ending (filter (λ g. not (has_ended ended.now g)) leases.now)) }
+{
+    let mut slots = Vec::new(alloc);
+    for lease in leases {
+        if ending.ends(lease) && !has_ended(ended, lease) {
+            add_copies(alloc, &mut slots, lease.slots.as_slice())?;
+        }
+    }
+    Ok(slots)
 }
 
 /// Copies of the leases that have not ended.

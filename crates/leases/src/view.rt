@@ -7,6 +7,7 @@ ghost use Rattle.farm_base.specs.declared.limits.TheConstants.{INSTANCES};
 ghost use Rattle.farm_base.specs.Wanted.{IsWants};
 ghost use Rattle.protocol.specs.Names.{leased_wants, is_private, only_slot};
 ghost use Rattle.protocol.specs.Ledger.{has_slot, lowest, slot_for, all_taken, busy, lease_of, lease_under, is_older, is_at};
+ghost use Rattle.leases.specs.Changes.{slots_ended};
 ghost use Rattle.leases.specs.Instances.{has};
 ghost use Rattle.leases.specs.Table.{among, is_leased, is_free, is_spent, fit_of, lease_for, slots_of, takes, holds_some, private_of, all_private};
 
@@ -17,7 +18,9 @@ use super::lease_table::Fit;
 use super::live_leases::LiveLeases;
 use super::marks::{mark_all, mark_leased};
 use super::retired_slots::RetiredSlots;
-use super::slots::{add_copies, copy_standing, private_slots, private_slots_of, rising};
+use super::slots::{
+    add_copies, copy_standing, private_slots, private_slots_of, rising, slots_ended,
+};
 use farm_base::{
     Ask, Copied, FolderName, INSTANCES, Items, Lease, Life, Mode, NodeId, Slot, Ticket, Want,
     Wants, copy_all,
@@ -318,6 +321,20 @@ impl<'t> View<'t> {
         let mut granted = private_slots_of(alloc, self.granted, &[], node)?;
         private.append(&mut granted)?;
         Ok(private)
+    }
+
+    /// Copies of the slots of the leases that this ends.
+    pub(crate) fn slots_ended(
+        &self,
+        alloc: Global,
+        ending: Ending,
+    ) -> Result<Vec<(Slot, bool)>, AllocError>
+        ensures { IfOk result (λ slots. slots.items ≡ slots_ended ending self.now.live) }
+    {
+        let mut slots = slots_ended(alloc, self.live.as_slice(), self.ended, ending)?;
+        let mut granted = slots_ended(alloc, self.granted, &[], ending)?;
+        slots.append(&mut granted)?;
+        Ok(slots)
     }
 
     /// Copies of the leases, and of the slots that are never granted again, these rising and each once.

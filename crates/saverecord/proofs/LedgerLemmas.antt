@@ -26,7 +26,7 @@ use Rattle.leases.specs.Table.{life_at}
 
 -- ---- what holds of each element
 
-in_at : {A : Type 0} (xs : List A) (k : ℕ) (d : A) → k < length xs → In (get_or xs k d) xs
+pub in_at : {A : Type 0} (xs : List A) (k : ℕ) (d : A) → k < length xs → In (get_or xs k d) xs
 in_at [] k d lt = absurd (omega arith)
 in_at (x ∷ xs) zero d lt = inl refl
 in_at (x ∷ xs) (suc k) d lt = inr (in_at xs k d (omega arith))

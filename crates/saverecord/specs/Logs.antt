@@ -164,12 +164,12 @@ abbrev pub folded_ledger : Folded → Ledger
 folded_ledger f = record {
   live = f.leases.items;
   retired = among f.retired.items;
-  gone = is_among f.retired_nodes;
+  gone = is_among f.retired_nodes.retired;
   line = line_at f.lines;
   last = f.last.0;
   ceiling = f.last.0;
   old_home = f.old_home;
-  lives = life_at f.lives;
+  lives = life_at f.lives.seen;
   parked = [];
 }
 

@@ -108,13 +108,11 @@ impl Folded {
         if !all_fit(&self) || !are_apart(self.leases.as_slice()) {
             return Err(RecordRefusal::NotCanonical(Flaw::Relation));
         }
-        let lives = Vec::from_slice(alloc, self.lives.as_slice())?;
-        let retired_nodes = Vec::from_slice(alloc, self.retired_nodes.as_slice())?;
         Ok(Record {
             last: self.last,
             old_home: self.old_home,
-            lives: Items::new(lives),
-            retired_nodes: Items::new(retired_nodes),
+            lives: Items::new(self.lives.into_vec()),
+            retired_nodes: Items::new(self.retired_nodes.into_vec()),
             leases: Items::new(self.leases),
             retired: Items::new(rising(self.retired)?),
             lines: Items::new(self.lines.into_vec()),

@@ -104,20 +104,22 @@ fn with_leases(
 /// The lives with those that began.
 fn with_lives(mut lives: Lives, began: &[NodeLife]) -> Result<Lives, AllocError>
     requires { All (λ x. 1 ≤ x.life.0) began.now }
-    ensures { IfOk result (λ after. life_at after ≡ with_lives began.now (life_at lives)) }
+    ensures { IfOk result (λ after. life_at after.seen ≡ with_lives began.now (life_at lives.seen)) }
 {
     for seen in began {
-        lives.set(seen.node, seen.life)?;
+        lives.reserve(1)?;
+        lives.set(seen.node, seen.life);
     }
     Ok(lives)
 }
 
 /// The retired nodes with more of them.
 fn with_gone(mut nodes: RetiredNodes, more: &[NodeId]) -> Result<RetiredNodes, AllocError>
-    ensures { IfOk result (λ after. is_among after ≡ with_gone more.now (is_among nodes)) }
+    ensures { IfOk result (λ after. is_among after.retired ≡ with_gone more.now (is_among nodes.retired)) }
 {
     for node in more {
-        nodes.insert(*node)?;
+        nodes.reserve(1)?;
+        nodes.insert(*node);
     }
     Ok(nodes)
 }

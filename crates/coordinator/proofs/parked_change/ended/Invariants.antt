@@ -1,7 +1,6 @@
 use Rattle.std.proofs.Common.{◌≡◌, ◌<◌, ◌≤◌, ◌-◌, ◌++◌, ℕ, List, drop, filter, get_or, length, not}
-use Rattle.coordinator.specs.Over.{still_at}
+use Rattle.coordinator.specs.Over.{Begins, still_at}
 use Rattle.coordinator.specs.Waiting.{ends_ask}
-use Rattle.coordinator.proofs.WaitingWords.{Begins}
 use Rattle.coordinator.proofs.parked_change.ended.Given as goal
 
 -- places that are right for the asks that are left are so, behind those that are there, for all

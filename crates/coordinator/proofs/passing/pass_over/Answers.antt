@@ -1,6 +1,6 @@
 use Rattle.std.proofs.Common.{◌≡◌, ◌<◌, ◌+◌, ◌-◌, ℕ, List, length, drop, get_or, vec_len, refl, sym, ◌∙◌, ap, subst, arith}
-use Rattle.coordinator.specs.Over.{still_at}
-use Rattle.coordinator.proofs.WaitingWords.{Begins, begins-before}
+use Rattle.coordinator.specs.Over.{Begins, still_at}
+use Rattle.coordinator.proofs.WaitingWords.{begins-before}
 use Rattle.coordinator.proofs.PassedWords.{some_item, before_both, over_before, moved_before, other_default, begins_at, none_looked, below_other}
 use Rattle.coordinator.proofs.passing.pass_over.Goals as goal
 use Rattle.coordinator.proofs.passing.pass_over.Goals.{else-left-gt0-via-then-left-gt0+else-index-place, else-left-gt0-via-else-left-gt0}

@@ -1,7 +1,6 @@
 use Rattle.std.proofs.Common.{◌≡◌, ◌+◌, ◌<◌, ◌≤◌, ℕ, drop, get_or, vec_len}
 use Rattle.std.specs.Vec.{vec_capacity}
-use Rattle.coordinator.specs.Over.{still_at}
-use Rattle.coordinator.proofs.WaitingWords.{Begins}
+use Rattle.coordinator.specs.Over.{Begins, still_at}
 use Rattle.coordinator.proofs.passing.pass_over.Given as goal
 
 abbrev pub invariant-loop-place : goal.invariant-loop-place

@@ -7,5 +7,5 @@ use Rattle.saverecord.proofs.folding.with_lives.Goals as goal
 
 pub loop-seen-preserved : goal.loop-seen-preserved
 loop-seen-preserved c =
-    ap (λ (f : ℕ → ℕ). with_lives (drop (c.loop-seen.seen-index + 1) c.args.began.now) f) c.in_ok-set.ensures.ok
-    ∙ ap (λ (xs : List NodeLife). with_lives xs (life_at c.loop-seen.lives)) (sym (drop_more c.args.began.now c.loop-seen.seen-index _ c.loop-seen-test.true)) ∙ c.loop-seen.invariant
+    ap (λ (f : ℕ → ℕ). with_lives (drop (c.loop-seen.seen-index + 1) c.args.began.now) f) (rw c.reserve.ensures.seen at c.set.ensures)
+    ∙ ap (λ (xs : List NodeLife). with_lives xs (life_at c.loop-seen.lives.seen)) (sym (drop_more c.args.began.now c.loop-seen.seen-index _ c.loop-seen-test.true)) ∙ c.loop-seen.invariant

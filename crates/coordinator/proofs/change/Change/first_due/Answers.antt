@@ -1,40 +1,38 @@
-use Rattle.std.proofs.Common.{List, get_or, sym, subst, arith}
-use Rattle.std.specs.Prelude.{All, Bool}
-use Rattle.leases.specs.Table.{is_free}
+use Rattle.std.proofs.Common.{List, drop, get_or, sym, subst, arith}
+use Rattle.std.specs.Prelude.{Bool}
 use Rattle.protocol.specs.Names.{FolderName, Slot}
 use Rattle.protocol.specs.Machine.{Parked}
 use Rattle.protocol.specs.Ledger.{Ledger}
-use Rattle.saverecord.proofs.LedgerLemmas.{all_from_in}
-use Rattle.coordinator.specs.Idle.{IsIdle}
+use Rattle.saverecord.proofs.LedgerLemmas.{in_at}
+use Rattle.coordinator.specs.Idle.{AreIdle}
 use Rattle.coordinator.specs.Keeps.{held}
+use Rattle.coordinator.specs.Over.{still_at}
 use Rattle.coordinator.specs.Queue.{asks_of}
-use Rattle.coordinator.specs.Shown.{after, table_after}
-use Rattle.coordinator.specs.Spent.{IsNoted, WantsNoneOf}
+use Rattle.coordinator.specs.Shown.{after}
+use Rattle.coordinator.specs.Spent.{WantsNoneOf}
 use Rattle.coordinator.specs.Wanted.{WantsNone}
 use Rattle.coordinator.proofs.IdleWords.{are-idle-open, unwanted-waits}
+use Rattle.coordinator.proofs.OverWords.{still-has}
 use Rattle.coordinator.proofs.change.Change.first_due.Goals as goal
+
+pub returns-clause-forward : goal.returns-clause-forward
+returns-clause-forward c = c.first_over.ensures.forward c.args.place c.next.ensures.forward c.requires.over
 
 pub returns-clause-idle : goal.returns-clause-idle
 returns-clause-idle c line =
-    let asks : List Parked = asks_of c.args.base.now.parked in
+    let left : List Parked = still_at c.args.place c.args.over.now (drop c.args.place (asks_of c.args.base.now.parked)) in
     let q : Ledger = after line (held c.args.base.now) c.args.self.now in
-    subst (λ (xs : List (Slot × Bool)). All (IsIdle xs q) asks) (sym c.keep_open.ensures) (are-idle-open c.args.freed.now.items q asks (c.requires.idle line))
-
-pub returns-in_err-spent-clause-idle : goal.returns-in_err-spent-clause-idle
-returns-in_err-spent-clause-idle c line =
-    let asks : List Parked = asks_of c.args.base.now.parked in
-    let q : Ledger = after line (held c.args.base.now) c.args.self.now in
-    subst (λ (xs : List (Slot × Bool)). All (IsIdle xs q) asks) (sym c.keep_open.ensures) (are-idle-open c.args.freed.now.items q asks (c.requires.idle line))
+    subst (λ (xs : List (Slot × Bool)). AreIdle xs q left) (sym c.keep_open.ensures) (are-idle-open c.args.freed.now.items q left (c.requires.idle line))
 
 pub returns-clause-passed : goal.returns-clause-passed
 returns-clause-passed c line k d low high =
     let asks : List Parked = asks_of c.args.base.now.parked in
     let q : Ledger = after line (held c.args.base.now) c.args.self.now in
     let p : Parked = get_or asks k d in
-    let inside = c.next.ensures.inside in
-    let P : Parked → Type 0 = λ p. IsNoted c.in_ok-spent.spent.folders.items (is_free (table_after (held c.args.base.now) c.args.self.now)) p in
-    unwanted-waits c.keep_open.new.slots.items c.in_ok-spent.spent.folders.items q p
-    (returns-clause-idle c line k d (omega arith))
-    (all_from_in P asks (λ p i. c.in_ok-spent.ensures p (c.requires.noted p i)) k d (omega arith))
-    (subst (λ (xs : List (Slot × Bool)). WantsNone xs p) c.as_slice.ensures.value (c.next.ensures.slots k d low high))
-    (subst (λ (fs : List FolderName). WantsNoneOf fs p) c.as_slice-2.ensures (c.next.ensures.folders k d low high))
+    let before = c.first_over.ensures.before in
+    let behind = c.next.ensures.inside in
+    unwanted-waits c.keep_open.new.slots.items c.args.spent.now.folders.items q p
+    (returns-clause-idle c line p (still-has asks c.args.over.now c.args.place c.first_over.result k d low high (omega arith) c.first_over.ensures.first))
+    (c.requires.noted p (in_at asks k d (omega arith)))
+    (subst (λ (xs : List (Slot × Bool)). WantsNone xs p) c.as_slice.ensures.value (c.next.ensures.slots k d low (omega arith)))
+    (subst (λ (fs : List FolderName). WantsNoneOf fs p) c.as_slice-2.ensures (c.next.ensures.folders k d low (omega arith)))

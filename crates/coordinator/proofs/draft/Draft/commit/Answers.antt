@@ -1,8 +1,7 @@
 use Rattle.std.proofs.Common.{◌≡◌, true, Bool, List, Some, ◌++◌, refl, ap, sym, ◌∙◌, subst}
-use Rattle.std.specs.Prelude.{All}
 use Rattle.protocol.specs.Farm.{farm_limits}
 use Rattle.protocol.specs.declared.answer.CoordNote.TheVariants as note
-use Rattle.coordinator.specs.Idle.{IsIdle}
+use Rattle.coordinator.specs.Idle.{AreIdle}
 use Rattle.coordinator.specs.Keeps.{held}
 use Rattle.coordinator.specs.Held.{line_at}
 use Rattle.coordinator.specs.Shown.{LineOf, shown, after, lines_with, ended_committed}
@@ -29,7 +28,7 @@ retry-requires-clause-idle c =
     let a : Added = record { ticket = c.args.ticket; additions = c.in_ok-additions.additions } in
     let line : LineOf = lines_with c.args.base.now.lines (Some a) in
     let w : Work = shown line (held c.args.base.now) c.args.self.now in
-    let P : Work → Type 0 = λ w. All (IsIdle c.in_ok-freed.freed.items w.ledger) w.ledger.parked in
+    let P : Work → Type 0 = λ w. AreIdle c.in_ok-freed.freed.items w.ledger w.ledger.parked in
     subst P (sym (c.in_ok-confirm.ensures ∙ ap (confirms c.args.node c.args.life c.args.ticket c.args.news.now) (c.in_ok-end_committed.ensures line (held c.args.base.now))))
     (c.in_ok-freed.ensures (ended_committed c.args.ticket w).ledger refl refl refl)
 

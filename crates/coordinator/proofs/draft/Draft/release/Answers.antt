@@ -1,8 +1,7 @@
 use Rattle.std.proofs.Common.{◌≡◌, true, refl, ap, sym, ◌∙◌, subst}
-use Rattle.std.specs.Prelude.{All}
 use Rattle.protocol.specs.Farm.{farm_limits}
 use Rattle.protocol.specs.declared.answer.CoordNote.TheVariants as note
-use Rattle.coordinator.specs.Idle.{IsIdle}
+use Rattle.coordinator.specs.Idle.{AreIdle}
 use Rattle.coordinator.specs.Keeps.{held}
 use Rattle.coordinator.specs.Held.{line_at}
 use Rattle.coordinator.specs.Shown.{LineOf, shown, ended}
@@ -24,7 +23,7 @@ pub retry-requires-clause-idle : goal.retry-requires-clause-idle
 retry-requires-clause-idle c =
     let line : LineOf = line_at c.args.base.now.lines in
     let w : Work = shown line (held c.args.base.now) c.args.self.now in
-    let P : Work → Type 0 = λ w. All (IsIdle c.in_ok-freed.freed.items w.ledger) w.ledger.parked in
+    let P : Work → Type 0 = λ w. AreIdle c.in_ok-freed.freed.items w.ledger w.ledger.parked in
     subst P (sym (c.in_ok-end.ensures line)) (c.in_ok-freed.ensures (ended c.args.ticket w).ledger refl refl refl)
 
 pub returns : goal.returns

@@ -1,7 +1,8 @@
-use Rattle.std.proofs.Common.{Bool, cond, ap, sym, ◌∙◌, subst, Ok}
+use Rattle.std.proofs.Common.{refl, Bool, cond, ap, sym, ◌∙◌, subst, Ok}
 use Rattle.protocol.specs.Farm.{farm_limits}
 use Rattle.protocol.specs.declared.answer.CoordNote.TheVariants as note
 use Rattle.protocol.specs.Ledger.{Work, retried, notes, goes}
+use Rattle.coordinator.specs.Idle.{AreIdle}
 use Rattle.coordinator.specs.Keeps.{held}
 use Rattle.coordinator.specs.Held.{line_at}
 use Rattle.coordinator.specs.Shown.{LineOf, shown}
@@ -14,6 +15,13 @@ retry_if-requires-clause-sound c =
     let line : LineOf = line_at c.args.base.now.lines in
     let P : Work → Type 0 = λ w. IsSound w.ledger in
     subst P (sym (c.in_ok-drop_node.ensures line)) (sound-goes c.args.node (shown line (held c.args.base.now) c.args.self.now) c.requires.sound)
+
+pub retry_if-requires-clause-idle : goal.retry_if-requires-clause-idle
+retry_if-requires-clause-idle c =
+    let line : LineOf = line_at c.args.base.now.lines in
+    let w : Work = shown line (held c.args.base.now) c.args.self.now in
+    let P : Work → Type 0 = λ w. AreIdle c.in_ok-freed.freed.items w.ledger w.ledger.parked in
+    subst P (sym (c.in_ok-drop_node.ensures line)) (c.in_ok-freed.ensures (goes c.args.node w).ledger refl refl refl)
 
 pub returns-clause-work : goal.returns-clause-work
 returns-clause-work c =

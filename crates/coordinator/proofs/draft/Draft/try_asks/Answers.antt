@@ -1,21 +1,15 @@
-use Rattle.std.proofs.Common.{◌≡◌, ◌+◌, ◌<◌, length, ◌++◌, ◌∷◌, [], ℕ, Bool, true, false, cond, List, drop, drop_of_length-le, get_or, ap, sym, ◌∙◌, subst, arith, append-nil}
+use Rattle.std.proofs.Common.{◌≡◌, ◌+◌, ◌<◌, length, ◌++◌, ◌∷◌, [], ℕ, Bool, cond, List, drop, drop_of_length-le, get_or, ap, sym, ◌∙◌, subst, arith, append-nil}
 use Rattle.farm_base.specs.Wanted.{IsWants}
 use Rattle.protocol.specs.Farm.{farm_limits}
 use Rattle.protocol.specs.Machine.{Parked}
-use Rattle.protocol.specs.Ledger.{Work, try_all, waiting, tried}
+use Rattle.protocol.specs.Ledger.{Work, try_all, waiting}
 use Rattle.leases.proofs.MarkLemmas.{drop-item}
 use Rattle.coordinator.specs.Keeps.{held}
 use Rattle.coordinator.specs.Over.{still_at}
 use Rattle.coordinator.specs.Shown.{LineOf, shown, lines_with}
-use Rattle.coordinator.specs.Sound.{IsSound}
-use Rattle.coordinator.proofs.SoundWords.{sound-tried}
+use Rattle.coordinator.proofs.SoundWords.{sound-unless}
 use Rattle.coordinator.proofs.WaitingWords.{try-next, stay-next, noted-append, noted-below, begins-noted}
 use Rattle.coordinator.proofs.draft.Draft.try_asks.Goals as goal
-
--- an ask was tried, unless it was over
-sound-unless : (p : Parked) (b : Bool) (w w' : Work) → w' ≡ cond b w (tried farm_limits p w) → IsSound w.ledger → IsWants p.wants → IsSound w'.ledger
-sound-unless p true w w' e s wants = (let P : Work → Type 0 = λ x. IsSound x.ledger in subst P (sym e) s)
-sound-unless p false w w' e s wants = (let P : Work → Type 0 = λ x. IsSound x.ledger in subst P (sym e) (sound-tried farm_limits p w s wants))
 
 pub loop-place-preserved : goal.loop-place-preserved
 loop-place-preserved c =
@@ -46,7 +40,7 @@ loop-place-preserved c =
           ap (λ (xs : List ℕ). still_at 0 xs items) (noted-append o i done c.note_if.new.self.places.items os noted)
           ∙ c.loop-place.invariant.stay (cond o (i ∷ os) os) (begins-noted o i os begins)
           (ap (still_at i (cond o (i ∷ os) os)) first ∙ one ∙ ap (λ (ps : List Parked). waiting farm_limits (still_at i c.loop-place.rest.now ps) w) (sym first)));
-      sound = sound-unless p b w w' c.in_ok-over_now.ensures.work c.loop-place.invariant.sound (subst (λ (x : Parked). IsWants x.wants) item (c.requires.wants i p inside));
+      sound = sound-unless farm_limits p b w w' c.in_ok-over_now.ensures.work c.loop-place.invariant.sound (subst (λ (x : Parked). IsWants x.wants) item (c.requires.wants i p inside));
     }
 
 pub returns-clause-work : goal.returns-clause-work

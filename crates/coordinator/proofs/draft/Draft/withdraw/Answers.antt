@@ -1,9 +1,8 @@
 use Rattle.std.proofs.Common.{refl, ap, sym, ◌∙◌, subst, Ok}
-use Rattle.std.specs.Prelude.{All}
 use Rattle.protocol.specs.Farm.{farm_limits}
 use Rattle.protocol.specs.declared.answer.CoordNote.TheVariants as note
 use Rattle.protocol.specs.Ledger.{Work, retried, notes}
-use Rattle.coordinator.specs.Idle.{IsIdle}
+use Rattle.coordinator.specs.Idle.{AreIdle}
 use Rattle.coordinator.specs.Keeps.{held}
 use Rattle.coordinator.specs.Held.{line_at}
 use Rattle.coordinator.specs.Shown.{LineOf, shown, withdraws_under}
@@ -24,7 +23,7 @@ pub retry-requires-clause-idle : goal.retry-requires-clause-idle
 retry-requires-clause-idle c =
     let line : LineOf = line_at c.args.base.now.lines in
     let w : Work = shown line (held c.args.base.now) c.args.self.now in
-    let P : Work → Type 0 = λ w. All (IsIdle c.in_ok-freed.freed.items w.ledger) w.ledger.parked in
+    let P : Work → Type 0 = λ w. AreIdle c.in_ok-freed.freed.items w.ledger w.ledger.parked in
     subst P (sym (c.in_ok-take_back.ensures line)) (c.in_ok-freed.ensures (withdraws_under c.args.ticket w).ledger refl refl refl)
 
 pub returns-clause-work : goal.returns-clause-work

@@ -2,6 +2,7 @@ use Rattle.std.proofs.Common.{◌≡◌, Ok, ap, sym, ◌∙◌, subst}
 use Rattle.std.specs.Result.{result_err}
 use Rattle.protocol.specs.Farm.{farm_limits}
 use Rattle.protocol.specs.Ledger.{Work, begin_work, retired}
+use Rattle.coordinator.specs.Idle.{AreHeldUp}
 use Rattle.coordinator.specs.Held.{Held, line_at, ledger}
 use Rattle.coordinator.specs.Keeps.{held}
 use Rattle.coordinator.specs.Shown.{after, shown}
@@ -20,6 +21,11 @@ pub retire-requires-clause-accepted : goal.retire-requires-clause-accepted
 retire-requires-clause-accepted c =
     ap (λ (w : Work). result_err (retired farm_limits c.args.node w)) (begun (held c.self.inside.state) c.deref_mut.ensures.value (c.in_ok-draft.ensures.work (line_at c.self.inside.state.lines)))
     ∙ ap (λ (h : Held). result_err (retired farm_limits c.args.node (begin_work (ledger h)))) c.self.view_is ∙ c.requires.accepted
+
+pub retire-requires-clause-held_up : goal.retire-requires-clause-held_up
+retire-requires-clause-held_up c =
+    let P : Work → Type 0 = λ w. AreHeldUp w.ledger in
+    subst P (sym (begun (held c.self.inside.state) c.deref_mut.ensures.value (c.in_ok-draft.ensures.work (line_at c.self.inside.state.lines)))) c.self.invariant.rightful.held_up
 
 pub retire-requires-clause-wants : goal.retire-requires-clause-wants
 retire-requires-clause-wants c = c.self.invariant.rightful.sound.asks

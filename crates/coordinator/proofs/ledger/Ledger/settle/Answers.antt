@@ -18,7 +18,6 @@ use Rattle.coordinator.specs.Spent.{AreNoted}
 use Rattle.coordinator.specs.Promises.{OnlyGrow}
 use Rattle.coordinator.proofs.Kept.{grows, stays}
 use Rattle.coordinator.proofs.Keeping.{holds_after, saved_ok, saved_not}
-use Rattle.coordinator.specs.Queue.{asks_of}
 use Rattle.coordinator.proofs.ledger.Ledger.settle.Goals as goal
 
 -- in places of their own, since a search at a goal below would read all that is known there
@@ -42,40 +41,34 @@ rekept s t same spent was = record {
 pub invariant_of-self : goal.invariant_of-self
 invariant_of-self g c =
     let s : State = c.self.inside.state in
-    let parked : (asks_of c.room.new.parked) ≡ (asks_of s.parked) = c.room.ensures.parked in
-    rekept s _ (λ j. record (kept (line_at s.lines) s) { parked = parked j }) refl c.self.invariant
-
-pub invariant_of-self-in_default-nodes : goal.invariant_of-self-in_default-nodes
-invariant_of-self-in_default-nodes g c =
-    let s : State = c.self.inside.state in
-    let parked : (asks_of c.room.new.parked) ≡ (asks_of s.parked) = c.in-Ok-room.ensures.parked in
-    rekept s _ (λ j. record (kept (line_at s.lines) s) { parked = parked j }) refl c.self.invariant
+    rekept s c.make_room.new.state (ap ledger c.make_room.ensures.held) c.make_room.ensures.spent c.self.invariant
 
 pub invariant_of-self-in_default-take_table : goal.invariant_of-self-in_default-take_table
 invariant_of-self-in_default-take_table g c =
     let s : State = c.self.inside.state in
-    let parked : (asks_of c.room.new.parked) ≡ (asks_of s.parked) = c.in-Ok-room.ensures.parked in
-    let table : c.take_table.new.place ≡ s.table = c.in_default-take_table.ensures.err in
-    rekept s _ (λ j. record (kept (line_at s.lines) s) { live = (table j).live; retired = among (table j).retired; parked = parked j }) refl c.self.invariant
+    let t : State = c.make_room.new.state in
+    let table : c.take_table.new.place ≡ t.table = c.in_default-take_table.ensures.err in
+    rekept s _ ((λ j. record (kept (line_at t.lines) t) { live = (table j).live; retired = among (table j).retired }) ∙ ap ledger c.in-Ok-make_room.ensures.held) c.in-Ok-make_room.ensures.spent c.self.invariant
 
 pub invariant_of-self-in-Err-save : goal.invariant_of-self-in-Err-save
 invariant_of-self-in-Err-save g c =
     let s : State = c.self.inside.state in
-    let parked : (asks_of c.room.new.parked) ≡ (asks_of s.parked) = c.in-Ok-room.ensures.parked in
-    let table : c.put_back.new.place ≡ s.table = c.put_back.ensures ∙ c.in-Ok-take_table.ensures.table in
-    rekept s _ (λ j. record (kept (line_at s.lines) s) { live = (table j).live; retired = among (table j).retired; parked = parked j }) refl c.self.invariant
+    let t : State = c.make_room.new.state in
+    let table : c.put_back.new.place ≡ t.table = c.put_back.ensures ∙ c.in-Ok-take_table.ensures.table in
+    rekept s _ ((λ j. record (kept (line_at t.lines) t) { live = (table j).live; retired = among (table j).retired }) ∙ ap ledger c.in-Ok-make_room.ensures.held) c.in-Ok-make_room.ensures.spent c.self.invariant
 
 pub invariant_of-self-in-Ok-save : goal.invariant_of-self-in-Ok-save
 invariant_of-self-in-Ok-save g c =
     let s : State = c.self.inside.state in
     let h : Held = c.args.self.now in
     let change : Change = c.args.prepared.draft.value.change in
-    let table : c.in-Ok-take_table.table.table ≡ s.table = c.in-Ok-take_table.ensures.table in
-    let parked : (asks_of c.room.new.parked) ≡ (asks_of s.parked) = c.in-Ok-room.ensures.parked in
+    let t : State = c.make_room.new.state in
+    let table : c.in-Ok-take_table.table.table ≡ t.table = c.in-Ok-take_table.ensures.table in
+    let room : held c.make_room.new.state ≡ held s = c.in-Ok-make_room.ensures.held in
     let was : held s ≡ h = c.self.view_is in
-    let base : record (held s) { live = c.in-Ok-take_table.table.table.live; retired = c.in-Ok-take_table.table.table.retired; parked = (asks_of c.room.new.parked) } ≡ h =
-    (λ j. record (held s) { live = (table j).live; retired = (table j).retired; parked = parked j }) ∙ was in
-    let lines : line_at c.apply.new.state.lines ≡ lines_with h.lines c.args.prepared.added = c.apply.ensures.lines ∙ ap (λ (x : Held). lines_with x.lines c.args.prepared.added) was in
+    let base : record (held t) { live = c.in-Ok-take_table.table.table.live; retired = c.in-Ok-take_table.table.table.retired } ≡ h =
+    (λ j. record (held t) { live = (table j).live; retired = (table j).retired }) ∙ room ∙ was in
+    let lines : line_at c.apply.new.state.lines ≡ lines_with h.lines c.args.prepared.added = c.apply.ensures.lines ∙ ap (λ (x : Held). lines_with x.lines c.args.prepared.added) (room ∙ was) in
     let ledger_is : kept (line_at c.apply.new.state.lines) c.apply.new.state ≡ after (lines_with h.lines c.args.prepared.added) h change =
     c.apply.ensures.ledger (line_at c.apply.new.state.lines) ∙ ap (λ (x : Held). after (line_at c.apply.new.state.lines) x change) base ∙ ap (λ (f : LineOf). after f h change) lines in
     let noted : AreNoted c.in-Ok-spent_after.spent.folders.items (after (lines_with h.lines c.args.prepared.added) (held s) change) =
@@ -92,12 +85,13 @@ returns-in-Ok-save-clause-answer g c =
     let s : State = c.self.inside.state in
     let h : Held = c.args.self.now in
     let change : Change = c.args.prepared.draft.value.change in
-    let table : c.in-Ok-take_table.table.table ≡ s.table = c.in-Ok-take_table.ensures.table in
-    let parked : (asks_of c.room.new.parked) ≡ (asks_of s.parked) = c.in-Ok-room.ensures.parked in
+    let t : State = c.make_room.new.state in
+    let table : c.in-Ok-take_table.table.table ≡ t.table = c.in-Ok-take_table.ensures.table in
+    let room : held c.make_room.new.state ≡ held s = c.in-Ok-make_room.ensures.held in
     let was : held s ≡ h = c.self.view_is in
-    let base : record (held s) { live = c.in-Ok-take_table.table.table.live; retired = c.in-Ok-take_table.table.table.retired; parked = (asks_of c.room.new.parked) } ≡ h =
-    (λ j. record (held s) { live = (table j).live; retired = (table j).retired; parked = parked j }) ∙ was in
-    let lines : line_at c.apply.new.state.lines ≡ lines_with h.lines c.args.prepared.added = c.apply.ensures.lines ∙ ap (λ (x : Held). lines_with x.lines c.args.prepared.added) was in
+    let base : record (held t) { live = c.in-Ok-take_table.table.table.live; retired = c.in-Ok-take_table.table.table.retired } ≡ h =
+    (λ j. record (held t) { live = (table j).live; retired = (table j).retired }) ∙ room ∙ was in
+    let lines : line_at c.apply.new.state.lines ≡ lines_with h.lines c.args.prepared.added = c.apply.ensures.lines ∙ ap (λ (x : Held). lines_with x.lines c.args.prepared.added) (room ∙ was) in
     let ledger_is : kept (line_at c.apply.new.state.lines) c.apply.new.state ≡ after (lines_with h.lines c.args.prepared.added) h change =
     c.apply.ensures.ledger (line_at c.apply.new.state.lines) ∙ ap (λ (x : Held). after (line_at c.apply.new.state.lines) x change) base ∙ ap (λ (f : LineOf). after f h change) lines in
     let before : Holds (g.K.Keeper.kept c.args.keeper.now) (saves (ledger h)) = subst (Holds (g.K.Keeper.kept c.args.keeper.now)) (c.requires.keeping.up refl) c.requires.keeping.holds in
@@ -115,12 +109,13 @@ returns-in-Ok-save-clause-keeping g c =
     let s : State = c.self.inside.state in
     let h : Held = c.args.self.now in
     let change : Change = c.args.prepared.draft.value.change in
-    let table : c.in-Ok-take_table.table.table ≡ s.table = c.in-Ok-take_table.ensures.table in
-    let parked : (asks_of c.room.new.parked) ≡ (asks_of s.parked) = c.in-Ok-room.ensures.parked in
+    let t : State = c.make_room.new.state in
+    let table : c.in-Ok-take_table.table.table ≡ t.table = c.in-Ok-take_table.ensures.table in
+    let room : held c.make_room.new.state ≡ held s = c.in-Ok-make_room.ensures.held in
     let was : held s ≡ h = c.self.view_is in
-    let base : record (held s) { live = c.in-Ok-take_table.table.table.live; retired = c.in-Ok-take_table.table.table.retired; parked = (asks_of c.room.new.parked) } ≡ h =
-    (λ j. record (held s) { live = (table j).live; retired = (table j).retired; parked = parked j }) ∙ was in
-    let lines : line_at c.apply.new.state.lines ≡ lines_with h.lines c.args.prepared.added = c.apply.ensures.lines ∙ ap (λ (x : Held). lines_with x.lines c.args.prepared.added) was in
+    let base : record (held t) { live = c.in-Ok-take_table.table.table.live; retired = c.in-Ok-take_table.table.table.retired } ≡ h =
+    (λ j. record (held t) { live = (table j).live; retired = (table j).retired }) ∙ room ∙ was in
+    let lines : line_at c.apply.new.state.lines ≡ lines_with h.lines c.args.prepared.added = c.apply.ensures.lines ∙ ap (λ (x : Held). lines_with x.lines c.args.prepared.added) (room ∙ was) in
     let ledger_is : kept (line_at c.apply.new.state.lines) c.apply.new.state ≡ after (lines_with h.lines c.args.prepared.added) h change =
     c.apply.ensures.ledger (line_at c.apply.new.state.lines) ∙ ap (λ (x : Held). after (line_at c.apply.new.state.lines) x change) base ∙ ap (λ (f : LineOf). after f h change) lines in
     let before : Holds (g.K.Keeper.kept c.args.keeper.now) (saves (ledger h)) = subst (Holds (g.K.Keeper.kept c.args.keeper.now)) (c.requires.keeping.up refl) c.requires.keeping.holds in
@@ -135,7 +130,7 @@ returns-in-Ok-save-clause-keeping g c =
 pub returns-in-Ok-save-clause-grow : goal.returns-in-Ok-save-clause-grow
 returns-in-Ok-save-clause-grow g c =
     let lines : line_at c.apply.new.state.lines ≡ lines_with c.args.self.now.lines c.args.prepared.added =
-    c.apply.ensures.lines ∙ ap (λ (x : Held). lines_with x.lines c.args.prepared.added) c.self.view_is in
+    c.apply.ensures.lines ∙ ap (λ (x : Held). lines_with x.lines c.args.prepared.added) (c.in-Ok-make_room.ensures.held ∙ c.self.view_is) in
     subst (λ (f : LineOf). OnlyGrow (line_at c.args.self.now.lines) f) (sym lines) (grows c.args.self.now.lines c.args.prepared.added)
 
 pub returns-in-Err-clause-answer : goal.returns-in-Err-clause-answer
@@ -143,11 +138,12 @@ returns-in-Err-clause-answer g c =
     let s : State = c.self.inside.state in
     let h : Held = c.args.self.now in
     let change : Change = c.args.prepared.draft.value.change in
-    let table : c.put_back.new.place ≡ s.table = c.put_back.ensures ∙ c.in-Ok-take_table.ensures.table in
-    let parked : (asks_of c.room.new.parked) ≡ (asks_of s.parked) = c.in-Ok-room.ensures.parked in
+    let t : State = c.make_room.new.state in
+    let table : c.put_back.new.place ≡ t.table = c.put_back.ensures ∙ c.in-Ok-take_table.ensures.table in
+    let room : held c.make_room.new.state ≡ held s = c.in-Ok-make_room.ensures.held in
     let was : held s ≡ h = c.self.view_is in
-    let now : Held = record (held s) { live = c.put_back.new.place.live; retired = c.put_back.new.place.retired; parked = (asks_of c.room.new.parked) } in
-    let same : now ≡ h = (λ j. record (held s) { live = (table j).live; retired = (table j).retired; parked = parked j }) ∙ was in
+    let now : Held = record (held t) { live = c.put_back.new.place.live; retired = c.put_back.new.place.retired } in
+    let same : now ≡ h = (λ j. record (held t) { live = (table j).live; retired = (table j).retired }) ∙ room ∙ was in
     let before : Holds (g.K.Keeper.kept c.args.keeper.now) (saves (ledger h)) = subst (Holds (g.K.Keeper.kept c.args.keeper.now)) (c.requires.keeping.up refl) c.requires.keeping.holds in
     let w : Work = shown (lines_with h.lines c.args.prepared.added) h c.args.prepared.draft.value in
     let P : CoordRefusal → Type 0 = λ r. Answers g.K.Keeper.saving (Ok w) (record { held = h; keeper = c.args.keeper.now; down = false }) (record { held = now; keeper = c.save.new.keeper; down = is_save_fault (Err r) }) (Err r) in
@@ -164,11 +160,12 @@ returns-in-Err-clause-keeping g c =
     let s : State = c.self.inside.state in
     let h : Held = c.args.self.now in
     let change : Change = c.args.prepared.draft.value.change in
-    let table : c.put_back.new.place ≡ s.table = c.put_back.ensures ∙ c.in-Ok-take_table.ensures.table in
-    let parked : (asks_of c.room.new.parked) ≡ (asks_of s.parked) = c.in-Ok-room.ensures.parked in
+    let t : State = c.make_room.new.state in
+    let table : c.put_back.new.place ≡ t.table = c.put_back.ensures ∙ c.in-Ok-take_table.ensures.table in
+    let room : held c.make_room.new.state ≡ held s = c.in-Ok-make_room.ensures.held in
     let was : held s ≡ h = c.self.view_is in
-    let now : Held = record (held s) { live = c.put_back.new.place.live; retired = c.put_back.new.place.retired; parked = (asks_of c.room.new.parked) } in
-    let same : now ≡ h = (λ j. record (held s) { live = (table j).live; retired = (table j).retired; parked = parked j }) ∙ was in
+    let now : Held = record (held t) { live = c.put_back.new.place.live; retired = c.put_back.new.place.retired } in
+    let same : now ≡ h = (λ j. record (held t) { live = (table j).live; retired = (table j).retired }) ∙ room ∙ was in
     let before : Holds (g.K.Keeper.kept c.args.keeper.now) (saves (ledger h)) = subst (Holds (g.K.Keeper.kept c.args.keeper.now)) (c.requires.keeping.up refl) c.requires.keeping.holds in
     let w : Work = shown (lines_with h.lines c.args.prepared.added) h c.args.prepared.draft.value in
     let P : CoordRefusal → Type 0 = λ r. IsKeeping (g.K.Keeper.kept c.save.new.keeper) now (is_save_fault (Err r)) in
@@ -189,5 +186,5 @@ returns-in-Err-clause-keeping g c =
 
 pub returns-in-Err-clause-grow : goal.returns-in-Err-clause-grow
 returns-in-Err-clause-grow g c =
-    let s : State = c.self.inside.state in
-    subst (λ (x : Held). OnlyGrow (line_at x.lines) (line_at s.lines)) c.self.view_is (stays (line_at s.lines))
+    let t : State = c.make_room.new.state in
+    subst (λ (x : Held). OnlyGrow (line_at x.lines) (line_at t.lines)) (c.in-Ok-make_room.ensures.held ∙ c.self.view_is) (stays (line_at t.lines))

@@ -1,4 +1,5 @@
-use Rattle.std.proofs.Common.{List, subst}
+use Rattle.std.proofs.Common.{◌≡◌, List, subst}
+use Rattle.std.specs.List.{insert}
 use Rattle.farm_base.specs.declared.lease.NodeLife.{NodeLife}
 use Rattle.leases.specs.Places.{IsPlace, IsGap}
 use Rattle.leases.proofs.LifeLemmas.{nodes_of, life_at-set, life_at-insert, lives-set, lives-insert}
@@ -8,22 +9,26 @@ pub invariant_of-self : goal.invariant_of-self
 invariant_of-self c =
     let lives : List NodeLife = c.self.inside.lives.items in
     let place : IsPlace c.args.node.0 (nodes_of lives) c.in-Ok.place = subst (λ ls. IsPlace c.args.node.0 (nodes_of ls) c.in-Ok.place) c.as_slice.ensures.value c.in-Ok.ensures in
-    lives-set lives c.in-Ok.place (record { node = c.args.node; life = c.args.life }) c.self.invariant place c.requires
+    lives-set lives c.in-Ok.place (record { node = c.args.node; life = c.args.life }) c.self.invariant place c.requires.counted
 
-pub returns-in-Ok-clause-ok : goal.returns-in-Ok-clause-ok
-returns-in-Ok-clause-ok c =
+pub returns-in-Ok : goal.returns-in-Ok
+returns-in-Ok c =
     let lives : List NodeLife = c.self.inside.lives.items in
     let place : IsPlace c.args.node.0 (nodes_of lives) c.in-Ok.place = subst (λ ls. IsPlace c.args.node.0 (nodes_of ls) c.in-Ok.place) c.as_slice.ensures.value c.in-Ok.ensures in
     rw (← c.self.view_is) (life_at-set lives c.in-Ok.place (record { node = c.args.node; life = c.args.life }) c.self.invariant place)
 
-pub invariant_of-self-in-Continue-1 : goal.invariant_of-self-in-Continue-1
-invariant_of-self-in-Continue-1 c =
+pub invariant_of-self-in-Err : goal.invariant_of-self-in-Err
+invariant_of-self-in-Err c =
     let lives : List NodeLife = c.self.inside.lives.items in
+    let seen : NodeLife = record { node = c.args.node; life = c.args.life } in
     let gap : IsGap c.args.node.0 (nodes_of lives) c.in-Err.place = subst (λ ls. IsGap c.args.node.0 (nodes_of ls) c.in-Err.place) c.as_slice.ensures.value c.in-Err.ensures in
-    rw c.in_ok-insert-in-Err.ensures.items (lives-insert lives c.in-Err.place (record { node = c.args.node; life = c.args.life }) c.self.invariant gap c.requires)
+    let items : c.insert.new.self.items ≡ insert lives c.in-Err.place seen = rw c.unwrap.ensures at c.insert.ensures.items in
+    rw items (lives-insert lives c.in-Err.place seen c.self.invariant gap c.requires.counted)
 
-pub returns-in_ok-insert-in-Err-clause-ok : goal.returns-in_ok-insert-in-Err-clause-ok
-returns-in_ok-insert-in-Err-clause-ok c =
+pub returns-in-Err : goal.returns-in-Err
+returns-in-Err c =
     let lives : List NodeLife = c.self.inside.lives.items in
+    let seen : NodeLife = record { node = c.args.node; life = c.args.life } in
     let gap : IsGap c.args.node.0 (nodes_of lives) c.in-Err.place = subst (λ ls. IsGap c.args.node.0 (nodes_of ls) c.in-Err.place) c.as_slice.ensures.value c.in-Err.ensures in
-    rw (c.in_ok-insert-in-Err.ensures.items, ← c.self.view_is) (life_at-insert lives c.in-Err.place (record { node = c.args.node; life = c.args.life }) gap)
+    let items : c.insert.new.self.items ≡ insert lives c.in-Err.place seen = rw c.unwrap.ensures at c.insert.ensures.items in
+    rw (items, ← c.self.view_is) (life_at-insert lives c.in-Err.place seen gap)
