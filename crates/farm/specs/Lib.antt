@@ -1,3 +1,4 @@
 pub mod Downs
 pub mod Ends
 pub mod Places
+pub mod Setups

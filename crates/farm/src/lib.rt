@@ -18,6 +18,7 @@ mod opening;
 mod plan;
 mod router;
 mod run;
+mod setups;
 mod steps;
 mod threads;
 mod work;

@@ -1,9 +1,10 @@
 //! A farm on threads.
-ghost use Rattle.std.specs.Prelude.{◌≡◌, ◌≢◌, All, IfOk, length, map, nat_eq};
+ghost use Rattle.std.specs.Prelude.{◌≡◌, ◌≢◌, ◌↔◌, false, All, IfOk, Err, length, map, nat_eq};
 ghost use Rattle.std.specs.List.{AllZip, IsDistinct};
 ghost use Rattle.saverecord.specs.Logs.{Holds};
 ghost use Rattle.saverecord.specs.Texts.{whole_alone};
 ghost use Rattle.executions.specs.Calls.{Grew};
+ghost use Rattle.farm.specs.Setups.{is_staffed};
 ghost use Rattle.farmend.specs.Answers.{IsAnswered};
 ghost use Rattle.farmend.specs.NewCalls.{new_calls};
 ghost use Rattle.farmend.specs.Receipts.{StandsOn, tickets_of};
@@ -16,8 +17,9 @@ use super::fault::FarmFault;
 use super::faults::start_fault;
 use super::hall::Hall;
 use super::one::Farm;
-use super::opening::{Submitted, are_staffed, open, submit_all};
+use super::opening::{Submitted, open, submit_all};
 use super::plan::Plan;
+use super::setups::{beside_setup, is_staffed};
 use super::threads::{Ends, run_threads};
 use super::work::Work;
 use super::worker::WorkerEnd;
@@ -75,7 +77,7 @@ fn answers_of<R: Wait>(
     let mut answers = Vec::with_capacity(alloc, numbers.len())?;
     for (node, number) in numbers {
         let Some(home) = hall.home(*node) else {
-            return Err(FarmFault::BadSetup);
+            return Err(FarmFault::ReceiptLost);
         };
         let answer = answer_of(&home.jobs.lock(rt).jobs, *number)?;
         answers.push(answer)?;
@@ -129,6 +131,7 @@ impl Farm {
         fault_plan: Vec<(usize, FarmStep)>,
         gate: &G,
     ) -> Result<FarmEnd, FarmFault>
+        ensures bad { (result ≡ Err FarmFault.BadSetup) ↔ (is_staffed setup jobs.items executors.items ≡ false) }
         ensures saved { IfOk result (λ end. Holds (whole_alone end.saved.items) (farm_after setup end.schedule.items).saved) }
         ensures commits { IfOk result (λ end. end.commits ≡ commits_after setup end.schedule.items) }
         ensures receipts { IfOk result (λ end. All (StandsOn (farm_after setup end.schedule.items)) end.receipts.items) }
@@ -143,26 +146,59 @@ impl Farm {
         ensures answered { IfOk result (λ end. length end.answers.items ≡ length jobs.items) }
         ensures settled { IfOk result (λ end. All (λ answer. answer ≢ Answer.Waiting) end.answers.items) }
     {
-        let hired = Hired::all(alloc, executors.as_slice())?;
-        let RunEnd {
-            back,
-            executors,
-            jobs,
-        } = solve_all(rt, alloc, setup, jobs, executors, fault_plan, gate)?;
-        let end = {
-            let ends = calls_of(alloc, executors.as_slice())?;
-            let (jobs, hired) = (jobs.as_slice(), hired.as_slice());
-            check(alloc, setup, jobs, hired, ends.as_slice(), back)?
-        };
-        Ok(FarmEnd {
-            answers: end.answers,
-            commits: end.commits,
-            receipts: end.receipts,
-            saved: end.saved,
-            schedule: end.schedule,
-            executors,
-        })
+        if !is_staffed(setup, jobs.as_slice(), executors.as_slice()) {
+            return Err(FarmFault::BadSetup);
+        }
+        match run_staffed(rt, alloc, setup, jobs, executors, fault_plan, gate) {
+            Ok(end) => Ok(end),
+            Err(fault) => Err(beside_setup(fault)),
+        }
     }
+}
+
+/// Solves the jobs on their nodes, where each has an executor on its node.
+fn run_staffed<R: Threads + Wait + Sync, G: Gate>(
+    rt: &R,
+    alloc: Global,
+    setup: Setup,
+    jobs: Vec<(NodeId, Keyed)>,
+    executors: Vec<(NodeId, Box<dyn Executor + Send>)>,
+    fault_plan: Vec<(usize, FarmStep)>,
+    gate: &G,
+) -> Result<FarmEnd, FarmFault>
+    ensures saved { IfOk result (λ end. Holds (whole_alone end.saved.items) (farm_after setup end.schedule.items).saved) }
+    ensures commits { IfOk result (λ end. end.commits ≡ commits_after setup end.schedule.items) }
+    ensures receipts { IfOk result (λ end. All (StandsOn (farm_after setup end.schedule.items)) end.receipts.items) }
+    ensures tickets { IfOk result (λ end. IsDistinct nat_eq (tickets_of end.receipts.items)) }
+    ensures count { IfOk result (λ end. length end.receipts.items ≡ end.commits) }
+    ensures calls { IfOk result (λ end. AllZip Grew (map (λ each. history each.1) executors.items) (map (λ executor. history executor) end.executors.items)) }
+    ensures answers { IfOk result (λ end.
+        let nodes = map (λ each. each.0) executors.items in
+        let had = map (λ each. history each.1) executors.items in
+        let ends = map (λ executor. history executor) end.executors.items in
+        AllZip (λ job answer. IsAnswered (farm_after setup end.schedule.items) (new_calls job.0 nodes had ends) job.0 job.1 answer) jobs.items end.answers.items) }
+    ensures answered { IfOk result (λ end. length end.answers.items ≡ length jobs.items) }
+    ensures settled { IfOk result (λ end. All (λ answer. answer ≢ Answer.Waiting) end.answers.items) }
+{
+    let hired = Hired::all(alloc, executors.as_slice())?;
+    let RunEnd {
+        back,
+        executors,
+        jobs,
+    } = solve_all(rt, alloc, setup, jobs, executors, fault_plan, gate)?;
+    let end = {
+        let ends = calls_of(alloc, executors.as_slice())?;
+        let (jobs, hired) = (jobs.as_slice(), hired.as_slice());
+        check(alloc, setup, jobs, hired, ends.as_slice(), back)?
+    };
+    Ok(FarmEnd {
+        answers: end.answers,
+        commits: end.commits,
+        receipts: end.receipts,
+        saved: end.saved,
+        schedule: end.schedule,
+        executors,
+    })
 }
 
 /// What the threads leave: what is checked, and the executors and jobs.
@@ -188,9 +224,6 @@ fn solve_all<R: Threads + Wait + Sync, G: Gate>(
 {
     let board = Board::start(alloc, setup).map_err(start_fault)?;
     let nodes = nodes_of(alloc, executors.as_slice())?;
-    if !are_staffed(setup.nodes, jobs.as_slice(), nodes.as_slice()) {
-        return Err(FarmFault::BadSetup);
-    }
     let Submitted { tables, numbers } = submit_all(alloc, setup.nodes, jobs.as_slice())?;
     let work = Work::of(alloc, jobs)?;
     let plan = Plan::of(fault_plan);

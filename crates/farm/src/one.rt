@@ -1,13 +1,15 @@
 //! A farm with one executor, in one thread.
-ghost use Rattle.std.specs.Prelude.{◌≡◌, ◌≢◌, All, IfOk, length};
+ghost use Rattle.std.specs.Prelude.{◌≡◌, ◌≢◌, ◌↔◌, false, All, IfOk, Err, length};
 ghost use Rattle.farm.specs.Ends.{RefusesNone, committed_of};
+ghost use Rattle.farm.specs.Setups.{is_of_one};
 
 use super::answers::answers_of;
 use super::ends::OneEnd;
 use super::fault::FarmFault;
 use super::faults::start_fault;
 use super::open_folders::give_up_all;
-use super::run::{HOME, Run};
+use super::run::Run;
+use super::setups::{beside_setup, is_of_one};
 use executions::{Executor, LiveShared};
 use farm_base::NodeId;
 use farmboard::Board;
@@ -34,26 +36,45 @@ impl Farm {
         jobs: Vec<(NodeId, Keyed)>,
         executor: Box<dyn Executor + Send>,
     ) -> Result<OneEnd, FarmFault>
+        ensures bad { (result ≡ Err FarmFault.BadSetup) ↔ (is_of_one setup jobs.items ≡ false) }
         ensures replay { IfOk result (λ end. RefusesNone setup end.schedule.items) }
         ensures commits { IfOk result (λ end. end.commits ≡ committed_of setup end.schedule.items) }
         ensures count { IfOk result (λ end. length end.answers.items ≡ length jobs.items) }
         ensures answered { IfOk result (λ end. All (λ answer. answer ≢ Answer.Waiting) end.answers.items) }
     {
-        if jobs.iter().any(|job| job.0 != HOME) {
+        if !is_of_one(setup, jobs.as_slice()) {
             return Err(FarmFault::BadSetup);
         }
-        let count = jobs.len();
-        let mut executor = executor;
-        let mut run = Run {
-            board: Board::start(alloc, setup).map_err(start_fault)?,
-            jobs: Jobs::new(alloc),
-            live: LiveShared::new(alloc),
-        };
-        let solved = run.solve_jobs(alloc, jobs, &mut *executor);
-        let (board, jobs) = parts_of(run);
-        solved?;
-        end_of(alloc, setup, board, &jobs, count)
+        match solve_on_one(alloc, setup, jobs, executor) {
+            Ok(end) => Ok(end),
+            Err(fault) => Err(beside_setup(fault)),
+        }
     }
+}
+
+/// Solves the jobs, which are all on node 1.
+fn solve_on_one(
+    alloc: Global,
+    setup: Setup,
+    jobs: Vec<(NodeId, Keyed)>,
+    executor: Box<dyn Executor + Send>,
+) -> Result<OneEnd, FarmFault>
+    ensures replay { IfOk result (λ end. RefusesNone setup end.schedule.items) }
+    ensures commits { IfOk result (λ end. end.commits ≡ committed_of setup end.schedule.items) }
+    ensures count { IfOk result (λ end. length end.answers.items ≡ length jobs.items) }
+    ensures answered { IfOk result (λ end. All (λ answer. answer ≢ Answer.Waiting) end.answers.items) }
+{
+    let count = jobs.len();
+    let mut executor = executor;
+    let mut run = Run {
+        board: Board::start(alloc, setup).map_err(start_fault)?,
+        jobs: Jobs::new(alloc),
+        live: LiveShared::new(alloc),
+    };
+    let solved = run.solve_jobs(alloc, jobs, &mut *executor);
+    let (board, jobs) = parts_of(run);
+    solved?;
+    end_of(alloc, setup, board, &jobs, count)
 }
 
 /// The board and the jobs. Tenures that are still in use are given up.

@@ -49,15 +49,15 @@ fn submit(
     keyed: &Keyed,
 ) -> Result<JobId, FarmFault> {
     let Some(place) = place_of(node, nodes) else {
-        return Err(FarmFault::BadSetup);
+        return Err(FarmFault::ReceiptLost);
     };
     match tables.get_mut(place) {
         Some(table) => table.submit_keyed(alloc, keyed).map_err(jobs_fault),
-        None => Err(FarmFault::BadSetup),
+        None => Err(FarmFault::ReceiptLost),
     }
 }
 
-/// Submits the jobs on their nodes. `BadSetup` where a node isn't there.
+/// Submits the jobs on their nodes.
 pub(crate) fn submit_all(
     alloc: Global,
     nodes: u32,
@@ -70,16 +70,6 @@ pub(crate) fn submit_all(
         numbers.push((*node, number))?;
     }
     Ok(Submitted { tables, numbers })
-}
-
-/// Whether the nodes of all workers are there, and each job has a worker on its node.
-pub(crate) fn are_staffed(nodes: u32, jobs: &[(NodeId, Keyed)], workers: &[NodeId]) -> bool {
-    let are_there = workers.iter().all(|node| 1 <= node.0 && node.0 <= nodes);
-    are_there && jobs.iter().all(|job| is_among(job.0, workers))
-}
-
-fn is_among(node: NodeId, nodes: &[NodeId]) -> bool {
-    nodes.iter().any(|other| *other == node)
 }
 
 /// What belongs to each node.

@@ -47,7 +47,7 @@ pub(crate) fn work<R: Wait, G: Gate>(
             };
             solve_all(rt, post, gate, &mut *executor, &mut receipts)
         }
-        None => Err(FarmFault::BadSetup),
+        None => Err(FarmFault::ReceiptLost),
     };
     if let Err(fault) = worked {
         hall.fail(rt, fault);

@@ -1,5 +1,5 @@
 use Rattle.std.proofs.Common.{rules, ◌≡◌, IfOk, ℕ, length, subst}
-use Rattle.farm.proofs.one.Farm.run_one.Goals as goal
+use Rattle.farm.proofs.one.solve_on_one.Goals as goal
 
 pub returns-clause-count : goal.returns-clause-count
 returns-clause-count g c =

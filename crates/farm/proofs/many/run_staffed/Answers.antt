@@ -1,5 +1,5 @@
 use Rattle.std.proofs.Common.{◌≡◌}
-use Rattle.farm.proofs.one.Farm.run.Goals as goal
+use Rattle.farm.proofs.many.run_staffed.Goals as goal
 
 pub returns-clause-calls : goal.returns-clause-calls
 returns-clause-calls g c =
