@@ -298,6 +298,78 @@ fn with_last<R: Clock + AllocGlobal>(rt: &R, count: u32, folders: &[&str]) -> an
     park_and_free_last(rt, &mut coordinator, count, folders)
 }
 
+/// Node 2 says that it is there, in the life after this many.
+fn greet(
+    coordinator: &mut Coordinator<MemoryKeeper>,
+    alloc: Global,
+    lives: u32,
+) -> anyhow::Result<()> {
+    let message = ToCoord {
+        node: NodeId(2),
+        life: Life(u64::from(lives) + 1),
+        request: Request::Hello,
+    };
+    let _handled = coordinator.handle(alloc, &message)?;
+    Ok(())
+}
+
+/// Node 2 asks for a folder for which nobody else asks, in the life after this many.
+fn ask_alone(
+    coordinator: &mut Coordinator<MemoryKeeper>,
+    alloc: Global,
+    lives: u32,
+) -> anyhow::Result<()> {
+    let wants = wants_of(alloc, &["locked:h"])?;
+    let _wants = wants.as_slice();
+    let message = ToCoord {
+        node: NodeId(2),
+        life: Life(u64::from(lives) + 1),
+        request: Request::Acquire {
+            ask: Ask(1),
+            wants,
+            tenure: false,
+        },
+    };
+    let _handled = coordinator.handle(alloc, &message)?;
+    Ok(())
+}
+
+/// The time of a life of a node of a batch that begins and ends a lease, from the life after this many on.
+fn beginning<R: Clock + AllocGlobal>(
+    rt: &R,
+    coordinator: &mut Coordinator<MemoryKeeper>,
+    lives: u32,
+) -> anyhow::Result<f64> {
+    let mut seconds = 0.0;
+    for turn in lives..lives.saturating_add(TURNS) {
+        ask_alone(coordinator, rt.alloc(), turn)?;
+        let start = Instant::now(rt)?;
+        greet(coordinator, rt.alloc(), turn.saturating_add(1))?;
+        seconds += seconds_since(rt, start);
+    }
+    Ok(seconds / f64::from(TURNS))
+}
+
+/// The time of a life of a node that begins and ends a lease, once this many asks of another node wait for another slot.
+fn park_and_begin<R: Clock + AllocGlobal>(
+    rt: &R,
+    coordinator: &mut Coordinator<MemoryKeeper>,
+    count: u32,
+) -> anyhow::Result<f64> {
+    wait(coordinator, rt.alloc(), 0, count.saturating_add(1), &SLOT)?;
+    let mut least = f64::INFINITY;
+    for batch in 0..BATCHES {
+        least = least.min(beginning(rt, coordinator, batch * TURNS)?);
+    }
+    Ok(least)
+}
+
+/// The same of a farm where nothing happened.
+fn with_lives<R: Clock + AllocGlobal>(rt: &R, count: u32) -> anyhow::Result<f64> {
+    let mut coordinator = started(rt.alloc())?;
+    park_and_begin(rt, &mut coordinator, count)
+}
+
 /// The time of a grant of a PRIVATE folder, of the asks of these numbers.
 fn granting<R: Clock + AllocGlobal>(
     rt: &R,
@@ -342,6 +414,17 @@ fn print_last<R: Print + Clock + AllocGlobal>(rt: &R) -> anyhow::Result<()> {
     Ok(())
 }
 
+/// Prints how the time of a life that begins and ends a lease grows with the asks of another node that wait for another slot.
+fn print_lives<R: Print + Clock + AllocGlobal>(rt: &R) -> anyhow::Result<()> {
+    let (many, few) = (with_lives(rt, MANY)?, with_lives(rt, FEW)?);
+    let ratio = many / few;
+    let micros = many * 1e6;
+    println!(rt;
+        "events, a life that ends a lease beside {MANY} asks for another slot: {ratio:.2} of one beside {FEW} ({micros:.0} microseconds)"
+    )?;
+    Ok(())
+}
+
 /// Prints how the time of an event grows with the live leases, with the parked asks, and with the leased instances of a
 /// PRIVATE folder.
 pub fn measure<R: Print + Clock + AllocGlobal>(rt: &R) -> anyhow::Result<()> {
@@ -362,6 +445,7 @@ pub fn measure<R: Print + Clock + AllocGlobal>(rt: &R) -> anyhow::Result<()> {
     )?;
     println!(rt; "events, {MANY} asks for another slot: {others:.2} of an event beside {FEW}")?;
     print_last(rt)?;
+    print_lives(rt)?;
     let private = of_private(rt)?;
     println!(rt;
         "events, the last of {INSTANCES} PRIVATE grants: {private:.2} of the first {GRANTS}"
