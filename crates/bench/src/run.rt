@@ -4,8 +4,8 @@ use super::clock::seconds_since;
 use super::graphs::{cached_chain, chain, wide};
 use super::hashing::{Hashing, hash};
 use executions::{Executor, OpenGate};
-use farm::Farm;
-use farm_base::NodeId;
+use farm::{Farm, FarmFault, OneEnd};
+use farm_base::{EVENTS, NodeId};
 use jobs::Jobs;
 use opsproto::read_definition;
 use schedule::Setup;
@@ -18,9 +18,12 @@ use std::thread::{JoinHandle, Threads};
 use std::time::Instant;
 use vertices::load;
 
+/// How many events an execution takes: its ask, begin and finish, and the delivery of each message to the coordinator and of each
+/// answer.
+const EVENTS_A_KEY: u32 = 7;
 /// How many jobs run at once.
 const JOBS: usize = 64;
-/// How many vertices each of them has: with seven events each they fit into a schedule.
+/// How many vertices each of them has, so that they fit into a schedule.
 const VERTICES: usize = 100;
 /// How often an executor hashes 64 KiB for a task, so that it takes about a millisecond.
 const ROUNDS: u32 = 4;
@@ -31,46 +34,90 @@ const RUNS: u32 = 3;
 /// How often 64 KiB are hashed in all without a farm.
 const HASHED: u32 = 2_560;
 
+/// How the vertices of a job stand to each other.
+#[derive(Clone, Copy)]
+enum Shape {
+    /// Each takes the one before.
+    Chain,
+    /// The last takes all others.
+    SideBySide,
+}
+
 fn keyed(alloc: Global, bytes: Vec<u8>) -> anyhow::Result<Keyed> {
     let graph = load(alloc, read_definition(alloc, bytes)?)?;
     Ok(Keyed::of(alloc, graph)?)
 }
 
-/// Seconds of a run of one job on one node, with an executor that does nothing.
-fn time_of_one<R: Clock + AllocGlobal>(rt: &R, job: Keyed) -> anyhow::Result<f64> {
+impl Shape {
+    /// A job of this number of vertices.
+    fn job(self, alloc: Global, vertices: usize) -> anyhow::Result<Keyed> {
+        let bytes = match self {
+            Shape::Chain => chain(alloc, vertices, false)?,
+            Shape::SideBySide => wide(alloc, vertices.saturating_sub(1))?,
+        };
+        keyed(alloc, bytes)
+    }
+}
+
+/// Runs one job on one node, with an executor that does nothing. The answer is how many seconds that took, and how it ended.
+fn run_one<R: Clock + AllocGlobal>(
+    rt: &R,
+    job: Keyed,
+) -> anyhow::Result<(f64, Result<OneEnd, FarmFault>)> {
     let alloc = rt.alloc();
     let jobs = vec![in alloc; (NodeId(1), job)]?;
     let executor: Box<dyn Executor + Send> = Box::new(alloc, Hashing::new(alloc, 0))?;
     let start = Instant::now(rt)?;
-    let _end = Farm::run_one(alloc, Setup { nodes: 1 }, jobs, executor)?;
-    Ok(seconds_since(rt, start))
+    let end = Farm::run_one(alloc, Setup { nodes: 1 }, jobs, executor);
+    Ok((seconds_since(rt, start), end))
 }
 
-/// Seconds a key of one job on one node.
-fn one_job<R: Print + Clock + AllocGlobal>(
+/// Seconds a key of one job.
+fn time_of_job<R: Clock + AllocGlobal>(rt: &R, shape: Shape, keys: u32) -> anyhow::Result<f64> {
+    let mut least = f64::INFINITY;
+    for _ in 0..RUNS {
+        let (time, end) = run_one(rt, shape.job(rt.alloc(), keys as usize)?)?;
+        let _end = end?;
+        least = least.min(time);
+    }
+    Ok(least / f64::from(keys))
+}
+
+/// Seconds a key of one job of more keys than a schedule has room for. It runs until the schedule is full; a key that was solved
+/// by then has its share of what the table of all keys takes.
+fn time_until_full<R: Clock + AllocGlobal>(rt: &R, shape: Shape, keys: u32) -> anyhow::Result<f64> {
+    let mut least = f64::INFINITY;
+    let mut table = f64::INFINITY;
+    for _ in 0..RUNS {
+        let job = shape.job(rt.alloc(), keys as usize)?;
+        table = table.min(time_of_table(rt, 0, &job)?);
+        let (time, end) = run_one(rt, job)?;
+        match end {
+            Err(FarmFault::HistoryFull) => least = least.min(time),
+            Err(fault) => return Err(fault.into()),
+            Ok(_) => {}
+        }
+    }
+    let solved = f64::from(EVENTS as u32) / f64::from(EVENTS_A_KEY);
+    Ok((least - table) / solved + table / f64::from(keys))
+}
+
+/// How the time of a key grows with the keys of a job on one node.
+fn print_growth<R: Print + Clock + AllocGlobal>(
     rt: &R,
     name: &str,
-    keys: u32,
-    bytes: Vec<u8>,
-) -> anyhow::Result<f64> {
-    let time = time_of_one(rt, keyed(rt.alloc(), bytes)?)? / f64::from(keys);
-    let speed = 1.0 / time;
-    println!(rt; "run {name}: {speed:.0} keys/s")?;
-    Ok(time)
-}
-
-/// How the time of a key grows with the keys of a job.
-fn print_growth<R: Print + Clock + AllocGlobal>(rt: &R) -> anyhow::Result<()> {
-    let alloc = rt.alloc();
-    let short = one_job(rt, "a chain of 1,000", 1_000, chain(alloc, 1_000, false)?)?;
-    let long = one_job(rt, "a chain of 8,000", 8_000, chain(alloc, 8_000, false)?)?;
-    let few = one_job(rt, "1,000 side by side", 1_001, wide(alloc, 1_000)?)?;
-    let many = one_job(rt, "8,000 side by side", 8_001, wide(alloc, 8_000)?)?;
-    let chains = long / short;
-    let sides = many / few;
-    println!(rt;
-        "growth for a key from 1,000 to 8,000: chains {chains:.2}, side by side {sides:.2}"
-    )?;
+    shape: Shape,
+) -> anyhow::Result<()> {
+    let few = time_of_job(rt, shape, 1_000)?;
+    let some = time_of_job(rt, shape, 8_000)?;
+    let many = time_until_full(rt, shape, 64_000)?;
+    for (keys, time) in [(1_000, few), (8_000, some), (64_000, many)] {
+        let speed = 1.0 / time;
+        let growth = time / few;
+        println!(rt;
+            "run a job of {keys}, {name}: {speed:.0} keys/s, a key takes {growth:.2} times as long as of 1,000"
+        )?;
+    }
     Ok(())
 }
 
@@ -86,18 +133,18 @@ fn solve_all(alloc: Global, jobs: &mut Jobs, keys: u32) -> anyhow::Result<()> {
     Ok(())
 }
 
-/// Seconds of a table of one job alone, without a farm.
-fn time_of_table<R: Clock + AllocGlobal>(rt: &R, keys: u32, job: &Keyed) -> anyhow::Result<f64> {
+/// Seconds of a table of one job alone, without a farm, of which this number of keys is solved.
+fn time_of_table<R: Clock + AllocGlobal>(rt: &R, solved: u32, job: &Keyed) -> anyhow::Result<f64> {
     let start = Instant::now(rt)?;
     let mut jobs = Jobs::new(rt.alloc());
     let _number = jobs.submit_keyed(rt.alloc(), job)?;
-    solve_all(rt.alloc(), &mut jobs, keys)?;
+    solve_all(rt.alloc(), &mut jobs, solved)?;
     Ok(seconds_since(rt, start))
 }
 
 /// The least seconds a key of a table of one job alone.
-fn time_of_key<R: Clock + AllocGlobal>(rt: &R, keys: u32, bytes: Vec<u8>) -> anyhow::Result<f64> {
-    let job = keyed(rt.alloc(), bytes)?;
+fn time_of_key<R: Clock + AllocGlobal>(rt: &R, shape: Shape, keys: u32) -> anyhow::Result<f64> {
+    let job = shape.job(rt.alloc(), keys as usize)?;
     let mut least = f64::INFINITY;
     for _ in 0..RUNS {
         least = least.min(time_of_table(rt, keys, &job)?);
@@ -105,15 +152,11 @@ fn time_of_key<R: Clock + AllocGlobal>(rt: &R, keys: u32, bytes: Vec<u8>) -> any
     Ok(least / f64::from(keys))
 }
 
-/// How the time of a key in a table of jobs grows with its keys, up to more than a schedule has room for.
+/// How the time of a key in a table of jobs grows with its keys, all of which are solved.
 fn print_table_growth<R: Print + Clock + AllocGlobal>(rt: &R) -> anyhow::Result<()> {
-    let alloc = rt.alloc();
-    let short = time_of_key(rt, 1_000, chain(alloc, 1_000, false)?)?;
-    let long = time_of_key(rt, 64_000, chain(alloc, 64_000, false)?)?;
-    let few = time_of_key(rt, 1_001, wide(alloc, 1_000)?)?;
-    let many = time_of_key(rt, 64_001, wide(alloc, 64_000)?)?;
-    let chains = long / short;
-    let sides = many / few;
+    let chains = time_of_key(rt, Shape::Chain, 64_000)? / time_of_key(rt, Shape::Chain, 1_000)?;
+    let sides = time_of_key(rt, Shape::SideBySide, 64_000)?
+        / time_of_key(rt, Shape::SideBySide, 1_000)?;
     println!(rt;
         "growth for a key of jobs alone from 1,000 to 64,000: chains {chains:.2}, side by side {sides:.2}"
     )?;
@@ -253,7 +296,8 @@ fn print_machine<R: Print + Clock + AllocGlobal + Threads + Wait + Sync>(
 pub fn measure<R: Print + Clock + AllocGlobal + Threads + Wait + Sync>(
     rt: &R,
 ) -> anyhow::Result<()> {
-    print_growth(rt)?;
+    print_growth(rt, "in a chain", Shape::Chain)?;
+    print_growth(rt, "side by side", Shape::SideBySide)?;
     print_table_growth(rt)?;
     print_machine(rt)?;
     print_farms(rt, "a folder each", true, ROUNDS)?;

@@ -10,6 +10,8 @@ const YIELDS: u32 = 64;
 #[derive(Drop)]
 pub(crate) struct Bell {
     rings: AtomicU64,
+    /// How many threads sleep, or are about to.
+    sleepers: AtomicU64,
 }
 
 impl Bell {
@@ -17,6 +19,7 @@ impl Bell {
     pub(crate) fn new() -> Self {
         Bell {
             rings: AtomicU64::new(1),
+            sleepers: AtomicU64::new(0),
         }
     }
 
@@ -25,14 +28,17 @@ impl Bell {
         self.rings.load(Ordering::SeqCst)
     }
 
-    /// Rings, and wakes all that wait.
+    /// Rings, and wakes all that sleep. Where none does the system isn't asked.
     pub(crate) fn ring(&self) {
         self.rings.fetch_add(1, Ordering::SeqCst);
-        self.rings.wake_all();
+        if self.sleepers.load(Ordering::SeqCst) > 0 {
+            self.rings.wake_all();
+        }
     }
 
-    /// Waits for a ring after the number `seen` of rings, or comes back for no reason. No ring is missed: a thread only
-    /// sleeps where the low 32 bits of the number are still those that it saw, and a farm rings far less than 2^32 times.
+    /// Waits for a ring after the number `seen` of rings, or comes back for no reason. No ring is missed: a thread is counted before
+    /// it sleeps, and only sleeps where the low 32 bits of the number are still those that it saw; and a farm rings far less than
+    /// 2^32 times.
     pub(crate) fn wait<R: Wait>(&self, rt: &R, seen: u64) {
         for _ in 0..YIELDS {
             if self.rings() != seen {
@@ -40,6 +46,8 @@ impl Bell {
             }
             thread::yield_now();
         }
+        self.sleepers.fetch_add(1, Ordering::SeqCst);
         self.rings.park(rt, (seen & 0xffff_ffff) as u32);
+        self.sleepers.fetch_sub(1, Ordering::SeqCst);
     }
 }

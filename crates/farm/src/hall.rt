@@ -91,9 +91,14 @@ impl Hall {
         self.due.store(due, Ordering::SeqCst);
     }
 
-    /// Notes a step of a worker, which is a change.
-    pub(crate) fn note_step(&self) {
+    /// Counts a step of a worker for which no other waits.
+    pub(crate) fn count_step(&self) {
         self.steps.fetch_add(1, Ordering::SeqCst);
+    }
+
+    /// Notes a step of a worker for which another may wait.
+    pub(crate) fn note_step(&self) {
+        self.count_step();
         self.note_change();
     }
 

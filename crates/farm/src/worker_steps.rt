@@ -1,9 +1,9 @@
 //! The steps of a worker on the board. Each takes the lock for itself, and waits without it. Before a worker looks what became of
-//! what it sent, it delivers the messages itself, so that no thread has to be woken for that.
+//! what it sent, it delivers the messages itself in the same hold, so that no thread has to be woken for that.
 ghost use Rattle.std.specs.Prelude.{◌≡◌, IfOk, IfSome};
 ghost use Rattle.protocol.specs.Names.{tenure_wants};
 
-use super::desk::Stage;
+use super::desk::{Desk, Stage};
 use super::fault::FarmFault;
 use super::faults::board_fault;
 use super::hall::Hall;
@@ -32,14 +32,13 @@ pub(crate) struct Post<'a> {
     pub(crate) node: NodeId,
 }
 
-/// Delivers the messages, unless the router has to act first.
-fn deliver<R: Wait>(rt: &R, post: Post<'_>) -> Result<(), FarmFault> {
-    let due = post.hall.due();
-    let delivered = post.hall.desk.lock(rt).deliver_all(post.alloc, due);
-    if delivered? {
+/// Delivers the messages, unless the router has to act first. The answer is the number of changes as of then: what is looked at
+/// in the same hold of the lock stands as it is until there is one more.
+fn deliver(post: Post<'_>, desk: &mut Desk) -> Result<u64, FarmFault> {
+    if desk.deliver_all(post.alloc, post.hall.due())? {
         post.hall.note_change();
     }
-    Ok(())
+    Ok(post.hall.changes())
 }
 
 /// Waits until an ask is granted or denied. None where its node restarted.
@@ -52,12 +51,16 @@ fn settle_ask<R: Wait>(
 {
     let mut asked = first;
     for _ in rt.forever() {
-        let seen = post.hall.changes();
-        if let Err(fault) = deliver(rt, post) {
-            abandon_asked(asked);
-            return Err(fault);
-        }
-        let accepted = post.hall.desk.lock(rt).board.accept(post.alloc, asked);
+        let mut desk = post.hall.desk.lock(rt);
+        let seen = match deliver(post, &mut desk) {
+            Ok(seen) => seen,
+            Err(fault) => {
+                abandon_asked(asked);
+                return Err(fault);
+            }
+        };
+        let accepted = desk.board.accept(post.alloc, asked);
+        drop(desk);
         match accepted {
             Ok(Accept::Granted(granted)) => return Ok(Some(Ok(granted))),
             Ok(Accept::Denied(why)) => return Ok(Some(Err(why))),
@@ -77,10 +80,9 @@ fn settle_ask<R: Wait>(
 }
 
 /// Gives a lease back that the node no longer has.
-fn give_back<R: Wait>(rt: &R, post: Post<'_>, granted: Granted) -> Result<(), FarmFault> {
-    let given = post.hall.desk.lock(rt).give_back(post.alloc, granted);
-    post.hall.note_step();
-    given
+fn give_back(post: Post<'_>, desk: &mut Desk, granted: Granted) -> Result<(), FarmFault> {
+    post.hall.count_step();
+    desk.give_back(post.alloc, granted)
 }
 
 /// Begins an execution once the contents are there from which it begins. None where its node restarted.
@@ -89,17 +91,19 @@ fn begin<R: Wait>(rt: &R, post: Post<'_>, first: Granted) -> Result<Option<Runni
 {
     let mut granted = first;
     for _ in rt.forever() {
-        let seen = post.hall.changes();
-        if let Err(fault) = deliver(rt, post) {
-            abandon_granted(granted);
-            return Err(fault);
-        }
-        let looked = post.hall.desk.lock(rt).board.look(&granted);
-        match looked {
-            Look::Ready => return begin_now(rt, post, granted),
-            Look::Missing => {}
+        let mut desk = post.hall.desk.lock(rt);
+        let seen = match deliver(post, &mut desk) {
+            Ok(seen) => seen,
+            Err(fault) => {
+                abandon_granted(granted);
+                return Err(fault);
+            }
+        };
+        match desk.board.look(&granted) {
+            Look::Ready => return begin_now(post, &mut desk, granted),
+            Look::Missing => drop(desk),
             Look::Gone => {
-                give_back(rt, post, granted)?;
+                give_back(post, &mut desk, granted)?;
                 return Ok(None);
             }
         }
@@ -112,19 +116,18 @@ fn begin<R: Wait>(rt: &R, post: Post<'_>, first: Granted) -> Result<Option<Runni
 }
 
 /// Begins an execution. None where its node restarted.
-fn begin_now<R: Wait>(
-    rt: &R,
+fn begin_now(
     post: Post<'_>,
+    desk: &mut Desk,
     granted: Granted,
 ) -> Result<Option<Running>, FarmFault>
     ensures { IfOk result (λ begun. IfSome begun (λ running. running.wants ≡ granted.wants)) }
 {
-    let begun = post.hall.desk.lock(rt).board.begin(post.alloc, granted);
-    post.hall.note_step();
-    match begun {
+    post.hall.count_step();
+    match desk.board.begin(post.alloc, granted) {
         Ok(running) => Ok(Some(running)),
         Err((granted, BoardRefusal::Event(_))) => {
-            give_back(rt, post, granted)?;
+            give_back(post, desk, granted)?;
             Ok(None)
         }
         Err((granted, refusal)) => {
@@ -138,12 +141,16 @@ fn begin_now<R: Wait>(
 fn settle<R: Wait>(rt: &R, post: Post<'_>, first: Finished) -> Result<Option<Receipt>, FarmFault> {
     let mut finished = first;
     for _ in rt.forever() {
-        let seen = post.hall.changes();
-        if let Err(fault) = deliver(rt, post) {
-            abandon_finished(finished);
-            return Err(fault);
-        }
-        let settled = post.hall.desk.lock(rt).board.receipt(finished);
+        let mut desk = post.hall.desk.lock(rt);
+        let seen = match deliver(post, &mut desk) {
+            Ok(seen) => seen,
+            Err(fault) => {
+                abandon_finished(finished);
+                return Err(fault);
+            }
+        };
+        let settled = desk.board.receipt(finished);
+        drop(desk);
         match settled {
             Settled::Receipt(receipt) => return Ok(Some(receipt)),
             Settled::Fenced | Settled::Lost => return Ok(None),
@@ -164,9 +171,8 @@ pub(crate) fn finish<R: Wait>(
     running: Running,
     lefts: Vec<Left>,
 ) -> Result<Option<Receipt>, FarmFault> {
-    let finished = finish_use(rt, post, running, lefts);
-    post.hall.note_step();
-    settle(rt, post, finished?)
+    let finished = finish_use(rt, post, running, lefts)?;
+    settle(rt, post, finished)
 }
 
 /// Ends an execution with what it leaves. It uses its SHARED folders no more.
@@ -177,15 +183,15 @@ fn finish_use<R: Wait>(
     lefts: Vec<Left>,
 ) -> Result<Finished, FarmFault> {
     let mut desk = post.hall.desk.lock(rt);
+    post.hall.count_step();
     desk.release(post.node, running.wants().as_slice());
     desk.finish(post.alloc, running, lefts)
 }
 
 /// Ends an execution that leaves nothing.
 pub(crate) fn give_up<R: Wait>(rt: &R, post: Post<'_>, running: Running) -> Result<(), FarmFault> {
-    let given = post.hall.desk.lock(rt).give_up(post.alloc, running);
-    post.hall.note_step();
-    given
+    post.hall.count_step();
+    post.hall.desk.lock(rt).give_up(post.alloc, running)
 }
 
 /// The tenure of a folder is not to be had now.
@@ -318,8 +324,8 @@ fn ask<R: Wait>(
     ensures { IfOk result (λ settled. IfSome settled (λ known. IfOk known (λ granted. granted.wants ≡ wants.now))) }
 {
     let asked = post.hall.desk.lock(rt).ask(post.alloc, post.node, wants)?;
-    post.hall.note_change();
     let Some(asked) = asked else {
+        post.hall.note_change();
         return Ok(None);
     };
     match settle_ask(rt, post, asked)? {
