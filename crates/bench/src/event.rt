@@ -350,13 +350,11 @@ fn beginning<R: Clock + AllocGlobal>(
     Ok(seconds / f64::from(TURNS))
 }
 
-/// The time of a life of a node that begins and ends a lease, once this many asks of another node wait for another slot.
-fn park_and_begin<R: Clock + AllocGlobal>(
+/// The least time of a life of a node that begins and ends a lease.
+fn beginning_least<R: Clock + AllocGlobal>(
     rt: &R,
     coordinator: &mut Coordinator<MemoryKeeper>,
-    count: u32,
 ) -> anyhow::Result<f64> {
-    wait(coordinator, rt.alloc(), 0, count.saturating_add(1), &SLOT)?;
     let mut least = f64::INFINITY;
     for batch in 0..BATCHES {
         least = least.min(beginning(rt, coordinator, batch * TURNS)?);
@@ -364,10 +362,24 @@ fn park_and_begin<R: Clock + AllocGlobal>(
     Ok(least)
 }
 
-/// The same of a farm where nothing happened.
-fn with_lives<R: Clock + AllocGlobal>(rt: &R, count: u32) -> anyhow::Result<f64> {
+/// The same of a farm where nothing else happened but that this many asks of another node wait for another slot.
+fn beside_asks<R: Clock + AllocGlobal>(rt: &R, count: u32) -> anyhow::Result<f64> {
     let mut coordinator = started(rt.alloc())?;
-    park_and_begin(rt, &mut coordinator, count)
+    wait(
+        &mut coordinator,
+        rt.alloc(),
+        0,
+        count.saturating_add(1),
+        &SLOT,
+    )?;
+    beginning_least(rt, &mut coordinator)
+}
+
+/// The same of a farm where nothing else happened but that another node has this many leases.
+fn beside_leases<R: Clock + AllocGlobal>(rt: &R, count: u32) -> anyhow::Result<f64> {
+    let mut coordinator = started(rt.alloc())?;
+    lease(&mut coordinator, rt.alloc(), count)?;
+    beginning_least(rt, &mut coordinator)
 }
 
 /// The time of a grant of a PRIVATE folder, of the asks of these numbers.
@@ -414,13 +426,17 @@ fn print_last<R: Print + Clock + AllocGlobal>(rt: &R) -> anyhow::Result<()> {
     Ok(())
 }
 
-/// Prints how the time of a life that begins and ends a lease grows with the asks of another node that wait for another slot.
-fn print_lives<R: Print + Clock + AllocGlobal>(rt: &R) -> anyhow::Result<()> {
-    let (many, few) = (with_lives(rt, MANY)?, with_lives(rt, FEW)?);
+/// Prints how the time of a life that begins and ends a lease grows with what another node has.
+fn print_lives<R: Print + Clock + AllocGlobal>(
+    rt: &R,
+    what: &str,
+    many: f64,
+    few: f64,
+) -> anyhow::Result<()> {
     let ratio = many / few;
     let micros = many * 1e6;
     println!(rt;
-        "events, a life that ends a lease beside {MANY} asks for another slot: {ratio:.2} of one beside {FEW} ({micros:.0} microseconds)"
+        "events, a life that ends a lease beside {MANY} {what}: {ratio:.2} of one beside {FEW} ({micros:.0} microseconds)"
     )?;
     Ok(())
 }
@@ -445,7 +461,18 @@ pub fn measure<R: Print + Clock + AllocGlobal>(rt: &R) -> anyhow::Result<()> {
     )?;
     println!(rt; "events, {MANY} asks for another slot: {others:.2} of an event beside {FEW}")?;
     print_last(rt)?;
-    print_lives(rt)?;
+    print_lives(
+        rt,
+        "asks for another slot",
+        beside_asks(rt, MANY)?,
+        beside_asks(rt, FEW)?,
+    )?;
+    print_lives(
+        rt,
+        "live leases",
+        beside_leases(rt, MANY)?,
+        beside_leases(rt, FEW)?,
+    )?;
     let private = of_private(rt)?;
     println!(rt;
         "events, the last of {INSTANCES} PRIVATE grants: {private:.2} of the first {GRANTS}"
