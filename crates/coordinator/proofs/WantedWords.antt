@@ -1,5 +1,5 @@
 -- Which asks want each folder, as it is noted.
-use Rattle.std.proofs.Common.{◌≡◌, ℕ, zero, suc, ◌+◌, ◌<◌, ◌≤◌, Bool, true, false, cond, List, [], ◌∷◌, ◌++◌, length, get_or, Option, Result, Ok, Err, refl, sym, ◌∙◌, ap, subst, inl, inr, arith}
+use Rattle.std.proofs.Common.{◌≡◌, ℕ, zero, suc, ◌+◌, ◌^◌, ◌<◌, ◌≤◌, Bool, true, false, cond, List, [], ◌∷◌, ◌++◌, length, get_or, Option, Result, Ok, Err, refl, sym, ◌∙◌, ap, subst, inl, inr, arith}
 use Rattle.std.specs.Prelude.{All, nat_lt}
 use Rattle.std.specs.List.{list_any}
 use Rattle.std.specs.List.Sorted.{IsNonDecreasing}
@@ -64,7 +64,7 @@ up-append (m ∷ ms) ns a up below next above =
     (All-append (λ n. m ≤ n) ms ns up.0 (all-le ns m a here above), up-append ms ns a up.1 (All-tail (λ m. m ≤ a) m ms below) next above)
 
 after-le : (n : ℕ) → n ≤ number_after n
-after-le n = elim (cases_Bool (nat_lt n 18446744073709551615)) [ inl e ↦ rw e (omega arith) | inr e ↦ rw e (omega arith) ]
+after-le n = elim (cases_Bool (nat_lt (n + 1) (2 ^ 64))) [ inl e ↦ rw e (omega arith) | inr e ↦ rw e (omega arith) ]
 
 from-above : (n a : ℕ) (ps : List Parked) → a ≤ n → All (λ m. a ≤ m) (numbers_from n ps)
 from-above n a [] le = All-nil (λ m. a ≤ m)

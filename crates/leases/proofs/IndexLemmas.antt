@@ -1,7 +1,7 @@
 -- The index of live leases by folder.
-use Rattle.std.proofs.Common.{◌≡◌, ◌≢◌, ℕ, ◌<◌, List, [], ◌∷◌, ◌++◌, Bool, true, false, not, cond, ◌&&◌, ◌||◌, eqb, eq-eqb, length, get_or, filter, Option, Some, None, is_some, refl, sym, ◌∙◌, ap, subst, inl, inr, append_assoc, append-nil, arith}
+use Rattle.std.proofs.Common.{◌≡◌, ◌≢◌, ℕ, ◌+◌, ◌<◌, List, [], ◌∷◌, ◌++◌, Bool, true, false, not, cond, ◌&&◌, ◌||◌, eqb, eq-eqb, length, length-append, get_or, filter, Option, Some, None, is_some, refl, sym, ◌∙◌, ap, subst, inl, inr, append_assoc, append-nil, arith}
 use Rattle.std.proofs.lemmas.Bool.{cases_Bool, cases_order, eqb-true}
-use Rattle.std.proofs.lemmas.List.{get_or_default}
+use Rattle.std.proofs.lemmas.List.{get_or_default, get_or-append-add}
 use Rattle.std.proofs.lemmas.List.Elements.{All-nil, All-cons, All-head, All-tail, All-push}
 use Rattle.std.proofs.lemmas.List.Sums.{fold-append}
 use Rattle.std.specs.Prelude.{All, AllPairs}
@@ -15,6 +15,7 @@ use Rattle.farm_base.proofs.NameLaws.{folder_exact}
 use Rattle.protocol.specs.Names.{Slot, FolderName, Ticket, only_slot}
 use Rattle.protocol.specs.Ledger.{has_slot, has_ticket}
 use Rattle.protocol.proofs.Leases.{find_some}
+use Rattle.leases.specs.Counts.{AreLast}
 use Rattle.leases.specs.Index.{ticket_at, IsIndexed, AreIndexed, slot_entries, index_entries}
 use Rattle.leases.specs.Leases.{AreApart, IsBefore}
 use Rattle.leases.proofs.FindLemmas.{PassesOnce}
@@ -124,6 +125,18 @@ other_ticket test live i k g d rise in_i in_k is passes fails same =
     let place : i ≡ k = same_place i k _ _ (λ lt. rise i k d lt in_k) (λ lt. rise k i d lt in_i) (sym number) in
     let bad : true ≡ false = sym passes ∙ ap test (sym here) ∙ ap (λ (n : ℕ). test (get_or live n d)) place ∙ fails in
     cc
+
+-- the index without the leases that pass a test, all of which are among the last
+pub indexed-last : (test : Lease → Bool) (before after : FolderName → Option Ticket) (last live : List Lease) → AllPairs IsBefore live → AreLast test last live
+    → ((g : Lease) → All (λ h. test h ≡ true → g.ticket ≢ h.ticket) last → IsIndexed before g → IsIndexed after g) → AreIndexed before live → AreIndexed after (filter (λ g. not (test g)) live)
+indexed-last test before after last live rise from others all =
+    All-failing test (IsIndexed after) live (λ k d inside stays. others (get_or live k d) (λ i e within passes. (
+    let g : Lease = get_or last i e in
+    let len = ap length from.whole in
+    let lens = length-append from.before last in
+    let here : g ≡ get_or live (length from.before + i) g =
+    sym (ap (λ (gs : List Lease). get_or gs (length from.before + i) g) from.whole ∙ get_or-append-add from.before last i g ∙ get_or_default last i g e within) in
+    other_ticket test live (length from.before + i) k g d rise (omega arith) inside here passes stays)) (all k d inside))
 
 ticket_here : (x t : Ticket) → eqb x.0 t.0 ≡ true → Some x ≡ Some t
 ticket_here x t e = let same = eqb-true x.0 t.0 e in λ j. Some (record { 0 = same j })

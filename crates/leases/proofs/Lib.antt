@@ -14,4 +14,6 @@ pub mod IndexLemmas
 pub mod InstanceLemmas
 pub mod TakenLemmas
 pub mod NewestLemmas
-pub mod AskLemmas
+pub mod CountLemmas
+pub mod LastLemmas
+pub mod MovedLemmas

@@ -1,15 +1,18 @@
 -- The tickets of leases that end, of those that the record has.
-use Rattle.std.proofs.Common.{◌≡◌, ◌∷◌, [], List, true, false, refl, sym, ap, inl, inr, arith}
+use Rattle.std.proofs.Common.{◌≡◌, ◌∷◌, [], List, Bool, true, false, ◌&&◌, ◌||◌, map, refl, sym, ap, inl, inr, arith}
 use Rattle.std.proofs.lemmas.Bool.{cases_Bool}
 use Rattle.std.proofs.lemmas.List.Elements.{All-tail}
 use Rattle.std.specs.Prelude.{All, AllPairs}
 use Rattle.farm_base.specs.declared.lease.Lease.{Lease}
 use Rattle.protocol.specs.Names.{Ticket}
 use Rattle.protocol.specs.Ledger.{has_ticket, is_saved, lease_under}
+use Rattle.leases.specs.declared.ending.Ending.{Ending}
 use Rattle.leases.specs.declared.ending.Ending.TheVariants as ending
-use Rattle.leases.specs.Changes.{saved_tickets, ticket_of_saved}
+use Rattle.leases.specs.Changes.{ends_lease, has_ended, saved_tickets, ticket_of_saved}
+use Rattle.leases.specs.Counts.{AreLast}
 use Rattle.leases.specs.Leases.{IsBefore}
 use Rattle.leases.proofs.FindLemmas.{ticket_once}
+use Rattle.leases.proofs.LastLemmas.{last-filter, last-weaker}
 use Rattle.leases.proofs.TableLemmas.{AllPairs-head, AllPairs-tail}
 
 -- nothing ends
@@ -33,3 +36,9 @@ saved_tickets-one t (g ∷ live) up = elim (cases_Bool (has_ticket t g)) [
       elim (cases_Bool (is_saved g)) [ inl s ↦ rw (e, s) (ap (λ (ts : List Ticket). g.ticket ∷ ts) (sym none)) | inr s ↦ rw (e, s) (sym none) ]
   | inr e ↦ rw e (saved_tickets-one t live (AllPairs-tail IsBefore g live up))
 ]
+
+-- what one ending ends is among the last leases
+pub saved_tickets-last : (e : Ending) (last live : List Lease) → AreLast (ends_lease e) last live → saved_tickets (e ∷ []) last ≡ saved_tickets (e ∷ []) live
+saved_tickets-last e last live h =
+    let test : Lease → Bool = λ g. has_ended (e ∷ []) g && is_saved g in
+    ap (map (λ (g : Lease). g.ticket)) (last-filter test last live (last-weaker (ends_lease e) test last live (λ g x. ap (λ (b : Bool). (b || false) && is_saved g) x) h))

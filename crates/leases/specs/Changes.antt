@@ -70,8 +70,8 @@ pub record RoomyTable : Type 0 where
   pub instances : List (FolderName × ℕ)
   -- of how many more folders it can note instances
   pub instance_room : ℕ
-  -- how many more asks the index of asks can hold
-  pub ask_room : ℕ
+  -- how many more leases it can count by ask and node
+  pub count_room : ℕ
   -- the folders and instances of the slots that the changes retire
   pub retired_names : List (FolderName × ℕ)
   -- of how many more folders it can note instances that are never granted again
@@ -85,6 +85,6 @@ pub record HasRoom (r : RoomyTable) (c : Change) : Type 0 where
   pub folders : length r.tickets ≤ r.index_room
   pub instances : r.instances ≡ lease_instances c.granted
   pub taken : length r.instances ≤ r.instance_room
-  pub asks : length c.granted ≤ r.ask_room
+  pub counts : length c.granted ≤ r.count_room
   pub retired : r.retired_names ≡ slot_names c.retired
   pub noted : length r.retired_names ≤ r.retired_room

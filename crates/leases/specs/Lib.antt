@@ -3,7 +3,7 @@ pub mod Leases
 pub mod Index
 pub mod Instances
 pub mod Newest
-pub mod Asks
+pub mod Counts
 pub mod Live
 pub mod Lives
 pub mod Lowest

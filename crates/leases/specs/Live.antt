@@ -2,11 +2,11 @@
 use Rattle.std.specs.Prelude.{if◌then◌else◌, nat_lt, ℕ, Bool, List, Option, Some, None}
 use Rattle.farm_base.specs.declared.lease.Lease.{Lease}
 use Rattle.protocol.specs.Names.{FolderName, Ticket}
-use Rattle.leases.specs.Asks.{AreAsked}
+use Rattle.leases.specs.Counts.{AreCounted}
 use Rattle.leases.specs.Index.{AreIndexed}
 use Rattle.leases.specs.Instances.{AreTaken}
 use Rattle.leases.specs.Leases.{AreLeases}
-use Rattle.leases.specs.declared.ask_index.AskIndex.{AskIndex}
+use Rattle.leases.specs.declared.lease_counts.LeaseCounts.{LeaseCounts}
 
 -- live leases, as contracts see them
 pub record Live : Type 0 where
@@ -18,15 +18,15 @@ pub record Live : Type 0 where
   pub index_room : ℕ
   -- of how many more folders it can note instances
   pub instance_room : ℕ
-  -- how many more asks its index can hold
-  pub ask_room : ℕ
+  -- how many more leases it can count by ask and node
+  pub count_room : ℕ
 
--- leases that may be live together, with an index of their folders, their instances and an index of their asks
-pub record AreLive (at : FolderName → Option Ticket) (taken : FolderName → ℕ → Bool) (asks : AskIndex) (leases : List Lease) : Type 0 where
+-- leases that may be live together, with an index of their folders, their instances and counts of them by ask and node
+pub record AreLive (at : FolderName → Option Ticket) (taken : FolderName → ℕ → Bool) (counts : LeaseCounts) (leases : List Lease) : Type 0 where
   pub sound : AreLeases leases
   pub indexed : AreIndexed at leases
   pub taken_is : AreTaken taken leases
-  pub asked : AreAsked asks leases
+  pub counted : AreCounted counts leases
 
 -- the one with the lower ticket, of those that are there
 abbrev pub older : Option Lease → Option Lease → Option Lease

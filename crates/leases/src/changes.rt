@@ -264,7 +264,8 @@ impl TableChange {
         }
         match only(ended) {
             Some(Ending::Ticket(ticket)) => ticket_of_saved(alloc, table.lease(ticket)),
-            _ => saved_tickets(alloc, table.leases(), ended),
+            Some(ending) => saved_tickets(alloc, table.last_ending(&ending), ended),
+            None => saved_tickets(alloc, table.leases(), ended),
         }
     }
 

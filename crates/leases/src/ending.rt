@@ -1,5 +1,5 @@
 //! What ends leases.
-ghost use Rattle.std.specs.Prelude.{◌≡◌, ◌∷◌, [], not, filter, option_copied, IfSome};
+ghost use Rattle.std.specs.Prelude.{◌≡◌, ◌≤◌, ◌∷◌, [], All, false, not, filter, option_copied, take, vec_len, IfSome};
 ghost use Rattle.std.specs.Vec.{vec_capacity};
 ghost use Rattle.leases.specs.Changes.{ends_lease, has_ended, standing};
 
@@ -68,4 +68,21 @@ pub(crate) fn drop_ending(leases: &mut Vec<Lease>, ending: Ending)
     ensures capacity { vec_capacity leases.new ≡ vec_capacity leases.old }
 {
     leases.retain(|lease| !ending.ends(lease));
+}
+
+/// Removes the leases from a place on that this ends, where it ends none before that place.
+pub(crate) fn drop_ending_from(leases: &mut Vec<Lease>, from: usize, ending: Ending)
+    requires inside { from ≤ vec_len leases.old }
+    requires before { All (λ g. ends_lease ending g ≡ false) (take from leases.old.items) }
+    ensures items { leases.new.items ≡ filter (λ g. not (ends_lease ending g)) leases.old.items }
+    ensures capacity { vec_capacity leases.new ≡ vec_capacity leases.old }
+{
+    let mut kept = from;
+    for place in from..leases.len() {
+        if !ending.ends(&leases[place]) {
+            leases.swap(kept, place);
+            kept += 1;
+        }
+    }
+    leases.truncate(kept);
 }

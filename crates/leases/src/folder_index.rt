@@ -1,12 +1,12 @@
 //! The live leases by folder.
-ghost use Rattle.std.specs.Prelude.{◌≡◌, ◌≢◌, ◌≤◌, ◌++◌, not, filter, AllPairs, IfOk, OnOk, vec_len};
+ghost use Rattle.std.specs.Prelude.{◌≡◌, ◌≢◌, ◌≤◌, ◌++◌, true, All, IfOk, OnOk, vec_len};
 ghost use Rattle.std.specs.Map.{update_all};
 ghost use Rattle.indexmap.specs.IndexMap.{spare};
 ghost use Rattle.farm_base.specs.Folders.{folder_eq};
 ghost use Rattle.farm_base.specs.declared.lease.Lease.{Lease};
 ghost use Rattle.leases.specs.Changes.{ends_lease};
 ghost use Rattle.leases.specs.Index.{ticket_at, IsIndexed, AreIndexed, slot_entries, index_entries};
-ghost use Rattle.leases.specs.Leases.{AreLeases, IsBefore};
+ghost use Rattle.leases.specs.Leases.{AreLeases};
 
 use super::ending::Ending;
 use farm_base::{Copied, FolderName, Lease, Slot, Ticket};
@@ -96,8 +96,7 @@ pub(crate) fn forget_ending(
     leases: &[Lease],
     ending: &Ending,
 )
-    requires { AllPairs IsBefore leases.now }
-    ensures others { AreIndexed (ticket_at index.old) leases.now → AreIndexed (ticket_at index.new) (filter (λ g. not (ends_lease ending.now g)) leases.now) }
+    ensures others { (g : Lease) → All (λ h. ends_lease ending.now h ≡ true → g.ticket ≢ h.ticket) leases.now → IsIndexed (ticket_at index.old) g → IsIndexed (ticket_at index.new) g }
     ensures room { spare index.old ≤ spare index.new }
 {
     for lease in leases {

@@ -5,7 +5,8 @@ ghost use Rattle.farm_base.specs.Slots.{slot_cmp};
 ghost use Rattle.farm_base.specs.Wanted.{IsWants};
 ghost use Rattle.protocol.specs.Names.{leased_wants};
 ghost use Rattle.protocol.specs.Ledger.{has_slot, lease_of, lease_under, without, is_older, is_at, retire_all};
-ghost use Rattle.leases.specs.Changes.{changed};
+ghost use Rattle.leases.specs.Changes.{changed, ends_lease};
+ghost use Rattle.leases.specs.Counts.{AreLast};
 ghost use Rattle.leases.specs.Leases.{AreLeases};
 ghost use Rattle.leases.specs.Table.{among, is_leased, fit_of, lease_for, state_of, holds_some, retires_some};
 
@@ -265,6 +266,13 @@ impl LeaseTable {
         self.live.as_slice()
     }
 
+    /// The last of the leases, those among them that this ends.
+    pub(crate) fn last_ending(&self, ending: &Ending) -> &[Lease]
+        ensures { AreLast (ends_lease ending.now) result.now self.now.live }
+    {
+        self.live.last_ending(ending)
+    }
+
     /// The slots that are never granted again.
     pub(crate) fn retired(&self) -> &[Slot]
         ensures { result.now ≡ self.now.retired }
@@ -277,7 +285,7 @@ impl LeaseTable {
         ensures ended { result ≡ count_by (is_older node life) self.old.live }
         ensures rest { self.new ≡ record self.old { live = filter (λ g. not (is_older node life g)) self.old.live } }
     {
-        let ended = count_older(self.leases(), node, life);
+        let ended = count_older(self.live.last_at(node), node, life);
         self.live.end_all(&Ending::LivesBelow(node, life));
         ended
     }

@@ -1,13 +1,13 @@
 //! Tickets, the leases that they number, and the lives and retirement of nodes.
 #![tactic(auto)]
 
-mod ask_index;
 mod changes;
 mod ending;
 mod folder_index;
 mod held;
 mod instances;
 pub mod laws;
+mod lease_counts;
 mod lease_table;
 mod live_leases;
 mod lives;

@@ -3,8 +3,9 @@ ghost use Rattle.std.specs.Prelude.{◌≡◌, ℕ, ◌+◌, ◌≤◌, not, [],
 ghost use Rattle.std.specs.List.{find, position_from};
 ghost use Rattle.farm_base.specs.declared.limits.TheConstants.{INSTANCES};
 ghost use Rattle.protocol.specs.Names.{only_slot};
-ghost use Rattle.protocol.specs.Ledger.{has_slot, has_ticket, lease_of, lease_under, some_lease, without};
+ghost use Rattle.protocol.specs.Ledger.{has_slot, has_ticket, is_at, lease_of, lease_under, some_lease, without};
 ghost use Rattle.leases.specs.Changes.{ends_lease, frees, has_ended};
+ghost use Rattle.leases.specs.Counts.{AreLast};
 ghost use Rattle.leases.specs.Index.{index_entries};
 ghost use Rattle.leases.specs.Instances.{has, lease_instances};
 ghost use Rattle.leases.specs.Leases.{AreLeases, IsBefore};
@@ -12,11 +13,11 @@ ghost use Rattle.leases.specs.Live.{older};
 ghost use Rattle.leases.specs.Marks.{Unmarks};
 ghost use Rattle.leases.specs.Table.{holds_some, takes};
 
-use super::ask_index::{AskIndex, AskName};
-use super::ending::{Ending, drop_ending, standing};
+use super::ending::{Ending, drop_ending_from, standing};
 use super::folder_index::{entries_of, forget, forget_ending, index_of, put_all};
 use super::held::{first_of, has_only, is_of, takes};
 use super::instances::Instances;
+use super::lease_counts::{AskName, LeaseCounts};
 use super::marks::{unmark_ending, unmark_lease};
 use super::taken_instances::{TakenInstances, instances_of, taken_of};
 use farm_base::{Ask, FolderName, Lease, Life, NodeId, Ticket, Want};
@@ -32,8 +33,8 @@ pub(crate) struct LiveLeases {
     by_folder: IndexMap<FolderName, Ticket>,
     /// The instances from 1 on that leases have, by folder.
     taken: TakenInstances,
-    /// How many leases have each ask, and the oldest of them.
-    asks: AskIndex,
+    /// How many leases each ask and each node has, and the oldest of them.
+    counts: LeaseCounts,
 }
 
 /// What the indexes are to have of more leases.
@@ -48,16 +49,16 @@ pub(crate) struct Entries {
 impl Model for LiveLeases {
     ghost use Rattle.std.specs.Vec.{vec_capacity};
     ghost use Rattle.indexmap.specs.IndexMap.{spare};
-    ghost use Rattle.leases.specs.Asks.{ask_room};
+    ghost use Rattle.leases.specs.Counts.{count_room};
     ghost use Rattle.leases.specs.Index.{ticket_at};
     ghost use Rattle.leases.specs.Instances.{is_taken, folder_room};
     ghost use Rattle.leases.specs.Live.{Live, AreLive};
 
     ghost Value = { Live };
 
-    ghost view = { λ l. record { leases = l.leases.items; lease_room = vec_capacity l.leases; index_room = spare l.by_folder; instance_room = folder_room l.taken; ask_room = ask_room l.asks } };
+    ghost view = { λ l. record { leases = l.leases.items; lease_room = vec_capacity l.leases; index_room = spare l.by_folder; instance_room = folder_room l.taken; count_room = count_room l.counts } };
 
-    ghost invariant = { λ l. AreLive (ticket_at l.by_folder) (is_taken l.taken) l.asks l.leases.items };
+    ghost invariant = { λ l. AreLive (ticket_at l.by_folder) (is_taken l.taken) l.counts l.leases.items };
 }
 
 impl LiveLeases {
@@ -69,7 +70,7 @@ impl LiveLeases {
             leases: Vec::new(alloc),
             by_folder: IndexMap::new(alloc),
             taken: TakenInstances::new(alloc),
-            asks: AskIndex::new(alloc),
+            counts: LeaseCounts::new(alloc),
         }
     }
 
@@ -80,14 +81,14 @@ impl LiveLeases {
     {
         let by_folder = index_of(alloc, leases.as_slice())?;
         let taken = taken_of(alloc, leases.as_slice())?;
-        let mut asks = AskIndex::new(alloc);
-        asks.reserve(leases.len())?;
-        asks.add_all(leases.as_slice());
+        let mut counts = LeaseCounts::new(alloc);
+        counts.reserve(leases.len())?;
+        counts.add_all(leases.as_slice());
         Ok(LiveLeases {
             leases,
             by_folder,
             taken,
-            asks,
+            counts,
         })
     }
 
@@ -173,7 +174,7 @@ impl LiveLeases {
                 }
             }
             Ending::Node(_) | Ending::LivesBelow(_, _) => {
-                unmark_ending(taken, folder, self.leases.as_slice(), ending);
+                unmark_ending(taken, folder, self.last_ending(ending), ending);
             }
         }
     }
@@ -182,7 +183,7 @@ impl LiveLeases {
     pub(crate) fn of_ask(&self, node: NodeId, life: Life, ask: Ask) -> Option<&Lease>
         ensures { option_copied result ≡ lease_of self.now.leases node life ask }
     {
-        let ticket = self.asks.oldest(AskName { node, life, ask })?;
+        let ticket = self.counts.oldest(AskName { node, life, ask })?;
         if let Some(lease) = self.under(ticket) {
             if is_of(lease, node, life, ask) {
                 return Some(lease);
@@ -190,6 +191,20 @@ impl LiveLeases {
         }
         // The oldest lease of several with this ask has ended.
         first_of(self.leases.as_slice(), node, life, ask)
+    }
+
+    /// The last of the leases, those of a node among them.
+    pub(crate) fn last_at(&self, node: NodeId) -> &[Lease]
+        ensures { AreLast (is_at node) result.now self.now.leases }
+    {
+        self.counts.last_at(self.leases.as_slice(), node)
+    }
+
+    /// The last of the leases, those among them that this ends.
+    pub(crate) fn last_ending(&self, ending: &Ending) -> &[Lease]
+        ensures { AreLast (ends_lease ending.now) result.now self.now.leases }
+    {
+        self.counts.last_ending(self.leases.as_slice(), ending)
     }
 
     /// Adds a lease.
@@ -213,7 +228,7 @@ impl LiveLeases {
         ensures folders { IfOk result (λ entries. vec_len entries.tickets ≤ self.new.index_room) }
         ensures instances { IfOk result (λ entries. entries.instances.items ≡ lease_instances more.now) }
         ensures taken { IfOk result (λ entries. vec_len entries.instances ≤ self.new.instance_room) }
-        ensures asks { OnOk result (length more.now ≤ self.new.ask_room) }
+        ensures counts { OnOk result (length more.now ≤ self.new.count_room) }
         ensures sound { OnOk result (AreLeases self.new.leases) }
     {
         let tickets = entries_of(alloc, more)?;
@@ -221,7 +236,7 @@ impl LiveLeases {
         self.leases.reserve(more.len())?;
         self.by_folder.reserve(tickets.len())?;
         self.taken.reserve(instances.len())?;
-        self.asks.reserve(more.len())?;
+        self.counts.reserve(more.len())?;
         Ok(Entries { tickets, instances })
     }
 
@@ -232,13 +247,13 @@ impl LiveLeases {
         requires folders { vec_len entries.tickets ≤ self.old.index_room }
         requires instances { entries.instances.items ≡ lease_instances leases.items }
         requires taken { vec_len entries.instances ≤ self.old.instance_room }
-        requires asks { length leases.items ≤ self.old.ask_room }
+        requires counts { length leases.items ≤ self.old.count_room }
         requires sound { AreLeases (self.old.leases ++ leases.items) }
         ensures { self.new.leases ≡ self.old.leases ++ leases.items }
     {
         let Entries { tickets, instances } = entries;
         let mut leases = leases;
-        self.asks.add_all(leases.as_slice());
+        self.counts.add_all(leases.as_slice());
         self.leases.append(&mut leases).unwrap();
         put_all(&mut self.by_folder, tickets);
         self.taken.add_all(instances);
@@ -251,7 +266,7 @@ impl LiveLeases {
         ensures room { self.new.lease_room ≡ self.old.lease_room }
         ensures folders { self.old.index_room ≤ self.new.index_room }
         ensures taken { self.old.instance_room ≤ self.new.instance_room }
-        ensures asks { self.old.ask_room ≤ self.new.ask_room }
+        ensures counts { self.old.count_room ≤ self.new.count_room }
     {
         match place_of(self.leases.as_slice(), ticket) {
             None => None,
@@ -259,7 +274,7 @@ impl LiveLeases {
                 let lease = self.leases.remove(place);
                 forget(&mut self.by_folder, &lease);
                 self.taken.remove_lease(&lease);
-                self.asks.remove(&lease);
+                self.counts.remove(&lease);
                 Some(lease)
             }
         }
@@ -271,19 +286,34 @@ impl LiveLeases {
         ensures room { self.new.lease_room ≡ self.old.lease_room }
         ensures folders { self.old.index_room ≤ self.new.index_room }
         ensures taken { self.old.instance_room ≤ self.new.instance_room }
-        ensures asks { self.old.ask_room ≤ self.new.ask_room }
+        ensures counts { self.old.count_room ≤ self.new.count_room }
     {
         match *ending {
             Ending::Ticket(ticket) => {
                 let _ = self.end(ticket);
             }
             Ending::Node(_) | Ending::LivesBelow(_, _) => {
-                forget_ending(&mut self.by_folder, self.leases.as_slice(), ending);
-                self.taken.remove_ending(self.leases.as_slice(), ending);
-                self.asks.remove_ending(self.leases.as_slice(), ending);
-                drop_ending(&mut self.leases, *ending);
+                if !self.last_ending(ending).is_empty() {
+                    self.end_last(ending);
+                }
             }
         }
+    }
+
+    /// Takes out the leases that this ends, of the last of the leases.
+    fn end_last(&mut self, ending: &Ending)
+        ensures rest { self.new.leases ≡ filter (λ g. not (ends_lease ending.now g)) self.old.leases }
+        ensures room { self.new.lease_room ≡ self.old.lease_room }
+        ensures folders { self.old.index_room ≤ self.new.index_room }
+        ensures taken { self.old.instance_room ≤ self.new.instance_room }
+        ensures counts { self.old.count_room ≤ self.new.count_room }
+    {
+        let last = self.counts.last_ending(self.leases.as_slice(), ending);
+        let from = self.leases.len() - last.len();
+        forget_ending(&mut self.by_folder, last, ending);
+        self.taken.remove_ending(last, ending);
+        self.counts.remove_ending(last, ending);
+        drop_ending_from(&mut self.leases, from, *ending);
     }
 
     /// Takes out the leases that one of these ends.
@@ -292,7 +322,7 @@ impl LiveLeases {
         ensures room { self.new.lease_room ≡ self.old.lease_room }
         ensures folders { self.old.index_room ≤ self.new.index_room }
         ensures taken { self.old.instance_room ≤ self.new.instance_room }
-        ensures asks { self.old.ask_room ≤ self.new.ask_room }
+        ensures counts { self.old.count_room ≤ self.new.count_room }
     {
         for ending in ended {
             self.end_all(ending);

@@ -29,7 +29,7 @@ impl Model for TableWithRoom {
 
     ghost Value = { RoomyTable };
 
-    ghost view = { λ r. record { table = record { live = r.live.leases; retired = r.retired.slots }; lease_room = r.live.lease_room; slot_room = r.retired.slot_room; tickets = r.entries.tickets.items; index_room = r.live.index_room; instances = r.entries.instances.items; instance_room = r.live.instance_room; ask_room = r.live.ask_room; retired_names = r.names.items; retired_room = r.retired.folder_room } };
+    ghost view = { λ r. record { table = record { live = r.live.leases; retired = r.retired.slots }; lease_room = r.live.lease_room; slot_room = r.retired.slot_room; tickets = r.entries.tickets.items; index_room = r.live.index_room; instances = r.entries.instances.items; instance_room = r.live.instance_room; count_room = r.live.count_room; retired_names = r.names.items; retired_room = r.retired.folder_room } };
 }
 
 impl LeaseTable {
@@ -107,7 +107,7 @@ fn make_room(
     ensures instance_room { IfOk result (λ made. vec_len made.0.instances ≤ live.new.instance_room) }
     ensures names { IfOk result (λ made. made.1.items ≡ slot_names more_slots.now) }
     ensures retired_room { IfOk result (λ made. vec_len made.1 ≤ retired.new.folder_room) }
-    ensures ask_room { OnOk result (length more.now ≤ live.new.ask_room) }
+    ensures count_room { OnOk result (length more.now ≤ live.new.count_room) }
 {
     let entries = live.room_for(alloc, more)?;
     let names = retired.room_for(alloc, more_slots)?;

@@ -206,7 +206,7 @@ impl<'t> View<'t> {
         ensures { result ≡ list_any (is_at node) self.now.live }
     {
         self.live
-            .as_slice()
+            .last_at(node)
             .iter()
             .filter(|lease| !has_ended(self.ended, lease))
             .chain(self.granted.iter())
@@ -218,7 +218,7 @@ impl<'t> View<'t> {
         ensures { result ≡ list_any (λ g. is_at node g && g.tenure) self.now.live }
     {
         self.live
-            .as_slice()
+            .last_at(node)
             .iter()
             .filter(|lease| !has_ended(self.ended, lease))
             .chain(self.granted.iter())
@@ -230,7 +230,7 @@ impl<'t> View<'t> {
         ensures { result ≡ list_any (is_older node life) self.now.live }
     {
         self.live
-            .as_slice()
+            .last_at(node)
             .iter()
             .filter(|lease| !has_ended(self.ended, lease))
             .chain(self.granted.iter())
@@ -317,7 +317,7 @@ impl<'t> View<'t> {
     pub(crate) fn private_at(&self, alloc: Global, node: NodeId) -> Result<Vec<Slot>, AllocError>
         ensures { IfOk result (λ slots. slots.items ≡ all_private (filter (is_at node) self.now.live)) }
     {
-        let mut private = private_slots_of(alloc, self.live.as_slice(), self.ended, node)?;
+        let mut private = private_slots_of(alloc, self.live.last_at(node), self.ended, node)?;
         let mut granted = private_slots_of(alloc, self.granted, &[], node)?;
         private.append(&mut granted)?;
         Ok(private)
@@ -331,7 +331,7 @@ impl<'t> View<'t> {
     ) -> Result<Vec<(Slot, bool)>, AllocError>
         ensures { IfOk result (λ slots. slots.items ≡ slots_ended ending self.now.live) }
     {
-        let mut slots = slots_ended(alloc, self.live.as_slice(), self.ended, ending)?;
+        let mut slots = slots_ended(alloc, self.live.last_ending(&ending), self.ended, ending)?;
         let mut granted = slots_ended(alloc, self.granted, &[], ending)?;
         slots.append(&mut granted)?;
         Ok(slots)

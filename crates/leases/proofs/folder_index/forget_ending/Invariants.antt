@@ -1,12 +1,13 @@
-use Rattle.std.proofs.Common.{◌≡◌, ◌≤◌, ◌<◌, ℕ, false, length, get_or}
+use Rattle.std.proofs.Common.{◌≡◌, ◌≢◌, ◌≤◌, true}
+use Rattle.std.specs.Prelude.{All}
 use Rattle.indexmap.specs.IndexMap.{spare}
 use Rattle.farm_base.specs.declared.lease.Lease.{Lease}
 use Rattle.leases.specs.Changes.{ends_lease}
-use Rattle.leases.specs.Index.{ticket_at, IsIndexed, AreIndexed}
+use Rattle.leases.specs.Index.{ticket_at, IsIndexed}
 use Rattle.leases.proofs.folder_index.forget_ending.Given as goal
 
 abbrev pub invariant-loop-lease : goal.invariant-loop-lease
 invariant-loop-lease l = record {
-  others : AreIndexed (ticket_at l.initial.index) l.leases → (k : ℕ) (d : Lease) → k < length l.leases → ends_lease l.ending (get_or l.leases k d) ≡ false → IsIndexed (ticket_at l.index) (get_or l.leases k d);
+  others : (g : Lease) → All (λ h. ends_lease l.ending h ≡ true → g.ticket ≢ h.ticket) l.leases → IsIndexed (ticket_at l.initial.index) g → IsIndexed (ticket_at l.index) g;
   room : spare l.initial.index ≤ spare l.index;
 }

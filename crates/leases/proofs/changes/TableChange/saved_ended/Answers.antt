@@ -6,7 +6,7 @@ use Rattle.protocol.specs.Names.{Ticket}
 use Rattle.leases.specs.Changes.{Change, saved_tickets, ticket_of_saved}
 use Rattle.leases.specs.declared.ending.Ending.{Ending}
 use Rattle.leases.specs.declared.ending.Ending.TheVariants as ending
-use Rattle.leases.proofs.SavedLemmas.{saved_tickets-none, saved_tickets-one}
+use Rattle.leases.proofs.SavedLemmas.{saved_tickets-none, saved_tickets-one, saved_tickets-last}
 use Rattle.leases.proofs.changes.TableChange.saved_ended.Goals as goal
 
 pub returns-then-is_empty : goal.returns-then-is_empty
@@ -24,3 +24,14 @@ returns-in-Some-Ticket c =
     ap ticket_of_saved c.lease.ensures.value ∙ saved_tickets-one c.in-Some-Ticket.ticket live c.lease.ensures.sound.tickets ∙ ap (λ (es : List Ending). saved_tickets es live) (sym one ∙ same) in
     let P : List Ticket → Type 0 = λ ts. IfOk c.ticket_of_saved.result (λ tickets. tickets.items ≡ ts) in
     subst P all c.ticket_of_saved.ensures
+
+pub returns-in-Some : goal.returns-in-Some
+returns-in-Some c =
+    let live : List Lease = c.args.table.now.live in
+    let last : List Lease = c.last_ending.result.now in
+    let same : c.as_slice-ended.result.now ≡ c.args.self.now.ended = c.as_slice-ended.ensures.value ∙ ap (λ (x : Change). x.ended) c.self.view_is in
+    let all : saved_tickets c.as_slice-ended.result.now last ≡ saved_tickets c.args.self.now.ended live =
+    ap (λ (es : List Ending). saved_tickets es last) c.in-Some.ensures
+    ∙ saved_tickets-last c.in-Some.ending last live c.last_ending.ensures
+    ∙ ap (λ (es : List Ending). saved_tickets es live) (sym c.in-Some.ensures ∙ same) in
+    subst (λ (ts : List Ticket). IfOk c.saved_tickets.result (λ tickets. tickets.items ≡ ts)) all c.saved_tickets.ensures

@@ -4,7 +4,7 @@ use Rattle.std.specs.Map.{update_all}
 use Rattle.farm_base.specs.Folders.{folder_eq}
 use Rattle.farm_base.specs.declared.lease.Lease.{Lease}
 use Rattle.protocol.specs.Names.{FolderName}
-use Rattle.leases.specs.Asks.{AreAsked}
+use Rattle.leases.specs.Counts.{AreCounted}
 use Rattle.leases.specs.Instances.{is_taken, AreTaken}
 use Rattle.leases.specs.Index.{ticket_at, AreIndexed, index_entries}
 use Rattle.leases.specs.Leases.{AreLeases}
@@ -28,5 +28,5 @@ invariant_of-self c =
       taken_is = subst (AreTaken (is_taken c.add_all-2.new.self)) (sym items)
           (taken-append (is_taken c.self.inside.taken) (is_taken c.add_all-2.new.self) live more c.self.invariant.taken_is
           (λ f i to. c.add_all-2.ensures f i to ∙ ap (λ (es : List (FolderName × ℕ)). list_any (λ (e : FolderName × ℕ). folder_eq e.0 f && eqb e.1 i) es || is_taken c.self.inside.taken f i) c.requires.instances));
-      asked = subst (AreAsked c.add_all.new.self) (sym items) (subst (λ (gs : List Lease). AreAsked c.add_all.new.self (live ++ gs)) c.as_slice.ensures.value (c.add_all.ensures live c.self.invariant.asked));
+      counted = subst (AreCounted c.add_all.new.self) (sym items) (subst (λ (gs : List Lease). AreCounted c.add_all.new.self (live ++ gs)) c.as_slice.ensures.value (c.add_all.ensures live c.self.invariant.counted));
     }

@@ -3,12 +3,12 @@ use Rattle.std.specs.Prelude.{AllPairs}
 use Rattle.std.specs.List.{find, position_from}
 use Rattle.farm_base.specs.declared.lease.Lease.{Lease}
 use Rattle.protocol.specs.Ledger.{has_ticket, without}
-use Rattle.leases.specs.Asks.{AreAsked}
+use Rattle.leases.specs.Counts.{AreCounted}
 use Rattle.leases.specs.Index.{ticket_at, AreIndexed}
 use Rattle.leases.specs.Instances.{is_taken, AreTaken}
 use Rattle.leases.specs.Leases.{AreLeases, IsBefore}
 use Rattle.leases.proofs.IndexLemmas.{indexed-ended}
-use Rattle.leases.proofs.AskLemmas.{split_at}
+use Rattle.leases.proofs.CountLemmas.{split_at}
 use Rattle.leases.proofs.FindLemmas.{ticket_once}
 use Rattle.leases.proofs.TakenLemmas.{taken-failing, any_with-once}
 use Rattle.leases.proofs.TableLemmas.{StandsAt, stands, missing, leases-filter}
@@ -55,6 +55,6 @@ invariant_of-self c =
           (λ f i to. c.remove_lease.ensures.free f i to
           ∙ ap (λ (b : Bool). not b && is_taken c.self.inside.taken f i)
           (sym (any_with-once (has_ticket c.args.ticket) live (record { folder = f; instance = i }) c.remove-lease.result (ticket_once c.args.ticket live c.self.invariant.sound.tickets) found))));
-      asked = subst (AreAsked c.remove.new.self) (sym c.remove-lease.ensures.items)
-          (c.remove.ensures.asked (take c.in-Some.place live) (drop (suc c.in-Some.place) live) (subst (AreAsked c.self.inside.asks) (split_at live c.in-Some.place c.remove-lease.result s.inside c.remove-lease.ensures.value) c.self.invariant.asked));
+      counted = subst (AreCounted c.remove.new.self) (sym c.remove-lease.ensures.items)
+          (c.remove.ensures.counted (take c.in-Some.place live) (drop (suc c.in-Some.place) live) (subst (AreCounted c.self.inside.counts) (split_at live c.in-Some.place c.remove-lease.result s.inside c.remove-lease.ensures.value) c.self.invariant.counted));
     }

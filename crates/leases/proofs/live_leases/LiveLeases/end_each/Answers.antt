@@ -8,7 +8,7 @@ loop-ending-preserved c = record {
   room = c.end_all.ensures.room ∙ c.loop-ending.invariant.room;
   folders = omega (arith, c.end_all.ensures.folders, c.loop-ending.invariant.folders);
   taken = omega (arith, c.end_all.ensures.taken, c.loop-ending.invariant.taken);
-  asks = omega (arith, c.end_all.ensures.asks, c.loop-ending.invariant.asks);
+  counts = omega (arith, c.end_all.ensures.counts, c.loop-ending.invariant.counts);
 }
 
 pub returns-clause-rest : goal.returns-clause-rest

@@ -8,5 +8,5 @@ invariant-loop-ending l = record {
   room : l.self.lease_room ≡ l.initial.self.lease_room;
   folders : l.initial.self.index_room ≤ l.self.index_room;
   taken : l.initial.self.instance_room ≤ l.self.instance_room;
-  asks : l.initial.self.ask_room ≤ l.self.ask_room;
+  counts : l.initial.self.count_room ≤ l.self.count_room;
 }

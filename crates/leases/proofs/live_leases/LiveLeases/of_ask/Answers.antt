@@ -2,17 +2,17 @@ use Rattle.std.proofs.Common.{◌≡◌, Some, true, ap, sym, ◌∙◌}
 use Rattle.std.specs.List.{find}
 use Rattle.std.specs.Option.{option_copied}
 use Rattle.protocol.specs.Ledger.{has_ticket, is_of}
-use Rattle.leases.specs.Asks.{entry_of}
+use Rattle.leases.specs.Counts.{ask_count}
 use Rattle.leases.specs.Live.{Live}
-use Rattle.leases.specs.declared.ask_index.AskName.{AskName}
-use Rattle.leases.proofs.AskLemmas.{unasked, first_asked}
+use Rattle.leases.specs.declared.lease_counts.AskName.{AskName}
+use Rattle.leases.proofs.CountLemmas.{unasked, first_asked}
 use Rattle.leases.proofs.live_leases.LiveLeases.of_ask.Goals as goal
 
 pub returns-in_err-ticket : goal.returns-in_err-ticket
 returns-in_err-ticket c =
     let name : AskName = record { node = c.args.node; life = c.args.life; ask = c.args.ask } in
     rw (← c.self.view_is) (ap option_copied c.from_residual.ensures
-    ∙ sym (unasked (entry_of c.self.inside.asks name) (is_of c.args.node c.args.life c.args.ask) c.self.inside.leases.items (c.self.invariant.asked name) (sym c.oldest.ensures ∙ c.in_err-ticket.was)))
+    ∙ sym (unasked (ask_count c.self.inside.counts name) (is_of c.args.node c.args.life c.args.ask) c.self.inside.leases.items (c.self.invariant.counted.asks name) (sym c.oldest.ensures ∙ c.in_err-ticket.was)))
 
 pub returns-then-is_of : goal.returns-then-is_of
 returns-then-is_of c =
@@ -21,5 +21,5 @@ returns-then-is_of c =
     let live : c.self.inside.leases.items ≡ c.args.self.now.leases = ap (λ (l : Live). l.leases) c.self.view_is in
     let found : find (has_ticket t) c.self.inside.leases.items ≡ Some c.in-Some.lease.now = ap (find (has_ticket t)) live ∙ sym c.under.ensures.value ∙ ap option_copied c.in-Some.is in
     let has : is_of c.args.node c.args.life c.args.ask c.in-Some.lease.now ≡ true = sym c.is_of.ensures ∙ c.if-is_of.true in
-    rw (← c.self.view_is) (sym (first_asked (entry_of c.self.inside.asks name) (is_of c.args.node c.args.life c.args.ask) t c.self.inside.leases.items c.in-Some.lease.now c.self.invariant.sound.tickets (c.self.invariant.asked name)
+    rw (← c.self.view_is) (sym (first_asked (ask_count c.self.inside.counts name) (is_of c.args.node c.args.life c.args.ask) t c.self.inside.leases.items c.in-Some.lease.now c.self.invariant.sound.tickets (c.self.invariant.counted.asks name)
     (sym c.oldest.ensures ∙ c.in_ok-ticket.was) found has))

@@ -8,6 +8,7 @@ use Rattle.leases.specs.declared.ending.Ending.{Ending}
 use Rattle.leases.specs.Changes.{ends_lease}
 use Rattle.leases.specs.Instances.{has}
 use Rattle.leases.proofs.FindLemmas.{ticket_once}
+use Rattle.leases.proofs.LastLemmas.{last-with}
 use Rattle.leases.proofs.TakenLemmas.{any_with, any_with-once, any_with-missing}
 use Rattle.leases.proofs.live_leases.LiveLeases.unmark_ended.Goals as goal
 
@@ -31,3 +32,8 @@ returns-in_default c i to =
     let none : any_with (ends_lease c.args.ending.now) live s ≡ false =
     ap (λ (e : Ending). any_with (ends_lease e) live s) c.in-Ticket.is ∙ any_with-missing (has_ticket c.in-Ticket.ticket) live s missing in
     ap (λ (b : Bool). not b && has c.args.taken.now i) (sym none)
+
+pub returns-in-Node : goal.returns-in-Node
+returns-in-Node c i to =
+    let s : Slot = record { folder = c.args.folder.now; instance = i } in
+    c.unmark_ending.ensures i to ∙ ap (λ (b : Bool). not b && has c.args.taken.now i) (last-with (ends_lease c.args.ending.now) s c.last_ending.result.now c.args.self.now.leases c.last_ending.ensures)

@@ -6,7 +6,7 @@ use Rattle.farm_base.specs.declared.lease.Lease.{Lease}
 use Rattle.protocol.specs.Ledger.{is_of}
 use Rattle.leases.specs.Changes.{has_ended}
 use Rattle.leases.specs.Leases.{Table}
-use Rattle.leases.proofs.AskLemmas.{first_kept, none_kept}
+use Rattle.leases.proofs.CountLemmas.{first_kept, none_kept}
 use Rattle.leases.proofs.view.View.lease_of.Goals as goal
 
 pub returns-in-None : goal.returns-in-None
