@@ -23,7 +23,7 @@ use Rattle.farm_base.specs.Folders.{folder_eq}
 use Rattle.farm_base.proofs.CompareLaws.{folder_eq-itself}
 use Rattle.leases.proofs.MarkLemmas.{drop-item}
 use Rattle.coordinator.specs.Over.{Begins, still_at}
-use Rattle.coordinator.specs.Wanted.{WantsNone}
+use Rattle.coordinator.specs.Noted.{WantsNone}
 use Rattle.coordinator.proofs.WaitingWords.{begins-before, stays-first}
 use Rattle.coordinator.proofs.HeldUp.{LeasesMore, tried-more, any_more, either_more}
 use Rattle.coordinator.proofs.StateWords.{decision-is}

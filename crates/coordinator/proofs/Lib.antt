@@ -2,7 +2,7 @@ pub mod StateWords
 pub mod Trying
 pub mod WaitingWords
 pub mod PassedWords
-pub mod WantedWords
+pub mod NotedWords
 pub mod NewestWords
 pub mod SoundWords
 pub mod Kept

@@ -4,7 +4,7 @@ pub mod Waiting
 pub mod Numbers
 pub mod Queue
 pub mod Newest
-pub mod Wanted
+pub mod Noted
 pub mod Shown
 pub mod Idle
 pub mod Spent

@@ -4,7 +4,7 @@ use Rattle.std.specs.Vec.{vec_capacity}
 use Rattle.leases.specs.Newest.{node_room}
 use Rattle.protocol.specs.Machine.{Parked}
 use Rattle.coordinator.specs.Numbers.{numbers_from}
-use Rattle.coordinator.specs.Wanted.{AreIndexed}
+use Rattle.coordinator.specs.Noted.{AreIndexed}
 use Rattle.coordinator.specs.declared.numbers.Numbers.{Numbers}
 use Rattle.coordinator.specs.declared.parked_asks.ParkedAsks.{ParkedAsks}
 
@@ -21,4 +21,4 @@ pub record HasRoomFor (x : ParkedAsks) (since : List Parked) : Type 0 where
   pub asks : vec_len x.asks + length since ≤ vec_capacity x.asks
   pub numbers : vec_len x.numbers.items + length since ≤ vec_capacity x.numbers.items
   pub newest : length since ≤ node_room x.newest
-  pub indexed : AreIndexed x.wanted since (numbers_from x.numbers.next since)
+  pub indexed : AreIndexed x.noted since (numbers_from x.numbers.next since)

@@ -589,10 +589,9 @@ impl Draft {
         ensures { OnOk result ((line : LineOf) → shown line (held base.now) self.new ≡ sees node life (shown line (held base.now) self.old)) }
     {
         self.change.table.end_lives_below(node, life)?;
-        let parked = base.parked.waiting();
         self.change
             .parked
-            .end(alloc, parked, Ending::LivesBelow(node, life))?;
+            .end(alloc, &base.parked, Ending::LivesBelow(node, life))?;
         self.change.life = Some(NewLife { node, life });
         self.change.old_home = cleared(node, self.change.old_home);
         self.changed = true;

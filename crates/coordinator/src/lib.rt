@@ -9,6 +9,7 @@ pub mod laws;
 mod ledger;
 mod new_life;
 mod nodes;
+mod noted_asks;
 mod numbers;
 mod operator_calls;
 mod over;
@@ -20,7 +21,6 @@ mod spent_folders;
 mod state;
 mod table_room;
 mod text;
-mod wanted_folders;
 
 pub use coordinator::{Coordinator, NotStarted};
 pub use handled::Handled;

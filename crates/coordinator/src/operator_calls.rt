@@ -181,8 +181,9 @@ impl Draft {
         ensures { OnOk result ((line : LineOf) → shown line (held base.now) self.new ≡ goes node (shown line (held base.now) self.old)) }
     {
         self.change.table.withdraw_all_of(alloc, &base.table, node)?;
-        let parked = base.parked.waiting();
-        self.change.parked.end(alloc, parked, Ending::Node(node))?;
+        self.change
+            .parked
+            .end(alloc, &base.parked, Ending::Node(node))?;
         self.change.gone = Some(node);
         self.changed = true;
         Ok(())

@@ -1,17 +1,18 @@
 //! The asks that wait.
-ghost use Rattle.std.specs.Prelude.{◌≡◌, ◌≤◌, ◌<◌, ℕ, [], true, drop, length, vec_len, slice_index_or, nat_lt};
+ghost use Rattle.std.specs.Prelude.{◌≡◌, ◌==◌, ◌≤◌, ◌<◌, ℕ, [], All, true, false, drop, length, vec_len, slice_index_or, nat_lt};
 ghost use Rattle.std.specs.List.Sorted.{IsNonDecreasing};
 ghost use Rattle.protocol.specs.Machine.{Parked};
 ghost use Rattle.leases.specs.Newest.{knows, node_room};
 ghost use Rattle.coordinator.specs.Spent.{WantsNoneOf};
 ghost use Rattle.coordinator.specs.Newest.{AreKnown};
-ghost use Rattle.coordinator.specs.Wanted.{AreIndexed, WantsNone};
+ghost use Rattle.coordinator.specs.Noted.{AreIndexed, WantsNone};
+ghost use Rattle.coordinator.specs.Waiting.{ends_ask};
 
+use super::noted_asks::NotedAsks;
 use super::numbers::Numbers;
 use super::passing::behind;
-use super::wanted_folders::WantedFolders;
 use farm_base::{Ask, FolderName, Life, NodeId, Parked, Slot};
-use leases::NewestAsks;
+use leases::{Ending, NewestAsks};
 use std::alloc::Global;
 
 /// The asks that wait, in order of arrival. A node numbers its asks in turn, so nearly each new one is known not to wait
@@ -25,11 +26,11 @@ pub struct ParkedAsks {
     pub newest: NewestAsks,
     /// The number of each.
     pub numbers: Numbers,
-    /// Which of them want each folder.
-    pub wanted: WantedFolders,
+    /// Which of them want each folder, and which are each node's.
+    pub noted: NotedAsks,
     ghost inside: { start ≤ vec_len asks },
     ghost known: { AreKnown newest (drop start asks.items) },
-    ghost indexed: { AreIndexed wanted (drop start asks.items) (drop numbers.start numbers.items.items) },
+    ghost indexed: { AreIndexed noted (drop start asks.items) (drop numbers.start numbers.items.items) },
 }
 
 /// Notes that these asks waited.
@@ -67,7 +68,7 @@ impl ParkedAsks {
             start: 0,
             newest: NewestAsks::new(alloc),
             numbers: Numbers::new(alloc),
-            wanted: WantedFolders::new(alloc),
+            noted: NotedAsks::new(alloc),
         }
     }
 
@@ -91,9 +92,27 @@ impl ParkedAsks {
         if place >= numbers.len() {
             return place;
         }
-        match self.wanted.first_of_all(slots, folders, numbers[place]) {
+        match self.noted.first_of_all(slots, folders, numbers[place]) {
             Some(first) => place.max(count_below(numbers, first)),
             None => numbers.len(),
+        }
+    }
+
+    /// Whether an ask of a node may be among them.
+    fn may_have_of(&self, node: NodeId) -> bool
+        ensures { result ≡ false → All (λ p. (p.node.0 == node.0) ≡ false) (drop self.now.start self.now.asks.items) }
+    {
+        self.noted.has_some_of(node)
+    }
+
+    /// Whether this may end one of them.
+    pub(crate) fn may_end(&self, ending: Ending) -> bool
+        ensures { result ≡ false → All (λ p. ends_ask ending p ≡ false) (drop self.now.start self.now.asks.items) }
+    {
+        match ending {
+            Ending::Ticket(_) => false,
+            Ending::Node(node) => self.may_have_of(node),
+            Ending::LivesBelow(node, _) => self.may_have_of(node),
         }
     }
 

@@ -126,12 +126,14 @@ impl ParkedChange {
     pub(crate) fn end(
         &mut self,
         alloc: Global,
-        parked: &[Parked],
+        parked: &ParkedAsks,
         ending: Ending,
     ) -> Result<(), AllocError>
-        ensures { OnOk result (waits_after parked.now self.new ≡ filter (λ p. not (ends_ask ending p)) (waits_after parked.now self.old)) }
+        ensures { OnOk result (waits_after (asks_of parked.now) self.new ≡ filter (λ p. not (ends_ask ending p)) (waits_after (asks_of parked.now) self.old)) }
     {
-        self.over = ended(alloc, parked, self.over.as_slice(), ending)?;
+        if parked.may_end(ending) {
+            self.over = ended(alloc, parked.waiting(), self.over.as_slice(), ending)?;
+        }
         drop_ending(&mut self.since, ending);
         Ok(())
     }
@@ -144,16 +146,17 @@ impl ParkedChange {
         Ok(())
     }
 
-    /// Makes room for the asks that wait since, and notes which folders they want.
+    /// Makes room for the asks that wait since, and notes which folders they want and whose they are.
     pub(crate) fn room(&self, alloc: Global, parked: &mut ParkedAsks) -> Result<(), AllocError>
         ensures parked { asks_of parked.new ≡ asks_of parked.old }
         ensures room { OnOk result (HasRoomFor parked.new self.now.since.items) }
     {
         let since = self.since.as_slice();
-        parked.wanted.add_asks(alloc, since, parked.numbers.next)?;
+        parked.noted.add_asks(alloc, since, parked.numbers.next)?;
         parked.numbers.reserve(since.len())?;
         parked.newest.reserve(since.len())?;
-        parked.asks.reserve(since.len())
+        parked.asks.reserve(since.len())?;
+        Ok(())
     }
 
     /// Changes the asks that wait, in the room that was made for them. It takes no memory. In a function of its own, since
@@ -177,13 +180,13 @@ impl ParkedChange {
             start,
             newest,
             numbers,
-            wanted,
+            noted,
         } = parked;
         let mut newest = newest;
         note_all(&mut newest, since.as_slice());
         let numbers = numbers.changed(&over, since.as_slice());
-        let mut wanted = wanted;
-        wanted.drop_over(
+        let mut noted = noted;
+        noted.drop_over(
             behind(asks.as_slice(), start),
             over.as_slice(),
             numbers.as_slice(),
@@ -197,7 +200,7 @@ impl ParkedChange {
             start,
             newest,
             numbers,
-            wanted,
+            noted,
         }
     }
 }

@@ -1,5 +1,5 @@
 use Rattle.std.proofs.Common.{◌∙◌}
-use Rattle.coordinator.proofs.WantedWords.{among-found}
+use Rattle.coordinator.proofs.NotedWords.{among-found}
 use Rattle.coordinator.proofs.numbers.is_among.Goals as goal
 
 pub returns : goal.returns

@@ -10,7 +10,7 @@ use Rattle.coordinator.specs.Over.{still_at}
 use Rattle.coordinator.specs.Queue.{asks_of}
 use Rattle.coordinator.specs.Shown.{after}
 use Rattle.coordinator.specs.Spent.{WantsNoneOf}
-use Rattle.coordinator.specs.Wanted.{WantsNone}
+use Rattle.coordinator.specs.Noted.{WantsNone}
 use Rattle.coordinator.proofs.IdleWords.{are-idle-open, unwanted-waits}
 use Rattle.coordinator.proofs.OverWords.{still-has}
 use Rattle.coordinator.proofs.change.Change.first_due.Goals as goal

@@ -4,7 +4,7 @@ use Rattle.std.specs.List.Sorted.{IsNonDecreasing}
 use Rattle.coordinator.specs.Numbers.{numbers_from, number_behind}
 use Rattle.coordinator.specs.Over.{still_at}
 use Rattle.coordinator.proofs.PassedWords.{behind_joined}
-use Rattle.coordinator.proofs.WantedWords.{changed-rise, changed-below}
+use Rattle.coordinator.proofs.NotedWords.{changed-rise, changed-below}
 use Rattle.coordinator.proofs.numbers.Numbers.changed.Goals as goal
 
 pub invariant_of-result-clause-rising : goal.invariant_of-result-clause-rising

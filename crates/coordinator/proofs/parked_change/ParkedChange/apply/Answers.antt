@@ -1,16 +1,15 @@
 use Rattle.std.proofs.Common.{◌≡◌, ◌++◌, ℕ, true, List, drop, length, get_or, vec_len, sym, ◌∙◌, ap, subst, arith}
 use Rattle.std.specs.Prelude.{All}
 use Rattle.std.proofs.lemmas.List.Elements.{All-append}
-use Rattle.protocol.specs.Lists.{In}
 use Rattle.protocol.specs.Machine.{Parked}
 use Rattle.leases.specs.Newest.{knows}
 use Rattle.coordinator.specs.Numbers.{numbers_from}
 use Rattle.coordinator.specs.Over.{still_waiting}
 use Rattle.coordinator.specs.Queue.{asks_of, numbers_of}
-use Rattle.coordinator.specs.Wanted.{AreIndexed}
+use Rattle.coordinator.specs.Noted.{AreIndexed, KeepsOf}
 use Rattle.coordinator.proofs.NewestWords.{all-still}
 use Rattle.coordinator.proofs.PassedWords.{behind_joined}
-use Rattle.coordinator.proofs.WantedWords.{indexed-kept, indexed-still, indexed-append}
+use Rattle.coordinator.proofs.NotedWords.{indexed-kept, indexed-still, indexed-append}
 use Rattle.coordinator.proofs.parked_change.ParkedChange.apply.Goals as goal
 
 pub returns : goal.returns
@@ -40,11 +39,11 @@ invariant_of-result c =
     let from : List ℕ = numbers_from c.args.parked.numbers.next since in
     let numbers_are : numbers_of c.changed-numbers.result ≡ still_waiting over numbers ++ from =
     c.changed-numbers.ensures ∙ ap (λ (ps : List Parked). still_waiting over numbers ++ numbers_from c.args.parked.numbers.next ps) c.as_slice-2.ensures.value in
-    let noted : AreIndexed c.args.parked.wanted (still_waiting over asks ++ since) (still_waiting over numbers ++ from) =
-    indexed-append c.args.parked.wanted (still_waiting over asks) since (still_waiting over numbers) from (indexed-still c.args.parked.wanted 0 over asks numbers c.args.parked.indexed) c.requires.indexed in
+    let noted : AreIndexed c.args.parked.noted (still_waiting over asks ++ since) (still_waiting over numbers ++ from) =
+    indexed-append c.args.parked.noted (still_waiting over asks) since (still_waiting over numbers) from (indexed-still c.args.parked.noted 0 over asks numbers c.args.parked.indexed) c.requires.indexed in
     let kept : AreIndexed c.drop_over.new.self (still_waiting over asks ++ since) (still_waiting over numbers ++ from) =
-    indexed-kept c.args.parked.wanted c.drop_over.new.self (still_waiting over asks ++ since) (still_waiting over numbers ++ from)
-    (λ f n i h. c.drop_over.ensures f n (subst (In n) (sym (c.as_slice-5.ensures ∙ numbers_are)) i) h) noted in
+    indexed-kept c.args.parked.noted c.drop_over.new.self (still_waiting over asks ++ since) (still_waiting over numbers ++ from)
+    (subst (λ (ns : List ℕ). KeepsOf ns c.args.parked.noted c.drop_over.new.self) (c.as_slice-5.ensures ∙ numbers_are) c.drop_over.ensures) noted in
     record {
       indexed = subst (λ (ps : List Parked). AreIndexed c.drop_over.new.self ps (numbers_of c.changed-numbers.result)) (sym all)
           (subst (AreIndexed c.drop_over.new.self (still_waiting over asks ++ since)) (sym numbers_are) kept);

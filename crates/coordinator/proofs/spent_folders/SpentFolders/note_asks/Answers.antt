@@ -3,7 +3,7 @@ use Rattle.protocol.specs.Machine.{Parked}
 use Rattle.leases.specs.Changes.{changed}
 use Rattle.leases.specs.Table.{is_free}
 use Rattle.coordinator.specs.Spent.{IsNoted}
-use Rattle.coordinator.proofs.WantedWords.{each_in}
+use Rattle.coordinator.proofs.NotedWords.{each_in}
 use Rattle.coordinator.proofs.spent_folders.SpentFolders.note_asks.Goals as goal
 
 pub returns-clause-noted : goal.returns-clause-noted

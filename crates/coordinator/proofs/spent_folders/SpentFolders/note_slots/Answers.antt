@@ -6,7 +6,7 @@ use Rattle.leases.specs.Table.{is_free}
 use Rattle.coordinator.specs.Spent.{is_private_spent, is_noted}
 use Rattle.coordinator.specs.declared.spent_folders.SpentFolders.{SpentFolders}
 use Rattle.coordinator.proofs.PassedWords.{other_default}
-use Rattle.coordinator.proofs.WantedWords.{each_in}
+use Rattle.coordinator.proofs.NotedWords.{each_in}
 use Rattle.coordinator.proofs.spent_folders.SpentFolders.note_slots.Goals.{then-not-is_repeated+in_ok-note, else-not-is_repeated}
 use Rattle.coordinator.proofs.spent_folders.SpentFolders.note_slots.Goals as goal
 

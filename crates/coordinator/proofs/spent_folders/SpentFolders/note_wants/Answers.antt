@@ -3,7 +3,7 @@ use Rattle.protocol.specs.Names.{Want}
 use Rattle.leases.specs.Changes.{changed}
 use Rattle.leases.specs.Table.{is_free}
 use Rattle.coordinator.specs.Spent.{is_private_spent, is_noted}
-use Rattle.coordinator.proofs.WantedWords.{each_in}
+use Rattle.coordinator.proofs.NotedWords.{each_in}
 use Rattle.coordinator.proofs.spent_folders.SpentFolders.note_wants.Goals as goal
 
 pub returns-clause-noted : goal.returns-clause-noted
