@@ -83,23 +83,40 @@ fn time_of_job<R: Clock + AllocGlobal>(rt: &R, shape: Shape, keys: u32) -> anyho
     Ok(least / f64::from(keys))
 }
 
-/// Seconds a key of one job of more keys than a schedule has room for. It runs until the schedule is full; a key that was solved
-/// by then has its share of what the table of all keys takes.
-fn time_until_full<R: Clock + AllocGlobal>(rt: &R, shape: Shape, keys: u32) -> anyhow::Result<f64> {
+/// Enters a job into a table of its own, and lets go of both.
+fn hold(alloc: Global, job: Keyed) -> anyhow::Result<()> {
+    let mut jobs = Jobs::new(alloc);
+    let _number = jobs.submit_keyed(alloc, &job)?;
+    Ok(())
+}
+
+/// The least seconds to enter a job into a table of its own, and to let go of both.
+fn time_to_hold<R: Clock + AllocGlobal>(rt: &R, shape: Shape, keys: u32) -> anyhow::Result<f64> {
     let mut least = f64::INFINITY;
-    let mut table = f64::INFINITY;
     for _ in 0..RUNS {
         let job = shape.job(rt.alloc(), keys as usize)?;
-        table = table.min(time_of_table(rt, 0, &job)?);
-        let (time, end) = run_one(rt, job)?;
+        let start = Instant::now(rt)?;
+        hold(rt.alloc(), job)?;
+        least = least.min(seconds_since(rt, start));
+    }
+    Ok(least)
+}
+
+/// Seconds a key of one job of more keys than a schedule has room for. It runs until the schedule is full; a key that was solved
+/// by then has its share of what it takes to hold them all.
+fn time_until_full<R: Clock + AllocGlobal>(rt: &R, shape: Shape, keys: u32) -> anyhow::Result<f64> {
+    let mut least = f64::INFINITY;
+    for _ in 0..RUNS {
+        let (time, end) = run_one(rt, shape.job(rt.alloc(), keys as usize)?)?;
         match end {
             Err(FarmFault::HistoryFull) => least = least.min(time),
             Err(fault) => return Err(fault.into()),
             Ok(_) => {}
         }
     }
+    let held = time_to_hold(rt, shape, keys)?;
     let solved = f64::from(EVENTS as u32) / f64::from(EVENTS_A_KEY);
-    Ok((least - table) / solved + table / f64::from(keys))
+    Ok((least - held) / solved + held / f64::from(keys))
 }
 
 /// How the time of a key grows with the keys of a job on one node.
