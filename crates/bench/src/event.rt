@@ -47,6 +47,14 @@ fn wants_of(alloc: Global, folders: &[&str]) -> anyhow::Result<Wants> {
     Ok(Wants::of(wants)?)
 }
 
+/// The ticket of the lease that was granted.
+fn granted(note: &CoordNote) -> Option<Ticket> {
+    match note {
+        CoordNote::Granted(grant) => Some(grant.ticket),
+        _ => None,
+    }
+}
+
 /// Node 1 asks for folders: the ticket of its lease, or None where the ask waits.
 fn ask(
     coordinator: &mut Coordinator<MemoryKeeper>,
@@ -66,10 +74,7 @@ fn ask(
         },
     };
     let handled = coordinator.handle(alloc, &message)?;
-    match &handled.note {
-        CoordNote::Granted(grant) => Ok(Some(grant.ticket)),
-        _ => Ok(None),
-    }
+    Ok(granted(&handled.note))
 }
 
 /// Node 1 gives a lease back.

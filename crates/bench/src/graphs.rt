@@ -122,6 +122,20 @@ fn result(alloc: Global, digest: &Digest) -> Result<Vec<u8>, AllocError> {
     Ok(entry)
 }
 
+/// The definition of these entries and of the result, which is the vertex of this digest; with metadata of twice their size if
+/// asked.
+fn with_result(
+    alloc: Global,
+    entries: BodyList,
+    last: &Digest,
+    metadata: bool,
+) -> Result<Vec<u8>, AllocError> {
+    let mut entries = entries;
+    let result = result(alloc, last)?;
+    entries.push(&result)?;
+    written(alloc, entries, metadata)
+}
+
 fn written(alloc: Global, entries: BodyList, metadata: bool) -> Result<Vec<u8>, AllocError> {
     let sizes = entries.len();
     let definition = Definition { def: entries };
@@ -148,8 +162,19 @@ pub fn chain(alloc: Global, count: usize, metadata: bool) -> Result<Vec<u8>, All
         last = digest_of(&entry);
         entries.push(&entry)?;
     }
-    entries.push(&result(alloc, &last)?)?;
-    written(alloc, entries, metadata)
+    with_result(alloc, entries, &last, metadata)
+}
+
+/// An exec vertex with a cache mount of the LOCKED folder of this id, that takes the first output of each of these.
+fn cached_step(
+    alloc: Global,
+    number: usize,
+    inputs: &[&Digest],
+    id: &str,
+) -> Result<Vec<u8>, AllocError> {
+    let input = if inputs.is_empty() { -1 } else { 0 };
+    let mounts = vec![in alloc; root(alloc, input)?, cache(alloc, id)?]?;
+    exec(alloc, number, inputs, "", mounts)
 }
 
 /// A chain of vertices with a cache mount of the LOCKED folder of this id. No two chains of different numbers have a
@@ -165,37 +190,47 @@ pub fn cached_chain(
     for place in 0..count {
         let number = chain.saturating_mul(count).saturating_add(place);
         let entry = if place == 0 {
-            let mounts = vec![in alloc; root(alloc, -1)?, cache(alloc, id)?]?;
-            exec(alloc, number, &[], "", mounts)?
+            cached_step(alloc, number, &[], id)?
         } else {
-            let mounts = vec![in alloc; root(alloc, 0)?, cache(alloc, id)?]?;
-            exec(alloc, number, &[&last], "", mounts)?
+            cached_step(alloc, number, &[&last], id)?
         };
         last = digest_of(&entry);
         entries.push(&entry)?;
     }
-    entries.push(&result(alloc, &last)?)?;
-    written(alloc, entries, false)
+    with_result(alloc, entries, &last, false)
 }
 
-/// A vertex that takes all of `count` others.
-pub fn wide(alloc: Global, count: usize) -> Result<Vec<u8>, AllocError> {
-    let mut entries = BodyList::new(alloc);
+/// Adds this many vertices without inputs. The answer is their digests.
+fn add_leaves(
+    alloc: Global,
+    entries: &mut BodyList,
+    count: usize,
+) -> Result<Vec<Digest>, AllocError> {
     let mut digests = Vec::new(alloc);
     for number in 0..count {
         let entry = step(alloc, number, &[], "")?;
         digests.push(digest_of(&entry))?;
         entries.push(&entry)?;
     }
+    Ok(digests)
+}
+
+/// A vertex that takes the first output of each of these.
+fn joined(alloc: Global, number: usize, digests: &[Digest]) -> Result<Vec<u8>, AllocError> {
     let mut inputs = Vec::new(alloc);
-    for digest in &digests {
+    for digest in digests {
         inputs.push(digest)?;
     }
-    let entry = step(alloc, count, &inputs, "")?;
-    let last = digest_of(&entry);
+    step(alloc, number, &inputs, "")
+}
+
+/// A vertex that takes all of `count` others.
+pub fn wide(alloc: Global, count: usize) -> Result<Vec<u8>, AllocError> {
+    let mut entries = BodyList::new(alloc);
+    let digests = add_leaves(alloc, &mut entries, count)?;
+    let entry = joined(alloc, count, &digests)?;
     entries.push(&entry)?;
-    entries.push(&result(alloc, &last)?)?;
-    written(alloc, entries, false)
+    with_result(alloc, entries, &digest_of(&entry), false)
 }
 
 /// Vertices each of which takes the two before.
@@ -215,16 +250,21 @@ pub fn diamonds(alloc: Global, count: usize) -> Result<Vec<u8>, AllocError> {
         last = digest_of(&entry);
         entries.push(&entry)?;
     }
-    entries.push(&result(alloc, &last)?)?;
-    written(alloc, entries, false)
+    with_result(alloc, entries, &last, false)
 }
 
-/// A chain of vertices of a mebibyte.
-pub fn large(alloc: Global, count: usize) -> Result<Vec<u8>, AllocError> {
+/// A text of a mebibyte.
+fn padding(alloc: Global) -> Result<String, AllocError> {
     let mut padding = String::new(alloc);
     for _ in 0..65_000 {
         padding.push_str("0123456789abcdef")?;
     }
+    Ok(padding)
+}
+
+/// A chain of vertices of a mebibyte.
+pub fn large(alloc: Global, count: usize) -> Result<Vec<u8>, AllocError> {
+    let padding = padding(alloc)?;
     let mut entries = BodyList::new(alloc);
     let mut last = digest_of(b"");
     for number in 0..count {
@@ -236,6 +276,5 @@ pub fn large(alloc: Global, count: usize) -> Result<Vec<u8>, AllocError> {
         last = digest_of(&entry);
         entries.push(&entry)?;
     }
-    entries.push(&result(alloc, &last)?)?;
-    written(alloc, entries, false)
+    with_result(alloc, entries, &last, false)
 }

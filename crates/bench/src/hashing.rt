@@ -1,4 +1,4 @@
-//! An executor that hashes for a while.
+//! Executors: one that hashes for a while, and one that carries out nothing.
 ghost use Rattle.std.specs.Prelude.{⊤, ◌≡◌, ◌∷◌, [], IfOk};
 
 use executions::{Call, ExecOutcome, ExecTask, Executor};
@@ -68,5 +68,23 @@ impl Executor for Hashing {
 
     fn calls(&self) -> &[Call] {
         self.calls.as_slice()
+    }
+}
+
+/// Answers each task that memory ran out, so that a run ends with its first.
+#[derive(Drop)]
+pub struct Exhausted;
+
+impl Executor for Exhausted {
+    ghost history = { λ h. [] };
+
+    ghost answers = { λ h task outcome. ⊤ };
+
+    fn run(&mut self, _task: &ExecTask) -> ExecOutcome {
+        ExecOutcome::OutOfMemory
+    }
+
+    fn calls(&self) -> &[Call] {
+        &[]
     }
 }

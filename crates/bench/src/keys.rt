@@ -10,8 +10,10 @@ use std::rt::Clock;
 use std::time::Instant;
 use vertices::{Graph, load};
 
-fn graph_of(alloc: Global, bytes: Vec<u8>) -> anyhow::Result<Graph> {
-    Ok(load(alloc, read_definition(alloc, bytes)?)?)
+/// The graph that these bytes spell, in a box: letting go of it is one step of a proof.
+fn graph_of(alloc: Global, bytes: Vec<u8>) -> anyhow::Result<Box<Graph>> {
+    let graph = load(alloc, read_definition(alloc, bytes)?)?;
+    Ok(Box::new(alloc, graph)?)
 }
 
 /// The time from the bytes to the keys.
@@ -51,14 +53,23 @@ fn messages_of(alloc: Global, graph: &Graph) -> anyhow::Result<BodyList> {
     Ok(messages)
 }
 
-fn needed_messages(alloc: Global, bytes: &[u8]) -> anyhow::Result<Messages> {
-    let ops = read_definition(alloc, Vec::from_slice(alloc, bytes)?)?.def;
-    let graph = graph_of(alloc, Vec::from_slice(alloc, bytes)?)?;
-    Ok(Messages {
+/// The same of a graph of these ops.
+fn messages_with(alloc: Global, ops: BodyList, graph: &Graph) -> anyhow::Result<Box<Messages>> {
+    let stripped = stripped_of(alloc, graph)?;
+    let keys = messages_of(alloc, graph)?;
+    let messages = Messages {
         ops,
-        stripped: stripped_of(alloc, &graph)?,
-        keys: messages_of(alloc, &graph)?,
-    })
+        stripped,
+        keys,
+    };
+    Ok(Box::new(alloc, messages)?)
+}
+
+/// The messages that the keys of a definition need hashed.
+fn needed_messages(alloc: Global, bytes: &[u8]) -> anyhow::Result<Box<Messages>> {
+    let graph = graph_of(alloc, Vec::from_slice(alloc, bytes)?)?;
+    let ops = read_definition(alloc, Vec::from_slice(alloc, bytes)?)?.def;
+    messages_with(alloc, ops, &graph)
 }
 
 fn hash_each(list: &BodyList) {

@@ -2,7 +2,7 @@
 
 use super::clock::seconds_since;
 use super::graphs::{cached_chain, chain, wide};
-use super::hashing::{Hashing, hash};
+use super::hashing::{Exhausted, Hashing, hash};
 use executions::{Executor, OpenGate};
 use farm::{Farm, FarmFault, OneEnd};
 use farm_base::{EVENTS, NodeId};
@@ -59,64 +59,75 @@ impl Shape {
     }
 }
 
-/// Runs one job on one node, with an executor that does nothing. The answer is how many seconds that took, and how it ended.
+/// Runs one job on one node. The answer is how many seconds that took, and how it ended.
 fn run_one<R: Clock + AllocGlobal>(
     rt: &R,
     job: Keyed,
+    executor: Box<dyn Executor + Send>,
 ) -> anyhow::Result<(f64, Result<OneEnd, FarmFault>)> {
     let alloc = rt.alloc();
     let jobs = vec![in alloc; (NodeId(1), job)]?;
-    let executor: Box<dyn Executor + Send> = Box::new(alloc, Hashing::new(alloc, 0))?;
     let start = Instant::now(rt)?;
     let end = Farm::run_one(alloc, Setup { nodes: 1 }, jobs, executor);
     Ok((seconds_since(rt, start), end))
 }
 
-/// Seconds a key of one job.
+/// Seconds a key of one job, with an executor that does nothing.
 fn time_of_job<R: Clock + AllocGlobal>(rt: &R, shape: Shape, keys: u32) -> anyhow::Result<f64> {
+    let alloc = rt.alloc();
     let mut least = f64::INFINITY;
     for _ in 0..RUNS {
-        let (time, end) = run_one(rt, shape.job(rt.alloc(), keys as usize)?)?;
+        let executor: Box<dyn Executor + Send> = Box::new(alloc, Hashing::new(alloc, 0))?;
+        let (time, end) = run_one(rt, shape.job(alloc, keys as usize)?, executor)?;
         let _end = end?;
         least = least.min(time);
     }
     Ok(least / f64::from(keys))
 }
 
-/// Enters a job into a table of its own, and lets go of both.
-fn hold(alloc: Global, job: Keyed) -> anyhow::Result<()> {
-    let mut jobs = Jobs::new(alloc);
-    let _number = jobs.submit_keyed(alloc, &job)?;
-    Ok(())
-}
-
-/// The least seconds to enter a job into a table of its own, and to let go of both.
-fn time_to_hold<R: Clock + AllocGlobal>(rt: &R, shape: Shape, keys: u32) -> anyhow::Result<f64> {
+/// The least seconds of a run of one job until its schedule is full.
+fn time_until_full<R: Clock + AllocGlobal>(rt: &R, shape: Shape, keys: u32) -> anyhow::Result<f64> {
+    let alloc = rt.alloc();
     let mut least = f64::INFINITY;
     for _ in 0..RUNS {
-        let job = shape.job(rt.alloc(), keys as usize)?;
-        let start = Instant::now(rt)?;
-        hold(rt.alloc(), job)?;
-        least = least.min(seconds_since(rt, start));
+        let executor: Box<dyn Executor + Send> = Box::new(alloc, Hashing::new(alloc, 0))?;
+        let (time, end) = run_one(rt, shape.job(alloc, keys as usize)?, executor)?;
+        match end {
+            Err(FarmFault::HistoryFull) => least = least.min(time),
+            Err(fault) => return Err(fault.into()),
+            Ok(_) => anyhow::bail!("the schedule has room for the job"),
+        }
     }
     Ok(least)
 }
 
-/// Seconds a key of one job of more keys than a schedule has room for. It runs until the schedule is full; a key that was solved
-/// by then has its share of what it takes to hold them all.
-fn time_until_full<R: Clock + AllocGlobal>(rt: &R, shape: Shape, keys: u32) -> anyhow::Result<f64> {
+/// The least seconds of a run that ends with its first execution: what all keys take before one is solved, and to let go of them.
+fn time_to_begin<R: Clock + AllocGlobal>(rt: &R, shape: Shape, keys: u32) -> anyhow::Result<f64> {
+    let alloc = rt.alloc();
     let mut least = f64::INFINITY;
     for _ in 0..RUNS {
-        let (time, end) = run_one(rt, shape.job(rt.alloc(), keys as usize)?)?;
+        let executor: Box<dyn Executor + Send> = Box::new(alloc, Exhausted)?;
+        let (time, end) = run_one(rt, shape.job(alloc, keys as usize)?, executor)?;
         match end {
-            Err(FarmFault::HistoryFull) => least = least.min(time),
+            Err(FarmFault::Memory) => least = least.min(time),
             Err(fault) => return Err(fault.into()),
-            Ok(_) => {}
+            Ok(_) => anyhow::bail!("an executor that has no memory solved the job"),
         }
     }
-    let held = time_to_hold(rt, shape, keys)?;
+    Ok(least)
+}
+
+/// Seconds a key of one job of more keys than a schedule has room for, which runs until it is full. A key that was solved by then
+/// has its share of what all keys take before one is solved.
+fn time_of_long_job<R: Clock + AllocGlobal>(
+    rt: &R,
+    shape: Shape,
+    keys: u32,
+) -> anyhow::Result<f64> {
+    let begun = time_to_begin(rt, shape, keys)?;
+    let full = time_until_full(rt, shape, keys)?;
     let solved = f64::from(EVENTS as u32) / f64::from(EVENTS_A_KEY);
-    Ok((least - held) / solved + held / f64::from(keys))
+    Ok((full - begun) / solved + begun / f64::from(keys))
 }
 
 /// How the time of a key grows with the keys of a job on one node.
@@ -127,7 +138,7 @@ fn print_growth<R: Print + Clock + AllocGlobal>(
 ) -> anyhow::Result<()> {
     let few = time_of_job(rt, shape, 1_000)?;
     let some = time_of_job(rt, shape, 8_000)?;
-    let many = time_until_full(rt, shape, 64_000)?;
+    let many = time_of_long_job(rt, shape, 64_000)?;
     for (keys, time) in [(1_000, few), (8_000, some), (64_000, many)] {
         let speed = 1.0 / time;
         let growth = time / few;
