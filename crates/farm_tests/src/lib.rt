@@ -11,6 +11,8 @@ mod explanations;
 #[cfg(test)]
 mod folder_bytes;
 #[cfg(test)]
+mod hostile;
+#[cfg(test)]
 mod keepers;
 #[cfg(test)]
 mod names;

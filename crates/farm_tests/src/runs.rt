@@ -23,13 +23,13 @@ const X: Op = (
     "sha256:c625b55075b66d05d3533e86fd35b624567a08f5f60794ea07603eb176706767",
 );
 
-const PUT: Op = (
+pub(crate) const PUT: Op = (
     "12560a180a037075740a0b2f676f2f706b672f6d6f640a01610a0178",
     "02",
     "sha256:9fb1b8d03624abe987ccf308c45e2eed038dffe0228bd38cf774c1a3f1084286",
 );
 
-const PUT_SHARED: Op = (
+pub(crate) const PUT_SHARED: Op = (
     "12560a180a037075740a0b2f676f2f706b672f6d6f640a01610a0178",
     "00",
     "sha256:24f3dfcf278abda5ed5cdafba2b96b2f1ac82457c8ac7a2c22d5b1fea159cb0c",

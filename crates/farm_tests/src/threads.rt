@@ -2,7 +2,7 @@
 //! executor in one thread.
 ghost use Rattle.std.specs.Prelude.{⊤, ◌≡◌, ◌∷◌, [], IfOk};
 
-use super::runs::{PUT_PRIVATE, file};
+use super::runs::{Op, PUT_PRIVATE, file};
 use commands::Scripted;
 use executions::{Call, ExecOutcome, ExecTask, Executor, Gate, OpenGate};
 use farm::{DownCount, Farm, FarmEnd, FarmFault};
@@ -125,11 +125,11 @@ impl Gate for Both {
     }
 }
 
-/// A job of one vertex on each of these nodes. All have the same key.
-fn jobs_on(alloc: Global, nodes: &[u32]) -> Result<Vec<(NodeId, Keyed)>, Fail> {
+/// A job of this op alone on each of these nodes. All have the same key.
+pub(crate) fn jobs_on(alloc: Global, op: &Op, nodes: &[u32]) -> Result<Vec<(NodeId, Keyed)>, Fail> {
     let mut jobs = Vec::new(alloc);
     for node in nodes {
-        let (_, bytes) = file(alloc, &PUT_PRIVATE)?;
+        let (_, bytes) = file(alloc, op)?;
         let Some(bytes) = bytes else {
             continue;
         };
@@ -159,7 +159,7 @@ fn meets<R: Threads + Wait + Sync>(rt: &R, alloc: Global) -> Result<bool, Fail> 
         second: AtomicBool::new(false),
     };
     let setup = Setup { nodes: 2 };
-    let jobs = jobs_on(alloc, &[1, 2])?;
+    let jobs = jobs_on(alloc, &PUT_PRIVATE, &[1, 2])?;
     let plan = Vec::new(alloc);
     let end = Farm::run(rt, alloc, setup, jobs, two_meeting(alloc)?, plan, &gate)?;
     Ok(both_gave(&end))
@@ -190,7 +190,7 @@ fn commits_of<R: Threads + Wait + Sync, G: Gate>(
     plan: Vec<(usize, FarmStep)>,
     gate: &G,
 ) -> Result<Result<u64, FarmFault>, Fail> {
-    let jobs = jobs_on(alloc, &[node])?;
+    let jobs = jobs_on(alloc, &PUT_PRIVATE, &[node])?;
     let executor: Box<dyn Executor + Send> = Box::new(alloc, Scripted::new(alloc))?;
     let executors = vec![in alloc; (NodeId(1), executor)]?;
     let setup = Setup { nodes: 1 };
@@ -242,14 +242,14 @@ fn solved_here(
     alloc: Global,
     nodes: &[u32],
 ) -> Result<Result<(u64, Vec<Answer>), FarmFault>, Fail> {
-    let jobs = jobs_on(alloc, nodes)?;
+    let jobs = jobs_on(alloc, &PUT_PRIVATE, nodes)?;
     let executor: Box<dyn Executor + Send> = Box::new(alloc, Scripted::new(alloc))?;
     let end = Farm::run_one(alloc, Setup { nodes: 1 }, jobs, executor);
     Ok(end.map(|end| (end.commits, end.answers)))
 }
 
 /// Whether an answer is the output with the digest of this text.
-fn is_output(alloc: Global, answer: &Answer, digest: &str) -> Result<bool, Fail> {
+pub(crate) fn is_output(alloc: Global, answer: &Answer, digest: &str) -> Result<bool, Fail> {
     match answer {
         Answer::Output(output) => Ok(output.to_text(alloc)?.as_str() == digest),
         _ => Ok(false),
