@@ -1,7 +1,7 @@
 //! The ops and graphs that the tests are about.
 
 use farm_base::{Digest, Items, Text};
-use opsproto::{CacheOpt, ExecOp, Meta, Mount, read_definition};
+use opsproto::{CacheOpt, ExecOp, Input, Meta, Mount, Op, read_definition};
 use protowire::put_bytes;
 use sha2::Sha256;
 use std::alloc::{AllocError, Global};
@@ -72,6 +72,16 @@ fn cache_mount(
     Ok(cache)
 }
 
+/// The command `x`.
+fn meta(alloc: Global) -> Result<Meta, AllocError> {
+    Ok(Meta {
+        args: Items::new(vec![in alloc; text(alloc, "x")?]?),
+        env: Items::new(Vec::new(alloc)),
+        cwd: text(alloc, "")?,
+        user: text(alloc, "")?,
+    })
+}
+
 /// The exec op that runs `x` with a root mount and these cache mounts, all of one sharing. Of each its input, its dest,
 /// its id, and whether it is readonly.
 pub fn exec(
@@ -79,18 +89,24 @@ pub fn exec(
     caches: &[(i64, &str, &str, bool)],
     sharing: i32,
 ) -> Result<ExecOp, AllocError> {
-    let meta = Meta {
-        args: Items::new(vec![in alloc; text(alloc, "x")?]?),
-        env: Items::new(Vec::new(alloc)),
-        cwd: text(alloc, "")?,
-        user: text(alloc, "")?,
-    };
+    let mounts = mounts(alloc, caches, sharing)?;
     Ok(ExecOp {
-        meta: Some(meta),
-        mounts: Items::new(mounts(alloc, caches, sharing)?),
+        meta: Some(meta(alloc)?),
+        mounts: Items::new(mounts),
         network: 0,
         security: 0,
     })
+}
+
+/// An op of this exec op with these inputs.
+pub fn exec_op(
+    alloc: Global,
+    inputs: Vec<Input>,
+    caches: &[(i64, &str, &str, bool)],
+    sharing: i32,
+) -> Result<Op, AllocError> {
+    let exec = exec(alloc, caches, sharing)?;
+    Op::exec(alloc, inputs, &exec)
 }
 
 /// The graph that a definition's bytes spell, in a box: letting go of it is one step of a proof.

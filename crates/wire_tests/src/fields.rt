@@ -35,26 +35,33 @@ const ROWS: [(&str, &str); 24] = [
     ("888080808001", "BadFieldNumber"),
 ];
 
-fn shown(alloc: Global, bytes: &[u8]) -> Result<String, Fail> {
-    let mut text = String::new(alloc);
-    match fields(alloc, bytes) {
-        Err(refusal) => write!(text, "{refusal:?}")?,
-        Ok(fields) => {
-            for field in &fields {
-                let number = field.number;
-                match field.value {
-                    Value::Varint(value) => write!(text, "{number}:{value} ")?,
-                    Value::Eight => write!(text, "{number}:eight ")?,
-                    Value::Four => write!(text, "{number}:four ")?,
-                    Value::Bytes(body) => {
-                        let body = hex::encode(alloc, body)?;
-                        write!(text, "{number}={body} ")?;
-                    }
-                }
-            }
+/// A field's number with its varint or its body.
+fn shown_field(alloc: Global, field: &Field<'_>) -> Result<String, Fail> {
+    let number = field.number;
+    Ok(match field.value {
+        Value::Varint(value) => format!(in alloc; "{number}:{value} ")?,
+        Value::Eight => format!(in alloc; "{number}:eight ")?,
+        Value::Four => format!(in alloc; "{number}:four ")?,
+        Value::Bytes(body) => {
+            let body = hex::encode(alloc, body)?;
+            format!(in alloc; "{number}={body} ")?
         }
+    })
+}
+
+fn shown_fields(alloc: Global, fields: &[Field<'_>]) -> Result<String, Fail> {
+    let mut text = String::new(alloc);
+    for field in fields {
+        text.push_str(shown_field(alloc, field)?.as_str())?;
     }
     Ok(text)
+}
+
+fn shown(alloc: Global, bytes: &[u8]) -> Result<String, Fail> {
+    match fields(alloc, bytes) {
+        Ok(fields) => shown_fields(alloc, &fields),
+        Err(refusal) => Ok(format!(in alloc; "{refusal:?}")?),
+    }
 }
 
 #[test]

@@ -98,7 +98,7 @@ const NO_OUTPUT: [(Call, &str); 6] = [
 
 /// The calls on a diamond, one of whose inputs fails, with a later job beside it. Behind each answer the ready keys
 /// after the call, by their places in the order of submission.
-const KEPT: [(Call, &str, &str); 14] = [
+static KEPT: [(Call, &str, &str); 14] = [
     (Call::Submit(DIAMOND), "job 0", "0"),
     (Call::Submit(LATER), "job 1", "0 4"),
     (Call::Take, "took", "4"),
@@ -265,14 +265,26 @@ impl Play {
             Call::Needed(number) => self.needed(alloc, number),
         }
     }
+
+    /// Whether the call is answered as expected.
+    fn answers(&mut self, alloc: Global, call: Call, expected: &str) -> Result<bool, Fail> {
+        Ok(self.call(alloc, call)?.as_str() == expected)
+    }
+
+    /// Whether exactly these keys are ready.
+    fn keeps(&self, alloc: Global, ready: &str) -> Result<bool, AllocError> {
+        Ok(self.ready(alloc)?.as_str() == ready)
+    }
 }
+
+/// Rows of calls, each on a table of its own.
+const ROWS: [&[(Call, &str)]; 5] = [&SHARED, &FAILED, &LACKING, &CAUSES, &NO_OUTPUT];
 
 /// The place of the first call of a row that is not answered as expected, if there is one.
 fn wrong_call(alloc: Global, row: &[(Call, &str)]) -> Result<Option<usize>, Fail> {
     let mut play = Play::boxed(alloc)?;
     for (place, (call, expected)) in row.iter().enumerate() {
-        let answer = play.call(alloc, *call)?;
-        if answer.as_str() != *expected {
+        if !play.answers(alloc, *call, *expected)? {
             return Ok(Some(place));
         }
     }
@@ -281,21 +293,25 @@ fn wrong_call(alloc: Global, row: &[(Call, &str)]) -> Result<Option<usize>, Fail
 
 #[test]
 fn jobs_on_one_table(rt: HostRuntime) -> Result<(), Fail> {
-    let rows: [&[(Call, &str)]; 5] = [&SHARED, &FAILED, &LACKING, &CAUSES, &NO_OUTPUT];
-    for row in rows {
-        assert_eq!(rt; wrong_call(rt.alloc(), row)?, None);
+    for row in &ROWS {
+        assert_eq!(rt; wrong_call(rt.alloc(), *row)?, None);
     }
     Ok(())
 }
 
+/// The place of the first call of a row that is not answered as expected, or leaves other keys ready, if there is one.
+fn wrong_keys(alloc: Global, row: &[(Call, &str, &str)]) -> Result<Option<usize>, Fail> {
+    let mut play = Play::boxed(alloc)?;
+    for (place, (call, expected, ready)) in row.iter().enumerate() {
+        if !play.answers(alloc, *call, *expected)? || !play.keeps(alloc, *ready)? {
+            return Ok(Some(place));
+        }
+    }
+    Ok(None)
+}
+
 #[test]
 fn ready_keys_are_kept(rt: HostRuntime) -> Result<(), Fail> {
-    let alloc = rt.alloc();
-    let mut play = Play::boxed(alloc)?;
-    for (call, expected, ready) in &KEPT {
-        let answer = play.call(alloc, *call)?;
-        assert_eq!(rt; answer.as_str(), *expected);
-        assert_eq!(rt; play.ready(alloc)?.as_str(), *ready);
-    }
+    assert_eq!(rt; wrong_keys(rt.alloc(), &KEPT)?, None);
     Ok(())
 }

@@ -1,9 +1,9 @@
 //! What vertices want for their cache mounts, worked out by hand.
 
-use super::build::{CACHED, digest_text, exec, graph_of};
+use super::build::{CACHED, digest_text, exec_op, graph_of};
 use cachemounts::{needs_home, views, wants};
 use farm_base::{Key, Wants};
-use opsproto::{Input, Op, write_op};
+use opsproto::{Input, write_op};
 use std::alloc::{AllocError, Global};
 use std::test::Fail;
 use vertices::Graph;
@@ -29,18 +29,29 @@ fn shown_wants(alloc: Global, wants: &Wants) -> Result<String, AllocError> {
     Ok(text)
 }
 
-/// What the vertex of a number wants, and for each of its cache mounts the place of the want that it sees.
+/// The text, and behind it for each cache mount the place of the want that it sees.
+fn with_views(text: String, views: &[(usize, usize)]) -> Result<String, AllocError> {
+    let mut text = text;
+    for (mount, want) in views {
+        write!(text, "{mount}-{want} ")?;
+    }
+    Ok(text)
+}
+
+/// What the vertex of a number wants, and what its cache mounts see.
 fn shown(alloc: Global, graph: &Graph, number: usize) -> Result<String, Fail> {
     let keys = solverkeys::keys(alloc, graph)?;
     if number >= graph.len() {
         return Err(Fail::from("no vertex"));
     }
     let wants = wants(alloc, graph, number, &keys)?;
-    let mut text = shown_wants(alloc, &wants)?;
-    for (mount, want) in &views(alloc, graph, number, &keys, &wants)? {
-        write!(text, "{mount}-{want} ")?;
-    }
-    Ok(text)
+    let views = views(alloc, graph, number, &keys, &wants)?;
+    Ok(with_views(shown_wants(alloc, &wants)?, &views)?)
+}
+
+/// Whether the vertex of a number wants this.
+fn is_wanted(alloc: Global, graph: &Graph, number: usize, wanted: &str) -> Result<bool, Fail> {
+    Ok(shown(alloc, graph, number)?.as_str() == wanted)
 }
 
 /// The text of a graph's first key.
@@ -56,36 +67,43 @@ fn locked(
     inputs: Vec<Input>,
     caches: &[(i64, &str, &str, bool)],
 ) -> Result<Vec<u8>, AllocError> {
-    write_op(alloc, &Op::exec(alloc, inputs, &exec(alloc, caches, 2)?)?)
+    let op = exec_op(alloc, inputs, caches, 2)?;
+    write_op(alloc, &op)
+}
+
+/// A graph of the exec op with a cache mount of this sharing.
+fn with_sharing(alloc: Global, sharing: u8) -> Result<Box<Graph>, Fail> {
+    let mut op = hex::decode(alloc, CACHED)?;
+    op.pop();
+    op.push(sharing)?;
+    graph_of(alloc, &[op])
 }
 
 #[test]
 fn sharings(rt: HostRuntime) -> Result<(), Fail> {
     for (sharing, wanted) in &SHARINGS {
-        let mut op = hex::decode(rt.alloc(), CACHED)?;
-        op.pop();
-        op.push(*sharing)?;
-        let graph = graph_of(rt.alloc(), &[op])?;
-        let text = shown(rt.alloc(), &graph, 0)?;
-        assert_eq!(rt; text.as_str(), *wanted);
+        let graph = with_sharing(rt.alloc(), *sharing)?;
+        assert!(rt; is_wanted(rt.alloc(), &graph, 0, *wanted)?);
     }
     Ok(())
 }
 
-#[test]
-fn two_mounts_of_a_folder(rt: HostRuntime) -> Result<(), Fail> {
+/// A graph of an exec op that mounts one folder twice, once readonly.
+fn with_two_mounts(alloc: Global) -> Result<Box<Graph>, Fail> {
     let mounts = [
         (-1, "/b", "/a", true),
         (-1, "/a", "", false),
         (-1, "/c", "", true),
     ];
-    let op = locked(rt.alloc(), Vec::new(rt.alloc()), &mounts)?;
-    let graph = graph_of(rt.alloc(), &[op])?;
-    let text = shown(rt.alloc(), &graph, 0)?;
-    assert_eq!(rt;
-        text.as_str(),
-        "locked:/a true locked:/c false 1-0 2-0 3-1 "
-    );
+    let op = locked(alloc, Vec::new(alloc), &mounts)?;
+    graph_of(alloc, &[op])
+}
+
+#[test]
+fn two_mounts_of_a_folder(rt: HostRuntime) -> Result<(), Fail> {
+    let graph = with_two_mounts(rt.alloc())?;
+    let wanted = "locked:/a true locked:/c false 1-0 2-0 3-1 ";
+    assert!(rt; is_wanted(rt.alloc(), &graph, 0, wanted)?);
     Ok(())
 }
 
@@ -101,20 +119,18 @@ fn with_base(alloc: Global) -> Result<Box<Graph>, Fail> {
     graph_of(alloc, &[source, op])
 }
 
-/// What the exec op wants, with the key of the source op.
-fn wanted_with_base(alloc: Global, graph: &Graph) -> Result<String, Fail> {
+/// Whether the exec op wants its folders, one of them with the key of the source op.
+fn is_wanted_with_base(alloc: Global, graph: &Graph) -> Result<bool, Fail> {
     let key = first_key(alloc, graph)?;
-    Ok(format!(in alloc; "locked:/a true locked:/a@{key}.5 true 1-1 2-0 ")?)
+    let wanted = format!(in alloc; "locked:/a true locked:/a@{key}.5 true 1-1 2-0 ")?;
+    is_wanted(alloc, graph, 1, wanted.as_str())
 }
 
 /// The source op wants nothing.
 #[test]
 fn an_output_as_base(rt: HostRuntime) -> Result<(), Fail> {
     let graph = with_base(rt.alloc())?;
-    let nothing = shown(rt.alloc(), &graph, 0)?;
-    assert_eq!(rt; nothing.as_str(), "");
-    let text = shown(rt.alloc(), &graph, 1)?;
-    let expected = wanted_with_base(rt.alloc(), &graph)?;
-    assert_eq!(rt; text.as_str(), expected.as_str());
+    assert!(rt; is_wanted(rt.alloc(), &graph, 0, "")?);
+    assert!(rt; is_wanted_with_base(rt.alloc(), &graph)?);
     Ok(())
 }

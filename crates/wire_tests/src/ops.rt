@@ -1,6 +1,6 @@
 //! Ops and definitions. Their bytes were spelled by hand from proto3's encoding.
 
-use super::build::{CACHED, exec, text};
+use super::build::{CACHED, exec, exec_op, text};
 use opsproto::{
     Definition, ExecOp, Input, Kind, Op, OpRefusal, read_definition, read_op, write_definition,
     write_exec, write_op,
@@ -114,8 +114,7 @@ fn op_with_input(alloc: Global) -> Result<Op, AllocError> {
         index: -1,
     };
     let inputs = vec![in alloc; input]?;
-    let exec = exec(alloc, &[(-1, "/go/pkg/mod", "", false)], 3)?;
-    Op::exec(alloc, inputs, &exec)
+    exec_op(alloc, inputs, &[(-1, "/go/pkg/mod", "", false)], 3)
 }
 
 /// The same as it is written.

@@ -31,15 +31,22 @@ fn shown(alloc: Global, entries: &[(Digest, Vec<Digest>)]) -> Result<String, All
     Ok(text)
 }
 
+/// The entries of a row.
+fn entries_of(
+    alloc: Global,
+    row: &[(u8, &[u8])],
+) -> Result<Vec<(Digest, Vec<Digest>)>, AllocError> {
+    let mut entries = Vec::new(alloc);
+    for (byte, inputs) in row {
+        entries.push((Digest([*byte; 32]), digests(alloc, *inputs)?))?;
+    }
+    Ok(entries)
+}
+
 #[test]
 fn orders(rt: HostRuntime) -> Result<(), Fail> {
-    let alloc = rt.alloc();
     for (row, wanted) in &ROWS {
-        let mut entries = Vec::new(alloc);
-        for (byte, inputs) in *row {
-            entries.push((Digest([*byte; 32]), digests(alloc, *inputs)?))?;
-        }
-        let text = shown(alloc, &entries)?;
+        let text = shown(rt.alloc(), &entries_of(rt.alloc(), *row)?)?;
         assert_eq!(rt; text.as_str(), *wanted);
     }
     Ok(())
