@@ -1,6 +1,6 @@
 //! Builds on a farm.
 
-use super::clock::seconds_since;
+use super::clock::{ROUNDS, seconds_since};
 use super::graphs::{cached_chain, chain, wide};
 use super::hashing::{Exhausted, Hashing, hash};
 use executions::{Executor, OpenGate};
@@ -21,15 +21,17 @@ use vertices::load;
 /// How many events an execution takes: its ask, begin and finish, and the delivery of each message to the coordinator and of each
 /// answer.
 const EVENTS_A_KEY: u32 = 7;
+/// How many keys one job has.
+const KEYS: [u32; 3] = [1_000, 8_000, 64_000];
 /// How many jobs run at once.
 const JOBS: usize = 64;
 /// How many vertices each of them has, so that they fit into a schedule.
 const VERTICES: usize = 100;
 /// How often an executor hashes 64 KiB for a task, so that it takes about a millisecond.
-const ROUNDS: u32 = 4;
+const HASHES: u32 = 4;
 /// On how many nodes the jobs run, and on how many threads as much is hashed without a farm.
 const NODES: [u32; 3] = [1, 2, 4];
-/// How often each of them is run, in turn, and jobs alone. The least time counts.
+/// How often each of them is run, in turn, and a table of jobs alone. The least time counts.
 const RUNS: u32 = 3;
 /// How often 64 KiB are hashed in all without a farm.
 const HASHED: u32 = 2_560;
@@ -72,62 +74,59 @@ fn run_one<R: Clock + AllocGlobal>(
     Ok((seconds_since(rt, start), end))
 }
 
-/// Seconds a key of one job, with an executor that does nothing.
-fn time_of_job<R: Clock + AllocGlobal>(rt: &R, shape: Shape, keys: u32) -> anyhow::Result<f64> {
+/// Seconds of a run of one job, with an executor that does nothing.
+fn time_of_job<R: Clock + AllocGlobal>(rt: &R, shape: Shape, keys: usize) -> anyhow::Result<f64> {
     let alloc = rt.alloc();
-    let mut least = f64::INFINITY;
-    for _ in 0..RUNS {
-        let executor: Box<dyn Executor + Send> = Box::new(alloc, Hashing::new(alloc, 0))?;
-        let (time, end) = run_one(rt, shape.job(alloc, keys as usize)?, executor)?;
-        let _end = end?;
-        least = least.min(time);
-    }
-    Ok(least / f64::from(keys))
+    let executor: Box<dyn Executor + Send> = Box::new(alloc, Hashing::new(alloc, 0))?;
+    let (time, end) = run_one(rt, shape.job(alloc, keys)?, executor)?;
+    let _end = end?;
+    Ok(time)
 }
 
-/// The least seconds of a run of one job until its schedule is full.
-fn time_until_full<R: Clock + AllocGlobal>(rt: &R, shape: Shape, keys: u32) -> anyhow::Result<f64> {
-    let alloc = rt.alloc();
-    let mut least = f64::INFINITY;
-    for _ in 0..RUNS {
-        let executor: Box<dyn Executor + Send> = Box::new(alloc, Hashing::new(alloc, 0))?;
-        let (time, end) = run_one(rt, shape.job(alloc, keys as usize)?, executor)?;
-        match end {
-            Err(FarmFault::HistoryFull) => least = least.min(time),
-            Err(fault) => return Err(fault.into()),
-            Ok(_) => anyhow::bail!("the schedule has room for the job"),
-        }
-    }
-    Ok(least)
-}
-
-/// The least seconds of a run that ends with its first execution: what all keys take before one is solved, and to let go of them.
-fn time_to_begin<R: Clock + AllocGlobal>(rt: &R, shape: Shape, keys: u32) -> anyhow::Result<f64> {
-    let alloc = rt.alloc();
-    let mut least = f64::INFINITY;
-    for _ in 0..RUNS {
-        let executor: Box<dyn Executor + Send> = Box::new(alloc, Exhausted)?;
-        let (time, end) = run_one(rt, shape.job(alloc, keys as usize)?, executor)?;
-        match end {
-            Err(FarmFault::Memory) => least = least.min(time),
-            Err(fault) => return Err(fault.into()),
-            Ok(_) => anyhow::bail!("an executor that has no memory solved the job"),
-        }
-    }
-    Ok(least)
-}
-
-/// Seconds a key of one job of more keys than a schedule has room for, which runs until it is full. A key that was solved by then
-/// has its share of what all keys take before one is solved.
-fn time_of_long_job<R: Clock + AllocGlobal>(
+/// Seconds of a run of one job until its schedule is full.
+fn time_until_full<R: Clock + AllocGlobal>(
     rt: &R,
     shape: Shape,
-    keys: u32,
+    keys: usize,
 ) -> anyhow::Result<f64> {
-    let begun = time_to_begin(rt, shape, keys)?;
-    let full = time_until_full(rt, shape, keys)?;
+    let alloc = rt.alloc();
+    let executor: Box<dyn Executor + Send> = Box::new(alloc, Hashing::new(alloc, 0))?;
+    let (time, end) = run_one(rt, shape.job(alloc, keys)?, executor)?;
+    match end {
+        Err(FarmFault::HistoryFull) => Ok(time),
+        Err(fault) => Err(fault.into()),
+        Ok(_) => anyhow::bail!("the schedule has room for the job"),
+    }
+}
+
+/// Seconds of a run that ends with its first execution: what all keys take before one is solved, and to let go of them.
+fn time_to_begin<R: Clock + AllocGlobal>(rt: &R, shape: Shape, keys: usize) -> anyhow::Result<f64> {
+    let alloc = rt.alloc();
+    let executor: Box<dyn Executor + Send> = Box::new(alloc, Exhausted)?;
+    let (time, end) = run_one(rt, shape.job(alloc, keys)?, executor)?;
+    match end {
+        Err(FarmFault::Memory) => Ok(time),
+        Err(fault) => Err(fault.into()),
+        Ok(_) => anyhow::bail!("an executor that has no memory solved the job"),
+    }
+}
+
+/// The least seconds a key of one job of 1,000, of 8,000 and of 64,000 keys, run in turn. A schedule has no room for the last,
+/// which is run until it is full; a key that was solved by then has its share of what all keys take before one is solved.
+fn times_of_a_key<R: Clock + AllocGlobal>(rt: &R, shape: Shape) -> anyhow::Result<[f64; 3]> {
+    let mut few = f64::INFINITY;
+    let mut some = f64::INFINITY;
+    let mut begun = f64::INFINITY;
+    let mut full = f64::INFINITY;
+    for _ in 0..ROUNDS {
+        few = few.min(time_of_job(rt, shape, 1_000)?);
+        some = some.min(time_of_job(rt, shape, 8_000)?);
+        begun = begun.min(time_to_begin(rt, shape, 64_000)?);
+        full = full.min(time_until_full(rt, shape, 64_000)?);
+    }
     let solved = f64::from(EVENTS as u32) / f64::from(EVENTS_A_KEY);
-    Ok((full - begun) / solved + begun / f64::from(keys))
+    let many = (full - begun) / solved + begun / 64_000.0;
+    Ok([few / 1_000.0, some / 8_000.0, many])
 }
 
 /// How the time of a key grows with the keys of a job on one node.
@@ -136,12 +135,10 @@ fn print_growth<R: Print + Clock + AllocGlobal>(
     name: &str,
     shape: Shape,
 ) -> anyhow::Result<()> {
-    let few = time_of_job(rt, shape, 1_000)?;
-    let some = time_of_job(rt, shape, 8_000)?;
-    let many = time_of_long_job(rt, shape, 64_000)?;
-    for (keys, time) in [(1_000, few), (8_000, some), (64_000, many)] {
-        let speed = 1.0 / time;
-        let growth = time / few;
+    let times = times_of_a_key(rt, shape)?;
+    for (keys, time) in KEYS.iter().zip(times.iter()) {
+        let speed = 1.0 / *time;
+        let growth = *time / times[0];
         println!(rt;
             "run a job of {keys}, {name}: {speed:.0} keys/s, a key takes {growth:.2} times as long as of 1,000"
         )?;
@@ -328,7 +325,7 @@ pub fn measure<R: Print + Clock + AllocGlobal + Threads + Wait + Sync>(
     print_growth(rt, "side by side", Shape::SideBySide)?;
     print_table_growth(rt)?;
     print_machine(rt)?;
-    print_farms(rt, "a folder each", true, ROUNDS)?;
-    print_farms(rt, "one folder", false, ROUNDS)?;
+    print_farms(rt, "a folder each", true, HASHES)?;
+    print_farms(rt, "one folder", false, HASHES)?;
     print_farms(rt, "a folder each, nothing hashed", true, 0)
 }
