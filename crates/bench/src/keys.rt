@@ -53,7 +53,7 @@ fn messages_of(alloc: Global, graph: &Graph) -> anyhow::Result<BodyList> {
     Ok(messages)
 }
 
-/// The same of a graph of these ops.
+/// The messages that the keys of a graph of these ops need hashed.
 fn messages_with(alloc: Global, ops: BodyList, graph: &Graph) -> anyhow::Result<Box<Messages>> {
     let stripped = stripped_of(alloc, graph)?;
     let keys = messages_of(alloc, graph)?;
@@ -65,7 +65,7 @@ fn messages_with(alloc: Global, ops: BodyList, graph: &Graph) -> anyhow::Result<
     Ok(Box::new(alloc, messages)?)
 }
 
-/// The messages that the keys of a definition need hashed.
+/// The same for a definition.
 fn needed_messages(alloc: Global, bytes: &[u8]) -> anyhow::Result<Box<Messages>> {
     let graph = graph_of(alloc, Vec::from_slice(alloc, bytes)?)?;
     let ops = read_definition(alloc, Vec::from_slice(alloc, bytes)?)?.def;

@@ -21,6 +21,9 @@ const EVENTS_OF_A_RESTART: u32 = 3;
 /// What the leases and the restart take.
 const EVENTS_OF_A_LIFE: u32 = LEASES_OF_A_LIFE * EVENTS_OF_A_LEASE + EVENTS_OF_A_RESTART;
 
+/// How many events are replayed.
+const COUNTS: [u32; 3] = [4_096, 16_384, 65_536];
+
 /// The one want of each lease.
 pub fn wants(alloc: Global) -> anyhow::Result<Wants> {
     let folder = FolderName::parse(alloc, FOLDER)?;
@@ -125,23 +128,27 @@ fn replaying<R: Clock + AllocGlobal>(rt: &R, nodes: u32, count: u32) -> anyhow::
     Ok(least / f64::from(count))
 }
 
+/// Prints how many events of each number a farm of this many nodes replays in a second, and how the time of an event grows.
+fn print_replays<R: Print + Clock + AllocGlobal>(rt: &R, nodes: u32) -> anyhow::Result<()> {
+    let mut first = 0.0;
+    for count in &COUNTS {
+        let time = replaying(rt, nodes, *count)?;
+        if *count == COUNTS[0] {
+            first = time;
+        }
+        let speed = 1.0 / time;
+        let growth = time / first;
+        println!(rt;
+            "replay {count} events, nodes {nodes}: {speed:.0} events/s, {growth:.2} of the time of an event of 4096"
+        )?;
+    }
+    Ok(())
+}
+
 /// Prints, for farms of 1 and of 64 nodes that take turns with one LOCKED folder, how many events of 4,096,
 /// 16,384 and 65,536 are replayed in a second, and how the time of an event grows. Of the 64 nodes one restarts after each 2,560
 /// leases, and so does the coordinator.
 pub fn measure<R: Print + Clock + AllocGlobal>(rt: &R) -> anyhow::Result<()> {
-    for nodes in [1, 64] {
-        let mut first = 0.0;
-        for count in [4_096, 16_384, 65_536] {
-            let time = replaying(rt, nodes, count)?;
-            if count == 4_096 {
-                first = time;
-            }
-            let speed = 1.0 / time;
-            let growth = time / first;
-            println!(rt;
-                "replay {count} events, nodes {nodes}: {speed:.0} events/s, {growth:.2} of the time of an event of 4096"
-            )?;
-        }
-    }
-    Ok(())
+    print_replays(rt, 1)?;
+    print_replays(rt, 64)
 }

@@ -21,7 +21,7 @@ use vertices::load;
 /// How many events an execution takes: its ask, begin and finish, and the delivery of each message to the coordinator and of each
 /// answer.
 const EVENTS_A_KEY: u32 = 7;
-/// How many keys one job has.
+/// How many keys one job has. A schedule has no room for the most.
 const KEYS: [u32; 3] = [1_000, 8_000, 64_000];
 /// How many jobs run at once.
 const JOBS: usize = 64;
@@ -111,22 +111,22 @@ fn time_to_begin<R: Clock + AllocGlobal>(rt: &R, shape: Shape, keys: usize) -> a
     }
 }
 
-/// The least seconds a key of one job of 1,000, of 8,000 and of 64,000 keys, run in turn. A schedule has no room for the last,
-/// which is run until it is full; a key that was solved by then has its share of what all keys take before one is solved.
+/// The least seconds a key of one job of each number of keys, run in turn. The greatest is run until its schedule is full; a key
+/// that was solved by then has its share of what all keys take before one is solved.
 fn times_of_a_key<R: Clock + AllocGlobal>(rt: &R, shape: Shape) -> anyhow::Result<[f64; 3]> {
     let mut few = f64::INFINITY;
     let mut some = f64::INFINITY;
     let mut begun = f64::INFINITY;
     let mut full = f64::INFINITY;
     for _ in 0..ROUNDS {
-        few = few.min(time_of_job(rt, shape, 1_000)?);
-        some = some.min(time_of_job(rt, shape, 8_000)?);
-        begun = begun.min(time_to_begin(rt, shape, 64_000)?);
-        full = full.min(time_until_full(rt, shape, 64_000)?);
+        few = few.min(time_of_job(rt, shape, KEYS[0] as usize)?);
+        some = some.min(time_of_job(rt, shape, KEYS[1] as usize)?);
+        begun = begun.min(time_to_begin(rt, shape, KEYS[2] as usize)?);
+        full = full.min(time_until_full(rt, shape, KEYS[2] as usize)?);
     }
     let solved = f64::from(EVENTS as u32) / f64::from(EVENTS_A_KEY);
-    let many = (full - begun) / solved + begun / 64_000.0;
-    Ok([few / 1_000.0, some / 8_000.0, many])
+    let many = (full - begun) / solved + begun / f64::from(KEYS[2]);
+    Ok([few / f64::from(KEYS[0]), some / f64::from(KEYS[1]), many])
 }
 
 /// How the time of a key grows with the keys of a job on one node.
@@ -249,6 +249,20 @@ fn run_each<R: Print + Clock + AllocGlobal + Threads + Wait + Sync>(
     Ok(commits)
 }
 
+/// Runs these jobs on each number of nodes, in turn: the least seconds, and how many commits a run makes.
+fn times_of_farms<R: Print + Clock + AllocGlobal + Threads + Wait + Sync>(
+    rt: &R,
+    apart: bool,
+    rounds: u32,
+) -> anyhow::Result<([f64; 3], u64)> {
+    let mut times = [f64::INFINITY; 3];
+    let mut commits = 0;
+    for _ in 0..RUNS {
+        commits = run_each(rt, apart, rounds, &mut times)?;
+    }
+    Ok((times, commits))
+}
+
 /// Prints, for 64 jobs on each number of nodes, how many commits are made in a second, and how much faster that is than on 1.
 fn print_farms<R: Print + Clock + AllocGlobal + Threads + Wait + Sync>(
     rt: &R,
@@ -256,11 +270,7 @@ fn print_farms<R: Print + Clock + AllocGlobal + Threads + Wait + Sync>(
     apart: bool,
     rounds: u32,
 ) -> anyhow::Result<()> {
-    let mut times = [f64::INFINITY; 3];
-    let mut commits = 0;
-    for _ in 0..RUNS {
-        commits = run_each(rt, apart, rounds, &mut times)?;
-    }
+    let (times, commits) = times_of_farms(rt, apart, rounds)?;
     let commits = f64::from(u32::try_from(commits).unwrap_or(u32::MAX));
     for (time, nodes) in times.iter().zip(NODES.iter()) {
         let speed = commits / *time;
@@ -298,16 +308,24 @@ fn time_of_hashing<R: Clock + AllocGlobal + Threads + Wait + Sync>(
     Ok(seconds_since(rt, start))
 }
 
-/// Prints how much faster threads hash than one, without a farm: what the machine gives.
-fn print_machine<R: Print + Clock + AllocGlobal + Threads + Wait + Sync>(
+/// The least seconds of hashing on each number of threads, run in turn.
+fn times_of_hashing<R: Clock + AllocGlobal + Threads + Wait + Sync>(
     rt: &R,
-) -> anyhow::Result<()> {
+) -> anyhow::Result<[f64; 3]> {
     let mut times = [f64::INFINITY; 3];
     for turn in 0..3 * RUNS {
         let place = (turn % 3) as usize;
         let time = time_of_hashing(rt, NODES[place])?;
         times[place] = times[place].min(time);
     }
+    Ok(times)
+}
+
+/// Prints how much faster threads hash than one, without a farm: what the machine gives.
+fn print_machine<R: Print + Clock + AllocGlobal + Threads + Wait + Sync>(
+    rt: &R,
+) -> anyhow::Result<()> {
+    let times = times_of_hashing(rt)?;
     for (time, threads) in times.iter().zip(NODES.iter()) {
         let faster = times[0] / *time;
         println!(rt; "hashing alone, threads {threads}: {faster:.2} times 1 thread")?;

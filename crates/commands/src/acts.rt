@@ -149,7 +149,39 @@ fn print_explanation<E: Write>(
     }
 }
 
-/// Reads the file that the words name, acts, and explains what is refused if the words ask for it.
+/// Reads the file of this name, and replaces the explanation with that of the file where there is none yet.
+fn read_file<R: Files + Input + AllocGlobal>(
+    rt: &R,
+    words: &Words,
+    name: &str,
+    told: &mut Explanation,
+) -> Result<Option<Vec<u8>>, AllocError> {
+    let bytes = contents(rt, name, words.request.most_bytes());
+    if matches!(&bytes, Err(error) if matches!(error.kind(), io::ErrorKind::OutOfMemory)) {
+        return Err(AllocError);
+    }
+    if told.lines.is_empty() {
+        *told = explanation(rt.alloc(), words, name, &bytes)?;
+    }
+    Ok(bytes.ok())
+}
+
+/// Reads the files that the words name, each with its bytes or `None` where it can't be read.
+fn read_files<R: Files + Input + AllocGlobal>(
+    rt: &R,
+    words: &Words,
+    told: &mut Explanation,
+) -> Result<Vec<(String, Option<Vec<u8>>)>, AllocError> {
+    let alloc = rt.alloc();
+    let mut files = Vec::new(alloc);
+    for name in &words.files {
+        let bytes = read_file(rt, words, name, told)?;
+        files.push((String::from_str(alloc, name)?, bytes))?;
+    }
+    Ok(files)
+}
+
+/// Reads the files that the words name, acts, and explains what is refused if the words ask for it.
 fn act_on<R: Files + Input + AllocGlobal + Threads + Wait + Sync, O: Write, E: Write>(
     rt: &R,
     words: &Words,
@@ -157,28 +189,18 @@ fn act_on<R: Files + Input + AllocGlobal + Threads + Wait + Sync, O: Write, E: W
     err: &mut E,
 ) -> Result<u8, AllocError> {
     let alloc = rt.alloc();
-    let mut files = Vec::new(alloc);
-    let mut all = Explanation {
+    let mut told = Explanation {
         lines: String::new(alloc),
         has_refused_event: false,
     };
-    for name in &words.files {
-        let bytes = contents(rt, name, words.request.most_bytes());
-        if matches!(&bytes, Err(error) if matches!(error.kind(), io::ErrorKind::OutOfMemory)) {
-            return Err(AllocError);
-        }
-        if all.lines.is_empty() {
-            all = explanation(alloc, words, name, &bytes)?;
-        }
-        files.push((String::from_str(alloc, name)?, bytes.ok()))?;
-    }
+    let files = read_files(rt, words, &mut told)?;
     let status = match words.request {
         Request::Print(command) => act(alloc, command, files, out, err),
         Request::Run { nodes, record_path } => {
             run_scripts(rt, nodes, record_path, files, out, err)?
         }
     };
-    Ok(print_explanation(words.options, &all, status, err))
+    Ok(print_explanation(words.options, &told, status, err))
 }
 
 /// Does what the words say. The texts of usage faults and help are `clap`'s.

@@ -156,27 +156,36 @@ No command is really run. An execution does what its command's words say:
   fail                 fails
 Any other command changes nothing.";
 
-fn run_command<'a>(alloc: Global) -> Result<clap::Command<'a>, AllocError> {
-    let nodes = Arg::new(alloc, "nodes")
+fn nodes_arg<'a>(alloc: Global) -> Arg<'a> {
+    Arg::new(alloc, "nodes")
         .long("nodes")
         .value_name("N")
         .required(true)
         .value_parser(ValueParser::Unsigned(1, NODES as u64))
-        .help("How many nodes the farm has; the files are built on them in turn");
-    let path = Arg::new(alloc, "record")
+        .help("How many nodes the farm has; the files are built on them in turn")
+}
+
+fn record_arg<'a>(alloc: Global) -> Arg<'a> {
+    Arg::new(alloc, "record")
         .long("record")
         .value_name("PATH")
-        .help("Keeps the coordinator's record in this file, as `farmctl record` reads it");
-    let files = Arg::new(alloc, "FILE")
+        .help("Keeps the coordinator's record in this file, as `farmctl record` reads it")
+}
+
+fn files_arg<'a>(alloc: Global) -> Arg<'a> {
+    Arg::new(alloc, "FILE")
         .required(true)
         .num_args(1..)
-        .help(DEFINITION);
+        .help(DEFINITION)
+}
+
+fn run_command<'a>(alloc: Global) -> Result<clap::Command<'a>, AllocError> {
     clap::Command::new(alloc, "run")
         .about("Builds definitions on a farm, with executors that run scripts")
         .after_help(SCRIPTS)
-        .arg(nodes)?
-        .arg(path)?
-        .arg(files)
+        .arg(nodes_arg(alloc))?
+        .arg(record_arg(alloc))?
+        .arg(files_arg(alloc))
 }
 
 /// What the program's help says below its commands.

@@ -2,8 +2,8 @@
 
 use super::build::{CACHED, exec, exec_op, text};
 use opsproto::{
-    Definition, ExecOp, Input, Kind, Op, OpRefusal, read_definition, read_op, write_definition,
-    write_exec, write_op,
+    Definition, ExecOp, Input, Kind, Meta, Mount, Op, OpRefusal, read_definition, read_op,
+    write_definition, write_exec, write_op,
 };
 use std::alloc::{AllocError, Global};
 use std::test::Fail;
@@ -52,16 +52,18 @@ const ROWS: [(&str, &str); 21] = [
     ("5201ff", "bare"),
 ];
 
-fn shown_exec(alloc: Global, exec: &ExecOp) -> Result<String, AllocError> {
-    let mut shown = String::from_str(alloc, "exec")?;
-    if let Some(meta) = &exec.meta {
-        for arg in meta.args.as_slice() {
-            let arg = arg.as_str();
-            write!(shown, " {arg}")?;
-        }
+/// Adds the words of a command.
+fn add_args(shown: &mut String, meta: &Meta) -> Result<(), AllocError> {
+    for arg in meta.args.as_slice() {
+        let arg = arg.as_str();
+        write!(shown, " {arg}")?;
     }
-    shown.push_str("; mounts")?;
-    for mount in exec.mounts.as_slice() {
+    Ok(())
+}
+
+/// Adds where each mount is, and its sharing if it is a cache.
+fn add_mounts(shown: &mut String, mounts: &[Mount]) -> Result<(), AllocError> {
+    for mount in mounts {
         let dest = mount.dest.as_str();
         write!(shown, " {dest}")?;
         if let Some(cache) = &mount.cache {
@@ -69,6 +71,16 @@ fn shown_exec(alloc: Global, exec: &ExecOp) -> Result<String, AllocError> {
             write!(shown, ":{sharing}")?;
         }
     }
+    Ok(())
+}
+
+fn shown_exec(alloc: Global, exec: &ExecOp) -> Result<String, AllocError> {
+    let mut shown = String::from_str(alloc, "exec")?;
+    if let Some(meta) = &exec.meta {
+        add_args(&mut shown, meta)?;
+    }
+    shown.push_str("; mounts")?;
+    add_mounts(&mut shown, exec.mounts.as_slice())?;
     let network = exec.network;
     write!(shown, "; network {network}")?;
     Ok(shown)
