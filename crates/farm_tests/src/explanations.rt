@@ -1,6 +1,6 @@
 //! What `--explain` says, and the words that ask for it.
 
-use super::printed::lines_of;
+use super::printed::{lines_of, strings};
 use commands::{Command, Options, Request, explained, words_of};
 use std::alloc::Global;
 use std::test::Fail;
@@ -145,10 +145,7 @@ const WORDS: [(&[&str], bool, bool); 5] = [
 #[test]
 fn options_of_words(rt: HostRuntime) -> Result<(), Fail> {
     for (words, explain, strict) in &WORDS {
-        let mut given = Vec::new(rt.alloc());
-        for word in *words {
-            given.push(String::from_str(rt.alloc(), *word)?)?;
-        }
+        let given = strings(rt.alloc(), *words)?;
         let said = words_of(rt.alloc(), given.as_slice())?;
         let wanted = Options {
             explain: *explain,

@@ -1,4 +1,4 @@
-//! Runs that are disturbed once, at each of the first places of their schedule, and runs by an executor that misbehaves.
+//! Runs that are disturbed once, at each place of their schedule, and runs by an executor that misbehaves.
 ghost use Rattle.std.specs.Prelude.{⊤, ◌≡◌, ◌∷◌, []};
 
 use super::runs::{Op, PUT, PUT_PRIVATE, PUT_SHARED};
@@ -10,16 +10,12 @@ use farm_base::{Copied, FolderName, Items, NodeId, Text, Ticket};
 use farmboard::FarmStep;
 use folders::Edit;
 use jobs::Answer;
-use protocol::Kept;
+use protocol::{Event, Kept};
 use schedule::Setup;
 use std::alloc::{AllocError, Global};
 use std::sync::Wait;
 use std::test::Fail;
 use std::thread::Threads;
-
-/// At how many places a run of two jobs on two nodes is disturbed. Undisturbed it had 16 events with a LOCKED folder, and 61 with a
-/// SHARED one, so of the latter the end is left out.
-const PLACES: usize = 40;
 
 /// An executor for each of two nodes.
 fn two_executors(alloc: Global) -> Result<Vec<(NodeId, Box<dyn Executor + Send>)>, Fail> {
@@ -37,27 +33,42 @@ fn are_outputs(alloc: Global, answers: &[Answer], digest: &str) -> Result<bool, 
     Ok(is_output(alloc, one, digest)? && is_output(alloc, other, digest)?)
 }
 
-/// The answers of two jobs with the key of `op`, one on each of two nodes, in a run that this step disturbs at this place.
-fn disturbed<R: Threads + Wait + Sync>(
+/// How a run of two jobs ended, and what happened in it.
+#[derive(Drop)]
+struct Course {
+    answers: Vec<Answer>,
+    events: Vec<Event>,
+}
+
+/// A run of two jobs with the key of `op`, one on each of two nodes, by this plan.
+fn course_of<R: Threads + Wait + Sync>(
     rt: &R,
     alloc: Global,
     op: &Op,
-    place: usize,
-    step: FarmStep,
-) -> Result<Vec<Answer>, Fail> {
+    plan: Vec<(usize, FarmStep)>,
+) -> Result<Course, Fail> {
     let jobs = jobs_on(alloc, op, &[1, 2])?;
     let executors = two_executors(alloc)?;
-    let plan = vec![in alloc; (place, step)]?;
-    let end = Farm::run(
-        rt,
-        alloc,
-        Setup { nodes: 2 },
-        jobs,
-        executors,
-        plan,
-        &OpenGate,
-    )?;
-    Ok(end.answers)
+    let setup = Setup { nodes: 2 };
+    let end = Farm::run(rt, alloc, setup, jobs, executors, plan, &OpenGate)?;
+    Ok(Course {
+        answers: end.answers,
+        events: end.schedule,
+    })
+}
+
+/// Whether a message was left out before one that was delivered.
+fn is_one_left_out(events: &[Event]) -> bool {
+    let mut next = 1;
+    for event in events {
+        if let Event::Deliver(number) = event {
+            if *number > next {
+                return true;
+            }
+            next = number.saturating_add(1);
+        }
+    }
+    false
 }
 
 /// What disturbs a run.
@@ -89,30 +100,88 @@ impl Disturbance {
             Disturbance::Withdrawal => FarmStep::Withdraw(Ticket(1)),
         }
     }
+
+    /// Whether it is this event. A message that is lost is none.
+    fn is(self, event: &Event) -> bool {
+        match (self, event) {
+            (Disturbance::FailedSave(kept), Event::FailSave(other)) => kept == *other,
+            (Disturbance::CoordinatorRestart, Event::RestartCoordinator) => true,
+            (Disturbance::NodeRestart, Event::RestartNode(node)) => *node == NodeId(1),
+            (Disturbance::Withdrawal, Event::Withdraw(ticket)) => *ticket == Ticket(1),
+            _ => false,
+        }
+    }
+
+    /// Whether these are the events of a run that it disturbed.
+    fn is_in(self, events: &[Event]) -> bool {
+        match self {
+            Disturbance::LostMessage => is_one_left_out(events),
+            _ => events.iter().any(|event| self.is(event)),
+        }
+    }
+
+    /// Whether it takes place wherever it is planned: a message is lost only where one is left, and a lease that nobody holds isn't
+    /// withdrawn.
+    fn is_certain(self) -> bool {
+        !matches!(self, Disturbance::LostMessage | Disturbance::Withdrawal)
+    }
 }
 
-/// Whether both jobs have their output, whatever disturbs the run at this place.
-fn stands<R: Threads + Wait + Sync>(
+/// Whether this disturbance took place in a run that it is to disturb at this place. Fails where a job is without its output, and
+/// where a disturbance that is certain didn't take place before the end.
+fn took_place<R: Threads + Wait + Sync>(
     rt: &R,
     alloc: Global,
     op: &Op,
     place: usize,
+    disturbance: Disturbance,
 ) -> Result<bool, Fail> {
+    let plan = vec![in alloc; (place, disturbance.step())]?;
+    let course = course_of(rt, alloc, op, plan)?;
+    if !are_outputs(alloc, course.answers.as_slice(), op.2)? {
+        return Err("a job is without its output".into());
+    }
+    let events = course.events.as_slice();
+    let seen = disturbance.is_in(events);
+    if !seen && disturbance.is_certain() && place <= events.len() {
+        return Err("a disturbance didn't take place".into());
+    }
+    Ok(seen)
+}
+
+/// Whether this disturbance took place in one run at least, where each run is to be disturbed at another of this many places.
+fn took_place_once<R: Threads + Wait + Sync>(
+    rt: &R,
+    alloc: Global,
+    op: &Op,
+    places: usize,
+    disturbance: Disturbance,
+) -> Result<bool, Fail> {
+    let mut seen = false;
+    for place in 0..places {
+        if took_place(rt, alloc, op, place, disturbance)? {
+            seen = true;
+        }
+    }
+    Ok(seen)
+}
+
+/// Disturbs runs of two jobs with the key of `op` at each place that an undisturbed run has. Whether each disturbance took place.
+fn are_disturbed<R: Threads + Wait + Sync>(rt: &R, alloc: Global, op: &Op) -> Result<bool, Fail> {
+    let places = course_of(rt, alloc, op, Vec::new(alloc))?.events.len();
     for disturbance in &DISTURBANCES {
-        let answers = disturbed(rt, alloc, op, place, disturbance.step())?;
-        if !are_outputs(alloc, answers.as_slice(), op.2)? {
+        if !took_place_once(rt, alloc, op, places, *disturbance)? {
             return Ok(false);
         }
     }
     Ok(true)
 }
 
+/// Whatever disturbs a run, and wherever, both jobs have their output.
 #[test]
 fn disturbed_at_each_place(rt: HostRuntime) -> Result<(), Fail> {
-    for place in 0..PLACES {
-        assert!(rt; stands(&rt, rt.alloc(), &PUT, place)?);
-        assert!(rt; stands(&rt, rt.alloc(), &PUT_SHARED, place)?);
-    }
+    assert!(rt; are_disturbed(&rt, rt.alloc(), &PUT)?);
+    assert!(rt; are_disturbed(&rt, rt.alloc(), &PUT_SHARED)?);
     Ok(())
 }
 

@@ -51,13 +51,18 @@ fn appended<K: Keeper>(
     Ok((ok, texts))
 }
 
+/// Tells the keeper what its next save leaves, so that it fails. The last word counts.
+fn arm(keeper: &mut MemoryKeeper, told: &[Kept]) {
+    for kept in told {
+        keeper.fail_next(*kept);
+    }
+}
+
 #[test]
 fn saves_that_fail(rt: HostRuntime) -> Result<(), Fail> {
     let mut keeper = MemoryKeeper::new(rt.alloc(), Vec::new(rt.alloc()));
     for (told, bytes, went_well, wanted, failures) in &SAVES {
-        for kept in *told {
-            keeper.fail_next(*kept);
-        }
+        arm(&mut keeper, *told);
         let (ok, loaded) = saved(rt.alloc(), &mut keeper, *bytes)?;
         assert_eq!(rt; ok, *went_well);
         assert_eq!(rt; loaded.as_slice(), *wanted);
@@ -190,6 +195,28 @@ fn is_refused_damaged<R: Files>(
     is_refused(rt, alloc, damaged.as_slice())
 }
 
+/// Whether of the log of two entries, cut at each byte, the entries that are whole are there, and no others.
+fn keeps_whole_entries<R: Files>(rt: &R, alloc: Global, log: &[u8]) -> Result<bool, Fail> {
+    for len in 0..log.len() {
+        let kept = opened(rt, alloc, RECORD.as_slice(), &log[..len])?;
+        let wanted = if len < 29 { 40 } else { 46 };
+        if kept.len() != wanted {
+            return Ok(false);
+        }
+    }
+    Ok(true)
+}
+
+/// Whether the log is refused with a byte of its first head changed, and not with one of its first entry.
+fn refuses_damaged_heads<R: Files>(rt: &R, alloc: Global, log: &[u8]) -> Result<bool, Fail> {
+    for place in 0..29 {
+        if is_refused_damaged(rt, alloc, log, place)? != (place < 24) {
+            return Ok(false);
+        }
+    }
+    Ok(true)
+}
+
 /// A log of two entries, cut at each byte: what was cut short is gone, and all behind it. And with each byte of the first
 /// one changed: a head that was damaged is refused, and an entry that was is as it stands.
 #[test]
@@ -198,15 +225,8 @@ fn logs_in_files(rt: HostRuntime) -> Result<(), Fail> {
     assert!(rt; both.ends_with(b" first second"));
     let log = fs::read(&rt, "cut.record.log")?;
     assert_eq!(rt; log.len(), 59);
-    for len in 0..log.len() {
-        let kept = opened(&rt, rt.alloc(), RECORD.as_slice(), &log[..len])?;
-        let wanted = if len < 29 { 40 } else { 46 };
-        assert_eq!(rt; kept.len(), wanted);
-    }
-    for place in 0..29 {
-        let is_refused = is_refused_damaged(&rt, rt.alloc(), log.as_slice(), place)?;
-        assert_eq!(rt; is_refused, place < 24);
-    }
+    assert!(rt; keeps_whole_entries(&rt, rt.alloc(), log.as_slice())?);
+    assert!(rt; refuses_damaged_heads(&rt, rt.alloc(), log.as_slice())?);
     let other = opened(&rt, rt.alloc(), b"of another record", log.as_slice())?;
     assert_eq!(rt; other.as_slice(), b"of another record".as_slice());
     assert!(rt; fs::read(&rt, "cut.record.log")?.is_empty());

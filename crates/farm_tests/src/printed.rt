@@ -4,7 +4,7 @@ use commands::{Command, DONE, FAULT, REFUSED, USAGE, act, run};
 use farm_base::Digest;
 use protowire::put_message;
 use sha2::Sha256;
-use std::alloc::Global;
+use std::alloc::{AllocError, Global};
 use std::io::Cursor;
 use std::rt::Files;
 use std::sync::Wait;
@@ -186,15 +186,21 @@ const WORDS: [(&[&str], u8, &str); 10] = [
     ),
 ];
 
+/// These words as the program is given them.
+pub(crate) fn strings(alloc: Global, words: &[&str]) -> Result<Vec<String>, AllocError> {
+    let mut strings = Vec::new(alloc);
+    for word in words {
+        strings.push(String::from_str(alloc, *word)?)?;
+    }
+    Ok(strings)
+}
+
 /// The status of the program with these words, and what it prints to either output.
 fn run_words<R: Files + Input + AllocGlobal + Threads + Wait + Sync>(
     rt: &R,
     words: &[&str],
 ) -> Result<(u8, Vec<u8>), Fail> {
-    let mut given = Vec::new(rt.alloc());
-    for word in words {
-        given.push(String::from_str(rt.alloc(), *word)?)?;
-    }
+    let given = strings(rt.alloc(), words)?;
     let mut out = Vec::new(rt.alloc());
     let mut err = Vec::new(rt.alloc());
     let status = run(rt, given.as_slice(), &mut out, &mut err);
