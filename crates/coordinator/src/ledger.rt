@@ -203,7 +203,7 @@ impl Ledger {
         }
     }
 
-    /// Works out what a message does. Nothing changes before `accept`.
+    /// Works out what a message does. Nothing changes before `settle`.
     pub(crate) fn prepare(&self, alloc: Global, message: &ToCoord) -> Result<Prepared, AllocError>
         requires { IsSaid NODES message.now }
         ensures work { IfOk result (λ p. shown (lines_with self.now.lines p.added) self.now p.draft.value

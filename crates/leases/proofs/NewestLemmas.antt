@@ -5,7 +5,7 @@ use Rattle.std.proofs.lemmas.Bool.{cases_Bool, and_parts, eqb-true}
 use Rattle.std.proofs.lemmas.Bool.Decides.{nat_tests}
 use Rattle.protocol.specs.Names.{NodeId, Life, Ask}
 use Rattle.indexmap.specs.IndexMap.{IndexMap, get}
-use Rattle.leases.specs.Newest.{node_eq, newest_of, is_known, knows}
+use Rattle.leases.specs.Newest.{node_eq, newest_of, is_known, is_newer, knows}
 use Rattle.leases.specs.declared.newest_asks.NewestAsk.{NewestAsk}
 use Rattle.leases.specs.declared.newest_asks.NewestAsks.{NewestAsks}
 
@@ -52,3 +52,14 @@ known-set m n node l a set unknown q ql qa known = by (node_eq node q) refl
         let here : is_known (newest_of m node) ql qa ≡ true = (λ j. is_known (newest_of m (record { 0 = same j })) ql qa) ∙ known in
         ap (λ (o : Option NewestAsk). is_known o ql qa) (set q ∙ ap (λ (b : Bool). cond b (Some (record { life = l; ask = a })) (get node_eq m q)) e)
         ∙ known-later (newest_of m node) l a ql qa unknown here
+
+-- and of what wasn't known only what isn't newer than this ask is
+pub known-only : {S : Type 0} (m n : IndexMap NodeId NewestAsk S) (node : NodeId) (l : Life) (a : Ask) → ((q : NodeId) → get node_eq n q ≡ cond (node_eq node q) (Some (record { life = l; ask = a })) (get node_eq m q))
+    → (q : NodeId) (ql : Life) (qa : Ask) → is_known (newest_of m q) ql qa ≡ false → (node_eq node q && not (is_newer (record { life = l; ask = a }) ql qa)) ≡ false → is_known (newest_of n q) ql qa ≡ false
+known-only m n node l a set q ql qa unknown newer = by (node_eq node q) refl
+  where
+    by : (b : Bool) → node_eq node q ≡ b → is_known (newest_of n q) ql qa ≡ false
+    by false e = ap (λ (o : Option NewestAsk). is_known o ql qa) (set q ∙ ap (λ (b : Bool). cond b (Some (record { life = l; ask = a })) (get node_eq m q)) e) ∙ unknown
+    by true e =
+        ap (λ (o : Option NewestAsk). is_known o ql qa) (set q ∙ ap (λ (b : Bool). cond b (Some (record { life = l; ask = a })) (get node_eq m q)) e)
+        ∙ ap (λ (b : Bool). b && not (is_newer (record { life = l; ask = a }) ql qa)) (sym e) ∙ newer

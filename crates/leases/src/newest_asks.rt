@@ -1,7 +1,7 @@
 //! The newest ask of each node.
-ghost use Rattle.std.specs.Prelude.{◌≡◌, ◌+◌, ◌<◌, ◌≤◌, true, option_copied, OnOk};
+ghost use Rattle.std.specs.Prelude.{◌≡◌, ◌+◌, ◌<◌, ◌≤◌, ◌&&◌, not, true, false, option_copied, OnOk};
 ghost use Rattle.protocol.specs.Names.{NodeId, Life, Ask};
-ghost use Rattle.leases.specs.Newest.{knows, is_known, node_room};
+ghost use Rattle.leases.specs.Newest.{knows, is_known, is_newer, node_eq, node_room};
 
 use farm_base::{Ask, Life, NodeId};
 use indexmap::IndexMap;
@@ -33,7 +33,9 @@ fn is_known(newest: Option<&NewestAsk>, life: Life, ask: Ask) -> bool
 
 impl NewestAsks {
     /// No ask was noted.
-    pub fn new(alloc: Global) -> Self {
+    pub fn new(alloc: Global) -> Self
+        ensures { (n : NodeId) (l : Life) (a : Ask) → knows result n l a ≡ false }
+    {
         NewestAsks {
             by_node: IndexMap::new(alloc),
         }
@@ -59,6 +61,8 @@ impl NewestAsks {
         requires { 0 < node_room self.old }
         ensures known { knows self.new node life ask ≡ true }
         ensures others { (n : NodeId) (l : Life) (a : Ask) → knows self.old n l a ≡ true → knows self.new n l a ≡ true }
+        // Of what was not known only what isn't newer than this one becomes known.
+        ensures only { (n : NodeId) (l : Life) (a : Ask) → knows self.old n l a ≡ false → (node_eq node n && not (is_newer (record { life = life; ask = ask }) l a)) ≡ false → knows self.new n l a ≡ false }
         ensures room { node_room self.old ≤ node_room self.new + 1 }
     {
         if self.may_have(node, life, ask) {
