@@ -11,6 +11,7 @@ use Rattle.farmboard.specs.contracts.tokens.Running as Running
 use Rattle.executions.specs.contracts.batch.Batch as Batch
 use Rattle.executions.specs.contracts.live_shared.Open as Open
 use Rattle.nodecore.specs.contracts.stored.StoredContents as StoredContents
+use Rattle.nodecore.specs.contracts.ticket_index.TicketIndex as TicketIndex
 use Rattle.nodecore.specs.contracts.node_core.NodeCore as NodeCore
 use Rattle.saverecord.specs.contracts.keeper.MemoryKeeper as MemoryKeeper
 use Rattle.coordinator.specs.contracts.ledger.Ledger as Ledger
@@ -36,11 +37,16 @@ event = search (sendable, crosses, maps.crosses) depth 60 fits 20000
 pub kept_ask : IsSend KeptAsk.the_row
 kept_ask = search (sendable, crosses, maps.crosses) depth 60 fits 20000
 
-pub stored_contents : IsSend StoredContents.the_row
+stored_contents : IsSend StoredContents.the_field.row
 stored_contents = search (sendable, crosses, maps.crosses) depth 60 fits 20000
 
+ticket_index : IsSend TicketIndex.the_field.row
+ticket_index = search (sendable, crosses, maps.crosses) depth 60 fits 20000
+
 pub node_core : IsSend NodeCore.the_row
-node_core = search (sendable, crosses, maps.crosses, kept_ask, stored_contents) depth 60 fits 20000
+node_core =
+    recorded_send NodeCore.the_field.row _ _ NodeCore.the_type.to_one
+    (struct_send (shape NodeCore.the_type) (search sendable depth 40, (search sendable depth 40, (search sendable depth 40, (search (sendable, crosses, kept_ask) depth 40, (ticket_index, (stored_contents, (search (sendable, crosses, maps.crosses) depth 60 fits 20000, (search sendable depth 40, tt)))))))))
 
 ledger : IsSend Ledger.the_row
 ledger = search (sendable, crosses, maps.crosses) depth 60 fits 20000

@@ -1,5 +1,6 @@
 ghost use Rattle.std.specs.Prelude.{◌≡◌};
 ghost use Rattle.farm.specs.declared.fault.FarmFault.TheVariants.{Memory};
+ghost use Rattle.farm.specs.Faults.{after_check};
 
 use farm_base::Key;
 use farmend::EndRefusal;
@@ -50,6 +51,8 @@ impl<T: Drop> From<AllocFailed<T>> for FarmFault {
 }
 
 impl From<EndRefusal> for FarmFault {
+    ghost from_gives = { λ refusal fault. fault ≡ after_check refusal };
+
     fn from(refusal: EndRefusal) -> FarmFault {
         match refusal {
             EndRefusal::Disagrees => FarmFault::ReceiptLost,

@@ -6,4 +6,4 @@ pub mod KeptLemmas
 pub mod MapLemmas
 pub mod SendLemmas
 pub mod StoredLemmas
-mod OverLemmas
+mod TicketLemmas

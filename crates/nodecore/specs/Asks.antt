@@ -1,5 +1,5 @@
 -- What contracts see of the asks of a node.
-use Rattle.std.specs.Prelude.{◌≡◌, ℕ, ◌<◌, ◌≤◌, Bool, true, false, List, [], length, Option, Some, None, slice_get, is_some}
+use Rattle.std.specs.Prelude.{ℕ, Bool, true, false, List, [], Option, Some, None, is_some}
 use Rattle.farm_base.specs.declared.message.FromCoord as FromCoord
 use Rattle.farm_base.specs.declared.message.FromCoord.TheVariants as coord
 use Rattle.protocol.specs.Names.{Ticket}
@@ -64,18 +64,6 @@ is_open (Holding wants g r) = false
 is_open (Running wants g r) = false
 is_open (Finished wants g news) = false
 is_open (Over how) = false
-
-abbrev pub is_over : KeptAsk → Bool
-is_over (Open wants tenure) = false
-is_over (Holding wants g r) = false
-is_over (Running wants g r) = false
-is_over (Finished wants g news) = false
-is_over (Over how) = true
-
--- the first `count` asks are over
-pub record AreOver (count : ℕ) (asks : List KeptAsk) : Type 0 where
-  pub inside : count ≤ length asks
-  pub over : (i : ℕ) (x : KeptAsk) → i < count → slice_get asks i ≡ Some x → is_over x ≡ true
 
 -- an open ask is granted
 abbrev pub holds : Grant → KeptAsk → KeptAsk

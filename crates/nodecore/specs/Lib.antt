@@ -1,3 +1,4 @@
 pub mod Asks
 pub mod Shown
 pub mod Stored
+pub mod Tickets

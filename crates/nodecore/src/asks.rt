@@ -6,9 +6,11 @@ ghost use Rattle.protocol.specs.Names.{Want};
 ghost use Rattle.protocol.specs.World.{keeps};
 ghost use Rattle.protocol.specs.Nodes.{wants_folder, is_tenure_of, is_home_of, uses, at_home, held, running, finished, recallable, is_base, in_use, others_use};
 ghost use Rattle.protocol.specs.declared.ask.KeptAsk.{KeptAsk};
-ghost use Rattle.nodecore.specs.Asks.{ends_with, holds, is_in_use, is_open, is_over, is_sought, lease_in, recalls, runs, slots_in, told_state, way_out, AreOver};
+ghost use Rattle.nodecore.specs.Asks.{ends_with, holds, is_in_use, is_open, is_sought, lease_in, recalls, runs, slots_in, told_state, way_out};
+ghost use Rattle.nodecore.specs.Tickets.{AreIndexed};
 
 use super::message::AskState;
+use super::ticket_index::{Holders, TicketIndex};
 use farm_base::{
     Copied, Digest, FolderName, Grant, GrantedSlot, Items, Mode, News, Ticket, Want, Wants,
 };
@@ -181,12 +183,6 @@ fn has_base(ask: &KeptAsk, digest: Digest) -> bool
     }
 }
 
-fn is_over(ask: &KeptAsk) -> bool
-    ensures { result ≡ is_over ask.now }
-{
-    matches!(ask, KeptAsk::Over(_))
-}
-
 /// Whether nothing was heard of the ask.
 pub(crate) fn is_open(ask: &KeptAsk) -> bool
     ensures { result ≡ is_open ask.now }
@@ -291,18 +287,6 @@ pub(crate) fn recall(ask: &mut KeptAsk)
     }
 }
 
-/// How many asks at the front are over, `least` of them at least.
-pub(crate) fn over_from(asks: &[KeptAsk], least: usize) -> usize
-    requires { AreOver least asks.now }
-    ensures { AreOver result asks.now }
-{
-    let mut over = least;
-    while over < asks.len() && is_over(&asks[over]) {
-        over += 1;
-    }
-    over
-}
-
 /// The place of the first ask with this ticket that stands so.
 fn place_in(asks: &[KeptAsk], sought: Sought, ticket: Ticket) -> Option<usize>
     ensures { result ≡ position (is_sought sought ticket) asks.now }
@@ -310,20 +294,29 @@ fn place_in(asks: &[KeptAsk], sought: Sought, ticket: Ticket) -> Option<usize>
     asks.iter().position(|ask| is_sought(ask, sought, ticket))
 }
 
-/// The same, where the first `over` asks are over.
+/// The same, by an index of their tickets.
 pub(crate) fn place_of(
     asks: &[KeptAsk],
-    over: usize,
+    by_ticket: &TicketIndex,
     sought: Sought,
     ticket: Ticket,
 ) -> Option<usize>
-    requires { AreOver over asks.now }
+    requires { AreIndexed by_ticket.now asks.now }
     ensures { result ≡ position (is_sought sought ticket) asks.now }
 {
-    let (_, present) = asks.split_at(over);
-    match place_in(present, sought, ticket) {
-        Some(place) => Some(over + place),
+    match by_ticket.holders(ticket) {
         None => None,
+        Some(Holders::One(place)) => {
+            let Some(ask) = asks.get(place) else {
+                return None;
+            };
+            if is_sought(ask, sought, ticket) {
+                Some(place)
+            } else {
+                None
+            }
+        }
+        Some(Holders::Several) => place_in(asks, sought, ticket),
     }
 }
 

@@ -12,6 +12,7 @@ mod receive;
 mod resending;
 mod sending;
 mod stored;
+mod ticket_index;
 
 pub use farm_base::{Message, ToNode, Why};
 pub use kept::{KeptContents, ResumeRefusal, ToKeep};
@@ -21,3 +22,5 @@ pub use protocol::{How, NodeNote, NodeRefusal};
 // A crate can name a core in a contract only if the types of its fields are exported.
 #[doc(hidden)]
 pub use stored::StoredContents;
+#[doc(hidden)]
+pub use ticket_index::{Holders, TicketIndex};

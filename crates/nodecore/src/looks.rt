@@ -27,7 +27,8 @@ impl NodeCore {
         if self.spent {
             return Err(NodeRefusal::LivesSpent);
         }
-        let Some(place) = place_of(self.asks.as_slice(), self.over, Sought::Held, ticket) else {
+        let Some(place) = place_of(self.asks.as_slice(), &self.by_ticket, Sought::Held, ticket)
+        else {
             return Err(NodeRefusal::NoSuchTicket);
         };
         let Some(grant) = lease(&self.asks[place]) else {
@@ -43,14 +44,20 @@ impl NodeCore {
     pub fn is_held(&self, ticket: Ticket) -> bool
         ensures { result ≡ is_some (first (held ticket) (shown self.now).asks 0) }
     {
-        place_of(self.asks.as_slice(), self.over, Sought::Held, ticket).is_some()
+        place_of(self.asks.as_slice(), &self.by_ticket, Sought::Held, ticket).is_some()
     }
 
     /// Whether an execution runs under the ticket.
     pub fn is_running(&self, ticket: Ticket) -> bool
         ensures { result ≡ is_some (first (running ticket) (shown self.now).asks 0) }
     {
-        place_of(self.asks.as_slice(), self.over, Sought::Running, ticket).is_some()
+        place_of(
+            self.asks.as_slice(),
+            &self.by_ticket,
+            Sought::Running,
+            ticket,
+        )
+        .is_some()
     }
 
     /// How an ask of this life ended; None while it is present, and where there is none.

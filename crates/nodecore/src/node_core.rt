@@ -6,16 +6,16 @@ ghost use Rattle.protocol.specs.Nodes.{HeldGrant, first, held, finished_with, le
 ghost use Rattle.farm_base.specs.Contents.{content_digest};
 ghost use Rattle.protocol.specs.Farm.{farm_limits};
 ghost use Rattle.protocol.specs.declared.ask.KeptAsk.{KeptAsk};
-ghost use Rattle.nodecore.specs.Asks.{told_state, AreOver};
+ghost use Rattle.nodecore.specs.Asks.{told_state};
 ghost use Rattle.nodecore.specs.Stored.{kept_node, HaveOneDigestEach};
+ghost use Rattle.nodecore.specs.Tickets.{AreIndexed};
 
-use super::asks::{
-    Sought, at_home, begin, finish, has_tenure, in_use, over_from, place_of, slots, told,
-};
+use super::asks::{Sought, at_home, begin, finish, has_tenure, in_use, place_of, slots, told};
 use super::contents::{fits, known_from, news_of};
 use super::kept::{KeptContents, ResumeRefusal, ToKeep};
 use super::message::{AskState, NodeDone};
 use super::stored::StoredContents;
+use super::ticket_index::TicketIndex;
 use farm_base::{
     Ask, Content, Copied, Digest, FolderName, GREATEST, GrantedSlot, Items, Left, Life, Message,
     Mode, NodeId, Request, Ticket, ToCoord, Version, Want, Wants,
@@ -51,13 +51,13 @@ pub struct NodeCore {
     pub(crate) life: Life,
     /// The asks of this life, in their order.
     pub(crate) asks: Vec<KeptAsk>,
-    /// How many asks at the front are known to be over: no ticket is sought among them.
-    pub(crate) over: usize,
+    /// Which of them have their lease under a ticket.
+    pub(crate) by_ticket: TicketIndex,
     pub(crate) contents: StoredContents,
     pub(crate) versions: IndexMap<Version, Digest>,
     /// Whether it is down for good.
     pub(crate) spent: bool,
-    ghost settled: { AreOver over asks.items },
+    ghost indexed: { AreIndexed by_ticket asks.items },
 }
 
 impl NodeCore {
@@ -77,7 +77,7 @@ impl NodeCore {
             nodes,
             life: Life(1),
             asks: Vec::new(alloc),
-            over: 0,
+            by_ticket: TicketIndex::new(alloc),
             contents,
             versions: IndexMap::new(alloc),
             spent: false,
@@ -126,7 +126,7 @@ impl NodeCore {
             nodes,
             life,
             asks: Vec::new(alloc),
-            over: 0,
+            by_ticket: TicketIndex::new(alloc),
             contents,
             versions,
             spent: false,
@@ -218,7 +218,6 @@ impl NodeCore {
         ensures place { place self.new ≡ place self.old }
     {
         self.asks.reserve(1)?;
-        self.over = over_from(self.asks.as_slice(), self.over);
         let ask = Ask(self.asks.len() as u64 + 1);
         let request = Request::Acquire {
             ask,
@@ -301,7 +300,8 @@ impl NodeCore {
         if self.spent {
             return Err(NodeRefusal::LivesSpent);
         }
-        let Some(place) = place_of(self.asks.as_slice(), self.over, Sought::Held, ticket) else {
+        let Some(place) = place_of(self.asks.as_slice(), &self.by_ticket, Sought::Held, ticket)
+        else {
             return Err(NodeRefusal::NoSuchTicket);
         };
         if !self.has_all(slots(&self.asks[place])) {
@@ -324,7 +324,7 @@ impl NodeCore {
         }
         let Some(place) = place_of(
             self.asks.as_slice(),
-            self.over,
+            &self.by_ticket,
             Sought::HeldOrRunning,
             ticket,
         ) else {
@@ -352,7 +352,12 @@ impl NodeCore {
         if self.spent {
             return Err(NodeRefusal::LivesSpent);
         }
-        let Some(place) = place_of(self.asks.as_slice(), self.over, Sought::Running, ticket) else {
+        let Some(place) = place_of(
+            self.asks.as_slice(),
+            &self.by_ticket,
+            Sought::Running,
+            ticket,
+        ) else {
             return Err(NodeRefusal::NotRunning);
         };
         if in_use(self.asks.as_slice(), place) {
@@ -438,8 +443,8 @@ impl NodeCore {
             return Err(NodeRefusal::OutOfMemory);
         };
         self.life = life;
-        self.over = 0;
         self.asks.clear();
+        self.by_ticket.clear();
         Ok(NodeDone {
             note: NodeNote::Life(life),
             sends,

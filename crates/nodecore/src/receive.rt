@@ -54,8 +54,10 @@ impl NodeCore {
         let bases = bases(alloc, grant.slots.as_slice())?;
         let told = grant.copy(alloc)?;
         let held = grant.copy(alloc)?;
+        self.by_ticket.reserve()?;
         self.versions.reserve(bases.len())?;
         learn(&mut self.versions, bases);
+        self.by_ticket.note(grant.ticket, index);
         hold(&mut self.asks[index], held);
         Ok(NodeDone {
             note: NodeNote::Took(told),
@@ -85,7 +87,12 @@ impl NodeCore {
         ensures work { dropped ticket (shown self.old) (first (finished ticket) (shown self.old).asks 0) ≡ work_of (shown self.new) result }
         ensures place { place self.new ≡ place self.old }
     {
-        let Some(index) = place_of(self.asks.as_slice(), self.over, Sought::Finished, ticket) else {
+        let Some(index) = place_of(
+            self.asks.as_slice(),
+            &self.by_ticket,
+            Sought::Finished,
+            ticket,
+        ) else {
             return silent(alloc, NodeNote::Nothing);
         };
         self.asks[index] = KeptAsk::Over(How::Fenced);
@@ -102,7 +109,12 @@ impl NodeCore {
         ensures work { Does (learned ticket versions.now (shown self.old) (first (finished ticket) (shown self.old).asks 0)) (shown self.old) (shown self.new) result }
         ensures place { place self.new ≡ place self.old }
     {
-        let Some(index) = place_of(self.asks.as_slice(), self.over, Sought::Finished, ticket) else {
+        let Some(index) = place_of(
+            self.asks.as_slice(),
+            &self.by_ticket,
+            Sought::Finished,
+            ticket,
+        ) else {
             return Ok(silent(alloc, NodeNote::Nothing));
         };
         let named = confirmed(alloc, versions)?;
@@ -132,8 +144,12 @@ impl NodeCore {
         ensures work { recalled ticket (shown self.old) (first (recallable ticket) (shown self.old).asks 0) ≡ work_of (shown self.new) result }
         ensures place { place self.new ≡ place self.old }
     {
-        let Some(index) = place_of(self.asks.as_slice(), self.over, Sought::Recallable, ticket)
-        else {
+        let Some(index) = place_of(
+            self.asks.as_slice(),
+            &self.by_ticket,
+            Sought::Recallable,
+            ticket,
+        ) else {
             return silent(alloc, NodeNote::Nothing);
         };
         recall(&mut self.asks[index]);

@@ -8,7 +8,7 @@ use Rattle.nodecore.proofs.FirstLemmas.{FirstAt, picks, some_first, none_first}
 use Rattle.nodecore.proofs.KeptLemmas.{held_at, read_at}
 use Rattle.nodecore.proofs.NodeLemmas.{begins_not, begins_missing, begins, becomes_at}
 use Rattle.protocol.specs.declared.ask.KeptAsk.{KeptAsk}
-use Rattle.nodecore.proofs.OverLemmas.{over_changed}
+use Rattle.nodecore.proofs.TicketLemmas.{indexed_changed, runs_less}
 use Rattle.nodecore.proofs.StoredLemmas.{first_is, has_bases}
 use Rattle.nodecore.proofs.node_core.NodeCore.begin.Goals as goal
 
@@ -49,9 +49,9 @@ returns-clause-bases c = λ number h found.
     let same : f.what ≡ h = first_is (held c.args.ticket) c.args.self.now.asks.items (c.in-Some.place + 1) number f.what h (f.found (c.in-Some.place + 1) (omega arith)) found in
     has_bases (shown c.args.self.now) _ refl h.grant.slots (ap (λ (g : HeldGrant). all_stored (shown c.args.self.now) g.grant.slots) (sym same) ∙ here)
 
-pub invariant_of-self : goal.invariant_of-self
-invariant_of-self c =
+pub invariant_of-self-2 : goal.invariant_of-self-2
+invariant_of-self-2 c =
     let asks : List KeptAsk = c.args.self.now.asks.items in
     let at : position (picks (held c.args.ticket)) asks ≡ Some c.in-Some.place = search rules in
     let f : FirstAt (held c.args.ticket) asks 0 c.in-Some.place = some_first (held c.args.ticket) asks c.in-Some.place at in
-    record { settled = over_changed runs c.args.self.now.over asks c.in-Some.place c.index_mut.result.now c.begin.new.ask (λ how. refl) c.args.self.now.settled f.inside c.index_mut.ensures.value c.begin.ensures }
+    record { indexed = indexed_changed runs c.args.self.now.by_ticket asks c.in-Some.place c.index_mut.result.now c.begin.new.ask runs_less c.args.self.now.indexed f.inside c.index_mut.ensures.value c.begin.ensures }

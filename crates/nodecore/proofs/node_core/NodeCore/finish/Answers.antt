@@ -1,4 +1,4 @@
-use Rattle.std.proofs.Common.{◌≡◌, ℕ, ◌+◌, List, true, false, None, Some, refl, ap, sym, ◌∙◌, rules, arith, slice_get}
+use Rattle.std.proofs.Common.{◌≡◌, ◌+◌, List, true, false, None, Some, refl, ap, sym, ◌∙◌, rules, arith, slice_get}
 use Rattle.std.specs.List.{position}
 use Rattle.protocol.specs.Nodes.{running, in_use}
 use Rattle.protocol.specs.declared.ask.KeptAsk.{KeptAsk}

@@ -1,4 +1,4 @@
-use Rattle.std.proofs.Common.{◌≡◌, ◌+◌, ◌<◌, ◌∷◌, [], ℕ, List, Option, length, refl, ap, sym, ◌∙◌, arith}
+use Rattle.std.proofs.Common.{◌≡◌, ◌+◌, ◌<◌, ◌∷◌, [], ℕ, List, Option, length, ap, sym, ◌∙◌, arith}
 use Rattle.std.proofs.lemmas.Grind.{common_steps}
 use Rattle.std.proofs.lemmas.Option.{get_or_from_slice_get}
 use Rattle.farm_base.specs.Contents.{content_digest}
@@ -10,7 +10,7 @@ use Rattle.nodecore.specs.Asks.{ends_with}
 use Rattle.nodecore.specs.Shown.{shown, place, store_in}
 use Rattle.nodecore.proofs.NodeLemmas.{left_work, set_at}
 use Rattle.protocol.specs.declared.ask.KeptAsk.{KeptAsk}
-use Rattle.nodecore.proofs.OverLemmas.{over_changed}
+use Rattle.nodecore.proofs.TicketLemmas.{indexed_changed, ends_less}
 use Rattle.nodecore.proofs.node_core.NodeCore.leave.Goals as goal
 
 pub returns-clause-work : goal.returns-clause-work
@@ -32,4 +32,4 @@ pub invariant_of-self-2 : goal.invariant_of-self-2
 invariant_of-self-2 c =
     let asks : List KeptAsk = c.args.self.now.asks.items in
     let inside : c.args.index < length asks = omega (arith, c.requires) in
-    record { settled = over_changed (ends_with c.in_ok-news.news) c.args.self.now.over asks c.args.index c.index_mut.result.now c.finish.new.ask (λ how. refl) c.args.self.now.settled inside c.index_mut.ensures.value c.finish.ensures }
+    record { indexed = indexed_changed (ends_with c.in_ok-news.news) c.args.self.now.by_ticket asks c.args.index c.index_mut.result.now c.finish.new.ask (ends_less c.in_ok-news.news) c.args.self.now.indexed inside c.index_mut.ensures.value c.finish.ensures }

@@ -9,7 +9,7 @@ use Rattle.nodecore.proofs.KeptLemmas.{recalls_is}
 use Rattle.nodecore.specs.Shown.{shown, work_of}
 use Rattle.nodecore.proofs.FirstLemmas.{FirstAt, picks, some_first, none_first}
 use Rattle.nodecore.proofs.NodeLemmas.{becomes_at}
-use Rattle.nodecore.proofs.OverLemmas.{over_changed}
+use Rattle.nodecore.proofs.TicketLemmas.{indexed_changed, recalls_less}
 use Rattle.nodecore.proofs.node_core.NodeCore.recall.Goals as goal
 
 pub returns-in_default-clause-work : goal.returns-in_default-clause-work
@@ -29,9 +29,9 @@ returns-clause-work c =
     ∙ ap (λ (y : Node). record { node = y; sends = []; note = note.Recalled c.args.ticket }) (becomes_at (shown c.args.self.now) c.args.self.now.asks.items c.in-Some.index c.recall.new.ask f.what refl next)
     ∙ sym (ap (work_of _) c.silent-2.ensures)
 
-pub invariant_of-self : goal.invariant_of-self
-invariant_of-self c =
+pub invariant_of-self-2 : goal.invariant_of-self-2
+invariant_of-self-2 c =
     let asks : List KeptAsk = c.args.self.now.asks.items in
     let at : position (picks (recallable c.args.ticket)) asks ≡ Some c.in-Some.index = search rules in
     let f : FirstAt (recallable c.args.ticket) asks 0 c.in-Some.index = some_first (recallable c.args.ticket) asks c.in-Some.index at in
-    record { settled = over_changed recalls c.args.self.now.over asks c.in-Some.index c.index_mut.result.now c.recall.new.ask (λ how. refl) c.args.self.now.settled f.inside c.index_mut.ensures.value c.recall.ensures }
+    record { indexed = indexed_changed recalls c.args.self.now.by_ticket asks c.in-Some.index c.index_mut.result.now c.recall.new.ask recalls_less c.args.self.now.indexed f.inside c.index_mut.ensures.value c.recall.ensures }

@@ -1,9 +1,9 @@
-use Rattle.std.proofs.Common.{◌≡◌, ◌<◌, ℕ, false, List, length, arith, map, refl, ap, sym, ◌∙◌}
+use Rattle.std.proofs.Common.{◌≡◌, ◌<◌, ℕ, false, true, List, length, arith, map, ap, sym, ◌∙◌}
 use Rattle.std.proofs.Math.ListN.{set}
 use Rattle.std.proofs.lemmas.Option.{get_or_from_slice_get}
 use Rattle.protocol.specs.Farm.{farm_limits}
 use Rattle.protocol.specs.Lists.{set_nth}
-use Rattle.protocol.specs.Machine.{GrantedSlot}
+use Rattle.protocol.specs.Machine.{Grant, GrantedSlot}
 use Rattle.protocol.specs.World.{learn_bases}
 use Rattle.protocol.specs.declared.ask.KeptAsk.TheVariants.{Open, Holding}
 use Rattle.protocol.specs.Nodes.{fetches}
@@ -13,7 +13,8 @@ use Rattle.nodecore.specs.Shown.{shown, place, base_of, known_in, learn_all}
 use Rattle.nodecore.proofs.MapLemmas.{bases_learned, same_known}
 use Rattle.nodecore.proofs.NodeLemmas.{set_at}
 use Rattle.protocol.specs.declared.ask.KeptAsk.{KeptAsk}
-use Rattle.nodecore.proofs.OverLemmas.{over_changed}
+use Rattle.nodecore.specs.Tickets.{may_have, AreIndexed}
+use Rattle.nodecore.proofs.TicketLemmas.{indexed_held, indexed_more, indexed_same, noted_here, noted_more}
 use Rattle.nodecore.proofs.node_core.NodeCore.take.Goals as goal
 
 pub returns-clause-work : goal.returns-clause-work
@@ -28,7 +29,7 @@ returns-clause-work c = λ wants tenure get number.
     let bases : c.in_ok-bases.bases.items ≡ map base_of grant.slots = c.in_ok-bases.ensures ∙ ap (λ (us : List GrantedSlot). map base_of us) c.as_slice-2.ensures in
     let known : learn_bases grant.slots (known_in c.args.self.now.versions) ≡ known_in c.learn.new.known =
     bases_learned grant.slots (known_in c.args.self.now.versions)
-    ∙ sym (c.learn.ensures ∙ (λ j. learn_all (bases j) (same_known c.args.self.now.versions c.reserve.new.self c.reserve.ensures.entries j))) in
+    ∙ sym (c.learn.ensures ∙ (λ j. learn_all (bases j) (same_known c.args.self.now.versions c.reserve-2.new.self c.reserve-2.ensures.entries j))) in
     let sends : fetches farm_limits (place c.args.self.now) x grant.slots ≡ c.new.result =
     sym (c.new.ensures ∙ c.in_ok-sends.ensures ∙ ap (λ (us : List GrantedSlot). fetches farm_limits (place c.args.self.now) x us) c.as_slice.ensures) in
     let kept_asks : set_nth asks grant.ask.0 (Holding wants grant false) ≡ (set asks i c.hold.new.ask) =
@@ -39,4 +40,10 @@ pub invariant_of-self-2 : goal.invariant_of-self-2
 invariant_of-self-2 c =
     let asks : List KeptAsk = c.args.self.now.asks.items in
     let inside : c.args.index < length asks = omega (arith, c.requires) in
-    record { settled = over_changed (holds c.in_ok-held.held) c.args.self.now.over asks c.args.index c.index_mut.result.now c.hold.new.ask (λ how. refl) c.args.self.now.settled inside c.index_mut.ensures.value c.hold.ensures }
+    let noted = c.reserve.new.self in
+    let before : AreIndexed c.note.new.self asks =
+    indexed_more noted c.note.new.self asks (noted_more noted c.note.new.self c.args.grant.now.ticket c.args.index c.note.ensures)
+    (indexed_same c.args.self.now.by_ticket noted asks c.reserve.ensures.same c.args.self.now.indexed) in
+    let told : may_have c.note.new.self c.in_ok-held.held.ticket c.args.index ≡ true =
+    ap (λ (g : Grant). may_have c.note.new.self g.ticket c.args.index) c.in_ok-held.ensures ∙ noted_here noted c.note.new.self c.args.grant.now.ticket c.args.index c.note.ensures in
+    record { indexed = indexed_held c.note.new.self asks c.args.index c.in_ok-held.held c.index_mut.result.now c.hold.new.ask before inside c.index_mut.ensures.value c.hold.ensures told }
