@@ -9,13 +9,13 @@ use std::rt::Clock;
 use std::time::Instant;
 
 /// How many batches are timed. The least time counts.
-const BATCHES: u32 = 5;
+pub const BATCHES: u32 = 5;
 /// How many events of each kind a batch has.
-const TURNS: u32 = 40;
-/// A coordinator that keeps little has this many leases or parked asks.
-const FEW: u32 = 16;
+pub const TURNS: u32 = 40;
+/// A coordinator that keeps little has this many leases or parked asks, and a node that keeps little this many leases.
+pub const FEW: u32 = 16;
 /// One that keeps much has this many.
-const MANY: u32 = 16_000;
+pub const MANY: u32 = 16_000;
 /// How many slots are freed for which asks wait.
 const FREED: u32 = 8;
 /// How many of the first and of the last grants of a PRIVATE folder are timed.

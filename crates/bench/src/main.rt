@@ -7,6 +7,7 @@ mod event;
 mod graphs;
 mod hashing;
 mod keys;
+mod node;
 mod read;
 mod replay;
 mod run;
@@ -34,7 +35,8 @@ fn main(rt: HostRuntime) -> anyhow::Result<()> {
             } else if word.as_str() == "save" {
                 save::measure(&rt)
             } else if word.as_str() == "events" {
-                event::measure(&rt)
+                event::measure(&rt)?;
+                node::measure(&rt)
             } else if word.as_str() == "run" {
                 run::measure(&rt)
             } else {
