@@ -1,0 +1,67 @@
+// Preloaded into a program, refuses one of the allocations that it asks for: that of the number REFUSE, counted from 1. The file
+// COUNT, of eight bytes, has the number of those that were asked for.
+#define _GNU_SOURCE
+#include <dlfcn.h>
+#include <fcntl.h>
+#include <link.h>
+#include <stdatomic.h>
+#include <stdlib.h>
+#include <sys/mman.h>
+#include <unistd.h>
+
+static void *(*allocate)(size_t);
+static void *(*reallocate)(void *, size_t);
+static atomic_ulong own_count;
+static atomic_ulong *count = &own_count;
+static unsigned long refused;
+static unsigned long low, high;
+
+// Notes where the program lies in memory: what the C library asks for itself isn't counted.
+static int note_program(struct dl_phdr_info *program, size_t size, void *data) {
+  for (int i = 0; i < program->dlpi_phnum; i++) {
+    if (program->dlpi_phdr[i].p_type != PT_LOAD)
+      continue;
+    unsigned long from = program->dlpi_addr + program->dlpi_phdr[i].p_vaddr;
+    unsigned long to = from + program->dlpi_phdr[i].p_memsz;
+    if (high == 0 || from < low)
+      low = from;
+    if (to > high)
+      high = to;
+  }
+  return 1; // the program is the first of those that are loaded
+}
+
+static void count_in(const char *path) {
+  int file = open(path, O_RDWR);
+  if (file < 0)
+    _exit(126);
+  void *at = mmap(0, sizeof *count, PROT_READ | PROT_WRITE, MAP_SHARED, file, 0);
+  if (at == MAP_FAILED)
+    _exit(126);
+  count = at;
+}
+
+__attribute__((constructor)) static void begin(void) {
+  dl_iterate_phdr(note_program, 0);
+  if (getenv("COUNT"))
+    count_in(getenv("COUNT"));
+  if (getenv("REFUSE"))
+    refused = strtoul(getenv("REFUSE"), 0, 10);
+}
+
+static int is_refused(void *caller) {
+  unsigned long at = (unsigned long)caller;
+  return low <= at && at < high && atomic_fetch_add(count, 1) + 1 == refused;
+}
+
+void *malloc(size_t size) {
+  if (!allocate)
+    allocate = dlsym(RTLD_NEXT, "malloc");
+  return is_refused(__builtin_return_address(0)) ? 0 : allocate(size);
+}
+
+void *realloc(void *old, size_t size) {
+  if (!reallocate)
+    reallocate = dlsym(RTLD_NEXT, "realloc");
+  return is_refused(__builtin_return_address(0)) ? 0 : reallocate(old, size);
+}
