@@ -1,5 +1,5 @@
 // Preloaded into a program, refuses one of the allocations that it asks for: that of the number REFUSE, counted from 1. The file
-// COUNT, of eight bytes, has the number of those that were asked for.
+// COUNT, of eight bytes, has the number of those that were asked for. The kit's programs ask by malloc and realloc alone.
 #define _GNU_SOURCE
 #include <dlfcn.h>
 #include <fcntl.h>

@@ -3,11 +3,13 @@
 
 usage: refused-memory/run.py, at the top of the repository, once crates/farmctl/out/farmctl is built
 
-Each command runs once with all memory, and then once for each of its allocations, with that one refused. Such a run has to end
-as the undisturbed one does, or with status 3 and the line `out of memory`; then nothing is on standard output, and no file was
-made or changed. A run may also end as `fault NoThread` where the allocation was for a thread: the kit doesn't tell why a thread
-can't be started. Anything else is told, a run that doesn't end within a minute too, and the check fails.
+Each command runs once with all memory, has to end with the status that its row names, and then runs once for each of its
+allocations, with that one refused. Such a run has to end as the undisturbed one does, or with status 3 and the line `out of memory`;
+then nothing is on standard output, and no file was made. Of the runs of jobs a few may end as `fault NoThread`, those whose
+allocation was for a thread: the kit doesn't tell why a thread can't be started. Anything else is told, a run that doesn't end within
+a minute too, and the check fails.
 """
+import collections
 import concurrent.futures
 import os
 import subprocess
@@ -15,23 +17,26 @@ import sys
 import tempfile
 
 PROGRAM = os.path.abspath("crates/farmctl/out/farmctl")
+# Each command, and the status of its undisturbed run.
 ROWS = [
-    "replay locked.schedule",
-    "replay parked.schedule",
-    "replay fenced.schedule",
-    "replay restarted.schedule",
-    "replay tenure.schedule",
-    "replay coordinator-restarted.schedule",
-    "replay --strict --explain failed-save.schedule",
-    "check df-multistage.llb",
-    "check --explain locked.schedule",
-    "keys df-cache-modes.llb",
-    "wants df-cache-modes.llb",
-    "record farm.record",
-    "record --explain locked.schedule",
-    "run --nodes 1 --record kept df-cache-modes.llb",
-    "run --nodes 2 df-cache-modes.llb df-cache-modes.llb",
+    ("replay locked.schedule", 0),
+    ("replay parked.schedule", 0),
+    ("replay fenced.schedule", 0),
+    ("replay restarted.schedule", 0),
+    ("replay tenure.schedule", 0),
+    ("replay coordinator-restarted.schedule", 0),
+    ("replay --strict --explain failed-save.schedule", 1),
+    ("check df-multistage.llb", 0),
+    ("check --explain locked.schedule", 1),
+    ("keys df-cache-modes.llb", 0),
+    ("wants df-cache-modes.llb", 0),
+    ("record farm.record", 0),
+    ("record --explain locked.schedule", 1),
+    ("run --nodes 1 --record kept df-cache-modes.llb", 0),
+    ("run --nodes 2 df-cache-modes.llb df-cache-modes.llb", 0),
 ]
+# How many runs of a row may end as NoThread. That allocation has another number where a thread that runs already allocates too.
+NO_THREAD = 16
 
 
 def answer(words, environment):
@@ -62,32 +67,42 @@ def allocations(words, preload):
         return whole, int.from_bytes(read(count.name), sys.byteorder)
 
 
-def is_refusal(said, words):
+def end_of(said, whole, words):
+    """Returns how a run with an allocation refused ended, beside the undisturbed one."""
     status, printed, told, files = said
-    if printed or files:
-        return False
-    return (status, told) == (3, b"out of memory\n") or (words[0], status, told) == ("run", 4, b"fault NoThread\n")
+    if said == whole:
+        return "same"
+    if not printed and not files and (status, told) == (3, b"out of memory\n"):
+        return "refused"
+    if not printed and not files and (words[0], status, told) == ("run", 4, b"fault NoThread\n"):
+        return "no thread"
+    return "otherwise"
 
 
-def is_sound(row, preload):
+def is_sound(row, status, preload):
     """Prints what came of a row, and returns whether nothing else did than may."""
     words = [os.path.abspath(f"examples/{word}") if "." in word else word for word in row.split()]
     whole, count = allocations(words, preload)
-    refused, same, wrong = 0, 0, []
+    ends, wrong = collections.Counter(), []
     with concurrent.futures.ThreadPoolExecutor(os.cpu_count()) as pool:
         runs = pool.map(lambda number: answer(words, {**preload, "REFUSE": str(number)}), range(1, count + 1))
         for number, said in enumerate(runs, 1):
-            if said == whole:
-                same += 1
-            elif is_refusal(said, words):
-                refused += 1
-            else:
+            end = end_of(said, whole, words)
+            ends[end] += 1
+            if end == "otherwise":
                 wrong.append(f"  allocation {number}: {said}"[:600])
-    print(f"{row}: {count} allocations, {refused} runs refused, {same} answered as before, {len(wrong)} otherwise", flush=True)
+    print(
+        f"{row}: status {whole[0]}, {count} allocations, {ends['refused']} runs refused, {ends['same']} as before,"
+        f" {ends['no thread']} without a thread, {len(wrong)} otherwise",
+        flush=True,
+    )
     for line in wrong[:8]:
         print(line, flush=True)
-    # A row of which no allocation was refused shows nothing.
-    return refused > 0 and not wrong
+    # A row whose command doesn't work, or of which no allocation was refused, shows nothing.
+    if whole[0] == status and ends["refused"] > 0 and ends["no thread"] <= NO_THREAD and not wrong:
+        return True
+    print(f"  failed: wanted are status {status}, refusals, at most {NO_THREAD} without a thread, and nothing otherwise", flush=True)
+    return False
 
 
 def main():
@@ -95,7 +110,7 @@ def main():
         library = f"{room}/refuse.so"
         compiler = os.environ.get("CC") or "cc"
         subprocess.run([compiler, "-O2", "-shared", "-fPIC", "-o", library, "refused-memory/refuse.c", "-ldl"], check=True)
-        sound = [is_sound(row, {**os.environ, "LD_PRELOAD": library}) for row in ROWS]
+        sound = [is_sound(row, status, {**os.environ, "LD_PRELOAD": library}) for row, status in ROWS]
     return 0 if all(sound) else 1
 
 
