@@ -2,14 +2,14 @@
 use Rattle.std.proofs.Common.{◌≡◌, ℕ, zero, suc, ◌+◌, List, [], ◌∷◌, ◌++◌, ◌⊎◌, Bool, true, false, length, Some, slice_get, refl, sym, ◌∙◌, ap, subst, inl, inr, arith}
 use Rattle.protocol.specs.Lists.{In, nth}
 use Rattle.protocol.specs.Names.{NodeId, Life, Ask, Digest, Want, tenure_wants}
-use Rattle.protocol.specs.Machine.{Message, ToCoord, Told, Said, acquire}
+use Rattle.protocol.specs.Machine.{Message, ToCoord, Parked, Told, Said, acquire}
 use Rattle.farm_base.specs.declared.message.Message.TheVariants as to
 use Rattle.farm_base.specs.declared.message.Request.{Request}
 use Rattle.farm_base.specs.declared.message.Request.TheVariants.{Hello, Acquire, Commit, Release}
 use Rattle.protocol.specs.World.{KeptAsk, Open, Node, Act, Asks, Asks_tenure, Asks_again, Greets, Takes, Gives_back, Begins, Finishes, Gives_up, Sends_commit, Learns, Drops, Is_denied, Is_recalled, Is_recalled_running, Stores, Asks_content, Sends_blob, Restarts, Stops, World, Move, Node_moves, Machine_moves, Machine_says, Fails, Recovers, Moves, Still, Then, start}
-use Rattle.protocol.specs.Ledger.{begin_work}
-use Rattle.protocol.specs.Replay.{run, opening}
-use Rattle.protocol.specs.Follows.{OnlyItself}
+use Rattle.protocol.specs.Ledger.{Limits, begin_work}
+use Rattle.protocol.specs.Replay.{Event, run, opening}
+use Rattle.protocol.specs.Follows.{Shows, IsFarm, OnlyItself}
 use Rattle.protocol.specs.Chronicle.{FittingMessageIsGranted}
 use Rattle.protocol.proofs.Base.{in_append, in_one, none_some, some_is, nth_in}
 use Rattle.protocol.proofs.Invariant.{Inv, Wanted, WasAsked}
@@ -19,7 +19,7 @@ use Rattle.protocol.proofs.Parking.{no_parked_ask_is_ready}
 use Rattle.protocol.proofs.Answering.{fitting_ask_is_granted}
 
 -- what is asked under one name is one
-abbrev OneAsk : List Message → Type 0
+abbrev pub OneAsk : List Message → Type 0
 OneAsk pool = (n : NodeId) (l : Life) (a : Ask) (ws ws' : List Want) (t t' : Bool) → In (acquire n l a ws t) pool → In (acquire n l a ws' t') pool → (ws ≡ ws') × (t ≡ t')
 
 said_is : (y z : ToCoord) → Said y ≡ Said z → y ≡ z
@@ -154,15 +154,22 @@ module _ (sha : List ℕ → Digest) where
       let whole = moves_inv sha (start sha) w (start_whole sha) run in
       move_asks v u (moves_inv sha w v whole.0 moves).0.now move before
 
+-- in every world of a run
+pub one_ask : (sha : List ℕ → Digest) (u : World) → Moves sha (start sha) u → OneAsk u.pool
+one_ask sha u moves = moves_ask sha (start sha) u (Still (start sha)) moves (λ n l a ws ws' t t' i j. absurd i)
+
+-- where an ask of this name is parked in a farm of a run, it is this one
+pub only_itself : (sha : List ℕ → Digest) (k : Limits) → IsFarm sha k → (size : ℕ) (events : List Event) (u : World) → Moves sha (start sha) u → Shows sha u (run sha k events (opening sha size)) → (p : Parked)
+    → In (acquire p.node p.life p.ask p.wants p.tenure) u.pool → OnlyItself (run sha k events (opening sha size)).ledger p
+only_itself sha k farm size events u moves shows p sent z i n l a =
+    let one : OneAsk u.pool = one_ask sha u moves in
+    let was = (shows.now.asked z i).0 in
+    let named : In (acquire p.node p.life p.ask z.wants z.tenure) u.pool = subst (λ (x : NodeId). In (acquire x p.life p.ask z.wants z.tenure) u.pool) n (subst (λ (x : Life). In (acquire z.node x p.ask z.wants z.tenure) u.pool) l (subst (λ (x : Ask). In (acquire z.node z.life x z.wants z.tenure) u.pool) a was)) in
+    let same = one p.node p.life p.ask z.wants p.wants z.tenure p.tenure named sent in
+    λ i. record { node = n i; life = l i; ask = a i; wants = same.0 i; tenure = same.1 i }
+
 pub fitting_message_is_granted : FittingMessageIsGranted
 fitting_message_is_granted sha k farm size events number p here gone current may =
     let r = from_opening sha k farm size events in
-    let q = (run sha k events (opening sha size)).ledger in
-    let one : OneAsk r.world.pool = moves_ask sha (start sha) r.world (Still (start sha)) r.moves (λ n l a ws ws' t t' i j. absurd i) in
     let sent : In (acquire p.node p.life p.ask p.wants p.tenure) r.world.pool = subst (In (acquire p.node p.life p.ask p.wants p.tenure)) (sym r.shows.pool) (nth_in (run sha k events (opening sha size)).pool number (acquire p.node p.life p.ask p.wants p.tenure) here) in
-    let only : OnlyItself q p = λ z i n l a.
-    (let was = (r.shows.now.asked z i).0 in
-    let named : In (acquire p.node p.life p.ask z.wants z.tenure) r.world.pool = subst (λ (x : NodeId). In (acquire x p.life p.ask z.wants z.tenure) r.world.pool) n (subst (λ (x : Life). In (acquire z.node x p.ask z.wants z.tenure) r.world.pool) l (subst (λ (x : Ask). In (acquire z.node z.life x z.wants z.tenure) r.world.pool) a was)) in
-    let same = one p.node p.life p.ask z.wants p.wants z.tenure p.tenure named sent in
-    λ i. record { node = n i; life = l i; ask = a i; wants = same.0 i; tenure = same.1 i }) in
-    fitting_ask_is_granted k p (begin_work q) (no_parked_ask_is_ready sha k size events) only gone current may
+    fitting_ask_is_granted k p (begin_work (run sha k events (opening sha size)).ledger) (no_parked_ask_is_ready sha k size events) (only_itself sha k farm size events r.world r.moves r.shows p sent) gone current may

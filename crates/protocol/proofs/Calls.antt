@@ -132,10 +132,10 @@ module _ (k : Limits) (fits : k.instances ≤ 4096) (pool : List Message) (m : M
   no_lease_from : (live : List Lease) (p : Parked) → lease_of live p.node p.life p.ask ≡ None → NoLease live p
   no_lease_from live p e g i = find_none (is_of p.node p.life p.ask) live e g i
 
-  give_it : (p : Parked) (w : Work) → Fo w → In (acquire p.node p.life p.ask p.wants p.tenure) pool → w.ledger.gone p.node.0 ≡ false → NoLease w.ledger.live p → is_parked w.ledger.parked p.node p.life p.ask ≡ false → decision k w.ledger p ≡ Give → Fo (gives k p w)
+  give_it : (p : Parked) (w : Work) → Fo w → In (acquire p.node p.life p.ask p.wants p.tenure) pool → w.ledger.gone p.node.0 ≡ false → p.life.0 ≤ w.ledger.lives p.node.0 → NoLease w.ledger.live p → is_parked w.ledger.parked p.node p.life p.ask ≡ false → decision k w.ledger p ≡ Give → Fo (gives k p w)
   unfolding gives
-  give_it p w f asked here none other e =
-      let g = give_going k fits pool m sound sent P p w (going k fits pool m sound sent P w f) asked here none e in
+  give_it p w f asked here le none other e =
+      let g = give_going k fits pool m sound sent P p w (going k fits pool m sound sent P w f) asked here le none e in
       record {
         machine = g.machine;
         works = g.works;
@@ -169,8 +169,8 @@ module _ (k : Limits) (fits : k.instances ≤ 4096) (pool : List Message) (m : M
   recalls-ledger true p w = recall-ledger (find (holds_wanted p) w.ledger.live) w
 
   -- an ask without a lease joins the parked ones
-  park_it : (p : Parked) (ps : List Parked) (w : Work) (f : Fo w) → w.ledger.parked ≡ ps → In (acquire p.node p.life p.ask p.wants p.tenure) pool → w.ledger.gone p.node.0 ≡ false → NoLease w.ledger.live p → is_parked ps p.node p.life p.ask ≡ false → Fo (parks (ps ++ p ∷ []) w)
-  park_it p ps w f same asked here none other =
+  park_it : (p : Parked) (ps : List Parked) (w : Work) (f : Fo w) → w.ledger.parked ≡ ps → In (acquire p.node p.life p.ask p.wants p.tenure) pool → w.ledger.gone p.node.0 ≡ false → p.life.0 ≤ w.ledger.lives p.node.0 → NoLease w.ledger.live p → is_parked ps p.node p.life p.ask ≡ false → Fo (parks (ps ++ p ∷ []) w)
+  park_it p ps w f same asked here le none other =
       let b : Machine = f.machine in
       let at : b.parked ≡ ps = sym f.agrees.parked ∙ same in
       let next : Machine = record b { parked = ps ++ p ∷ [] } in
@@ -182,30 +182,30 @@ module _ (k : Limits) (fits : k.instances ≤ 4096) (pool : List Message) (m : M
         ended = f.ended;
         granted = f.granted;
         agrees = agrees_from k.empty pool next (record w.ledger { parked = ps ++ p ∷ [] })
-            (record { live_made = core.live_made; live_kept = core.live_kept; retired_made = core.retired_made; retired_kept = core.retired_kept; lines = core.lines; last = core.last; ceiling = core.ceiling; old_home = core.old_home; gone = core.gone; lives = core.lives })
+            (record { live_made = core.live_made; live_kept = core.live_kept; retired_made = core.retired_made; retired_kept = core.retired_kept; lines = core.lines; last = core.last; ceiling = core.ceiling; block = core.block; seen = core.seen; old_home = core.old_home; gone = core.gone; lives = core.lives })
             refl
-            (λ q i. elim (in_append q ps (p ∷ []) i) [ inl j ↦ f.agrees.asked q (subst (In q) (sym same) j) | inr j ↦ subst (λ (z : Parked). In (acquire z.node z.life z.ask z.wants z.tenure) pool × (w.ledger.gone z.node.0 ≡ false)) (sym (in_one q p j)) (asked, here) ])
+            (λ q i. elim (in_append q ps (p ∷ []) i) [ inl j ↦ f.agrees.asked q (subst (In q) (sym same) j) | inr j ↦ subst (λ (z : Parked). In (acquire z.node z.life z.ask z.wants z.tenure) pool × (w.ledger.gone z.node.0 ≡ false) × (z.life.0 ≤ w.ledger.lives z.node.0)) (sym (in_one q p j)) (asked, here, le) ])
             (waits_push w.ledger.live ps p (subst (Waits w.ledger.live) same f.agrees.waits) none other);
       }
 
-  decided_it : (d : Decision) (p : Parked) (w : Work) (f : Fo w) → In (acquire p.node p.life p.ask p.wants p.tenure) pool → w.ledger.gone p.node.0 ≡ false → NoLease w.ledger.live p → is_parked w.ledger.parked p.node p.life p.ask ≡ false → decision k w.ledger p ≡ d → Fo (decided d k p w)
-  decided_it Give p w f asked here none other e = note_it (note.Granted (grant_of k.empty w.ledger.line (lease_for k w.ledger p))) (gives k p w) (give_it p w f asked here none other e)
-  decided_it (Deny why) p w f asked here none other e = note_it (note.Denied why) (denies why p w) (say_it (told.Denied p.node p.life p.ask why) w f (Says_denied p.node p.life p.ask why p.wants p.tenure asked))
-  decided_it Wait p w f asked here none other e =
+  decided_it : (d : Decision) (p : Parked) (w : Work) (f : Fo w) → In (acquire p.node p.life p.ask p.wants p.tenure) pool → w.ledger.gone p.node.0 ≡ false → p.life.0 ≤ w.ledger.lives p.node.0 → NoLease w.ledger.live p → is_parked w.ledger.parked p.node p.life p.ask ≡ false → decision k w.ledger p ≡ d → Fo (decided d k p w)
+  decided_it Give p w f asked here le none other e = note_it (note.Granted (grant_of k.empty w.ledger.line (lease_for k w.ledger p))) (gives k p w) (give_it p w f asked here le none other e)
+  decided_it (Deny why) p w f asked here le none other e = note_it (note.Denied why) (denies why p w) (say_it (told.Denied p.node p.life p.ask why) w f (Says_denied p.node p.life p.ask why p.wants p.tenure asked))
+  decided_it Wait p w f asked here le none other e =
       let b : Bool = p.tenure && not (elsewhere w.ledger p) in
       let v : Work = recalls b p w in
       let same : v.ledger ≡ w.ledger = recalls-ledger b p w in
       let g = recalls_it b p w f (λ t. (and_parts p.tenure (not (elsewhere w.ledger p)) t).0) in
       note_it note.Parked (parks (w.ledger.parked ++ p ∷ []) v)
-      (park_it p w.ledger.parked v g (ap (λ (z : Ledger). z.parked) same) asked (subst (λ (z : Ledger). z.gone p.node.0 ≡ false) (sym same) here) (subst (λ (z : Ledger). NoLease z.live p) (sym same) none) other)
+      (park_it p w.ledger.parked v g (ap (λ (z : Ledger). z.parked) same) asked (subst (λ (z : Ledger). z.gone p.node.0 ≡ false) (sym same) here) (subst (λ (z : Ledger). p.life.0 ≤ z.lives p.node.0) (sym same) le) (subst (λ (z : Ledger). NoLease z.live p) (sym same) none) other)
 
-  acquiring_it : (o : Option Lease) (b : Bool) (p : Parked) (w : Work) (f : Fo w) → In (acquire p.node p.life p.ask p.wants p.tenure) pool → w.ledger.gone p.node.0 ≡ false → lease_of w.ledger.live p.node p.life p.ask ≡ o → is_parked w.ledger.parked p.node p.life p.ask ≡ b → Fo (acquiring k o b p w)
-  acquiring_it (Some h) b p w f asked here e i =
+  acquiring_it : (o : Option Lease) (b : Bool) (p : Parked) (w : Work) (f : Fo w) → In (acquire p.node p.life p.ask p.wants p.tenure) pool → w.ledger.gone p.node.0 ≡ false → p.life.0 ≤ w.ledger.lives p.node.0 → lease_of w.ledger.live p.node p.life p.ask ≡ o → is_parked w.ledger.parked p.node p.life p.ask ≡ b → Fo (acquiring k o b p w)
+  acquiring_it (Some h) b p w f asked here le e i =
       let r = find_some (is_of p.node p.life p.ask) w.ledger.live h e in
       note_it (note.GrantedBefore (grant_of k.empty w.ledger.line h)) (says (told.Granted (grant_of k.empty w.ledger.line h)) w)
       (say_it (told.Granted (grant_of k.empty w.ledger.line h)) w f (grant_says k fits pool m sound sent P w f h r.0))
-  acquiring_it None true p w f asked here e i = note_it note.Parked w f
-  acquiring_it None false p w f asked here e i = decided_it (decision k w.ledger p) p w f asked here (no_lease_from w.ledger.live p e) i refl
+  acquiring_it None true p w f asked here le e i = note_it note.Parked w f
+  acquiring_it None false p w f asked here le e i = decided_it (decision k w.ledger p) p w f asked here le (no_lease_from w.ledger.live p e) i refl
 
   -- ---- ends of leases
 
@@ -227,6 +227,8 @@ module _ (k : Limits) (fits : k.instances ≤ 4096) (pool : List Message) (m : M
     lines = λ s. core.lines s ∙ sym (ended_line k.empty b sound e (picks test) y ends bare s);
     last = core.last;
     ceiling = core.ceiling;
+    block = core.block;
+    seen = λ h i. core.seen h (from_filter (λ (z : Lease). not (test z)) h q.live i).0;
     old_home = core.old_home;
     gone = core.gone;
     lives = core.lives;
@@ -391,6 +393,8 @@ module _ (k : Limits) (fits : k.instances ≤ 4096) (pool : List Message) (m : M
                   ∙ sym (line-end k.empty s b.ending g.0 y b.made (b.last + 1) sound'.order sound'.apart sound'.laws slots g.1.1 g.1.0);
               last = core.last;
               ceiling = core.ceiling;
+              block = core.block;
+              seen = λ h i. core.seen h (from_filter (λ (z : Lease). not (has_ticket t z)) h w.ledger.live i).0;
               old_home = core.old_home;
               gone = core.gone;
               lives = core.lives;
@@ -606,15 +610,15 @@ module _ (k : Limits) (fits : k.instances ≤ 4096) (pool : List Message) (m : M
       decided_quiet Wait f = quiet_it note.Parked (decided Wait k p w) (λ u q. (let bad : note.Parked ≡ note.Committed u = q in cc)) (λ u q. (let bad : note.Parked ≡ note.Released u = q in cc)) tt f
 
   -- a message of the life that is now the greatest
-  answering_by : (r : Request) (w : Work) (f : At note.Nothing w) → w.note ≡ note.Nothing → y.request ≡ r → In (Said (record { node = y.node; life = y.life; request = r })) pool → w.ledger.gone y.node.0 ≡ false
+  answering_by : (r : Request) (w : Work) (f : At note.Nothing w) → w.note ≡ note.Nothing → y.request ≡ r → In (Said (record { node = y.node; life = y.life; request = r })) pool → w.ledger.gone y.node.0 ≡ false → y.life.0 ≤ w.ledger.lives y.node.0
       → At (answering k y.node y.life r w).note (answering k y.node y.life r w)
-  answering_by Hello w f quiet at asked here = subst (λ n. At n w) (sym quiet) f
-  answering_by (Acquire a wants tenure) w f quiet at asked here =
+  answering_by Hello w f quiet at asked here le = subst (λ n. At n w) (sym quiet) f
+  answering_by (Acquire a wants tenure) w f quiet at asked here le =
       let p : Parked = record { node = y.node; life = y.life; ask = a; wants = wants; tenure = tenure } in
       acquired_quiet (lease_of w.ledger.live y.node y.life a) (is_parked w.ledger.parked y.node y.life a) p w
-      (acquiring_it k fits pool m sound sent (Is note.Nothing) (lease_of w.ledger.live y.node y.life a) (is_parked w.ledger.parked y.node y.life a) p w f asked here refl refl)
-  answering_by (Commit t news) w f quiet at asked here = committing_it (may_commit y.node y.life news (lease_under w.ledger.live t)) (lease_under w.ledger.live t) t news w f at asked refl refl
-  answering_by (Release t) w f quiet at asked here = released_it (may_release y.node y.life (lease_under w.ledger.live t)) (lease_under w.ledger.live t) t w f quiet at asked refl refl
+      (acquiring_it k fits pool m sound sent (Is note.Nothing) (lease_of w.ledger.live y.node y.life a) (is_parked w.ledger.parked y.node y.life a) p w f asked here le refl refl)
+  answering_by (Commit t news) w f quiet at asked here le = committing_it (may_commit y.node y.life news (lease_under w.ledger.live t)) (lease_under w.ledger.live t) t news w f at asked refl refl
+  answering_by (Release t) w f quiet at asked here le = released_it (may_release y.node y.life (lease_under w.ledger.live t)) (lease_under w.ledger.live t) t w f quiet at asked refl refl
 
-  pub answering_it : (w : Work) (f : At note.Nothing w) → w.note ≡ note.Nothing → In (Said y) pool → w.ledger.gone y.node.0 ≡ false → At (answering k y.node y.life y.request w).note (answering k y.node y.life y.request w)
-  answering_it w f quiet asked here = answering_by y.request w f quiet refl asked here
+  pub answering_it : (w : Work) (f : At note.Nothing w) → w.note ≡ note.Nothing → In (Said y) pool → w.ledger.gone y.node.0 ≡ false → y.life.0 ≤ w.ledger.lives y.node.0 → At (answering k y.node y.life y.request w).note (answering k y.node y.life y.request w)
+  answering_it w f quiet asked here le = answering_by y.request w f quiet refl asked here le

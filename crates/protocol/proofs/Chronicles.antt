@@ -1,12 +1,12 @@
 -- Chronicles of schedules, and what stays so.
-use Rattle.std.proofs.Common.{◌≡◌, ℕ, ◌<◌, ◌≤◌, slice_get, List, [], ◌∷◌, ◌++◌, Bool, true, false, ◌⊎◌, Option, Some, None, Result, Ok, Err, refl, sym, ◌∙◌, ap, subst, inl, inr, arith, append-nil}
+use Rattle.std.proofs.Common.{◌≡◌, ◌≢◌, map, ◌||◌, ℕ, ◌<◌, ◌≤◌, slice_get, List, [], ◌∷◌, ◌++◌, Bool, true, false, ◌⊎◌, Option, Some, None, Result, Ok, Err, refl, sym, ◌∙◌, ap, subst, inl, inr, arith, append-nil}
 use Rattle.std.proofs.lemmas.Bool.{cases_Bool}
 use Rattle.std.specs.Prelude.{⊤, if◌then◌else◌}
 use Rattle.farm_base.specs.declared.message.Message.TheVariants as to
 use Rattle.farm_base.specs.declared.message.ToNode.TheVariants as to_node
 use Rattle.protocol.specs.Lists.{In, IsFrontOf, nth}
-use Rattle.protocol.specs.Names.{Slot, NodeId, Ticket, Digest, Want}
-use Rattle.protocol.specs.Machine.{Grant, Granted, Told, Has, ticket_of, LineVersion, Ending, Withdrawn, Died, Message, Said, ToCoord, Machine, Live, line}
+use Rattle.protocol.specs.Names.{Life, Mode, Shared, IsInstance, is_private, is_shared, only_slot, wants_shared, leased_wants, tenure_wants, FolderName, Slot, NodeId, Ticket, Digest, Want}
+use Rattle.protocol.specs.Machine.{acquire, GrantedSlot, AnswersAsk, want_of, Grant, Granted, Told, Has, ticket_of, LineVersion, Ending, Withdrawn, Died, Message, Said, ToCoord, Machine, Live, line}
 use Rattle.protocol.specs.declared.answer.CoordNote.{CoordNote}
 use Rattle.protocol.specs.declared.answer.CoordNote.TheVariants as coord
 use Rattle.protocol.specs.declared.answer.CoordRefusal.{CoordRefusal}
@@ -27,16 +27,75 @@ use Rattle.protocol.specs.declared.answer.EventRefusal.TheVariants as refusal
 use Rattle.protocol.proofs.Saying as saying
 use Rattle.protocol.specs.Follows.{lease_from, Agrees, SavedAgrees, IsFarm, Shows}
 use Rattle.protocol.specs.Meaning.{message_adds, Finds, recorded, adds, Carried, Answered, Means, Of_older_life}
-use Rattle.protocol.specs.Chronicle.{unarmed, ChronicleFrom, EveryScheduleHasAChronicle, StaysOut, GoesOn, NoneShared, Writes, EveryVersionIsAnswered, Headline, EveryScheduleMeans, EveryFarmIsSaved, Covered, EveryRecordCovers, RestartReadsTheRecord}
+use Rattle.protocol.specs.Chronicle.{unarmed, ChronicleFrom, EveryScheduleHasAChronicle, StaysOut, GoesOn, NoneShared, OneForEach, No_wants, Shared_want, Other_want, TenureSlot, SlotsWanted, WantedUnder, MayBeAtOnce, Writes, EveryVersionIsAnswered, Headline, EveryScheduleMeans, EveryFarmIsSaved, Covered, EveryRecordCovers, RestartReadsTheRecord}
 use Rattle.protocol.proofs.Steps.{same_grant, made_below}
-use Rattle.protocol.proofs.Invariant.{Inv}
+use Rattle.protocol.proofs.Invariant.{Inv, WasAsked, Wanted}
 use Rattle.protocol.proofs.Using.{Runs}
 use Rattle.farm_base.specs.declared.message.FromCoord.TheVariants as told
-use Rattle.protocol.proofs.Base.{none_some, some_is, in_left, in_append}
+use Rattle.protocol.proofs.Base.{true_false, none_some, some_is, in_left, in_append}
 use Rattle.protocol.proofs.Worlds.{Whole, moves_inv, start_whole}
 use Rattle.protocol.proofs.Safety.{every_run_is_safe, every_run_stays_safe}
 use Rattle.protocol.proofs.Others.{unsaved_ends}
-use Rattle.protocol.proofs.Schedules.{handled_grew, moves_trans, step_next, run_next, from_opening, opening_shows, up_is, up_saved}
+use Rattle.protocol.proofs.Wanting.{shared_mode}
+use Rattle.protocol.proofs.Asking.{one_ask}
+use Rattle.protocol.proofs.Fitting.{WorldFits}
+use Rattle.protocol.proofs.Failing.{armed_now, leaves_armed, spent_down}
+use Rattle.protocol.proofs.Schedules.{handled_grew, moves_trans, step_next, run_next, start_fits, from_opening, opening_shows, up_is, up_saved}
+
+-- ---- the slots of a Grant, by the wants of its ask
+
+not_shared : (m : Mode) → is_shared m ≡ false → m ≢ Shared
+not_shared m h e = true_false (is_shared m) (ap is_shared e) h
+
+list_head : {A : Type 0} (x y : A) (xs ys : List A) → x ∷ xs ≡ y ∷ ys → x ≡ y
+list_head x y xs ys e = cc
+
+list_tail : {A : Type 0} (x y : A) (xs ys : List A) → x ∷ xs ≡ y ∷ ys → xs ≡ ys
+list_tail x y xs ys e = cc
+
+some_none : {A : Type 0} {P : Type 0} (x : A) (xs : List A) → x ∷ xs ≡ [] → P
+some_none x xs e = cc
+
+none_more : {A : Type 0} {P : Type 0} (x : A) (xs : List A) → [] ≡ x ∷ xs → P
+none_more x xs e = cc
+
+abbrev Instances : List GrantedSlot → Type 0
+Instances us = (u : GrantedSlot) → In u us → IsInstance u.slot.folder.mode u.slot.instance
+
+for_want : (u : GrantedSlot) (w : Want) → want_of u ≡ w → IsInstance u.slot.folder.mode u.slot.instance → (u.slot.folder ≡ w.folder) × (u.writable ≡ w.writable) × IsInstance w.folder.mode u.slot.instance
+for_want u w e i = (ap (λ (z : Want). z.folder) e, ap (λ (z : Want). z.writable) e, subst (λ (z : Want). IsInstance z.folder.mode u.slot.instance) e i)
+
+one_for_each : (wants : List Want) (us : List GrantedSlot) → map want_of us ≡ leased_wants false wants → Instances us → OneForEach wants us
+one_for_each [] [] e i = No_wants
+one_for_each [] (u ∷ us) e i = some_none (want_of u) (map want_of us) e
+one_for_each (w ∷ wants) us e i = elim (cases_Bool (wants_shared w)) [
+  | inl t ↦ Shared_want w wants us (shared_mode w.folder.mode t) (one_for_each wants us (rw t at e) i)
+  | inr f ↦ by us f (rw f at e) i (one_for_each wants)
+]
+  where
+    by : (us : List GrantedSlot) → wants_shared w ≡ false → map want_of us ≡ w ∷ leased_wants false wants → Instances us → ((vs : List GrantedSlot) → map want_of vs ≡ leased_wants false wants → Instances vs → OneForEach wants vs) → OneForEach (w ∷ wants) us
+    by [] f e i rest = none_more w (leased_wants false wants) e
+    by (u ∷ us) f e i rest =
+        Other_want w wants u us (not_shared w.folder.mode f) (for_want u w (list_head (want_of u) w (map want_of us) (leased_wants false wants) e) (i u (inl refl)))
+        (rest us (list_tail (want_of u) w (map want_of us) (leased_wants false wants) e) (λ v j. i v (inr j)))
+
+tenure_slot : (wants : List Want) (us : List GrantedSlot) (f : FolderName) → wants ≡ tenure_wants f → map want_of us ≡ leased_wants true wants → Instances us → TenureSlot wants us
+tenure_slot wants us f is e i = by us (e ∙ ap (leased_wants true) is) i
+  where
+    w : Want
+    w = record { folder = record f { mode = Shared }; writable = true }
+
+    by : (us : List GrantedSlot) → map want_of us ≡ w ∷ [] → Instances us → TenureSlot wants us
+    by [] e i = none_more w [] e
+    by (u ∷ []) e i = (w, u, is, refl, refl, for_want u w (list_head (want_of u) w [] [] e) (i u (inl refl)))
+    by (u ∷ v ∷ vs) e i = some_none (want_of v) (map want_of vs) (list_tail (want_of u) w (map want_of (v ∷ vs)) [] e)
+
+slots_wanted : (g : Grant) (wants : List Want) → AnswersAsk g wants → SlotsWanted g.tenure wants g.slots
+slots_wanted g wants a = by g.tenure a.slots a.tenure
+  where
+    by : (tenure : Bool) → map want_of g.slots ≡ leased_wants tenure wants → (tenure ≡ true → (f : FolderName) × (wants ≡ tenure_wants f)) → SlotsWanted tenure wants g.slots
+    by true e h = (let r = h refl in tenure_slot wants g.slots r.0 r.1 e a.instances)
+    by false e h = one_for_each wants g.slots e a.instances
 
 module _ (sha : List ℕ → Digest) (k : Limits) (farm : IsFarm sha k) where
   chronicle : (events : List Event) (s : Farm) (u : World) (earlier : List World) → Moves sha (start sha) u → ((w : World) → In w (u ∷ earlier) → Moves sha (start sha) w × Moves sha w u) → Shows sha u s → ChronicleFrom sha k events s u earlier
@@ -56,8 +115,8 @@ module _ (sha : List ℕ → Digest) (k : Limits) (farm : IsFarm sha k) where
       )
 
   -- an accepted event's meaning
-  accepted : (u v : World) (e : Event) (r : Result Outcome EventRefusal) (o : Outcome) → r ≡ Ok o → Means sha u e r v → Answered sha u e o.note v
-  accepted u v e r o p means = subst (λ x. Means sha u e x v) p means
+  accepted : (size : ℕ) (u v : World) (e : Event) (r : Result Outcome EventRefusal) (o : Outcome) → r ≡ Ok o → Means sha k size u e r v → Answered sha k size u e o v
+  accepted size u v e r o p means = subst (λ x. Means sha k size u e x v) p means
 
   module _ (u : World) (moves : Moves sha (start sha) u) (s : Farm) (shows : Shows sha u s) where
     -- what was withdrawn stays so
@@ -78,7 +137,7 @@ module _ (sha : List ℕ → Digest) (k : Limits) (farm : IsFarm sha k) where
           (let r = run_next sha k farm late u moves s shows in
           let all = moves_trans sha (start sha) u r.world moves r.moves in
           let n = step_next sha k farm r.world all (run sha k late s) r.shows e in
-          let a = accepted r.world n.world e (step sha k (run sha k late s) e).outcome o ok n.means in
+          let a = accepted (run sha k late s).size r.world n.world e (step sha k (run sha k late s) e).outcome o ok n.means in
           let live = a.carried.told (coord.Committed t) told in
           not_live r.world t (still_out r.world t r.moves gone) live.0 live.1 live.2);
       off_line = λ late x v i at.
@@ -124,7 +183,7 @@ module _ (sha : List ℕ → Digest) (k : Limits) (farm : IsFarm sha k) where
       let rest = goes_on es one.world (moves_trans sha (start sha) u one.world moves one.moves) (step sha k s e).farm one.shows n t g ws at spared.1 now in
       (rest.0, moves_trans sha u one.world rest.0 one.moves rest.1, rest.2, rest.3)
     where
-      by : (r : Result Outcome EventRefusal) → (step sha k s e).outcome ≡ r → (v : World) → Means sha u e r v → InUse v n g ws
+      by : (r : Result Outcome EventRefusal) → (step sha k s e).outcome ≡ r → (v : World) → Means sha k s.size u e r v → InUse v n g ws
       by (Ok o) ok v a = elim (a.used.stopped n g ws used) [ inl now ↦ now | inr gone ↦ absurd (spared.0 g o ok at gone) ]
       by (Err r) ok v same = elim (same.nodes n.0) [
         | inl e ↦ subst (λ (z : Node). Runs z.asks g ws) (sym e) used
@@ -144,7 +203,7 @@ module _ (sha : List ℕ → Digest) (k : Limits) (farm : IsFarm sha k) where
       → (step sha k (run sha k late (step sha k s (Begin n t)).farm) (Begin n' t')).outcome ≡ Ok o' → NoneShared (run sha k late (step sha k s (Begin n t)).farm).pool t t'
   begun_alone u moves s shows n n' t t' late o o' ok spared ok' g g' x sent sent' at at' has has' alone =
       let one = step_next sha k farm u moves s shows (Begin n t) in
-      let a = accepted u one.world (Begin n t) (step sha k s (Begin n t)).outcome o ok one.means in
+      let a = accepted s.size u one.world (Begin n t) (step sha k s (Begin n t)).outcome o ok one.means in
       let h : Grant = a.did.1.0 in
       let ws : List Want = a.did.1.1 in
       let moves1 = moves_trans sha (start sha) u one.world moves one.moves in
@@ -153,7 +212,7 @@ module _ (sha : List ℕ → Digest) (k : Limits) (farm : IsFarm sha k) where
       let moves2 = moves_trans sha (start sha) one.world w moves1 mid.1 in
       let after : Farm = run sha k late (step sha k s (Begin n t)).farm in
       let two = step_next sha k farm w moves2 after mid.2 (Begin n' t') in
-      let b = accepted w two.world (Begin n' t') (step sha k after (Begin n' t')).outcome o' ok' two.means in
+      let b = accepted after.size w two.world (Begin n' t') (step sha k after (Begin n' t')).outcome o' ok' two.means in
       let h' : Grant = b.did.1.0 in
       let ws' : List Want = b.did.1.1 in
       let moves3 = moves_trans sha (start sha) w two.world moves2 two.moves in
@@ -188,6 +247,63 @@ module _ (sha : List ℕ → Digest) (k : Limits) (farm : IsFarm sha k) where
       by b c (Machine_says y up says) j = in_left m b.pool (Told y ∷ []) j
       by b c (Fails m' up steps) j = j
       by b c (Recovers m' e) j = j
+
+  -- an ask that was sent wants what the execution under its grant is for
+  wants_are : (v : World) → Moves sha (start sha) v → (n : NodeId) (h : Grant) (ws wants : List Want) → InUse v n h ws → In (acquire h.node h.life h.ask wants h.tenure) v.pool → ws ≡ wants
+  wants_are v run' n h ws wants used sent =
+      let inv = (moves_inv sha (start sha) v (start_whole sha) run').0.now in
+      let its = ((inv.nodes n).states used.0 (Running ws h used.1) used.2).0 in
+      by its.1 its.2 its.3 (inv.messages (acquire h.node h.life h.ask wants h.tenure) sent).0
+    where
+      by : h.node ≡ n → h.life ≡ (v.nodes n.0).life → h.ask.0 ≡ used.0 → WasAsked (v.nodes h.node.0) h.life h.ask.0 wants h.tenure → ws ≡ wants
+      by at life ask was = elim (subst (λ (z : NodeId). WasAsked (v.nodes z.0) h.life h.ask.0 wants h.tenure) at was) [
+        | inl older ↦ (let older' : h.life.0 < (v.nodes n.0).life.0 = older in let same : h.life.0 ≡ (v.nodes n.0).life.0 = ap (λ (z : Life). z.0) life in absurd (omega arith))
+        | inr now ↦ (let is : now.1.0 ≡ Running ws h used.1 = some_is now.1.0 (Running ws h used.1) (sym now.1.1 ∙ ap (nth (v.nodes n.0).asks) ask ∙ used.2) in
+            (subst (λ z. Wanted z wants h.tenure) is now.1.2).0)
+      ]
+
+  -- an execution that wants a SHARED folder is where its tenure is in use
+  home_of : (v : World) → Moves sha (start sha) v → (n : NodeId) (h : Grant) (ws wants : List Want) (w : Want) (f : FolderName) → InUse v n h ws → In (acquire h.node h.life h.ask wants h.tenure) v.pool → In w wants → w.folder ≡ f → f.mode ≡ Shared
+      → (q : Grant) × (us : List Want) × InUse v n q us × Has q (only_slot f)
+  home_of v run' n h ws wants w f used sent i at shared =
+      let is = wants_are v run' n h ws wants used sent in
+      let t : wants_shared w ≡ true = ap (λ (z : FolderName). is_shared z.mode) at ∙ ap is_shared shared in
+      let r = (every_run_is_safe sha v run').at_home n h ws w used (subst (In w) (sym is) i) t in
+      (r.0, r.1, r.2, subst (λ (z : FolderName). Has r.0 (only_slot z)) at r.4)
+
+  begun_apart : (u : World) → Moves sha (start sha) u → (s : Farm) → Shows sha u s → (n n' : NodeId) (t t' : Ticket) (late : List Event) (o o' : Outcome) → (step sha k s (Begin n t)).outcome ≡ Ok o → GoesOn sha k n t late (step sha k s (Begin n t)).farm
+      → (step sha k (run sha k late (step sha k s (Begin n t)).farm) (Begin n' t')).outcome ≡ Ok o' → MayBeAtOnce (run sha k late (step sha k s (Begin n t)).farm).pool n n' t t'
+  begun_apart u moves s shows n n' t t' late o o' ok spared ok' = record {
+    private = λ g g' x sent sent' has has' private. begun_alone u moves s shows n n' t t' late o o' ok spared ok' g g' x sent.0 sent'.0 sent.1 sent'.1 has has' (ap (λ m. is_private m || is_shared m) private);
+    shared = λ f shared one two. at_one f shared one two;
+  }
+    where
+      at_one : (f : FolderName) → f.mode ≡ Shared → WantedUnder (run sha k late (step sha k s (Begin n t)).farm).pool t f → WantedUnder (run sha k late (step sha k s (Begin n t)).farm).pool t' f → n ≡ n'
+      at_one f shared (g, wants, w, sent, asked, i, is_f) (g', wants', w', sent', asked', i', is_f') =
+          let one = step_next sha k farm u moves s shows (Begin n t) in
+          let a = accepted s.size u one.world (Begin n t) (step sha k s (Begin n t)).outcome o ok one.means in
+          let h : Grant = a.did.1.0 in
+          let ws : List Want = a.did.1.1 in
+          let moves1 = moves_trans sha (start sha) u one.world moves one.moves in
+          let mid = goes_on late one.world moves1 (step sha k s (Begin n t)).farm one.shows n t h ws a.did.1.2 spared a.did.1.4 in
+          let v : World = mid.0 in
+          let moves2 = moves_trans sha (start sha) one.world v moves1 mid.1 in
+          let after : Farm = run sha k late (step sha k s (Begin n t)).farm in
+          let two = step_next sha k farm v moves2 after mid.2 (Begin n' t') in
+          let b = accepted after.size v two.world (Begin n' t') (step sha k after (Begin n' t')).outcome o' ok' two.means in
+          let h' : Grant = b.did.1.0 in
+          let ws' : List Want = b.did.1.1 in
+          let moves3 = moves_trans sha (start sha) v two.world moves2 two.moves in
+          let still : InUse two.world n h ws = elim (b.used.stopped n h ws mid.3) [ inl now ↦ now | inr gone ↦ absurd gone ] in
+          let is : g ≡ h = sent_is v moves2 after mid.2 g h sent.0 (used_made v moves2 n h ws mid.3) (sent.1 ∙ sym a.did.1.2) in
+          let later = (moves_inv sha v two.world (moves_inv sha (start sha) v (start_whole sha) moves2).0 two.moves).1.machine in
+          let inv3 = (moves_inv sha (start sha) two.world (start_whole sha) moves3).0.now in
+          let made' : In (Granted g') two.world.machine.made = later.made (Granted g') ((moves_inv sha (start sha) v (start_whole sha) moves2).0.now.messages (Told (told.Granted g')) (subst (In (Told (told.Granted g'))) (sym mid.2.pool) sent'.0)) in
+          let is' : g' ≡ h' = same_grant (sha []) two.world.machine inv3.sound g' h' made' (used_made two.world moves3 n' h' ws' b.did.1.4) (ap (λ (z : Ticket). z.0) (sent'.1 ∙ sym b.did.1.2)) in
+          let there : (m : Message) → In m after.pool → In m two.world.pool = λ m j. still_sent v two.world two.moves m (subst (In m) (sym mid.2.pool) j) in
+          let home = home_of two.world moves3 n h ws wants w f still (subst (λ (z : Grant). In (acquire z.node z.life z.ask wants z.tenure) two.world.pool) is (there (acquire g.node g.life g.ask wants g.tenure) asked)) i is_f shared in
+          let home' = home_of two.world moves3 n' h' ws' wants' w' f b.did.1.4 (subst (λ (z : Grant). In (acquire z.node z.life z.ask wants' z.tenure) two.world.pool) is' (there (acquire g'.node g'.life g'.ask wants' g'.tenure) asked')) i' is_f' shared in
+          ((every_run_is_safe sha two.world moves3).alone n n' home.0 home'.0 home.1 home'.1 (only_slot f) home.2 home'.2 home.3 home'.3 (ap (λ m. is_private m || is_shared m) shared)).0
 
   -- an event finds the world's machine, or what the record holds
   finds_is : (u : World) (e : Event) → (Finds u e ≡ u.machine) ⊎ (Finds u e ≡ recorded u.machine u.down)
@@ -299,7 +415,7 @@ module _ (sha : List ℕ → Digest) (k : Limits) (farm : IsFarm sha k) where
   stood u s shows x v (inl i) = inl (subst (In v) (shows.now.lines x) i)
   stood u s shows x v (inr i) = inr (subst (In v) (saved_line u s shows x) i)
 
-  one_event : (u : World) → Moves sha (start sha) u → (s : Farm) (shows : Shows sha u s) (e : Event) (w : World) → Shows sha w (step sha k s e).farm → (r : Result Outcome EventRefusal) → (step sha k s e).outcome ≡ r → Means sha u e r w → (x : Slot) (v : LineVersion) → Stands w x v → Stands u x v ⊎ Writes sha k s e x v
+  one_event : (u : World) → Moves sha (start sha) u → (s : Farm) (shows : Shows sha u s) (e : Event) (w : World) → Shows sha w (step sha k s e).farm → (r : Result Outcome EventRefusal) → (step sha k s e).outcome ≡ r → Means sha k s.size u e r w → (x : Slot) (v : LineVersion) → Stands w x v → Stands u x v ⊎ Writes sha k s e x v
   one_event u moves s shows e w after (Ok o) ok a x v (inl i) = elim (before u e o.note a.sent w.machine x v a.carried i) [ inl old ↦ inl old | inr new ↦ inr (inl (o, ok, added u s shows e o.note x v new)) ]
   one_event u moves s shows e w after (Ok o) ok a x v (inr i) = elim a.down [
     | inl same ↦ by u.down refl same
@@ -333,21 +449,24 @@ module _ (sha : List ℕ → Digest) (k : Limits) (farm : IsFarm sha k) where
         | inr later ↦ inr (e ∷ later.0, later.1, later.2, ap (λ l. e ∷ l) later.3, later.4)
       ]
 
-  headline : (u : World) → Moves sha (start sha) u → (s : Farm) → Shows sha u s → Headline sha k s
-  headline u moves s shows = record {
+  headline : (u : World) → Moves sha (start sha) u → (s : Farm) → Shows sha u s → WorldFits k u → Headline sha k s
+  headline u moves s shows fits = record {
+    instance = λ g x i j private.
+        (let made = (moves_inv sha (start sha) u (start_whole sha) moves).0.now.messages (Told (told.Granted g)) (subst (In (Told (told.Granted g))) (sym shows.pool) i) in
+        fits.now g made x j private);
     withdrawn = λ t o ok.
         (let n = step_next sha k farm u moves s shows (Withdraw t) in
-        let a = accepted u n.world (Withdraw t) (step sha k s (Withdraw t)).outcome o ok n.means in
+        let a = accepted s.size u n.world (Withdraw t) (step sha k s (Withdraw t)).outcome o ok n.means in
         let g = a.carried.did.1 in
         out (Withdraw t) n.world n.moves n.shows t (inl (subst (λ (z : Ticket). n.world.machine.ending z.0 ≡ Some Withdrawn) g.2 (a.carried.ended.all g.0 Withdrawn g.1 (g.2, refl)))));
     retired = λ j o ok g i at.
         (let n = step_next sha k farm u moves s shows (Retire j) in
-        let a = accepted u n.world (Retire j) (step sha k s (Retire j)).outcome o ok n.means in
+        let a = accepted s.size u n.world (Retire j) (step sha k s (Retire j)).outcome o ok n.means in
         let x = shows.now.live_made g i in
         out (Retire j) n.world n.moves n.shows g.ticket (inl (named n.world.machine x.0 g Withdrawn x.2 (a.carried.ended.all x.0 Withdrawn x.1 (ap (λ (z : Lease). z.node) x.2 ∙ at, refl)))));
     older = λ number y o here ok kept newer g i at lt.
         (let n = step_next sha k farm u moves s shows (Deliver number) in
-        let a = accepted u n.world (Deliver number) (step sha k s (Deliver number)).outcome o ok n.means in
+        let a = accepted s.size u n.world (Deliver number) (step sha k s (Deliver number)).outcome o ok n.means in
         let x = shows.now.live_made g i in
         let c = said_told s number y o here ok in
         let sent : nth u.pool number ≡ Some (Said y) = ap (λ (p : List Message). nth p number) shows.pool ∙ here in
@@ -357,6 +476,15 @@ module _ (sha : List ℕ → Digest) (k : Limits) (farm : IsFarm sha k) where
         out (Deliver number) n.world n.moves n.shows g.ticket (inr (named n.world.machine x.0 g Died x.2
         (a.carried.ended.all x.0 Died x.1 (c.0, y, c.1, sent, Of_older_life kept' newer' (ap (λ (z : Lease). z.node) x.2 ∙ at) lt')))));
     alone = begun_alone u moves s shows;
+    apart = begun_apart u moves s shows;
+    spent = λ n e. spent_down sha k s n e;
+    arms = λ kept. armed_now sha k s kept;
+    armed = λ e other. leaves_armed sha k s e other;
+    one_ask = λ n l a ws ws' t t' i j. one_ask sha u moves n l a ws ws' t t' (subst (In (acquire n l a ws t)) (sym shows.pool) i) (subst (In (acquire n l a ws' t')) (sym shows.pool) j);
+    wanted = λ g i.
+        (let inv = (moves_inv sha (start sha) u (start_whole sha) moves).0.now in
+        let r = inv.asked g (inv.messages (Told (told.Granted g)) (subst (In (Told (told.Granted g))) (sym shows.pool) i)) in
+        (r.0, subst (In (acquire g.node g.life g.ask r.0 g.tenure)) shows.pool r.1, slots_wanted g r.0 r.2));
     fenced = λ n l t i late x v j at.
         (let r = run_next sha k farm late u moves s shows in
         let all = moves_trans sha (start sha) u r.world moves r.moves in
@@ -369,7 +497,7 @@ module _ (sha : List ℕ → Digest) (k : Limits) (farm : IsFarm sha k) where
         subst (λ l. IsFrontOf (s.ledger.line x) l) (sym (r.shows.now.lines x)) (subst (λ l. IsFrontOf l (line (sha []) r.world.machine x)) (sym (shows.now.lines x)) (since.lines x)));
     answered = λ up e o ok x.
         (let n = step_next sha k farm u moves s shows e in
-        let a = accepted u n.world e (step sha k s e).outcome o ok n.means in
+        let a = accepted s.size u n.world e (step sha k s e).outcome o ok n.means in
         let same : Finds u e ≡ u.machine = found_up e (up_is sha k farm u moves s shows e up) in
         n.shows.now.lines x ∙ a.carried.lines x ∙ ap (λ l. l ++ adds (sha []) u.pool e o.note x) (ap (λ m. line (sha []) m x) same ∙ sym (shows.now.lines x))
         ∙ ap (λ p. s.ledger.line x ++ adds (sha []) p e o.note x) shows.pool ∙ ap (λ d. s.ledger.line x ++ adds d s.pool e o.note x) (sym farm.empty));
@@ -380,7 +508,7 @@ module _ (sha : List ℕ → Digest) (k : Limits) (farm : IsFarm sha k) where
     restarted = λ up g i unsaved.
         (let n = step_next sha k farm u moves s shows RestartCoordinator in
         let ok = restart_ok s in
-        let a = accepted u n.world RestartCoordinator (step sha k s RestartCoordinator).outcome ok.0 ok.1 n.means in
+        let a = accepted s.size u n.world RestartCoordinator (step sha k s RestartCoordinator).outcome ok.0 ok.1 n.means in
         let x = shows.now.live_made g i in
         let finds : Finds u RestartCoordinator ≡ u.machine = ap (recorded u.machine) (up_is sha k farm u moves s shows RestartCoordinator up) in
         let live : Live (Finds u RestartCoordinator) x.0 = subst (λ m. Live m x.0) (sym finds) x.1 in
@@ -408,7 +536,7 @@ every_version_is_answered sha k farm size events x v i = elim (all_events sha k 
 ]
 
 pub every_schedule_means : EveryScheduleMeans
-every_schedule_means sha k farm size events = (let r = from_opening sha k farm size events in headline sha k farm r.world r.moves (run sha k events (opening sha size)) r.shows)
+every_schedule_means sha k farm size events = (let r = from_opening sha k farm size events in headline sha k farm r.world r.moves (run sha k events (opening sha size)) r.shows (r.fits (start_fits sha k farm)))
 
 pub every_farm_is_saved : EveryFarmIsSaved
 every_farm_is_saved sha k farm size events =

@@ -4,7 +4,7 @@ use Rattle.std.proofs.lemmas.Bool.{cases_Bool, and_parts, eqb-false, eqb-true, n
 use Rattle.std.specs.Prelude.{nat_lt}
 use Rattle.protocol.specs.Lists.{In}
 use Rattle.protocol.specs.Names.{Mode, Shared, Private, Locked, Slot, slot_eq, slots_eq, is_private, only_slot, IsInstance, Digest, NodeId, Life, Ask, Ticket, Want, FolderName, leased_wants, tenure_wants}
-use Rattle.protocol.specs.Machine.{Grant, GrantedSlot, News, Ending, Granted, Withdrawn, Message, FromCoord, Parked, Machine, Live, Free, Based, AnswersAsk, SameAsk, want_of, line, version_at, slots_of, Names, written, acquire, commit, release, IsPartOf, Ends_part, Keeps, Leaves, Step, Grants, Unparks, Steps, No_step, One_more, Says, Says_granted, Says_committed, Says_fenced, Says_denied, Says_recall}
+use Rattle.protocol.specs.Machine.{Grant, GrantedSlot, News, Ending, Granted, Pruned, ticket_of, Withdrawn, Message, FromCoord, Parked, Machine, Live, Free, Based, AnswersAsk, SameAsk, want_of, line, version_at, slots_of, Names, written, acquire, commit, release, IsPartOf, Ends_part, Keeps, Leaves, Step, Grants, Ends, Prunes, Sees, Retires, Parks, Unparks, Raises, Steps, No_step, One_more, Says, Says_granted, Says_committed, Says_fenced, Says_denied, Says_recall}
 use Rattle.farm_base.specs.declared.message.FromCoord.TheVariants as told
 use Rattle.farm_base.specs.declared.message.Why.{Why}
 use Rattle.protocol.specs.declared.answer.CoordNote.{CoordNote}
@@ -12,7 +12,7 @@ use Rattle.protocol.specs.Ledger.{Limits, Ledger, Work, Lease, says, notes, some
 use Rattle.protocol.specs.Follows.{lease_from, NoLease, Waits, Works, Begins_work, Goes_on, Speaks, Follows}
 use Rattle.protocol.proofs.Base.{true_false, none_some, some_is, slot_eq_same, slot_eq_is, node_is, from_map, any_none, in_append, in_left, in_right, in_one}
 use Rattle.protocol.proofs.Steps.{Sound, Later, later_refl, later_trans, step_sound, fresh}
-use Rattle.protocol.proofs.Trying.{raised_covers, tried-gone, tried_waits, try-gone, try-parked, waiting_in, waiting_part, waiting_waits}
+use Rattle.protocol.proofs.Trying.{raised_block, raised_covers, tried-gone, tried-lives, try-lives, tried_waits, try-gone, try-parked, waiting_in, waiting_part, waiting_waits}
 use Rattle.protocol.proofs.Leases.{Core, core_of, AllAsked, agrees_from, names_last, grant-lease, lease-grant, not_leased, free_is, lowest_is, no_grant}
 
 pub works_sound : (empty : Digest) (pool : List Message) (a b : Machine) (sends : List FromCoord) → Sound empty a → Works empty pool a b sends → Later empty a b × Sound empty b
@@ -41,6 +41,42 @@ works_made empty pool a b sends sound (Speaks c ss y works may) g i = elim (in_a
 ]
 
 -- the steps alone, as a record may hold them
+-- so in one step
+step_above : (empty : Digest) (pool : List Message) (a b : Machine) → Step empty pool a b → (a.last ≤ b.last) × ((g : Grant) → In (Granted g) b.made → In (Granted g) a.made ⊎ ((a.last < g.ticket.0) × (g.ticket.0 ≤ b.last)))
+step_above empty pool a b (Grants g wants asked answers here alone home newer free) = (
+  omega arith,
+  λ h i. elim i [
+    | inl e ↦ (let same : h.ticket.0 ≡ g.ticket.0 = ap ticket_of e in inr (omega arith, omega arith))
+    | inr j ↦ inl j
+  ],
+)
+step_above empty pool a b (Ends g y live may) = (omega arith, λ h i. inl i)
+step_above empty pool a b (Prunes t s newer idle some) = (omega arith, λ h i. elim i [ inl e ↦ (let bad : Granted h ≡ Pruned t s = e in cc) | inr j ↦ inl j ])
+step_above empty pool a b (Sees n l heard here newer none quiet) = (omega arith, λ h i. inl i)
+step_above empty pool a b (Retires n here home none quiet) = (omega arith, λ h i. inl i)
+step_above empty pool a b (Parks p sent none) = (omega arith, λ h i. inl i)
+step_above empty pool a b (Unparks ps part) = (omega arith, λ h i. inl i)
+step_above empty pool a b (Raises t le) = (le, λ h i. inl i)
+
+-- what is made anew is above the last ticket
+pub works_above : (empty : Digest) (pool : List Message) (a b : Machine) (sends : List FromCoord) → Works empty pool a b sends → (a.last ≤ b.last) × ((g : Grant) → In (Granted g) b.made → In (Granted g) a.made ⊎ ((a.last < g.ticket.0) × (g.ticket.0 ≤ b.last)))
+works_above empty pool a b sends Begins_work = (omega arith, λ g i. inl i)
+works_above empty pool a b sends (Speaks c ss y works says) = works_above empty pool a b ss works
+works_above empty pool a b sends (Goes_on c d ss works step) =
+    let before = works_above empty pool a c ss works in
+    let up = step_above empty pool c b step in
+    let le : a.last ≤ c.last = before.0 in
+    let le' : c.last ≤ b.last = up.0 in (
+      omega arith,
+      λ g i. elim (up.1 g i) [
+        | inl old ↦ elim (before.1 g old) [
+          | inl first ↦ inl first
+          | inr new ↦ (let lo : a.last < g.ticket.0 = new.0 in let hi : g.ticket.0 ≤ c.last = new.1 in inr (omega arith, omega arith))
+        ]
+        | inr new ↦ (let lo : c.last < g.ticket.0 = new.0 in let hi : g.ticket.0 ≤ b.last = new.1 in inr (omega arith, omega arith))
+      ],
+    )
+
 pub works_steps : (empty : Digest) (pool : List Message) (a b : Machine) (sends : List FromCoord) → Works empty pool a b sends → Steps empty pool a b
 works_steps empty pool a b sends Begins_work = No_step a
 works_steps empty pool a b sends (Goes_on c d ss works step) = One_more a c b (works_steps empty pool a c sends works) step
@@ -188,9 +224,9 @@ module _ (k : Limits) (fits : k.instances ≤ 4096) (pool : List Message) (m : M
   and_here a b e h = rw e at h
 
   -- a grant goes on a machine with none of its ticket, and its lease is the last one
-  give_core : (b : Machine) (q : Ledger) (g : Grant) (h : Lease) (c : ℕ) → Sound k.empty b → Core k.empty b q → b.last < g.ticket.0 → lease_from g ≡ h → g.ticket.0 ≤ c
+  give_core : (b : Machine) (q : Ledger) (g : Grant) (h : Lease) (c : ℕ) → Sound k.empty b → Core k.empty b q → b.last < g.ticket.0 → lease_from g ≡ h → g.ticket.0 ≤ c → c ≤ g.ticket.0 + 64 → h.life.0 ≤ q.lives h.node.0
       → Core k.empty (record b { made = Granted g ∷ b.made; last = g.ticket.0 }) (record q { live = q.live ++ h ∷ []; last = g.ticket.0; ceiling = c })
-  give_core b q g h c sound core lt is le =
+  give_core b q g h c sound core lt is le block le' =
       let new : b.ending g.ticket.0 ≡ None = fresh k.empty b sound g.ticket.0 lt in
       record {
         live_made = λ x i. elim (in_append x q.live (h ∷ []) i) [
@@ -209,14 +245,16 @@ module _ (k : Limits) (fits : k.instances ≤ 4096) (pool : List Message) (m : M
         lines = λ s. core.lines s ∙ sym (ap (λ v. line k.empty b s ++ version_at s g.ticket v) new ∙ append-nil (line k.empty b s));
         last = refl;
         ceiling = le;
+        block = block;
+        seen = λ x i. elim (in_append x q.live (h ∷ []) i) [ inl j ↦ core.seen x j | inr j ↦ subst (λ (z : Lease). z.life.0 ≤ q.lives z.node.0) (sym (in_one x h j)) le' ];
         old_home = core.old_home;
         gone = core.gone;
         lives = core.lives;
       }
 
-  pub give_going : (p : Parked) (w : Work) → Going w → In (acquire p.node p.life p.ask p.wants p.tenure) pool → w.ledger.gone p.node.0 ≡ false → NoLease w.ledger.live p → decision k w.ledger p ≡ Give → Going (gives k p w)
+  pub give_going : (p : Parked) (w : Work) → Going w → In (acquire p.node p.life p.ask p.wants p.tenure) pool → w.ledger.gone p.node.0 ≡ false → p.life.0 ≤ w.ledger.lives p.node.0 → NoLease w.ledger.live p → decision k w.ledger p ≡ Give → Going (gives k p w)
   unfolding decision gives
-  give_going p w going asked here none e =
+  give_going p w going asked here le none e =
       let q : Ledger = w.ledger in
       let b : Machine = going.machine in
       let h : Lease = lease_for k q p in
@@ -251,7 +289,7 @@ module _ (k : Limits) (fits : k.instances ≤ 4096) (pool : List Message) (m : M
           | inl e ↦ (let same : x ≡ g = cc in inr (in_right (told.Granted x) w.sends (told.Granted g ∷ []) (inl (ap told.Granted same))))
           | inr j ↦ more_sent x w.sends (told.Granted g) (going.granted x j)
         ];
-        core = give_core b q g h (raised k q) now going.core below (lease-grant k.empty q.line h) (raised_covers k q going.core.ceiling (not-false (nat_lt q.last k.greatest) picked.below));
+        core = give_core b q g h (raised k q) now going.core below (lease-grant k.empty q.line h) (raised_covers k q going.core.ceiling (not-false (nat_lt q.last k.greatest) picked.below)) (raised_block k q going.core.block) le;
         parked = going.parked;
       }
 
@@ -265,26 +303,26 @@ module _ (k : Limits) (fits : k.instances ≤ 4096) (pool : List Message) (m : M
     parked = g.parked;
   }
 
-  carried_going : (d : Decision) (p : Parked) (w : Work) → Going w → In (acquire p.node p.life p.ask p.wants p.tenure) pool → w.ledger.gone p.node.0 ≡ false → NoLease w.ledger.live p → decision k w.ledger p ≡ d → Going (carried_out d k p w)
-  carried_going Give p w g asked here none e = give_going p w g asked here none e
-  carried_going (Deny why) p w g asked here none e = deny_going why p w g asked
-  carried_going Wait p w g asked here none e = g
+  carried_going : (d : Decision) (p : Parked) (w : Work) → Going w → In (acquire p.node p.life p.ask p.wants p.tenure) pool → w.ledger.gone p.node.0 ≡ false → p.life.0 ≤ w.ledger.lives p.node.0 → NoLease w.ledger.live p → decision k w.ledger p ≡ d → Going (carried_out d k p w)
+  carried_going Give p w g asked here le none e = give_going p w g asked here le none e
+  carried_going (Deny why) p w g asked here le none e = deny_going why p w g asked
+  carried_going Wait p w g asked here le none e = g
 
-  tried_going : (p : Parked) (w : Work) → Going w → In (acquire p.node p.life p.ask p.wants p.tenure) pool → w.ledger.gone p.node.0 ≡ false → NoLease w.ledger.live p → Going (tried k p w)
+  tried_going : (p : Parked) (w : Work) → Going w → In (acquire p.node p.life p.ask p.wants p.tenure) pool → w.ledger.gone p.node.0 ≡ false → p.life.0 ≤ w.ledger.lives p.node.0 → NoLease w.ledger.live p → Going (tried k p w)
   unfolding tried
-  tried_going p w g asked here none = carried_going (decision k w.ledger p) p w g asked here none refl
+  tried_going p w g asked here le none = carried_going (decision k w.ledger p) p w g asked here le none refl
 
   -- ---- trying the parked asks
 
-  pub asked_later : (gone gone' : ℕ → Bool) (ps : List Parked) → gone' ≡ gone → AllAsked pool gone ps → AllAsked pool gone' ps
-  asked_later gone gone' ps e all p i = (let r = all p i in (r.0, subst (λ f. f p.node.0 ≡ false) (sym e) r.1))
+  pub asked_later : (gone gone' : ℕ → Bool) (lives lives' : ℕ → ℕ) (ps : List Parked) → gone' ≡ gone → lives' ≡ lives → AllAsked pool gone lives ps → AllAsked pool gone' lives' ps
+  asked_later gone gone' lives lives' ps e f all p i = (let r = all p i in (r.0, subst (λ f. f p.node.0 ≡ false) (sym e) r.1, subst (λ (f : ℕ → ℕ). p.life.0 ≤ f p.node.0) (sym f) r.2))
 
-  try_going : (ps : List Parked) (w : Work) → Going w → AllAsked pool w.ledger.gone ps → Waits w.ledger.live ps → Going (try_all k ps w)
+  try_going : (ps : List Parked) (w : Work) → Going w → AllAsked pool w.ledger.gone w.ledger.lives ps → Waits w.ledger.live ps → Going (try_all k ps w)
   try_going [] w g asked waiting = g
   try_going (p ∷ ps) w g asked waiting =
       let a = asked p (inl refl) in
-      try_going ps (tried k p w) (tried_going p w g a.0 a.1 waiting.0)
-      (asked_later w.ledger.gone (tried k p w).ledger.gone ps (tried-gone k p w) (λ q i. asked q (inr i)))
+      try_going ps (tried k p w) (tried_going p w g a.0 a.1 a.2 waiting.0)
+      (asked_later w.ledger.gone (tried k p w).ledger.gone w.ledger.lives (tried k p w).ledger.lives ps (tried-gone k p w) (tried-lives k p w) (λ q i. asked q (inr i)))
       (tried_waits k p w ps waiting.1 waiting.2)
 
   pub retried_follows : (w : Work) → F w → F (retried k w)
@@ -301,8 +339,8 @@ module _ (k : Limits) (fits : k.instances ≤ 4096) (pool : List Message) (m : M
         ended = g.ended;
         granted = g.granted;
         agrees = agrees_from k.empty pool next (record (try_all k ps w).ledger { parked = stay })
-            (record { live_made = g.core.live_made; live_kept = g.core.live_kept; retired_made = g.core.retired_made; retired_kept = g.core.retired_kept; lines = g.core.lines; last = g.core.last; ceiling = g.core.ceiling; old_home = g.core.old_home; gone = g.core.gone; lives = g.core.lives })
+            (record { live_made = g.core.live_made; live_kept = g.core.live_kept; retired_made = g.core.retired_made; retired_kept = g.core.retired_kept; lines = g.core.lines; last = g.core.last; ceiling = g.core.ceiling; block = g.core.block; seen = g.core.seen; old_home = g.core.old_home; gone = g.core.gone; lives = g.core.lives })
             refl
-            (asked_later w.ledger.gone (try_all k ps w).ledger.gone stay (try-gone k ps w) (λ p i. f.agrees.asked p (waiting_in k ps w p i)))
+            (asked_later w.ledger.gone (try_all k ps w).ledger.gone w.ledger.lives (try_all k ps w).ledger.lives stay (try-gone k ps w) (try-lives k ps w) (λ p i. f.agrees.asked p (waiting_in k ps w p i)))
             (waiting_waits k ps w f.agrees.waits);
       }

@@ -20,6 +20,8 @@ pub record Core (empty : Digest) (m : Machine) (q : Ledger) : Type 0 where
   pub lines : (s : Slot) → q.line s ≡ line empty m s
   pub last : q.last ≡ m.last
   pub ceiling : q.last ≤ q.ceiling
+  pub block : q.ceiling ≤ q.last + 64
+  pub seen : (h : Lease) → In h q.live → h.life.0 ≤ q.lives h.node.0
   pub old_home : q.old_home ≡ m.old_home
   pub gone : q.gone ≡ m.gone
   pub lives : q.lives ≡ m.lives
@@ -33,16 +35,18 @@ core_of empty pool m q a = record {
   lines = a.lines;
   last = a.last;
   ceiling = a.ceiling;
+  block = a.block;
+  seen = a.seen;
   old_home = a.old_home;
   gone = a.gone;
   lives = a.lives;
 }
 
 -- each of these asks was sent by a node that isn't retired
-abbrev pub AllAsked : List Message → (ℕ → Bool) → List Parked → Type 0
-AllAsked pool gone ps = (p : Parked) → In p ps → In (acquire p.node p.life p.ask p.wants p.tenure) pool × (gone p.node.0 ≡ false)
+abbrev pub AllAsked : List Message → (ℕ → Bool) → (ℕ → ℕ) → List Parked → Type 0
+AllAsked pool gone lives ps = (p : Parked) → In p ps → In (acquire p.node p.life p.ask p.wants p.tenure) pool × (gone p.node.0 ≡ false) × (p.life.0 ≤ lives p.node.0)
 
-pub agrees_from : (empty : Digest) (pool : List Message) (m : Machine) (q : Ledger) → Core empty m q → q.parked ≡ m.parked → AllAsked pool q.gone q.parked → Waits q.live q.parked → Agrees empty pool m q
+pub agrees_from : (empty : Digest) (pool : List Message) (m : Machine) (q : Ledger) → Core empty m q → q.parked ≡ m.parked → AllAsked pool q.gone q.lives q.parked → Waits q.live q.parked → Agrees empty pool m q
 agrees_from empty pool m q c parked asked waits = record {
   live_made = c.live_made;
   live_kept = c.live_kept;
@@ -51,6 +55,8 @@ agrees_from empty pool m q c parked asked waits = record {
   lines = c.lines;
   last = c.last;
   ceiling = c.ceiling;
+  block = c.block;
+  seen = c.seen;
   old_home = c.old_home;
   gone = c.gone;
   lives = c.lives;

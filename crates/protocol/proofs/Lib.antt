@@ -17,10 +17,22 @@ pub mod Moving
 mod Using
 mod Noting
 mod Parking
+mod Wanting
+mod Denials
+mod Asked
 pub mod Saving
+mod Changing
+mod Recalling
 mod Deciding
+pub mod Owning
+mod Fitting
+mod Ordering
+mod Replying
 pub mod Schedules
+mod Failing
 mod Chronicles
+mod Losing
+mod Processing
 pub mod Answering
 mod Asking
 pub mod Lawfulness

@@ -1,25 +1,27 @@
 -- What a node's answers say, and when each of its refusals comes.
-use Rattle.std.proofs.Common.{◌≡◌, ◌≢◌, ℕ, zero, suc, ◌+◌, ◌≤◌, List, [], ◌∷◌, ◌⊎◌, Bool, true, false, not, ◌&&◌, ◌||◌, eqb, length, map, Option, Some, None, slice_get, Ok, Err, refl, sym, ◌∙◌, ap, subst, inl, inr, arith}
-use Rattle.std.proofs.lemmas.Bool.{cases_Bool, and_parts, not-true, or_parts, not-false, eqb-true}
+use Rattle.std.proofs.Common.{◌≡◌, ◌≢◌, ℕ, zero, suc, ◌+◌, ◌<◌, ◌≤◌, List, [], ◌∷◌, ◌⊎◌, Bool, true, false, not, ◌&&◌, ◌||◌, eqb, length, map, filter, Option, Some, None, slice_get, Ok, Err, refl, sym, ◌∙◌, ap, subst, inl, inr, arith}
+use Rattle.std.proofs.lemmas.Bool.{ne_eqb, cases_eq, cases_Bool, and_parts, not-true, or_parts, not-false, eqb-true}
 use Rattle.std.proofs.lemmas.Bool.Decides.{nat_tests}
-use Rattle.std.specs.List.{list_any, list_all}
-use Rattle.std.specs.Prelude.{nat_lt, is_some}
+use Rattle.std.specs.List.{list_any, list_all, flat_map}
+use Rattle.std.specs.Prelude.{⊤, nat_lt, is_some}
 use Rattle.protocol.specs.Lists.{In, nth, set_nth}
 use Rattle.protocol.specs.Names.{Shared, slots_eq, digest_eq, NodeId, Life, Ask, Ticket, Digest, Want, FolderName, wants_shared, tenure_wants}
-use Rattle.protocol.specs.Machine.{GrantedSlot, Confirmed, Grant, Message, Told, Blob, FromCoord, hello, acquire, commit, slots_of, written}
+use Rattle.protocol.specs.Machine.{GrantedSlot, News, Confirmed, Grant, Message, Told, Fetch, Fetches, Blob, FromCoord, hello, acquire, commit, slots_of, written}
 use Rattle.farm_base.specs.declared.message.FromCoord.TheVariants as told
 use Rattle.farm_base.specs.declared.message.Why.{Why}
+use Rattle.protocol.specs.declared.answer.NodeNote.{NodeNote}
+use Rattle.protocol.specs.declared.answer.NodeNote.TheVariants as node_note
 use Rattle.protocol.specs.declared.answer.NodeRefusal.{NodeRefusal}
 use Rattle.protocol.specs.declared.answer.NodeRefusal.TheVariants as refusal
 use Rattle.protocol.specs.Ledger.{Limits}
 use Rattle.protocol.specs.World.{KeptAsk, Open, Holding, Running, Finished, Over, Node, keeps, keep, RunsTenure, IsTenureOf, Asked_tenure, Held_tenure, Running_tenure, Finished_tenure, Uses, Open_uses, Held_uses, Running_uses, Idle}
-use Rattle.protocol.specs.Nodes.{NodeWork, NodeAnswer, guard, Place, wants_folder, is_tenure_of, is_home_of, uses, at_home, others_use, in_use, HeldGrant, Sent, first, under, held, running, held_or_running, finished, recallable, is_stored, all_stored, is_base, asked, asked_tenure, beginning, begun, Left, news_of, stored, leaving, finishing, finished_with, aborting, aborted, again, all_again, resent, gives_back, granted, learned, dropped, denied, recalled, of_life, heard, fetched, brought, unless_spent}
+use Rattle.protocol.specs.Nodes.{NodeWork, NodeAnswer, guard, Place, wants_folder, is_tenure_of, is_home_of, uses, at_home, others_use, in_use, HeldGrant, Sent, first, under, held, running, held_or_running, finished, recalled_if, recallable, is_missing, nodes_from, others, fetches_of, fetches, next_ask, nothing, is_stored, all_stored, is_base, asked, asked_tenure, beginning, begun, Left, news_of, stored, leaving, finishing, finished_with, aborting, aborted, again, all_again, resent, gives_back, granted, learned, dropped, denied, recalled, of_life, heard, fetched, brought, unless_spent}
 use Rattle.protocol.specs.Replay.{Event, Tenure, Deliver, Begin, Finish, Abort, Resend, Forge, told_to}
 use Rattle.protocol.specs.Replay as replay
-use Rattle.protocol.specs.Meaning.{Stored, NodeMeans}
+use Rattle.protocol.specs.Meaning.{life_of, IsBase, Arrives, AsksAround, IsFetchFor, Repeats, Hello_again, Acquire_again, Commit_again, Fetch_again, Stored, NodeMeans}
 use Rattle.protocol.specs.Reasons.{HoldsUnder, RunsUnder, NodeBecause}
 use Rattle.farm_base.proofs.CompareLaws.{digest_exact}
-use Rattle.protocol.proofs.Base.{cases_option, true_false, none_some, some_is, eqb_same, digest_eq_same, life_is, any_in, from_any, nth_in, in_left, in_right}
+use Rattle.protocol.proofs.Base.{in_filter, in_map, in_append, in_one, from_filter, from_map, node_is, cases_option, true_false, none_some, some_is, eqb_same, digest_eq_same, life_is, any_in, from_any, nth_in, in_left, in_right}
 use Rattle.protocol.proofs.Following.{slots_eq_is, slots_eq_same}
 use Rattle.protocol.proofs.Moving.{found, held_is, running_is, either_is, finished_is, recallable_is, all_in, some_home, wants_folder_in, wants_folder_is, tenure_test, idle_from, stored_some, get_from}
 use Rattle.protocol.proofs.Using.{GrantOf, OneEach}
@@ -141,6 +143,41 @@ all_stored_so sha (x ∷ xs) store = elim (cases_Bool (is_some (store (sha x.con
       }))
 ]
 
+-- the note of what is accepted
+abbrev pub OnNote : (NodeNote → Type 0) → NodeAnswer → Type 0
+OnNote P (Ok w) = P w.note
+OnNote P (Err e) = ⊤
+
+guard_note : (P : NodeNote → Type 0) (b : Bool) (e : NodeRefusal) (a : NodeAnswer) → OnNote P a → OnNote P (guard b e a)
+guard_note P true e a h = tt
+guard_note P false e a h = h
+
+-- ---- fetches
+
+in_flat : {A B : Type 0} (f : A → List B) (x : A) (y : B) (xs : List A) → In x xs → In y (f x) → In y (flat_map f xs)
+in_flat f x y [] i j = absurd i
+in_flat f x y (z ∷ zs) (inl e) j = in_left y (f z) (flat_map f zs) (subst (λ w. In y (f w)) e j)
+in_flat f x y (z ∷ zs) (inr i) j = in_right y (f z) (flat_map f zs) (in_flat f x y zs i j)
+
+in_nodes : (k i : ℕ) (j : NodeId) → i ≤ j.0 → j.0 < i + k → In j (nodes_from i k)
+in_nodes zero i j le lt = absurd (omega arith)
+in_nodes (suc k) i j le lt = elim (cases_eq j.0 i) [
+  | inl e ↦ inl (node_is j (record { 0 = i }) e)
+  | inr ne ↦ inr (in_nodes k (i + 1) j (omega arith) (omega arith))
+]
+
+from_flat : {A B : Type 0} (f : A → List B) (y : B) (xs : List A) → In y (flat_map f xs) → (x : A) × In x xs × In y (f x)
+from_flat f y [] i = absurd i
+from_flat f y (x ∷ xs) i = elim (in_append y (f x) (flat_map f xs) i) [
+  | inl j ↦ (x, inl refl, j)
+  | inr j ↦ (let r = from_flat f y xs j in (r.0, inr r.1, r.2))
+]
+
+from_nodes : (k i : ℕ) (j : NodeId) → In j (nodes_from i k) → (i ≤ j.0) × (j.0 < i + k)
+from_nodes zero i j h = absurd h
+from_nodes (suc k) i j (inl e) = (let at : j.0 ≡ i = ap (λ (z : NodeId). z.0) e in (omega arith, omega arith))
+from_nodes (suc k) i j (inr h) = (let r = from_nodes k (i + 1) j h in let low : i + 1 ≤ j.0 = r.0 in let high : j.0 < i + 1 + k = r.1 in (omega arith, omega arith))
+
 -- ---- answers
 
 module _ (sha : List ℕ → Digest) (k : Limits) (n : NodeId) (size : ℕ) (x : Node) (one : OneEach x.asks) where
@@ -148,7 +185,7 @@ module _ (sha : List ℕ → Digest) (k : Limits) (n : NodeId) (size : ℕ) (x :
   at = record { node = n; nodes = size }
 
   abbrev Means : Option Message → Event → NodeWork → Type 0
-  Means d e w = NodeMeans sha d e n x w.note w.sends w.node
+  Means d e w = NodeMeans sha k size d e n x w.note w.sends w.node
 
   -- what is accepted means this, and nothing speaks against it; a refusal has its reason
   abbrev pub Exact : Option Message → Event → NodeAnswer → Type 0
@@ -158,6 +195,46 @@ module _ (sha : List ℕ → Digest) (k : Limits) (n : NodeId) (size : ℕ) (x :
   on_guard : (d : Option Message) (e : Event) (b : Bool) (r : NodeRefusal) (a : NodeAnswer) → (b ≡ true → NodeBecause k e x r) → (b ≡ false → Exact d e a) → Exact d e (guard b r a)
   on_guard d e true r a h g = h refl
   on_guard d e false r a h g = g refl
+
+  around : (slots : List GrantedSlot) → AsksAround k size n x slots (fetches k at x slots)
+  unfolding fetches
+  around slots u j i ne none lo hi other =
+      let there : In j (others at) = in_filter (λ (z : NodeId). not (eqb z.0 n.0)) j (nodes_from 1 size) (in_nodes size 1 j lo (omega arith)) (let f : eqb j.0 n.0 ≡ false = ne_eqb j.0 n.0 other in rw f refl) in
+      in_flat (λ (v : GrantedSlot). fetches_of at v.digest) u (Fetches (record { node = j; from = n; digest = u.digest })) (filter (is_missing k x) slots) (in_filter (is_missing k x) u slots i missing)
+      (in_map (λ (z : NodeId). Fetches (record { node = z; from = n; digest = u.digest })) j (others at) there)
+    where
+      missing : is_missing k x u ≡ true
+      missing = elim (cases_Bool (digest_eq u.digest k.empty)) [
+        | inl t ↦ absurd (ne (digest_exact u.digest k.empty t))
+        | inr f ↦ (let e : is_some (x.store u.digest) ≡ false = ap is_some none in rw (f, e) refl)
+      ]
+
+  fetch_from : (slots : List GrantedSlot) (m : Message) → In m (fetches k at x slots) → IsFetchFor k size n x slots m
+  unfolding fetches
+  fetch_from slots m i =
+      let r = from_flat (λ (v : GrantedSlot). fetches_of at v.digest) m (filter (is_missing k x) slots) i in
+      let u : GrantedSlot = r.0 in
+      let f = from_filter (is_missing k x) u slots r.1 in
+      let o = from_map (λ (z : NodeId). Fetches (record { node = z; from = n; digest = u.digest })) m (others at) r.2 in
+      let j : NodeId = o.0 in
+      let h = from_filter (λ (z : NodeId). not (eqb z.0 n.0)) j (nodes_from 1 size) o.1 in
+      let range = from_nodes size 1 j h.0 in
+      let high : j.0 < 1 + size = range.1 in
+      let b = and_parts (not (digest_eq u.digest k.empty)) (not (is_some (x.store u.digest))) f.1 in (
+        u,
+        j,
+        f.0,
+        λ e. true_false (digest_eq u.digest k.empty) (subst (λ z. digest_eq u.digest z ≡ true) e (digest_eq_same u.digest)) (not-true (digest_eq u.digest k.empty) b.0),
+        absent (x.store u.digest) (not-true (is_some (x.store u.digest)) b.1),
+        range.0,
+        omega arith,
+        λ e. true_false (eqb j.0 n.0) (subst (λ z. eqb j.0 z ≡ true) e (eqb_same j.0)) (not-true (eqb j.0 n.0) h.1),
+        o.2,
+      )
+    where
+      absent : (o : Option (List ℕ)) → is_some o ≡ false → o ≡ None
+      absent None e = refl
+      absent (Some c) e = (let bad : true ≡ false = e in cc)
 
   -- ---- asks
 
@@ -234,7 +311,7 @@ module _ (sha : List ℕ → Digest) (k : Limits) (n : NodeId) (size : ℕ) (x :
       (λ missing. (let m = not_all (λ (u : GrantedSlot). is_stored x u.digest) h.grant.slots (not-true (all_stored x h.grant.slots) missing) in
       (r.0, h.wants, h.grant, m.0, ((h.recalled, at'), is.1), m.1, not_some (x.store m.0.digest) m.2)))
       (λ all. (let stored' : (u : GrantedSlot) → In u h.grant.slots → (c : List ℕ) × (x.store u.digest ≡ Some c) = λ u i. stored_some (x.store u.digest) (all_in (λ (v : GrantedSlot). is_stored x v.digest) h.grant.slots (not-false (all_stored x h.grant.slots) all) u i) in
-      ((r.0, h.wants, h.grant, h.recalled, at', is.1, stored', refl, refl), none r.0 h at' is.1 stored')))
+      ((refl, (r.0, h.wants, h.grant, h.recalled, at', is.1, stored', refl, refl)), none r.0 h at' is.1 stored')))
     where
       none : (a : ℕ) (h : HeldGrant) → nth x.asks a ≡ Some (Holding h.wants h.grant h.recalled) → h.grant.ticket ≡ t → ((u : GrantedSlot) → In u h.grant.slots → (c : List ℕ) × (x.store u.digest ≡ Some c)) → (r : NodeRefusal) → NodeBecause k (Begin n t) x r → ⊥
       none a h at' ticket stored' refusal.LivesSpent z = true_false x.spent z up
@@ -254,8 +331,8 @@ module _ (sha : List ℕ → Digest) (k : Limits) (n : NodeId) (size : ℕ) (x :
   slots-left (l ∷ ls) = (let r = slots-left ls in λ i. l.slot ∷ r i)
 
   leaving_means : (t : Ticket) (lefts : List Left) (a : ℕ) (h : HeldGrant) → nth x.asks a ≡ Some (Running h.wants h.grant h.recalled) → h.grant.ticket ≡ t → slots_of (news_of sha lefts) ≡ written h.grant.slots → Means None (Finish n t lefts) (leaving sha at a h lefts x)
-  leaving_means t [] a h at' ticket slots = (a, h.wants, h.grant, h.recalled, at', refl, (refl, refl))
-  leaving_means t (l ∷ ls) a h at' ticket slots = (a, h.wants, h.grant, h.recalled, at', refl, (refl, slots, all_stored_so sha (l ∷ ls) x.store, refl))
+  leaving_means t [] a h at' ticket slots = (ap (λ (z : Ticket). Finish n z []) (sym ticket), (a, h.wants, h.grant, h.recalled, at', refl, (refl, refl)))
+  leaving_means t (l ∷ ls) a h at' ticket slots = (ap (λ (z : Ticket). Finish n z (l ∷ ls)) (sym ticket), (a, h.wants, h.grant, h.recalled, at', refl, (refl, slots, all_stored_so sha (l ∷ ls) x.store, refl)))
 
   finishing_exact : (t : Ticket) (lefts : List Left) (o : Option (ℕ × HeldGrant)) → first (running t) x.asks 0 ≡ o → x.spent ≡ false → Exact None (Finish n t lefts) (finishing sha at lefts x o)
   finishing_exact t lefts None e up = none_running t e
@@ -297,7 +374,7 @@ module _ (sha : List ℕ → Digest) (k : Limits) (n : NodeId) (size : ℕ) (x :
       on_guard None (Abort n t) (in_use x.asks r.0 h.wants h.grant) refusal.TenureInUse _
       (λ used. (r.0, h.wants, h.grant, its, not_idle x.asks r.0 h.wants h.grant used))
       (λ idle. (
-        (r.0, h.wants, h.grant, h.recalled, elim is.0 [ inl q ↦ inl (f.1 ∙ ap Some q) | inr q ↦ inr (f.1 ∙ ap Some q) ], refl, refl, refl),
+        (ap (Abort n) (sym is.1), (r.0, h.wants, h.grant, h.recalled, elim is.0 [ inl q ↦ inl (f.1 ∙ ap Some q) | inr q ↦ inr (f.1 ∙ ap Some q) ], refl, refl, refl)),
         none r.0 h its (idle_from x.asks r.0 h.wants h.grant idle),
       ))
     where
@@ -364,13 +441,38 @@ module _ (sha : List ℕ → Digest) (k : Limits) (n : NodeId) (size : ℕ) (x :
   each_again zero s m e h = none_some s e
   each_again (suc j) s m e h = (let same : suc j ≡ 0 + j + 1 = omega arith in inr (again_sent x.asks 0 j s m e (subst (λ z. In m (again k at x (record { 0 = z }) s)) same h)))
 
+  again_kind : (a : Ask) (s : KeptAsk) (m : Message) → nth x.asks a.0 ≡ Some s → In m (again k at x a s) → Repeats k size n x m
+  again_kind a (Open wants tenure) m e i = subst (Repeats k size n x) (sym (in_one m (acquire n x.life a wants tenure) i)) (Acquire_again a wants tenure e)
+  again_kind a (Holding wants g r) m e i = Fetch_again a.0 wants g r m e (fetch_from g.slots m i)
+  again_kind a (Running wants g r) m e i = absurd i
+  again_kind a (Finished wants g news) m e i = subst (Repeats k size n x) (sym (in_one m (commit n x.life g.ticket news) i)) (Commit_again a.0 wants g news e)
+  again_kind a (Over how) m e i = absurd i
+
+  again_from : (ss : List KeptAsk) (i : ℕ) (m : Message) → In m (all_again k at x ss i) → (j : ℕ) × (s : KeptAsk) × (slice_get ss j ≡ Some s) × In m (again k at x (record { 0 = i + j + 1 }) s)
+  again_from [] i m h = absurd h
+  again_from (y ∷ ys) i m h = elim (in_append m (again k at x (record { 0 = i + 1 }) y) (all_again k at x ys (i + 1)) h) [
+    | inl here ↦ (zero, y, refl, (let same : i + 1 ≡ i + 0 + 1 = omega arith in subst (λ z. In m (again k at x (record { 0 = z }) y)) same here))
+    | inr there ↦ (let r = again_from ys (i + 1) m there in
+        let same : i + 1 + r.0 + 1 ≡ i + suc r.0 + 1 = omega arith in
+        (suc r.0, r.1, r.2, subst (λ z. In m (again k at x (record { 0 = z }) r.1)) same r.3))
+  ]
+
+  repeats : (m : Message) → In m (hello n x.life ∷ all_again k at x x.asks 0) → Repeats k size n x m
+  repeats m (inl e) = subst (Repeats k size n x) (sym e) Hello_again
+  repeats m (inr i) = (let r = again_from x.asks 0 m i in
+      let same : suc r.0 ≡ 0 + r.0 + 1 = omega arith in
+      again_kind (record { 0 = 0 + r.0 + 1 }) r.1 m (subst (λ z. nth x.asks z ≡ Some r.1) same r.2) r.3)
+
   pub resent_exact : Exact None (Resend n) (resent k at x)
   resent_exact = on_guard None (Resend n) x.spent refusal.LivesSpent _ (λ down. down) (λ up. (
     (
+      refl,
       inl refl,
       λ a wants tenure e. each_again a (Open wants tenure) (acquire n x.life (record { 0 = a }) wants tenure) e (inl refl),
       λ a wants g news e. each_again a (Finished wants g news) (commit n x.life g.ticket news) e (inl refl),
+      λ a wants g r e u j i ne none lo hi other. each_again a (Holding wants g r) (Fetches (record { node = j; from = n; digest = u.digest })) e (around g.slots u j i ne none lo hi other),
       refl,
+      repeats,
     ),
     λ r h. true_false x.spent (resend_spent r h) up,
   ))
@@ -380,38 +482,63 @@ module _ (sha : List ℕ → Digest) (k : Limits) (n : NodeId) (size : ℕ) (x :
   abbrev Heard : FromCoord → ℕ → NodeWork → Type 0
   Heard y number w = Means (Some (Told y)) (Deliver number) w
 
-  gives_back_means : (g : Grant) (number : ℕ) (b : Bool) → g.life ≡ x.life → Heard (told.Granted g) number (gives_back at g b x)
-  gives_back_means g number true q = (refl, refl)
-  gives_back_means g number false q = (g, refl, refl, q, refl, refl)
+  -- an ask that isn't open has the Grant, or gives it back
+  has_it : (g : Grant) (number : ℕ) (s : KeptAsk) → nth x.asks g.ask.0 ≡ Some s → ((ws : List Want) (t : Bool) → s ≢ Open ws t) → (b : Bool) → keeps s g.ticket ≡ b → g.life ≡ x.life → Heard (told.Granted g) number (gives_back at g b x)
+  has_it g number s e other true keep q = ((Told (told.Granted g), inl refl, (q, (s, e, keep))), refl, refl)
+  has_it g number s e other false keep q = (
+    g,
+    refl,
+    refl,
+    q,
+    λ ws t i. other ws t (some_is s (Open ws t) (sym e ∙ i)),
+    λ s' i. subst (λ z. keeps z g.ticket ≡ false) (some_is s s' (sym e ∙ i)) keep,
+    refl,
+    refl,
+  )
 
   granted_means : (g : Grant) (number : ℕ) (o : Option KeptAsk) → nth x.asks g.ask.0 ≡ o → g.life ≡ x.life → Heard (told.Granted g) number (granted k at g x o)
-  granted_means g number None e q = gives_back_means g number false q
-  granted_means g number (Some (Open wants tenure)) e q = (refl, q, (wants, tenure, e, refl))
-  granted_means g number (Some (Holding wants h r)) e q = gives_back_means g number (keeps (Holding wants h r) g.ticket) q
-  granted_means g number (Some (Running wants h r)) e q = gives_back_means g number (keeps (Running wants h r) g.ticket) q
-  granted_means g number (Some (Finished wants h news)) e q = gives_back_means g number (keeps (Finished wants h news) g.ticket) q
-  granted_means g number (Some (Over how)) e q = gives_back_means g number false q
+  granted_means g number None e q = (g, refl, refl, q, (λ ws t i. none_some (Open ws t) (sym e ∙ i)), (λ s i. none_some s (sym e ∙ i)), refl, refl)
+  granted_means g number (Some (Open wants tenure)) e q = (refl, q, around g.slots, (wants, tenure, e, refl), fetch_from g.slots)
+  granted_means g number (Some (Holding wants h r)) e q = has_it g number (Holding wants h r) e (λ ws t is. (let bad : Holding wants h r ≡ Open ws t = is in cc)) (keeps (Holding wants h r) g.ticket) refl q
+  granted_means g number (Some (Running wants h r)) e q = has_it g number (Running wants h r) e (λ ws t is. (let bad : Running wants h r ≡ Open ws t = is in cc)) (keeps (Running wants h r) g.ticket) refl q
+  granted_means g number (Some (Finished wants h news)) e q = has_it g number (Finished wants h news) e (λ ws t is. (let bad : Finished wants h news ≡ Open ws t = is in cc)) (keeps (Finished wants h news) g.ticket) refl q
+  granted_means g number (Some (Over how)) e q = has_it g number (Over how) e (λ ws t is. (let bad : Over how ≡ Open ws t = is in cc)) false refl q
+
+  none_finished : (t : Ticket) → first (finished t) x.asks 0 ≡ None → (a : ℕ) (wants : List Want) (g : Grant) (news : List News) → nth x.asks a ≡ Some (Finished wants g news) → g.ticket ≢ t
+  none_finished t e a wants g news i ticket =
+      let h : Sent = record { wants = wants; grant = g; news = news } in
+      none_some h (sym (none_at (finished t) x.asks e a (Finished wants g news) i) ∙ under_some g t h ticket)
 
   learned_means : (l : Life) (t : Ticket) (versions : List Confirmed) (number : ℕ) (o : Option (ℕ × Sent)) → first (finished t) x.asks 0 ≡ o → l ≡ x.life → Heard (told.Committed n l t versions) number (learned t versions x o)
-  learned_means l t versions number None e q = (refl, refl)
+  learned_means l t versions number None e q = ((Told (told.Committed n l t versions), inl refl, (q, none_finished t e)), refl, refl)
   learned_means l t versions number (Some r) e q = (let f = found (finished t) x.asks r e in let is = finished_is t f.0 r.1 f.2 in
       (l, versions, refl, q, (r.0, r.1.wants, r.1.grant, r.1.news, f.1 ∙ ap Some is.0, is.1, refl, refl)))
 
   dropped_means : (l : Life) (t : Ticket) (number : ℕ) (o : Option (ℕ × Sent)) → first (finished t) x.asks 0 ≡ o → l ≡ x.life → Heard (told.Fenced n l t) number (dropped t x o)
-  dropped_means l t number None e q = (refl, refl)
+  dropped_means l t number None e q = ((Told (told.Fenced n l t), inl refl, (q, none_finished t e)), refl, refl)
   dropped_means l t number (Some r) e q = (let f = found (finished t) x.asks r e in let is = finished_is t f.0 r.1 f.2 in
       (l, refl, q, (r.0, r.1.wants, r.1.grant, r.1.news, f.1 ∙ ap Some is.0, is.1, refl, refl)))
 
+  not_open : (l : Life) (a : Ask) (why : Why) (number : ℕ) (o : Option KeptAsk) → nth x.asks a.0 ≡ o → ((ws : List Want) (t : Bool) → o ≢ Some (Open ws t)) → l ≡ x.life → Heard (told.Denied n l a why) number (nothing x)
+  not_open l a why number o e other q = ((Told (told.Denied n l a why), inl refl, (q, λ ws t i. other ws t (sym e ∙ i))), refl, refl)
+
   denied_means : (l : Life) (a : Ask) (why : Why) (number : ℕ) (o : Option KeptAsk) → nth x.asks a.0 ≡ o → l ≡ x.life → Heard (told.Denied n l a why) number (denied a why x o)
-  denied_means l a why number None e q = (refl, refl)
+  denied_means l a why number None e q = not_open l a why number None e (λ ws t is. none_some (Open ws t) is) q
   denied_means l a why number (Some (Open wants tenure)) e q = (l, a, refl, q, (wants, tenure, e, refl, refl))
-  denied_means l a why number (Some (Holding wants h r)) e q = (refl, refl)
-  denied_means l a why number (Some (Running wants h r)) e q = (refl, refl)
-  denied_means l a why number (Some (Finished wants h news)) e q = (refl, refl)
-  denied_means l a why number (Some (Over how)) e q = (refl, refl)
+  denied_means l a why number (Some (Holding wants h r)) e q = not_open l a why number (Some (Holding wants h r)) e (λ ws t is. (let bad : Holding wants h r ≡ Open ws t = some_is (Holding wants h r) (Open ws t) is in cc)) q
+  denied_means l a why number (Some (Running wants h r)) e q = not_open l a why number (Some (Running wants h r)) e (λ ws t is. (let bad : Running wants h r ≡ Open ws t = some_is (Running wants h r) (Open ws t) is in cc)) q
+  denied_means l a why number (Some (Finished wants h news)) e q = not_open l a why number (Some (Finished wants h news)) e (λ ws t is. (let bad : Finished wants h news ≡ Open ws t = some_is (Finished wants h news) (Open ws t) is in cc)) q
+  denied_means l a why number (Some (Over how)) e q = not_open l a why number (Some (Over how)) e (λ ws t is. (let bad : Over how ≡ Open ws t = some_is (Over how) (Open ws t) is in cc)) q
+
+  recall_some : (g : Grant) (t : Ticket) (s : KeptAsk) → g.ticket ≡ t → g.tenure ≡ true → recalled_if ((eqb g.ticket.0 t.0) && g.tenure && not false) s ≡ Some s
+  recall_some g t s e tenure = (let same : eqb g.ticket.0 t.0 ≡ true = subst (λ (z : Ticket). eqb g.ticket.0 z.0 ≡ true) e (eqb_same g.ticket.0) in rw (same, tenure) refl)
+
+  none_recalled : (t : Ticket) → first (recallable t) x.asks 0 ≡ None → (a : ℕ) (wants : List Want) (g : Grant) → g.ticket ≡ t → g.tenure ≡ true → (nth x.asks a ≡ Some (Holding wants g false)) ⊎ (nth x.asks a ≡ Some (Running wants g false)) → ⊥
+  none_recalled t e a wants g ticket tenure (inl i) = none_some (Holding wants g true) (sym (none_at (recallable t) x.asks e a (Holding wants g false) i) ∙ recall_some g t (Holding wants g true) ticket tenure)
+  none_recalled t e a wants g ticket tenure (inr i) = none_some (Running wants g true) (sym (none_at (recallable t) x.asks e a (Running wants g false) i) ∙ recall_some g t (Running wants g true) ticket tenure)
 
   recalled_means : (l : Life) (t : Ticket) (number : ℕ) (o : Option (ℕ × KeptAsk)) → first (recallable t) x.asks 0 ≡ o → l ≡ x.life → Heard (told.Recall n l t) number (recalled t x o)
-  recalled_means l t number None e q = (refl, refl)
+  recalled_means l t number None e q = ((Told (told.Recall n l t), inl refl, (q, none_recalled t e)), refl, refl)
   recalled_means l t number (Some r) e q =
       let f = found (recallable t) x.asks r e in
       let o = recallable_is t f.0 r.1 f.2 in (
@@ -431,37 +558,73 @@ module _ (sha : List ℕ → Digest) (k : Limits) (n : NodeId) (size : ℕ) (x :
         ),
       )
 
-  of_life_means : (y : FromCoord) (l : Life) (number : ℕ) (w : NodeWork) → (l ≡ x.life → Heard y number w) → Heard y number (of_life l x w)
-  of_life_means y l number w h = elim (cases_Bool (eqb l.0 x.life.0)) [
+  of_life_means : (y : FromCoord) (l : Life) (number : ℕ) (w : NodeWork) → life_of y ≡ l → (l ≡ x.life → Heard y number w) → Heard y number (of_life l x w)
+  of_life_means y l number w its h = elim (cases_Bool (eqb l.0 x.life.0)) [
     | inl t ↦ rw t (h (life_is l x.life (eqb-true l.0 x.life.0 t)))
-    | inr t ↦ rw t (refl, refl)
+    | inr t ↦ rw t (y, refl, (λ same. true_false (eqb l.0 x.life.0) (let e : l.0 ≡ x.life.0 = ap (λ (z : Life). z.0) (sym its) ∙ same in subst (λ z. eqb l.0 z ≡ true) e (eqb_same l.0)) t), refl, refl)
   ]
 
   pub heard_exact : (y : FromCoord) (number : ℕ) → told_to y ≡ n → Exact (Some (Told y)) (Deliver number) (unless_spent x (heard k at y x))
   heard_exact y number to = unless_exact (Some (Told y)) (Deliver number) (heard k at y x) (λ h. h) (deliver_spent number) (by y to)
     where
       by : (y : FromCoord) → told_to y ≡ n → Heard y number (heard k at y x)
-      by (told.Granted g) to = of_life_means (told.Granted g) g.life number _ (granted_means g number (nth x.asks g.ask.0) refl)
-      by (told.Committed m l t versions) to = subst (λ z. Heard (told.Committed z l t versions) number (heard k at (told.Committed m l t versions) x)) (sym to) (of_life_means (told.Committed n l t versions) l number _ (learned_means l t versions number (first (finished t) x.asks 0) refl))
-      by (told.Fenced m l t) to = subst (λ z. Heard (told.Fenced z l t) number (heard k at (told.Fenced m l t) x)) (sym to) (of_life_means (told.Fenced n l t) l number _ (dropped_means l t number (first (finished t) x.asks 0) refl))
-      by (told.Denied m l a why) to = subst (λ z. Heard (told.Denied z l a why) number (heard k at (told.Denied m l a why) x)) (sym to) (of_life_means (told.Denied n l a why) l number _ (denied_means l a why number (nth x.asks a.0) refl))
-      by (told.Recall m l t) to = subst (λ z. Heard (told.Recall z l t) number (heard k at (told.Recall m l t) x)) (sym to) (of_life_means (told.Recall n l t) l number _ (recalled_means l t number (first (recallable t) x.asks 0) refl))
+      by (told.Granted g) to = of_life_means (told.Granted g) g.life number _ refl (granted_means g number (nth x.asks g.ask.0) refl)
+      by (told.Committed m l t versions) to = subst (λ z. Heard (told.Committed z l t versions) number (heard k at (told.Committed m l t versions) x)) (sym to) (of_life_means (told.Committed n l t versions) l number _ refl (learned_means l t versions number (first (finished t) x.asks 0) refl))
+      by (told.Fenced m l t) to = subst (λ z. Heard (told.Fenced z l t) number (heard k at (told.Fenced m l t) x)) (sym to) (of_life_means (told.Fenced n l t) l number _ refl (dropped_means l t number (first (finished t) x.asks 0) refl))
+      by (told.Denied m l a why) to = subst (λ z. Heard (told.Denied z l a why) number (heard k at (told.Denied m l a why) x)) (sym to) (of_life_means (told.Denied n l a why) l number _ refl (denied_means l a why number (nth x.asks a.0) refl))
+      by (told.Recall m l t) to = subst (λ z. Heard (told.Recall z l t) number (heard k at (told.Recall m l t) x)) (sym to) (of_life_means (told.Recall n l t) l number _ refl (recalled_means l t number (first (recallable t) x.asks 0) refl))
 
-  fetched_means : (d : Option Message) (from : NodeId) (digest : Digest) (number : ℕ) (o : Option (List ℕ)) → x.store digest ≡ o → Means d (Deliver number) (fetched from x o)
-  fetched_means d from digest number None e = (refl, refl)
-  fetched_means d from digest number (Some c) e = (from, c, digest, e, refl, refl)
+  fetched_means : (y : Fetch) (number : ℕ) (o : Option (List ℕ)) → x.store y.digest ≡ o → Means (Some (Fetches y)) (Deliver number) (fetched y.from x o)
+  fetched_means y number None e = ((Fetches y, inl refl, e), refl, refl)
+  fetched_means y number (Some c) e = (y, c, refl, e, refl, refl)
 
-  pub fetched_exact : (d : Option Message) (from : NodeId) (digest : Digest) (number : ℕ) → Exact d (Deliver number) (unless_spent x (fetched from x (x.store digest)))
-  fetched_exact d from digest number = unless_exact d (Deliver number) (fetched from x (x.store digest)) (λ h. h) (deliver_spent number) (fetched_means d from digest number (x.store digest) refl)
+  pub fetched_exact : (y : Fetch) (number : ℕ) → Exact (Some (Fetches y)) (Deliver number) (unless_spent x (fetched y.from x (x.store y.digest)))
+  fetched_exact y number = unless_exact (Some (Fetches y)) (Deliver number) (fetched y.from x (x.store y.digest)) (λ h. h) (deliver_spent number) (fetched_means y number (x.store y.digest) refl)
 
-  brought_means : (d : Option Message) (e : Event) (c : List ℕ) → ((d ≡ Some (Blob n c)) ⊎ (e ≡ Forge n c)) → Means d e (brought sha c x)
+  base_is : (d : Digest) (s : KeptAsk) → is_base d s ≡ true → (wants : List Want) × (g : Grant) × (r : Bool) × (u : GrantedSlot) × (s ≡ Holding wants g r) × In u g.slots × (u.digest ≡ d)
+  base_is d (Open wants tenure) h = (let bad : false ≡ true = h in cc)
+  base_is d (Holding wants g r) h = (let u = from_any (λ (u : GrantedSlot). digest_eq u.digest d) g.slots h in (wants, g, r, u.0, refl, u.1, digest_exact u.0.digest d u.2))
+  base_is d (Running wants g r) h = (let bad : false ≡ true = h in cc)
+  base_is d (Finished wants g news) h = (let bad : false ≡ true = h in cc)
+  base_is d (Over how) h = (let bad : false ≡ true = h in cc)
+
+  some_base : (d : Digest) → list_any (is_base d) x.asks ≡ true → IsBase x d
+  some_base d t =
+      let r = from_any (is_base d) x.asks t in
+      let a = get_from r.0 x.asks r.1 in
+      let b = base_is d r.0 r.2 in
+      (suc a.0, b.0, b.1, b.2, b.3, a.1 ∙ ap Some b.4, b.5, b.6)
+
+  base_some : (d : Digest) → IsBase x d → list_any (is_base d) x.asks ≡ true
+  base_some d (a, wants, g, r, u, i, j, e) =
+      any_in (is_base d) (Holding wants g r) x.asks (nth_in x.asks a (Holding wants g r) i) (any_in (λ (v : GrantedSlot). digest_eq v.digest d) u g.slots j (subst (λ z. digest_eq u.digest z ≡ true) e (digest_eq_same u.digest)))
+
+  brought_means : (d : Option Message) (e : Event) (c : List ℕ) → Arrives d e n (Blob n c) → Means d e (brought sha c x)
   brought_means d e c came = elim (cases_Bool (not (is_stored x (sha c)) && list_any (is_base (sha c)) x.asks)) [
-    | inl t ↦ rw t (c, came, not_some (x.store (sha c)) (not-true (is_stored x (sha c)) (and_parts (not (is_stored x (sha c))) (list_any (is_base (sha c)) x.asks) t).0), refl, refl)
-    | inr t ↦ rw t (refl, refl)
+    | inl t ↦ rw t (let b = and_parts (not (is_stored x (sha c))) (list_any (is_base (sha c)) x.asks) t in
+        (c, came, not_some (x.store (sha c)) (not-true (is_stored x (sha c)) b.0), some_base (sha c) b.1, refl, refl))
+    | inr t ↦ rw t ((Blob n c, came, unwanted t), refl, refl)
   ]
+    where
+      unwanted : (not (is_stored x (sha c)) && list_any (is_base (sha c)) x.asks) ≡ false → (x.store (sha c) ≢ None) ⊎ (IsBase x (sha c) → ⊥)
+      unwanted f = elim (cases_Bool (is_stored x (sha c))) [
+        | inl t ↦ inl (λ none. true_false (is_some (x.store (sha c))) t (ap is_some none))
+        | inr absent ↦ inr (λ base. true_false (list_any (is_base (sha c)) x.asks) (base_some (sha c) base) (rw absent at f))
+      ]
 
   pub brought_exact : (number : ℕ) (c : List ℕ) → Exact (Some (Blob n c)) (Deliver number) (unless_spent x (brought sha c x))
   brought_exact number c = unless_exact (Some (Blob n c)) (Deliver number) (brought sha c x) (λ h. h) (deliver_spent number) (brought_means (Some (Blob n c)) (Deliver number) c (inl refl))
 
   pub forged_exact : (c : List ℕ) → Exact None (Forge n c) (unless_spent x (brought sha c x))
-  forged_exact c = unless_exact None (Forge n c) (brought sha c x) (λ h. h) (forge_spent n c) (brought_means None (Forge n c) c (inr refl))
+  forged_exact c = unless_exact None (Forge n c) (brought sha c x) (λ h. h) (forge_spent n c) (brought_means None (Forge n c) c (inr (c, refl, refl)))
+
+  -- ---- what is answered at a call
+
+  pub asked_noted : (wants : List Want) → OnNote (λ c. (a : Ask) × (c ≡ node_note.Asked a)) (asked k at wants x)
+  asked_noted wants = guard_note _ x.spent refusal.LivesSpent _ (guard_note _ (not (at_home x.asks wants)) refusal.NotHomeHere _ (guard_note _ (not (nat_lt (length x.asks) k.greatest)) refusal.AsksSpent _ (next_ask x, refl)))
+
+  pub tenure_noted : (f : FolderName) → OnNote (λ c. (a : Ask) × (c ≡ node_note.Asked a)) (asked_tenure k at f x)
+  tenure_noted f = guard_note _ x.spent refusal.LivesSpent _ (guard_note _ (list_any (is_tenure_of (record f { mode = Shared })) x.asks) refusal.TenureHere _ (guard_note _ (not (nat_lt (length x.asks) k.greatest)) refusal.AsksSpent _ (next_ask x, refl)))
+
+  pub resent_noted : OnNote (λ c. c ≡ node_note.Resent) (resent k at x)
+  resent_noted = guard_note _ x.spent refusal.LivesSpent _ refl

@@ -1,6 +1,6 @@
 -- Newer lives, withdrawals, retirements, prunes, nudges and restarts follow the machine.
 use Rattle.std.proofs.Common.{◌≡◌, ◌≢◌, ℕ, ◌+◌, ◌<◌, ◌≤◌, List, [], ◌∷◌, ◌++◌, ◌⊎◌, Bool, true, false, not, ◌&&◌, ◌||◌, eqb, filter, Option, Some, None, Result, Ok, Err, refl, sym, ◌∙◌, ap, subst, inl, inr, arith, append-nil}
-use Rattle.std.proofs.lemmas.Bool.{cases_Bool, eqb-false, and_parts, eqb-true, not-true, or_parts}
+use Rattle.std.proofs.lemmas.Bool.{cases_eq, cases_Bool, eqb-false, and_parts, eqb-true, not-true, or_parts}
 use Rattle.std.proofs.lemmas.Bool.Decides.{nat_tests}
 use Rattle.std.specs.List.{list_any}
 use Rattle.std.specs.Prelude.{⊤, nat_lt, if◌then◌else◌}
@@ -19,7 +19,7 @@ use Rattle.protocol.proofs.Base.{true_false, none_some, some_is, eqb_same, slot_
 use Rattle.protocol.proofs.Steps.{Sound, later_refl, same_grant}
 use Rattle.protocol.proofs.Leases.{Core, core_of, agrees_from, not_leased, find_some, find_in, waits_filter}
 use Rattle.protocol.proofs.Following.{part_filter, part_none, Sent, notes_follows, now_sound, grant_says, retried_follows, more_sent}
-use Rattle.protocol.proofs.Trying.{raised_covers, try-gone, try-note}
+use Rattle.protocol.proofs.Trying.{raised_block, raised_covers, try-gone, try-lives, try-note}
 use Rattle.protocol.proofs.Meanings.{none_ended, ended_more}
 use Rattle.protocol.proofs.Bulk.{EndsThose}
 use Rattle.protocol.proofs.Calls as calls
@@ -36,6 +36,15 @@ or_left false b h = (let bad : false ≡ true = h in cc)
 or_right : (a b : Bool) → b ≡ true → (a || b) ≡ true
 or_right true b h = refl
 or_right false b h = h
+
+-- what a newer life makes of the lives that were seen
+retried-lives : (k : Limits) (v : Work) → (retried k v).ledger.lives ≡ v.ledger.lives
+unfolding retried
+retried-lives k v = try-lives k v.ledger.parked v
+
+newer-lives : (k : Limits) (n : NodeId) (l : Life) (w : Work) → (newer_life k n l w).ledger.lives ≡ put n.0 l.0 w.ledger.lives
+unfolding newer_life
+newer-lives k n l w = elim (cases_Bool (list_any (is_older n l) w.ledger.live || is_home n w.ledger.old_home)) [ inl t ↦ rw t (retried-lives k (sees n l w)) | inr t ↦ rw t refl ]
 
 lt_is : (a b : ℕ) → nat_lt a b ≡ true → a < b
 lt_is a b h = grind (arith, nat_tests)
@@ -76,7 +85,7 @@ module _ (k : Limits) (fits : k.instances ≤ 4096) (pool : List Message) (m : M
         granted = f.granted;
         works = Goes_on b next w.sends f.works (Unparks ps (subst (λ l. IsPartOf l ps) f.agrees.parked (part_filter test w.ledger.parked)));
         agrees = agrees_from k.empty pool next (record w.ledger { parked = ps })
-            (record { live_made = core.live_made; live_kept = core.live_kept; retired_made = core.retired_made; retired_kept = core.retired_kept; lines = core.lines; last = core.last; ceiling = core.ceiling; old_home = core.old_home; gone = core.gone; lives = core.lives })
+            (record { live_made = core.live_made; live_kept = core.live_kept; retired_made = core.retired_made; retired_kept = core.retired_kept; lines = core.lines; last = core.last; ceiling = core.ceiling; block = core.block; seen = core.seen; old_home = core.old_home; gone = core.gone; lives = core.lives })
             refl
             (λ p i. f.agrees.asked p (from_filter test p w.ledger.parked i).0)
             (waits_filter w.ledger.live test w.ledger.parked f.agrees.waits);
@@ -102,9 +111,17 @@ module _ (k : Limits) (fits : k.instances ≤ 4096) (pool : List Message) (m : M
         granted = f.granted;
         works = Goes_on b next w.sends f.works step;
         agrees = agrees_from k.empty pool next (record w.ledger { lives = put n.0 l.0 w.ledger.lives; old_home = cleared n w.ledger.old_home })
-            (record { live_made = core.live_made; live_kept = core.live_kept; retired_made = core.retired_made; retired_kept = core.retired_kept; lines = core.lines; last = core.last; ceiling = core.ceiling; old_home = ap (cleared n) core.old_home; gone = core.gone; lives = ap (put n.0 l.0) core.lives })
-            f.agrees.parked f.agrees.asked f.agrees.waits;
+            (record { live_made = core.live_made; live_kept = core.live_kept; retired_made = core.retired_made; retired_kept = core.retired_kept; lines = core.lines; last = core.last; ceiling = core.ceiling; block = core.block; seen = λ h i. rises h.node.0 h.life.0 (core.seen h i); old_home = ap (cleared n) core.old_home; gone = core.gone; lives = ap (put n.0 l.0) core.lives })
+            f.agrees.parked (λ p i. (let a = f.agrees.asked p i in (a.0, a.1, rises p.node.0 p.life.0 a.2))) f.agrees.waits;
       }
+    where
+      rises : (j a : ℕ) → a ≤ w.ledger.lives j → a ≤ put n.0 l.0 w.ledger.lives j
+      rises j a le = elim (cases_eq j n.0) [
+        | inl e ↦ (let at : put n.0 l.0 w.ledger.lives j ≡ l.0 = ap (put n.0 l.0 w.ledger.lives) e ∙ put_same n.0 l.0 w.ledger.lives in
+            let was : w.ledger.lives j ≡ w.ledger.lives n.0 = ap w.ledger.lives e in
+            let lt : w.ledger.lives n.0 < l.0 = lt_is (w.ledger.lives n.0) l.0 newer in omega arith)
+        | inr ne ↦ (let at : put n.0 l.0 w.ledger.lives j ≡ w.ledger.lives j = put_other n.0 l.0 w.ledger.lives j ne in omega arith)
+      ]
 
   pub retried-gone : (v : Work) → (retried k v).ledger.gone ≡ v.ledger.gone
   unfolding retried
@@ -134,9 +151,9 @@ module _ (k : Limits) (fits : k.instances ≤ 4096) (pool : List Message) (m : M
         granted = f.granted;
         works = Goes_on b next w.sends f.works step;
         agrees = agrees_from k.empty pool next (record w.ledger { gone = put n.0 true w.ledger.gone })
-            (record { live_made = core.live_made; live_kept = core.live_kept; retired_made = core.retired_made; retired_kept = core.retired_kept; lines = core.lines; last = core.last; ceiling = core.ceiling; old_home = core.old_home; gone = ap (put n.0 true) core.gone; lives = core.lives })
+            (record { live_made = core.live_made; live_kept = core.live_kept; retired_made = core.retired_made; retired_kept = core.retired_kept; lines = core.lines; last = core.last; ceiling = core.ceiling; block = core.block; seen = core.seen; old_home = core.old_home; gone = ap (put n.0 true) core.gone; lives = core.lives })
             f.agrees.parked
-            (λ p i. (let r = f.agrees.asked p i in (r.0, put_other n.0 true w.ledger.gone p.node.0 (eqb-false p.node.0 n.0 (asks p i)) ∙ r.1)))
+            (λ p i. (let r = f.agrees.asked p i in (r.0, put_other n.0 true w.ledger.gone p.node.0 (eqb-false p.node.0 n.0 (asks p i)) ∙ r.1, r.2)))
             f.agrees.waits;
       }
 
@@ -244,7 +261,7 @@ module _ (k : Limits) (fits : k.instances ≤ 4096) (pool : List Message) (m : M
         granted = ended.granted;
         works = Goes_on bare next w.sends (Goes_on b bare w.sends ended.works (Unparks [] (part_none b.parked))) (Raises w.ledger.ceiling le);
         agrees = agrees_from k.empty pool next (record v.ledger { last = w.ledger.ceiling; parked = [] })
-            (record { live_made = core.live_made; live_kept = core.live_kept; retired_made = core.retired_made; retired_kept = core.retired_kept; lines = core.lines; last = refl; ceiling = omega arith; old_home = core.old_home; gone = core.gone; lives = core.lives })
+            (record { live_made = core.live_made; live_kept = core.live_kept; retired_made = core.retired_made; retired_kept = core.retired_kept; lines = core.lines; last = refl; ceiling = omega arith; block = omega arith; seen = core.seen; old_home = core.old_home; gone = core.gone; lives = core.lives })
             refl (λ p i. absurd i) tt;
       })
 
@@ -278,6 +295,8 @@ module _ (k : Limits) (fits : k.instances ≤ 4096) (pool : List Message) (m : M
               ];
               last = refl;
               ceiling = raised_covers k q core.ceiling below;
+              block = raised_block k q core.block;
+              seen = core.seen;
               old_home = core.old_home;
               gone = core.gone;
               lives = core.lives;
@@ -387,12 +406,12 @@ module _ (k : Limits) (fits : k.instances ≤ 4096) (pool : List Message) (m : M
             let here' : m.gone y.node.0 ≡ false = sym gone ∙ here in
             let v = newer_it k fits pool m sound sent Same (Meant m (MessageEnds m y note.Nothing) note.Nothing) y.node y.life (begin_work q) (begins Same q agrees refl) (y, asked, refl, refl) here newer
             (λ e those. (just_those (MessageEnds m y note.Nothing) (is_older y.node y.life) Died e those (older_is y note.Nothing here' lt) (is_older_is y), tt)) in
-            calls.answering_it k fits pool m sound sent y (newer_life k y.node y.life (begin_work q)) v.0 v.2 asked (ap (λ (f : ℕ → Bool). f y.node.0) v.1 ∙ here))
+            calls.answering_it k fits pool m sound sent y (newer_life k y.node y.life (begin_work q)) v.0 v.2 asked (ap (λ (f : ℕ → Bool). f y.node.0) v.1 ∙ here) (let kept : (newer_life k y.node y.life (begin_work q)).ledger.lives y.node.0 ≡ y.life.0 = ap (λ (f : ℕ → ℕ). f y.node.0) (newer-lives k y.node y.life (begin_work q)) ∙ put_same y.node.0 y.life.0 q.lives in omega arith))
         | inr same ↦ rw same (calls.answering_it k fits pool m sound sent y (begin_work q) (begins (Meant m (MessageEnds m y note.Nothing) note.Nothing) q agrees (
           none_ended m (MessageEnds m y note.Nothing) (quiet_ends y note.Nothing (λ u p. (let bad : note.Nothing ≡ note.Committed u = p in cc)) (λ u p. (let bad : note.Nothing ≡ note.Released u = p in cc))
               (λ here newer. (let le : y.life.0 ≤ q.lives y.node.0 = lt_not (q.lives y.node.0) y.life.0 same in let e : q.lives y.node.0 ≡ m.lives y.node.0 = lives in omega arith))),
           tt,
-        )) refl asked here)
+        )) refl asked here (lt_not (q.lives y.node.0) y.life.0 same))
       ])
     ])
   ]

@@ -32,7 +32,7 @@ pub record Fewer (q q' : Ledger) : Type 0 where
   pub retired : (s : Slot) → q'.retired s ≡ false → q.retired s ≡ false
   pub last : q.last ≤ q'.last
 
-fewer_refl : (q : Ledger) → Fewer q q
+pub fewer_refl : (q : Ledger) → Fewer q q
 fewer_refl q = record { home = refl; leased = λ s e. e; retired = λ s e. e; last = omega arith }
 
 fewer_trans : (a b c : Ledger) → Fewer a b → Fewer b c → Fewer a c
@@ -43,7 +43,7 @@ fewer_trans a b c f g = record {
   last = (let x : a.last ≤ b.last = f.last in let y : b.last ≤ c.last = g.last in omega arith);
 }
 
-still_free : (q q' : Ledger) → Fewer q q' → (s : Slot) → is_free q' s ≡ true → is_free q s ≡ true
+pub still_free : (q q' : Ledger) → Fewer q q' → (s : Slot) → is_free q' s ≡ true → is_free q s ≡ true
 still_free q q' f s e =
     let b = and_parts (not (some_lease q'.live s)) (not (q'.retired s)) e in
     let kept : q.retired s ≡ false = f.retired s (not-true (q'.retired s) b.1) in
@@ -96,7 +96,7 @@ module _ (k : Limits) where
 
   -- ---- trying parked asks
 
-  gives_fewer : (p : Parked) (w : Work) → Fewer w.ledger (gives k p w).ledger
+  pub gives_fewer : (p : Parked) (w : Work) → Fewer w.ledger (gives k p w).ledger
   unfolding gives
   gives_fewer p w = record {
     home = refl;
@@ -152,7 +152,7 @@ module _ (k : Limits) where
   recall-ledger None w = refl
   recall-ledger (Some h) w = refl
 
-  recalls-ledger : (b : Bool) (p : Parked) (w : Work) → (recalls b p w).ledger ≡ w.ledger
+  pub recalls-ledger : (b : Bool) (p : Parked) (w : Work) → (recalls b p w).ledger ≡ w.ledger
   recalls-ledger false p w = refl
   recalls-ledger true p w = recall-ledger (find (holds_wanted p) w.ledger.live) w
 
@@ -202,7 +202,7 @@ module _ (k : Limits) where
       let r = from_any (λ (g : Lease). has_slot g.slots s) live t in
       any_in (λ (g : Lease). has_slot g.slots s) r.0 (filter (λ g. not (test g)) live) (in_filter (λ (g : Lease). not (test g)) r.0 live r.1 (ap not (any_none test r.0 live none r.1))) r.2
 
-  not_cleared : (n : NodeId) (o : Option NodeId) → is_home n o ≡ false → cleared n o ≡ o
+  pub not_cleared : (n : NodeId) (o : Option NodeId) → is_home n o ≡ false → cleared n o ≡ o
   not_cleared n None h = refl
   not_cleared n (Some x) h = (let e : eqb x.0 n.0 ≡ false = h in rw e refl)
 

@@ -1,15 +1,16 @@
 -- Each event of the replay is a list of moves of the world, and so every schedule is safe.
-use Rattle.std.proofs.Common.{◌≡◌, ◌≢◌, ℕ, zero, suc, ◌+◌, ◌<◌, ◌≤◌, ◌⊎◌, List, [], ◌∷◌, ◌++◌, Bool, true, false, not, map, Option, Some, None, Result, Ok, Err, refl, sym, ◌∙◌, ap, subst, inl, inr, arith, append-nil, append_assoc}
-use Rattle.std.proofs.lemmas.Bool.{cases_eq, cases_Bool, and_parts, not-true}
+use Rattle.std.proofs.Common.{◌≡◌, ◌≢◌, ℕ, zero, suc, ◌+◌, ◌<◌, ◌≤◌, ◌⊎◌, List, [], ◌∷◌, ◌++◌, Bool, true, false, not, ◌&&◌, eqb, length, map, Option, Some, None, Result, Ok, Err, refl, sym, ◌∙◌, ap, subst, inl, inr, arith, append-nil, append_assoc}
+use Rattle.std.proofs.lemmas.Bool.{cases_eq, cases_Bool, and_parts, not-true, eqb-true}
 use Rattle.protocol.specs.Lists.{In, put, nth}
-use Rattle.protocol.specs.Names.{Slot, NodeId, Life, Digest, Want}
-use Rattle.protocol.specs.Machine.{Parked, Grant, Granted, ticket_of, Message, Said, Told, Fetches, Blob, ToCoord, FromCoord, acquire, commit, release, Machine, WasHeard, Live, line, MayEnd, Ending, Committed, Released, Withdrawn, Died, Step, Steps, No_step, Grants, Ends, Prunes, Sees, Retires, Parks, Unparks, Raises, Says, Says_granted, Says_committed, Says_fenced, Says_denied, Says_recall}
+use Rattle.protocol.specs.Names.{Shared, FolderName, only_slot, leased_wants, tenure_wants, Slot, NodeId, Life, Ask, Ticket, Digest, Want}
+use Rattle.farm_base.specs.declared.message.Why.{Why}
+use Rattle.protocol.specs.Machine.{Parked, IsPartOf, Grant, Granted, ticket_of, Message, Said, Told, Fetches, Blob, ToCoord, FromCoord, acquire, commit, release, Machine, WasHeard, Has, Live, line, MayEnd, Ending, Committed, Released, Withdrawn, Died, Step, Steps, No_step, Grants, Ends, Prunes, Sees, Retires, Parks, Unparks, Raises, Says, Says_granted, Says_committed, Says_fenced, Says_denied, Says_recall}
 use Rattle.farm_base.specs.declared.message.Message.TheVariants as to
 use Rattle.farm_base.specs.declared.message.ToNode.TheVariants as to_node
-use Rattle.protocol.specs.Ledger.{Limits, Ledger, Work, begin_work, grant_of, handled, withdrawn, retired, pruned, nudged, Lease, Saved, saves, reads}
+use Rattle.protocol.specs.Ledger.{Limits, Ledger, Work, begin_work, grant_of, handled, withdrawn, retired, pruned, nudged, lease_under, has_ticket, has_slot, holds_wanted, is_awaited, is_parked, another, is_its, Lease, is_saved, Saved, saves, reads}
 use Rattle.protocol.specs.World.{Running, World, Node, Move, Machine_moves, Machine_says, Fails, Recovers, Moves, Still, Then, start}
 use Rattle.protocol.specs.Nodes.{NodeWork, NodeAnswer, Place, asked, asked_tenure, begun, finished_with, aborted, resent, restarted, may_restart, heard, fetched, brought, unless_spent}
-use Rattle.protocol.specs.Replay.{Event, Tenure, Deliver, Begin, Finish, Abort, Resend, Nudge, Withdraw, Prune, Retire, RestartNode, RestartCoordinator, Forge, FailSave, Farm, Turn, opening, refused, done, after_work, settled, settles, coordinated, is_node, moved, answered, at_node, node_does, restarts, told_to, delivered, step, run}
+use Rattle.protocol.specs.Replay.{Event, Tenure, Deliver, Begin, Finish, Abort, Resend, Nudge, Withdraw, Prune, Retire, RestartNode, RestartCoordinator, Forge, FailSave, Farm, Turn, opening, refused, first_sent, done, after_work, settled, settles, coordinated, is_node, moved, answered, at_node, node_does, restarts, told_to, delivered, step, run}
 use Rattle.protocol.specs.Replay as replay
 use Rattle.protocol.specs.declared.answer.Kept.{Kept}
 use Rattle.protocol.specs.declared.answer.Kept.TheVariants.{Old, New}
@@ -24,30 +25,41 @@ use Rattle.protocol.specs.declared.answer.EventNote.TheVariants as event_note
 use Rattle.protocol.specs.declared.answer.EventRefusal.{EventRefusal}
 use Rattle.protocol.specs.declared.answer.EventRefusal.TheVariants as refusal
 use Rattle.protocol.specs.Safe.{InUse}
-use Rattle.protocol.specs.Meaning.{Ended, MessageEnds, WithdrawEnds, RetireEnds, RestartEnds, NoEnds, EndsAt, recorded, Finds, message_adds, message_lives, lives_at, IsAnswered, DropsAt, adds, BeginsAt, StopsAt, Used, CoordMeans, Meant, Asks, MessageMeans, CoordDid, Again, Carried, addressee, node_at, heard_at, NodeMeans, Did, Survives, Unchanged, Means}
-use Rattle.protocol.specs.Reasons.{CallBecause, message_decision, decision_at, Reaches, CoordBecause, NodeBecause, Because, Fair}
+use Rattle.protocol.specs.Meaning.{heard_lives, Ended, MessageEnds, WithdrawEnds, RetireEnds, RestartEnds, NoEnds, EndsAt, recorded, Finds, message_adds, message_lives, lives_at, IsAnswered, DropsAt, adds, BeginsAt, StopsAt, Used, CoordMeans, Meant, Asks, MessageMeans, CoordDid, Again, Carried, addressee, node_at, heard_at, NodeMeans, Hears, Did, takes_slot, IsAwaited, Recalls, TicketsRise, IsDenied, HasLowest, PassesOverNone, KeepsOrder, IsDue, IsCommit, Replies, first_number, Survives, Unchanged, Means}
+use Rattle.protocol.specs.Reasons.{CallBecause, message_decision, decision_at, IsThere, Reaches, CoordBecause, NodeBecause, Because, Fair}
+use Rattle.farm_base.specs.declared.message.Request.{Request}
 use Rattle.farm_base.specs.declared.message.Request.TheVariants as request
+use Rattle.std.specs.List.{list_any}
 use Rattle.protocol.specs.declared.answer.NodeRefusal.{NodeRefusal}
 use Rattle.protocol.specs.declared.answer.NodeRefusal.TheVariants as node_refusal
 use Rattle.protocol.proofs.Meanings.{none_ended, ended_as}
 use Rattle.protocol.proofs.Deciding.{apart_of}
 use Rattle.protocol.proofs.Deciding as deciding
 use Rattle.protocol.proofs.Saying.{Grew}
-use Rattle.protocol.proofs.Leases.{core_of, grant-lease}
+use Rattle.protocol.proofs.Leases.{core_of, grant-lease, lease_has, has_lease, find_none, find_some, find_in}
 use Rattle.protocol.proofs.Using.{Runs, Turned, NoGrant, Quiet, OneEach, one_each, OnNode, Begun, Stops, Aborts, asked_use, tenure_use, begun_use, finished_use, aborted_use, resent_use, heard_use, fetched_use, brought_use}
-use Rattle.std.specs.Prelude.{⊤, nat_lt}
+use Rattle.std.specs.Prelude.{⊤, nat_lt, nat_le}
 use Rattle.std.proofs.lemmas.Bool.Decides.{nat_tests}
 use Rattle.protocol.specs.Follows.{lease_from, Agrees, Works, Begins_work, Goes_on, Speaks, Follows, SavedAgrees, Shows, IsFarm, SafeAfter, SafeBetween, EveryScheduleIsSafe, EveryScheduleStaysSafe, EveryEventIsMoves, FollowsOk, EveryDecisionFollows}
-use Rattle.protocol.proofs.Base.{true_false, none_some, some_is, in_left, put_same, put_other, nth_in, node_is, in_map, from_map}
+use Rattle.protocol.proofs.Base.{any_in, from_any, in_one, eqb_same, true_false, none_some, some_is, in_left, put_same, put_other, nth_in, node_is, in_map, from_map, from_filter}
 use Rattle.farm_base.specs.declared.message.FromCoord.TheVariants as message
-use Rattle.protocol.proofs.Steps.{Sound, made_below}
+use Rattle.protocol.proofs.Steps.{Sound, same_grant, live_apart, made_below}
 use Rattle.protocol.proofs.Saving.{Apart, SavesOk, saved_twice, handled_saves, withdrawn_saves, retired_saves, pruned_saves, nudged_saves}
 use Rattle.protocol.proofs.Invariant.{Inv}
 use Rattle.protocol.proofs.Worlds.{moves_inv, start_whole}
 use Rattle.protocol.proofs.Safety.{every_run_is_safe, every_run_stays_safe}
-use Rattle.protocol.proofs.Following.{Sent, works_sound, works_made, works_steps}
+use Rattle.protocol.proofs.Following.{Sent, works_above, works_sound, works_made, works_steps, part_refl, part_none}
 use Rattle.protocol.proofs.Others as others
 use Rattle.protocol.proofs.Saying as saying
+use Rattle.protocol.proofs.Denials as denials
+use Rattle.protocol.proofs.Changing as changing
+use Rattle.protocol.proofs.Recalling as recalling
+use Rattle.protocol.proofs.Owning as owning
+use Rattle.protocol.proofs.Fitting as fitting
+use Rattle.protocol.proofs.Fitting.{AllFit, FitGrant, WorldFits, leases_fit}
+use Rattle.protocol.proofs.Ordering as ordering
+use Rattle.protocol.proofs.Replying as replying
+use Rattle.protocol.proofs.Wanting as wanting
 use Rattle.protocol.proofs.Noting as noting
 use Rattle.protocol.proofs.Moving.{NoneTold, Reached, OnAnswer, asked_does, tenure_does, begun_does, finished_does, aborted_does, resent_does, restarted_does, stops_does, spent_does, fetched_does, brought_does, heard_does}
 
@@ -88,11 +100,13 @@ agrees_more empty pool more m q a = record {
   lines = a.lines;
   last = a.last;
   ceiling = a.ceiling;
+  block = a.block;
+  seen = a.seen;
   old_home = a.old_home;
   gone = a.gone;
   lives = a.lives;
   parked = a.parked;
-  asked = λ p i. (let r = a.asked p i in (in_left (acquire p.node p.life p.ask p.wants p.tenure) pool more r.0, r.1));
+  asked = λ p i. (let r = a.asked p i in (in_left (acquire p.node p.life p.ask p.wants p.tenure) pool more r.0, r.1, r.2));
   waits = a.waits;
 }
 
@@ -137,6 +151,7 @@ sent_in sha u inv = record {
 -- a node's event finds the world's machine, ends nothing, adds nothing to a line, and is not the coordinator's
 pub record Plain (sha : List ℕ → Digest) (u : World) (s : Farm) (e : Event) (n : NodeId) (o : Option Message) : Type 0 where
   pub finds : Finds u e ≡ u.machine
+  pub rises : (a n : ℕ) → TicketsRise e a n a
   pub ends : (said : NodeNote) (g : Grant) (y : Ending) → EndsAt u e (event_note.Node said) g y → ⊥
   pub adds : (said : NodeNote) (s : Slot) → adds (sha []) u.pool e (event_note.Node said) s ≡ []
   pub lives : (said : NodeNote) (f : ℕ → ℕ) (n : ℕ) → lives_at u.pool e (event_note.Node said) f n ≡ f n
@@ -157,11 +172,25 @@ no_lives (Some (to.ToNode (to_node.FromCoord y))) n f j = refl
 no_lives (Some (to.ToNode (to_node.Fetch y))) n f j = refl
 no_lives (Some (to.ToNode (to_node.Blob m c))) n f j = refl
 
+-- ---- nodes that are there
+
+le_is : (a b : ℕ) → nat_le a b ≡ true → a ≤ b
+le_is a b h = grind (arith, nat_tests)
+
+le_to : (a b : ℕ) → a ≤ b → nat_le a b ≡ true
+le_to a b h = grind (arith, nat_tests)
+
+there_is : (s : Farm) (n : NodeId) → is_node s n ≡ true → IsThere s n
+there_is s n e = (let b = and_parts (nat_le 1 n.0) (nat_le n.0 s.size) e in (le_is 1 n.0 b.0, le_is n.0 s.size b.1))
+
+not_there : (s : Farm) (n : NodeId) → is_node s n ≡ false → IsThere s n → ⊥
+not_there s n e there = (let low = le_to 1 n.0 there.0 in let high = le_to n.0 s.size there.1 in true_false (is_node s n) (rw (low, high) refl) e)
+
 -- an event of the coordinator is for no node
 pub record ForCoord (u : World) (s : Farm) (e : Event) : Type 0 where
   pub heard : (number : ℕ) → e ≡ Deliver number → nth u.pool number ≡ None → ⊥
   pub node : (n : NodeId) → node_at u e ≡ Some n → ⊥
-  pub retires : (n : NodeId) → e ≡ Retire n → is_node s n ≡ false → ⊥
+  pub retires : (n : NodeId) → e ≡ Retire n → (IsThere s n → ⊥) → ⊥
   pub reaches : Reaches u s e
 
 module _ (sha : List ℕ → Digest) (k : Limits) (farm : IsFarm sha k) where
@@ -170,8 +199,9 @@ module _ (sha : List ℕ → Digest) (k : Limits) (farm : IsFarm sha k) where
     pub world : World
     pub moves : Moves sha u world
     pub shows : Shows sha world t.farm
-    pub means : Means sha u e t.outcome world
+    pub means : Means sha k s.size u e t.outcome world
     pub fair : Fair k u s e t.outcome
+    pub fits : WorldFits k u → WorldFits k world
 
   module _ (u : World) (run : Moves sha (start sha) u) (s : Farm) (shows : Shows sha u s) (e : Event) where
     inv : Inv sha u
@@ -194,7 +224,7 @@ module _ (sha : List ℕ → Digest) (k : Limits) (farm : IsFarm sha k) where
     same_world r = record { down = inl refl; machine = refl; pool = refl; nodes = λ n. inl refl }
 
     refused_so : (r : EventRefusal) → Because k u s e r → Next u s e (refused r s)
-    refused_so r why = record { world = u; moves = Still u; shows = shows; means = same_world r; fair = why }
+    refused_so r why = record { world = u; moves = Still u; shows = shows; means = same_world r; fair = why; fits = λ f. f }
 
     pub up_is : s.down ≡ false → u.down ≡ None
     up_is e = by u.down shows.saved
@@ -210,7 +240,54 @@ module _ (sha : List ℕ → Digest) (k : Limits) (farm : IsFarm sha k) where
         by None h = true_false s.down e h.0
         by (Some m) h = λ z. none_some m (sym z)
 
+    first_told : (sends : List Message) → first_sent s sends ≡ first_number u.pool sends
+    first_told [] = refl
+    first_told (y ∷ ys) = ap (λ (p : List Message). length p + 1) (sym shows.pool)
+
     -- ---- the coordinator
+
+    -- what is granted fits
+    abbrev FitsSends : Work → Type 0
+    FitsSends w = AllFit k u.machine → (g : Grant) → In (message.Granted g) w.sends → FitGrant k g
+
+    begin_fits : AllFit k u.machine → fitting.W k (begin_work s.ledger)
+    begin_fits fit = fitting.begins_w k s.ledger (leases_fit k k.empty u.pool u.machine s.ledger agrees_in fit)
+
+    asked_in : (p : Parked) → In p s.ledger.parked → In (acquire p.node p.life p.ask p.wants p.tenure) u.pool × (s.ledger.gone p.node.0 ≡ false)
+    asked_in p i = (let a = agrees_in.asked p i in (a.0, a.1))
+
+    known_in : (p : Parked) → In p s.ledger.parked → p.life.0 ≤ s.ledger.lives p.node.0
+    known_in p i = (agrees_in.asked p i).2
+
+    -- each ask that was denied has its reason
+    abbrev Denies : Work → Type 0
+    Denies w = (m : Machine) → Agrees k.empty u.pool m w.ledger → (n : NodeId) (l : Life) (a : Ask) (y : Why) → In (message.Denied n l a y) w.sends → IsDenied k u.pool m n l a y
+
+    -- the message that the event delivers asks so
+    abbrev Brings : Parked → Type 0
+    Brings p = heard_at u e ≡ Some (acquire p.node p.life p.ask p.wants p.tenure)
+
+    -- the ask was parked, or the message that the event delivers asks so
+    abbrev Due : NodeId → Life → Ask → Type 0
+    Due n l a = ((p : Parked) × In p u.machine.parked × (p.node ≡ n) × (p.life ≡ l) × (p.ask ≡ a)) ⊎ ((wants : List Want) × (tenure : Bool) × (heard_at u e ≡ Some (acquire n l a wants tenure)))
+
+    due_in : (p : Parked) → In p s.ledger.parked → Due p.node p.life p.ask
+    due_in p i = inl (p, subst (In p) agrees_in.parked i, refl, refl, refl)
+
+    -- what is new is in order, and what is sent is a reply
+    abbrev Orders : Work → Type 0
+    Orders w = ordering.Orderly k s.ledger (DropsAt u.pool e) w × ordering.Queue k s.ledger Brings w × replying.Replying k s.ledger Due (IsCommit u e) due_in w
+
+    abbrev DeniesOk : Result Work CoordRefusal → Type 0
+    DeniesOk (Ok w) = Denies w × recalling.Properly w × FitsSends w × Orders w
+    DeniesOk (Err r) = ⊤
+
+    fine_denies : (w : Work) → denials.Fine k u.pool s.ledger agrees_in.waits asked_in known_in agrees_in.seen w → Denies w
+    fine_denies w fine m agrees = denials.denied_so k u.pool s.ledger agrees_in.waits asked_in known_in agrees_in.seen k.empty m w refl agrees fine
+
+    all_denies : (r : Result Work CoordRefusal) → denials.OnFine k u.pool s.ledger agrees_in.waits asked_in known_in agrees_in.seen r → recalling.OnProperly k s.ledger r → (AllFit k u.machine → fitting.OnW k r) → ordering.OnOrderly k s.ledger (DropsAt u.pool e) apart_in.top r → ordering.OnQueue k s.ledger Brings r → replying.OnReplying k s.ledger Due (IsCommit u e) due_in r → DeniesOk r
+    all_denies (Ok w) fine properly fit orders queue replies = (fine_denies w fine, properly, (λ all g i. (fit all).sends (message.Granted g) i), (orders, queue, replies))
+    all_denies (Err r) fine properly fit orders queue replies = tt
 
     -- work that is done, and what is meant by it
     record Done (told : EventNote) (w : Work) (change : saying.Change s.ledger) : Type 0 where
@@ -227,6 +304,12 @@ module _ (sha : List ℕ → Digest) (k : Limits) (farm : IsFarm sha k) where
       pub did : (v : World) → Did u e told v
       pub node : (n : NodeNote) → told ≡ event_note.Node n → ⊥
       pub saves_all : w.changed ≡ false → saves w.ledger ≡ saves s.ledger
+      pub denies : Denies w
+      pub recalls : recalling.Properly w
+      pub fits : FitsSends w
+      pub orders : Orders w
+      pub noted : (c : CoordNote) → w.note ≡ c → (told ≡ event_note.Coord c) ⊎ (c ≡ coord_note.Nothing)
+      pub rises : (a b n : ℕ) → b ≤ a + change.tickets + n → TicketsRise e a n b
 
     -- the Grant of a lease that is there is live
     live_grant : (w : Work) (m : Machine) → Sound k.empty m → Agrees k.empty u.pool m w.ledger → (h : Lease) → In h w.ledger.live → Live m (grant_of k.empty w.ledger.line h)
@@ -280,6 +363,79 @@ module _ (sha : List ℕ → Digest) (k : Limits) (farm : IsFarm sha k) where
             let same : message.Granted g ≡ r.0 = (let t : Told (message.Granted g) ≡ Told r.0 = r.2 in cc) in
             subst (λ y. In y sends) (sym same) r.1)
 
+    recall_in : (n : NodeId) (l : Life) (t : Ticket) (sends : List FromCoord) → In (Told (message.Recall n l t)) (map Told sends) → In (message.Recall n l t) sends
+    recall_in n l t sends i = (let r = from_map Told (Told (message.Recall n l t)) sends i in
+        let same : message.Recall n l t ≡ r.0 = (let z : Told (message.Recall n l t) ≡ Told r.0 = r.2 in cc) in
+        subst (λ y. In y sends) (sym same) r.1)
+
+    denied_in : (n : NodeId) (l : Life) (a : Ask) (y : Why) (sends : List FromCoord) → In (Told (message.Denied n l a y)) (map Told sends) → In (message.Denied n l a y) sends
+    denied_in n l a y sends i = (let r = from_map Told (Told (message.Denied n l a y)) sends i in
+        let same : message.Denied n l a y ≡ r.0 = (let t : Told (message.Denied n l a y) ≡ Told r.0 = r.2 in cc) in
+        subst (λ y. In y sends) (sym same) r.1)
+
+    told_length : (sends : List FromCoord) → length (map Told sends) ≡ length sends
+    told_length [] = refl
+    told_length (y ∷ ys) = (let r = told_length ys in omega arith)
+
+    rises_so : (told : EventNote) (w : Work) (c : saying.Change s.ledger) (d : Done told w c) → d.follows.machine.last ≤ (Finds u e).last + c.tickets + length (map Told w.sends)
+    rises_so told w c d =
+        let up : w.ledger.last ≤ s.ledger.last + c.tickets + length w.sends = d.grew.count in
+        let after : w.ledger.last ≡ d.follows.machine.last = d.follows.agrees.last in
+        let before : s.ledger.last ≡ (Finds u e).last = agrees_in.last ∙ ap (λ (z : Machine). z.last) (sym d.finds) in
+        let same : length (map Told w.sends) ≡ length w.sends = told_length w.sends in
+        omega arith
+
+    made_fit : (told : EventNote) (w : Work) (c : saying.Change s.ledger) (d : Done told w c) → AllFit k u.machine → AllFit k d.follows.machine
+    made_fit told w c d fit g i = elim (d.follows.granted g i) [ inl old ↦ fit g old | inr sent ↦ d.fits fit g sent ]
+
+    made_in : (g : Grant) → In (Granted g) u.machine.made → g.ticket.0 ≤ u.machine.last
+    made_in g i = made_below k.empty u.machine sound_in (Granted g) i
+
+    made_sound : (told : EventNote) (w : Work) (c : saying.Change s.ledger) (d : Done told w c) → Sound k.empty d.follows.machine
+    made_sound told w c d = (works_sound k.empty u.pool u.machine d.follows.machine w.sends sound_in d.follows.works).1
+
+    -- what was made is old, or is sent now under a new ticket
+    made_now : (told : EventNote) (w : Work) (c : saying.Change s.ledger) (d : Done told w c) (g : Grant) → In (Granted g) d.follows.machine.made → In (Granted g) (Finds u e).made ⊎ (In (message.Granted g) w.sends × (u.machine.last < g.ticket.0))
+    made_now told w c d g i = elim (d.follows.granted g i) [
+      | inl old ↦ inl (subst (λ (z : Machine). In (Granted g) z.made) (sym d.finds) old)
+      | inr sent ↦ elim ((works_above k.empty u.pool u.machine d.follows.machine w.sends d.follows.works).1 g i) [
+        | inl old ↦ inl (subst (λ (z : Machine). In (Granted g) z.made) (sym d.finds) old)
+        | inr new ↦ inr (sent, new.0)
+      ]
+    ]
+
+    note_so : (told : EventNote) (w : Work) (c : saying.Change s.ledger) (d : Done told w c) (n : CoordNote) → (n ≡ coord_note.Nothing → ⊥) → w.note ≡ n → told ≡ event_note.Coord n
+    note_so told w c d n some e = elim (d.noted n e) [ inl is ↦ is | inr none ↦ absurd (some none) ]
+
+    replies_so : (told : EventNote) (w : Work) (c : saying.Change s.ledger) (d : Done told w c) (y : FromCoord) → In (Told y) (map Told w.sends) → Replies u e told y
+    replies_so told w c d y i =
+        let r = from_map Told (Told y) w.sends i in
+        let same : y ≡ r.0 = (let t : Told y ≡ Told r.0 = r.2 in cc) in
+        by y (d.orders.2 y (subst (λ z. In z w.sends) (sym same) r.1))
+      where
+        due_so : (n : NodeId) (l : Life) (a : Ask) → Due n l a → IsDue u e n l a
+        due_so n l a (inl (p, i, is, life, ask)) = inl (p, subst (λ (z : Machine). In p z.parked) (sym d.finds) i, is, life, ask)
+        due_so n l a (inr came) = inr came
+
+        by : (y : FromCoord) → replying.Reply k s.ledger Due (IsCommit u e) due_in w.note y → Replies u e told y
+        by (message.Granted g) (inl due) = inl (due_so g.node g.life g.ask due)
+        by (message.Granted g) (inr again) = inr (note_so told w c d coord_note.Nudged (λ n. (cc)) again)
+        by (message.Committed n l t versions) (came, inl is) = (came, inl (note_so told w c d (coord_note.Committed t) (λ n. (cc)) is))
+        by (message.Committed n l t versions) (came, inr is) = (came, inr (note_so told w c d (coord_note.CommittedBefore t) (λ n. (cc)) is))
+        by (message.Fenced n l t) (came, is) = (came, note_so told w c d (coord_note.Fenced t) (λ n. (cc)) is)
+        by (message.Denied n l a why) due = due_so n l a due
+        by (message.Recall n l t) h = h
+
+    lowest_in : (told : EventNote) (w : Work) (c : saying.Change s.ledger) (d : Done told w c) (g : Grant) → In (Granted g) d.follows.machine.made → In (Granted g) (Finds u e).made ⊎ HasLowest d.follows.machine g
+    lowest_in told w c d g i = elim (made_now told w c d g i) [ inl old ↦ inl old | inr new ↦ inr (ordering.lowest_so k u.pool u.machine s.ledger (DropsAt u.pool e) agrees_in made_in d.follows.machine w (made_sound told w c d) d.follows.agrees d.follows.granted d.orders.0 g new.0 new.1) ]
+
+    queue_so : (told : EventNote) (w : Work) (c : saying.Change s.ledger) (d : Done told w c) → KeepsOrder u e told (Finds u e).parked d.follows.machine.parked
+    queue_so told w c d = subst (λ ps. KeepsOrder u e told ps d.follows.machine.parked) (agrees_in.parked ∙ ap (λ (z : Machine). z.parked) (sym d.finds)) (subst (KeepsOrder u e told s.ledger.parked) d.follows.agrees.parked (by d.orders.1))
+      where
+        by : ordering.Queue k s.ledger Brings w → KeepsOrder u e told s.ledger.parked w.ledger.parked
+        by (inl part) = inl part
+        by (inr (stay, p, part, new, is, brings, noted)) = inr (stay, p, part, new, is, brings, note_so told w c d coord_note.Parked (λ n. (cc)) noted)
+
     -- the world after the work
     abbrev after_world : Machine → Work → World
     after_world m w = record u { machine = m; pool = u.pool ++ map Told w.sends }
@@ -303,24 +459,43 @@ module _ (sha : List ℕ → Digest) (k : Limits) (farm : IsFarm sha k) where
           };
           means = record {
             sent = map Told w.sends;
+            count = refl;
+            first = first_told (map Told w.sends);
             pool = refl;
             down = inl refl;
             carried = subst (λ z. Carried z u e told (map Told w.sends) m) farm.empty (carried told w c d);
+            above = λ g i. elim ((works_above k.empty u.pool u.machine m w.sends d.follows.works).1 g i) [
+              | inl old ↦ inl (subst (λ (z : Machine). In (Granted g) z.made) (sym d.finds) old)
+              | inr new ↦ inr (subst (λ (z : Machine). z.last < g.ticket.0) (sym d.finds) new.0, new.1)
+            ];
+            tickets = d.rises (Finds u e).last m.last (length (map Told w.sends)) (rises_so told w c d);
+            recalled = λ n l t i. recalling.recalled_so k k.empty u.pool m w d.follows.agrees d.recalls n l t (recall_in n l t w.sends i);
+            denied = λ n l a y i. d.denies m d.follows.agrees n l a y (denied_in n l a y w.sends i);
             node = λ n is. absurd (d.node n is);
             others = λ j. inl refl;
             used = record { began = λ n g ws i. inl i; stopped = λ n g ws i. inl i };
             did = d.did v;
+            lowest = lowest_in told w c d;
+            oldest = λ g i. elim (made_now told w c d g i) [
+              | inl old ↦ inl old
+              | inr new ↦ inr (subst (λ (z : Machine). PassesOverNone k (DropsAt u.pool e) z m g) (sym d.finds)
+                  (ordering.oldest_so k u.pool u.machine s.ledger (DropsAt u.pool e) agrees_in made_in m w (made_sound told w c d) d.follows.agrees d.follows.granted d.orders.0 g new.0 new.1))
+            ];
+            queue = queue_so told w c d;
+            replies = replies_so told w c d;
           };
           fair = fair;
+          fits = λ f. record { now = λ g i. made_fit told w c d f.now g i; kept = λ x e. f.kept x e };
         }
 
-    fails_next : (saved : Saved) (w : Work) (m : Machine) → Steps (sha []) u.pool u.machine m → Agrees (sha []) u.pool m w.ledger → saved ≡ saves w.ledger → Survives sha u e m → s.down ≡ false → Because k u s e (refusal.Coord coord.SaveFault) → Next u s e (record { farm = record s { saved = saved; down = true; armed = None }; outcome = Err (refusal.Coord coord.SaveFault) })
-    fails_next saved w m steps agrees same survives up why = record {
+    fails_next : (saved : Saved) (w : Work) (m : Machine) → (AllFit k u.machine → AllFit k m) → Steps (sha []) u.pool u.machine m → Agrees (sha []) u.pool m w.ledger → saved ≡ saves w.ledger → Survives sha u e m → s.down ≡ false → Because k u s e (refusal.Coord coord.SaveFault) → Next u s e (record { farm = record s { saved = saved; down = true; armed = None }; outcome = Err (refusal.Coord coord.SaveFault) })
+    fails_next saved w m fit steps agrees same survives up why = record {
       world = record u { down = Some m };
       moves = Then u u (record u { down = Some m }) (Still u) (Fails m (up_is up) steps);
       shows = record { now = shows.now; saved = (refl, (w.ledger, agrees, same)); pool = shows.pool; nodes = shows.nodes };
       means = record { down = inr (refl, (m, refl, survives)); machine = refl; pool = refl; nodes = λ n. inl refl };
       fair = why;
+      fits = λ f. record { now = f.now; kept = λ x e. subst (AllFit k) (some_is m x e) (fit f.now) };
     }
 
     pub up_saved : s.down ≡ false → s.saved ≡ saves s.ledger
@@ -331,7 +506,7 @@ module _ (sha : List ℕ → Digest) (k : Limits) (farm : IsFarm sha k) where
         by (Some m) h = true_false s.down h.0 up
 
     -- what is accepted, nothing speaks against
-    taken : ForCoord u s e → s.down ≡ false → (w : Work) → decision_at k s e ≡ Some (Ok w) → ((r : CoordRefusal) → CallBecause k u.machine e r → ⊥) → ((s.armed ≡ None) ⊎ (w.changed ≡ false)) → (r : EventRefusal) → Because k u s e r → ⊥
+    taken : ForCoord u s e → s.down ≡ false → (w : Work) → decision_at k s e ≡ Some (Ok w) → ((r : CoordRefusal) → CallBecause k u.machine e r → ⊥) → ((s.armed ≡ None) ⊎ (saves w.ledger ≡ saves s.ledger)) → (r : EventRefusal) → Because k u s e r → ⊥
     taken for up w decided exact saved refusal.NoSuchMessage (number, is, none) = for.heard number is none
     taken for up w decided exact saved refusal.NoSuchNode (n, inl at, none) = for.node n at
     taken for up w decided exact saved refusal.NoSuchNode (n, inr is, none) = for.retires n is none
@@ -344,9 +519,9 @@ module _ (sha : List ℕ → Digest) (k : Limits) (farm : IsFarm sha k) where
         ok_is : (a b : Work) → decided_ok a ≡ decided_ok b → a ≡ b
         ok_is a b e = cc
 
-        saved_so : (s.armed ≡ None) ⊎ (w.changed ≡ false) → CoordBecause k u s e coord.SaveFault → ⊥
+        saved_so : (s.armed ≡ None) ⊎ (saves w.ledger ≡ saves s.ledger) → CoordBecause k u s e coord.SaveFault → ⊥
         saved_so (inl off) (down, armed, needs) = armed off
-        saved_so (inr same) (down, armed, needs) = true_false needs.0.changed needs.2 (ap (λ (z : Work). z.changed) (ok_is needs.0 w (sym needs.1 ∙ decided)) ∙ same)
+        saved_so (inr same) (down, armed, needs) = needs.2 (ap (λ (z : Work). saves z.ledger) (ok_is needs.0 w (sym needs.1 ∙ decided)) ∙ same)
 
         by : (r : CoordRefusal) → CoordBecause k u s e r → ⊥
         by coord.Down why = why (up_is up)
@@ -363,19 +538,19 @@ module _ (sha : List ℕ → Digest) (k : Limits) (farm : IsFarm sha k) where
         by coord.NodeRetired why = exact coord.NodeRetired why.1
     taken for up w decided exact saved refusal.OutOfMemory why = why
 
-    settled_next : (changed : Bool) (armed : Option Kept) (w : Work) (c : saying.Change s.ledger) → w.changed ≡ changed → s.armed ≡ armed → ForCoord u s e → decision_at k s e ≡ Some (Ok w) → ((r : CoordRefusal) → CallBecause k u.machine e r → ⊥) → Done (event_note.Coord w.note) w c → s.down ≡ false → Next u s e (settled changed armed w s)
-    settled_next false armed w c same at for decided exact d up = after_next s.saved (event_note.Coord w.note) w c (up_saved up ∙ sym (d.saves_all same)) d up (taken for up w decided exact (inr same))
-    settled_next true None w c same at for decided exact d up = after_next (saves w.ledger) (event_note.Coord w.note) w c refl d up (taken for up w decided exact (inl at))
-    settled_next true (Some Old) w c same at for decided exact d up = fails_next s.saved (begin_work s.ledger) u.machine (No_step u.machine) shows.now (up_saved up) (inl refl) up
-        (for.reaches, (up_is up, (λ none. none_some Old (sym none ∙ at)), (w, decided, same)))
-    settled_next true (Some New) w c same at for decided exact d up =
-        fails_next (saves w.ledger) w d.follows.machine (works_steps (sha []) u.pool u.machine d.follows.machine w.sends (subst (λ z. Works z u.pool u.machine d.follows.machine w.sends) farm.empty d.follows.works))
+    settled_next : (changed : Bool) (armed : Option Kept) (w : Work) (c : saying.Change s.ledger) → w.changed ≡ changed → s.armed ≡ armed → ForCoord u s e → decision_at k s e ≡ Some (Ok w) → ((r : CoordRefusal) → CallBecause k u.machine e r → ⊥) → Done (event_note.Coord w.note) w c → (w.changed ≡ true → saves w.ledger ≢ saves s.ledger) → s.down ≡ false → Next u s e (settled changed armed w s)
+    settled_next false armed w c same at for decided exact d new up = after_next s.saved (event_note.Coord w.note) w c (up_saved up ∙ sym (d.saves_all same)) d up (taken for up w decided exact (inr (d.saves_all same)))
+    settled_next true None w c same at for decided exact d new up = after_next (saves w.ledger) (event_note.Coord w.note) w c refl d up (taken for up w decided exact (inl at))
+    settled_next true (Some Old) w c same at for decided exact d new up = fails_next s.saved (begin_work s.ledger) u.machine (λ f. f) (No_step u.machine) shows.now (up_saved up) (inl refl) up
+        (for.reaches, (up_is up, (λ none. none_some Old (sym none ∙ at)), (w, decided, new same)))
+    settled_next true (Some New) w c same at for decided exact d new up =
+        fails_next (saves w.ledger) w d.follows.machine (made_fit (event_note.Coord w.note) w c d) (works_steps (sha []) u.pool u.machine d.follows.machine w.sends (subst (λ z. Works z u.pool u.machine d.follows.machine w.sends) farm.empty d.follows.works))
         (subst (λ z. Agrees z u.pool d.follows.machine w.ledger) farm.empty d.follows.agrees) refl
-        (inr (w.note, map Told w.sends, subst (λ z. Carried z u e (event_note.Coord w.note) (map Told w.sends) d.follows.machine) farm.empty (carried (event_note.Coord w.note) w c d))) up
-        (for.reaches, (up_is up, (λ none. none_some New (sym none ∙ at)), (w, decided, same)))
+        (inr (w.note, map Told w.sends, subst (λ z. Carried z u e (event_note.Coord w.note) (map Told w.sends) d.follows.machine) farm.empty (carried (event_note.Coord w.note) w c d), lowest_in (event_note.Coord w.note) w c d)) up
+        (for.reaches, (up_is up, (λ none. none_some New (sym none ∙ at)), (w, decided, new same)))
 
     abbrev OnWork : (CoordNote → saying.Change s.ledger) → Result Work CoordRefusal → Type 0
-    OnWork c (Ok w) = Done (event_note.Coord w.note) w (c w.note) × ((r : CoordRefusal) → CallBecause k u.machine e r → ⊥)
+    OnWork c (Ok w) = Done (event_note.Coord w.note) w (c w.note) × ((r : CoordRefusal) → CallBecause k u.machine e r → ⊥) × (w.changed ≡ true → saves w.ledger ≢ saves s.ledger)
     OnWork c (Err r) = CallBecause k u.machine e r
 
     -- no call is refused for being down, or for its save
@@ -398,7 +573,7 @@ module _ (sha : List ℕ → Digest) (k : Limits) (farm : IsFarm sha k) where
 
     settles_next : (c : CoordNote → saying.Change s.ledger) (r : Result Work CoordRefusal) → ForCoord u s e → decision_at k s e ≡ Some r → Unsaved → OnWork c r → s.down ≡ false → Next u s e (settles r s)
     settles_next c (Err r) for decided q h up = refused_so (refusal.Coord r) (for.reaches, refusal_is r q up h)
-    settles_next c (Ok w) for decided q h up = settled_next w.changed s.armed w (c w.note) refl refl for decided h.1 h.0 up
+    settles_next c (Ok w) for decided q h up = settled_next w.changed s.armed w (c w.note) refl refl for decided h.1 h.0 h.2 up
 
     coordinated_next : (c : CoordNote → saying.Change s.ledger) (d : Bool) (r : Result Work CoordRefusal) → s.down ≡ d → ForCoord u s e → decision_at k s e ≡ Some r → Unsaved → OnWork c r → Next u s e (coordinated d r s)
     coordinated_next c true r up for decided unsaved h = refused_so (refusal.Coord coord.Down) (for.reaches, down_is up)
@@ -444,7 +619,7 @@ module _ (sha : List ℕ → Digest) (k : Limits) (farm : IsFarm sha k) where
     -- what is meant by a node's answer
     record Acted (n : NodeId) (w : NodeWork) : Type 0 where
       pub reached : Reached sha u n w.sends w.node
-      pub means : NodeMeans sha (heard_at u e) e n (u.nodes n.0) w.note w.sends w.node
+      pub means : NodeMeans sha k s.size (heard_at u e) e n (u.nodes n.0) w.note w.sends w.node
       pub used : Used u e reached.world
       pub did : Did u e (event_note.Node w.note) reached.world
 
@@ -477,15 +652,25 @@ module _ (sha : List ℕ → Digest) (k : Limits) (farm : IsFarm sha k) where
       shows = reached_shows n w a.reached;
       means = record {
         sent = w.sends;
+        count = refl;
+        first = first_told w.sends;
         pool = a.reached.pool;
         down = inl a.reached.down;
+        above = λ g i. inl (subst (λ (z : Machine). In (Granted g) z.made) (sym p.finds) (subst (λ (z : Machine). In (Granted g) z.made) a.reached.machine i));
+        lowest = λ g i. inl (subst (λ (z : Machine). In (Granted g) z.made) (sym p.finds) (subst (λ (z : Machine). In (Granted g) z.made) a.reached.machine i));
+        oldest = λ g i. inl (subst (λ (z : Machine). In (Granted g) z.made) (sym p.finds) (subst (λ (z : Machine). In (Granted g) z.made) a.reached.machine i));
+        queue = inl (subst (IsPartOf (Finds u e).parked) (ap (λ (z : Machine). z.parked) p.finds ∙ ap (λ (z : Machine). z.parked) (sym a.reached.machine)) (part_refl (Finds u e).parked));
+        replies = λ y i. absurd (a.reached.tells y i);
+        tickets = subst (λ z. TicketsRise e (Finds u e).last (length w.sends) z) (ap (λ (z : Machine). z.last) p.finds ∙ ap (λ (z : Machine). z.last) (sym a.reached.machine)) (p.rises (Finds u e).last (length w.sends));
+        recalled = λ j l t i. absurd (a.reached.tells (message.Recall j l t) i);
+        denied = λ j l b y i. absurd (a.reached.tells (message.Denied j l b y) i);
         carried = subst (λ z. Carried (sha []) u e (event_note.Node w.note) w.sends z) (sym a.reached.machine) (idle n heard p w.note w.sends a.reached.tells);
         node = λ said is. (
           a.reached.machine,
           (
             n,
             p.at,
-            subst (λ z. NodeMeans sha (heard_at u e) e n (u.nodes n.0) said w.sends z) (sym (here_after n w.sends w.node a.reached)) (subst (λ z. NodeMeans sha (heard_at u e) e n (u.nodes n.0) z w.sends w.node) (note_is w.note said is) a.means),
+            subst (λ z. NodeMeans sha k s.size (heard_at u e) e n (u.nodes n.0) said w.sends z) (sym (here_after n w.sends w.node a.reached)) (subst (λ z. NodeMeans sha k s.size (heard_at u e) e n (u.nodes n.0) z w.sends w.node) (note_is w.note said is) a.means),
           ),
         );
         others = λ j. elim (cases_eq j.0 n.0) [ inl same ↦ inr (p.at ∙ ap Some (sym (node_is j n same))) | inr ne ↦ inl (elsewhere_after n w.sends w.node a.reached j ne) ];
@@ -493,6 +678,7 @@ module _ (sha : List ℕ → Digest) (k : Limits) (farm : IsFarm sha k) where
         did = a.did;
       };
       fair = fair;
+      fits = λ f. record { now = λ g i. f.now g (subst (λ (z : Machine). In (Granted g) z.made) a.reached.machine i); kept = λ x e. f.kept x (sym a.reached.down ∙ e) };
     }
       where
         note_is : (a b : NodeNote) → event_note.Node a ≡ event_note.Node b → a ≡ b
@@ -501,7 +687,7 @@ module _ (sha : List ℕ → Digest) (k : Limits) (farm : IsFarm sha k) where
     -- what a node accepts, nothing speaks against
     node_taken : (n : NodeId) (heard : Option Message) (p : Plain sha u s e n heard) → is_node s n ≡ true → ((r : NodeRefusal) → NodeBecause k e (u.nodes n.0) r → ⊥) → (r : EventRefusal) → Because k u s e r → ⊥
     node_taken n heard p here exact refusal.NoSuchMessage (number, is, none) = none_some n (ap addressee (sym none) ∙ subst (λ z. node_at u z ≡ Some n) is p.at)
-    node_taken n heard p here exact refusal.NoSuchNode (m, inl at, none) = true_false (is_node s n) here (ap (is_node s) (some_is n m (sym p.at ∙ at)) ∙ none)
+    node_taken n heard p here exact refusal.NoSuchNode (m, inl at, none) = none (subst (IsThere s) (some_is n m (sym p.at ∙ at)) (there_is s n here))
     node_taken n heard p here exact refusal.NoSuchNode (m, inr is, none) = none_some n (subst (λ z. node_at u z ≡ Some n) is p.at)
     node_taken n heard p here exact (refusal.Node r) (m, at, there, why) = exact r (subst (λ (z : NodeId). NodeBecause k e (u.nodes z.0) r) (some_is m n (sym at ∙ p.at)) why)
     node_taken n heard p here exact (refusal.Coord r) (reaches, why) = p.apart reaches
@@ -512,12 +698,12 @@ module _ (sha : List ℕ → Digest) (k : Limits) (farm : IsFarm sha k) where
     OnAct n (Err r) = NodeBecause k e (u.nodes n.0) r
 
     answered_next : (n : NodeId) (heard : Option Message) (p : Plain sha u s e n heard) (a : NodeAnswer) → is_node s n ≡ true → OnAct n a → Next u s e (answered n a s)
-    answered_next n heard p (Err r) here h = refused_so (refusal.Node r) (n, p.at, here, h)
+    answered_next n heard p (Err r) here h = refused_so (refusal.Node r) (n, p.at, there_is s n here, h)
     answered_next n heard p (Ok w) here h = acted_next n heard p w h.0 (node_taken n heard p here h.1)
 
     at_node_next : (b : Bool) (n : NodeId) (heard : Option Message) (p : Plain sha u s e n heard) (a : NodeAnswer) → is_node s n ≡ b → OnAct n a → Next u s e (at_node b n a s)
     at_node_next true n heard p a here h = answered_next n heard p a here h
-    at_node_next false n heard p a here h = refused_so refusal.NoSuchNode (n, inl p.at, here)
+    at_node_next false n heard p a here h = refused_so refusal.NoSuchNode (n, inl p.at, not_there s n here)
 
     -- what a node does at the world's node, it does at the farm's
     node_next : (n : NodeId) (heard : Option Message) (p : Plain sha u s e n heard) (f : Place → Node → NodeAnswer) → OnAct n (f (record { node = n; nodes = s.size }) (u.nodes n.0)) → Next u s e (node_does n f s)
@@ -533,7 +719,7 @@ module _ (sha : List ℕ → Digest) (k : Limits) (farm : IsFarm sha k) where
     act_of : (P : NodeWork → Type 0) (n : NodeId) (heard : Option Message) (p : Plain sha u s e n heard) (a : NodeAnswer) → OnAnswer sha u n a → OnNode (u.nodes n.0) (one_here n) P a → Exact n heard a
         → ((w : NodeWork) (r : Reached sha u n w.sends w.node) → P w → Used u e r.world × Did u e (event_note.Node w.note) r.world) → OnAct n a
     act_of P n heard p (Ok w) r q x h = (
-      record { reached = r; means = subst (λ z. NodeMeans sha z e n (u.nodes n.0) w.note w.sends w.node) (sym p.heard) x.0; used = (h w r q).0; did = (h w r q).1 },
+      record { reached = r; means = subst (λ z. NodeMeans sha k s.size z e n (u.nodes n.0) w.note w.sends w.node) (sym p.heard) x.0; used = (h w r q).0; did = (h w r q).1 },
       x.1,
     )
     act_of P n heard p (Err y) r q x h = x
@@ -542,18 +728,28 @@ module _ (sha : List ℕ → Digest) (k : Limits) (farm : IsFarm sha k) where
     Still' n w = Quiet (u.nodes n.0).asks w.node.asks
 
     -- an answer of a node that begins and ends no execution
-    quiet_act : (n : NodeId) (heard : Option Message) (p : Plain sha u s e n heard) (a : NodeAnswer) → ((x : NodeNote) (v : World) → Did u e (event_note.Node x) v) → OnAnswer sha u n a → OnNode (u.nodes n.0) (one_here n) (Still' n) a → Exact n heard a → OnAct n a
-    quiet_act n heard p a did r q x = act_of (Still' n) n heard p a r q x (λ w reached turned. (used_after n w.sends w.node reached NoGrant NoGrant turned (λ g h. absurd h) (λ g h. absurd h), did w.note reached.world))
+    quiet_act : (n : NodeId) (heard : Option Message) (p : Plain sha u s e n heard) (a : NodeAnswer) → noting.OnNote (λ c. (v : World) → Did u e (event_note.Node c) v) a → OnAnswer sha u n a → OnNode (u.nodes n.0) (one_here n) (Still' n) a → Exact n heard a → OnAct n a
+    quiet_act n heard p (Ok w) did r q x = act_of (λ v. Still' n v × ((z : World) → Did u e (event_note.Node v.note) z)) n heard p (Ok w) r (q, did) x (λ v reached both. (used_after n v.sends v.node reached NoGrant NoGrant both.0 (λ g h. absurd h) (λ g h. absurd h), both.1 reached.world))
+    quiet_act n heard p (Err y) did r q x = x
+
+    -- what holds of each note, or follows of it
+    any_note : ((c : NodeNote) (v : World) → Did u e (event_note.Node c) v) → (a : NodeAnswer) → noting.OnNote (λ c. (v : World) → Did u e (event_note.Node c) v) a
+    any_note h (Ok w) = h w.note
+    any_note h (Err y) = tt
+
+    note_map : (P : NodeNote → Type 0) → ((c : NodeNote) → P c → (v : World) → Did u e (event_note.Node c) v) → (a : NodeAnswer) → noting.OnNote P a → noting.OnNote (λ c. (v : World) → Did u e (event_note.Node c) v) a
+    note_map P f (Ok w) h = f w.note h
+    note_map P f (Err y) h = tt
 
     all_ok : (r : Result Work CoordRefusal) → others.OnOk k farm.instances u.pool u.machine sound_in (sent_in sha u inv) (λ w. ⊤) r
     all_ok (Ok w) = tt
     all_ok (Err x) = tt
 
     others_ok : (ends : Grant → Ending → Type 0) (so : Work → Type 0) (change : CoordNote → saying.Change s.ledger) (r : Result Work CoordRefusal) → others.OnWork k farm.instances u.pool u.machine sound_in (sent_in sha u inv) ends r
-        → others.OnOk k farm.instances u.pool u.machine sound_in (sent_in sha u inv) so r → ((w : Work) → At ends w.note w → so w → Grew k s.ledger (change w.note) w → (w.changed ≡ false → saves w.ledger ≡ saves s.ledger) → Done (event_note.Coord w.note) w (change w.note))
-        → saying.GrewOk k s.ledger change r → SavesOk k s.ledger r → deciding.Exact k u.pool u.machine sound_in s.ledger agrees_in e r → OnWork change r
-    others_ok ends so change (Ok w) f h d g c x = (d w f h g c, x)
-    others_ok ends so change (Err r) f h d g c x = x
+        → others.OnOk k farm.instances u.pool u.machine sound_in (sent_in sha u inv) so r → ((w : Work) → At ends w.note w → so w → Grew k s.ledger (change w.note) w → (w.changed ≡ false → saves w.ledger ≡ saves s.ledger) → Denies w × recalling.Properly w × FitsSends w × Orders w → Done (event_note.Coord w.note) w (change w.note))
+        → saying.GrewOk k s.ledger change r → SavesOk k s.ledger r → DeniesOk r → changing.DiffersOk k s.ledger apart_in r → deciding.Exact k u.pool u.machine sound_in s.ledger agrees_in e r → OnWork change r
+    others_ok ends so change (Ok w) f h d g c b v x = (d w f h g c b, x, λ t. changing.differs_is s.ledger w.ledger apart_in (v t))
+    others_ok ends so change (Err r) f h d g c b v x = x
 
     other_ends : (ends ends' : Grant → Ending → Type 0) (w : Work) → ((g : Grant) (y : Ending) → ends g y → ends' g y) → ((g : Grant) (y : Ending) → ends' g y → ends g y) → At ends w.note w → At ends' w.note w
     other_ends ends ends' w to from f = record { machine = f.machine; works = f.works; granted = f.granted; ended = (ended_as u.machine ends ends' f.machine.ending to from f.ended.0, f.ended.1); agrees = f.agrees }
@@ -570,11 +766,22 @@ module _ (sha : List ℕ → Digest) (k : Limits) (farm : IsFarm sha k) where
   lt_is a b h = grind (arith, nat_tests)
 
   -- what the answer to a message says of the machine
-  note_means : (u : World) (run : Moves sha (start sha) u) (s : Farm) (shows : Shows sha u s) (number : ℕ) (y : ToCoord) (w : Work) (m : Machine) → Sound k.empty m → Agrees k.empty u.pool m w.ledger → (c : CoordNote) → saying.NoteSays k y s.ledger w c → MessageMeans k.empty y u.machine c m (map Told w.sends)
-  note_means u run s shows number y w m sound agrees = by
+  note_means : (u : World) (run : Moves sha (start sha) u) (s : Farm) (shows : Shows sha u s) (number : ℕ) (y : ToCoord) → In (Said y) u.pool → (w : Work) (m : Machine) → Sound k.empty m → Agrees k.empty u.pool m w.ledger → (c : CoordNote) → saying.NoteSays k y s.ledger w c → MessageMeans k.empty y u.machine c m (map Told w.sends)
+  note_means u run s shows number y came w m sound agrees = by
     where
       e : Event
       e = Deliver number
+
+      -- an ask for a tenure wants its folder alone
+      sent_tenure : (a : Ask) (wants : List Want) → y.request ≡ request.Acquire a wants true → (f : FolderName) × (wants ≡ tenure_wants f)
+      sent_tenure a wants asks = (sent_in sha u (inv u run s shows e)).tenures y.node y.life a wants true (subst (λ (z : Request). In (Said (record { node = y.node; life = y.life; request = z })) u.pool) asks came) refl
+
+      another_not : (o : Option NodeId) → ((h : NodeId) → o ≡ Some h → h.0 ≡ y.node.0) → another o y.node ≡ false
+      another_not None here = refl
+      another_not (Some h) here = (let t : eqb h.0 y.node.0 ≡ true = subst (λ z. eqb h.0 z ≡ true) (here h refl) (eqb_same h.0) in rw t refl)
+
+      not_elsewhere : ((h : NodeId) → m.old_home ≡ Some h → h.0 ≡ y.node.0) → another w.ledger.old_home y.node ≡ false
+      not_elsewhere here = another_not w.ledger.old_home (λ h at. here h (sym agrees.old_home ∙ at))
 
       live : (h : Lease) → In h w.ledger.live → Live m (grant_of k.empty w.ledger.line h)
       live h i = live_grant u run s shows e w m sound agrees h i
@@ -586,26 +793,64 @@ module _ (sha : List ℕ → Digest) (k : Limits) (farm : IsFarm sha k) where
         (a.2.0, a.2.1, a.2.2 ∙ ap (λ (z : Grant). request.Acquire z.ask a.2.0 a.2.1) (sym is)),
       )
 
+      -- the lease of the tenure that is asked for is the one that is found
+      recalls_so : saying.Recalled k y s.ledger w → Recalls y u.machine m (map Told w.sends)
+      recalls_so r a wants asks new here g x live i shared has =
+          let q : Ledger = s.ledger in
+          let now = agrees_in u run s shows e in
+          let p : Parked = record { node = y.node; life = y.life; ask = a; wants = wants; tenure = true } in
+          let fresh : is_parked q.parked y.node y.life a ≡ false = elim (cases_Bool (is_parked q.parked y.node y.life a)) [
+            | inr f ↦ f
+            | inl t ↦ (let z = from_any (λ (x : Parked). (eqb x.node.0 y.node.0) && (eqb x.life.0 y.life.0) && (eqb x.ask.0 a.0)) q.parked t in
+                let names = wanting.names_are z.0.node y.node z.0.life y.life z.0.ask a z.2 in
+                absurd (new z.0 (subst (In z.0) now.parked z.1) names))
+          ] in
+          let f : FolderName = (sent_tenure a wants asks).0 in
+          let only : x.folder ≡ record f { mode = Shared } = ap (λ (z : Want). z.folder) (in_one x (record { folder = record f { mode = Shared }; writable = true }) (subst (In x) (sent_tenure a wants asks).1 i)) in
+          let holds : holds_wanted p (lease_from g) ≡ true = any_in (λ (v : Want). has_slot (lease_from g).slots (only_slot v.folder)) x (leased_wants true wants) (wanting.leased_in true x wants i (ap (takes_slot true) shared)) (lease_has g (only_slot x.folder) has) in
+          let found = find_in (holds_wanted p) w.ledger.live (lease_from g) (agrees.live_kept g live) holds in
+          let fs = find_some (holds_wanted p) w.ledger.live found.0 found.1 in
+          let h = agrees.live_made found.0 fs.0 in
+          let want = from_any (λ (v : Want). has_slot found.0.slots (only_slot v.folder)) (leased_wants true wants) fs.1 in
+          let want-in = wanting.leased_from true want.0 wants want.1 in
+          let only' : want.0.folder ≡ record f { mode = Shared } = ap (λ (z : Want). z.folder) (in_one want.0 (record { folder = record f { mode = Shared }; writable = true }) (subst (In want.0) (sent_tenure a wants asks).1 want-in.0)) in
+          let has' : Has h.0 (only_slot x.folder) = subst (λ z. Has h.0 (only_slot z)) (only' ∙ sym only) (has_lease h.0 (only_slot want.0.folder) (subst (λ (z : Lease). has_slot z.slots (only_slot want.0.folder) ≡ true) (sym h.2) want.2)) in
+          let same : h.0 ≡ g = live_apart k.empty m sound h.0 g (only_slot x.folder) h.1 live has' has in
+          let sent = r a wants asks fresh (not_elsewhere here) found.0 found.1 in
+          in_map Told (message.Recall g.node g.life g.ticket) w.sends (subst (λ (z : Lease). In (message.Recall z.node z.life z.ticket) w.sends) (sym h.2 ∙ ap lease_from same) sent)
+
+      -- the lease of a live grant is found by its ticket, and is the grant's
+      not_held : (t : Ticket) → (lease_under w.ledger.live t ≡ None) ⊎ ((h : Lease) × In h w.ledger.live × (h.ticket.0 ≡ t.0) × (is_its y.node y.life h ≡ false)) → (g : Grant) → Live m g → g.ticket ≡ t → g.node ≡ y.node → g.life ≡ y.life → ⊥
+      not_held t (inl none) g live at n l = true_false (has_ticket t (lease_from g)) (subst (λ (z : Ticket). eqb g.ticket.0 z.0 ≡ true) at (eqb_same g.ticket.0)) (find_none (has_ticket t) w.ledger.live none (lease_from g) (agrees.live_kept g live))
+      not_held t (inr (h, i, has, other)) g live at n l =
+          (let x = agrees.live_made h i in
+          let same : x.0 ≡ g = same_grant k.empty m sound x.0 g x.1.0 live.0 (ap (λ (z : Lease). z.ticket.0) x.2 ∙ has ∙ sym (ap (λ (z : Ticket). z.0) at)) in
+          let is : lease_from g ≡ h = ap lease_from (sym same) ∙ x.2 in
+          let p : eqb g.node.0 y.node.0 ≡ true = subst (λ (z : NodeId). eqb g.node.0 z.0 ≡ true) n (eqb_same g.node.0) in
+          let q : eqb g.life.0 y.life.0 ≡ true = subst (λ (z : Life). eqb g.life.0 z.0 ≡ true) l (eqb_same g.life.0) in
+          true_false (is_its y.node y.life (lease_from g)) (rw (p, q) refl) (ap (is_its y.node y.life) is ∙ other))
+
       here : (f : ℕ → Bool) → f ≡ u.machine.gone → (b : Bool) → f y.node.0 ≡ b → u.machine.gone y.node.0 ≡ b
       here f is b e = sym (ap (λ (z : ℕ → Bool). z y.node.0) is) ∙ e
 
       by : (c : CoordNote) → saying.NoteSays k y s.ledger w c → MessageMeans k.empty y u.machine c m (map Told w.sends)
       by (coord_note.Granted g) ((h, i, is, a, sent), above) = (asks g h is a, subst (Live m) (sym is) (live h i), not_made u run s shows e g above, in_map Told (message.Granted g) w.sends sent)
       by (coord_note.GrantedBefore g) (h, i, is, a, sent) = (asks g h is a, subst (Live m) (sym is) (live h i), in_map Told (message.Granted g) w.sends sent)
-      by coord_note.Parked (p, i, a) = (p, subst (In p) agrees.parked i, a.0, a.1, a.2)
-      by (coord_note.Committed t) (news, is, (vs, sent)) = (news, is, (vs, in_map Told (message.Committed y.node y.life t vs) w.sends sent))
-      by (coord_note.CommittedBefore t) (news, is, on, (vs, sent)) = (
+      by coord_note.Parked (p, i, a, r) = (p, subst (In p) agrees.parked i, a.0, a.1, a.2, recalls_so r)
+      by (coord_note.Committed t) (news, is, (vs, sent, slots)) = (news, is, (vs, in_map Told (message.Committed y.node y.life t vs) w.sends sent, slots))
+      by (coord_note.CommittedBefore t) (news, is, on, (vs, sent, slots)) = (
         news,
         is,
         (on.0, λ x i. (let r = on.1 x i in (r.0, subst (In r.0) (agrees.lines x.slot) r.1, r.2))),
-        (vs, in_map Told (message.Committed y.node y.life t vs) w.sends sent),
+        (vs, in_map Told (message.Committed y.node y.life t vs) w.sends sent, slots),
       )
       by (coord_note.Fenced t) (news, is, sent) = (news, is, in_map Told (message.Fenced y.node y.life t) w.sends sent)
       by (coord_note.Released t) is = is
       by (coord_note.Denied why) (a, wants, tenure, is, sent) = (a, wants, tenure, is, in_map Told (message.Denied y.node y.life a why) w.sends sent)
       by coord_note.OldLife (gone, lt, none) = (here s.ledger.gone (agrees_in u run s shows e).gone false gone, subst (λ (f : ℕ → ℕ). y.life.0 < f y.node.0) (agrees_in u run s shows e).lives lt, ap (map Told) none)
       by coord_note.NodeRetired (gone, none) = (here s.ledger.gone (agrees_in u run s shows e).gone true gone, ap (map Told) none)
-      by coord_note.Nothing is = is
+      by coord_note.Nothing (inl is) = inl is
+      by coord_note.Nothing (inr (t, is, unheld)) = inr (t, is, λ g live at n l. not_held t unheld g live at n l)
       by (coord_note.Withdrawn t) is = is
       by (coord_note.Pruned t) is = is
       by (coord_note.Retired n) is = is
@@ -615,6 +860,12 @@ module _ (sha : List ℕ → Digest) (k : Limits) (farm : IsFarm sha k) where
   pub handled_grew : (u : World) (run : Moves sha (start sha) u) (s : Farm) (shows : Shows sha u s) (y : ToCoord) → Grew k s.ledger (saying.Changes k y s.ledger (handled k y (begin_work s.ledger)).note) (handled k y (begin_work s.ledger))
   handled_grew u run s shows y =
       (saying.handled_says k y s.ledger (others.retried-newer k farm.instances u.pool u.machine (sound_in u run s shows Nudge) (sent_in sha u (inv u run s shows Nudge)) y.node y.life (begin_work s.ledger))).grew
+
+  -- a newer life that is heard is kept
+  heard_is : (y : ToCoord) (lives : ℕ → ℕ) (c : CoordNote) → (c ≡ coord_note.OldLife → ⊥) → (c ≡ coord_note.NodeRetired → ⊥) → heard_lives y c lives ≡ put y.node.0 y.life.0 lives
+  heard_is y lives coord_note.OldLife old gone = absurd (old refl)
+  heard_is y lives coord_note.NodeRetired old gone = absurd (gone refl)
+  heard_is y lives c old gone = refl
 
   said_next : (u : World) (run : Moves sha (start sha) u) (s : Farm) (shows : Shows sha u s) (number : ℕ) (y : ToCoord) → nth s.pool number ≡ Some (Said y) → Next u s (Deliver number) (coordinated s.down (Ok (handled k y (begin_work s.ledger))) s)
   said_next u run s shows number y e =
@@ -645,14 +896,45 @@ module _ (sha : List ℕ → Digest) (k : Limits) (farm : IsFarm sha k) where
           gone = λ n. inl refl;
           drops = λ p left. (y, here, left.0, left.1);
           again = λ g h. h;
-          coord = λ m sound agrees x at. (w.note, refl, subst (λ (z : ToCoord). MessageMeans k.empty z u.machine w.note m (map Told w.sends)) (said_is y x (sym here ∙ at)) (note_means u run s shows number y w m sound agrees w.note says.says));
-          did = λ v. tt;
+          coord = λ m sound agrees x at. (w.note, refl, subst (λ (z : ToCoord). MessageMeans k.empty z u.machine w.note m (map Told w.sends)) (said_is y x (sym here ∙ at)) (note_means u run s shows number y (nth_in u.pool number (Said y) here) w m sound agrees w.note says.says));
+          did = λ v. subst (λ o. Hears o (event_note.Coord w.note)) (sym here) tt;
           node = λ n is. (let bad : event_note.Coord w.note ≡ event_note.Node n = is in cc);
           saves_all = handled_saves k s.ledger y (apart_in u run s shows d);
+          recalls = recalling.handled_properly k s.ledger y;
+          fits = λ all g i. (fitting.handled_w k y (begin_work s.ledger) (begin_fits u run s shows d all)).sends (message.Granted g) i;
+          orders = (
+            ordering.handled_orderly k s.ledger (DropsAt u.pool d) (apart_in u run s shows d).top y
+                (λ p t. (let b = and_parts (eqb p.node.0 y.node.0) (nat_lt p.life.0 y.life.0) t in (y, here, node_is p.node y.node (eqb-true p.node.0 y.node.0 b.0), lt_is p.life.0 y.life.0 b.1)))
+                (λ t. denials.newer_none k u.pool s.ledger (agrees_in u run s shows d).waits (asked_in u run s shows d) (known_in u run s shows d) (agrees_in u run s shows d).seen y (lt_is (s.ledger.lives y.node.0) y.life.0 t)),
+            ordering.handled_queue k s.ledger (Brings u run s shows d) (known_in u run s shows d) y (λ a ws t r. here ∙ (λ i. Some (Said (record { node = y.node; life = y.life; request = r i })))),
+            replying.handled_replying k s.ledger (Due u run s shows d) (IsCommit u d) (due_in u run s shows d) y
+                (λ a ws t r. inr (ws, t, here ∙ (λ i. Some (Said (record { node = y.node; life = y.life; request = r i })))))
+                (λ t news r. (news, here ∙ (λ i. Some (Said (record { node = y.node; life = y.life; request = r i }))))),
+          );
+          noted = λ c p. inl (ap event_note.Coord p);
+          rises = λ a b n le. (let le' : b ≤ a + 0 + n = le in omega arith);
+          denies = fine_denies u run s shows d w (denials.handled_fine k u.pool s.ledger (agrees_in u run s shows d).waits (asked_in u run s shows d) (known_in u run s shows d) (agrees_in u run s shows d).seen y (nth_in u.pool number (Said y) here));
         },
         λ r h. none r h,
+        λ t. changing.differs_is s.ledger w.ledger (apart_in u run s shows d) (elim (cases_Bool (nat_lt (s.ledger.lives y.node.0) y.life.0)) [
+          | inr seen ↦ changing.handled_differs k s.ledger (apart_in u run s shows d) y seen t
+          | inl newer ↦ elim (cases_Bool (s.ledger.gone y.node.0)) [
+            | inl gone ↦ true_false w.changed t (changing.gone_same k s.ledger (apart_in u run s shows d) y gone)
+            | inr here' ↦ changing.By_life y.node.0 (let lt : s.ledger.lives y.node.0 < y.life.0 = lt_is (s.ledger.lives y.node.0) y.life.0 newer in
+                let kept : w.ledger.lives y.node.0 ≡ y.life.0 = says.grew.lives y.node.0
+                ∙ ap (λ (f : ℕ → ℕ). f y.node.0) (heard_is y s.ledger.lives w.note (λ is. not_old lt (subst (saying.NoteSays k y s.ledger w) is says.says)) (λ is. not_gone here' (subst (saying.NoteSays k y s.ledger w) is says.says)))
+                ∙ put_same y.node.0 y.life.0 s.ledger.lives in
+                omega arith)
+          ]
+        ]),
       )
     where
+      not_old : s.ledger.lives y.node.0 < y.life.0 → saying.NoteSays k y s.ledger (handled k y (begin_work s.ledger)) coord_note.OldLife → ⊥
+      not_old lt says = (let gt : y.life.0 < s.ledger.lives y.node.0 = says.1 in omega arith)
+
+      not_gone : s.ledger.gone y.node.0 ≡ false → saying.NoteSays k y s.ledger (handled k y (begin_work s.ledger)) coord_note.NodeRetired → ⊥
+      not_gone here says = true_false (s.ledger.gone y.node.0) says.0 here
+
       deliver_is : (a b : ℕ) → Deliver a ≡ Deliver b → a ≡ b
       deliver_is a b e = cc
 
@@ -663,6 +945,7 @@ module _ (sha : List ℕ → Digest) (k : Limits) (farm : IsFarm sha k) where
   node_plain : (u : World) (s : Farm) (number : ℕ) (n : NodeId) (m : Message) → nth u.pool number ≡ Some m → addressee (Some m) ≡ Some n → Plain sha u s (Deliver number) n (Some m)
   node_plain u s number n m here to = record {
     finds = refl;
+    rises = λ a n. omega arith;
     ends = λ said g y h. (let bad : event_note.Node said ≡ event_note.Coord h.0 = h.2 in cc);
     adds = λ said x. no_adds (nth u.pool number) said x;
     lives = λ said f j. no_lives (nth u.pool number) said f j;
@@ -684,7 +967,7 @@ module _ (sha : List ℕ → Digest) (k : Limits) (farm : IsFarm sha k) where
       let d : Event = Deliver number in
       let p = node_plain u s number n (Told y) (ap (λ (p : List Message). nth p number) shows.pool ∙ e) refl in
       node_next u run s shows d n (Some (Told y)) p (λ p x. unless_spent x (heard k p y x))
-      (quiet_act u run s shows d n (Some (Told y)) p _ (λ x v. tt) (spent_does sha u n (heard k (record { node = n; nodes = s.size }) y (u.nodes n.0)) (heard_does sha u k s.size y i))
+      (quiet_act u run s shows d n (Some (Told y)) p _ (any_note u run s shows d (λ x v. subst (λ o. Hears o (event_note.Node x)) (sym p.heard) (x, refl)) _) (spent_does sha u n (heard k (record { node = n; nodes = s.size }) y (u.nodes n.0)) (heard_does sha u k s.size y i))
       (heard_use (u.nodes n.0) (one_here u run s shows d n) k (record { node = n; nodes = s.size }) y)
       (noting.heard_exact sha k n s.size (u.nodes n.0) (one_here u run s shows d n) y number refl))
   delivered_next u run s shows (Some (to.ToNode (to_node.Fetch y))) number e =
@@ -692,14 +975,14 @@ module _ (sha : List ℕ → Digest) (k : Limits) (farm : IsFarm sha k) where
       let d : Event = Deliver number in
       let p = node_plain u s number n (Fetches y) (ap (λ (p : List Message). nth p number) shows.pool ∙ e) refl in
       node_next u run s shows d n (Some (Fetches y)) p (λ p x. unless_spent x (fetched y.from x (x.store y.digest)))
-      (quiet_act u run s shows d n (Some (Fetches y)) p _ (λ x v. tt) (spent_does sha u n _ (fetched_does sha u n y.from ((u.nodes n.0).store y.digest)))
+      (quiet_act u run s shows d n (Some (Fetches y)) p _ (any_note u run s shows d (λ x v. subst (λ o. Hears o (event_note.Node x)) (sym p.heard) (x, refl)) _) (spent_does sha u n _ (fetched_does sha u n y.from ((u.nodes n.0).store y.digest)))
       (fetched_use (u.nodes n.0) (one_here u run s shows d n) y.from ((u.nodes n.0).store y.digest))
-      (noting.fetched_exact sha k n s.size (u.nodes n.0) (one_here u run s shows d n) (Some (Fetches y)) y.from y.digest number))
+      (noting.fetched_exact sha k n s.size (u.nodes n.0) (one_here u run s shows d n) y number))
   delivered_next u run s shows (Some (to.ToNode (to_node.Blob n c))) number e =
       let d : Event = Deliver number in
       let p = node_plain u s number n (Blob n c) (ap (λ (p : List Message). nth p number) shows.pool ∙ e) refl in
       node_next u run s shows d n (Some (Blob n c)) p (λ p x. unless_spent x (brought sha c x))
-      (quiet_act u run s shows d n (Some (Blob n c)) p _ (λ x v. tt) (spent_does sha u n _ (brought_does sha u n c)) (brought_use (u.nodes n.0) (one_here u run s shows d n) sha c)
+      (quiet_act u run s shows d n (Some (Blob n c)) p _ (any_note u run s shows d (λ x v. subst (λ o. Hears o (event_note.Node x)) (sym p.heard) (x, refl)) _) (spent_does sha u n _ (brought_does sha u n c)) (brought_use (u.nodes n.0) (one_here u run s shows d n) sha c)
       (noting.brought_exact sha k n s.size (u.nodes n.0) (one_here u run s shows d n) number c))
 
   -- ---- a restart of the coordinator
@@ -731,12 +1014,13 @@ module _ (sha : List ℕ → Digest) (k : Limits) (farm : IsFarm sha k) where
       let f = others.reread_follows k farm.instances u.pool u.machine (sound_in u run s shows RestartCoordinator) (sent_in sha u (inv u run s shows RestartCoordinator)) s.ledger (agrees_in u run s shows RestartCoordinator) in
       let w : Ledger → Work = λ q. record (begin_work s.ledger) { ledger = q; changed = true } in
       let f' = subst (λ r. Follows k.empty u.pool u.machine (Meant u.machine RestartEnds coord_note.Nothing) (w (reads r))) (sym same) f in
-      let next = after_next u run s shows RestartCoordinator s.saved event_note.Restarted (w (reads s.saved)) (record { line = s.ledger.line; lives = s.ledger.lives; gone = s.ledger.gone; drops = λ p. ⊤ }) (reread_saved s.ledger s.saved same)
+      let next = after_next u run s shows RestartCoordinator s.saved event_note.Restarted (w (reads s.saved)) (record { tickets = 64; line = s.ledger.line; lives = s.ledger.lives; gone = s.ledger.gone; drops = λ p. ⊤ }) (reread_saved s.ledger s.saved same)
       (record {
         finds = ap (recorded u.machine) (up_is u run s shows RestartCoordinator e);
         follows = f';
         tells = λ c p. (let bad : event_note.Restarted ≡ event_note.Coord c = p in cc);
         grew = record {
+          count = (let ceiling : s.saved.ceiling ≡ s.ledger.ceiling = ap (λ (r : Saved). r.ceiling) same in let block : s.ledger.ceiling ≤ s.ledger.last + 64 = shows.now.block in omega arith);
           lines = λ x. ap (λ (r : Saved). r.line x) same;
           lives = λ n. ap (λ (r : Saved). r.lives n) same;
           gone = λ n. ap (λ (r : Saved). r.gone n) same;
@@ -752,6 +1036,12 @@ module _ (sha : List ℕ → Digest) (k : Limits) (farm : IsFarm sha k) where
         did = λ v. tt;
         node = λ n is. (let bad : event_note.Restarted ≡ event_note.Node n = is in cc);
         saves_all = λ c. (let bad : true ≡ false = c in cc);
+        denies = λ m agrees n l a y i. absurd i;
+        recalls = λ n l t i. absurd i;
+        fits = λ all g i. absurd i;
+        orders = (record { sends = λ g i. absurd i; new = λ h i. inl ((apart_in u run s shows RestartCoordinator).top h (from_filter is_saved h s.ledger.live (subst (λ (r : Saved). In h r.live) same i)).0) }, inl (part_none s.ledger.parked), λ m i. absurd i);
+        noted = λ c p. inr (sym p);
+        rises = λ a b n le. (let le' : b ≤ a + 64 + n = le in omega arith);
       }) e (always u s) in
       record {
         world = next.world;
@@ -764,7 +1054,24 @@ module _ (sha : List ℕ → Digest) (k : Limits) (farm : IsFarm sha k) where
         };
         means = next.means;
         fair = next.fair;
+        fits = next.fits;
       }
+
+  -- what a restart finds where a save had failed
+  replies_found : (u : World) (m : Machine) → u.down ≡ Some m → (told : EventNote) (y : FromCoord) → Replies (record u { machine = m; down = None }) RestartCoordinator told y → Replies u RestartCoordinator told y
+  replies_found u m h told = by
+    where
+      due : (n : NodeId) (l : Life) (a : Ask) → IsDue (record u { machine = m; down = None }) RestartCoordinator n l a → IsDue u RestartCoordinator n l a
+      due n l a (inl (p, i, is, life, ask)) = inl (p, subst (λ (z : Machine). In p z.parked) (sym (ap (recorded u.machine) h)) i, is, life, ask)
+      due n l a (inr came) = inr came
+
+      by : (y : FromCoord) → Replies (record u { machine = m; down = None }) RestartCoordinator told y → Replies u RestartCoordinator told y
+      by (message.Granted g) (inl d) = inl (due g.node g.life g.ask d)
+      by (message.Granted g) (inr is) = inr is
+      by (message.Committed n l t versions) r = r
+      by (message.Fenced n l t) r = r
+      by (message.Denied n l a why) d = due n l a d
+      by (message.Recall n l t) r = r
 
   -- the record is what the coordinator is then
   restart_next : (u : World) (run : Moves sha (start sha) u) (s : Farm) (shows : Shows sha u s) → Next u s RestartCoordinator (done event_note.Restarted [] s (record s { ledger = reads s.saved; down = false }))
@@ -783,8 +1090,18 @@ module _ (sha : List ℕ → Digest) (k : Limits) (farm : IsFarm sha k) where
             shows = after.shows;
             means = record {
               sent = after.means.sent;
+              count = after.means.count;
+              first = after.means.first;
               pool = after.means.pool;
               down = inr (refl, elim after.means.down [ inl same ↦ same | inr none ↦ none.1 ]);
+              above = λ g i. subst (λ (z : Machine). In (Granted g) z.made ⊎ ((z.last < g.ticket.0) × (g.ticket.0 ≤ after.world.machine.last))) (sym (ap (recorded u.machine) h)) (after.means.above g i);
+              lowest = λ g i. subst (λ (z : Machine). In (Granted g) z.made ⊎ HasLowest after.world.machine g) (sym (ap (recorded u.machine) h)) (after.means.lowest g i);
+              oldest = λ g i. subst (λ (z : Machine). In (Granted g) z.made ⊎ PassesOverNone k (DropsAt u.pool RestartCoordinator) z after.world.machine g) (sym (ap (recorded u.machine) h)) (after.means.oldest g i);
+              queue = subst (λ (z : Machine). KeepsOrder u RestartCoordinator event_note.Restarted z.parked after.world.machine.parked) (sym (ap (recorded u.machine) h)) after.means.queue;
+              replies = λ y i. replies_found u m h event_note.Restarted y (after.means.replies y i);
+              tickets = subst (λ (z : Machine). TicketsRise RestartCoordinator z.last (length after.means.sent) after.world.machine.last) (sym (ap (recorded u.machine) h)) after.means.tickets;
+              recalled = after.means.recalled;
+              denied = after.means.denied;
               carried = (let c = after.means.carried in let at = sym (ap (recorded u.machine) h) in record {
                 ended = subst (λ z. Ended z RestartEnds after.world.machine.ending) at c.ended;
                 granted = λ g i. subst (λ z. In (Granted g) z.made ⊎ In (Told (message.Granted g)) after.means.sent) at (c.granted g i);
@@ -802,6 +1119,7 @@ module _ (sha : List ℕ → Digest) (k : Limits) (farm : IsFarm sha k) where
               did = tt;
             };
             fair = always u s;
+            fits = λ f. after.fits (record { now = f.kept m h; kept = λ x e. none_some x e });
           }
 
   -- ---- a restart of a node
@@ -814,7 +1132,7 @@ module _ (sha : List ℕ → Digest) (k : Limits) (farm : IsFarm sha k) where
   lt_not a b h = grind (arith, nat_tests)
 
   restart_plain : (u : World) (s : Farm) (n : NodeId) → Plain sha u s (RestartNode n) n None
-  restart_plain u s n = record { finds = refl; ends = λ said g y h. h; adds = λ said x. refl; lives = λ said f j. refl; coord = λ said m sends. tt; at = refl; heard = refl; apart = λ r. r }
+  restart_plain u s n = record { finds = refl; rises = λ a n. omega arith; ends = λ said g y h. h; adds = λ said x. refl; lives = λ said f j. refl; coord = λ said m sends. tt; at = refl; heard = refl; apart = λ r. r }
 
   restarts_next : (u : World) (run : Moves sha (start sha) u) (s : Farm) (shows : Shows sha u s) (n : NodeId) → is_node s n ≡ true → Next u s (RestartNode n) (restarts k n s)
   restarts_next u run s shows n here = elim (cases_Bool (may_restart k (s.nodes n.0))) [
@@ -823,9 +1141,9 @@ module _ (sha : List ℕ → Digest) (k : Limits) (farm : IsFarm sha k) where
         let p = restart_plain u s n in
         acted_next u run s shows (RestartNode n) n None p w (record {
           reached = r;
-          means = subst (λ x. NodeMeans sha None (RestartNode n) n (u.nodes n.0) (restarted (record { node = n; nodes = s.size }) x).note (restarted (record { node = n; nodes = s.size }) x).sends (restarted (record { node = n; nodes = s.size }) x).node) (shows.nodes n.0) (refl, refl, refl);
+          means = subst (λ x. NodeMeans sha k s.size None (RestartNode n) n (u.nodes n.0) (restarted (record { node = n; nodes = s.size }) x).note (restarted (record { node = n; nodes = s.size }) x).sends (restarted (record { node = n; nodes = s.size }) x).node) (shows.nodes n.0) (refl, refl, refl, refl);
           used = used_after u run s shows (RestartNode n) n w.sends w.node r NoGrant (λ g. ⊤) (record { began = λ g ws i. absurd (no_run g ws i); stopped = λ g ws i. inr tt }) (λ g h. absurd h) (λ g h. refl);
-          did = λ g ws i. no_run g ws (subst (λ (z : Node). Runs z.asks g ws) (here_after u run s shows (RestartNode n) n w.sends w.node r) i);
+          did = ((record { 0 = (s.nodes n.0).life.0 + 1 }, refl), λ g ws i. no_run g ws (subst (λ (z : Node). Runs z.asks g ws) (here_after u run s shows (RestartNode n) n w.sends w.node r) i));
         }) (node_taken u run s shows (RestartNode n) n None p here (λ y h. not_last (u.nodes n.0) (ap (may_restart k) (shows.nodes n.0) ∙ t) y h)))
     | inr t ↦ rw t (let x : Node = record (s.nodes n.0) { spent = true } in
         let r : Reached sha u n [] x = subst (λ x. Reached sha u n [] (record x { spent = true })) (shows.nodes n.0) (stops_does sha u n) in
@@ -849,7 +1167,8 @@ module _ (sha : List ℕ → Digest) (k : Limits) (farm : IsFarm sha k) where
               | inr ne ↦ inl (elsewhere_after u run s shows (RestartNode n) n [] x r (record { 0 = j }) ne)
             ];
           };
-          fair = (n, refl, here, last (u.nodes n.0) (ap (may_restart k) (shows.nodes n.0) ∙ t));
+          fits = λ f. record { now = λ g i. f.now g (subst (λ (z : Machine). In (Granted g) z.made) r.machine i); kept = λ y e. f.kept y (sym r.down ∙ e) };
+          fair = (n, refl, there_is s n here, last (u.nodes n.0) (ap (may_restart k) (shows.nodes n.0) ∙ t));
         })
   ]
     where
@@ -868,6 +1187,16 @@ module _ (sha : List ℕ → Digest) (k : Limits) (farm : IsFarm sha k) where
       subst (λ z. In (message.Granted z) (nudged k (begin_work s.ledger)).sends) (grant-lease k.empty u.machine s.ledger g (sound_in u run s shows Nudge) (core_of k.empty u.pool u.machine s.ledger agrees) live)
       (saying.nudged_sends k s.ledger (lease_from g) (agrees.live_kept g live))
 
+  and_both : (a b : Bool) → a ≡ true → b ≡ true → (a && b) ≡ true
+  and_both a b p q = rw (p, q) refl
+
+  awaited_is : (u : World) (run : Moves sha (start sha) u) (s : Farm) (shows : Shows sha u s) (g : Grant) → g.tenure ≡ true → IsAwaited u.machine g → is_awaited s.ledger.parked (lease_from g) ≡ true
+  awaited_is u run s shows g tenure (p, x, i, asks, j, shared, has) =
+      let holds : holds_wanted p (lease_from g) ≡ true = any_in (λ (v : Want). has_slot (lease_from g).slots (only_slot v.folder)) x (leased_wants p.tenure p.wants)
+      (subst (λ b. In x (leased_wants b p.wants)) (sym asks) (wanting.leased_in true x p.wants j (ap (takes_slot true) shared))) (lease_has g (only_slot x.folder) has) in
+      let some : list_any (λ (r : Parked). r.tenure && holds_wanted r (lease_from g)) s.ledger.parked ≡ true = any_in (λ (r : Parked). r.tenure && holds_wanted r (lease_from g)) p s.ledger.parked (subst (In p) (sym (agrees_in u run s shows Nudge).parked) i) (and_both p.tenure (holds_wanted p (lease_from g)) asks holds) in
+      and_both g.tenure (list_any (λ (r : Parked). r.tenure && holds_wanted r (lease_from g)) s.ledger.parked) tenure some
+
   retires_only : (s : Farm) (n : NodeId) (j : ℕ) → (put n.0 true s.ledger.gone j ≡ s.ledger.gone j) ⊎ (Retire n ≡ Retire (record { 0 = j }))
   retires_only s n j = elim (cases_eq j n.0) [ inl e ↦ inr (ap Retire (node_is n (record { 0 = j }) (sym e))) | inr ne ↦ inl (put_other n.0 true s.ledger.gone j ne) ]
 
@@ -884,20 +1213,20 @@ module _ (sha : List ℕ → Digest) (k : Limits) (farm : IsFarm sha k) where
   step_next u run s shows (replay.Ask n wants) =
       let e : Event = replay.Ask n wants in
       let one = one_here u run s shows e n in
-      let p : Plain sha u s e n None = record { finds = refl; ends = λ said g y h. h; adds = λ said x. refl; lives = λ said f j. refl; coord = λ said m sends. tt; at = refl; heard = refl; apart = λ r. r } in
+      let p : Plain sha u s e n None = record { finds = refl; rises = λ a n. omega arith; ends = λ said g y h. h; adds = λ said x. refl; lives = λ said f j. refl; coord = λ said m sends. tt; at = refl; heard = refl; apart = λ r. r } in
       node_next u run s shows e n None p (λ p x. asked k p wants x)
-      (quiet_act u run s shows e n None p _ (λ x v. tt) (asked_does sha u n k s.size wants) (asked_use (u.nodes n.0) one k (record { node = n; nodes = s.size }) wants) (noting.asked_exact sha k n s.size (u.nodes n.0) one wants))
+      (quiet_act u run s shows e n None p _ (note_map u run s shows e _ (λ c h v. (h.0, ap event_note.Node h.1)) _ (noting.asked_noted sha k n s.size (u.nodes n.0) one wants)) (asked_does sha u n k s.size wants) (asked_use (u.nodes n.0) one k (record { node = n; nodes = s.size }) wants) (noting.asked_exact sha k n s.size (u.nodes n.0) one wants))
   step_next u run s shows (Tenure n f) =
       let e : Event = Tenure n f in
       let one = one_here u run s shows e n in
-      let p : Plain sha u s e n None = record { finds = refl; ends = λ said g y h. h; adds = λ said x. refl; lives = λ said f j. refl; coord = λ said m sends. tt; at = refl; heard = refl; apart = λ r. r } in
+      let p : Plain sha u s e n None = record { finds = refl; rises = λ a n. omega arith; ends = λ said g y h. h; adds = λ said x. refl; lives = λ said f j. refl; coord = λ said m sends. tt; at = refl; heard = refl; apart = λ r. r } in
       node_next u run s shows e n None p (λ p x. asked_tenure k p f x)
-      (quiet_act u run s shows e n None p _ (λ x v. tt) (tenure_does sha u n k s.size f) (tenure_use (u.nodes n.0) one k (record { node = n; nodes = s.size }) f) (noting.tenure_exact sha k n s.size (u.nodes n.0) one f))
+      (quiet_act u run s shows e n None p _ (note_map u run s shows e _ (λ c h v. (h.0, ap event_note.Node h.1)) _ (noting.tenure_noted sha k n s.size (u.nodes n.0) one f)) (tenure_does sha u n k s.size f) (tenure_use (u.nodes n.0) one k (record { node = n; nodes = s.size }) f) (noting.tenure_exact sha k n s.size (u.nodes n.0) one f))
   step_next u run s shows (Deliver number) = delivered_next u run s shows (nth s.pool number) number refl
   step_next u run s shows (Begin n t) =
       let e : Event = Begin n t in
       let one = one_here u run s shows e n in
-      let p : Plain sha u s e n None = record { finds = refl; ends = λ said g y h. h; adds = λ said x. refl; lives = λ said f j. refl; coord = λ said m sends. tt; at = refl; heard = refl; apart = λ r. r } in
+      let p : Plain sha u s e n None = record { finds = refl; rises = λ a n. omega arith; ends = λ said g y h. h; adds = λ said x. refl; lives = λ said f j. refl; coord = λ said m sends. tt; at = refl; heard = refl; apart = λ r. r } in
       node_next u run s shows e n None p (λ p x. begun t x) (act_of u run s shows e (Begun (u.nodes n.0) one t) n None p (begun t (u.nodes n.0)) (begun_does sha u n t) (begun_use (u.nodes n.0) one t) (noting.begun_exact sha k n s.size (u.nodes n.0) one t) (λ w r b. (
         used_after u run s shows e n w.sends w.node r (λ g. g.ticket ≡ t) NoGrant b.1 (λ g h. (refl, h)) (λ g h. absurd h),
         (ap event_note.Node b.0, (b.2.0, b.2.1, b.2.2, b.2.3, subst (λ (z : Node). Runs z.asks b.2.0 b.2.1) (sym (here_after u run s shows e n w.sends w.node r)) b.2.4)),
@@ -905,7 +1234,7 @@ module _ (sha : List ℕ → Digest) (k : Limits) (farm : IsFarm sha k) where
   step_next u run s shows (Finish n t lefts) =
       let e : Event = Finish n t lefts in
       let one = one_here u run s shows e n in
-      let p : Plain sha u s e n None = record { finds = refl; ends = λ said g y h. h; adds = λ said x. refl; lives = λ said f j. refl; coord = λ said m sends. tt; at = refl; heard = refl; apart = λ r. r } in
+      let p : Plain sha u s e n None = record { finds = refl; rises = λ a n. omega arith; ends = λ said g y h. h; adds = λ said x. refl; lives = λ said f j. refl; coord = λ said m sends. tt; at = refl; heard = refl; apart = λ r. r } in
       node_next u run s shows e n None p (λ p x. finished_with sha p t lefts x) (act_of u run s shows e (Stops (u.nodes n.0) one t) n None p (finished_with sha (record { node = n; nodes = s.size }) t lefts (u.nodes n.0)) (finished_does sha u n s.size t lefts) (finished_use (u.nodes n.0) one sha (record { node = n; nodes = s.size }) t lefts) (noting.finished_exact sha k n s.size (u.nodes n.0) one t lefts) (λ w r b. (
         used_after u run s shows e n w.sends w.node r NoGrant (λ g. g.ticket ≡ t) b.1.0 (λ g h. absurd h) (λ g h. (refl, h)),
         (ap event_note.Node b.0, (b.1.1.0, b.1.1.1, b.1.1.2, b.1.1.3, λ i. b.1.1.4 (subst (λ (z : Node). Runs z.asks b.1.1.0 b.1.1.1) (here_after u run s shows e n w.sends w.node r) i))),
@@ -913,7 +1242,7 @@ module _ (sha : List ℕ → Digest) (k : Limits) (farm : IsFarm sha k) where
   step_next u run s shows (Abort n t) =
       let e : Event = Abort n t in
       let one = one_here u run s shows e n in
-      let p : Plain sha u s e n None = record { finds = refl; ends = λ said g y h. h; adds = λ said x. refl; lives = λ said f j. refl; coord = λ said m sends. tt; at = refl; heard = refl; apart = λ r. r } in
+      let p : Plain sha u s e n None = record { finds = refl; rises = λ a n. omega arith; ends = λ said g y h. h; adds = λ said x. refl; lives = λ said f j. refl; coord = λ said m sends. tt; at = refl; heard = refl; apart = λ r. r } in
       node_next u run s shows e n None p (λ p x. aborted p t x) (act_of u run s shows e (Aborts (u.nodes n.0) one t) n None p (aborted (record { node = n; nodes = s.size }) t (u.nodes n.0)) (aborted_does sha u n s.size t) (aborted_use (u.nodes n.0) one (record { node = n; nodes = s.size }) t) (noting.aborted_exact sha k n s.size (u.nodes n.0) one t) (λ w r b. (
         used_after u run s shows e n w.sends w.node r NoGrant (λ g. g.ticket ≡ t) b.1 (λ g h. absurd h) (λ g h. (refl, h)),
         (ap event_note.Node b.0, λ g ws h i. b.2 g ws h (subst (λ (z : Node). Runs z.asks g ws) (here_after u run s shows e n w.sends w.node r) i)),
@@ -921,9 +1250,9 @@ module _ (sha : List ℕ → Digest) (k : Limits) (farm : IsFarm sha k) where
   step_next u run s shows (Resend n) =
       let e : Event = Resend n in
       let one = one_here u run s shows e n in
-      let p : Plain sha u s e n None = record { finds = refl; ends = λ said g y h. h; adds = λ said x. refl; lives = λ said f j. refl; coord = λ said m sends. tt; at = refl; heard = refl; apart = λ r. r } in
+      let p : Plain sha u s e n None = record { finds = refl; rises = λ a n. omega arith; ends = λ said g y h. h; adds = λ said x. refl; lives = λ said f j. refl; coord = λ said m sends. tt; at = refl; heard = refl; apart = λ r. r } in
       node_next u run s shows e n None p (λ p x. resent k p x)
-      (quiet_act u run s shows e n None p _ (λ x v. tt) (resent_does sha u n k s.size) (resent_use (u.nodes n.0) one k (record { node = n; nodes = s.size })) (noting.resent_exact sha k n s.size (u.nodes n.0) one))
+      (quiet_act u run s shows e n None p _ (note_map u run s shows e _ (λ c h v. ap event_note.Node h) _ (noting.resent_noted sha k n s.size (u.nodes n.0) one)) (resent_does sha u n k s.size) (resent_use (u.nodes n.0) one k (record { node = n; nodes = s.size })) (noting.resent_exact sha k n s.size (u.nodes n.0) one))
   step_next u run s shows Nudge = coordinated_next u run s shows Nudge (λ c. saying.same s.ledger) s.down (Ok (nudged k (begin_work s.ledger))) refl
       (record { heard = λ m is. (let bad : Nudge ≡ Deliver m = is in absurd (cc)); node = λ n at. none_some n at; retires = λ n is. (let bad : Nudge ≡ Retire n = is in absurd (cc)); reaches = tt }) refl ((λ h. h), (λ h. h)) (
         record {
@@ -936,12 +1265,23 @@ module _ (sha : List ℕ → Digest) (k : Limits) (farm : IsFarm sha k) where
           gone = λ n. inl refl;
           drops = λ p left. left;
           again = λ g h. h;
-          coord = λ m sound agrees. (refl, λ g live. in_map Told (message.Granted g) (nudged k (begin_work s.ledger)).sends (nudged_live u run s shows g live));
+          coord = λ m sound agrees. (
+            refl,
+            (λ g live. in_map Told (message.Granted g) (nudged k (begin_work s.ledger)).sends (nudged_live u run s shows g live)),
+            λ g live tenure awaited. in_map Told (message.Recall g.node g.life g.ticket) (nudged k (begin_work s.ledger)).sends (saying.nudged_recalls k s.ledger (lease_from g) ((agrees_in u run s shows Nudge).live_kept g live) (awaited_is u run s shows g tenure awaited)),
+          );
           did = λ v. tt;
           node = λ n is. (let bad : event_note.Coord coord_note.Nudged ≡ event_note.Node n = is in cc);
           saves_all = nudged_saves k s.ledger;
+          recalls = recalling.nudged_properly k s.ledger;
+          fits = λ all g i. (fitting.nudged_w k (begin_work s.ledger) (begin_fits u run s shows Nudge all)).sends (message.Granted g) i;
+          orders = (ordering.nudged_orderly k s.ledger (DropsAt u.pool Nudge) (apart_in u run s shows Nudge).top, ordering.nudged_queue k s.ledger (Brings u run s shows Nudge), replying.nudged_replying k s.ledger (Due u run s shows Nudge) (IsCommit u Nudge) (due_in u run s shows Nudge));
+          noted = λ c p. inl (ap event_note.Coord p);
+          rises = λ a b n le. (let le' : b ≤ a + 0 + n = le in omega arith);
+          denies = fine_denies u run s shows Nudge (nudged k (begin_work s.ledger)) (denials.nudged_fine k u.pool s.ledger (agrees_in u run s shows Nudge).waits (asked_in u run s shows Nudge) (known_in u run s shows Nudge) (agrees_in u run s shows Nudge).seen);
         },
         λ r h. h,
+        λ t. changing.differs_is s.ledger (nudged k (begin_work s.ledger)).ledger (apart_in u run s shows Nudge) (changing.nudged_differs k s.ledger (apart_in u run s shows Nudge) t),
       )
   step_next u run s shows (Withdraw t) =
       let e : Event = Withdraw t in
@@ -951,8 +1291,14 @@ module _ (sha : List ℕ → Digest) (k : Limits) (farm : IsFarm sha k) where
       (record { heard = λ m is. (let bad : Withdraw t ≡ Deliver m = is in absurd (cc)); node = λ n at. none_some n at; retires = λ n is. (let bad : Withdraw t ≡ Retire n = is in absurd (cc)); reaches = tt }) refl ((λ h. h), (λ h. h))
       (others_ok u run s shows e (WithdrawEnds t) (λ w. w.note ≡ coord_note.Withdrawn t) (λ c. saying.same s.ledger) (withdrawn k t (begin_work s.ledger))
       (others.withdrawn_follows k farm.instances u.pool u.machine sound sent t s.ledger (agrees_in u run s shows e)) (others.withdrawn_told k farm.instances u.pool u.machine sound sent t (begin_work s.ledger))
-      (λ w f told g c. record {
+      (λ w f told g c b. record {
         saves_all = c;
+        denies = b.0;
+        recalls = b.1;
+        fits = b.2;
+        orders = b.3;
+        noted = λ c p. inl (ap event_note.Coord p);
+        rises = λ a b n le. (let le' : b ≤ a + 0 + n = le in omega arith);
         finds = refl;
         follows = f;
         tells = λ c p. sym (coord_is w.note c p);
@@ -966,7 +1312,7 @@ module _ (sha : List ℕ → Digest) (k : Limits) (farm : IsFarm sha k) where
         did = λ v. tt;
         node = λ n is. (let bad : event_note.Coord w.note ≡ event_note.Node n = is in cc);
       })
-      (saying.withdrawn_grew k s.ledger t) (withdrawn_saves k s.ledger t (apart_in u run s shows e)) (deciding.withdrawn_exact k u.pool u.machine sound s.ledger (agrees_in u run s shows e) t))
+      (saying.withdrawn_grew k s.ledger t) (withdrawn_saves k s.ledger t (apart_in u run s shows e)) (all_denies u run s shows e _ (denials.withdrawn_fine k u.pool s.ledger (agrees_in u run s shows e).waits (asked_in u run s shows e) (known_in u run s shows e) (agrees_in u run s shows e).seen t) (recalling.withdrawn_properly k s.ledger t) (λ all. fitting.withdrawn_w k t (begin_work s.ledger) (begin_fits u run s shows e all)) (ordering.withdrawn_orderly k s.ledger (DropsAt u.pool e) (apart_in u run s shows e).top t) (ordering.withdrawn_queue k s.ledger (Brings u run s shows e) t) (replying.withdrawn_replying k s.ledger (Due u run s shows e) (IsCommit u e) (due_in u run s shows e) t)) (changing.withdrawn_differs k s.ledger (apart_in u run s shows e) t) (deciding.withdrawn_exact k u.pool u.machine sound s.ledger (agrees_in u run s shows e) t))
   step_next u run s shows (Prune slot) =
       let e : Event = Prune slot in
       let sound = sound_in u run s shows e in
@@ -975,8 +1321,14 @@ module _ (sha : List ℕ → Digest) (k : Limits) (farm : IsFarm sha k) where
       (record { heard = λ m is. (let bad : Prune slot ≡ Deliver m = is in absurd (cc)); node = λ n at. none_some n at; retires = λ n is. (let bad : Prune slot ≡ Retire n = is in absurd (cc)); reaches = tt }) refl ((λ h. h), (λ h. h))
       (others_ok u run s shows e NoEnds (λ w. w.note ≡ coord_note.Pruned (record { 0 = s.ledger.last + 1 })) (saying.pruning k s.ledger slot) (pruned k slot (begin_work s.ledger))
       (others.pruned_follows k farm.instances u.pool u.machine sound sent slot s.ledger (agrees_in u run s shows e)) (others.pruned_told k farm.instances u.pool u.machine sound sent slot (begin_work s.ledger))
-      (λ w f told g c. record {
+      (λ w f told g c b. record {
         saves_all = c;
+        denies = b.0;
+        recalls = b.1;
+        fits = b.2;
+        orders = b.3;
+        noted = λ c p. inl (ap event_note.Coord p);
+        rises = λ a b n le. (let le' : b ≤ a + 1 + n = le in omega arith);
         finds = refl;
         follows = f;
         tells = λ c p. sym (coord_is w.note c p);
@@ -990,17 +1342,23 @@ module _ (sha : List ℕ → Digest) (k : Limits) (farm : IsFarm sha k) where
         did = λ v. tt;
         node = λ n is. (let bad : event_note.Coord w.note ≡ event_note.Node n = is in cc);
       })
-      (saying.pruned_grew k s.ledger slot) (pruned_saves k s.ledger slot) (deciding.pruned_exact k u.pool u.machine sound s.ledger (agrees_in u run s shows e) slot))
+      (saying.pruned_grew k s.ledger slot) (pruned_saves k s.ledger slot) (all_denies u run s shows e _ (denials.pruned_fine k u.pool s.ledger (agrees_in u run s shows e).waits (asked_in u run s shows e) (known_in u run s shows e) (agrees_in u run s shows e).seen slot) (recalling.pruned_properly k s.ledger slot) (λ all. fitting.pruned_w k slot (begin_work s.ledger) (begin_fits u run s shows e all)) (ordering.pruned_orderly k s.ledger (DropsAt u.pool e) (apart_in u run s shows e).top slot) (ordering.pruned_queue k s.ledger (Brings u run s shows e) slot) (replying.pruned_replying k s.ledger (Due u run s shows e) (IsCommit u e) (due_in u run s shows e) slot)) (changing.pruned_differs k s.ledger (apart_in u run s shows e) slot) (deciding.pruned_exact k u.pool u.machine sound s.ledger (agrees_in u run s shows e) slot))
   step_next u run s shows (Retire n) = elim (cases_Bool (is_node s n)) [
     | inl t ↦ rw t (let e : Event = Retire n in
         let sound = sound_in u run s shows e in
         let sent = sent_in sha u (inv u run s shows e) in
         coordinated_next u run s shows e (λ c. saying.retiring s.ledger n) s.down (retired k n (begin_work s.ledger)) refl
-        (record { heard = λ m is. (let bad : Retire n ≡ Deliver m = is in absurd (cc)); node = λ j at. none_some j at; retires = λ j is none. true_false (is_node s n) t (ap (is_node s) (retire_is n j is) ∙ none); reaches = t }) refl ((λ h. h), (λ h. h))
+        (record { heard = λ m is. (let bad : Retire n ≡ Deliver m = is in absurd (cc)); node = λ j at. none_some j at; retires = λ j is none. none (subst (IsThere s) (retire_is n j is) (there_is s n t)); reaches = there_is s n t }) refl ((λ h. h), (λ h. h))
         (others_ok u run s shows e (RetireEnds n) (λ w. (w.note ≡ coord_note.Retired n) × (w.ledger.gone n.0 ≡ true)) (λ c. saying.retiring s.ledger n) (retired k n (begin_work s.ledger))
         (others.retired_follows k farm.instances u.pool u.machine sound sent n s.ledger (agrees_in u run s shows e)) (others.retired_told k farm.instances u.pool u.machine sound sent n (begin_work s.ledger))
-        (λ w f told g c. record {
+        (λ w f told g c b. record {
           saves_all = c;
+          denies = b.0;
+          recalls = b.1;
+          fits = b.2;
+          orders = b.3;
+          noted = λ c p. inl (ap event_note.Coord p);
+          rises = λ a b n le. (let le' : b ≤ a + 0 + n = le in omega arith);
           finds = refl;
           follows = f;
           tells = λ c p. sym (coord_is w.note c p);
@@ -1014,20 +1372,20 @@ module _ (sha : List ℕ → Digest) (k : Limits) (farm : IsFarm sha k) where
           did = λ v. tt;
           node = λ j is. (let bad : event_note.Coord w.note ≡ event_note.Node j = is in cc);
         })
-        (saying.retired_grew k s.ledger n) (retired_saves k s.ledger n) (deciding.retired_exact k u.pool u.machine sound s.ledger (agrees_in u run s shows e) n)))
-    | inr t ↦ rw t (refused_so u run s shows (Retire n) refusal.NoSuchNode (n, inr refl, t))
+        (saying.retired_grew k s.ledger n) (retired_saves k s.ledger n) (all_denies u run s shows e _ (denials.retired_fine k u.pool s.ledger (agrees_in u run s shows e).waits (asked_in u run s shows e) (known_in u run s shows e) (agrees_in u run s shows e).seen n) (recalling.retired_properly k s.ledger n) (λ all. fitting.retired_w k n (begin_work s.ledger) (begin_fits u run s shows e all)) (ordering.retired_orderly k s.ledger (DropsAt u.pool e) (apart_in u run s shows e).top n (λ p t. node_is p.node n (eqb-true p.node.0 n.0 t))) (ordering.retired_queue k s.ledger (Brings u run s shows e) n) (replying.retired_replying k s.ledger (Due u run s shows e) (IsCommit u e) (due_in u run s shows e) n)) (changing.retired_differs k s.ledger (apart_in u run s shows e) n) (deciding.retired_exact k u.pool u.machine sound s.ledger (agrees_in u run s shows e) n)))
+    | inr t ↦ rw t (refused_so u run s shows (Retire n) refusal.NoSuchNode (n, inr refl, not_there s n t))
   ]
   step_next u run s shows (RestartNode n) = elim (cases_Bool (is_node s n)) [
     | inl t ↦ rw t (restarts_next u run s shows n t)
-    | inr t ↦ rw t (refused_so u run s shows (RestartNode n) refusal.NoSuchNode (n, inl refl, t))
+    | inr t ↦ rw t (refused_so u run s shows (RestartNode n) refusal.NoSuchNode (n, inl refl, not_there s n t))
   ]
   step_next u run s shows RestartCoordinator = restart_next u run s shows
   step_next u run s shows (Forge n c) =
       let e : Event = Forge n c in
       let one = one_here u run s shows e n in
-      let p : Plain sha u s e n None = record { finds = refl; ends = λ said g y h. h; adds = λ said x. refl; lives = λ said f j. refl; coord = λ said m sends. tt; at = refl; heard = refl; apart = λ r. r } in
+      let p : Plain sha u s e n None = record { finds = refl; rises = λ a n. omega arith; ends = λ said g y h. h; adds = λ said x. refl; lives = λ said f j. refl; coord = λ said m sends. tt; at = refl; heard = refl; apart = λ r. r } in
       node_next u run s shows e n None p (λ p x. unless_spent x (brought sha c x))
-      (quiet_act u run s shows e n None p _ (λ x v. tt) (spent_does sha u n _ (brought_does sha u n c)) (brought_use (u.nodes n.0) one sha c) (noting.forged_exact sha k n s.size (u.nodes n.0) one c))
+      (quiet_act u run s shows e n None p _ (any_note u run s shows e (λ x v. (x, refl)) _) (spent_does sha u n _ (brought_does sha u n c)) (brought_use (u.nodes n.0) one sha c) (noting.forged_exact sha k n s.size (u.nodes n.0) one c))
   step_next u run s shows (FailSave kept) = record {
     world = u;
     moves = Still u;
@@ -1036,6 +1394,14 @@ module _ (sha : List ℕ → Digest) (k : Limits) (farm : IsFarm sha k) where
       sent = [];
       pool = sym (append-nil u.pool);
       down = inl refl;
+      above = λ g i. inl i;
+      lowest = λ g i. inl i;
+      oldest = λ g i. inl i;
+      queue = inl (part_refl u.machine.parked);
+      replies = λ y i. absurd i;
+      tickets = omega arith;
+      recalled = λ n l t i. absurd i;
+      denied = λ n l a y i. absurd i;
       carried = record {
         ended = none_ended u.machine NoEnds (λ g y l h. h);
         granted = λ g i. inl i;
@@ -1050,23 +1416,27 @@ module _ (sha : List ℕ → Digest) (k : Limits) (farm : IsFarm sha k) where
       node = λ n is. (let bad : event_note.Armed ≡ event_note.Node n = is in cc);
       others = λ j. inl refl;
       used = record { began = λ n g ws i. inl i; stopped = λ n g ws i. inl i };
-      did = tt;
+      did = refl;
+      count = refl;
+      first = refl;
     };
     fair = armed_always u s kept;
+    fits = λ f. f;
   }
 
   -- a world that the events lead to
   pub record Leads (u : World) (s : Farm) : Type 0 where
     pub world : World
+    pub fits : WorldFits k u → WorldFits k world
     pub moves : Moves sha u world
     pub shows : Shows sha world s
 
   pub run_next : (events : List Event) (u : World) → Moves sha (start sha) u → (s : Farm) → Shows sha u s → Leads u (run sha k events s)
-  run_next [] u moves s shows = record { world = u; moves = Still u; shows = shows }
+  run_next [] u moves s shows = record { world = u; fits = λ f. f; moves = Still u; shows = shows }
   run_next (e ∷ es) u moves s shows =
       let one = step_next u moves s shows e in
       let rest = run_next es one.world (moves_trans sha (start sha) u one.world moves one.moves) (step sha k s e).farm one.shows in
-      record { world = rest.world; moves = moves_trans sha u one.world rest.world one.moves rest.moves; shows = rest.shows }
+      record { world = rest.world; fits = λ f. rest.fits (one.fits f); moves = moves_trans sha u one.world rest.world one.moves rest.moves; shows = rest.shows }
 
   pub opening_shows : (size : ℕ) → Shows sha (start sha) (opening sha size)
   opening_shows size = record {
@@ -1078,6 +1448,8 @@ module _ (sha : List ℕ → Digest) (k : Limits) (farm : IsFarm sha k) where
       lines = λ t. refl;
       last = refl;
       ceiling = omega arith;
+      block = omega arith;
+      seen = λ h i. absurd i;
       old_home = refl;
       gone = refl;
       lives = refl;
@@ -1092,6 +1464,9 @@ module _ (sha : List ℕ → Digest) (k : Limits) (farm : IsFarm sha k) where
 
   pub from_opening : (size : ℕ) (events : List Event) → Leads (start sha) (run sha k events (opening sha size))
   from_opening size events = run_next events (start sha) (Still (start sha)) (opening sha size) (opening_shows size)
+
+  pub start_fits : WorldFits k (start sha)
+  start_fits = record { now = λ g i. absurd i; kept = λ m e. none_some m e }
 
   pub safe_next : (s : Farm) → Leads (start sha) s → SafeAfter sha s
   safe_next s n = record { world = n.world; moves = n.moves; shows = n.shows; safe = every_run_is_safe sha n.world n.moves }
@@ -1132,6 +1507,7 @@ every_decision_follows sha k farm u moves q agrees =
     let sent = sent_in sha u i in
     record {
       message = λ y asked. others.handled_follows k farm.instances u.pool u.machine sound sent y q agrees asked;
+      own = owning.only_its_own k u.pool u.machine q sound agrees;
       commit_taken = deciding.commit_taken k u.pool u.machine sound q agrees;
       release_taken = deciding.release_taken k u.pool u.machine sound q agrees;
       withdraw_taken = others.withdraw_taken k farm.instances u.pool u.machine sound sent q agrees;

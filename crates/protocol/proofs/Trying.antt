@@ -12,6 +12,9 @@ use Rattle.protocol.proofs.Base.{true_false, in_append, in_one}
 use Rattle.protocol.proofs.Leases.{waits_give, parked_part}
 
 module _ (k : Limits) where
+  pub raised_block : (q : Ledger) → q.ceiling ≤ q.last + 64 → raised k q ≤ q.last + 1 + 64
+  raised_block q le = grind (arith, nat_tests)
+
   pub raised_covers : (q : Ledger) → q.last ≤ q.ceiling → nat_lt q.last k.greatest ≡ true → q.last + 1 ≤ raised k q
   raised_covers q le lt = grind (arith, nat_tests)
 

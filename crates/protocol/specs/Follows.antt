@@ -1,6 +1,6 @@
 -- The ledger agrees with a machine that forgets nothing, and a farm's state with a world
 -- (docs/PROOFS.md, "From the replay to the world").
-use Rattle.std.specs.Prelude.{◌≡◌, ◌≢◌, ℕ, ◌≤◌, nat_lt, if◌then◌else◌, true, false, List, [], ◌∷◌, ◌++◌, ◌⊎◌, map, Option, Some, None, ⊤, Result, Ok, Err}
+use Rattle.std.specs.Prelude.{◌≡◌, ◌≢◌, ℕ, ◌+◌, ◌<◌, ◌≤◌, nat_lt, if◌then◌else◌, true, false, List, [], ◌∷◌, ◌++◌, ◌⊎◌, map, Option, Some, None, ⊤, Result, Ok, Err}
 use Rattle.protocol.specs.Lists.{In}
 use Rattle.farm_base.specs.declared.message.Request.TheVariants.{Acquire, Commit, Release}
 use Rattle.farm_base.specs.declared.message.FromCoord.TheVariants as told
@@ -46,13 +46,17 @@ pub record Agrees (empty : Digest) (pool : List Message) (m : Machine) (q : Ledg
   pub retired_kept : (s : Slot) → Retired m s → q.retired s ≡ true
   pub lines : (s : Slot) → q.line s ≡ line empty m s
   pub last : q.last ≡ m.last
+  -- tickets are saved in blocks of 64
   pub ceiling : q.last ≤ q.ceiling
+  pub block : q.ceiling ≤ q.last + 64
   pub old_home : q.old_home ≡ m.old_home
   pub gone : q.gone ≡ m.gone
   pub lives : q.lives ≡ m.lives
   pub parked : q.parked ≡ m.parked
-  -- each parked ask was sent by a node that isn't retired
-  pub asked : (p : Parked) → In p q.parked → In (acquire p.node p.life p.ask p.wants p.tenure) pool × (q.gone p.node.0 ≡ false)
+  -- each parked ask was sent by a node that isn't retired, in a life that was seen
+  pub asked : (p : Parked) → In p q.parked → In (acquire p.node p.life p.ask p.wants p.tenure) pool × (q.gone p.node.0 ≡ false) × (p.life.0 ≤ q.lives p.node.0)
+  -- so was each lease
+  pub seen : (h : Lease) → In h q.live → h.life.0 ≤ q.lives h.node.0
   pub waits : Waits q.live q.parked
 
 -- what the coordinator does at one event: steps, and what it says, in order
@@ -112,7 +116,7 @@ EveryScheduleStaysSafe = (sha : List ℕ → Digest) (k : Limits) → IsFarm sha
 -- its outcome says; it is refused only with a reason, and accepted only without one
 abbrev pub EveryEventIsMoves : Type 0
 EveryEventIsMoves = (sha : List ℕ → Digest) (k : Limits) → IsFarm sha k → (u : World) → Moves sha (start sha) u → (s : Farm) → Shows sha u s → (e : Event)
-    → (v : World) × Moves sha u v × Shows sha v (step sha k s e).farm × Means sha u e (step sha k s e).outcome v × Fair k u s e (step sha k s e).outcome
+    → (v : World) × Moves sha u v × Shows sha v (step sha k s e).farm × Means sha k s.size u e (step sha k s e).outcome v × Fair k u s e (step sha k s e).outcome
 
 -- the machine may do what an accepted call did, and it ends these
 abbrev pub FollowsOk : Digest → List Message → Machine → (Grant → Ending → Type 0) → Result Work CoordRefusal → Type 0
@@ -133,9 +137,16 @@ abbrev pub ReleaseIsTaken : Limits → Machine → Ledger → Type 0
 ReleaseIsTaken k m q = (g : Grant) → Live m g → m.gone g.node.0 ≡ false → m.lives g.node.0 ≤ g.life.0
     → (handled k (record { node = g.node; life = g.life; request = Release g.ticket }) (begin_work q)).note ≡ note.Released g.ticket
 
+-- whatever message comes, sent or not, it ends no grant but one of its node: one of its life, or one of an older life where
+-- its life is a newer one
+abbrev pub OnlyItsOwn : Limits → Machine → Ledger → Type 0
+OnlyItsOwn k m q = (y : ToCoord) (g : Grant) → Live m g → In (lease_from g) (handled k y (begin_work q)).ledger.live
+    ⊎ ((g.node ≡ y.node) × ((g.life ≡ y.life) ⊎ ((g.life.0 < y.life.0) × (m.lives y.node.0 < y.life.0))))
+
 -- every decision on a ledger that agrees with the machine of a world of a run
 pub record EveryDecision (k : Limits) (pool : List Message) (m : Machine) (q : Ledger) : Type 0 where
   pub message : (y : ToCoord) → In (Said y) pool → Follows k.empty pool m (Meant m (MessageEnds m y (handled k y (begin_work q)).note) (handled k y (begin_work q)).note) (handled k y (begin_work q))
+  pub own : OnlyItsOwn k m q
   pub commit_taken : CommitIsTaken k m q
   pub release_taken : ReleaseIsTaken k m q
   pub withdraw_taken : WithdrawIsTaken k m q

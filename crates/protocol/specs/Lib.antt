@@ -12,3 +12,4 @@ pub mod Reasons
 pub mod Follows
 pub mod Chronicle
 pub mod Lawful
+pub mod Processes

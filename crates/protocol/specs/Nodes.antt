@@ -3,7 +3,7 @@ use Rattle.std.specs.Prelude.{ℕ, zero, suc, ◌+◌, Bool, true, false, not, �
 use Rattle.std.specs.List.{list_any, list_all, flat_map}
 use Rattle.farm_base.specs.Folders.{folder_eq}
 use Rattle.protocol.specs.Lists.{nth, set_nth}
-use Rattle.protocol.specs.Names.{Slot, Shared, slots_eq, digest_eq, NodeId, Life, Ask, Ticket, Digest, Want, FolderName, wants_shared, tenure_wants}
+use Rattle.protocol.specs.Names.{Shared, slots_eq, digest_eq, NodeId, Life, Ask, Ticket, Digest, Want, FolderName, wants_shared, tenure_wants}
 use Rattle.protocol.specs.Machine.{News, GrantedSlot, Confirmed, Grant, Message, ToNode, Fetches, Blob, FromCoord, hello, acquire, commit, release, written, slots_of}
 pub use Rattle.farm_base.specs.declared.left.Left.{Left}
 use Rattle.farm_base.specs.declared.message.ToNode.TheVariants as to_node

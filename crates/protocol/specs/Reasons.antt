@@ -11,10 +11,10 @@ use Rattle.protocol.specs.declared.answer.NodeRefusal.TheVariants as node
 use Rattle.protocol.specs.declared.answer.EventRefusal.{EventRefusal}
 use Rattle.protocol.specs.declared.answer.EventRefusal.TheVariants as event
 use Rattle.protocol.specs.declared.answer.Outcome.{Outcome}
-use Rattle.protocol.specs.Ledger.{Limits, Work, begin_work, handled, withdrawn, retired, pruned, nudged}
+use Rattle.protocol.specs.Ledger.{Limits, Work, begin_work, saves, handled, withdrawn, retired, pruned, nudged}
 use Rattle.protocol.specs.World.{KeptAsk, Holding, Running, Node, World, RunsTenure, IsTenureOf, Idle}
 use Rattle.protocol.specs.Nodes.{Left}
-use Rattle.protocol.specs.Replay.{Event, Tenure, Deliver, Begin, Finish, Abort, Resend, Nudge, Withdraw, Prune, Retire, RestartNode, RestartCoordinator, Forge, Farm, is_node}
+use Rattle.protocol.specs.Replay.{Event, Tenure, Deliver, Begin, Finish, Abort, Resend, Nudge, Withdraw, Prune, Retire, RestartNode, RestartCoordinator, Forge, Farm}
 use Rattle.protocol.specs.Replay as replay
 use Rattle.protocol.specs.Meaning.{IsLive, IsAsk, node_at}
 
@@ -46,7 +46,11 @@ decision_at k s e = None
 
 -- the decision changes what the record holds
 abbrev pub NeedsSave : Limits → Farm → Event → Type 0
-NeedsSave k s e = (w : Work) × (decision_at k s e ≡ Some (Ok w)) × (w.changed ≡ true)
+NeedsSave k s e = (w : Work) × (decision_at k s e ≡ Some (Ok w)) × (saves w.ledger ≢ saves s.ledger)
+
+-- the farm has a node with this number: they are counted from 1
+abbrev pub IsThere : Farm → NodeId → Type 0
+IsThere s n = (1 ≤ n.0) × (n.0 ≤ s.size)
 
 -- the event is for the coordinator
 abbrev pub Reaches : World → Farm → Event → Type 0
@@ -54,7 +58,7 @@ Reaches u s (Deliver number) = (y : ToCoord) × (nth u.pool number ≡ Some (Sai
 Reaches u s Nudge = ⊤
 Reaches u s (Withdraw t) = ⊤
 Reaches u s (Prune slot) = ⊤
-Reaches u s (Retire n) = is_node s n ≡ true
+Reaches u s (Retire n) = IsThere s n
 Reaches u s e = ⊥
 
 abbrev pub CoordBecause : Limits → World → Farm → Event → CoordRefusal → Type 0
@@ -92,8 +96,8 @@ NodeBecause k e x r = ⊥
 -- why an event is refused so
 abbrev pub Because : Limits → World → Farm → Event → EventRefusal → Type 0
 Because k u s e event.NoSuchMessage = (number : ℕ) × (e ≡ Deliver number) × (nth u.pool number ≡ None)
-Because k u s e event.NoSuchNode = (n : NodeId) × ((node_at u e ≡ Some n) ⊎ (e ≡ Retire n)) × (is_node s n ≡ false)
-Because k u s e (event.Node r) = (n : NodeId) × (node_at u e ≡ Some n) × (is_node s n ≡ true) × NodeBecause k e (u.nodes n.0) r
+Because k u s e event.NoSuchNode = (n : NodeId) × ((node_at u e ≡ Some n) ⊎ (e ≡ Retire n)) × (IsThere s n → ⊥)
+Because k u s e (event.Node r) = (n : NodeId) × (node_at u e ≡ Some n) × IsThere s n × NodeBecause k e (u.nodes n.0) r
 Because k u s e (event.Coord r) = Reaches u s e × CoordBecause k u s e r
 Because k u s e event.OutOfMemory = ⊥
 

@@ -2,7 +2,7 @@
 use Rattle.std.specs.Prelude.{ℕ, ◌+◌, Bool, true, false, ◌&&◌, nat_le, if◌then◌else◌, List, [], ◌∷◌, ◌++◌, length, map, Option, Some, None, Result, Ok, Err}
 use Rattle.protocol.specs.Lists.{put, nth}
 use Rattle.protocol.specs.Names.{NodeId, Digest}
-use Rattle.protocol.specs.Machine.{Message, ToNode, Told, FromCoord}
+use Rattle.protocol.specs.Machine.{Message, Told}
 use Rattle.farm_base.specs.declared.message.Message.TheVariants as to
 pub use Rattle.farm_base.specs.Receivers.{told_to, receiver}
 use Rattle.protocol.specs.Ledger.{Limits, Ledger, Work, begin_work, handled, withdrawn, retired, pruned, nudged, Saved, saves, reads}

@@ -1,7 +1,8 @@
 //! The theorems: what the definitions promise. A function whose proof needs one of them calls it.
 ghost use Rattle.protocol.specs.Follows.{EveryScheduleIsSafe, EveryScheduleStaysSafe, EveryEventIsMoves, EveryDecisionFollows, FittingAskIsGranted};
-ghost use Rattle.protocol.specs.Chronicle.{EveryScheduleHasAChronicle, EveryScheduleMeans, EveryVersionIsAnswered, NoParkedAskIsReady, FittingMessageIsGranted, EveryFarmIsSaved, EveryRecordCovers, RestartReadsTheRecord};
+ghost use Rattle.protocol.specs.Chronicle.{EveryScheduleHasAChronicle, EveryScheduleMeans, EveryVersionIsAnswered, NoParkedAskIsReady, FittingMessageIsGranted, NoParkedAskCouldBeGranted, EveryAskIsAnswered, EveryFarmIsSaved, EveryRecordCovers, RestartReadsTheRecord};
 ghost use Rattle.protocol.specs.Lawful.{EveryLedgerStaysLawful, EveryFarmStaysLawful, EveryOpeningIsLawful};
+ghost use Rattle.protocol.specs.Processes.{EveryFarmIsProcesses, OnlyHonestAreAFarm, ProcessesAreTheFarm, ProcessesStaySafe, WithdrawnStaysOut};
 ghost use Rattle.protocol.specs.Safe.{EveryRunIsSafe, EveryRunStaysSafe};
 
 /// Every run of the world is safe, and stays so from any world to any later one: whatever is sent, lost,
@@ -57,6 +58,13 @@ pub fn no_parked_ask_is_ready()
     ensures { NoParkedAskIsReady }
 {}
 
+/// The same by the machine's free slots. An Acquire that is delivered is granted again where it is leased, is granted
+/// where it could be, and is parked where a slot that it wants is leased.
+pub fn every_ask_is_answered()
+    ensures ready { NoParkedAskCouldBeGranted }
+    ensures answered { EveryAskIsAnswered }
+{}
+
 /// While the coordinator is up the record is what the ledger saves, and after a failed save what a ledger of the machine
 /// that it kept saves. It covers all that was sent, and is all that a restart reads.
 pub fn every_record_is_enough()
@@ -75,4 +83,17 @@ pub fn every_ledger_stays_lawful()
 pub fn every_farm_stays_lawful()
     ensures opening { EveryOpeningIsLawful }
     ensures stays { EveryFarmStaysLawful }
+{}
+
+/// The coordinator and the nodes as processes, which exchange lines over a network that loses, repeats and reorders
+/// them, and are killed at any place, are a farm that some schedule leads to: each process's state is its part of it,
+/// and all that was written of leases was sent there. So the theorems of schedules hold of processes: contents of one
+/// version are one, lines on the disk only grow, and what was fenced or withdrawn is on none. Nor are they less than
+/// a farm: what any schedule does processes can do.
+pub fn processes_are_the_farm()
+    ensures farm { ProcessesAreTheFarm }
+    ensures safe { ProcessesStaySafe }
+    ensures withdrawn { WithdrawnStaysOut }
+    ensures honest { OnlyHonestAreAFarm }
+    ensures all { EveryFarmIsProcesses }
 {}
