@@ -12,7 +12,7 @@ use Rattle.coordinator.specs.Seen.{Seen, IsKeeping}
 use Rattle.coordinator.specs.Keeping.{kept_with, kept_with_some}
 use Rattle.coordinator.specs.Settling.{Answers, Saves, SavesIf, SettlesWhile, Settles}
 use Rattle.coordinator.specs.declared.text.Text.{Text}
-use Rattle.coordinator.specs.Promises.{GrantsAtOnce}
+use Rattle.coordinator.specs.Promises.{GrantsAtOnce, EndsOnlyItsOwn}
 use Rattle.coordinator.specs.declared.handled.Handled.{Handled}
 use Rattle.coordinator.proofs.Records.{saves_again, held_in}
 
@@ -34,6 +34,12 @@ pub at_once : {K : Type 0} (saving : K → Texts → Bool → K → Type 0) (w :
 at_once saving w old new (Ok h) y answer grants =
     subst (λ (n : CoordNote). GrantsAtOnce (ledger old.held) y n h.sends) (sym answer.note) (subst (λ (ys : List FromCoord). GrantsAtOnce (ledger old.held) y w.note ys) (sym answer.sends) grants)
 at_once saving w old new (Err e) y answer grants = tt
+
+-- what the work leaves of other leases the answer does
+pub own : {K : Type 0} (saving : K → Texts → Bool → K → Type 0) (w : Work) (old new : Seen K) (result : Result Handled CoordRefusal) (y : ToCoord)
+    → Answers saving (Ok w) old new result → EndsOnlyItsOwn (ledger old.held) y w.ledger → IfOk result (λ h. EndsOnlyItsOwn (ledger old.held) y (ledger new.held))
+own saving w old new (Ok h) y answer ends = subst (EndsOnlyItsOwn (ledger old.held) y) (sym answer.ledger) ends
+own saving w old new (Err e) y answer ends = tt
 
 -- ---- what a save leaves
 

@@ -11,8 +11,9 @@ use Rattle.protocol.specs.declared.answer.CoordRefusal.{CoordRefusal}
 use Rattle.protocol.proofs.Base.{all_in}
 use Rattle.protocol.proofs.Saving as saving
 use Rattle.protocol.proofs.Saving.{Apart}
+use Rattle.protocol.proofs.Owning.{handled_keeps}
 use Rattle.coordinator.specs.Sound.{IsSound}
-use Rattle.coordinator.specs.Promises.{ChangesAsTold}
+use Rattle.coordinator.specs.Promises.{EndsOnlyItsOwn, ChangesAsTold}
 use Rattle.leases.proofs.TableLemmas.{AllPairs-head, AllPairs-tail}
 
 -- rising tickets are of one lease each
@@ -38,6 +39,9 @@ told_of q (Err e) h = tt
 
 pub handled-told : (y : ToCoord) (q : Ledger) → IsSound q → ChangesAsTold q (Ok (handled farm_limits y (begin_work q)))
 handled-told y q s = saving.handled_saves farm_limits q y (apart_of q s)
+
+pub handled-own : (y : ToCoord) (q : Ledger) → IsSound q → EndsOnlyItsOwn q y (handled farm_limits y (begin_work q)).ledger
+handled-own y q s g i = handled_keeps farm_limits g q y (apart_of q s) i
 
 pub withdrawn-told : (t : Ticket) (q : Ledger) → IsSound q → ChangesAsTold q (withdrawn farm_limits t (begin_work q))
 withdrawn-told t q s = told_of q (withdrawn farm_limits t (begin_work q)) (saving.withdrawn_saves farm_limits q t (apart_of q s))

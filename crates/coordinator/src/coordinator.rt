@@ -3,16 +3,17 @@ ghost use Rattle.std.specs.List.{list_any};
 ghost use Rattle.std.specs.List.Sorted.{IsStrictlySortedBy};
 ghost use Rattle.farm_base.specs.Slots.{slot_cmp};
 ghost use Rattle.farm_base.specs.declared.limits.TheConstants.{NODES};
-ghost use Rattle.leases.specs.Table.{state_of};
+ghost use Rattle.leases.specs.Table.{among, state_of};
 ghost use Rattle.versions.specs.Lines.{lines_with, room_needed, line_shown};
 ghost use Rattle.protocol.specs.Farm.{farm_limits};
 ghost use Rattle.protocol.specs.Lists.{is_nil};
 ghost use Rattle.protocol.specs.Names.{slot_eq, NodeId, Slot, Ticket};
 ghost use Rattle.protocol.specs.Machine.{ToCoord};
+ghost use Rattle.protocol.specs.Follows.{NoneReady};
 ghost use Rattle.protocol.specs.Lawful.{IsNumber, IsSaid};
 ghost use Rattle.protocol.specs.Ledger.{Work, begin_work, handled, withdrawn, retired, pruned, nudged};
 ghost use Rattle.coordinator.specs.Held.{line_at, ledger};
-ghost use Rattle.coordinator.specs.Promises.{OnlyGrow, GrantsAtOnce, ChangesAsTold};
+ghost use Rattle.coordinator.specs.Promises.{OnlyGrow, GrantsAtOnce, EndsOnlyItsOwn, ChangesAsTold};
 ghost use Rattle.coordinator.specs.Held.{Held};
 ghost use Rattle.coordinator.specs.Seen.{IsKeeping};
 ghost use Rattle.coordinator.specs.Settling.{Answers, is_save_fault, Settles, Loads, TakesUp, Restarts};
@@ -25,7 +26,7 @@ ghost use Rattle.std.specs.Vec.{vec_capacity};
 use super::handled::Handled;
 use super::ledger::{Ledger, Prepared};
 use super::text::Sizes;
-use farm_base::{Lease, NodeId, Parked, Slot, Ticket, ToCoord};
+use farm_base::{Lease, NodeId, NodeLife, Parked, Slot, Ticket, ToCoord};
 use leases::SlotState;
 use protocol::{CoordRefusal, Kept};
 use saverecord::{Keeper, KeeperRefusal, MemoryKeeper, RecordRefusal};
@@ -99,6 +100,7 @@ impl<K: Keeper> Coordinator<K> {
         ensures started { IfOk result (λ c. TakesUp K.loading (K.kept keeper) keeper c) }
         ensures refused { IfErr result (λ n. Loads K.loading (K.kept keeper) keeper n.keeper (Err n.refusal)) }
         ensures kept { IfErr result (λ n. K.kept n.keeper ≡ K.kept keeper) }
+        ensures cause { IfErr result (λ n. n.refusal ≡ CoordRefusal.LoadFault → HasFailed (K.failed keeper) (K.failed n.keeper)) }
     {
         match load(&mut keeper, alloc) {
             Ok(ledger) => Ok(Coordinator {
@@ -154,12 +156,14 @@ impl<K: Keeper> Coordinator<K> {
         requires { IsSaid NODES message.now }
         ensures answer { Settles K.saving (Ok (handled farm_limits message.now (begin_work (ledger self.old.held)))) self.old self.new result }
         ensures at_once { IfOk result (λ h. GrantsAtOnce (ledger self.old.held) message.now h.note h.sends) }
+        ensures own { IfOk result (λ h. EndsOnlyItsOwn (ledger self.old.held) message.now (ledger self.new.held)) }
         ensures cause { result ≡ Err CoordRefusal.SaveFault → HasFailed (K.failed self.old.keeper) (K.failed self.new.keeper) }
         ensures grow { OnlyGrow (line_at self.old.held.lines) (line_at self.new.held.lines) }
     {
         if self.down {
             return Err(CoordRefusal::Down);
         }
+        self.ledger.is_rightful();
         let Ok(prepared) = self.ledger.prepare(alloc, message) else {
             return Err(CoordRefusal::OutOfMemory);
         };
@@ -244,6 +248,13 @@ impl<K: Keeper> Coordinator<K> {
         let _keeper = &self.keeper;
     }
 
+    /// No parked ask could be granted: each waits for another node's tenure to end, or for a slot that is leased.
+    pub fn is_none_ready(&self)
+        ensures { NoneReady farm_limits (ledger self.now.held) }
+    {
+        self.ledger.is_rightful();
+    }
+
     /// Who keeps its record.
     pub fn keeper(&self) -> &K
         ensures { result.now ≡ self.now.keeper }
@@ -286,6 +297,35 @@ impl<K: Keeper> Coordinator<K> {
         ensures { result.now ≡ self.now.held.parked }
     {
         self.ledger.parked()
+    }
+
+    /// The greatest life seen of each node that was heard, by rising number.
+    pub fn lives(&self) -> &[NodeLife]
+        ensures { result.now ≡ self.now.held.lives }
+    {
+        self.ledger.lives()
+    }
+
+    /// The nodes that are retired, rising.
+    pub fn retired_nodes(&self) -> &[NodeId]
+        ensures { result.now ≡ self.now.held.gone }
+    {
+        self.ledger.retired_nodes()
+    }
+
+    /// The PRIVATE slots that are never granted again, rising.
+    pub fn retired_slots(&self, alloc: Global) -> Result<Vec<Slot>, AllocError>
+        ensures rising { IfOk result (λ v. IsStrictlySortedBy slot_cmp v.items) }
+        ensures exact { IfOk result (λ v. among v.items ≡ among self.now.held.retired) }
+    {
+        self.ledger.retired_slots(alloc)
+    }
+
+    /// The last ticket that was given, or 0 before the first.
+    pub fn last_ticket(&self) -> Ticket
+        ensures { result.0 ≡ self.now.held.last }
+    {
+        self.ledger.last_ticket()
     }
 
     /// The line of a slot, if it has a version.

@@ -4,7 +4,7 @@ ghost use Rattle.std.specs.List.Sorted.{IsStrictlySortedBy};
 ghost use Rattle.std.specs.Vec.{vec_capacity};
 ghost use Rattle.farm_base.specs.Slots.{slot_cmp};
 ghost use Rattle.protocol.specs.Farm.{farm_limits};
-ghost use Rattle.leases.specs.Table.{state_of};
+ghost use Rattle.leases.specs.Table.{among, state_of};
 ghost use Rattle.protocol.specs.Lists.{is_nil};
 ghost use Rattle.protocol.specs.Names.{slot_eq, NodeId, Slot, Ticket};
 ghost use Rattle.protocol.specs.Machine.{ToCoord};
@@ -40,7 +40,7 @@ use super::spent_folders::SpentFolders;
 use super::state::State;
 use super::table_room::{put_back, put_changed, take_table};
 use super::text::{Sizes, Text, save};
-use farm_base::{Items, Lease, NodeId, Parked, Slot, Ticket, ToCoord};
+use farm_base::{Items, Lease, NodeId, NodeLife, Parked, Slot, Ticket, ToCoord};
 use leases::{SlotState, TableWithRoom};
 use protocol::{CoordNote, CoordRefusal};
 use saverecord::laws::what_is_kept_is_a_record;
@@ -144,6 +144,13 @@ fn make_room(alloc: Global, state: &mut State, change: &Change) -> Result<(), Al
 }
 
 impl Ledger {
+    /// Its leases have tickets of their own, none above the last, and each parked ask is held up.
+    pub(crate) fn is_rightful(&self)
+        ensures { IsRightful (ledger self.now) }
+    {
+        let _state = &self.state;
+    }
+
     /// The ledger that a restart makes of a record.
     pub(crate) fn of(alloc: Global, read: Record, sizes: Sizes) -> Result<Self, AllocError>
         requires { IsKept read }
@@ -394,6 +401,39 @@ impl Ledger {
         ensures { result.now ≡ self.now.parked }
     {
         self.state.parked.waiting()
+    }
+
+    /// The greatest life seen of each node that was heard, by rising number.
+    pub(crate) fn lives(&self) -> &[NodeLife]
+        ensures { result.now ≡ self.now.lives }
+    {
+        self.state.lives.as_slice()
+    }
+
+    /// The nodes that are retired, rising.
+    pub(crate) fn retired_nodes(&self) -> &[NodeId]
+        ensures { result.now ≡ self.now.gone }
+    {
+        self.state.gone.as_slice()
+    }
+
+    /// The PRIVATE slots that are never granted again, rising.
+    pub(crate) fn retired_slots(&self, alloc: Global) -> Result<Vec<Slot>, AllocError>
+        ensures rising { IfOk result (λ v. IsStrictlySortedBy slot_cmp v.items) }
+        ensures exact { IfOk result (λ v. among v.items ≡ among self.now.retired) }
+    {
+        let (_leases, retired) = self.state.table.to_parts(alloc)?;
+        Ok(retired)
+    }
+
+    /// The last ticket that was given, or 0 before the first.
+    pub(crate) fn last_ticket(&self) -> Ticket
+        ensures { result.0 ≡ self.now.last }
+    {
+        match self.state.tickets.peek() {
+            Ok((next, _)) => Ticket(next.0 - 1),
+            Err(_) => Ticket(u64::MAX),
+        }
     }
 
     /// The line of a slot, if it has a version.

@@ -155,8 +155,8 @@ one_use w moves safe_w n g g' ws ws' i i' e =
     (cc, cc)
 
 -- what a world that the event leads to says
-module _ (w v : World) (moves : Moves content_digest (start content_digest) w) (safe_w : safe.Safe content_digest w) (e : Event) where
-  module _ (o : Outcome) (a : Answered content_digest w e o.note v) (u : InUse) where
+module _ (size : ℕ) (w v : World) (moves : Moves content_digest (start content_digest) w) (safe_w : safe.Safe content_digest w) (e : Event) where
+  module _ (o : Outcome) (a : Answered content_digest farm_limits size w e o v) (u : InUse) where
     goes_on : Used w u → (Struck e u → ⊥) → Used v u
     goes_on (g, ws, i, at) spared = elim (a.used.stopped u.node g ws i) [ inl now ↦ (g, ws, now, at) | inr gone ↦ absurd (spared (g, at, gone)) ]
 
@@ -171,7 +171,7 @@ module _ (w v : World) (moves : Moves content_digest (start content_digest) w) (
           | inr b ↦ b
         ]
     ended (event.Abort n t) did (en, et) (g, ws, i, at) began = did.1 g ws (at ∙ same_ticket u.ticket t et) (subst (λ (z : NodeId). safe.InUse v z g ws) (same_node u.node n en) i)
-    ended (event.RestartNode n) did en (g, ws, i, at) began = did g ws (subst (λ (z : NodeId). safe.InUse v z g ws) (same_node u.node n en) i)
+    ended (event.RestartNode n) did en (g, ws, i, at) began = did.1 g ws (subst (λ (z : NodeId). safe.InUse v z g ws) (same_node u.node n en) i)
     ended (event.Begin n t) did en k began = en
     ended (event.Ask n wants) did en k began = en
     ended (event.Tenure n f) did en k began = en
@@ -229,14 +229,14 @@ module _ (h : History) (e : Event) (uses : List InUse) (was : AreUsed (farm_of h
   abbrev w : World
   w = safe_here.world
 
-  by : (r : Result Outcome EventRefusal) (v : World) → Means content_digest w e r v → ((n : ℕ) → v.nodes n ≡ next.nodes n) → AreUsed next (out_if r e uses)
+  by : (r : Result Outcome EventRefusal) (v : World) → Means content_digest farm_limits s.size w e r v → ((n : ℕ) → v.nodes n ≡ next.nodes n) → AreUsed next (out_if r e uses)
   by (Ok o) v a nodes = record {
     each = λ u i. shown v next nodes u (elim (after_from uses u e i) [
-      | inl k ↦ goes_on w v safe_here.moves safe_here.safe e o a u (is_so w s safe_here.shows.nodes u (was.each u k.0)) k.1
-      | inr is ↦ begun w v safe_here.moves safe_here.safe e o a u e a.did is
+      | inl k ↦ goes_on s.size w v safe_here.moves safe_here.safe e o a u (is_so w s safe_here.shows.nodes u (was.each u k.0)) k.1
+      | inr is ↦ begun s.size w v safe_here.moves safe_here.safe e o a u e a.did is
     ]);
     all = λ u runs. (let now = is_so v next nodes u runs in elim (a.used.began u.node now.0 now.1 now.2) [
-      | inl old ↦ after_still uses u e (was.all u (shown w s safe_here.shows.nodes u (now.0, now.1, old, now.3))) (λ ends. ended w v safe_here.moves safe_here.safe e o a u e a.did ends now (λ g ws i. a.used.began u.node g ws i))
+      | inl old ↦ after_still uses u e (was.all u (shown w s safe_here.shows.nodes u (now.0, now.1, old, now.3))) (λ ends. ended s.size w v safe_here.moves safe_here.safe e o a u e a.did ends now (λ g ws i. a.used.began u.node g ws i))
       | inr b ↦ after_new uses u e now.0 b now.3
     ]);
   }

@@ -1,21 +1,22 @@
 -- The result of an event is what it means.
-use Rattle.std.proofs.Common.{◌≡◌, ℕ, Bool, true, false, ◌++◌, map, Option, Some, None, Result, Ok, Err, refl, sym, ap, ◌∙◌, subst}
+use Rattle.std.proofs.Common.{◌≡◌, ℕ, Bool, true, false, List, ◌++◌, map, Option, Some, None, Result, Ok, Err, refl, sym, ap, ◌∙◌, subst}
 use Rattle.std.specs.Prelude.{nat_lt}
 use Rattle.farm_base.specs.Contents.{content_digest}
 use Rattle.protocol.specs.Farm.{farm_limits}
 use Rattle.farm_base.specs.declared.message.Request.TheVariants.{Acquire}
 use Rattle.farm_base.specs.declared.message.FromCoord.TheVariants as told
 use Rattle.protocol.specs.Lists.{In, nth}
-use Rattle.protocol.specs.Machine.{Grant, Message, Said, Told, ToCoord, Parked}
+use Rattle.protocol.specs.Machine.{Grant, Message, Said, Told, ToCoord, Parked, acquire}
 use Rattle.protocol.specs.Ledger.{Ledger, Work, begin_work, handled}
 use Rattle.protocol.specs.World as protocol
 use Rattle.protocol.specs.World.{Moves, Still, start}
-use Rattle.protocol.specs.Replay.{Farm, Turn, step, delivered, coordinated, settled}
+use Rattle.protocol.specs.Replay.{Farm, Turn, step, run, opening, delivered, coordinated, settled}
 use Rattle.protocol.specs.Follows.{Shows, EveryEventIsMoves, MayBeGranted, after_life}
-use Rattle.protocol.specs.Chronicle.{FittingMessageIsGranted}
+use Rattle.protocol.specs.Chronicle.{AsksAreAnswered, EveryAskIsAnswered, FittingMessageIsGranted, NoParkedAskCouldBeGranted}
 use Rattle.protocol.specs.Meaning.{Means}
 use Rattle.protocol.specs.Reasons.{Fair}
 use Rattle.protocol.specs.declared.answer.Kept.{Kept}
+use Rattle.protocol.specs.declared.answer.CoordNote.{CoordNote}
 use Rattle.protocol.specs.declared.answer.CoordNote.TheVariants as coord
 use Rattle.protocol.specs.declared.answer.EventNote.TheVariants as note
 use Rattle.protocol.specs.declared.answer.EventRefusal.{EventRefusal}
@@ -23,25 +24,25 @@ use Rattle.protocol.specs.declared.answer.EventRefusal.TheVariants as refusal
 use Rattle.protocol.specs.declared.answer.Outcome.{Outcome}
 use Rattle.protocol.specs.declared.event.Event.{Event}
 use Rattle.protocol.specs.declared.event.Event.TheVariants.{Deliver}
-use Rattle.protocol.proofs.Base.{in_map, in_right}
+use Rattle.protocol.proofs.Base.{in_map, in_right, nth_in}
 use Rattle.protocol.proofs.Refusals.{nothing_done}
 use Rattle.coordinator.specs.Promises.{granted}
 use Rattle.world.specs.Turns.{Came}
-use Rattle.world.specs.Meanings.{MeansAsTold, Grants, GrantsAtOnce}
+use Rattle.world.specs.Meanings.{MeansAsTold, Grants, GrantsAtOnce, IsTold, AnswersAsks, NoneWaitsIdly}
 use Rattle.world.proofs.LimitLemmas.{is_farm}
 
 -- what the law says of an event, from each world that the farm was in
 abbrev Law : Farm → Event → Result Outcome EventRefusal → Farm → Type 0
 Law old e r new = (u : protocol.World) → Moves content_digest (start content_digest) u → Shows content_digest u old
-    → (v : protocol.World) × Moves content_digest u v × Shows content_digest v new × Means content_digest u e r v × Fair farm_limits u old e r
+    → (v : protocol.World) × Moves content_digest u v × Shows content_digest v new × Means content_digest farm_limits old.size u e r v × Fair farm_limits u old e r
 
 by_turn : EveryEventIsMoves → (old : Farm) (e : Event) (turn : Turn) → step content_digest farm_limits old e ≡ turn → Law old e turn.outcome turn.farm
 by_turn law old e turn is u moves shows =
-    subst (λ (t : Turn). (v : protocol.World) × Moves content_digest u v × Shows content_digest v t.farm × Means content_digest u e t.outcome v × Fair farm_limits u old e t.outcome) is (law content_digest farm_limits is_farm u moves old shows e)
+    subst (λ (t : Turn). (v : protocol.World) × Moves content_digest u v × Shows content_digest v t.farm × Means content_digest farm_limits old.size u e t.outcome v × Fair farm_limits u old e t.outcome) is (law content_digest farm_limits is_farm u moves old shows e)
 
 pub means_as_told : EveryEventIsMoves → (old new : Farm) (e : Event) (r : Result Outcome EventRefusal) → Came (step content_digest farm_limits old e) old new r → MeansAsTold old e r new
 means_as_told law old new e (Ok o) came = by_turn law old e (record { farm = new; outcome = Ok o }) came
-means_as_told law old new e (Err refusal.OutOfMemory) came = λ u moves shows. (u, Still u, subst (Shows content_digest u) (sym came) shows, nothing_done content_digest u e refusal.OutOfMemory, tt)
+means_as_told law old new e (Err refusal.OutOfMemory) came = λ u moves shows. (u, Still u, subst (Shows content_digest u) (sym came) shows, nothing_done content_digest farm_limits old.size u e refusal.OutOfMemory, tt)
 means_as_told law old new e (Err refusal.NoSuchMessage) came = by_turn law old e (record { farm = new; outcome = Err refusal.NoSuchMessage }) came
 means_as_told law old new e (Err refusal.NoSuchNode) came = by_turn law old e (record { farm = new; outcome = Err refusal.NoSuchNode }) came
 means_as_told law old new e (Err (refusal.Node x)) came = by_turn law old e (record { farm = new; outcome = Err (refusal.Node x) }) came
@@ -104,3 +105,27 @@ grants_at_once law old new e r came size events is up safe number p at sent here
     let found : (w.note ≡ coord.Granted grant) × In (told.Granted grant) w.sends = subst (IsGranted number p) (sym is) (law content_digest farm_limits is_farm size events number p) sent here current may in
     grants old new w (step content_digest farm_limits old (Deliver number)) grant r (delivery_tells old number y up safe sent) found.0 found.1
     (subst (λ (x : Event). Came (step content_digest farm_limits old x) old new r) at came)
+
+is_told : (IsOne : CoordNote → Type 0) (old new : Farm) (w : Work) (turn : Turn) (r : Result Outcome EventRefusal) → Tells old w turn → IsOne w.note → Came turn old new r → IsTold IsOne r
+is_told IsOne old new w turn (Ok o) t one came =
+    let same : o ≡ t.outcome = ok_is o t.outcome (sym (ap (λ (x : Turn). x.outcome) came) ∙ t.is) in
+    (w.note, ap (λ (x : Outcome). x.note) same ∙ t.note, one)
+is_told IsOne old new w turn (Err refusal.OutOfMemory) t one came = refl
+is_told IsOne old new w turn (Err refusal.NoSuchMessage) t one came = no_ok refusal.NoSuchMessage t.outcome (sym (ap (λ (x : Turn). x.outcome) came) ∙ t.is)
+is_told IsOne old new w turn (Err refusal.NoSuchNode) t one came = no_ok refusal.NoSuchNode t.outcome (sym (ap (λ (x : Turn). x.outcome) came) ∙ t.is)
+is_told IsOne old new w turn (Err (refusal.Node x)) t one came = no_ok (refusal.Node x) t.outcome (sym (ap (λ (x : Turn). x.outcome) came) ∙ t.is)
+is_told IsOne old new w turn (Err (refusal.Coord x)) t one came = no_ok (refusal.Coord x) t.outcome (sym (ap (λ (x : Turn). x.outcome) came) ∙ t.is)
+
+pub answers_asks : EveryAskIsAnswered → (old new : Farm) (e : Event) (r : Result Outcome EventRefusal) → Came (step content_digest farm_limits old e) old new r → AnswersAsks old e r
+answers_asks law old new e r came size events is up safe number p at sent here u moves shows =
+    let y : ToCoord = record { node = p.node; life = p.life; request = Acquire p.ask p.wants p.tenure } in
+    let asked : In (acquire p.node p.life p.ask p.wants p.tenure) u.pool = subst (In (acquire p.node p.life p.ask p.wants p.tenure)) (sym shows.pool) (nth_in old.pool number (acquire p.node p.life p.ask p.wants p.tenure) sent) in
+    let open_node : u.machine.gone p.node.0 ≡ false = ap (λ (f : ℕ → Bool). f p.node.0) (sym shows.now.gone) ∙ here in
+    let one : AsksAreAnswered farm_limits u.machine p (handled farm_limits y (begin_work old.ledger)).note =
+    subst (λ (s : Farm). AsksAreAnswered farm_limits u.machine p (handled farm_limits y (begin_work s.ledger)).note) (sym is)
+    (law content_digest farm_limits is_farm size events u moves (subst (Shows content_digest u) is shows) p asked open_node) in
+    is_told (AsksAreAnswered farm_limits u.machine p) old new (handled farm_limits y (begin_work old.ledger)) (step content_digest farm_limits old (Deliver number)) r (delivery_tells old number y up safe sent) one
+    (subst (λ (x : Event). Came (step content_digest farm_limits old x) old new r) at came)
+
+pub none_waits_idly : NoParkedAskCouldBeGranted → (size : ℕ) (events : List Event) (s : Farm) → s ≡ run content_digest farm_limits events (opening content_digest size) → NoneWaitsIdly s
+none_waits_idly law size events s is u shows = law content_digest farm_limits is_farm size events u (subst (Shows content_digest u) is shows)

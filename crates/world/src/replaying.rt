@@ -4,8 +4,9 @@ ghost use Rattle.farm_base.specs.declared.limits.TheConstants.{EVENTS};
 ghost use Rattle.protocol.specs.Farm.{farm_limits};
 ghost use Rattle.protocol.specs.World.{start};
 ghost use Rattle.protocol.specs.Follows.{SafeAfter};
-ghost use Rattle.protocol.specs.Chronicle.{Chronicle};
+ghost use Rattle.protocol.specs.Chronicle.{Chronicle, Headline};
 ghost use Rattle.protocol.specs.Replay.{opening, run, step};
+ghost use Rattle.world.specs.Meanings.{NoneWaitsIdly};
 ghost use Rattle.world.specs.Setups.{IsSetup};
 ghost use Rattle.world.specs.Shown.{shown};
 ghost use Rattle.world.specs.Replays.{StaysSafe, KeepsHeadline};
@@ -14,7 +15,7 @@ use super::laws::every_replay_means;
 use super::world::{World, is_setup};
 use farm_base::{Copied, EVENTS};
 use protocol::EventRefusal;
-use protocol::laws::every_schedule_is_safe;
+use protocol::laws::{every_ask_is_answered, every_schedule_is_safe};
 use schedule::{Event, Setup};
 use std::alloc::{AllocError, Global};
 use thiserror::Error;
@@ -46,13 +47,16 @@ impl World {
 
 /// The farm after a whole schedule; refused events are events too. The farm is safe, and stays so from each
 /// part of the schedule to each later one. The schedule has a chronicle, in which each event means what it
-/// answers, and the headline of this project holds after each part of it.
+/// answers, and the headline of this project holds after each part of it, and so of the farm that is handed back, where no
+/// ask waits that could be granted.
 pub fn replay(alloc: Global, setup: Setup, events: &[Event]) -> Result<World, ReplayRefusal>
     ensures farm { IfOk result (λ w. shown w ≡ run content_digest farm_limits events.now (opening content_digest setup.nodes)) }
     ensures safe { IfOk result (λ w. SafeAfter content_digest (shown w)) }
     ensures stays { IfOk result (λ w. StaysSafe setup.nodes events.now) }
     ensures chronicle { IfOk result (λ w. Chronicle content_digest farm_limits events.now (opening content_digest setup.nodes) (start content_digest)) }
     ensures headline { IfOk result (λ w. KeepsHeadline setup.nodes events.now) }
+    ensures holds { IfOk result (λ w. Headline content_digest farm_limits (shown w)) }
+    ensures idle { IfOk result (λ w. NoneWaitsIdly (shown w)) }
 
     // A setup out of range is reported as such, also with too many events.
     ensures setup { (result ≡ Err ReplayRefusal.BadSetup) ↔ (IsSetup setup → ⊥) }
@@ -72,6 +76,7 @@ pub fn replay(alloc: Global, setup: Setup, events: &[Event]) -> Result<World, Re
     };
     every_schedule_is_safe();
     every_replay_means();
+    every_ask_is_answered();
     for place in 0..events.len() {
         if world.take(alloc, &events[place]).is_err() {
             return Err(ReplayRefusal::OutOfMemory(place as u64 + 1));

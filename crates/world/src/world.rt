@@ -8,7 +8,7 @@ ghost use Rattle.protocol.specs.Follows.{SafeAfter, SafeBetween};
 ghost use Rattle.coordinator.specs.Held.{ledger};
 ghost use Rattle.saverecord.specs.Logs.{saved_in};
 ghost use Rattle.nodecore.specs.Shown as core;
-ghost use Rattle.world.specs.Meanings.{MeansAsTold, GrantsAtOnce};
+ghost use Rattle.world.specs.Meanings.{MeansAsTold, GrantsAtOnce, AnswersAsks};
 ghost use Rattle.world.specs.Parts.{shown_parts};
 ghost use Rattle.world.specs.Setups.{IsSetup};
 ghost use Rattle.world.specs.Turns.{Came};
@@ -20,8 +20,8 @@ use coordinator::Coordinator;
 use farm_base::{NODES, NodeId};
 use nodecore::{Message, NodeCore};
 use protocol::laws::{
-    a_fitting_message_is_granted, every_event_is_moves, every_farm_stays_lawful, every_run_is_safe,
-    every_schedule_is_safe,
+    a_fitting_message_is_granted, every_ask_is_answered, every_event_is_moves,
+    every_farm_stays_lawful, every_run_is_safe, every_schedule_is_safe,
 };
 use protocol::{EventRefusal, Outcome};
 use saverecord::MemoryKeeper;
@@ -128,10 +128,12 @@ impl World {
         ensures safe { ∥ SafeBetween content_digest (shown self.old) (shown self.new) ∥₁ }
         ensures meaning { MeansAsTold (shown self.old) event result (shown self.new) }
         ensures at_once { GrantsAtOnce (shown self.old) event result (shown self.new) }
+        ensures asks { AnswersAsks (shown self.old) event result }
     {
         every_run_is_safe();
         every_event_is_moves();
         a_fitting_message_is_granted();
+        every_ask_is_answered();
         every_farm_stays_lawful();
         is_event(&event);
         self.parts.carry_out(alloc, event)

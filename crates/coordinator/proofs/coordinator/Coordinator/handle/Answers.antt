@@ -6,9 +6,10 @@ use Rattle.coordinator.specs.Held.{Held, ledger}
 use Rattle.coordinator.specs.Seen.{Seen}
 use Rattle.coordinator.specs.Shown.{after, shown}
 use Rattle.coordinator.specs.Sound.{IsRightful}
-use Rattle.coordinator.specs.Promises.{GrantsAtOnce, ChangesAsTold}
-use Rattle.coordinator.proofs.Keeping.{settled_up, at_once}
+use Rattle.coordinator.specs.Promises.{GrantsAtOnce, EndsOnlyItsOwn, ChangesAsTold}
+use Rattle.coordinator.proofs.Keeping.{settled_up, at_once, own}
 use Rattle.coordinator.proofs.Kept.{grants}
+use Rattle.coordinator.proofs.Recording.{handled-own}
 use Rattle.coordinator.proofs.coordinator.Coordinator.handle.Goals as goal
 
 pub settle-requires-clause-told : goal.settle-requires-clause-told
@@ -39,4 +40,13 @@ returns-clause-at_once g c =
     let work : w c.args.self.now.held ≡ handled farm_limits c.args.message.now (begin_work (ledger c.args.self.now.held)) = subst (λ (h : Held). w h ≡ handled farm_limits c.args.message.now (begin_work (ledger h))) held c.in-Ok.ensures.work in
     let q : Ledger = ledger c.args.self.now.held in
     at_once g.K.Keeper.saving (w c.args.self.now.held) c.args.self.now c.settle.new.self c.settle.result c.args.message.now c.settle.ensures.answer
-    (subst (λ (x : Work). GrantsAtOnce q c.args.message.now x.note x.sends) (sym work) (grants q c.args.message.now))
+    (subst (λ (x : Work). GrantsAtOnce q c.args.message.now x.note x.sends) (sym work) (grants q c.args.message.now (subst (λ (h : Held). IsRightful (ledger h)) held c.is_rightful.ensures).held_up))
+
+pub returns-clause-own : goal.returns-clause-own
+returns-clause-own g c =
+    let held : c.self.inside.ledger ≡ c.args.self.now.held = ap (λ (s : Seen g.row.K.Denot). s.held) c.self.view_is in
+    let w : (Held → Work) = λ h. shown (lines_with h.lines c.in-Ok.prepared.added) h c.in-Ok.prepared.draft.value in
+    let work : w c.args.self.now.held ≡ handled farm_limits c.args.message.now (begin_work (ledger c.args.self.now.held)) = subst (λ (h : Held). w h ≡ handled farm_limits c.args.message.now (begin_work (ledger h))) held c.in-Ok.ensures.work in
+    let q : Ledger = ledger c.args.self.now.held in
+    own g.K.Keeper.saving (w c.args.self.now.held) c.args.self.now c.settle.new.self c.settle.result c.args.message.now c.settle.ensures.answer
+    (subst (λ (x : Work). EndsOnlyItsOwn q c.args.message.now x.ledger) (sym work) (handled-own c.args.message.now q (subst (λ (h : Held). IsRightful (ledger h)) held c.is_rightful.ensures).sound))

@@ -12,7 +12,7 @@ use Rattle.world.specs.Shown.{shown}
 use Rattle.world.specs.Parts.{shown_parts}
 use Rattle.world.specs.Turns.{Came}
 use Rattle.world.specs.declared.parts.Parts.{Parts}
-use Rattle.world.proofs.MeaningLemmas.{means_as_told, grants_at_once}
+use Rattle.world.proofs.MeaningLemmas.{means_as_told, grants_at_once, answers_asks}
 use Rattle.world.proofs.SafeLemmas.{stays_safe, stays_lawful}
 use Rattle.world.proofs.world.World.step.Goals as goal
 
@@ -31,6 +31,11 @@ returns-clause-meaning c = means_as_told c.every_event_is_moves.ensures (shown c
 pub returns-clause-at_once : goal.returns-clause-at_once
 returns-clause-at_once c =
     grants_at_once c.a_fitting_message_is_granted.ensures (shown c.args.self.now) (shown_parts c.carry_out.new.self) c.args.event c.carry_out.result
+    (came_of _ _ c.args.event (shown_parts c.carry_out.new.self) c.carry_out.result c.deref_mut.ensures.value c.carry_out.ensures)
+
+pub returns-clause-asks : goal.returns-clause-asks
+returns-clause-asks c =
+    answers_asks c.every_ask_is_answered.ensures.answered (shown c.args.self.now) (shown_parts c.carry_out.new.self) c.args.event c.carry_out.result
     (came_of _ _ c.args.event (shown_parts c.carry_out.new.self) c.carry_out.result c.deref_mut.ensures.value c.carry_out.ensures)
 
 pub returns-clause-safe : goal.returns-clause-safe
