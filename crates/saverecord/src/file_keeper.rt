@@ -1,6 +1,7 @@
 //! Keeps a record in files.
-ghost use Rattle.std.specs.Prelude.{◌≡◌, ◌≢◌, ◌≤◌, ◌⊎◌, IfOk, OnOk, OnErr, Some, Err};
+ghost use Rattle.std.specs.Prelude.{◌≡◌, ◌≢◌, ◌≤◌, ◌⊎◌, [], IfOk, OnOk, OnErr, Some, Err};
 ghost use Rattle.std.specs.Result.{is_ok, result_err};
+ghost use Rattle.saverecord.specs.declared.file_keeper.LogFault.TheVariants as faults;
 ghost use Rattle.saverecord.specs.Keepers.{HasFailed, Filed, FileSaves, FileLoads, counted_up};
 ghost use Rattle.saverecord.specs.Texts.{whole_alone, with_text};
 
@@ -14,6 +15,7 @@ use std::fs::{self, OpenFile, OpenOptions};
 use std::io::{self, ErrorKind, Read, Write};
 use std::marker::Model;
 use std::rt::Files;
+use thiserror::Error;
 
 /// Keeps a record in a file, and the entries after it in a second one (the path with `.log` behind it). A save writes a
 /// third file (`.new`), which then takes the record's place, and empties the log. So after a crash the files hold the
@@ -104,9 +106,35 @@ fn check_of(head: &[u8; 16]) -> [u8; 8] {
 /// An entry of a log, and what stands behind it.
 type Taken<'b> = Option<(&'b [u8], &'b [u8])>;
 
-/// The first entry of a log whose entries follow this record. None where it follows another one, or was cut short. A
-/// head that was damaged is an error.
-fn first_entry<'b>(whole: &[u8], bytes: &'b [u8]) -> io::Result<Taken<'b>> {
+/// Why the file of a log tells no entries.
+#[derive(Clone, Copy, Debug, PartialEq, Eq, Error)]
+pub enum LogFault {
+    /// What stands before this entry, from 1, was damaged.
+    #[error("the head of entry {0} is damaged")]
+    BadHead(usize),
+    #[error("out of memory")]
+    OutOfMemory,
+}
+
+impl From<AllocError> for LogFault {
+    ghost from_gives = { λ _ fault. fault ≡ faults.OutOfMemory };
+
+    fn from(_error: AllocError) -> LogFault {
+        LogFault::OutOfMemory
+    }
+}
+
+/// What reading a log's file ends with.
+fn log_error(fault: LogFault) -> io::Error {
+    match fault {
+        LogFault::BadHead(_) => io::Error::from(ErrorKind::InvalidData),
+        LogFault::OutOfMemory => io::Error::from(ErrorKind::OutOfMemory),
+    }
+}
+
+/// The first entry of a log whose entries follow this record. None where it follows another one, or was cut short. The
+/// number is that of the entry, whose head may have been damaged.
+fn first_entry<'b>(whole: &[u8], bytes: &'b [u8], number: usize) -> Result<Taken<'b>, LogFault> {
     let Some((head, rest)) = bytes.split_first_chunk::<16>() else {
         return Ok(None);
     };
@@ -114,7 +142,7 @@ fn first_entry<'b>(whole: &[u8], bytes: &'b [u8]) -> io::Result<Taken<'b>> {
         return Ok(None);
     };
     if *check != check_of(head) {
-        return Err(io::Error::from(ErrorKind::InvalidData));
+        return Err(LogFault::BadHead(number));
     }
     let (name, len) = head.split_at(8);
     let len = len
@@ -127,10 +155,13 @@ fn first_entry<'b>(whole: &[u8], bytes: &'b [u8]) -> io::Result<Taken<'b>> {
 }
 
 /// Adds the entries that follow the record, and gives how many bytes stand behind them.
-fn take_entries(alloc: Global, log: &mut Log, bytes: &[u8]) -> io::Result<usize> {
+fn take_entries(alloc: Global, log: &mut Log, bytes: &[u8]) -> Result<usize, LogFault>
+    ensures whole { IfOk result (λ left. log.new.whole ≡ log.old.whole) }
+    ensures none { bytes.now ≡ [] → IfOk result (λ left. log.new ≡ log.old) }
+{
     let mut rest = bytes;
-    for _ in 0..bytes.len() {
-        let Some((entry, after)) = first_entry(log.whole(), rest)? else {
+    for number in 0..bytes.len() {
+        let Some((entry, after)) = first_entry(log.whole(), rest, number.saturating_add(1))? else {
             return Ok(rest.len());
         };
         let entry = Vec::from_slice(alloc, entry)?;
@@ -138,6 +169,17 @@ fn take_entries(alloc: Global, log: &mut Log, bytes: &[u8]) -> io::Result<usize>
         rest = after;
     }
     Ok(rest.len())
+}
+
+/// The texts that these bytes of a record's file and of its log's hold, as `FileKeeper::open` takes them: entries that follow
+/// another record, and what was cut short, are none. It changes no file.
+pub fn texts_in(alloc: Global, whole: Vec<u8>, tail: &[u8]) -> Result<Log, LogFault>
+    ensures whole { IfOk result (λ log. log.whole ≡ whole.items) }
+    ensures none { tail.now ≡ [] → IfOk result (λ log. log ≡ whole_alone whole.items) }
+{
+    let mut log = Log::of(alloc, whole);
+    let _left = take_entries(alloc, &mut log, tail)?;
+    Ok(log)
 }
 
 /// Cuts a log's file to its first bytes, and waits until the device has it.
@@ -160,7 +202,7 @@ fn read_texts<R: Files>(
 ) -> io::Result<(Log, u64)> {
     let mut log = Log::of(alloc, read_file(files, alloc, path)?);
     let bytes = read_file(files, alloc, tail)?;
-    let left = take_entries(alloc, &mut log, bytes.as_slice())?;
+    let left = take_entries(alloc, &mut log, bytes.as_slice()).map_err(log_error)?;
     let len = bytes.len().saturating_sub(left) as u64;
     if left > 0 {
         cut(files, tail, len)?;
@@ -195,6 +237,32 @@ impl<'a, R: Files> FileKeeper<'a, R> {
             tail_len,
             failures: 0,
         })
+    }
+
+    /// Puts a record in the file of this path, in the place of what stood there and in its log, of which it reads nothing. After an
+    /// error the old record stands there with its log, or this one does: entries that may be left in the log follow another record.
+    pub fn put(files: &'a R, alloc: Global, path: &str, bytes: &[u8]) -> io::Result<()> {
+        let draft = format!(in alloc; "{path}.new")?;
+        let tail = format!(in alloc; "{path}.log")?;
+        write_file(files, draft.as_str(), bytes)?;
+        if let Err(error) = fs::rename(files, draft.as_str(), path) {
+            let _removed = fs::remove_file(files, draft.as_str());
+            return Err(error);
+        }
+        cut(files, tail.as_str(), 0)?;
+        fs::open(files, folder_of(path))?.sync_all()
+    }
+
+    /// Tries whether a record can be put in the file of this path, and changes nothing that stands there.
+    pub fn try_put(files: &'a R, alloc: Global, path: &str) -> io::Result<()> {
+        if let Ok(found) = fs::metadata(files, path) {
+            if found.is_dir() {
+                return Err(io::Error::from(ErrorKind::IsADirectory));
+            }
+        }
+        let draft = format!(in alloc; "{path}.new")?;
+        write_file(files, draft.as_str(), &[])?;
+        fs::remove_file(files, draft.as_str())
     }
 
     /// The texts that the files are known to hold.

@@ -20,7 +20,7 @@ mod slot;
 mod writing;
 
 pub use farm_base::NodeLife;
-pub use file_keeper::FileKeeper;
+pub use file_keeper::{FileKeeper, LogFault, texts_in};
 pub use keeper::{Keeper, MemoryKeeper};
 pub use log::Log;
 pub use log_entry::LogEntry;
