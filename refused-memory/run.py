@@ -5,19 +5,23 @@ usage: refused-memory/run.py, at the top of the repository, once crates/farmctl/
 
 Each command runs once with all memory, has to end with the status that its row names, and then runs once for each of its
 allocations, with that one refused. Such a run has to end as the undisturbed one does, or with status 3 and the line `out of memory`;
-then nothing is on standard output, and no file was made. Of the runs of jobs a few may end as `fault NoThread`, those whose
+then nothing is on standard output, and no file was made, but that a run of jobs which memory ended midway keeps the record that stands
+then, as its words say. Of the runs of jobs a few may end as `fault NoThread`, those whose
 allocation was for a thread: the kit doesn't tell why a thread can't be started. Anything else is told, a run that doesn't end within
 a minute too, and the check fails.
 """
 import collections
 import concurrent.futures
 import os
+import re
 import subprocess
 import sys
 import tempfile
 
 PROGRAM = os.path.abspath("crates/farmctl/out/farmctl")
-# Each command, and the status of its undisturbed run.
+# The worked schedules stand in this test, a string each, with `; ` for a line's end.
+WORKED = "crates/farm_tests/src/printed.rt"
+# Each command on files of `examples`, and the status of its undisturbed run.
 ROWS = [
     ("replay locked.schedule", 0),
     ("replay parked.schedule", 0),
@@ -32,8 +36,11 @@ ROWS = [
     ("wants df-cache-modes.llb", 0),
     ("record farm.record", 0),
     ("record --explain locked.schedule", 1),
+    ("record live.record", 0),
+    ("record --explain damaged-log.record", 1),
     ("run --nodes 1 --record kept df-cache-modes.llb", 0),
     ("run --nodes 2 df-cache-modes.llb df-cache-modes.llb", 0),
+    ("run --nodes 1 --strict failing.llb put-remove.llb", 1),
 ]
 # How many runs of a row may end as NoThread. That allocation has another number where a thread that runs already allocates too.
 NO_THREAD = 16
@@ -72,16 +79,19 @@ def end_of(said, whole, words):
     status, printed, told, files = said
     if said == whole:
         return "same"
-    if not printed and not files and (status, told) == (3, b"out of memory\n"):
+    # The record of what stood when a run was stopped, and its log, which is empty.
+    is_kept = "--record" in words and set(files) == {"kept", "kept.log"} and files["kept"].startswith(b"BKFARM03") and not files["kept.log"]
+    is_clean = not printed and (not files or is_kept)
+    if is_clean and (status, told) == (3, b"out of memory\n"):
         return "refused"
-    if not printed and not files and (words[0], status, told) == ("run", 4, b"fault NoThread\n"):
+    if is_clean and (words[0], status, told) == ("run", 4, b"fault NoThread\n"):
         return "no thread"
     return "otherwise"
 
 
-def is_sound(row, status, preload):
-    """Prints what came of a row, and returns whether nothing else did than may."""
-    words = [os.path.abspath(f"examples/{word}") if "." in word else word for word in row.split()]
+def is_sound(row, status, preload, folder="examples"):
+    """Prints what came of a row on files of a folder, and returns whether nothing else did than may."""
+    words = [os.path.abspath(f"{folder}/{word}") if "." in word else word for word in row.split()]
     whole, count = allocations(words, preload)
     ends, wrong = collections.Counter(), []
     with concurrent.futures.ThreadPoolExecutor(os.cpu_count()) as pool:
@@ -105,13 +115,28 @@ def is_sound(row, status, preload):
     return False
 
 
+def worked(folder):
+    """Writes each worked schedule to a file of the folder, and returns a row for each."""
+    text, _refused = read(WORKED).decode().split("const NO_SCHEDULES")
+    schedules = re.findall(r'^ +"(nodes [^"]+)",$', text, re.MULTILINE)
+    rows = []
+    for number, schedule in enumerate(schedules, 1):
+        with open(f"{folder}/worked-{number}.schedule", "w", encoding="ascii") as file:
+            file.write(schedule.replace("; ", "\n"))
+        rows.append((f"replay worked-{number}.schedule", 0))
+    return rows
+
+
 def main():
     with tempfile.TemporaryDirectory(dir=os.path.dirname(PROGRAM)) as room:
         library = f"{room}/refuse.so"
         compiler = os.environ.get("CC") or "cc"
         subprocess.run([compiler, "-O2", "-shared", "-fPIC", "-o", library, "refused-memory/refuse.c", "-ldl"], check=True)
-        sound = [is_sound(row, status, {**os.environ, "LD_PRELOAD": library}) for row, status in ROWS]
-    return 0 if all(sound) else 1
+        preload = {**os.environ, "LD_PRELOAD": library}
+        sound = [is_sound(row, status, preload) for row, status in ROWS]
+        rows = worked(room)
+        sound += [is_sound(row, status, preload, room) for row, status in rows]
+    return 0 if all(sound) and rows else 1
 
 
 sys.exit(main())

@@ -52,6 +52,8 @@ IsNoGraph bytes (failure.Read e) = definition_at bytes ≡ Err e
 IsNoGraph bytes (failure.Load e) = (d : Definition) × (definition_at bytes ≡ Ok d) × DefinitionCheck d.def (Some e)
 IsNoGraph bytes (failure.Schedule e) = ⊥
 IsNoGraph bytes (failure.Record e) = ⊥
+IsNoGraph bytes (failure.Entry place e) = ⊥
+IsNoGraph bytes (failure.BadHead place) = ⊥
 IsNoGraph bytes failure.Memory = ⊤
 
 -- what `keys` prints for a graph: a line for each vertex, by rising place

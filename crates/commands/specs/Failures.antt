@@ -71,6 +71,10 @@ saved_text saved.BadDigest = codes "BadDigest"
 saved_text (saved.NotCanonical why) = codes "NotCanonical " ++ flaw_name why
 saved_text saved.OutOfMemory = codes "OutOfMemory"
 
+-- a refused entry of a log, and its place
+abbrev pub entry_text : ℕ → RecordRefusal → List ℕ
+entry_text place refusal = saved_text refusal ++ codes " " ++ decimal place
+
 -- `refused`, and the refusal
 abbrev pub refused : List ℕ → List ℕ
 refused text = codes "refused " ++ text ++ codes "\n"
@@ -80,4 +84,6 @@ failure_line (failure.Read refusal) = refused (read_text refusal)
 failure_line (failure.Load refusal) = refused (load_text refusal)
 failure_line (failure.Schedule refusal) = refused (schedule_text refusal)
 failure_line (failure.Record refusal) = refused (saved_text refusal)
+failure_line (failure.Entry place refusal) = refused (entry_text place refusal)
+failure_line (failure.BadHead place) = refused (codes "BadHead " ++ decimal place)
 failure_line failure.Memory = codes "out of memory\n"

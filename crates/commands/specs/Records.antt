@@ -10,7 +10,9 @@ use Rattle.versions.specs.declared.lines.SlotLine.{SlotLine}
 use Rattle.schedule.specs.Lines.{access_text}
 use Rattle.schedule.specs.Printing.{line_text}
 use Rattle.saverecord.specs.declared.record.Record.{Record}
+use Rattle.saverecord.specs.Logs.{ledger_in}
 use Rattle.saverecord.specs.Records.{record_of}
+use Rattle.saverecord.specs.Texts.{whole_alone}
 use Rattle.commands.specs.declared.failure.Failure.{Failure}
 use Rattle.commands.specs.declared.failure.Failure.TheVariants as failure
 
@@ -67,4 +69,10 @@ IsNoRecord bytes (failure.Read e) = ⊥
 IsNoRecord bytes (failure.Load e) = ⊥
 IsNoRecord bytes (failure.Schedule e) = ⊥
 IsNoRecord bytes (failure.Record e) = record_of bytes ≡ Err e
+IsNoRecord bytes (failure.Entry place e) = ⊥
+IsNoRecord bytes (failure.BadHead place) = ⊥
 IsNoRecord bytes failure.Memory = ⊤
+
+-- the bytes of a record hold what this one holds with some entries behind it
+abbrev pub HoldsWith : List ℕ → List ℕ → Type 0
+HoldsWith whole bytes = (entries : List (List ℕ)) × (ledger_in (whole_alone bytes) ≡ ledger_in (record { whole = whole; entries = entries }))

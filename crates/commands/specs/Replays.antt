@@ -48,4 +48,6 @@ IsUnread bytes (failure.Read e) = ⊥
 IsUnread bytes (failure.Load e) = ⊥
 IsUnread bytes (failure.Schedule e) = schedule.IsRefused bytes e
 IsUnread bytes (failure.Record e) = ⊥
+IsUnread bytes (failure.Entry place e) = ⊥
+IsUnread bytes (failure.BadHead place) = ⊥
 IsUnread bytes failure.Memory = ⊤

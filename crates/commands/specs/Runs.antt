@@ -9,6 +9,7 @@ use Rattle.jobs.specs.declared.answer.Answer.{Answer}
 use Rattle.jobs.specs.declared.answer.Answer.TheVariants.{Waiting, Output, Failed}
 use Rattle.saverecord.specs.Logs.{Holds}
 use Rattle.saverecord.specs.Texts.{whole_alone}
+use Rattle.farm.specs.Ends.{failed_in}
 use Rattle.farmend.specs.Replays.{farm_after, commits_after}
 use Rattle.commands.specs.Acts.{File}
 
@@ -38,11 +39,16 @@ names_of files = map (λ (file : File). string_bytes file.0) files
 
 -- what is printed for a run of files of these names, and what is saved: there is a schedule of the farm after which the
 -- coordinator's record is the saved one; each file has an answer; and as many commits are printed as grants of the schedule
--- ended committed
-pub record IsRunOf (setup : Setup) (names : List (List ℕ)) (text saved : List ℕ) : Type 0 where
+-- ended committed; and these are the places of the files that failed
+pub record IsRunOf (setup : Setup) (names : List (List ℕ)) (text saved failed : List ℕ) : Type 0 where
   pub events : List Event
   pub answers : List Answer
   pub record_is : Holds (whole_alone saved) (farm_after setup events).saved
   pub count : length answers ≡ length names
   pub answered : All (λ (answer : Answer). answer ≢ Waiting) answers
   pub text_is : text ≡ job_lines names answers ++ commits_line (commits_after setup events)
+  pub failed_are : failed ≡ failed_in answers
+
+-- the bytes are the coordinator's record after some schedule of the farm
+abbrev pub IsRecordOf : Setup → List ℕ → Type 0
+IsRecordOf setup saved = (events : List Event) × Holds (whole_alone saved) (farm_after setup events).saved

@@ -7,10 +7,10 @@ ghost use Rattle.commands.specs.Acts.{AnswersAll, FirstFault};
 
 use super::answers::answer;
 use super::command::{Command, Options, Request, Words, words_of};
-use super::explain::{Explanation, explained};
+use super::explain::{Explanation, causes_told, copies_of, explained, push_log_fault};
 use super::failure::Failure;
-use super::files::contents;
-use super::running::run_scripts;
+use super::files::{contents, kept};
+use super::running::{Order, run_scripts};
 use std::alloc::{AllocError, Global};
 use std::io::{self, Write};
 use std::rt::Files;
@@ -115,12 +115,13 @@ fn explanation(
     alloc: Global,
     words: &Words,
     name: &str,
-    bytes: &io::Result<Vec<u8>>,
+    read: &io::Result<Result<Vec<u8>, Failure>>,
 ) -> Result<Explanation, AllocError> {
     let mut lines = String::new(alloc);
     if words.options.explain || words.options.strict {
-        match bytes {
-            Ok(bytes) => return explained(alloc, words.request, name, bytes.as_slice()),
+        match read {
+            Ok(Ok(bytes)) => return explained(alloc, words.request, name, bytes.as_slice()),
+            Ok(Err(failure)) => push_log_fault(&mut lines, name, *failure)?,
             Err(error) => write!(lines, "{name}: {error}\n")?,
         }
     }
@@ -130,22 +131,35 @@ fn explanation(
     })
 }
 
-/// Prints the explanation behind what was printed, and returns the status.
+/// Prints the explanation behind what was printed, and returns the status: with `--strict` that of a refusal, where something failed.
 fn print_explanation<E: Write>(
     options: Options,
-    explanation: &Explanation,
+    lines: &str,
+    has_failed: bool,
     status: u8,
     err: &mut E,
 ) -> u8 {
-    let status = if status == DONE && options.strict && explanation.has_refused_event {
+    let status = if status == DONE && options.strict && has_failed {
         REFUSED
     } else {
         status
     };
     if options.explain && status <= REFUSED {
-        print(err, explanation.lines.as_str(), status)
+        print(err, lines, status)
     } else {
         status
+    }
+}
+
+/// What a file has for a request, or why it is refused before its bytes are looked at.
+fn read<R: Files + Input + AllocGlobal>(
+    rt: &R,
+    request: Request<'_>,
+    name: &str,
+) -> io::Result<Result<Vec<u8>, Failure>> {
+    match request {
+        Request::Print(Command::Record) => kept(rt, name),
+        _ => Ok(Ok(contents(rt, name, request.most_bytes())?)),
     }
 }
 
@@ -155,33 +169,102 @@ fn read_file<R: Files + Input + AllocGlobal>(
     words: &Words,
     name: &str,
     told: &mut Explanation,
-) -> Result<Option<Vec<u8>>, AllocError> {
-    let bytes = contents(rt, name, words.request.most_bytes());
-    if matches!(&bytes, Err(error) if matches!(error.kind(), io::ErrorKind::OutOfMemory)) {
+) -> Result<Result<Option<Vec<u8>>, Failure>, AllocError> {
+    let read = read(rt, words.request, name);
+    if matches!(&read, Err(error) if matches!(error.kind(), io::ErrorKind::OutOfMemory)) {
         return Err(AllocError);
     }
     if told.lines.is_empty() {
-        *told = explanation(rt.alloc(), words, name, &bytes)?;
+        *told = explanation(rt.alloc(), words, name, &read)?;
     }
-    Ok(bytes.ok())
+    match read {
+        Ok(Ok(bytes)) => Ok(Ok(Some(bytes))),
+        Ok(Err(failure)) => Ok(Err(failure)),
+        Err(_) => Ok(Ok(None)),
+    }
 }
 
-/// Reads the files that the words name, each with its bytes or `None` where it can't be read.
+/// The files that were read, each with its bytes or `None` where it can't be read, up to one that is refused as it is read.
+#[derive(Drop)]
+struct Inputs {
+    files: Vec<(String, Option<Vec<u8>>)>,
+    refused: Option<Failure>,
+}
+
+/// Reads the files that the words name.
 fn read_files<R: Files + Input + AllocGlobal>(
     rt: &R,
     words: &Words,
     told: &mut Explanation,
-) -> Result<Vec<(String, Option<Vec<u8>>)>, AllocError> {
+) -> Result<Inputs, AllocError> {
     let alloc = rt.alloc();
     let mut files = Vec::new(alloc);
     for name in &words.files {
-        let bytes = read_file(rt, words, name, told)?;
-        files.push((String::from_str(alloc, name)?, bytes))?;
+        match read_file(rt, words, name, told)? {
+            Ok(bytes) => files.push((String::from_str(alloc, name)?, bytes))?,
+            Err(failure) => {
+                let refused = Some(failure);
+                return Ok(Inputs { files, refused });
+            }
+        }
     }
-    Ok(files)
+    Ok(Inputs {
+        files,
+        refused: None,
+    })
 }
 
-/// Reads the files that the words name, acts, and explains what is refused if the words ask for it.
+/// Carries out a command on files. One that was refused as it was read comes behind them.
+fn act_on_all<O: Write, E: Write>(
+    alloc: Global,
+    command: Command,
+    inputs: Inputs,
+    out: &mut O,
+    err: &mut E,
+) -> u8 {
+    let Inputs { files, refused } = inputs;
+    let Some(failure) = refused else {
+        return act(alloc, command, files, out, err);
+    };
+    let mut unprinted = Vec::new(alloc);
+    match act(alloc, command, files, &mut unprinted, err) {
+        DONE => print_failure(alloc, failure, err),
+        status => status,
+    }
+}
+
+/// Runs files, and adds why they failed to the explanation.
+fn run_all<R: Files + Input + AllocGlobal + Threads + Wait + Sync, O: Write, E: Write>(
+    rt: &R,
+    order: Order<'_>,
+    options: Options,
+    files: Vec<(String, Option<Vec<u8>>)>,
+    out: &mut O,
+    err: &mut E,
+) -> Result<Shown, AllocError> {
+    let alloc = rt.alloc();
+    let kept = if options.explain {
+        copies_of(alloc, files.as_slice())?
+    } else {
+        Vec::new(alloc)
+    };
+    let ended = run_scripts(rt, order, files, out, err)?;
+    Ok(Shown {
+        status: ended.status,
+        lines: causes_told(alloc, kept.as_slice(), ended.failed.as_slice())?,
+        has_failed: !ended.failed.is_empty(),
+    })
+}
+
+/// The status of a command, what there is to say of it, and whether something failed.
+#[derive(Drop)]
+struct Shown {
+    status: u8,
+    lines: String,
+    has_failed: bool,
+}
+
+/// Reads the files that the words name, acts, and explains what is refused or failed if the words ask for it.
 fn act_on<R: Files + Input + AllocGlobal + Threads + Wait + Sync, O: Write, E: Write>(
     rt: &R,
     words: &Words,
@@ -193,14 +276,20 @@ fn act_on<R: Files + Input + AllocGlobal + Threads + Wait + Sync, O: Write, E: W
         lines: String::new(alloc),
         has_refused_event: false,
     };
-    let files = read_files(rt, words, &mut told)?;
-    let status = match words.request {
-        Request::Print(command) => act(alloc, command, files, out, err),
-        Request::Run { nodes, record_path } => {
-            run_scripts(rt, nodes, record_path, files, out, err)?
+    let inputs = read_files(rt, words, &mut told)?;
+    let (status, has_failed) = match words.request {
+        Request::Print(command) => {
+            let status = act_on_all(alloc, command, inputs, out, err);
+            (status, told.has_refused_event)
+        }
+        Request::Run(order) => {
+            let shown = run_all(rt, order, words.options, inputs.files, out, err)?;
+            told.lines.push_str(shown.lines.as_str())?;
+            (shown.status, shown.has_failed)
         }
     };
-    Ok(print_explanation(words.options, &told, status, err))
+    let lines = told.lines.as_str();
+    Ok(print_explanation(words.options, lines, has_failed, status, err))
 }
 
 /// Does what the words say. The texts of usage faults and help are `clap`'s.

@@ -1,5 +1,6 @@
 //! The words of the command line.
 
+use super::running::Order;
 use clap::builder::ValueParser;
 use clap::{Arg, ArgAction, ArgMatches, Error};
 use farm_base::NODES;
@@ -26,12 +27,8 @@ pub enum Command {
 pub enum Request<'a> {
     /// Prints what the command answers for a file.
     Print(Command),
-    /// Builds definitions on a farm of this many nodes, and prints their answers. The coordinator's record goes to this
-    /// path, if there is one.
-    Run {
-        nodes: u32,
-        record_path: Option<&'a str>,
-    },
+    /// Builds definitions on a farm, and prints their answers.
+    Run(Order<'a>),
 }
 
 impl Request<'_> {
@@ -49,7 +46,7 @@ impl Request<'_> {
 pub struct Options {
     /// Whether to say in plain words why something is refused, on the standard error.
     pub explain: bool,
-    /// Whether a replay with a refused event ends with status 1.
+    /// Whether a replay with a refused event, or a run with a failed file, ends with status 1.
     pub strict: bool,
 }
 
@@ -124,17 +121,13 @@ fn record_command<'a>(alloc: Global) -> Result<clap::Command<'a>, AllocError> {
     subcommand(
         alloc,
         "record",
-        "Prints what a coordinator's record keeps: nodes, leases, retired slots and versions",
+        "Prints what a coordinator's record keeps, with the log beside it: nodes, leases, retired slots and versions",
         RECORD_LINES,
         "A record that a coordinator saved; `-` is the standard input",
     )
 }
 
 fn replay_command<'a>(alloc: Global) -> Result<clap::Command<'a>, AllocError> {
-    let strict = Arg::new(alloc, "strict")
-        .long("strict")
-        .action(ArgAction::SetTrue)
-        .help("Ends with status 1 if an event is refused");
     subcommand(
         alloc,
         "replay",
@@ -142,7 +135,14 @@ fn replay_command<'a>(alloc: Global) -> Result<clap::Command<'a>, AllocError> {
         "Prints a line for each event, and then `SLOT NUMBER:TICKET:DIGITS..` for each slot that has a version.",
         "A schedule; `-` is the standard input",
     )?
-    .arg(strict)
+    .arg(strict_arg(alloc, "Ends with status 1 if an event is refused"))
+}
+
+fn strict_arg<'a>(alloc: Global, help: &'static str) -> Arg<'a> {
+    Arg::new(alloc, "strict")
+        .long("strict")
+        .action(ArgAction::SetTrue)
+        .help(help)
 }
 
 /// What the executor of `run` does.
@@ -185,6 +185,7 @@ fn run_command<'a>(alloc: Global) -> Result<clap::Command<'a>, AllocError> {
         .after_help(SCRIPTS)
         .arg(nodes_arg(alloc))?
         .arg(record_arg(alloc))?
+        .arg(strict_arg(alloc, "Ends with status 1 if a file failed"))?
         .arg(files_arg(alloc))
 }
 
@@ -193,7 +194,7 @@ const NOTES: &str = "Without words it does `replay -`.
 
 Status:
   0  done
-  1  an input was refused, or can't be read; with --strict, an event was refused
+  1  an input was refused, or can't be read; with --strict, an event was refused, or a file failed
   2  the words are no command
   3  memory ran out
   4  the answer could not be written, or a run ended with a fault
@@ -205,7 +206,7 @@ fn farmctl<'a>(alloc: Global) -> Result<clap::Command<'a>, AllocError> {
         .long("explain")
         .action(ArgAction::SetTrue)
         .global(true)
-        .help("Says in plain words why something is refused, on the standard error");
+        .help("Says in plain words why something is refused or failed, on the standard error");
     clap::Command::new(alloc, "farmctl")
         .bin_name("farmctl")?
         .version("0.1.0")
@@ -229,10 +230,10 @@ fn named<'a>(name: &str, found: &ArgMatches<'a>) -> Request<'a> {
         "keys" => Request::Print(Command::Keys),
         "wants" => Request::Print(Command::Wants),
         "record" => Request::Print(Command::Record),
-        "run" => Request::Run {
+        "run" => Request::Run(Order {
             nodes: found.get_one("nodes").unwrap_or(1),
             record_path: found.get_str("record"),
-        },
+        }),
         _ => Request::Print(Command::Replay),
     }
 }
@@ -272,7 +273,7 @@ pub fn words_of<'a>(alloc: Global, words: &'a [String]) -> Result<Words<'a>, Err
         request: named(name, found),
         options: Options {
             explain: found.get_flag("explain"),
-            strict: name == "replay" && found.get_flag("strict"),
+            strict: matches!(name, "replay" | "run") && found.get_flag("strict"),
         },
         files: files_of(alloc, found)?,
     })

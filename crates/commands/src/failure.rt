@@ -1,7 +1,7 @@
 //! Why a file has no answer.
 ghost use Rattle.std.specs.Prelude.{◌≡◌, IfOk};
 ghost use Rattle.std.specs.String.{string_bytes};
-ghost use Rattle.commands.specs.Failures.{wire_name, read_text, load_text, schedule_text, flaw_name, saved_text, failure_line};
+ghost use Rattle.commands.specs.Failures.{wire_name, read_text, load_text, schedule_text, flaw_name, saved_text, entry_text, failure_line};
 ghost use Rattle.vertices.specs.declared.refusal.LoadRefusal.TheVariants as load;
 ghost use Rattle.commands.specs.declared.failure.Failure.TheVariants as failure;
 
@@ -23,6 +23,10 @@ pub enum Failure {
     Schedule(ScheduleRefusal),
     /// Its bytes are not a record.
     Record(RecordRefusal),
+    /// This entry of the log beside it, from 1, is none, or doesn't fit what stands before it.
+    Entry(usize, RecordRefusal),
+    /// What stands before this entry of the log was damaged.
+    BadHead(usize),
     Memory,
 }
 
@@ -130,6 +134,17 @@ fn saved_text(alloc: Global, refusal: RecordRefusal) -> Result<String, AllocErro
     }
 }
 
+/// The refusal of a log's entry.
+fn entry_text(alloc: Global, place: usize, refusal: RecordRefusal) -> Result<String, AllocError>
+    ensures { IfOk result (λ text. string_bytes text ≡ entry_text place refusal) }
+{
+    let mut text = saved_text(alloc, refusal)?;
+    let place = place.to_string(alloc)?;
+    text.push(' ')?;
+    text.push_str(place.as_str())?;
+    Ok(text)
+}
+
 impl Failure {
     /// Its line: `refused`, the refusal's name and its numbers, or that memory ran out.
     pub fn line(self, alloc: Global) -> Result<String, AllocError>
@@ -140,6 +155,8 @@ impl Failure {
             Failure::Load(refusal) => load_text(alloc, refusal)?,
             Failure::Schedule(refusal) => schedule_text(alloc, refusal)?,
             Failure::Record(refusal) => saved_text(alloc, refusal)?,
+            Failure::Entry(place, refusal) => entry_text(alloc, place, refusal)?,
+            Failure::BadHead(place) => format!(in alloc; "BadHead {place}")?,
             Failure::Memory => return String::from_str(alloc, "out of memory\n"),
         };
         format!(in alloc; "refused {refusal}\n")

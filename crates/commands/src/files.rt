@@ -1,7 +1,9 @@
 //! Reading the files that the words name.
 
+use super::failure::Failure;
+use super::record::whole_of;
 use std::alloc::Global;
-use std::io::Read;
+use std::io::{ErrorKind, Read};
 use std::rt::Files;
 use std::{fs, io};
 
@@ -30,5 +32,38 @@ pub fn contents<R: Files + Input + AllocGlobal>(
         bytes_of(rt.alloc(), &mut rt.reader(), most)
     } else {
         bytes_of(rt.alloc(), &mut fs::open(rt, name)?, most)
+    }
+}
+
+/// The bytes of the log beside the record of this name, none where there is no log.
+fn log_beside<R: Files + Input + AllocGlobal>(rt: &R, name: &str) -> io::Result<Vec<u8>> {
+    let log = format!(in rt.alloc(); "{name}.log")?;
+    match contents(rt, log.as_str(), usize::MAX) {
+        Err(error) if error.kind() == ErrorKind::NotFound => Ok(Vec::new(rt.alloc())),
+        read => read,
+    }
+}
+
+/// What the record of this name holds with the log beside it, as one whole record, or why it is refused. Of the standard input it is
+/// what stands there.
+pub(crate) fn kept<R: Files + Input + AllocGlobal>(
+    rt: &R,
+    name: &str,
+) -> io::Result<Result<Vec<u8>, Failure>> {
+    let whole = contents(rt, name, usize::MAX);
+    if name == "-" {
+        return Ok(Ok(whole?));
+    }
+    let log = log_beside(rt, name)?;
+    let whole = match whole {
+        // No whole record was saved yet.
+        Err(error) if error.kind() == ErrorKind::NotFound && !log.is_empty() => Vec::new(
+            rt.alloc(),
+        ),
+        read => read?,
+    };
+    match whole_of(rt.alloc(), whole, log.as_slice()) {
+        Err(Failure::Memory) => Err(io::Error::from(ErrorKind::OutOfMemory)),
+        kept => Ok(kept),
     }
 }

@@ -22,5 +22,5 @@ pub use command::{Command, Options, Request, Words, words_of};
 pub use explain::{Explanation, explained};
 pub use failure::Failure;
 pub use replaying::replayed;
-pub use running::{run_scripts, solve};
+pub use running::{Ended, Order, run_scripts, solve};
 pub use scripted::Scripted;

@@ -1,12 +1,12 @@
 //! What `record` answers for a record.
-ghost use Rattle.std.specs.Prelude.{◌≡◌, ◌++◌, IfOk, IfErr, OnOk};
+ghost use Rattle.std.specs.Prelude.{◌≡◌, ◌++◌, [], IfOk, IfErr, OnOk};
 ghost use Rattle.std.specs.String.{string_bytes};
-ghost use Rattle.commands.specs.Records.{home_line, life_line, gone_line, word_if, leased_text, holder_text, lease_line, retired_line, versions_line, record_text, IsRecordText, IsNoRecord};
+ghost use Rattle.commands.specs.Records.{home_line, life_line, gone_line, word_if, leased_text, holder_text, lease_line, retired_line, versions_line, record_text, IsRecordText, IsNoRecord, HoldsWith};
 
 use super::failure::Failure;
 use super::printing::{Printed, push_access, push_each};
 use farm_base::{Lease, NodeId, NodeLife, Slot};
-use saverecord::{Record, RecordRefusal};
+use saverecord::{Log, LogFault, Record, RecordRefusal, texts_in};
 use schedule::print_line;
 use std::alloc::{AllocError, Global};
 use versions::SlotLine;
@@ -133,4 +133,41 @@ pub(crate) fn recorded(alloc: Global, bytes: &[u8]) -> Result<String, Failure>
     };
     let text = record_text(alloc, &record)?;
     Ok(text)
+}
+
+/// Why texts hold nothing: the first entry with which they do, where those before it hold something. With all entries they are
+/// refused so.
+fn first_fault(alloc: Global, log: &Log, refusal: RecordRefusal) -> Result<Failure, AllocError> {
+    let mut part = Log::of(alloc, Vec::from_slice(alloc, log.whole())?);
+    for (place, entry) in log.entries().iter().enumerate() {
+        match part.read(alloc) {
+            Ok(_) => part.push(Vec::from_slice(alloc, entry.as_slice())?)?,
+            Err(RecordRefusal::OutOfMemory) => return Err(AllocError),
+            Err(refusal) if place == 0 => return Ok(Failure::Record(refusal)),
+            Err(refusal) => return Ok(Failure::Entry(place, refusal)),
+        }
+    }
+    Ok(Failure::Entry(log.entries().len(), refusal))
+}
+
+/// One whole record of what a record's file and the log's file beside it hold. Where no entry follows the record, it is the record's
+/// file as it is.
+pub(crate) fn whole_of(alloc: Global, whole: Vec<u8>, tail: &[u8]) -> Result<Vec<u8>, Failure>
+    // It holds what the record holds with some entries behind it.
+    ensures kept { IfOk result (λ bytes. HoldsWith whole.items bytes.items) }
+    ensures alone { tail.now ≡ [] → IfOk result (λ bytes. bytes.items ≡ whole.items) }
+{
+    let log = match texts_in(alloc, whole, tail) {
+        Ok(log) => log,
+        Err(LogFault::BadHead(place)) => return Err(Failure::BadHead(place)),
+        Err(LogFault::OutOfMemory) => return Err(Failure::Memory),
+    };
+    if log.entries().is_empty() {
+        return Ok(Vec::from_slice(alloc, log.whole())?);
+    }
+    match log.fold(alloc) {
+        Ok(bytes) => Ok(bytes),
+        Err(RecordRefusal::OutOfMemory) => Err(Failure::Memory),
+        Err(refusal) => Err(first_fault(alloc, &log, refusal)?),
+    }
 }

@@ -1,21 +1,20 @@
 //! What `run` does with its files.
-ghost use Rattle.std.specs.Prelude.{◌≡◌, ◌≢◌, ◌+◌, ◌++◌, ◌∷◌, [], ℕ, List, codes, length, map, IfOk, IfErr, OnOk};
+ghost use Rattle.std.specs.Prelude.{◌≡◌, ◌≢◌, ◌+◌, ◌++◌, ◌∷◌, [], ℕ, List, codes, length, map, None, IfOk, IfErr, IfSome, IfNone, OnOk};
 ghost use Rattle.std.specs.String.{string_bytes};
 ghost use Rattle.std.specs.Io.KnownBytes.{Appends};
-ghost use Rattle.commands.specs.declared.failure.Failure.TheVariants as failures;
 ghost use Rattle.commands.specs.declared.running.InputFault.TheVariants as inputs;
 ghost use Rattle.commands.specs.Answers.{SpellsGraph, IsNoGraph};
-ghost use Rattle.commands.specs.Runs.{answer_text, job_line, job_lines, commits_line, names_of, IsRunOf};
+ghost use Rattle.commands.specs.Runs.{answer_text, job_line, job_lines, commits_line, names_of, IsRunOf, IsRecordOf};
 
-use super::acts::{DONE, FAULT, MEMORY, print, print_failure, print_unreadable};
+use super::acts::{DONE, FAULT, MEMORY, REFUSED, print, print_failure, print_unreadable};
 use super::answers::graph_of;
 use super::failure::Failure;
 use super::scripted::Scripted;
 use executions::{Executor, OpenGate};
-use farm::{Farm, FarmEnd, FarmFault};
+use farm::{Farm, FarmEnd, FarmFault, FarmStop};
 use farm_base::NodeId;
-use jobs::Answer;
-use saverecord::{FileKeeper, Keeper, SaveFault};
+use jobs::{Answer, Cause};
+use saverecord::FileKeeper;
 use schedule::Setup;
 use solverkeys::Keyed;
 use std::alloc::{AllocError, AllocFailed, Global};
@@ -46,22 +45,24 @@ fn node_of(place: usize, nodes: u32) -> NodeId {
 enum InputFault {
     /// The file of this name can't be read.
     Unreadable(String),
-    Refused(Failure),
+    /// The definition of this name is refused.
+    Refused(String, Failure),
+    Memory,
 }
 
 impl From<AllocError> for InputFault {
-    ghost from_gives = { λ _ fault. fault ≡ inputs.Refused failures.Memory };
+    ghost from_gives = { λ _ fault. fault ≡ inputs.Memory };
 
     fn from(_error: AllocError) -> InputFault {
-        InputFault::Refused(Failure::Memory)
+        InputFault::Memory
     }
 }
 
 impl<T: Drop> From<AllocFailed<T>> for InputFault {
-    ghost from_gives = { λ _ fault. fault ≡ inputs.Refused failures.Memory };
+    ghost from_gives = { λ _ fault. fault ≡ inputs.Memory };
 
     fn from(_error: AllocFailed<T>) -> InputFault {
-        InputFault::Refused(Failure::Memory)
+        InputFault::Memory
     }
 }
 
@@ -88,7 +89,7 @@ fn push_input(
     };
     let keyed = match keyed_of(alloc, bytes) {
         Ok(keyed) => keyed,
-        Err(failure) => return Err(InputFault::Refused(failure)),
+        Err(failure) => return Err(InputFault::Refused(name, failure)),
     };
     let node = node_of(inputs.jobs.len(), nodes);
     inputs.names.push(name)?;
@@ -189,13 +190,46 @@ fn print_fault<E: Write>(alloc: Global, fault: FarmFault, err: &mut E) -> u8
     }
 }
 
-fn print_input_fault<E: Write>(alloc: Global, fault: InputFault, err: &mut E) -> u8
+/// Prints why there is no job for a file, and in which one, where there are several.
+fn print_input_fault<E: Write>(
+    alloc: Global,
+    fault: InputFault,
+    is_one_of_many: bool,
+    err: &mut E,
+) -> u8
     ensures { result ≢ 0 }
 {
     match fault {
         InputFault::Unreadable(name) => print_unreadable(alloc, name.as_str(), err),
-        InputFault::Refused(failure) => print_failure(alloc, failure, err),
+        InputFault::Memory => print_failure(alloc, Failure::Memory, err),
+        InputFault::Refused(name, failure) => {
+            let status = print_failure(alloc, failure, err);
+            if !is_one_of_many || status != REFUSED {
+                return status;
+            }
+            match format!(in alloc; "in {name}\n") {
+                Ok(line) => print(err, line.as_str(), status),
+                Err(_) => status,
+            }
+        }
     }
+}
+
+/// What `run` is asked to do.
+#[derive(Clone, Copy, Debug, PartialEq, Eq)]
+pub struct Order<'a> {
+    pub nodes: u32,
+    /// Where the coordinator's record is kept, if it is.
+    pub record_path: Option<&'a str>,
+}
+
+/// How a run ended.
+#[derive(Debug, Drop)]
+pub struct Ended {
+    /// The status of the program.
+    pub status: u8,
+    /// Why each file that failed did: its place, from 0, and its cause.
+    pub failed: Vec<(usize, Cause)>,
 }
 
 /// What a run leaves to print and to keep.
@@ -203,6 +237,40 @@ struct Report {
     text: String,
     /// The coordinator's record at the end.
     saved: Vec<u8>,
+    /// Why each file that failed did.
+    failed: Vec<(usize, Cause)>,
+}
+
+/// A fault, and the coordinator's record then, if it can be told.
+struct Stop {
+    fault: FarmFault,
+    saved: Option<Vec<u8>>,
+}
+
+impl From<AllocError> for Stop {
+    ghost from_gives = { λ _ stop. stop.saved ≡ None };
+
+    fn from(_error: AllocError) -> Stop {
+        Stop {
+            fault: FarmFault::Memory,
+            saved: None,
+        }
+    }
+}
+
+/// What is kept of a run that a fault ended.
+fn stop_of(stop: FarmStop) -> Stop
+    ensures some { IfSome stop.left (λ left. IfSome result.saved (λ saved. saved.items ≡ left.saved.items)) }
+    ensures none { IfNone stop.left (result.saved ≡ None) }
+{
+    let FarmStop { fault, left } = stop;
+    match left {
+        Some(left) => Stop {
+            fault,
+            saved: Some(left.saved),
+        },
+        None => Stop { fault, saved: None },
+    }
 }
 
 /// Runs these jobs on a farm without disturbances.
@@ -212,26 +280,67 @@ fn make_report<R: Threads + Wait + Sync>(
     setup: Setup,
     inputs: Inputs,
     executors: Vec<(NodeId, Box<dyn Executor + Send>)>,
-) -> Result<Report, FarmFault>
+) -> Result<Report, Stop>
     requires { length inputs.names.items ≡ length inputs.jobs.items }
-    ensures { IfOk result (λ report. IsRunOf setup (map string_bytes inputs.names.items) (string_bytes report.text) report.saved.items) }
+    ensures run { IfOk result (λ report. IsRunOf setup (map string_bytes inputs.names.items) (string_bytes report.text) report.saved.items (map (λ each. each.0) report.failed.items)) }
+    // A record that a fault leaves is that of a farm of this setup.
+    ensures left { IfErr result (λ stop. IfSome stop.saved (λ saved. IsRecordOf setup saved.items)) }
 {
     let Inputs { names, jobs } = inputs;
     let plan = Vec::new(alloc);
-    let end = Farm::run(rt, alloc, setup, jobs, executors, plan, &OpenGate)?;
+    let end = match Farm::run(rt, alloc, setup, jobs, executors, plan, &OpenGate) {
+        Ok(end) => end,
+        Err(stop) => return Err(stop_of(stop)),
+    };
     let text = run_text(alloc, names.as_slice(), &end)?;
     Ok(Report {
         text,
         saved: end.saved,
+        failed: end.causes,
     })
 }
 
-/// Keeps a record in the file of this path.
-fn keep<R: Files>(files: &R, alloc: Global, path: &str, saved: Vec<u8>) -> io::Result<()> {
-    let mut keeper = FileKeeper::open(files, alloc, path)?;
-    match keeper.save(saved) {
-        Ok(()) => Ok(()),
-        Err(SaveFault) => Err(io::Error::from(io::ErrorKind::Other)),
+/// Keeps a record in the file of this path, in the place of what it held. It prints a fault where that fails.
+fn keep<R: Files, E: Write>(
+    files: &R,
+    alloc: Global,
+    path: Option<&str>,
+    saved: &[u8],
+    err: &mut E,
+) -> Option<u8>
+    ensures none { IfNone result (err.new ≡ err.old) }
+    ensures some { IfSome result (λ status. (status ≢ 0) × (status ≢ 1)) }
+{
+    let path = path?;
+    match FileKeeper::put(files, alloc, path, saved) {
+        Ok(()) => None,
+        Err(error) => Some(print_save_fault(&error, err)),
+    }
+}
+
+/// Tries whether a record can be kept in the file of this path. It prints a fault where it can't.
+fn try_keep<R: Files, E: Write>(
+    files: &R,
+    alloc: Global,
+    path: Option<&str>,
+    err: &mut E,
+) -> Option<u8>
+    ensures { IfSome result (λ status. (status ≢ 0) × (status ≢ 1)) }
+{
+    let path = path?;
+    match FileKeeper::try_put(files, alloc, path) {
+        Ok(()) => None,
+        Err(error) => Some(print_save_fault(&error, err)),
+    }
+}
+
+/// Says that the record could not be kept.
+fn print_save_fault<E: Write>(error: &io::Error, err: &mut E) -> u8
+    ensures { (result ≢ 0) × (result ≢ 1) }
+{
+    match error.kind() {
+        io::ErrorKind::OutOfMemory => print(err, "out of memory\n", MEMORY),
+        _ => print(err, "fault SaveFault\n", FAULT),
     }
 }
 
@@ -243,63 +352,95 @@ fn print_report<R: Files, O: Write, E: Write>(
     path: Option<&str>,
     out: &mut O,
     err: &mut E,
-) -> u8
-    ensures done { result ≡ 0 → Appends (O.contents out.old) (O.contents out.new) (string_bytes report.text) }
-    ensures never_refused { result ≢ 1 }
+) -> Ended
+    ensures done { result.status ≡ 0 → Appends (O.contents out.old) (O.contents out.new) (string_bytes report.text) }
+    ensures failed { result.status ≡ 0 → result.failed.items ≡ report.failed.items }
+    ensures never_refused { result.status ≢ 1 }
 {
-    let Report { text, saved } = report;
-    if let Some(path) = path {
-        if let Err(error) = keep(files, alloc, path, saved) {
-            return match error.kind() {
-                io::ErrorKind::OutOfMemory => print(err, "out of memory\n", MEMORY),
-                _ => print(err, "fault SaveFault\n", FAULT),
-            };
-        }
-    }
-    print(out, text.as_str(), DONE)
+    let Report {
+        text,
+        saved,
+        failed,
+    } = report;
+    let status = match keep(files, alloc, path, saved.as_slice(), err) {
+        Some(status) => status,
+        None => print(out, text.as_str(), DONE),
+    };
+    Ended { status, failed }
 }
 
-/// Builds the definitions of files on a farm of this many nodes, by these executors. The coordinator's record goes to this
-/// path, if there is one. Nothing is printed before the farm's end. Returns the status of the program.
+/// Keeps the record of a run that a fault ended, if there is one and a path is given for it, and prints the fault.
+fn print_stop<R: Files, E: Write>(
+    files: &R,
+    alloc: Global,
+    stop: Stop,
+    path: Option<&str>,
+    err: &mut E,
+) -> u8
+    ensures { (result ≢ 0) × (result ≢ 1) }
+{
+    let Stop { fault, saved } = stop;
+    if let Some(saved) = saved {
+        let _unkept = keep(files, alloc, path, saved.as_slice(), err);
+    }
+    print_fault(alloc, fault, err)
+}
+
+/// Builds the definitions of files on a farm, by these executors. The coordinator's record goes to the path of the order, if it has
+/// one, with a fault too. Nothing is printed before the farm's end.
 pub fn solve<R: Files + AllocGlobal + Threads + Wait + Sync, O: Write, E: Write>(
     rt: &R,
-    nodes: u32,
-    record_path: Option<&str>,
+    order: Order<'_>,
     files: Vec<(String, Option<Vec<u8>>)>,
     executors: Vec<(NodeId, Box<dyn Executor + Send>)>,
     out: &mut O,
     err: &mut E,
-) -> u8
-    // At status 0 the standard output has the lines of a run of the files.
-    ensures done { result ≡ 0 → (text : List ℕ) × (saved : List ℕ) × IsRunOf (record { nodes = nodes }) (names_of files.items) text saved
+) -> Ended
+    // At status 0 the standard output has the lines of a run of the files, and each that failed has its cause.
+    ensures done { result.status ≡ 0 → (text : List ℕ) × (saved : List ℕ)
+        × IsRunOf (record { nodes = order.entry.nodes }) (names_of files.items) text saved (map (λ each. each.0) result.failed.items)
         × Appends (O.contents out.old) (O.contents out.new) text }
-    ensures quiet { result ≡ 1 → out.new ≡ out.old }
+    ensures quiet { result.status ≡ 1 → out.new ≡ out.old }
 {
     let alloc = rt.alloc();
+    let Order { nodes, record_path } = order;
+    let are_many = files.len() > 1;
     let inputs = match inputs_of(alloc, nodes, files) {
         Ok(inputs) => inputs,
-        Err(fault) => return print_input_fault(alloc, fault, err),
+        Err(fault) => return unanswered(alloc, print_input_fault(alloc, fault, are_many, err)),
     };
+    if let Some(status) = try_keep(rt, alloc, record_path, err) {
+        return unanswered(alloc, status);
+    }
     match make_report(rt, alloc, Setup { nodes }, inputs, executors) {
         Ok(report) => print_report(rt, alloc, report, record_path, out, err),
-        Err(fault) => print_fault(alloc, fault, err),
+        Err(stop) => unanswered(alloc, print_stop(rt, alloc, stop, record_path, err)),
     }
 }
 
-/// Builds the definitions of files, by a scripted executor on each of this many nodes.
+/// A run that ended with this status, and without answers.
+fn unanswered(alloc: Global, status: u8) -> Ended
+    ensures { result.status ≡ status }
+{
+    Ended {
+        status,
+        failed: Vec::new(alloc),
+    }
+}
+
+/// Builds the definitions of files, by a scripted executor on each node.
 pub fn run_scripts<R: Files + AllocGlobal + Threads + Wait + Sync, O: Write, E: Write>(
     rt: &R,
-    nodes: u32,
-    record_path: Option<&str>,
+    order: Order<'_>,
     files: Vec<(String, Option<Vec<u8>>)>,
     out: &mut O,
     err: &mut E,
-) -> Result<u8, AllocError> {
+) -> Result<Ended, AllocError> {
     let alloc = rt.alloc();
     let mut executors = Vec::new(alloc);
-    for number in 0..nodes {
+    for number in 0..order.nodes {
         let executor: Box<dyn Executor + Send> = Box::new(alloc, Scripted::new(alloc))?;
         executors.push((NodeId(number + 1), executor))?;
     }
-    Ok(solve(rt, nodes, record_path, files, executors, out, err))
+    Ok(solve(rt, order, files, executors, out, err))
 }

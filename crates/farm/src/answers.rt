@@ -3,7 +3,7 @@ ghost use Rattle.std.specs.Prelude.{◌≡◌, ◌≢◌, All, IfOk, length};
 
 use super::fault::FarmFault;
 use super::faults::jobs_fault;
-use jobs::{Answer, JobId, Jobs, JobsRefusal};
+use jobs::{Answer, Cause, JobId, Jobs, JobsRefusal};
 use std::alloc::Global;
 
 /// The answer of a job that doesn't wait. A result whose key is done without it has failed.
@@ -15,6 +15,15 @@ pub(crate) fn answer_of(jobs: &Jobs, job: JobId) -> Result<Answer, FarmFault>
         Ok(Answer::Failed) => Ok(Answer::Failed),
         Ok(Answer::Waiting) => Err(FarmFault::ReceiptLost),
         Err(JobsRefusal::NoOutput(_)) => Ok(Answer::Failed),
+        Err(refusal) => Err(jobs_fault(refusal)),
+    }
+}
+
+/// Why a job that failed did.
+pub(crate) fn cause_of(alloc: Global, jobs: &Jobs, job: JobId) -> Result<Cause, FarmFault> {
+    match jobs.cause(alloc, job) {
+        Ok(Some(cause)) => Ok(cause),
+        Ok(None) => Err(FarmFault::ReceiptLost),
         Err(refusal) => Err(jobs_fault(refusal)),
     }
 }

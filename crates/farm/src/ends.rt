@@ -1,7 +1,8 @@
 //! What a run leaves.
+use super::fault::FarmFault;
 use executions::Executor;
 use farmboard::Receipt;
-use jobs::Answer;
+use jobs::{Answer, Cause};
 use protocol::Event;
 
 /// What a run of one executor leaves.
@@ -19,6 +20,8 @@ pub struct OneEnd {
 pub struct FarmEnd {
     /// The answer of each job, in their order.
     pub answers: Vec<Answer>,
+    /// Why each job that failed did: its place, from 0, and its cause.
+    pub causes: Vec<(usize, Cause)>,
     /// How many grants ended as committed.
     pub commits: u64,
     /// Those of the executions and tenures that left versions.
@@ -28,4 +31,26 @@ pub struct FarmEnd {
     pub schedule: Vec<Event>,
     /// In the order in which they were handed in.
     pub executors: Vec<Box<dyn Executor + Send>>,
+}
+
+/// What stands of a run that a fault ended.
+#[derive(Drop)]
+pub struct FarmLeft {
+    /// How many grants ended as committed.
+    pub commits: u64,
+    /// Those of the executions and tenures that left versions, and whose end was seen.
+    pub receipts: Vec<Receipt>,
+    /// The record of the coordinator, as bytes.
+    pub saved: Vec<u8>,
+    pub schedule: Vec<Event>,
+    /// The first ones, in the order in which they were handed in: all, unless a thread could not be started.
+    pub executors: Vec<Box<dyn Executor + Send>>,
+}
+
+/// How a run ends without its answers.
+#[derive(Drop)]
+pub struct FarmStop {
+    pub fault: FarmFault,
+    /// What stands. None where nothing was begun, where memory ran out for it, or where it doesn't agree.
+    pub left: Option<FarmLeft>,
 }

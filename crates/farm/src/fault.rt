@@ -1,9 +1,7 @@
 ghost use Rattle.std.specs.Prelude.{◌≡◌};
 ghost use Rattle.farm.specs.declared.fault.FarmFault.TheVariants.{Memory};
-ghost use Rattle.farm.specs.Faults.{after_check};
 
 use farm_base::Key;
-use farmend::EndRefusal;
 use std::alloc::{AllocError, AllocFailed};
 use thiserror::Error;
 
@@ -47,16 +45,5 @@ impl<T: Drop> From<AllocFailed<T>> for FarmFault {
 
     fn from(_error: AllocFailed<T>) -> FarmFault {
         FarmFault::Memory
-    }
-}
-
-impl From<EndRefusal> for FarmFault {
-    ghost from_gives = { λ refusal fault. fault ≡ after_check refusal };
-
-    fn from(refusal: EndRefusal) -> FarmFault {
-        match refusal {
-            EndRefusal::Disagrees => FarmFault::ReceiptLost,
-            EndRefusal::OutOfMemory => FarmFault::Memory,
-        }
     }
 }

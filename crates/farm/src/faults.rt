@@ -1,8 +1,12 @@
 //! What refusals end a run with.
+ghost use Rattle.std.specs.Prelude.{◌≡◌, true};
+ghost use Rattle.farm.specs.Faults.{is_bare};
+
 use super::fault::FarmFault;
 use executions::{RunRefusal, SharedRefusal};
 use farm_base::Key;
 use farmboard::BoardRefusal;
+use farmend::EndRefusal;
 use jobs::JobsRefusal;
 use protocol::EventRefusal;
 use world::StartRefusal;
@@ -64,5 +68,26 @@ pub(crate) fn shared_fault(refusal: SharedRefusal) -> FarmFault {
         SharedRefusal::Twice => FarmFault::ReceiptLost,
         SharedRefusal::NotOpen => FarmFault::ReceiptLost,
         SharedRefusal::BadContents => FarmFault::ReceiptLost,
+    }
+}
+
+/// What a run ends with before its threads begin: that is one of these three, so that the last case never comes.
+pub(crate) fn early_fault(fault: FarmFault) -> FarmFault
+    ensures { is_bare result ≡ true }
+{
+    match fault {
+        FarmFault::BadSetup => FarmFault::BadSetup,
+        FarmFault::Memory => FarmFault::Memory,
+        _ => FarmFault::ReceiptLost,
+    }
+}
+
+/// What a run ends with whose end failed its check.
+pub(crate) fn end_fault(refusal: EndRefusal) -> FarmFault
+    ensures { is_bare result ≡ true }
+{
+    match refusal {
+        EndRefusal::Disagrees => FarmFault::ReceiptLost,
+        EndRefusal::OutOfMemory => FarmFault::Memory,
     }
 }

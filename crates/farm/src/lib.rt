@@ -26,6 +26,6 @@ mod worker;
 mod worker_steps;
 
 pub use down::DownCount;
-pub use ends::{FarmEnd, OneEnd};
+pub use ends::{FarmEnd, FarmLeft, FarmStop, OneEnd};
 pub use fault::FarmFault;
 pub use one::Farm;

@@ -1,20 +1,23 @@
 //! A farm on threads.
-ghost use Rattle.std.specs.Prelude.{◌≡◌, ◌≢◌, ◌↔◌, false, All, IfOk, Err, length, map, nat_eq};
+ghost use Rattle.std.specs.Prelude.{◌≡◌, ◌≢◌, ◌↔◌, true, false, All, IfOk, IfErr, IfSome, IfNone, IsErrAnd, OnOk, length, map, take, nat_eq};
 ghost use Rattle.std.specs.List.{AllZip, IsDistinct};
 ghost use Rattle.saverecord.specs.Logs.{Holds};
 ghost use Rattle.saverecord.specs.Texts.{whole_alone};
 ghost use Rattle.executions.specs.Calls.{Grew};
+ghost use Rattle.farm.specs.Ends.{failed_in};
+ghost use Rattle.farm.specs.Faults.{is_bare};
 ghost use Rattle.farm.specs.Setups.{is_staffed};
-ghost use Rattle.farmend.specs.Answers.{IsAnswered};
+ghost use Rattle.farmend.specs.Answers.{AreAnswered, IsAnswered};
 ghost use Rattle.farmend.specs.NewCalls.{new_calls};
 ghost use Rattle.farmend.specs.Receipts.{StandsOn, tickets_of};
 ghost use Rattle.farmend.specs.Replays.{commits_after, farm_after};
+ghost use Rattle.farmend.specs.Standing.{IsStanding};
 
-use super::answers::answer_of;
+use super::answers::{answer_of, cause_of};
 use super::desk::Desk;
-use super::ends::FarmEnd;
+use super::ends::{FarmEnd, FarmLeft, FarmStop};
 use super::fault::FarmFault;
-use super::faults::start_fault;
+use super::faults::{early_fault, end_fault, start_fault};
 use super::hall::Hall;
 use super::one::Farm;
 use super::opening::{Submitted, open, submit_all};
@@ -26,8 +29,8 @@ use super::worker::WorkerEnd;
 use executions::{Executor, Gate};
 use farm_base::NodeId;
 use farmboard::{Board, FarmStep, Receipt};
-use farmend::{HandedBack, Hired, calls_of, check};
-use jobs::{Answer, JobId};
+use farmend::{EndRefusal, HandedBack, Hired, RunEnd, Standing, calls_of, check, check_standing};
+use jobs::{Answer, Cause, JobId};
 use schedule::Setup;
 use solverkeys::Keyed;
 use std::alloc::{AllocError, Global};
@@ -85,6 +88,65 @@ fn answers_of<R: Wait>(
     Ok(answers)
 }
 
+/// Why the job of this number on a node failed.
+fn cause_at<R: Wait>(
+    rt: &R,
+    alloc: Global,
+    hall: &Hall,
+    number: (NodeId, JobId),
+) -> Result<Cause, FarmFault> {
+    let (node, number) = number;
+    let Some(home) = hall.home(node) else {
+        return Err(FarmFault::ReceiptLost);
+    };
+    let cause = cause_of(alloc, &home.jobs.lock(rt).jobs, number)?;
+    Ok(cause)
+}
+
+/// Why each job that failed did: its place, and its cause.
+fn causes_of<R: Wait>(
+    rt: &R,
+    alloc: Global,
+    hall: &Hall,
+    numbers: &[(NodeId, JobId)],
+    answers: &[Answer],
+) -> Result<Vec<(usize, Cause)>, FarmFault>
+    ensures { IfOk result (λ causes. map (λ each. each.0) causes.items ≡ failed_in answers.now) }
+{
+    let mut causes = Vec::new(alloc);
+    let mut rest = answers;
+    for place in 0..numbers.len() {
+        let [answer, others @ ..] = rest else {
+            break;
+        };
+        if let Answer::Failed = answer {
+            causes.push((place, cause_at(rt, alloc, hall, numbers[place])?))?;
+        }
+        rest = others;
+    }
+    if !rest.is_empty() {
+        return Err(FarmFault::ReceiptLost);
+    }
+    Ok(causes)
+}
+
+/// What the jobs with these numbers came to.
+fn told_of<R: Wait>(
+    rt: &R,
+    alloc: Global,
+    hall: &Hall,
+    numbers: &[(NodeId, JobId)],
+) -> Result<Told, FarmFault>
+    ensures { IfOk result (λ told. map (λ each. each.0) told.causes.items ≡ failed_in told.answers.items) }
+{
+    if let Some(fault) = *hall.fault.lock(rt) {
+        return Err(fault);
+    }
+    let answers = answers_of(rt, alloc, hall, numbers)?;
+    let causes = causes_of(rt, alloc, hall, numbers, answers.as_slice())?;
+    Ok(Told { answers, causes })
+}
+
 /// The board and the jobs.
 fn parts_of(hall: Hall) -> (Board, Vec<(NodeId, Keyed)>)
     ensures { result.1.items ≡ hall.work.jobs.items }
@@ -121,7 +183,8 @@ impl Farm {
     /// leaves can't be kept. `GateHeld` of a key that the gate didn't let pass in 10,000,000 turns. `HistoryFull` where the
     /// schedule is full; `Stalled` where nobody could go on, though all was sent again 1,000 times; `CoordinatorDown` where
     /// the coordinator failed to restart eight times in a row; `NoThread`; `Memory`, the executors' too. `ReceiptLost`
-    /// where the board refuses something else, or the check at the end doesn't hold.
+    /// where the board refuses something else, or the check at the end doesn't hold. With its fault a run hands back what
+    /// stands: what was committed is not lost.
     pub fn run<R: Threads + Wait + Sync, G: Gate>(
         rt: &R,
         alloc: Global,
@@ -130,8 +193,8 @@ impl Farm {
         executors: Vec<(NodeId, Box<dyn Executor + Send>)>,
         fault_plan: Vec<(usize, FarmStep)>,
         gate: &G,
-    ) -> Result<FarmEnd, FarmFault>
-        ensures bad { (result ≡ Err FarmFault.BadSetup) ↔ (is_staffed setup jobs.items executors.items ≡ false) }
+    ) -> Result<FarmEnd, FarmStop>
+        ensures bad { IsErrAnd result (λ stop. stop.fault ≡ FarmFault.BadSetup) ↔ (is_staffed setup jobs.items executors.items ≡ false) }
         ensures saved { IfOk result (λ end. Holds (whole_alone end.saved.items) (farm_after setup end.schedule.items).saved) }
         ensures commits { IfOk result (λ end. end.commits ≡ commits_after setup end.schedule.items) }
         ensures receipts { IfOk result (λ end. All (StandsOn (farm_after setup end.schedule.items)) end.receipts.items) }
@@ -145,13 +208,27 @@ impl Farm {
             AllZip (λ job answer. IsAnswered (farm_after setup end.schedule.items) (new_calls job.0 nodes had ends) job.0 job.1 answer) jobs.items end.answers.items) }
         ensures answered { IfOk result (λ end. length end.answers.items ≡ length jobs.items) }
         ensures settled { IfOk result (λ end. All (λ answer. answer ≢ Answer.Waiting) end.answers.items) }
+        // Each job that failed has its cause.
+        ensures causes { IfOk result (λ end. map (λ each. each.0) end.causes.items ≡ failed_in end.answers.items) }
+
+        // A fault hands back what stands, unless nothing was begun or it can't be told.
+        ensures bare { IfErr result (λ stop. IfNone stop.left (is_bare stop.fault ≡ true)) }
+        ensures stands { IfErr result (λ stop. IfSome stop.left (λ left. IsStanding setup left.schedule.items left.saved.items left.commits left.receipts.items)) }
+        ensures stands_by { IfErr result (λ stop. IfSome stop.left (λ left.
+            AllZip Grew (take (length left.executors.items) (map (λ each. history each.1) executors.items)) (map (λ executor. history executor) left.executors.items))) }
     {
         if !is_staffed(setup, jobs.as_slice(), executors.as_slice()) {
-            return Err(FarmFault::BadSetup);
+            return Err(FarmStop {
+                fault: FarmFault::BadSetup,
+                left: None,
+            });
         }
         match run_staffed(rt, alloc, setup, jobs, executors, fault_plan, gate) {
             Ok(end) => Ok(end),
-            Err(fault) => Err(beside_setup(fault)),
+            Err(FarmStop { fault, left }) => Err(FarmStop {
+                fault: beside_setup(fault),
+                left,
+            }),
         }
     }
 }
@@ -165,7 +242,7 @@ fn run_staffed<R: Threads + Wait + Sync, G: Gate>(
     executors: Vec<(NodeId, Box<dyn Executor + Send>)>,
     fault_plan: Vec<(usize, FarmStep)>,
     gate: &G,
-) -> Result<FarmEnd, FarmFault>
+) -> Result<FarmEnd, FarmStop>
     ensures saved { IfOk result (λ end. Holds (whole_alone end.saved.items) (farm_after setup end.schedule.items).saved) }
     ensures commits { IfOk result (λ end. end.commits ≡ commits_after setup end.schedule.items) }
     ensures receipts { IfOk result (λ end. All (StandsOn (farm_after setup end.schedule.items)) end.receipts.items) }
@@ -179,32 +256,156 @@ fn run_staffed<R: Threads + Wait + Sync, G: Gate>(
         AllZip (λ job answer. IsAnswered (farm_after setup end.schedule.items) (new_calls job.0 nodes had ends) job.0 job.1 answer) jobs.items end.answers.items) }
     ensures answered { IfOk result (λ end. length end.answers.items ≡ length jobs.items) }
     ensures settled { IfOk result (λ end. All (λ answer. answer ≢ Answer.Waiting) end.answers.items) }
+    ensures causes { IfOk result (λ end. map (λ each. each.0) end.causes.items ≡ failed_in end.answers.items) }
+    ensures bare { IfErr result (λ stop. IfNone stop.left (is_bare stop.fault ≡ true)) }
+    ensures stands { IfErr result (λ stop. IfSome stop.left (λ left. IsStanding setup left.schedule.items left.saved.items left.commits left.receipts.items)) }
+    ensures stands_by { IfErr result (λ stop. IfSome stop.left (λ left.
+        AllZip Grew (take (length left.executors.items) (map (λ each. history each.1) executors.items)) (map (λ executor. history executor) left.executors.items))) }
 {
-    let hired = Hired::all(alloc, executors.as_slice())?;
-    let RunEnd {
-        back,
+    let Ok(hired) = Hired::all(alloc, executors.as_slice()) else {
+        return Err(FarmStop {
+            fault: FarmFault::Memory,
+            left: None,
+        });
+    };
+    let solved = match solve_all(rt, alloc, setup, jobs, executors, fault_plan, gate) {
+        Ok(solved) => solved,
+        Err(fault) => {
+            return Err(FarmStop {
+                fault: early_fault(fault),
+                left: None,
+            });
+        }
+    };
+    let Solved {
+        told,
+        board,
+        receipts,
         executors,
         jobs,
-    } = solve_all(rt, alloc, setup, jobs, executors, fault_plan, gate)?;
-    let end = {
-        let ends = calls_of(alloc, executors.as_slice())?;
-        let (jobs, hired) = (jobs.as_slice(), hired.as_slice());
-        check(alloc, setup, jobs, hired, ends.as_slice(), back)?
-    };
-    Ok(FarmEnd {
-        answers: end.answers,
-        commits: end.commits,
-        receipts: end.receipts,
-        saved: end.saved,
-        schedule: end.schedule,
-        executors,
-    })
+    } = solved;
+    match told {
+        Ok(Told { answers, causes }) => {
+            let back = HandedBack {
+                board,
+                receipts,
+                answers,
+            };
+            let (jobs, hired) = (jobs.as_slice(), hired.as_slice());
+            match checked(alloc, setup, jobs, hired, executors.as_slice(), back) {
+                Ok(end) => Ok(FarmEnd {
+                    answers: end.answers,
+                    causes,
+                    commits: end.commits,
+                    receipts: end.receipts,
+                    saved: end.saved,
+                    schedule: end.schedule,
+                    executors,
+                }),
+                Err(refusal) => Err(FarmStop {
+                    fault: end_fault(refusal),
+                    left: None,
+                }),
+            }
+        }
+        Err(fault) => Err(stopped(alloc, setup, hired, fault, executors, (board, receipts))),
+    }
 }
 
-/// What the threads leave: what is checked, and the executors and jobs.
-#[derive(Drop)]
-struct RunEnd {
+/// What the threads of a run handed back, if it agrees.
+fn checked(
+    alloc: Global,
+    setup: Setup,
+    jobs: &[(NodeId, Keyed)],
+    hired: &[Hired],
+    executors: &[Box<dyn Executor + Send>],
     back: HandedBack,
+) -> Result<RunEnd, EndRefusal>
+    ensures saved { IfOk result (λ end. Holds (whole_alone end.saved.items) (farm_after setup end.schedule.items).saved) }
+    ensures commits { IfOk result (λ end. end.commits ≡ commits_after setup end.schedule.items) }
+    ensures receipts { IfOk result (λ end. All (StandsOn (farm_after setup end.schedule.items)) end.receipts.items) }
+    ensures tickets { IfOk result (λ end. IsDistinct nat_eq (tickets_of end.receipts.items)) }
+    ensures count { IfOk result (λ end. length end.receipts.items ≡ end.commits) }
+    ensures calls { OnOk result (AllZip Grew (map (λ each. each.had.items) hired.now) (map (λ executor. history executor) executors.now)) }
+    ensures answers { IfOk result (λ end. AreAnswered (farm_after setup end.schedule.items) (map (λ each. each.node) hired.now) (map (λ each. each.had.items) hired.now) (map (λ executor. history executor) executors.now) jobs.now end.answers.items) }
+    ensures answered { IfOk result (λ end. length end.answers.items ≡ length jobs.now) }
+    ensures settled { IfOk result (λ end. All (λ answer. answer ≢ Answer.Waiting) end.answers.items) }
+    ensures same { IfOk result (λ end. end.answers.items ≡ back.answers.items) }
+{
+    let ends = calls_of(alloc, executors)?;
+    check(alloc, setup, jobs, hired, ends.as_slice(), back)
+}
+
+/// What stands of a run that a fault ended, but for its executors, who are the first of those that were hired.
+fn standing(
+    alloc: Global,
+    setup: Setup,
+    hired: Vec<Hired>,
+    executors: &[Box<dyn Executor + Send>],
+    board: Board,
+    receipts: Vec<Receipt>,
+) -> Result<Standing, EndRefusal>
+    ensures stands { IfOk result (λ left. IsStanding setup left.schedule.items left.saved.items left.commits left.receipts.items) }
+    ensures calls { OnOk result (AllZip Grew (take (length executors.now) (map (λ each. each.had.items) hired.items)) (map (λ executor. history executor) executors.now)) }
+{
+    let mut first = hired;
+    first.truncate(executors.len());
+    let ends = calls_of(alloc, executors)?;
+    check_standing(
+        alloc,
+        setup,
+        first.as_slice(),
+        ends.as_slice(),
+        board,
+        receipts,
+    )
+}
+
+/// The end of a run with this fault, and what stands then. Where that can't be told the fault says so.
+fn stopped(
+    alloc: Global,
+    setup: Setup,
+    hired: Vec<Hired>,
+    fault: FarmFault,
+    executors: Vec<Box<dyn Executor + Send>>,
+    stood: (Board, Vec<Receipt>),
+) -> FarmStop
+    ensures bare { IfNone result.left (is_bare result.fault ≡ true) }
+    ensures stands { IfSome result.left (λ left. IsStanding setup left.schedule.items left.saved.items left.commits left.receipts.items) }
+    ensures stands_by { IfSome result.left (λ left. AllZip Grew (take (length left.executors.items) (map (λ each. each.had.items) hired.items)) (map (λ executor. history executor) left.executors.items)) }
+{
+    let (board, receipts) = stood;
+    match standing(alloc, setup, hired, executors.as_slice(), board, receipts) {
+        Ok(left) => FarmStop {
+            fault,
+            left: Some(FarmLeft {
+                commits: left.commits,
+                receipts: left.receipts,
+                saved: left.saved,
+                schedule: left.schedule,
+                executors,
+            }),
+        },
+        Err(refusal) => FarmStop {
+            fault: end_fault(refusal),
+            left: None,
+        },
+    }
+}
+
+/// What the jobs came to: the answer of each, and why those that failed did.
+#[derive(Drop)]
+struct Told {
+    answers: Vec<Answer>,
+    causes: Vec<(usize, Cause)>,
+}
+
+/// What the threads leave: what the jobs came to, or the first fault; what is checked; and the executors and jobs.
+#[derive(Drop)]
+struct Solved {
+    told: Result<Told, FarmFault>,
+    board: Board,
+    receipts: Vec<Receipt>,
     executors: Vec<Box<dyn Executor + Send>>,
     jobs: Vec<(NodeId, Keyed)>,
 }
@@ -219,8 +420,9 @@ fn solve_all<R: Threads + Wait + Sync, G: Gate>(
     executors: Vec<(NodeId, Box<dyn Executor + Send>)>,
     fault_plan: Vec<(usize, FarmStep)>,
     gate: &G,
-) -> Result<RunEnd, FarmFault>
-    ensures { IfOk result (λ left. left.jobs.items ≡ jobs.items) }
+) -> Result<Solved, FarmFault>
+    ensures jobs { IfOk result (λ solved. solved.jobs.items ≡ jobs.items) }
+    ensures causes { IfOk result (λ solved. IfOk solved.told (λ told. map (λ each. each.0) told.causes.items ≡ failed_in told.answers.items)) }
 {
     let board = Board::start(alloc, setup).map_err(start_fault)?;
     let nodes = nodes_of(alloc, executors.as_slice())?;
@@ -229,19 +431,13 @@ fn solve_all<R: Threads + Wait + Sync, G: Gate>(
     let plan = Plan::of(fault_plan);
     let hall = open(alloc, board, tables, work, nodes.len(), plan.next_due())?;
     let ends = run_threads(rt, alloc, &hall, executors, plan, gate);
-    if let Some(fault) = *hall.fault.lock(rt) {
-        return Err(fault);
-    }
-    let answers = answers_of(rt, alloc, &hall, numbers.as_slice())?;
+    let told = told_of(rt, alloc, &hall, numbers.as_slice());
     let (executors, receipts) = gather(alloc, ends)?;
     let (board, jobs) = parts_of(hall);
-    let back = HandedBack {
+    Ok(Solved {
+        told,
         board,
         receipts,
-        answers,
-    };
-    Ok(RunEnd {
-        back,
         executors,
         jobs,
     })

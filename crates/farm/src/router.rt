@@ -1,5 +1,8 @@
 //! The router: it ends tenures, disturbs the farm by its plan, restarts the coordinator, and delivers the messages that no worker
 //! does.
+ghost use Rattle.std.specs.Prelude.{◌≡◌, ◌+◌, ◌≤◌, ◌↔◌, IsOk, IfErr, Err};
+ghost use Rattle.farm.specs.Downs.{counted, ENOUGH, IsFailedRestart};
+
 use super::closing::{Leaving, abandon_all, end_next, settle_next};
 use super::desk::{Desk, Ends};
 use super::down::DownCount;
@@ -39,13 +42,9 @@ enum Turn {
     Ends,
 }
 
-/// Routes until all workers have ended and all tenures are settled. The answer are the receipts of the tenures.
-pub(crate) fn route<R: Wait>(
-    rt: &R,
-    alloc: Global,
-    hall: &Hall,
-    plan: Plan,
-) -> Result<Vec<Receipt>, FarmFault> {
+/// Routes until all workers have ended and all tenures are settled, or a fault stops all. The answer are the receipts of the tenures
+/// that were settled by then.
+pub(crate) fn route<R: Wait>(rt: &R, alloc: Global, hall: &Hall, plan: Plan) -> Vec<Receipt> {
     let mut router = Router {
         plan,
         leaving: Vec::new(alloc),
@@ -54,7 +53,9 @@ pub(crate) fn route<R: Wait>(
         steps: 0,
         downs: DownCount::new(),
     };
-    let routed = router.run(rt, hall);
+    if let Err(fault) = router.run(rt, hall) {
+        hall.fail(rt, fault);
+    }
     let Router {
         plan: _,
         leaving,
@@ -64,8 +65,7 @@ pub(crate) fn route<R: Wait>(
         downs: _,
     } = router;
     abandon_all(leaving);
-    routed?;
-    Ok(receipts)
+    receipts
 }
 
 impl Router {
@@ -138,19 +138,8 @@ impl Router {
 
     /// Restarts the coordinator, which is down.
     fn restart_coordinator(&mut self, alloc: Global, desk: &mut Desk) -> Result<(), FarmFault> {
-        match desk.board.fault(alloc, FarmStep::RestartCoordinator) {
-            Ok(()) => {
-                self.downs.worked();
-                Ok(())
-            }
-            Err(BoardRefusal::Event(_)) => {
-                if self.downs.failed() {
-                    return Err(FarmFault::CoordinatorDown);
-                }
-                Ok(())
-            }
-            Err(refusal) => Err(board_fault(refusal)),
-        }
+        let restarted = desk.board.fault(alloc, FarmStep::RestartCoordinator);
+        after_restart(&mut self.downs, restarted)
     }
 
     /// Looks whether a tenure that ended is settled by now.
@@ -176,6 +165,32 @@ impl Router {
         }
         self.rounds += 1;
         resend_all(hall.alloc, desk)
+    }
+}
+
+/// What comes of a coordinator's restart. One that fails is counted, for want of memory too.
+fn after_restart(
+    downs: &mut DownCount,
+    restarted: Result<(), BoardRefusal>,
+) -> Result<(), FarmFault>
+    ensures worked { IsOk restarted → (downs.new ≡ 0) × IsOk result }
+    ensures counted { IfErr restarted (λ refusal. IsFailedRestart refusal → downs.new ≡ counted (downs.old + 1)) }
+    ensures enough { IfErr restarted (λ refusal. IsFailedRestart refusal → (result ≡ Err FarmFault.CoordinatorDown) ↔ (ENOUGH ≤ downs.old + 1)) }
+    ensures goes_on { IfErr restarted (λ refusal. IsFailedRestart refusal → IfErr result (λ fault. fault ≡ FarmFault.CoordinatorDown)) }
+{
+    match restarted {
+        Ok(()) => {
+            downs.worked();
+            Ok(())
+        }
+        Err(BoardRefusal::Event(_) | BoardRefusal::OutOfMemory) => {
+            if downs.failed() {
+                return Err(FarmFault::CoordinatorDown);
+            }
+            Ok(())
+        }
+        Err(BoardRefusal::HistoryFull) => Err(FarmFault::HistoryFull),
+        Err(BoardRefusal::TokenOut) => Err(FarmFault::ReceiptLost),
     }
 }
 

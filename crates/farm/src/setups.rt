@@ -1,6 +1,7 @@
 //! What a run of a farm can begin with.
-ghost use Rattle.std.specs.Prelude.{◌≡◌, ◌≢◌, ◌==◌, ◌&&◌};
+ghost use Rattle.std.specs.Prelude.{◌≡◌, ◌≢◌, ◌==◌, ◌&&◌, true};
 ghost use Rattle.std.specs.List.{list_all, list_any};
+ghost use Rattle.farm.specs.Faults.{is_bare};
 ghost use Rattle.farm.specs.Setups.{is_in_range, is_there, is_staffed, is_of_one};
 
 use super::fault::FarmFault;
@@ -90,7 +91,8 @@ pub(crate) fn is_of_one(setup: Setup, jobs: &[(NodeId, Keyed)]) -> bool
 
 /// What ends a run that could begin: the setup was looked at before, so that it isn't at fault.
 pub(crate) fn beside_setup(fault: FarmFault) -> FarmFault
-    ensures { result ≢ FarmFault.BadSetup }
+    ensures other { result ≢ FarmFault.BadSetup }
+    ensures bare { is_bare fault ≡ true → is_bare result ≡ true }
 {
     match fault {
         FarmFault::BadSetup => FarmFault::ReceiptLost,

@@ -43,11 +43,7 @@ pub(crate) fn run_threads<R: Threads + Wait + Sync, G: Gate, S: Shared>(
                 }
             }
         }
-        let mut receipts = Vec::new(alloc);
-        match route(rt, alloc, shared.hall(), plan) {
-            Ok(settled) => receipts = settled,
-            Err(fault) => shared.hall().fail(rt, fault),
-        }
+        let receipts = route(rt, alloc, shared.hall(), plan);
         let mut workers = Vec::new(alloc);
         for child in children {
             if workers.push(child.join(rt)).is_err() {

@@ -8,10 +8,10 @@ use super::hall::Hall;
 use super::home::Next;
 use super::run::{apply_shared, views_of};
 use super::work::{Place, fit};
-use super::worker_steps::{Post, finish, give_up, lease};
+use super::worker_steps::{Post, finish, give_up, give_up_last, lease};
 use executions::{ExecOutcome, Executor, Gate, Ran, run_leased};
 use farm_base::{Digest, FolderName, Items, Key, Left, NodeId, Ticket, Want};
-use farmboard::{Receipt, Running, abandon_running};
+use farmboard::{Receipt, Running};
 use folders::{Edit, Folder};
 use jobs::{Fault, Task};
 use std::alloc::Global;
@@ -107,11 +107,16 @@ fn execute<R: Wait>(
 {
     match run_task(rt, post, executor, &running, &task, place) {
         Ok(ran) => take(rt, post, receipts, running, task.key, ran),
-        Err(fault) => {
-            abandon_running(running);
-            Err(fault)
-        }
+        Err(fault) => Err(refuse(rt, post, running, fault)),
     }
+}
+
+/// Gives the lease back of an execution whose answer can't be kept. The run ends with what was wrong with that.
+fn refuse<R: Wait>(rt: &R, post: Post<'_>, running: Running, fault: FarmFault) -> FarmFault
+    ensures { result ≡ fault }
+{
+    let _given_back = give_up_last(rt, post, running);
+    fault
 }
 
 /// Has the executor execute a task.
@@ -164,10 +169,7 @@ fn take<R: Wait>(
             give_up(rt, post, running)?;
             note_failed(rt, post, key, Fault::Exit(status))
         }
-        ExecOutcome::OutOfMemory => {
-            abandon_running(running);
-            Err(FarmFault::Memory)
-        }
+        ExecOutcome::OutOfMemory => Err(refuse(rt, post, running, FarmFault::Memory)),
     }
 }
 
@@ -182,8 +184,7 @@ fn keep<R: Wait>(
     news: Vec<Left>,
 ) -> Result<(), FarmFault> {
     if let Err(fault) = apply(rt, post, running.ticket(), key, edits) {
-        abandon_running(running);
-        return Err(fault);
+        return Err(refuse(rt, post, running, fault));
     }
     let receipt = finish(rt, post, running, news)?;
     push_receipt(receipts, receipt)

@@ -194,6 +194,20 @@ pub(crate) fn give_up<R: Wait>(rt: &R, post: Post<'_>, running: Running) -> Resu
     post.hall.desk.lock(rt).give_up(post.alloc, running)
 }
 
+/// Ends an execution that leaves nothing, where a fault is to end the run: what that sends is delivered too, since nobody may come
+/// after.
+pub(crate) fn give_up_last<R: Wait>(
+    rt: &R,
+    post: Post<'_>,
+    running: Running,
+) -> Result<(), FarmFault> {
+    post.hall.count_step();
+    let mut desk = post.hall.desk.lock(rt);
+    desk.give_up(post.alloc, running)?;
+    let _seen = deliver(post, &mut desk)?;
+    Ok(())
+}
+
 /// The tenure of a folder is not to be had now.
 fn forget<R: Wait>(rt: &R, post: Post<'_>, folder: &FolderName) {
     post.hall.desk.lock(rt).forget(post.node, folder);

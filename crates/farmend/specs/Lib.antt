@@ -3,3 +3,4 @@ pub mod NewCalls
 pub mod Receipts
 pub mod Replays
 pub mod Solved
+pub mod Standing

@@ -1,5 +1,5 @@
 //! The check of what a run leaves.
-ghost use Rattle.std.specs.Prelude.{◌≡◌, ◌≢◌, All, IfOk, OnOk, length, map, nat_eq};
+ghost use Rattle.std.specs.Prelude.{◌≡◌, ◌≢◌, ◌≤◌, All, IfOk, OnOk, length, map, nat_eq};
 ghost use Rattle.std.specs.List.{AllZip, IsDistinct};
 ghost use Rattle.saverecord.specs.Logs.{Holds};
 ghost use Rattle.saverecord.specs.Texts.{whole_alone};
@@ -10,9 +10,10 @@ ghost use Rattle.farmboard.specs.Counts.{commits_of};
 ghost use Rattle.farmend.specs.Answers.{AreAnswered};
 ghost use Rattle.farmend.specs.Receipts.{StandsOn, tickets_of};
 ghost use Rattle.farmend.specs.Replays.{farm_after, commits_after};
+ghost use Rattle.farmend.specs.Standing.{IsStanding};
 
 use super::answers::are_answered;
-use super::end::{HandedBack, RunEnd};
+use super::end::{HandedBack, RunEnd, Standing};
 use super::hired::Hired;
 use super::news::news_of;
 use super::receipts::{all_differ, all_stand};
@@ -40,18 +41,46 @@ fn saved_of(alloc: Global, world: &World) -> Result<Vec<u8>, EndRefusal>
     }
 }
 
-/// Whether the receipts are those of a board's commits: as many, on the lines, each under a ticket of its own.
+/// Whether receipts are of a board's commits: on the lines, each under a ticket of its own.
+fn stand(alloc: Global, board: &Board, receipts: &[Receipt]) -> Result<(), EndRefusal>
+    ensures stand { OnOk result (All (StandsOn (farm_of board.now)) receipts.now) }
+    ensures differ { OnOk result (IsDistinct nat_eq (tickets_of receipts.now)) }
+{
+    if !all_stand(board.world(), receipts) || !all_differ(alloc, receipts)? {
+        return Err(EndRefusal::Disagrees);
+    }
+    Ok(())
+}
+
+/// Whether the receipts are those of a board's commits, and as many.
 fn settle(alloc: Global, board: &Board, receipts: &[Receipt]) -> Result<(), EndRefusal>
     ensures stand { OnOk result (All (StandsOn (farm_of board.now)) receipts.now) }
     ensures differ { OnOk result (IsDistinct nat_eq (tickets_of receipts.now)) }
     ensures count { OnOk result (length receipts.now ≡ commits_of board.now) }
 {
-    if receipts.len() as u64 != board.commits() || !all_stand(board.world(), receipts) {
+    if receipts.len() as u64 != board.commits() {
         return Err(EndRefusal::Disagrees);
     }
-    if !all_differ(alloc, receipts)? {
+    stand(alloc, board, receipts)
+}
+
+/// Whether the receipts are of a board's commits, of which some may have none.
+fn settle_some(alloc: Global, board: &Board, receipts: &[Receipt]) -> Result<(), EndRefusal>
+    ensures stand { OnOk result (All (StandsOn (farm_of board.now)) receipts.now) }
+    ensures differ { OnOk result (IsDistinct nat_eq (tickets_of receipts.now)) }
+    ensures count { OnOk result (length receipts.now ≤ commits_of board.now) }
+{
+    if receipts.len() as u64 > board.commits() {
         return Err(EndRefusal::Disagrees);
     }
+    stand(alloc, board, receipts)
+}
+
+/// Whether each executor's calls begin with those that it had.
+fn compare(alloc: Global, hired: &[Hired], ends: &[&[Call]]) -> Result<(), EndRefusal>
+    ensures { OnOk result (AllZip Grew (map (λ each. each.had.items) hired.now) (map (λ calls. calls.now) ends.now)) }
+{
+    let _news = news_of(alloc, hired, ends)?;
     Ok(())
 }
 
@@ -129,6 +158,7 @@ pub fn check(
     ensures answers { IfOk result (λ end. AreAnswered (farm_after setup end.schedule.items) (map (λ each. each.node) hired.now) (map (λ each. each.had.items) hired.now) (map (λ calls. calls.now) ends.now) jobs.now end.answers.items) }
     ensures answered { IfOk result (λ end. length end.answers.items ≡ length jobs.now) }
     ensures settled { IfOk result (λ end. All (λ answer. answer ≢ Answer.Waiting) end.answers.items) }
+    ensures same { IfOk result (λ end. end.answers.items ≡ back.answers.items) }
 {
     agree(&back.board, setup)?;
     let saved = judge(alloc, jobs, hired, ends, &back)?;
@@ -141,6 +171,35 @@ pub fn check(
     let (_, schedule, _) = board.into_parts();
     Ok(RunEnd {
         answers,
+        commits,
+        receipts,
+        saved,
+        schedule,
+    })
+}
+
+/// Checks what stands of a run that a fault ended: its board, the receipts that were seen, and the calls of executors that were hired
+/// so. `Disagrees` where a clause doesn't hold, or the board is of another setup; `OutOfMemory`.
+pub fn check_standing(
+    alloc: Global,
+    setup: Setup,
+    hired: &[Hired],
+    ends: &[&[Call]],
+    board: Board,
+    receipts: Vec<Receipt>,
+) -> Result<Standing, EndRefusal>
+    // What is handed back says what the schedule's replay does.
+    ensures stands { IfOk result (λ left. IsStanding setup left.schedule.items left.saved.items left.commits left.receipts.items) }
+    // The executors' calls begin with those that they had, in order.
+    ensures calls { OnOk result (AllZip Grew (map (λ each. each.had.items) hired.now) (map (λ calls. calls.now) ends.now)) }
+{
+    agree(&board, setup)?;
+    settle_some(alloc, &board, receipts.as_slice())?;
+    compare(alloc, hired, ends)?;
+    let saved = saved_of(alloc, board.world())?;
+    let commits = board.commits();
+    let (_, schedule, _) = board.into_parts();
+    Ok(Standing {
         commits,
         receipts,
         saved,

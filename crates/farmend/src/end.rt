@@ -25,3 +25,14 @@ pub struct RunEnd {
     pub saved: Vec<u8>,
     pub schedule: Vec<Event>,
 }
+
+/// What stands of a run that a fault ended, beside its executors.
+#[derive(Drop)]
+pub struct Standing {
+    /// How many grants ended as committed.
+    pub commits: u64,
+    pub receipts: Vec<Receipt>,
+    /// The record of the coordinator, as bytes.
+    pub saved: Vec<u8>,
+    pub schedule: Vec<Event>,
+}

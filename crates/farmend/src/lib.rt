@@ -13,8 +13,8 @@ mod refusal;
 mod solved;
 mod spot;
 
-pub use checking::check;
-pub use end::{HandedBack, RunEnd};
+pub use checking::{check, check_standing};
+pub use end::{HandedBack, RunEnd, Standing};
 pub use hired::Hired;
 pub use news::calls_of;
 pub use refusal::EndRefusal;
