@@ -1,5 +1,5 @@
-//! Tests of the wire side, from proto3's fields to jobs: outside vectors, printed texts, and corners that decoders get
-//! wrong.
+//! Tests of the wire side, from proto3's fields to jobs, and of the lines of messages: outside vectors, printed texts, and
+//! corners that decoders get wrong.
 #![tactic(auto)]
 
 #[cfg(test)]
@@ -8,6 +8,8 @@ mod build;
 mod fields;
 #[cfg(test)]
 mod job_calls;
+#[cfg(test)]
+mod messages;
 #[cfg(test)]
 mod mounts;
 #[cfg(test)]

@@ -1,0 +1,9 @@
+mod ListLemmas
+mod MacLemmas
+mod PlainLemmas
+mod Spelling
+mod SpelledLemmas
+mod UniqueLemmas
+mod WantLemmas
+mod WordLemmas
+mod WriteLemmas

@@ -1,0 +1,6 @@
+pub mod Lawful
+pub mod Lines
+pub mod Macs
+pub mod Refusals
+pub mod Sealed
+pub mod Words

@@ -1,0 +1,20 @@
+//! The lines that the processes of a farm exchange: the text of a message, and behind it the MAC of that text.
+#![tactic(auto)]
+
+mod hmac;
+mod item;
+mod lawful;
+pub mod laws;
+mod reading;
+mod refusal;
+mod sealing;
+mod verb;
+mod word;
+mod writing;
+
+pub use hmac::{FarmKey, mac};
+pub use lawful::is_lawful;
+pub use reading::read;
+pub use refusal::{KeyRefusal, LineFault, ReadRefusal, SealRefusal, WriteRefusal};
+pub use sealing::{LINE_LIMIT, open, seal};
+pub use writing::write;

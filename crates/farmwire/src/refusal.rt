@@ -1,0 +1,120 @@
+ghost use Rattle.std.specs.Prelude.{◌≡◌};
+ghost use Rattle.farmwire.specs.Refusals.{wants_refusal, fault_of};
+ghost use Rattle.farmwire.specs.declared.refusal.LineFault.TheVariants as line;
+ghost use Rattle.farmwire.specs.declared.refusal.ReadRefusal.TheVariants as read;
+ghost use Rattle.farmwire.specs.declared.refusal.SealRefusal.TheVariants as seal;
+ghost use Rattle.farmwire.specs.declared.refusal.WriteRefusal.TheVariants as write;
+
+use farm_base::WantsRefusal;
+use std::alloc::{AllocError, AllocFailed};
+use thiserror::Error;
+
+/// Why the bytes of a file are not the key of a farm.
+#[derive(Clone, Copy, Debug, PartialEq, Eq, Error)]
+pub enum KeyRefusal {
+    #[error("a key of fewer than 32 bytes")]
+    KeyTooShort,
+    #[error("out of memory")]
+    OutOfMemory,
+}
+
+/// Why a text is not read.
+#[derive(Clone, Copy, Debug, PartialEq, Eq, Error)]
+pub enum ReadRefusal {
+    #[error("not the text of a message")]
+    BadForm,
+    #[error("out of memory")]
+    OutOfMemory,
+}
+
+impl From<AllocError> for ReadRefusal {
+    ghost from_gives = { λ _ e. e ≡ read.OutOfMemory };
+
+    fn from(_error: AllocError) -> ReadRefusal {
+        ReadRefusal::OutOfMemory
+    }
+}
+
+impl<T: Drop> From<AllocFailed<T>> for ReadRefusal {
+    ghost from_gives = { λ _ e. e ≡ read.OutOfMemory };
+
+    fn from(_error: AllocFailed<T>) -> ReadRefusal {
+        ReadRefusal::OutOfMemory
+    }
+}
+
+impl From<WantsRefusal> for ReadRefusal {
+    ghost from_gives = { λ d e. e ≡ wants_refusal d };
+
+    fn from(error: WantsRefusal) -> ReadRefusal {
+        match error {
+            WantsRefusal::OutOfMemory => ReadRefusal::OutOfMemory,
+            WantsRefusal::TooManyWants | WantsRefusal::SameFolderTwice => ReadRefusal::BadForm,
+        }
+    }
+}
+
+/// Why a message is not written.
+#[derive(Clone, Copy, Debug, PartialEq, Eq, Error)]
+pub enum WriteRefusal {
+    /// No message of the protocol is like this: a number is out of its range, or a tenure is not of one SHARED folder.
+    #[error("a message that has no line")]
+    Unlawful,
+    #[error("out of memory")]
+    OutOfMemory,
+}
+
+impl From<AllocError> for WriteRefusal {
+    ghost from_gives = { λ _ e. e ≡ write.OutOfMemory };
+
+    fn from(_error: AllocError) -> WriteRefusal {
+        WriteRefusal::OutOfMemory
+    }
+}
+
+/// Why a message is not sealed.
+#[derive(Clone, Copy, Debug, PartialEq, Eq, Error)]
+pub enum SealRefusal {
+    /// No message of the protocol is like this: a number is out of its range, or a tenure is not of one SHARED folder.
+    #[error("a message that has no line")]
+    Unlawful,
+    #[error("a line of more than 24 MiB")]
+    TooLong,
+    #[error("out of memory")]
+    OutOfMemory,
+}
+
+impl From<AllocError> for SealRefusal {
+    ghost from_gives = { λ _ e. e ≡ seal.OutOfMemory };
+
+    fn from(_error: AllocError) -> SealRefusal {
+        SealRefusal::OutOfMemory
+    }
+}
+
+/// Why a line is not opened. Of several faults it is the first, in the order in which they stand here.
+#[derive(Clone, Copy, Debug, PartialEq, Eq, Error)]
+pub enum LineFault {
+    /// With its end it has more than 24 MiB.
+    #[error("a line of more than 24 MiB")]
+    TooLong,
+    /// It has no MAC, or not that of its text.
+    #[error("not the MAC of the line's text")]
+    BadMac,
+    /// Its text spells no message.
+    #[error("not the text of a message")]
+    BadForm,
+    #[error("out of memory")]
+    OutOfMemory,
+}
+
+impl From<ReadRefusal> for LineFault {
+    ghost from_gives = { λ d e. e ≡ fault_of d };
+
+    fn from(refusal: ReadRefusal) -> LineFault {
+        match refusal {
+            ReadRefusal::BadForm => LineFault::BadForm,
+            ReadRefusal::OutOfMemory => LineFault::OutOfMemory,
+        }
+    }
+}
