@@ -1,0 +1,4 @@
+mod ServingLemmas
+mod CallLemmas
+mod SentLemmas
+mod ShownLemmas

@@ -1,0 +1,63 @@
+-- What is written: messages so far, and answers.
+use Rattle.std.proofs.Common.{◌≡◌, ℕ, List, [], ◌∷◌, ◌++◌, codes, if◌then◌else◌, Result, Ok, Err, inl, inr, refl, sym, ap, ◌∙◌, append_assoc}
+use Rattle.std.specs.declared.alloc.AllocError.{AllocError}
+use Rattle.std.specs.declared.alloc.Global.{Global}
+use Rattle.std.specs.declared.string.String.{String}
+use Rattle.std.specs.Result.{IfOk, OnOk, IsErrAnd, is_ok}
+use Rattle.std.specs.String.{string_bytes}
+use Rattle.std.proofs.lemmas.List.{append-nil}
+use Rattle.farmwire.specs.Sealed.{IsSealed}
+use Rattle.protocol.specs.Machine.{FromCoord, Told}
+use Rattle.services.specs.Served.{joined, answer_text, out_of_memory}
+use Rattle.services.specs.Written.{message_line, HasNoLine, IsSent, Adds, AreSent, Sends, OrLost}
+use Rattle.services.specs.Written.IsSent.{Sealed, Unsent}
+use Rattle.services.proofs.ServingLemmas.{joined-push}
+
+-- what a text has after a push that went well
+pub when_ok : {T E : Type 0} (r : Result T E) (new pushed old : List ℕ) → new ≡ (if is_ok r then pushed else old) → OnOk r (new ≡ pushed)
+when_ok (Ok done) new pushed old h = h
+when_ok (Err e) new pushed old h = tt
+
+sent-push : (key : List ℕ) (messages : List FromCoord) (texts : List (List ℕ)) (message : FromCoord) (added : List ℕ)
+    → AreSent key messages texts → IsSent key message added → AreSent key (messages ++ message ∷ []) (texts ++ added ∷ [])
+sent-push key [] [] message added h is = (is, tt)
+sent-push key [] (t ∷ texts) message added h is = absurd h
+sent-push key (m ∷ messages) [] message added h is = absurd h
+sent-push key (m ∷ messages) (t ∷ texts) message added (first, others) is = (first, sent-push key messages texts message added others is)
+
+pub sends-none : (key before : List ℕ) → Sends key [] before before
+sends-none key before = record { texts = []; each = tt; written = sym (append-nil before) }
+
+-- a message without a line
+pub adds_nothing : (key : List ℕ) (message : FromCoord) (before : List ℕ) → HasNoLine key (Told message) → Adds key message before before
+adds_nothing key message before none = record { text = []; sent = Unsent none refl; written = sym (append-nil before) }
+
+-- its line, in three parts
+pub adds_line : (key line : List ℕ) (message : FromCoord) (before one two after : List ℕ) → IsSealed key line (Told message)
+    → one ≡ before ++ codes "m " → two ≡ one ++ line → after ≡ two ++ codes "\n" → Adds key message before after
+adds_line key line message before one two after is e f g = record {
+  text = message_line line;
+  sent = Sealed line is refl;
+  written = g ∙ ap (λ front. front ++ codes "\n") (f ∙ ap (λ front. front ++ line) e ∙ append_assoc before (codes "m ") line)
+      ∙ append_assoc before (codes "m " ++ line) (codes "\n") ∙ ap (λ rest. before ++ rest) (append_assoc (codes "m ") line (codes "\n"));
+}
+
+-- one more message
+pub sends-push : (key : List ℕ) (messages : List FromCoord) (message : FromCoord) (before mid after : List ℕ)
+    → Sends key messages before mid → Adds key message mid after → Sends key (messages ++ message ∷ []) before after
+sends-push key messages message before mid after h is = record {
+  texts = h.texts ++ is.text ∷ [];
+  each = sent-push key messages h.texts message is.text h.each is.sent;
+  written = is.written ∙ ap (λ front. front ++ is.text) h.written ∙ append_assoc before (joined h.texts) is.text
+      ∙ ap (λ rest. before ++ rest) (sym (joined-push h.texts is.text));
+}
+
+-- an answer whose text, if there is one, is such a text
+pub or_lost : (Is : List ℕ → Type 0) (answer : Result (String Global) AllocError) → IfOk answer (λ text. Is (string_bytes text)) → OrLost Is (answer_text answer)
+or_lost Is (Ok text) h = inl h
+or_lost Is (Err e) h = inr refl
+
+-- what is written where memory ran out
+pub lost_text : (answer : Result (String Global) AllocError) (P : AllocError → Type 0) → IsErrAnd answer P → answer_text answer ≡ out_of_memory
+lost_text (Ok text) P h = absurd h
+lost_text (Err e) P h = refl

@@ -1,0 +1,6 @@
+pub mod Buffers
+pub mod Lines
+pub mod Served
+pub mod Calls
+pub mod Carried
+pub mod Written

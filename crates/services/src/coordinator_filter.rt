@@ -1,0 +1,38 @@
+//! A coordinator as a process that answers lines.
+ghost use Rattle.std.specs.Prelude.{◌≡◌};
+ghost use Rattle.services.specs.Written.{Filters};
+
+use super::call::Order;
+use super::carrying::carry_out;
+use super::lost::Lost;
+use super::printing::{print_reply, print_unread};
+use super::reading::asked;
+use super::serving::Step;
+use super::showing::print_line;
+use coordinator::Coordinator;
+use farm_base::Items;
+use farmwire::FarmKey;
+use saverecord::Keeper;
+use std::alloc::{AllocError, Global};
+
+/// A coordinator that answers lines: those of nodes, which come and go sealed under the farm's key, and the operator's.
+#[derive(Drop)]
+pub struct CoordinatorFilter<K: Keeper> {
+    pub coordinator: Coordinator<K>,
+    pub key: FarmKey,
+}
+
+impl<K: Keeper> Step for CoordinatorFilter<K> {
+    ghost steps = { λ old line answer new. Filters K.saving K.loading K.kept old.key line answer old.coordinator new.coordinator × (new.key ≡ old.key) };
+
+    fn step(&mut self, alloc: Global, line: Result<Items<u8>, Lost>) -> Result<String, AllocError> {
+        match asked(alloc, &self.key, line) {
+            Ok(Order::Call(call)) => {
+                let reply = carry_out(&mut self.coordinator, alloc, &call)?;
+                print_reply(alloc, &self.key, reply)
+            }
+            Ok(Order::Line(slot)) => print_line(alloc, self.coordinator.line(&slot)),
+            Err(why) => print_unread(alloc, why),
+        }
+    }
+}

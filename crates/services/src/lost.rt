@@ -1,0 +1,7 @@
+/// Why a line isn't handed on.
+#[derive(Clone, Copy, Debug, PartialEq, Eq)]
+pub enum Lost {
+    /// With its end it has more bytes than the limit.
+    TooLong,
+    OutOfMemory,
+}

@@ -1,0 +1,194 @@
+//! The text of an answer.
+ghost use Rattle.std.specs.Prelude.{◌≡◌, ◌++◌, codes, decimal, IfOk, OnOk, IfSome, IfNone};
+ghost use Rattle.std.specs.List.{flat_map};
+ghost use Rattle.std.specs.String.{string_bytes};
+ghost use Rattle.schedule.specs.RefusalNames.{coord_refusal_text};
+ghost use Rattle.farmwire.specs.Sealed.{IsSealed};
+ghost use Rattle.services.specs.Written.{HasNoLine, Adds, Sends, restart_lines, ended_line, over_lines, note_line, refused_line, unread_line, IsWritten};
+
+use super::call::Unread;
+use super::reply::{Ended, Over, Reply};
+use farm_base::{FromCoord, Items, Message, ToNode};
+use farmwire::{FarmKey, SealRefusal, seal};
+use protocol::{CoordNote, CoordRefusal, EventNote, EventRefusal};
+use schedule::{print_note, refusal_name};
+use std::alloc::{AllocError, Global};
+
+/// The sealed line of a message, if it has one.
+fn line_of(alloc: Global, key: &FarmKey, message: &Message) -> Result<Option<String>, AllocError>
+    ensures sealed { IfOk result (λ found. IfSome found (λ line. IsSealed key.now (string_bytes line) message.now)) }
+    ensures none { IfOk result (λ found. IfNone found (HasNoLine key.now message.now)) }
+{
+    match seal(alloc, key, message) {
+        Ok(line) => Ok(Some(line)),
+        Err(SealRefusal::OutOfMemory) => Err(AllocError),
+        Err(SealRefusal::Unlawful) => Ok(None),
+        Err(SealRefusal::TooLong) => Ok(None),
+    }
+}
+
+/// Adds `m ` and the sealed line of a message. Of one that has none, nothing is added.
+fn push_message(
+    alloc: Global,
+    key: &FarmKey,
+    text: &mut String,
+    message: FromCoord,
+) -> Result<(), AllocError>
+    ensures { OnOk result (Adds key.now message (string_bytes text.old) (string_bytes text.new)) }
+{
+    let message = Message::ToNode(ToNode::FromCoord(message));
+    let Some(line) = line_of(alloc, key, &message)? else {
+        return Ok(());
+    };
+    text.push_str("m ")?;
+    text.push_str(line.as_str())?;
+    text.push_str("\n")
+}
+
+/// Adds these messages, in order.
+fn push_sends(
+    alloc: Global,
+    key: &FarmKey,
+    text: &mut String,
+    sends: Items<FromCoord>,
+) -> Result<(), AllocError>
+    ensures { OnOk result (Sends key.now sends (string_bytes text.old) (string_bytes text.new)) }
+{
+    for message in sends.into_vec() {
+        push_message(alloc, key, text, message)?;
+    }
+    Ok(())
+}
+
+/// Adds a front, the name of a refusal, and the end of the line.
+fn push_refusal(text: &mut String, front: &str, refusal: CoordRefusal) -> Result<(), AllocError>
+    ensures { OnOk result (string_bytes text.new ≡ string_bytes text.old ++ (front.now ++ (coord_refusal_text refusal ++ codes "\n"))) }
+{
+    text.push_str(front)?;
+    text.push_str(refusal_name(EventRefusal::Coord(refusal)))?;
+    text.push_str("\n")
+}
+
+/// Adds the fact of a restart, if there was one.
+fn push_restart(
+    text: &mut String,
+    restart: Option<Result<(), CoordRefusal>>,
+) -> Result<(), AllocError>
+    ensures { OnOk result (string_bytes text.new ≡ string_bytes text.old ++ restart_lines restart) }
+{
+    match restart {
+        None => Ok(()),
+        Some(Ok(())) => text.push_str(": restarted\n"),
+        Some(Err(refusal)) => push_refusal(text, ": down ", refusal),
+    }
+}
+
+/// Adds some words and a number.
+fn push_number(alloc: Global, text: &mut String, words: &str, number: u64) -> Result<(), AllocError>
+    ensures { OnOk result (string_bytes text.new ≡ string_bytes text.old ++ (words.now ++ decimal number)) }
+{
+    let number = number.to_string(alloc)?;
+    text.push_str(words)?;
+    text.push_str(number.as_str())
+}
+
+/// Adds the fact of a lease that ended.
+fn push_end(alloc: Global, text: &mut String, ended: &Ended) -> Result<(), AllocError>
+    ensures { OnOk result (string_bytes text.new ≡ string_bytes text.old ++ ended_line ended.now) }
+{
+    push_number(alloc, text, ": ended ", ended.ticket.0)?;
+    push_number(alloc, text, " ", ended.node.0 as u64)?;
+    text.push_str("\n")
+}
+
+/// Adds the facts of the leases that ended.
+fn push_ended(alloc: Global, text: &mut String, ended: &[Ended]) -> Result<(), AllocError>
+    ensures { OnOk result (string_bytes text.new ≡ string_bytes text.old ++ flat_map ended_line ended.now) }
+{
+    for lease in ended {
+        push_end(alloc, text, lease)?;
+    }
+    Ok(())
+}
+
+/// Adds the fact of a process that isn't heard, if there is one.
+fn push_over(alloc: Global, text: &mut String, over: Option<Over>) -> Result<(), AllocError>
+    ensures { OnOk result (string_bytes text.new ≡ string_bytes text.old ++ over_lines over) }
+{
+    match over {
+        None => Ok(()),
+        Some(Over::Outdated(node, life)) => {
+            push_number(alloc, text, ": outdated ", node.0 as u64)?;
+            push_number(alloc, text, " ", life.0)?;
+            text.push_str("\n")
+        }
+        Some(Over::Gone(node)) => {
+            push_number(alloc, text, ": gone ", node.0 as u64)?;
+            text.push_str("\n")
+        }
+    }
+}
+
+/// Adds what was done.
+fn push_note(alloc: Global, text: &mut String, note: CoordNote) -> Result<(), AllocError>
+    ensures { OnOk result (string_bytes text.new ≡ string_bytes text.old ++ note_line note) }
+{
+    let note = print_note(alloc, &EventNote::Coord(note))?;
+    text.push_str("= ")?;
+    text.push_str(note.as_str())?;
+    text.push_str("\n")
+}
+
+/// The text of what came of a call: the messages, the facts and the note.
+pub(crate) fn print_reply(alloc: Global, key: &FarmKey, reply: Reply) -> Result<String, AllocError>
+    ensures { IfOk result (λ text. IsWritten key.now reply (string_bytes text)) }
+{
+    let Reply {
+        before,
+        ended,
+        answer,
+        over,
+        after,
+    } = reply;
+    let mut text = String::new(alloc);
+    match answer {
+        Ok(handled) => {
+            push_sends(alloc, key, &mut text, handled.sends)?;
+            push_restart(&mut text, before)?;
+            push_ended(alloc, &mut text, ended.as_slice())?;
+            push_over(alloc, &mut text, over)?;
+            push_restart(&mut text, after)?;
+            push_note(alloc, &mut text, handled.note)?;
+        }
+        Err(refusal) => {
+            push_restart(&mut text, before)?;
+            push_over(alloc, &mut text, over)?;
+            push_restart(&mut text, after)?;
+            push_refusal(&mut text, "= refused ", refusal)?;
+        }
+    }
+    Ok(text)
+}
+
+/// The line of what isn't carried out.
+fn unread_line(why: Unread) -> &'static str
+    ensures { result.now ≡ unread_line why }
+{
+    match why {
+        Unread::TooLong => "= dropped TooLong\n",
+        Unread::BadMac => "= dropped BadMac\n",
+        Unread::BadForm => "= dropped BadForm\n",
+        Unread::NotMine => "= dropped NotMine\n",
+        Unread::BadLine => "= refused BadLine\n",
+        Unread::OutOfMemory => "= refused OutOfMemory\n",
+    }
+}
+
+/// The text of what isn't carried out.
+pub(crate) fn print_unread(alloc: Global, why: Unread) -> Result<String, AllocError>
+    ensures { IfOk result (λ text. string_bytes text ≡ unread_line why) }
+{
+    let mut text = String::new(alloc);
+    text.push_str(unread_line(why))?;
+    Ok(text)
+}
