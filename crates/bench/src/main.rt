@@ -1,8 +1,10 @@
 //! Measures the crates. With no words it makes small inputs and prints what comes of them; with the word
-//! `read`, `keys`, `replay`, `save`, `events` or `run` it measures, each figure as a ratio of times in the same run.
+//! `read`, `keys`, `replay`, `save`, `events` or `run` it measures, each figure as a ratio of times in the same run; with `damaged` it
+//! reads a million damaged inputs of each kind.
 #![tactic(auto)]
 
 mod clock;
+mod damaged;
 mod event;
 mod graphs;
 mod hashing;
@@ -39,8 +41,10 @@ fn main(rt: HostRuntime) -> anyhow::Result<()> {
                 node::measure(&rt)
             } else if word.as_str() == "run" {
                 run::measure(&rt)
+            } else if word.as_str() == "damaged" {
+                damaged::measure(&rt)
             } else {
-                eprintln!(rt; "bench [read|keys|replay|save|events|run]")?;
+                eprintln!(rt; "bench [read|keys|replay|save|events|run|damaged]")?;
                 Ok(())
             }
         }

@@ -220,16 +220,11 @@ fn many_jobs<R: Print + Clock + AllocGlobal + Threads + Wait + Sync>(
         executors.push((NodeId(number + 1), executor))?;
     }
     let start = Instant::now(rt)?;
-    let end = Farm::run(
-        rt,
-        alloc,
-        Setup { nodes },
-        jobs,
-        executors,
-        Vec::new(alloc),
-        &OpenGate,
-    )?;
-    Ok((seconds_since(rt, start), end.commits))
+    let plan = Vec::new(alloc);
+    match Farm::run(rt, alloc, Setup { nodes }, jobs, executors, plan, &OpenGate) {
+        Ok(end) => Ok((seconds_since(rt, start), end.commits)),
+        Err(stop) => Err(stop.fault.into()),
+    }
 }
 
 /// Runs these jobs once on each number of nodes, and keeps the time where it is less than the one before. The answer is how many

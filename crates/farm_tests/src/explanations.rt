@@ -112,7 +112,7 @@ fn what_is_said_of_schedules(rt: HostRuntime) -> Result<(), Fail> {
 }
 
 /// Commands, files that they refuse, and what `--explain` says.
-const FILES: [(Command, &[u8], &str); 4] = [
+const FILES: [(Command, &[u8], &str); 6] = [
     (Command::Check, b"\x0a", "F: the bytes end inside a field\n"),
     (Command::Keys, b"", "F: no entries\n"),
     (
@@ -120,7 +120,13 @@ const FILES: [(Command, &[u8], &str); 4] = [
         b"\x0a\x01\x0a",
         "F: the entry at place 0 is not an op\n",
     ),
-    (Command::Record, b"BKFARM", "F: truncated\n"),
+    (Command::Record, b"BKFARM", "F: it is cut short\n"),
+    (Command::Record, b"", "F: it is empty, and no record\n"),
+    (
+        Command::Check,
+        b"FROM alpine\nRUN true\n",
+        "F: it is a text, and no definition: of a Dockerfile, BuildKit makes one (examples/README.md says how)\n",
+    ),
 ];
 
 #[test]

@@ -5,13 +5,15 @@ use super::runs::{Op, PUT, PUT_PRIVATE, PUT_SHARED};
 use super::threads::{is_output, jobs_on};
 use commands::Scripted;
 use executions::{Call, ExecOutcome, ExecTask, Executor, OpenGate};
-use farm::{Farm, FarmFault};
+use farm::{Farm, FarmStop};
 use farm_base::{Copied, FolderName, Items, NodeId, Text, Ticket};
 use farmboard::FarmStep;
 use folders::Edit;
 use jobs::Answer;
 use protocol::{Event, Kept};
+use saverecord::Record;
 use schedule::Setup;
+use solverkeys::Keyed;
 use std::alloc::{AllocError, Global};
 use std::sync::Wait;
 use std::test::Fail;
@@ -50,11 +52,13 @@ fn course_of<R: Threads + Wait + Sync>(
     let jobs = jobs_on(alloc, op, &[1, 2])?;
     let executors = two_executors(alloc)?;
     let setup = Setup { nodes: 2 };
-    let end = Farm::run(rt, alloc, setup, jobs, executors, plan, &OpenGate)?;
-    Ok(Course {
-        answers: end.answers,
-        events: end.schedule,
-    })
+    match Farm::run(rt, alloc, setup, jobs, executors, plan, &OpenGate) {
+        Ok(end) => Ok(Course {
+            answers: end.answers,
+            events: end.schedule,
+        }),
+        Err(stop) => Err(stop.fault.into()),
+    }
 }
 
 /// Whether a message was left out before one that was delivered.
@@ -77,16 +81,21 @@ enum Disturbance {
     LostMessage,
     FailedSave(Kept),
     CoordinatorRestart,
-    NodeRestart,
+    /// A save fails, and two events later the coordinator restarts.
+    FailedSaveAndRestart(Kept),
+    NodeRestart(NodeId),
     Withdrawal,
 }
 
-const DISTURBANCES: [Disturbance; 6] = [
+const DISTURBANCES: [Disturbance; 9] = [
     Disturbance::LostMessage,
     Disturbance::FailedSave(Kept::Old),
     Disturbance::FailedSave(Kept::New),
     Disturbance::CoordinatorRestart,
-    Disturbance::NodeRestart,
+    Disturbance::FailedSaveAndRestart(Kept::Old),
+    Disturbance::FailedSaveAndRestart(Kept::New),
+    Disturbance::NodeRestart(NodeId(1)),
+    Disturbance::NodeRestart(NodeId(2)),
     Disturbance::Withdrawal,
 ];
 
@@ -94,19 +103,33 @@ impl Disturbance {
     fn step(self) -> FarmStep {
         match self {
             Disturbance::LostMessage => FarmStep::Skip,
-            Disturbance::FailedSave(kept) => FarmStep::FailSave(kept),
+            Disturbance::FailedSave(kept) | Disturbance::FailedSaveAndRestart(kept) => {
+                FarmStep::FailSave(kept)
+            }
             Disturbance::CoordinatorRestart => FarmStep::RestartCoordinator,
-            Disturbance::NodeRestart => FarmStep::RestartNode(NodeId(1)),
+            Disturbance::NodeRestart(node) => FarmStep::RestartNode(node),
             Disturbance::Withdrawal => FarmStep::Withdraw(Ticket(1)),
         }
+    }
+
+    /// The plan of a run that it disturbs at this place.
+    fn plan(self, alloc: Global, place: usize) -> Result<Vec<(usize, FarmStep)>, AllocError> {
+        let mut plan = vec![in alloc; (place, self.step())]?;
+        if let Disturbance::FailedSaveAndRestart(_) = self {
+            plan.push((place.saturating_add(2), FarmStep::RestartCoordinator))?;
+        }
+        Ok(plan)
     }
 
     /// Whether it is this event. A message that is lost is none.
     fn is(self, event: &Event) -> bool {
         match (self, event) {
-            (Disturbance::FailedSave(kept), Event::FailSave(other)) => kept == *other,
+            (
+                Disturbance::FailedSave(kept) | Disturbance::FailedSaveAndRestart(kept),
+                Event::FailSave(other),
+            ) => kept == *other,
             (Disturbance::CoordinatorRestart, Event::RestartCoordinator) => true,
-            (Disturbance::NodeRestart, Event::RestartNode(node)) => *node == NodeId(1),
+            (Disturbance::NodeRestart(node), Event::RestartNode(other)) => node == *other,
             (Disturbance::Withdrawal, Event::Withdraw(ticket)) => *ticket == Ticket(1),
             _ => false,
         }
@@ -136,7 +159,7 @@ fn took_place<R: Threads + Wait + Sync>(
     place: usize,
     disturbance: Disturbance,
 ) -> Result<bool, Fail> {
-    let plan = vec![in alloc; (place, disturbance.step())]?;
+    let plan = disturbance.plan(alloc, place)?;
     let course = course_of(rt, alloc, op, plan)?;
     if !are_outputs(alloc, course.answers.as_slice(), op.2)? {
         return Err("a job is without its output".into());
@@ -196,6 +219,8 @@ enum Misdeed {
     NoOutput,
     /// Answers that memory ran out.
     NoMemory,
+    /// Edits a folder that its task doesn't have, once it made an edit that can be made.
+    SecondTime,
 }
 
 /// The edits that put a file of this size into this folder.
@@ -218,7 +243,7 @@ impl Misdeed {
         folder: &FolderName,
     ) -> Result<Vec<(FolderName, Items<Edit>)>, AllocError> {
         match self {
-            Misdeed::OtherFolder => {
+            Misdeed::OtherFolder | Misdeed::SecondTime => {
                 let other = FolderName {
                     id: Text::new(String::from_str(alloc, "other")?),
                     mode: folder.mode,
@@ -246,8 +271,12 @@ fn edits_in(
     alloc: Global,
     misdeed: Misdeed,
     task: &ExecTask,
+    made: usize,
 ) -> Result<Vec<(FolderName, Items<Edit>)>, AllocError> {
     match task.views() {
+        [view, ..] if made == 0 && matches!(misdeed, Misdeed::SecondTime) => {
+            edits_of(alloc, view.folder.copy(alloc)?, 1)
+        }
         [view, ..] => misdeed.edits(alloc, &view.folder),
         [] => Ok(Vec::new(alloc)),
     }
@@ -259,7 +288,7 @@ impl Executor for Misbehaving {
     ghost answers = { λ m task outcome. ⊤ };
 
     fn run(&mut self, task: &ExecTask) -> ExecOutcome {
-        let Ok(edits) = edits_in(self.alloc, self.misdeed, task) else {
+        let Ok(edits) = edits_in(self.alloc, self.misdeed, task, self.calls.len()) else {
             return ExecOutcome::OutOfMemory;
         };
         if self.calls.reserve(1).is_err() {
@@ -280,13 +309,24 @@ impl Executor for Misbehaving {
     }
 }
 
-/// The answer of one job with a folder whose executor does this, or the fault with which the run ends.
+/// The answer of one job with a folder whose executor does this, or how the run ends else.
 fn end_of<R: Threads + Wait + Sync>(
     rt: &R,
     alloc: Global,
+    op: &Op,
     misdeed: Misdeed,
-) -> Result<Result<Answer, FarmFault>, Fail> {
-    let jobs = jobs_on(alloc, &PUT_PRIVATE, &[1])?;
+) -> Result<Result<Answer, FarmStop>, Fail> {
+    let jobs = jobs_on(alloc, op, &[1])?;
+    end_of_jobs(rt, alloc, jobs, misdeed)
+}
+
+/// The same of these jobs, of which the first has this answer.
+fn end_of_jobs<R: Threads + Wait + Sync>(
+    rt: &R,
+    alloc: Global,
+    jobs: Vec<(NodeId, Keyed)>,
+    misdeed: Misdeed,
+) -> Result<Result<Answer, FarmStop>, Fail> {
     let executor: Box<dyn Executor + Send> = Box::new(
         alloc,
         Misbehaving {
@@ -308,7 +348,7 @@ fn end_of<R: Threads + Wait + Sync>(
     );
     match end {
         Ok(end) => Ok(Ok(*end.answers.first().ok_or("no answer")?)),
-        Err(fault) => Ok(Err(fault)),
+        Err(stop) => Ok(Err(stop)),
     }
 }
 
@@ -323,20 +363,76 @@ const MISDEEDS: [(Misdeed, &str); 4] = [
 /// Whether the end of a run of one job is this.
 fn ends_so(
     alloc: Global,
-    end: Result<Answer, FarmFault>,
+    end: &Result<Answer, FarmStop>,
     wanted: &str,
 ) -> Result<bool, AllocError> {
     match end {
-        Ok(answer) => Ok(answer == Answer::Failed && wanted == "the job failed"),
-        Err(fault) => Ok(fault.to_string(alloc)?.as_str() == wanted),
+        Ok(answer) => Ok(*answer == Answer::Failed && wanted == "the job failed"),
+        Err(stop) => Ok(stop.fault.to_string(alloc)?.as_str() == wanted),
     }
+}
+
+/// Whether what stands of a stopped run has its executor, and a record without a lease: the one of the execution was given back.
+fn is_given_back(alloc: Global, end: &Result<Answer, FarmStop>) -> Result<bool, Fail> {
+    let Err(stop) = end else {
+        return Ok(true);
+    };
+    let Some(left) = &stop.left else {
+        return Ok(false);
+    };
+    let record = Record::read(alloc, left.saved.as_slice())?;
+    Ok(record.leases.is_empty() && left.commits == 0 && left.executors.len() == 1)
 }
 
 #[test]
 fn executors_that_misbehave(rt: HostRuntime) -> Result<(), Fail> {
     for (misdeed, wanted) in &MISDEEDS {
-        let end = end_of(&rt, rt.alloc(), *misdeed)?;
-        assert!(rt; ends_so(rt.alloc(), end, *wanted)?);
+        let end = end_of(&rt, rt.alloc(), &PUT_PRIVATE, *misdeed)?;
+        assert!(rt; ends_so(rt.alloc(), &end, *wanted)?);
+        assert!(rt; is_given_back(rt.alloc(), &end)?);
     }
+    Ok(())
+}
+
+/// An edit of a SHARED folder that can't be made: the lease is given back too, and the open folder's tenure is all that is left.
+#[test]
+fn shared_folders_of_a_stopped_run(rt: HostRuntime) -> Result<(), Fail> {
+    let end = end_of(&rt, rt.alloc(), &PUT_SHARED, Misdeed::TooMuch)?;
+    assert!(rt; ends_so(rt.alloc(), &end, "an outcome that can't be kept")?);
+    let Err(
+        FarmStop {
+            fault: _,
+            left: Some(left),
+        },
+    ) = end
+    else {
+        return Err("nothing stands".into());
+    };
+    let record = Record::read(rt.alloc(), left.saved.as_slice())?;
+    assert!(rt; record.leases.iter().all(|lease| lease.tenure));
+    Ok(())
+}
+
+/// An execution that commits, and one behind it whose edit can't be made: what the first committed stands, with its receipt.
+#[test]
+fn what_was_committed_stands(rt: HostRuntime) -> Result<(), Fail> {
+    let alloc = rt.alloc();
+    let mut jobs = jobs_on(alloc, &PUT, &[1])?;
+    jobs.append(&mut jobs_on(alloc, &PUT_PRIVATE, &[1])?)?;
+    let end = end_of_jobs(&rt, alloc, jobs, Misdeed::SecondTime)?;
+    let Err(
+        FarmStop {
+            fault: _,
+            left: Some(left),
+        },
+    ) = end
+    else {
+        return Err("nothing stands".into());
+    };
+    let record = Record::read(alloc, left.saved.as_slice())?;
+    assert_eq!(rt; left.commits, 1);
+    assert_eq!(rt; left.receipts.len(), 1);
+    assert_eq!(rt; record.lines.len(), 1);
+    assert!(rt; record.leases.is_empty());
     Ok(())
 }

@@ -234,3 +234,26 @@ fn logs_in_files(rt: HostRuntime) -> Result<(), Fail> {
     fs::remove_file(&rt, "cut.record.log")?;
     Ok(())
 }
+
+/// A record takes the place of an old one and of its log, which is damaged and isn't read.
+#[test]
+fn a_record_is_put(rt: HostRuntime) -> Result<(), Fail> {
+    let (alloc, path) = (rt.alloc(), "put.record");
+    fs::write(&rt, path, RECORD.as_slice())?;
+    fs::write(
+        &rt,
+        "put.record.log",
+        b"no log, though it is as long as a head and more",
+    )?;
+    FileKeeper::try_put(&rt, alloc, path)?;
+    assert!(rt; FileKeeper::open(&rt, alloc, path).is_err());
+    FileKeeper::put(&rt, alloc, path, b"another record")?;
+    let keeper = FileKeeper::open(&rt, alloc, path)?;
+    assert_eq!(rt; keeper.log().whole(), b"another record".as_slice());
+    assert!(rt; keeper.log().entries().is_empty());
+    // No record can be put where a folder stands, or in one that isn't there.
+    fs::create_dir(&rt, "put.folder")?;
+    assert!(rt; FileKeeper::try_put(&rt, alloc, "put.folder").is_err());
+    assert!(rt; FileKeeper::try_put(&rt, alloc, "nowhere/put.record").is_err());
+    Ok(())
+}

@@ -5,6 +5,8 @@
 #[cfg(test)]
 mod board_calls;
 #[cfg(test)]
+mod cuts;
+#[cfg(test)]
 mod edits;
 #[cfg(test)]
 mod explanations;
@@ -17,7 +19,11 @@ mod keepers;
 #[cfg(test)]
 mod names;
 #[cfg(test)]
+mod places;
+#[cfg(test)]
 mod printed;
+#[cfg(test)]
+mod record_logs;
 #[cfg(test)]
 mod record_texts;
 #[cfg(test)]

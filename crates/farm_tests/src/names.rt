@@ -8,8 +8,9 @@ use std::alloc::Global;
 use std::test::Fail;
 
 /// Texts, and whether each is a slot's.
-const SLOTS: [(&str, bool); 14] = [
+const SLOTS: [(&str, bool); 15] = [
     ("private:a%40b#64", true),
+    ("private:a#65", true),
     ("private:a#4096", true),
     ("locked:a", true),
     ("shared:a", true),

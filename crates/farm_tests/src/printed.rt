@@ -137,6 +137,33 @@ fn keys_of_one_op(rt: HostRuntime) -> Result<(), Fail> {
     Ok(())
 }
 
+/// The end of `EXEC` in hexadecimal, the status of `check`, and what it prints.
+const CHECKED: [(&str, u8, &str); 2] = [
+    ("03", REFUSED, "refused UnknownSharing 0 3\n"),
+    (
+        "02",
+        DONE,
+        "vertices 1 result sha256:7c3f4241988149a8696c7a7e800b4517a68ffb7414f0954a7a22986b5e8be0c6 0\n",
+    ),
+];
+
+#[test]
+fn check_of_one_op(rt: HostRuntime) -> Result<(), Fail> {
+    for (end, wanted, text) in &CHECKED {
+        let bytes = exec_with(rt.alloc(), end)?;
+        assert!(rt;
+            prints(
+                rt.alloc(),
+                Command::Check,
+                Some(bytes),
+                *wanted,
+                text.as_bytes()
+            )?
+        );
+    }
+    Ok(())
+}
+
 #[test]
 fn a_definition_cut_short(rt: HostRuntime) -> Result<(), Fail> {
     let whole = hex::decode(rt.alloc(), NO_OP)?;
@@ -161,7 +188,7 @@ fn a_definition_cut_short(rt: HostRuntime) -> Result<(), Fail> {
 }
 
 /// Words, the status of the program, and the beginning of what it prints.
-const WORDS: [(&[&str], u8, &str); 10] = [
+const WORDS: [(&[&str], u8, &str); 11] = [
     (
         &["check", "nowhere.llb"],
         REFUSED,
@@ -172,6 +199,7 @@ const WORDS: [(&[&str], u8, &str); 10] = [
     (&["run", "F"], USAGE, "error: "),
     (&["run", "--nodes", "1"], USAGE, "error: "),
     (&["run", "--nodes", "0", "F"], USAGE, "error: "),
+    (&["run", "--nodes", "1025", "F"], USAGE, "error: "),
     (
         &["run", "--nodes", "1", "nowhere.llb", "F"],
         REFUSED,
@@ -195,24 +223,29 @@ pub(crate) fn strings(alloc: Global, words: &[&str]) -> Result<Vec<String>, Allo
     Ok(strings)
 }
 
-/// The status of the program with these words, and what it prints to either output.
+/// The status of the program with these words, and what it prints to the standard output and to the standard error.
 fn run_words<R: Files + Input + AllocGlobal + Threads + Wait + Sync>(
     rt: &R,
     words: &[&str],
-) -> Result<(u8, Vec<u8>), Fail> {
+) -> Result<(u8, Vec<u8>, Vec<u8>), Fail> {
     let given = strings(rt.alloc(), words)?;
     let mut out = Vec::new(rt.alloc());
     let mut err = Vec::new(rt.alloc());
     let status = run(rt, given.as_slice(), &mut out, &mut err);
-    out.extend_from_slice(err.as_slice())?;
-    Ok((status, out))
+    Ok((status, out, err))
 }
 
+/// What ends well is printed to the standard output alone, all else to the standard error alone.
 #[test]
 fn words_of_the_program(rt: HostRuntime) -> Result<(), Fail> {
     for (words, wanted, text) in &WORDS {
-        let (status, printed) = run_words(&rt, words)?;
-        assert!(rt; status == *wanted && printed.starts_with(text.as_bytes()));
+        let (status, out, err) = run_words(&rt, words)?;
+        let (printed, other) = if *wanted == DONE {
+            (out, err)
+        } else {
+            (err, out)
+        };
+        assert!(rt; status == *wanted && printed.starts_with(text.as_bytes()) && other.is_empty());
     }
     Ok(())
 }
@@ -240,9 +273,7 @@ fn what_cannot_be_written(rt: HostRuntime) -> Result<(), Fail> {
 
 /// Schedules, their lines separated by semicolons, and lines that their replay prints. `EMPTY` and `ABC` stand for
 /// the digits of the SHA-256 of nothing and of `abc`.
-const REPLAYS: [(&str, &[&str]); 15] = [
-    // Nothing happens.
-    ("nodes 2", &[]),
+pub(crate) const REPLAYS: [(&str, &[&str]); 14] = [
     // The second node waits, and begins from what the first left.
     (
         "nodes 2; ask 1 locked:apt; ask 2 locked:apt; deliver 1; deliver 2; deliver 3; begin 1 1; finish 1 1 locked:apt=; deliver 4; deliver 6",
@@ -438,9 +469,11 @@ fn what_schedules_come_to(rt: HostRuntime) -> Result<(), Fail> {
     Ok(())
 }
 
-/// Schedules with restarts of the coordinator and failed saves, and all that their replay prints, with semicolons for
+/// A schedule of no event, schedules with restarts of the coordinator and failed saves, and all that their replay prints, with semicolons for
 /// line feeds.
-const RESTARTS: [(&str, &str); 5] = [
+const RESTARTS: [(&str, &str); 6] = [
+    // Nothing happens, and nothing is printed.
+    ("nodes 2", ""),
     // The tickets go on behind those that were saved.
     (
         "nodes 1; ask 1 locked:a; deliver 1; restart coordinator; ask 1 locked:b; deliver 3",
@@ -484,7 +517,7 @@ fn what_restarts_come_to(rt: HostRuntime) -> Result<(), Fail> {
 }
 
 /// Texts that are not schedules, and what is printed for each.
-const NO_SCHEDULES: [(&str, &str); 12] = [
+const NO_SCHEDULES: [(&str, &str); 13] = [
     ("", "refused BadLine 1\n"),
     ("nodes 0", "refused BadLine 1\n"),
     ("nodes 1025", "refused BadLine 1\n"),
@@ -498,6 +531,7 @@ const NO_SCHEDULES: [(&str, &str); 12] = [
         "refused BadLine 2\n",
     ),
     ("nodes 1; tenure 1 locked:a", "refused BadLine 2\n"),
+    ("nodes 1; home 1", "refused BadLine 2\n"),
     ("nodes 1; nudge ; ask 1", "refused BadLine 2\n"),
     (
         "nodes 1; finish 1 1 locked:b= locked:a=",

@@ -1,7 +1,8 @@
 //! Runs of files on a farm, with what they print and the record that they keep.
 
 use super::printed::{NO_OP, spelled};
-use commands::{Command, DONE, FAULT, REFUSED, answer, run_scripts};
+use commands::{Command, DONE, FAULT, Order, REFUSED, answer, run_scripts};
+use jobs::{Cause, Fault};
 use std::alloc::Global;
 use std::fs;
 use std::rt::Files;
@@ -109,7 +110,11 @@ fn prints<R: Files + AllocGlobal + Threads + Wait + Sync>(
 ) -> Result<bool, Fail> {
     let mut out = Vec::new(rt.alloc());
     let mut err = Vec::new(rt.alloc());
-    let status = run_scripts(rt, nodes, path, files, &mut out, &mut err)?;
+    let order = Order {
+        nodes,
+        record_path: path,
+    };
+    let status = run_scripts(rt, order, files, &mut out, &mut err)?.status;
     let (printed, other) = if wanted == DONE {
         (out, err)
     } else {
@@ -144,7 +149,7 @@ fn files_with(alloc: Global, bytes: Option<&str>) -> Result<Vec<(String, Option<
 fn what_is_not_run(rt: HostRuntime) -> Result<(), Fail> {
     let bad: [(Option<&str>, &str); 2] = [
         (None, "unreadable G\n"),
-        (Some(NO_OP), "refused NoOp 0\n"),
+        (Some(NO_OP), "refused NoOp 0\nin G\n"),
     ];
     for (bytes, line) in &bad {
         let files = files_with(rt.alloc(), *bytes)?;
@@ -188,5 +193,31 @@ fn a_record_nowhere(rt: HostRuntime) -> Result<(), Fail> {
     let (files, _) = files_of(rt.alloc(), &[PUT])?;
     let path = Some("nowhere/run.record");
     assert!(rt; prints(&rt, 1, path, files, FAULT, "fault SaveFault\n")?);
+    Ok(())
+}
+
+/// Whether this is the cause of a step that ended with this status.
+fn is_exit(cause: &Cause, wanted: i32) -> bool {
+    match cause {
+        Cause::Failed(_, Fault::Exit(status)) => *status == wanted,
+        _ => false,
+    }
+}
+
+/// A file whose step fails: its place and its cause are told, and the status is that of a run which went well.
+#[test]
+fn why_a_file_failed(rt: HostRuntime) -> Result<(), Fail> {
+    let (files, _) = files_of(rt.alloc(), &[PUT, FAIL])?;
+    let (mut out, mut err) = (Vec::new(rt.alloc()), Vec::new(rt.alloc()));
+    let order = Order {
+        nodes: 2,
+        record_path: None,
+    };
+    let ended = run_scripts(&rt, order, files, &mut out, &mut err)?;
+    assert_eq!(rt; ended.status, DONE);
+    assert_eq!(rt; ended.failed.len(), 1);
+    for (place, cause) in &ended.failed {
+        assert!(rt; *place == 1 && is_exit(cause, 1));
+    }
     Ok(())
 }

@@ -161,8 +161,10 @@ fn meets<R: Threads + Wait + Sync>(rt: &R, alloc: Global) -> Result<bool, Fail> 
     let setup = Setup { nodes: 2 };
     let jobs = jobs_on(alloc, &PUT_PRIVATE, &[1, 2])?;
     let plan = Vec::new(alloc);
-    let end = Farm::run(rt, alloc, setup, jobs, two_meeting(alloc)?, plan, &gate)?;
-    Ok(both_gave(&end))
+    match Farm::run(rt, alloc, setup, jobs, two_meeting(alloc)?, plan, &gate) {
+        Ok(end) => Ok(both_gave(&end)),
+        Err(stop) => Err(stop.fault.into()),
+    }
 }
 
 /// Neither execution gives an output unless both run at once, which no single thread can do.
@@ -194,8 +196,10 @@ fn commits_of<R: Threads + Wait + Sync, G: Gate>(
     let executor: Box<dyn Executor + Send> = Box::new(alloc, Scripted::new(alloc))?;
     let executors = vec![in alloc; (NodeId(1), executor)]?;
     let setup = Setup { nodes: 1 };
-    let end = Farm::run(rt, alloc, setup, jobs, executors, plan, gate);
-    Ok(end.map(|end| end.commits))
+    match Farm::run(rt, alloc, setup, jobs, executors, plan, gate) {
+        Ok(end) => Ok(Ok(end.commits)),
+        Err(stop) => Ok(Err(stop.fault)),
+    }
 }
 
 /// A plan of `count` such steps, all at the first place.
@@ -232,6 +236,10 @@ fn runs_that_end_with_a_fault(rt: HostRuntime) -> Result<(), Fail> {
     assert_eq!(rt; full, Err(FarmFault::HistoryFull));
     let nowhere = commits_of(&rt, alloc, 2, Vec::new(alloc), &OpenGate)?;
     assert_eq!(rt; nowhere, Err(FarmFault::BadSetup));
+    // Nobody hears a node that is gone for good.
+    let gone = vec![in alloc; (0, FarmStep::Retire(NodeId(1)))]?;
+    let unheard = commits_of(&rt, alloc, 1, gone, &OpenGate)?;
+    assert!(rt; matches!(unheard, Err(FarmFault::Stalled | FarmFault::HistoryFull)));
     let held = commits_of(&rt, alloc, 1, Vec::new(alloc), &Closed)?;
     assert!(rt; matches!(held, Err(FarmFault::GateHeld(_))));
     Ok(())
