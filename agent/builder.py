@@ -1,0 +1,124 @@
+"""The program that builds images, behind a small interface.
+
+Owes the filters that it ends with the agent, and that of a cache mount it uses the folder at `cache_place` and nothing else.
+"""
+from __future__ import annotations
+
+import json
+import os
+import subprocess
+import sys
+from dataclasses import dataclass, field
+from typing import Protocol
+
+from agent import launch
+from agent.dockerfile import Base
+from agent.dockertext import BadDockerfile
+from agent.faults import FarmFault
+from agent.tools import need
+
+
+@dataclass
+class Image:
+    """What is to be built."""
+
+    context: str
+    dockerfile: str
+    room: str  # a folder of the build's own
+    build_args: dict[str, str] = field(default_factory=dict)
+    target: str | None = None
+    format: str | None = None
+    ignore_file: str | None = None
+    env: dict[str, str] = field(default_factory=dict)
+
+
+class Builder(Protocol):
+    def base_of(self, name: str) -> Base:
+        """What an image says of builds that begin with it. It is fetched first where it isn't here."""
+
+    def command(self, image: Image) -> tuple[list[str], dict[str, str]]:
+        """The command that builds, and its environment."""
+
+    def cache_place(self, image: Image, name: str) -> str:
+        """Where the builder looks for the cache of this id."""
+
+    def unwanted(self, image: Image, path: str) -> None:
+        """Takes out of a cache what the builder put there for itself."""
+
+    def built(self, image: Image) -> str:
+        """The name of the image that was built."""
+
+    def tag(self, name: str, tag: str) -> None:
+        """Gives an image a tag."""
+
+    def sweep(self) -> None:
+        """Removes what builds left that didn't end by themselves. None is under way."""
+
+
+class Buildah:
+    """Debian's buildah, without a daemon: chroot isolation, its storage a folder of the node's."""
+
+    LOCK_FILE = "buildah-cache-lockfile"
+
+    def __init__(self, home: str) -> None:
+        self.home = home
+        self.storage = ["--root", f"{home}/root", "--runroot", f"{home}/run", "--storage-driver", "vfs"]
+
+    def _words(self, *words: str) -> list[str]:
+        return [need("buildah"), *self.storage, *words]
+
+    def _call(self, *words: str) -> subprocess.CompletedProcess[str]:
+        """A short call, outside any lease. It ends with the agent."""
+        os.makedirs(f"{self.home}/tmp", exist_ok=True)
+        env = {"PATH": os.environ["PATH"], "HOME": self.home, "TMPDIR": f"{self.home}/tmp"}
+        with open(os.memfd_create("call"), "w") as said:
+            spec = {"command": self._words(*words), "cwd": "/", "env": env, "binds": [], "parent": os.getpid(), "namespace": False}
+            json.dump(spec, said)
+            said.flush()
+            launcher = [sys.executable, "-I", "-S", os.path.abspath(launch.__file__), str(said.fileno())]
+            return subprocess.run(launcher, pass_fds=[said.fileno()], stdin=subprocess.DEVNULL, capture_output=True, text=True)
+
+    def base_of(self, name: str) -> Base:
+        done = self._call("inspect", "--type", "image", name)
+        if done.returncode:
+            pulled = self._call("pull", name)
+            if pulled.returncode:
+                raise BadDockerfile(0, f"the image {name} isn't here and can't be pulled: {' '.join(pulled.stderr.split())[-300:]}")
+            done = self._call("inspect", "--type", "image", pulled.stdout.split()[-1])
+        if done.returncode:
+            raise BadDockerfile(0, f"the image {name} can't be read: {' '.join(done.stderr.split())[-300:]}")
+        told = json.loads(done.stdout)
+        docker = (told.get("Docker") or {}).get("config") or {}
+        env = ((told.get("OCIv1") or {}).get("config") or {}).get("Env") or docker.get("Env") or []
+        pairs = (word.partition("=") for word in env)
+        return Base({key: value for key, _, value in pairs}, docker.get("OnBuild") or [], docker.get("Shell"))
+
+    def command(self, image: Image) -> tuple[list[str], dict[str, str]]:
+        os.makedirs(f"{image.room}/tmp/buildah-cache", exist_ok=True)
+        words = self._words("bud", "--isolation", "chroot", "--pull=false", "--iidfile", f"{image.room}/image", "-f", image.dockerfile)
+        words += [f"--build-arg={key}={value}" for key, value in image.build_args.items()]
+        words += ["--target", image.target] if image.target else []
+        words += ["--format", image.format] if image.format else []
+        words += ["--ignorefile", image.ignore_file] if image.ignore_file else []
+        return [*words, image.context], image.env | {"PATH": os.environ["PATH"], "TMPDIR": f"{image.room}/tmp", "HOME": image.room}
+
+    def cache_place(self, image: Image, name: str) -> str:
+        return f"{image.room}/tmp/buildah-cache/{name}"
+
+    def unwanted(self, image: Image, path: str) -> None:
+        lock = f"{path}/{self.LOCK_FILE}"
+        if os.path.isfile(lock) and not os.path.islink(lock) and not os.path.getsize(lock):
+            os.unlink(lock)
+
+    def built(self, image: Image) -> str:
+        with open(f"{image.room}/image") as file:
+            return file.read().strip()
+
+    def tag(self, name: str, tag: str) -> None:
+        done = self._call("tag", name, tag)
+        if done.returncode:
+            raise FarmFault(f"the image {name} can't be tagged {tag}: {' '.join(done.stderr.split())[-300:]}")
+
+    def sweep(self) -> None:
+        if os.path.isdir(f"{self.home}/root"):
+            self._call("rm", "--all")

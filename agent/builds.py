@@ -1,0 +1,170 @@
+"""A Dockerfile's build under one lease of all folders that its cache mounts name.
+
+Owes the filter what a run owes it (`runs`), and that nothing is leased, and nothing runs, where the Dockerfile is refused.
+"""
+from __future__ import annotations
+
+import os
+import tempfile
+import threading
+from dataclasses import dataclass, field
+
+from agent import dockerfile
+from agent.builder import Buildah, Builder, Image
+from agent.caller import Caller
+from agent.dockertext import BadDockerfile
+from agent.faults import BAD_DOCKERFILE, FENCED_BUILD, LOST, FarmFault
+from agent.node import NodeAgent
+from agent.runs import Job, Run
+from agent.words import Want
+
+# What of a caller's environment a build gets.
+PASSED = ("http_proxy", "https_proxy", "no_proxy", "HTTP_PROXY", "HTTPS_PROXY", "NO_PROXY")
+
+OF_SHARED = "One node at a time has a shared folder: --shared-as locked or private treats such mounts otherwise"
+
+
+class Refused(FarmFault):
+    """The Dockerfile can't be built under leases."""
+
+    status = BAD_DOCKERFILE
+
+
+@dataclass
+class BuildAsked:
+    context: str
+    cwd: str
+    file: str | None = None
+    tag: str | None = None
+    target: str | None = None
+    build_args: dict[str, str] = field(default_factory=dict)
+    format: str | None = None
+    wait: float | None = None
+    on_lost: str = "go-on"
+    shared_as: str = "shared"
+    keep_failed: bool = False
+    tag_fenced: bool = False
+    env: dict[str, str] = field(default_factory=dict)
+
+    def dockerfile(self) -> str:
+        names = [f"{self.context}/Containerfile", f"{self.context}/Dockerfile"]
+        if self.file:
+            names = [os.path.join(self.cwd, self.file), os.path.join(self.context, self.file)]
+        found = next((name for name in names if os.path.isfile(name)), None)
+        if found is None:
+            raise Refused(f"there is no {names[-1]}")
+        if found.endswith(".in"):
+            raise Refused(f"{found}: the builder would run it through cpp")
+        return found
+
+
+class Builds:
+    """The builds of a node."""
+
+    def __init__(self, agent: NodeAgent, builder: Builder | None = None) -> None:
+        self.agent = agent
+        self.builder: Builder = builder or Buildah(f"{agent.home}/containers")
+        self.home = f"{agent.home}/builds"
+        self.lock = threading.Lock()
+        self.under_way = 0
+        self.dirty = True  # a build may have been killed before this agent began
+
+    def enter(self) -> str:
+        """A room for one more build."""
+        with self.lock:
+            if self.under_way == 0 and self.dirty:
+                if os.path.isdir(self.home):
+                    self.agent.places.trash.take(self.home)
+                self.builder.sweep()
+                self.dirty = False
+            self.under_way += 1
+            os.makedirs(self.home, exist_ok=True)
+            return tempfile.mkdtemp(prefix="b", dir=self.home)
+
+    def leave(self, room: str, ended_well: bool) -> None:
+        with self.lock:
+            self.under_way -= 1
+            self.dirty = self.dirty or not ended_well
+        self.agent.places.trash.take(room)
+
+
+class Build:
+    """A build for a caller."""
+
+    def __init__(self, builds: Builds, asked: BuildAsked, caller: Caller) -> None:
+        self.builds, self.asked, self.caller = builds, asked, caller
+
+    def run(self) -> int:
+        path = self.asked.dockerfile()
+        plan = self._plan(path)
+        room = self.builds.enter()
+        status = -1
+        try:
+            status = self._run(path, plan, room)
+            return status
+        finally:
+            self.builds.leave(room, status in (0, LOST, FENCED_BUILD))
+
+    def _plan(self, path: str) -> dockerfile.Plan:
+        """What the Dockerfile wants. Images that it begins with are fetched now: nobody waits for that under a lease."""
+        try:
+            with open(path, encoding="utf-8", newline="") as file:
+                text = file.read()
+            return dockerfile.plan(text, self.asked.build_args, self.asked.target, self.builds.builder.base_of, self.asked.shared_as)
+        except UnicodeDecodeError:
+            raise Refused(f"{path} isn't UTF-8") from None
+        except BadDockerfile as fault:
+            raise Refused(str(fault)) from None
+
+    def _run(self, path: str, plan: dockerfile.Plan, room: str) -> int:
+        asked, builder = self.asked, self.builds.builder
+        with open(f"{room}/Dockerfile", "w", encoding="utf-8", newline="") as file:
+            file.write(plan.text)
+        ignored = f"{path}.dockerignore"
+        image = Image(
+            asked.context, f"{room}/Dockerfile", room, asked.build_args, asked.target and plan.target, asked.format,
+            ignored if os.path.exists(ignored) else None, asked.env,
+        )
+        command, env = builder.command(image)
+        folders = plan.folders()
+        wants = [
+            # Of a SHARED folder the mount alone says whether it may be written: what is leased is the tenure.
+            Want(folder, builder.cache_place(image, mounts[0].place), folder.startswith("shared:") or any(m.writable for m in mounts))
+            for folder, mounts in folders.items()
+        ]
+        for folder, mounts in folders.items():
+            self.caller.say(f"{folder} is wanted in line {', '.join(str(mount.line) for mount in mounts)}")
+
+        def filled(want: Want, place: str, is_new: bool) -> None:
+            mount = folders[want.folder][0]
+            if is_new and not os.listdir(place):  # the first mount says whose a new folder is
+                os.chown(place, mount.uid, mount.gid)
+                os.chmod(place, mount.mode)
+
+        def left() -> None:
+            for want in wants:
+                builder.unwanted(image, want.path)
+
+        job = Job(
+            command, asked.context, env, wants, asked.wait, asked.on_lost == "stop", asked.keep_failed, FENCED_BUILD, LOST, OF_SHARED,
+            filled, left,
+        )
+        run = Run(self.builds.agent, job, self.caller)
+        status = run.run()
+        if run.how == "failed" or run.stopped:
+            self.caller.say("the build failed" if run.how == "failed" else "the build was stopped")
+        elif status in (0, LOST, FENCED_BUILD):
+            self._tag(image, status)
+        return status
+
+    def _tag(self, image: Image, status: int) -> None:
+        """Tags the image, now that what the build left counts."""
+        builder, tag = self.builds.builder, self.asked.tag
+        name = builder.built(image)
+        if tag and (status == 0 or self.asked.tag_fenced):
+            builder.tag(name, tag)
+            self.caller.say(f"image {name} is tagged {tag}")
+        elif status:
+            self.caller.say(f"image {name} is built, and isn't tagged: what it left in its cache folders doesn't count")
+        else:
+            self.caller.say(f"image {name}")

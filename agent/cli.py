@@ -1,0 +1,337 @@
+"""The words of `farm`, and what each command does. What only some commands need is imported where they begin: a command that only asks
+an agent starts the faster.
+
+Owes the filters nothing: it asks agents, and shows what they say.
+"""
+from __future__ import annotations
+
+import argparse
+import fcntl
+import json
+import os
+import subprocess
+import sys
+import time
+from typing import Any, Callable, Sequence
+
+from agent import client
+from agent.faults import LOST, MISSING, FarmFault, UsageFault
+from agent.tools import TOP, farmctl
+from agent.words import version_of, want_of
+
+ENDS = """statuses: the command's or builder's own; 64 wrong words; 65 a Dockerfile that can't be built under leases; 69 a program is missing;
+70 a fault; 75 the lease wasn't granted in time, or what was left doesn't count; 76 a build whose lease had ended"""
+
+
+def default_home() -> str:
+    state = os.environ.get("XDG_STATE_HOME") or os.path.expanduser("~/.local/state")
+    return os.environ.get("FARM_HOME") or f"{state}/farm"
+
+
+def parser() -> argparse.ArgumentParser:
+    top = argparse.ArgumentParser(prog="farm", description="Runs commands and builds under leases of cache folders.", epilog=ENDS)
+    verbs = top.add_subparsers(dest="verb", required=True, metavar="COMMAND")
+    for add in (_serving_words, _run_words, _build_words, _asking_words):
+        add(verbs)
+    return top
+
+
+def _verb(verbs: Any, name: str, does: Callable[[argparse.Namespace], int], text: str, example: str) -> argparse.ArgumentParser:
+    made: argparse.ArgumentParser = verbs.add_parser(name, help=text, description=text, epilog=f"example: {example}")
+    made.set_defaults(does=does)
+    made.add_argument("--home", default=default_home(), help="the farm's folder on this machine (%(default)s, or FARM_HOME)")
+    return made
+
+
+def _serving_words(verbs: Any) -> None:
+    up = _verb(verbs, "up", do_up, "coordinator and nodes on this machine", "farm up --nodes 3")
+    up.add_argument("--while-used", action="store_true", help="ends where nobody uses it for a while")
+    coordinator = _verb(
+        verbs, "coordinator", do_coordinator, "the coordinator alone", "farm coordinator --broker redis://10.0.0.1"
+    )
+    node = _verb(verbs, "node", do_node, "one node alone", "farm node 2 --broker redis://10.0.0.1")
+    node.add_argument("number", type=int, metavar="N")
+    for made in (up, coordinator, node):
+        made.add_argument("--nodes", type=int, default=3, help="how many nodes the farm has (%(default)s)")
+        made.add_argument("--contents", metavar="FOLDER", help="where contents are kept: a folder that all machines see")
+        made.add_argument("--verbose", action="store_true", help="says what the filters answer")
+    for made in (up, coordinator):
+        made.add_argument(
+            "--lease-timeout", type=float, metavar="SECONDS", help="withdraws the leases of a node that wasn't heard for so long"
+        )
+    for made in (coordinator, node):
+        made.add_argument("--broker", required=True, metavar="redis://..")
+
+
+def _run_words(verbs: Any) -> None:
+    run = _verb(
+        verbs, "run", do_run, "runs a command with its folders leased",
+        "farm run --folder locked:ccache=/tmp/ccache -- make CC='ccache gcc'",
+    )
+    run.add_argument("--node", type=int, help="the node that runs it (the first one here)")
+    run.add_argument("--folder", action="append", default=[], metavar="[ro=]FOLDER=PATH", help="locked:ID, private:ID or shared:ID")
+    run.add_argument("--wait", type=float, metavar="SECONDS", help="waits no longer for the lease: then the status is 75")
+    run.add_argument("--must-commit", action="store_true", help="status 75 where what the command left doesn't count")
+    run.add_argument("--on-lost", choices=["stop", "go-on"], default="go-on", help="what a command does whose lease has ended")
+    run.add_argument("command", nargs="+", metavar="COMMAND")
+
+
+def _build_words(verbs: Any) -> None:
+    build = _verb(
+        verbs, "build", do_build, "builds a Dockerfile with its cache mounts leased", "farm build --node 1 -t app:latest ."
+    )
+    build.add_argument("--node", type=int)
+    build.add_argument("-f", "--file", metavar="Dockerfile")
+    build.add_argument("-t", "--tag")
+    build.add_argument("--build-arg", action="append", default=[], metavar="K=V")
+    build.add_argument("--target", metavar="STAGE")
+    build.add_argument("--format", choices=["oci", "docker"])
+    build.add_argument("--wait", type=float, metavar="SECONDS")
+    build.add_argument("--on-lost", choices=["stop", "go-on"], default="go-on")
+    build.add_argument("--shared-as", choices=["shared", "locked", "private"], default="shared", help="treats shared mounts so")
+    build.add_argument("--keep-failed", action="store_true", help="commits also what a failed build left")
+    build.add_argument("--tag-fenced", action="store_true", help="tags the image also where the lease had ended")
+    build.add_argument("context")
+
+
+def _asking_words(verbs: Any) -> None:
+    status = _verb(verbs, "status", do_status, "who has what since when, and who waits", "farm status --json")
+    status.add_argument("--json", action="store_true")
+    log = _verb(verbs, "log", do_log, "the versions of a folder", "farm log locked:ccache")
+    log.add_argument("folder")
+    get = _verb(verbs, "get", do_get, "what a version holds, without a lease", "farm get locked:ccache@3 /tmp/third")
+    get.add_argument("folder", metavar="FOLDER[@NUMBER]")
+    get.add_argument("to", metavar="DIR")
+    withdraw = _verb(verbs, "withdraw", do_withdraw, "ends a lease: its holder's commit won't count", "farm withdraw 17")
+    withdraw.add_argument("ticket", metavar="T")
+    retire = _verb(verbs, "retire", do_retire, "ends a node for good", "farm retire 3")
+    retire.add_argument("node", type=int, metavar="N")
+    retire.add_argument("--gone", action="store_true", help="the node is gone for good: you vouch that all it ran is over")
+    prune = _verb(verbs, "prune", do_prune, "makes a folder's next version the empty one", "farm prune locked:ccache")
+    prune.add_argument("folder")
+    gc = _verb(verbs, "gc", do_gc, "forgets contents that nothing needs", "farm gc --keep 3")
+    gc.add_argument("--keep", type=int, default=1, metavar="K", help="keeps the last K versions of each folder (%(default)s)")
+    gc.add_argument("--grace", type=float, default=3600, metavar="SECONDS", help="keeps what is younger (%(default)s)")
+
+
+# Serving.
+
+
+def _serve(args: argparse.Namespace, coordinator: bool, nodes: list[int]) -> int:
+    from agent.serving import Wanted, serve
+
+    return serve(Wanted(
+        args.home, coordinator, nodes, args.nodes, getattr(args, "broker", None), args.contents,
+        getattr(args, "lease_timeout", None), args.verbose, getattr(args, "while_used", False),
+    ))
+
+
+def do_up(args: argparse.Namespace) -> int:
+    if not 1 <= args.nodes <= 1024:
+        raise UsageFault("a farm has 1 to 1,024 nodes")
+    return _serve(args, True, list(range(1, args.nodes + 1)))
+
+
+def do_coordinator(args: argparse.Namespace) -> int:
+    return _serve(args, True, [])
+
+
+def do_node(args: argparse.Namespace) -> int:
+    if not 1 <= args.number <= args.nodes:
+        raise UsageFault(f"this farm has the nodes 1 to {args.nodes}: --nodes says so")
+    return _serve(args, False, [args.number])
+
+
+# Commands under leases.
+
+
+def start_farm(home: str) -> None:
+    """Starts a farm of one node in a process of its own, which ends where nobody uses it."""
+    farmctl()  # a missing program is told here, and not in the farm's log
+    os.makedirs(home, mode=0o700, exist_ok=True)
+    print(f"farm: no farm runs in {home}: one of one node is started", file=sys.stderr, flush=True)
+    words = [sys.executable, os.path.join(TOP, "farm"), "up", "--home", home, "--nodes", "1", "--while-used", "--verbose"]
+    with open(f"{home}/farm.log", "ab") as log:
+        begun = log.tell()
+        started = subprocess.Popen(words, stdin=subprocess.DEVNULL, stdout=subprocess.PIPE, stderr=log, start_new_session=True, cwd=home)
+    assert started.stdout
+    with started.stdout as said_up:
+        is_up = said_up.readline() == b"up\n"
+    if not is_up:
+        with open(f"{home}/farm.log", "rb") as said:
+            said.seek(begun)
+            last = said.read().decode(errors="replace").strip().splitlines()[-1:]
+        fault = FarmFault(last[0].removeprefix("farm: ") if last else "the farm doesn't start")
+        fault.status = MISSING if started.wait() == MISSING else fault.status
+        raise fault
+
+
+def socket_of(home: str, node: int | None) -> str | None:
+    """The socket of a node of this machine."""
+    names = [f"node{node}"] if node is not None else sorted(
+        (name.removesuffix(".sock") for name in os.listdir(home) if name.startswith("node") and name.endswith(".sock")),
+        key=lambda name: (len(name), name),
+    ) if os.path.isdir(home) else []
+    return next((path for name in names if client.is_there(path := f"{home}/{name}.sock")), None)
+
+
+def ask_node(home: str, node: int | None, what: dict[str, Any]) -> int:
+    """Asks a node, and starts a farm for it where none runs here."""
+    for _ in range(5):
+        path = socket_of(home, node)
+        if path is None:
+            if node not in (None, 1) or client.is_there(f"{home}/coordinator.sock"):
+                raise FarmFault(f"no node {node or ''} runs in {home}".replace("  ", " "))
+            os.makedirs(home, mode=0o700, exist_ok=True)
+            with open(f"{home}/starting", "w") as lock:
+                fcntl.flock(lock, fcntl.LOCK_EX)
+                if socket_of(home, node) is None:
+                    start_farm(home)
+            path = f"{home}/node1.sock"
+        try:
+            return client.ask(path, what | {"signals": True}).status
+        except client.NoFarm:
+            time.sleep(0.3)  # it is ending
+    raise FarmFault(f"no farm answers in {home}")
+
+
+def do_run(args: argparse.Namespace) -> int:
+    for word in args.folder:
+        want_of(word)  # wrong words are told before a farm is started
+    return ask_node(args.home, args.node, {
+        "do": "run", "folders": args.folder, "command": args.command, "cwd": os.getcwd(), "env": dict(os.environ),
+        "wait": args.wait, "must_commit": args.must_commit, "on_lost": args.on_lost,
+    })
+
+
+def do_build(args: argparse.Namespace) -> int:
+    from agent.builds import PASSED, BuildAsked
+
+    given = (word.partition("=") for word in args.build_arg)
+    asked = BuildAsked(
+        context=os.path.abspath(args.context), cwd=os.getcwd(), file=args.file, tag=args.tag, target=args.target,
+        build_args={key: value if equals else os.environ.get(key, "") for key, equals, value in given}, format=args.format,
+        wait=args.wait, on_lost=args.on_lost, shared_as=args.shared_as, keep_failed=args.keep_failed, tag_fenced=args.tag_fenced,
+        env={key: value for key, value in os.environ.items() if key in PASSED},
+    )
+    return ask_node(args.home, args.node, {"do": "build", "build": vars(asked)})
+
+
+# Questions to the coordinator.
+
+
+def ask_coordinator(args: argparse.Namespace, what: dict[str, Any]) -> Any:
+    asked = client.ask(f"{args.home}/coordinator.sock", what)
+    if asked.status:
+        raise SystemExit(asked.status)
+    return asked.told
+
+
+def _ago(at: float | None) -> str:
+    return f"for {time.time() - at:.0f} s" if at else "since before its agent began"
+
+
+def do_status(args: argparse.Namespace) -> int:
+    told = ask_coordinator(args, {"do": "status"})
+    if args.json:
+        print(json.dumps(told, indent=2))
+        return 0
+    for lease in told["leases"]:
+        slots = ", ".join(lease["slots"])
+        what = f"has {slots} open" if lease["kind"] == "tenure" else f"has {slots}" if slots else "runs a command without folders of its own"
+        print(f"node {lease['node']} {what} {_ago(lease['since'])}, ticket {lease['ticket']}")
+    for waiting in told["waiting"]:
+        print(f"node {waiting['node']} waits for {', '.join(waiting['folders'])}")
+    for folder in told["folders"]:
+        print(f"{folder['slot']} is at version {folder['version']}")
+    for node in told["gone"]:
+        print(f"node {node} was retired")
+    if not told["leases"] and not told["waiting"]:
+        print("nobody has or wants a folder")
+    return 0
+
+
+def do_log(args: argparse.Namespace) -> int:
+    told = ask_coordinator(args, {"do": "log", "folder": args.folder})
+    for slot, versions in told.items():
+        for version in versions:
+            print(f"{slot} version {version['version']} ticket {version['ticket']} {version['digest']}")
+    if not told:
+        raise FarmFault(f"{args.folder} has no version")
+    return 0
+
+
+def do_get(args: argparse.Namespace) -> int:
+    from agent import serving, trees
+    from agent.hints import Hints
+
+    folder, number = version_of(args.folder)
+    told = ask_coordinator(args, {"do": "log", "folder": folder})
+    if len(told) != 1:
+        raise FarmFault(f"{folder} has no version" if not told else f"name one of {', '.join(told)}")
+    versions = next(iter(told.values()))
+    found = [each for each in versions if number in (None, each["version"])]
+    if not found:
+        raise FarmFault(f"{folder} has the versions 1 to {len(versions)}")
+    if os.path.lexists(args.to) and (not os.path.isdir(args.to) or os.listdir(args.to)):
+        raise FarmFault(f"{args.to} is there: name a path that is free, or an empty folder")
+    kept = ask_coordinator(args, {"do": "store"})
+    wanted = serving.Wanted(args.home, True, [], 1, kept["broker"], kept["contents"])
+    store = serving.store_of(wanted, "farm-" + Hints(f"{args.home}/key").name())
+    index = store.index(found[-1]["digest"])
+    if index is None:
+        raise FarmFault(f"the content of version {found[-1]['version']} isn't in the store any more")
+    trees.extract(store, index, os.path.abspath(args.to))
+    return 0
+
+
+def do_withdraw(args: argparse.Namespace) -> int:
+    ask_coordinator(args, {"do": "withdraw", "ticket": args.ticket})
+    return 0
+
+
+def do_retire(args: argparse.Namespace) -> int:
+    ask_coordinator(args, {"do": "retire", "node": args.node, "gone": args.gone})
+    return 0
+
+
+def do_prune(args: argparse.Namespace) -> int:
+    ask_coordinator(args, {"do": "prune", "folder": args.folder})
+    return 0
+
+
+def do_gc(args: argparse.Namespace) -> int:
+    from agent.store import FolderStore
+
+    if args.keep < 1:
+        raise UsageFault("the last version of a folder is always kept: --keep is at least 1")
+    kept = ask_coordinator(args, {"do": "store"})
+    store = FolderStore(kept["contents"] or f"{args.home}/contents")
+    begun = time.time()
+    needed = ask_coordinator(args, {"do": "needed", "keep": args.keep})
+    contents = 0
+    for name in sorted(os.listdir(args.home)):
+        if name.startswith("node") and name.endswith(".sock"):
+            contents += int(client.ask(f"{args.home}/{name}", {"do": "forget", "needed": needed}).told or 0)
+    indexes, chunks = store.forget(set(needed), args.grace + time.time() - begun)
+    print(f"forgot {contents} contents of nodes, {indexes} indexes and {chunks} chunks")
+    if kept["broker"] and not kept["contents"]:
+        print("what Redis keeps stays: this forgets the copies of this machine alone")
+    return 0
+
+
+def main(words: Sequence[str] | None = None) -> int:
+    try:
+        args = parser().parse_args(words)
+    except SystemExit as ended:
+        return 64 if ended.code else 0
+    args.home = os.path.abspath(args.home)
+    try:
+        return int(args.does(args))
+    except FarmFault as fault:
+        print(f"farm: {fault}", file=sys.stderr)
+        return fault.status
+    except SystemExit as ended:
+        return int(ended.code or 0)
+    except KeyboardInterrupt:
+        return LOST

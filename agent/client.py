@@ -1,0 +1,89 @@
+"""The other end of an agent's socket: a command asks, shows what is said, passes its signals on, and ends with the status.
+
+Owes the filters nothing.
+"""
+from __future__ import annotations
+
+import json
+import os
+import signal
+import socket
+import sys
+from types import FrameType
+from typing import Any
+
+from agent.faults import LOST, FarmFault
+from agent.launch import PASSED
+
+
+class NoFarm(FarmFault):
+    """No agent answers there."""
+
+
+class Asked:
+    """What came of a request."""
+
+    def __init__(self) -> None:
+        self.told: Any = None
+        self.said: list[str] = []
+        self.status = LOST
+
+
+def ask(path: str, what: dict[str, Any], shows: bool = True) -> Asked:
+    """Asks an agent. What it says goes to the standard error, line by line."""
+    asked = Asked()
+    with socket.socket(socket.AF_UNIX) as link:
+        try:
+            link.connect(path)
+            socket.send_fds(link, [b"f"], [0, 1, 2])
+            link.sendall(json.dumps(what).encode() + b"\n")
+        except OSError as fault:
+            raise NoFarm(f"no farm answers at {path}: {fault.strerror}") from None
+
+        def passes(number: int, _frame: FrameType | None) -> None:
+            try:
+                link.sendall(json.dumps({"signal": number}).encode() + b"\n")
+            except OSError:
+                pass
+
+        before = {number: signal.signal(number, passes) for number in PASSED} if what.get("signals") else {}
+        heard = False
+        try:
+            with link.makefile("rb") as stream:
+                for raw in stream:
+                    heard = True
+                    if _take(asked, json.loads(raw), shows):
+                        return asked
+        except OSError:
+            pass
+        finally:
+            for number, handler in before.items():
+                signal.signal(number, handler)
+    if not heard:
+        raise NoFarm(f"the farm at {path} is ending")
+    print("farm: the agent is gone, and what came of the command isn't known", file=sys.stderr, flush=True)
+    return asked
+
+
+def _take(asked: Asked, told: dict[str, Any], shows: bool) -> bool:
+    """Takes one line of an agent. Whether it was the last."""
+    if "exit" in told:
+        asked.status = int(told["exit"])
+        return True
+    if "told" in told:
+        asked.told = told["told"]
+    elif told["say"]:
+        asked.said.append(told["say"])
+        if shows:
+            print(f"farm: {told['say']}", file=sys.stderr, flush=True)
+    return False
+
+
+def is_there(path: str) -> bool:
+    """Whether an agent listens."""
+    with socket.socket(socket.AF_UNIX) as link:
+        try:
+            link.connect(path)
+        except OSError:
+            return False
+    return os.path.exists(path)

@@ -1,0 +1,208 @@
+"""The agent of the coordinator: carries its filter's lines, and says what people ask of it.
+
+Owes the filter that what came from outside stands behind `m `, and that only the machine's own people speak without it. That a lease is
+withdrawn too early costs its holder a build and nothing else, so the agent may guess.
+"""
+from __future__ import annotations
+
+import tempfile
+import threading
+import time
+from typing import Any
+
+from agent.faults import FarmFault, LifeOver, UsageFault
+from agent.hints import Hints
+from agent.lines import Answer, Filter, FilterGone, Talk, line_of
+from agent.node import Setup
+from agent.transport import COORDINATOR, address_of, node_address
+from agent.words import DIGEST, is_folder
+
+NUDGE_MOST = 15.0
+
+
+class CoordinatorAgent:
+    def __init__(self, setup: Setup, lease_timeout: float | None = None) -> None:
+        self.setup, self.lease_timeout = setup, lease_timeout
+        self.hints = Hints(setup.key)
+        self.since: dict[int, float] = {}  # of a ticket: when this agent saw it granted
+        self.heard: dict[int, float] = {}  # of a node
+        self.begun = time.time()
+        self.lock = threading.Lock()
+        words = ["coordinator", "--record", f"{setup.home}/record", "--key", setup.key]
+        self.talk = Talk("coordinator", [setup.program, *words], lambda: None, self.hear)
+
+    def log(self, text: str) -> None:
+        self.setup.log(f"coordinator: {text}")
+
+    def hear(self, answer: Answer) -> None:
+        words = answer.note.split(" ")
+        if words[0] == "granted" and words[1].isdigit():
+            self.since[int(words[1])] = time.time()
+        if words[0] not in ("nothing", "nudged", "status", "line", "needed"):
+            self.log(answer.note[:160])
+        for fact in answer.facts:
+            self._hear_fact(fact.split(" "))
+        for line in answer.sends:
+            self.setup.transport.send(address_of(line), line)
+
+    def _hear_fact(self, words: list[str]) -> None:
+        if words[0] in ("ended", "outdated", "gone") and len(words) > 1:
+            node = words[2] if words[0] == "ended" else words[1]
+            self.log(" ".join(words))
+            self.setup.transport.send(node_address(node), self.hints.seal(" ".join(words)))
+        elif words[0] in ("restarted", "down"):
+            self.log(" ".join(words))
+
+    def call(self, line: str) -> Answer:
+        return self.talk.call(line)
+
+    def question(self, line: str) -> Answer:
+        """A line that changes nothing, so that it may be said again."""
+        for _ in range(3):
+            try:
+                return self.call(line)
+            except LifeOver:
+                pass
+        return self.call(line)
+
+    def serve(self) -> None:
+        """Hears messages for ever, sends its grants again now and then, and withdraws the leases of nodes that fell silent."""
+        delay, due = 1.0, time.monotonic() + 1.0
+        while not self.talk.stopped:
+            line = self.setup.transport.receive(COORDINATOR, 0.5)
+            try:
+                if line is not None and self.receive(line).startswith(("granted", "parked")):
+                    delay = 1.0
+                if time.monotonic() > due:
+                    self.call("nudge")
+                    self._withdraw_silent()
+                    delay = min(delay * 2, NUDGE_MOST)
+                    due = time.monotonic() + delay
+            except LifeOver:
+                delay = 1.0
+            except (FarmFault, OSError, ValueError, IndexError) as fault:
+                self.log(f"{type(fault).__name__}: {fault}")
+                time.sleep(1.0)
+
+    def receive(self, line: str) -> str:
+        """A line from outside. The note of the answer."""
+        words = self.hints.open(line)
+        if words:
+            self._hear_hint(words)
+            return ""
+        if "\n" in line or "\r" in line:
+            return ""
+        note = self.call("m " + line).note
+        if not note.startswith(("dropped", "refused")):
+            self.heard[int(line.split(" ", 2)[1])] = time.time()
+        return note
+
+    def _hear_hint(self, words: list[str]) -> None:
+        if words[0] == "here":
+            self.heard[int(words[1])] = time.time()
+        if words[0] == "who":
+            node, ask, folders = int(words[1]), words[2], set(words[3:])
+            held = self.holders(node, folders)
+            self.setup.transport.send(node_address(node), self.hints.seal(f"held {node} {ask} {held}"))
+
+    def holders(self, node: int, folders: set[str]) -> str:
+        """Who has one of these folders, in words."""
+        found = []
+        for lease in self.status()["leases"]:
+            slots = [slot for slot in lease["slots"] if slot.removeprefix("ro=").partition("#")[0] in folders]
+            if slots:
+                seconds = f"for {time.time() - lease['since']:.0f} s" if lease["since"] else "since before this agent began"
+                found.append(f"node {lease['node']} has {', '.join(slots)} {seconds}, ticket {lease['ticket']}")
+        return "; ".join(found)
+
+    def _withdraw_silent(self) -> None:
+        if self.lease_timeout is None:
+            return
+        for lease in self.status()["leases"]:
+            silent = time.time() - self.heard.get(lease["node"], self.begun)
+            if silent > self.lease_timeout and lease["kind"] != "tenure":
+                self.log(f"node {lease['node']} wasn't heard for {silent:.0f} s: its lease {lease['ticket']} is withdrawn")
+                self.call(line_of("withdraw", str(lease["ticket"])))
+
+    # What people ask.
+
+    def status(self) -> dict[str, Any]:
+        told: dict[str, Any] = {"leases": [], "waiting": [], "folders": [], "lives": {}, "gone": [], "retired": []}
+        for fact in self.question("status").facts:
+            words = fact.split(" ")
+            if words[0] == "lease":
+                ticket, node, life, ask = (int(word) for word in words[1:5])
+                told["leases"].append({
+                    "ticket": ticket, "node": node, "life": life, "ask": ask, "kind": words[5], "slots": words[6:],
+                    "since": self.since.get(ticket),
+                })
+            elif words[0] == "parked":
+                node, life, ask = (int(word) for word in words[2:5])
+                told["waiting"].append({"kind": words[1], "node": node, "life": life, "ask": ask, "folders": words[5:]})
+            elif words[0] == "last":
+                number, ticket_word, digest = words[2].split(":")
+                told["folders"].append({"slot": words[1], "version": int(number), "ticket": int(ticket_word), "digest": digest})
+            elif words[0] == "life":
+                told["lives"][words[1]] = int(words[2])
+            elif words[0] == "gone":
+                told["gone"].append(int(words[1]))
+            elif words[0] == "retired":
+                told["retired"].append(words[1])
+            elif words[0] == "tickets":
+                told["tickets"] = int(words[1])
+        told["heard"] = {str(node): at for node, at in self.heard.items()}
+        return told
+
+    def slots_of(self, folder: str) -> list[str]:
+        """The slots of a folder that have versions; a slot's own text names that one."""
+        if not is_folder(folder.partition("#")[0]):
+            raise UsageFault(f"{folder!r} is no folder")
+        found = [str(each["slot"]) for each in self.status()["folders"]]
+        return [slot for slot in found if folder in (slot, slot.partition("#")[0])]
+
+    def versions(self, slot: str) -> list[dict[str, Any]]:
+        facts = (fact.split(" ") for fact in self.question(line_of("line", slot)).facts)
+        return [{"version": int(words[0]), "ticket": int(words[1]), "digest": words[2]} for words in facts]
+
+    def needed(self, keep: int) -> set[str]:
+        """The digests of the last versions of each slot, and all that the filter says are needed."""
+        answer = self.question("needed")
+        if answer.is_refused:
+            raise FarmFault(f"the coordinator doesn't say what is needed: {answer.note}")
+        needed = {fact for fact in answer.facts if DIGEST.fullmatch(fact)}
+        for each in self.status()["folders"]:
+            needed.update(version["digest"] for version in self.versions(each["slot"])[-keep:])
+        return needed
+
+    def operate(self, *words: str) -> str:
+        """An operator's call. What came of it; a refusal is a fault."""
+        answer = self.call(line_of(*words))
+        if answer.is_refused:
+            raise FarmFault(f"{' '.join(words)}: {answer.note}")
+        return answer.note
+
+    def retire(self, node: int, is_gone: bool) -> str:
+        """Retires a node. Of one that is gone for good a life from an empty store says Hello first, which ends its tenures: whoever
+        says that it is gone vouches that its executions are over."""
+        if is_gone:
+            with tempfile.TemporaryDirectory(dir=self.setup.home) as room:
+                words = ["node", "--node", str(node), "--nodes", "1024", "--store", f"{room}/filter", "--key", self.setup.key]
+                try:
+                    last = Filter([self.setup.program, *words])
+                except FilterGone as gone:
+                    raise FarmFault(f"no life of node {node} can be begun: {gone.said}") from None
+                for line in last.greeting.sends:
+                    self.receive(line)
+                last.close()
+        try:
+            return self.operate("retire", str(node))
+        except FarmFault as fault:
+            if "TenureHeld" in str(fault) and not is_gone:
+                raise FarmFault(
+                    f"node {node} has a SHARED folder open. Let it end, or, if the node is gone for good and all it ran is over: "
+                    f"farm retire {node} --gone"
+                ) from None
+            raise
+
+    def stop(self) -> None:
+        self.talk.stop()

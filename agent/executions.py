@@ -1,0 +1,124 @@
+"""Commands that run under leases: each with its own pid namespace where the kernel lets it, else as a group of processes.
+
+Owes the filters that all executions of a life are over before the next life of the node begins: each holds the node's lock of
+executions, and `all_over` takes it first. The command's standard streams are the caller's, signals go through to it, and its status
+comes back.
+"""
+from __future__ import annotations
+
+import fcntl
+import json
+import os
+import signal
+import subprocess
+import sys
+import threading
+import time
+from typing import Callable
+
+from agent import launch
+
+LAUNCHER = os.path.abspath(launch.__file__)
+
+
+def can_have_namespaces() -> bool:
+    """Whether the kernel lets this process make pid and mount namespaces."""
+    child = os.fork()
+    if child == 0:
+        os._exit(1 if launch.libc.unshare(launch.CLONE_NEWPID | launch.CLONE_NEWNS) else 0)
+    return os.waitpid(child, 0)[1] == 0
+
+
+class Execution:
+    """One command. The thread that makes it has to wait for it: the command ends with that thread."""
+
+    def __init__(self, process: subprocess.Popen[bytes]) -> None:
+        self.process = process
+        self.was_ended = False
+
+    def wait(self, timeout: float) -> int | None:
+        """Its status, 128 and the signal's number where a signal ended it; none where it isn't over yet."""
+        try:
+            status = self.process.wait(timeout)
+        except subprocess.TimeoutExpired:
+            return None
+        return status if status >= 0 else 128 - status
+
+    def signal(self, number: int) -> None:
+        if number in launch.PASSED:
+            self.process.send_signal(number)
+
+    def end(self) -> None:
+        """Ends it with all its processes."""
+        self.was_ended = self.process.poll() is None or self.was_ended
+        while self.process.poll() is None:
+            self.process.send_signal(launch.ORPHANED)
+            try:
+                self.process.wait(1.0)
+            except subprocess.TimeoutExpired:
+                pass
+
+
+class Executions:
+    """The executions of a node."""
+
+    def __init__(self, home: str, log: Callable[[str], None] = lambda text: None) -> None:
+        self.log = log
+        self.lock_path = f"{home}/executions"
+        self.lock = threading.Lock()
+        self.running: set[Execution] = set()
+        self.has_namespaces = can_have_namespaces()
+        if not self.has_namespaces:
+            log("the kernel gives no pid namespace: a command that leaves its session and its parents can outlive its life")
+
+    def _open(self) -> int:
+        return os.open(self.lock_path, os.O_RDWR | os.O_CREAT | os.O_CLOEXEC, 0o600)
+
+    def _take_whole(self, handle: int) -> None:
+        """Takes the lock that each execution has a part of."""
+        told = time.monotonic() + 3.0
+        while True:
+            try:
+                return fcntl.flock(handle, fcntl.LOCK_EX | fcntl.LOCK_NB)
+            except BlockingIOError:
+                time.sleep(0.02)
+            if time.monotonic() > told:
+                told = time.monotonic() + 60.0
+                self.log("executions of an earlier life are still there: the next one waits for their end")
+
+    def all_over(self) -> None:
+        """Ends those that this agent knows, and waits until those of agents before it are over too."""
+        with self.lock:
+            known = list(self.running)
+        for execution in known:
+            execution.end()
+        handle = self._open()
+        try:
+            self._take_whole(handle)
+        finally:
+            os.close(handle)
+
+    def start(
+        self, command: list[str], cwd: str, env: dict[str, str], streams: list[int], binds: list[tuple[str, str]]
+    ) -> Execution:
+        held = self._open()
+        fcntl.flock(held, fcntl.LOCK_SH)
+        spec = {"command": command, "cwd": cwd, "env": env, "binds": binds, "parent": os.getpid(), "namespace": self.has_namespaces}
+        try:
+            with os.fdopen(os.memfd_create("execution"), "w") as said:  # not in its words: these others can see
+                json.dump(spec, said)
+                said.flush()
+                process = subprocess.Popen(
+                    [sys.executable, "-I", "-S", LAUNCHER, str(said.fileno())],
+                    stdin=streams[0], stdout=streams[1], stderr=streams[2], pass_fds=[held, said.fileno()], start_new_session=True,
+                )
+        finally:
+            os.close(held)
+        execution = Execution(process)
+        with self.lock:
+            self.running.add(execution)
+        return execution
+
+    def over(self, execution: Execution) -> None:
+        with self.lock:
+            self.running.discard(execution)

@@ -1,0 +1,48 @@
+"""What can go wrong, each with the status that a command ends with.
+
+Owes the filters nothing: these are for people and scripts.
+"""
+from __future__ import annotations
+
+USAGE = 64  # the words of the command
+BAD_DOCKERFILE = 65
+MISSING = 69  # a program that the agent needs isn't there, or doesn't do what the agent needs
+FAULT = 70
+LOST = 75  # try again: the lease wasn't granted in time, or what was left doesn't count
+FENCED_BUILD = 76  # the image was built, and what it left in its cache folders doesn't count
+
+
+class FarmFault(Exception):
+    """Why a command could not be done, in one sentence."""
+
+    status = FAULT
+
+
+class UsageFault(FarmFault):
+    """What was asked makes no sense."""
+
+    status = USAGE
+
+
+class Missing(FarmFault):
+    """A program that the agent calls isn't there."""
+
+    status = MISSING
+
+
+class LifeOver(FarmFault):
+    """The node's filter ended while something of that life was under way."""
+
+    status = LOST
+
+
+class WaitOver(FarmFault):
+    """The lease wasn't granted within the time that the caller would wait."""
+
+    status = LOST
+
+
+class ClientGone(FarmFault):
+    """Nobody waits for the command any more."""
+
+    status = LOST

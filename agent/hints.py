@@ -1,0 +1,56 @@
+"""What agents tell each other beside the filters' messages: a lease has ended, who holds a folder, a node is heard.
+
+Owes the filters that nothing of it reaches them. A hint changes only what people are shown and how early a lost execution stops. Hints
+are sealed, under a key that is derived from the farm's, so that nothing an agent seals opens as a message of a filter.
+"""
+from __future__ import annotations
+
+import hashlib
+import hmac
+import os
+import secrets
+
+FRONT = "hint "
+
+
+def make_key(path: str) -> str:
+    """The file of the farm's key. It is made where there is none."""
+    if not os.path.exists(path):
+        os.makedirs(os.path.dirname(path), exist_ok=True)
+        fresh = f"{path}.{secrets.token_hex(4)}"
+        with open(os.open(fresh, os.O_WRONLY | os.O_CREAT | os.O_EXCL, 0o600), "w") as file:
+            file.write(secrets.token_hex(32) + "\n")
+            file.flush()
+            os.fsync(file.fileno())
+        try:
+            os.link(fresh, path)  # the first of two that make it at once
+        except FileExistsError:
+            pass
+        os.unlink(fresh)
+    return path
+
+
+class Hints:
+    """Seals and opens hints."""
+
+    def __init__(self, key_path: str) -> None:
+        with open(key_path, "rb") as file:
+            key = file.read().removesuffix(b"\n")
+        self.key = hmac.new(key, b"hints of agents", hashlib.sha256).digest()
+
+    def name(self) -> str:
+        """A name for what the farm keeps in places that farms share: no two keys have one."""
+        return hmac.new(self.key, b"name", hashlib.sha256).hexdigest()[:16]
+
+    def _mac(self, text: str) -> str:
+        return hmac.new(self.key, text.encode(), hashlib.sha256).hexdigest()
+
+    def seal(self, text: str) -> str:
+        return f"{FRONT}{text} {self._mac(text)}"
+
+    def open(self, line: str) -> list[str] | None:
+        """The words of a hint; none where it isn't one, or was damaged or forged."""
+        text, _, mac = line.removeprefix(FRONT).rpartition(" ")
+        if not line.startswith(FRONT) or not hmac.compare_digest(mac.encode(), self._mac(text).encode()):
+            return None
+        return text.split(" ")

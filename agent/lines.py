@@ -1,0 +1,203 @@
+"""The talk with a filter: one line in, one answer out.
+
+Owes the filters that each line it passes on is one line, that what came from outside stands behind `m `, that an answer is taken
+whole or not at all, and that no two processes of one talk run at once.
+"""
+from __future__ import annotations
+
+import os
+import subprocess
+import threading
+import time
+from collections import deque
+from dataclasses import dataclass, field
+from typing import Callable, Sequence
+
+from agent.faults import FarmFault, LifeOver, Missing
+
+LOCKED = 4  # the status of a filter whose files another process has
+MOST = 24 << 20  # bytes of a line with its end: a longer one would be dropped
+
+
+class FilterGone(Exception):
+    """The process ended: what it answered last may be lost."""
+
+    def __init__(self, status: int = 0, said: str = "") -> None:
+        super().__init__(said)
+        self.status, self.said = status, said
+
+
+@dataclass
+class Answer:
+    """What a filter says to one line."""
+
+    sends: list[str] = field(default_factory=list)  # sealed lines, to be sent
+    facts: list[str] = field(default_factory=list)
+    note: str = ""
+
+    @property
+    def is_refused(self) -> bool:
+        return self.note.startswith(("refused ", "dropped "))
+
+
+def line_of(*words: str) -> str:
+    """The line of some words, none of which can be read as two or as another line."""
+    for word in words:
+        if not word or any(c.isspace() for c in word) or "\0" in word:
+            raise ValueError(f"{word!r} is no word")
+    return " ".join(words)
+
+
+class Filter:
+    """One process."""
+
+    def __init__(self, command: Sequence[str]) -> None:
+        self.lock = threading.Lock()
+        try:
+            self.process = subprocess.Popen(
+                command, stdin=subprocess.PIPE, stdout=subprocess.PIPE, stderr=subprocess.PIPE, start_new_session=True
+            )
+        except OSError as fault:
+            raise Missing(f"{command[0]} can't be started: {fault.strerror}") from None
+        assert self.process.stdin and self.process.stdout and self.process.stderr
+        self.input, self.output, self.errors = self.process.stdin, self.process.stdout, self.process.stderr
+        self.said: deque[str] = deque(maxlen=5)  # its last words on the standard error
+        self.listener = threading.Thread(target=self._listen, daemon=True)
+        self.listener.start()
+        try:
+            self.greeting = self._read()
+        except FilterGone:
+            raise FilterGone(self.close(), self.last_words()) from None
+
+    def _listen(self) -> None:
+        for raw in self.errors:
+            self.said.append(raw.decode(errors="replace").rstrip())
+
+    def _read(self) -> Answer:
+        answer = Answer()
+        while True:
+            raw = self.output.readline()
+            if not raw.endswith(b"\n"):
+                raise FilterGone
+            text = raw[:-1].decode(errors="replace")
+            kind, rest = text[:2], text[2:]
+            if kind == "m ":
+                answer.sends.append(rest)
+            elif kind == ": ":
+                answer.facts.append(rest)
+            elif kind == "= ":
+                answer.note = rest
+                return answer
+            else:
+                raise FilterGone  # no answer of a filter looks like this
+
+    def call(self, line: str) -> Answer:
+        raw = line.encode()
+        if b"\n" in raw or b"\r" in raw:
+            raise ValueError("a line has no line feed within")
+        if len(raw) >= MOST:
+            return Answer(note="dropped TooLong")
+        with self.lock:
+            try:
+                self.input.write(raw + b"\n")
+                self.input.flush()
+                return self._read()
+            except (OSError, ValueError):
+                raise FilterGone from None
+
+    def kill(self) -> None:
+        self.process.kill()
+
+    def close(self) -> int:
+        """Ends the process, and gives its status."""
+        try:
+            self.input.close()
+            self.process.wait(0.2)  # at the end of its input it ends by itself
+        except (OSError, subprocess.TimeoutExpired):
+            self.process.kill()
+        status = self.process.wait()
+        self.listener.join(1.0)
+        self.output.close()
+        self.errors.close()
+        return status
+
+    def last_words(self) -> str:
+        return " ".join(" ".join(self.said).split())[-300:]
+
+
+class Talk:
+    """A filter that is started again when it ends. Each process of it has an epoch, counted from 1."""
+
+    def __init__(
+        self, name: str, command: Sequence[str], before: Callable[[], None], hear: Callable[[Answer], None], patience: float = 5.0
+    ) -> None:
+        self.name, self.command, self.before, self.hear, self.patience = name, list(command), before, hear, patience
+        self.birth = threading.RLock()
+        self.present: tuple[int, Filter | None] = (0, None)
+        self.stopped = False
+
+    @property
+    def epoch(self) -> int:
+        return self.present[0]
+
+    def settled_epoch(self) -> int:
+        """The epoch, once no process is just being started."""
+        with self.birth:
+            return self.epoch
+
+    def start(self) -> None:
+        """Begins a process once those of the last one are over. Its files may be locked until the last one is quite gone."""
+        self.before()
+        end = time.monotonic() + self.patience
+        while True:
+            try:
+                process = Filter(self.command)
+                break
+            except FilterGone as gone:
+                if gone.status != LOCKED:
+                    program = os.path.basename(self.command[0])
+                    raise Missing(f"{program} doesn't start as the {self.name}: {gone.said or f'status {gone.status}'}") from None
+                if time.monotonic() > end:
+                    raise FarmFault(f"another process is the {self.name} of this farm: its files are locked") from None
+                time.sleep(0.1)
+        self.present = (self.epoch + 1, process)
+        threading.Thread(target=self._watch, args=(self.epoch, process), daemon=True).start()
+        self.hear(process.greeting)
+
+    def _watch(self, epoch: int, process: Filter) -> None:
+        """Begins the next process as soon as this one ends."""
+        begun = time.monotonic()
+        process.process.wait()
+        if time.monotonic() - begun < 1.0 and not self.stopped:
+            time.sleep(1.0)  # one that ends again and again isn't started all the time
+        try:
+            self.restart(epoch)
+        except FarmFault:
+            pass  # the next call tries again, and tells it
+
+    def call(self, line: str, epoch: int | None = None) -> Answer:
+        """An event. With an epoch it is of something of that process alone."""
+        present, process = self.present
+        if process is None or epoch not in (None, present):
+            raise LifeOver(f"the {self.name} was started again")
+        try:
+            answer = process.call(line)
+        except FilterGone:
+            self.restart(present)
+            raise LifeOver(f"the {self.name} was started again") from None
+        self.hear(answer)
+        return answer
+
+    def restart(self, epoch: int) -> None:
+        """Ends the process of this epoch, if it is the present one, and begins the next."""
+        with self.birth:
+            present, process = self.present
+            if epoch == present and process and not self.stopped:
+                process.close()
+                self.start()
+
+    def stop(self) -> None:
+        with self.birth:
+            self.stopped = True
+            if self.present[1]:
+                self.present[1].close()

@@ -1,0 +1,285 @@
+"""The agent of a node: carries its filter's lines, and begins its lives.
+
+Owes the filter that executions of a life are over before the next one begins, that what came from outside stands behind `m `, that each
+line it sends is sent on, and that a content it is handed is one that the store keeps.
+"""
+from __future__ import annotations
+
+import os
+import re
+import tempfile
+import threading
+import time
+from dataclasses import dataclass
+from typing import Callable
+
+from agent.caller import Patience
+from agent.executions import Executions
+from agent.faults import ClientGone, FarmFault, LifeOver, WaitOver
+from agent.hints import Hints
+from agent.lines import Answer, Talk, line_of
+from agent.places import Places
+from agent.shared import SharedFolders
+from agent.store import Store
+from agent.transport import COORDINATOR, Transport, address_of, node_address
+from agent.words import EMPTY, Grant, Slot, grant_of, versions_of
+
+AWAITED = ("took", "learned", "dropped", "denied", "blob", "recalled", "gave")  # notes that somebody may wait for
+STATES = ("pending", "granted", "running", "committed", "fenced", "released", "content")  # answers to questions
+RECALL = re.compile(r"recall [0-9]{1,4} [0-9]{1,20} ([0-9]{1,20}) ", re.ASCII)
+HEARTBEAT = 5.0
+
+
+@dataclass
+class Setup:
+    """What an agent is made of."""
+
+    program: str
+    home: str
+    key: str
+    store: Store
+    transport: Transport
+    log: Callable[[str], None]
+
+
+@dataclass(frozen=True)
+class Ending:
+    """What came of a commit: `committed` with versions, `fenced` or `released`."""
+
+    how: str
+    versions: dict[str, tuple[int, str]]
+
+
+class NodeAgent:
+    def __init__(self, node: int, nodes: int, setup: Setup) -> None:
+        self.node, self.setup, self.store = node, setup, setup.store
+        self.home = f"{setup.home}/node{node}"
+        os.makedirs(self.home, exist_ok=True)
+        self.hints = Hints(setup.key)
+        self.executions = Executions(self.home, self.log)
+        self.places = Places(self.home)
+        self.changed = threading.Condition()
+        self.events = 0
+        self.resent = 0.0
+        self.life = 0
+        self.retired = False
+        self.unwanted: set[tuple[int, int]] = set()  # epoch and ask: nobody waits for them, and no call takes them back
+        self.holders: dict[int, str] = {}  # of an ask: who has its folders
+        self.ended: set[int] = set()  # tickets whose leases are said to have ended
+        self.shared = SharedFolders(self)
+        words = ["node", "--node", str(node), "--nodes", str(nodes), "--store", f"{self.home}/filter", "--key", setup.key]
+        self.talk = Talk(f"node {node}", [setup.program, *words], self.executions.all_over, self.hear)
+
+    def log(self, text: str) -> None:
+        self.setup.log(f"node {self.node}: {text}")
+
+    def call(self, line: str, epoch: int | None = None) -> Answer:
+        return self.talk.call(line, epoch)
+
+    # What the filter says.
+
+    def hear(self, answer: Answer) -> None:
+        for fact in answer.facts:
+            self.log(fact)
+        self._hear_note(answer.note)
+        looked: dict[str, bool] = {}
+        for line in answer.sends:
+            words = line.split(" ")
+            if words[0] == "fetch" and looked.setdefault(words[3], False) is False:
+                looked[words[3]] = self.take_stored(words[3])
+            if words[0] != "fetch" or not looked[words[3]]:
+                self.setup.transport.send(address_of(line), line)
+
+    def _hear_note(self, note: str) -> None:
+        words = note.split(" ")
+        if words[0] == "life":
+            self.life = int(words[1])
+        if note not in ("nothing", "resent") and words[0] not in STATES:
+            self.log(note[:160])
+        if words[0] == "took":
+            grant = grant_of(words[1:])
+            if (self.talk.epoch, grant.ask) in self.unwanted:
+                threading.Thread(target=self.give_back, args=(grant.ticket, self.talk.epoch), daemon=True).start()
+        if words[0] == "recalled":
+            threading.Thread(target=self.shared.recall, args=(int(words[1]),), daemon=True).start()
+        if words[0] in AWAITED:
+            self.wake()
+
+    def wake(self) -> None:
+        with self.changed:
+            self.events += 1
+            self.changed.notify_all()
+
+    def take_stored(self, digest: str) -> bool:
+        """Hands the filter a content that the store has."""
+        data = self.store.index(digest)
+        if data is None:
+            return False
+        with tempfile.NamedTemporaryFile(dir=self.home) as file:
+            file.write(data)
+            file.flush()
+            try:
+                return not self.call(line_of("blob", file.name)).is_refused
+            except LifeOver:
+                return False
+
+    # What comes from outside.
+
+    def serve(self) -> None:
+        """Hears messages for ever."""
+        heard = 0.0
+        while not self.talk.stopped:
+            line = self.setup.transport.receive(node_address(self.node), 1.0)
+            if time.monotonic() - heard > HEARTBEAT:
+                heard = time.monotonic()
+                self.setup.transport.send(COORDINATOR, self.hints.seal(f"here {self.node}"))
+            try:
+                if line is not None:
+                    self.receive(line)
+            except LifeOver:
+                self.wake()
+            except (FarmFault, OSError, ValueError, IndexError) as fault:
+                self.log(f"{type(fault).__name__}: {fault}")
+                time.sleep(1.0)
+
+    def receive(self, line: str) -> None:
+        words = self.hints.open(line)
+        if words:
+            self._hear_hint(words)
+        elif "\n" not in line and "\r" not in line and self._may_pass(line):
+            self.call("m " + line)
+
+    def _may_pass(self, line: str) -> bool:
+        """Whether a line goes to the filter now."""
+        recall = RECALL.match(line)
+        return recall is None or self.shared.may_pass(int(recall[1]), line)
+
+    def _hear_hint(self, words: list[str]) -> None:
+        if words[0] == "ended" and int(words[2]) == self.node:
+            self.ended.add(int(words[1]))
+        elif words[0] == "held" and int(words[1]) == self.node:
+            self.holders[int(words[2])] = " ".join(words[3:])
+        elif words[0] == "gone" and int(words[1]) == self.node:
+            self.retired = True
+        elif words[0] == "outdated" and int(words[1]) == self.node and int(words[2]) > self.life:
+            self.log(f"a later life of this node, {words[2]}, was heard: a new one begins here")
+            self.talk.restart(self.talk.epoch)
+        else:
+            return
+        self.wake()
+
+    # Leases.
+
+    def wait(self, epoch: int, patience: Patience, is_done: Callable[[], bool]) -> None:
+        """Waits until something holds, and sends again what may have been lost, ever less often."""
+        delay = 0.3
+        while True:
+            seen = self.events
+            if is_done():
+                return
+            patience.check()
+            with self.changed:
+                woken = self.changed.wait_for(lambda: self.events != seen, delay)
+            if epoch != self.talk.epoch:
+                raise LifeOver("the node began a new life")
+            if self.retired:
+                raise FarmFault(f"node {self.node} was retired: nothing is granted to it any more")
+            if not woken and time.monotonic() - self.resent > delay / 2:
+                self.resent = time.monotonic()
+                self.call("resend", epoch)
+                delay = min(delay * 2, 5.0)
+
+    def asked(self, line: str, epoch: int) -> int | None:
+        """Makes an ask. None where it can't be made now."""
+        note = self.call(line, epoch).note
+        if note in ("refused NotHomeHere", "refused TenureHere"):
+            return None
+        if not note.startswith("asked "):
+            raise FarmFault(f"the node refused it: {note.removeprefix('refused ')}")
+        return int(note.removeprefix("asked "))
+
+    def granted(self, ask: int, folders: list[str], epoch: int, patience: Patience) -> Grant:
+        """Waits for the lease of an ask, and tells who has it meanwhile."""
+        words: list[str] = []
+        told = ""
+        due = time.monotonic() + 0.3
+
+        def is_decided() -> bool:
+            nonlocal words, told, due
+            words = self.call(f"state {ask}", epoch).note.split(" ")
+            if words[0] == "pending" and time.monotonic() > due:
+                due = time.monotonic() + 2.0
+                self.setup.transport.send(COORDINATOR, self.hints.seal(f"who {self.node} {ask} {' '.join(folders)}"))
+            if words[0] == "pending" and self.holders.get(ask, "") != told:
+                told = self.holders[ask]
+                said = patience.of_shared if any(folder.startswith("shared:") for folder in folders) else ""
+                patience.say(f"waiting for {', '.join(folders)}: {told}{said and '. '}{said}")
+            return words[0] != "pending"
+
+        try:
+            self.wait(epoch, patience, is_decided)
+        except (ClientGone, WaitOver):
+            self.unwanted.add((epoch, ask))
+            is_decided()
+            if words[0] == "granted":
+                self.give_back(grant_of(words[1:]).ticket, epoch)
+            raise
+        finally:
+            self.holders.pop(ask, None)
+        if words[0] != "granted":
+            raise FarmFault(f"it wasn't granted: {' '.join(words)}")
+        return grant_of(words[1:])
+
+    def begin(self, ticket: int, epoch: int, patience: Patience) -> None:
+        """Begins an execution, once the contents of its bases are here."""
+        note = ""
+        due = [time.monotonic() + 2.0]
+
+        def is_begun() -> bool:
+            nonlocal note
+            note = self.call(f"begin {ticket}", epoch).note
+            if note == "refused ContentsMissing" and time.monotonic() > due[0]:
+                due[0] = time.monotonic() + 30.0
+                patience.say("waiting for the content of a version: it isn't in the store, and the other nodes are asked for it")
+            return note != "refused ContentsMissing"
+
+        self.wait(epoch, patience, is_begun)
+        if note != f"begun {ticket}":
+            raise FarmFault(f"it can't begin: {note.removeprefix('refused ')}")
+
+    def ending(self, ask: int, epoch: int) -> Ending:
+        """Waits for what came of a commit."""
+        words: list[str] = []
+
+        def is_over() -> bool:
+            nonlocal words
+            words = self.call(f"state {ask}", epoch).note.split(" ")
+            return words[0] in ("committed", "fenced", "released", "none")
+
+        self.wait(epoch, Patience(None, None), is_over)
+        return Ending(words[0], versions_of(words[2:]) if words[0] == "committed" else {})
+
+    def give_back(self, ticket: int, epoch: int) -> None:
+        try:
+            self.call(f"abort {ticket}", epoch)
+        except LifeOver:
+            pass
+
+    def content(self, slot: Slot, epoch: int) -> bytes:
+        """The content that a slot begins from."""
+        if slot.digest == EMPTY:
+            return b""
+        found = self.store.index(slot.digest)
+        if found is not None:
+            return found
+        with tempfile.TemporaryDirectory(dir=self.home) as room:
+            note = self.call(line_of("content", slot.digest, f"{room}/content"), epoch).note
+            if not note.startswith("content "):
+                raise FarmFault(f"the content of {slot.name} isn't here: {note.removeprefix('refused ')}")
+            with open(f"{room}/content", "rb") as file:
+                return file.read()
+
+    def stop(self) -> None:
+        self.talk.stopped = True
+        self.executions.all_over()
+        self.talk.stop()

@@ -1,0 +1,212 @@
+"""One command under one lease: its folders are filled, it runs, and what it left is committed.
+
+Owes the filter that the execution is over before `finish` or `abort` says so, that nothing of a folder is touched outside the lease, and
+that what is named in `finish` is kept by the store.
+"""
+from __future__ import annotations
+
+import contextlib
+import os
+import signal
+import tempfile
+import threading
+import time
+from dataclasses import dataclass, field
+from typing import Callable
+
+from agent import trees
+from agent.caller import Caller, Patience
+from agent.executions import Execution
+from agent.faults import ClientGone, FarmFault, LifeOver
+from agent.lines import line_of
+from agent.node import Ending, NodeAgent
+from agent.places import check_apart, place_of
+from agent.shared import Tenure
+from agent.words import Grant, Slot, Want
+
+PATIENCE = 10.0  # seconds from the signal that asks a lost execution to stop to the one that ends it
+
+
+@dataclass
+class Job:
+    """A command and what it wants."""
+
+    command: list[str]
+    cwd: str
+    env: dict[str, str]
+    wants: list[Want]
+    wait: float | None = None  # seconds for the lease
+    stops_when_lost: bool = False
+    keeps_failed: bool = False  # whether what a failed command left is committed too
+    fenced_status: int | None = None  # of a command that succeeded, and whose commit was fenced; none: its own
+    lost_status: int | None = None
+    of_shared: str = ""  # what is said where it waits for a SHARED folder
+    filled: Callable[[Want, str, bool], None] = field(default=lambda want, path, is_new: None)
+    left: Callable[[], None] = field(default=lambda: None)
+
+
+class Run:
+    """A job on a node, for a caller."""
+
+    def __init__(self, agent: NodeAgent, job: Job, caller: Caller) -> None:
+        self.agent, self.job, self.caller = agent, job, caller
+        self.epoch = 0
+        self.begun = False  # whether the command was started
+        self.patience = Patience(caller, job.wait, job.of_shared)
+        self.stopped = False  # because its lease had ended
+        self.how = "lost"  # what came of it: `failed`, `committed`, `released`, `fenced`
+        self.paths = {want.folder: place_of(want.path, job.cwd) for want in job.wants}
+        check_apart(list(self.paths.values()))
+        if len(self.paths) < len(job.wants):
+            raise FarmFault("a folder is named twice")
+
+    def run(self) -> int:
+        if any(want.is_shared for want in self.job.wants) and not self.agent.executions.has_namespaces:
+            raise FarmFault("SHARED folders are bound in a mount namespace, and the kernel lets this agent have none: run it as root")
+        while True:
+            self.epoch = self.agent.talk.settled_epoch()
+            try:
+                status = self._try()
+            except LifeOver:
+                if self.begun:
+                    raise
+                status = None  # nothing ran yet: it is asked for in the new life
+            if status is not None:
+                return status
+            time.sleep(0.05)
+            self.patience.check()
+
+    def _try(self) -> int | None:
+        """One run. None where a SHARED folder was recalled before the ask: then all is to be done again."""
+        tenures: dict[str, Tenure] = {}
+        lost = False
+        try:
+            for want in sorted((w for w in self.job.wants if w.is_shared), key=lambda w: w.folder):
+                tenures[want.folder] = self._enter(want)  # by rising name: no two nodes wait for each other
+            ask = self.agent.asked(line_of("ask", *(want.word for want in self.job.wants)), self.epoch)
+            self.agent.shared.have_asked(tenures.values())
+            status = None if ask is None else self._run_asked(ask, tenures)
+        finally:
+            for folder, tenure in tenures.items():
+                closed = self.agent.shared.leave(folder, tenure)
+                lost = lost or closed.is_lost
+                self.caller.say(closed.said)
+        return self.job.lost_status or 0 if lost and status == 0 else status
+
+    def _enter(self, want: Want) -> Tenure:
+        def prepare(tenure: Tenure) -> None:
+            self.job.filled(want, tenure.path, tenure.slot.base == 0)
+
+        return self.agent.shared.enter(want.folder, self.epoch, self.patience, prepare)
+
+    def _run_asked(self, ask: int, tenures: dict[str, Tenure]) -> int:
+        folders = [want.folder for want in self.job.wants]
+        grant = self.agent.granted(ask, folders, self.epoch, self.patience)
+        try:
+            with contextlib.ExitStack() as held:
+                status, index_files = self._execute(grant, tenures, held)
+                if status and not self.job.keeps_failed:
+                    self.agent.give_back(grant.ticket, self.epoch)
+                    self.caller.say(f"released {grant.ticket}: the command failed, and nothing of it is kept")
+                    self.how = "fenced" if self.stopped else "failed"
+                    return self.job.fenced_status or status if self.stopped else status
+                words = [f"{slot}={file}" for slot, file in index_files]
+                note = self.agent.call(line_of("finish", str(grant.ticket), *words), self.epoch).note
+                if note != f"finished {grant.ticket}":
+                    raise FarmFault(f"it can't be finished: {note}")
+            return self._settle(grant, status, self.agent.ending(ask, self.epoch), bool(words))
+        except LifeOver:
+            if not self.begun:
+                raise
+            self.caller.say(f"lost {grant.ticket}: what the command left isn't known to count")
+            raise
+        except BaseException:
+            self.agent.give_back(grant.ticket, self.epoch)
+            raise
+        finally:
+            self.agent.ended.discard(grant.ticket)
+
+    def _execute(self, grant: Grant, tenures: dict[str, Tenure], held: contextlib.ExitStack) -> tuple[int, list[tuple[str, str]]]:
+        """Fills the folders, runs the command, and keeps what it left: its status, and each slot with the file of its index."""
+        agent = self.agent
+        agent.begin(grant.ticket, self.epoch, self.patience)
+        slots = {slot.folder: slot for slot in grant.slots}
+        binds = []
+        for path in sorted(self.paths.values()):  # in one order: no two runs wait for each other's paths
+            held.enter_context(agent.places.held(path, self.patience.check))
+        for want in self.job.wants:
+            path = self.paths[want.folder]
+            if want.is_shared:
+                agent.places.clear(path)
+                binds.append((tenures[want.folder].path, path))
+            else:
+                self._fill(want, slots[want.folder], path)
+        status = self._command(grant.ticket, tenures, binds)
+        self.job.left()
+        if status and not self.job.keeps_failed:
+            return status, []
+        room = held.enter_context(tempfile.TemporaryDirectory(dir=agent.home))
+        return status, [self._keep(slot, room) for slot in grant.slots if slot.writable]
+
+    def _fill(self, want: Want, slot: Slot, path: str) -> None:
+        self.agent.places.fill(self.agent.store, self.agent.content(slot, self.epoch), path)
+        self.job.filled(want, path, slot.base == 0)
+
+    def _keep(self, slot: Slot, room: str) -> tuple[str, str]:
+        index, digest = trees.keep(self.agent.store, self.paths[slot.folder])
+        with open(f"{room}/{digest}", "wb") as file:
+            file.write(index)
+        return slot.name, file.name
+
+    def _command(self, ticket: int, tenures: dict[str, Tenure], binds: list[tuple[str, str]]) -> int:
+        agent, job = self.agent, self.job
+        if not agent.executions.has_namespaces:
+            self.caller.say("the kernel gives this agent no pid namespace: what leaves the command's session can outlive it")
+        with agent.talk.birth:  # no life begins between the look and the start
+            if self.epoch != agent.talk.epoch:
+                raise LifeOver("the node began a new life")
+            self.begun = True
+            for tenure in tenures.values():
+                tenure.used = True
+            execution = agent.executions.start(job.command, job.cwd, job.env, self.caller.streams, binds)
+        self.caller.signalled = execution.signal
+        try:
+            return self._watch(ticket, execution)
+        finally:
+            self.caller.signalled = None
+            execution.end()
+            agent.executions.over(execution)
+
+    def _watch(self, ticket: int, execution: Execution) -> int:
+        """Waits for the command, and ends it where nobody waits for it, or its lease is lost and it is to stop then."""
+        stopped: float | None = None
+        told = False
+        while True:
+            status = execution.wait(0.2)
+            if self.epoch != self.agent.talk.epoch or execution.was_ended and stopped is None:
+                raise LifeOver("the node began a new life")
+            if status is not None:
+                return status
+            if self.caller.gone:
+                raise ClientGone("nobody waits for it any more")
+            if ticket in self.agent.ended and not told:
+                told = True
+                self.caller.say(f"the lease {ticket} has ended: what the command leaves won't count")
+                if self.job.stops_when_lost:
+                    execution.signal(signal.SIGTERM)
+                    self.stopped, stopped = True, time.monotonic()
+            if stopped is not None and time.monotonic() - stopped > PATIENCE:
+                execution.end()
+
+    def _settle(self, grant: Grant, status: int, ending: Ending, had_news: bool) -> int:
+        for slot, (number, _) in ending.versions.items():
+            self.caller.say(f"committed {grant.ticket} {slot} version {number}")
+        self.how = ending.how
+        if ending.how == "fenced":
+            self.caller.say(f"fenced {grant.ticket}: the lease had ended, and what the command left doesn't count")
+            return status or self.job.fenced_status or 0
+        if ending.how != "committed" and had_news:
+            self.caller.say(f"{ending.how} {grant.ticket}: what the command left doesn't count")
+            return status or self.job.lost_status or 0
+        return status
+

@@ -1,0 +1,132 @@
+"""What an agent's socket answers: the requests of commands on the same machine.
+
+Owes the filters that only who may enter the farm's home can ask, since operators' words come this way.
+"""
+from __future__ import annotations
+
+import array
+import json
+import os
+import socket
+import threading
+import traceback
+from typing import IO, Any, Callable
+
+from agent.faults import BAD_DOCKERFILE, FAULT, FarmFault
+
+Handler = Callable[[dict[str, Any], "Connection"], int]
+
+
+class Connection:
+    """A command that waits for its answer."""
+
+    def __init__(self, link: socket.socket, streams: list[int]) -> None:
+        self.link, self.streams = link, streams
+        self.gone = False
+        self.signalled: Callable[[int], None] | None = None
+        self.lock = threading.Lock()
+
+    def _write(self, what: dict[str, Any]) -> None:
+        try:
+            with self.lock:
+                self.link.sendall(json.dumps(what).encode() + b"\n")
+        except OSError:
+            self.gone = True
+
+    def say(self, text: str) -> None:
+        self._write({"say": text})
+
+    def tell(self, what: object) -> None:
+        self._write({"told": what})
+
+    def exit(self, status: int) -> None:
+        self._write({"exit": status})
+
+    def listen(self, reader: IO[bytes]) -> None:
+        """Hears the command's signals, and whether it is still there."""
+        for raw in reader:
+            try:
+                number = json.loads(raw)["signal"]
+            except (ValueError, KeyError, TypeError):
+                break
+            if self.signalled:
+                self.signalled(number)
+        self.gone = True
+
+
+def answer(link: socket.socket, handler: Handler) -> None:
+    """Answers one request: a byte with three descriptors, and a line of JSON."""
+    message, control, _, _ = link.recvmsg(1, socket.CMSG_SPACE(12))
+    streams: list[int] = []
+    for level, kind, data in control:
+        if level == socket.SOL_SOCKET and kind == socket.SCM_RIGHTS:
+            handles = array.array("i")
+            handles.frombytes(data[: len(data) - len(data) % handles.itemsize])
+            streams.extend(handles)
+    try:
+        reader = link.makefile("rb")
+        raw = reader.readline()
+        if not message or not raw.endswith(b"\n") or len(streams) != 3:
+            return
+        connection = Connection(link, streams)
+        threading.Thread(target=connection.listen, args=(reader,), daemon=True).start()
+        connection.say("")  # it was heard
+        connection.exit(handled(handler, json.loads(raw), connection))
+    finally:
+        for handle in streams:
+            os.close(handle)
+
+
+def handled(handler: Handler, asked: dict[str, Any], connection: Connection) -> int:
+    """The status of a request; each fault is told in one sentence."""
+    try:
+        return handler(asked, connection)
+    except FarmFault as fault:
+        connection.say(("refused: " if fault.status == BAD_DOCKERFILE else "") + str(fault))
+        return fault.status
+    except Exception as fault:
+        traceback.print_exc()
+        connection.say(f"{type(fault).__name__}: {fault}")
+        return FAULT
+
+
+class Service:
+    """A socket of the farm's home."""
+
+    def __init__(self, path: str, handler: Handler) -> None:
+        self.path, self.handler = path, handler
+        self.busy = 0
+        self.lock = threading.Lock()
+        if os.path.exists(path):
+            os.unlink(path)
+        self.server = socket.socket(socket.AF_UNIX)
+        self.server.bind(path)
+        os.chmod(path, 0o600)
+        self.server.listen(64)
+
+    def serve(self) -> None:
+        while True:
+            try:
+                link, _ = self.server.accept()
+            except OSError:
+                return
+            with self.lock:
+                self.busy += 1
+            threading.Thread(target=self._one, args=(link,), daemon=True).start()
+
+    def _one(self, link: socket.socket) -> None:
+        try:
+            with link:
+                answer(link, self.handler)
+        except OSError:
+            pass
+        finally:
+            with self.lock:
+                self.busy -= 1
+
+    def close(self) -> None:
+        try:
+            os.unlink(self.path)
+        except OSError:
+            pass
+        self.server.close()

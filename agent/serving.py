@@ -1,0 +1,207 @@
+"""Starts agents in this process, and answers what commands ask of them.
+
+Owes the filters that one agent alone serves a home, which their own locks see to, and that they are ended before this process is.
+"""
+from __future__ import annotations
+
+import os
+import signal
+import sys
+import threading
+import time
+from dataclasses import dataclass, field
+from typing import Any
+
+from agent.builds import Build, Builds, BuildAsked
+from agent.coordinator import CoordinatorAgent
+from agent.faults import LOST, FarmFault, UsageFault
+from agent.hints import Hints, make_key
+from agent.lines import line_of
+from agent.node import NodeAgent, Setup
+from agent.redis_store import RedisStore
+from agent.redis_transport import RedisTransport
+from agent.runs import Job, Run
+from agent.service import Connection, Service
+from agent.store import FolderStore, Store
+from agent.tools import farmctl
+from agent.transport import LocalTransport, Transport
+from agent.words import DIGEST, want_of
+
+IDLE = 10.0  # seconds after which a farm that a command started for itself ends
+
+
+@dataclass
+class Wanted:
+    """What a process is to serve."""
+
+    home: str
+    coordinator: bool
+    nodes: list[int]
+    most: int  # how many nodes the farm has
+    broker: str | None = None
+    contents: str | None = None  # the folder of a store that machines share
+    lease_timeout: float | None = None
+    verbose: bool = False
+    while_used: bool = False
+
+
+@dataclass
+class Served:
+    wanted: Wanted
+    coordinator: CoordinatorAgent | None = None
+    nodes: list[NodeAgent] = field(default_factory=list)
+    services: list[Service] = field(default_factory=list)
+
+    def stop(self) -> None:
+        for service in self.services:
+            service.close()
+        for node in self.nodes:
+            node.stop()
+        if self.coordinator:
+            self.coordinator.stop()
+
+
+def store_of(wanted: Wanted, farm: str) -> Store:
+    root = wanted.contents or f"{wanted.home}/contents"
+    if not wanted.broker or wanted.contents:
+        return FolderStore(root)
+    return RedisStore(wanted.broker, root, farm)
+
+
+def setup_of(wanted: Wanted) -> Setup:
+    os.makedirs(wanted.home, mode=0o700, exist_ok=True)
+    if len(wanted.home.encode()) > 80 or any(c.isspace() for c in wanted.home):
+        raise UsageFault(f"{wanted.home!r} is too long for a socket's path, or has a space in it: name another --home")
+    program = farmctl()
+    if wanted.broker and not os.path.exists(f"{wanted.home}/key") and not wanted.coordinator:
+        raise UsageFault(f"{wanted.home}/key is missing: copy it from the coordinator's machine, by a way that nobody else can read")
+    key = make_key(f"{wanted.home}/key")
+    farm = "farm-" + Hints(key).name()
+    transport: Transport = LocalTransport()
+    if wanted.broker:
+        transport = RedisTransport(wanted.broker, farm)
+
+    def log(text: str) -> None:
+        if wanted.verbose:
+            print(f"{time.strftime('%H:%M:%S')} {text}", file=sys.stderr, flush=True)
+
+    store = store_of(wanted, farm)
+    if isinstance(store, RedisStore) and not store.keeps_well():
+        print("farm: Redis doesn't sync what it is given (appendonly yes, appendfsync always): its crash can lose contents", file=sys.stderr)
+    return Setup(program, wanted.home, key, store, transport, log)
+
+
+def begin(wanted: Wanted) -> Served:
+    """Starts all that is wanted, or nothing."""
+    setup = setup_of(wanted)
+    served = Served(wanted)
+    try:
+        if wanted.coordinator:
+            _begin_coordinator(served, setup)
+        for number in wanted.nodes:
+            _begin_node(served, setup, number)
+    except BaseException:
+        served.stop()
+        raise
+    return served
+
+
+def _begin_coordinator(served: Served, setup: Setup) -> None:
+    agent = CoordinatorAgent(setup, served.wanted.lease_timeout)
+    agent.talk.start()
+    served.coordinator = agent
+    threading.Thread(target=agent.serve, daemon=True).start()
+    _serve(served, "coordinator", lambda asked, link: answer_operator(agent, served.wanted, asked, link))
+
+
+def _begin_node(served: Served, setup: Setup, number: int) -> None:
+    agent = NodeAgent(number, served.wanted.most, setup)
+    agent.talk.start()
+    served.nodes.append(agent)
+    builds = Builds(agent)
+    threading.Thread(target=agent.serve, daemon=True).start()
+    _serve(served, f"node{number}", lambda asked, link: answer_command(agent, builds, asked, link))
+
+
+def _serve(served: Served, name: str, handler: Any) -> None:
+    service = Service(f"{served.wanted.home}/{name}.sock", handler)
+    served.services.append(service)
+    threading.Thread(target=service.serve, daemon=True).start()
+
+
+def serve(wanted: Wanted) -> int:
+    """Serves until it is told to end, or nobody uses it any more."""
+    over = threading.Event()
+    for number in (signal.SIGINT, signal.SIGTERM, signal.SIGHUP):
+        signal.signal(number, lambda *_: over.set())
+    served = begin(wanted)
+    with open(f"{wanted.home}/pid", "w") as file:
+        file.write(f"{os.getpid()}\n")
+    print("up", flush=True)
+    used = time.monotonic()
+    while not over.wait(0.5):
+        if any(service.busy for service in served.services):
+            used = time.monotonic()
+        if wanted.while_used and time.monotonic() - used > IDLE:
+            for service in served.services:
+                service.close()
+            over.wait(0.2)
+            if not any(service.busy for service in served.services):
+                break
+            while any(service.busy for service in served.services) and not over.wait(0.2):
+                pass
+            break
+    served.stop()
+    return 0
+
+
+def answer_command(agent: NodeAgent, builds: Builds, asked: dict[str, Any], link: Connection) -> int:
+    """A request to a node."""
+    if asked["do"] == "run":
+        uncounted = LOST if asked["must_commit"] else None
+        wants = [want_of(word) for word in asked["folders"]]
+        job = Job(
+            asked["command"], asked["cwd"], asked["env"], wants, asked["wait"], asked["on_lost"] == "stop",
+            fenced_status=uncounted, lost_status=uncounted,
+        )
+        return Run(agent, job, link).run()
+    if asked["do"] == "build":
+        return Build(builds, BuildAsked(**asked["build"]), link).run()
+    if asked["do"] == "forget":
+        link.tell(forget(agent, set(asked["needed"])))
+        return 0
+    raise FarmFault(f"a node isn't asked to {asked['do']}")
+
+
+def forget(agent: NodeAgent, needed: set[str]) -> int:
+    """Forgets the contents of a node that aren't needed, as far as its filter lets it. How many went."""
+    folder = f"{agent.home}/filter/contents"
+    found = [name for name in os.listdir(folder) if DIGEST.fullmatch(name)] if os.path.isdir(folder) else []
+    return sum(not agent.call(line_of("forget", name)).is_refused for name in found if name not in needed)
+
+
+def answer_operator(agent: CoordinatorAgent, wanted: Wanted, asked: dict[str, Any], link: Connection) -> int:
+    """A request to the coordinator."""
+    what = asked["do"]
+    if what == "status":
+        link.tell(agent.status())
+    elif what == "log":
+        link.tell({slot: agent.versions(slot) for slot in agent.slots_of(asked["folder"])})
+    elif what == "withdraw":
+        link.say(agent.operate("withdraw", asked["ticket"]))
+    elif what == "retire":
+        link.say(agent.retire(int(asked["node"]), asked["gone"]))
+    elif what == "prune":
+        slots = agent.slots_of(asked["folder"])
+        if not slots:
+            raise FarmFault(f"{asked['folder']} has no version")
+        for slot in slots:
+            link.say(f"{slot}: {agent.operate('prune', slot)}")
+    elif what == "needed":
+        link.tell(sorted(agent.needed(int(asked["keep"]))))
+    elif what == "store":
+        link.tell({"broker": wanted.broker, "contents": wanted.contents})
+    else:
+        raise FarmFault(f"a coordinator isn't asked to {what}")
+    return 0
+

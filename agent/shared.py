@@ -1,0 +1,184 @@
+"""The SHARED folders that are open on a node, each under a tenure that several executions use at once.
+
+Owes the filter that a tenure's folder is used by no execution once the tenure is finished, and that what is committed then is what the
+executions left. A folder is closed, and so committed, when its last execution has ended: what was written counts from then on.
+"""
+from __future__ import annotations
+
+import os
+import threading
+from dataclasses import dataclass
+from typing import TYPE_CHECKING, Callable, Iterable
+
+from agent import trees
+from agent.caller import Patience
+from agent.faults import FarmFault, LifeOver
+from agent.lines import line_of
+from agent.words import Slot, short_name
+
+if TYPE_CHECKING:
+    from agent.node import NodeAgent
+
+MOST_DELAYED = 64
+
+
+@dataclass
+class Tenure:
+    """An open folder."""
+
+    ask: int
+    ticket: int
+    slot: Slot
+    path: str
+    epoch: int
+    users: int = 0
+    recalled: bool = False
+    closing: bool = False
+    used: bool = False  # an execution began under it
+
+
+@dataclass(frozen=True)
+class Closed:
+    """What came of leaving a folder."""
+
+    said: str
+    is_lost: bool = False
+
+
+class SharedFolders:
+    def __init__(self, agent: NodeAgent) -> None:
+        self.agent = agent
+        self.changed = threading.Condition()
+        self.opening: set[str] = set()
+        self.recalled: set[int] = set()  # tickets, also of tenures that are not open yet
+        self.tenures: dict[str, Tenure] = {}
+        self.asked: set[int] = set()  # tickets of tenures under which an execution has asked, or that are closed
+        self.delayed: dict[int, str] = {}  # recalls of others
+
+    def may_pass(self, ticket: int, line: str) -> bool:
+        """Whether a recall goes to the filter now. That of a folder which is being opened is kept back until the execution for which it
+        is opened has asked, or else nodes that want one folder would take it from each other and never use it. Any message may come late."""
+        with self.changed:
+            if ticket in self.asked or len(self.delayed) >= MOST_DELAYED:
+                return True
+            self.delayed[ticket] = line
+            return False
+
+    def have_asked(self, tenures: Iterable[Tenure]) -> None:
+        """An execution has asked under these tenures, or they are closed: recalls of them go on."""
+        with self.changed:
+            tickets = [tenure.ticket for tenure in tenures]
+            self.asked.update(tickets)
+            lines = [self.delayed.pop(ticket) for ticket in tickets if ticket in self.delayed]
+        for line in lines:
+            self.agent.call("m " + line)
+
+    def enter(self, folder: str, epoch: int, patience: Patience, prepare: Callable[[Tenure], None]) -> Tenure:
+        """Counts an execution in, under a tenure that nobody recalled. Where the folder isn't open it is opened."""
+        while True:
+            with self.changed:
+                tenure = self.tenures.get(folder)
+                if tenure and tenure.epoch != epoch:
+                    del self.tenures[folder]  # it ended with its life
+                    continue
+                if tenure and not tenure.recalled and not tenure.closing:
+                    tenure.users += 1
+                    return tenure
+                if tenure or folder in self.opening:
+                    self.changed.wait(1.0)
+                    self._check(epoch, patience)
+                    continue
+                self.opening.add(folder)
+            try:
+                opened = self._open(folder, epoch, patience)
+                prepare(opened)
+                with self.changed:
+                    opened.recalled = opened.ticket in self.recalled
+                    opened.users = 1
+                    self.tenures[folder] = opened
+                    return opened
+            finally:
+                with self.changed:
+                    self.opening.discard(folder)
+                    self.changed.notify_all()
+
+    def _check(self, epoch: int, patience: Patience) -> None:
+        if epoch != self.agent.talk.epoch:
+            raise LifeOver("the node began a new life")
+        patience.check()
+
+    def recall(self, ticket: int) -> None:
+        """Another node asks for a tenure: nobody enters it any more. It may come before the folder is open here."""
+        with self.changed:
+            self.recalled.add(ticket)
+            for tenure in self.tenures.values():
+                tenure.recalled = tenure.recalled or tenure.ticket == ticket
+
+    def _open(self, folder: str, epoch: int, patience: Patience) -> Tenure:
+        agent = self.agent
+        ask: int | None = None
+
+        def is_asked() -> bool:
+            nonlocal ask
+            ask = agent.asked(line_of("tenure", folder), epoch)
+            return ask is not None  # else one whose caller left is given back once it is granted
+
+        agent.wait(epoch, patience, is_asked)
+        assert ask is not None
+        grant = agent.granted(ask, [folder], epoch, patience)
+        try:
+            agent.begin(grant.ticket, epoch, patience)
+            slot = grant.slots[0]
+            path = f"{agent.home}/shared/{short_name(folder)}"
+            with agent.places.held(path):
+                agent.places.fill(agent.store, agent.content(slot, epoch), path)
+        except BaseException:
+            agent.give_back(grant.ticket, epoch)
+            raise
+        return Tenure(ask, grant.ticket, slot, path, epoch)
+
+    def leave(self, folder: str, tenure: Tenure) -> Closed:
+        """Counts an execution out, once its own lease has ended. The last one closes the folder. What came of that."""
+        with self.changed:
+            tenure.users -= 1
+            if tenure.users or tenure.closing:
+                return Closed(f"{folder} is in use by others here, and is committed after them")
+            tenure.closing = True
+        try:
+            return self._close(folder, tenure)
+        finally:
+            with self.changed:
+                if self.tenures.get(folder) is tenure:
+                    del self.tenures[folder]
+                self.asked.add(tenure.ticket)
+                self.delayed.pop(tenure.ticket, None)
+                self.changed.notify_all()
+
+    def _close(self, folder: str, tenure: Tenure) -> Closed:
+        """Commits what the executions left, and gives the tenure up by that."""
+        agent, slot = self.agent, tenure.slot
+        if not tenure.used:
+            agent.give_back(tenure.ticket, tenure.epoch)
+            return Closed(f"{folder} is given back as it was")
+        try:
+            index, _ = trees.keep(agent.store, tenure.path)
+            file = f"{tenure.path}.left"
+            with open(file, "wb") as stream:
+                stream.write(index)
+            note = ""
+
+            def is_finished() -> bool:  # an execution is over for the filter only when its own commit was sent
+                nonlocal note
+                note = agent.call(line_of("finish", str(tenure.ticket), f"{slot.name}={file}"), tenure.epoch).note
+                return note != "refused TenureInUse"
+
+            agent.wait(tenure.epoch, Patience(None, None), is_finished)
+            os.unlink(file)
+            if note != f"finished {tenure.ticket}":
+                raise FarmFault(note)
+            ending = agent.ending(tenure.ask, tenure.epoch)
+            said = [f"{name} version {number}" for name, (number, _) in ending.versions.items()]
+            return Closed(f"{ending.how} {tenure.ticket} {' '.join(said) or folder}", ending.how != "committed")
+        except (FarmFault, OSError) as fault:  # the last version stands
+            agent.give_back(tenure.ticket, tenure.epoch)
+            return Closed(f"lost {folder}: {fault}", True)

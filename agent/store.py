@@ -1,0 +1,144 @@
+"""Where contents are kept: the indexes of folders by their digests, and the chunks that they name.
+
+Owes the filters that an index and all its chunks are on the device, and in the shared store, before `publish` returns: only then may a
+Commit name the digest. A store need not be trusted for what it hands out: an index is checked by its digest here, a chunk by casync.
+"""
+from __future__ import annotations
+
+import contextlib
+import ctypes
+import fcntl
+import hashlib
+import os
+import tempfile
+import time
+from typing import Iterator, Protocol
+
+from agent.chunks import chunk_names, chunk_path
+from agent.faults import FarmFault
+from agent.words import DIGEST, EMPTY
+
+_libc = ctypes.CDLL(None, use_errno=True)
+
+
+class Store(Protocol):
+    chunks: str  # the folder in which casync reads and writes chunks
+
+    def making(self) -> contextlib.AbstractContextManager[None]:
+        """As long as it is held, nothing is forgotten."""
+
+    def publish(self, index: bytes) -> str:
+        """Keeps an index whose chunks are in the folder, and gives its digest. All of it lasts then."""
+
+    def index(self, digest: str) -> bytes | None:
+        """The index of a digest; none where it isn't here."""
+
+    def fetch(self, index: bytes) -> None:
+        """Sees to it that the chunks of an index are in the folder."""
+
+
+def sync_all(folder: str) -> None:
+    """Everything in the folder's file system is on the device: casync syncs nothing by itself."""
+    handle = os.open(folder, os.O_RDONLY | os.O_DIRECTORY)
+    try:
+        if _libc.syncfs(handle):
+            raise FarmFault(f"{folder} can't be synced: {os.strerror(ctypes.get_errno())}")
+    finally:
+        os.close(handle)
+
+
+def put_file(path: str, data: bytes) -> None:
+    """A file that lasts, whole or not at all: written beside, synced, renamed, and its folder synced."""
+    folder = os.path.dirname(path)
+    os.makedirs(folder, exist_ok=True)
+    handle, beside = tempfile.mkstemp(prefix=".new-", dir=folder)
+    try:
+        with os.fdopen(handle, "wb") as file:
+            file.write(data)
+            file.flush()
+            os.fsync(file.fileno())
+        os.rename(beside, path)
+    except BaseException:
+        os.unlink(beside)
+        raise
+    held = os.open(folder, os.O_RDONLY | os.O_DIRECTORY)
+    try:
+        os.fsync(held)
+    finally:
+        os.close(held)
+
+
+class FolderStore:
+    """A folder, which several machines may share."""
+
+    def __init__(self, root: str) -> None:
+        self.root, self.chunks, self.indexes = root, f"{root}/chunks", f"{root}/indexes"
+        os.makedirs(self.chunks, exist_ok=True)
+        os.makedirs(self.indexes, exist_ok=True)
+
+    @contextlib.contextmanager
+    def _locked(self, how: int) -> Iterator[None]:
+        handle = os.open(f"{self.root}/lock", os.O_RDWR | os.O_CREAT, 0o600)
+        try:
+            fcntl.flock(handle, how)
+            yield
+        finally:
+            os.close(handle)
+
+    def making(self) -> contextlib.AbstractContextManager[None]:
+        return self._locked(fcntl.LOCK_SH)
+
+    def publish(self, index: bytes) -> str:
+        digest = hashlib.sha256(index).hexdigest()
+        for name in chunk_names(index):
+            try:
+                os.utime(chunk_path(self.chunks, name))  # what is fresh isn't forgotten
+            except FileNotFoundError:
+                raise FarmFault(f"the chunk {name} is gone from {self.chunks}") from None
+        sync_all(self.chunks)
+        put_file(f"{self.indexes}/{digest}", index)
+        return digest
+
+    def index(self, digest: str) -> bytes | None:
+        if digest == EMPTY:
+            return b""
+        if not DIGEST.fullmatch(digest):
+            return None
+        try:
+            with open(f"{self.indexes}/{digest}", "rb") as file:
+                data = file.read()
+        except FileNotFoundError:
+            return None
+        return data if hashlib.sha256(data).hexdigest() == digest else None
+
+    def fetch(self, index: bytes) -> None:
+        missing = [name for name in chunk_names(index) if not os.path.exists(chunk_path(self.chunks, name))]
+        if missing:
+            raise FarmFault(f"{len(missing)} chunks of a version aren't in {self.chunks}, {missing[0]} among them")
+
+    def forget(self, needed: set[str], grace: float) -> tuple[int, int]:
+        """Removes each index that isn't needed and each chunk that no index left names, if it is older than the grace. Waits
+        until nobody makes anything; how many indexes and chunks went."""
+        with self._locked(fcntl.LOCK_EX):
+            oldest = time.time() - grace
+            gone = [d for d in os.listdir(self.indexes) if d not in needed and self._is_old(f"{self.indexes}/{d}", oldest)]
+            for name in gone:
+                os.unlink(f"{self.indexes}/{name}")
+            used = set()
+            for digest in os.listdir(self.indexes):
+                used.update(chunk_names(self.index(digest) or b""))
+            return len(gone), self._forget_chunks(used, oldest)
+
+    def _forget_chunks(self, used: set[str], oldest: float) -> int:
+        count = 0
+        for folder, _, names in os.walk(self.chunks):
+            for name in names:  # also what a killed casync left: its names end otherwise
+                path = f"{folder}/{name}"
+                if name.removesuffix(".cacnk") not in used and self._is_old(path, oldest):
+                    os.unlink(path)
+                    count += 1
+        return count
+
+    @staticmethod
+    def _is_old(path: str, oldest: float) -> bool:
+        return os.lstat(path).st_mtime <= oldest

@@ -1,0 +1,146 @@
+"""What several tests use."""
+from __future__ import annotations
+
+import contextlib
+import importlib.util
+import io
+import os
+import shutil
+import socket
+import subprocess
+import sys
+import tempfile
+import time
+import unittest
+from typing import Callable
+from unittest import mock
+
+from agent import cli
+
+HERE = os.path.dirname(os.path.abspath(__file__))
+TOP = os.path.dirname(os.path.dirname(HERE))
+FARM = (sys.executable, "-S", f"{TOP}/farm")  # without what the distribution adds it starts faster
+PRACTICE = os.path.join(HERE, "practice.py")
+is_root = os.geteuid() == 0
+
+
+def needs(tool: str) -> str:
+    """Says for a test that is skipped what it lacks."""
+    return f"{tool} isn't installed"
+
+
+def has(tool: str) -> bool:
+    return shutil.which(tool) is not None
+
+
+def has_redis() -> bool:
+    return has("redis-server") and importlib.util.find_spec("redis") is not None
+
+
+class RoomTest(unittest.TestCase):
+    """A test with a folder of its own."""
+
+    def setUp(self) -> None:
+        self.room = tempfile.mkdtemp(prefix="farm-test-")
+        self.addCleanup(shutil.rmtree, self.room, True)
+
+    def path(self, name: str) -> str:
+        return f"{self.room}/{name}"
+
+    def write(self, name: str, text: str) -> str:
+        os.makedirs(os.path.dirname(self.path(name)), exist_ok=True)
+        with open(self.path(name), "w") as file:
+            file.write(text)
+        return self.path(name)
+
+    def read(self, name: str) -> str:
+        with open(self.path(name)) as file:
+            return file.read()
+
+
+class Heard:
+    """A caller that remembers what it is told."""
+
+    def __init__(self) -> None:
+        self.streams = [0, 1, 2]
+        self.gone = False
+        self.signalled: Callable[[int], None] | None = None
+        self.said: list[str] = []
+
+    def say(self, text: str) -> None:
+        self.said.append(text)
+
+
+class FarmTest(RoomTest):
+    """A test with a farm of its own, over the stand-in for the filters, or the program that FARMCTL names."""
+
+    def setUp(self) -> None:
+        super().setUp()
+        self.home = self.path("home")
+        self.env = os.environ | {"FARM_HOME": self.home}
+        self.env.setdefault("FARMCTL", PRACTICE)
+        self.ups: list[subprocess.Popen[str]] = []
+        self.addCleanup(self.end)
+
+    def end(self) -> None:
+        for up in self.ups:
+            up.terminate()
+            up.wait(10)
+            if up.stdout:
+                up.stdout.close()
+        if os.path.exists(f"{self.home}/pid"):  # of a farm that a command started for itself
+            with open(f"{self.home}/pid") as file:
+                pid = int(file.read())
+            try:
+                os.kill(pid, 15)
+            except ProcessLookupError:
+                pass
+            for _ in range(100):
+                if not os.path.exists(f"/proc/{pid}"):
+                    break
+                time.sleep(0.02)
+
+    def up(self, *words: str) -> subprocess.Popen[str]:
+        """Starts a part of the farm, and waits until it stands."""
+        started = subprocess.Popen(
+            [*FARM, *words], env=self.env, stdout=subprocess.PIPE, text=True, stdin=subprocess.DEVNULL
+        )
+        self.ups.append(started)
+        assert started.stdout
+        self.assertEqual(started.stdout.readline(), "up\n")
+        return started
+
+    def begin(self, *words: str) -> subprocess.Popen[str]:
+        return subprocess.Popen(
+            [*FARM, *words], env=self.env, stdin=subprocess.DEVNULL, stdout=subprocess.PIPE,
+            stderr=subprocess.PIPE, text=True, cwd=self.room,
+        )
+
+    def asked(self, *words: str, status: int = 0) -> str:
+        """What a command that runs nothing says, in this process: that is faster."""
+        said = io.StringIO()
+        with mock.patch.dict("os.environ", self.env), contextlib.redirect_stdout(said), contextlib.redirect_stderr(said):
+            done = cli.main(words)
+        self.assertEqual(done, status, f"{words}: {said.getvalue()}")
+        return said.getvalue()
+
+    def farm(self, *words: str, status: int = 0) -> subprocess.CompletedProcess[str]:
+        done = subprocess.run(
+            [*FARM, *words], env=self.env, stdin=subprocess.DEVNULL, capture_output=True, text=True,
+            cwd=self.room, timeout=60,
+        )
+        self.assertEqual(done.returncode, status, f"{words}: {done.stdout}{done.stderr}")
+        return done
+
+    def wait_for(self, path: str) -> None:
+        for _ in range(500):
+            if os.path.exists(path):
+                return
+            time.sleep(0.02)
+        self.fail(f"no {path}")
+
+
+def free_port() -> int:
+    with socket.socket() as link:
+        link.bind(("127.0.0.1", 0))
+        return int(link.getsockname()[1])

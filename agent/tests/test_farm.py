@@ -1,0 +1,247 @@
+"""Whole farms: commands as people call them, over the stand-in for the filters or the program that FARMCTL names."""
+from __future__ import annotations
+
+import json
+import os
+import random
+import signal
+import subprocess
+import threading
+import unittest
+
+from agent.coordinator import CoordinatorAgent
+from agent.executions import can_have_namespaces
+from agent.hints import make_key
+from agent.node import NodeAgent, Setup
+from agent.runs import Job, Run
+from agent.store import FolderStore
+from agent.transport import LocalTransport
+from agent.words import Want
+
+from agent.tests import support
+
+
+@unittest.skipUnless(support.has("casync"), support.needs("casync"))
+class Alone(support.FarmTest):
+    """A farm that a command starts for itself."""
+
+    def test_one_command(self) -> None:
+        done = self.farm("run", "--folder", "locked:c=w", "--", "sh", "-c", "echo one >> w/f; cat w/f; echo err >&2")
+        self.assertEqual(done.stdout, "one\n")
+        self.assertIn("err\n", done.stderr)
+        self.assertIn("one of one node is started", done.stderr)
+        self.assertIn("farm: committed 1 locked:c version 1", done.stderr)
+        failed = self.farm("run", "--folder", "locked:c=w", "--", "sh", "-c", "echo bad >> w/f; exit 3", status=3)
+        self.assertIn("nothing of it is kept", failed.stderr)
+        self.assertNotIn("started", failed.stderr)
+        self.farm("run", "--folder", "ro=locked:c=w", "--", "sh", "-c", "cp w/f seen; echo no >> w/f")
+        self.assertEqual(self.read("seen"), "one\n")
+        self.farm("run", "--folder", "locked:c=w", "--", "sh", "-c", "echo two >> w/f")
+        self.assertRegex(self.asked("log", "locked:c"), r"\Alocked:c version 1 ticket 1 [0-9a-f]{64}\nlocked:c version 2 ticket 4 ")
+        self.asked("get", "locked:c@1", self.path("first"))
+        self.asked("get", "locked:c", self.path("last"))
+        self.assertEqual((self.read("first/f"), self.read("last/f")), ("one\n", "one\ntwo\n"))
+        self.assertIn("is there", self.asked("get", "locked:c", self.path("last"), status=70))
+        self.assertIn("versions 1 to 2", self.asked("get", "locked:c@3", self.path("third"), status=70))
+        self.asked("prune", "locked:c")
+        self.assertIn("indexes", self.asked("gc", "--grace", "0"))
+        self.assertIn("isn't in the store any more", self.asked("get", "locked:c@1", self.path("gone"), status=70))
+        self.farm("run", "--folder", "locked:c=w", "--", "sh", "-c", "ls w > seen")
+        self.assertEqual(self.read("seen"), "")
+
+    def test_wrong_words(self) -> None:
+        rows = [(["run", "--folder", "ccache=w", "--", "true"], 64, "is no folder"), (["run"], 64, "required"), (["what"], 64, "invalid choice"),
+                (["status"], 70, "no farm answers"), (["node", "9", "--broker", "redis://127.0.0.1:1"], 64, "nodes 1 to 3"), (["gc", "--keep", "0"], 64, "at least 1")]
+        for words, status, said in rows:
+            self.assertIn(said, self.asked(*words, status=status))
+        for verb in ("", "run", "build", "up", "coordinator", "node", "status", "log", "get", "withdraw", "retire", "prune", "gc"):
+            said = self.asked("--help") if not verb else self.asked(verb, "--help")
+            self.assertIn("example: farm" if verb else "statuses:", " ".join(said.split()))
+
+    def test_missing_program(self) -> None:
+        for program, said in (("/nowhere/farmctl", "isn't there"), ("/bin/false", "doesn't start as the coordinator")):
+            self.env["FARMCTL"] = program
+            for words in (["run", "--", "true"], ["build", "."]):
+                self.assertRegex(self.asked(*words, status=69), rf"(?s)\A(farm: no farm runs[^\n]*\n)?farm: [^\n]*{said}[^\n]*\n\Z")
+
+
+@unittest.skipUnless(support.has("casync"), support.needs("casync"))
+class Nodes(support.FarmTest):
+    """A farm of two nodes."""
+
+    def setUp(self) -> None:
+        super().setUp()
+        self.agent = self.up("up", "--nodes", "2")
+
+    def run_on(self, node: int, command: str, *words: str, folder: str = "locked:c") -> subprocess.Popen[str]:
+        return self.begin("run", "--node", str(node), *words, "--folder", f"{folder}=w{node}", "--", "sh", "-c", command)
+
+    def ended(self, process: subprocess.Popen[str], status: int) -> str:
+        said = process.communicate(timeout=30)
+        self.assertEqual(process.returncode, status, said)
+        return "".join(said)
+
+    def ticket(self) -> str:
+        return str(json.loads(self.asked("status", "--json"))["leases"][0]["ticket"])
+
+    def test_leases(self) -> None:
+        """One farm for all of these: each takes a second to start."""
+        parts = [self.withdrawn, self.stopped, self.turns]
+        for part in [self.shared, self.shared_at_once, *parts] if can_have_namespaces() else parts:
+            with self.subTest(part.__name__):
+                part()
+            for name in ("in", "go"):
+                if os.path.exists(self.path(name)):
+                    os.unlink(self.path(name))
+
+    def turns(self) -> None:
+        one = self.run_on(1, "touch in; until [ -e go ]; do sleep 0.05; done; echo one >> w1/f")
+        self.wait_for(self.path("in"))
+        self.assertIn("weren't granted within 0.2", self.ended(self.run_on(2, "true", "--wait", "0.2"), 75))
+        two = self.run_on(2, "cat w2/f")
+        self.assertIn("node 1 has locked:c for", self.asked("status"))
+        assert two.stderr
+        self.assertRegex(two.stderr.readline(), "waiting for locked:c: node 1 has locked:c for .* s, ticket [0-9]+")
+        self.write("go", "")
+        self.ended(one, 0)
+        self.assertIn("one\n", self.ended(two, 0))
+        self.asked("retire", "2")
+        self.assertIn("was retired", self.ended(self.run_on(2, "true"), 70))
+
+    def withdrawn(self) -> None:
+        rows: list[tuple[list[str], int]] = [([], 0), (["--must-commit"], 75)]
+        for words, status in rows:
+            held = self.run_on(1, "touch in; until [ -e go ]; do sleep 0.05; done; echo late >> w1/f", *words)
+            self.wait_for(self.path("in"))
+            self.asked("withdraw", self.ticket())
+            self.ended(self.run_on(2, "echo y >> w2/f"), 0)
+            self.write("go", "")
+            self.assertIn("fenced", self.ended(held, status))
+            os.unlink(self.path("in"))
+            os.unlink(self.path("go"))
+
+    def stopped(self) -> None:
+        run = self.run_on(1, "trap 'echo heard; exit 9' TERM; touch in; while :; do sleep 0.05; done")
+        self.wait_for(self.path("in"))
+        run.send_signal(signal.SIGTERM)
+        self.assertIn("heard", self.ended(run, 9))
+        os.unlink(self.path("in"))
+        stopped = self.run_on(1, "touch in; sleep 30", "--on-lost", "stop")
+        self.wait_for(self.path("in"))
+        self.asked("withdraw", self.ticket())
+        self.assertIn("has ended", self.ended(stopped, 143))
+        self.asked("get", "locked:c", self.path("last"))
+        self.assertEqual(self.read("last/f"), "y\ny\n")
+
+    def test_killed(self) -> None:
+        run = self.run_on(1, "touch in; sleep 43.1")
+        self.wait_for(self.path("in"))
+        self.kill_filter("node")
+        self.assertIn("isn't known to count", self.ended(run, 75))
+        os.unlink(self.path("in"))
+        run = self.run_on(1, "touch in; sleep 43.1")
+        self.wait_for(self.path("in"))
+        run.kill()
+        run.communicate()
+        self.kill_filter("coordinator")
+        self.ended(self.run_on(2, "rm -f in"), 0)
+        run = self.run_on(1, "touch in; sleep 43.2")
+        self.wait_for(self.path("in"))
+        self.agent.kill()
+        self.agent.wait()
+        self.assertIn("isn't known", self.ended(run, 75))
+        self.up("up", "--nodes", "2")
+        self.ended(self.run_on(1, "echo x > w1/f"), 0)
+
+    def kill_filter(self, role: str) -> None:
+        with open(f"/proc/{self.agent.pid}/task/{self.agent.pid}/children") as file:
+            children = file.read().split()
+        for task in os.listdir(f"/proc/{self.agent.pid}/task"):
+            with open(f"/proc/{self.agent.pid}/task/{task}/children") as file:
+                children += file.read().split()
+        for pid in set(children):
+            with open(f"/proc/{pid}/cmdline", "rb") as shown:
+                words = shown.read().split(b"\0")
+            if role.encode() in words and (role != "node" or b"1" in words):
+                os.kill(int(pid), signal.SIGKILL)
+
+    def shared(self) -> None:
+        first = self.run_on(1, "echo a >> w1/f; touch in; until [ -e go ]; do sleep 0.05; done", folder="shared:s")
+        self.wait_for(self.path("in"))
+        second = self.farm("run", "--node", "1", "--folder", "shared:s=w3", "--", "sh", "-c", "echo b >> w3/f")
+        self.assertIn("in use by others here", second.stderr)
+        other = self.run_on(2, "cat w2/f", folder="shared:s")  # it waits until node 1 has closed the folder
+        assert other.stderr
+        self.assertIn("waiting for shared:s: node 1 has shared:s", other.stderr.readline())
+        self.write("go", "")
+        self.assertIn("committed", self.ended(first, 0))
+        self.assertIn("a\nb\n", self.ended(other, 0))
+
+
+    def shared_at_once(self) -> None:
+        """Nodes that want one SHARED folder at once all get it, each in its turn."""
+        runs = [
+            self.begin("run", "--node", str(1 + k % 2), "--folder", f"shared:t=w{k}", "--", "sh", "-c", f"echo {k} >> w{k}/f") for k in range(4)
+        ]
+        for run in runs:
+            self.ended(run, 0)
+        self.asked("get", "shared:t", self.path("got"))
+        self.assertEqual(sorted(self.read("got/f").split()), ["0", "1", "2", "3"])
+        self.assertLessEqual(len(self.asked("log", "shared:t").splitlines()), 4)
+
+
+class Lossy(LocalTransport):
+    """Loses, repeats, delays and damages."""
+
+    def __init__(self) -> None:
+        super().__init__()
+        self.random = random.Random(7)
+
+    def send(self, address: str, line: str) -> None:
+        chance = self.random.random()
+        if chance < 0.05:
+            return
+        if chance < 0.1:
+            line = line[: len(line) // 2] + "x" + line[len(line) // 2 :]
+        if chance > 0.85:
+            threading.Timer(self.random.random() * 0.3, super().send, [address, line]).start()
+        if chance < 0.95:
+            super().send(address, line)
+
+
+@unittest.skipUnless(support.has("casync"), support.needs("casync"))
+class BadTransport(support.RoomTest):
+    def test_counts(self) -> None:
+        """Two nodes add three lines: none is lost, over a transport that loses and repeats."""
+        program = os.environ.get("FARMCTL", support.PRACTICE)
+        setup = Setup(program, self.room, make_key(self.path("key")), FolderStore(self.path("contents")), Lossy(), lambda text: None)
+        coordinator = CoordinatorAgent(setup)
+        nodes = [NodeAgent(1, 2, setup), NodeAgent(2, 2, setup)]
+        agents: list[CoordinatorAgent | NodeAgent] = [coordinator, *nodes]
+        for agent in agents:
+            agent.talk.start()
+            self.addCleanup(agent.stop)
+            threading.Thread(target=agent.serve, daemon=True).start()
+        ends: list[int] = []
+
+        def work(agent: NodeAgent) -> None:
+            path = self.path(f"w{agent.node}")
+            for _ in range(agent.node):
+                command = ["sh", "-c", f"echo {agent.node} >> {path}/f; wc -l < {path}/f"]
+                job = Job(command, self.room, {"PATH": os.environ["PATH"]}, [Want("locked:c", path)], wait=15, fenced_status=75, lost_status=75)
+                caller = support.Heard()
+                with open(self.path("out"), "a") as out:
+                    caller.streams = [0, out.fileno(), out.fileno()]
+                    ends.append(Run(agent, job, caller).run())
+
+        threads = [threading.Thread(target=work, args=(agent,)) for agent in nodes]
+        for thread in threads:
+            thread.start()
+        for thread in threads:
+            thread.join()
+        self.assertEqual(ends, [0] * 3)
+        self.assertEqual([int(word) for word in self.read("out").split()], [1, 2, 3])
+
+
+if __name__ == "__main__":
+    unittest.main()

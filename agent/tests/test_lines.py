@@ -1,0 +1,121 @@
+"""The talk with a filter."""
+from __future__ import annotations
+
+import sys
+import threading
+import unittest
+from unittest import mock
+
+from agent import tools
+from agent.faults import FarmFault, LifeOver, Missing
+from agent.lines import Answer, Filter, FilterGone, Talk, line_of
+
+ECHO = """
+import sys, os
+print("m hello 1 1 seal"); print("= life 1"); sys.stdout.flush()
+for line in sys.stdin:
+    line = line[:-1]
+    if line == "die": os._exit(3)
+    if line == "half": sys.stdout.write("m one\\n: two"); sys.stdout.flush(); os._exit(3)
+    if line == "odd": print("what"); sys.stdout.flush(); continue
+    print(f"m to {line}\\n: fact {len(line)}\\n= did {line}"); sys.stdout.flush()
+"""
+COMMAND = [sys.executable, "-c", ECHO]
+
+
+def program(text: str) -> list[str]:
+    return [sys.executable, "-c", text]
+
+
+class Lines(unittest.TestCase):
+    def filter(self) -> Filter:
+        made = Filter(COMMAND)
+        self.addCleanup(made.close)
+        return made
+
+    def test_answers(self) -> None:
+        talk = self.filter()
+        self.assertEqual(talk.greeting, Answer(["hello 1 1 seal"], [], "life 1"))
+        self.assertEqual(talk.call("ask x"), Answer(["to ask x"], ["fact 5"], "did ask x"))
+
+    def test_line_feeds(self) -> None:
+        talk = self.filter()
+        for line in ("m x\nwithdraw 5", "a\rb", "\n"):
+            with self.assertRaises(ValueError):
+                talk.call(line)
+        self.assertEqual(talk.call("next").note, "did next")
+        self.assertEqual(talk.call("m " + "x" * (25 << 20)).note, "dropped TooLong")
+
+    def test_words(self) -> None:
+        self.assertEqual(line_of("ask", "locked:a", "ro=locked:b"), "ask locked:a ro=locked:b")
+        for word in ("", "a b", "a\nb", "a\tb", "a\0b", "a\u2028b"):
+            with self.assertRaises(ValueError):
+                line_of("ask", word)
+
+    def test_ends(self) -> None:
+        for line in ("die", "half", "odd"):
+            with self.assertRaises(FilterGone, msg=line):
+                self.filter().call(line)
+
+    def test_at_once(self) -> None:
+        talk, wrong = self.filter(), []
+
+        def calls(name: str) -> None:
+            for number in range(50):
+                if talk.call(f"{name} {number}").note != f"did {name} {number}":
+                    wrong.append(name)
+
+        threads = [threading.Thread(target=calls, args=(name,)) for name in "abcd"]
+        for thread in threads:
+            thread.start()
+        for thread in threads:
+            thread.join()
+        self.assertEqual(wrong, [])
+
+    def test_started_again(self) -> None:
+        heard: list[str] = []
+        order: list[str] = []
+        talk = Talk("node 1", COMMAND, lambda: order.append("before"), lambda answer: heard.append(answer.note))
+        talk.start()
+        self.addCleanup(talk.stop)
+        epoch = talk.epoch
+        self.assertEqual(talk.call("x", epoch).note, "did x")
+        with self.assertRaises(LifeOver):
+            talk.call("die", epoch)
+        self.assertEqual(talk.epoch, epoch + 1)
+        with self.assertRaises(LifeOver):
+            talk.call("y", epoch)
+        self.assertEqual(talk.call("z", talk.epoch).note, "did z")
+        self.assertEqual((heard, order), (["life 1", "did x", "life 1", "did z"], ["before", "before"]))
+
+    def test_killed(self) -> None:
+        talk = Talk("node 1", COMMAND, lambda: None, lambda answer: None)
+        talk.start()
+        self.addCleanup(talk.stop)
+        assert talk.present[1]
+        talk.present[1].kill()
+        with self.assertRaises(LifeOver):
+            talk.call("x")
+        self.assertEqual(talk.call("x").note, "did x")
+
+    def start_of(self, command: list[str]) -> str:
+        with self.assertRaises(FarmFault) as raised:
+            Talk("coordinator", command, lambda: None, lambda answer: None, patience=0.2).start()
+        return str(raised.exception)
+
+    def test_no_start(self) -> None:
+        self.assertIn("can't be started", self.start_of(["/nowhere/farmctl"]))
+        said = self.start_of(program("import sys; sys.stderr.write('no such verb\\n'); sys.exit(2)"))
+        self.assertIn("doesn't start as the coordinator: no such verb", said)
+        self.assertIn("files are locked", self.start_of(program("import sys; sys.exit(4)")))
+
+    def test_missing_tools(self) -> None:
+        with mock.patch.dict("os.environ", {"PATH": "/nowhere", "FARMCTL": "/nowhere/farmctl"}):
+            with self.assertRaisesRegex(Missing, "apt-get install casync"):
+                tools.need("casync")
+            with self.assertRaisesRegex(Missing, "/nowhere/farmctl"):
+                tools.farmctl()
+
+
+if __name__ == "__main__":
+    unittest.main()

@@ -1,0 +1,163 @@
+"""Folders as contents, and back; what a store forgets."""
+from __future__ import annotations
+
+import os
+import subprocess
+import unittest
+
+from agent import trees
+from agent.chunks import chunk_names, chunk_path
+from agent.faults import FarmFault
+from agent.places import Places, check_apart, place_of
+from agent.store import FolderStore, put_file
+from agent.words import EMPTY
+
+from agent.tests import support
+
+
+def told(path: str) -> list[tuple[object, ...]]:
+    """What is to be the same of a tree."""
+    found: list[tuple[object, ...]] = []
+    for folder, folders, files in os.walk(path):
+        for name in (".", *folders, *files):
+            at = os.path.join(folder, name)
+            here = os.lstat(at)
+            text: object = os.readlink(at) if os.path.islink(at) else None
+            if os.path.isfile(at) and not os.path.islink(at):
+                with open(at, "rb") as file:
+                    text = file.read()
+            found.append((os.path.relpath(at, path), here.st_mode, here.st_uid, here.st_mtime_ns, text))
+    return sorted(found, key=lambda row: str(row[0]))
+
+
+@unittest.skipUnless(support.has("casync"), support.needs("casync"))
+class Trees(support.RoomTest):
+    def setUp(self) -> None:
+        super().setUp()
+        self.store = FolderStore(self.path("store"))
+
+    def tree(self) -> str:
+        self.write("tree/a/file", "x" * 200_000)
+        self.write("tree/a/.caexclude", "*\n")
+        self.write("tree/a/.caexclude%", "second\n")
+        self.write("tree/b/tool", "#!/bin/sh\n")
+        os.chmod(self.path("tree/b/tool"), 0o4755)
+        os.symlink("../a/nowhere", self.path("tree/b/link"))
+        os.mkfifo(self.path("tree/b/pipe"))
+        os.makedirs(self.path("tree/empty"))
+        os.utime(self.path("tree/a/file"), ns=(5, 1_234_567_890_123_456_789))
+        if support.is_root:
+            os.chown(self.path("tree/b/tool"), 1000, 1001)
+            os.chmod(self.path("tree/b/tool"), 0o4755)
+        os.chmod(self.path("tree"), 0o750)
+        os.utime(self.path("tree"), ns=(5, 1_000_000_000_000_000_001))
+        return self.path("tree")
+
+    def test_there_and_back(self) -> None:
+        tree = self.tree()
+        before = told(tree)
+        index, digest = trees.keep(self.store, tree)
+        self.assertEqual(told(tree), before)
+        self.assertEqual(self.store.index(digest), index)
+        trees.extract(self.store, index, self.path("out"))
+        self.assertEqual(told(self.path("out")), before)
+        self.assertEqual(trees.keep(self.store, self.path("out")), (index, digest))
+
+    def test_flag_nodump(self) -> None:
+        self.write("tree/kept", "x")
+        if not support.has("chattr") or subprocess.run(["chattr", "+d", self.path("tree/kept")], capture_output=True).returncode:
+            self.skipTest("this file system has no attribute d")
+        index, _ = trees.keep(self.store, self.path("tree"))
+        trees.extract(self.store, index, self.path("out"))
+        self.assertEqual(self.read("out/kept"), "x")
+
+    def test_empty(self) -> None:
+        self.assertEqual(self.store.index(EMPTY), b"")
+        trees.extract(self.store, b"", self.path("out"))
+        self.assertEqual(os.listdir(self.path("out")), [])
+        os.makedirs(self.path("none"))
+        index, _ = trees.keep(self.store, self.path("none"))
+        trees.extract(self.store, index, self.path("out"))
+        self.assertEqual(os.listdir(self.path("out")), [])
+
+    def test_lost_and_damaged(self) -> None:
+        index, digest = trees.keep(self.store, self.tree())
+        with self.assertRaises(FarmFault):
+            chunk_names(index[:-1])
+        with self.assertRaises(FarmFault):
+            chunk_names(b"x" * 200)
+        chunk = chunk_path(self.store.chunks, chunk_names(index)[0])
+        data = b""
+        with open(chunk, "rb") as file:
+            data = file.read()
+        with open(chunk, "wb") as file:
+            file.write(data[:-3] + b"abc")
+        with self.assertRaises(FarmFault):
+            trees.extract(self.store, index, self.path("out"))
+        os.unlink(chunk)
+        with self.assertRaisesRegex(FarmFault, "1 chunks of a version"):
+            trees.extract(self.store, index, self.path("out2"))
+        with self.assertRaises(FarmFault):
+            self.store.publish(index)
+        put_file(f"{self.store.indexes}/{digest}", b"damaged")
+        self.assertIsNone(self.store.index(digest))
+        self.assertIsNone(self.store.index("../key"))
+
+    def test_forget(self) -> None:
+        self.write("one/f", "a" * 300_000)
+        self.write("two/f", "b" * 300_000)
+        one, digest = trees.keep(self.store, self.path("one"))
+        _, other = trees.keep(self.store, self.path("two"))
+        self.write(f"store/chunks/0000/{'0' * 64}.tmp", "left by a killed casync")
+        self.assertEqual(self.store.forget({digest}, 3600), (0, 0))
+        indexes, chunks = self.store.forget({digest}, -1)
+        self.assertEqual(indexes, 1)
+        self.assertGreaterEqual(chunks, 2)
+        self.assertIsNone(self.store.index(other))
+        self.assertFalse(os.path.exists(self.path(f"store/chunks/0000/{'0' * 64}.tmp")))
+        trees.extract(self.store, one, self.path("out"))
+        self.assertEqual(self.read("out/f"), "a" * 300_000)
+
+
+class Paths(support.RoomTest):
+    def test_places(self) -> None:
+        places = Places(self.path("home"))
+        path = self.path("work/cache")
+        with places.held(path):
+            places.clear(path)
+        self.write("work/cache/f", "x")
+        with places.held(path):
+            places.clear(path)
+        self.assertEqual(os.listdir(path), [])
+        self.write("work/mine/f", "x")
+        with self.assertRaisesRegex(FarmFault, "wasn't made by this farm"):
+            places.clear(self.path("work/mine"))
+        self.assertEqual(self.read("work/mine/f"), "x")
+        with self.assertRaisesRegex(FarmFault, "is no folder"):
+            places.clear(self.path("work/mine/f"))
+        os.makedirs(self.path("work/new"))
+        places.clear(self.path("work/new"))
+
+    def test_made_anew(self) -> None:
+        places = Places(self.path("home"))
+        places.clear(self.path("w"))
+        os.rename(self.path("w"), self.path("kept"))
+        self.write("w/f", "another's")
+        with self.assertRaisesRegex(FarmFault, "wasn't made by this farm"):
+            places.clear(self.path("w"))
+
+    def test_names(self) -> None:
+        os.makedirs(self.path("real"))
+        os.symlink("real", self.path("link"))
+        room = os.path.realpath(self.room)
+        self.assertEqual(place_of("link/../link/x", self.room), f"{room}/real/x")
+        with self.assertRaisesRegex(FarmFault, "is a link"):
+            place_of("link", self.room)
+        check_apart(["/a/b", "/a/bc", "/c"])
+        for paths in (["/a", "/a/b"], ["/a", "/" + "a"]):
+            with self.assertRaises(FarmFault):
+                check_apart(paths)
+
+
+if __name__ == "__main__":
+    unittest.main()

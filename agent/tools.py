@@ -1,0 +1,35 @@
+"""The programs that the agent calls: where they are, and what installs those that aren't there.
+
+Owes the filters that the program it starts is the repository's own, unless FARMCTL names another.
+"""
+from __future__ import annotations
+
+import os
+import shutil
+
+from agent.faults import Missing
+
+PACKAGES = {"casync": "casync", "buildah": "buildah", "redis-server": "redis-server"}
+TOP = os.path.dirname(os.path.dirname(os.path.abspath(__file__)))
+
+
+def need(tool: str) -> str:
+    """The path of a program of the distribution."""
+    found = shutil.which(tool)
+    if not found:
+        raise Missing(f"{tool} isn't installed: apt-get install {PACKAGES.get(tool, tool)}")
+    return found
+
+
+def farmctl() -> str:
+    """The program whose processes decide."""
+    given = os.environ.get("FARMCTL")
+    if given:
+        found = shutil.which(given)
+        if not found:
+            raise Missing(f"the farm's program isn't there: FARMCTL names {given}")
+        return found
+    built = os.path.join(TOP, "crates", "farmctl", "out", "farmctl")
+    if not os.access(built, os.X_OK):
+        raise Missing("the farm's program isn't built yet: ./farmctl --help proves and builds it, once")
+    return built

@@ -1,0 +1,120 @@
+"""The words of folders, slots and grants, as far as folders are filled and shown by them.
+
+Owes the filters nothing that safety rests on: a filter reads each word again and judges it itself.
+"""
+from __future__ import annotations
+
+import hashlib
+import re
+from dataclasses import dataclass
+
+from agent.faults import UsageFault
+
+EMPTY = hashlib.sha256(b"").hexdigest()  # the content of a folder that has no version
+SHARINGS = ("shared", "private", "locked")
+FOLDER = re.compile(r"(shared|private|locked):((?:[!-\"$&-?A-~]|%[0-9A-F]{2})*)(@[0-9a-f]{64}\.\d{1,19})?")
+DIGEST = re.compile(r"[0-9a-f]{64}")
+
+
+def escaped(text: str) -> str:
+    """An id as a folder's text spells it: of the printable ASCII, `#`, `%` and `@` are escaped, and so is all else."""
+    return "".join(chr(b) if 0x21 <= b <= 0x7E and b not in b"#%@" else f"%{b:02X}" for b in text.encode())
+
+
+def folder_text(sharing: str, identifier: str) -> str:
+    return f"{sharing}:{escaped(identifier)}"
+
+
+def is_folder(text: str) -> bool:
+    return FOLDER.fullmatch(text) is not None
+
+
+def short_name(text: str, kind: str = "farm") -> str:
+    """A plain file name for any text: no id becomes a path."""
+    return f"{kind}-{hashlib.sha256(text.encode()).hexdigest()[:32]}"
+
+
+@dataclass(frozen=True)
+class Want:
+    """A folder that a command asks for, and where it wants it."""
+
+    folder: str
+    path: str
+    writable: bool = True
+
+    @property
+    def word(self) -> str:
+        return self.folder if self.writable else f"ro={self.folder}"
+
+    @property
+    def is_shared(self) -> bool:
+        return self.folder.startswith("shared:")
+
+
+def want_of(word: str) -> Want:
+    """`[ro=]FOLDER=PATH`. An id may contain `=`, so the path begins at the last one."""
+    writable = not word.startswith("ro=")
+    folder, equals, path = (word if writable else word[3:]).rpartition("=")
+    if not equals or not path:
+        raise UsageFault(f"--folder wants FOLDER=PATH, as locked:ccache=/tmp/ccache, and got {word!r}")
+    if not is_folder(folder):
+        sharing, colon, identifier = folder.partition(":")
+        hint = f": write {folder_text(sharing, identifier)}" if colon and sharing in SHARINGS else ""
+        raise UsageFault(f"{folder!r} is no folder: it begins with locked:, private: or shared:, and has no spaces{hint}")
+    return Want(folder, path, writable)
+
+
+@dataclass(frozen=True)
+class Slot:
+    """A slot of a grant, and the version that it begins from."""
+
+    name: str
+    writable: bool
+    base: int
+    digest: str
+
+    @property
+    def folder(self) -> str:
+        return self.name.partition("#")[0]
+
+
+@dataclass(frozen=True)
+class Grant:
+    node: int
+    life: int
+    ask: int
+    ticket: int
+    kind: str
+    slots: tuple[Slot, ...]
+
+
+def slot_of(word: str) -> Slot:
+    """`[ro=]SLOT=BASE:DIGEST`. The slot ends at the last `=`."""
+    writable = not word.startswith("ro=")
+    name, _, version = (word if writable else word[3:]).rpartition("=")
+    base, _, digest = version.partition(":")
+    if not DIGEST.fullmatch(digest):
+        raise ValueError(f"{word!r} is no slot of a grant")
+    return Slot(name, writable, int(base), digest)
+
+
+def grant_of(words: list[str]) -> Grant:
+    """`N L A T KIND [ro=]SLOT=BASE:DIGEST..`."""
+    node, life, ask, ticket = (int(word) for word in words[:4])
+    return Grant(node, life, ask, ticket, words[4], tuple(slot_of(word) for word in words[5:]))
+
+
+def versions_of(words: list[str]) -> dict[str, tuple[int, str]]:
+    """`SLOT=NUMBER:DIGEST..`."""
+    versions = {}
+    for word in words:
+        slot, _, version = word.rpartition("=")
+        number, _, digest = version.partition(":")
+        versions[slot] = (int(number), digest)
+    return versions
+
+
+def version_of(text: str) -> tuple[str, int | None]:
+    """`FOLDER[@NUMBER]`. What follows the `@` of a folder's own text has a point in it."""
+    found = re.fullmatch(r"(.*)@([0-9]+)", text)
+    return (found[1], int(found[2])) if found else (text, None)
