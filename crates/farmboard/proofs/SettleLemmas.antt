@@ -3,7 +3,7 @@ use Rattle.std.proofs.Common.{◌≡◌, ℕ, zero, suc, Bool, true, false, not,
 use Rattle.std.specs.List.{list_any, list_all}
 use Rattle.protocol.specs.Lists.{is_nil}
 use Rattle.protocol.specs.Names.{Ticket, Slot}
-use Rattle.protocol.specs.Machine.{LineVersion}
+use Rattle.protocol.specs.Machine.{LineVersion, Confirmed}
 use Rattle.protocol.specs.Replay.{Farm}
 use Rattle.protocol.specs.declared.answer.How.{How}
 use Rattle.protocol.specs.declared.answer.How.TheVariants as how
@@ -33,15 +33,15 @@ module _ (s : Farm) (f : Finished) (some : is_nil f.versions ≡ false) where
     not_lost : is_lost s f ≡ false
     not_lost = ap (λ (b : Bool). b && (not (is_live s f.ticket) && not (list_any (stands s f.ticket) f.versions))) here
 
-    pub fenced_drops : (all : Bool) → all ≡ list_all (stands s f.ticket) f.versions → way ≡ Some how.Fenced → Fares s f fate.Dropped
-    fenced_drops all stand at = (confirmed_is all stand ∙ ap (λ (w : Option How). all && is_committed w) at ∙ and_false all, dropped_is ∙ ap is_fenced at)
+    pub fenced_drops : (all : Bool) (t : Ticket) → all ≡ list_all (stands s f.ticket) f.versions → way ≡ Some (how.Fenced t) → Fares s f fate.Dropped
+    fenced_drops all t stand at = (confirmed_is all stand ∙ ap (λ (w : Option How). all && is_committed w) at ∙ and_false all, dropped_is ∙ ap is_fenced at)
       where
         and_false : (b : Bool) → (b && false) ≡ false
         and_false true = refl
         and_false false = refl
 
-    pub committed_confirms : list_all (stands s f.ticket) f.versions ≡ true → way ≡ Some how.Committed → Fares s f fate.Confirmed
-    committed_confirms all at = confirmed_is true (sym all) ∙ ap is_committed at
+    pub committed_confirms : (t : Ticket) (made : List Confirmed) → list_all (stands s f.ticket) f.versions ≡ true → way ≡ Some (how.Committed t made) → Fares s f fate.Confirmed
+    committed_confirms t made all at = confirmed_is true (sym all) ∙ ap is_committed at
 
     pub stays_open : (all : Bool) → all ≡ list_all (stands s f.ticket) f.versions → (all && is_committed way) ≡ false → is_fenced way ≡ false → Fares s f fate.Open
     stays_open all stand unknown kept = (confirmed_is all stand ∙ unknown, dropped_is ∙ kept, not_lost)

@@ -32,11 +32,11 @@ abbrev pub numbered : Farm → Ticket → Version → Version
 numbered s t v = record { slot = v.slot; number = or_zero (number_on s t v.slot) }
 
 abbrev pub is_committed : Option How → Bool
-is_committed (Some how.Committed) = true
+is_committed (Some (how.Committed t versions)) = true
 is_committed o = false
 
 abbrev pub is_fenced : Option How → Bool
-is_fenced (Some how.Fenced) = true
+is_fenced (Some (how.Fenced t)) = true
 is_fenced o = false
 
 -- the node isn't in the token's life any more

@@ -1,5 +1,5 @@
 //! What became of executions that are over.
-ghost use Rattle.std.specs.Prelude.{◌≡◌, ◌==◌, is_some, IfSome, map};
+ghost use Rattle.std.specs.Prelude.{◌≡◌, ◌==◌, is_some, IfSome, map, option_copied};
 ghost use Rattle.std.specs.List.{list_any, list_all};
 ghost use Rattle.protocol.specs.Lists.{nth};
 ghost use Rattle.nodecore.specs.Asks.{way_out_of};
@@ -27,9 +27,9 @@ impl Board {
     ghost use Rattle.farmboard.specs.Settling.{way_out_in, Fares, Settles};
 
     /// How the ask ended, if its node has not restarted since.
-    fn way_out(&self, token: &Finished) -> Option<Option<How>>
+    fn way_out(&self, token: &Finished) -> Option<Option<&How>>
         ensures life { is_some result ≡ is_in_life (farm_of self.now) token.now.node token.now.life }
-        ensures way { IfSome result (λ way. way ≡ way_out_in (farm_of self.now) token.now) }
+        ensures way { IfSome result (λ way. option_copied way ≡ way_out_in (farm_of self.now) token.now) }
     {
         let core = self.world().node(token.node)?;
         if core.life() != token.life {
@@ -48,8 +48,8 @@ impl Board {
         }
         let stand = all_stand(self.world(), token.ticket, versions);
         match self.way_out(token) {
-            Some(Some(How::Fenced)) => Fate::Dropped,
-            Some(Some(How::Committed)) if stand => Fate::Confirmed,
+            Some(Some(How::Fenced(_))) => Fate::Dropped,
+            Some(Some(How::Committed { .. })) if stand => Fate::Confirmed,
             Some(_) => Fate::Open,
             None if stand => Fate::Confirmed,
             None if is_live(self.world(), token.ticket) => Fate::Open,

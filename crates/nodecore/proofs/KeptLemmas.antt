@@ -34,7 +34,7 @@ found_at : (t : Ticket) (asks : List KeptAsk) (i : ℕ) (d : KeptAsk) (h : HeldG
 found_at t asks i d h s inside is uses = record { get = slice_get-get_or asks i d inside ∙ ap (λ (x : KeptAsk). Some x) is.0; ticket = is.1; uses = uses }
 
 abbrev any_ask : KeptAsk
-any_ask = Over how.Other
+any_ask = Over (how.Released (record { 0 = 0 }))
 
 pub held_at : (t : Ticket) (asks : List KeptAsk) (i : ℕ) (f : FirstAt (held t) asks 0 i) → FoundAt t asks i f.what (held_ask f.what)
 held_at t asks i f = found_at t asks i any_ask f.what _ f.inside (held_is t (get_or asks i any_ask) f.what (f.here any_ask)) (λ all a. refl)

@@ -5,6 +5,7 @@ ghost use Rattle.farm_base.specs.Digests.{digest_eq};
 ghost use Rattle.protocol.specs.Names.{Want};
 ghost use Rattle.protocol.specs.World.{keeps};
 ghost use Rattle.protocol.specs.Nodes.{wants_folder, is_tenure_of, is_home_of, uses, at_home, held, running, finished, recallable, is_base, in_use, others_use};
+ghost use Rattle.protocol.specs.declared.answer.How.{How};
 ghost use Rattle.protocol.specs.declared.ask.KeptAsk.{KeptAsk};
 ghost use Rattle.nodecore.specs.Asks.{ends_with, holds, is_in_use, is_open, is_sought, lease_in, recalls, runs, slots_in, told_state, way_out};
 ghost use Rattle.nodecore.specs.Tickets.{AreIndexed};
@@ -54,7 +55,7 @@ pub(crate) fn told(ask: &KeptAsk, alloc: Global) -> Result<AskState, AllocError>
         KeptAsk::Holding { grant, .. } => AskState::Granted(grant.copy(alloc)?),
         KeptAsk::Running { grant, .. } => AskState::Running(grant.copy(alloc)?),
         KeptAsk::Finished { grant, .. } => AskState::Finished(grant.ticket),
-        KeptAsk::Over(how) => AskState::Over(*how),
+        KeptAsk::Over(how) => AskState::Over(how.copy(alloc)?),
     })
 }
 
@@ -225,20 +226,27 @@ pub(crate) fn lease(ask: &KeptAsk) -> Option<&Grant>
 }
 
 /// How an ask ended, if it is over.
-pub(crate) fn way_out(ask: &KeptAsk) -> Option<How>
-    ensures { result ≡ way_out ask.now }
+pub(crate) fn way_out(ask: &KeptAsk) -> Option<&How>
+    ensures { option_copied result ≡ way_out ask.now }
 {
     match ask {
-        KeptAsk::Over(how) => Some(*how),
+        KeptAsk::Over(how) => Some(how),
         _ => None,
     }
+}
+
+/// What stands in an ask's place while it changes.
+fn nobody() -> KeptAsk
+    ensures { result ≡ KeptAsk.Over (How.Released (record { 0 = 0 })) }
+{
+    KeptAsk::Over(How::Released(Ticket(0)))
 }
 
 /// An open ask is granted.
 pub(crate) fn hold(ask: &mut KeptAsk, grant: Grant)
     ensures { ask.new ≡ holds grant ask.old }
 {
-    *ask = match mem::replace(ask, KeptAsk::Over(How::Other)) {
+    *ask = match mem::replace(ask, nobody()) {
         KeptAsk::Open { wants, .. } => KeptAsk::Holding {
             wants,
             grant,
@@ -252,7 +260,7 @@ pub(crate) fn hold(ask: &mut KeptAsk, grant: Grant)
 pub(crate) fn begin(ask: &mut KeptAsk)
     ensures { ask.new ≡ runs ask.old }
 {
-    *ask = match mem::replace(ask, KeptAsk::Over(How::Other)) {
+    *ask = match mem::replace(ask, nobody()) {
         KeptAsk::Holding {
             wants,
             grant,
@@ -270,7 +278,7 @@ pub(crate) fn begin(ask: &mut KeptAsk)
 pub(crate) fn finish(ask: &mut KeptAsk, news: Items<News>)
     ensures { ask.new ≡ ends_with news ask.old }
 {
-    *ask = match mem::replace(ask, KeptAsk::Over(How::Other)) {
+    *ask = match mem::replace(ask, nobody()) {
         KeptAsk::Running { wants, grant, .. } => KeptAsk::Finished { wants, grant, news },
         other => other,
     };

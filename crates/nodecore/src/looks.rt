@@ -1,5 +1,5 @@
 //! What a caller may see of a node and its asks without memory.
-ghost use Rattle.std.specs.Prelude.{◌≡◌, Err, IfOk, IfErr, is_some};
+ghost use Rattle.std.specs.Prelude.{◌≡◌, Err, IfOk, IfErr, is_some, option_copied};
 ghost use Rattle.protocol.specs.Lists.{nth};
 ghost use Rattle.protocol.specs.Nodes.{begun, first, held, running};
 ghost use Rattle.nodecore.specs.Asks.{way_out_of};
@@ -61,8 +61,8 @@ impl NodeCore {
     }
 
     /// How an ask of this life ended; None while it is present, and where there is none.
-    pub fn way_out(&self, ask: Ask) -> Option<How>
-        ensures { result ≡ way_out_of (nth (shown self.now).asks ask.0) }
+    pub fn way_out(&self, ask: Ask) -> Option<&How>
+        ensures { option_copied result ≡ way_out_of (nth (shown self.now).asks ask.0) }
     {
         let place = self.place_of(ask)?;
         way_out(&self.asks[place])

@@ -418,7 +418,7 @@ impl NodeCore {
         ensures place { place self.new ≡ place self.old }
     {
         let sends = self.say(alloc, Request::Release { ticket })?;
-        self.asks[index] = KeptAsk::Over(How::Other);
+        self.asks[index] = KeptAsk::Over(How::Released(ticket));
         Ok(NodeDone { note, sends })
     }
 

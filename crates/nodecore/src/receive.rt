@@ -95,7 +95,7 @@ impl NodeCore {
         ) else {
             return silent(alloc, NodeNote::Nothing);
         };
-        self.asks[index] = KeptAsk::Over(How::Fenced);
+        self.asks[index] = KeptAsk::Over(How::Fenced(ticket));
         silent(alloc, NodeNote::Dropped(ticket))
     }
 
@@ -104,7 +104,7 @@ impl NodeCore {
         &mut self,
         alloc: Global,
         ticket: Ticket,
-        versions: &[Confirmed],
+        versions: &Items<Confirmed>,
     ) -> Result<NodeDone, AllocError>
         ensures work { Does (learned ticket versions.now (shown self.old) (first (finished ticket) (shown self.old).asks 0)) (shown self.old) (shown self.new) result }
         ensures place { place self.new ≡ place self.old }
@@ -117,10 +117,11 @@ impl NodeCore {
         ) else {
             return Ok(silent(alloc, NodeNote::Nothing));
         };
-        let named = confirmed(alloc, versions)?;
+        let named = confirmed(alloc, versions.as_slice())?;
+        let versions = versions.copy(alloc)?;
         self.versions.reserve(named.len())?;
         learn(&mut self.versions, named);
-        self.asks[index] = KeptAsk::Over(How::Committed);
+        self.asks[index] = KeptAsk::Over(How::Committed { ticket, versions });
         Ok(silent(alloc, NodeNote::Learned(ticket)))
     }
 
@@ -209,7 +210,7 @@ impl NodeCore {
                 ticket,
                 versions,
                 ..
-            } => self.learn_news(alloc, *ticket, versions.as_slice()),
+            } => self.learn_news(alloc, *ticket, versions),
             FromCoord::Fenced { ticket, .. } => Ok(self.drop_news(alloc, *ticket)),
             FromCoord::Denied { ask, why, .. } => Ok(self.deny(alloc, *ask, *why)),
             FromCoord::Recall { ticket, .. } => Ok(self.recall(alloc, *ticket)),

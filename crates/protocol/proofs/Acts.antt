@@ -246,14 +246,14 @@ module _ (sha : List ℕ → Digest) (w : World) (inv : Inv sha w) (n : NodeId) 
   act_ahead sends x' (Finishes wants g r a news store e idle p q s) =
       ahead_from x (record x { asks = set_nth x.asks a (Finished wants g news); store = store }) refl (go_set x.asks a (Running wants g r) (Finished wants g news) e (record { asked = λ ws b h. h; over = λ k h. refl }))
   act_ahead sends x' (Gives_up wants g r a (inl e) idle) =
-      ahead_from x (record x { asks = set_nth x.asks a (Over how.Other) }) refl (go_set x.asks a (Holding wants g r) (Over how.Other) e (record { asked = λ ws b h. tt; over = λ k h. refl }))
+      ahead_from x (record x { asks = set_nth x.asks a (Over (how.Released g.ticket)) }) refl (go_set x.asks a (Holding wants g r) (Over (how.Released g.ticket)) e (record { asked = λ ws b h. tt; over = λ k h. refl }))
   act_ahead sends x' (Gives_up wants g r a (inr e) idle) =
-      ahead_from x (record x { asks = set_nth x.asks a (Over how.Other) }) refl (go_set x.asks a (Running wants g r) (Over how.Other) e (record { asked = λ ws b h. tt; over = λ k h. refl }))
+      ahead_from x (record x { asks = set_nth x.asks a (Over (how.Released g.ticket)) }) refl (go_set x.asks a (Running wants g r) (Over (how.Released g.ticket)) e (record { asked = λ ws b h. tt; over = λ k h. refl }))
   act_ahead sends x' (Sends_commit wants g a news e) = ahead_refl x
   act_ahead sends x' (Learns wants g a news versions i e) =
-      ahead_from x (record x { asks = set_nth x.asks a (Over how.Committed); known = learn_versions versions x.known }) refl (go_set x.asks a (Finished wants g news) (Over how.Committed) e (record { asked = λ ws b h. tt; over = λ k h. refl }))
+      ahead_from x (record x { asks = set_nth x.asks a (Over (how.Committed g.ticket versions)); known = learn_versions versions x.known }) refl (go_set x.asks a (Finished wants g news) (Over (how.Committed g.ticket versions)) e (record { asked = λ ws b h. tt; over = λ k h. refl }))
   act_ahead sends x' (Drops wants g a news i e) =
-      ahead_from x (record x { asks = set_nth x.asks a (Over how.Fenced) }) refl (go_set x.asks a (Finished wants g news) (Over how.Fenced) e (record { asked = λ ws b h. tt; over = λ k h. refl }))
+      ahead_from x (record x { asks = set_nth x.asks a (Over (how.Fenced g.ticket)) }) refl (go_set x.asks a (Finished wants g news) (Over (how.Fenced g.ticket)) e (record { asked = λ ws b h. tt; over = λ k h. refl }))
   act_ahead sends x' (Is_denied a why wants tenure i e) =
       ahead_from x (record x { asks = set_nth x.asks a.0 (Over (how.Denied why)) }) refl (go_set x.asks a.0 (Open wants tenure) (Over (how.Denied why)) e (record { asked = λ ws b h. tt; over = λ k h. refl }))
   act_ahead sends x' (Is_recalled wants g a i e) =
@@ -303,19 +303,19 @@ module _ (sha : List ℕ → Digest) (w : World) (inv : Inv sha w) (n : NodeId) 
         homes = home_end x.asks a wants g r (Finished wants g news) e idle (λ v k. k) x_ok.homes;
       }
   act_ok sends x' (Gives_up wants g r a (inl e) idle) =
-      one_ask a (Holding wants g r) (Over how.Other) e tt
-      (home_set x.asks a (Holding wants g r) (Over how.Other) e (runs_set x.asks a (Holding wants g r) (Over how.Other) e (held_not_running wants g r)) (λ v k. absurd k) x_ok.homes)
-  act_ok sends x' (Gives_up wants g r a (inr e) idle) = one_ask a (Running wants g r) (Over how.Other) e tt (home_end x.asks a wants g r (Over how.Other) e idle (λ v k. k) x_ok.homes)
+      one_ask a (Holding wants g r) (Over (how.Released g.ticket)) e tt
+      (home_set x.asks a (Holding wants g r) (Over (how.Released g.ticket)) e (runs_set x.asks a (Holding wants g r) (Over (how.Released g.ticket)) e (held_not_running wants g r)) (λ v k. absurd k) x_ok.homes)
+  act_ok sends x' (Gives_up wants g r a (inr e) idle) = one_ask a (Running wants g r) (Over (how.Released g.ticket)) e tt (home_end x.asks a wants g r (Over (how.Released g.ticket)) e idle (λ v k. k) x_ok.homes)
   act_ok sends x' (Sends_commit wants g a news e) = x_ok
   act_ok sends x' (Learns wants g a news versions i e) = record {
-    states = set_states a (Finished wants g news) (Over how.Committed) e tt;
+    states = set_states a (Finished wants g news) (Over (how.Committed g.ticket versions)) e tt;
     known = versions_ok (sha []) w.machine g.ticket versions x.known (inv.messages (Told (told.Committed n x.life g.ticket versions)) i).0 x_ok.known;
     stored = x_ok.stored;
-    homes = home_set x.asks a (Finished wants g news) (Over how.Committed) e (runs_set x.asks a (Finished wants g news) (Over how.Committed) e (finished_not_running wants g news)) (λ v k. absurd k) x_ok.homes;
+    homes = home_set x.asks a (Finished wants g news) (Over (how.Committed g.ticket versions)) e (runs_set x.asks a (Finished wants g news) (Over (how.Committed g.ticket versions)) e (finished_not_running wants g news)) (λ v k. absurd k) x_ok.homes;
   }
   act_ok sends x' (Drops wants g a news i e) =
-      one_ask a (Finished wants g news) (Over how.Fenced) e tt
-      (home_set x.asks a (Finished wants g news) (Over how.Fenced) e (runs_set x.asks a (Finished wants g news) (Over how.Fenced) e (finished_not_running wants g news)) (λ v k. absurd k) x_ok.homes)
+      one_ask a (Finished wants g news) (Over (how.Fenced g.ticket)) e tt
+      (home_set x.asks a (Finished wants g news) (Over (how.Fenced g.ticket)) e (runs_set x.asks a (Finished wants g news) (Over (how.Fenced g.ticket)) e (finished_not_running wants g news)) (λ v k. absurd k) x_ok.homes)
   act_ok sends x' (Is_denied a why wants tenure i e) =
       one_ask a.0 (Open wants tenure) (Over (how.Denied why)) e tt
       (home_set x.asks a.0 (Open wants tenure) (Over (how.Denied why)) e (runs_set x.asks a.0 (Open wants tenure) (Over (how.Denied why)) e (open_not_running wants tenure)) (λ v k. absurd k) x_ok.homes)
@@ -392,10 +392,10 @@ module _ (sha : List ℕ → Digest) (w : World) (inv : Inv sha w) (n : NodeId) 
       is_commit x' nodes' same y x.life g.ticket news g h (its.0, refl, its.1, its.2) p q (inr (set_spent g a (Running wants g r) (Finished wants g news) e its refl))
   act_sends sends x' (Gives_up wants g r a (inl e) idle) nodes' same y h =
       let its = (state_is a (Holding wants g r) e).0 in
-      is_release x' nodes' same y x.life g.ticket g h (its.0, refl, its.1, its.2) (inr (set_spent g a (Holding wants g r) (Over how.Other) e its refl))
+      is_release x' nodes' same y x.life g.ticket g h (its.0, refl, its.1, its.2) (inr (set_spent g a (Holding wants g r) (Over (how.Released g.ticket)) e its refl))
   act_sends sends x' (Gives_up wants g r a (inr e) idle) nodes' same y h =
       let its = (state_is a (Running wants g r) e).0 in
-      is_release x' nodes' same y x.life g.ticket g h (its.0, refl, its.1, its.2) (inr (set_spent g a (Running wants g r) (Over how.Other) e its refl))
+      is_release x' nodes' same y x.life g.ticket g h (its.0, refl, its.1, its.2) (inr (set_spent g a (Running wants g r) (Over (how.Released g.ticket)) e its refl))
   act_sends sends x' (Sends_commit wants g a news e) nodes' same y h =
       let ok = state_is a (Finished wants g news) e in
       let its = ok.0 in

@@ -186,7 +186,7 @@ module _ (top : ℕ) where
         by (Some (a, h)) = guard_acts _ _ _ (ok_acts (record { node = record x { asks = set_nth x.asks a (Running h.wants h.grant h.recalled) }; sends = []; note = note.Begun t }) (record { node = closes a (Running h.wants h.grant h.recalled) (running_closed h.wants h.grant h.recalled) _ refl refl; sends = none_sent }))
 
     gives_up_acts : (a : ℕ) (t : Ticket) (n : NodeNote) → Acts (gives_up p a t n x)
-    gives_up_acts a t n = record { node = closes a (Over how.Other) (over_closed how.Other) _ refl refl; sends = released t }
+    gives_up_acts a t n = record { node = closes a (Over (how.Released t)) (over_closed (how.Released t)) _ refl refl; sends = released t }
 
     finished_acts : (sha : List ℕ → Digest) (t : Ticket) (lefts : List Left) → ActsOk (finished_with sha p t lefts x)
     finished_acts sha t lefts = guard_acts x.spent _ _ (by (first (running t) x.asks 0))
@@ -254,11 +254,11 @@ module _ (top : ℕ) where
 
     learned_acts : (t : Ticket) (versions : List Confirmed) (o : Option (ℕ × Sent)) → Acts (learned t versions x o)
     learned_acts t versions None = nothing_acts
-    learned_acts t versions (Some (a, s)) = record { node = closes a (Over how.Committed) (over_closed how.Committed) _ refl refl; sends = none_sent }
+    learned_acts t versions (Some (a, s)) = record { node = closes a (Over (how.Committed t versions)) (over_closed (how.Committed t versions)) _ refl refl; sends = none_sent }
 
     dropped_acts : (t : Ticket) (o : Option (ℕ × Sent)) → Acts (dropped t x o)
     dropped_acts t None = nothing_acts
-    dropped_acts t (Some (a, s)) = record { node = closes a (Over how.Fenced) (over_closed how.Fenced) _ refl refl; sends = none_sent }
+    dropped_acts t (Some (a, s)) = record { node = closes a (Over (how.Fenced t)) (over_closed (how.Fenced t)) _ refl refl; sends = none_sent }
 
     denied_acts : (a : Ask) (why : Why) (o : Option KeptAsk) → Acts (denied a why x o)
     denied_acts a why None = nothing_acts

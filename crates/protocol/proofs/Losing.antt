@@ -164,7 +164,7 @@ module _ (sha : List ℕ → Digest) (k : Limits) (n : NodeId) (size count : ℕ
       by (Some (a, h)) = guard_if (not (all_stored x h.grant.slots)) (not (all_stored y h.grant.slots)) _ _ _ (unless h.grant.slots) (ok_less _ _ (record { node = asks_less (set_nth y.asks a (Running h.wants h.grant h.recalled)); sends = λ m o i. i }))
 
   gives_up_less : (a : ℕ) (t : Ticket) (said : NodeNote) → LessWork (gives_up at a t said x) (gives_up at_less a t said y)
-  gives_up_less a t said = record { node = asks_less (set_nth y.asks a (Over how.Other)); sends = λ m o i. i }
+  gives_up_less a t said = record { node = asks_less (set_nth y.asks a (Over (how.Released t))); sends = λ m o i. i }
 
   finished_less : (t : Ticket) (lefts : List Left) → Less (finished_with sha at t lefts x) (finished_with sha at_less t lefts y)
   finished_less t lefts = guard_less y.spent _ _ _ (by (first (running t) y.asks 0))
@@ -236,7 +236,7 @@ module _ (sha : List ℕ → Digest) (k : Limits) (n : NodeId) (size count : ℕ
 
   dropped_less : (t : Ticket) (o : Option (ℕ × Sent)) → LessWork (dropped t x o) (dropped t y o)
   dropped_less t None = nothing_less
-  dropped_less t (Some (a, s)) = record { node = asks_less (set_nth y.asks a (Over how.Fenced)); sends = λ m o i. i }
+  dropped_less t (Some (a, s)) = record { node = asks_less (set_nth y.asks a (Over (how.Fenced t))); sends = λ m o i. i }
 
   denied_less : (a : Ask) (why : Why) (o : Option KeptAsk) → LessWork (denied a why x o) (denied a why y o)
   denied_less a why None = nothing_less

@@ -339,7 +339,7 @@ module _ (sha : List ℕ → Digest) (u : World) (n : NodeId) where
 
   leaving_does : (size : ℕ) (a : ℕ) (h : HeldGrant) (lefts : List Left) → nth here.asks a ≡ Some (Running h.wants h.grant h.recalled) → Idle here.asks a h.wants h.grant → slots_of (news_of sha lefts) ≡ written h.grant.slots
       → OnAnswer (Ok (leaving sha (at size) a h lefts here))
-  leaving_does size a h [] at' idle slots = does (release n here.life h.grant.ticket ∷ []) (record here { asks = set_nth here.asks a (Over how.Other) }) (Gives_up h.wants h.grant h.recalled a (inr at') idle)
+  leaving_does size a h [] at' idle slots = does (release n here.life h.grant.ticket ∷ []) (record here { asks = set_nth here.asks a (Over (how.Released h.grant.ticket)) }) (Gives_up h.wants h.grant h.recalled a (inr at') idle)
   leaving_does size a h (l ∷ ls) at' idle slots =
       does (commit n here.life h.grant.ticket (news_of sha (l ∷ ls)) ∷ []) (record here { asks = set_nth here.asks a (Finished h.wants h.grant (news_of sha (l ∷ ls))); store = stored sha (l ∷ ls) here.store })
       (Finishes h.wants h.grant h.recalled a (news_of sha (l ∷ ls)) (stored sha (l ∷ ls) here.store) at' idle slots (some_news l ls) (stored_ok sha (l ∷ ls) here.store))
@@ -362,7 +362,7 @@ module _ (sha : List ℕ → Digest) (u : World) (n : NodeId) where
       let f = found (held_or_running t) here.asks r e in
       let h : HeldGrant = r.1 in
       on_guard (in_use here.asks r.0 h.wants h.grant) _ _ (λ idle.
-      does (release n here.life h.grant.ticket ∷ []) (record here { asks = set_nth here.asks r.0 (Over how.Other) })
+      does (release n here.life h.grant.ticket ∷ []) (record here { asks = set_nth here.asks r.0 (Over (how.Released h.grant.ticket)) })
       (Gives_up h.wants h.grant h.recalled r.0 (elim (either_is t f.0 h f.2).0 [ inl is ↦ inl (f.1 ∙ ap Some is) | inr is ↦ inr (f.1 ∙ ap Some is) ]) (idle_from here.asks r.0 h.wants h.grant idle)))
 
   pub aborted_does : (size : ℕ) (t : Ticket) → OnAnswer (aborted (at size) t here)
@@ -431,7 +431,8 @@ module _ (sha : List ℕ → Digest) (u : World) (n : NodeId) where
       let f = found (finished t) here.asks r e in
       let is = finished_is t f.0 r.1 f.2 in
       let i' : In (Told (told.Committed n here.life r.1.grant.ticket versions)) u.pool = subst (λ z. In (Told (told.Committed n z r.1.grant.ticket versions)) u.pool) q (subst (λ z. In (Told (told.Committed n l z versions)) u.pool) (sym is.1) i) in
-      does [] (record here { asks = set_nth here.asks r.0 (Over how.Committed); known = learn_versions versions here.known }) (Learns r.1.wants r.1.grant r.0 r.1.news versions i' (f.1 ∙ ap Some is.0))
+      subst (λ z. Reached sha u n [] (record here { asks = set_nth here.asks r.0 (Over (how.Committed z versions)); known = learn_versions versions here.known })) is.1
+      (does [] (record here { asks = set_nth here.asks r.0 (Over (how.Committed r.1.grant.ticket versions)); known = learn_versions versions here.known }) (Learns r.1.wants r.1.grant r.0 r.1.news versions i' (f.1 ∙ ap Some is.0)))
 
   dropped_does : (l : Life) (t : Ticket) (o : Option (ℕ × Sent)) → In (Told (told.Fenced n l t)) u.pool → l ≡ here.life → first (finished t) here.asks 0 ≡ o → OnWork (dropped t here o)
   dropped_does l t None i q e = nothing_done
@@ -439,7 +440,8 @@ module _ (sha : List ℕ → Digest) (u : World) (n : NodeId) where
       let f = found (finished t) here.asks r e in
       let is = finished_is t f.0 r.1 f.2 in
       let i' : In (Told (told.Fenced n here.life r.1.grant.ticket)) u.pool = subst (λ z. In (Told (told.Fenced n z r.1.grant.ticket)) u.pool) q (subst (λ z. In (Told (told.Fenced n l z)) u.pool) (sym is.1) i) in
-      does [] (record here { asks = set_nth here.asks r.0 (Over how.Fenced) }) (Drops r.1.wants r.1.grant r.0 r.1.news i' (f.1 ∙ ap Some is.0))
+      subst (λ z. Reached sha u n [] (record here { asks = set_nth here.asks r.0 (Over (how.Fenced z)) })) is.1
+      (does [] (record here { asks = set_nth here.asks r.0 (Over (how.Fenced r.1.grant.ticket)) }) (Drops r.1.wants r.1.grant r.0 r.1.news i' (f.1 ∙ ap Some is.0)))
 
   denied_does : (l : Life) (a : Ask) (why : Why) (o : Option KeptAsk) → In (Told (told.Denied n l a why)) u.pool → l ≡ here.life → nth here.asks a.0 ≡ o → OnWork (denied a why here o)
   denied_does l a why None i q e = nothing_done

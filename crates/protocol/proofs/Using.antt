@@ -191,7 +191,7 @@ module _ (x : Node) (one : OneEach x.asks) where
       on_guard (Stops t) (in_use x.asks r.0 h.wants h.grant) _ _ (λ idle. on_guard (Stops t) (not (slots_eq (slots_of (news_of sha lefts)) (written h.grant.slots))) _ _ (λ slots. by_lefts lefts r.0 h here is.1))
     where
       by_lefts : (ls : List Left) (a : ℕ) (h : HeldGrant) → nth x.asks a ≡ Some (Running h.wants h.grant h.recalled) → h.grant.ticket ≡ t → Stops t (leaving sha at a h ls x)
-      by_lefts [] a h here ticket = (ap node_note.Finished ticket, end_use a (Over how.Other) h t here ticket (λ ws g r e. (let bad : Over how.Other ≡ Running ws g r = e in cc)))
+      by_lefts [] a h here ticket = (ap node_note.Finished ticket, end_use a (Over (how.Released h.grant.ticket)) h t here ticket (λ ws g r e. (let bad : Over (how.Released h.grant.ticket) ≡ Running ws g r = e in cc)))
       by_lefts (l ∷ ls) a h here ticket = (ap node_note.Finished ticket, end_use a (Finished h.wants h.grant (news_of sha (l ∷ ls))) h t here ticket (λ ws g r e. (let bad : Finished h.wants h.grant (news_of sha (l ∷ ls)) ≡ Running ws g r = e in cc)))
 
   pub finished_use : (sha : List ℕ → Digest) (at : Place) (t : Ticket) (lefts : List Left) → OnNode (Stops t) (finished_with sha at t lefts x)
@@ -207,17 +207,17 @@ module _ (x : Node) (one : OneEach x.asks) where
       let f = found (held_or_running t) x.asks r e in
       let h : HeldGrant = r.1 in
       let is = either_is t f.0 h f.2 in
-      let over : NotRunning (Over how.Other) = λ ws g q z. (let bad : Over how.Other ≡ Running ws g q = z in cc) in
+      let over : NotRunning (Over (how.Released h.grant.ticket)) = λ ws g q z. (let bad : Over (how.Released h.grant.ticket) ≡ Running ws g q = z in cc) in
       on_guard (Aborts t) (in_use x.asks r.0 h.wants h.grant) _ _ (λ idle. elim is.0 [
         | inl q ↦ (let here : nth x.asks r.0 ≡ Some (Holding h.wants h.grant h.recalled) = f.1 ∙ ap Some q in (
           ap node_note.Aborted is.1,
-          turned_set x.asks r.0 (Holding h.wants h.grant h.recalled) (Over how.Other) NoGrant (λ g. g.ticket ≡ t) here (λ g ws b z. absurd (over ws g b z)) (λ g ws b z. absurd (held_not_running h.wants h.grant h.recalled ws g b z)),
-          none_left r.0 (Holding h.wants h.grant h.recalled) (Over how.Other) h.grant t here refl is.1 over,
+          turned_set x.asks r.0 (Holding h.wants h.grant h.recalled) (Over (how.Released h.grant.ticket)) NoGrant (λ g. g.ticket ≡ t) here (λ g ws b z. absurd (over ws g b z)) (λ g ws b z. absurd (held_not_running h.wants h.grant h.recalled ws g b z)),
+          none_left r.0 (Holding h.wants h.grant h.recalled) (Over (how.Released h.grant.ticket)) h.grant t here refl is.1 over,
         ))
         | inr q ↦ (let here : nth x.asks r.0 ≡ Some (Running h.wants h.grant h.recalled) = f.1 ∙ ap Some q in (
           ap node_note.Aborted is.1,
-          ended_turn r.0 (Over how.Other) h t here is.1 over,
-          none_left r.0 (Running h.wants h.grant h.recalled) (Over how.Other) h.grant t here refl is.1 over,
+          ended_turn r.0 (Over (how.Released h.grant.ticket)) h t here is.1 over,
+          none_left r.0 (Running h.wants h.grant h.recalled) (Over (how.Released h.grant.ticket)) h.grant t here refl is.1 over,
         ))
       ])
 
@@ -250,12 +250,12 @@ module _ (x : Node) (one : OneEach x.asks) where
   learned_use : (t : Ticket) (versions : List Confirmed) (o : Option (ℕ × Sent)) → first (finished t) x.asks 0 ≡ o → OnWork (learned t versions x o)
   learned_use t versions None e = quiet_same x.asks
   learned_use t versions (Some r) e = (let f = found (finished t) x.asks r e in let is = finished_is t f.0 r.1 f.2 in
-      quiet_set x.asks r.0 (Finished r.1.wants r.1.grant r.1.news) (Over how.Committed) (f.1 ∙ ap Some is.0) (sent_idle r.1) (λ ws g q z. (let bad : Over how.Committed ≡ Running ws g q = z in cc)))
+      quiet_set x.asks r.0 (Finished r.1.wants r.1.grant r.1.news) (Over (how.Committed t versions)) (f.1 ∙ ap Some is.0) (sent_idle r.1) (λ ws g q z. (let bad : Over (how.Committed t versions) ≡ Running ws g q = z in cc)))
 
   dropped_use : (t : Ticket) (o : Option (ℕ × Sent)) → first (finished t) x.asks 0 ≡ o → OnWork (dropped t x o)
   dropped_use t None e = quiet_same x.asks
   dropped_use t (Some r) e = (let f = found (finished t) x.asks r e in let is = finished_is t f.0 r.1 f.2 in
-      quiet_set x.asks r.0 (Finished r.1.wants r.1.grant r.1.news) (Over how.Fenced) (f.1 ∙ ap Some is.0) (sent_idle r.1) (λ ws g q z. (let bad : Over how.Fenced ≡ Running ws g q = z in cc)))
+      quiet_set x.asks r.0 (Finished r.1.wants r.1.grant r.1.news) (Over (how.Fenced t)) (f.1 ∙ ap Some is.0) (sent_idle r.1) (λ ws g q z. (let bad : Over (how.Fenced t) ≡ Running ws g q = z in cc)))
 
   denied_use : (a : Ask) (why : Why) (o : Option KeptAsk) → nth x.asks a.0 ≡ o → OnWork (denied a why x o)
   denied_use a why None e = quiet_same x.asks

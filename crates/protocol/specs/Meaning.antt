@@ -286,7 +286,7 @@ pub record Stored (sha : List ℕ → Digest) (contents : List (List ℕ)) (stor
 
 -- the node finished with nothing to write, or sent its news
 abbrev pub Leaves : (List ℕ → Digest) → List Left → NodeId → Node → Grant → List Want → ℕ → List Message → Node → Type 0
-Leaves sha [] n x g wants a sends x' = (sends ≡ release n x.life g.ticket ∷ []) × (x' ≡ record x { asks = set_nth x.asks a (Over how.Other) })
+Leaves sha [] n x g wants a sends x' = (sends ≡ release n x.life g.ticket ∷ []) × (x' ≡ record x { asks = set_nth x.asks a (Over (how.Released g.ticket)) })
 Leaves sha (l ∷ ls) n x g wants a sends x' =
     let news : List News = news_of sha (l ∷ ls) in
     (sends ≡ commit n x.life g.ticket news ∷ []) × (slots_of news ≡ written g.slots)
@@ -350,7 +350,7 @@ NodeMeans sha k size heard e n x (node.Begun t) sends x' = (e ≡ Begin n t) × 
     × (sends ≡ []) × (x' ≡ record x { asks = set_nth x.asks a (Running wants g r) }))
 NodeMeans sha k size heard e n x (node.Finished t) sends x' = (e ≡ Finish n t (lefts_at e)) × ((a : ℕ) × (wants : List Want) × (g : Grant) × (r : Bool) × IsAsk x a (Running wants g r) × (g.ticket ≡ t) × Leaves sha (lefts_at e) n x g wants a sends x')
 NodeMeans sha k size heard e n x (node.Aborted t) sends x' = (e ≡ Abort n t) × ((a : ℕ) × (wants : List Want) × (g : Grant) × (r : Bool) × (IsAsk x a (Holding wants g r) ⊎ IsAsk x a (Running wants g r)) × (g.ticket ≡ t)
-    × (sends ≡ release n x.life t ∷ []) × (x' ≡ record x { asks = set_nth x.asks a (Over how.Other) }))
+    × (sends ≡ release n x.life t ∷ []) × (x' ≡ record x { asks = set_nth x.asks a (Over (how.Released t)) }))
 NodeMeans sha k size heard e n x node.Resent sends x' = (e ≡ Resend n) × In (hello n x.life) sends
     × ((a : ℕ) (wants : List Want) (tenure : Bool) → IsAsk x a (Open wants tenure) → In (acquire n x.life (record { 0 = a }) wants tenure) sends)
     × ((a : ℕ) (wants : List Want) (g : Grant) (news : List News) → IsAsk x a (Finished wants g news) → In (commit n x.life g.ticket news) sends)
@@ -364,9 +364,9 @@ NodeMeans sha k size heard e n x (node.GaveBack t) sends x' = (g : Grant) × (he
     × ((wants : List Want) (tenure : Bool) → IsAsk x g.ask.0 (Open wants tenure) → ⊥) × ((s : KeptAsk) → IsAsk x g.ask.0 s → keeps s g.ticket ≡ false)
     × (sends ≡ release n x.life t ∷ []) × (x' ≡ x)
 NodeMeans sha k size heard e n x (node.Learned t) sends x' = (l : Life) × (versions : List Confirmed) × (heard ≡ Some (Told (message.Committed n l t versions))) × (l ≡ x.life)
-    × ((a : ℕ) × (wants : List Want) × (g : Grant) × (news : List News) × IsAsk x a (Finished wants g news) × (g.ticket ≡ t) × (sends ≡ []) × (x' ≡ record x { asks = set_nth x.asks a (Over how.Committed); known = learn_versions versions x.known }))
+    × ((a : ℕ) × (wants : List Want) × (g : Grant) × (news : List News) × IsAsk x a (Finished wants g news) × (g.ticket ≡ t) × (sends ≡ []) × (x' ≡ record x { asks = set_nth x.asks a (Over (how.Committed t versions)); known = learn_versions versions x.known }))
 NodeMeans sha k size heard e n x (node.Dropped t) sends x' = (l : Life) × (heard ≡ Some (Told (message.Fenced n l t))) × (l ≡ x.life)
-    × ((a : ℕ) × (wants : List Want) × (g : Grant) × (news : List News) × IsAsk x a (Finished wants g news) × (g.ticket ≡ t) × (sends ≡ []) × (x' ≡ record x { asks = set_nth x.asks a (Over how.Fenced) }))
+    × ((a : ℕ) × (wants : List Want) × (g : Grant) × (news : List News) × IsAsk x a (Finished wants g news) × (g.ticket ≡ t) × (sends ≡ []) × (x' ≡ record x { asks = set_nth x.asks a (Over (how.Fenced t)) }))
 NodeMeans sha k size heard e n x (node.Denied why) sends x' = (l : Life) × (a : Ask) × (heard ≡ Some (Told (message.Denied n l a why))) × (l ≡ x.life)
     × ((wants : List Want) × (tenure : Bool) × IsAsk x a.0 (Open wants tenure) × (sends ≡ []) × (x' ≡ record x { asks = set_nth x.asks a.0 (Over (how.Denied why)) }))
 NodeMeans sha k size heard e n x (node.Recalled t) sends x' = (l : Life) × (heard ≡ Some (Told (message.Recall n l t))) × (l ≡ x.life)

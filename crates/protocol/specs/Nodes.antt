@@ -214,7 +214,7 @@ stored sha [] store = store
 stored sha (x ∷ xs) store = if is_some (store (sha x.content)) then stored sha xs store else stored sha xs (keep (sha x.content) x.content store)
 
 abbrev pub gives_up : Place → ℕ → Ticket → NodeNote → Node → NodeWork
-gives_up at a t n x = record { node = becomes a (Over how.Other) x; sends = release at.node x.life t ∷ []; note = n }
+gives_up at a t n x = record { node = becomes a (Over (how.Released t)) x; sends = release at.node x.life t ∷ []; note = n }
 
 abbrev pub leaves : (List ℕ → Digest) → Place → ℕ → HeldGrant → List Left → Node → NodeWork
 leaves sha at a h lefts x = record {
@@ -290,11 +290,11 @@ granted k at g x (Some (Over how)) = gives_back at g false x
 
 abbrev pub learned : Ticket → List Confirmed → Node → Option (ℕ × Sent) → NodeWork
 learned t versions x None = nothing x
-learned t versions x (Some (a, s)) = record { node = record (becomes a (Over how.Committed) x) { known = learn_versions versions x.known }; sends = []; note = note.Learned t }
+learned t versions x (Some (a, s)) = record { node = record (becomes a (Over (how.Committed t versions)) x) { known = learn_versions versions x.known }; sends = []; note = note.Learned t }
 
 abbrev pub dropped : Ticket → Node → Option (ℕ × Sent) → NodeWork
 dropped t x None = nothing x
-dropped t x (Some (a, s)) = record { node = becomes a (Over how.Fenced) x; sends = []; note = note.Dropped t }
+dropped t x (Some (a, s)) = record { node = becomes a (Over (how.Fenced t)) x; sends = []; note = note.Dropped t }
 
 abbrev pub denied : Ask → Why → Node → Option KeptAsk → NodeWork
 denied a why x None = nothing x

@@ -103,14 +103,14 @@ pub data Act (sha : List ℕ → Digest) (pool : List Message) (n : NodeId) (x :
   -- an execution ends with nothing to write, or is aborted, or a grant is given back unused
   Gives_up : (wants : List Want) (g : Grant) (r : Bool) (a : ℕ) → ((nth x.asks a ≡ Some (Holding wants g r)) ⊎ (nth x.asks a ≡ Some (Running wants g r)))
       → Idle x.asks a wants g
-      → Act sha pool n x (release n x.life g.ticket ∷ []) (record x { asks = set_nth x.asks a (Over how.Other) })
+      → Act sha pool n x (release n x.life g.ticket ∷ []) (record x { asks = set_nth x.asks a (Over (how.Released g.ticket)) })
   Sends_commit : (wants : List Want) (g : Grant) (a : ℕ) (news : List News) → (nth x.asks a ≡ Some (Finished wants g news))
       → Act sha pool n x (commit n x.life g.ticket news ∷ []) x
   Learns : (wants : List Want) (g : Grant) (a : ℕ) (news : List News) (versions : List Confirmed) → In (Told (told.Committed n x.life g.ticket versions)) pool
       → (nth x.asks a ≡ Some (Finished wants g news))
-      → Act sha pool n x [] (record x { asks = set_nth x.asks a (Over how.Committed); known = learn_versions versions x.known })
+      → Act sha pool n x [] (record x { asks = set_nth x.asks a (Over (how.Committed g.ticket versions)); known = learn_versions versions x.known })
   Drops : (wants : List Want) (g : Grant) (a : ℕ) (news : List News) → In (Told (told.Fenced n x.life g.ticket)) pool → (nth x.asks a ≡ Some (Finished wants g news))
-      → Act sha pool n x [] (record x { asks = set_nth x.asks a (Over how.Fenced) })
+      → Act sha pool n x [] (record x { asks = set_nth x.asks a (Over (how.Fenced g.ticket)) })
   Is_denied : (a : Ask) (why : Why) (wants : List Want) (tenure : Bool) → In (Told (told.Denied n x.life a why)) pool → (nth x.asks a.0 ≡ Some (Open wants tenure))
       → Act sha pool n x [] (record x { asks = set_nth x.asks a.0 (Over (how.Denied why)) })
   Is_recalled : (wants : List Want) (g : Grant) (a : ℕ) → In (Told (told.Recall n x.life g.ticket)) pool → (nth x.asks a ≡ Some (Holding wants g false))

@@ -1,5 +1,6 @@
 //! What the calls of coordinator, nodes and world answer.
-use farm_base::{Ask, Grant, Life, NodeId, Ticket, Why};
+use farm_base::{Ask, Confirmed, Copied, Grant, Items, Life, NodeId, Ticket, Why};
+use std::alloc::{AllocError, Global};
 use thiserror::Error;
 
 /// What the coordinator did.
@@ -111,14 +112,33 @@ pub enum Decision {
     Wait,
 }
 
-/// How an ask ended.
-#[derive(Clone, Copy, Debug, PartialEq, Eq)]
+/// How an ask ended, and what came of it.
+#[derive(Debug, Drop)]
 pub enum How {
     Denied(Why),
-    Committed,
-    Fenced,
+    /// The news count: these versions were made of them.
+    Committed {
+        ticket: Ticket,
+        versions: Items<Confirmed>,
+    },
+    /// The news don't count.
+    Fenced(Ticket),
     /// The lease was given back.
-    Other,
+    Released(Ticket),
+}
+
+impl Copied for How {
+    fn copy(&self, alloc: Global) -> Result<Self, AllocError> {
+        Ok(match self {
+            How::Denied(why) => How::Denied(*why),
+            How::Committed { ticket, versions } => How::Committed {
+                ticket: *ticket,
+                versions: versions.copy(alloc)?,
+            },
+            How::Fenced(ticket) => How::Fenced(*ticket),
+            How::Released(ticket) => How::Released(*ticket),
+        })
+    }
 }
 
 /// What a record holds after a save that failed.

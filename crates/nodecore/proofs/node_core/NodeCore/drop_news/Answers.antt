@@ -21,5 +21,5 @@ returns-clause-work c =
     let at : position (picks (finished c.args.ticket)) c.args.self.now.asks.items ≡ Some c.in-Some.index = search rules in
     let f : FirstAt (finished c.args.ticket) c.args.self.now.asks.items 0 c.in-Some.index = some_first (finished c.args.ticket) c.args.self.now.asks.items c.in-Some.index at in
     ap (dropped c.args.ticket (shown c.args.self.now)) (f.found (c.in-Some.index + 1) (omega arith))
-    ∙ ap (λ (y : Node). record { node = y; sends = []; note = note.Dropped c.args.ticket }) (becomes_at (shown c.args.self.now) c.args.self.now.asks.items c.in-Some.index (Over how.Fenced) (Over how.Fenced) refl refl)
+    ∙ ap (λ (y : Node). record { node = y; sends = []; note = note.Dropped c.args.ticket }) (becomes_at (shown c.args.self.now) c.args.self.now.asks.items c.in-Some.index (Over (how.Fenced c.args.ticket)) (Over (how.Fenced c.args.ticket)) refl refl)
     ∙ sym (ap (work_of _) c.silent-2.ensures)

@@ -7,6 +7,6 @@ use Rattle.nodecore.proofs.node_core.NodeCore.give_up.Goals as goal
 
 pub returns-clause-work : goal.returns-clause-work
 returns-clause-work c =
-    let node = becomes_at (shown c.args.self.now) c.args.self.now.asks.items c.args.index (Over how.Other) (Over how.Other) refl refl in
+    let node = becomes_at (shown c.args.self.now) c.args.self.now.asks.items c.args.index (Over (how.Released c.args.ticket)) (Over (how.Released c.args.ticket)) refl refl in
     let sends = sym c.in_ok-sends.ensures in
     λ j. record { node = node j; sends = sends j; note = c.args.note }

@@ -20,8 +20,7 @@ returns-in-Committed-clause-work c =
     let now : (m.life.0 == x.life.0) ≡ true = ap (λ (l : Life). l.0 == x.life.0) (sym life) ∙ same in
     subst (λ (w : NodeWork). Does w x (shown c.learn_news.new.self) c.learn_news.result)
     (sym (ap (λ (f : FromCoord). heard farm_limits (place c.args.self.now) f x) is
-    ∙ of_life_now m.life x (learned m.ticket m.versions x (first (finished m.ticket) x.asks 0)) now
-    ∙ ap (λ (vs : List Confirmed). learned m.ticket vs x (first (finished m.ticket) x.asks 0)) (sym c.as_slice.ensures)))
+    ∙ of_life_now m.life x (learned m.ticket m.versions x (first (finished m.ticket) x.asks 0)) now))
     c.learn_news.ensures.work
 
 pub returns-in-Fenced-clause-work : goal.returns-in-Fenced-clause-work
