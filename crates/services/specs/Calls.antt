@@ -8,7 +8,6 @@ use Rattle.farm_base.specs.declared.number.NodeId.{NodeId}
 use Rattle.farm_base.specs.declared.number.Ticket.{Ticket}
 use Rattle.farm_base.specs.Names.{slot_text, IsSlot}
 use Rattle.farm_base.specs.Slots.{SlotParts}
-use Rattle.farmwire.specs.declared.refusal.LineFault.{LineFault}
 use Rattle.farmwire.specs.declared.refusal.LineFault.TheVariants as line
 use Rattle.farmwire.specs.Sealed.{IsSealed, IsFault}
 use Rattle.protocol.specs.Lawful.{IsNumber, IsSaid}
@@ -17,10 +16,11 @@ use Rattle.services.specs.declared.call.Call.{Call}
 use Rattle.services.specs.declared.call.Call.TheVariants.{Handle, Withdraw, Retire, Prune, Nudge}
 use Rattle.services.specs.declared.call.Order.{Order}
 use Rattle.services.specs.declared.call.Order.TheVariants as order
-use Rattle.services.specs.declared.call.Unread.{Unread}
-use Rattle.services.specs.declared.call.Unread.TheVariants.{TooLong, BadMac, BadForm, NotMine, BadLine, OutOfMemory}
 use Rattle.services.specs.declared.lost.Lost.{Lost}
-use Rattle.services.specs.declared.lost.Lost.TheVariants as lost
+use Rattle.services.specs.declared.unread.Unread.{Unread}
+use Rattle.services.specs.declared.unread.Unread.TheVariants.{TooLong, BadMac, BadForm, NotMine, BadLine, OutOfMemory}
+use Rattle.services.specs.Outside.{from_outside}
+use Rattle.services.specs.Unreads.{lost_line}
 
 -- the call, as the protocol has it
 abbrev pub called : Call → process.Call
@@ -79,16 +79,7 @@ IsDropped key sealed NotMine = (message : ToNode) × IsSealed key sealed (to.ToN
 IsDropped key sealed BadLine = ⊥
 IsDropped key sealed OutOfMemory = Unit {0}
 
-abbrev pub unread_of : LineFault → Unread
-unread_of line.TooLong = TooLong
-unread_of line.BadMac = BadMac
-unread_of line.BadForm = BadForm
-unread_of line.OutOfMemory = OutOfMemory
-
 -- ---- a line
-
-abbrev pub from_outside : List ℕ → List ℕ
-from_outside sealed = codes "m " ++ sealed
 
 -- the line asks for the call
 pub data Asks (key text : List ℕ) (call : Call) : Type 0 where
@@ -115,11 +106,6 @@ abbrev pub IsUnread : List ℕ → List ℕ → Unread → Type 0
 IsUnread key text BadLine = IsBadLine text
 IsUnread key text OutOfMemory = Unit {0}
 IsUnread key text why = (sealed : List ℕ) × (text ≡ from_outside sealed) × IsDropped key sealed why
-
--- why a line that wasn't kept isn't carried out
-abbrev pub lost_line : Lost → Unread
-lost_line lost.TooLong = TooLong
-lost_line lost.OutOfMemory = OutOfMemory
 
 -- what was handed on asks for this
 abbrev pub AsksFor : List ℕ → Result (List ℕ) Lost → Order → Type 0

@@ -19,18 +19,3 @@ pub enum Order {
     /// The versions of this slot are to be shown.
     Line(Slot),
 }
-
-/// Why a line isn't carried out.
-#[derive(Clone, Copy, Debug, PartialEq, Eq)]
-pub enum Unread {
-    TooLong,
-    /// What stands behind `m ` is no text with its MAC.
-    BadMac,
-    /// The text behind `m ` spells no message.
-    BadForm,
-    /// The message is for a node.
-    NotMine,
-    /// It has no `m ` at its front, and isn't the operator's.
-    BadLine,
-    OutOfMemory,
-}

@@ -8,14 +8,16 @@ ghost use Rattle.farm_base.specs.Slots.{SlotParts};
 ghost use Rattle.protocol.specs.Lawful.{IsNumber};
 ghost use Rattle.services.specs.declared.call.Call.{Call};
 ghost use Rattle.services.specs.declared.call.Order.{Order};
-ghost use Rattle.services.specs.Calls.{withdraw_line, retire_line, from_outside, IsOwn, IsOperators, IsHeard, IsDropped, IsUnread, Orders, AsksFor, AsksNothing, unread_of, lost_line};
+ghost use Rattle.services.specs.Calls.{withdraw_line, retire_line, IsOwn, IsOperators, IsHeard, IsDropped, IsUnread, Orders, AsksFor, AsksNothing};
 
-use super::call::{Call, Order, Unread};
+use super::call::{Call, Order};
 use super::lost::Lost;
+use super::outside::from_outside;
+use super::unread::{Unread, lost_line, unread_of};
 use farm_base::laws::is_slot;
 use farm_base::reading::{after, number};
 use farm_base::{Items, Message, NODES, NodeId, Slot, SlotRefusal, Ticket};
-use farmwire::{FarmKey, LineFault, open};
+use farmwire::{FarmKey, open};
 use std::alloc::Global;
 
 /// The ticket of `withdraw T`.
@@ -111,18 +113,6 @@ fn own_order(alloc: Global, line: &str) -> Result<Order, Unread>
     }
 }
 
-/// Why what isn't opened isn't carried out.
-fn unread_of(fault: LineFault) -> Unread
-    ensures { result ≡ unread_of fault }
-{
-    match fault {
-        LineFault::TooLong => Unread::TooLong,
-        LineFault::BadMac => Unread::BadMac,
-        LineFault::BadForm => Unread::BadForm,
-        LineFault::OutOfMemory => Unread::OutOfMemory,
-    }
-}
-
 /// The call that a sealed line asks for.
 fn heard_call(alloc: Global, key: &FarmKey, sealed: &[u8]) -> Result<Call, Unread>
     ensures heard { IfOk result (IsHeard key.now sealed.now) }
@@ -132,17 +122,6 @@ fn heard_call(alloc: Global, key: &FarmKey, sealed: &[u8]) -> Result<Call, Unrea
         Ok(Message::ToCoord(message)) => Ok(Call::Handle(message)),
         Ok(Message::ToNode(_)) => Err(Unread::NotMine),
         Err(fault) => Err(unread_of(fault)),
-    }
-}
-
-/// What stands behind `m ` at the front of a line.
-fn from_outside(line: &[u8]) -> Option<&[u8]>
-    ensures found { IfSome result (λ sealed. line.now ≡ from_outside sealed.now) }
-    ensures only { IfNone result ((sealed : List ℕ) → line.now ≢ from_outside sealed) }
-{
-    match line {
-        [b'm', b' ', sealed @ ..] => Some(sealed),
-        _ => None,
     }
 }
 
@@ -157,16 +136,6 @@ fn order_of(alloc: Global, key: &FarmKey, line: &[u8]) -> Result<Order, Unread>
     match str::from_utf8(line) {
         Ok(line) => own_order(alloc, line),
         Err(_) => Err(Unread::BadLine),
-    }
-}
-
-/// Why a line that wasn't kept isn't carried out.
-fn lost_line(lost: Lost) -> Unread
-    ensures { result ≡ lost_line lost }
-{
-    match lost {
-        Lost::TooLong => Unread::TooLong,
-        Lost::OutOfMemory => Unread::OutOfMemory,
     }
 }
 

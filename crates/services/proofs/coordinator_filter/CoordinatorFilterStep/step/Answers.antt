@@ -1,7 +1,8 @@
 use Rattle.std.proofs.Common.{◌≡◌, refl}
 use Rattle.coordinator.specs.Held.{line_at}
 use Rattle.versions.specs.Lines.{line_shown}
-use Rattle.services.specs.Written.{unread_line, line_answer, IsWritten}
+use Rattle.services.specs.Unreads.{unread_line}
+use Rattle.services.specs.Written.{line_answer, IsWritten}
 use Rattle.services.specs.Written.Filters.{Calls, Stops, Shows, Drops}
 use Rattle.services.proofs.SentLemmas.{or_lost, lost_text}
 use Rattle.services.proofs.coordinator_filter.CoordinatorFilterStep.step.Goals as goal
