@@ -198,11 +198,7 @@ pub(crate) fn items_of<T: Item + Drop>(alloc: Global, words: &[&str]) -> Result<
 }
 
 /// Adds the words of these values, each behind a space.
-pub fn push_items<T: Item>(
-    alloc: Global,
-    text: &mut String,
-    items: &[T],
-) -> Result<(), AllocError>
+pub fn push_items<T: Item>(alloc: Global, text: &mut String, items: &[T]) -> Result<(), AllocError>
     ensures { OnOk result (string_bytes text.new ≡ string_bytes text.old ++ spaced (map T.spelling items.now)) }
 {
     for item in items {

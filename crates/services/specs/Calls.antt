@@ -16,6 +16,8 @@ use Rattle.services.specs.declared.call.Call.{Call}
 use Rattle.services.specs.declared.call.Call.TheVariants.{Handle, Withdraw, Retire, Prune, Nudge}
 use Rattle.services.specs.declared.call.Order.{Order}
 use Rattle.services.specs.declared.call.Order.TheVariants as order
+use Rattle.services.specs.declared.call.Question.{Question}
+use Rattle.services.specs.declared.call.Question.TheVariants.{Line, Status, Needed}
 use Rattle.services.specs.declared.lost.Lost.{Lost}
 use Rattle.services.specs.declared.unread.Unread.{Unread}
 use Rattle.services.specs.declared.unread.Unread.TheVariants.{TooLong, BadMac, BadForm, NotMine, BadLine, OutOfMemory}
@@ -60,6 +62,12 @@ IsOwn text (Retire node) = (text ≡ retire_line node) × IsNumber NODES node
 IsOwn text (Prune slot) = (text ≡ prune_line slot) × IsSlot slot
 IsOwn text Nudge = text ≡ codes "nudge"
 
+-- the line of a question
+abbrev pub IsQuestion : List ℕ → Question → Type 0
+IsQuestion text (Line slot) = (text ≡ line_line slot) × IsSlot slot
+IsQuestion text Status = text ≡ codes "status"
+IsQuestion text Needed = text ≡ codes "needed"
+
 -- ---- what came from outside
 
 -- what stands behind `m ` is the sealed line of what a node says
@@ -89,12 +97,12 @@ pub data Asks (key text : List ℕ) (call : Call) : Type 0 where
 -- the operator's line says this
 abbrev pub IsOperators : List ℕ → Order → Type 0
 IsOperators text (order.Call call) = IsOwn text call
-IsOperators text (order.Line slot) = (text ≡ line_line slot) × IsSlot slot
+IsOperators text (order.Show question) = IsQuestion text question
 
 -- the line asks for this
 abbrev pub Orders : List ℕ → List ℕ → Order → Type 0
 Orders key text (order.Call call) = Asks key text call
-Orders key text (order.Line slot) = IsUtf8 text × (text ≡ line_line slot) × IsSlot slot
+Orders key text (order.Show question) = IsUtf8 text × IsQuestion text question
 
 -- the line is neither from outside nor the operator's
 pub record IsBadLine (text : List ℕ) : Type 0 where

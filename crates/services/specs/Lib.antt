@@ -5,4 +5,5 @@ pub mod Outside
 pub mod Unreads
 pub mod Calls
 pub mod Carried
+pub mod Shown
 pub mod Written

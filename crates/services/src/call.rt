@@ -12,10 +12,20 @@ pub enum Call {
     Nudge,
 }
 
+/// What the operator may be shown.
+#[derive(Debug, Drop)]
+pub enum Question {
+    /// The versions of this slot.
+    Line(Slot),
+    /// Who holds which slots, who waits, and the rest of what the coordinator keeps.
+    Status,
+    /// The contents that must not be forgotten.
+    Needed,
+}
+
 /// What a line asks for.
 #[derive(Debug, Drop)]
 pub enum Order {
     Call(Call),
-    /// The versions of this slot are to be shown.
-    Line(Slot),
+    Show(Question),
 }

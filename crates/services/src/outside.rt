@@ -20,7 +20,11 @@ pub fn from_outside(line: &[u8]) -> Option<&[u8]>
 }
 
 /// The sealed line of a message, if it has one.
-pub fn line_of(alloc: Global, key: &FarmKey, message: &Message) -> Result<Option<String>, AllocError>
+pub fn line_of(
+    alloc: Global,
+    key: &FarmKey,
+    message: &Message,
+) -> Result<Option<String>, AllocError>
     ensures sealed { IfOk result (λ found. IfSome found (λ line. IsSealed key.now (string_bytes line) message.now)) }
     ensures none { IfOk result (λ found. IfNone found (HasNoLine key.now message.now)) }
 {

@@ -49,7 +49,12 @@ fn push_restart(
 }
 
 /// Adds some words and a number.
-pub fn push_number(alloc: Global, text: &mut String, words: &str, number: u64) -> Result<(), AllocError>
+pub fn push_number(
+    alloc: Global,
+    text: &mut String,
+    words: &str,
+    number: u64,
+) -> Result<(), AllocError>
     ensures { OnOk result (string_bytes text.new ≡ string_bytes text.old ++ (words.now ++ decimal number)) }
 {
     let number = number.to_string(alloc)?;

@@ -8,9 +8,10 @@ ghost use Rattle.farm_base.specs.Slots.{SlotParts};
 ghost use Rattle.protocol.specs.Lawful.{IsNumber};
 ghost use Rattle.services.specs.declared.call.Call.{Call};
 ghost use Rattle.services.specs.declared.call.Order.{Order};
-ghost use Rattle.services.specs.Calls.{withdraw_line, retire_line, IsOwn, IsOperators, IsHeard, IsDropped, IsUnread, Orders, AsksFor, AsksNothing};
+ghost use Rattle.services.specs.declared.call.Question.{Question};
+ghost use Rattle.services.specs.Calls.{withdraw_line, retire_line, IsOwn, IsQuestion, IsOperators, IsHeard, IsDropped, IsUnread, Orders, AsksFor, AsksNothing};
 
-use super::call::{Call, Order};
+use super::call::{Call, Order, Question};
 use super::lost::Lost;
 use super::outside::from_outside;
 use super::unread::{Unread, lost_line, unread_of};
@@ -100,6 +101,21 @@ fn own_call(alloc: Global, line: &str) -> Result<Call, Unread>
     Ok(Call::Prune(slot_behind(alloc, line, "prune ")?))
 }
 
+/// What the operator's line asks to be shown.
+fn own_question(alloc: Global, line: &str) -> Result<Question, Unread>
+    ensures found { IfOk result (IsQuestion line.now) }
+    ensures refused { IfErr result (λ why. why ≢ Unread.OutOfMemory → why ≡ Unread.BadLine) }
+    ensures only { result ≡ Err Unread.BadLine → (question : Question) → IsQuestion line.now question → ⊥ }
+{
+    if line == "status" {
+        return Ok(Question::Status);
+    }
+    if line == "needed" {
+        return Ok(Question::Needed);
+    }
+    Ok(Question::Line(slot_behind(alloc, line, "line ")?))
+}
+
 /// What the operator's line asks for.
 fn own_order(alloc: Global, line: &str) -> Result<Order, Unread>
     ensures found { IfOk result (IsOperators line.now) }
@@ -108,7 +124,7 @@ fn own_order(alloc: Global, line: &str) -> Result<Order, Unread>
 {
     match own_call(alloc, line) {
         Ok(call) => Ok(Order::Call(call)),
-        Err(Unread::BadLine) => Ok(Order::Line(slot_behind(alloc, line, "line ")?)),
+        Err(Unread::BadLine) => Ok(Order::Show(own_question(alloc, line)?)),
         Err(_) => Err(Unread::OutOfMemory),
     }
 }

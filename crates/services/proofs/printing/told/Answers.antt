@@ -17,6 +17,6 @@ loop-message-preserved c =
       told = (
         told.0 ++ message ∷ [],
         told.1 ∙ ap (λ more. told.0 ++ more) first ∙ sym (append_assoc told.0 (message ∷ []) rest),
-        cc (map-append Told told.0 (message ∷ [])),
+        c.in_ok-push.ensures.items ∙ ap (λ done. done ++ Told message ∷ []) told.2 ∙ sym (map-append Told told.0 (message ∷ [])),
       );
     }
