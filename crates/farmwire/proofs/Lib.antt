@@ -1,9 +1,9 @@
-mod ListLemmas
-mod MacLemmas
-mod PlainLemmas
-mod Spelling
-mod SpelledLemmas
-mod UniqueLemmas
-mod WantLemmas
-mod WordLemmas
-mod WriteLemmas
+pub mod ListLemmas
+pub mod MacLemmas
+pub mod PlainLemmas
+pub mod Spelling
+pub mod SpelledLemmas
+pub mod UniqueLemmas
+pub mod WantLemmas
+pub mod WordLemmas
+pub mod WriteLemmas

@@ -6,7 +6,7 @@ use Rattle.std.specs.List.Sorted.{IsStrictlySortedBy}
 use Rattle.std.specs.Ordering.{is_lt, ordering_reverse}
 use Rattle.std.specs.declared.cmp.Ordering.TheVariants.{Less, Greater}
 use Rattle.std.proofs.lemmas.List.{get_or-map, length-map}
-use Rattle.std.proofs.lemmas.List.Sorted.{Contains-permutation, IsPermutation-sym}
+use Rattle.std.proofs.lemmas.List.Sorted.{Contains-permutation, IsPermutation-sym, length_permutation}
 use Rattle.std.proofs.lemmas.Map.Keys.{Less-from_sorted, sorted_head, sorted_tail}
 use Rattle.farm_base.specs.declared.folder.FolderName.{FolderName}
 use Rattle.farm_base.specs.declared.want.Want.{Want}
@@ -14,12 +14,12 @@ use Rattle.farm_base.specs.declared.want.WantsRefusal.{WantsRefusal}
 use Rattle.farm_base.specs.declared.want.WantsRefusal.TheVariants.{TooManyWants, SameFolderTwice, OutOfMemory}
 use Rattle.farm_base.specs.Folders.{folder_cmp, folder_eq}
 use Rattle.farm_base.specs.Wanted.{folders}
-use Rattle.farm_base.proofs.WantLemmas.{folder_total, distinct-from_sorted, not_less, IsRising}
+use Rattle.farm_base.proofs.WantLemmas.{folder_total, distinct-from_sorted, distinct-permutation, not_less, IsRising}
 use Rattle.farmwire.specs.declared.refusal.ReadRefusal.TheVariants.{BadForm}
 use Rattle.farmwire.specs.Lawful.{IsWant}
 use Rattle.farmwire.specs.Lines.{want_text}
 use Rattle.farmwire.specs.Refusals.{wants_refusal}
-use Rattle.farmwire.specs.Words.{SpellWants}
+use Rattle.farmwire.specs.Words.{SpellWants, SpellGiven}
 use Rattle.farmwire.proofs.ListLemmas.{map-injective}
 use Rattle.farmwire.proofs.Spelling.{want_same}
 
@@ -59,6 +59,31 @@ unlawful r TooManyWants n ws given wants was bad many twice len each e h =
 unlawful r SameFolderTwice n ws given wants was bad many twice len each e h =
     (twice.0 was).1 (rw (given_same ws given wants each e h) (distinct-from_sorted wants h.lawful.1.1))
 unlawful r OutOfMemory n ws given wants was bad many twice len each e h = cc bad
+
+-- ---- wants that are given in any order
+
+-- the wants that some words give, if they are lawful
+lawful_given : (ws : List (List ℕ)) (given wants : List Want) → All IsWant given → ws ≡ map want_text given → SpellGiven ws wants
+    → (length given ≤ 16) × IsDistinct folder_eq (folders given)
+lawful_given ws given wants each e h =
+    let same : given ≡ h.given = map-injective want_text IsWant want_same given h.given each h.each (sym e ∙ h.text) in
+    let len = length_permutation h.given wants h.sorted in
+    let few = h.lawful.0 in
+    let distinct = distinct-permutation wants h.given (IsPermutation-sym h.given wants h.sorted) (distinct-from_sorted wants h.lawful.1) in
+    rw same (omega arith, distinct)
+
+-- wants that are refused are not lawful
+pub none_given : {T : Type 0} (r : Result T WantsRefusal) (d : WantsRefusal) (n : ℕ) (ws : List (List ℕ)) (given wants : List Want)
+    → r ≡ Err d → wants_refusal d ≡ BadForm
+    → (IsErrOf r TooManyWants ↔ (16 < n)) → (IsErrOf r SameFolderTwice ↔ ((n ≤ 16) × (IsDistinct folder_eq (folders given) → ⊥)))
+    → n ≡ length given → All IsWant given → ws ≡ map want_text given → SpellGiven ws wants → ⊥
+none_given r TooManyWants n ws given wants was bad many twice len each e h =
+    let few = (lawful_given ws given wants each e h).0 in
+    let over = many.0 was in
+    omega arith
+none_given r SameFolderTwice n ws given wants was bad many twice len each e h =
+    (twice.0 was).1 (lawful_given ws given wants each e h).1
+none_given r OutOfMemory n ws given wants was bad many twice len each e h = cc bad
 
 -- ---- two lists with the same wants
 

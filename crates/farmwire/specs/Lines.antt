@@ -8,6 +8,7 @@ use Rattle.farm_base.specs.declared.digest.Digest.{Digest}
 use Rattle.farm_base.specs.declared.message.Confirmed.{Confirmed}
 use Rattle.farm_base.specs.declared.message.FromCoord.{FromCoord}
 use Rattle.farm_base.specs.declared.message.FromCoord.TheVariants.{Granted, Committed, Fenced, Denied, Recall}
+use Rattle.farm_base.specs.declared.message.Grant.{Grant}
 use Rattle.farm_base.specs.declared.message.GrantedSlot.{GrantedSlot}
 use Rattle.farm_base.specs.declared.message.Message.{Message}
 use Rattle.farm_base.specs.declared.message.Message.TheVariants as to
@@ -107,11 +108,14 @@ said_words n l (Acquire a wants true) = codes "tenure" ∷ node_text n ∷ life_
 said_words n l (Commit t news) = codes "commit" ∷ node_text n ∷ life_text l ∷ ticket_text t ∷ map news_text news
 said_words n l (Release t) = codes "release" ∷ node_text n ∷ life_text l ∷ ticket_text t ∷ []
 
+-- N L A T KIND [ro=]SLOT=BASE:DIGEST..
+abbrev pub grant_words : Grant → List (List ℕ)
+grant_words g =
+    node_text g.node ∷ life_text g.life ∷ ask_text g.ask ∷ ticket_text g.ticket ∷ kind_text g.shared g.tenure ∷ map granted_text g.slots
+
 -- the words of what the coordinator tells
 abbrev pub told_words : FromCoord → List (List ℕ)
-told_words (Granted g) =
-    codes "granted" ∷ node_text g.node ∷ life_text g.life ∷ ask_text g.ask ∷ ticket_text g.ticket
-    ∷ kind_text g.shared g.tenure ∷ map granted_text g.slots
+told_words (Granted g) = codes "granted" ∷ grant_words g
 told_words (Committed n l t versions) = codes "committed" ∷ node_text n ∷ life_text l ∷ ticket_text t ∷ map confirmed_text versions
 told_words (Fenced n l t) = codes "fenced" ∷ node_text n ∷ life_text l ∷ ticket_text t ∷ []
 told_words (Denied n l a why) = codes "denied" ∷ node_text n ∷ life_text l ∷ ask_text a ∷ why_text why ∷ []

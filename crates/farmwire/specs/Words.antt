@@ -1,5 +1,5 @@
 -- What the words of a text say: a verb, and after it what the verb takes.
-use Rattle.std.specs.Prelude.{◌≡◌, ℕ, ◌==◌, Bool, false, true, List, [], ◌∷◌, ◌++◌, map, codes}
+use Rattle.std.specs.Prelude.{◌≡◌, ℕ, ◌==◌, Bool, false, true, List, [], ◌∷◌, ◌++◌, map, codes, IsPermutation}
 use Rattle.std.specs.List.{All, slice_split}
 use Rattle.std.specs.Borrow.{Bor}
 use Rattle.farm_base.specs.declared.digest.Digest.{Digest}
@@ -23,9 +23,10 @@ use Rattle.farm_base.specs.declared.number.Ticket.{Ticket}
 use Rattle.farm_base.specs.declared.want.Want.{Want}
 use Rattle.farm_base.specs.Digests.{IsBytes, IsDigest}
 use Rattle.farm_base.specs.Names.{folder_text, IsName}
+use Rattle.farm_base.specs.Wanted.{IsWants}
 use Rattle.farmwire.specs.declared.verb.Verb.{Verb}
 use Rattle.farmwire.specs.declared.verb.Verb.TheVariants.{Hello, Acquire, Tenure, Commit, Release, Granted, Committed, Fenced, Denied, Recall, Fetch, Blob}
-use Rattle.farmwire.specs.Lawful.{IsNode, IsLife, IsAsk, IsTicket, IsKind, AreWants, IsNews, IsConfirmed, IsGranted}
+use Rattle.farmwire.specs.Lawful.{IsNode, IsLife, IsAsk, IsTicket, IsKind, IsWant, AreWants, IsNews, IsConfirmed, IsGranted}
 use Rattle.farmwire.specs.Lines.{node_text, life_text, ask_text, ticket_text, digits_text, bytes_text, want_text, news_text, confirmed_text, granted_text, kind_text, why_text}
 
 -- the words of a text: what stands between its spaces
@@ -83,6 +84,14 @@ pub record SpellAll {X : Type 0} (spelling : X → List ℕ) (Is : X → Type 0)
 pub record SpellWants (ws : List (List ℕ)) (wants : List Want) : Type 0 where
   pub lawful : AreWants wants
   pub text : ws ≡ map want_text wants
+
+-- FOLDER.., in any order: the wants by rising folder
+pub record SpellGiven (ws : List (List ℕ)) (wants : List Want) : Type 0 where
+  pub given : List Want
+  pub each : All IsWant given
+  pub text : ws ≡ map want_text given
+  pub sorted : IsPermutation given wants
+  pub lawful : IsWants wants
 
 -- N L
 pub record Hellos (ws : List (List ℕ)) (m : Message) : Type 0 where

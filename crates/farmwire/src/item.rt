@@ -1,4 +1,4 @@
-//! What stands in a line any number of times, one word each.
+//! What stands in a line any number of times, one word each, for the grammars of the layers above too.
 ghost use Rattle.std.specs.Prelude.{◌≡◌, ◌≢◌, ℕ, ◌<◌, ◌^◌, List, ◌++◌, map, IfOk, OnOk, IfSome, IfNone};
 ghost use Rattle.std.specs.List.{All};
 ghost use Rattle.std.specs.String.{string_bytes};
@@ -10,13 +10,13 @@ ghost use Rattle.farm_base.specs.declared.want.Want.{Want};
 ghost use Rattle.farm_base.specs.Digests.{IsDigest};
 ghost use Rattle.farmwire.specs.Lawful.{IsWant, IsNews, IsConfirmed, IsGranted};
 ghost use Rattle.farmwire.specs.Lines.{want_text, news_text, confirmed_text, granted_text, version_text};
-ghost use Rattle.farmwire.specs.Words.{texts, spaced, SpellAll};
+ghost use Rattle.farmwire.specs.Words.{texts, spaced, SpellAll, SpellGiven};
 
 use super::refusal::ReadRefusal;
 use super::word::{access_of, digest_of, folder_of, last_split, slot_of};
 use farm_base::laws::{is_name, is_slot};
 use farm_base::reading::{number, split};
-use farm_base::{Confirmed, Digest, GrantedSlot, Key, News, Want};
+use farm_base::{Confirmed, Digest, GrantedSlot, Key, News, Want, Wants};
 use std::alloc::{AllocError, Global};
 
 /// A value that one word spells.
@@ -186,7 +186,7 @@ impl Item for GrantedSlot {
 }
 
 /// The values of these words, one for each word.
-pub(crate) fn items_of<T: Item + Drop>(alloc: Global, words: &[&str]) -> Result<Vec<T>, ReadRefusal>
+pub fn items_of<T: Item + Drop>(alloc: Global, words: &[&str]) -> Result<Vec<T>, ReadRefusal>
     ensures spelled { IfOk result (λ items. SpellAll T.spelling T.lawful (texts words.now) items.items) }
     ensures only { result ≡ Err ReadRefusal.BadForm → (items : List T) → SpellAll T.spelling T.lawful (texts words.now) items → ⊥ }
 {
@@ -197,8 +197,21 @@ pub(crate) fn items_of<T: Item + Drop>(alloc: Global, words: &[&str]) -> Result<
     Ok(items)
 }
 
+/// The wants of these words, which stand in any order.
+pub fn given_wants(alloc: Global, words: &[&str]) -> Result<Wants, ReadRefusal>
+    ensures spelled { IfOk result (SpellGiven (texts words.now)) }
+    ensures only { result ≡ Err ReadRefusal.BadForm → (wants : List Want) → SpellGiven (texts words.now) wants → ⊥ }
+{
+    let wants: Vec<Want> = items_of(alloc, words)?;
+    Ok(Wants::of(wants)?)
+}
+
 /// Adds the words of these values, each behind a space.
-pub fn push_items<T: Item>(alloc: Global, text: &mut String, items: &[T]) -> Result<(), AllocError>
+pub fn push_items<T: Item>(
+    alloc: Global,
+    text: &mut String,
+    items: &[T],
+) -> Result<(), AllocError>
     ensures { OnOk result (string_bytes text.new ≡ string_bytes text.old ++ spaced (map T.spelling items.now)) }
 {
     for item in items {
@@ -209,7 +222,7 @@ pub fn push_items<T: Item>(alloc: Global, text: &mut String, items: &[T]) -> Res
 }
 
 /// Each of these values is lawful.
-pub(crate) fn are_lawful<T: Item>(items: &[T])
+pub fn are_lawful<T: Item>(items: &[T])
     ensures { All T.lawful items.now }
 {
     for item in items {

@@ -2,14 +2,14 @@
 #![tactic(auto)]
 
 mod hmac;
-mod item;
+pub mod item;
 mod lawful;
 pub mod laws;
 mod reading;
 mod refusal;
 mod sealing;
 mod verb;
-mod word;
+pub mod word;
 mod writing;
 
 pub use hmac::{FarmKey, mac};
@@ -18,4 +18,4 @@ pub use lawful::is_lawful;
 pub use reading::read;
 pub use refusal::{KeyRefusal, LineFault, ReadRefusal, SealRefusal, WriteRefusal};
 pub use sealing::{LINE_LIMIT, open, seal};
-pub use writing::{kind_name, why_name, write};
+pub use writing::{kind_name, push_grant, push_number, push_word, why_name, write};

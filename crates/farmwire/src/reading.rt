@@ -17,13 +17,13 @@ use super::item::items_of;
 use super::refusal::ReadRefusal;
 use super::verb::{Verb, verb_of};
 use super::word::{
-    ask_of, bytes_of, digest_of, folder_of, kind_of, life_of, node_of, ticket_of, why_of,
+    ask_of, bytes_of, digest_of, folder_of, kind_of, life_of, node_of, ticket_of, why_of, words_of,
 };
 use farm_base::{
     Content, Fetch, FromCoord, Grant, Items, Life, Message, Mode, NodeId, Request, Ticket, ToCoord,
     ToNode, Want, Wants,
 };
-use std::alloc::{AllocError, Global};
+use std::alloc::Global;
 
 /// What a life of a node says.
 fn said(node: NodeId, life: Life, request: Request) -> Message
@@ -292,13 +292,6 @@ fn said_by(alloc: Global, verb: Verb, words: &[&str]) -> Result<Message, ReadRef
         Verb::Fetch => fetch_of(words),
         Verb::Blob => blob_of(alloc, words),
     }
-}
-
-/// The words of a text.
-fn words_of<'a>(alloc: Global, text: &'a str) -> Result<Vec<&'a str>, AllocError>
-    ensures { IfOk result (λ v. texts v.items ≡ words text.now) }
-{
-    text.split(' ').collect(alloc)
 }
 
 /// The message that these words spell.

@@ -1,4 +1,4 @@
-//! The words of a text.
+//! The words of a text, for the grammars of the layers above too.
 ghost use Rattle.std.specs.Prelude.{◌≡◌, ◌≢◌, ℕ, ◌<◌, Bool, List, ◌++◌, ◌∷◌, slice_index, IfOk, IfSome, IfNone};
 ghost use Rattle.farm_base.specs.declared.digest.Digest.{Digest};
 ghost use Rattle.farm_base.specs.declared.folder.FolderName.{FolderName};
@@ -13,6 +13,7 @@ ghost use Rattle.farm_base.specs.Names.{folder_text, slot_text, IsName, IsSlot};
 ghost use Rattle.farm_base.specs.Slots.{SlotParts};
 ghost use Rattle.std.specs.Prelude.{decimal};
 ghost use Rattle.farmwire.specs.Lawful.{IsNode, IsCounted, IsLife, IsAsk, IsTicket, IsKind};
+ghost use Rattle.farmwire.specs.Words.{texts, words};
 ghost use Rattle.farmwire.specs.Lines.{node_text, life_text, ask_text, ticket_text, digits_text, bytes_text, access_text, kind_text, why_text};
 
 use super::refusal::ReadRefusal;
@@ -24,10 +25,10 @@ use farm_base::{
     Ask, Digest, FolderName, FolderRefusal, Key, Life, NODES, NodeId, Slot, SlotRefusal, Ticket,
     Why,
 };
-use std::alloc::Global;
+use std::alloc::{AllocError, Global};
 
 /// The node of a word.
-pub(crate) fn node_of(word: &str) -> Option<NodeId>
+pub fn node_of(word: &str) -> Option<NodeId>
     ensures found { IfSome result (λ node. word.now ≡ node_text node) }
     ensures fits { IfSome result IsNode }
     ensures only { IfNone result ((node : NodeId) → IsNode node → word.now ≢ node_text node) }
@@ -51,7 +52,7 @@ fn counted(word: &str) -> Option<u64>
 }
 
 /// The life of a word.
-pub(crate) fn life_of(word: &str) -> Option<Life>
+pub fn life_of(word: &str) -> Option<Life>
     ensures found { IfSome result (λ life. word.now ≡ life_text life) }
     ensures fits { IfSome result IsLife }
     ensures only { IfNone result ((life : Life) → IsLife life → word.now ≢ life_text life) }
@@ -60,7 +61,7 @@ pub(crate) fn life_of(word: &str) -> Option<Life>
 }
 
 /// The ask of a word.
-pub(crate) fn ask_of(word: &str) -> Option<Ask>
+pub fn ask_of(word: &str) -> Option<Ask>
     ensures found { IfSome result (λ ask. word.now ≡ ask_text ask) }
     ensures fits { IfSome result IsAsk }
     ensures only { IfNone result ((ask : Ask) → IsAsk ask → word.now ≢ ask_text ask) }
@@ -69,7 +70,7 @@ pub(crate) fn ask_of(word: &str) -> Option<Ask>
 }
 
 /// The ticket of a word.
-pub(crate) fn ticket_of(word: &str) -> Option<Ticket>
+pub fn ticket_of(word: &str) -> Option<Ticket>
     ensures found { IfSome result (λ ticket. word.now ≡ ticket_text ticket) }
     ensures fits { IfSome result IsTicket }
     ensures only { IfNone result ((ticket : Ticket) → IsTicket ticket → word.now ≢ ticket_text ticket) }
@@ -78,7 +79,7 @@ pub(crate) fn ticket_of(word: &str) -> Option<Ticket>
 }
 
 /// The digest of a word.
-pub(crate) fn digest_of(word: &str) -> Option<Digest>
+pub fn digest_of(word: &str) -> Option<Digest>
     ensures found { IfSome result (λ digest. word.now ≡ digits_text digest) }
     ensures fits { IfSome result IsDigest }
     ensures only { IfNone result ((digest : Digest) → IsDigest digest → word.now ≢ digits_text digest) }
@@ -91,7 +92,7 @@ pub(crate) fn digest_of(word: &str) -> Option<Digest>
 }
 
 /// Whether the wants have a SHARED folder, and whether the lease is its tenure.
-pub(crate) fn kind_of(word: &str) -> Option<(bool, bool)>
+pub fn kind_of(word: &str) -> Option<(bool, bool)>
     ensures found { IfSome result (λ kind. (word.now ≡ kind_text kind.0 kind.1) × IsKind kind.0 kind.1) }
     ensures only { IfNone result ((shared tenure : Bool) → IsKind shared tenure → word.now ≢ kind_text shared tenure) }
 {
@@ -104,7 +105,7 @@ pub(crate) fn kind_of(word: &str) -> Option<(bool, bool)>
 }
 
 /// Why an ask is denied.
-pub(crate) fn why_of(word: &str) -> Option<Why>
+pub fn why_of(word: &str) -> Option<Why>
     ensures found { IfSome result (λ why. word.now ≡ why_text why) }
     ensures only { IfNone result ((why : Why) → word.now ≢ why_text why) }
 {
@@ -116,7 +117,7 @@ pub(crate) fn why_of(word: &str) -> Option<Why>
 }
 
 /// What stands behind `ro=`, or the whole word, and whether it may be written.
-pub(crate) fn access_of(word: &str) -> (&str, bool)
+pub fn access_of(word: &str) -> (&str, bool)
     ensures spelled { word.now ≡ access_text result.1 ++ result.0.now }
     ensures only { (writable : Bool) (rest : List ℕ) → slice_index rest 0 ≢ 114 → word.now ≡ access_text writable ++ rest
         → (result.1 ≡ writable) × (result.0.now ≡ rest) }
@@ -128,7 +129,7 @@ pub(crate) fn access_of(word: &str) -> (&str, bool)
 }
 
 /// The folder of a word.
-pub(crate) fn folder_of(alloc: Global, word: &str) -> Result<FolderName, ReadRefusal>
+pub fn folder_of(alloc: Global, word: &str) -> Result<FolderName, ReadRefusal>
     ensures spelled { IfOk result (λ folder. word.now ≡ folder_text folder) }
     ensures name { IfOk result IsName }
     ensures only { result ≡ Err ReadRefusal.BadForm → (folder : FolderName) → IsName folder → word.now ≢ folder_text folder }
@@ -144,7 +145,7 @@ pub(crate) fn folder_of(alloc: Global, word: &str) -> Result<FolderName, ReadRef
 }
 
 /// The slot of a word.
-pub(crate) fn slot_of(alloc: Global, word: &str) -> Result<Slot, ReadRefusal>
+pub fn slot_of(alloc: Global, word: &str) -> Result<Slot, ReadRefusal>
     ensures spelled { IfOk result (λ slot. word.now ≡ slot_text slot) }
     ensures slot { IfOk result IsSlot }
     ensures only { result ≡ Err ReadRefusal.BadForm → (slot : SlotParts) → IsSlot slot → word.now ≢ slot_text slot }
@@ -160,7 +161,7 @@ pub(crate) fn slot_of(alloc: Global, word: &str) -> Result<Slot, ReadRefusal>
 }
 
 /// The bytes of a word.
-pub(crate) fn bytes_of(alloc: Global, word: &str) -> Result<Vec<u8>, ReadRefusal>
+pub fn bytes_of(alloc: Global, word: &str) -> Result<Vec<u8>, ReadRefusal>
     ensures spelled { IfOk result (λ bytes. word.now ≡ bytes_text bytes.items) }
     ensures bytes { IfOk result (λ bytes. IsBytes bytes.items) }
     ensures only { result ≡ Err ReadRefusal.BadForm → (bytes : List ℕ) → IsBytes bytes → word.now ≢ bytes_text bytes }
@@ -173,10 +174,17 @@ pub(crate) fn bytes_of(alloc: Global, word: &str) -> Result<Vec<u8>, ReadRefusal
 }
 
 /// The parts before and after the last occurrence of a character.
-pub(crate) fn last_split<'a>(text: &'a str, at: char) -> Option<(&'a str, &'a str)>
+pub fn last_split<'a>(text: &'a str, at: char) -> Option<(&'a str, &'a str)>
     requires { at < 128 }
     ensures found { IfSome result (λ parts. (text.now ≡ parts.0.now ++ at ∷ parts.1.now) × Lacks at parts.1.now) }
     ensures only { IfNone result (Lacks at text.now) }
 {
     text.rsplit_once(at)
+}
+
+/// The words of a text.
+pub fn words_of<'a>(alloc: Global, text: &'a str) -> Result<Vec<&'a str>, AllocError>
+    ensures { IfOk result (λ v. texts v.items ≡ words text.now) }
+{
+    text.split(' ').collect(alloc)
 }

@@ -2,7 +2,7 @@
 ghost use Rattle.std.specs.Prelude.{◌≡◌, ℕ, List, [], ◌∷◌, ◌++◌, map, codes, decimal, Bool, true, false, IfOk, OnOk};
 ghost use Rattle.std.specs.String.{string_bytes};
 ghost use Rattle.farmwire.specs.Lawful.{IsLawful, IsKind};
-ghost use Rattle.farmwire.specs.Lines.{node_text, life_text, digits_text, bytes_text, kind_text, why_text, tenure_text, said_words, told_words, message_words};
+ghost use Rattle.farmwire.specs.Lines.{node_text, life_text, digits_text, bytes_text, kind_text, why_text, tenure_text, grant_words, said_words, told_words, message_words};
 ghost use Rattle.farmwire.specs.Sealed.{IsSpelled};
 ghost use Rattle.farmwire.specs.Words.{spaced, line_of, joined};
 ghost use Rattle.farm_base.specs.declared.message.FromCoord.TheVariants.{Granted};
@@ -17,16 +17,16 @@ use farm_base::{
 };
 use std::alloc::{AllocError, Global};
 
-/// Adds a word.
-fn push_word(text: &mut String, word: &str) -> Result<(), AllocError>
+/// Adds a word behind a space.
+pub fn push_word(text: &mut String, word: &str) -> Result<(), AllocError>
     ensures { OnOk result (string_bytes text.new ≡ string_bytes text.old ++ spaced (word.now ∷ [])) }
 {
     text.push(' ')?;
     text.push_str(word)
 }
 
-/// Adds a number.
-fn push_number(alloc: Global, text: &mut String, value: u64) -> Result<(), AllocError>
+/// Adds a number behind a space.
+pub fn push_number(alloc: Global, text: &mut String, value: u64) -> Result<(), AllocError>
     ensures { OnOk result (string_bytes text.new ≡ string_bytes text.old ++ spaced (decimal value ∷ [])) }
 {
     let digits = value.to_string(alloc)?;
@@ -125,14 +125,24 @@ pub fn why_name(why: Why) -> &'static str
     }
 }
 
+/// Adds what a grant says, without its verb.
+pub fn push_grant(alloc: Global, text: &mut String, grant: &Grant) -> Result<(), AllocError>
+    ensures { OnOk result (string_bytes text.new ≡ string_bytes text.old ++ spaced (grant_words grant.now)) }
+{
+    push_number(alloc, text, grant.node.0 as u64)?;
+    push_number(alloc, text, grant.life.0)?;
+    push_number(alloc, text, grant.ask.0)?;
+    push_number(alloc, text, grant.ticket.0)?;
+    push_word(text, kind_name(grant.shared, grant.tenure))?;
+    push_items(alloc, text, grant.slots.as_slice())
+}
+
 /// A grant.
 fn grant_text(alloc: Global, grant: &Grant) -> Result<String, AllocError>
     ensures { IfOk result (λ text. string_bytes text ≡ joined (told_words (Granted grant.now))) }
 {
-    let mut text = numbered(alloc, "granted", grant.node, grant.life, grant.ask.0)?;
-    push_number(alloc, &mut text, grant.ticket.0)?;
-    push_word(&mut text, kind_name(grant.shared, grant.tenure))?;
-    push_items(alloc, &mut text, grant.slots.as_slice())?;
+    let mut text = String::from_str(alloc, "granted")?;
+    push_grant(alloc, &mut text, grant)?;
     Ok(text)
 }
 
