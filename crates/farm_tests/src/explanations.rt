@@ -6,7 +6,7 @@ use std::alloc::Global;
 use std::test::Fail;
 
 /// Schedules, their lines separated by semicolons, and what `--explain` says of them.
-const SCHEDULES: [(&str, &str); 20] = [
+const SCHEDULES: [(&str, &str); 21] = [
     ("nodes 1; nudge", ""),
     (
         "nodes 1025",
@@ -18,7 +18,7 @@ const SCHEDULES: [(&str, &str); 20] = [
     ),
     (
         "nodes 2; nudge; build 1",
-        "F: line 3: 'build' is no event: an ask, a tenure, deliver, begin, finish, abort, resend, restart, forge, nudge, withdraw, prune, retire or fail\n",
+        "F: line 3: 'build' is no event: an ask, a tenure, deliver, begin, finish, abort, resend, restart, forge, forget, nudge, withdraw, prune, retire or fail\n",
     ),
     (
         "nodes 2; deliver  1",
@@ -67,6 +67,10 @@ const SCHEDULES: [(&str, &str); 20] = [
     (
         "nodes 2; finish 1 1 locked:a",
         "F: line 2: 'locked:a' is no slot with its content: 'SLOT=HEX', where HEX may be empty\n",
+    ),
+    (
+        "nodes 2; forget 1 616263",
+        "F: line 2: '616263' is no digest: 64 hexadecimal digits, 0 to 9 and a to f\n",
     ),
     (
         "nodes 2; finish 1 1 locked:a=616",

@@ -273,7 +273,7 @@ fn what_cannot_be_written(rt: HostRuntime) -> Result<(), Fail> {
 
 /// Schedules, their lines separated by semicolons, and lines that their replay prints. `EMPTY` and `ABC` stand for
 /// the digits of the SHA-256 of nothing and of `abc`.
-pub(crate) const REPLAYS: [(&str, &[&str]); 14] = [
+pub(crate) const REPLAYS: [(&str, &[&str]); 15] = [
     // The second node waits, and begins from what the first left.
     (
         "nodes 2; ask 1 locked:apt; ask 2 locked:apt; deliver 1; deliver 2; deliver 3; begin 1 1; finish 1 1 locked:apt=; deliver 4; deliver 6",
@@ -433,6 +433,31 @@ pub(crate) const REPLAYS: [(&str, &[&str]); 14] = [
             "9 granted 3 private:npm#2=0 -> 6",
         ],
     ),
+    // What is forgotten is fetched again, and what an ask needs isn't forgotten.
+    (
+        "nodes 2; ask 1 locked:apt; deliver 1; deliver 2; begin 1 1; finish 1 1 locked:apt=616263; forget 1 ba7816bf8f01cfea414140de5dae2223b00361a396177a9cb410ff61f20015ad; deliver 3; deliver 4; ask 2 locked:apt; deliver 5; deliver 6; deliver 7; deliver 8; forget 2 ba7816bf8f01cfea414140de5dae2223b00361a396177a9cb410ff61f20015ad; begin 2 2; forget 2 ba7816bf8f01cfea414140de5dae2223b00361a396177a9cb410ff61f20015ad; abort 2 2; forget 2 ba7816bf8f01cfea414140de5dae2223b00361a396177a9cb410ff61f20015ad; forget 2 ba7816bf8f01cfea414140de5dae2223b00361a396177a9cb410ff61f20015ad; deliver 9; ask 2 locked:apt; deliver 10; deliver 11; begin 2 3; deliver 12; deliver 13; begin 2 3; forget 1 ba7816bf8f01cfea414140de5dae2223b00361a396177a9cb410ff61f20015ad; forget 1 e3b0c44298fc1c149afbf4c8996fb92427ae41e4649b934ca495991b7852b855; forget 3 ba7816bf8f01cfea414140de5dae2223b00361a396177a9cb410ff61f20015ad",
+        &[
+            "5 finished 1 -> 3",
+            "6 refused Needed",
+            "8 learned 1",
+            "13 blob taken",
+            "14 refused Needed",
+            "15 begun 2",
+            "16 refused Needed",
+            "17 aborted 2 -> 9",
+            "18 forgot",
+            "19 refused NoSuchContent",
+            "23 took 3 locked:apt=1 -> 12",
+            "24 refused ContentsMissing",
+            "25 sent blob -> 13",
+            "26 blob taken",
+            "27 begun 3",
+            "28 forgot",
+            "29 refused NoSuchContent",
+            "30 refused NoSuchNode",
+            "locked:apt 1:1:ABC",
+        ],
+    ),
 ];
 
 const EMPTY: &str = "e3b0c44298fc1c149afbf4c8996fb92427ae41e4649b934ca495991b7852b855";
@@ -517,7 +542,7 @@ fn what_restarts_come_to(rt: HostRuntime) -> Result<(), Fail> {
 }
 
 /// Texts that are not schedules, and what is printed for each.
-const NO_SCHEDULES: [(&str, &str); 13] = [
+const NO_SCHEDULES: [(&str, &str); 17] = [
     ("", "refused BadLine 1\n"),
     ("nodes 0", "refused BadLine 1\n"),
     ("nodes 1025", "refused BadLine 1\n"),
@@ -533,6 +558,19 @@ const NO_SCHEDULES: [(&str, &str); 13] = [
     ("nodes 1; tenure 1 locked:a", "refused BadLine 2\n"),
     ("nodes 1; home 1", "refused BadLine 2\n"),
     ("nodes 1; nudge ; ask 1", "refused BadLine 2\n"),
+    ("nodes 1; forget 1", "refused BadLine 2\n"),
+    (
+        "nodes 1; forget 1 ba7816bf8f01cfea414140de5dae2223b00361a396177a9cb410ff61f20015a",
+        "refused BadLine 2\n",
+    ),
+    (
+        "nodes 1; forget 1 ba7816bf8f01cfea414140de5dae2223b00361a396177a9cb410ff61f20015aD",
+        "refused BadLine 2\n",
+    ),
+    (
+        "nodes 1; forget 1 sha256:ba7816bf8f01cfea414140de5dae2223b00361a396177a9cb410ff61f20015ad",
+        "refused BadLine 2\n",
+    ),
     (
         "nodes 1; finish 1 1 locked:b= locked:a=",
         "refused BadLine 2\n",

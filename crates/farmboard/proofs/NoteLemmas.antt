@@ -70,6 +70,7 @@ tells_ask h (event.Retire n) o i ok = absurd i
 tells_ask h (event.RestartNode n) o i ok = absurd i
 tells_ask h event.RestartCoordinator o i ok = absurd i
 tells_ask h (event.Forge n c) o i ok = absurd i
+tells_ask h (event.Forget n d) o i ok = absurd i
 tells_ask h (event.FailSave k) o i ok = absurd i
 
 -- what asks is there

@@ -89,6 +89,7 @@ module _ (uses : List InUse) (u : InUse) where
   after_from (event.Retire n) i = inl (i, λ s. s.2)
   after_from event.RestartCoordinator i = inl (i, λ s. s.2)
   after_from (event.Forge n c) i = inl (i, λ s. s.2)
+  after_from (event.Forget n d) i = inl (i, λ s. s.2)
   after_from (event.FailSave k) i = inl (i, λ s. s.2)
 
   -- what was listed and isn't struck stays so
@@ -109,6 +110,7 @@ module _ (uses : List InUse) (u : InUse) where
   after_still (event.Retire n) i goes = i
   after_still event.RestartCoordinator i goes = i
   after_still (event.Forge n c) i goes = i
+  after_still (event.Forget n d) i goes = i
   after_still (event.FailSave k) i goes = i
 
   after_new : (e : Event) (g : Grant) → BeginsAt e u.node g → g.ticket ≡ u.ticket → In u (out_after e uses)
@@ -126,6 +128,7 @@ module _ (uses : List InUse) (u : InUse) where
   after_new (event.Retire n) g b at = absurd b
   after_new event.RestartCoordinator g b at = absurd b
   after_new (event.Forge n c) g b at = absurd b
+  after_new (event.Forget n d) g b at = absurd b
   after_new (event.FailSave k) g b at = absurd b
 
 -- ---- worlds
@@ -183,6 +186,7 @@ module _ (size : ℕ) (w v : World) (moves : Moves content_digest (start content
     ended (event.Retire n) did en k began = en
     ended event.RestartCoordinator did en k began = en
     ended (event.Forge n c) did en k began = en
+    ended (event.Forget n d) did en k began = en
     ended (event.FailSave x) did en k began = en
 
     begun : (d : Event) → Did w d o.note v → d ≡ event.Begin u.node u.ticket → Used v u
@@ -211,6 +215,7 @@ module _ (size : ℕ) (w v : World) (moves : Moves content_digest (start content
     begun (event.Retire n) did is = absurd (cc)
     begun event.RestartCoordinator did is = absurd (cc)
     begun (event.Forge n c) did is = absurd (cc)
+    begun (event.Forget n d) did is = absurd (cc)
     begun (event.FailSave x) did is = absurd (cc)
 
 -- ---- boards

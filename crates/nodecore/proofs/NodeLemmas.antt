@@ -62,7 +62,7 @@ aborts at t x w a h p q r e s =
     ∙ ap (λ (u : Ticket). Ok (gives_up at a u (note.Aborted u) x)) e
     ∙ ap (λ (v : NodeWork). Ok v) s
 
-digest_eq-sym : (a b : Digest) → digest_eq a b ≡ digest_eq b a
+pub digest_eq-sym : (a b : Digest) → digest_eq a b ≡ digest_eq b a
 digest_eq-sym a b = nat_list_eq_equiv.symm a.0 b.0
 
 -- the store with one content more

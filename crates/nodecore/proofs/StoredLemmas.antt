@@ -1,20 +1,20 @@
 -- What is stored and known, against the lists of it that a process keeps.
 use mathlib.Core.Path.{fun_ext}
-use Rattle.std.specs.Option.{option_copied}
-use Rattle.std.proofs.Common.{◌≡◌, ℕ, Bool, true, false, true≢false, cond, Bor, ◌&&◌, List, [], ◌∷◌, ◌++◌, refl, ap, sym, subst, ◌∙◌, inl, inr, Option, Some, None, is_some, arith}
-use Rattle.std.specs.Prelude.{if◌then◌else◌, Contains, IfSome}
+use Rattle.std.specs.Option.{option_copied, option_map_or}
+use Rattle.std.proofs.Common.{◌≡◌, ℕ, Bool, true, false, true≢false, cond, Bor, ◌&&◌, List, [], ◌∷◌, ◌++◌, refl, ap, sym, subst, ◌∙◌, inl, inr, Option, Some, None, is_some, arith, ◌≢◌, length, ◌-◌}
+use Rattle.std.specs.Prelude.{if◌then◌else◌, Contains, IfSome, position, swap_remove}
 use Rattle.std.specs.Cmp.{IsEquivalence}
-use Rattle.std.specs.List.{list_all, IsDistinct}
+use Rattle.std.specs.List.{list_all, IsDistinct, All}
 use Rattle.std.specs.Map.{keys_of, values_of, lookup, update, update_all}
 use Rattle.std.proofs.lemmas.Bool.{and_parts}
 use Rattle.std.proofs.lemmas.Cmp.{on_equiv, and_equiv, nat_eq_equiv}
 use Rattle.std.proofs.lemmas.List.Folds.{list_all-append}
-use Rattle.std.proofs.lemmas.List.Sums.{AllPass-from_list_all}
+use Rattle.std.proofs.lemmas.List.Sums.{AllPass-from_list_all, list_all-from_AllPass}
 use Rattle.std.proofs.lemmas.Map.Made.{update_all_none}
 use Rattle.std.proofs.lemmas.Map.Views.{lookup-from_Contains}
 use Rattle.indexmap.proofs.CallerLemmas.{insert_entry-new}
-use Rattle.indexmap.specs.IndexMap.{IndexMap, get, insert_entry}
-use Rattle.farm_base.specs.Contents.{content_digest}
+use Rattle.indexmap.specs.IndexMap.{IndexMap, get, insert_entry, swap_remove_entry}
+use Rattle.farm_base.specs.Contents.{content_digest, empty_digest}
 use Rattle.farm_base.specs.Digests.{digest_eq}
 use Rattle.farm_base.specs.Versions.{version_eq}
 use Rattle.farm_base.specs.declared.message.Version.{Version}
@@ -23,11 +23,13 @@ use Rattle.lists.proofs.Places.{some_is, Contains-cases, Contains-head, Contains
 use Rattle.protocol.specs.Names.{Slot, Digest}
 use Rattle.protocol.specs.Machine.{GrantedSlot}
 use Rattle.protocol.specs.Nodes.{HeldGrant, all_stored, first}
-use Rattle.protocol.specs.World.{Node, keep, first_node}
+use Rattle.protocol.specs.World.{Node, keep, first_node, without}
 use Rattle.protocol.specs.declared.ask.KeptAsk.{KeptAsk}
 use Rattle.nodecore.specs.Stored.{store_in, known_in, store_one, store_each, learn_one, learn_all, is_keyed, AreStored, HaveOneDigestEach, agrees, agree_on}
 use Rattle.nodecore.specs.Shown.{content_at, HasBase, HasBases}
 use Rattle.nodecore.proofs.MapLemmas.{learn_here}
+use Rattle.std.proofs.lemmas.List.Elements.{All-take, All-set}
+use Rattle.nodecore.proofs.NodeLemmas.{digest_eq-sym}
 
 -- one content more
 pub store_each-push : (cs : List (List ℕ)) (c : List ℕ) (store : Digest → Option (List ℕ)) → store_each (cs ++ c ∷ []) store ≡ store_one c (store_each cs store)
@@ -108,6 +110,32 @@ stored_more m n d c h is absent entries updated =
     other : (b : Bool) → digest_eq d (content_digest []) ≡ b → cond b (Some c) (get digest_eq m (content_digest [])) ≡ Some []
     other true e = absurd (true≢false (sym (ap is_some (ap (λ (z : Digest). get digest_eq m z) (digest_exact d (content_digest []) e) ∙ h.empty)) ∙ absent))
     other false e = h.empty
+
+-- what holds of all entries holds of those that are left without one
+all_left : {K X : Type 0} (P : K × X → Type 0) (test : K → Bool) (es : List (K × X)) → All P es → All P (swap_remove_entry test es)
+all_left P test [] h = h
+all_left P test (e ∷ es) h = by (position test (keys_of (e ∷ es)))
+  where
+    by : (o : Option ℕ) → All P (option_map_or (λ i. swap_remove (e ∷ es) i e) o (e ∷ es))
+    by None = h
+    by (Some i) = All-take P (length (e ∷ es) - 1) _ (All-set P (e ∷ es) i _ (h (length (e ∷ es) - 1) e (omega arith)) h)
+
+-- one content less
+pub stored_less : {S : Type 0} (m n : IndexMap Digest (List ℕ) S) (d : Digest) → AreStored m.entries → d ≢ empty_digest
+    → n.entries ≡ swap_remove_entry (digest_eq d) m.entries → ((q : Digest) → get digest_eq n q ≡ cond (digest_eq d q) None (get digest_eq m q)) → AreStored n.entries
+unfolding empty_digest
+stored_less m n d h other entries updated = record {
+  keyed = ap (list_all is_keyed) entries ∙ list_all-from_AllPass is_keyed _ (all_left (λ e. is_keyed e ≡ true) (digest_eq d) m.entries (AllPass-from_list_all is_keyed m.entries h.keyed));
+  empty = updated (content_digest []) ∙ apart (digest_eq d (content_digest [])) refl;
+}
+  where
+    apart : (b : Bool) → digest_eq d (content_digest []) ≡ b → cond b None (get digest_eq m (content_digest [])) ≡ Some []
+    apart true e = absurd (other (digest_exact d (content_digest []) e))
+    apart false e = h.empty
+
+-- the store of a map without one content
+pub store_without : {S : Type 0} (m n : IndexMap Digest (List ℕ) S) (d : Digest) → ((q : Digest) → get digest_eq n q ≡ cond (digest_eq d q) None (get digest_eq m q)) → store_in n ≡ without d (store_in m)
+store_without m n d updated = fun_ext (λ q. updated q ∙ ap (λ (b : Bool). cond b None (store_in m q)) (digest_eq-sym d q))
 
 -- a content that isn't stored yet
 pub store_one-new : (c : List ℕ) (st : Digest → Option (List ℕ)) → is_some (st (content_digest c)) ≡ false → store_one c st ≡ keep (content_digest c) c st

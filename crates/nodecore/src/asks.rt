@@ -4,7 +4,7 @@ ghost use Rattle.std.specs.List.{list_any};
 ghost use Rattle.farm_base.specs.Digests.{digest_eq};
 ghost use Rattle.protocol.specs.Names.{Want};
 ghost use Rattle.protocol.specs.World.{keeps};
-ghost use Rattle.protocol.specs.Nodes.{wants_folder, is_tenure_of, is_home_of, uses, at_home, held, running, finished, recallable, is_base, in_use, others_use};
+ghost use Rattle.protocol.specs.Nodes.{wants_folder, is_tenure_of, is_home_of, uses, at_home, held, running, finished, recallable, is_base, needs, in_use, others_use};
 ghost use Rattle.protocol.specs.declared.answer.How.{How};
 ghost use Rattle.protocol.specs.declared.ask.KeptAsk.{KeptAsk};
 ghost use Rattle.nodecore.specs.Asks.{ends_with, holds, is_in_use, is_open, is_sought, lease_in, recalls, runs, slots_in, told_state, way_out};
@@ -44,6 +44,13 @@ fn is_base(slots: &[GrantedSlot], digest: Digest) -> bool
     ensures { result ≡ list_any (λ u. digest_eq u.digest digest) slots.now }
 {
     slots.iter().any(|slot| slot.digest == digest)
+}
+
+/// Whether one of the news has the digest.
+fn has_news(news: &[News], digest: Digest) -> bool
+    ensures { result ≡ list_any (λ y. digest_eq y.digest digest) news.now }
+{
+    news.iter().any(|news| news.digest == digest)
 }
 
 /// What callers are told of the ask.
@@ -180,6 +187,19 @@ fn has_base(ask: &KeptAsk, digest: Digest) -> bool
 {
     match ask {
         KeptAsk::Holding { grant, .. } => is_base(grant.slots.as_slice(), digest),
+        _ => false,
+    }
+}
+
+/// Whether the ask needs the content of the digest: as a base of its grant until it has finished, and then as one of
+/// its news.
+fn needs(ask: &KeptAsk, digest: Digest) -> bool
+    ensures { result ≡ needs digest ask.now }
+{
+    match ask {
+        KeptAsk::Holding { grant, .. } => is_base(grant.slots.as_slice(), digest),
+        KeptAsk::Running { grant, .. } => is_base(grant.slots.as_slice(), digest),
+        KeptAsk::Finished { news, .. } => has_news(news.as_slice(), digest),
         _ => false,
     }
 }
@@ -333,6 +353,13 @@ pub(crate) fn any_base(asks: &[KeptAsk], digest: Digest) -> bool
     ensures { result ≡ list_any (is_base digest) asks.now }
 {
     asks.iter().any(|ask| has_base(ask, digest))
+}
+
+/// Whether an ask needs the content of the digest.
+pub(crate) fn any_needs(asks: &[KeptAsk], digest: Digest) -> bool
+    ensures { result ≡ list_any (needs digest) asks.now }
+{
+    asks.iter().any(|ask| needs(ask, digest))
 }
 
 /// Whether an ask other than that of this number uses one of the folders.

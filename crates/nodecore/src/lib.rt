@@ -4,6 +4,7 @@
 mod asks;
 mod contents;
 mod fetching;
+mod forgetting;
 mod kept;
 mod looks;
 mod message;

@@ -1,9 +1,9 @@
 //! The contents that a node stores.
-ghost use Rattle.std.specs.Prelude.{◌≡◌, ◌≤◌, ◌<◌, ◌+◌, IfOk, IfSome, OnOk, is_some, option_copied, vec_len};
+ghost use Rattle.std.specs.Prelude.{◌≡◌, ◌≢◌, ◌≤◌, ◌<◌, ◌+◌, IfOk, IfSome, OnOk, is_some, option_copied, vec_len};
 ghost use Rattle.indexmap.specs.IndexMap.{spare, values};
-ghost use Rattle.farm_base.specs.Contents.{content_digest};
+ghost use Rattle.farm_base.specs.Contents.{content_digest, empty_digest};
 ghost use Rattle.protocol.specs.Nodes.{stored};
-ghost use Rattle.protocol.specs.World.{first_node};
+ghost use Rattle.protocol.specs.World.{first_node, without};
 ghost use Rattle.nodecore.specs.Stored.{store_each, store_in, store_one, AreStored};
 
 use farm_base::{Content, Digest, Left};
@@ -79,6 +79,14 @@ impl StoredContents {
         if !self.by_digest.contains_key(&digest) {
             let _ = self.by_digest.insert(digest, content);
         }
+    }
+
+    /// Stores nothing under a digest other than the empty content's.
+    pub(crate) fn remove(&mut self, digest: Digest)
+        requires { digest ≢ empty_digest }
+        ensures { store_in self.new.by_digest ≡ without digest (store_in self.old.by_digest) }
+    {
+        let _ = self.by_digest.swap_remove(&digest);
     }
 
     /// Stores contents, in the room that is there.

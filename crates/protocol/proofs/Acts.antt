@@ -6,7 +6,7 @@ use Rattle.protocol.specs.Names.{Slot, slot_eq, digest_eq, NodeId, Life, Ask, Ti
 use Rattle.protocol.specs.Machine.{GrantedSlot, Grant, News, Confirmed, Granted, Message, Told, Fetches, Blob, hello, acquire, commit, release, Machine, AnswersAsk, line, written, slots_of, Names, Stands}
 use Rattle.farm_base.specs.declared.message.FromCoord.TheVariants as told
 use Rattle.protocol.specs.declared.answer.How.TheVariants as how
-use Rattle.protocol.specs.World.{KeptAsk, Open, Holding, Running, Finished, Over, Node, keeps, learn, learn_bases, learn_versions, keep, has_life, RunsTenure, Uses, Open_uses, Held_uses, Running_uses, Idle, Act, Asks, Asks_tenure, Asks_again, Greets, Takes, Gives_back, Begins, Finishes, Gives_up, Sends_commit, Learns, Drops, Is_denied, Is_recalled, Is_recalled_running, Stores, Asks_content, Sends_blob, Restarts, Stops, World}
+use Rattle.protocol.specs.World.{KeptAsk, Open, Holding, Running, Finished, Over, Node, keeps, learn, learn_bases, learn_versions, keep, without, has_life, RunsTenure, Uses, Open_uses, Held_uses, Running_uses, Idle, Act, Asks, Asks_tenure, Asks_again, Greets, Takes, Gives_back, Begins, Finishes, Gives_up, Sends_commit, Learns, Drops, Is_denied, Is_recalled, Is_recalled_running, Stores, Forgets, Asks_content, Sends_blob, Restarts, Stops, World}
 use Rattle.farm_base.proofs.CompareLaws.{digest_exact}
 use Rattle.protocol.proofs.Base.{slot_eq_is, in_one, some_is, none_some, nth-set_same, nth-set_other, nth_set_cases, nth-append, nth-push, nth_push_cases}
 use Rattle.protocol.proofs.Invariant.{Wanted, spent, WasAsked, Spent, ForTenure, Its, StateOk, WantsNow, for_tenure, HasTenure, AtHome, NodeOk, WasGiven, MessageOk, Inv, Ahead, ahead_refl}
@@ -49,6 +49,12 @@ pub keep_ok : (sha : List ℕ → Digest) (c : List ℕ) (store : Digest → Opt
 keep_ok sha c store ok d c' h = elim (cases_Bool (digest_eq d (sha c))) [
   | inl e ↦ (let is : keep (sha c) c store d ≡ Some c = rw e in ap sha (some_is c' c (sym h ∙ is)) ∙ sym (digest_exact d (sha c) e))
   | inr e ↦ (let is : keep (sha c) c store d ≡ store d = rw e in ok d c' (sym is ∙ h))
+]
+
+without_ok : (sha : List ℕ → Digest) (d : Digest) (store : Digest → Option (List ℕ)) → ((e : Digest) (c : List ℕ) → store e ≡ Some c → sha c ≡ e) → (e : Digest) (c : List ℕ) → without d store e ≡ Some c → sha c ≡ e
+without_ok sha d store ok e c h = elim (cases_Bool (digest_eq e d)) [
+  | inl t ↦ none_some c (rw t at h)
+  | inr f ↦ ok e c (rw f at h)
 ]
 
 -- ---- asks that go on as their node stays in its life
@@ -261,6 +267,7 @@ module _ (sha : List ℕ → Digest) (w : World) (inv : Inv sha w) (n : NodeId) 
   act_ahead sends x' (Is_recalled_running wants g a i e) =
       ahead_from x (record x { asks = set_nth x.asks a (Running wants g true) }) refl (go_set x.asks a (Running wants g false) (Running wants g true) e (record { asked = λ ws b h. h; over = λ k h. h }))
   act_ahead sends x' (Stores c) = ahead_from x (record x { store = keep (sha c) c x.store }) refl (go_same x.asks)
+  act_ahead sends x' (Forgets d c e) = ahead_from x (record x { store = without d x.store }) refl (go_same x.asks)
   act_ahead sends x' (Asks_content other d) = ahead_refl x
   act_ahead sends x' (Sends_blob other c) = ahead_refl x
   act_ahead sends x' Restarts = ahead_restart x (has_life x (x.life.0 + 1)) refl
@@ -326,6 +333,7 @@ module _ (sha : List ℕ → Digest) (w : World) (inv : Inv sha w) (n : NodeId) 
       one_ask a (Running wants g false) (Running wants g true) e (state_is a (Running wants g false) e)
       (home_set x.asks a (Running wants g false) (Running wants g true) e (runs_recalled x.asks a wants g false true e) (λ v k. (k, λ free. free)) x_ok.homes)
   act_ok sends x' (Stores c) = record { states = x_ok.states; known = x_ok.known; stored = keep_ok sha c x.store x_ok.stored; homes = x_ok.homes }
+  act_ok sends x' (Forgets d c e) = record { states = x_ok.states; known = x_ok.known; stored = without_ok sha d x.store x_ok.stored; homes = x_ok.homes }
   act_ok sends x' (Asks_content other d) = x_ok
   act_ok sends x' (Sends_blob other c) = x_ok
   act_ok sends x' Restarts = record {
@@ -406,6 +414,7 @@ module _ (sha : List ℕ → Digest) (w : World) (inv : Inv sha w) (n : NodeId) 
   act_sends sends x' (Is_recalled wants g a i e) nodes' same y h = absurd h
   act_sends sends x' (Is_recalled_running wants g a i e) nodes' same y h = absurd h
   act_sends sends x' (Stores c) nodes' same y h = absurd h
+  act_sends sends x' (Forgets d c e) nodes' same y h = absurd h
   act_sends sends x' (Asks_content other d) nodes' same y h = subst (MessageOk (sha []) w.machine nodes') (sym (in_one y (Fetches (record { node = other; from = n; digest = d })) h)) tt
   act_sends sends x' (Sends_blob other c) nodes' same y h = subst (MessageOk (sha []) w.machine nodes') (sym (in_one y (Blob other c) h)) tt
   act_sends sends x' Restarts nodes' same y h = is_hello x' nodes' same y (record { 0 = x.life.0 + 1 }) h (omega arith)

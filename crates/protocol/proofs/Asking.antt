@@ -6,7 +6,7 @@ use Rattle.protocol.specs.Machine.{Message, ToCoord, Parked, Told, Said, acquire
 use Rattle.farm_base.specs.declared.message.Message.TheVariants as to
 use Rattle.farm_base.specs.declared.message.Request.{Request}
 use Rattle.farm_base.specs.declared.message.Request.TheVariants.{Hello, Acquire, Commit, Release}
-use Rattle.protocol.specs.World.{KeptAsk, Open, Node, Act, Asks, Asks_tenure, Asks_again, Greets, Takes, Gives_back, Begins, Finishes, Gives_up, Sends_commit, Learns, Drops, Is_denied, Is_recalled, Is_recalled_running, Stores, Asks_content, Sends_blob, Restarts, Stops, World, Move, Node_moves, Machine_moves, Machine_says, Fails, Recovers, Moves, Still, Then, start}
+use Rattle.protocol.specs.World.{KeptAsk, Open, Node, Act, Asks, Asks_tenure, Asks_again, Greets, Takes, Gives_back, Begins, Finishes, Gives_up, Sends_commit, Learns, Drops, Is_denied, Is_recalled, Is_recalled_running, Stores, Forgets, Asks_content, Sends_blob, Restarts, Stops, World, Move, Node_moves, Machine_moves, Machine_says, Fails, Recovers, Moves, Still, Then, start}
 use Rattle.protocol.specs.Ledger.{Limits, begin_work}
 use Rattle.protocol.specs.Replay.{Event, run, opening}
 use Rattle.protocol.specs.Follows.{Shows, IsFarm, OnlyItself}
@@ -97,6 +97,7 @@ module _ (sha : List ℕ → Digest) (pool : List Message) (n : NodeId) (x : Nod
   act_sends sends x' (Is_recalled wants g a i at) m' l' a' ws' t' z = absurd z
   act_sends sends x' (Is_recalled_running wants g a i at) m' l' a' ws' t' z = absurd z
   act_sends sends x' (Stores c) m' l' a' ws' t' z = absurd z
+  act_sends sends x' (Forgets d c e) m' l' a' ws' t' z = absurd z
   act_sends sends x' Stops m' l' a' ws' t' z = absurd z
 
   act_one : (sends : List Message) (x' : Node) → Act sha pool n x sends x' → (y z : Message) → In y sends → In z sends → y ≡ z
@@ -119,6 +120,7 @@ module _ (sha : List ℕ → Digest) (pool : List Message) (n : NodeId) (x : Nod
   act_one sends x' (Is_recalled wants g a i at) y z j k = absurd j
   act_one sends x' (Is_recalled_running wants g a i at) y z j k = absurd j
   act_one sends x' (Stores c) y z j k = absurd j
+  act_one sends x' (Forgets d c e) y z j k = absurd j
   act_one sends x' Stops y z j k = absurd j
 
 module _ (sha : List ℕ → Digest) where

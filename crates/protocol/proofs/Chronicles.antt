@@ -19,7 +19,7 @@ use Rattle.protocol.specs.declared.answer.Kept.TheVariants.{Old, New}
 use Rattle.protocol.specs.Ledger.{Limits, Ledger, Lease, Saved, saves, reads, Work, is_saved, begin_work, handled, withdrawn, retired, pruned, nudged}
 use Rattle.protocol.specs.World.{Running, Node, World, Move, Node_moves, Machine_moves, Machine_says, Fails, Recovers, Moves, Still, Then, start}
 use Rattle.protocol.specs.Safe.{IsWithdrawn, InUse, HoldsContent, Rising}
-use Rattle.protocol.specs.Replay.{Event, Deliver, Begin, Withdraw, Retire, RestartCoordinator, Farm, settled, coordinated, delivered, step, run, opening, Tenure, Finish, Abort, Resend, Nudge, Prune, RestartNode, Forge, FailSave, Turn, refused, is_node, at_node, restarts, told_to}
+use Rattle.protocol.specs.Replay.{Event, Deliver, Begin, Withdraw, Retire, RestartCoordinator, Farm, settled, coordinated, delivered, step, run, opening, Tenure, Finish, Abort, Resend, Nudge, Prune, RestartNode, Forge, Forget, FailSave, Turn, refused, is_node, at_node, restarts, told_to}
 use Rattle.protocol.specs.Replay as replay
 use Rattle.protocol.specs.Nodes.{NodeAnswer, may_restart}
 use Rattle.protocol.specs.declared.answer.CoordRefusal.TheVariants as coord_refusal
@@ -409,6 +409,7 @@ module _ (sha : List ℕ → Digest) (k : Limits) (farm : IsFarm sha k) where
   kept_by u moves s shows (RestartNode n) x v fault i = elim (cases_Bool (is_node s n)) [ inl t ↦ inl (restarts_kept n s x v (rw t at i)) | inr t ↦ inl (inr (rw t at i)) ]
   kept_by u moves s shows RestartCoordinator x v fault i = inl (inr i)
   kept_by u moves s shows (Forge n c) x v fault i = inl (at_node_kept (is_node s n) n _ s x v i)
+  kept_by u moves s shows (Forget n d) x v fault i = inl (at_node_kept (is_node s n) n _ s x v i)
   kept_by u moves s shows (FailSave kept) x v fault i = inl (inr i)
 
   stood : (u : World) (s : Farm) → Shows sha u s → (x : Slot) (v : LineVersion) → Stood s x v → Stands u x v

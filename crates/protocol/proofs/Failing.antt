@@ -19,7 +19,7 @@ use Rattle.protocol.specs.declared.answer.Kept.{Kept}
 use Rattle.protocol.specs.declared.answer.Kept.TheVariants.{Old, New}
 use Rattle.protocol.specs.Ledger.{Limits, Lease, Work, begin_work, notes, prunes, saves, handled, withdrawing, withdrawn, lease_under, retired, pruned, nudged, is_at, is_home, is_leased}
 use Rattle.protocol.specs.Nodes.{NodeAnswer, may_restart}
-use Rattle.protocol.specs.Replay.{Event, Tenure, Deliver, Begin, Finish, Abort, Resend, Nudge, Withdraw, Prune, Retire, RestartNode, RestartCoordinator, Forge, FailSave, Farm, Turn, settled, coordinated, is_node, at_node, restarts, delivered, step}
+use Rattle.protocol.specs.Replay.{Event, Tenure, Deliver, Begin, Finish, Abort, Resend, Nudge, Withdraw, Prune, Retire, RestartNode, RestartCoordinator, Forge, Forget, FailSave, Farm, Turn, settled, coordinated, is_node, at_node, restarts, delivered, step}
 use Rattle.protocol.specs.Replay as replay
 use Rattle.protocol.specs.Reasons.{message_decision, decision_at}
 use Rattle.protocol.specs.Chronicle.{HoldsAfter, LeavesArmed}
@@ -122,6 +122,7 @@ leaves_armed sha k s (RestartNode n) other = elim (cases_Bool (is_node s n)) [
 ]
 leaves_armed sha k s RestartCoordinator other = quietly k s RestartCoordinator _ (λ f. cc) refl
 leaves_armed sha k s (Forge n c) other = at_node_armed k s _ (is_node s n) n _
+leaves_armed sha k s (Forget n d) other = at_node_armed k s _ (is_node s n) n _
 leaves_armed sha k s (FailSave kept) other = absurd (other kept refl)
 
 -- a node whose last life is over is down for good

@@ -1,5 +1,5 @@
 -- Each event leaves the numbers of a farm in their ranges.
-use Rattle.std.proofs.Common.{◌≡◌, ℕ, zero, suc, ◌+◌, ◌≤◌, List, [], ◌∷◌, ◌++◌, ◌⊎◌, Bool, true, false, not, ◌&&◌, eqb, length, map, Option, Some, None, Result, Ok, Err, refl, sym, ◌∙◌, ap, subst, inl, inr, arith}
+use Rattle.std.proofs.Common.{◌≡◌, ℕ, zero, suc, ◌+◌, ◌≤◌, List, [], ◌∷◌, ◌++◌, ◌⊎◌, Bool, true, false, not, ◌&&◌, eqb, length, map, Option, Some, None, Result, Ok, Err, refl, sym, ◌∙◌, ap, subst, inl, inr, arith, ◌||◌}
 use Rattle.std.proofs.lemmas.Bool.{and_parts, cases_Bool}
 use Rattle.std.proofs.lemmas.Bool.Decides.{nat_tests}
 use Rattle.std.specs.Prelude.{nat_lt, nat_le, if◌then◌else◌}
@@ -21,13 +21,13 @@ use Rattle.protocol.specs.declared.answer.NodeNote.TheVariants as note
 use Rattle.protocol.specs.declared.answer.NodeRefusal.{NodeRefusal}
 use Rattle.protocol.specs.declared.answer.NodeRefusal.TheVariants as refusal
 use Rattle.protocol.specs.Lists.{In, nth, set_nth}
-use Rattle.protocol.specs.Names.{NodeId, Life, Ask, Ticket, Digest, Want, FolderName, Shared, slots_eq, tenure_wants}
+use Rattle.protocol.specs.Names.{NodeId, Life, Ask, Ticket, Digest, Want, FolderName, Shared, slots_eq, tenure_wants, digest_eq}
 use Rattle.protocol.specs.Machine.{Grant, GrantedSlot, Confirmed, Message, Told, Fetches, FromCoord, hello, acquire, commit, release, slots_of, written}
 use Rattle.protocol.specs.Ledger.{Limits, Ledger, Work, begin_work, handled, withdrawn, retired, pruned, nudged, nudge_all, saves, reads}
 use Rattle.protocol.specs.Ledger as ledger
 use Rattle.protocol.specs.World.{KeptAsk, Open, Holding, Running, Finished, Over, Node, keep}
-use Rattle.protocol.specs.Nodes.{Place, Left, NodeWork, NodeAnswer, guard, at_home, is_tenure_of, in_use, HeldGrant, Sent, is_stored, is_base, held, running, held_or_running, finished, news_of, recallable, recalled_if, first, first_of, fetches_of, fetches, others, opens, asked, asked_tenure, beginning, begun, gives_up, leaving, finishing, finished_with, aborting, aborted, again, all_again, resent, restarted, may_restart, nothing, gives_back, granted, learned, dropped, denied, recalled, of_life, heard, fetched, brought, received, unless_spent}
-use Rattle.protocol.specs.Replay.{Event, Tenure, Deliver, Begin, Finish, Abort, Resend, Nudge, Withdraw, Prune, Retire, RestartNode, RestartCoordinator, Forge, FailSave, Farm, Turn, step, settled, settles, coordinated, is_node, at, moved, answered, at_node, node_does, restarts, receiver, delivered}
+use Rattle.protocol.specs.Nodes.{Place, Left, NodeWork, NodeAnswer, guard, at_home, is_tenure_of, in_use, HeldGrant, Sent, is_stored, is_base, held, running, held_or_running, finished, news_of, recallable, recalled_if, first, first_of, fetches_of, fetches, others, opens, asked, asked_tenure, beginning, begun, gives_up, leaving, finishing, finished_with, aborting, aborted, again, all_again, forgotten, needs, resent, restarted, may_restart, nothing, gives_back, granted, learned, dropped, denied, recalled, of_life, heard, fetched, brought, received, unless_spent}
+use Rattle.protocol.specs.Replay.{Event, Tenure, Deliver, Begin, Finish, Abort, Resend, Nudge, Withdraw, Prune, Retire, RestartNode, RestartCoordinator, Forge, Forget, FailSave, Farm, Turn, step, settled, settles, coordinated, is_node, at, moved, answered, at_node, node_does, restarts, receiver, delivered}
 use Rattle.protocol.specs.Replay as replay
 use Rattle.protocol.specs.Lawful.{IsNumber, IsSpeaker, AreAsked, IsMessage, IsLawful, IsLawfulWork, IsLawfulNode, IsLawfulFarm, EveryFarmStaysLawful, EveryOpeningIsLawful}
 use Rattle.protocol.proofs.Base.{some_is, none_some, put_all, in_append, in_one, from_map, nth_in}
@@ -212,6 +212,12 @@ module _ (top : ℕ) where
         by None = err_acts refusal.NoSuchTicket
         by (Some (a, h)) = guard_acts _ _ _ (ok_acts (gives_up p a h.grant.ticket (note.Aborted h.grant.ticket) x) (gives_up_acts a h.grant.ticket (note.Aborted h.grant.ticket)))
 
+    forgotten_acts : (d : Digest) → ActsOk (forgotten k d x)
+    forgotten_acts d = guard_acts x.spent _ _ (guard_acts (digest_eq d k.empty || not (is_stored x d)) _ _ (guard_acts (list_any (needs d) x.asks) _ _ (ok_acts _ (record {
+      node = record { life = lawful.life; asks = lawful.asks };
+      sends = none_sent;
+    }))))
+
     again_sent : (a : Ask) (s : KeptAsk) → 1 ≤ a.0 → In s x.asks → Sends (again k p x a s)
     again_sent a (Open wants tenure) some i = one_sent (acquire p.node x.life a wants tenure) (record { speaker = speaker; request = (some, lawful.asks wants tenure i) })
     again_sent a (Holding wants g r) some i = missing_sent k p x g.slots
@@ -389,6 +395,7 @@ every_farm_stays_lawful sha k top s (Retire n) event f = elim (cases_Bool (is_no
 ]
 every_farm_stays_lawful sha k top s (RestartNode n) event f = elim (cases_Bool (is_node s n)) [ inl t ↦ rw t (restarts_lawful top k n s f (number_of top s n f t)) | inr t ↦ rw t f ]
 every_farm_stays_lawful sha k top s RestartCoordinator event f = record { size = f.size; ledger = f.saved; saved = f.saved; pool = f.pool; nodes = f.nodes }
+every_farm_stays_lawful sha k top s (Forget n d) event f = does_lawful top n (λ p x. forgotten k d x) s f (λ number. forgotten_acts top k (at s n) number (s.nodes n.0) (f.nodes n.0) d)
 every_farm_stays_lawful sha k top s (Forge n c) event f = does_lawful top n (λ p x. unless_spent x (brought sha c x)) s f (λ number. spent_acts top k (at s n) number (s.nodes n.0) (f.nodes n.0) _ (brought_acts top k (at s n) number (s.nodes n.0) (f.nodes n.0) sha c))
 every_farm_stays_lawful sha k top s (FailSave kept) event f = record { size = f.size; ledger = f.ledger; saved = f.saved; pool = f.pool; nodes = f.nodes }
 

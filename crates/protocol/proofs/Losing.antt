@@ -1,6 +1,6 @@
 -- A node that lost contents or versions that it knew does no more than one that didn't.
-use Rattle.std.proofs.Common.{◌≡◌, ℕ, ◌+◌, List, [], ◌∷◌, ◌++◌, Bool, true, false, not, ◌&&◌, eqb, length, filter, Option, Some, None, is_some, Ok, Err, refl, sym, ◌∙◌, ap, subst, inl, inr}
-use Rattle.std.proofs.lemmas.Bool.{cases_Bool, and_parts}
+use Rattle.std.proofs.Common.{◌≡◌, ℕ, ◌+◌, List, [], ◌∷◌, ◌++◌, Bool, true, false, not, ◌&&◌, eqb, length, filter, Option, Some, None, is_some, Ok, Err, refl, sym, ◌∙◌, ap, subst, inl, inr, ◌||◌}
+use Rattle.std.proofs.lemmas.Bool.{cases_Bool, and_parts, or_parts, not-false}
 use Rattle.std.specs.Prelude.{nat_lt, if◌then◌else◌}
 use Rattle.std.specs.List.{list_any, flat_map}
 use Rattle.farm_base.specs.declared.message.FromCoord.{FromCoord}
@@ -16,11 +16,11 @@ use Rattle.protocol.specs.Lists.{In, nth, set_nth}
 use Rattle.protocol.specs.Names.{NodeId, Life, Ask, Ticket, Slot, Digest, Want, FolderName, Shared, slot_eq, digest_eq, slots_eq, tenure_wants}
 use Rattle.protocol.specs.Machine.{Grant, GrantedSlot, Confirmed, Message, Fetches, slots_of, written}
 use Rattle.protocol.specs.Ledger.{Limits}
-use Rattle.protocol.specs.World.{KeptAsk, Open, Holding, Running, Finished, Over, Node, keep, learn, learn_bases, learn_versions}
-use Rattle.protocol.specs.Nodes.{Place, Left, NodeWork, NodeAnswer, guard, at_home, is_tenure_of, in_use, HeldGrant, Sent, is_stored, all_stored, is_missing, is_base, held, running, held_or_running, finished, news_of, recallable, first, fetches_of, fetches, others, stored, opens, asked, asked_tenure, beginning, begun, gives_up, leaving, finishing, finished_with, aborting, aborted, again, all_again, resent, nothing, gives_back, granted, learned, dropped, denied, recalled, of_life, heard, brought, unless_spent}
-use Rattle.protocol.specs.Processes.{NodeCall, Receive, Ask_lease, Ask_tenure, Begin, Finish, Abort, Resend, Bring, node_decided, IsNodeOf, IsOfLeases}
+use Rattle.protocol.specs.World.{KeptAsk, Open, Holding, Running, Finished, Over, Node, keep, without, learn, learn_bases, learn_versions}
+use Rattle.protocol.specs.Nodes.{Place, Left, NodeWork, NodeAnswer, guard, at_home, is_tenure_of, in_use, HeldGrant, Sent, is_stored, all_stored, is_missing, is_base, held, running, held_or_running, finished, news_of, recallable, first, fetches_of, fetches, others, stored, opens, asked, asked_tenure, beginning, begun, gives_up, leaving, finishing, finished_with, aborting, aborted, again, all_again, forgotten, needs, resent, nothing, gives_back, granted, learned, dropped, denied, recalled, of_life, heard, brought, unless_spent}
+use Rattle.protocol.specs.Processes.{NodeCall, Receive, Ask_lease, Ask_tenure, Begin, Finish, Abort, Resend, Bring, Forget, node_decided, IsNodeOf, IsOfLeases}
 use Rattle.farm_base.proofs.CompareLaws.{digest_exact}
-use Rattle.protocol.proofs.Base.{some_is, true_false, in_append, in_left, in_right, from_map}
+use Rattle.protocol.proofs.Base.{some_is, true_false, in_append, in_left, in_right, from_map, none_some}
 
 -- ---- contents and versions
 
@@ -44,6 +44,12 @@ module _ (sha : List ℕ → Digest) where
 
   keep_one : (c : List ℕ) (more less : Digest → Option (List ℕ)) → is_some (more (sha c)) ≡ true → Contents more less → Contents more (keep (sha c) c less)
   keep_one c more less here all = keep_less c more less (λ d t. subst (λ z. is_some (more z) ≡ true) (sym (digest_exact d (sha c) t)) here) all
+
+  pub without_both : (d : Digest) (more less : Digest → Option (List ℕ)) → Contents more less → Contents (without d more) (without d less)
+  without_both d more less all e c h = elim (cases_Bool (digest_eq e d)) [
+    | inl t ↦ none_some c (rw t at h)
+    | inr f ↦ (let r = all e c (rw f at h) in rw f r)
+  ]
 
   pub has_some : (o : Option (List ℕ)) → is_some o ≡ true → (c : List ℕ) × (o ≡ Some c)
   has_some None h = (let bad : false ≡ true = h in cc)
@@ -187,6 +193,18 @@ module _ (sha : List ℕ → Digest) (k : Limits) (n : NodeId) (size count : ℕ
       by None = err_less (Err refusal.NoSuchTicket) refusal.NoSuchTicket
       by (Some (a, h)) = guard_less (in_use y.asks a h.wants h.grant) _ _ _ (ok_less _ _ (gives_up_less a h.grant.ticket (note.Aborted h.grant.ticket)))
 
+  forgotten_less : (d : Digest) → Less (forgotten k d x) (forgotten k d y)
+  forgotten_less d = guard_less y.spent _ _ _ (guard_if (digest_eq d k.empty || not (is_stored x d)) (digest_eq d k.empty || not (is_stored y d)) _ _ _ unless (guard_less (list_any (needs d) y.asks) _ _ _ (ok_less _ _ (record {
+    node = record { life = refl; asks = refl; spent = refl; contents = without_both sha d store y.store contents; versions = versions };
+    sends = λ m o i. i;
+  }))))
+    where
+      unless : (digest_eq d k.empty || not (is_stored y d)) ≡ false → (digest_eq d k.empty || not (is_stored x d)) ≡ false
+      unless h =
+          let r = or_parts (digest_eq d k.empty) (not (is_stored y d)) h in
+          let c = has_some sha (y.store d) (not-false (is_stored y d) r.1) in
+          rw (r.0, (contents d c.0 c.1).1) refl
+
   again_less : (a : Ask) (s : KeptAsk) → Heard (again k at_less y a s) (again k at x a s)
   again_less a (Open wants tenure) m o i = i
   again_less a (Holding wants g r) m o i = absurd (no_fetch k at_less y g.slots m o i)
@@ -302,3 +320,6 @@ module _ (sha : List ℕ → Digest) (k : Limits) (n : NodeId) (size count : ℕ
 
   pub resend_less : AllLess Resend
   resend_less = resent_less
+
+  pub forget_less : (d : Digest) → AllLess (Forget d)
+  forget_less d = forgotten_less d

@@ -12,8 +12,8 @@ use Rattle.farm_base.specs.declared.message.Why.{Why}
 use Rattle.protocol.specs.declared.answer.How.TheVariants as how
 use Rattle.protocol.specs.declared.answer.NodeRefusal.{NodeRefusal}
 use Rattle.protocol.specs.Ledger.{Limits}
-use Rattle.protocol.specs.World.{KeptAsk, Open, Holding, Running, Finished, Over, Node, World, keeps, learn_bases, learn_versions, keep, has_life, IsTenureOf, Asked_tenure, Held_tenure, Running_tenure, Finished_tenure, RunsTenure, Uses, Open_uses, Held_uses, Running_uses, Idle, Act, Asks, Asks_tenure, Asks_again, Greets, Takes, Gives_back, Begins, Finishes, Gives_up, Sends_commit, Learns, Drops, Is_denied, Is_recalled, Is_recalled_running, Stores, Asks_content, Sends_blob, Restarts, Stops, Node_moves, Moves, Still, Then}
-use Rattle.protocol.specs.Nodes.{NodeWork, NodeAnswer, guard, Place, wants_folder, is_tenure_of, is_home_of, uses, at_home, others_use, in_use, HeldGrant, Sent, first, first_of, under, held, running, held_or_running, finished, recalled_if, recallable, is_stored, all_stored, is_missing, others, fetches_of, fetches, is_base, asked, asked_tenure, beginning, begun, Left, news_of, stored, leaving, finishing, finished_with, aborting, aborted, again, all_again, resent, restarted, gives_back, granted, learned, dropped, denied, recalled, of_life, heard, fetched, brought, unless_spent}
+use Rattle.protocol.specs.World.{KeptAsk, Open, Holding, Running, Finished, Over, Node, World, keeps, learn_bases, learn_versions, keep, without, has_life, IsTenureOf, Asked_tenure, Held_tenure, Running_tenure, Finished_tenure, RunsTenure, Uses, Open_uses, Held_uses, Running_uses, Idle, Act, Asks, Asks_tenure, Asks_again, Greets, Takes, Gives_back, Begins, Finishes, Gives_up, Sends_commit, Learns, Drops, Is_denied, Is_recalled, Is_recalled_running, Stores, Forgets, Asks_content, Sends_blob, Restarts, Stops, Node_moves, Moves, Still, Then}
+use Rattle.protocol.specs.Nodes.{NodeWork, NodeAnswer, guard, Place, wants_folder, is_tenure_of, is_home_of, uses, at_home, others_use, in_use, HeldGrant, Sent, first, first_of, under, held, running, held_or_running, finished, recalled_if, recallable, is_stored, all_stored, is_missing, others, fetches_of, fetches, is_base, asked, asked_tenure, beginning, begun, Left, news_of, stored, leaving, finishing, finished_with, aborting, aborted, again, all_again, forgotten, needs, resent, restarted, gives_back, granted, learned, dropped, denied, recalled, of_life, heard, fetched, brought, unless_spent}
 use Rattle.farm_base.proofs.CompareLaws.{digest_exact}
 use Rattle.protocol.proofs.Base.{true_false, none_some, some_is, folder_eq_same, life_is, ticket_is, in_append, in_one, from_map, any_in, any_none, from_any, put_same, put_other, nth_in}
 use Rattle.farm_base.specs.Receivers.{told_to}
@@ -214,6 +214,7 @@ act_tells sha pool n x sends x' (Is_denied a why wants tenure j at) z i = i
 act_tells sha pool n x sends x' (Is_recalled wants g a j at) z i = i
 act_tells sha pool n x sends x' (Is_recalled_running wants g a j at) z i = i
 act_tells sha pool n x sends x' (Stores c) z i = i
+act_tells sha pool n x sends x' (Forgets d c e) z i = i
 act_tells sha pool n x sends x' (Asks_content other d) z i = not_told z _ (λ e. cc) i
 act_tells sha pool n x sends x' (Sends_blob other c) z i = not_told z _ (λ e. cc) i
 act_tells sha pool n x sends x' Restarts z i = not_told z _ (λ e. cc) i
@@ -475,6 +476,11 @@ module _ (sha : List ℕ → Digest) (u : World) (n : NodeId) where
   pub fetched_does : (from : NodeId) (o : Option (List ℕ)) → OnWork (fetched from here o)
   fetched_does from None = nothing_done
   fetched_does from (Some c) = does (Blob from c ∷ []) here (Sends_blob from c)
+
+  pub forgotten_does : (k : Limits) (d : Digest) → OnAnswer (forgotten k d here)
+  forgotten_does k d = on_guard here.spent _ _ (λ up. on_guard (digest_eq d k.empty || not (is_stored here d)) _ _ (λ some. on_guard (list_any (needs d) here.asks) _ _ (λ free.
+      (let c = stored_some (here.store d) (not-false (is_stored here d) (or_parts (digest_eq d k.empty) (not (is_stored here d)) some).1) in
+      does [] (record here { store = without d here.store }) (Forgets d c.0 c.1)))))
 
   pub brought_does : (c : List ℕ) → OnWork (brought sha c here)
   brought_does c = elim (cases_Bool (not (is_stored here (sha c)) && list_any (is_base (sha c)) here.asks)) [

@@ -15,10 +15,10 @@ use Rattle.protocol.specs.declared.answer.NodeRefusal.{NodeRefusal}
 use Rattle.protocol.specs.declared.answer.NodeRefusal.TheVariants as refusal
 use Rattle.protocol.specs.Ledger.{Limits}
 use Rattle.protocol.specs.World.{KeptAsk, Open, Holding, Running, Finished, Over, Node, keeps, keep, RunsTenure, IsTenureOf, Asked_tenure, Held_tenure, Running_tenure, Finished_tenure, Uses, Open_uses, Held_uses, Running_uses, Idle}
-use Rattle.protocol.specs.Nodes.{NodeWork, NodeAnswer, guard, Place, wants_folder, is_tenure_of, is_home_of, uses, at_home, others_use, in_use, HeldGrant, Sent, first, under, held, running, held_or_running, finished, recalled_if, recallable, is_missing, nodes_from, others, fetches_of, fetches, next_ask, nothing, is_stored, all_stored, is_base, asked, asked_tenure, beginning, begun, Left, news_of, stored, leaving, finishing, finished_with, aborting, aborted, again, all_again, resent, gives_back, granted, learned, dropped, denied, recalled, of_life, heard, fetched, brought, unless_spent}
-use Rattle.protocol.specs.Replay.{Event, Tenure, Deliver, Begin, Finish, Abort, Resend, Forge, told_to}
+use Rattle.protocol.specs.Nodes.{NodeWork, NodeAnswer, guard, Place, wants_folder, is_tenure_of, is_home_of, uses, at_home, others_use, in_use, HeldGrant, Sent, first, under, held, running, held_or_running, finished, recalled_if, recallable, is_missing, nodes_from, others, fetches_of, fetches, next_ask, nothing, is_stored, all_stored, is_base, asked, asked_tenure, beginning, begun, Left, news_of, stored, leaving, finishing, finished_with, aborting, aborted, again, all_again, forgotten, needs, resent, gives_back, granted, learned, dropped, denied, recalled, of_life, heard, fetched, brought, unless_spent}
+use Rattle.protocol.specs.Replay.{Event, Tenure, Deliver, Begin, Finish, Abort, Resend, Forge, Forget, told_to}
 use Rattle.protocol.specs.Replay as replay
-use Rattle.protocol.specs.Meaning.{life_of, IsBase, Arrives, AsksAround, IsFetchFor, Repeats, Hello_again, Acquire_again, Commit_again, Fetch_again, Stored, NodeMeans}
+use Rattle.protocol.specs.Meaning.{life_of, IsBase, Arrives, AsksAround, IsFetchFor, Repeats, Hello_again, Acquire_again, Commit_again, Fetch_again, Stored, Needs, Held_base, Running_base, Sent_news, IsNeeded, NodeMeans}
 use Rattle.protocol.specs.Reasons.{HoldsUnder, RunsUnder, NodeBecause}
 use Rattle.farm_base.proofs.CompareLaws.{digest_exact}
 use Rattle.protocol.proofs.Base.{in_filter, in_map, in_append, in_one, from_filter, from_map, node_is, cases_option, true_false, none_some, some_is, eqb_same, digest_eq_same, life_is, any_in, from_any, nth_in, in_left, in_right}
@@ -618,7 +618,54 @@ module _ (sha : List ℕ → Digest) (k : Limits) (n : NodeId) (size : ℕ) (x :
   pub forged_exact : (c : List ℕ) → Exact None (Forge n c) (unless_spent x (brought sha c x))
   forged_exact c = unless_exact None (Forge n c) (brought sha c x) (λ h. h) (forge_spent n c) (brought_means None (Forge n c) c (inr (c, refl, refl)))
 
+  needs_is : (d : Digest) (s : KeptAsk) → needs d s ≡ true → Needs d s
+  needs_is d (Open wants tenure) h = (let bad : false ≡ true = h in cc)
+  needs_is d (Holding wants g r) h = (let u = from_any (λ (u : GrantedSlot). digest_eq u.digest d) g.slots h in Held_base wants g r u.0 u.1 (digest_exact u.0.digest d u.2))
+  needs_is d (Running wants g r) h = (let u = from_any (λ (u : GrantedSlot). digest_eq u.digest d) g.slots h in Running_base wants g r u.0 u.1 (digest_exact u.0.digest d u.2))
+  needs_is d (Finished wants g news) h = (let y = from_any (λ (y : News). digest_eq y.digest d) news h in Sent_news wants g news y.0 y.1 (digest_exact y.0.digest d y.2))
+  needs_is d (Over how) h = (let bad : false ≡ true = h in cc)
+
+  is_needs : (d : Digest) (s : KeptAsk) → Needs d s → needs d s ≡ true
+  is_needs d s (Held_base wants g r u i e) = any_in (λ (v : GrantedSlot). digest_eq v.digest d) u g.slots i (subst (λ z. digest_eq u.digest z ≡ true) e (digest_eq_same u.digest))
+  is_needs d s (Running_base wants g r u i e) = any_in (λ (v : GrantedSlot). digest_eq v.digest d) u g.slots i (subst (λ z. digest_eq u.digest z ≡ true) e (digest_eq_same u.digest))
+  is_needs d s (Sent_news wants g news y i e) = any_in (λ (v : News). digest_eq v.digest d) y news i (subst (λ z. digest_eq y.digest z ≡ true) e (digest_eq_same y.digest))
+
+  some_needs : (d : Digest) → list_any (needs d) x.asks ≡ true → IsNeeded x d
+  some_needs d t =
+      let r = from_any (needs d) x.asks t in
+      let a = get_from r.0 x.asks r.1 in
+      (suc a.0, r.0, a.1, needs_is d r.0 r.2)
+
+  needs_some : (d : Digest) → IsNeeded x d → list_any (needs d) x.asks ≡ true
+  needs_some d (a, s, i, h) = any_in (needs d) s x.asks (nth_in x.asks a s i) (is_needs d s h)
+
+  pub forgotten_exact : (d : Digest) → Exact None (Forget n d) (forgotten k d x)
+  forgotten_exact d =
+      let e : Event = Forget n d in
+      on_guard None e x.spent refusal.LivesSpent _ (λ down. down) (λ up. on_guard None e (digest_eq d k.empty || not (is_stored x d)) refusal.NoSuchContent _
+      (λ gone. elim (cases_Bool (digest_eq d k.empty)) [
+        | inl t ↦ inl (digest_exact d k.empty t)
+        | inr f ↦ inr (not_some (x.store d) (not-true (is_stored x d) (rw f at gone)))
+      ])
+      (λ some. on_guard None e (list_any (needs d) x.asks) refusal.Needed _ (some_needs d)
+      (λ free. (
+      let r = or_parts (digest_eq d k.empty) (not (is_stored x d)) some in
+      let c = stored_some (x.store d) (not-false (is_stored x d) r.1) in
+      let other : d ≢ k.empty = λ same. true_false (digest_eq d k.empty) (subst (λ z. digest_eq d z ≡ true) same (digest_eq_same d)) r.0 in
+      let unneeded : IsNeeded x d → ⊥ = λ h. true_false (list_any (needs d) x.asks) (needs_some d h) free in
+      ((d, c.0, refl, other, c.1, unneeded, refl, refl), none up other c.0 c.1 unneeded)))))
+    where
+      none : x.spent ≡ false → d ≢ k.empty → (c : List ℕ) → x.store d ≡ Some c → (IsNeeded x d → ⊥) → (r : NodeRefusal) → NodeBecause k (Forget n d) x r → ⊥
+      none up other c has free refusal.LivesSpent h = true_false x.spent h up
+      none up other c has free refusal.NoSuchContent (inl same) = other same
+      none up other c has free refusal.NoSuchContent (inr absent) = none_some c (sym absent ∙ has)
+      none up other c has free refusal.Needed h = free h
+      none up other c has free r h = h
+
   -- ---- what is answered at a call
+
+  pub forgotten_noted : (d : Digest) → OnNote (λ c. c ≡ node_note.Forgot) (forgotten k d x)
+  forgotten_noted d = guard_note _ x.spent refusal.LivesSpent _ (guard_note _ (digest_eq d k.empty || not (is_stored x d)) refusal.NoSuchContent _ (guard_note _ (list_any (needs d) x.asks) refusal.Needed _ refl))
 
   pub asked_noted : (wants : List Want) → OnNote (λ c. (a : Ask) × (c ≡ node_note.Asked a)) (asked k at wants x)
   asked_noted wants = guard_note _ x.spent refusal.LivesSpent _ (guard_note _ (not (at_home x.asks wants)) refusal.NotHomeHere _ (guard_note _ (not (nat_lt (length x.asks) k.greatest)) refusal.AsksSpent _ (next_ask x, refl)))

@@ -18,7 +18,7 @@ use Rattle.protocol.specs.declared.answer.CoordNote.TheVariants as note
 use Rattle.protocol.specs.Ledger.{Limits, Ledger, Lease, Work, begin_work, has_slot, some_lease, is_leased, is_free, lowest, all_taken, busy, pick, another, elsewhere, Decision, Give, Deny, Wait, decision, lease_for, gives, carried_out, waits, tried, stays, try_all, waiting, retried, holds_wanted, recall, recalls, decided, acquiring, lease_of, is_parked, lease_under, may_commit, on_all, committing, may_release, released, answering, is_older, is_older_ask, sees, is_home, newer_life, handled, withdraws, withdrawing, withdrawn, is_at, retire_all, goes, retired, prunes, pruned, is_awaited, nudges, nudge_all, nudged, notes, reread}
 use Rattle.protocol.specs.Ledger as ledger
 use Rattle.protocol.specs.Nodes.{NodeAnswer, may_restart}
-use Rattle.protocol.specs.Replay.{Event, Tenure, Deliver, Begin, Finish, Abort, Resend, Nudge, Withdraw, Prune, Retire, RestartNode, RestartCoordinator, Forge, FailSave, Farm, Turn, opening, settled, coordinated, is_node, answered, at_node, node_does, restarts, delivered, step, run}
+use Rattle.protocol.specs.Replay.{Event, Tenure, Deliver, Begin, Finish, Abort, Resend, Nudge, Withdraw, Prune, Retire, RestartNode, RestartCoordinator, Forge, Forget, FailSave, Farm, Turn, opening, settled, coordinated, is_node, answered, at_node, node_does, restarts, delivered, step, run}
 use Rattle.protocol.specs.Replay as replay
 use Rattle.protocol.specs.Follows.{NoneReady}
 use Rattle.protocol.specs.Chronicle.{NoParkedAskIsReady}
@@ -333,6 +333,7 @@ module _ (k : Limits) where
   step_none sha s (RestartNode n) old = elim (cases_Bool (is_node s n)) [ inl t ↦ rw t (restarts_none n s old) | inr t ↦ rw t old ]
   step_none sha s RestartCoordinator old = λ p i e. absurd i
   step_none sha s (Forge n c) old = at_node_none (is_node s n) n _ s old
+  step_none sha s (Forget n d) old = at_node_none (is_node s n) n _ s old
   step_none sha s (FailSave kept) old = old
 
   run_none : (sha : List ℕ → Digest) (events : List Event) (s : Farm) → NoneReady k s.ledger → NoneReady k (run sha k events s).ledger

@@ -18,11 +18,11 @@ use Rattle.protocol.specs.Ledger.{Limits, Ledger, Lease, Work, begin_work, handl
 use Rattle.protocol.specs.declared.answer.NodeRefusal.TheVariants as node_refusal
 use Rattle.protocol.specs.Ledger as ledger
 use Rattle.protocol.specs.World.{KeptAsk, Node, Running, has_life, first_node, start}
-use Rattle.protocol.specs.Nodes.{Place, guard, fetched, NodeWork, NodeAnswer, asked, asked_tenure, begun, finished_with, aborted, resent, may_restart, restarted, received, brought, unless_spent}
+use Rattle.protocol.specs.Nodes.{Place, guard, fetched, NodeWork, NodeAnswer, asked, asked_tenure, begun, finished_with, aborted, forgotten, resent, may_restart, restarted, received, brought, unless_spent}
 use Rattle.protocol.specs.Replay.{Farm, Turn, Event, Deliver, RestartCoordinator, RestartNode, Forge, FailSave, settled, settles, coordinated, delivered, is_node, at, at_node, node_does, moved, answered, restarts, receiver, step, run, opening}
 use Rattle.protocol.specs.Replay as replay
 use Rattle.protocol.specs.Lawful.{IsNumber}
-use Rattle.protocol.specs.Processes.{Coordinator, Processes, Call, Handle, Withdraw, Prune, Retire, Nudge, MayCome, AllMayCome, decided, Batch, begin_batch, taken, batch, CoordinatorDoes, Works, Fails, Is_killed, Starts, NodeCall, Receive, Ask_lease, Ask_tenure, Begin, Finish, Abort, Resend, Bring, MayReach, node_decided, NodeDoes, Acts, Begins_life, Loses, Is_spent, Happens, Coordinator_does, Node_does, Runs, Rests, Goes_on, first_processes, IsNodeOf, IsOfLeases, IsFarmOf, AreScheduled, ProcessesAreTheFarm, Executes, StaySafe, ProcessesStaySafe, is_up, is_down, WithdrawnStaysOut, HasAsked, OnlyHonestAreAFarm, EveryFarmIsProcesses}
+use Rattle.protocol.specs.Processes.{Coordinator, Processes, Call, Handle, Withdraw, Prune, Retire, Nudge, MayCome, AllMayCome, decided, Batch, begin_batch, taken, batch, CoordinatorDoes, Works, Fails, Is_killed, Starts, NodeCall, Receive, Ask_lease, Ask_tenure, Begin, Finish, Abort, Resend, Bring, Forget, MayReach, node_decided, NodeDoes, Acts, Begins_life, Loses, Is_spent, Happens, Coordinator_does, Node_does, Runs, Rests, Goes_on, first_processes, IsNodeOf, IsOfLeases, IsFarmOf, AreScheduled, ProcessesAreTheFarm, Executes, StaySafe, ProcessesStaySafe, is_up, is_down, WithdrawnStaysOut, HasAsked, OnlyHonestAreAFarm, EveryFarmIsProcesses}
 use Rattle.protocol.specs.Safe.{InUse, HoldsContent}
 use Rattle.protocol.specs.Follows.{IsFarm, SafeAfter}
 use Rattle.protocol.specs.Chronicle.{StaysOut, Headline, IsSavedFarm, Covered}
@@ -230,6 +230,7 @@ module _ (sha : List ℕ → Digest) (k : Limits) (size : ℕ) where
       one_node_call written carries (Finish t lefts) i w ok = one_event (Finish t lefts) (losing.finish_less sha k n size count y (nodes n.0).store (nodes n.0).known is.contents is.versions t lefts) w ok (replay.Finish n t lefts) (λ v e. does (λ p x. finished_with sha p t lefts x) nodes pool v e)
       one_node_call written carries (Abort t) i w ok = one_event (Abort t) (losing.abort_less sha k n size count y (nodes n.0).store (nodes n.0).known is.contents is.versions t) w ok (replay.Abort n t) (λ v e. does (λ p x. aborted p t x) nodes pool v e)
       one_node_call written carries Resend i w ok = one_event Resend (losing.resend_less sha k n size count y (nodes n.0).store (nodes n.0).known is.contents is.versions) w ok (replay.Resend n) (λ v e. does (λ p x. resent k p x) nodes pool v e)
+      one_node_call written carries (Forget d) i w ok = one_event (Forget d) (losing.forget_less sha k n size count y (nodes n.0).store (nodes n.0).known is.contents is.versions d) w ok (replay.Forget n d) (λ v e. does (λ p x. forgotten k d x) nodes pool v e)
       one_node_call written carries (Bring c) i w ok = one_event (Bring c) (losing.bring_less sha k n size count y (nodes n.0).store (nodes n.0).known is.contents is.versions c) w ok (Forge n c) (λ v e. does (λ p x. unless_spent x (brought sha c x)) nodes pool v e)
 
     -- a life after the node's
@@ -770,6 +771,7 @@ module _ (sha : List ℕ → Digest) (k : Limits) where
   event_goes s (RestartNode n) = if_node s n (restarts k n s) (restart_goes s n)
   event_goes s RestartCoordinator = (once s (as_processes (record s { ledger = reads s.saved; down = false })) (Coordinator_does [] (record { memory = Some (reads s.saved); disk = s.saved }) Starts), refl)
   event_goes s (Forge n c) = node_goes s n (Bring c) tt
+  event_goes s (replay.Forget n d) = node_goes s n (Forget d) tt
   event_goes s (FailSave kept) = (Rests (as_processes s), refl)
 
   runs_on : (size : ℕ) (p q r : Processes) → Runs sha k size p q → Runs sha k size q r → Runs sha k size p r

@@ -9,8 +9,8 @@ use Rattle.farm_base.specs.declared.message.Message.TheVariants as to
 use Rattle.farm_base.specs.declared.message.ToNode.TheVariants as to_node
 use Rattle.protocol.specs.Ledger.{Limits, Ledger, Work, begin_work, grant_of, handled, withdrawn, retired, pruned, nudged, lease_under, has_ticket, has_slot, holds_wanted, is_awaited, is_parked, another, is_its, Lease, is_saved, Saved, saves, reads}
 use Rattle.protocol.specs.World.{Running, World, Node, Move, Machine_moves, Machine_says, Fails, Recovers, Moves, Still, Then, start}
-use Rattle.protocol.specs.Nodes.{NodeWork, NodeAnswer, Place, asked, asked_tenure, begun, finished_with, aborted, resent, restarted, may_restart, heard, fetched, brought, unless_spent}
-use Rattle.protocol.specs.Replay.{Event, Tenure, Deliver, Begin, Finish, Abort, Resend, Nudge, Withdraw, Prune, Retire, RestartNode, RestartCoordinator, Forge, FailSave, Farm, Turn, opening, refused, first_sent, done, after_work, settled, settles, coordinated, is_node, moved, answered, at_node, node_does, restarts, told_to, delivered, step, run}
+use Rattle.protocol.specs.Nodes.{NodeWork, NodeAnswer, Place, asked, asked_tenure, begun, finished_with, aborted, forgotten, resent, restarted, may_restart, heard, fetched, brought, unless_spent}
+use Rattle.protocol.specs.Replay.{Event, Tenure, Deliver, Begin, Finish, Abort, Resend, Nudge, Withdraw, Prune, Retire, RestartNode, RestartCoordinator, Forge, Forget, FailSave, Farm, Turn, opening, refused, first_sent, done, after_work, settled, settles, coordinated, is_node, moved, answered, at_node, node_does, restarts, told_to, delivered, step, run}
 use Rattle.protocol.specs.Replay as replay
 use Rattle.protocol.specs.declared.answer.Kept.{Kept}
 use Rattle.protocol.specs.declared.answer.Kept.TheVariants.{Old, New}
@@ -37,7 +37,7 @@ use Rattle.protocol.proofs.Deciding.{apart_of}
 use Rattle.protocol.proofs.Deciding as deciding
 use Rattle.protocol.proofs.Saying.{Grew}
 use Rattle.protocol.proofs.Leases.{core_of, grant-lease, lease_has, has_lease, find_none, find_some, find_in}
-use Rattle.protocol.proofs.Using.{Runs, Turned, NoGrant, Quiet, OneEach, one_each, OnNode, Begun, Stops, Aborts, asked_use, tenure_use, begun_use, finished_use, aborted_use, resent_use, heard_use, fetched_use, brought_use}
+use Rattle.protocol.proofs.Using.{Runs, Turned, NoGrant, Quiet, OneEach, one_each, OnNode, Begun, Stops, Aborts, asked_use, tenure_use, begun_use, finished_use, aborted_use, resent_use, heard_use, fetched_use, brought_use, forgotten_use}
 use Rattle.std.specs.Prelude.{⊤, nat_lt, nat_le}
 use Rattle.std.proofs.lemmas.Bool.Decides.{nat_tests}
 use Rattle.protocol.specs.Follows.{lease_from, Agrees, Works, Begins_work, Goes_on, Speaks, Follows, SavedAgrees, Shows, IsFarm, SafeAfter, SafeBetween, EveryScheduleIsSafe, EveryScheduleStaysSafe, EveryEventIsMoves, FollowsOk, EveryDecisionFollows}
@@ -61,7 +61,7 @@ use Rattle.protocol.proofs.Ordering as ordering
 use Rattle.protocol.proofs.Replying as replying
 use Rattle.protocol.proofs.Wanting as wanting
 use Rattle.protocol.proofs.Noting as noting
-use Rattle.protocol.proofs.Moving.{NoneTold, Reached, OnAnswer, asked_does, tenure_does, begun_does, finished_does, aborted_does, resent_does, restarted_does, stops_does, spent_does, fetched_does, brought_does, heard_does}
+use Rattle.protocol.proofs.Moving.{NoneTold, Reached, OnAnswer, asked_does, tenure_does, begun_does, finished_does, aborted_does, resent_does, restarted_does, stops_does, spent_does, fetched_does, brought_does, heard_does, forgotten_does}
 
 -- ---- more messages leave what was so
 
@@ -1386,6 +1386,12 @@ module _ (sha : List ℕ → Digest) (k : Limits) (farm : IsFarm sha k) where
       let p : Plain sha u s e n None = record { finds = refl; rises = λ a n. omega arith; ends = λ said g y h. h; adds = λ said x. refl; lives = λ said f j. refl; coord = λ said m sends. tt; at = refl; heard = refl; apart = λ r. r } in
       node_next u run s shows e n None p (λ p x. unless_spent x (brought sha c x))
       (quiet_act u run s shows e n None p _ (any_note u run s shows e (λ x v. (x, refl)) _) (spent_does sha u n _ (brought_does sha u n c)) (brought_use (u.nodes n.0) one sha c) (noting.forged_exact sha k n s.size (u.nodes n.0) one c))
+  step_next u run s shows (Forget n d) =
+      let e : Event = Forget n d in
+      let one = one_here u run s shows e n in
+      let p : Plain sha u s e n None = record { finds = refl; rises = λ a n. omega arith; ends = λ said g y h. h; adds = λ said x. refl; lives = λ said f j. refl; coord = λ said m sends. tt; at = refl; heard = refl; apart = λ r. r } in
+      node_next u run s shows e n None p (λ p x. forgotten k d x)
+      (quiet_act u run s shows e n None p _ (note_map u run s shows e _ (λ c h v. ap event_note.Node h) _ (noting.forgotten_noted sha k n s.size (u.nodes n.0) one d)) (forgotten_does sha u n k d) (forgotten_use (u.nodes n.0) one k d) (noting.forgotten_exact sha k n s.size (u.nodes n.0) one d))
   step_next u run s shows (FailSave kept) = record {
     world = u;
     moves = Still u;

@@ -1,10 +1,10 @@
 -- Which executions begin and end at a node's messages and calls.
-use Rattle.std.proofs.Common.{◌≡◌, ℕ, List, [], ◌∷◌, ◌++◌, ◌⊎◌, Bool, true, false, not, ◌&&◌, eqb, length, Option, Some, None, Ok, Err, refl, sym, ◌∙◌, ap, subst, inl, inr}
+use Rattle.std.proofs.Common.{◌≡◌, ℕ, List, [], ◌∷◌, ◌++◌, ◌⊎◌, Bool, true, false, not, ◌&&◌, eqb, length, Option, Some, None, Ok, Err, refl, sym, ◌∙◌, ap, subst, inl, inr, ◌||◌}
 use Rattle.std.proofs.lemmas.Bool.{cases_eq, cases_Bool}
 use Rattle.std.specs.List.{list_any}
 use Rattle.std.specs.Prelude.{⊤, nat_lt}
 use Rattle.protocol.specs.Lists.{nth, set_nth}
-use Rattle.protocol.specs.Names.{Shared, slots_eq, NodeId, Life, Ask, Ticket, Digest, Want, FolderName, tenure_wants}
+use Rattle.protocol.specs.Names.{Shared, slots_eq, NodeId, Life, Ask, Ticket, Digest, Want, FolderName, tenure_wants, digest_eq}
 use Rattle.protocol.specs.Machine.{Confirmed, Grant, FromCoord, slots_of, written}
 use Rattle.farm_base.specs.declared.message.FromCoord.TheVariants as told
 use Rattle.farm_base.specs.declared.message.Why.{Why}
@@ -13,7 +13,7 @@ use Rattle.protocol.specs.declared.answer.NodeRefusal.{NodeRefusal}
 use Rattle.protocol.specs.declared.answer.NodeNote.TheVariants as node_note
 use Rattle.protocol.specs.Ledger.{Limits}
 use Rattle.protocol.specs.World.{KeptAsk, Open, Holding, Running, Finished, Over, Node, keeps, World}
-use Rattle.protocol.specs.Nodes.{NodeWork, NodeAnswer, guard, Place, is_tenure_of, at_home, in_use, HeldGrant, Sent, first, held, running, held_or_running, finished, recallable, is_stored, all_stored, is_base, asked, asked_tenure, beginning, begun, Left, news_of, leaving, finishing, finished_with, aborting, aborted, resent, gives_back, granted, learned, dropped, denied, recalled, of_life, heard, fetched, brought, unless_spent}
+use Rattle.protocol.specs.Nodes.{NodeWork, NodeAnswer, guard, Place, is_tenure_of, at_home, in_use, HeldGrant, Sent, first, held, running, held_or_running, finished, recallable, is_stored, all_stored, is_base, asked, asked_tenure, beginning, begun, Left, news_of, leaving, finishing, finished_with, aborting, aborted, forgotten, needs, resent, gives_back, granted, learned, dropped, denied, recalled, of_life, heard, fetched, brought, unless_spent}
 use Rattle.protocol.proofs.Base.{some_is, nth_set_cases, nth-set_same, nth-set_other, nth-append, nth_push_cases}
 use Rattle.protocol.proofs.Acts.{open_not_running, held_not_running}
 use Rattle.protocol.proofs.Steps.{same_grant}
@@ -223,6 +223,9 @@ module _ (x : Node) (one : OneEach x.asks) where
 
   pub aborted_use : (at : Place) (t : Ticket) → OnNode (Aborts t) (aborted at t x)
   aborted_use at t = on_guard (Aborts t) x.spent _ _ (λ up. aborting_use at t (first (held_or_running t) x.asks 0) refl)
+
+  pub forgotten_use : (k : Limits) (d : Digest) → OnNode Still (forgotten k d x)
+  forgotten_use k d = on_guard Still x.spent _ _ (λ up. on_guard Still (digest_eq d k.empty || not (is_stored x d)) _ _ (λ some. on_guard Still (list_any (needs d) x.asks) _ _ (λ free. quiet_same x.asks)))
 
   pub resent_use : (k : Limits) (at : Place) → OnNode Still (resent k at x)
   resent_use k at = on_guard Still x.spent _ _ (λ up. quiet_same x.asks)

@@ -23,9 +23,9 @@ use Rattle.protocol.specs.declared.answer.CoordRefusal.TheVariants as coord_refu
 use Rattle.protocol.specs.declared.answer.EventRefusal.{EventRefusal}
 use Rattle.protocol.specs.declared.answer.EventRefusal.TheVariants as refusal
 use Rattle.protocol.specs.declared.answer.Outcome.{Outcome}
-use Rattle.protocol.specs.World.{KeptAsk, Open, Holding, Running, Finished, Over, Node, World, keeps, learn_bases, learn_versions, keep, has_life}
+use Rattle.protocol.specs.World.{KeptAsk, Open, Holding, Running, Finished, Over, Node, World, keeps, learn_bases, learn_versions, keep, without, has_life}
 use Rattle.protocol.specs.Nodes.{Left, news_of}
-use Rattle.protocol.specs.Replay.{Event, Tenure, Deliver, Begin, Finish, Abort, Resend, Nudge, Withdraw, Prune, Retire, RestartNode, RestartCoordinator, Forge, FailSave, receiver}
+use Rattle.protocol.specs.Replay.{Event, Tenure, Deliver, Begin, Finish, Abort, Resend, Nudge, Withdraw, Prune, Retire, RestartNode, RestartCoordinator, Forge, Forget, FailSave, receiver}
 use Rattle.protocol.specs.Replay as replay
 use Rattle.protocol.specs.Safe.{InUse}
 
@@ -257,6 +257,7 @@ node_at u (Abort n t) = Some n
 node_at u (Resend n) = Some n
 node_at u (RestartNode n) = Some n
 node_at u (Forge n c) = Some n
+node_at u (Forget n d) = Some n
 node_at u e = None
 
 -- the message that an event delivers
@@ -312,6 +313,15 @@ IsAnsweredBefore x (message.Recall n l t) = (a : ℕ) (wants : List Want) (g : G
 -- a grant that isn't begun has the digest as a base
 abbrev pub IsBase : Node → Digest → Type 0
 IsBase x d = (a : ℕ) × (wants : List Want) × (g : Grant) × (r : Bool) × (u : GrantedSlot) × IsAsk x a (Holding wants g r) × In u g.slots × (u.digest ≡ d)
+
+-- an ask needs the content of the digest: as a base of its grant until it has finished, and then as one of its news
+pub data Needs (d : Digest) : KeptAsk → Type 0 where
+  Held_base : (wants : List Want) (g : Grant) (r : Bool) (u : GrantedSlot) → In u g.slots → (u.digest ≡ d) → Needs d (Holding wants g r)
+  Running_base : (wants : List Want) (g : Grant) (r : Bool) (u : GrantedSlot) → In u g.slots → (u.digest ≡ d) → Needs d (Running wants g r)
+  Sent_news : (wants : List Want) (g : Grant) (news : List News) (y : News) → In y news → (y.digest ≡ d) → Needs d (Finished wants g news)
+
+abbrev pub IsNeeded : Node → Digest → Type 0
+IsNeeded x d = (a : ℕ) × (s : KeptAsk) × IsAsk x a s × Needs d s
 
 -- the node has nothing to do at the message
 abbrev pub IsStale : (List ℕ → Digest) → Node → Message → Type 0
@@ -375,6 +385,8 @@ NodeMeans sha k size heard e n x (node.Recalled t) sends x' = (l : Life) × (hea
     ⊎ (IsAsk x a (Running wants g false) × (x' ≡ record x { asks = set_nth x.asks a (Running wants g true) }))))
 NodeMeans sha k size heard e n x node.SentBlob sends x' = (y : Fetch) × (c : List ℕ) × (heard ≡ Some (Fetches y)) × (x.store y.digest ≡ Some c) × (sends ≡ Blob y.from c ∷ []) × (x' ≡ x)
 NodeMeans sha k size heard e n x node.BlobTaken sends x' = (c : List ℕ) × Arrives heard e n (Blob n c) × (x.store (sha c) ≡ None) × IsBase x (sha c) × (sends ≡ []) × (x' ≡ record x { store = keep (sha c) c x.store })
+-- what is stored goes by this alone: each other answer says what the store is then, and has all that was in it
+NodeMeans sha k size heard e n x node.Forgot sends x' = (d : Digest) × (c : List ℕ) × (e ≡ Forget n d) × (d ≢ k.empty) × (x.store d ≡ Some c) × (IsNeeded x d → ⊥) × (sends ≡ []) × (x' ≡ record x { store = without d x.store })
 NodeMeans sha k size heard e n x node.OldLife sends x' = (y : FromCoord) × (heard ≡ Some (Told y)) × ((life_of y).0 ≢ x.life.0) × (sends ≡ []) × (x' ≡ x)
 NodeMeans sha k size heard e n x node.Nothing sends x' = ((m : Message) × Arrives heard e n m × IsStale sha x m) × (sends ≡ []) × (x' ≡ x)
 
@@ -394,6 +406,7 @@ Did u (Tenure n f) said v = (a : Ask) × (said ≡ note.Node (node.Asked a))
 Did u (Deliver number) said v = Hears (nth u.pool number) said
 Did u (Resend n) said v = said ≡ note.Node node.Resent
 Did u (Forge n c) said v = (told : NodeNote) × (said ≡ note.Node told)
+Did u (Forget n d) said v = said ≡ note.Node node.Forgot
 Did u (FailSave kept) said v = said ≡ note.Armed
 Did u (Begin n t) said v = (said ≡ note.Node (node.Begun t)) × ((g : Grant) × (ws : List Want) × (g.ticket ≡ t) × (InUse u n g ws → ⊥) × InUse v n g ws)
 Did u (Finish n t lefts) said v = (said ≡ note.Node (node.Finished t)) × ((g : Grant) × (ws : List Want) × (g.ticket ≡ t) × InUse u n g ws × (InUse v n g ws → ⊥))

@@ -8,7 +8,7 @@ use Rattle.protocol.specs.Machine.{News, GrantedSlot, Confirmed, Grant, Message,
 pub use Rattle.farm_base.specs.declared.left.Left.{Left}
 use Rattle.farm_base.specs.declared.message.ToNode.TheVariants as to_node
 use Rattle.protocol.specs.Ledger.{Limits}
-use Rattle.protocol.specs.World.{KeptAsk, Open, Holding, Running, Finished, Over, Node, keeps, learn_bases, learn_versions, keep, has_life}
+use Rattle.protocol.specs.World.{KeptAsk, Open, Holding, Running, Finished, Over, Node, keeps, learn_bases, learn_versions, keep, without, has_life}
 use Rattle.farm_base.specs.declared.message.FromCoord.TheVariants as told
 use Rattle.protocol.specs.declared.answer.How.TheVariants as how
 use Rattle.farm_base.specs.declared.message.Why.{Why}
@@ -179,6 +179,14 @@ is_base d (Running wants g r) = false
 is_base d (Finished wants g news) = false
 is_base d (Over how) = false
 
+-- the ask needs the content of the digest: as a base of its grant until it has finished, and then as one of its news
+abbrev pub needs : Digest → KeptAsk → Bool
+needs d (Open wants tenure) = false
+needs d (Holding wants g r) = list_any (λ u. digest_eq u.digest d) g.slots
+needs d (Running wants g r) = list_any (λ u. digest_eq u.digest d) g.slots
+needs d (Finished wants g news) = list_any (λ y. digest_eq y.digest d) news
+needs d (Over how) = false
+
 -- calls
 
 abbrev pub next_ask : Node → Ask
@@ -241,6 +249,11 @@ aborting at x (Some (a, h)) = guard (in_use x.asks a h.wants h.grant) refusal.Te
 
 abbrev pub aborted : Place → Ticket → Node → NodeAnswer
 aborted at t x = guard x.spent refusal.LivesSpent (aborting at x (first (held_or_running t) x.asks 0))
+
+-- the content of the digest is no longer stored. The empty content always is
+abbrev pub forgotten : Limits → Digest → Node → NodeAnswer
+forgotten k d x =
+    guard x.spent refusal.LivesSpent (guard (digest_eq d k.empty || not (is_stored x d)) refusal.NoSuchContent (guard (list_any (needs d) x.asks) refusal.Needed (Ok (record { node = record x { store = without d x.store }; sends = []; note = note.Forgot }))))
 
 -- what an ask sends again
 abbrev pub again : Limits → Place → Node → Ask → KeptAsk → List Message

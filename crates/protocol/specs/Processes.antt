@@ -13,7 +13,7 @@ use Rattle.protocol.specs.declared.answer.CoordRefusal.{CoordRefusal}
 use Rattle.protocol.specs.Ledger.{Limits, Ledger, Work, begin_work, handled, withdrawn, retired, pruned, nudged, Lease, Saved, saves, reads}
 use Rattle.protocol.specs.Ledger as ledger
 use Rattle.protocol.specs.World.{KeptAsk, Node, Running, has_life, first_node}
-use Rattle.protocol.specs.Nodes.{Place, Left, NodeWork, NodeAnswer, asked, asked_tenure, begun, finished_with, aborted, resent, may_restart, received, brought, unless_spent}
+use Rattle.protocol.specs.Nodes.{Place, Left, NodeWork, NodeAnswer, asked, asked_tenure, begun, finished_with, aborted, forgotten, resent, may_restart, received, brought, unless_spent}
 use Rattle.protocol.specs.Replay.{Farm, Event, run, opening, receiver}
 use Rattle.protocol.specs.Safe.{HoldsContent}
 use Rattle.protocol.specs.Lawful.{IsNumber}
@@ -111,6 +111,7 @@ pub data NodeCall : Type 0 where
   Resend : NodeCall
   -- a content from anywhere
   Bring : (content : List ℕ) → NodeCall
+  Forget : (digest : Digest) → NodeCall
 
 -- a line for this node is heard where it was written
 abbrev pub MayReach : List Message → NodeId → NodeCall → Type 0
@@ -122,6 +123,7 @@ MayReach written n (Finish t lefts) = ⊤
 MayReach written n (Abort t) = ⊤
 MayReach written n Resend = ⊤
 MayReach written n (Bring c) = ⊤
+MayReach written n (Forget d) = ⊤
 
 abbrev pub node_decided : (List ℕ → Digest) → Limits → Place → Node → NodeCall → NodeAnswer
 node_decided sha k at x (Receive y) = unless_spent x (received sha k at y x)
@@ -132,6 +134,7 @@ node_decided sha k at x (Finish t lefts) = finished_with sha at t lefts x
 node_decided sha k at x (Abort t) = aborted at t x
 node_decided sha k at x Resend = resent k at x
 node_decided sha k at x (Bring c) = unless_spent x (brought sha c x)
+node_decided sha k at x (Forget d) = forgotten k d x
 
 -- what a node does, and the lines of it that reach the network
 pub data NodeDoes (sha : List ℕ → Digest) (k : Limits) (written : List Message) (n : NodeId) (x : Node) : List Message → Node → Type 0 where
@@ -146,7 +149,7 @@ pub data NodeDoes (sha : List ℕ → Digest) (k : Limits) (written : List Messa
   Begins_life : (life : Life) (lines : List Message) → x.spent ≡ false → x.life.0 < life.0 → life.0 ≤ k.greatest
       → IsPartOf (hello n life ∷ []) lines
       → NodeDoes sha k written n x lines (has_life x life.0)
-  -- some contents or known versions are gone: forgotten, lost with its disk, or not yet there when it was killed
+  -- some contents or known versions are gone: lost with its disk, or not yet there when it was killed
   Loses : (store : Digest → Option (List ℕ)) (known : Slot → ℕ → Option Digest)
       → ((d : Digest) (c : List ℕ) → store d ≡ Some c → x.store d ≡ Some c)
       → ((s : Slot) (number : ℕ) (d : Digest) → known s number ≡ Some d → x.known s number ≡ Some d)

@@ -14,9 +14,9 @@ use Rattle.protocol.specs.declared.answer.Outcome.{Outcome}
 use Rattle.protocol.specs.Ledger.{Limits, Work, begin_work, saves, handled, withdrawn, retired, pruned, nudged}
 use Rattle.protocol.specs.World.{KeptAsk, Holding, Running, Node, World, RunsTenure, IsTenureOf, Idle}
 use Rattle.protocol.specs.Nodes.{Left}
-use Rattle.protocol.specs.Replay.{Event, Tenure, Deliver, Begin, Finish, Abort, Resend, Nudge, Withdraw, Prune, Retire, RestartNode, RestartCoordinator, Forge, Farm}
+use Rattle.protocol.specs.Replay.{Event, Tenure, Deliver, Begin, Finish, Abort, Resend, Nudge, Withdraw, Prune, Retire, RestartNode, RestartCoordinator, Forge, Forget, Farm}
 use Rattle.protocol.specs.Replay as replay
-use Rattle.protocol.specs.Meaning.{IsLive, IsAsk, node_at}
+use Rattle.protocol.specs.Meaning.{IsLive, IsAsk, IsNeeded, node_at}
 
 -- ---- the coordinator
 
@@ -88,6 +88,8 @@ NodeBecause k (Finish n t lefts) x node.TenureInUse = (a : ℕ) × (wants : List
 NodeBecause k (Finish n t lefts) x node.WrongNews = (a : ℕ) × (wants : List Want) × (g : Grant) × RunsUnder x t a wants g × (map (λ (z : Left). z.slot) lefts ≢ written g.slots)
 NodeBecause k (Abort n t) x node.NoSuchTicket = (a : ℕ) (wants : List Want) (g : Grant) → HoldsUnder x t a wants g ⊎ RunsUnder x t a wants g → ⊥
 NodeBecause k (Abort n t) x node.TenureInUse = (a : ℕ) × (wants : List Want) × (g : Grant) × (HoldsUnder x t a wants g ⊎ RunsUnder x t a wants g) × (Idle x.asks a wants g → ⊥)
+NodeBecause k (Forget n d) x node.NoSuchContent = (d ≡ k.empty) ⊎ (x.store d ≡ None)
+NodeBecause k (Forget n d) x node.Needed = IsNeeded x d
 NodeBecause k e x node.LivesSpent = x.spent ≡ true
 NodeBecause k e x r = ⊥
 

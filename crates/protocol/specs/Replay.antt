@@ -8,7 +8,7 @@ pub use Rattle.farm_base.specs.Receivers.{told_to, receiver}
 use Rattle.protocol.specs.Ledger.{Limits, Ledger, Work, begin_work, handled, withdrawn, retired, pruned, nudged, Saved, saves, reads}
 use Rattle.protocol.specs.Ledger as ledger
 use Rattle.protocol.specs.World.{Node, first_node}
-use Rattle.protocol.specs.Nodes.{Place, NodeWork, NodeAnswer, asked, asked_tenure, begun, finished_with, aborted, resent, restarted, may_restart, received, brought, unless_spent}
+use Rattle.protocol.specs.Nodes.{Place, NodeWork, NodeAnswer, asked, asked_tenure, begun, finished_with, aborted, forgotten, resent, restarted, may_restart, received, brought, unless_spent}
 use Rattle.protocol.specs.declared.answer.Kept.{Kept}
 use Rattle.protocol.specs.declared.answer.Kept.TheVariants.{Old, New}
 use Rattle.protocol.specs.declared.answer.CoordRefusal.{CoordRefusal}
@@ -20,7 +20,7 @@ use Rattle.protocol.specs.declared.answer.EventRefusal.{EventRefusal}
 use Rattle.protocol.specs.declared.answer.EventRefusal.TheVariants as refusal
 use Rattle.protocol.specs.declared.answer.Outcome.{Outcome}
 pub use Rattle.protocol.specs.declared.event.Event.{Event}
-pub use Rattle.protocol.specs.declared.event.Event.TheVariants.{Ask, Tenure, Deliver, Begin, Finish, Abort, Resend, Nudge, Withdraw, Prune, Retire, RestartNode, RestartCoordinator, Forge, FailSave}
+pub use Rattle.protocol.specs.declared.event.Event.TheVariants.{Ask, Tenure, Deliver, Begin, Finish, Abort, Resend, Nudge, Withdraw, Prune, Retire, RestartNode, RestartCoordinator, Forge, Forget, FailSave}
 
 -- a farm between two events
 pub record Farm : Type 0 where
@@ -127,6 +127,7 @@ step sha k s (Retire n) = if is_node s n then coordinated s.down (retired k n (b
 step sha k s (RestartNode n) = if is_node s n then restarts k n s else refused refusal.NoSuchNode s
 step sha k s RestartCoordinator = done note.Restarted [] s (record s { ledger = reads s.saved; down = false })
 step sha k s (Forge n c) = node_does n (λ p x. unless_spent x (brought sha c x)) s
+step sha k s (Forget n d) = node_does n (λ p x. forgotten k d x) s
 step sha k s (FailSave kept) = done note.Armed [] s (record s { armed = Some kept })
 
 -- the farm after a whole schedule

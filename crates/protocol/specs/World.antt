@@ -47,6 +47,10 @@ learn_versions (v ∷ vs) known = learn_versions vs (learn v.slot v.number v.dig
 abbrev pub keep : Digest → List ℕ → (Digest → Option (List ℕ)) → Digest → Option (List ℕ)
 keep d c store e = if digest_eq e d then Some c else store e
 
+-- nothing is stored under the digest
+abbrev pub without : Digest → (Digest → Option (List ℕ)) → Digest → Option (List ℕ)
+without d store e = if digest_eq e d then None else store e
+
 -- an ask that is present and whose wants have the folder is the tenure of it
 pub data IsTenureOf (f : FolderName) : KeptAsk → Type 0 where
   Asked_tenure : (w : Want) (wants : List Want) → In w wants → (w.folder ≡ f) → IsTenureOf f (Open wants true)
@@ -120,6 +124,9 @@ pub data Act (sha : List ℕ → Digest) (pool : List Message) (n : NodeId) (x :
   -- any bytes may come, and are kept under their own digest
   Stores : (c : List ℕ)
       → Act sha pool n x [] (record x { store = keep (sha c) c x.store })
+  -- what is stored may go, whatever it is for. Its versions stay known
+  Forgets : (d : Digest) (c : List ℕ) → (x.store d ≡ Some c)
+      → Act sha pool n x [] (record x { store = without d x.store })
   Asks_content : (other : NodeId) (d : Digest) → Act sha pool n x (Fetches (record { node = other; from = n; digest = d }) ∷ []) x
   Sends_blob : (other : NodeId) (c : List ℕ) → Act sha pool n x (Blob other c ∷ []) x
   -- a restart ends the executions, and keeps the contents with the known versions

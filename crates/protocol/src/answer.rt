@@ -73,6 +73,8 @@ pub enum NodeNote {
     Recalled(Ticket),
     SentBlob,
     BlobTaken,
+    /// The content is no longer stored.
+    Forgot,
     /// The message is for an older life of this node.
     OldLife,
     Nothing,
@@ -101,6 +103,10 @@ pub enum NodeRefusal {
     TenureHere,
     #[error("an ask of this node uses the tenure's folder")]
     TenureInUse,
+    #[error("no content that may be forgotten is stored under the digest")]
+    NoSuchContent,
+    #[error("an ask of this node needs the content")]
+    Needed,
 }
 
 /// What is done with an ask.

@@ -1,5 +1,5 @@
 use super::answer::Kept;
-use farm_base::{Content, Copied, FolderName, Items, Left, NodeId, Slot, Ticket, Wants};
+use farm_base::{Content, Copied, Digest, FolderName, Items, Left, NodeId, Slot, Ticket, Wants};
 use std::alloc::{AllocError, Global};
 
 /// One thing that happens in a farm.
@@ -33,6 +33,8 @@ pub enum Event {
     RestartCoordinator,
     /// A content that nobody sent arrives at the node.
     Forge(NodeId, Content),
+    /// The node no longer stores the content of this digest.
+    Forget(NodeId, Digest),
     /// The next save of the record will fail, and leave this in it.
     FailSave(Kept),
 }
@@ -56,6 +58,7 @@ impl Copied for Event {
             Event::RestartNode(node) => Event::RestartNode(*node),
             Event::RestartCoordinator => Event::RestartCoordinator,
             Event::Forge(node, content) => Event::Forge(*node, content.copy(alloc)?),
+            Event::Forget(node, digest) => Event::Forget(*node, *digest),
             Event::FailSave(kept) => Event::FailSave(*kept),
         })
     }

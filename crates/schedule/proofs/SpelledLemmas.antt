@@ -15,8 +15,8 @@ use Rattle.protocol.specs.declared.answer.Kept.TheVariants.{Old, New}
 use Rattle.protocol.specs.declared.event.Event.{Event}
 use Rattle.protocol.specs.declared.event.Event.TheVariants as event
 use Rattle.schedule.specs.declared.verb.Verb.{Verb}
-use Rattle.schedule.specs.declared.verb.Verb.TheVariants.{Ask, Tenure, Deliver, Begin, Finish, Abort, Resend, Restart, Forge, Nudge, Withdraw, Prune, Retire, Fail}
-use Rattle.schedule.specs.Lines.{node_text, ticket_text, kept_text, want_text, left_text, IsNode, IsTicket, IsWant, IsEvent, IsTextOf, IsSpelled}
+use Rattle.schedule.specs.declared.verb.Verb.TheVariants.{Ask, Tenure, Deliver, Begin, Finish, Abort, Resend, Restart, Forge, Forget, Nudge, Withdraw, Prune, Retire, Fail}
+use Rattle.schedule.specs.Lines.{node_text, ticket_text, kept_text, want_text, left_text, digits_text, IsNode, IsTicket, IsWant, IsEvent, IsTextOf, IsSpelled}
 use Rattle.schedule.specs.Words.{words, verb_text, Says, SpelledBy}
 use Rattle.schedule.proofs.PlainLemmas.{IsWord, IsWord-from_test, decimal_word, hex_word, folder_word, slot_word, want_words, left_words, words-joined, joined_utf8}
 
@@ -41,6 +41,7 @@ verb_word Abort = IsWord-from_test (verb_text Abort) refl
 verb_word Resend = IsWord-from_test (verb_text Resend) refl
 verb_word Restart = IsWord-from_test (verb_text Restart) refl
 verb_word Forge = IsWord-from_test (verb_text Forge) refl
+verb_word Forget = IsWord-from_test (verb_text Forget) refl
 verb_word Nudge = IsWord-from_test (verb_text Nudge) refl
 verb_word Withdraw = IsWord-from_test (verb_text Withdraw) refl
 verb_word Prune = IsWord-from_test (verb_text Prune) refl
@@ -72,6 +73,8 @@ said_words Restart ws e (inl h) = subst (All IsWord) (sym h.text) (node_words h.
 said_words Restart ws e (inr h) = subst (All IsWord) (sym h.text) (one_word (codes "coordinator") coordinator_word)
 said_words Forge ws e h =
     subst (All IsWord) (sym h.text) (node_words h.node (encode_lower h.content ∷ []) h.is_node (one_word (encode_lower h.content) (hex_word h.content h.is_content)))
+said_words Forget ws e h =
+    subst (All IsWord) (sym h.text) (node_words h.node (digits_text h.digest ∷ []) h.is_node (one_word (digits_text h.digest) (hex_word h.digest.0 h.is_digest.1)))
 said_words Nudge ws e h = subst (All IsWord) (sym h.text) (All-nil IsWord)
 said_words Withdraw ws e h = subst (All IsWord) (sym h.text) (ticket_words h.ticket [] h.is_ticket (All-nil IsWord))
 said_words Prune ws e h = subst (All IsWord) (sym h.text) (one_word (slot_text h.slot) (slot_word h.slot h.is_slot))
@@ -108,6 +111,7 @@ said_spelled Resend ws e h = subst (IsSpelled (line_of Resend ws)) (sym h.event)
 said_spelled Restart ws e (inl h) = subst (IsSpelled (line_of Restart ws)) (sym h.event) (record { lawful = h.is_node; text = ap (line_of Restart) h.text })
 said_spelled Restart ws e (inr h) = subst (IsSpelled (line_of Restart ws)) (sym h.event) (record { lawful = tt; text = ap (line_of Restart) h.text })
 said_spelled Forge ws e h = subst (IsSpelled (line_of Forge ws)) (sym h.event) (record { lawful = (h.is_node, h.is_content); text = ap (line_of Forge) h.text })
+said_spelled Forget ws e h = subst (IsSpelled (line_of Forget ws)) (sym h.event) (record { lawful = (h.is_node, h.is_digest); text = ap (line_of Forget) h.text })
 said_spelled Nudge ws e h = subst (IsSpelled (line_of Nudge ws)) (sym h.event) (record { lawful = tt; text = ap (line_of Nudge) h.text })
 said_spelled Withdraw ws e h = subst (IsSpelled (line_of Withdraw ws)) (sym h.event) (record { lawful = h.is_ticket; text = ap (line_of Withdraw) h.text })
 said_spelled Prune ws e h = subst (IsSpelled (line_of Prune ws)) (sym h.event) (record { lawful = h.is_slot; text = ap (line_of Prune) h.text })
@@ -209,6 +213,14 @@ said_by_text line (event.Forge n content) h text = (
     verb = Forge;
     behind = node_text n ∷ encode_lower content ∷ [];
     says = record { node = n; content = content; is_node = h.0; is_content = h.1; text = refl; event = refl };
+  },
+  text,
+)
+said_by_text line (event.Forget n digest) h text = (
+  record {
+    verb = Forget;
+    behind = node_text n ∷ digits_text digest ∷ [];
+    says = record { node = n; digest = digest; is_node = h.0; is_digest = h.1; text = refl; event = refl };
   },
   text,
 )

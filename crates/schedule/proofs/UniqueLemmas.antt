@@ -25,7 +25,7 @@ use Rattle.protocol.specs.declared.answer.Kept.TheVariants.{Old, New}
 use Rattle.protocol.specs.declared.event.Event.{Event}
 use Rattle.protocol.specs.declared.event.Event.TheVariants as event
 use Rattle.schedule.specs.declared.verb.Verb.{Verb}
-use Rattle.schedule.specs.declared.verb.Verb.TheVariants.{Ask, Tenure, Deliver, Begin, Finish, Abort, Resend, Restart, Forge, Nudge, Withdraw, Prune, Retire, Fail}
+use Rattle.schedule.specs.declared.verb.Verb.TheVariants.{Ask, Tenure, Deliver, Begin, Finish, Abort, Resend, Restart, Forge, Forget, Nudge, Withdraw, Prune, Retire, Fail}
 use Rattle.schedule.specs.Lines.{node_text, ticket_text, kept_text, want_text, left_text, IsNode, IsTicket, IsWant, IsLeft, Left, IsSpelled}
 use Rattle.schedule.specs.Words.{verb_text, Says, SpellWants, SpellLefts, OfNode, OfLease, Restarts}
 use Rattle.schedule.proofs.ListLemmas.{map-injective}
@@ -47,6 +47,7 @@ verb_named text =
     else if bytes_eq text (verb_text Resend) then Some Resend
     else if bytes_eq text (verb_text Restart) then Some Restart
     else if bytes_eq text (verb_text Forge) then Some Forge
+    else if bytes_eq text (verb_text Forget) then Some Forget
     else if bytes_eq text (verb_text Nudge) then Some Nudge
     else if bytes_eq text (verb_text Withdraw) then Some Withdraw
     else if bytes_eq text (verb_text Prune) then Some Prune
@@ -64,6 +65,7 @@ verb_named-text Abort = refl
 verb_named-text Resend = refl
 verb_named-text Restart = refl
 verb_named-text Forge = refl
+verb_named-text Forget = refl
 verb_named-text Nudge = refl
 verb_named-text Withdraw = refl
 verb_named-text Prune = refl
@@ -214,6 +216,11 @@ said_same Forge ws a b ha hb =
     let n = node_same ha.node hb.node ha.is_node hb.is_node (cc (ha.text, hb.text)) in
     let content = encode-injective ha.content hb.content ha.is_content hb.is_content (cc (ha.text, hb.text)) in
     ha.event ∙ cc (n, content) ∙ sym hb.event
+said_same Forget ws a b ha hb =
+    let n = node_same ha.node hb.node ha.is_node hb.is_node (cc (ha.text, hb.text)) in
+    let bytes = encode-injective ha.digest.0 hb.digest.0 ha.is_digest.1 hb.is_digest.1 (cc (ha.text, hb.text)) in
+    let digest : ha.digest ≡ hb.digest = λ i. record { 0 = bytes i } in
+    ha.event ∙ cc (n, digest) ∙ sym hb.event
 said_same Nudge ws a b ha hb = ha.event ∙ sym hb.event
 said_same Withdraw ws a b ha hb =
     let t = ticket_same ha.ticket hb.ticket ha.is_ticket hb.is_ticket (cc (ha.text, hb.text)) in

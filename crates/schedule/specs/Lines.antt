@@ -4,6 +4,8 @@ use Rattle.std.specs.List.{All, join_with_byte}
 use Rattle.std.specs.List.Sorted.{IsStrictlySortedBy}
 use Rattle.hex.specs.Hex.{IsBytes, encode_lower}
 pub use Rattle.protocol.specs.Nodes.{Left}
+use Rattle.farm_base.specs.Digests.{IsDigest}
+use Rattle.farm_base.specs.declared.digest.Digest.{Digest}
 use Rattle.farm_base.specs.declared.folder.Mode.TheVariants.{Shared}
 use Rattle.farm_base.specs.declared.number.NodeId.{NodeId}
 use Rattle.farm_base.specs.declared.number.Ticket.{Ticket}
@@ -14,7 +16,7 @@ use Rattle.farm_base.specs.Wanted.{IsWants}
 use Rattle.protocol.specs.declared.answer.Kept.{Kept}
 use Rattle.protocol.specs.declared.answer.Kept.TheVariants.{Old, New}
 use Rattle.protocol.specs.declared.event.Event.{Event}
-use Rattle.protocol.specs.declared.event.Event.TheVariants.{Ask, Tenure, Deliver, Begin, Finish, Abort, Resend, Nudge, Withdraw, Prune, Retire, RestartNode, RestartCoordinator, Forge, FailSave}
+use Rattle.protocol.specs.declared.event.Event.TheVariants.{Ask, Tenure, Deliver, Begin, Finish, Abort, Resend, Nudge, Withdraw, Prune, Retire, RestartNode, RestartCoordinator, Forge, Forget, FailSave}
 
 -- ---- words
 
@@ -51,6 +53,10 @@ pub record IsLeft (left : Left) : Type 0 where
   pub slot : IsSlot left.slot
   pub content : IsBytes left.content
 
+-- the 64 lower-case digits of a digest
+abbrev pub digits_text : Digest → List ℕ
+digits_text d = encode_lower d.0
+
 -- what the record holds after a save that failed: what it held before, or what was to be saved
 abbrev pub kept_text : Kept → List ℕ
 kept_text Old = codes "old"
@@ -84,6 +90,7 @@ event_words (Retire n) = codes "retire" ∷ node_text n ∷ []
 event_words (RestartNode n) = codes "restart" ∷ node_text n ∷ []
 event_words RestartCoordinator = codes "restart" ∷ codes "coordinator" ∷ []
 event_words (Forge n content) = codes "forge" ∷ node_text n ∷ encode_lower content ∷ []
+event_words (Forget n digest) = codes "forget" ∷ node_text n ∷ digits_text digest ∷ []
 event_words (FailSave kept) = codes "fail" ∷ kept_text kept ∷ []
 
 -- the words, separated by spaces
@@ -106,6 +113,7 @@ IsEvent (Retire n) = IsNode n
 IsEvent (RestartNode n) = IsNode n
 IsEvent RestartCoordinator = Unit {0}
 IsEvent (Forge n content) = IsNode n × IsBytes content
+IsEvent (Forget n digest) = IsNode n × IsDigest digest
 IsEvent (FailSave kept) = Unit {0}
 
 -- the line is the event's text, with its wants in some order

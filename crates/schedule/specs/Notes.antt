@@ -60,6 +60,7 @@ node_note_text (node.Denied why) = codes "denied " ++ why_text why
 node_note_text (node.Recalled t) = codes "recalled " ++ decimal t.0
 node_note_text node.SentBlob = codes "sent blob"
 node_note_text node.BlobTaken = codes "blob taken"
+node_note_text node.Forgot = codes "forgot"
 node_note_text node.OldLife = codes "old life"
 node_note_text node.Nothing = codes "nothing"
 

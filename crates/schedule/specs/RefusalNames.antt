@@ -34,6 +34,8 @@ node_refusal_text node.AsksSpent = codes "AsksSpent"
 node_refusal_text node.OutOfMemory = codes "OutOfMemory"
 node_refusal_text node.TenureHere = codes "TenureHere"
 node_refusal_text node.TenureInUse = codes "TenureInUse"
+node_refusal_text node.NoSuchContent = codes "NoSuchContent"
+node_refusal_text node.Needed = codes "Needed"
 
 -- of an event: the name of the refusal within it, if there is one
 abbrev pub refusal_text : EventRefusal → List ℕ

@@ -4,6 +4,8 @@ use Rattle.std.specs.List.{All, slice_split}
 use Rattle.std.specs.List.Sorted.{IsStrictlySortedBy}
 use Rattle.std.specs.Borrow.{Bor}
 use Rattle.hex.specs.Hex.{IsBytes, encode_lower}
+use Rattle.farm_base.specs.Digests.{IsDigest}
+use Rattle.farm_base.specs.declared.digest.Digest.{Digest}
 use Rattle.farm_base.specs.declared.folder.FolderName.{FolderName}
 use Rattle.farm_base.specs.declared.folder.Mode.TheVariants.{Shared}
 use Rattle.farm_base.specs.declared.number.NodeId.{NodeId}
@@ -16,8 +18,8 @@ use Rattle.protocol.specs.declared.answer.Kept.{Kept}
 use Rattle.protocol.specs.declared.event.Event.{Event}
 use Rattle.protocol.specs.declared.event.Event.TheVariants as event
 use Rattle.schedule.specs.declared.verb.Verb.{Verb}
-use Rattle.schedule.specs.declared.verb.Verb.TheVariants.{Ask, Tenure, Deliver, Begin, Finish, Abort, Resend, Restart, Forge, Nudge, Withdraw, Prune, Retire, Fail}
-use Rattle.schedule.specs.Lines.{node_text, ticket_text, kept_text, want_text, left_text, left_slots, IsNode, IsTicket, IsWant, IsLeft, Left}
+use Rattle.schedule.specs.declared.verb.Verb.TheVariants.{Ask, Tenure, Deliver, Begin, Finish, Abort, Resend, Restart, Forge, Forget, Nudge, Withdraw, Prune, Retire, Fail}
+use Rattle.schedule.specs.Lines.{node_text, ticket_text, kept_text, want_text, left_text, digits_text, left_slots, IsNode, IsTicket, IsWant, IsLeft, Left}
 
 -- the words of a line: what stands between its spaces
 abbrev pub words : List ℕ → List (List ℕ)
@@ -37,6 +39,7 @@ verb_text Abort = codes "abort"
 verb_text Resend = codes "resend"
 verb_text Restart = codes "restart"
 verb_text Forge = codes "forge"
+verb_text Forget = codes "forget"
 verb_text Nudge = codes "nudge"
 verb_text Withdraw = codes "withdraw"
 verb_text Prune = codes "prune"
@@ -123,6 +126,15 @@ pub record Forges (ws : List (List ℕ)) (e : Event) : Type 0 where
   pub text : ws ≡ node_text node ∷ encode_lower content ∷ []
   pub event : e ≡ event.Forge node content
 
+-- N DIGEST
+pub record Forgets (ws : List (List ℕ)) (e : Event) : Type 0 where
+  pub node : NodeId
+  pub digest : Digest
+  pub is_node : IsNode node
+  pub is_digest : IsDigest digest
+  pub text : ws ≡ node_text node ∷ digits_text digest ∷ []
+  pub event : e ≡ event.Forget node digest
+
 -- `coordinator`
 pub record RestartsCoordinator (ws : List (List ℕ)) (e : Event) : Type 0 where
   pub text : ws ≡ codes "coordinator" ∷ []
@@ -168,6 +180,7 @@ Says Abort = OfLease event.Abort
 Says Resend = OfNode event.Resend
 Says Restart = Restarts
 Says Forge = Forges
+Says Forget = Forgets
 Says Nudge = Nudges
 Says Withdraw = Withdraws
 Says Prune = Prunes

@@ -10,7 +10,9 @@ ghost use Rattle.schedule.specs.Words.{texts, words, SpellWants, SpellLefts, Say
 
 use super::refusal::LineRefusal;
 use super::verb::{Verb, verb_of};
-use super::word::{bytes_of, folder_of, kept_of, left_of, node_of, slot_of, ticket_of, want_of};
+use super::word::{
+    bytes_of, digest_of, folder_of, kept_of, left_of, node_of, slot_of, ticket_of, want_of,
+};
 use farm_base::reading::number;
 use farm_base::{Content, Items, Left, Mode, Want, Wants};
 use protocol::Event;
@@ -210,6 +212,19 @@ fn forge_of(alloc: Global, words: &[&str]) -> Result<Event, LineRefusal>
     Ok(Event::Forge(node, Content::of(bytes)))
 }
 
+/// `forget N DIGEST`.
+fn forget_of(words: &[&str]) -> Result<Event, LineRefusal>
+    ensures spelled { IfOk result (Says Verb.Forget (texts words.now)) }
+    ensures only { result ≡ Err LineRefusal.BadLine → (e : Event) → Says Verb.Forget (texts words.now) e → ⊥ }
+{
+    let [node, digits] = words else {
+        return Err(LineRefusal::BadLine);
+    };
+    let node = node_of(node).ok_or(LineRefusal::BadLine)?;
+    let digest = digest_of(digits).ok_or(LineRefusal::BadLine)?;
+    Ok(Event::Forget(node, digest))
+}
+
 /// What was left, one item for each of these words.
 fn each_left(alloc: Global, words: &[&str]) -> Result<Vec<Left>, LineRefusal>
     ensures spelled { IfOk result (λ lefts. texts words.now ≡ map left_text lefts.items) }
@@ -278,6 +293,7 @@ fn said_by(alloc: Global, verb: Verb, words: &[&str]) -> Result<Event, LineRefus
         Verb::Resend => resend_of(words),
         Verb::Restart => restart_of(words),
         Verb::Forge => forge_of(alloc, words),
+        Verb::Forget => forget_of(words),
         Verb::Nudge => nudge_of(words),
         Verb::Withdraw => withdraw_of(words),
         Verb::Prune => prune_of(alloc, words),

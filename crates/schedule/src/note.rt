@@ -110,6 +110,7 @@ fn push_node(alloc: Global, text: &mut String, note: &NodeNote) -> Result<(), Al
         NodeNote::Recalled(ticket) => push_number(alloc, text, "recalled ", ticket.0),
         NodeNote::SentBlob => text.push_str("sent blob"),
         NodeNote::BlobTaken => text.push_str("blob taken"),
+        NodeNote::Forgot => text.push_str("forgot"),
         NodeNote::OldLife => text.push_str("old life"),
         NodeNote::Nothing => text.push_str("nothing"),
     }

@@ -36,6 +36,8 @@ fn node_name(refusal: NodeRefusal) -> &'static str
         NodeRefusal::OutOfMemory => "OutOfMemory",
         NodeRefusal::TenureHere => "TenureHere",
         NodeRefusal::TenureInUse => "TenureInUse",
+        NodeRefusal::NoSuchContent => "NoSuchContent",
+        NodeRefusal::Needed => "Needed",
     }
 }
 

@@ -2,22 +2,25 @@
 ghost use Rattle.std.specs.Prelude.{◌≡◌, ◌≢◌, ℕ, ◌<◌, List, ◌++◌, ◌∷◌, IfOk, IfSome, IfNone};
 ghost use Rattle.std.specs.List.{list_any};
 ghost use Rattle.std.specs.Char.{is_ascii_uppercase};
+ghost use Rattle.farm_base.specs.declared.digest.Digest.{Digest};
 ghost use Rattle.farm_base.specs.declared.folder.FolderName.{FolderName};
 ghost use Rattle.farm_base.specs.declared.number.NodeId.{NodeId};
 ghost use Rattle.farm_base.specs.declared.number.Ticket.{Ticket};
 ghost use Rattle.farm_base.specs.declared.want.Want.{Want};
 ghost use Rattle.farm_base.specs.Decimals.{Lacks};
+ghost use Rattle.farm_base.specs.Digests.{IsDigest};
 ghost use Rattle.protocol.specs.declared.answer.Kept.{Kept};
 ghost use Rattle.farm_base.specs.Names.{folder_text, slot_text, IsName, IsSlot};
 ghost use Rattle.farm_base.specs.Slots.{SlotParts};
 ghost use Rattle.hex.specs.Hex.{IsBytes, encode_lower};
-ghost use Rattle.schedule.specs.Lines.{node_text, ticket_text, kept_text, want_text, left_text, IsNode, IsTicket, IsWant, IsLeft, Left};
+ghost use Rattle.schedule.specs.Lines.{node_text, ticket_text, kept_text, want_text, left_text, digits_text, IsNode, IsTicket, IsWant, IsLeft, Left};
 
 use super::refusal::LineRefusal;
 use farm_base::laws::{is_name, is_slot};
 use farm_base::reading::{after, number};
 use farm_base::{
-    Content, FolderName, FolderRefusal, Left, NodeId, Slot, SlotRefusal, Ticket, Want, are_bytes,
+    Content, Digest, FolderName, FolderRefusal, Key, Left, NodeId, Slot, SlotRefusal, Ticket, Want,
+    are_bytes,
 };
 use protocol::Kept;
 use std::alloc::Global;
@@ -126,6 +129,19 @@ pub(crate) fn bytes_of(alloc: Global, word: &str) -> Result<Vec<u8>, LineRefusal
     let bytes = hex::decode(alloc, word)?;
     are_bytes(bytes.as_slice());
     Ok(bytes)
+}
+
+/// The digest that a word's 64 lower-case digits spell.
+pub(crate) fn digest_of(word: &str) -> Option<Digest>
+    ensures found { IfSome result (λ digest. word.now ≡ digits_text digest) }
+    ensures fits { IfSome result IsDigest }
+    ensures only { IfNone result ((digest : Digest) → IsDigest digest → word.now ≢ digits_text digest) }
+{
+    let Ok(key) = Key::parse(word) else {
+        return None;
+    };
+    let _bytes = key.0.bytes();
+    Some(key.0)
 }
 
 /// The parts before and after the last occurrence of a character.

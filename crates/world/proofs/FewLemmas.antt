@@ -1,11 +1,11 @@
 -- A call makes a node send one message at most.
-use Rattle.std.proofs.Common.{◌≡◌, ℕ, ◌≤◌, Bool, true, false, not, ◌&&◌, nat_lt, List, [], ◌∷◌, length, Option, Some, None, Ok, ap, subst, arith, if◌then◌else◌}
+use Rattle.std.proofs.Common.{◌≡◌, ℕ, ◌≤◌, Bool, true, false, not, ◌&&◌, ◌||◌, nat_lt, List, [], ◌∷◌, length, Option, Some, None, Ok, ap, subst, arith, if◌then◌else◌}
 use Rattle.farm_base.specs.Contents.{content_digest}
 use Rattle.protocol.specs.Machine.{slots_of, written}
-use Rattle.protocol.specs.Names.{Ticket, Want, Shared, slots_eq, tenure_wants}
-use Rattle.protocol.specs.World.{Node, keep}
+use Rattle.protocol.specs.Names.{Ticket, Want, Shared, slots_eq, digest_eq, tenure_wants}
+use Rattle.protocol.specs.World.{Node, keep, without}
 use Rattle.protocol.specs.declared.ask.KeptAsk.TheVariants.{Running}
-use Rattle.protocol.specs.Nodes.{Place, Left, HeldGrant, NodeWork, NodeAnswer, guard, first, held, running, held_or_running, at_home, is_tenure_of, opens, beginning, becomes, all_stored, in_use, news_of, finishing, leaving, gives_up, aborting, is_stored, is_base, brought, nothing, unless_spent}
+use Rattle.protocol.specs.Nodes.{Place, Left, HeldGrant, NodeWork, NodeAnswer, guard, first, held, running, held_or_running, at_home, is_tenure_of, opens, beginning, becomes, all_stored, in_use, news_of, finishing, leaving, gives_up, aborting, is_stored, is_base, needs, brought, nothing, unless_spent}
 use Rattle.protocol.specs.declared.answer.NodeRefusal.{NodeRefusal}
 use Rattle.protocol.specs.declared.answer.NodeRefusal.TheVariants as refusal
 use Rattle.protocol.specs.declared.answer.NodeNote.TheVariants as note
@@ -73,6 +73,11 @@ called_few (call.Finish t lefts) p x w h =
     finishes_few p lefts x (first (running t) x.asks 0) w (guarded x.spent refusal.LivesSpent (finishing content_digest p lefts x (first (running t) x.asks 0)) w h)
 called_few (call.Abort t) p x w h = aborts_few p x (first (held_or_running t) x.asks 0) w (guarded x.spent refusal.LivesSpent (aborting p x (first (held_or_running t) x.asks 0)) w h)
 called_few (call.Forge content) p x w h = one (brought content_digest content x) w (brings_few content x) (guarded x.spent refusal.LivesSpent (Ok (brought content_digest content x)) w h)
+called_few (call.Forget d) p x w h =
+    let v : NodeWork = record { node = record x { store = without d x.store }; sends = []; note = note.Forgot } in
+    let free : NodeAnswer = guard (list_any (needs d) x.asks) refusal.Needed (Ok v) in
+    let gone : Bool = digest_eq d farm_limits.empty || not (is_stored x d) in
+    one v w (omega arith) (guarded (list_any (needs d) x.asks) refusal.Needed (Ok v) w (guarded gone refusal.NoSuchContent free w (guarded x.spent refusal.LivesSpent (guard gone refusal.NoSuchContent free) w h)))
 
 pub few : (c : Call) (p : Place) (x y : Node) (d : NodeDone) → called c p x ≡ Ok (work_of y d) → length d.sends ≤ 1
 few c p x y d h = called_few c p x (work_of y d) h

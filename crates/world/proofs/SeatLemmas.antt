@@ -97,6 +97,8 @@ restarts_as p x y (Err refusal.NotRunning) d s m o = elim o [ inl e ↦ absurd (
 restarts_as p x y (Err refusal.AsksSpent) d s m o = elim o [ inl e ↦ absurd (cc) | inr e ↦ absurd (cc) ]
 restarts_as p x y (Err refusal.TenureHere) d s m o = elim o [ inl e ↦ absurd (cc) | inr e ↦ absurd (cc) ]
 restarts_as p x y (Err refusal.TenureInUse) d s m o = elim o [ inl e ↦ absurd (cc) | inr e ↦ absurd (cc) ]
+restarts_as p x y (Err refusal.NoSuchContent) d s m o = elim o [ inl e ↦ absurd (cc) | inr e ↦ absurd (cc) ]
+restarts_as p x y (Err refusal.Needed) d s m o = elim o [ inl e ↦ absurd (cc) | inr e ↦ absurd (cc) ]
 
 first_here : (cores : List NodeCore) (n : ℕ) → All (λ x. shown x ≡ first_node content_digest) cores → node_at cores n ≡ first_node content_digest
 first_here cores zero all = refl

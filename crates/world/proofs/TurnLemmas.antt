@@ -70,6 +70,8 @@ came_refused s t n f y node.LivesSpent here a same = refused_as s t n f node.Liv
 came_refused s t n f y node.AsksSpent here a same = refused_as s t n f node.AsksSpent here a.0 (same a.1)
 came_refused s t n f y node.TenureHere here a same = refused_as s t n f node.TenureHere here a.0 (same a.1)
 came_refused s t n f y node.TenureInUse here a same = refused_as s t n f node.TenureInUse here a.0 (same a.1)
+came_refused s t n f y node.NoSuchContent here a same = refused_as s t n f node.NoSuchContent here a.0 (same a.1)
+came_refused s t n f y node.Needed here a same = refused_as s t n f node.Needed here a.0 (same a.1)
 
 -- nothing has changed
 pub unmoved : (s : Farm) (n : NodeId) (size : ℕ) (nodes : ℕ → Node) (pool : List Message) → size ≡ s.size → nodes ≡ put n.0 (nodes n.0) s.nodes → pool ≡ s.pool → nodes n.0 ≡ s.nodes n.0
@@ -100,6 +102,8 @@ came_stopped s t n y node.NotRunning here a same after = absurd a
 came_stopped s t n y node.AsksSpent here a same after = absurd a
 came_stopped s t n y node.TenureHere here a same after = absurd a
 came_stopped s t n y node.TenureInUse here a same after = absurd a
+came_stopped s t n y node.NoSuchContent here a same after = absurd a
+came_stopped s t n y node.Needed here a same after = absurd a
 
 -- the result of a message to a node
 abbrev pub hears : ToNode → Place → Node → NodeAnswer

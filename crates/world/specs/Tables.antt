@@ -5,7 +5,7 @@ use Rattle.protocol.specs.Farm.{farm_limits}
 use Rattle.protocol.specs.Lists.{nth, put}
 use Rattle.protocol.specs.Names.{NodeId}
 use Rattle.protocol.specs.World.{Node, first_node}
-use Rattle.protocol.specs.Nodes.{Place, NodeAnswer, may_restart, restarted, asked, asked_tenure, begun, finished_with, aborted, brought, unless_spent}
+use Rattle.protocol.specs.Nodes.{Place, NodeAnswer, may_restart, restarted, asked, asked_tenure, begun, finished_with, aborted, forgotten, brought, unless_spent}
 use Rattle.nodecore.specs.declared.node_core.NodeCore.{NodeCore}
 use Rattle.protocol.specs.declared.answer.NodeRefusal.{NodeRefusal}
 use Rattle.protocol.specs.declared.answer.NodeRefusal.TheVariants as refusal
@@ -50,6 +50,7 @@ called (call.Begin t) p x = begun t x
 called (call.Finish t lefts) p x = finished_with content_digest p t lefts x
 called (call.Abort t) p x = aborted p t x
 called (call.Forge content) p x = unless_spent x (brought content_digest content x)
+called (call.Forget digest) p x = forgotten farm_limits digest x
 
 -- the first so_far nodes of all, in their first lives, each in its place
 pub record AreFirstOf (all so_far : ℕ) (cores : List NodeCore) : Type 0 where

@@ -2,7 +2,7 @@ ghost use Rattle.nodecore.specs.Shown.{shown, place, Answers};
 ghost use Rattle.world.specs.Tables.{called};
 ghost use Rattle.std.specs.Prelude.{◌≡◌};
 
-use farm_base::{Content, FolderName, Items, Left, NodeId, Ticket, Wants};
+use farm_base::{Content, Digest, FolderName, Items, Left, NodeId, Ticket, Wants};
 use nodecore::{NodeCore, NodeDone, ToNode};
 use protocol::NodeRefusal;
 use std::alloc::Global;
@@ -17,6 +17,7 @@ pub(crate) enum Call {
     Abort(Ticket),
     /// A content arrives that nobody sent.
     Forge(Content),
+    Forget(Digest),
 }
 
 /// The node's answer to the call.
@@ -36,5 +37,6 @@ pub(crate) fn answer(
         Call::Finish(ticket, lefts) => core.finish(alloc, ticket, lefts.into_vec()),
         Call::Abort(ticket) => core.abort(alloc, ticket),
         Call::Forge(content) => core.handle(alloc, &ToNode::Blob { node, content }),
+        Call::Forget(digest) => core.forget(alloc, digest),
     }
 }

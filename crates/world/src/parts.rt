@@ -296,6 +296,7 @@ impl Parts {
             Event::RestartNode(node) => self.restart(alloc, node),
             Event::RestartCoordinator => self.restart_coordinator(alloc),
             Event::Forge(node, content) => self.call(alloc, node, Call::Forge(content)),
+            Event::Forget(node, digest) => self.call(alloc, node, Call::Forget(digest)),
             Event::FailSave(kept) => Ok(self.fail_save(kept)),
         }
     }

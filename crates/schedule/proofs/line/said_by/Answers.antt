@@ -27,6 +27,9 @@ returns-in-Restart c = rw c.in-Restart.is c.restart_of.ensures
 pub returns-in-Forge : goal.returns-in-Forge
 returns-in-Forge c = rw c.in-Forge.is c.forge_of.ensures
 
+pub returns-in-Forget : goal.returns-in-Forget
+returns-in-Forget c = rw c.in-Forget.is c.forget_of.ensures
+
 pub returns-in-Nudge : goal.returns-in-Nudge
 returns-in-Nudge c = rw c.in-Nudge.is c.nudge_of.ensures
 
