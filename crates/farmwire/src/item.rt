@@ -20,7 +20,7 @@ use farm_base::{Confirmed, Digest, GrantedSlot, Key, News, Want};
 use std::alloc::{AllocError, Global};
 
 /// A value that one word spells.
-pub(crate) trait Item: Sized {
+pub trait Item: Sized {
     ghost spelling: { Self → List ℕ };
 
     ghost lawful: { Self → Type 0 };
@@ -198,11 +198,7 @@ pub(crate) fn items_of<T: Item + Drop>(alloc: Global, words: &[&str]) -> Result<
 }
 
 /// Adds the words of these values, each behind a space.
-pub(crate) fn push_items<T: Item>(
-    alloc: Global,
-    text: &mut String,
-    items: &[T],
-) -> Result<(), AllocError>
+pub fn push_items<T: Item>(alloc: Global, text: &mut String, items: &[T]) -> Result<(), AllocError>
     ensures { OnOk result (string_bytes text.new ≡ string_bytes text.old ++ spaced (map T.spelling items.now)) }
 {
     for item in items {

@@ -13,8 +13,9 @@ mod word;
 mod writing;
 
 pub use hmac::{FarmKey, mac};
+pub use item::{Item, push_items};
 pub use lawful::is_lawful;
 pub use reading::read;
 pub use refusal::{KeyRefusal, LineFault, ReadRefusal, SealRefusal, WriteRefusal};
 pub use sealing::{LINE_LIMIT, open, seal};
-pub use writing::write;
+pub use writing::{kind_name, why_name, write};

@@ -104,7 +104,7 @@ fn said_text(alloc: Global, message: &ToCoord) -> Result<String, AllocError>
 }
 
 /// The word of a lease's kind.
-fn kind_name(shared: bool, tenure: bool) -> &'static str
+pub fn kind_name(shared: bool, tenure: bool) -> &'static str
     ensures { result.now ≡ kind_text shared tenure }
 {
     match (shared, tenure) {
@@ -116,7 +116,7 @@ fn kind_name(shared: bool, tenure: bool) -> &'static str
 }
 
 /// The word of a refusal.
-fn why_name(why: Why) -> &'static str
+pub fn why_name(why: Why) -> &'static str
     ensures { result.now ≡ why_text why }
 {
     match why {

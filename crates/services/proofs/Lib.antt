@@ -1,4 +1,4 @@
 mod ServingLemmas
 mod CallLemmas
-mod SentLemmas
+pub mod SentLemmas
 mod ShownLemmas

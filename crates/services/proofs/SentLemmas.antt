@@ -7,10 +7,10 @@ use Rattle.std.specs.Result.{IfOk, OnOk, IsErrAnd, is_ok}
 use Rattle.std.specs.String.{string_bytes}
 use Rattle.std.proofs.lemmas.List.{append-nil}
 use Rattle.farmwire.specs.Sealed.{IsSealed}
-use Rattle.protocol.specs.Machine.{FromCoord, Told}
-use Rattle.services.specs.Served.{joined, answer_text, out_of_memory}
-use Rattle.services.specs.Written.{message_line, HasNoLine, IsSent, Adds, AreSent, Sends, OrLost}
-use Rattle.services.specs.Written.IsSent.{Sealed, Unsent}
+use Rattle.protocol.specs.Machine.{Message}
+use Rattle.services.specs.Outside.{message_line, HasNoLine, IsSent, Adds, AreSent, Sends}
+use Rattle.services.specs.Outside.IsSent.{Sealed, Unsent}
+use Rattle.services.specs.Served.{joined, answer_text, out_of_memory, OrLost}
 use Rattle.services.proofs.ServingLemmas.{joined-push}
 
 -- what a text has after a push that went well
@@ -18,7 +18,7 @@ pub when_ok : {T E : Type 0} (r : Result T E) (new pushed old : List ℕ) → ne
 when_ok (Ok done) new pushed old h = h
 when_ok (Err e) new pushed old h = tt
 
-sent-push : (key : List ℕ) (messages : List FromCoord) (texts : List (List ℕ)) (message : FromCoord) (added : List ℕ)
+sent-push : (key : List ℕ) (messages : List Message) (texts : List (List ℕ)) (message : Message) (added : List ℕ)
     → AreSent key messages texts → IsSent key message added → AreSent key (messages ++ message ∷ []) (texts ++ added ∷ [])
 sent-push key [] [] message added h is = (is, tt)
 sent-push key [] (t ∷ texts) message added h is = absurd h
@@ -29,11 +29,11 @@ pub sends-none : (key before : List ℕ) → Sends key [] before before
 sends-none key before = record { texts = []; each = tt; written = sym (append-nil before) }
 
 -- a message without a line
-pub adds_nothing : (key : List ℕ) (message : FromCoord) (before : List ℕ) → HasNoLine key (Told message) → Adds key message before before
+pub adds_nothing : (key : List ℕ) (message : Message) (before : List ℕ) → HasNoLine key message → Adds key message before before
 adds_nothing key message before none = record { text = []; sent = Unsent none refl; written = sym (append-nil before) }
 
 -- its line, in three parts
-pub adds_line : (key line : List ℕ) (message : FromCoord) (before one two after : List ℕ) → IsSealed key line (Told message)
+pub adds_line : (key line : List ℕ) (message : Message) (before one two after : List ℕ) → IsSealed key line message
     → one ≡ before ++ codes "m " → two ≡ one ++ line → after ≡ two ++ codes "\n" → Adds key message before after
 adds_line key line message before one two after is e f g = record {
   text = message_line line;
@@ -43,7 +43,7 @@ adds_line key line message before one two after is e f g = record {
 }
 
 -- one more message
-pub sends-push : (key : List ℕ) (messages : List FromCoord) (message : FromCoord) (before mid after : List ℕ)
+pub sends-push : (key : List ℕ) (messages : List Message) (message : Message) (before mid after : List ℕ)
     → Sends key messages before mid → Adds key message mid after → Sends key (messages ++ message ∷ []) before after
 sends-push key messages message before mid after h is = record {
   texts = h.texts ++ is.text ∷ [];

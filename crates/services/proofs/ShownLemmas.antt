@@ -1,8 +1,11 @@
--- The versions of a slot from a place on.
-use Rattle.std.proofs.Common.{◌≡◌, ℕ, suc, ◌+◌, ◌<◌, List, ◌++◌, length, get_or, drop, ap, ◌∙◌, sym, append_assoc, drop-cons, arith}
+-- What is shown of lines.
+use Rattle.std.proofs.Common.{◌≡◌, ℕ, suc, ◌+◌, ◌<◌, List, [], ◌∷◌, ◌++◌, Some, None, length, get_or, drop, refl, ap, ◌∙◌, sym, append_assoc, drop-cons, arith}
 use Rattle.std.specs.List.{flat_map, enumerate_from}
+use Rattle.farm_base.specs.declared.digest.Digest.{Digest}
 use Rattle.farm_base.specs.declared.message.LineVersion.{LineVersion}
-use Rattle.services.specs.Written.{version_line}
+use Rattle.protocol.specs.Ledger.{last_digest}
+use Rattle.services.specs.Shown.{version_line}
+use Rattle.versions.specs.Lines.{line_shown}
 
 -- a version is shown, and then those after it
 shown_next : (versions : List LineVersion) (k : ℕ) (d : LineVersion) → k < length versions
@@ -22,3 +25,13 @@ shown_more versions k d before after whole lt pushed so_far =
     let rest = flat_map version_line (enumerate_from (k + 1 + 1) (drop (k + 1) versions)) in
     let this = version_line (k + 1, get_or versions k d) in
     ap (λ text. text ++ rest) pushed ∙ append_assoc before this rest ∙ ap (λ text. before ++ text) (sym (shown_next versions k d lt)) ∙ so_far
+
+-- ---- a line that may be none
+
+pub none_shown : (e : Digest) (versions : List LineVersion) → None ≡ line_shown versions → e ≡ last_digest e versions
+none_shown e [] h = refl
+none_shown e (v ∷ vs) h = absurd (cc h)
+
+pub some_shown : (versions known : List LineVersion) → Some known ≡ line_shown versions → known ≡ versions
+some_shown [] known h = absurd (cc h)
+some_shown (v ∷ vs) known h = cc h

@@ -8,7 +8,6 @@ use Rattle.farm_base.specs.declared.number.NodeId.{NodeId}
 use Rattle.farm_base.specs.declared.number.Ticket.{Ticket}
 use Rattle.farm_base.specs.Names.{slot_text, IsSlot}
 use Rattle.farm_base.specs.Slots.{SlotParts}
-use Rattle.farmwire.specs.declared.refusal.LineFault.{LineFault}
 use Rattle.farmwire.specs.declared.refusal.LineFault.TheVariants as line
 use Rattle.farmwire.specs.Sealed.{IsSealed, IsFault}
 use Rattle.protocol.specs.Lawful.{IsNumber, IsSaid}
@@ -17,10 +16,13 @@ use Rattle.services.specs.declared.call.Call.{Call}
 use Rattle.services.specs.declared.call.Call.TheVariants.{Handle, Withdraw, Retire, Prune, Nudge}
 use Rattle.services.specs.declared.call.Order.{Order}
 use Rattle.services.specs.declared.call.Order.TheVariants as order
-use Rattle.services.specs.declared.call.Unread.{Unread}
-use Rattle.services.specs.declared.call.Unread.TheVariants.{TooLong, BadMac, BadForm, NotMine, BadLine, OutOfMemory}
+use Rattle.services.specs.declared.call.Question.{Question}
+use Rattle.services.specs.declared.call.Question.TheVariants.{Line, Status, Needed}
 use Rattle.services.specs.declared.lost.Lost.{Lost}
-use Rattle.services.specs.declared.lost.Lost.TheVariants as lost
+use Rattle.services.specs.declared.unread.Unread.{Unread}
+use Rattle.services.specs.declared.unread.Unread.TheVariants.{TooLong, BadMac, BadForm, NotMine, BadLine, OutOfMemory}
+use Rattle.services.specs.Outside.{from_outside}
+use Rattle.services.specs.Unreads.{lost_line}
 
 -- the call, as the protocol has it
 abbrev pub called : Call → process.Call
@@ -60,6 +62,12 @@ IsOwn text (Retire node) = (text ≡ retire_line node) × IsNumber NODES node
 IsOwn text (Prune slot) = (text ≡ prune_line slot) × IsSlot slot
 IsOwn text Nudge = text ≡ codes "nudge"
 
+-- the line of a question
+abbrev pub IsQuestion : List ℕ → Question → Type 0
+IsQuestion text (Line slot) = (text ≡ line_line slot) × IsSlot slot
+IsQuestion text Status = text ≡ codes "status"
+IsQuestion text Needed = text ≡ codes "needed"
+
 -- ---- what came from outside
 
 -- what stands behind `m ` is the sealed line of what a node says
@@ -79,16 +87,7 @@ IsDropped key sealed NotMine = (message : ToNode) × IsSealed key sealed (to.ToN
 IsDropped key sealed BadLine = ⊥
 IsDropped key sealed OutOfMemory = Unit {0}
 
-abbrev pub unread_of : LineFault → Unread
-unread_of line.TooLong = TooLong
-unread_of line.BadMac = BadMac
-unread_of line.BadForm = BadForm
-unread_of line.OutOfMemory = OutOfMemory
-
 -- ---- a line
-
-abbrev pub from_outside : List ℕ → List ℕ
-from_outside sealed = codes "m " ++ sealed
 
 -- the line asks for the call
 pub data Asks (key text : List ℕ) (call : Call) : Type 0 where
@@ -98,12 +97,12 @@ pub data Asks (key text : List ℕ) (call : Call) : Type 0 where
 -- the operator's line says this
 abbrev pub IsOperators : List ℕ → Order → Type 0
 IsOperators text (order.Call call) = IsOwn text call
-IsOperators text (order.Line slot) = (text ≡ line_line slot) × IsSlot slot
+IsOperators text (order.Show question) = IsQuestion text question
 
 -- the line asks for this
 abbrev pub Orders : List ℕ → List ℕ → Order → Type 0
 Orders key text (order.Call call) = Asks key text call
-Orders key text (order.Line slot) = IsUtf8 text × (text ≡ line_line slot) × IsSlot slot
+Orders key text (order.Show question) = IsUtf8 text × IsQuestion text question
 
 -- the line is neither from outside nor the operator's
 pub record IsBadLine (text : List ℕ) : Type 0 where
@@ -115,11 +114,6 @@ abbrev pub IsUnread : List ℕ → List ℕ → Unread → Type 0
 IsUnread key text BadLine = IsBadLine text
 IsUnread key text OutOfMemory = Unit {0}
 IsUnread key text why = (sealed : List ℕ) × (text ≡ from_outside sealed) × IsDropped key sealed why
-
--- why a line that wasn't kept isn't carried out
-abbrev pub lost_line : Lost → Unread
-lost_line lost.TooLong = TooLong
-lost_line lost.OutOfMemory = OutOfMemory
 
 -- what was handed on asks for this
 abbrev pub AsksFor : List ℕ → Result (List ℕ) Lost → Order → Type 0

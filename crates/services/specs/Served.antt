@@ -1,5 +1,5 @@
 -- What a process writes: its greeting, and the answer to each whole line (this project's own).
-use Rattle.std.specs.Prelude.{◌≡◌, ℕ, List, [], ◌∷◌, ◌++◌, codes, Option, Result, Ok, Err}
+use Rattle.std.specs.Prelude.{◌≡◌, ℕ, List, [], ◌∷◌, ◌++◌, ◌⊎◌, codes, Option, Result, Ok, Err}
 use Rattle.std.specs.String.{string_bytes}
 use Rattle.std.specs.declared.alloc.AllocError.{AllocError}
 use Rattle.std.specs.declared.alloc.Global.{Global}
@@ -45,3 +45,7 @@ pub record Replies {S : Type 0} (steps : Steps S) (given : Result (List ℕ) Los
   pub answer : List ℕ
   pub step : steps old given answer new
   pub written : Appends before after answer
+
+-- the answer is such a text, or memory ran out for it: then its messages are lost
+abbrev pub OrLost : (List ℕ → Type 0) → List ℕ → Type 0
+OrLost Is answer = Is answer ⊎ (answer ≡ out_of_memory)

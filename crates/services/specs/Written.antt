@@ -1,65 +1,29 @@
 -- What a coordinator's filter writes (this project's own). The words of notes and refusals are those of a replay.
-use Rattle.std.specs.Prelude.{◌≡◌, ℕ, List, [], ◌∷◌, ◌++◌, ◌⊎◌, codes, decimal, Option, Some, None, Result, Ok, Err, ⊤}
-use Rattle.std.specs.List.{flat_map, enumerate_from}
+use Rattle.std.specs.Prelude.{◌≡◌, ℕ, List, [], ◌++◌, codes, decimal, map, Option, Some, None, Result, Ok, Err, ⊤}
+use Rattle.std.specs.List.{flat_map}
 use Rattle.coordinator.specs.declared.handled.Handled.{Handled}
-use Rattle.coordinator.specs.Held.{line_at}
 use Rattle.coordinator.specs.Seen.{Seen}
-use Rattle.farm_base.specs.declared.message.LineVersion.{LineVersion}
-use Rattle.farm_base.specs.Slots.{SlotParts}
-use Rattle.farmwire.specs.Sealed.{IsSealed}
-use Rattle.farmwire.specs.Lines.{digits_text}
 use Rattle.protocol.specs.declared.answer.CoordNote.{CoordNote}
 use Rattle.protocol.specs.declared.answer.CoordRefusal.{CoordRefusal}
-use Rattle.protocol.specs.Machine.{Message, FromCoord, Told}
+use Rattle.protocol.specs.Machine.{Told}
 use Rattle.saverecord.specs.Texts.{Texts}
 use Rattle.schedule.specs.Notes.{coord_note_text}
 use Rattle.schedule.specs.RefusalNames.{coord_refusal_text}
 use Rattle.services.specs.declared.call.Call.{Call}
 use Rattle.services.specs.declared.call.Order.TheVariants as order
-use Rattle.services.specs.declared.call.Unread.{Unread}
-use Rattle.services.specs.declared.call.Unread.TheVariants.{TooLong, BadMac, BadForm, NotMine, BadLine, OutOfMemory}
+use Rattle.services.specs.declared.call.Question.{Question}
 use Rattle.services.specs.declared.lost.Lost.{Lost}
 use Rattle.services.specs.declared.reply.Ended.{Ended}
 use Rattle.services.specs.declared.reply.Over.{Over}
 use Rattle.services.specs.declared.reply.Over.TheVariants.{Outdated, Gone}
 use Rattle.services.specs.declared.reply.Reply.{Reply}
+use Rattle.services.specs.declared.unread.Unread.{Unread}
 use Rattle.services.specs.Calls.{called, AsksFor, AsksNothing}
 use Rattle.services.specs.Carried.{Saving, Loading, OnlyRestarts, CarriesOut}
-use Rattle.services.specs.Served.{joined, out_of_memory}
-use Rattle.versions.specs.Lines.{line_shown}
-
--- ---- messages
-
--- `m ` and a sealed line
-abbrev pub message_line : List ℕ → List ℕ
-message_line line = codes "m " ++ (line ++ codes "\n")
-
-abbrev pub HasNoLine : List ℕ → Message → Type 0
-HasNoLine key message = (line : List ℕ) → IsSealed key line message → ⊥
-
--- what is written of a message: its sealed line; or nothing where it has none, as if the network had lost it
-pub data IsSent (key : List ℕ) (message : FromCoord) (text : List ℕ) : Type 0 where
-  Sealed : (line : List ℕ) → IsSealed key line (Told message) → text ≡ message_line line → IsSent key message text
-  Unsent : HasNoLine key (Told message) → text ≡ [] → IsSent key message text
-
--- behind what was written before, this message is
-pub record Adds (key : List ℕ) (message : FromCoord) (before after : List ℕ) : Type 0 where
-  pub text : List ℕ
-  pub sent : IsSent key message text
-  pub written : after ≡ before ++ text
-
--- what is written of these messages, in order
-abbrev pub AreSent : List ℕ → List FromCoord → List (List ℕ) → Type 0
-AreSent key [] [] = Unit {0}
-AreSent key [] (text ∷ texts) = ⊥
-AreSent key (message ∷ messages) [] = ⊥
-AreSent key (message ∷ messages) (text ∷ texts) = IsSent key message text × AreSent key messages texts
-
--- behind what was written before, these messages are
-pub record Sends (key : List ℕ) (messages : List FromCoord) (before after : List ℕ) : Type 0 where
-  pub texts : List (List ℕ)
-  pub each : AreSent key messages texts
-  pub written : after ≡ before ++ joined texts
+use Rattle.services.specs.Outside.{Sends}
+use Rattle.services.specs.Served.{OrLost, out_of_memory}
+use Rattle.services.specs.Shown.{IsShown}
+use Rattle.services.specs.Unreads.{unread_line}
 
 -- ---- facts and notes
 
@@ -95,49 +59,25 @@ note_line note = codes "= " ++ (coord_note_text note ++ codes "\n")
 abbrev pub refused_line : CoordRefusal → List ℕ
 refused_line refusal = codes "= refused " ++ (coord_refusal_text refusal ++ codes "\n")
 
--- the line of what isn't carried out
-abbrev pub unread_line : Unread → List ℕ
-unread_line TooLong = codes "= dropped TooLong\n"
-unread_line BadMac = codes "= dropped BadMac\n"
-unread_line BadForm = codes "= dropped BadForm\n"
-unread_line NotMine = codes "= dropped NotMine\n"
-unread_line BadLine = codes "= refused BadLine\n"
-unread_line OutOfMemory = out_of_memory
-
--- ---- the versions of a slot
-
--- `: NUMBER TICKET DIGEST`
-abbrev pub version_line : ℕ × LineVersion → List ℕ
-version_line (number, version) = codes ": " ++ decimal number ++ codes " " ++ decimal version.ticket.0 ++ codes " " ++ digits_text version.digest ++ codes "\n"
-
--- its versions, numbered from 1
-abbrev pub line_answer : Option (List LineVersion) → List ℕ
-line_answer None = codes "= line\n"
-line_answer (Some versions) = flat_map version_line (enumerate_from 1 versions) ++ codes "= line\n"
-
 -- ---- answers
 
 -- what is written of an answer, with these facts
 abbrev pub IsAnswered : List ℕ → List ℕ → Result Handled CoordRefusal → List ℕ → Type 0
-IsAnswered key facts (Ok handled) text = (sent : List ℕ) × Sends key handled.sends [] sent × (text ≡ sent ++ (facts ++ note_line handled.note))
+IsAnswered key facts (Ok handled) text = (sent : List ℕ) × Sends key (map Told handled.sends) [] sent × (text ≡ sent ++ (facts ++ note_line handled.note))
 IsAnswered key facts (Err refusal) text = text ≡ facts ++ refused_line refusal
 
 -- the messages, then the facts, then the note
 abbrev pub IsWritten : List ℕ → Reply → List ℕ → Type 0
 IsWritten key reply text = IsAnswered key (fact_lines reply) reply.answer text
 
--- the answer is such a text, or memory ran out for it: then its messages are lost
-abbrev pub OrLost : (List ℕ → Type 0) → List ℕ → Type 0
-OrLost Is answer = Is answer ⊎ (answer ≡ out_of_memory)
-
--- a line is answered: the call that it asks for is carried out; or memory runs out before it; or a slot's versions are shown; or it asks for nothing
+-- a line is answered: the call that it asks for is carried out; or memory runs out before it; or what it asks for is shown; or it asks for nothing
 pub data Filters {K : Type 0} (saving : Saving K) (loading : Loading K) (kept : K → Texts) (key : List ℕ) (given : Result (List ℕ) Lost)
     (answer : List ℕ) (old new : Seen K) : Type 0 where
   Calls : (call : Call) (reply : Reply) → AsksFor key given (order.Call call) → CarriesOut saving loading kept (called call) old new reply
       → OrLost (IsWritten key reply) answer → Filters saving loading kept key given answer old new
   Stops : (call : Call) → AsksFor key given (order.Call call) → OnlyRestarts loading (kept old.keeper) old new
       → answer ≡ out_of_memory → Filters saving loading kept key given answer old new
-  Shows : (slot : SlotParts) → AsksFor key given (order.Line slot) → new ≡ old
-      → OrLost (λ text. text ≡ line_answer (line_shown (line_at old.held.lines slot))) answer → Filters saving loading kept key given answer old new
+  Shows : (question : Question) → AsksFor key given (order.Show question) → new ≡ old → OrLost (IsShown old.held question) answer
+      → Filters saving loading kept key given answer old new
   Drops : (why : Unread) → AsksNothing key given why → new ≡ old → OrLost (λ text. text ≡ unread_line why) answer
       → Filters saving loading kept key given answer old new

@@ -12,25 +12,20 @@ pub enum Call {
     Nudge,
 }
 
+/// What the operator may be shown.
+#[derive(Debug, Drop)]
+pub enum Question {
+    /// The versions of this slot.
+    Line(Slot),
+    /// Who holds which slots, who waits, and the rest of what the coordinator keeps.
+    Status,
+    /// The contents that must not be forgotten.
+    Needed,
+}
+
 /// What a line asks for.
 #[derive(Debug, Drop)]
 pub enum Order {
     Call(Call),
-    /// The versions of this slot are to be shown.
-    Line(Slot),
-}
-
-/// Why a line isn't carried out.
-#[derive(Clone, Copy, Debug, PartialEq, Eq)]
-pub enum Unread {
-    TooLong,
-    /// What stands behind `m ` is no text with its MAC.
-    BadMac,
-    /// The text behind `m ` spells no message.
-    BadForm,
-    /// The message is for a node.
-    NotMine,
-    /// It has no `m ` at its front, and isn't the operator's.
-    BadLine,
-    OutOfMemory,
+    Show(Question),
 }

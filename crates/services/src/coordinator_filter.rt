@@ -5,10 +5,11 @@ ghost use Rattle.services.specs.Written.{Filters};
 use super::call::Order;
 use super::carrying::carry_out;
 use super::lost::Lost;
-use super::printing::{print_reply, print_unread};
+use super::printing::print_reply;
 use super::reading::asked;
 use super::serving::Step;
-use super::showing::print_line;
+use super::showing::print_shown;
+use super::unread::print_unread;
 use coordinator::Coordinator;
 use farm_base::Items;
 use farmwire::FarmKey;
@@ -31,7 +32,7 @@ impl<K: Keeper> Step for CoordinatorFilter<K> {
                 let reply = carry_out(&mut self.coordinator, alloc, &call)?;
                 print_reply(alloc, &self.key, reply)
             }
-            Ok(Order::Line(slot)) => print_line(alloc, self.coordinator.line(&slot)),
+            Ok(Order::Show(question)) => print_shown(alloc, &self.coordinator, &question),
             Err(why) => print_unread(alloc, why),
         }
     }

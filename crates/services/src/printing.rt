@@ -1,63 +1,28 @@
 //! The text of an answer.
-ghost use Rattle.std.specs.Prelude.{◌≡◌, ◌++◌, codes, decimal, IfOk, OnOk, IfSome, IfNone};
+ghost use Rattle.std.specs.Prelude.{◌≡◌, ◌++◌, codes, decimal, map, IfOk, OnOk};
 ghost use Rattle.std.specs.List.{flat_map};
 ghost use Rattle.std.specs.String.{string_bytes};
 ghost use Rattle.schedule.specs.RefusalNames.{coord_refusal_text};
-ghost use Rattle.farmwire.specs.Sealed.{IsSealed};
-ghost use Rattle.services.specs.Written.{HasNoLine, Adds, Sends, restart_lines, ended_line, over_lines, note_line, refused_line, unread_line, IsWritten};
+ghost use Rattle.protocol.specs.Machine.{Told};
+ghost use Rattle.services.specs.Written.{restart_lines, ended_line, over_lines, note_line, refused_line, IsWritten};
 
-use super::call::Unread;
+use super::outside::push_messages;
 use super::reply::{Ended, Over, Reply};
 use farm_base::{FromCoord, Items, Message, ToNode};
-use farmwire::{FarmKey, SealRefusal, seal};
+use farmwire::FarmKey;
 use protocol::{CoordNote, CoordRefusal, EventNote, EventRefusal};
 use schedule::{print_note, refusal_name};
 use std::alloc::{AllocError, Global};
 
-/// The sealed line of a message, if it has one.
-fn line_of(alloc: Global, key: &FarmKey, message: &Message) -> Result<Option<String>, AllocError>
-    ensures sealed { IfOk result (λ found. IfSome found (λ line. IsSealed key.now (string_bytes line) message.now)) }
-    ensures none { IfOk result (λ found. IfNone found (HasNoLine key.now message.now)) }
+/// The messages of the farm that the coordinator sends.
+fn told(alloc: Global, sends: Items<FromCoord>) -> Result<Items<Message>, AllocError>
+    ensures { IfOk result (λ messages. messages ≡ map Told sends) }
 {
-    match seal(alloc, key, message) {
-        Ok(line) => Ok(Some(line)),
-        Err(SealRefusal::OutOfMemory) => Err(AllocError),
-        Err(SealRefusal::Unlawful) => Ok(None),
-        Err(SealRefusal::TooLong) => Ok(None),
-    }
-}
-
-/// Adds `m ` and the sealed line of a message. Of one that has none, nothing is added.
-fn push_message(
-    alloc: Global,
-    key: &FarmKey,
-    text: &mut String,
-    message: FromCoord,
-) -> Result<(), AllocError>
-    ensures { OnOk result (Adds key.now message (string_bytes text.old) (string_bytes text.new)) }
-{
-    let message = Message::ToNode(ToNode::FromCoord(message));
-    let Some(line) = line_of(alloc, key, &message)? else {
-        return Ok(());
-    };
-    text.push_str("m ")?;
-    text.push_str(line.as_str())?;
-    text.push_str("\n")
-}
-
-/// Adds these messages, in order.
-fn push_sends(
-    alloc: Global,
-    key: &FarmKey,
-    text: &mut String,
-    sends: Items<FromCoord>,
-) -> Result<(), AllocError>
-    ensures { OnOk result (Sends key.now sends (string_bytes text.old) (string_bytes text.new)) }
-{
+    let mut messages = Vec::new(alloc);
     for message in sends.into_vec() {
-        push_message(alloc, key, text, message)?;
+        messages.push(Message::ToNode(ToNode::FromCoord(message)))?;
     }
-    Ok(())
+    Ok(Items::new(messages))
 }
 
 /// Adds a front, the name of a refusal, and the end of the line.
@@ -84,7 +49,12 @@ fn push_restart(
 }
 
 /// Adds some words and a number.
-fn push_number(alloc: Global, text: &mut String, words: &str, number: u64) -> Result<(), AllocError>
+pub fn push_number(
+    alloc: Global,
+    text: &mut String,
+    words: &str,
+    number: u64,
+) -> Result<(), AllocError>
     ensures { OnOk result (string_bytes text.new ≡ string_bytes text.old ++ (words.now ++ decimal number)) }
 {
     let number = number.to_string(alloc)?;
@@ -153,7 +123,8 @@ pub(crate) fn print_reply(alloc: Global, key: &FarmKey, reply: Reply) -> Result<
     let mut text = String::new(alloc);
     match answer {
         Ok(handled) => {
-            push_sends(alloc, key, &mut text, handled.sends)?;
+            let messages = told(alloc, handled.sends)?;
+            push_messages(alloc, key, &mut text, messages.as_slice())?;
             push_restart(&mut text, before)?;
             push_ended(alloc, &mut text, ended.as_slice())?;
             push_over(alloc, &mut text, over)?;
@@ -167,28 +138,5 @@ pub(crate) fn print_reply(alloc: Global, key: &FarmKey, reply: Reply) -> Result<
             push_refusal(&mut text, "= refused ", refusal)?;
         }
     }
-    Ok(text)
-}
-
-/// The line of what isn't carried out.
-fn unread_line(why: Unread) -> &'static str
-    ensures { result.now ≡ unread_line why }
-{
-    match why {
-        Unread::TooLong => "= dropped TooLong\n",
-        Unread::BadMac => "= dropped BadMac\n",
-        Unread::BadForm => "= dropped BadForm\n",
-        Unread::NotMine => "= dropped NotMine\n",
-        Unread::BadLine => "= refused BadLine\n",
-        Unread::OutOfMemory => "= refused OutOfMemory\n",
-    }
-}
-
-/// The text of what isn't carried out.
-pub(crate) fn print_unread(alloc: Global, why: Unread) -> Result<String, AllocError>
-    ensures { IfOk result (λ text. string_bytes text ≡ unread_line why) }
-{
-    let mut text = String::new(alloc);
-    text.push_str(unread_line(why))?;
     Ok(text)
 }

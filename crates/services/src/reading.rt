@@ -8,14 +8,17 @@ ghost use Rattle.farm_base.specs.Slots.{SlotParts};
 ghost use Rattle.protocol.specs.Lawful.{IsNumber};
 ghost use Rattle.services.specs.declared.call.Call.{Call};
 ghost use Rattle.services.specs.declared.call.Order.{Order};
-ghost use Rattle.services.specs.Calls.{withdraw_line, retire_line, from_outside, IsOwn, IsOperators, IsHeard, IsDropped, IsUnread, Orders, AsksFor, AsksNothing, unread_of, lost_line};
+ghost use Rattle.services.specs.declared.call.Question.{Question};
+ghost use Rattle.services.specs.Calls.{withdraw_line, retire_line, IsOwn, IsQuestion, IsOperators, IsHeard, IsDropped, IsUnread, Orders, AsksFor, AsksNothing};
 
-use super::call::{Call, Order, Unread};
+use super::call::{Call, Order, Question};
 use super::lost::Lost;
+use super::outside::from_outside;
+use super::unread::{Unread, lost_line, unread_of};
 use farm_base::laws::is_slot;
 use farm_base::reading::{after, number};
 use farm_base::{Items, Message, NODES, NodeId, Slot, SlotRefusal, Ticket};
-use farmwire::{FarmKey, LineFault, open};
+use farmwire::{FarmKey, open};
 use std::alloc::Global;
 
 /// The ticket of `withdraw T`.
@@ -98,6 +101,21 @@ fn own_call(alloc: Global, line: &str) -> Result<Call, Unread>
     Ok(Call::Prune(slot_behind(alloc, line, "prune ")?))
 }
 
+/// What the operator's line asks to be shown.
+fn own_question(alloc: Global, line: &str) -> Result<Question, Unread>
+    ensures found { IfOk result (IsQuestion line.now) }
+    ensures refused { IfErr result (λ why. why ≢ Unread.OutOfMemory → why ≡ Unread.BadLine) }
+    ensures only { result ≡ Err Unread.BadLine → (question : Question) → IsQuestion line.now question → ⊥ }
+{
+    if line == "status" {
+        return Ok(Question::Status);
+    }
+    if line == "needed" {
+        return Ok(Question::Needed);
+    }
+    Ok(Question::Line(slot_behind(alloc, line, "line ")?))
+}
+
 /// What the operator's line asks for.
 fn own_order(alloc: Global, line: &str) -> Result<Order, Unread>
     ensures found { IfOk result (IsOperators line.now) }
@@ -106,20 +124,8 @@ fn own_order(alloc: Global, line: &str) -> Result<Order, Unread>
 {
     match own_call(alloc, line) {
         Ok(call) => Ok(Order::Call(call)),
-        Err(Unread::BadLine) => Ok(Order::Line(slot_behind(alloc, line, "line ")?)),
+        Err(Unread::BadLine) => Ok(Order::Show(own_question(alloc, line)?)),
         Err(_) => Err(Unread::OutOfMemory),
-    }
-}
-
-/// Why what isn't opened isn't carried out.
-fn unread_of(fault: LineFault) -> Unread
-    ensures { result ≡ unread_of fault }
-{
-    match fault {
-        LineFault::TooLong => Unread::TooLong,
-        LineFault::BadMac => Unread::BadMac,
-        LineFault::BadForm => Unread::BadForm,
-        LineFault::OutOfMemory => Unread::OutOfMemory,
     }
 }
 
@@ -135,17 +141,6 @@ fn heard_call(alloc: Global, key: &FarmKey, sealed: &[u8]) -> Result<Call, Unrea
     }
 }
 
-/// What stands behind `m ` at the front of a line.
-fn from_outside(line: &[u8]) -> Option<&[u8]>
-    ensures found { IfSome result (λ sealed. line.now ≡ from_outside sealed.now) }
-    ensures only { IfNone result ((sealed : List ℕ) → line.now ≢ from_outside sealed) }
-{
-    match line {
-        [b'm', b' ', sealed @ ..] => Some(sealed),
-        _ => None,
-    }
-}
-
 /// What a line asks for.
 fn order_of(alloc: Global, key: &FarmKey, line: &[u8]) -> Result<Order, Unread>
     ensures asked { IfOk result (Orders key.now line.now) }
@@ -157,16 +152,6 @@ fn order_of(alloc: Global, key: &FarmKey, line: &[u8]) -> Result<Order, Unread>
     match str::from_utf8(line) {
         Ok(line) => own_order(alloc, line),
         Err(_) => Err(Unread::BadLine),
-    }
-}
-
-/// Why a line that wasn't kept isn't carried out.
-fn lost_line(lost: Lost) -> Unread
-    ensures { result ≡ lost_line lost }
-{
-    match lost {
-        Lost::TooLong => Unread::TooLong,
-        Lost::OutOfMemory => Unread::OutOfMemory,
     }
 }
 

@@ -2,9 +2,14 @@
 ghost use Rattle.std.specs.Prelude.{◌≡◌, ◌++◌, IfOk, OnOk, option_copied};
 ghost use Rattle.std.specs.List.{flat_map, enumerate_from};
 ghost use Rattle.std.specs.String.{string_bytes};
-ghost use Rattle.services.specs.Written.{version_line, line_answer};
+ghost use Rattle.services.specs.Shown.{version_line, line_answer, IsShown};
 
+use super::call::Question;
+use super::needed::print_needed;
+use super::status::print_status;
+use coordinator::Coordinator;
 use farm_base::{Key, LineVersion};
+use saverecord::Keeper;
 use std::alloc::{AllocError, Global};
 use versions::Line;
 
@@ -44,7 +49,7 @@ fn push_versions(
 }
 
 /// The text of a slot's versions.
-pub(crate) fn print_line(alloc: Global, line: Option<&Line>) -> Result<String, AllocError>
+fn print_line(alloc: Global, line: Option<&Line>) -> Result<String, AllocError>
     ensures { IfOk result (λ text. string_bytes text ≡ line_answer (option_copied line.entry)) }
 {
     let mut text = String::new(alloc);
@@ -53,4 +58,19 @@ pub(crate) fn print_line(alloc: Global, line: Option<&Line>) -> Result<String, A
     }
     text.push_str("= line\n")?;
     Ok(text)
+}
+
+/// What the operator asks to be shown.
+pub(crate) fn print_shown<K: Keeper>(
+    alloc: Global,
+    coordinator: &Coordinator<K>,
+    question: &Question,
+) -> Result<String, AllocError>
+    ensures { IfOk result (λ text. IsShown coordinator.now.held question.now (string_bytes text)) }
+{
+    match question {
+        Question::Line(slot) => print_line(alloc, coordinator.line(slot)),
+        Question::Status => print_status(alloc, coordinator),
+        Question::Needed => print_needed(alloc, coordinator),
+    }
 }

@@ -1,7 +1,7 @@
 use Rattle.std.proofs.Common.{◌≡◌, ◌++◌, ◌+◌, drop}
 use Rattle.std.specs.List.{flat_map, enumerate_from}
 use Rattle.std.specs.String.{string_bytes}
-use Rattle.services.specs.Written.{version_line}
+use Rattle.services.specs.Shown.{version_line}
 use Rattle.services.proofs.showing.push_versions.Given as goal
 
 abbrev pub invariant-loop-index : goal.invariant-loop-index

@@ -1,7 +1,7 @@
 use Rattle.std.proofs.Common.{◌≡◌, refl}
-use Rattle.coordinator.specs.Held.{line_at}
-use Rattle.versions.specs.Lines.{line_shown}
-use Rattle.services.specs.Written.{unread_line, line_answer, IsWritten}
+use Rattle.services.specs.Unreads.{unread_line}
+use Rattle.services.specs.Shown.{IsShown}
+use Rattle.services.specs.Written.{IsWritten}
 use Rattle.services.specs.Written.Filters.{Calls, Stops, Shows, Drops}
 use Rattle.services.proofs.SentLemmas.{or_lost, lost_text}
 use Rattle.services.proofs.coordinator_filter.CoordinatorFilterStep.step.Goals as goal
@@ -26,10 +26,9 @@ returns-in_err-reply-in-Ok-Call g c = (
   refl,
 )
 
-pub returns-in-Ok-Line : goal.returns-in-Ok-Line
-returns-in-Ok-Line g c = (
-  Shows c.in-Ok-Line.slot (rw c.in-Ok-Line.field-0-is at c.in-Ok-Line.ensures.asked) refl
-      (or_lost (λ text. text ≡ line_answer (line_shown (line_at c.args.self.now.coordinator.held.lines c.in-Ok-Line.slot))) c.print_line.result
-      (rw c.line.ensures at c.print_line.ensures)),
+pub returns-in-Ok-Show : goal.returns-in-Ok-Show
+returns-in-Ok-Show g c = (
+  Shows c.in-Ok-Show.question (rw c.in-Ok-Show.field-0-is at c.in-Ok-Show.ensures.asked) refl
+      (or_lost (IsShown c.args.self.now.coordinator.held c.in-Ok-Show.question) c.print_shown.result c.print_shown.ensures),
   refl,
 )
