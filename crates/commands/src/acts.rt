@@ -10,8 +10,10 @@ use super::command::{Command, Options, Request, Words, words_of};
 use super::explain::{Explanation, causes_told, copies_of, explained, push_log_fault};
 use super::failure::Failure;
 use super::files::{contents, kept};
+use super::processing::coordinate;
 use super::running::{Order, run_scripts};
 use std::alloc::{AllocError, Global};
+use std::fs::File;
 use std::io::{self, Write};
 use std::rt::Files;
 use std::sync::Wait;
@@ -265,7 +267,7 @@ struct Shown {
 }
 
 /// Reads the files that the words name, acts, and explains what is refused or failed if the words ask for it.
-fn act_on<R: Files + Input + AllocGlobal + Threads + Wait + Sync, O: Write, E: Write>(
+fn act_on<R: Files<File = File> + Input + AllocGlobal + Threads + Wait + Sync, O: Write, E: Write>(
     rt: &R,
     words: &Words,
     out: &mut O,
@@ -287,13 +289,14 @@ fn act_on<R: Files + Input + AllocGlobal + Threads + Wait + Sync, O: Write, E: W
             told.lines.push_str(shown.lines.as_str())?;
             (shown.status, shown.has_failed)
         }
+        Request::Coordinator(place) => (coordinate(rt, place, out, err), false),
     };
     let lines = told.lines.as_str();
     Ok(print_explanation(words.options, lines, has_failed, status, err))
 }
 
 /// Does what the words say. The texts of usage faults and help are `clap`'s.
-pub fn run<R: Files + Input + AllocGlobal + Threads + Wait + Sync, O: Write, E: Write>(
+pub fn run<R: Files<File = File> + Input + AllocGlobal + Threads + Wait + Sync, O: Write, E: Write>(
     rt: &R,
     words: &[String],
     out: &mut O,

@@ -5,6 +5,7 @@ use clap::builder::ValueParser;
 use clap::{Arg, ArgAction, ArgMatches, Error};
 use farm_base::NODES;
 use opsproto::LIMIT;
+use processes::CoordinatorPlace;
 use std::alloc::{AllocError, Global};
 
 /// What the program is asked to do with a file.
@@ -29,6 +30,8 @@ pub enum Request<'a> {
     Print(Command),
     /// Builds definitions on a farm, and prints their answers.
     Run(Order<'a>),
+    /// Is the coordinator of a farm, and answers the lines of the standard input.
+    Coordinator(CoordinatorPlace<'a>),
 }
 
 impl Request<'_> {
@@ -189,6 +192,48 @@ fn run_command<'a>(alloc: Global) -> Result<clap::Command<'a>, AllocError> {
         .arg(files_arg(alloc))
 }
 
+/// What `coordinator` reads and prints.
+const COORDINATOR_LINES: &str =
+    "Prints `= started`, and then the answer to each line of the standard input, up to its end: lines `m SEALED` to be sent, \
+facts `: ..`, and last `= ` with what was done. A line is one of
+  m SEALED     what a node says, with its MAC under the farm's key
+  withdraw T   ends the lease of this ticket
+  retire N     hears this node no more
+  prune SLOT   empties this slot
+  nudge        sends grants again
+  status       shows who has what, and who waits
+  line SLOT    shows the versions of this slot
+  needed       shows the contents that must not be forgotten
+
+Status 4 with `fault Locked`: another process has the record.
+
+Example: head -c 32 /dev/urandom >key && echo status | farmctl coordinator --record kept --key key";
+
+/// A file that has to be named.
+fn place_arg<'a>(
+    alloc: Global,
+    name: &'static str,
+    value: &'static str,
+    help: &'static str,
+) -> Arg<'a> {
+    Arg::new(alloc, name)
+        .long(name)
+        .value_name(value)
+        .required(true)
+        .help(help)
+}
+
+fn coordinator_command<'a>(alloc: Global) -> Result<clap::Command<'a>, AllocError> {
+    let record =
+        "The file of its record, made where it isn't there; a log and a lock stand beside it";
+    let key = "The file of the farm's key, of 32 bytes or more: the same for all processes";
+    clap::Command::new(alloc, "coordinator")
+        .about("Is the coordinator of a farm, whose nodes' lines come on the standard input")
+        .after_help(COORDINATOR_LINES)
+        .arg(place_arg(alloc, "record", "PATH", record))?
+        .arg(place_arg(alloc, "key", "FILE", key))
+}
+
 /// What the program's help says below its commands.
 const NOTES: &str = "Without words it does `replay -`.
 
@@ -197,7 +242,7 @@ Status:
   1  an input was refused, or can't be read; with --strict, an event was refused, or a file failed
   2  the words are no command
   3  memory ran out
-  4  the answer could not be written, or a run ended with a fault
+  4  the answer could not be written, or a run or a process ended with a fault
 
 Example: farmctl replay examples/fenced.schedule";
 
@@ -220,7 +265,8 @@ fn farmctl<'a>(alloc: Global) -> Result<clap::Command<'a>, AllocError> {
         .subcommand(wants_command(alloc)?)?
         .subcommand(record_command(alloc)?)?
         .subcommand(replay_command(alloc)?)?
-        .subcommand(run_command(alloc)?)
+        .subcommand(run_command(alloc)?)?
+        .subcommand(coordinator_command(alloc)?)
 }
 
 /// What the command of this name is asked to do.
@@ -233,6 +279,10 @@ fn named<'a>(name: &str, found: &ArgMatches<'a>) -> Request<'a> {
         "run" => Request::Run(Order {
             nodes: found.get_one("nodes").unwrap_or(1),
             record_path: found.get_str("record"),
+        }),
+        "coordinator" => Request::Coordinator(CoordinatorPlace {
+            record: found.get_str("record").unwrap_or(""),
+            key: found.get_str("key").unwrap_or(""),
         }),
         _ => Request::Print(Command::Replay),
     }

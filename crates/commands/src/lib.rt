@@ -10,6 +10,7 @@ mod failure;
 mod files;
 mod line_fault;
 mod printing;
+mod processing;
 mod record;
 mod replaying;
 mod running;

@@ -5,6 +5,8 @@
 #[cfg(test)]
 mod board_calls;
 #[cfg(test)]
+mod coordinator_lines;
+#[cfg(test)]
 mod cuts;
 #[cfg(test)]
 mod edits;

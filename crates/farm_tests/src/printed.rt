@@ -5,6 +5,7 @@ use farm_base::Digest;
 use protowire::put_message;
 use sha2::Sha256;
 use std::alloc::{AllocError, Global};
+use std::fs::File;
 use std::io::Cursor;
 use std::rt::Files;
 use std::sync::Wait;
@@ -224,7 +225,7 @@ pub(crate) fn strings(alloc: Global, words: &[&str]) -> Result<Vec<String>, Allo
 }
 
 /// The status of the program with these words, and what it prints to the standard output and to the standard error.
-fn run_words<R: Files + Input + AllocGlobal + Threads + Wait + Sync>(
+pub fn run_words<R: Files<File = File> + Input + AllocGlobal + Threads + Wait + Sync>(
     rt: &R,
     words: &[&str],
 ) -> Result<(u8, Vec<u8>, Vec<u8>), Fail> {

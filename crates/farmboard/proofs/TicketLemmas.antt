@@ -10,7 +10,7 @@ use Rattle.farm_base.specs.declared.message.FromCoord.{FromCoord}
 use Rattle.farm_base.specs.declared.message.FromCoord.TheVariants as told
 use Rattle.protocol.specs.declared.ask.KeptAsk.{KeptAsk}
 use Rattle.protocol.specs.declared.ask.KeptAsk.TheVariants.{Open, Holding, Running, Finished, Over}
-use Rattle.protocol.specs.World.{World, Node, Act, Asks, Asks_tenure, Asks_again, Greets, Takes, Gives_back, Begins, Finishes, Gives_up, Sends_commit, Learns, Drops, Is_denied, Is_recalled, Is_recalled_running, Stores, Asks_content, Sends_blob, Restarts, Stops, Move, Node_moves, Machine_moves, Machine_says, Fails, Recovers, Moves, Still, Then, start}
+use Rattle.protocol.specs.World.{World, Node, Act, Asks, Asks_tenure, Asks_again, Greets, Takes, Gives_back, Begins, Finishes, Gives_up, Sends_commit, Learns, Drops, Is_denied, Is_recalled, Is_recalled_running, Stores, Forgets, Asks_content, Sends_blob, Restarts, Stops, Move, Node_moves, Machine_moves, Machine_says, Fails, Recovers, Moves, Still, Then, start}
 use Rattle.protocol.specs.Safe.{Falling}
 use Rattle.protocol.proofs.Base.{put_same, put_other, in_one, in_left, in_append, nth_set_cases, nth_push_cases, some_is}
 use Rattle.nodecore.specs.Asks.{lease_in}
@@ -95,6 +95,7 @@ module _ (sha : List ℕ → Digest) (pool : List Message) (n : NodeId) (x : Nod
   act_grants sends x' (Is_recalled wants h a i at) g z = z
   act_grants sends x' (Is_recalled_running wants h a i at) g z = z
   act_grants sends x' (Stores c) g z = z
+  act_grants sends x' (Forgets d c e) g z = z
   act_grants sends x' Stops g z = z
 
   module _ (so : AreTold x.asks pool) where
@@ -144,6 +145,7 @@ module _ (sha : List ℕ → Digest) (pool : List Message) (n : NodeId) (x : Nod
     act_tells sends x' (Is_recalled wants h a i at) = was_set a (Holding wants h false) (Holding wants h true) at (λ g e. e)
     act_tells sends x' (Is_recalled_running wants h a i at) = was_set a (Running wants h false) (Running wants h true) at (λ g e. e)
     act_tells sends x' (Stores c) = so
+    act_tells sends x' (Forgets d c e) = so
     act_tells sends x' Stops = so
 
 -- ---- every run

@@ -1,12 +1,13 @@
 -- What contracts see of a node.
-use Rattle.std.specs.Prelude.{◌≡◌, ℕ, true, false, List, [], Option, None, Some, is_some, All, Result, Ok, Err}
+use Rattle.std.specs.Prelude.{◌≡◌, ◌==◌, ℕ, true, false, if◌then◌else◌, List, [], Option, None, Some, is_some, All, Result, Ok, Err}
 use Rattle.std.specs.declared.alloc.AllocError.{AllocError}
 use Rattle.protocol.specs.World.{Node}
 use Rattle.protocol.specs.Names.{Digest, Ticket}
 use Rattle.protocol.specs.Machine.{Grant, GrantedSlot, Confirmed}
 use Rattle.farm_base.specs.declared.message.Version.{Version}
-use Rattle.protocol.specs.Nodes.{NodeWork, NodeAnswer, Place, HeldGrant, first, held, all_stored, received}
+use Rattle.protocol.specs.Nodes.{NodeWork, NodeAnswer, Place, HeldGrant, first, held, all_stored, nothing, received}
 use Rattle.farm_base.specs.Contents.{content_digest}
+use Rattle.farm_base.specs.Receivers.{receiver}
 use Rattle.protocol.specs.Farm.{farm_limits}
 use Rattle.farm_base.specs.declared.message.ToNode.{ToNode}
 use Rattle.farm_base.specs.declared.message.ToNode.TheVariants.{FromCoord, Fetch, Blob}
@@ -75,6 +76,10 @@ HasBases x slots = All (HasBase x) slots
 -- the result of a message
 abbrev pub message_work : Place → Node → ToNode → NodeWork
 message_work at x m = received content_digest farm_limits at m x
+
+-- what a message to a node makes this one do: nothing, where it is for another
+abbrev pub hearing : Place → Node → ToNode → NodeWork
+hearing at x m = if (receiver m).0 == at.node.0 then message_work at x m else nothing x
 
 -- the slots of the lease that the message grants, none where it grants no lease
 abbrev pub granted_slots : ToNode → List GrantedSlot

@@ -5,7 +5,7 @@ ghost use Rattle.protocol.specs.declared.ask.KeptAsk.{KeptAsk};
 ghost use Rattle.protocol.specs.Lists.{nth};
 ghost use Rattle.protocol.specs.Nodes.{heard, unless_spent, brought, denied, dropped, fetched, finished, gives_back, granted, takes, learned, first, recallable, recalled};
 ghost use Rattle.farm_base.specs.Contents.{content_digest};
-ghost use Rattle.nodecore.specs.Shown.{shown, place, work_of, message_work, Does, Answers};
+ghost use Rattle.nodecore.specs.Shown.{shown, place, work_of, message_work, hearing, Does, Answers};
 
 use super::asks::{Sought, any_base, hold, is_open, keeps, place_of, recall};
 use super::contents::{bases, confirmed, learn};
@@ -229,14 +229,17 @@ impl NodeCore {
         }
     }
 
-    /// Hears a message. One for another life of the node changes nothing, nor does one that nothing here
+    /// Hears a message. One for another node or another life changes nothing, nor does one that nothing here
     /// waits for; a lease that nothing waits for is given back.
     pub fn handle(&mut self, alloc: Global, message: &ToNode) -> Result<NodeDone, NodeRefusal>
-        ensures answer { Answers (unless_spent (shown self.old) (message_work (place self.old) (shown self.old) message.now)) (shown self.old) (shown self.new) result }
+        ensures answer { Answers (unless_spent (shown self.old) (hearing (place self.old) (shown self.old) message.now)) (shown self.old) (shown self.new) result }
         ensures place { place self.new ≡ place self.old }
     {
         if self.spent {
             return Err(NodeRefusal::LivesSpent);
+        }
+        if message.node() != self.node {
+            return Ok(silent(alloc, NodeNote::Nothing));
         }
         let Ok(done) = self.receive(alloc, message) else {
             return Err(NodeRefusal::OutOfMemory);

@@ -9,15 +9,17 @@ use Rattle.std.proofs.lemmas.Bool.{eqb-true, eqb-false}
 use Rattle.protocol.specs.Lists.{nth, set_nth}
 use Rattle.protocol.specs.Names.{NodeId}
 use Rattle.protocol.specs.World.{Node, first_node}
-use Rattle.protocol.specs.Nodes.{Place, NodeAnswer, may_restart, restarted}
+use Rattle.protocol.specs.Nodes.{Place, NodeWork, NodeAnswer, may_restart, restarted, unless_spent}
 use Rattle.protocol.specs.declared.answer.NodeRefusal.TheVariants as refusal
 use Rattle.protocol.specs.Farm.{farm_limits}
 use Rattle.protocol.specs.declared.answer.NodeRefusal.{NodeRefusal}
 use Rattle.nodecore.specs.declared.message.NodeDone.{NodeDone}
-use Rattle.protocol.proofs.Base.{nth_set_cases, nth-set_same, nth-set_other, nth_push_cases}
+use Rattle.protocol.proofs.Base.{eqb_same, nth_set_cases, nth-set_same, nth-set_other, nth_push_cases}
 use Rattle.farm_base.specs.Contents.{content_digest}
+use Rattle.farm_base.specs.Receivers.{receiver}
+use Rattle.farm_base.specs.declared.message.ToNode.{ToNode}
 use Rattle.nodecore.specs.declared.node_core.NodeCore.{NodeCore}
-use Rattle.nodecore.specs.Shown.{shown, place, work_of, Answers}
+use Rattle.nodecore.specs.Shown.{shown, place, work_of, message_work, hearing, Answers}
 use Rattle.world.specs.Tables.{node_at, shown_or_first, seat, IsSeated, AreSeated, AreFirstOf, AreFirst, OnlyNode, Restarts}
 
 -- the node of a number
@@ -75,6 +77,16 @@ first_pushed all so_far cores x h is at = record {
 -- an answer told of other names for the same nodes
 pub answers_at : (f : Place → Node → NodeAnswer) (p p' : Place) (x x' y y' : Node) (r : Result NodeDone NodeRefusal) → p ≡ p' → x ≡ x' → y ≡ y' → Answers (f p x) x y r → Answers (f p' x') x' y' r
 answers_at f p p' x x' y y' r a b e h = subst (λ (z : Node). Answers (f p' x') x' z r) e (subst (λ (z : Node). Answers (f p' z) z y r) b (subst (λ (q : Place). Answers (f q x) x y r) a h))
+
+-- a message that is for the node is heard
+pub hears_own : (p : Place) (x : Node) (m : ToNode) → (receiver m).0 ≡ p.node.0 → hearing p x m ≡ message_work p x m
+hears_own p x m e = (let same : ((receiver m).0 == p.node.0) ≡ true = subst (λ (z : ℕ). ((receiver m).0 == z) ≡ true) e (eqb_same (receiver m).0) in rw same refl)
+
+-- so is its answer, told of other names for the same nodes
+pub hears_at : (m : ToNode) (p p' : Place) (x x' y y' : Node) (r : Result NodeDone NodeRefusal) → p ≡ p' → x ≡ x' → y ≡ y' → (receiver m).0 ≡ p'.node.0 → Answers (unless_spent x (hearing p x m)) x y r
+    → Answers (unless_spent x' (message_work p' x' m)) x' y' r
+hears_at m p p' x x' y y' r a b e own h =
+    subst (λ (w : NodeWork). Answers (unless_spent x' w) x' y' r) (hears_own p' x' m own) (answers_at (λ q z. unless_spent z (hearing q z m)) p p' x x' y y' r a b e h)
 
 pub restarts_at : (p p' : Place) (x x' y y' : Node) (r : Result NodeDone NodeRefusal) → p ≡ p' → x ≡ x' → y ≡ y' → Restarts p x y r → Restarts p' x' y' r
 restarts_at p p' x x' y y' r a b e h = subst (λ (z : Node). Restarts p' x' z r) e (subst (λ (z : Node). Restarts p' z y r) b (subst (λ (q : Place). Restarts q x y r) a h))

@@ -27,6 +27,7 @@ pub(crate) fn answer(
     node: NodeId,
     call: Call,
 ) -> Result<NodeDone, NodeRefusal>
+    requires { node ≡ (place core.old).node }
     ensures answer { Answers (called call (place core.old) (shown core.old)) (shown core.old) (shown core.new) result }
     ensures place { place core.new ≡ place core.old }
 {

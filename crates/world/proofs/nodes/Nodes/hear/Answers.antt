@@ -1,12 +1,11 @@
-use Rattle.std.proofs.Common.{◌≡◌, ◌<◌, length, Some, ◌+◌, ap, sym, ◌∙◌, rules, arith}
+use Rattle.std.proofs.Common.{◌≡◌, ◌<◌, length, Some, ◌+◌, refl, ap, sym, ◌∙◌, rules, arith}
 use Rattle.std.proofs.Common.{List}
 use Rattle.protocol.specs.Lists.{nth}
 use Rattle.protocol.specs.Names.{NodeId}
 use Rattle.nodecore.specs.declared.node_core.NodeCore.{NodeCore}
-use Rattle.protocol.specs.Nodes.{unless_spent}
-use Rattle.nodecore.specs.Shown.{shown, place, message_work}
+use Rattle.nodecore.specs.Shown.{shown, place}
 use Rattle.world.specs.Tables.{node_at, seat}
-use Rattle.world.proofs.SeatLemmas.{nth_at, place_is, Reseated, reseated, node_is, answers_at}
+use Rattle.world.proofs.SeatLemmas.{nth_at, place_is, Reseated, reseated, node_is, hears_at}
 use Rattle.farm_base.specs.Receivers.{receiver}
 use Rattle.world.proofs.nodes.Nodes.hear.Goals as goal
 
@@ -41,4 +40,4 @@ returns-clause-answer c =
     let found : n.0 ≡ c.in_ok-place.place + 1 = ap (λ (m : NodeId). m.0) (sym c.node.ensures) ∙ c.in_ok-place.ensures.found in
     let at : nth cores n.0 ≡ Some x = nth_at cores n.0 c.in_ok-place.place x found inside (search rules) in
     let r : Reseated cores n c.in_ok-place.place c.handle.new.self = reseated cores n c.in_ok-place.place x c.handle.new.self c.args.self.now.seated found at c.handle.ensures.place in
-    answers_at (λ p z. unless_spent z (message_work p z c.args.message.now)) (place x) (seat cores n) (shown x) (node_at cores n.0) (shown c.handle.new.self) (node_at _ n.0) c.handle.result (place_is cores n x (c.args.self.now.seated n.0 x at)) (sym (node_is cores n.0 x at)) (sym r.shown) c.handle.ensures.answer
+    hears_at c.args.message.now (place x) (seat cores n) (shown x) (node_at cores n.0) (shown c.handle.new.self) (node_at _ n.0) c.handle.result (place_is cores n x (c.args.self.now.seated n.0 x at)) (sym (node_is cores n.0 x at)) (sym r.shown) refl c.handle.ensures.answer

@@ -1,0 +1,288 @@
+//! The lines of a coordinator's filter, each with its answer, word for word. They were worked out by hand; the digests are those of
+//! the contents `abc` and of nothing. And starts of the program that are refused.
+
+use super::printed::run_words;
+use commands::{FAULT, REFUSED};
+use coordinator::Coordinator;
+use farm_base::Key;
+use farmwire::FarmKey;
+use protocol::Kept;
+use saverecord::MemoryKeeper;
+use services::{CoordinatorFilter, serve};
+use std::alloc::{AllocError, Global};
+use std::fs::{self, File, OpenOptions};
+use std::rt::Files;
+use std::sync::Wait;
+use std::test::Fail;
+use std::thread::Threads;
+
+const KEY: &[u8] = b"the key of a farm, thirty-two bytes";
+
+/// How long a line may be here, with its end.
+const MOST: usize = 300;
+
+/// Lines and their answers. `m ` stands before messages, whose MACs are left out here.
+const LINES: [(&str, &str); 25] = [
+    ("m hello 1 5", "= nothing"),
+    (
+        "m acquire 1 5 1 locked:apt",
+        "m granted 1 5 1 1 plain locked:apt=0:e3b0c44298fc1c149afbf4c8996fb92427ae41e4649b934ca495991b7852b855\n= granted 1 locked:apt=0",
+    ),
+    ("m acquire 2 7 1 locked:apt ro=locked:b", "= parked"),
+    (
+        "status",
+        ": lease 1 1 5 1 plain locked:apt\n: parked acquire 2 7 1 locked:apt ro=locked:b\n: life 1 5\n: life 2 7\n: tickets 1\n= status",
+    ),
+    (
+        "needed",
+        ": e3b0c44298fc1c149afbf4c8996fb92427ae41e4649b934ca495991b7852b855\n= needed",
+    ),
+    (
+        "m commit 1 5 1 locked:apt=ba7816bf8f01cfea414140de5dae2223b00361a396177a9cb410ff61f20015ad",
+        "m committed 1 5 1 locked:apt=1:ba7816bf8f01cfea414140de5dae2223b00361a396177a9cb410ff61f20015ad\nm granted 2 7 1 2 plain locked:apt=1:ba7816bf8f01cfea414140de5dae2223b00361a396177a9cb410ff61f20015ad ro=locked:b=0:e3b0c44298fc1c149afbf4c8996fb92427ae41e4649b934ca495991b7852b855\n= committed 1",
+    ),
+    (
+        "m commit 1 5 1 locked:apt=ba7816bf8f01cfea414140de5dae2223b00361a396177a9cb410ff61f20015ad",
+        "m committed 1 5 1 locked:apt=1:ba7816bf8f01cfea414140de5dae2223b00361a396177a9cb410ff61f20015ad\n= committed before 1",
+    ),
+    (
+        "needed",
+        ": ba7816bf8f01cfea414140de5dae2223b00361a396177a9cb410ff61f20015ad\n: ba7816bf8f01cfea414140de5dae2223b00361a396177a9cb410ff61f20015ad\n: e3b0c44298fc1c149afbf4c8996fb92427ae41e4649b934ca495991b7852b855\n= needed",
+    ),
+    ("withdraw 2", ": ended 2 2\n= withdrawn 2"),
+    (
+        "m commit 2 7 2 locked:apt=ba7816bf8f01cfea414140de5dae2223b00361a396177a9cb410ff61f20015ad",
+        "m fenced 2 7 2\n= fenced 2",
+    ),
+    (
+        "line locked:apt",
+        ": 1 1 ba7816bf8f01cfea414140de5dae2223b00361a396177a9cb410ff61f20015ad\n= line",
+    ),
+    ("line locked:b", "= line"),
+    ("m hello 2 6", ": outdated 2 7\n= old life"),
+    ("retire 2", "= retired 2"),
+    ("m hello 2 8", ": gone 2\n= retired node"),
+    (
+        "m acquire 1 5 2 private:p",
+        "m granted 1 5 2 3 plain private:p#1=0:e3b0c44298fc1c149afbf4c8996fb92427ae41e4649b934ca495991b7852b855\n= granted 3 private:p#1=0",
+    ),
+    ("retire 1", ": ended 3 1\n= retired 1"),
+    (
+        "m tenure 3 1 1 shared:s",
+        "m granted 3 1 1 4 tenure shared:s=0:e3b0c44298fc1c149afbf4c8996fb92427ae41e4649b934ca495991b7852b855\n= granted 4 shared:s=0",
+    ),
+    ("m tenure 4 1 1 shared:s", "m recall 3 1 4\n= parked"),
+    (
+        "m acquire 3 1 2 ro=locked:apt shared:s",
+        "m granted 3 1 2 5 shared ro=locked:apt=1:ba7816bf8f01cfea414140de5dae2223b00361a396177a9cb410ff61f20015ad\n= granted 5 locked:apt=1",
+    ),
+    (
+        "nudge",
+        "m granted 3 1 1 4 tenure shared:s=0:e3b0c44298fc1c149afbf4c8996fb92427ae41e4649b934ca495991b7852b855\nm recall 3 1 4\nm granted 3 1 2 5 shared ro=locked:apt=1:ba7816bf8f01cfea414140de5dae2223b00361a396177a9cb410ff61f20015ad\n= nudged",
+    ),
+    (
+        "status",
+        ": lease 4 3 1 1 tenure shared:s\n: lease 5 3 1 2 shared ro=locked:apt\n: parked tenure 4 1 1 shared:s\n: life 1 5\n: life 2 7\n: life 3 1\n: life 4 1\n: gone 1\n: gone 2\n: retired private:p#1\n: last locked:apt 1:1:ba7816bf8f01cfea414140de5dae2223b00361a396177a9cb410ff61f20015ad\n: tickets 5\n= status",
+    ),
+    ("prune locked:apt", "= refused SlotLeased"),
+    ("withdraw 99", "= refused NotLive"),
+    ("withdraw 4", "= refused Tenure"),
+];
+
+/// Lines that are not carried out. One with `!` before it is taken as it stands, without a MAC.
+const UNREAD: [(&str, &str); 10] = [
+    (
+        "!m hello 3 1 0000000000000000000000000000000000000000000000000000000000000000",
+        "= dropped BadMac",
+    ),
+    ("!m ", "= dropped BadMac"),
+    ("m hello 0 5", "= dropped BadForm"),
+    ("m withdraw 5", "= dropped BadForm"),
+    ("m fenced 3 1 5", "= dropped NotMine"),
+    (
+        "!m xxxxxxxxxxxxxxxxxxxxxxxxxxxxxxxxxxxxxxxxxxxxxxxxxxxxxxxxxxxxxxxxxxxxxxxxxxxxxxxxxxxxxxxxxxxxxxxxxxxxxxxxxxxxxxxxxxxxxxxxxxxxxxxxxxxxxxxxxxxxxxxxxxxxxxxxxxxxxxxxxxxxxxxxxxxxxxxxxxxxxxxxxxxxxxxxxxxxxxxxxxxxxxxxxxxxxxxxxxxxxxxxxxxxxxxxxxxxxxxxxxxxxxxxxxxxxxxxxxxxxxxxxxxxxxxxxxxxxxxxxxxxxxxxxxxxxxxxxxxxxxxxxxxxxxxxxxxxxxxxxxxxxxxxxxxxxxxxxxxxxxxxxxxxxxxxxxxxxxxxxxxxxxxxxxxxxxxxxxxxxxxxxxxxxxxxxxxxxxxx",
+        "= dropped TooLong",
+    ),
+    ("needed ", "= refused BadLine"),
+    ("retire 1025", "= refused BadLine"),
+    ("line locked", "= refused BadLine"),
+    ("", "= refused BadLine"),
+];
+
+/// What is said where the first save fails, and leaves what was kept.
+const FAILED_SAVE: [(&str, &str); 2] = [
+    (
+        "m acquire 1 5 1 private:p",
+        ": restarted\n= refused SaveFault",
+    ),
+    (
+        "m acquire 1 5 1 private:p",
+        "m granted 1 5 1 1 plain private:p#1=0:e3b0c44298fc1c149afbf4c8996fb92427ae41e4649b934ca495991b7852b855\n= granted 1 private:p#1=0",
+    ),
+];
+
+/// Adds a line: a message with its MAC.
+fn push_line(
+    alloc: Global,
+    text: &mut String,
+    key: &FarmKey,
+    line: &str,
+) -> Result<(), AllocError> {
+    if let Some(raw) = line.strip_prefix('!') {
+        return write!(text, "{raw}\n");
+    }
+    let Some(message) = line.strip_prefix("m ") else {
+        return write!(text, "{line}\n");
+    };
+    let mac = Key(key.mac(message.as_bytes())).to_text(alloc)?;
+    write!(text, "{line} {mac}\n")
+}
+
+/// Adds the lines of an answer.
+fn push_answer(
+    alloc: Global,
+    text: &mut String,
+    key: &FarmKey,
+    answer: &str,
+) -> Result<(), AllocError> {
+    for line in answer.lines() {
+        push_line(alloc, text, key, line)?;
+    }
+    Ok(())
+}
+
+/// What is read, and what is to be written.
+fn talk_of(
+    alloc: Global,
+    key: &FarmKey,
+    rows: &[(&str, &str)],
+) -> Result<(String, String), AllocError> {
+    let mut read = String::new(alloc);
+    let mut wanted = String::from_str(alloc, "= started\n")?;
+    for (line, answer) in rows {
+        push_line(alloc, &mut read, key, line)?;
+        push_answer(alloc, &mut wanted, key, answer)?;
+    }
+    Ok((read, wanted))
+}
+
+/// What a filter writes that reads this text.
+fn written(
+    alloc: Global,
+    filter: &mut CoordinatorFilter<MemoryKeeper>,
+    text: &str,
+) -> Result<String, Fail> {
+    let mut bytes = Vec::new(alloc);
+    serve(
+        alloc,
+        text.as_bytes(),
+        &mut bytes,
+        filter,
+        MOST,
+        b"= started\n",
+    )?;
+    Ok(String::from_utf8(bytes).ok().ok_or("no text")?)
+}
+
+/// The filter of a coordinator of a farm where nothing happened.
+fn new_filter(alloc: Global) -> Result<CoordinatorFilter<MemoryKeeper>, Fail> {
+    let started = Coordinator::start(alloc, MemoryKeeper::new(alloc, Vec::new(alloc))).ok();
+    let coordinator = started.ok_or("not started")?;
+    let key = FarmKey::of(alloc, KEY)?;
+    Ok(CoordinatorFilter { coordinator, key })
+}
+
+#[test]
+fn answers(rt: HostRuntime) -> Result<(), Fail> {
+    let mut filter = new_filter(rt.alloc())?;
+    for rows in [LINES.as_slice(), UNREAD.as_slice()] {
+        let (read, wanted) = talk_of(rt.alloc(), &filter.key, rows)?;
+        let text = written(rt.alloc(), &mut filter, read.as_str())?;
+        assert_eq!(rt; text.as_str(), wanted.as_str());
+    }
+    Ok(())
+}
+
+#[test]
+fn a_failed_save(rt: HostRuntime) -> Result<(), Fail> {
+    let mut filter = new_filter(rt.alloc())?;
+    filter.coordinator.fail_next(Kept::Old);
+    let (read, wanted) = talk_of(rt.alloc(), &filter.key, &FAILED_SAVE)?;
+    let text = written(rt.alloc(), &mut filter, read.as_str())?;
+    assert_eq!(rt; text.as_str(), wanted.as_str());
+    Ok(())
+}
+
+/// A line without its end is not carried out.
+#[test]
+fn half_a_line(rt: HostRuntime) -> Result<(), Fail> {
+    let mut filter = new_filter(rt.alloc())?;
+    let text = written(rt.alloc(), &mut filter, "nudge\nprune locked:a")?;
+    assert_eq!(rt; text.as_str(), "= started\n= nudged\n");
+    Ok(())
+}
+
+/// The words of a coordinator over files that a test writes.
+const WORDS: [&str; 5] = ["coordinator", "--record", "kept", "--key", "key"];
+
+/// What a newer program may have written.
+const NEWER: &[u8] = b"BKFARM04 a record that a newer program wrote, which nobody here can read";
+
+/// The log of a record that is gone.
+const LOG_ALONE: &[u8] = b"12345678 what follows a record whose last bytes are these";
+
+/// The key, the record and the log of files from which no coordinator starts, and the first line of what is said.
+const REFUSED_STARTS: [(&[u8], &[u8], &[u8], &str); 3] = [
+    (
+        b"thirty-one bytes, and a last LF\n",
+        b"",
+        b"",
+        "refused KeyTooShort",
+    ),
+    (KEY, NEWER, b"", "refused BadRecord"),
+    (KEY, b"", LOG_ALONE, "refused LogAlone"),
+];
+
+/// The status of a start from these files, what is printed, and the first line of what is said.
+fn started<R: Files<File = File> + Input + AllocGlobal + Threads + Wait + Sync>(
+    rt: &R,
+) -> Result<(u8, Vec<u8>, String), Fail> {
+    let (status, out, err) = run_words(rt, &WORDS)?;
+    let said = String::from_utf8(err).ok().ok_or("no text")?;
+    let first = String::from_str(rt.alloc(), said.as_str().lines().next().unwrap_or(""))?;
+    Ok((status, out, first))
+}
+
+/// What is refused changes no file.
+#[test]
+fn refused_starts(rt: HostRuntime) -> Result<(), Fail> {
+    for (key, record, log, wanted) in REFUSED_STARTS {
+        fs::write(&rt, "key", key)?;
+        fs::write(&rt, "kept", record)?;
+        fs::write(&rt, "kept.log", log)?;
+        let (status, out, said) = started(&rt)?;
+        assert_eq!(rt; status, REFUSED);
+        assert_eq!(rt; out.len(), 0);
+        assert_eq!(rt; said.as_str(), wanted);
+        assert_eq!(rt; fs::read(&rt, "kept")?.as_slice(), record);
+        assert_eq!(rt; fs::read(&rt, "kept.log")?.as_slice(), log);
+    }
+    Ok(())
+}
+
+/// A record that another process has.
+#[test]
+fn a_locked_record(rt: HostRuntime) -> Result<(), Fail> {
+    fs::write(&rt, "key", KEY)?;
+    let lock = OpenOptions::new()
+        .write(true)
+        .create(true)
+        .open(&rt, "kept.lock")?;
+    lock.try_lock().ok().ok_or("locked before")?;
+    let (status, out, said) = started(&rt)?;
+    assert_eq!(rt; status, FAULT);
+    assert_eq!(rt; out.len(), 0);
+    assert_eq!(rt; said.as_str(), "fault Locked");
+    lock.unlock()?;
+    Ok(())
+}

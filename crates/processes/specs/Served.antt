@@ -1,0 +1,19 @@
+-- What a coordinator's process writes (this project's own).
+use Rattle.std.specs.Prelude.{ℕ, ◌+◌, List, [], codes, Option, Result}
+use Rattle.coordinator.specs.Seen.{Seen}
+use Rattle.farmwire.specs.declared.sealing.TheConstants.{LINE_LIMIT}
+use Rattle.saverecord.specs.Texts.{Texts}
+use Rattle.services.specs.declared.lost.Lost.{Lost}
+use Rattle.services.specs.Carried.{Saving, Loading}
+use Rattle.services.specs.Lines.{lines_behind}
+use Rattle.services.specs.Served.{Steps, Serves}
+use Rattle.services.specs.Written.{Filters}
+
+-- a step of the filter, under a key
+abbrev pub steps_of : {K : Type 0} → Saving K → Loading K → (K → Texts) → List ℕ → Steps (Seen K)
+steps_of saving loading kept key old line answer new = Filters saving loading kept key line answer old new
+
+-- it greeted, and then answered each whole line of the text, each from the coordinator that the one before it left
+abbrev pub IsServed : {K : Type 0} → Saving K → Loading K → (K → Texts) → List ℕ → List ℕ → Seen K → Seen K → Option (List ℕ) → Option (List ℕ) → Type 0
+IsServed saving loading kept key text old new before after =
+    Serves (steps_of saving loading kept key) (LINE_LIMIT + 2) (codes "= started\n") (lines_behind [] text) old new before after

@@ -1,0 +1,60 @@
+//! Keys and locks.
+use super::fault::{Cause, ProcessFault};
+use farmwire::{FarmKey, KeyRefusal};
+use std::fs::{self, File, OpenOptions, TryLockError};
+use std::io::{self, ErrorKind, Read};
+use std::rt::Files;
+
+/// The bytes of a file.
+fn bytes_of<R: Files + AllocGlobal>(rt: &R, path: &str) -> io::Result<Vec<u8>> {
+    let mut bytes = Vec::new(rt.alloc());
+    let mut file = fs::open(rt, path)?;
+    file.read_to_end(&mut bytes)?;
+    Ok(bytes)
+}
+
+/// The bytes of a file, none where there is no file.
+pub(crate) fn bytes_if_there<R: Files + AllocGlobal>(rt: &R, path: &str) -> io::Result<Vec<u8>> {
+    match bytes_of(rt, path) {
+        Err(error) if error.kind() == ErrorKind::NotFound => Ok(Vec::new(rt.alloc())),
+        read => read,
+    }
+}
+
+/// The farm's key of this file.
+pub fn key_of<R: Files + AllocGlobal>(rt: &R, path: &str) -> Result<FarmKey, ProcessFault> {
+    let alloc = rt.alloc();
+    let bytes = match bytes_of(rt, path) {
+        Ok(bytes) => bytes,
+        Err(error) => return Err(ProcessFault::of_file(alloc, path, error)),
+    };
+    match FarmKey::of(alloc, bytes.as_slice()) {
+        Ok(key) => Ok(key),
+        Err(KeyRefusal::KeyTooShort) => Err(ProcessFault::of(alloc, path, Cause::KeyTooShort)),
+        Err(KeyRefusal::OutOfMemory) => Err(ProcessFault::out_of_memory(alloc)),
+    }
+}
+
+/// The file of this path, under a lock that no other process has. It is let go with the file.
+fn locked<R: Files<File = File>>(rt: &R, path: &str) -> Result<File, TryLockError> {
+    let opened = OpenOptions::new().write(true).create(true).open(rt, path);
+    let file = opened.map_err(TryLockError::Error)?;
+    file.try_lock()?;
+    Ok(file)
+}
+
+/// The lock of this path's files: the file with `.lock` behind the path, which is made where it isn't there.
+pub fn lock_of<R: Files<File = File> + AllocGlobal>(
+    rt: &R,
+    path: &str,
+) -> Result<File, ProcessFault> {
+    let alloc = rt.alloc();
+    let Ok(path) = format!(in alloc; "{path}.lock") else {
+        return Err(ProcessFault::out_of_memory(alloc));
+    };
+    match locked(rt, path.as_str()) {
+        Ok(file) => Ok(file),
+        Err(TryLockError::WouldBlock) => Err(ProcessFault::of(alloc, path.as_str(), Cause::Locked)),
+        Err(TryLockError::Error(error)) => Err(ProcessFault::of_file(alloc, path.as_str(), error)),
+    }
+}

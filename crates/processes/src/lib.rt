@@ -1,0 +1,11 @@
+//! The programs around the filters: their keys, their locks and their files, and what is said where one of these is at fault.
+#![tactic(auto)]
+
+mod coordinator_process;
+mod fault;
+mod files;
+mod kept;
+
+pub use coordinator_process::{CoordinatorPlace, run_coordinator, serve_coordinator};
+pub use fault::{Cause, ProcessFault};
+pub use files::{key_of, lock_of};
