@@ -207,11 +207,7 @@ pub fn given_wants(alloc: Global, words: &[&str]) -> Result<Wants, ReadRefusal>
 }
 
 /// Adds the words of these values, each behind a space.
-pub fn push_items<T: Item>(
-    alloc: Global,
-    text: &mut String,
-    items: &[T],
-) -> Result<(), AllocError>
+pub fn push_items<T: Item>(alloc: Global, text: &mut String, items: &[T]) -> Result<(), AllocError>
     ensures { OnOk result (string_bytes text.new ≡ string_bytes text.old ++ spaced (map T.spelling items.now)) }
 {
     for item in items {

@@ -1,0 +1,20 @@
+use Rattle.std.proofs.Common.{not, ◌∙◌, refl}
+use Rattle.nodefilter.specs.States.{seen}
+use Rattle.nodefilter.proofs.CarriedLemmas.{stays_sound}
+use Rattle.nodefilter.proofs.carrying.carry_out.Goals as goal
+
+pub returns-clause-done : goal.returns-clause-done
+returns-clause-done g c =
+    let kept = c.keep_changes-kept.ensures in
+    let done = c.is_ok-done.ensures.value in
+    let others = rw c.forgotten_by-gone.ensures at kept.others in
+    let all = rw c.in_ok-brought.ensures at (rw c.as_slice.ensures at kept.kept) in
+    let old = c.args.filter.now in
+    let new = record old { core = c.answer-answer.new.core; store = c.keep_changes-kept.new.store; down = not c.keep_changes-kept.result } in
+    record {
+      done = c.answer-answer.ensures.done;
+      same = rw c.answer-answer.ensures.place refl;
+      others = others;
+      sound = stays_sound g.S.Store.kept c.args.call (seen old) (seen new) c.answer-answer.result c.keep_changes-kept.result c.answer-answer.ensures.done others
+          (λ fine ok. all fine (done ∙ ok)) (λ no. (kept.idle (done ∙ no)).1) refl c.requires;
+    }

@@ -1,0 +1,15 @@
+use Rattle.std.proofs.Common.{◌≡◌, is_some, option_copied, refl, sym, ap, ◌∙◌}
+use Rattle.services.proofs.SentLemmas.{or_lost}
+use Rattle.nodefilter.specs.Filters.Follows.{Hands, Has_not}
+use Rattle.nodefilter.specs.Written.{no_content, content_line}
+use Rattle.nodefilter.proofs.filter.hand.Goals as goal
+
+pub returns-in_default : goal.returns-in_default
+returns-in_default g c =
+    Has_not c.args.digest c.args.file refl (sym c.content.ensures.value ∙ ap option_copied c.in_default.is) refl
+    (or_lost (λ text. text ≡ no_content) c.print_line.result c.print_line.ensures)
+
+pub returns-in-Ok : goal.returns-in-Ok
+returns-in-Ok g c =
+    Hands c.args.digest c.args.file refl (ap is_some (sym c.content.ensures.value ∙ ap option_copied c.in-Some.is)) refl
+    (or_lost (λ text. text ≡ content_line c.args.digest) c.print_content.result c.print_content.ensures)

@@ -1,0 +1,6 @@
+use Rattle.std.proofs.Common.{take}
+use Rattle.nodefilter.specs.Filters.{AreLeft}
+use Rattle.nodefilter.proofs.filter.lefts_in.Given as goal
+
+abbrev pub invariant-loop-file : goal.invariant-loop-file
+invariant-loop-file g l = AreLeft (take l.file-index l.files) l.lefts.items

@@ -1,0 +1,30 @@
+use Rattle.std.proofs.Common.{◌≡◌, ℕ, Bool, List, IfOk, sym, ap, subst}
+use Rattle.std.specs.String.{string_bytes}
+use Rattle.services.specs.Served.{answer_text, OrLost}
+use Rattle.services.proofs.SentLemmas.{or_lost}
+use Rattle.nodefilter.specs.declared.about.About.{About}
+use Rattle.nodefilter.specs.Carried.{about_call}
+use Rattle.nodefilter.specs.Filters.{IsAnswered}
+use Rattle.nodefilter.specs.Filters.Makes.{Made}
+use Rattle.nodefilter.specs.States.{Seen}
+use Rattle.nodefilter.specs.Written.{IsWritten, store_fault}
+use Rattle.nodefilter.proofs.filter.make.Goals as goal
+
+pub returns-then-filter : goal.returns-then-filter
+returns-then-filter g c =
+    let answer = c.in_ok-carried.carried.answer in
+    Made answer c.in_ok-carried.ensures.done
+    (subst (λ (down : Bool). OrLost (IsAnswered down c.args.filter.now.key (about_call c.args.call) answer) (answer_text c.print_line.result)) (sym c.if-filter.true)
+    (or_lost (λ text. text ≡ store_fault) c.print_line.result c.print_line.ensures))
+
+pub returns : goal.returns
+returns g c =
+    let carried = c.in_ok-carried.carried in
+    let done = c.in_ok-carried.ensures.done in
+    let key = ap (λ (s : Seen g.row.S.Denot). s.key) done.same in
+    let keyed = subst (λ (k : List ℕ). IfOk c.print_carried.result (λ text. IsWritten k carried.about carried.answer (string_bytes text))) key c.print_carried.ensures in
+    let written = subst (λ (it : About). IfOk c.print_carried.result (λ text. IsWritten c.args.filter.now.key it carried.answer (string_bytes text)))
+    c.in_ok-carried.ensures.about keyed in
+    Made carried.answer done
+    (subst (λ (down : Bool). OrLost (IsAnswered down c.args.filter.now.key (about_call c.args.call) carried.answer) (answer_text c.print_carried.result)) (sym c.if-filter.false)
+    (or_lost (IsWritten c.args.filter.now.key (about_call c.args.call) carried.answer) c.print_carried.result written))

@@ -1,0 +1,11 @@
+use Rattle.std.proofs.Common.{◌≡◌, map, take}
+use Rattle.std.specs.List.{All}
+use Rattle.farmwire.specs.Words.{texts}
+use Rattle.nodefilter.specs.Orders.{left_text, IsLeft}
+use Rattle.nodefilter.proofs.reading.lefts_of.Given as goal
+
+abbrev pub invariant-loop-word : goal.invariant-loop-word
+invariant-loop-word l = record {
+  spelled : texts (take l.word-index l.words) ≡ map left_text l.lefts.items;
+  each : All IsLeft l.lefts.items;
+}

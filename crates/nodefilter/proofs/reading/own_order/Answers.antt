@@ -1,0 +1,9 @@
+use Rattle.std.proofs.Common.{ap, sym, subst, ◌∙◌}
+use Rattle.farmwire.specs.Words.{texts}
+use Rattle.nodefilter.specs.Orders.{AskedBy}
+use Rattle.nodefilter.proofs.reading.own_order.Goals as goal
+
+pub returns-clause-only : goal.returns-clause-only
+returns-clause-only c = λ same o h.
+    let ws = ap texts c.as_slice.ensures.value ∙ c.in_ok-words.ensures in
+    c.asked_by.ensures.only same o (subst (λ ws. AskedBy ws o) (sym ws) h)

@@ -1,0 +1,75 @@
+-- What a line asks of a node: that of its agent, or one from outside (this project's own).
+use Rattle.std.specs.Prelude.{◌≡◌, ◌≢◌, ℕ, List, Result, Ok, Err}
+use Rattle.std.specs.Str.{IsUtf8}
+use Rattle.farm_base.specs.declared.message.Message.{Message}
+use Rattle.farm_base.specs.declared.message.Message.TheVariants as to
+use Rattle.farm_base.specs.declared.message.ToNode.{ToNode}
+use Rattle.farm_base.specs.declared.number.NodeId.{NodeId}
+use Rattle.farm_base.specs.Receivers.{receiver}
+use Rattle.farmwire.specs.declared.refusal.LineFault.TheVariants as line
+use Rattle.farmwire.specs.Sealed.{IsSealed, IsFault}
+use Rattle.farmwire.specs.Words.{words}
+use Rattle.services.specs.declared.lost.Lost.{Lost}
+use Rattle.services.specs.declared.unread.Unread.{Unread}
+use Rattle.services.specs.declared.unread.Unread.TheVariants.{TooLong, BadMac, BadForm, NotMine, BadLine, OutOfMemory}
+use Rattle.services.specs.Outside.{from_outside}
+use Rattle.services.specs.Unreads.{lost_line}
+use Rattle.nodefilter.specs.declared.order.Call.TheVariants as call
+use Rattle.nodefilter.specs.declared.order.Order.{Order}
+use Rattle.nodefilter.specs.declared.order.Order.TheVariants as order
+use Rattle.nodefilter.specs.Orders.{AskedBy}
+
+-- the message is for this node
+pub record IsFor (me : NodeId) (m : Message) (o : Order) : Type 0 where
+  pub message : ToNode
+  pub is : m ≡ to.ToNode message
+  pub here : receiver message ≡ me
+  pub asked : o ≡ order.Call (call.Receive message)
+
+-- it is for another process
+abbrev pub IsForOthers : NodeId → Message → Type 0
+IsForOthers me (to.ToCoord message) = Unit {0}
+IsForOthers me (to.ToNode message) = receiver message ≢ me
+
+-- what stands behind `m ` is the sealed line of a message to this node
+pub record IsHeard (key : List ℕ) (me : NodeId) (sealed : List ℕ) (o : Order) : Type 0 where
+  pub message : Message
+  pub opened : IsSealed key sealed message
+  pub mine : IsFor me message o
+
+-- what stands behind `m ` is no such line
+abbrev pub IsDropped : List ℕ → NodeId → List ℕ → Unread → Type 0
+IsDropped key me sealed TooLong = IsFault key sealed line.TooLong
+IsDropped key me sealed BadMac = IsFault key sealed line.BadMac
+IsDropped key me sealed BadForm = IsFault key sealed line.BadForm
+IsDropped key me sealed NotMine = (message : Message) × IsSealed key sealed message × IsForOthers me message
+IsDropped key me sealed BadLine = ⊥
+IsDropped key me sealed OutOfMemory = Unit {0}
+
+-- ---- a line
+
+-- the line asks for this
+pub data Orders (key : List ℕ) (me : NodeId) (text : List ℕ) (o : Order) : Type 0 where
+  Heard : (sealed : List ℕ) → text ≡ from_outside sealed → IsHeard key me sealed o → Orders key me text o
+  Own : IsUtf8 text → AskedBy (words text) o → Orders key me text o
+
+-- the line is neither from outside nor the agent's
+pub record IsBadLine (text : List ℕ) : Type 0 where
+  pub inside : (sealed : List ℕ) → text ≢ from_outside sealed
+  pub not_own : IsUtf8 text → (o : Order) → AskedBy (words text) o → ⊥
+
+-- the line asks for nothing, and this is why
+abbrev pub IsUnread : List ℕ → NodeId → List ℕ → Unread → Type 0
+IsUnread key me text BadLine = IsBadLine text
+IsUnread key me text OutOfMemory = Unit {0}
+IsUnread key me text why = (sealed : List ℕ) × (text ≡ from_outside sealed) × IsDropped key me sealed why
+
+-- what was handed on asks for this
+abbrev pub AsksFor : List ℕ → NodeId → Result (List ℕ) Lost → Order → Type 0
+AsksFor key me (Ok text) o = Orders key me text o
+AsksFor key me (Err lost) o = ⊥
+
+-- what was handed on asks for nothing, and this is why
+abbrev pub AsksNothing : List ℕ → NodeId → Result (List ℕ) Lost → Unread → Type 0
+AsksNothing key me (Ok text) why = IsUnread key me text why
+AsksNothing key me (Err lost) why = why ≡ lost_line lost

@@ -1,0 +1,8 @@
+pub mod Orders
+pub mod Asked
+pub mod Carried
+pub mod Stores
+pub mod States
+pub mod Written
+pub mod Filters
+pub mod Starts

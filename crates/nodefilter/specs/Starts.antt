@@ -1,0 +1,29 @@
+-- How the process of a node begins (this project's own).
+use Rattle.std.specs.Prelude.{◌≡◌, ℕ, false, []}
+use Rattle.std.specs.String.{string_bytes}
+use Rattle.nodecore.specs.declared.message.NodeDone.{NodeDone}
+use Rattle.nodecore.specs.Shown.{work_of}
+use Rattle.nodecore.specs.Stored.{kept_node}
+use Rattle.protocol.specs.Nodes.{Place, restarted}
+use Rattle.nodefilter.specs.declared.about.About.TheVariants as about
+use Rattle.nodefilter.specs.declared.starting.Origin.{Origin}
+use Rattle.nodefilter.specs.declared.starting.Started.{Started}
+use Rattle.nodefilter.specs.States.{seen}
+use Rattle.nodefilter.specs.Stores.{Kept, IsSound}
+use Rattle.nodefilter.specs.Written.{IsDone}
+
+-- which node it is, and how many there are
+abbrev pub place_in : {S : Type 0} → Origin S → Place
+place_in origin = record { node = origin.me; nodes = origin.nodes }
+
+-- the node is what a restart makes of what was kept; its life is kept, and the greeting says it
+pub record Begins {S : Type 0} (kept : Kept S) (last_life : S → ℕ) (origin : Origin S) (started : Started S) : Type 0 where
+  pub done : NodeDone
+  pub begun : restarted (place_in origin) (kept_node origin.last origin.contents.items []) ≡ work_of (seen started.filter).node done
+  pub place : (seen started.filter).at ≡ place_in origin
+  pub me : (seen started.filter).me ≡ origin.me
+  pub key : (seen started.filter).key ≡ origin.key
+  pub up : (seen started.filter).down ≡ false
+  pub life : last_life (seen started.filter).store ≡ (seen started.filter).node.life.0
+  pub sound : IsSound kept (seen started.filter)
+  pub written : IsDone origin.key (string_bytes origin.facts) about.Nothing done (string_bytes started.greeting)

@@ -1,0 +1,157 @@
+//! A node as a process that answers lines.
+ghost use Rattle.std.specs.Prelude.{◌≡◌, false, IfOk};
+ghost use Rattle.services.specs.Served.{answer_text, OrLost};
+ghost use Rattle.nodefilter.specs.declared.order.Order.TheVariants as order;
+ghost use Rattle.nodefilter.specs.Filters.{AreLeft, Makes, Follows, Filters};
+ghost use Rattle.nodefilter.specs.States.{seen};
+ghost use Rattle.nodefilter.specs.Written.{file_fault};
+
+use super::asking::asked;
+use super::carrying::carry_out;
+use super::order::{Call, LeftFile, Order};
+use super::printing::{print_carried, print_content, print_line, print_state};
+use super::store::{FileFault, Store};
+use farm_base::{Ask, Copied, Digest, Items, Left, NodeId, Text, Ticket};
+use farmwire::FarmKey;
+use nodecore::NodeCore;
+use services::{Lost, Step, print_unread};
+use std::alloc::{AllocError, Global};
+
+/// What is answered from the moment on that a content of the node can't be kept.
+const STORE_FAULT: &str = "= refused StoreFault\n";
+
+/// What is answered where a file of the agent's can't be used.
+const FILE_FAULT: &str = "= refused FileFault\n";
+
+/// What is answered where a content isn't stored here.
+const NO_CONTENT: &str = "= refused NoSuchContent\n";
+
+/// A node that answers lines: those of other processes, which come and go sealed under the farm's key, and its agent's.
+#[derive(Drop)]
+pub struct NodeFilter<S: Store> {
+    pub core: NodeCore,
+    /// The node's number.
+    pub me: NodeId,
+    pub key: FarmKey,
+    pub store: S,
+    /// Whether a content of the node could not be kept. Then nothing is done any more: the process has to end.
+    pub down: bool,
+}
+
+/// Makes a call.
+fn make<S: Store>(
+    filter: &mut NodeFilter<S>,
+    alloc: Global,
+    call: Call,
+) -> Result<String, AllocError>
+    requires { filter.old.down ≡ false }
+    ensures { Makes S.kept call (seen filter.old) (seen filter.new) (answer_text result) }
+{
+    let carried = carry_out(filter, alloc, call)?;
+    if filter.down {
+        return print_line(alloc, STORE_FAULT);
+    }
+    print_carried(alloc, &filter.key, carried)
+}
+
+/// The answer where a file can't be used.
+fn missed(alloc: Global, fault: FileFault) -> Result<String, AllocError>
+    ensures { OrLost (λ text. text ≡ file_fault) (answer_text result) }
+{
+    match fault {
+        FileFault::Unusable => print_line(alloc, FILE_FAULT),
+        FileFault::OutOfMemory => Err(AllocError),
+    }
+}
+
+/// What the files have.
+fn lefts_in<S: Store>(
+    alloc: Global,
+    store: &S,
+    files: &[LeftFile],
+) -> Result<Items<Left>, FileFault>
+    ensures { IfOk result (AreLeft files.now) }
+{
+    let mut lefts = Vec::new(alloc);
+    for file in files {
+        let content = store.read(alloc, file.file.as_str())?;
+        let slot = file.slot.copy(alloc)?;
+        lefts.push(Left { slot, content })?;
+    }
+    Ok(Items::new(lefts))
+}
+
+/// `finish`: the files are read, and the execution is over.
+fn finish<S: Store>(
+    filter: &mut NodeFilter<S>,
+    alloc: Global,
+    ticket: Ticket,
+    files: Items<LeftFile>,
+) -> Result<String, AllocError>
+    requires { filter.old.down ≡ false }
+    ensures { Follows S.kept (order.Finish ticket files) (seen filter.old) (seen filter.new) (answer_text result) }
+{
+    match lefts_in(alloc, &filter.store, files.as_slice()) {
+        Ok(lefts) => make(filter, alloc, Call::Finish(ticket, lefts)),
+        Err(fault) => missed(alloc, fault),
+    }
+}
+
+/// `blob`: the file is read, and the content brought.
+fn bring<S: Store>(
+    filter: &mut NodeFilter<S>,
+    alloc: Global,
+    file: Text,
+) -> Result<String, AllocError>
+    requires { filter.old.down ≡ false }
+    ensures { Follows S.kept (order.Blob file) (seen filter.old) (seen filter.new) (answer_text result) }
+{
+    match filter.store.read(alloc, file.as_str()) {
+        Ok(content) => make(filter, alloc, Call::Bring(content)),
+        Err(fault) => missed(alloc, fault),
+    }
+}
+
+/// `content`: a content is put in the file.
+fn hand<S: Store>(
+    filter: &NodeFilter<S>,
+    alloc: Global,
+    digest: Digest,
+    file: Text,
+) -> Result<String, AllocError>
+    ensures { Follows S.kept (order.Content digest file) (seen filter.now) (seen filter.now) (answer_text result) }
+{
+    let Some(content) = filter.core.content(&digest) else {
+        return print_line(alloc, NO_CONTENT);
+    };
+    match filter.store.write(file.as_str(), content.bytes()) {
+        Ok(()) => print_content(alloc, digest),
+        Err(fault) => missed(alloc, fault),
+    }
+}
+
+/// `state`: how an ask stands.
+fn tell<S: Store>(filter: &NodeFilter<S>, alloc: Global, ask: Ask) -> Result<String, AllocError>
+    ensures { Follows S.kept (order.State ask) (seen filter.now) (seen filter.now) (answer_text result) }
+{
+    let state = filter.core.ask_state(alloc, ask)?;
+    print_state(alloc, ask, &state)
+}
+
+impl<S: Store> Step for NodeFilter<S> {
+    ghost steps = { λ old line answer new. Filters S.kept line answer (seen old) (seen new) };
+
+    fn step(&mut self, alloc: Global, line: Result<Items<u8>, Lost>) -> Result<String, AllocError> {
+        if self.down {
+            return print_line(alloc, STORE_FAULT);
+        }
+        match asked(alloc, &self.key, self.me, line) {
+            Ok(Order::Call(call)) => make(self, alloc, call),
+            Ok(Order::Finish(ticket, files)) => finish(self, alloc, ticket, files),
+            Ok(Order::Blob(file)) => bring(self, alloc, file),
+            Ok(Order::Content(digest, file)) => hand(self, alloc, digest, file),
+            Ok(Order::State(ask)) => tell(self, alloc, ask),
+            Err(why) => print_unread(alloc, why),
+        }
+    }
+}

@@ -1,0 +1,22 @@
+//! A node of the farm as a process that answers lines.
+#![tactic(auto)]
+
+mod about;
+mod asking;
+mod carrying;
+mod file_store;
+mod filter;
+mod order;
+mod printing;
+mod reading;
+mod starting;
+mod store;
+mod verb;
+
+pub use about::About;
+pub use carrying::Carried;
+pub use file_store::{FileStore, Found, OpenFault, open_store};
+pub use filter::NodeFilter;
+pub use order::{Call, LeftFile, Order};
+pub use starting::{Origin, StartFault, Started, start};
+pub use store::{FileFault, Store, StoreFault};
