@@ -10,12 +10,12 @@ use super::command::{Command, Options, Request, Words, words_of};
 use super::explain::{Explanation, causes_told, copies_of, explained, push_log_fault};
 use super::failure::Failure;
 use super::files::{contents, kept};
-use super::processing::coordinate;
+use super::processing::{be_node, coordinate};
 use super::running::{Order, run_scripts};
 use std::alloc::{AllocError, Global};
 use std::fs::File;
 use std::io::{self, Write};
-use std::rt::Files;
+use std::rt::{Clock, Files};
 use std::sync::Wait;
 use std::thread::Threads;
 
@@ -267,12 +267,11 @@ struct Shown {
 }
 
 /// Reads the files that the words name, acts, and explains what is refused or failed if the words ask for it.
-fn act_on<R: Files<File = File> + Input + AllocGlobal + Threads + Wait + Sync, O: Write, E: Write>(
-    rt: &R,
-    words: &Words,
-    out: &mut O,
-    err: &mut E,
-) -> Result<u8, AllocError> {
+fn act_on<
+    R: Files<File = File> + Input + Clock + AllocGlobal + Threads + Wait + Sync + Clone + Drop,
+    O: Write,
+    E: Write,
+>(rt: &R, words: &Words, out: &mut O, err: &mut E) -> Result<u8, AllocError> {
     let alloc = rt.alloc();
     let mut told = Explanation {
         lines: String::new(alloc),
@@ -290,18 +289,18 @@ fn act_on<R: Files<File = File> + Input + AllocGlobal + Threads + Wait + Sync, O
             (shown.status, shown.has_failed)
         }
         Request::Coordinator(place) => (coordinate(rt, place, out, err), false),
+        Request::Node(place) => (be_node(rt, place, out, err), false),
     };
     let lines = told.lines.as_str();
     Ok(print_explanation(words.options, lines, has_failed, status, err))
 }
 
 /// Does what the words say. The texts of usage faults and help are `clap`'s.
-pub fn run<R: Files<File = File> + Input + AllocGlobal + Threads + Wait + Sync, O: Write, E: Write>(
-    rt: &R,
-    words: &[String],
-    out: &mut O,
-    err: &mut E,
-) -> u8 {
+pub fn run<
+    R: Files<File = File> + Input + Clock + AllocGlobal + Threads + Wait + Sync + Clone + Drop,
+    O: Write,
+    E: Write,
+>(rt: &R, words: &[String], out: &mut O, err: &mut E) -> u8 {
     let words = match words_of(rt.alloc(), words) {
         Ok(words) => words,
         Err(error) => return print_usage(rt.alloc(), &error, out, err),

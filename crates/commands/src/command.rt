@@ -3,9 +3,9 @@
 use super::running::Order;
 use clap::builder::ValueParser;
 use clap::{Arg, ArgAction, ArgMatches, Error};
-use farm_base::NODES;
+use farm_base::{NODES, NodeId};
 use opsproto::LIMIT;
-use processes::CoordinatorPlace;
+use processes::{CoordinatorPlace, NodePlace};
 use std::alloc::{AllocError, Global};
 
 /// What the program is asked to do with a file.
@@ -32,6 +32,8 @@ pub enum Request<'a> {
     Run(Order<'a>),
     /// Is the coordinator of a farm, and answers the lines of the standard input.
     Coordinator(CoordinatorPlace<'a>),
+    /// Is a node of a farm, and answers the lines of the standard input.
+    Node(NodePlace<'a>),
 }
 
 impl Request<'_> {
@@ -209,7 +211,7 @@ Status 4 with `fault Locked`: another process has the record.
 
 Example: head -c 32 /dev/urandom >key && echo status | farmctl coordinator --record kept --key key";
 
-/// A file that has to be named.
+/// A file or a folder that has to be named.
 fn place_arg<'a>(
     alloc: Global,
     name: &'static str,
@@ -231,6 +233,48 @@ fn coordinator_command<'a>(alloc: Global) -> Result<clap::Command<'a>, AllocErro
         .about("Is the coordinator of a farm, whose nodes' lines come on the standard input")
         .after_help(COORDINATOR_LINES)
         .arg(place_arg(alloc, "record", "PATH", record))?
+        .arg(place_arg(alloc, "key", "FILE", key))
+}
+
+/// What `node` reads and prints.
+const NODE_LINES: &str =
+    "Prints `= life L` behind its greeting, and then the answer to each line of the standard input, up to its end: lines \
+`m SEALED` to be sent, facts `: ..`, and last `= ` with what was done. A line is one of
+  m SEALED               what another process says, with its MAC under the farm's key
+  ask [ro=]FOLDER..      asks for a lease of these folders
+  tenure FOLDER          asks for a lease under which many executions use a SHARED folder
+  begin T                the execution begins under the lease of this ticket
+  finish T SLOT=FILE..   it is over, and left these contents
+  abort T                it left nothing
+  resend                 sends again what is not answered
+  blob FILE              brings a content that this node needs
+  content DIGEST FILE    puts a content into this file
+  forget DIGEST          stores a content no longer
+  state A                shows how an ask stands
+
+Status 4 with `fault Locked`: another process is this node. After `= refused StoreFault` the process has to end.";
+
+/// The greatest number of a node that the farm will have, and the one of this node.
+fn number_arg<'a>(alloc: Global, name: &'static str, help: &'static str) -> Arg<'a> {
+    Arg::new(alloc, name)
+        .long(name)
+        .value_name("N")
+        .required(true)
+        .value_parser(ValueParser::Unsigned(1, NODES as u64))
+        .help(help)
+}
+
+fn node_command<'a>(alloc: Global) -> Result<clap::Command<'a>, AllocError> {
+    let nodes = "The greatest number of a node that the farm will have";
+    let store =
+        "The folder of its contents and its life, made where it isn't there; a lock stands beside it";
+    let key = "The file of the farm's key, of 32 bytes or more: the same for all processes";
+    clap::Command::new(alloc, "node")
+        .about("Is a node of a farm, whose agent's lines come on the standard input")
+        .after_help(NODE_LINES)
+        .arg(number_arg(alloc, "node", "The number of this node, from 1"))?
+        .arg(number_arg(alloc, "nodes", nodes))?
+        .arg(place_arg(alloc, "store", "DIR", store))?
         .arg(place_arg(alloc, "key", "FILE", key))
 }
 
@@ -266,7 +310,8 @@ fn farmctl<'a>(alloc: Global) -> Result<clap::Command<'a>, AllocError> {
         .subcommand(record_command(alloc)?)?
         .subcommand(replay_command(alloc)?)?
         .subcommand(run_command(alloc)?)?
-        .subcommand(coordinator_command(alloc)?)
+        .subcommand(coordinator_command(alloc)?)?
+        .subcommand(node_command(alloc)?)
 }
 
 /// What the command of this name is asked to do.
@@ -282,6 +327,12 @@ fn named<'a>(name: &str, found: &ArgMatches<'a>) -> Request<'a> {
         }),
         "coordinator" => Request::Coordinator(CoordinatorPlace {
             record: found.get_str("record").unwrap_or(""),
+            key: found.get_str("key").unwrap_or(""),
+        }),
+        "node" => Request::Node(NodePlace {
+            node: NodeId(found.get_one("node").unwrap_or(1)),
+            nodes: found.get_one("nodes").unwrap_or(1),
+            store: found.get_str("store").unwrap_or(""),
             key: found.get_str("key").unwrap_or(""),
         }),
         _ => Request::Print(Command::Replay),

@@ -2,11 +2,11 @@
 ghost use Rattle.std.specs.Prelude.{◌≢◌};
 
 use super::acts::{DONE, FAULT, MEMORY, REFUSED, print};
-use processes::{Cause, CoordinatorPlace, ProcessFault, run_coordinator};
+use processes::{Cause, CoordinatorPlace, NodePlace, ProcessFault, run_coordinator, run_node};
 use std::alloc::Global;
 use std::fs::File;
 use std::io::Write;
-use std::rt::Files;
+use std::rt::{Clock, Files};
 
 /// The status of a process that ends so.
 fn status_of(cause: &Cause) -> u8
@@ -15,7 +15,8 @@ fn status_of(cause: &Cause) -> u8
     match cause {
         Cause::OutOfMemory => MEMORY,
         Cause::KeyTooShort | Cause::BadRecord | Cause::LogAlone => REFUSED,
-        Cause::Locked | Cause::File(_) | Cause::Stream(_) => FAULT,
+        Cause::OtherNode(_) | Cause::BadLife | Cause::LivesSpent => REFUSED,
+        Cause::Locked | Cause::NotKept | Cause::File(_) | Cause::Stream(_) => FAULT,
     }
 }
 
@@ -37,6 +38,18 @@ pub(crate) fn coordinate<R: Files<File = File> + Input + AllocGlobal, O: Write, 
     err: &mut E,
 ) -> u8 {
     match run_coordinator(rt, place, out) {
+        Ok(()) => DONE,
+        Err(fault) => print_process_fault(rt.alloc(), &fault, err),
+    }
+}
+
+/// Is a node of a farm, up to the end of the standard input.
+pub(crate) fn be_node<
+    R: Files<File = File> + Input + Clock + AllocGlobal + Clone + Drop,
+    O: Write,
+    E: Write,
+>(rt: &R, place: NodePlace<'_>, out: &mut O, err: &mut E) -> u8 {
+    match run_node(rt, place, out) {
         Ok(()) => DONE,
         Err(fault) => print_process_fault(rt.alloc(), &fault, err),
     }

@@ -11,12 +11,13 @@ use saverecord::MemoryKeeper;
 use services::{CoordinatorFilter, serve};
 use std::alloc::{AllocError, Global};
 use std::fs::{self, File, OpenOptions};
-use std::rt::Files;
+use std::rt::{Clock, Files};
 use std::sync::Wait;
 use std::test::Fail;
 use std::thread::Threads;
 
-const KEY: &[u8] = b"the key of a farm, thirty-two bytes";
+/// The farm's key.
+pub const KEY: &[u8] = b"the key of a farm, thirty-two bytes";
 
 /// How long a line may be here, with its end.
 const MOST: usize = 300;
@@ -121,6 +122,9 @@ const FAILED_SAVE: [(&str, &str); 2] = [
     ),
 ];
 
+/// What is written first.
+const GREETING: [&str; 1] = ["= started"];
+
 /// Adds a line: a message with its MAC.
 fn push_line(
     alloc: Global,
@@ -152,13 +156,17 @@ fn push_answer(
 }
 
 /// What is read, and what is to be written.
-fn talk_of(
+pub fn talk_of(
     alloc: Global,
     key: &FarmKey,
+    greeting: &[&str],
     rows: &[(&str, &str)],
 ) -> Result<(String, String), AllocError> {
     let mut read = String::new(alloc);
-    let mut wanted = String::from_str(alloc, "= started\n")?;
+    let mut wanted = String::new(alloc);
+    for line in greeting {
+        push_line(alloc, &mut wanted, key, line)?;
+    }
     for (line, answer) in rows {
         push_line(alloc, &mut read, key, line)?;
         push_answer(alloc, &mut wanted, key, answer)?;
@@ -196,7 +204,7 @@ fn new_filter(alloc: Global) -> Result<CoordinatorFilter<MemoryKeeper>, Fail> {
 fn answers(rt: HostRuntime) -> Result<(), Fail> {
     let mut filter = new_filter(rt.alloc())?;
     for rows in [LINES.as_slice(), UNREAD.as_slice()] {
-        let (read, wanted) = talk_of(rt.alloc(), &filter.key, rows)?;
+        let (read, wanted) = talk_of(rt.alloc(), &filter.key, &GREETING, rows)?;
         let text = written(rt.alloc(), &mut filter, read.as_str())?;
         assert_eq!(rt; text.as_str(), wanted.as_str());
     }
@@ -207,7 +215,7 @@ fn answers(rt: HostRuntime) -> Result<(), Fail> {
 fn a_failed_save(rt: HostRuntime) -> Result<(), Fail> {
     let mut filter = new_filter(rt.alloc())?;
     filter.coordinator.fail_next(Kept::Old);
-    let (read, wanted) = talk_of(rt.alloc(), &filter.key, &FAILED_SAVE)?;
+    let (read, wanted) = talk_of(rt.alloc(), &filter.key, &GREETING, &FAILED_SAVE)?;
     let text = written(rt.alloc(), &mut filter, read.as_str())?;
     assert_eq!(rt; text.as_str(), wanted.as_str());
     Ok(())
@@ -244,7 +252,7 @@ const REFUSED_STARTS: [(&[u8], &[u8], &[u8], &str); 3] = [
 ];
 
 /// The status of a start from these files, what is printed, and the first line of what is said.
-fn started<R: Files<File = File> + Input + AllocGlobal + Threads + Wait + Sync>(
+fn started<R: Files<File = File> + Input + Clock + AllocGlobal + Threads + Wait + Sync + Clone + Drop>(
     rt: &R,
 ) -> Result<(u8, Vec<u8>, String), Fail> {
     let (status, out, err) = run_words(rt, &WORDS)?;

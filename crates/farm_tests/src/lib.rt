@@ -21,6 +21,8 @@ mod keepers;
 #[cfg(test)]
 mod names;
 #[cfg(test)]
+mod node_lines;
+#[cfg(test)]
 mod places;
 #[cfg(test)]
 mod printed;

@@ -7,7 +7,7 @@ use sha2::Sha256;
 use std::alloc::{AllocError, Global};
 use std::fs::File;
 use std::io::Cursor;
-use std::rt::Files;
+use std::rt::{Clock, Files};
 use std::sync::Wait;
 use std::test::Fail;
 use std::thread::Threads;
@@ -225,7 +225,7 @@ pub(crate) fn strings(alloc: Global, words: &[&str]) -> Result<Vec<String>, Allo
 }
 
 /// The status of the program with these words, and what it prints to the standard output and to the standard error.
-pub fn run_words<R: Files<File = File> + Input + AllocGlobal + Threads + Wait + Sync>(
+pub fn run_words<R: Files<File = File> + Input + Clock + AllocGlobal + Threads + Wait + Sync + Clone + Drop>(
     rt: &R,
     words: &[&str],
 ) -> Result<(u8, Vec<u8>, Vec<u8>), Fail> {

@@ -4,7 +4,7 @@ use super::printed::strings;
 use commands::{DONE, REFUSED, run};
 use std::alloc::Global;
 use std::fs::{self, File};
-use std::rt::Files;
+use std::rt::{Clock, Files};
 use std::sync::Wait;
 use std::test::Fail;
 use std::thread::Threads;
@@ -28,7 +28,7 @@ const BOTH: &str =
     "last 64\nlife 1 1\nlocked:/cache 1:1:1b2cbc048e6e76bf4febda31aaabf3d5dc24db851ab7dbaeecc1025676d01a24 2:2:2bcb66b716c89a5b003233d013615b72286628116ace4c7db46d1fe7b9ccbce8\n";
 
 /// What `record --explain live.record` prints to standard output and error, and its status, with this log beside it.
-fn said<R: Files<File = File> + Input + AllocGlobal + Threads + Wait + Sync>(
+fn said<R: Files<File = File> + Input + Clock + AllocGlobal + Threads + Wait + Sync + Clone + Drop>(
     rt: &R,
     alloc: Global,
     log: &[u8],

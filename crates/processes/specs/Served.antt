@@ -1,7 +1,13 @@
--- What a coordinator's process writes (this project's own).
+-- What the processes write (this project's own).
 use Rattle.std.specs.Prelude.{ℕ, ◌+◌, List, [], codes, Option, Result}
+use Rattle.std.specs.String.{string_bytes}
 use Rattle.coordinator.specs.Seen.{Seen}
 use Rattle.farmwire.specs.declared.sealing.TheConstants.{LINE_LIMIT}
+use Rattle.nodefilter.specs.declared.filter.NodeFilter.{NodeFilter}
+use Rattle.nodefilter.specs.declared.starting.Started.{Started}
+use Rattle.nodefilter.specs.Filters as node
+use Rattle.nodefilter.specs.States.{seen}
+use Rattle.nodefilter.specs.Stores.{Kept}
 use Rattle.saverecord.specs.Texts.{Texts}
 use Rattle.services.specs.declared.lost.Lost.{Lost}
 use Rattle.services.specs.Carried.{Saving, Loading}
@@ -17,3 +23,12 @@ steps_of saving loading kept key old line answer new = Filters saving loading ke
 abbrev pub IsServed : {K : Type 0} → Saving K → Loading K → (K → Texts) → List ℕ → List ℕ → Seen K → Seen K → Option (List ℕ) → Option (List ℕ) → Type 0
 IsServed saving loading kept key text old new before after =
     Serves (steps_of saving loading kept key) (LINE_LIMIT + 2) (codes "= started\n") (lines_behind [] text) old new before after
+
+-- a step of a node's filter
+abbrev pub node_steps : {S : Type 0} → Kept S → Steps (NodeFilter S)
+node_steps kept old line answer new = node.Filters kept line answer (seen old) (seen new)
+
+-- a node greeted, and then answered each whole line of the text, each from what the one before it left
+abbrev pub IsNodeServed : {S : Type 0} → Kept S → Started S → List ℕ → Option (List ℕ) → Option (List ℕ) → Type 0
+IsNodeServed {S} kept started text before after =
+    (new : NodeFilter S) × Serves (node_steps kept) (LINE_LIMIT + 2) (string_bytes started.greeting) (lines_behind [] text) started.filter new before after

@@ -41,6 +41,23 @@ pub fn serve_coordinator<K: Keeper, R: Read + Drop, W: Write>(
     serve(alloc, reader, writer, filter, MOST, GREETING.as_bytes())
 }
 
+/// Answers the lines of the standard input.
+fn answer_input<K: Keeper, R: Input + AllocGlobal, W: Write>(
+    rt: &R,
+    mut filter: CoordinatorFilter<K>,
+    writer: &mut W,
+) -> Result<(), ProcessFault> {
+    let alloc = rt.alloc();
+    let served = match BufReader::new(alloc, rt.reader()) {
+        Ok(reader) => serve_coordinator(alloc, &mut filter, reader, writer),
+        Err(error) => Err(error),
+    };
+    match served {
+        Ok(()) => Ok(()),
+        Err(error) => Err(ProcessFault::of_stream(alloc, error)),
+    }
+}
+
 /// Takes the lock, starts from what is kept, and answers the lines of the standard input up to its end. A start that is refused
 /// changes nothing that is kept.
 pub fn run_coordinator<R: Files<File = File> + Input + AllocGlobal, W: Write>(
@@ -48,16 +65,8 @@ pub fn run_coordinator<R: Files<File = File> + Input + AllocGlobal, W: Write>(
     place: CoordinatorPlace<'_>,
     writer: &mut W,
 ) -> Result<(), ProcessFault> {
-    let alloc = rt.alloc();
     let key = key_of(rt, place.key)?;
     let _lock = lock_of(rt, place.record)?;
     let coordinator = started(rt, place.record)?;
-    let mut filter = CoordinatorFilter { coordinator, key };
-    match BufReader::new(alloc, rt.reader()) {
-        Ok(reader) => match serve_coordinator(alloc, &mut filter, reader, writer) {
-            Ok(()) => Ok(()),
-            Err(error) => Err(ProcessFault::of_stream(alloc, error)),
-        },
-        Err(error) => Err(ProcessFault::of_stream(alloc, error)),
-    }
+    answer_input(rt, CoordinatorFilter { coordinator, key }, writer)
 }

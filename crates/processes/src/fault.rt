@@ -13,6 +13,14 @@ pub enum Cause {
     BadRecord,
     /// The log stands there without the record that it follows.
     LogAlone,
+    /// The folder is the one of another node.
+    OtherNode(u32),
+    /// What the folder says of the node's life is damaged.
+    BadLife,
+    /// The node's greatest life has begun.
+    LivesSpent,
+    /// The node's next life could not be kept.
+    NotKept,
     /// The file can't be read, made or written.
     File(io::Error),
     /// The standard input can't be read, or the standard output not be written.
@@ -74,6 +82,18 @@ impl ProcessFault {
             ),
             Cause::LogAlone => format!(in alloc;
                 "refused LogAlone\n{path} is empty or not there, but {path}.log has what follows a record. Neither was changed. Put the record back; only for a farm that begins anew, remove the log.\n"
+            ),
+            Cause::OtherNode(owner) => format!(in alloc;
+                "refused OtherNode\n{path} is the folder of node {owner}. Name that node, or another folder.\n"
+            ),
+            Cause::BadLife => format!(in alloc;
+                "refused BadLife\n{path}/life is damaged. Nothing was changed. Only where no process of this node runs, write `node N life L` into it, with a life greater than any before.\n"
+            ),
+            Cause::LivesSpent => format!(in alloc;
+                "refused LivesSpent\n{path}: the node's greatest life has begun. Use another node number.\n"
+            ),
+            Cause::NotKept => format!(in alloc;
+                "fault StoreFault\n{path}: the node's next life can't be kept there. See that there is room, and that this user may write it.\n"
             ),
             Cause::File(error) => format!(in alloc;
                 "fault FileFault\n{path}: {error}. See that its folder is there, and that this user may read and write it.\n"

@@ -5,7 +5,9 @@ mod coordinator_process;
 mod fault;
 mod files;
 mod kept;
+mod node_process;
 
 pub use coordinator_process::{CoordinatorPlace, run_coordinator, serve_coordinator};
 pub use fault::{Cause, ProcessFault};
 pub use files::{key_of, lock_of};
+pub use node_process::{NodePlace, run_node, serve_node};

@@ -1,0 +1,159 @@
+//! The lines of a node's filter over a folder, each with its answer, word for word. They were worked out by hand; the digests are those
+//! of the contents `abc` and of nothing. And starts that are refused.
+
+use super::coordinator_lines::{KEY, talk_of};
+use super::printed::run_words;
+use commands::REFUSED;
+use farm_base::{Life, NodeId};
+use farmwire::FarmKey;
+use nodefilter::{FileStore, Origin, Started, open_store, start};
+use services::serve;
+use std::alloc::Global;
+use std::fs;
+use std::test::Fail;
+
+/// How long a line may be here, with its end.
+const MOST: usize = 400;
+
+/// What is written first.
+const GREETING: [&str; 2] = ["m hello 1 7", "= life 7"];
+
+/// Lines and their answers. `m ` stands before messages, whose MACs are left out here.
+const LINES: [(&str, &str); 30] = [
+    ("ask locked:apt", "m acquire 1 7 1 locked:apt\n= asked 1"),
+    ("state 1", "= pending"),
+    (
+        "m granted 1 7 1 5 plain locked:apt=0:e3b0c44298fc1c149afbf4c8996fb92427ae41e4649b934ca495991b7852b855",
+        "= took 1 7 1 5 plain locked:apt=0:e3b0c44298fc1c149afbf4c8996fb92427ae41e4649b934ca495991b7852b855",
+    ),
+    (
+        "state 1",
+        "= granted 1 7 1 5 plain locked:apt=0:e3b0c44298fc1c149afbf4c8996fb92427ae41e4649b934ca495991b7852b855",
+    ),
+    ("begin 5", "= begun 5"),
+    (
+        "state 1",
+        "= running 1 7 1 5 plain locked:apt=0:e3b0c44298fc1c149afbf4c8996fb92427ae41e4649b934ca495991b7852b855",
+    ),
+    ("finish 5 locked:apt=nowhere", "= refused FileFault"),
+    (
+        "finish 5 locked:apt=in",
+        "m commit 1 7 5 locked:apt=ba7816bf8f01cfea414140de5dae2223b00361a396177a9cb410ff61f20015ad\n= finished 5",
+    ),
+    ("state 1", "= finished 5"),
+    (
+        "content ba7816bf8f01cfea414140de5dae2223b00361a396177a9cb410ff61f20015ad out",
+        "= content ba7816bf8f01cfea414140de5dae2223b00361a396177a9cb410ff61f20015ad",
+    ),
+    ("m fenced 2 7 5", "= dropped NotMine"),
+    (
+        "m committed 1 7 5 locked:apt=1:ba7816bf8f01cfea414140de5dae2223b00361a396177a9cb410ff61f20015ad",
+        "= learned 5 locked:apt=1:ba7816bf8f01cfea414140de5dae2223b00361a396177a9cb410ff61f20015ad",
+    ),
+    (
+        "state 1",
+        "= committed 5 locked:apt=1:ba7816bf8f01cfea414140de5dae2223b00361a396177a9cb410ff61f20015ad",
+    ),
+    (
+        "m fetch 1 2 ba7816bf8f01cfea414140de5dae2223b00361a396177a9cb410ff61f20015ad",
+        "m blob 2 YWJj\n= sent blob",
+    ),
+    (
+        "forget ba7816bf8f01cfea414140de5dae2223b00361a396177a9cb410ff61f20015ad",
+        "= forgot",
+    ),
+    (
+        "content ba7816bf8f01cfea414140de5dae2223b00361a396177a9cb410ff61f20015ad out",
+        "= refused NoSuchContent",
+    ),
+    ("begin 99", "= refused NoSuchTicket"),
+    ("tenure locked:x", "= refused BadLine"),
+    ("tenure shared:x", "m tenure 1 7 2 shared:x\n= asked 2"),
+    (
+        "ask locked:b private:p",
+        "m acquire 1 7 3 locked:b private:p\n= asked 3",
+    ),
+    (
+        "m granted 1 7 3 6 plain locked:b=1:ba7816bf8f01cfea414140de5dae2223b00361a396177a9cb410ff61f20015ad private:p#1=0:e3b0c44298fc1c149afbf4c8996fb92427ae41e4649b934ca495991b7852b855",
+        "m fetch 2 1 ba7816bf8f01cfea414140de5dae2223b00361a396177a9cb410ff61f20015ad\n= took 1 7 3 6 plain locked:b=1:ba7816bf8f01cfea414140de5dae2223b00361a396177a9cb410ff61f20015ad private:p#1=0:e3b0c44298fc1c149afbf4c8996fb92427ae41e4649b934ca495991b7852b855",
+    ),
+    ("begin 6", "= refused ContentsMissing"),
+    ("blob in", "= blob taken"),
+    ("begin 6", "= begun 6"),
+    ("abort 6", "m release 1 7 6\n= aborted 6"),
+    ("state 3", "= released 6"),
+    ("state 9", "= none"),
+    (
+        "resend",
+        "m hello 1 7\nm tenure 1 7 2 shared:x\n= resent",
+    ),
+    (
+        "m granted 1 5 1 5 plain locked:apt=0:e3b0c44298fc1c149afbf4c8996fb92427ae41e4649b934ca495991b7852b855",
+        "= old life",
+    ),
+    ("", "= refused BadLine"),
+];
+
+/// Node 1 of two, whose life before was 6.
+fn begun<'a>(rt: &'a HostRuntime, alloc: Global) -> Result<Started<FileStore<'a, HostRuntime>>, Fail> {
+    let opened = open_store(rt, alloc, "n1", NodeId(1));
+    let (store, found) = opened.ok().ok_or("not opened")?;
+    let origin = Origin {
+        me: NodeId(1),
+        nodes: 2,
+        key: FarmKey::of(alloc, KEY)?,
+        store,
+        contents: found.contents,
+        facts: String::new(alloc),
+        last: Life(6),
+    };
+    Ok(start(alloc, origin).ok().ok_or("not started")?)
+}
+
+/// Each answer, and what is kept then: the life, and the content that was brought last.
+#[test]
+fn answers(rt: HostRuntime) -> Result<(), Fail> {
+    let alloc = rt.alloc();
+    fs::write(&rt, "in", b"abc")?;
+    let Started {
+        mut filter,
+        greeting,
+    } = begun(&rt, alloc)?;
+    let (read, wanted) = talk_of(alloc, &filter.key, &GREETING, &LINES)?;
+    let mut written = Vec::new(alloc);
+    serve(alloc, read.as_bytes(), &mut written, &mut filter, MOST, greeting.as_bytes())?;
+    let text = String::from_utf8(written).ok().ok_or("no text")?;
+    assert_eq!(rt; text.as_str(), wanted.as_str());
+    assert_eq!(rt; fs::read(&rt, "out")?.as_slice(), b"abc".as_slice());
+    assert_eq!(rt; fs::read(&rt, "n1/life")?.as_slice(), b"node 1 life 7\n".as_slice());
+    let again = open_store(&rt, alloc, "n1", NodeId(1));
+    let (store, found) = again.ok().ok_or("not opened again")?;
+    assert_eq!(rt; store.last(), Life(7));
+    assert_eq!(rt; found.contents.len(), 1);
+    Ok(())
+}
+
+/// What a node's `life` says, and the first line of what is said then.
+const REFUSED_STARTS: [(&[u8], &str); 3] = [
+    (b"node 2 life 5\n", "refused OtherNode"),
+    (b"node 1 life 5", "refused BadLife"),
+    (b"node 1 life 18446744073709551615\n", "refused LivesSpent"),
+];
+
+/// What is refused changes no file.
+#[test]
+fn refused_starts(rt: HostRuntime) -> Result<(), Fail> {
+    fs::write(&rt, "key", KEY)?;
+    fs::create_dir_all(&rt, "n1")?;
+    for (life, wanted) in REFUSED_STARTS {
+        fs::write(&rt, "n1/life", life)?;
+        let words = ["node", "--node", "1", "--nodes", "2", "--store", "n1", "--key", "key"];
+        let (status, out, err) = run_words(&rt, &words)?;
+        let said = String::from_utf8(err).ok().ok_or("no text")?;
+        assert_eq!(rt; status, REFUSED);
+        assert_eq!(rt; out.len(), 0);
+        assert_eq!(rt; said.as_str().lines().next().unwrap_or(""), wanted);
+        assert_eq!(rt; fs::read(&rt, "n1/life")?.as_slice(), life);
+    }
+    Ok(())
+}

@@ -1,0 +1,153 @@
+//! A node as a process.
+ghost use Rattle.std.specs.Prelude.{◌≡◌, OnOk, IfSome};
+ghost use Rattle.processes.specs.Served.{IsNodeServed};
+
+use super::fault::{Cause, ProcessFault};
+use super::files::{key_of, lock_of};
+use farm_base::{Life, NodeId};
+use farmwire::{FarmKey, LINE_LIMIT};
+use nodefilter::{FileStore, OpenFault, Origin, StartFault, Started, Store, open_store, start};
+use services::serve;
+use std::alloc::{AllocError, Global};
+use std::fs::File;
+use std::io::{self, BufReader, Read, Write};
+use std::rt::{Clock, Files};
+use std::time::{SystemTime, UNIX_EPOCH};
+
+/// How long a line may be, with its end and the `m ` of what came from outside.
+const MOST: usize = LINE_LIMIT + 2;
+
+/// Which node it is, and where it has its files.
+#[derive(Clone, Copy, Debug, PartialEq, Eq)]
+pub struct NodePlace<'a> {
+    pub node: NodeId,
+    /// The greatest number of a node that the farm will have.
+    pub nodes: u32,
+    /// The folder of its contents and its life. Its lock stands beside it, with `.lock` behind its name.
+    pub store: &'a str,
+    /// The farm's key.
+    pub key: &'a str,
+}
+
+/// Greets, and answers each line of the reader, up to its end.
+pub fn serve_node<S: Store, R: Read + Drop, W: Write>(
+    alloc: Global,
+    started: Started<S>,
+    reader: R,
+    writer: &mut W,
+) -> io::Result<()>
+    ensures { OnOk result (IfSome (R.remaining reader) (λ text.
+        IsNodeServed S.kept started text (W.contents writer.old) (W.contents writer.new))) }
+{
+    let Started {
+        mut filter,
+        greeting,
+    } = started;
+    serve(
+        alloc,
+        reader,
+        writer,
+        &mut filter,
+        MOST,
+        greeting.as_bytes(),
+    )
+}
+
+/// The seconds since 1970, 0 where the clock doesn't tell them.
+fn seconds<R: Clock>(rt: &R) -> u64 {
+    match SystemTime::now(rt).map(|now| now.duration_since(UNIX_EPOCH)) {
+        Ok(Ok(since)) => since.as_secs(),
+        _ => 0,
+    }
+}
+
+/// The facts of files that don't have the contents that their names say.
+fn skipped(alloc: Global, names: &[String]) -> Result<String, AllocError> {
+    let mut facts = String::new(alloc);
+    for name in names {
+        facts.push_str(": skipped ")?;
+        facts.push_str(name.as_str())?;
+        facts.push_str("\n")?;
+    }
+    Ok(facts)
+}
+
+/// Why a node's folder can't be used.
+fn not_opened(alloc: Global, path: &str, fault: OpenFault) -> ProcessFault {
+    match fault {
+        OpenFault::OtherNode(owner) => ProcessFault::of(alloc, path, Cause::OtherNode(owner)),
+        OpenFault::BadLife => ProcessFault::of(alloc, path, Cause::BadLife),
+        OpenFault::Io(error) => ProcessFault::of_file(alloc, path, error),
+        OpenFault::OutOfMemory => ProcessFault::out_of_memory(alloc),
+    }
+}
+
+/// Why a node's next life didn't begin.
+fn not_started(alloc: Global, path: &str, fault: StartFault) -> ProcessFault {
+    match fault {
+        StartFault::LivesSpent => ProcessFault::of(alloc, path, Cause::LivesSpent),
+        StartFault::NotKept => ProcessFault::of(alloc, path, Cause::NotKept),
+        StartFault::OutOfMemory => ProcessFault::out_of_memory(alloc),
+    }
+}
+
+/// Begins the next life of a node from what its folder has: greater than any before, and at least the seconds since 1970, so that
+/// a folder that was lost isn't taken for the old process.
+fn begun<'a, R: Files + Clock + AllocGlobal + Clone + Drop>(
+    rt: &'a R,
+    place: NodePlace<'_>,
+    key: FarmKey,
+) -> Result<Started<FileStore<'a, R>>, ProcessFault> {
+    let alloc = rt.alloc();
+    let (store, found) = match open_store(rt, alloc, place.store, place.node) {
+        Ok(opened) => opened,
+        Err(fault) => return Err(not_opened(alloc, place.store, fault)),
+    };
+    let Ok(facts) = skipped(alloc, found.wrong.as_slice()) else {
+        return Err(ProcessFault::out_of_memory(alloc));
+    };
+    let last = Life(store.last().0.max(seconds(rt).saturating_sub(1)));
+    let origin = Origin {
+        me: place.node,
+        nodes: place.nodes,
+        key,
+        store,
+        contents: found.contents,
+        facts,
+        last,
+    };
+    match start(alloc, origin) {
+        Ok(started) => Ok(started),
+        Err(fault) => Err(not_started(alloc, place.store, fault)),
+    }
+}
+
+/// Answers the lines of the standard input.
+fn answer_input<S: Store, R: Input + AllocGlobal, W: Write>(
+    rt: &R,
+    started: Started<S>,
+    writer: &mut W,
+) -> Result<(), ProcessFault> {
+    let alloc = rt.alloc();
+    let served = match BufReader::new(alloc, rt.reader()) {
+        Ok(reader) => serve_node(alloc, started, reader, writer),
+        Err(error) => Err(error),
+    };
+    match served {
+        Ok(()) => Ok(()),
+        Err(error) => Err(ProcessFault::of_stream(alloc, error)),
+    }
+}
+
+/// Takes the lock, begins the next life from what is kept, and answers the lines of the standard input up to its end. A start that is
+/// refused changes nothing that is kept.
+pub fn run_node<R: Files<File = File> + Input + Clock + AllocGlobal + Clone + Drop, W: Write>(
+    rt: &R,
+    place: NodePlace<'_>,
+    writer: &mut W,
+) -> Result<(), ProcessFault> {
+    let key = key_of(rt, place.key)?;
+    let _lock = lock_of(rt, place.store)?;
+    let started = begun(rt, place, key)?;
+    answer_input(rt, started, writer)
+}
