@@ -277,7 +277,7 @@ def do_get(args: argparse.Namespace) -> int:
         raise FarmFault(f"{args.to} is there: name a path that is free, or an empty folder")
     kept = ask_coordinator(args, {"do": "store"})
     wanted = serving.Wanted(args.home, True, [], 1, kept["broker"], kept["contents"])
-    store = serving.store_of(wanted, "farm-" + Hints(f"{args.home}/key").name())
+    store = serving.store_of(wanted, Hints(f"{args.home}/key"))
     index = store.index(found[-1]["digest"])
     if index is None:
         raise FarmFault(f"the content of version {found[-1]['version']} isn't in the store any more")

@@ -149,7 +149,7 @@ class Run:
         return status, [self._keep(slot, room) for slot in grant.slots if slot.writable]
 
     def _fill(self, want: Want, slot: Slot, path: str) -> None:
-        self.agent.places.fill(self.agent.store, self.agent.content(slot, self.epoch), path)
+        self.agent.places.fill(self.agent.store, self.agent.content(slot, self.epoch, self.patience), path)
         self.job.filled(want, path, slot.base == 0)
 
     def _keep(self, slot: Slot, room: str) -> tuple[str, str]:

@@ -61,11 +61,16 @@ class Served:
             self.coordinator.stop()
 
 
-def store_of(wanted: Wanted, farm: str) -> Store:
+def farm_name(hints: Hints) -> str:
+    """What the farm's keys in Redis begin with."""
+    return f"farm-{hints.name()}"
+
+
+def store_of(wanted: Wanted, hints: Hints) -> Store:
     root = wanted.contents or f"{wanted.home}/contents"
     if not wanted.broker or wanted.contents:
         return FolderStore(root)
-    return RedisStore(wanted.broker, root, farm)
+    return RedisStore(wanted.broker, root, farm_name(hints), hints.chunk_key())
 
 
 def setup_of(wanted: Wanted) -> Setup:
@@ -76,16 +81,16 @@ def setup_of(wanted: Wanted) -> Setup:
     if wanted.broker and not os.path.exists(f"{wanted.home}/key") and not wanted.coordinator:
         raise UsageFault(f"{wanted.home}/key is missing: copy it from the coordinator's machine, by a way that nobody else can read")
     key = make_key(f"{wanted.home}/key")
-    farm = "farm-" + Hints(key).name()
+    hints = Hints(key)
     transport: Transport = LocalTransport()
     if wanted.broker:
-        transport = RedisTransport(wanted.broker, farm)
+        transport = RedisTransport(wanted.broker, farm_name(hints))
 
     def log(text: str) -> None:
         if wanted.verbose:
             print(f"{time.strftime('%H:%M:%S')} {text}", file=sys.stderr, flush=True)
 
-    store = store_of(wanted, farm)
+    store = store_of(wanted, hints)
     if isinstance(store, RedisStore) and not store.keeps_well():
         print("farm: Redis doesn't sync what it is given (appendonly yes, appendfsync always): its crash can lose contents", file=sys.stderr)
     return Setup(program, wanted.home, key, store, transport, log)

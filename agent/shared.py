@@ -131,7 +131,7 @@ class SharedFolders:
             slot = grant.slots[0]
             path = f"{agent.home}/shared/{short_name(folder)}"
             with agent.places.held(path):
-                agent.places.fill(agent.store, agent.content(slot, epoch), path)
+                agent.places.fill(agent.store, agent.content(slot, epoch, patience), path)
         except BaseException:
             agent.give_back(grant.ticket, epoch)
             raise
