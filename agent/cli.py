@@ -182,6 +182,8 @@ def ask_node(home: str, node: int | None, what: dict[str, Any]) -> int:
         if path is None:
             if node not in (None, 1) or client.is_there(f"{home}/coordinator.sock"):
                 raise FarmFault(f"no node {node or ''} runs in {home}".replace("  ", " "))
+            if os.path.exists(f"{home}/joined"):
+                raise FarmFault(f"no node runs in {home}, which is of a farm over a broker: farm node N --broker redis://.. runs one")
             os.makedirs(home, mode=0o700, exist_ok=True)
             with open(f"{home}/starting", "w") as lock:
                 fcntl.flock(lock, fcntl.LOCK_EX)

@@ -73,6 +73,16 @@ def store_of(wanted: Wanted, hints: Hints) -> Store:
     return RedisStore(wanted.broker, root, farm_name(hints), hints.chunk_key())
 
 
+def join(wanted: Wanted) -> None:
+    """Marks the home of a farm over a broker: a farm that serves it alone would have a coordinator of its own, and other versions."""
+    mark = f"{wanted.home}/joined"
+    if wanted.broker:
+        with open(mark, "w") as file:
+            file.write(wanted.broker.rpartition("@")[2].removeprefix("redis://") + "\n")
+    elif os.path.exists(mark):
+        raise UsageFault(f"{wanted.home} is of a farm over a broker. Where that farm is no more, remove {mark}")
+
+
 def setup_of(wanted: Wanted) -> Setup:
     os.makedirs(wanted.home, mode=0o700, exist_ok=True)
     if len(wanted.home.encode()) > 80 or any(c.isspace() for c in wanted.home):
@@ -82,6 +92,7 @@ def setup_of(wanted: Wanted) -> Setup:
         raise UsageFault(f"{wanted.home}/key is missing: copy it from the coordinator's machine, by a way that nobody else can read")
     key = make_key(f"{wanted.home}/key")
     hints = Hints(key)
+    join(wanted)
     transport: Transport = LocalTransport()
     if wanted.broker:
         transport = RedisTransport(wanted.broker, farm_name(hints))
