@@ -13,15 +13,18 @@ from typing import Any
 from agent.faults import FarmFault, LifeOver, UsageFault
 from agent.hints import Hints
 from agent.lines import Answer, Filter, FilterGone, Talk, line_of
-from agent.node import Setup
+from agent.node import HEARTBEAT, Setup
 from agent.transport import COORDINATOR, address_of, node_address
 from agent.words import DIGEST, is_folder
 
 NUDGE_MOST = 15.0
+SILENT_LEAST = 3 * HEARTBEAT  # seconds: a shorter silence says nothing
 
 
 class CoordinatorAgent:
     def __init__(self, setup: Setup, lease_timeout: float | None = None) -> None:
+        if lease_timeout is not None and lease_timeout < SILENT_LEAST:
+            raise UsageFault(f"a node that is well may be silent for some seconds: --lease-timeout is at least {SILENT_LEAST:g}")
         self.setup, self.lease_timeout = setup, lease_timeout
         self.hints = Hints(setup.key)
         self.since: dict[int, float] = {}  # of a ticket: when this agent saw it granted

@@ -27,7 +27,7 @@ from agent.words import EMPTY, Grant, Slot, grant_of, versions_of
 AWAITED = ("took", "learned", "dropped", "denied", "blob", "recalled", "gave")  # notes that somebody may wait for
 STATES = ("pending", "granted", "running", "committed", "fenced", "released", "content")  # answers to questions
 RECALL = re.compile(r"recall [0-9]{1,4} [0-9]{1,20} ([0-9]{1,20}) ", re.ASCII)
-HEARTBEAT = 5.0
+HEARTBEAT = 2.0
 LACK_MOST, LACK_EVERY = 30.0, 5.0  # seconds for which chunks are asked for, and from one asking to the next
 
 

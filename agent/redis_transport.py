@@ -1,16 +1,19 @@
 """Lines over Redis: a stream of bounded length for each receiver.
 
 Owes the filters what any transport does (`transport`): nothing but an effort. Each receiver reads from the end that its stream has when
-it begins; what came before is sent again by those who want an answer.
+it begins; what came before is sent again by those who want an answer. Nobody who sends waits for the server.
 """
 from __future__ import annotations
 
+import queue
+import threading
 import time
 
 from agent.redis_wire import Redis, RedisFault
 
 LENGTH = 2_000  # lines that a stream keeps
 MOST = 1 << 20  # characters of a line: contents go through the store, so a longer one is lost
+AT_ONCE = 16  # lines of one request
 
 
 class RedisTransport:
@@ -18,17 +21,29 @@ class RedisTransport:
         self.server = Redis(url)
         self.farm = farm
         self.places: dict[str, bytes] = {}
+        self.outbox: queue.Queue[tuple[str, str]] = queue.Queue(LENGTH)
+        threading.Thread(target=self._send_all, daemon=True).start()
 
     def _stream(self, address: str) -> str:
         return f"{self.farm}:to:{address}"
 
     def send(self, address: str, line: str) -> None:
-        if len(line) > MOST:
-            return
         try:
-            self.server.call("XADD", self._stream(address), "MAXLEN", "~", LENGTH, "*", "line", line)
-        except RedisFault:
+            if len(line) <= MOST:
+                self.outbox.put_nowait((address, line))
+        except queue.Full:
             pass  # it is lost, and sent again by whoever misses the answer
+
+    def _send_all(self) -> None:
+        """Sends what is there, together, for ever."""
+        while True:
+            lines = [self.outbox.get()]
+            while len(lines) < AT_ONCE and not self.outbox.empty():
+                lines.append(self.outbox.get())
+            try:
+                self.server.calls([("XADD", self._stream(to), "MAXLEN", "~", LENGTH, "*", "line", line) for to, line in lines])
+            except RedisFault:
+                pass  # they are lost
 
     def receive(self, address: str, timeout: float) -> str | None:
         stream = self._stream(address)

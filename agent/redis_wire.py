@@ -14,6 +14,7 @@ from agent.faults import Missing
 
 MOST = 64 << 20  # bytes of one value, and items of one list
 DEPTH = 8  # of lists within lists
+PATIENCE = 8.0  # seconds in which some byte has to come
 
 Word = str | bytes | int
 Reply = Any  # bytes, int, None, or a list of replies
@@ -28,9 +29,8 @@ class Link:
 
     def __init__(self, url: urllib.parse.SplitResult) -> None:
         host = url.hostname or "127.0.0.1"
-        made = socket.create_connection((host, url.port or 6379), 5)
+        made = socket.create_connection((host, url.port or 6379), PATIENCE)
         made.setsockopt(socket.IPPROTO_TCP, socket.TCP_NODELAY, 1)
-        made.settimeout(30)
         if url.scheme == "rediss":
             made = ssl.create_default_context().wrap_socket(made, server_hostname=host)
         self.socket = made

@@ -349,7 +349,7 @@ class Node:
             return "nothing"
         if words[0] == "granted":
             ask = self.asks[int(words[3]) - 1]
-            if ask["state"] != "pending" and ask["ticket"] != words[4]:
+            if ask["state"] == "released" or ask["state"] != "pending" and ask["ticket"] != words[4]:
                 self.out.send("release", self.number, self.life, words[4])
                 return f"gave back {words[4]}"
             if ask["state"] != "pending":

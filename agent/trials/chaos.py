@@ -30,13 +30,17 @@ from agent.faults import FarmFault  # noqa: E402
 from agent.hints import Hints  # noqa: E402
 from agent.redis_store import RedisStore  # noqa: E402
 from agent.store import FolderStore, Store  # noqa: E402
-from agent.trials.farms import PYTHON_FARM, Attacker, Farm, OverRedis, Pipes, kill  # noqa: E402
+from agent.trials.farms import PYTHON_FARM, Attacker, Farm, Machines, OverRedis, Pipes, kill  # noqa: E402
 from agent.trials.verdict import HALF, Lines, Source, Told, Verdict, told_of  # noqa: E402
 
 NODES, EACH = 3, 2  # commands at once on each node
+KINDS: dict[str, type[Farm]] = {"pipes": Pipes, "redis": OverRedis, "machines": Machines}
 CALM = 90.0  # seconds in which an undisturbed farm has to do its last commands
 CHOICES = [["locked:a"], ["locked:a"], ["locked:b"], ["locked:a", "locked:b"], ["locked:a", "ro=locked:b"], ["private:p"], ["shared:s"]]
 SPOILT = 99  # the status of a command that found a folder in a state that no command leaves
+
+# What is done to the farm, in an order that each round draws anew.
+DECK = ("coordinator", "node", "node", "withdraw", "withdraw", "withdraw", "client", "agent", "redis", "pause", "cut", "cut")
 
 # What a command does in each folder that it may write.
 WORK = """
@@ -71,8 +75,7 @@ class Chaos:
         self.clients: dict[str, subprocess.Popen[str]] = {}
         self.lock = threading.Lock()
         self.stopping = threading.Event()
-        kind = OverRedis if given.over == "redis" else Pipes
-        self.farm: Farm = kind(f"{room}/farm", NODES, given.seed, given.wrong)
+        self.farm: Farm = KINDS[given.over](f"{room}/farm", NODES, given.seed, given.wrong)
         self.attacker: Attacker | None = None
 
     def count(self, what: str) -> None:
@@ -151,8 +154,12 @@ class Chaos:
         return done.stdout if done.returncode == 0 else ""
 
     def disturb(self) -> None:
-        while not self.stopping.wait(self.dice.uniform(0.3, 1.7)):
-            what = self.dice.choice(["coordinator", "node", "node", "withdraw", "withdraw", "withdraw", "client", "agent", "redis", "pause"])
+        deck: list[str] = []
+        while not self.stopping.wait(self.dice.uniform(0.2, 1.4)):
+            if not deck:
+                deck = list(DECK)
+                self.dice.shuffle(deck)
+            what = deck.pop()
             try:
                 self.disturb_by(what)
             except (OSError, subprocess.TimeoutExpired):
@@ -176,12 +183,21 @@ class Chaos:
                 processes = list(self.clients.values())
             if processes and kill(dice.choice(processes).pid):
                 self.count("clients killed")
-        elif what == "agent" and dice.random() < 0.5:
+        elif what == "agent":
             farm.kill(dice.choice(farm.names()), dice.random())
             self.count("agents killed")
         elif what == "redis" and isinstance(farm, OverRedis):
             farm.kill_redis(dice.random() * 2)
             self.count("Redis killed")
+        elif what == "cut" and isinstance(farm, Machines):
+            before = self.commits()
+            farm.cut(dice.randrange(2, NODES + 1), dice.uniform(1, 9))
+            self.count("cables cut")
+            self.counts["commits told while a cable was cut"] += self.commits() - before
+
+    def commits(self) -> int:
+        with self.lock:
+            return sum(len(told.committed) for told in self.told)
 
     def leases(self) -> list[tuple[int, str]]:
         """Node and ticket of each lease that can be withdrawn."""
@@ -298,7 +314,7 @@ def words() -> Given:
     made = argparse.ArgumentParser(description=__doc__, formatter_class=argparse.RawDescriptionHelpFormatter)
     made.add_argument("--seconds", type=float, default=60, help="how long the farm is disturbed (%(default)s)")
     made.add_argument("--seed", type=int, default=1)
-    made.add_argument("--over", choices=["pipes", "redis"], default="pipes")
+    made.add_argument("--over", choices=list(KINDS), default="pipes")
     made.add_argument("--wrong", choices=["early", "unsealed"], help="an agent that commits before contents are kept, or, of the stand-in "
                       "alone, filters that check no seals: the trial has to fail")
     made.add_argument("--builds", type=float, default=0.1, help="the share of builds (%(default)s)")

@@ -13,6 +13,7 @@ import threading
 import time
 from typing import Any, Callable
 
+from agent import launch
 from agent.faults import FarmFault
 from agent.hints import Hints, make_key
 from agent.redis_wire import Redis, RedisFault
@@ -22,6 +23,7 @@ from agent.tools import TOP, need
 DISTURBED = f"{TOP}/agent/trials/disturbed.py"
 PYTHON_FARM = [sys.executable, "-S", f"{TOP}/farm"]
 UP_MOST = 30.0  # seconds
+CLONE_NEWNET = 0x40000000
 
 
 def free_port() -> int:
@@ -193,7 +195,7 @@ class OverRedis(Farm):
         super().begin()
 
     def start_redis(self) -> None:
-        words = ["--bind", "127.0.0.1", "--port", str(self.port), "--dir", self.room, "--save", "", "--appendonly", "yes",
+        words = ["--protected-mode", "no", "--bind", *self.addresses(), "--port", str(self.port), "--dir", self.room, "--save", "", "--appendonly", "yes",
                  "--appendfsync", "always", "--logfile", f"{self.room}/redis.log"]
         self.redis = subprocess.Popen([need("redis-server"), *words])
         for _ in range(500):
@@ -202,6 +204,9 @@ class OverRedis(Farm):
                     return
             time.sleep(0.02)
         raise FarmFault("Redis doesn't start")
+
+    def addresses(self) -> list[str]:
+        return ["127.0.0.1"]
 
     def kill_redis(self, pause: float) -> None:
         assert self.redis
@@ -245,6 +250,69 @@ def kill(pid: int, number: int = signal.SIGKILL) -> bool:
         return True
     except ProcessLookupError:
         return False
+
+
+class Machines(OverRedis):
+    """As over Redis, with each node in a network of its own. Redis, the coordinator and the first node share one, and a cable goes from
+    there to each other node."""
+
+    def __init__(self, room: str, nodes: int, seed: int, wrong: str | None) -> None:
+        super().__init__(room, nodes, seed, wrong)
+        self.port = 6379
+        self.mark = f"f{os.getpid()}"
+
+    def space(self, node: int) -> str:
+        return f"{self.mark}n{node}"
+
+    def begin(self) -> None:
+        """Every process that this thread and those after it start is in the first node's network from now on."""
+        for node in range(1, self.nodes + 1):
+            ip("netns", "add", self.space(node))
+            ip("-n", self.space(node), "link", "set", "lo", "up")
+        for node in range(2, self.nodes + 1):
+            near, far, net = f"c{node}", self.space(node), f"10.77.{node}"
+            ip("-n", self.space(1), "link", "add", near, "type", "veth", "peer", "name", "c1", "netns", far)
+            ip("-n", self.space(1), "addr", "add", f"{net}.1/30", "dev", near)
+            ip("-n", far, "addr", "add", f"{net}.2/30", "dev", "c1")
+            ip("-n", self.space(1), "link", "set", near, "up")
+            ip("-n", far, "link", "set", "c1", "up")
+        with open(f"/run/netns/{self.space(1)}") as space:
+            launch.checked(launch.libc.setns(space.fileno(), CLONE_NEWNET), "setns")
+        super().begin()
+
+    def addresses(self) -> list[str]:
+        return ["127.0.0.1", *(f"10.77.{node}.1" for node in range(2, self.nodes + 1))]
+
+    def words(self, name: str) -> list[str]:
+        words = super().words(name)
+        if name == "coordinator":
+            return [*words, "--lease-timeout", "6"]
+        node = int(name[4:])
+        words[-1] = self.url if node == 1 else f"redis://10.77.{node}.1:{self.port}"
+        return words
+
+    def command(self, name: str) -> list[str]:
+        words = super().command(name)
+        return words if name in ("coordinator", "node1") else ["ip", "netns", "exec", self.space(int(name[4:])), *words]
+
+    def cut(self, node: int, seconds: float) -> None:
+        """Takes a cable away for a while."""
+        ip("-n", self.space(1), "link", "set", f"c{node}", "down")
+        try:
+            time.sleep(seconds)
+        finally:
+            ip("-n", self.space(1), "link", "set", f"c{node}", "up")
+
+    def end(self) -> None:
+        super().end()
+        for node in range(1, self.nodes + 1):
+            ip("netns", "delete", self.space(node), must=False)
+
+
+def ip(*words: str, must: bool = True) -> None:
+    done = subprocess.run([need("ip"), *words], stdin=subprocess.DEVNULL, capture_output=True, text=True)
+    if done.returncode and must:
+        raise FarmFault(f"ip {' '.join(words)}: {done.stderr.strip()}")
 
 
 class Attacker:
