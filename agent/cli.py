@@ -19,6 +19,7 @@ from agent.faults import LOST, MISSING, FarmFault, UsageFault
 from agent.tools import TOP, farmctl
 from agent.words import version_of, want_of
 
+LAST = 3  # versions of a folder that `status --json` and the page tell
 ENDS = """statuses: the command's or builder's own; 64 wrong words; 65 a Dockerfile that can't be built under leases; 69 a program is missing;
 70 a fault; 75 the lease wasn't granted in time, or what was left doesn't count; 76 a build whose lease had ended"""
 
@@ -97,6 +98,9 @@ def _build_words(verbs: Any) -> None:
 def _asking_words(verbs: Any) -> None:
     status = _verb(verbs, "status", do_status, "who has what since when, and who waits", "farm status --json")
     status.add_argument("--json", action="store_true")
+    web = _verb(verbs, "web", do_web, "a page with the farm's status, to read", "farm web --port 8080")
+    web.add_argument("--port", type=int, required=True)
+    web.add_argument("--address", default="127.0.0.1", help="the address that it listens at (%(default)s): who reaches it may read all")
     log = _verb(verbs, "log", do_log, "the versions of a folder", "farm log locked:ccache")
     log.add_argument("folder")
     get = _verb(verbs, "get", do_get, "what a version holds, without a lease", "farm get locked:ccache@3 /tmp/third")
@@ -234,7 +238,7 @@ def _ago(at: float | None) -> str:
 
 
 def do_status(args: argparse.Namespace) -> int:
-    told = ask_coordinator(args, {"do": "status"})
+    told = ask_coordinator(args, {"do": "status", "last": LAST if args.json else 0})
     if args.json:
         print(json.dumps(told, indent=2))
         return 0
@@ -251,6 +255,18 @@ def do_status(args: argparse.Namespace) -> int:
     if not told["leases"] and not told["waiting"]:
         print("nobody has or wants a folder")
     return 0
+
+
+def do_web(args: argparse.Namespace) -> int:
+    from agent import web
+
+    def read() -> Any:
+        asked = client.ask(f"{args.home}/coordinator.sock", {"do": "status", "last": LAST}, shows=False)
+        if asked.status:
+            raise FarmFault(" ".join(asked.said) or "the coordinator doesn't answer")
+        return asked.told
+
+    return web.serve(args.address, args.port, read)
 
 
 def do_log(args: argparse.Namespace) -> int:
@@ -303,22 +319,29 @@ def do_prune(args: argparse.Namespace) -> int:
 
 
 def do_gc(args: argparse.Namespace) -> int:
+    from agent import serving
+    from agent.hints import Hints
+    from agent.redis_store import RedisStore
     from agent.store import FolderStore
 
     if args.keep < 1:
         raise UsageFault("the last version of a folder is always kept: --keep is at least 1")
     kept = ask_coordinator(args, {"do": "store"})
-    store = FolderStore(kept["contents"] or f"{args.home}/contents")
     begun = time.time()
-    needed = ask_coordinator(args, {"do": "needed", "keep": args.keep})
+    needed = set(ask_coordinator(args, {"do": "needed", "keep": args.keep}))
     contents = 0
     for name in sorted(os.listdir(args.home)):
         if name.startswith("node") and name.endswith(".sock"):
-            contents += int(client.ask(f"{args.home}/{name}", {"do": "forget", "needed": needed}).told or 0)
-    indexes, chunks = store.forget(set(needed), args.grace + time.time() - begun)
+            contents += int(client.ask(f"{args.home}/{name}", {"do": "forget", "needed": sorted(needed)}).told or 0)
+    store = serving.store_of(serving.Wanted(args.home, True, [], 1, kept["broker"], kept["contents"]), Hints(f"{args.home}/key"))
+    grace = args.grace + time.time() - begun
+    if isinstance(store, RedisStore):
+        indexes, chunks = store.forget(needed, grace)
+        print(f"Redis forgot {indexes} indexes and {chunks} chunks")
+    folder = store.folder if isinstance(store, RedisStore) else store
+    assert isinstance(folder, FolderStore)
+    indexes, chunks = folder.forget(needed, grace)
     print(f"forgot {contents} contents of nodes, {indexes} indexes and {chunks} chunks")
-    if kept["broker"] and not kept["contents"]:
-        print("what Redis keeps stays: this forgets the copies of this machine alone")
     return 0
 
 

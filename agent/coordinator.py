@@ -10,6 +10,7 @@ import threading
 import time
 from typing import Any
 
+from agent.chunks import folder_size
 from agent.faults import FarmFault, LifeOver, UsageFault
 from agent.hints import Hints
 from agent.lines import Answer, Filter, FilterGone, Talk, line_of
@@ -29,6 +30,7 @@ class CoordinatorAgent:
         self.hints = Hints(setup.key)
         self.since: dict[int, float] = {}  # of a ticket: when this agent saw it granted
         self.heard: dict[int, float] = {}  # of a node
+        self.last: dict[str, tuple[int, list[dict[str, Any]]]] = {}  # of a slot: its last number, and its last versions
         self.begun = time.time()
         self.lock = threading.Lock()
         words = ["coordinator", "--record", f"{setup.home}/record", "--key", setup.key]
@@ -129,8 +131,9 @@ class CoordinatorAgent:
 
     # What people ask.
 
-    def status(self) -> dict[str, Any]:
-        told: dict[str, Any] = {"leases": [], "waiting": [], "folders": [], "lives": {}, "gone": [], "retired": []}
+    def status(self, last: int = 0) -> dict[str, Any]:
+        """Who has what and who waits; of each folder the last version, and as many versions as are wanted, newest first."""
+        told: dict[str, Any] = {"leases": [], "waiting": [], "folders": [], "lives": {}, "gone": [], "retired": [], "now": time.time()}
         for fact in self.question("status").facts:
             words = fact.split(" ")
             if words[0] == "lease":
@@ -153,8 +156,22 @@ class CoordinatorAgent:
                 told["retired"].append(words[1])
             elif words[0] == "tickets":
                 told["tickets"] = int(words[1])
-        told["heard"] = {str(node): at for node, at in self.heard.items()}
+        told["heard"] = {str(node): at for node, at in list(self.heard.items())}
+        for folder in told["folders"] if last else []:
+            folder["versions"] = self._last_versions(folder["slot"], folder["version"], last)
         return told
+
+    def _last_versions(self, slot: str, number: int, count: int) -> list[dict[str, Any]]:
+        """Asked of the filter only where the folder has a new one."""
+        known = self.last.get(slot)
+        if known is None or known[0] != number or len(known[1]) < min(count, number):
+            versions = self.versions(slot)[-count:][::-1]
+            known = self.last[slot] = (number, [version | {"size": self._size(version["digest"])} for version in versions])
+        return known[1][:count]
+
+    def _size(self, digest: str) -> int | None:
+        index = self.setup.store.index(digest)
+        return None if index is None else folder_size(index)
 
     def slots_of(self, folder: str) -> list[str]:
         """The slots of a folder that have versions; a slot's own text names that one."""

@@ -13,11 +13,20 @@ import os
 
 from agent.chunks import chunk_names, chunk_path
 from agent.faults import FarmFault
-from agent.redis_wire import Redis, RedisFault
+from agent.redis_wire import Redis, RedisFault, Word
 from agent.store import ChunksMissing, FolderStore, put_file
 
 AT_ONCE = 64  # chunks of one request
 SEAL = 32  # bytes
+
+# Redis keeps beside all keys when each was last given or found there: what is young isn't forgotten, since a commit of it may be under way.
+# Each script is carried out whole: no key is found by one who gives a content, and forgotten before its time is set.
+GIVE = "redis.call('SET', KEYS[1], ARGV[1]) redis.call('ZADD', KEYS[2], redis.call('TIME')[1], KEYS[1]) return 1"
+FIND = """if redis.call('EXISTS', KEYS[1]) == 0 then return 0 end
+redis.call('ZADD', KEYS[2], redis.call('TIME')[1], KEYS[1]) return 1"""
+FORGET = """local given = redis.call('ZSCORE', KEYS[2], KEYS[1])
+if given and redis.call('TIME')[1] - given < tonumber(ARGV[1]) then return 0 end
+redis.call('DEL', KEYS[1]) redis.call('ZREM', KEYS[2], KEYS[1]) return 1"""
 
 
 class RedisStore:
@@ -41,6 +50,10 @@ class RedisStore:
 
     def _name(self, kind: str, digest: str) -> str:
         return f"{self.farm}:{kind}:{digest}"
+
+    def _script(self, script: str, key: str, *words: Word) -> list[Word]:
+        """The command of a script on a key."""
+        return ["EVAL", script, 2, key, f"{self.farm}:given", *words]
 
     def _seal(self, name: str, data: bytes) -> bytes:
         return hmac.new(self.key, name.encode() + data, hashlib.sha256).digest()
@@ -67,18 +80,18 @@ class RedisStore:
         try:
             for at in range(0, len(names), AT_ONCE):
                 self._send_chunks(names[at : at + AT_ONCE], anew)
-            self.server.call("SET", self._name("index", digest), index)
+            self.server.calls([self._script(GIVE, self._name("index", digest), index)])
         except RedisFault as fault:
             raise FarmFault(f"the store over Redis took no contents: {fault}") from None
 
     def _send_chunks(self, names: list[str], anew: bool) -> None:
-        there = [0] * len(names) if anew else self.server.calls([("EXISTS", self._name("chunk", name)) for name in names])
+        there = [0] * len(names) if anew else self.server.calls([self._script(FIND, self._name("chunk", name)) for name in names])
         sent = []
         for name, is_there in zip(names, there):
             if not is_there:
                 with open(chunk_path(self.chunks, name), "rb") as file:
                     data = file.read()
-                sent.append(("SET", self._name("chunk", name), self._seal(name, data) + data))
+                sent.append(self._script(GIVE, self._name("chunk", name), self._seal(name, data) + data))
         if sent:
             self.server.calls(sent)
 
@@ -111,3 +124,39 @@ class RedisStore:
             return False
         put_file(chunk_path(self.chunks, name), sealed[SEAL:])
         return True
+
+    def forget(self, needed: set[str], grace: float) -> tuple[int, int]:
+        """Removes from Redis what `FolderStore.forget` removes from a folder. Chunks go only where each content that stays is readable."""
+        try:
+            digests = self._kept("index")
+            gone = self._forget("index", [digest for digest in digests if digest not in needed], grace)
+            used: set[str] = set()
+            for digest in needed | (set(digests) - gone):
+                index = self.index(digest)
+                if index is None:
+                    raise FarmFault(f"the content {digest} isn't readable, so no chunk of Redis is forgotten ({len(gone)} indexes were)")
+                used.update(chunk_names(index))
+            unused = [name for name in self._kept("chunk") if name not in used]
+            return len(gone), len(self._forget("chunk", unused, grace))
+        except RedisFault as fault:
+            raise FarmFault(f"the store over Redis forgot nothing more: {fault}") from None
+
+    def _kept(self, kind: str) -> list[str]:
+        """The names of the keys of a kind."""
+        front = self._name(kind, "")
+        found: dict[str, None] = {}
+        place: Word = b"0"
+        while True:
+            place, keys = self.server.call("SCAN", place, "MATCH", f"{front}*", "COUNT", 1000)
+            found.update((key.decode(errors="replace").removeprefix(front), None) for key in keys)
+            if place == b"0":
+                return list(found)
+
+    def _forget(self, kind: str, names: list[str], grace: float) -> set[str]:
+        """Those that went."""
+        gone: set[str] = set()
+        for at in range(0, len(names), AT_ONCE):
+            some = names[at : at + AT_ONCE]
+            went = self.server.calls([self._script(FORGET, self._name(kind, name), int(grace)) for name in some])
+            gone.update(name for name, is_gone in zip(some, went) if is_gone)
+        return gone

@@ -200,7 +200,7 @@ def answer_operator(agent: CoordinatorAgent, wanted: Wanted, asked: dict[str, An
     """A request to the coordinator."""
     what = asked["do"]
     if what == "status":
-        link.tell(agent.status())
+        link.tell(agent.status(int(asked.get("last", 0))))
     elif what == "log":
         link.tell({slot: agent.versions(slot) for slot in agent.slots_of(asked["folder"])})
     elif what == "withdraw":

@@ -201,6 +201,8 @@ class Coordinator:
 
     def tell(self, words: list[str]) -> str:
         if words[0] == "status":
+            for node, life in self.lives.items():
+                self.out.fact("life", node, life)
             for lease in self.leases.values():
                 self.out.fact("lease", *(lease[k] for k in ("ticket", "node", "life", "ask", "kind")), *lease["slots"])
             for entry in self.parked:

@@ -79,7 +79,8 @@ class FarmTest(RoomTest):
 
     def end(self) -> None:
         for up in self.ups:
-            up.terminate()
+            if up.poll() is None:
+                up.terminate()
             up.wait(10)
             if up.stdout:
                 up.stdout.close()

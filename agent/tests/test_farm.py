@@ -4,6 +4,7 @@ from __future__ import annotations
 import json
 import os
 import random
+import shutil
 import signal
 import subprocess
 import threading
@@ -54,7 +55,7 @@ class Alone(support.FarmTest):
                 (["status"], 70, "no farm answers"), (["node", "9", "--broker", "redis://127.0.0.1:1"], 64, "nodes 1 to 3"), (["gc", "--keep", "0"], 64, "at least 1")]
         for words, status, said in rows:
             self.assertIn(said, self.asked(*words, status=status))
-        for verb in ("", "run", "build", "up", "coordinator", "node", "status", "log", "get", "withdraw", "retire", "prune", "gc"):
+        for verb in ("", "run", "build", "up", "coordinator", "node", "status", "log", "get", "withdraw", "retire", "prune", "gc", "web"):
             said = self.asked("--help") if not verb else self.asked(verb, "--help")
             self.assertIn("example: farm" if verb else "statuses:", " ".join(said.split()))
 
@@ -188,6 +189,39 @@ class Nodes(support.FarmTest):
         self.asked("get", "shared:t", self.path("got"))
         self.assertEqual(sorted(self.read("got/f").split()), ["0", "1", "2", "3"])
         self.assertLessEqual(len(self.asked("log", "shared:t").splitlines()), 4)
+
+
+@unittest.skipUnless(support.has("casync"), support.needs("casync"))
+@unittest.skipUnless(support.has("redis-server"), support.needs("redis-server"))
+class Apart(support.FarmTest):
+    """A coordinator and two nodes, each with a home of its own, over Redis."""
+
+    def run_on(self, node: int, command: str, status: int = 0) -> str:
+        done = self.farm("run", "--home", self.path(f"n{node}"), "--folder", f"locked:c=w{node}", "--", "sh", "-c", command, status=status)
+        return done.stdout + done.stderr
+
+    def test_apart(self) -> None:
+        with support.redis_server(self.room, "--appendonly", "yes", "--appendfsync", "always") as url:
+            self.addCleanup(self.end)
+            self.up("coordinator", "--broker", url)
+            self.assertIn("key is missing", self.asked("node", "1", "--home", self.path("n1"), "--broker", url, status=64))
+            for node in ("1", "2"):
+                os.makedirs(self.path(f"n{node}"), exist_ok=True)
+                shutil.copy2(f"{self.home}/key", self.path(f"n{node}/key"))
+                self.up("node", node, "--home", self.path(f"n{node}"), "--broker", url)
+            for number in range(3):
+                self.run_on(1 + number % 2, f"head -c 200000 /dev/urandom > w{1 + number % 2}/f{number}")
+            self.assertRegex(self.asked("gc", "--keep", "1", "--grace", "-1"), "Redis forgot 2 indexes and [0-9]+ chunks")
+            self.assertIn("f0 f1 f2", self.run_on(2, "echo $(ls w2)"))
+            self.alone(url)
+            self.end()
+
+    def alone(self, url: str) -> None:
+        """The home of a node whose agent is gone serves no farm of its own."""
+        self.ups[1].kill()
+        self.ups[1].wait()
+        self.assertIn("of a farm over a broker", self.run_on(1, "true", 70))
+        self.assertIn("of a farm over a broker", self.asked("up", "--home", self.path("n1"), status=64))
 
 
 class Lossy(LocalTransport):

@@ -9,7 +9,7 @@ import urllib.parse
 
 from agent import trees
 from agent.chunks import chunk_names
-from agent.faults import Missing
+from agent.faults import FarmFault, Missing
 from agent.hints import Hints, make_key
 from agent.redis_store import RedisStore
 from agent.redis_transport import RedisTransport
@@ -83,6 +83,34 @@ class OverRedis(Carries):
             trees.extract(other, index, self.path("out"))
             self.assertEqual(self.read("out/f"), "text" * 1000)
             self.assertIsNone(other.index("0" * 64))
+
+    @unittest.skipUnless(support.has("casync"), support.needs("casync"))
+    def test_forget(self) -> None:
+        with support.redis_server(self.room) as url:
+            store = RedisStore(url, self.path("a"), "t", b"k")
+            self.write("one/f", "a" * 300_000)
+            self.write("one/g", "c" * 300_000)
+            self.write("two/f", "b" * 300_000)
+            _, one = trees.keep(store, self.path("one"))
+            _, two = trees.keep(store, self.path("two"))
+            self.assertEqual(store.forget({one}, 3600), (0, 0))  # all is young
+            store.server.call("ZADD", "t:given", 5, f"t:index:{two}")
+            store.server.call("SET", "t:chunk:" + "0" * 64, "of an agent that was killed")
+            indexes, chunks = store.forget({one}, 3600)  # what only that index named is young, but the chunk whose time nobody set
+            self.assertEqual((indexes, chunks), (1, 1))
+            self.assertGreaterEqual(store.forget({one}, 0)[1], 1)
+            fresh = RedisStore(url, self.path("b"), "t", b"k")
+            self.assertIsNone(fresh.index(two))
+            trees.extract(fresh, fresh.index(one) or b"", self.path("out"))
+            self.assertEqual(self.read("out/f"), "a" * 300_000)
+            chunk = chunk_names(fresh.index(one) or b"")[0]
+            self.assertEqual(store.publish(store.folder.index(two) or b""), two)  # what is here and was forgotten there is given anew
+            trees.extract(fresh, fresh.index(two) or b"", self.path("out2"))
+            store.server.call("SET", f"t:index:{one}", "x")
+            lone = RedisStore(url, self.path("c"), "t", b"k")
+            with self.assertRaisesRegex(FarmFault, "isn't readable, so no chunk"):
+                lone.forget({one}, 0)
+            self.assertEqual(store.server.call("EXISTS", f"t:chunk:{chunk}"), 1)
 
     def test_strange_servers(self) -> None:
         """What no server of Redis says is a fault, and nothing else."""
