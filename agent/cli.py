@@ -9,14 +9,12 @@ import argparse
 import fcntl
 import json
 import os
-import subprocess
 import sys
 import time
 from typing import Any, Callable, Sequence
 
 from agent import client
 from agent.faults import LOST, MISSING, FarmFault, UsageFault
-from agent.tools import TOP, farmctl
 from agent.words import version_of, want_of
 
 LAST = 3  # versions of a folder that `status --json` and the page tell
@@ -151,10 +149,14 @@ def do_node(args: argparse.Namespace) -> int:
 
 def start_farm(home: str) -> None:
     """Starts a farm of one node in a process of its own, which ends where nobody uses it."""
+    import subprocess
+
+    from agent.tools import TOP, farmctl
+
     farmctl()  # a missing program is told here, and not in the farm's log
     os.makedirs(home, mode=0o700, exist_ok=True)
     print(f"farm: no farm runs in {home}: one of one node is started", file=sys.stderr, flush=True)
-    words = [sys.executable, os.path.join(TOP, "farm"), "up", "--home", home, "--nodes", "1", "--while-used", "--verbose"]
+    words = [sys.executable, "-IS", os.path.join(TOP, "farm"), "up", "--home", home, "--nodes", "1", "--while-used", "--verbose"]
     with open(f"{home}/farm.log", "ab") as log:
         begun = log.tell()
         started = subprocess.Popen(words, stdin=subprocess.DEVNULL, stdout=subprocess.PIPE, stderr=log, start_new_session=True, cwd=home)

@@ -88,7 +88,7 @@ class Places:
                 raise FarmFault(f"{path} is there, and is no folder")
             if os.listdir(path):
                 if not self._is_ours(path):
-                    raise FarmFault(f"{path} is there, and wasn't made by this farm: name a path that is free")
+                    raise FarmFault(f"{path} is there, and wasn't made by this node: name a path that is free")
                 self.trash.take(path)
         os.makedirs(path, exist_ok=True)
         here = os.lstat(path)

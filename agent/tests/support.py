@@ -18,7 +18,7 @@ from agent import cli
 
 HERE = os.path.dirname(os.path.abspath(__file__))
 TOP = os.path.dirname(os.path.dirname(HERE))
-FARM = (sys.executable, "-S", f"{TOP}/farm")  # without what the distribution adds it starts faster
+FARM = (sys.executable, "-IS", f"{TOP}/farm")  # without what the distribution adds it starts faster
 PRACTICE = os.path.join(HERE, "practice.py")
 is_root = os.geteuid() == 0
 

@@ -130,7 +130,7 @@ class Paths(support.RoomTest):
             places.clear(path)
         self.assertEqual(os.listdir(path), [])
         self.write("work/mine/f", "x")
-        with self.assertRaisesRegex(FarmFault, "wasn't made by this farm"):
+        with self.assertRaisesRegex(FarmFault, "wasn't made by this node"):
             places.clear(self.path("work/mine"))
         self.assertEqual(self.read("work/mine/f"), "x")
         with self.assertRaisesRegex(FarmFault, "is no folder"):
@@ -143,7 +143,7 @@ class Paths(support.RoomTest):
         places.clear(self.path("w"))
         os.rename(self.path("w"), self.path("kept"))
         self.write("w/f", "another's")
-        with self.assertRaisesRegex(FarmFault, "wasn't made by this farm"):
+        with self.assertRaisesRegex(FarmFault, "wasn't made by this node"):
             places.clear(self.path("w"))
 
     def test_names(self) -> None:

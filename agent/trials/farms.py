@@ -21,7 +21,7 @@ from agent.serving import farm_name
 from agent.tools import TOP, need
 
 DISTURBED = f"{TOP}/agent/trials/disturbed.py"
-PYTHON_FARM = [sys.executable, "-S", f"{TOP}/farm"]
+PYTHON_FARM = [sys.executable, "-IS", f"{TOP}/farm"]
 UP_MOST = 30.0  # seconds
 CLONE_NEWNET = 0x40000000
 
