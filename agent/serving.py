@@ -153,6 +153,9 @@ def serve(wanted: Wanted) -> int:
     served = begin(wanted)
     with open(f"{wanted.home}/pid", "w") as file:
         file.write(f"{os.getpid()}\n")
+    mark = f"{wanted.home}/served"
+    if not wanted.while_used:
+        open(mark, "w").close()  # it stands until a farm that people started has ended well: till then no command starts another in its place
     print("up", flush=True)
     used = time.monotonic()
     while not over.wait(0.5):
@@ -168,6 +171,8 @@ def serve(wanted: Wanted) -> int:
                 pass
             break
     served.stop()
+    if os.path.exists(mark):
+        os.unlink(mark)
     return 0
 
 

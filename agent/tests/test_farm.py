@@ -151,6 +151,7 @@ class Nodes(support.FarmTest):
         self.agent.kill()
         self.agent.wait()
         self.assertIn("isn't known", self.ended(run, 75))
+        self.assertIn("was killed: farm up starts it again", self.asked("run", "--", "true", status=70))
         self.up("up", "--nodes", "2")
         self.ended(self.run_on(1, "echo x > w1/f"), 0)
 
