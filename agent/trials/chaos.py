@@ -77,6 +77,7 @@ class Chaos:
         self.stopping = threading.Event()
         self.farm: Farm = KINDS[given.over](f"{room}/farm", NODES, given.seed, given.wrong)
         self.attacker: Attacker | None = None
+        self.faults: list[str] = []  # of agents that don't start again
 
     def count(self, what: str) -> None:
         with self.lock:
@@ -164,6 +165,9 @@ class Chaos:
                 self.disturb_by(what)
             except (OSError, subprocess.TimeoutExpired):
                 pass
+            except FarmFault as fault:
+                self.faults.append(str(fault))
+                return
 
     def disturb_by(self, what: str) -> None:
         dice, farm = self.dice, self.farm
@@ -257,7 +261,7 @@ class Chaos:
         saboteur.join()
         if self.attacker:
             self.attacker.stop()
-        wrong = self.join(workers)
+        wrong = self.join(workers) + self.faults
         if not wrong:
             wrong += self.calm()
         lines = self.lines()
