@@ -59,7 +59,8 @@ def _serving_words(verbs: Any) -> None:
             "--lease-timeout", type=float, metavar="SECONDS", help="withdraws the leases of a node that wasn't heard for so long"
         )
     for made in (coordinator, node):
-        made.add_argument("--broker", required=True, metavar="redis://..")
+        broker = os.environ.get("FARM_BROKER")
+        made.add_argument("--broker", default=broker, required=not broker, metavar="redis://..", help="Redis (or FARM_BROKER, which others don't see)")
 
 
 def _run_words(verbs: Any) -> None:
