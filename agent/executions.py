@@ -47,7 +47,7 @@ def launcher(spec: dict[str, Any]) -> Iterator[tuple[list[str], list[int]]]:
     with os.fdopen(os.memfd_create("execution"), "wb") as said:
         marshal.dump(spec, said)
         said.flush()
-        yield [sys.executable, "-I", "-S", f"/dev/fd/{LAUNCHER}", str(said.fileno()), str(LAUNCHER)], [said.fileno(), LAUNCHER]
+        yield [sys.executable, "-I", "-S", f"/proc/self/fd/{LAUNCHER}", str(said.fileno()), str(LAUNCHER)], [said.fileno(), LAUNCHER]
 
 
 class Execution:

@@ -14,6 +14,7 @@ from agent.coordinator import CoordinatorAgent
 from agent.executions import can_have_namespaces
 from agent.hints import make_key
 from agent.node import NodeAgent, Setup
+from agent.redis_wire import Redis
 from agent.runs import Job, Run
 from agent.store import FolderStore
 from agent.transport import LocalTransport
@@ -213,7 +214,12 @@ class Apart(support.FarmTest):
             for number in range(3):
                 self.run_on(1 + number % 2, f"head -c 200000 /dev/urandom > w{1 + number % 2}/f{number}")
             self.assertRegex(self.asked("gc", "--keep", "1", "--grace", "-1"), "Redis forgot 2 indexes and [0-9]+ chunks")
-            self.assertIn("f0 f1 f2", self.run_on(2, "echo $(ls w2)"))
+            server = Redis(url)
+            for key in server.call("KEYS", "*:chunk:*"):
+                server.call("SET", key, "spoilt")
+            said = self.run_on(2, "echo $(ls w2)")
+            self.assertIn("f0 f1 f2", said)
+            self.assertIn("the other nodes are asked for them", said)
             self.alone(url)
             self.end()
 
