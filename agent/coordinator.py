@@ -19,6 +19,7 @@ from agent.transport import COORDINATOR, address_of, node_address
 from agent.words import DIGEST, is_folder
 
 NUDGE_MOST = 15.0
+SINCE_MOST = 65_536  # leases whose beginning is known
 SILENT_LEAST = 3 * HEARTBEAT  # seconds: a shorter silence says nothing
 
 
@@ -41,14 +42,23 @@ class CoordinatorAgent:
 
     def hear(self, answer: Answer) -> None:
         words = answer.note.split(" ")
-        if words[0] == "granted" and words[1].isdigit():
-            self.since[int(words[1])] = time.time()
+        if not answer.note.startswith(("granted before", "nudged", "started")):
+            self._hear_grants(answer.sends)
         if words[0] not in ("nothing", "nudged", "status", "line", "needed"):
             self.log(answer.note[:160])
         for fact in answer.facts:
             self._hear_fact(fact.split(" "))
         for line in answer.sends:
             self.setup.transport.send(address_of(line), line)
+
+    def _hear_grants(self, lines: list[str]) -> None:
+        """Grants that are made just now, also to asks that waited."""
+        for line in lines:
+            words = line.split(" ")
+            if words[0] == "granted":
+                self.since[int(words[4])] = time.time()
+                while len(self.since) > SINCE_MOST:
+                    self.since.pop(next(iter(self.since)))
 
     def _hear_fact(self, words: list[str]) -> None:
         if words[0] in ("ended", "outdated", "gone") and len(words) > 1:

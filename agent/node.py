@@ -28,6 +28,7 @@ AWAITED = ("took", "learned", "dropped", "denied", "blob", "recalled", "gave")  
 STATES = ("pending", "granted", "running", "committed", "fenced", "released", "content")  # answers to questions
 RECALL = re.compile(r"recall [0-9]{1,4} [0-9]{1,20} ([0-9]{1,20}) ", re.ASCII)
 HEARTBEAT = 2.0
+REMEMBERED = 1024  # commits
 LACK_MOST, LACK_EVERY = 30.0, 5.0  # seconds for which chunks are asked for, and from one asking to the next
 
 
@@ -68,6 +69,7 @@ class NodeAgent:
         self.holders: dict[int, str] = {}  # of an ask: who has its folders
         self.ended: set[int] = set()  # tickets whose leases are said to have ended
         self.offered: dict[str, float] = {}  # of a content: when it was given to the store anew
+        self.learned: dict[int, dict[str, tuple[int, str]]] = {}  # of a ticket: the versions of its commit
         self.shared = SharedFolders(self)
         words = ["node", "--node", str(node), "--nodes", str(nodes), "--store", f"{self.home}/filter", "--key", setup.key]
         self.talk = Talk(f"node {node}", [setup.program, *words], self.executions.all_over, self.hear)
@@ -102,6 +104,10 @@ class NodeAgent:
             grant = grant_of(words[1:])
             if (self.talk.epoch, grant.ask) in self.unwanted:
                 threading.Thread(target=self.give_back, args=(grant.ticket, self.talk.epoch), daemon=True).start()
+        if words[0] == "learned":
+            self.learned[int(words[1])] = versions_of(words[2:])
+            while len(self.learned) > REMEMBERED:
+                del self.learned[next(iter(self.learned))]
         if words[0] == "recalled":
             threading.Thread(target=self.shared.recall, args=(int(words[1]),), daemon=True).start()
         if words[0] in AWAITED:
@@ -262,17 +268,23 @@ class NodeAgent:
         if note != f"begun {ticket}":
             raise FarmFault(f"it can't begin: {note.removeprefix('refused ')}")
 
-    def ending(self, ask: int, epoch: int) -> Ending:
-        """Waits for what came of a commit."""
+    def ending(self, ask: int, ticket: int, epoch: int) -> Ending:
+        """Waits for what came of a commit. Its versions are in the note that it came with, which another thread may be about to hear."""
         words: list[str] = []
+        late = 0.0
 
         def is_over() -> bool:
-            nonlocal words
+            nonlocal words, late
             words = self.call(f"state {ask}", epoch).note.split(" ")
+            if words[0] == "committed" and not words[2:] and ticket not in self.learned:
+                late = late or time.monotonic() + 2.0
+                return time.monotonic() > late
             return words[0] in ("committed", "fenced", "released", "none")
 
         self.wait(epoch, Patience(None, None), is_over)
-        return Ending(words[0], versions_of(words[2:]) if words[0] == "committed" else {})
+        if words[0] != "committed":
+            return Ending(words[0], {})
+        return Ending(words[0], versions_of(words[2:]) or self.learned.get(ticket, {}))
 
     def give_back(self, ticket: int, epoch: int) -> None:
         try:

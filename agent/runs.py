@@ -114,7 +114,7 @@ class Run:
                 note = self.agent.call(line_of("finish", str(grant.ticket), *words), self.epoch).note
                 if note != f"finished {grant.ticket}":
                     raise FarmFault(f"it can't be finished: {note}")
-            return self._settle(grant, status, self.agent.ending(ask, self.epoch), bool(words))
+            return self._settle(grant, status, self.agent.ending(ask, grant.ticket, self.epoch), bool(words))
         except LifeOver:
             if not self.begun:
                 raise

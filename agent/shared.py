@@ -176,7 +176,7 @@ class SharedFolders:
             os.unlink(file)
             if note != f"finished {tenure.ticket}":
                 raise FarmFault(note)
-            ending = agent.ending(tenure.ask, tenure.epoch)
+            ending = agent.ending(tenure.ask, tenure.ticket, tenure.epoch)
             said = [f"{name} version {number}" for name, (number, _) in ending.versions.items()]
             return Closed(f"{ending.how} {tenure.ticket} {' '.join(said) or folder}", ending.how != "committed")
         except (FarmFault, OSError) as fault:  # the last version stands

@@ -336,7 +336,7 @@ class Node:
         ask = self.asks[number - 1]
         if ask["state"] in ("granted", "running"):
             return f"{ask['state']} {self.grant(ask)}"
-        return "pending" if ask["state"] == "pending" else " ".join([ask["state"], ask["ticket"], *ask.get("versions", [])])
+        return str(ask["state"])
 
     def hear(self, words: list[str]) -> str:
         if words[0] == "fetch":
