@@ -165,8 +165,10 @@ def wrong_agent(room: str) -> str:
 TRIALS: list[Callable[[str], str]] = [main_job, suites, count, over_pipes, over_redis, wrong_agent]
 
 
-def has_filters(program: str) -> bool:
-    return subprocess.run([program, "coordinator", "--help"], stdin=subprocess.DEVNULL, capture_output=True).returncode == 0
+def lacking(program: str) -> list[str]:
+    """Which of the filters the program doesn't have."""
+    calls = ((role, subprocess.run([program, role, "--help"], stdin=subprocess.DEVNULL, capture_output=True)) for role in ("coordinator", "node"))
+    return [role for role, call in calls if call.returncode]
 
 
 def attempt(trial: Callable[[str], str]) -> str:
@@ -188,8 +190,9 @@ def attempt(trial: Callable[[str], str]) -> str:
 def main() -> int:
     program = farmctl()
     wanted = [trial for trial in TRIALS if not sys.argv[1:] or trial.__name__ in sys.argv[1:]]
-    hows = [attempt(trial) for trial in wanted] if has_filters(program) else ["skipped"] * len(wanted)
-    why = "" if has_filters(program) else f": {os.path.basename(program)} has no coordinator yet"
+    lacks = lacking(program)
+    hows = ["skipped"] * len(wanted) if lacks else [attempt(trial) for trial in wanted]
+    why = f": {os.path.basename(program)} has no {' and no '.join(lacks)} yet" if lacks else ""
     print(f"the agent over the program: {hows.count('passed')} passed, {hows.count('failed')} failed, {hows.count('skipped')} skipped{why}")
     return 1 if "failed" in hows else 0
 
