@@ -14,7 +14,6 @@ import time
 from dataclasses import dataclass, field
 from typing import Callable
 
-from agent import trees
 from agent.caller import Caller, Patience
 from agent.executions import Execution
 from agent.faults import ClientGone, FarmFault, LifeOver
@@ -153,7 +152,7 @@ class Run:
         self.job.filled(want, path, slot.base == 0)
 
     def _keep(self, slot: Slot, room: str) -> tuple[str, str]:
-        index, digest = trees.keep(self.agent.store, self.paths[slot.folder])
+        index, digest = self.agent.places.keep(self.agent.store, self.paths[slot.folder])
         with open(f"{room}/{digest}", "wb") as file:
             file.write(index)
         return slot.name, file.name

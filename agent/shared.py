@@ -10,7 +10,6 @@ import threading
 from dataclasses import dataclass
 from typing import TYPE_CHECKING, Callable, Iterable
 
-from agent import trees
 from agent.caller import Patience
 from agent.faults import FarmFault, LifeOver
 from agent.lines import line_of
@@ -161,7 +160,7 @@ class SharedFolders:
             agent.give_back(tenure.ticket, tenure.epoch)
             return Closed(f"{folder} is given back as it was")
         try:
-            index, _ = trees.keep(agent.store, tenure.path)
+            index, _ = agent.places.keep(agent.store, tenure.path)
             file = f"{tenure.path}.left"
             with open(file, "wb") as stream:
                 stream.write(index)
