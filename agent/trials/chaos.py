@@ -319,8 +319,8 @@ def words() -> Given:
     made.add_argument("--seconds", type=float, default=60, help="how long the farm is disturbed (%(default)s)")
     made.add_argument("--seed", type=int, default=1)
     made.add_argument("--over", choices=list(KINDS), default="pipes")
-    made.add_argument("--wrong", choices=["early", "unsealed"], help="an agent that commits before contents are kept, or, of the stand-in "
-                      "alone, filters that check no seals: the trial has to fail")
+    made.add_argument("--wrong", choices=["early", "stale", "unsealed"], help="an agent that commits before contents are kept, or "
+                      "that takes what stands at a path for what it was, or, of the stand-in alone, filters that check no seals: the trial has to fail")
     made.add_argument("--builds", type=float, default=0.1, help="the share of builds (%(default)s)")
     made.add_argument("--verbose", action="store_true", help="keeps the folder, and says where it is")
     args = made.parse_args()

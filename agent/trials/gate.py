@@ -1,6 +1,6 @@
 #!/usr/bin/env python3
 """What the gate tries over the farm's program, which FARMCTL names: the main job, builds and commands end to end, what leases prevent,
-and some chaos, with an agent that has to fail it too.
+and some chaos, with agents that have to fail it too.
 
 Prints a line for each trial, and as the last one how many passed, failed and were skipped. The status is 1 where one failed.
 """
@@ -150,19 +150,29 @@ def over_redis(room: str) -> str:
     return chaos(room, "--over", "redis", "--seconds", "30")
 
 
-def wrong_agent(room: str) -> str:
-    """Chaos has to fail an agent that commits before its contents are kept."""
-    need_tools("redis-server")
+def found(room: str, *words: str) -> str:
+    """Chaos has to fail."""
     try:
-        said = chaos(room, "--over", "redis", "--seconds", "8", "--builds", "0", "--wrong", "early")
+        said = chaos(room, "--builds", "0", *words)
     except Failed as fault:
-        found = [line for line in str(fault).splitlines() if line.startswith("wrong: ")]
-        expect(bool(found), str(fault))
-        return f"found at once, {found[0]}"
+        wrong = [line for line in str(fault).splitlines() if line.startswith("wrong: ")]
+        expect(bool(wrong), str(fault))
+        return f"found, {wrong[-1]}"
     raise Failed(said)
 
 
-TRIALS: list[Callable[[str], str]] = [main_job, suites, count, over_pipes, over_redis, wrong_agent]
+def early_agent(room: str) -> str:
+    """An agent commits before its contents are kept."""
+    need_tools("redis-server")
+    return found(room, "--over", "redis", "--seconds", "8", "--wrong", "early")
+
+
+def stale_agent(room: str) -> str:
+    """An agent takes what stands at a path for what it was."""
+    return found(room, "--over", "pipes", "--seconds", "8", "--wrong", "stale")
+
+
+TRIALS: list[Callable[[str], str]] = [main_job, suites, count, over_pipes, over_redis, early_agent, stale_agent]
 
 
 def lacking(program: str) -> list[str]:
