@@ -262,7 +262,7 @@ class Chaos:
         if self.attacker:
             self.attacker.stop()
         wrong = self.join(workers) + self.faults
-        if not wrong:
+        if not wrong and not self.given.wrong:
             wrong += self.calm()
         lines = self.lines()
         verdict = Verdict(lines, self.told, self.farm.history)
