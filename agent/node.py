@@ -26,6 +26,7 @@ from agent.words import EMPTY, Grant, Slot, grant_of, versions_of
 
 AWAITED = ("took", "learned", "dropped", "denied", "blob", "recalled", "gave")  # notes that somebody may wait for
 STATES = ("pending", "granted", "running", "committed", "fenced", "released", "content")  # answers to questions
+STORE_FAULT = "refused StoreFault"
 RECALL = re.compile(r"recall [0-9]{1,4} [0-9]{1,20} ([0-9]{1,20}) ", re.ASCII)
 HEARTBEAT = 2.0
 REMEMBERED = 1024  # commits
@@ -78,7 +79,12 @@ class NodeAgent:
         self.setup.log(f"node {self.node}: {text}")
 
     def call(self, line: str, epoch: int | None = None) -> Answer:
-        return self.talk.call(line, epoch)
+        present = self.talk.epoch
+        answer = self.talk.call(line, epoch)
+        if answer.note == STORE_FAULT:  # it answers nothing else any more: what it keeps is read again by its next life
+            self.talk.restart(present)
+            raise LifeOver("the node couldn't keep a content, and began a new life")
+        return answer
 
     # What the filter says.
 

@@ -85,8 +85,8 @@ def join(wanted: Wanted) -> None:
 
 def setup_of(wanted: Wanted) -> Setup:
     os.makedirs(wanted.home, mode=0o700, exist_ok=True)
-    if len(wanted.home.encode()) > 80 or any(c.isspace() for c in wanted.home):
-        raise UsageFault(f"{wanted.home!r} is too long for a socket's path, or has a space in it: name another --home")
+    if len(wanted.home.encode()) > 80 or any(c.isspace() or c == "=" for c in wanted.home):
+        raise UsageFault(f"{wanted.home!r} is too long for a socket's path, or has a space or = in it: name another --home")
     program = farmctl()
     if wanted.broker and not os.path.exists(f"{wanted.home}/key") and not wanted.coordinator:
         raise UsageFault(f"{wanted.home}/key is missing: copy it from the coordinator's machine, by a way that nobody else can read")

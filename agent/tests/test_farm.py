@@ -12,6 +12,7 @@ import unittest
 
 from agent.coordinator import CoordinatorAgent
 from agent.executions import can_have_namespaces
+from agent.faults import LifeOver
 from agent.hints import make_key
 from agent.node import NodeAgent, Setup
 from agent.redis_wire import Redis
@@ -229,6 +230,29 @@ class Apart(support.FarmTest):
         self.ups[1].wait()
         self.assertIn("of a farm over a broker", self.run_on(1, "true", 70))
         self.assertIn("of a farm over a broker", self.asked("up", "--home", self.path("n1"), status=64))
+
+
+FAULTY = """#!/usr/bin/env python3
+import os, sys
+print("= life 1", flush=True)
+for line in sys.stdin:
+    is_new = not os.path.exists(__file__ + ".failed")
+    open(__file__ + ".failed", "w").close()
+    print("= refused StoreFault" if is_new else "= resent", flush=True)
+"""
+
+
+class StoreFault(support.RoomTest):
+    def test_next_life(self) -> None:
+        """A node whose disk failed it begins a new life."""
+        program = self.write("program", FAULTY)
+        os.chmod(program, 0o755)
+        agent = NodeAgent(1, 1, Setup(program, self.room, make_key(self.path("key")), FolderStore(self.path("contents")), LocalTransport(), lambda text: None))
+        agent.talk.start()
+        self.addCleanup(agent.stop)
+        with self.assertRaises(LifeOver):
+            agent.call("resend", 1)
+        self.assertEqual((agent.talk.epoch, agent.call("resend", 2).note), (2, "resent"))
 
 
 class Lossy(LocalTransport):
