@@ -6,6 +6,7 @@ kernel's own, and of one boot of the machine. What a version doesn't keep, as ha
 """
 from __future__ import annotations
 
+import errno
 import hashlib
 import os
 import stat
@@ -18,8 +19,13 @@ TICK = 0.05  # seconds: two changes in one tick of the kernel's clock may have o
 
 def signature(path: str) -> str | None:
     """A digest that is another one after any change of a folder. None where none can be told."""
-    if not _is_trusted(path):
-        return None
+    try:
+        return _signature(path) if _is_trusted(path) else None
+    except OSError:
+        return None  # something changes it just now, or keeps it from being looked at
+
+
+def _signature(path: str) -> str | None:
     while True:
         whole = hashlib.sha256(_boot())
         newest = 0
@@ -48,7 +54,10 @@ def _is_kept(name: str, here: os.stat_result) -> bool:
     kind = stat.S_IFMT(here.st_mode)
     if kind not in (stat.S_IFREG, stat.S_IFDIR, stat.S_IFLNK, stat.S_IFIFO) or kind != stat.S_IFDIR and here.st_nlink > 1:
         return False
-    return not os.listxattr(name, follow_symlinks=False)
+    try:
+        return not os.listxattr(name, follow_symlinks=False)
+    except OSError as fault:
+        return fault.errno == errno.ENOTSUP
 
 
 def _boot() -> bytes:
