@@ -7,13 +7,12 @@ from __future__ import annotations
 import json
 import os
 import subprocess
-import sys
 from dataclasses import dataclass, field
 from typing import Protocol
 
-from agent import launch
 from agent.dockerfile import Base
 from agent.dockertext import BadDockerfile
+from agent.executions import launcher
 from agent.faults import FarmFault
 from agent.tools import need
 
@@ -71,12 +70,9 @@ class Buildah:
         """A short call, outside any lease. It ends with the agent."""
         os.makedirs(f"{self.home}/tmp", exist_ok=True)
         env = {"PATH": os.environ["PATH"], "HOME": self.home, "TMPDIR": f"{self.home}/tmp"}
-        with open(os.memfd_create("call"), "w") as said:
-            spec = {"command": self._words(*words), "cwd": "/", "env": env, "binds": [], "parent": os.getpid(), "namespace": False}
-            json.dump(spec, said)
-            said.flush()
-            launcher = [sys.executable, "-I", "-S", os.path.abspath(launch.__file__), str(said.fileno())]
-            return subprocess.run(launcher, pass_fds=[said.fileno()], stdin=subprocess.DEVNULL, capture_output=True, text=True)
+        spec = {"command": self._words(*words), "cwd": "/", "env": env, "binds": [], "parent": os.getpid(), "namespace": False}
+        with launcher(spec) as (call, said):
+            return subprocess.run(call, pass_fds=said, stdin=subprocess.DEVNULL, capture_output=True, text=True)
 
     def base_of(self, name: str) -> Base:
         done = self._call("inspect", "--type", "image", name)

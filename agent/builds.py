@@ -150,7 +150,11 @@ class Build:
             filled, left,
         )
         run = Run(self.builds.agent, job, self.caller)
-        status = run.run()
+        try:
+            status = run.run()
+        finally:
+            for path in run.paths.values():
+                self.builds.agent.places.forget(path)
         if run.how == "failed" or run.stopped:
             self.caller.say("the build failed" if run.how == "failed" else "the build was stopped")
         elif status in (0, LOST, FENCED_BUILD):

@@ -17,8 +17,19 @@ TAIL = 0x4B4F050E5549ECD1
 
 def chunk_names(index: bytes) -> list[str]:
     """The names of an index's chunks, each once, in order. The empty content has none."""
+    return list(dict.fromkeys(index[at + 8 : at + 40].hex() for at in table(index)))
+
+
+def folder_size(index: bytes) -> int:
+    """The bytes of the folder, with what casync writes of each file."""
+    ends = table(index)
+    return int(struct.unpack_from("<Q", index, ends[-1])[0]) if ends else 0
+
+
+def table(index: bytes) -> range:
+    """Where the items of an index's table begin."""
     if not index:
-        return []
+        return range(0)
     try:
         size, kind = struct.unpack_from("<QQ", index, 0)
         table_size, table = struct.unpack_from("<QQ", index, size)
@@ -29,7 +40,7 @@ def chunk_names(index: bytes) -> list[str]:
     if (size, kind, table_size, table, tail) != (48, INDEX, 2**64 - 1, TABLE, TAIL) or items < 0 or items % 40:
         raise FarmFault("a content is no index of casync")
     begin = size + 16
-    return list(dict.fromkeys(index[at + 8 : at + 40].hex() for at in range(begin, begin + items, 40)))
+    return range(begin, begin + items, 40)
 
 
 def chunk_path(folder: str, name: str) -> str:

@@ -9,16 +9,15 @@ import argparse
 import fcntl
 import json
 import os
-import subprocess
 import sys
 import time
 from typing import Any, Callable, Sequence
 
 from agent import client
 from agent.faults import LOST, MISSING, FarmFault, UsageFault
-from agent.tools import TOP, farmctl
 from agent.words import version_of, want_of
 
+LAST = 3  # versions of a folder that `status --json` and the page tell
 ENDS = """statuses: the command's or builder's own; 64 wrong words; 65 a Dockerfile that can't be built under leases; 69 a program is missing;
 70 a fault; 75 the lease wasn't granted in time, or what was left doesn't count; 76 a build whose lease had ended"""
 
@@ -60,7 +59,8 @@ def _serving_words(verbs: Any) -> None:
             "--lease-timeout", type=float, metavar="SECONDS", help="withdraws the leases of a node that wasn't heard for so long"
         )
     for made in (coordinator, node):
-        made.add_argument("--broker", required=True, metavar="redis://..")
+        broker = os.environ.get("FARM_BROKER")
+        made.add_argument("--broker", default=broker, required=not broker, metavar="redis://..", help="Redis (or FARM_BROKER, which others don't see)")
 
 
 def _run_words(verbs: Any) -> None:
@@ -97,6 +97,9 @@ def _build_words(verbs: Any) -> None:
 def _asking_words(verbs: Any) -> None:
     status = _verb(verbs, "status", do_status, "who has what since when, and who waits", "farm status --json")
     status.add_argument("--json", action="store_true")
+    web = _verb(verbs, "web", do_web, "a page with the farm's status, to read", "farm web --port 8080")
+    web.add_argument("--port", type=int, required=True)
+    web.add_argument("--address", default="127.0.0.1", help="the address that it listens at (%(default)s): who reaches it may read all")
     log = _verb(verbs, "log", do_log, "the versions of a folder", "farm log locked:ccache")
     log.add_argument("folder")
     get = _verb(verbs, "get", do_get, "what a version holds, without a lease", "farm get locked:ccache@3 /tmp/third")
@@ -147,10 +150,14 @@ def do_node(args: argparse.Namespace) -> int:
 
 def start_farm(home: str) -> None:
     """Starts a farm of one node in a process of its own, which ends where nobody uses it."""
+    import subprocess
+
+    from agent.tools import TOP, farmctl
+
     farmctl()  # a missing program is told here, and not in the farm's log
     os.makedirs(home, mode=0o700, exist_ok=True)
     print(f"farm: no farm runs in {home}: one of one node is started", file=sys.stderr, flush=True)
-    words = [sys.executable, os.path.join(TOP, "farm"), "up", "--home", home, "--nodes", "1", "--while-used", "--verbose"]
+    words = [sys.executable, "-IS", os.path.join(TOP, "farm"), "up", "--home", home, "--nodes", "1", "--while-used", "--verbose"]
     with open(f"{home}/farm.log", "ab") as log:
         begun = log.tell()
         started = subprocess.Popen(words, stdin=subprocess.DEVNULL, stdout=subprocess.PIPE, stderr=log, start_new_session=True, cwd=home)
@@ -182,6 +189,10 @@ def ask_node(home: str, node: int | None, what: dict[str, Any]) -> int:
         if path is None:
             if node not in (None, 1) or client.is_there(f"{home}/coordinator.sock"):
                 raise FarmFault(f"no node {node or ''} runs in {home}".replace("  ", " "))
+            if os.path.exists(f"{home}/joined"):
+                raise FarmFault(f"no node runs in {home}, which is of a farm over a broker: farm node N --broker redis://.. runs one")
+            if os.path.exists(f"{home}/served"):
+                raise FarmFault(f"the farm of {home} was killed: farm up starts it again, or remove {home}/served")
             os.makedirs(home, mode=0o700, exist_ok=True)
             with open(f"{home}/starting", "w") as lock:
                 fcntl.flock(lock, fcntl.LOCK_EX)
@@ -232,7 +243,7 @@ def _ago(at: float | None) -> str:
 
 
 def do_status(args: argparse.Namespace) -> int:
-    told = ask_coordinator(args, {"do": "status"})
+    told = ask_coordinator(args, {"do": "status", "last": LAST if args.json else 0})
     if args.json:
         print(json.dumps(told, indent=2))
         return 0
@@ -249,6 +260,18 @@ def do_status(args: argparse.Namespace) -> int:
     if not told["leases"] and not told["waiting"]:
         print("nobody has or wants a folder")
     return 0
+
+
+def do_web(args: argparse.Namespace) -> int:
+    from agent import web
+
+    def read() -> Any:
+        asked = client.ask(f"{args.home}/coordinator.sock", {"do": "status", "last": LAST}, shows=False)
+        if asked.status:
+            raise FarmFault(" ".join(asked.said) or "the coordinator doesn't answer")
+        return asked.told
+
+    return web.serve(args.address, args.port, read)
 
 
 def do_log(args: argparse.Namespace) -> int:
@@ -277,7 +300,7 @@ def do_get(args: argparse.Namespace) -> int:
         raise FarmFault(f"{args.to} is there: name a path that is free, or an empty folder")
     kept = ask_coordinator(args, {"do": "store"})
     wanted = serving.Wanted(args.home, True, [], 1, kept["broker"], kept["contents"])
-    store = serving.store_of(wanted, "farm-" + Hints(f"{args.home}/key").name())
+    store = serving.store_of(wanted, Hints(f"{args.home}/key"))
     index = store.index(found[-1]["digest"])
     if index is None:
         raise FarmFault(f"the content of version {found[-1]['version']} isn't in the store any more")
@@ -301,22 +324,29 @@ def do_prune(args: argparse.Namespace) -> int:
 
 
 def do_gc(args: argparse.Namespace) -> int:
+    from agent import serving
+    from agent.hints import Hints
+    from agent.redis_store import RedisStore
     from agent.store import FolderStore
 
     if args.keep < 1:
         raise UsageFault("the last version of a folder is always kept: --keep is at least 1")
     kept = ask_coordinator(args, {"do": "store"})
-    store = FolderStore(kept["contents"] or f"{args.home}/contents")
     begun = time.time()
-    needed = ask_coordinator(args, {"do": "needed", "keep": args.keep})
+    needed = set(ask_coordinator(args, {"do": "needed", "keep": args.keep}))
     contents = 0
     for name in sorted(os.listdir(args.home)):
         if name.startswith("node") and name.endswith(".sock"):
-            contents += int(client.ask(f"{args.home}/{name}", {"do": "forget", "needed": needed}).told or 0)
-    indexes, chunks = store.forget(set(needed), args.grace + time.time() - begun)
+            contents += int(client.ask(f"{args.home}/{name}", {"do": "forget", "needed": sorted(needed)}).told or 0)
+    store = serving.store_of(serving.Wanted(args.home, True, [], 1, kept["broker"], kept["contents"]), Hints(f"{args.home}/key"))
+    grace = args.grace + time.time() - begun
+    if isinstance(store, RedisStore):
+        indexes, chunks = store.forget(needed, grace)
+        print(f"Redis forgot {indexes} indexes and {chunks} chunks")
+    folder = store.folder if isinstance(store, RedisStore) else store
+    assert isinstance(folder, FolderStore)
+    indexes, chunks = folder.forget(needed, grace)
     print(f"forgot {contents} contents of nodes, {indexes} indexes and {chunks} chunks")
-    if kept["broker"] and not kept["contents"]:
-        print("what Redis keeps stays: this forgets the copies of this machine alone")
     return 0
 
 

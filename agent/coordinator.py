@@ -10,22 +10,28 @@ import threading
 import time
 from typing import Any
 
+from agent.chunks import folder_size
 from agent.faults import FarmFault, LifeOver, UsageFault
 from agent.hints import Hints
 from agent.lines import Answer, Filter, FilterGone, Talk, line_of
-from agent.node import Setup
+from agent.node import HEARTBEAT, Setup
 from agent.transport import COORDINATOR, address_of, node_address
 from agent.words import DIGEST, is_folder
 
 NUDGE_MOST = 15.0
+SINCE_MOST = 65_536  # leases whose beginning is known
+SILENT_LEAST = 3 * HEARTBEAT  # seconds: a shorter silence says nothing
 
 
 class CoordinatorAgent:
     def __init__(self, setup: Setup, lease_timeout: float | None = None) -> None:
+        if lease_timeout is not None and lease_timeout < SILENT_LEAST:
+            raise UsageFault(f"a node that is well may be silent for some seconds: --lease-timeout is at least {SILENT_LEAST:g}")
         self.setup, self.lease_timeout = setup, lease_timeout
         self.hints = Hints(setup.key)
         self.since: dict[int, float] = {}  # of a ticket: when this agent saw it granted
         self.heard: dict[int, float] = {}  # of a node
+        self.last: dict[str, tuple[int, list[dict[str, Any]]]] = {}  # of a slot: its last number, and its last versions
         self.begun = time.time()
         self.lock = threading.Lock()
         words = ["coordinator", "--record", f"{setup.home}/record", "--key", setup.key]
@@ -36,14 +42,23 @@ class CoordinatorAgent:
 
     def hear(self, answer: Answer) -> None:
         words = answer.note.split(" ")
-        if words[0] == "granted" and words[1].isdigit():
-            self.since[int(words[1])] = time.time()
+        if not answer.note.startswith(("granted before", "nudged", "started")):
+            self._hear_grants(answer.sends)
         if words[0] not in ("nothing", "nudged", "status", "line", "needed"):
             self.log(answer.note[:160])
         for fact in answer.facts:
             self._hear_fact(fact.split(" "))
         for line in answer.sends:
             self.setup.transport.send(address_of(line), line)
+
+    def _hear_grants(self, lines: list[str]) -> None:
+        """Grants that are made just now, also to asks that waited."""
+        for line in lines:
+            words = line.split(" ")
+            if words[0] == "granted":
+                self.since[int(words[4])] = time.time()
+                while len(self.since) > SINCE_MOST:
+                    self.since.pop(next(iter(self.since)))
 
     def _hear_fact(self, words: list[str]) -> None:
         if words[0] in ("ended", "outdated", "gone") and len(words) > 1:
@@ -126,8 +141,9 @@ class CoordinatorAgent:
 
     # What people ask.
 
-    def status(self) -> dict[str, Any]:
-        told: dict[str, Any] = {"leases": [], "waiting": [], "folders": [], "lives": {}, "gone": [], "retired": []}
+    def status(self, last: int = 0) -> dict[str, Any]:
+        """Who has what and who waits; of each folder the last version, and as many versions as are wanted, newest first."""
+        told: dict[str, Any] = {"leases": [], "waiting": [], "folders": [], "lives": {}, "gone": [], "retired": [], "now": time.time()}
         for fact in self.question("status").facts:
             words = fact.split(" ")
             if words[0] == "lease":
@@ -150,8 +166,22 @@ class CoordinatorAgent:
                 told["retired"].append(words[1])
             elif words[0] == "tickets":
                 told["tickets"] = int(words[1])
-        told["heard"] = {str(node): at for node, at in self.heard.items()}
+        told["heard"] = {str(node): at for node, at in list(self.heard.items())}
+        for folder in told["folders"] if last else []:
+            folder["versions"] = self._last_versions(folder["slot"], folder["version"], last)
         return told
+
+    def _last_versions(self, slot: str, number: int, count: int) -> list[dict[str, Any]]:
+        """Asked of the filter only where the folder has a new one."""
+        known = self.last.get(slot)
+        if known is None or known[0] != number or len(known[1]) < min(count, number):
+            versions = self.versions(slot)[-count:][::-1]
+            known = self.last[slot] = (number, [version | {"size": self._size(version["digest"])} for version in versions])
+        return known[1][:count]
+
+    def _size(self, digest: str) -> int | None:
+        index = self.setup.store.index(digest)
+        return None if index is None else folder_size(index)
 
     def slots_of(self, folder: str) -> list[str]:
         """The slots of a folder that have versions; a slot's own text names that one."""

@@ -6,19 +6,30 @@ comes back.
 """
 from __future__ import annotations
 
+import contextlib
 import fcntl
-import json
+import marshal
 import os
+import select
 import signal
 import subprocess
 import sys
 import threading
 import time
-from typing import Callable
+from typing import Any, Callable, Iterator
 
 from agent import launch
 
-LAUNCHER = os.path.abspath(launch.__file__)
+
+def _launcher_kept() -> int:
+    """The launcher as it was when the agent began, whatever becomes of its file while the agent runs."""
+    kept = os.memfd_create("launch.py")
+    with open(launch.__file__, "rb") as file:
+        os.write(kept, file.read())
+    return kept
+
+
+LAUNCHER = _launcher_kept()
 
 
 def can_have_namespaces() -> bool:
@@ -29,20 +40,42 @@ def can_have_namespaces() -> bool:
     return os.waitpid(child, 0)[1] == 0
 
 
+@contextlib.contextmanager
+def launcher(spec: dict[str, Any]) -> Iterator[tuple[list[str], list[int]]]:
+    """The words of the program that runs a command, and the descriptors that it is to have. What to run stands in one of them, since
+    others can see its words."""
+    with os.fdopen(os.memfd_create("execution"), "wb") as said:
+        marshal.dump(spec, said)
+        said.flush()
+        yield [sys.executable, "-I", "-S", f"/proc/self/fd/{LAUNCHER}", str(said.fileno()), str(LAUNCHER)], [said.fileno(), LAUNCHER]
+
+
 class Execution:
     """One command. The thread that makes it has to wait for it: the command ends with that thread."""
 
     def __init__(self, process: subprocess.Popen[bytes]) -> None:
         self.process = process
         self.was_ended = False
+        self.ending: int | None = None
+        with contextlib.suppress(OSError):  # an old kernel has none
+            self.ending = os.pidfd_open(process.pid)
 
     def wait(self, timeout: float) -> int | None:
         """Its status, 128 and the signal's number where a signal ended it; none where it isn't over yet."""
+        if self.ending is not None:  # sooner than `wait`, which looks ever less often
+            poll = select.poll()
+            poll.register(self.ending, select.POLLIN)
+            poll.poll(timeout * 1000)
+            timeout = 0
         try:
             status = self.process.wait(timeout)
         except subprocess.TimeoutExpired:
             return None
         return status if status >= 0 else 128 - status
+
+    def __del__(self) -> None:
+        if self.ending is not None:
+            os.close(self.ending)
 
     def signal(self, number: int) -> None:
         if number in launch.PASSED:
@@ -105,12 +138,9 @@ class Executions:
         fcntl.flock(held, fcntl.LOCK_SH)
         spec = {"command": command, "cwd": cwd, "env": env, "binds": binds, "parent": os.getpid(), "namespace": self.has_namespaces}
         try:
-            with os.fdopen(os.memfd_create("execution"), "w") as said:  # not in its words: these others can see
-                json.dump(spec, said)
-                said.flush()
+            with launcher(spec) as (words, said):
                 process = subprocess.Popen(
-                    [sys.executable, "-I", "-S", LAUNCHER, str(said.fileno())],
-                    stdin=streams[0], stdout=streams[1], stderr=streams[2], pass_fds=[held, said.fileno()], start_new_session=True,
+                    words, stdin=streams[0], stdout=streams[1], stderr=streams[2], pass_fds=[held, *said], start_new_session=True
                 )
         finally:
             os.close(held)

@@ -1,4 +1,4 @@
-"""What agents tell each other beside the filters' messages: a lease has ended, who holds a folder, a node is heard.
+"""What agents tell each other beside the filters' messages: a lease has ended, who holds a folder, a node is heard, a content is missed.
 
 Owes the filters that nothing of it reaches them. A hint changes only what people are shown and how early a lost execution stops. Hints
 are sealed, under a key that is derived from the farm's, so that nothing an agent seals opens as a message of a filter.
@@ -41,6 +41,10 @@ class Hints:
     def name(self) -> str:
         """A name for what the farm keeps in places that farms share: no two keys have one."""
         return hmac.new(self.key, b"name", hashlib.sha256).hexdigest()[:16]
+
+    def chunk_key(self) -> bytes:
+        """The key under which chunks are sealed in places that others can write."""
+        return hmac.new(self.key, b"chunks", hashlib.sha256).digest()
 
     def _mac(self, text: str) -> str:
         return hmac.new(self.key, text.encode(), hashlib.sha256).hexdigest()

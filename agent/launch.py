@@ -1,5 +1,5 @@
-"""Runs one command, and ends with its status. It is started by `executions` as a program of its own: `launch.py DESCRIPTOR`, from which
-it reads what to run.
+"""Runs one command, and ends with its status. It is started by `executions` as a program of its own: `launch.py DESCRIPTOR ITSELF`, two
+descriptors: from the first it reads what to run, from the second it was read.
 
 Owes the filters that no process of the command is left once this program has ended, where it has a pid namespace, and that it ends with
 the agent that started it. Without a namespace a process that leaves its parents and its session can escape.
@@ -7,12 +7,15 @@ the agent that started it. Without a namespace a process that leaves its parents
 from __future__ import annotations
 
 import ctypes
-import json
+import marshal
 import os
 import signal
 import sys
-from types import FrameType
-from typing import Any, NoReturn
+
+TYPE_CHECKING = False  # each command waits for what is imported here
+if TYPE_CHECKING:
+    from types import FrameType
+    from typing import Any, NoReturn
 
 CLONE_NEWNS, CLONE_NEWPID = 0x20000, 0x20000000
 MS_NOSUID, MS_NODEV, MS_NOEXEC, MS_BIND, MS_REC, MS_PRIVATE = 2, 4, 8, 4096, 16384, 1 << 18
@@ -164,9 +167,10 @@ def in_group(spec: dict[str, Any]) -> NoReturn:
 
 
 def main() -> NoReturn:
-    with os.fdopen(int(sys.argv[1])) as file:
+    with os.fdopen(int(sys.argv[1]), "rb") as file:
         file.seek(0)
-        spec = json.load(file)
+        spec = marshal.load(file)
+    os.close(int(sys.argv[2]))
     signal.pthread_sigmask(signal.SIG_BLOCK, [*PASSED, ORPHANED])
     checked(libc.prctl(PR_SET_PDEATHSIG, ORPHANED, 0, 0, 0), "prctl")
     if spec["namespace"]:

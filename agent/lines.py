@@ -154,7 +154,7 @@ class Talk:
                 process = Filter(self.command)
                 break
             except FilterGone as gone:
-                if gone.status != LOCKED:
+                if gone.status != LOCKED or gone.said and "Locked" not in gone.said:
                     program = os.path.basename(self.command[0])
                     raise Missing(f"{program} doesn't start as the {self.name}: {gone.said or f'status {gone.status}'}") from None
                 if time.monotonic() > end:

@@ -20,14 +20,17 @@ from agent.hints import Hints
 from agent.lines import Answer, Talk, line_of
 from agent.places import Places
 from agent.shared import SharedFolders
-from agent.store import Store
+from agent.store import ChunksMissing, Store
 from agent.transport import COORDINATOR, Transport, address_of, node_address
 from agent.words import EMPTY, Grant, Slot, grant_of, versions_of
 
 AWAITED = ("took", "learned", "dropped", "denied", "blob", "recalled", "gave")  # notes that somebody may wait for
 STATES = ("pending", "granted", "running", "committed", "fenced", "released", "content")  # answers to questions
+STORE_FAULT = "refused StoreFault"
 RECALL = re.compile(r"recall [0-9]{1,4} [0-9]{1,20} ([0-9]{1,20}) ", re.ASCII)
-HEARTBEAT = 5.0
+HEARTBEAT = 2.0
+REMEMBERED = 1024  # commits
+LACK_MOST, LACK_EVERY = 30.0, 5.0  # seconds for which chunks are asked for, and from one asking to the next
 
 
 @dataclass
@@ -52,7 +55,7 @@ class Ending:
 
 class NodeAgent:
     def __init__(self, node: int, nodes: int, setup: Setup) -> None:
-        self.node, self.setup, self.store = node, setup, setup.store
+        self.node, self.nodes, self.setup, self.store = node, nodes, setup, setup.store
         self.home = f"{setup.home}/node{node}"
         os.makedirs(self.home, exist_ok=True)
         self.hints = Hints(setup.key)
@@ -66,6 +69,8 @@ class NodeAgent:
         self.unwanted: set[tuple[int, int]] = set()  # epoch and ask: nobody waits for them, and no call takes them back
         self.holders: dict[int, str] = {}  # of an ask: who has its folders
         self.ended: set[int] = set()  # tickets whose leases are said to have ended
+        self.offered: dict[str, float] = {}  # of a content: when it was given to the store anew
+        self.learned: dict[int, dict[str, tuple[int, str]]] = {}  # of a ticket: the versions of its commit
         self.shared = SharedFolders(self)
         words = ["node", "--node", str(node), "--nodes", str(nodes), "--store", f"{self.home}/filter", "--key", setup.key]
         self.talk = Talk(f"node {node}", [setup.program, *words], self.executions.all_over, self.hear)
@@ -74,7 +79,12 @@ class NodeAgent:
         self.setup.log(f"node {self.node}: {text}")
 
     def call(self, line: str, epoch: int | None = None) -> Answer:
-        return self.talk.call(line, epoch)
+        present = self.talk.epoch
+        answer = self.talk.call(line, epoch)
+        if answer.note == STORE_FAULT:  # it answers nothing else any more: what it keeps is read again by its next life
+            self.talk.restart(present)
+            raise LifeOver("the node couldn't keep a content, and began a new life")
+        return answer
 
     # What the filter says.
 
@@ -100,6 +110,10 @@ class NodeAgent:
             grant = grant_of(words[1:])
             if (self.talk.epoch, grant.ask) in self.unwanted:
                 threading.Thread(target=self.give_back, args=(grant.ticket, self.talk.epoch), daemon=True).start()
+        if words[0] == "learned":
+            self.learned[int(words[1])] = versions_of(words[2:])
+            while len(self.learned) > REMEMBERED:
+                del self.learned[next(iter(self.learned))]
         if words[0] == "recalled":
             threading.Thread(target=self.shared.recall, args=(int(words[1]),), daemon=True).start()
         if words[0] in AWAITED:
@@ -164,9 +178,22 @@ class NodeAgent:
         elif words[0] == "outdated" and int(words[1]) == self.node and int(words[2]) > self.life:
             self.log(f"a later life of this node, {words[2]}, was heard: a new one begins here")
             self.talk.restart(self.talk.epoch)
-        else:
+        elif words[0] == "lacks":
+            threading.Thread(target=self._offer, args=(int(words[1]), words[2]), daemon=True).start()
+            return
+        elif words[0] != "offered":
             return
         self.wake()
+
+    def _offer(self, node: int, digest: str) -> None:
+        """Gives the store a content that another node misses there, where this one has it."""
+        now = time.monotonic()
+        if now - self.offered.get(digest, -LACK_EVERY) < LACK_EVERY:
+            return
+        self.offered[digest] = now
+        if self.store.offer(digest):
+            self.log(f"node {node} missed the content {digest}: it is in the store anew")
+            self.setup.transport.send(node_address(node), self.hints.seal(f"offered {node}"))
 
     # Leases.
 
@@ -247,17 +274,23 @@ class NodeAgent:
         if note != f"begun {ticket}":
             raise FarmFault(f"it can't begin: {note.removeprefix('refused ')}")
 
-    def ending(self, ask: int, epoch: int) -> Ending:
-        """Waits for what came of a commit."""
+    def ending(self, ask: int, ticket: int, epoch: int) -> Ending:
+        """Waits for what came of a commit. Its versions are in the note that it came with, which another thread may be about to hear."""
         words: list[str] = []
+        late = 0.0
 
         def is_over() -> bool:
-            nonlocal words
+            nonlocal words, late
             words = self.call(f"state {ask}", epoch).note.split(" ")
+            if words[0] == "committed" and not words[2:] and ticket not in self.learned:
+                late = late or time.monotonic() + 2.0
+                return time.monotonic() > late
             return words[0] in ("committed", "fenced", "released", "none")
 
         self.wait(epoch, Patience(None, None), is_over)
-        return Ending(words[0], versions_of(words[2:]) if words[0] == "committed" else {})
+        if words[0] != "committed":
+            return Ending(words[0], {})
+        return Ending(words[0], versions_of(words[2:]) or self.learned.get(ticket, {}))
 
     def give_back(self, ticket: int, epoch: int) -> None:
         try:
@@ -265,8 +298,32 @@ class NodeAgent:
         except LifeOver:
             pass
 
-    def content(self, slot: Slot, epoch: int) -> bytes:
-        """The content that a slot begins from."""
+    def content(self, slot: Slot, epoch: int, patience: Patience) -> bytes:
+        """The content that a slot begins from, once all of it is here. What the store lacks the other nodes are asked for."""
+        index = self._index(slot, epoch)
+        begun, due = time.monotonic(), 0.0
+
+        def is_here() -> bool:
+            nonlocal due
+            try:
+                self.store.fetch(index)
+                return True
+            except ChunksMissing:
+                now = time.monotonic()
+                if now - begun > LACK_MOST:
+                    raise
+                if now > due:
+                    due = now + LACK_EVERY
+                    patience.say(f"waiting for {slot.name}: chunks of its version aren't in the store, and the other nodes are asked for them")
+                    for other in range(1, self.nodes + 1):
+                        if other != self.node:
+                            self.setup.transport.send(node_address(other), self.hints.seal(f"lacks {self.node} {slot.digest}"))
+                return False
+
+        self.wait(epoch, patience, is_here)
+        return index
+
+    def _index(self, slot: Slot, epoch: int) -> bytes:
         if slot.digest == EMPTY:
             return b""
         found = self.store.index(slot.digest)

@@ -7,16 +7,18 @@ from __future__ import annotations
 
 import contextlib
 import fcntl
+import hashlib
 import json
 import os
 import shutil
 import tempfile
 import threading
 import time
-from typing import Callable, Iterator
+from typing import Any, Callable, Iterator
 
 from agent import trees
 from agent.faults import FarmFault
+from agent.standing import signature
 from agent.store import Store
 from agent.words import short_name
 
@@ -72,14 +74,30 @@ class Places:
     def _known(self, path: str) -> str:
         return f"{self.home}/{short_name(path, 'path')}.json"
 
-    def _is_ours(self, path: str) -> bool:
+    def _read(self, path: str) -> list[Any]:
+        """What is known of a path: itself, the folder's device and number, and the version that it holds with its signature."""
         try:
             with open(self._known(path)) as file:
                 known = json.load(file)
+            return known if isinstance(known, list) else []
         except (OSError, ValueError):
-            return False
+            return []
+
+    def _note(self, path: str, digest: str | None, mark: str | None) -> None:
         here = os.lstat(path)
-        return bool(known == [path, here.st_dev, here.st_ino])
+        with open(self._known(path), "w") as file:
+            json.dump([path, here.st_dev, here.st_ino, digest, mark], file)
+
+    def _is_ours(self, path: str) -> bool:
+        here = os.lstat(path)
+        return self._read(path)[:3] == [path, here.st_dev, here.st_ino]
+
+    def _standing(self, path: str) -> str | None:
+        """The digest of the version that a path still holds."""
+        known = self._read(path)
+        if len(known) < 5 or None in known or os.path.islink(path) or not os.path.isdir(path) or not self._is_ours(path):
+            return None
+        return str(known[3]) if signature(path) == known[4] else None
 
     def clear(self, path: str) -> None:
         """Makes an empty folder at a path that is held."""
@@ -88,16 +106,41 @@ class Places:
                 raise FarmFault(f"{path} is there, and is no folder")
             if os.listdir(path):
                 if not self._is_ours(path):
-                    raise FarmFault(f"{path} is there, and wasn't made by this farm: name a path that is free")
+                    raise FarmFault(f"{path} is there, and wasn't made by this node: name a path that is free")
                 self.trash.take(path)
         os.makedirs(path, exist_ok=True)
-        here = os.lstat(path)
-        with open(self._known(path), "w") as file:
-            json.dump([path, here.st_dev, here.st_ino], file)
+        self._note(path, None, None)
+
+    def forget(self, path: str) -> None:
+        """Nobody uses the path any more, or will."""
+        for name in (self._known(path), f"{self.home}/{short_name(path, 'path')}.lock"):
+            with contextlib.suppress(FileNotFoundError):
+                os.unlink(name)
 
     def fill(self, store: Store, index: bytes, path: str) -> None:
+        """Makes a path that is held what an index says. Where it still is that nothing is done."""
+        digest = hashlib.sha256(index).hexdigest()
+        if index and self._standing(path) == digest:
+            return
         self.clear(path)
         trees.extract(store, index, path)
+        self._note(path, digest, signature(path) if index else None)
+
+    def keep(self, store: Store, path: str) -> tuple[bytes, str]:
+        """Keeps what a path holds, as `trees.keep` does. Where it still is the version that it was, its files aren't read."""
+        with store.making():
+            digest = self._standing(path)
+            index = store.index(digest) if digest else None
+            if index:
+                with contextlib.suppress(FarmFault):  # a chunk is gone: it is made anew
+                    return index, store.publish(index)
+            self._note(path, None, None)
+            before = signature(path)
+            index = trees.make(store, path)
+            digest = store.publish(index)
+            after = signature(path)
+            self._note(path, digest, after if after == before else None)
+            return index, digest
 
 
 def place_of(path: str, cwd: str) -> str:

@@ -1,36 +1,49 @@
 """A store that several machines share over Redis, behind a folder of each machine's own.
 
 Owes the filters what `store` says. Redis keeps what it is given as well as it is set up to: with `appendfsync always` a content is on
-its device before it answers, else a crash of its machine can lose contents that only the makers' machines have then.
+its device before it answers, else a crash of its machine can lose contents that only the makers' machines have then. What it hands out
+isn't trusted: a chunk there is sealed under the farm's key, and one whose seal is wrong is as good as missing.
 """
 from __future__ import annotations
 
 import contextlib
 import hashlib
+import hmac
 import os
 
 from agent.chunks import chunk_names, chunk_path
 from agent.faults import FarmFault
-from agent.redis_transport import connect
-from agent.store import FolderStore, put_file
+from agent.redis_wire import Redis, RedisFault, Word
+from agent.store import ChunksMissing, FolderStore, put_file
 
 AT_ONCE = 64  # chunks of one request
+SEAL = 32  # bytes
+
+# Redis keeps beside all keys when each was last given or found there: what is young isn't forgotten, since a commit of it may be under way.
+# Each script is carried out whole: no key is found by one who gives a content, and forgotten before its time is set.
+GIVE = "redis.call('SET', KEYS[1], ARGV[1]) redis.call('ZADD', KEYS[2], redis.call('TIME')[1], KEYS[1]) return 1"
+FIND = """if redis.call('EXISTS', KEYS[1]) == 0 then return 0 end
+redis.call('ZADD', KEYS[2], redis.call('TIME')[1], KEYS[1]) return 1"""
+FORGET = """local given = redis.call('ZSCORE', KEYS[2], KEYS[1])
+if given and redis.call('TIME')[1] - given < tonumber(ARGV[1]) then return 0 end
+redis.call('DEL', KEYS[1]) redis.call('ZREM', KEYS[2], KEYS[1]) return 1"""
 
 
 class RedisStore:
-    def __init__(self, url: str, root: str, farm: str = "farm") -> None:
-        self.server, self.fault = connect(url)
-        self.farm = farm
+    def __init__(self, url: str, root: str, farm: str, key: bytes) -> None:
+        self.server = Redis(url)
+        self.farm, self.key = farm, key
         self.folder = FolderStore(root)
         self.chunks = self.folder.chunks
 
     def keeps_well(self) -> bool:
         """Whether the server says that what it was given is on its device."""
         try:
-            said = self.server.config_get("append*")
-        except self.fault:
+            said = self.server.call("CONFIG", "GET", "append*")
+        except RedisFault:
             return False
-        return (said.get("appendonly"), said.get("appendfsync")) == ("yes", "always")
+        settings = dict(zip(said[::2], said[1::2]))
+        return (settings.get(b"appendonly"), settings.get(b"appendfsync")) == (b"yes", b"always")
 
     def making(self) -> contextlib.AbstractContextManager[None]:
         return self.folder.making()
@@ -38,45 +51,112 @@ class RedisStore:
     def _name(self, kind: str, digest: str) -> str:
         return f"{self.farm}:{kind}:{digest}"
 
+    def _script(self, script: str, key: str, *words: Word) -> list[Word]:
+        """The command of a script on a key."""
+        return ["EVAL", script, 2, key, f"{self.farm}:given", *words]
+
+    def _seal(self, name: str, data: bytes) -> bytes:
+        return hmac.new(self.key, name.encode() + data, hashlib.sha256).digest()
+
     def publish(self, index: bytes) -> str:
         digest = self.folder.publish(index)
+        self._send(digest, index, anew=False)
+        return digest
+
+    def offer(self, digest: str) -> bool:
+        """Sends a content anew, all of it, where all of it is in this machine's folder."""
+        index = self.folder.index(digest)
+        if not index:
+            return False
+        try:
+            self.folder.fetch(index)
+            self._send(digest, index, anew=True)
+        except (FarmFault, OSError):
+            return False
+        return True
+
+    def _send(self, digest: str, index: bytes, anew: bool) -> None:
         names = chunk_names(index)
         try:
             for at in range(0, len(names), AT_ONCE):
-                self._send_chunks(names[at : at + AT_ONCE])
-            self.server.set(self._name("index", digest), index)
-        except self.fault as fault:
+                self._send_chunks(names[at : at + AT_ONCE], anew)
+            self.server.calls([self._script(GIVE, self._name("index", digest), index)])
+        except RedisFault as fault:
             raise FarmFault(f"the store over Redis took no contents: {fault}") from None
-        return digest
 
-    def _send_chunks(self, names: list[str]) -> None:
-        asked = self.server.pipeline(transaction=False)
-        for name in names:
-            asked.exists(self._name("chunk", name))
-        sent = self.server.pipeline(transaction=False)
-        for name, there in zip(names, asked.execute()):
-            if not there:
+    def _send_chunks(self, names: list[str], anew: bool) -> None:
+        there = [0] * len(names) if anew else self.server.calls([self._script(FIND, self._name("chunk", name)) for name in names])
+        sent = []
+        for name, is_there in zip(names, there):
+            if not is_there:
                 with open(chunk_path(self.chunks, name), "rb") as file:
-                    sent.set(self._name("chunk", name), file.read())
-        sent.execute()
+                    data = file.read()
+                sent.append(self._script(GIVE, self._name("chunk", name), self._seal(name, data) + data))
+        if sent:
+            self.server.calls(sent)
 
     def index(self, digest: str) -> bytes | None:
         found = self.folder.index(digest)
         if found is not None:
             return found
         try:
-            data: bytes | None = self.server.get(self._name("index", digest))
-        except self.fault:
+            data = self.server.call("GET", self._name("index", digest))
+        except RedisFault:
             return None
-        return data if data is not None and hashlib.sha256(data).hexdigest() == digest else None
+        return data if isinstance(data, bytes) and hashlib.sha256(data).hexdigest() == digest else None
 
     def fetch(self, index: bytes) -> None:
         missing = [name for name in chunk_names(index) if not os.path.exists(chunk_path(self.chunks, name))]
-        for name in missing:
-            try:
-                data = self.server.get(self._name("chunk", name))
-            except self.fault as fault:
-                raise FarmFault(f"the store over Redis gave no contents: {fault}") from None
-            if data is None:
-                raise FarmFault(f"the chunk {name} is neither here nor in the store over Redis")
-            put_file(chunk_path(self.chunks, name), data)
+        bad = 0
+        try:
+            for at in range(0, len(missing), AT_ONCE):
+                names = missing[at : at + AT_ONCE]
+                for name, sealed in zip(names, self.server.calls([("GET", self._name("chunk", name)) for name in names])):
+                    bad += not self._take(name, sealed)
+        except RedisFault as fault:
+            raise ChunksMissing(f"the store over Redis gave no contents: {fault}") from None
+        if bad:
+            raise ChunksMissing(f"{bad} chunks of a version are neither here nor, as they were sent, in the store over Redis")
+
+    def _take(self, name: str, sealed: object) -> bool:
+        """Puts a chunk into the folder, where its seal is right."""
+        if not isinstance(sealed, bytes) or not hmac.compare_digest(sealed[:SEAL], self._seal(name, sealed[SEAL:])):
+            return False
+        put_file(chunk_path(self.chunks, name), sealed[SEAL:])
+        return True
+
+    def forget(self, needed: set[str], grace: float) -> tuple[int, int]:
+        """Removes from Redis what `FolderStore.forget` removes from a folder. Chunks go only where each content that stays is readable."""
+        try:
+            digests = self._kept("index")
+            gone = self._forget("index", [digest for digest in digests if digest not in needed], grace)
+            used: set[str] = set()
+            for digest in needed | (set(digests) - gone):
+                index = self.index(digest)
+                if index is None:
+                    raise FarmFault(f"the content {digest} isn't readable, so no chunk of Redis is forgotten ({len(gone)} indexes were)")
+                used.update(chunk_names(index))
+            unused = [name for name in self._kept("chunk") if name not in used]
+            return len(gone), len(self._forget("chunk", unused, grace))
+        except RedisFault as fault:
+            raise FarmFault(f"the store over Redis forgot nothing more: {fault}") from None
+
+    def _kept(self, kind: str) -> list[str]:
+        """The names of the keys of a kind."""
+        front = self._name(kind, "")
+        found: dict[str, None] = {}
+        place: Word = b"0"
+        while True:
+            place, keys = self.server.call("SCAN", place, "MATCH", f"{front}*", "COUNT", 1000)
+            found.update((key.decode(errors="replace").removeprefix(front), None) for key in keys)
+            if place == b"0":
+                return list(found)
+
+    def _forget(self, kind: str, names: list[str], grace: float) -> set[str]:
+        """Those that went."""
+        gone: set[str] = set()
+        for at in range(0, len(names), AT_ONCE):
+            some = names[at : at + AT_ONCE]
+            went = self.server.calls([self._script(FORGET, self._name(kind, name), int(grace)) for name in some])
+            gone.update(name for name, is_gone in zip(some, went) if is_gone)
+        return gone

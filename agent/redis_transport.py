@@ -1,67 +1,66 @@
 """Lines over Redis: a stream of bounded length for each receiver.
 
 Owes the filters what any transport does (`transport`): nothing but an effort. Each receiver reads from the end that its stream has when
-it begins; what came before is sent again by those who want an answer.
+it begins; what came before is sent again by those who want an answer. Nobody who sends waits for the server.
 """
 from __future__ import annotations
 
-import importlib
+import queue
+import threading
 import time
-from typing import Any
 
-from agent.faults import Missing
+from agent.redis_wire import Redis, RedisFault
 
 LENGTH = 2_000  # lines that a stream keeps
 MOST = 1 << 20  # characters of a line: contents go through the store, so a longer one is lost
-
-
-def connect(url: str) -> tuple[Any, type[Exception]]:
-    """A connection to a Redis server, tried once, and what its calls raise."""
-    try:
-        redis = importlib.import_module("redis")
-    except ImportError:
-        raise Missing("python3-redis isn't installed: apt-get install python3-redis, and run farm with Debian's python3") from None
-    fault: type[Exception] = redis.RedisError
-    try:
-        server = redis.Redis.from_url(url, socket_timeout=30, socket_connect_timeout=5)
-        server.ping()
-    except (fault, ValueError) as why:
-        raise Missing(f"no Redis server answers at {url}: {why}") from None
-    return server, fault
+AT_ONCE = 16  # lines of one request
 
 
 class RedisTransport:
     def __init__(self, url: str, farm: str = "farm") -> None:
-        self.server, self.fault = connect(url)
+        self.server = Redis(url)
         self.farm = farm
-        self.places: dict[str, Any] = {}
+        self.places: dict[str, bytes] = {}
+        self.outbox: queue.Queue[tuple[str, str]] = queue.Queue(LENGTH)
+        threading.Thread(target=self._send_all, daemon=True).start()
 
     def _stream(self, address: str) -> str:
         return f"{self.farm}:to:{address}"
 
     def send(self, address: str, line: str) -> None:
-        if len(line) > MOST:
-            return
         try:
-            self.server.xadd(self._stream(address), {"line": line}, maxlen=LENGTH, approximate=True)
-        except self.fault:
+            if len(line) <= MOST:
+                self.outbox.put_nowait((address, line))
+        except queue.Full:
             pass  # it is lost, and sent again by whoever misses the answer
+
+    def _send_all(self) -> None:
+        """Sends what is there, together, for ever."""
+        while True:
+            lines = [self.outbox.get()]
+            while len(lines) < AT_ONCE and not self.outbox.empty():
+                lines.append(self.outbox.get())
+            try:
+                self.server.calls([("XADD", self._stream(to), "MAXLEN", "~", LENGTH, "*", "line", line) for to, line in lines])
+            except RedisFault:
+                pass  # they are lost
 
     def receive(self, address: str, timeout: float) -> str | None:
         stream = self._stream(address)
         try:
             if address not in self.places:
-                ends = self.server.xrevrange(stream, count=1)
-                self.places[address] = ends[0][0] if ends else "0-0"
-            got = self.server.xread({stream: self.places[address]}, count=1, block=max(1, int(timeout * 1000)))
-        except self.fault:
+                ends = self.server.call("XREVRANGE", stream, "+", "-", "COUNT", 1)
+                self.places[address] = ends[0][0] if ends else b"0-0"
+            waited = max(1, int(timeout * 1000))
+            got = self.server.call("XREAD", "COUNT", 1, "BLOCK", waited, "STREAMS", stream, self.places[address])
+            if not got:
+                return None
+            self.places[address], fields = got[0][1][0]
+            line = fields[fields.index(b"line") + 1] if b"line" in fields[::2] else b""
+            if len(line) > MOST or b"\n" in line or b"\r" in line:
+                return None
+            return str(line, errors="replace")
+        except (RedisFault, TypeError, ValueError, IndexError):  # no server of Redis answers what can't be taken apart so
             self.places.pop(address, None)
             time.sleep(min(timeout, 0.5))
             return None
-        if not got:
-            return None
-        self.places[address], fields = got[0][1][0]
-        line = fields.get(b"line", b"")
-        if len(line) > MOST or b"\n" in line or b"\r" in line:
-            return None
-        return str(line, errors="replace")

@@ -14,7 +14,6 @@ import time
 from dataclasses import dataclass, field
 from typing import Callable
 
-from agent import trees
 from agent.caller import Caller, Patience
 from agent.executions import Execution
 from agent.faults import ClientGone, FarmFault, LifeOver
@@ -114,7 +113,7 @@ class Run:
                 note = self.agent.call(line_of("finish", str(grant.ticket), *words), self.epoch).note
                 if note != f"finished {grant.ticket}":
                     raise FarmFault(f"it can't be finished: {note}")
-            return self._settle(grant, status, self.agent.ending(ask, self.epoch), bool(words))
+            return self._settle(grant, status, self.agent.ending(ask, grant.ticket, self.epoch), bool(words))
         except LifeOver:
             if not self.begun:
                 raise
@@ -149,11 +148,11 @@ class Run:
         return status, [self._keep(slot, room) for slot in grant.slots if slot.writable]
 
     def _fill(self, want: Want, slot: Slot, path: str) -> None:
-        self.agent.places.fill(self.agent.store, self.agent.content(slot, self.epoch), path)
+        self.agent.places.fill(self.agent.store, self.agent.content(slot, self.epoch, self.patience), path)
         self.job.filled(want, path, slot.base == 0)
 
     def _keep(self, slot: Slot, room: str) -> tuple[str, str]:
-        index, digest = trees.keep(self.agent.store, self.paths[slot.folder])
+        index, digest = self.agent.places.keep(self.agent.store, self.paths[slot.folder])
         with open(f"{room}/{digest}", "wb") as file:
             file.write(index)
         return slot.name, file.name

@@ -61,31 +61,47 @@ class Served:
             self.coordinator.stop()
 
 
-def store_of(wanted: Wanted, farm: str) -> Store:
+def farm_name(hints: Hints) -> str:
+    """What the farm's keys in Redis begin with."""
+    return f"farm-{hints.name()}"
+
+
+def store_of(wanted: Wanted, hints: Hints) -> Store:
     root = wanted.contents or f"{wanted.home}/contents"
     if not wanted.broker or wanted.contents:
         return FolderStore(root)
-    return RedisStore(wanted.broker, root, farm)
+    return RedisStore(wanted.broker, root, farm_name(hints), hints.chunk_key())
+
+
+def join(wanted: Wanted) -> None:
+    """Marks the home of a farm over a broker: a farm that serves it alone would have a coordinator of its own, and other versions."""
+    mark = f"{wanted.home}/joined"
+    if wanted.broker:
+        with open(mark, "w") as file:
+            file.write(wanted.broker.rpartition("@")[2].removeprefix("redis://") + "\n")
+    elif os.path.exists(mark):
+        raise UsageFault(f"{wanted.home} is of a farm over a broker. Where that farm is no more, remove {mark}")
 
 
 def setup_of(wanted: Wanted) -> Setup:
     os.makedirs(wanted.home, mode=0o700, exist_ok=True)
-    if len(wanted.home.encode()) > 80 or any(c.isspace() for c in wanted.home):
-        raise UsageFault(f"{wanted.home!r} is too long for a socket's path, or has a space in it: name another --home")
+    if len(wanted.home.encode()) > 80 or any(c.isspace() or c == "=" for c in wanted.home):
+        raise UsageFault(f"{wanted.home!r} is too long for a socket's path, or has a space or = in it: name another --home")
     program = farmctl()
     if wanted.broker and not os.path.exists(f"{wanted.home}/key") and not wanted.coordinator:
         raise UsageFault(f"{wanted.home}/key is missing: copy it from the coordinator's machine, by a way that nobody else can read")
     key = make_key(f"{wanted.home}/key")
-    farm = "farm-" + Hints(key).name()
+    hints = Hints(key)
+    join(wanted)
     transport: Transport = LocalTransport()
     if wanted.broker:
-        transport = RedisTransport(wanted.broker, farm)
+        transport = RedisTransport(wanted.broker, farm_name(hints))
 
     def log(text: str) -> None:
         if wanted.verbose:
             print(f"{time.strftime('%H:%M:%S')} {text}", file=sys.stderr, flush=True)
 
-    store = store_of(wanted, farm)
+    store = store_of(wanted, hints)
     if isinstance(store, RedisStore) and not store.keeps_well():
         print("farm: Redis doesn't sync what it is given (appendonly yes, appendfsync always): its crash can lose contents", file=sys.stderr)
     return Setup(program, wanted.home, key, store, transport, log)
@@ -137,6 +153,9 @@ def serve(wanted: Wanted) -> int:
     served = begin(wanted)
     with open(f"{wanted.home}/pid", "w") as file:
         file.write(f"{os.getpid()}\n")
+    mark = f"{wanted.home}/served"
+    if not wanted.while_used:
+        open(mark, "w").close()  # it stands until a farm that people started has ended well: till then no command starts another in its place
     print("up", flush=True)
     used = time.monotonic()
     while not over.wait(0.5):
@@ -152,6 +171,8 @@ def serve(wanted: Wanted) -> int:
                 pass
             break
     served.stop()
+    if os.path.exists(mark):
+        os.unlink(mark)
     return 0
 
 
@@ -184,7 +205,7 @@ def answer_operator(agent: CoordinatorAgent, wanted: Wanted, asked: dict[str, An
     """A request to the coordinator."""
     what = asked["do"]
     if what == "status":
-        link.tell(agent.status())
+        link.tell(agent.status(int(asked.get("last", 0))))
     elif what == "log":
         link.tell({slot: agent.versions(slot) for slot in agent.slots_of(asked["folder"])})
     elif what == "withdraw":

@@ -10,7 +10,6 @@ import threading
 from dataclasses import dataclass
 from typing import TYPE_CHECKING, Callable, Iterable
 
-from agent import trees
 from agent.caller import Patience
 from agent.faults import FarmFault, LifeOver
 from agent.lines import line_of
@@ -131,7 +130,7 @@ class SharedFolders:
             slot = grant.slots[0]
             path = f"{agent.home}/shared/{short_name(folder)}"
             with agent.places.held(path):
-                agent.places.fill(agent.store, agent.content(slot, epoch), path)
+                agent.places.fill(agent.store, agent.content(slot, epoch, patience), path)
         except BaseException:
             agent.give_back(grant.ticket, epoch)
             raise
@@ -161,7 +160,7 @@ class SharedFolders:
             agent.give_back(tenure.ticket, tenure.epoch)
             return Closed(f"{folder} is given back as it was")
         try:
-            index, _ = trees.keep(agent.store, tenure.path)
+            index, _ = agent.places.keep(agent.store, tenure.path)
             file = f"{tenure.path}.left"
             with open(file, "wb") as stream:
                 stream.write(index)
@@ -176,7 +175,7 @@ class SharedFolders:
             os.unlink(file)
             if note != f"finished {tenure.ticket}":
                 raise FarmFault(note)
-            ending = agent.ending(tenure.ask, tenure.epoch)
+            ending = agent.ending(tenure.ask, tenure.ticket, tenure.epoch)
             said = [f"{name} version {number}" for name, (number, _) in ending.versions.items()]
             return Closed(f"{ending.how} {tenure.ticket} {' '.join(said) or folder}", ending.how != "committed")
         except (FarmFault, OSError) as fault:  # the last version stands

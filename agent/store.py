@@ -21,6 +21,10 @@ from agent.words import DIGEST, EMPTY
 _libc = ctypes.CDLL(None, use_errno=True)
 
 
+class ChunksMissing(FarmFault):
+    """Chunks of a content aren't here now. Another machine may give them to the store."""
+
+
 class Store(Protocol):
     chunks: str  # the folder in which casync reads and writes chunks
 
@@ -35,6 +39,9 @@ class Store(Protocol):
 
     def fetch(self, index: bytes) -> None:
         """Sees to it that the chunks of an index are in the folder."""
+
+    def offer(self, digest: str) -> bool:
+        """Gives the shared store what another machine misses there, where it is here. Whether it did."""
 
 
 def sync_all(folder: str) -> None:
@@ -115,6 +122,9 @@ class FolderStore:
         missing = [name for name in chunk_names(index) if not os.path.exists(chunk_path(self.chunks, name))]
         if missing:
             raise FarmFault(f"{len(missing)} chunks of a version aren't in {self.chunks}, {missing[0]} among them")
+
+    def offer(self, digest: str) -> bool:
+        return False  # all see one folder
 
     def forget(self, needed: set[str], grace: float) -> tuple[int, int]:
         """Removes each index that isn't needed and each chunk that no index left names, if it is older than the grace. Waits

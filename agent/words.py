@@ -6,7 +6,7 @@ from __future__ import annotations
 
 import hashlib
 import re
-from dataclasses import dataclass
+from typing import NamedTuple
 
 from agent.faults import UsageFault
 
@@ -34,8 +34,7 @@ def short_name(text: str, kind: str = "farm") -> str:
     return f"{kind}-{hashlib.sha256(text.encode()).hexdigest()[:32]}"
 
 
-@dataclass(frozen=True)
-class Want:
+class Want(NamedTuple):
     """A folder that a command asks for, and where it wants it."""
 
     folder: str
@@ -64,8 +63,7 @@ def want_of(word: str) -> Want:
     return Want(folder, path, writable)
 
 
-@dataclass(frozen=True)
-class Slot:
+class Slot(NamedTuple):
     """A slot of a grant, and the version that it begins from."""
 
     name: str
@@ -78,8 +76,7 @@ class Slot:
         return self.name.partition("#")[0]
 
 
-@dataclass(frozen=True)
-class Grant:
+class Grant(NamedTuple):
     node: int
     life: int
     ask: int

@@ -1,9 +1,11 @@
 #!/usr/bin/env -S python3 -IS
 """A stand-in for the farm's program, for the agent's tests alone. It speaks the lines of both filters, and keeps only as much of the
-protocol as honest processes need: a test that passes with it says something of the agent and nothing of a farm's safety.
+protocol as honest processes need: a test that passes with it says something of the agent and nothing of a farm's safety. With
+PRACTICE_UNSEALED in its environment it takes lines whose seals are wrong.
 """
 from __future__ import annotations
 
+import base64
 import fcntl
 import hashlib
 import hmac
@@ -35,12 +37,19 @@ class Out:
 
     def open(self, line: str) -> list[str] | None:
         text, _, mac = line.rpartition(" ")
-        return text.split(" ") if hmac.compare_digest(mac.encode(), self.mac(text).encode()) else None
+        is_ours = hmac.compare_digest(mac.encode(), self.mac(text).encode()) or "PRACTICE_UNSEALED" in os.environ
+        return text.split(" ") if is_ours else None
 
     def end(self, note: str) -> None:
         sys.stdout.write("".join(f"{line}\n" for line in [*self.lines, f"= {note}"]))
         sys.stdout.flush()
         self.lines = []
+
+
+def put(path: str, data: bytes) -> None:
+    with open(f"{path}.new", "wb") as file:
+        file.write(data)
+    os.rename(f"{path}.new", path)
 
 
 def bare(word: str) -> str:
@@ -58,11 +67,14 @@ class Coordinator:
         self.lines: dict[str, list[tuple[int, str]]] = {}
         if os.path.exists(record):
             with open(record) as file:
-                self.tickets, self.lines = json.load(file)
+                self.tickets, self.lines, lives = json.load(file)
+            self.tickets += 10_000  # those that were granted since the last save aren't known
+            self.lives = {int(node): life for node, life in lives.items()}
+        self.save()
 
     def save(self) -> None:
         with open(f"{self.record}.new", "w") as file:
-            json.dump([self.tickets, self.lines], file)
+            json.dump([self.tickets, self.lines, self.lives], file)
         os.rename(f"{self.record}.new", self.record)
 
     def base(self, slot: str) -> str:
@@ -132,6 +144,7 @@ class Coordinator:
             return "old life"
         if life > self.lives.get(node, 0):
             self.lives[node] = life
+            self.save()
             for ticket in [t for t, lease in self.leases.items() if lease["node"] == node]:
                 del self.leases[ticket]
             self.unpark()
@@ -140,13 +153,15 @@ class Coordinator:
         if verb == "commit":
             return self.commit(node, life, int(words[3]), words[4:])
         if verb == "release":
-            self.end(int(words[3]))
+            if (lease := self.leases.get(int(words[3]))) and (lease["node"], lease["life"]) == (node, life):
+                self.end(int(words[3]))
             return f"released {words[3]}"
         return "nothing"
 
     def commit(self, node: int, life: int, ticket: int, news: list[str]) -> str:
         before = {slot: k for slot, line in self.lines.items() for k, (t, _) in enumerate(line, 1) if t == ticket}
-        if ticket not in self.leases and not before:
+        lease = self.leases.get(ticket)
+        if not before and (lease is None or (lease["node"], lease["life"]) != (node, life)):
             self.out.send("fenced", node, life, ticket)
             return f"fenced {ticket}"
         pairs = [word.rpartition("=")[::2] for word in news]
@@ -186,6 +201,8 @@ class Coordinator:
 
     def tell(self, words: list[str]) -> str:
         if words[0] == "status":
+            for node, life in self.lives.items():
+                self.out.fact("life", node, life)
             for lease in self.leases.values():
                 self.out.fact("lease", *(lease[k] for k in ("ticket", "node", "life", "ask", "kind")), *lease["slots"])
             for entry in self.parked:
@@ -213,24 +230,25 @@ class Coordinator:
 
 
 class Node:
-    def __init__(self, out: Out, number: int, store: str) -> None:
-        self.out, self.number, self.contents = out, number, f"{store}/contents"
+    def __init__(self, out: Out, number: int, nodes: int, store: str) -> None:
+        self.out, self.number, self.nodes, self.contents = out, number, nodes, f"{store}/contents"
         os.makedirs(self.contents, exist_ok=True)
         last = 0
         if os.path.exists(f"{store}/life"):
             with open(f"{store}/life") as file:
                 last = int(file.read())
         self.life = max(last + 1, int(time.time()))
-        with open(f"{store}/life", "w") as file:
-            file.write(str(self.life))
+        put(f"{store}/life", str(self.life).encode())
         self.asks: list[dict[str, Any]] = []
 
     def keep(self, path: str) -> str:
         with open(path, "rb") as file:
             data = file.read()
+        return self.keep_bytes(data)
+
+    def keep_bytes(self, data: bytes) -> str:
         digest = hashlib.sha256(data).hexdigest()
-        with open(f"{self.contents}/{digest}", "wb") as file:
-            file.write(data)
+        put(f"{self.contents}/{digest}", data)
         return digest
 
     def of(self, ticket: str) -> dict[str, Any] | None:
@@ -243,7 +261,9 @@ class Node:
             for slot in ask["grant"]:
                 digest = slot.rpartition(":")[2]
                 if digest != EMPTY and not os.path.exists(f"{self.contents}/{digest}"):
-                    self.out.send("fetch", self.number % 2 + 1, self.number, digest)
+                    for node in range(1, self.nodes + 1):
+                        if node != self.number:
+                            self.out.send("fetch", node, self.number, digest)
         elif ask["state"] == "finished":
             self.out.send("commit", self.number, self.life, ask["ticket"], *ask["news"])
 
@@ -316,14 +336,22 @@ class Node:
         ask = self.asks[number - 1]
         if ask["state"] in ("granted", "running"):
             return f"{ask['state']} {self.grant(ask)}"
-        return "pending" if ask["state"] == "pending" else " ".join([ask["state"], ask["ticket"], *ask.get("versions", [])])
+        return str(ask["state"])
 
     def hear(self, words: list[str]) -> str:
-        if words[0] == "fetch" or int(words[2]) != self.life:
+        if words[0] == "fetch":
+            if os.path.exists(path := f"{self.contents}/{words[3]}"):
+                with open(path, "rb") as file:
+                    self.out.send("blob", words[2], base64.b64encode(file.read()).decode())
+            return "nothing"
+        if words[0] == "blob":
+            self.keep_bytes(base64.b64decode(words[2]))
+            return "blob taken"
+        if int(words[2]) != self.life:
             return "nothing"
         if words[0] == "granted":
             ask = self.asks[int(words[3]) - 1]
-            if ask["state"] != "pending" and ask["ticket"] != words[4]:
+            if ask["state"] == "released" or ask["state"] != "pending" and ask["ticket"] != words[4]:
                 self.out.send("release", self.number, self.life, words[4])
                 return f"gave back {words[4]}"
             if ask["state"] != "pending":
@@ -352,6 +380,8 @@ class Node:
 
 def main() -> NoReturn:
     words = sys.argv[1:]
+    if words[1:] == ["--help"]:
+        sys.exit(0)
     given = dict(zip(words[1::2], words[2::2]))
     path = given["--record"] if words[0] == "coordinator" else given["--store"]
     os.makedirs(os.path.dirname(path) if words[0] == "coordinator" else path, exist_ok=True)
@@ -368,7 +398,7 @@ def main() -> NoReturn:
         served = Coordinator(out, path)
         out.end("started")
     else:
-        served = Node(out, int(given["--node"]), path)
+        served = Node(out, int(given["--node"]), int(given["--nodes"]), path)
         out.send("hello", served.number, served.life)
         out.end(f"life {served.life}")
     for line in sys.stdin:

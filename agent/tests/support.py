@@ -2,7 +2,6 @@
 from __future__ import annotations
 
 import contextlib
-import importlib.util
 import io
 import os
 import shutil
@@ -12,14 +11,14 @@ import sys
 import tempfile
 import time
 import unittest
-from typing import Callable
+from typing import Callable, Iterator
 from unittest import mock
 
 from agent import cli
 
 HERE = os.path.dirname(os.path.abspath(__file__))
 TOP = os.path.dirname(os.path.dirname(HERE))
-FARM = (sys.executable, "-S", f"{TOP}/farm")  # without what the distribution adds it starts faster
+FARM = (sys.executable, "-IS", f"{TOP}/farm")  # without what the distribution adds it starts faster
 PRACTICE = os.path.join(HERE, "practice.py")
 is_root = os.geteuid() == 0
 
@@ -31,10 +30,6 @@ def needs(tool: str) -> str:
 
 def has(tool: str) -> bool:
     return shutil.which(tool) is not None
-
-
-def has_redis() -> bool:
-    return has("redis-server") and importlib.util.find_spec("redis") is not None
 
 
 class RoomTest(unittest.TestCase):
@@ -84,7 +79,8 @@ class FarmTest(RoomTest):
 
     def end(self) -> None:
         for up in self.ups:
-            up.terminate()
+            if up.poll() is None:
+                up.terminate()
             up.wait(10)
             if up.stdout:
                 up.stdout.close()
@@ -138,6 +134,29 @@ class FarmTest(RoomTest):
                 return
             time.sleep(0.02)
         self.fail(f"no {path}")
+
+
+@contextlib.contextmanager
+def redis_server(room: str, *words: str) -> Iterator[str]:
+    """A Redis server of the test's own. Its URL."""
+    port = free_port()
+    log = f"{room}/redis.log"
+    server = subprocess.Popen(["redis-server", "--port", str(port), "--bind", "127.0.0.1", "--save", "", "--dir", room, "--logfile", log, *words])
+    try:
+        wait_port(port)
+        yield f"redis://127.0.0.1:{port}"
+    finally:
+        server.terminate()
+        server.wait()
+
+
+def wait_port(port: int) -> None:
+    """Waits until something listens there."""
+    for _ in range(500):
+        with socket.socket() as link:
+            if link.connect_ex(("127.0.0.1", port)) == 0:
+                return
+        time.sleep(0.02)
 
 
 def free_port() -> int:

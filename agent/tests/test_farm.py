@@ -4,6 +4,7 @@ from __future__ import annotations
 import json
 import os
 import random
+import shutil
 import signal
 import subprocess
 import threading
@@ -11,8 +12,10 @@ import unittest
 
 from agent.coordinator import CoordinatorAgent
 from agent.executions import can_have_namespaces
+from agent.faults import LifeOver
 from agent.hints import make_key
 from agent.node import NodeAgent, Setup
+from agent.redis_wire import Redis
 from agent.runs import Job, Run
 from agent.store import FolderStore
 from agent.transport import LocalTransport
@@ -54,7 +57,7 @@ class Alone(support.FarmTest):
                 (["status"], 70, "no farm answers"), (["node", "9", "--broker", "redis://127.0.0.1:1"], 64, "nodes 1 to 3"), (["gc", "--keep", "0"], 64, "at least 1")]
         for words, status, said in rows:
             self.assertIn(said, self.asked(*words, status=status))
-        for verb in ("", "run", "build", "up", "coordinator", "node", "status", "log", "get", "withdraw", "retire", "prune", "gc"):
+        for verb in ("", "run", "build", "up", "coordinator", "node", "status", "log", "get", "withdraw", "retire", "prune", "gc", "web"):
             said = self.asked("--help") if not verb else self.asked(verb, "--help")
             self.assertIn("example: farm" if verb else "statuses:", " ".join(said.split()))
 
@@ -150,6 +153,7 @@ class Nodes(support.FarmTest):
         self.agent.kill()
         self.agent.wait()
         self.assertIn("isn't known", self.ended(run, 75))
+        self.assertIn("was killed: farm up starts it again", self.asked("run", "--", "true", status=70))
         self.up("up", "--nodes", "2")
         self.ended(self.run_on(1, "echo x > w1/f"), 0)
 
@@ -188,6 +192,67 @@ class Nodes(support.FarmTest):
         self.asked("get", "shared:t", self.path("got"))
         self.assertEqual(sorted(self.read("got/f").split()), ["0", "1", "2", "3"])
         self.assertLessEqual(len(self.asked("log", "shared:t").splitlines()), 4)
+
+
+@unittest.skipUnless(support.has("casync"), support.needs("casync"))
+@unittest.skipUnless(support.has("redis-server"), support.needs("redis-server"))
+class Apart(support.FarmTest):
+    """A coordinator and two nodes, each with a home of its own, over Redis."""
+
+    def run_on(self, node: int, command: str, status: int = 0) -> str:
+        done = self.farm("run", "--home", self.path(f"n{node}"), "--folder", f"locked:c=w{node}", "--", "sh", "-c", command, status=status)
+        return done.stdout + done.stderr
+
+    def test_apart(self) -> None:
+        with support.redis_server(self.room, "--appendonly", "yes", "--appendfsync", "always") as url:
+            self.addCleanup(self.end)
+            self.up("coordinator", "--broker", url)
+            self.assertIn("key is missing", self.asked("node", "1", "--home", self.path("n1"), "--broker", url, status=64))
+            for node in ("1", "2"):
+                os.makedirs(self.path(f"n{node}"), exist_ok=True)
+                shutil.copy2(f"{self.home}/key", self.path(f"n{node}/key"))
+                self.up("node", node, "--home", self.path(f"n{node}"), "--broker", url)
+            for number in range(3):
+                self.run_on(1 + number % 2, f"head -c 200000 /dev/urandom > w{1 + number % 2}/f{number}")
+            self.assertRegex(self.asked("gc", "--keep", "1", "--grace", "-1"), "Redis forgot 2 indexes and [0-9]+ chunks")
+            server = Redis(url)
+            for key in server.call("KEYS", "*:chunk:*"):
+                server.call("SET", key, "spoilt")
+            said = self.run_on(2, "echo $(ls w2)")
+            self.assertIn("f0 f1 f2", said)
+            self.assertIn("the other nodes are asked for them", said)
+            self.alone(url)
+            self.end()
+
+    def alone(self, url: str) -> None:
+        """The home of a node whose agent is gone serves no farm of its own."""
+        self.ups[1].kill()
+        self.ups[1].wait()
+        self.assertIn("of a farm over a broker", self.run_on(1, "true", 70))
+        self.assertIn("of a farm over a broker", self.asked("up", "--home", self.path("n1"), status=64))
+
+
+FAULTY = """#!/usr/bin/env python3
+import os, sys
+print("= life 1", flush=True)
+for line in sys.stdin:
+    is_new = not os.path.exists(__file__ + ".failed")
+    open(__file__ + ".failed", "w").close()
+    print("= refused StoreFault" if is_new else "= resent", flush=True)
+"""
+
+
+class StoreFault(support.RoomTest):
+    def test_next_life(self) -> None:
+        """A node whose disk failed it begins a new life."""
+        program = self.write("program", FAULTY)
+        os.chmod(program, 0o755)
+        agent = NodeAgent(1, 1, Setup(program, self.room, make_key(self.path("key")), FolderStore(self.path("contents")), LocalTransport(), lambda text: None))
+        agent.talk.start()
+        self.addCleanup(agent.stop)
+        with self.assertRaises(LifeOver):
+            agent.call("resend", 1)
+        self.assertEqual((agent.talk.epoch, agent.call("resend", 2).note), (2, "resent"))
 
 
 class Lossy(LocalTransport):

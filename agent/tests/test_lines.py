@@ -107,7 +107,8 @@ class Lines(unittest.TestCase):
         self.assertIn("can't be started", self.start_of(["/nowhere/farmctl"]))
         said = self.start_of(program("import sys; sys.stderr.write('no such verb\\n'); sys.exit(2)"))
         self.assertIn("doesn't start as the coordinator: no such verb", said)
-        self.assertIn("files are locked", self.start_of(program("import sys; sys.exit(4)")))
+        self.assertIn("files are locked", self.start_of(program("import sys; sys.stderr.write('fault Locked\\n'); sys.exit(4)")))
+        self.assertIn("fault File", self.start_of(program("import sys; sys.stderr.write('fault File\\n'); sys.exit(4)")))
 
     def test_missing_tools(self) -> None:
         with mock.patch.dict("os.environ", {"PATH": "/nowhere", "FARMCTL": "/nowhere/farmctl"}):

@@ -2,16 +2,19 @@
 from __future__ import annotations
 
 import os
-import subprocess
-import time
+import socket
+import threading
 import unittest
-from typing import Callable
+import urllib.parse
 
 from agent import trees
-from agent.faults import Missing
+from agent.chunks import chunk_names
+from agent.faults import FarmFault, Missing
 from agent.hints import Hints, make_key
 from agent.redis_store import RedisStore
 from agent.redis_transport import RedisTransport
+from agent.redis_wire import Redis, RedisFault
+from agent.store import ChunksMissing
 from agent.transport import LocalTransport, Transport, address_of
 
 from agent.tests import support
@@ -26,6 +29,8 @@ class Carries(support.RoomTest):
         self.assertEqual([transport.receive("node.1", 1.0), transport.receive("node.1", 1.0)], ["a b", "d"])
         self.assertIsNone(transport.receive("node.1", 0.05))
 
+
+class Local(Carries):
     def test_local(self) -> None:
         self.carries(LocalTransport())
         full = LocalTransport(most=1)
@@ -39,46 +44,105 @@ class Carries(support.RoomTest):
         for line, wanted in rows:
             self.assertEqual(address_of(line), wanted)
 
-    @unittest.skipUnless(support.has_redis(), "redis-server or python3-redis isn't installed")
-    def test_redis(self) -> None:
-        port = support.free_port()
-        server = subprocess.Popen(
-            ["redis-server", "--port", str(port), "--bind", "127.0.0.1", "--save", "", "--dir", self.room], stdout=subprocess.DEVNULL
-        )
-        self.addCleanup(server.wait)
-        self.addCleanup(server.terminate)
-        url = f"redis://127.0.0.1:{port}"
-        transport = self.connected(lambda: RedisTransport(url, "t"))
-        transport.receive("node.2", 0.01)
-        self.carries(transport)
-        transport.server.xadd("t:to:node.1", {"line": "two\nlines"})
-        transport.server.xadd("t:to:node.1", {"other": "x"})
-        self.assertIsNone(transport.receive("node.1", 0.05))
-        self.assertEqual(transport.receive("node.1", 0.05), "")
-        self.assertFalse(RedisStore(url, self.path("a"), "t").keeps_well())
-        if support.has("casync"):
-            self.shares(RedisStore(url, self.path("a"), "t"), RedisStore(url, self.path("b"), "t"))
-        server.terminate()
-        server.wait()
+
+@unittest.skipUnless(support.has("redis-server"), support.needs("redis-server"))
+class OverRedis(Carries):
+    def test_lines(self) -> None:
+        with support.redis_server(self.room) as url:
+            transport = RedisTransport(url, "t")
+            transport.receive("node.2", 0.01)
+            self.carries(transport)
+            transport.server.call("XADD", "t:to:node.1", "*", "line", "two\nlines")
+            transport.server.call("XADD", "t:to:node.1", "*", "other", "x")
+            self.assertIsNone(transport.receive("node.1", 0.05))
+            self.assertEqual(transport.receive("node.1", 0.05), "")
+            self.assertFalse(RedisStore(url, self.path("a"), "t", b"k").keeps_well())
         transport.send("node.1", "lost")
         self.assertIsNone(transport.receive("node.1", 0.05))
 
-    def connected(self, connect: Callable[[], RedisTransport]) -> RedisTransport:
-        for _ in range(100):
-            try:
-                return connect()
-            except Missing:
-                time.sleep(0.05)
-        return connect()
+    def test_keeps_well(self) -> None:
+        with support.redis_server(self.room, "--appendonly", "yes", "--appendfsync", "always") as url:
+            self.assertTrue(RedisStore(url, self.path("a"), "t", b"k").keeps_well())
 
-    def shares(self, one: RedisStore, other: RedisStore) -> None:
-        self.write("tree/f", "text" * 1000)
-        index, digest = trees.keep(one, self.path("tree"))
-        found = other.index(digest)
-        self.assertEqual(found, index)
-        trees.extract(other, found or b"", self.path("out"))
-        self.assertEqual(self.read("out/f"), "text" * 1000)
-        self.assertIsNone(other.index("0" * 64))
+    @unittest.skipUnless(support.has("casync"), support.needs("casync"))
+    def test_contents(self) -> None:
+        with support.redis_server(self.room) as url:
+            one, other = (RedisStore(url, self.path(name), "t", b"k") for name in "ab")
+            self.write("tree/f", "text" * 1000)
+            index, digest = trees.keep(one, self.path("tree"))
+            name = f"t:chunk:{chunk_names(index)[0]}"
+            sealed = one.server.call("GET", name)
+            for bad in (sealed[:-1] + bytes([sealed[-1] ^ 1]), b"", b"x" * 500):
+                one.server.call("SET", name, bad)
+                with self.assertRaisesRegex(ChunksMissing, "1 chunks of a version"):
+                    trees.extract(other, index, self.path("out"))
+            one.server.call("SET", f"t:index:{digest}", "x")
+            self.assertIsNone(other.index(digest))
+            self.assertEqual((other.offer(digest), one.offer(digest)), (False, True))
+            self.assertEqual(other.index(digest), index)
+            trees.extract(other, index, self.path("out"))
+            self.assertEqual(self.read("out/f"), "text" * 1000)
+            self.assertIsNone(other.index("0" * 64))
+
+    @unittest.skipUnless(support.has("casync"), support.needs("casync"))
+    def test_forget(self) -> None:
+        with support.redis_server(self.room) as url:
+            store = RedisStore(url, self.path("a"), "t", b"k")
+            self.write("one/f", "a" * 300_000)
+            self.write("one/g", "c" * 300_000)
+            self.write("two/f", "b" * 300_000)
+            _, one = trees.keep(store, self.path("one"))
+            _, two = trees.keep(store, self.path("two"))
+            self.assertEqual(store.forget({one}, 3600), (0, 0))  # all is young
+            store.server.call("ZADD", "t:given", 5, f"t:index:{two}")
+            store.server.call("SET", "t:chunk:" + "0" * 64, "of an agent that was killed")
+            indexes, chunks = store.forget({one}, 3600)  # what only that index named is young, but the chunk whose time nobody set
+            self.assertEqual((indexes, chunks), (1, 1))
+            self.assertGreaterEqual(store.forget({one}, 0)[1], 1)
+            fresh = RedisStore(url, self.path("b"), "t", b"k")
+            self.assertIsNone(fresh.index(two))
+            trees.extract(fresh, fresh.index(one) or b"", self.path("out"))
+            self.assertEqual(self.read("out/f"), "a" * 300_000)
+            chunk = chunk_names(fresh.index(one) or b"")[0]
+            self.assertEqual(store.publish(store.folder.index(two) or b""), two)  # what is here and was forgotten there is given anew
+            trees.extract(fresh, fresh.index(two) or b"", self.path("out2"))
+            store.server.call("SET", f"t:index:{one}", "x")
+            lone = RedisStore(url, self.path("c"), "t", b"k")
+            with self.assertRaisesRegex(FarmFault, "isn't readable, so no chunk"):
+                lone.forget({one}, 0)
+            self.assertEqual(store.server.call("EXISTS", f"t:chunk:{chunk}"), 1)
+
+    def test_strange_servers(self) -> None:
+        """What no server of Redis says is a fault, and nothing else."""
+        for said in (b"", b"+OK\r\n$99999999999\r\n", b"*1\r\n" * 20, b"what\r\n", b"$5\r\nab", b":x\r\n", b"-no\r\n", b"x" * 100_000):
+            with socket.create_server(("127.0.0.1", 0)) as server:
+                def answers() -> None:
+                    link, _ = server.accept()
+                    with link:
+                        link.recv(1000)
+                        link.sendall(said)
+
+                thread = threading.Thread(target=answers)
+                thread.start()
+                with self.assertRaises(RedisFault, msg=said):
+                    server_of(server.getsockname()[1]).calls([("PING",), ("PING",)])
+                thread.join()
+
+    def test_password(self) -> None:
+        with support.redis_server(self.room, "--requirepass", "a b") as url:
+            with self.assertRaisesRegex(Missing, "NOAUTH"):
+                Redis(url)
+            Redis(url.replace("//", "//:a%20b@") + "/3").call("SET", "x", 5)
+            self.assertEqual(Redis(url.replace("//", "//default:a%20b@") + "/3").call("GET", "x"), b"5")
+        for bad in ("http://127.0.0.1:1", "redis://127.0.0.1:1", "what"):
+            with self.assertRaisesRegex(Missing, "no Redis server answers"):
+                Redis(bad)
+
+
+def server_of(port: int) -> Redis:
+    server = Redis.__new__(Redis)
+    server.url, server.idle, server.lock = urllib.parse.urlsplit(f"redis://127.0.0.1:{port}"), [], threading.Lock()
+    return server
 
 
 class Sealed(support.RoomTest):

@@ -4,11 +4,14 @@ from __future__ import annotations
 import os
 import subprocess
 import unittest
+from typing import Callable
+from unittest import mock
 
 from agent import trees
 from agent.chunks import chunk_names, chunk_path
 from agent.faults import FarmFault
 from agent.places import Places, check_apart, place_of
+from agent.standing import signature
 from agent.store import FolderStore, put_file
 from agent.words import EMPTY
 
@@ -119,6 +122,74 @@ class Trees(support.RoomTest):
         self.assertEqual(self.read("out/f"), "a" * 300_000)
 
 
+class Standing(support.RoomTest):
+    """What is taken for unchanged."""
+
+    def change(self, does: Callable[[str], object]) -> None:
+        """Changes a file, and sets its times back."""
+        path = self.path("w/a/f")
+        here = os.stat(path)
+        does(path)
+        os.utime(self.path("w/a/f"), ns=(here.st_atime_ns, here.st_mtime_ns))
+
+    def test_signature(self) -> None:
+        self.write("w/a/f", "text")
+        os.symlink("a", self.path("w/link"))
+        if signature(self.path("w")) is None:
+            self.skipTest("no file system here whose times are trusted")
+        def another(path: str) -> None:
+            os.rename(path, f"{path}2")
+            self.write("w/a/f", "text")
+
+        def there_and_back(path: str) -> None:
+            os.rename(path, f"{path}3")
+            os.rename(f"{path}3", path)
+
+        def link(path: str) -> None:
+            os.unlink(self.path("w/link"))
+            os.symlink("b", self.path("w/link"))
+
+        rows: list[Callable[[str], object]] = [
+            lambda path: self.write("w/a/f", "tent"), lambda path: os.chmod(path, 0o600), lambda path: os.utime(path), another, there_and_back,
+            lambda path: os.unlink(f"{path}2"), link,
+        ]
+        for number, row in enumerate(rows):
+            before = signature(self.path("w"))
+            self.read("w/a/f")
+            self.assertEqual(signature(self.path("w")), before)
+            self.change(row)
+            self.assertNotEqual(signature(self.path("w")), before, number)
+        os.link(self.path("w/a/f"), self.path("w/a/g"))
+        self.assertIsNone(signature(self.path("w")))
+
+    @unittest.skipUnless(support.has("casync"), support.needs("casync"))
+    def test_places(self) -> None:
+        store, places, path = FolderStore(self.path("store")), Places(self.path("home")), self.path("w")
+        places.clear(path)
+        self.write("w/f", "one")
+        index, digest = places.keep(store, path)
+        if signature(path) is None:
+            self.skipTest("no file system here whose times are trusted")
+        number = os.stat(self.path("w/f")).st_ino
+        with mock.patch("agent.trees.make", side_effect=AssertionError), mock.patch("agent.trees.extract", side_effect=AssertionError):
+            places.fill(store, index, path)
+            self.assertEqual(places.keep(store, path), (index, digest))
+            Places(self.path("home")).fill(store, index, path)
+        self.assertEqual(os.stat(self.path("w/f")).st_ino, number)
+        self.write("w/f", "two")
+        other, _ = places.keep(store, path)
+        self.assertNotEqual(other, index)
+        places.fill(store, index, path)
+        self.assertEqual(self.read("w/f"), "one")
+        os.unlink(self.path("w/f"))
+        places.fill(store, index, path)
+        self.assertEqual(self.read("w/f"), "one")
+        os.link(self.path("w/f"), self.path("w/g"))
+        index, _ = places.keep(store, path)
+        places.fill(store, index, path)
+        self.assertEqual(os.stat(self.path("w/g")).st_nlink, 1)  # as it would be elsewhere
+
+
 class Paths(support.RoomTest):
     def test_places(self) -> None:
         places = Places(self.path("home"))
@@ -130,7 +201,7 @@ class Paths(support.RoomTest):
             places.clear(path)
         self.assertEqual(os.listdir(path), [])
         self.write("work/mine/f", "x")
-        with self.assertRaisesRegex(FarmFault, "wasn't made by this farm"):
+        with self.assertRaisesRegex(FarmFault, "wasn't made by this node"):
             places.clear(self.path("work/mine"))
         self.assertEqual(self.read("work/mine/f"), "x")
         with self.assertRaisesRegex(FarmFault, "is no folder"):
@@ -143,7 +214,7 @@ class Paths(support.RoomTest):
         places.clear(self.path("w"))
         os.rename(self.path("w"), self.path("kept"))
         self.write("w/f", "another's")
-        with self.assertRaisesRegex(FarmFault, "wasn't made by this farm"):
+        with self.assertRaisesRegex(FarmFault, "wasn't made by this node"):
             places.clear(self.path("w"))
 
     def test_names(self) -> None:

@@ -1,0 +1,145 @@
+"""A client of Redis, as much of its protocol (RESP2) as the agent needs: words go out, replies come back.
+
+Owes the filters nothing. It takes what any server answers in bounded memory: a broker needs no trust.
+"""
+from __future__ import annotations
+
+import socket
+import ssl
+import threading
+import urllib.parse
+from typing import Any, Sequence
+
+from agent.faults import Missing
+
+MOST = 64 << 20  # bytes of one value, and items of one list
+DEPTH = 8  # of lists within lists
+PATIENCE = 8.0  # seconds in which some byte has to come
+
+Word = str | bytes | int
+Reply = Any  # bytes, int, None, or a list of replies
+
+
+class RedisFault(Exception):
+    """The server can't be reached, or refuses."""
+
+
+class Link:
+    """One connection. After a fault on the line it is of no use."""
+
+    def __init__(self, url: urllib.parse.SplitResult) -> None:
+        host = url.hostname or "127.0.0.1"
+        made = socket.create_connection((host, url.port or 6379), PATIENCE)
+        made.setsockopt(socket.IPPROTO_TCP, socket.TCP_NODELAY, 1)
+        if url.scheme == "rediss":
+            made = ssl.create_default_context().wrap_socket(made, server_hostname=host)
+        self.socket = made
+        self.stream = made.makefile("rb")
+        first: list[Sequence[Word]] = []
+        if url.password:
+            user = [urllib.parse.unquote(url.username)] if url.username else []
+            first.append(["AUTH", *user, urllib.parse.unquote(url.password)])
+        if url.path.strip("/"):
+            first.append(["SELECT", url.path.strip("/")])
+        try:
+            for reply in self.calls(first):
+                if isinstance(reply, RedisFault):
+                    raise reply
+        except BaseException:
+            self.close()
+            raise
+
+    def calls(self, commands: Sequence[Sequence[Word]]) -> list[Reply]:
+        """Sends commands together, and gives the reply to each. One that was refused has a fault in its place."""
+        self.socket.sendall(b"".join(spelled(command) for command in commands))
+        return [self._reply(DEPTH) for _ in commands]
+
+    def _line(self) -> bytes:
+        line = self.stream.readline(1 << 16)
+        if not line.endswith(b"\r\n"):
+            raise RedisFault("the connection ended, or what came is no reply")
+        return line[:-2]
+
+    def _reply(self, depth: int) -> Reply:
+        line = self._line()
+        kind, rest = line[:1], line[1:]
+        if kind == b"+":
+            return rest
+        if kind == b"-":
+            return RedisFault(rest.decode(errors="replace"))
+        if kind not in (b":", b"$", b"*"):
+            raise RedisFault("what came is no reply")
+        number = int(rest)
+        if kind == b":":
+            return number
+        if number < 0:
+            return None
+        if number > MOST or depth == 0:
+            raise RedisFault("a reply is too long")
+        if kind == b"*":
+            return [self._reply(depth - 1) for _ in range(number)]
+        data = self.stream.read(number + 2)
+        if len(data) < number + 2:
+            raise RedisFault("the connection ended within a reply")
+        return data[:-2]
+
+    def close(self) -> None:
+        self.stream.close()
+        self.socket.close()
+
+
+def spelled(command: Sequence[Word]) -> bytes:
+    """A command as bytes."""
+    words = [word if isinstance(word, bytes) else str(word).encode() for word in command]
+    return b"*%d\r\n" % len(words) + b"".join(b"$%d\r\n%s\r\n" % (len(word), word) for word in words)
+
+
+class Redis:
+    """A server, for any number of threads: each call has a connection of its own while it lasts."""
+
+    def __init__(self, url: str) -> None:
+        """Tries the server once."""
+        self.idle: list[Link] = []
+        self.url = urllib.parse.urlsplit(url)
+        self.lock = threading.Lock()
+        try:
+            if self.url.scheme not in ("redis", "rediss"):
+                raise RedisFault("it begins with redis:// or rediss://")
+            self.call("PING")
+        except RedisFault as why:
+            raise Missing(f"no Redis server answers at {url}: {why}") from None
+
+    def calls(self, commands: Sequence[Sequence[Word]]) -> list[Reply]:
+        """The replies to commands that are sent together. The first that was refused is a fault."""
+        link: Link | None = None
+        try:
+            with self.lock:
+                link = self.idle.pop() if self.idle else None
+            link = link or Link(self.url)
+            replies = link.calls(commands)
+        except (OSError, ValueError, RedisFault) as why:
+            self._drop(link)
+            raise RedisFault(str(why) or type(why).__name__) from None
+        except BaseException:
+            self._drop(link)
+            raise
+        with self.lock:
+            self.idle.append(link)
+        for reply in replies:
+            if isinstance(reply, RedisFault):
+                raise reply
+        return replies
+
+    def __del__(self) -> None:
+        for link in self.idle:
+            link.close()
+
+    def _drop(self, link: Link | None) -> None:
+        """Closes a connection that failed, and those that idle beside it: the server may have been started anew."""
+        with self.lock:
+            old, self.idle = self.idle, []
+        for each in [*old, *([link] if link else [])]:
+            each.close()
+
+    def call(self, *words: Word) -> Reply:
+        return self.calls([words])[0]

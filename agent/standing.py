@@ -1,0 +1,73 @@
+"""Whether a folder still is what it was, without reading its files.
+
+Owes the filters that a folder of which anything was changed isn't taken for the one that it was: names, bytes, modes, owners or times. The
+kernel sets a file's time of change with each of these, and nobody else can; so it is asked only of file systems whose times are the
+kernel's own, and of one boot of the machine. What a version doesn't keep, as hard links, a standing folder mustn't have either.
+"""
+from __future__ import annotations
+
+import errno
+import hashlib
+import os
+import stat
+import time
+from typing import Iterator
+
+KINDS = ("ext2", "ext3", "ext4", "xfs", "tmpfs", "overlay", "f2fs")  # file systems
+TICK = 0.05  # seconds: two changes in one tick of the kernel's clock may have one time
+
+
+def signature(path: str) -> str | None:
+    """A digest that is another one after any change of a folder. None where none can be told."""
+    try:
+        return _signature(path) if _is_trusted(path) else None
+    except OSError:
+        return None  # something changes it just now, or keeps it from being looked at
+
+
+def _signature(path: str) -> str | None:
+    while True:
+        whole = hashlib.sha256(_boot())
+        newest = 0
+        for name, here in _entries(path):
+            if not _is_kept(name, here):
+                return None
+            newest = max(newest, here.st_ctime_ns)
+            told = (os.path.relpath(name, path), here.st_mode, here.st_uid, here.st_gid, here.st_size, here.st_mtime_ns, here.st_ctime_ns, here.st_ino)
+            whole.update(repr(told).encode(errors="surrogateescape"))
+        if newest < time.time_ns() - TICK * 1e9:
+            return whole.hexdigest()
+        time.sleep(TICK)
+
+
+def _entries(path: str) -> Iterator[tuple[str, os.stat_result]]:
+    """A folder and all that is below it, in one order."""
+    here = os.lstat(path)
+    yield path, here
+    if stat.S_ISDIR(here.st_mode):
+        for name in sorted(os.listdir(path)):
+            yield from _entries(f"{path}/{name}")
+
+
+def _is_kept(name: str, here: os.stat_result) -> bool:
+    """Whether a version keeps all that this is."""
+    kind = stat.S_IFMT(here.st_mode)
+    if kind not in (stat.S_IFREG, stat.S_IFDIR, stat.S_IFLNK, stat.S_IFIFO) or kind != stat.S_IFDIR and here.st_nlink > 1:
+        return False
+    try:
+        return not os.listxattr(name, follow_symlinks=False)
+    except OSError as fault:
+        return fault.errno == errno.ENOTSUP
+
+
+def _boot() -> bytes:
+    with open("/proc/sys/kernel/random/boot_id", "rb") as file:
+        return file.read()
+
+
+def _is_trusted(path: str) -> bool:
+    device = os.lstat(path).st_dev
+    mark = f"{os.major(device)}:{os.minor(device)}"
+    with open("/proc/self/mountinfo", errors="replace") as file:
+        rows = (line.split(" ") for line in file)
+        return any(row[2] == mark and row[row.index("-") + 1] in KINDS for row in rows)

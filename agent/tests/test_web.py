@@ -1,0 +1,148 @@
+"""The page with the farm's status."""
+from __future__ import annotations
+
+import http.client
+import json
+import os
+import threading
+import time
+import unittest
+from typing import Any
+
+from agent import web
+from agent.faults import FarmFault
+
+from agent.tests import support
+from agent.tests.browser import Browser
+
+MARKED = "locked:<script>document.title='bad'</script><img/src=x/onerror=document.title='bad'>"
+
+
+def told(nodes: int, leases: int, folder: str = "locked:c") -> dict[str, Any]:
+    """A status as a coordinator tells it."""
+    now = time.time()
+    return {
+        "now": now, "gone": [2], "retired": [], "lives": {str(n): 1_700_000_000 + n for n in range(1, nodes + 1)},
+        "heard": {str(n): now - n for n in range(1, nodes + 1)},
+        "leases": [{"ticket": t, "node": t % nodes + 1, "life": 1, "ask": t, "kind": "plain", "slots": [f"{folder}{t}"], "since": now - t} for t in range(1, leases + 1)],
+        "waiting": [{"kind": "acquire", "node": 1, "life": 1, "ask": 5, "folders": [folder]}],
+        "folders": [{"slot": f"{folder}{t}", "version": 3, "ticket": t, "digest": "0" * 64, "versions": [
+            {"version": v, "ticket": v, "digest": "0" * 64, "size": 1234 ** v} for v in (3, 2, 1)]} for t in range(1, leases + 1)],
+    }
+
+
+class Served(support.RoomTest):
+    """A page whose farm is a value."""
+
+    def serve(self, status: Any) -> int:
+        def read() -> Any:
+            if isinstance(status, str):
+                raise FarmFault(status)
+            return status
+
+        server = web.Server("127.0.0.1", 0, read)
+        thread = threading.Thread(target=server.serve_forever, args=(0.05,))
+        thread.start()
+        self.addCleanup(thread.join)
+        self.addCleanup(server.server_close)
+        self.addCleanup(server.shutdown)
+        return server.server_port
+
+    def get(self, port: int, path: str, method: str = "GET", **heads: str) -> tuple[int, bytes, str]:
+        link = http.client.HTTPConnection("127.0.0.1", port, timeout=10)
+        link.request(method, path, headers=heads)
+        answer = link.getresponse()
+        data = answer.read()
+        link.close()
+        return answer.status, data, answer.headers.get("Content-Security-Policy", "")
+
+
+class Answers(Served):
+    def test_answers(self) -> None:
+        port = self.serve(told(2, 2))
+        status, page, policy = self.get(port, "/")
+        self.assertEqual(status, 200)
+        self.assertNotIn(b"http", page.replace(b"http-equiv", b""))  # nothing of another server
+        self.assertIn("default-src 'none'; script-src 'sha256-", policy)
+        self.assertEqual(len(json.loads(self.get(port, "/status.json")[1])["leases"]), 2)
+        rows = [("/../agent/web.py", "GET", 404), ("/status.json?x", "GET", 404), ("/", "POST", 501), ("/status.json", "DELETE", 501)]
+        for path, method, wanted in rows:
+            self.assertEqual(self.get(port, path, method)[0], wanted, path)
+        self.assertEqual(self.get(port, "/status.json", Host="evil.example")[0], 403)
+        self.assertEqual(self.get(port, "/", Host=f"localhost:{port}")[0], 200)
+        self.assertEqual(self.get(self.serve("no farm answers"), "/status.json")[:2], (503, b"no farm answers"))
+
+
+@unittest.skipUnless(support.has("chromium"), support.needs("chromium"))
+class InBrowser(Served):
+    def browser(self) -> Browser:
+        made = Browser(self.room)
+        self.addCleanup(made.close)
+        return made
+
+    def test_markup(self) -> None:
+        browser = self.browser()
+        browser.open(f"http://127.0.0.1:{self.serve(told(3, 2, MARKED))}/")
+        self.assertTrue(browser.wait("document.querySelectorAll('#leases tbody tr').length === 2"))
+        self.assertEqual(browser.value("document.querySelector('#leases td.long').textContent"), f"{MARKED}1")
+        self.assertEqual(browser.value("[document.title, document.scripts.length, document.images.length]"), ["farm", 1, 0])
+        self.assertIn("retired", browser.value("document.querySelector('#nodes').textContent"))
+
+    def test_many(self) -> None:
+        browser = self.browser()
+        browser.open(f"http://127.0.0.1:{self.serve(told(200, 2000))}/")
+        self.assertTrue(browser.wait("document.querySelectorAll('#leases tbody tr').length === 2000"))
+        took = browser.value("(() => { const begun = performance.now(); draw(); document.body.offsetHeight; return performance.now() - begun; })()")
+        self.assertLess(took, 1500)  # milliseconds: it draws every two seconds
+        browser.value("wanted.value = 'locked:c1999'; wanted.dispatchEvent(new Event('input'))")
+        self.assertTrue(browser.wait("document.querySelectorAll('#leases tbody tr').length === 1"))
+        self.assertIn("200", browser.value("String(Object.keys(told.lives).length)"))
+
+    def test_lights(self) -> None:
+        """Text and ground are far apart, by day and by night."""
+        browser = self.browser()
+        browser.open(f"http://127.0.0.1:{self.serve(told(3, 2))}/")
+        browser.wait("document.querySelectorAll('#leases tbody tr').length === 2")
+        sums = []
+        for is_dark in (False, True):
+            browser.dark(is_dark)
+            script = "getComputedStyle(document.querySelector('%s')).%s.match(/[0-9]+/g).slice(0, 3).reduce((a, b) => a + Number(b), 0)"
+            sums.append((browser.value(script % ("#leases td", "color")), browser.value(script % ("#leases th", "backgroundColor"))))
+        self.assertTrue(sums[0][0] < 200 < 600 < sums[0][1] and sums[1][1] < 200 < 500 < sums[1][0], sums)
+
+
+@unittest.skipUnless(support.has("chromium"), support.needs("chromium"))
+@unittest.skipUnless(support.has("casync"), support.needs("casync"))
+class OfAFarm(support.FarmTest):
+    def test_lease(self) -> None:
+        """A lease appears, is withdrawn, and disappears."""
+        self.up("up", "--nodes", "2")
+        self.farm("run", "--folder", "locked:c=w", "--", "sh", "-c", "head -c 5000 /dev/zero > w/f")
+        page = self.begin("web", "--port", "0")
+        self.addCleanup(page.communicate)
+        self.addCleanup(page.terminate)
+        assert page.stdout
+        url = page.stdout.readline().strip()
+        browser = Browser(self.room)
+        self.addCleanup(browser.close)
+        browser.open(url)
+        self.assertTrue(browser.wait("document.querySelector('#leases').textContent.includes('nobody has')"))
+        held = self.begin("run", "--node", "1", "--on-lost", "stop", "--folder", "locked:c=w", "--", "sh", "-c", "touch in; sleep 60")
+        self.wait_for(self.path("in"))
+        waits = self.begin("run", "--node", "2", "--folder", "locked:c=v", "--", "true")
+        self.assertTrue(browser.wait("document.querySelector('#leases').textContent.includes('locked:c') && document.querySelector('#waiting').textContent.includes('locked:c')"))
+        if os.environ.get("FARM_PICTURE"):
+            browser.picture(os.environ["FARM_PICTURE"])
+        ticket = json.loads(self.asked("status", "--json"))["leases"][0]["ticket"]
+        self.asked("withdraw", str(ticket))
+        held.communicate(timeout=30)
+        waits.communicate(timeout=30)
+        self.assertTrue(browser.wait("document.querySelector('#leases').textContent.includes('nobody has')"))
+        self.assertRegex(browser.value("document.querySelector('#folders').textContent"), "locked:c2[0-9]+[0-9.]+ kB1: ")
+        self.end()
+        self.ups = []
+        self.assertTrue(browser.wait("document.querySelector('#said.lost') !== null"))
+
+
+if __name__ == "__main__":
+    unittest.main()

@@ -1,0 +1,129 @@
+#!/usr/bin/env python3
+"""Measures the agent on this machine, in one run: what `farm run` costs beside the command, a folder of a gigabyte, and a source package
+built on three nodes with ccache in a leased folder, beside other places for it.
+
+usage: agent/trials/measure.py [start] [folder] [package SOURCE.tar.gz [MAKE WORDS..]]
+"""
+from __future__ import annotations
+
+import os
+import re
+import shutil
+import statistics
+import subprocess
+import sys
+import tempfile
+import time
+from pathlib import Path
+from typing import Callable
+
+sys.dont_write_bytecode = True
+sys.path.insert(0, str(Path(__file__).resolve().parents[2]))
+
+from agent.tests.support import redis_server  # noqa: E402
+from agent.tools import TOP  # noqa: E402
+from agent.trials.gate import farm_up  # noqa: E402
+
+FARM = f"{TOP}/farm"
+TIMES = 15
+
+
+def seconds(words: list[str], env: dict[str, str] | None = None, cwd: str = "/") -> float:
+    begun = time.perf_counter()
+    done = subprocess.run(words, stdin=subprocess.DEVNULL, capture_output=True, text=True, env=os.environ | (env or {}), cwd=cwd)
+    if done.returncode:
+        raise SystemExit(f"{' '.join(words)[-300:]}: status {done.returncode}: {(done.stdout + done.stderr)[-800:]}")
+    return time.perf_counter() - begun
+
+
+def row(name: str, *words: str) -> None:
+    print(f"{name:<58} {'  '.join(words)}", flush=True)
+
+
+def middle(words: list[str]) -> str:
+    took = sorted(seconds(words) * 1000 for _ in range(TIMES))
+    return f"{took[0]:.0f} to {took[-1]:.0f} ms, half of them up to {statistics.median(took):.0f}"
+
+
+def start(room: str) -> None:
+    with farm_up(room, 2) as home:
+        run = [FARM, "run", "--home", home]
+        row("python3 -IS -c pass", middle(["python3", "-IS", "-c", "pass"]))
+        row("farm run -- true", middle([*run, "--", "true"]))
+        row("farm run --folder locked:c=w -- true", middle([*run, "--folder", f"locked:c={room}/w", "--", "true"]))
+
+
+def folder(room: str) -> None:
+    """A gigabyte in 4,000 files, which the second and third command leave as it was."""
+    fill = f"i=0; while [ $i -lt 4000 ]; do head -c 262144 /dev/urandom > {room}/w/$i; i=$((i + 1)); done"
+    with farm_up(room, 2) as home:
+        run = [FARM, "run", "--home", home, "--folder", f"locked:big={room}/w", "--", "sh", "-c"]
+        row("1 GB: written by a command, and committed", f"{seconds([*run, fill]):.1f} s")
+        row("1 GB: leased, unchanged, committed", *(f"{seconds([*run, 'true']):.1f} s" for _ in range(2)))
+        read = [FARM, "run", "--home", home, "--folder", f"ro=locked:big={room}/w", "--", "true"]
+        row("1 GB: leased to be read", f"{seconds(read):.1f} s")
+        row("1 GB: cp -a of it", f"{seconds(['cp', '-a', f'{room}/w', f'{room}/copy']):.1f} s")
+
+
+class Package:
+    """A source package, which is built in a folder of its own each time."""
+
+    def __init__(self, room: str, source: str, words: list[str]) -> None:
+        self.room, self.words = room, words
+        self.tree = f"{room}/source"
+        os.makedirs(self.tree)
+        subprocess.run(["tar", "-xf", source, "-C", self.tree, "--strip-components=1"], check=True)
+
+    def script(self, compiler: str, cache: str) -> str:
+        """Builds always at one path: ccache tells folders apart."""
+        make = " ".join(self.words)
+        return (
+            f"rm -rf {self.room}/work && cp -a {self.tree} {self.room}/work && cd {self.room}/work && export CCACHE_DIR={cache} && ccache -z >/dev/null && "
+            f"make -j4 CC='{compiler}' {make} >/dev/null && ccache --print-stats > {self.room}/stats"
+        )
+
+    def hits(self) -> str:
+        with open(f"{self.room}/stats") as file:
+            stats = {key: int(value) for key, value in re.findall(r"^(\w+)\t(\d+)$", file.read(), re.MULTILINE)}
+        found = stats.get("direct_cache_hit", 0) + stats.get("preprocessed_cache_hit", 0)
+        return f"{found} of {found + stats.get('cache_miss', 0)}"
+
+    def build(self, how: Callable[[str], list[str]], cache: str, compiler: str = "ccache gcc", env: dict[str, str] | None = None) -> str:
+        took = seconds(how(self.script(compiler, cache)), env)
+        return f"{took:.2f} s ({self.hits()})"
+
+
+def package(room: str, source: str, words: list[str]) -> None:
+    built = Package(room, source, words)
+
+    def plain(script: str) -> list[str]:
+        return ["sh", "-c", script]
+
+    row("gcc alone", f"{seconds(plain(built.script('gcc', f'{room}/none'))):.2f} s")
+    row("ccache in a plain folder: cold, warm", *(built.build(plain, f"{room}/plain") for _ in range(2)))
+    with redis_server(room) as url:
+        env = {"CCACHE_REMOTE_STORAGE": url}
+        row("ccache over Redis, a machine each: cold, warm, warm", *(built.build(plain, f"{room}/own{k}", env=env) for k in range(3)))
+    with farm_up(room, 3) as home:
+        cache = f"{room}/leased"
+
+        def on(node: int) -> Callable[[str], list[str]]:
+            return lambda script: [FARM, "run", "--home", home, "--node", str(node), "--folder", f"locked:ccache={cache}{node}", "--", "sh", "-c", script]
+
+        row("farm, locked: node 1 cold, nodes 2, 3 and 1 warm", *(built.build(on(node), f"{cache}{node}") for node in (1, 2, 3, 1)))
+
+
+def main() -> int:
+    words = sys.argv[1:]
+    source = words[words.index("package") + 1 :] if "package" in words else []
+    print(f"load {os.getloadavg()[0]:.1f}, {os.cpu_count()} processors", flush=True)
+    jobs: dict[str, Callable[[str], None]] = {"start": start, "folder": folder, "package": lambda room: package(room, os.path.abspath(source[0]), source[1:])}
+    for name, job in jobs.items():
+        if name in words[: len(words) - len(source)]:
+            with tempfile.TemporaryDirectory(prefix="farm-") as room:
+                job(os.path.realpath(room))
+    return 0
+
+
+if __name__ == "__main__":
+    sys.exit(main())

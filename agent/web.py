@@ -1,0 +1,93 @@
+"""A page with the farm's status, to be read in a browser.
+
+Owes the filters that nothing can be asked of the farm through it: it answers two requests, and both only read.
+"""
+from __future__ import annotations
+
+import base64
+import hashlib
+import http.server
+import ipaddress
+import json
+import os
+import re
+import signal
+import threading
+from typing import Any, Callable
+
+from agent.faults import FarmFault
+
+PAGE = os.path.join(os.path.dirname(os.path.abspath(__file__)), "page.html")
+
+
+def policy_of(page: str) -> str:
+    """What the page may load: its own script and style, and what the server tells."""
+    def allowed(tag: str) -> str:
+        found = re.findall(rf"<{tag}>(.*?)</{tag}>", page, re.DOTALL)
+        return " ".join(f"'sha256-{base64.b64encode(hashlib.sha256(text.encode()).digest()).decode()}'" for text in found)
+
+    return (
+        f"default-src 'none'; script-src {allowed('script')}; style-src {allowed('style')}; connect-src 'self'; base-uri 'none'; "
+        "form-action 'none'; frame-ancestors 'none'"
+    )
+
+
+class Server(http.server.ThreadingHTTPServer):
+    daemon_threads = True
+
+    def __init__(self, address: str, port: int, read: Callable[[], Any]) -> None:
+        self.read, self.address = read, address
+        with open(PAGE, encoding="utf-8") as file:
+            self.page = file.read()
+        self.policy = policy_of(self.page)
+        super().__init__((address, port), Answer)
+        self.is_loopback = address == "localhost" or ipaddress.ip_address(address).is_loopback
+
+    def may_ask(self, host: str) -> bool:
+        """Whether a request's Host is one of this server's. Else another site's name leads here, and its scripts would read the answer."""
+        return not self.is_loopback or host in [f"{name}:{self.server_port}" for name in (self.address, "localhost", "127.0.0.1")]
+
+
+class Answer(http.server.BaseHTTPRequestHandler):
+    server: Server
+    timeout = 10
+
+    def do_GET(self) -> None:
+        if not self.server.may_ask(self.headers.get("Host", "")):
+            self._answer(403, "text/plain", b"this server has another name")
+        elif self.path == "/":
+            self._answer(200, "text/html; charset=utf-8", self.server.page.encode())
+        elif self.path == "/status.json":
+            try:
+                self._answer(200, "application/json", json.dumps(self.server.read()).encode())
+            except FarmFault as fault:
+                self._answer(503, "text/plain; charset=utf-8", str(fault).encode())
+        else:
+            self._answer(404, "text/plain", b"there is / and /status.json")
+
+    def _answer(self, status: int, kind: str, body: bytes) -> None:
+        self.send_response(status)
+        for name, value in (
+            ("Content-Type", kind), ("Content-Length", str(len(body))), ("Content-Security-Policy", self.server.policy),
+            ("Cache-Control", "no-store"), ("X-Content-Type-Options", "nosniff"), ("Referrer-Policy", "no-referrer"),
+        ):
+            self.send_header(name, value)
+        self.end_headers()
+        self.wfile.write(body)
+
+    def log_message(self, format: str, *args: Any) -> None:
+        pass
+
+
+def serve(address: str, port: int, read: Callable[[], Any]) -> int:
+    """Serves until it is told to end."""
+    try:
+        server = Server(address, port, read)
+    except (OSError, OverflowError, ValueError) as fault:
+        raise FarmFault(f"no page at {address}, port {port}: {fault}") from None
+    for number in (signal.SIGINT, signal.SIGTERM, signal.SIGHUP):
+        signal.signal(number, lambda *_: threading.Thread(target=server.shutdown).start())
+    print(f"http://{address}:{server.server_port}/", flush=True)
+    server.serve_forever()
+    server.server_close()
+    return 0
