@@ -1,5 +1,5 @@
 -- What the processes write (this project's own).
-use Rattle.std.specs.Prelude.{ℕ, ◌+◌, List, [], codes, Option, Result}
+use Rattle.std.specs.Prelude.{ℕ, ◌+◌, List, [], codes, Option}
 use Rattle.std.specs.String.{string_bytes}
 use Rattle.coordinator.specs.Seen.{Seen}
 use Rattle.farmwire.specs.declared.sealing.TheConstants.{LINE_LIMIT}
@@ -9,7 +9,6 @@ use Rattle.nodefilter.specs.Filters as node
 use Rattle.nodefilter.specs.States.{seen}
 use Rattle.nodefilter.specs.Stores.{Kept}
 use Rattle.saverecord.specs.Texts.{Texts}
-use Rattle.services.specs.declared.lost.Lost.{Lost}
 use Rattle.services.specs.Carried.{Saving, Loading}
 use Rattle.services.specs.Lines.{lines_behind}
 use Rattle.services.specs.Served.{Steps, Serves}
