@@ -252,9 +252,9 @@ const REFUSED_STARTS: [(&[u8], &[u8], &[u8], &str); 3] = [
 ];
 
 /// The status of a start from these files, what is printed, and the first line of what is said.
-fn started<R: Files<File = File> + Input + Clock + AllocGlobal + Threads + Wait + Sync + Clone + Drop>(
-    rt: &R,
-) -> Result<(u8, Vec<u8>, String), Fail> {
+fn started<
+    R: Files<File = File> + Input + Clock + AllocGlobal + Threads + Wait + Sync + Clone + Drop,
+>(rt: &R) -> Result<(u8, Vec<u8>, String), Fail> {
     let (status, out, err) = run_words(rt, &WORDS)?;
     let said = String::from_utf8(err).ok().ok_or("no text")?;
     let first = String::from_str(rt.alloc(), said.as_str().lines().next().unwrap_or(""))?;

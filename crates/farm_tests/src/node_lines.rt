@@ -83,10 +83,7 @@ const LINES: [(&str, &str); 30] = [
     ("abort 6", "m release 1 7 6\n= aborted 6"),
     ("state 3", "= released 6"),
     ("state 9", "= none"),
-    (
-        "resend",
-        "m hello 1 7\nm tenure 1 7 2 shared:x\n= resent",
-    ),
+    ("resend", "m hello 1 7\nm tenure 1 7 2 shared:x\n= resent"),
     (
         "m granted 1 5 1 5 plain locked:apt=0:e3b0c44298fc1c149afbf4c8996fb92427ae41e4649b934ca495991b7852b855",
         "= old life",
@@ -95,7 +92,10 @@ const LINES: [(&str, &str); 30] = [
 ];
 
 /// Node 1 of two, whose life before was 6.
-fn begun<'a>(rt: &'a HostRuntime, alloc: Global) -> Result<Started<FileStore<'a, HostRuntime>>, Fail> {
+fn begun<'a>(
+    rt: &'a HostRuntime,
+    alloc: Global,
+) -> Result<Started<FileStore<'a, HostRuntime>>, Fail> {
     let opened = open_store(rt, alloc, "n1", NodeId(1));
     let (store, found) = opened.ok().ok_or("not opened")?;
     let origin = Origin {
@@ -121,11 +121,21 @@ fn answers(rt: HostRuntime) -> Result<(), Fail> {
     } = begun(&rt, alloc)?;
     let (read, wanted) = talk_of(alloc, &filter.key, &GREETING, &LINES)?;
     let mut written = Vec::new(alloc);
-    serve(alloc, read.as_bytes(), &mut written, &mut filter, MOST, greeting.as_bytes())?;
+    serve(
+        alloc,
+        read.as_bytes(),
+        &mut written,
+        &mut filter,
+        MOST,
+        greeting.as_bytes(),
+    )?;
     let text = String::from_utf8(written).ok().ok_or("no text")?;
     assert_eq!(rt; text.as_str(), wanted.as_str());
     assert_eq!(rt; fs::read(&rt, "out")?.as_slice(), b"abc".as_slice());
-    assert_eq!(rt; fs::read(&rt, "n1/life")?.as_slice(), b"node 1 life 7\n".as_slice());
+    assert_eq!(rt;
+        fs::read(&rt, "n1/life")?.as_slice(),
+        b"node 1 life 7\n".as_slice()
+    );
     let again = open_store(&rt, alloc, "n1", NodeId(1));
     let (store, found) = again.ok().ok_or("not opened again")?;
     assert_eq!(rt; store.last(), Life(7));
@@ -147,7 +157,9 @@ fn refused_starts(rt: HostRuntime) -> Result<(), Fail> {
     fs::create_dir_all(&rt, "n1")?;
     for (life, wanted) in REFUSED_STARTS {
         fs::write(&rt, "n1/life", life)?;
-        let words = ["node", "--node", "1", "--nodes", "2", "--store", "n1", "--key", "key"];
+        let words = [
+            "node", "--node", "1", "--nodes", "2", "--store", "n1", "--key", "key",
+        ];
         let (status, out, err) = run_words(&rt, &words)?;
         let said = String::from_utf8(err).ok().ok_or("no text")?;
         assert_eq!(rt; status, REFUSED);

@@ -225,10 +225,9 @@ pub(crate) fn strings(alloc: Global, words: &[&str]) -> Result<Vec<String>, Allo
 }
 
 /// The status of the program with these words, and what it prints to the standard output and to the standard error.
-pub fn run_words<R: Files<File = File> + Input + Clock + AllocGlobal + Threads + Wait + Sync + Clone + Drop>(
-    rt: &R,
-    words: &[&str],
-) -> Result<(u8, Vec<u8>, Vec<u8>), Fail> {
+pub fn run_words<
+    R: Files<File = File> + Input + Clock + AllocGlobal + Threads + Wait + Sync + Clone + Drop,
+>(rt: &R, words: &[&str]) -> Result<(u8, Vec<u8>, Vec<u8>), Fail> {
     let given = strings(rt.alloc(), words)?;
     let mut out = Vec::new(rt.alloc());
     let mut err = Vec::new(rt.alloc());
