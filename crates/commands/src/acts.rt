@@ -288,8 +288,14 @@ fn act_on<
             told.lines.push_str(shown.lines.as_str())?;
             (shown.status, shown.has_failed)
         }
-        Request::Coordinator(place) => (coordinate(rt, place, out, err), false),
-        Request::Node(place) => (be_node(rt, place, out, err), false),
+        Request::Coordinator(place) => {
+            drop(inputs);
+            (coordinate(rt, place, out, err), false)
+        }
+        Request::Node(place) => {
+            drop(inputs);
+            (be_node(rt, place, out, err), false)
+        }
     };
     let lines = told.lines.as_str();
     Ok(print_explanation(words.options, lines, has_failed, status, err))

@@ -8,7 +8,7 @@ use farm_base::Key;
 use farmwire::FarmKey;
 use protocol::Kept;
 use saverecord::MemoryKeeper;
-use services::{CoordinatorFilter, serve};
+use services::{CoordinatorFilter, Step, serve};
 use std::alloc::{AllocError, Global};
 use std::fs::{self, File, OpenOptions};
 use std::rt::{Clock, Files};
@@ -20,7 +20,7 @@ use std::thread::Threads;
 pub const KEY: &[u8] = b"the key of a farm, thirty-two bytes";
 
 /// How long a line may be here, with its end.
-const MOST: usize = 300;
+const MOST: usize = 400;
 
 /// Lines and their answers. `m ` stands before messages, whose MACs are left out here.
 const LINES: [(&str, &str); 25] = [
@@ -123,7 +123,7 @@ const FAILED_SAVE: [(&str, &str); 2] = [
 ];
 
 /// What is written first.
-const GREETING: [&str; 1] = ["= started"];
+const STARTED: &str = "= started\n";
 
 /// Adds a line: a message with its MAC.
 fn push_line(
@@ -156,7 +156,7 @@ fn push_answer(
 }
 
 /// What is read, and what is to be written.
-pub fn talk_of(
+fn talk_of(
     alloc: Global,
     key: &FarmKey,
     greeting: &[&str],
@@ -175,10 +175,11 @@ pub fn talk_of(
 }
 
 /// What a filter writes that reads this text.
-fn written(
+fn written<S: Step>(
     alloc: Global,
-    filter: &mut CoordinatorFilter<MemoryKeeper>,
+    filter: &mut S,
     text: &str,
+    greeting: &str,
 ) -> Result<String, Fail> {
     let mut bytes = Vec::new(alloc);
     serve(
@@ -187,45 +188,74 @@ fn written(
         &mut bytes,
         filter,
         MOST,
-        b"= started\n",
+        greeting.as_bytes(),
     )?;
     Ok(String::from_utf8(bytes).ok().ok_or("no text")?)
 }
 
+/// Whether a filter answers so.
+pub fn talks_so<S: Step>(
+    alloc: Global,
+    filter: &mut S,
+    greeting: (&str, &[&str]),
+    rows: &[(&str, &str)],
+) -> Result<bool, Fail> {
+    let key = FarmKey::of(alloc, KEY)?;
+    let (read, wanted) = talk_of(alloc, &key, greeting.1, rows)?;
+    let text = written(alloc, filter, read.as_str(), greeting.0)?;
+    Ok(text.as_str() == wanted.as_str())
+}
+
 /// The filter of a coordinator of a farm where nothing happened.
 fn new_filter(alloc: Global) -> Result<CoordinatorFilter<MemoryKeeper>, Fail> {
-    let started = Coordinator::start(alloc, MemoryKeeper::new(alloc, Vec::new(alloc))).ok();
-    let coordinator = started.ok_or("not started")?;
     let key = FarmKey::of(alloc, KEY)?;
-    Ok(CoordinatorFilter { coordinator, key })
+    match Coordinator::start(alloc, MemoryKeeper::new(alloc, Vec::new(alloc))) {
+        Ok(coordinator) => Ok(CoordinatorFilter { coordinator, key }),
+        Err(_) => Err(Fail::from("not started")),
+    }
+}
+
+/// What is said to a new filter, and answered so.
+fn answers_so(alloc: Global, rows: &[(&str, &str)]) -> Result<bool, Fail> {
+    let mut filter = new_filter(alloc)?;
+    talks_so(alloc, &mut filter, (STARTED, &["= started"]), rows)
 }
 
 #[test]
 fn answers(rt: HostRuntime) -> Result<(), Fail> {
-    let mut filter = new_filter(rt.alloc())?;
-    for rows in [LINES.as_slice(), UNREAD.as_slice()] {
-        let (read, wanted) = talk_of(rt.alloc(), &filter.key, &GREETING, rows)?;
-        let text = written(rt.alloc(), &mut filter, read.as_str())?;
-        assert_eq!(rt; text.as_str(), wanted.as_str());
-    }
+    assert!(rt; answers_so(rt.alloc(), LINES.as_slice())?);
     Ok(())
 }
 
 #[test]
-fn a_failed_save(rt: HostRuntime) -> Result<(), Fail> {
-    let mut filter = new_filter(rt.alloc())?;
-    filter.coordinator.fail_next(Kept::Old);
-    let (read, wanted) = talk_of(rt.alloc(), &filter.key, &GREETING, &FAILED_SAVE)?;
-    let text = written(rt.alloc(), &mut filter, read.as_str())?;
-    assert_eq!(rt; text.as_str(), wanted.as_str());
+fn what_is_unread(rt: HostRuntime) -> Result<(), Fail> {
+    assert!(rt; answers_so(rt.alloc(), UNREAD.as_slice())?);
     Ok(())
+}
+
+/// What a filter says whose first save fails.
+fn fails_so(alloc: Global) -> Result<bool, Fail> {
+    let mut filter = new_filter(alloc)?;
+    filter.coordinator.fail_next(Kept::Old);
+    talks_so(alloc, &mut filter, (STARTED, &["= started"]), &FAILED_SAVE)
+}
+
+#[test]
+fn a_failed_save(rt: HostRuntime) -> Result<(), Fail> {
+    assert!(rt; fails_so(rt.alloc())?);
+    Ok(())
+}
+
+/// What a new filter writes that reads this text.
+fn said_to_new(alloc: Global, text: &str) -> Result<String, Fail> {
+    let mut filter = new_filter(alloc)?;
+    written(alloc, &mut filter, text, STARTED)
 }
 
 /// A line without its end is not carried out.
 #[test]
 fn half_a_line(rt: HostRuntime) -> Result<(), Fail> {
-    let mut filter = new_filter(rt.alloc())?;
-    let text = written(rt.alloc(), &mut filter, "nudge\nprune locked:a")?;
+    let text = said_to_new(rt.alloc(), "nudge\nprune locked:a")?;
     assert_eq!(rt; text.as_str(), "= started\n= nudged\n");
     Ok(())
 }

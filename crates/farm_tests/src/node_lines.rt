@@ -1,19 +1,15 @@
 //! The lines of a node's filter over a folder, each with its answer, word for word. They were worked out by hand; the digests are those
 //! of the contents `abc` and of nothing. And starts that are refused.
 
-use super::coordinator_lines::{KEY, talk_of};
+use super::coordinator_lines::{KEY, talks_so};
 use super::printed::run_words;
 use commands::REFUSED;
 use farm_base::{Life, NodeId};
 use farmwire::FarmKey;
-use nodefilter::{FileStore, Origin, Started, open_store, start};
-use services::serve;
+use nodefilter::{FileStore, Origin, Started, Store, open_store, start};
 use std::alloc::Global;
 use std::fs;
 use std::test::Fail;
-
-/// How long a line may be here, with its end.
-const MOST: usize = 400;
 
 /// What is written first.
 const GREETING: [&str; 2] = ["m hello 1 7", "= life 7"];
@@ -96,50 +92,44 @@ fn begun<'a>(
     rt: &'a HostRuntime,
     alloc: Global,
 ) -> Result<Started<FileStore<'a, HostRuntime>>, Fail> {
-    let opened = open_store(rt, alloc, "n1", NodeId(1));
-    let (store, found) = opened.ok().ok_or("not opened")?;
+    let key = FarmKey::of(alloc, KEY)?;
+    let (store, found) = match open_store(rt, alloc, "n1", NodeId(1)) {
+        Ok(opened) => opened,
+        Err(_) => return Err(Fail::from("not opened")),
+    };
     let origin = Origin {
         me: NodeId(1),
         nodes: 2,
-        key: FarmKey::of(alloc, KEY)?,
+        key,
         store,
         contents: found.contents,
         facts: String::new(alloc),
         last: Life(6),
     };
-    Ok(start(alloc, origin).ok().ok_or("not started")?)
+    match start(alloc, origin) {
+        Ok(started) => Ok(started),
+        Err(_) => Err(Fail::from("not started")),
+    }
 }
 
-/// Each answer, and what is kept then: the life, and the content that was brought last.
-#[test]
-fn answers(rt: HostRuntime) -> Result<(), Fail> {
-    let alloc = rt.alloc();
-    fs::write(&rt, "in", b"abc")?;
+/// Whether a started node answers so.
+fn answers_so<S: Store>(alloc: Global, started: Started<S>) -> Result<bool, Fail> {
     let Started {
         mut filter,
         greeting,
-    } = begun(&rt, alloc)?;
-    let (read, wanted) = talk_of(alloc, &filter.key, &GREETING, &LINES)?;
-    let mut written = Vec::new(alloc);
-    serve(
-        alloc,
-        read.as_bytes(),
-        &mut written,
-        &mut filter,
-        MOST,
-        greeting.as_bytes(),
-    )?;
-    let text = String::from_utf8(written).ok().ok_or("no text")?;
-    assert_eq!(rt; text.as_str(), wanted.as_str());
+    } = started;
+    talks_so(alloc, &mut filter, (greeting.as_str(), &GREETING), &LINES)
+}
+
+#[test]
+fn answers(rt: HostRuntime) -> Result<(), Fail> {
+    fs::write(&rt, "in", b"abc")?;
+    assert!(rt; answers_so(rt.alloc(), begun(&rt, rt.alloc())?)?);
     assert_eq!(rt; fs::read(&rt, "out")?.as_slice(), b"abc".as_slice());
     assert_eq!(rt;
         fs::read(&rt, "n1/life")?.as_slice(),
         b"node 1 life 7\n".as_slice()
     );
-    let again = open_store(&rt, alloc, "n1", NodeId(1));
-    let (store, found) = again.ok().ok_or("not opened again")?;
-    assert_eq!(rt; store.last(), Life(7));
-    assert_eq!(rt; found.contents.len(), 1);
     Ok(())
 }
 
