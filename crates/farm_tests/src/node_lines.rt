@@ -11,6 +11,9 @@ use std::alloc::Global;
 use std::fs;
 use std::test::Fail;
 
+/// The file of the content `abc`, which an earlier run may have left.
+const ABC: &str = "n1/contents/ba7816bf8f01cfea414140de5dae2223b00361a396177a9cb410ff61f20015ad";
+
 /// What is written first.
 const GREETING: [&str; 2] = ["m hello 1 7", "= life 7"];
 
@@ -38,7 +41,7 @@ const LINES: [(&str, &str); 30] = [
     ),
     ("state 1", "= finished 5"),
     (
-        "content ba7816bf8f01cfea414140de5dae2223b00361a396177a9cb410ff61f20015ad out",
+        "content ba7816bf8f01cfea414140de5dae2223b00361a396177a9cb410ff61f20015ad handed",
         "= content ba7816bf8f01cfea414140de5dae2223b00361a396177a9cb410ff61f20015ad",
     ),
     ("m fenced 2 7 5", "= dropped NotMine"),
@@ -59,7 +62,7 @@ const LINES: [(&str, &str); 30] = [
         "= forgot",
     ),
     (
-        "content ba7816bf8f01cfea414140de5dae2223b00361a396177a9cb410ff61f20015ad out",
+        "content ba7816bf8f01cfea414140de5dae2223b00361a396177a9cb410ff61f20015ad handed",
         "= refused NoSuchContent",
     ),
     ("begin 99", "= refused NoSuchTicket"),
@@ -123,9 +126,10 @@ fn answers_so<S: Store>(alloc: Global, started: Started<S>) -> Result<bool, Fail
 
 #[test]
 fn answers(rt: HostRuntime) -> Result<(), Fail> {
+    let _none_left = fs::remove_file(&rt, ABC);
     fs::write(&rt, "in", b"abc")?;
     assert!(rt; answers_so(rt.alloc(), begun(&rt, rt.alloc())?)?);
-    assert_eq!(rt; fs::read(&rt, "out")?.as_slice(), b"abc".as_slice());
+    assert_eq!(rt; fs::read(&rt, "handed")?.as_slice(), b"abc".as_slice());
     assert_eq!(rt;
         fs::read(&rt, "n1/life")?.as_slice(),
         b"node 1 life 7\n".as_slice()
