@@ -1,8 +1,6 @@
 //! The lines of a coordinator's filter, each with its answer, word for word. They were worked out by hand; the digests are those of
-//! the contents `abc` and of nothing. And starts of the program that are refused.
+//! the contents `abc` and of nothing.
 
-use super::printed::run_words;
-use commands::{FAULT, REFUSED};
 use coordinator::Coordinator;
 use farm_base::Key;
 use farmwire::FarmKey;
@@ -10,11 +8,7 @@ use protocol::Kept;
 use saverecord::MemoryKeeper;
 use services::{CoordinatorFilter, Step, serve};
 use std::alloc::{AllocError, Global};
-use std::fs::{self, File, OpenOptions};
-use std::rt::{Clock, Files};
-use std::sync::Wait;
 use std::test::Fail;
-use std::thread::Threads;
 
 /// The farm's key.
 pub const KEY: &[u8] = b"the key of a farm, thirty-two bytes";
@@ -257,70 +251,5 @@ fn said_to_new(alloc: Global, text: &str) -> Result<String, Fail> {
 fn half_a_line(rt: HostRuntime) -> Result<(), Fail> {
     let text = said_to_new(rt.alloc(), "nudge\nprune locked:a")?;
     assert_eq!(rt; text.as_str(), "= started\n= nudged\n");
-    Ok(())
-}
-
-/// The words of a coordinator over files that a test writes.
-const WORDS: [&str; 5] = ["coordinator", "--record", "kept", "--key", "key"];
-
-/// What a newer program may have written.
-const NEWER: &[u8] = b"BKFARM04 a record that a newer program wrote, which nobody here can read";
-
-/// The log of a record that is gone.
-const LOG_ALONE: &[u8] = b"12345678 what follows a record whose last bytes are these";
-
-/// The key, the record and the log of files from which no coordinator starts, and the first line of what is said.
-const REFUSED_STARTS: [(&[u8], &[u8], &[u8], &str); 3] = [
-    (
-        b"thirty-one bytes, and a last LF\n",
-        b"",
-        b"",
-        "refused KeyTooShort",
-    ),
-    (KEY, NEWER, b"", "refused BadRecord"),
-    (KEY, b"", LOG_ALONE, "refused LogAlone"),
-];
-
-/// The status of a start from these files, what is printed, and the first line of what is said.
-fn started<
-    R: Files<File = File> + Input + Clock + AllocGlobal + Threads + Wait + Sync + Clone + Drop,
->(rt: &R) -> Result<(u8, Vec<u8>, String), Fail> {
-    let (status, out, err) = run_words(rt, &WORDS)?;
-    let said = String::from_utf8(err).ok().ok_or("no text")?;
-    let first = String::from_str(rt.alloc(), said.as_str().lines().next().unwrap_or(""))?;
-    Ok((status, out, first))
-}
-
-/// What is refused changes no file.
-#[test]
-fn refused_starts(rt: HostRuntime) -> Result<(), Fail> {
-    for (key, record, log, wanted) in REFUSED_STARTS {
-        fs::write(&rt, "key", key)?;
-        fs::write(&rt, "kept", record)?;
-        fs::write(&rt, "kept.log", log)?;
-        let (status, out, said) = started(&rt)?;
-        assert_eq!(rt; status, REFUSED);
-        assert_eq!(rt; out.len(), 0);
-        assert_eq!(rt; said.as_str(), wanted);
-        assert_eq!(rt; fs::read(&rt, "kept")?.as_slice(), record);
-        assert_eq!(rt; fs::read(&rt, "kept.log")?.as_slice(), log);
-    }
-    Ok(())
-}
-
-/// A record that another process has.
-#[test]
-fn a_locked_record(rt: HostRuntime) -> Result<(), Fail> {
-    fs::write(&rt, "key", KEY)?;
-    let lock = OpenOptions::new()
-        .write(true)
-        .create(true)
-        .open(&rt, "kept.lock")?;
-    lock.try_lock().ok().ok_or("locked before")?;
-    let (status, out, said) = started(&rt)?;
-    assert_eq!(rt; status, FAULT);
-    assert_eq!(rt; out.len(), 0);
-    assert_eq!(rt; said.as_str(), "fault Locked");
-    lock.unlock()?;
     Ok(())
 }

@@ -1,9 +1,7 @@
 //! The lines of a node's filter over a folder, each with its answer, word for word. They were worked out by hand; the digests are those
-//! of the contents `abc` and of nothing. And starts that are refused.
+//! of the contents `abc` and of nothing.
 
 use super::coordinator_lines::{KEY, talks_so};
-use super::printed::run_words;
-use commands::REFUSED;
 use farm_base::{Life, NodeId};
 use farmwire::FarmKey;
 use nodefilter::{FileStore, Origin, Started, Store, open_store, start};
@@ -134,32 +132,5 @@ fn answers(rt: HostRuntime) -> Result<(), Fail> {
         fs::read(&rt, "n1/life")?.as_slice(),
         b"node 1 life 7\n".as_slice()
     );
-    Ok(())
-}
-
-/// What a node's `life` says, and the first line of what is said then.
-const REFUSED_STARTS: [(&[u8], &str); 3] = [
-    (b"node 2 life 5\n", "refused OtherNode"),
-    (b"node 1 life 5", "refused BadLife"),
-    (b"node 1 life 18446744073709551615\n", "refused LivesSpent"),
-];
-
-/// What is refused changes no file.
-#[test]
-fn refused_starts(rt: HostRuntime) -> Result<(), Fail> {
-    fs::write(&rt, "key", KEY)?;
-    fs::create_dir_all(&rt, "n1")?;
-    for (life, wanted) in REFUSED_STARTS {
-        fs::write(&rt, "n1/life", life)?;
-        let words = [
-            "node", "--node", "1", "--nodes", "2", "--store", "n1", "--key", "key",
-        ];
-        let (status, out, err) = run_words(&rt, &words)?;
-        let said = String::from_utf8(err).ok().ok_or("no text")?;
-        assert_eq!(rt; status, REFUSED);
-        assert_eq!(rt; out.len(), 0);
-        assert_eq!(rt; said.as_str().lines().next().unwrap_or(""), wanted);
-        assert_eq!(rt; fs::read(&rt, "n1/life")?.as_slice(), life);
-    }
     Ok(())
 }
