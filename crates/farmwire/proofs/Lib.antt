@@ -1,9 +1,7 @@
-pub mod ListLemmas
 pub mod MacLemmas
 pub mod PlainLemmas
 pub mod Spelling
 pub mod SpelledLemmas
 pub mod UniqueLemmas
 pub mod WantLemmas
-pub mod WordLemmas
 pub mod WriteLemmas

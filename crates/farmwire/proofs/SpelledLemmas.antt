@@ -1,5 +1,5 @@
 -- The words of a text say the message that the text spells.
-use Rattle.std.proofs.Common.{◌≡◌, ℕ, Bool, true, false, List, [], ◌∷◌, map, refl, sym, ap, ◌∙◌, subst, arith}
+use Rattle.std.proofs.Common.{◌≡◌, ℕ, Bool, true, false, List, [], ◌∷◌, map, refl, sym, ap, ◌∙◌, subst}
 use Rattle.std.specs.Prelude.{decimal}
 use Rattle.std.specs.List.{All, join_with_byte}
 use Rattle.std.specs.Str.{IsUtf8}
@@ -21,18 +21,18 @@ use Rattle.farm_base.specs.Names.{folder_text}
 use Rattle.farmwire.specs.declared.verb.Verb.{Verb}
 use Rattle.farmwire.specs.declared.verb.Verb.TheVariants.{Hello, Acquire, Tenure, Commit, Release, Granted, Committed, Fenced, Denied, Recall, Fetch, Blob}
 use Rattle.farmwire.specs.Lawful.{IsNode, IsCounted, IsLife, IsTicket, IsNews, IsConfirmed, IsGranted, IsRequest, IsTold, IsLawful}
-use Rattle.farmwire.specs.Lines.{node_text, life_text, ask_text, ticket_text, digits_text, bytes_text, want_text, tenure_text, news_text, confirmed_text, granted_text, kind_text, why_text, message_words}
+use Rattle.words.specs.Words.{node_text, ticket_text, digits_text, want_text, why_text, words}
+use Rattle.farmwire.specs.Lines.{life_text, ask_text, bytes_text, tenure_text, news_text, confirmed_text, granted_text, kind_text, message_words}
 use Rattle.farmwire.specs.Sealed.{IsSpelled}
-use Rattle.farmwire.specs.Words.{words, verb_text, said, told, releases, fences, recalls, Says, SpelledBy, OfLease}
-use Rattle.farmwire.proofs.PlainLemmas.{IsWord, IsWord-from_test, decimal_word, digest_word, bytes_word, folder_word, want_words, news_word, confirmed_word, granted_word, item_words, words-joined, joined_utf8}
+use Rattle.farmwire.specs.Words.{verb_text, said, told, releases, fences, recalls, Says, SpelledBy, OfLease}
+use Rattle.words.proofs.PlainLemmas.{IsWord, IsWord-from_test, decimal_word, digest_word, folder_word, want_words, words-joined, joined_utf8, last_word, node_words}
+use Rattle.farmwire.proofs.Spelling.{node_fits}
+use Rattle.farmwire.proofs.PlainLemmas.{bytes_word, news_word, confirmed_word, granted_word, item_words}
 
 -- ---- words of a text
 
 then_word : (w : List ℕ) (ws : List (List ℕ)) → IsWord w → All IsWord ws → All IsWord (w ∷ ws)
 then_word w ws h hs = All-cons IsWord w ws h hs
-
-node_words : (n : NodeId) (ws : List (List ℕ)) → IsNode n → All IsWord ws → All IsWord (node_text n ∷ ws)
-node_words n ws h hs = then_word (node_text n) ws (decimal_word n.0 (omega arith)) hs
 
 counted_words : (n : ℕ) (ws : List (List ℕ)) → IsCounted n → All IsWord ws → All IsWord (decimal n ∷ ws)
 counted_words n ws h hs = then_word (decimal n) ws (decimal_word n h.1) hs
@@ -63,15 +63,12 @@ why_word TicketsSpent = IsWord-from_test (why_text TicketsSpent) refl
 
 -- a node, its life, and words
 speaker_words : (n : NodeId) (l : Life) (ws : List (List ℕ)) → IsNode n → IsLife l → All IsWord ws → All IsWord (node_text n ∷ life_text l ∷ ws)
-speaker_words n l ws hn hl hs = node_words n (life_text l ∷ ws) hn (counted_words l.0 ws hl hs)
+speaker_words n l ws hn hl hs = node_words n (life_text l ∷ ws) (node_fits n hn) (counted_words l.0 ws hl hs)
 
 -- the same, and an ask or a ticket
 numbered_words : (n : NodeId) (l : Life) (k : ℕ) (ws : List (List ℕ)) → IsNode n → IsLife l → IsCounted k → All IsWord ws
     → All IsWord (node_text n ∷ life_text l ∷ decimal k ∷ ws)
 numbered_words n l k ws hn hl hk hs = speaker_words n l (decimal k ∷ ws) hn hl (counted_words k ws hk hs)
-
-last_word : (w : List ℕ) → IsWord w → All IsWord (w ∷ [])
-last_word w h = then_word w [] h (All-nil IsWord)
 
 lease_words : (make : NodeId → Life → Ticket → Message) (ws : List (List ℕ)) (m : Message) → OfLease make ws m → All IsWord ws
 lease_words make ws m h =
@@ -107,10 +104,11 @@ said_are_words Recall ws m h = lease_words recalls ws m h
 said_are_words Fetch ws m h =
     let digest = last_word (digits_text h.digest) (digest_word h.digest h.is_digest) in
     subst (All IsWord) (sym h.text)
-    (node_words h.node (node_text h.from ∷ digits_text h.digest ∷ []) h.is_node (node_words h.from (digits_text h.digest ∷ []) h.is_from digest))
+    (node_words h.node (node_text h.from ∷ digits_text h.digest ∷ []) (node_fits h.node h.is_node)
+    (node_words h.from (digits_text h.digest ∷ []) (node_fits h.from h.is_from) digest))
 said_are_words Blob ws m h =
     let content = last_word (bytes_text h.content) (bytes_word h.content h.is_content) in
-    subst (All IsWord) (sym h.text) (node_words h.node (bytes_text h.content ∷ []) h.is_node content)
+    subst (All IsWord) (sym h.text) (node_words h.node (bytes_text h.content ∷ []) (node_fits h.node h.is_node) content)
 
 -- ---- from the words to the text
 

@@ -1,5 +1,5 @@
 -- No two values have the same text.
-use Rattle.std.proofs.Common.{◌≡◌, ◌≢◌, ℕ, ◌<◌, ◌^◌, Bool, true, false, List, ◌∷◌, ◌++◌, get_or, slice_index, refl, sym, ap, ◌∙◌, subst, arith}
+use Rattle.std.proofs.Common.{◌≡◌, ◌≢◌, ℕ, ◌<◌, ◌^◌, Bool, true, false, List, ◌∷◌, ◌++◌, get_or, slice_index, refl, ap, subst, arith}
 use Rattle.std.specs.Prelude.{decimal}
 use Rattle.std.specs.Str.Parse.{AllDigits, digits_value}
 use Rattle.std.proofs.lemmas.Fmt.{decimal_injective, digits_decimal}
@@ -19,17 +19,15 @@ use Rattle.farm_base.specs.declared.message.Why.TheVariants.{InstancesSpent, Tic
 use Rattle.farm_base.specs.declared.number.Ask.{Ask}
 use Rattle.farm_base.specs.declared.number.Life.{Life}
 use Rattle.farm_base.specs.declared.number.NodeId.{NodeId}
-use Rattle.farm_base.specs.declared.number.Ticket.{Ticket}
-use Rattle.farm_base.specs.declared.want.Want.{Want}
 use Rattle.farm_base.specs.Decimals.{Lacks}
 use Rattle.farm_base.specs.Digests.{IsDigest}
-use Rattle.farm_base.specs.Names.{folder_text, mode_text, slot_text, IsSlot}
+use Rattle.farm_base.specs.Names.{mode_text, slot_text}
 use Rattle.farm_base.specs.Slots.{SlotParts}
-use Rattle.farm_base.proofs.NameLaws.{folder_text-injective, slot_text-injective}
-use Rattle.farm_base.proofs.TextLemmas.{Lacks-append, Lacks-middle, Lacks-cons, split_same, encode-lacks, encode-injective}
-use Rattle.farmwire.specs.Lawful.{IsNode, IsCounted, IsLife, IsAsk, IsTicket, IsKind, IsWant, IsNews, IsConfirmed, IsGranted}
-use Rattle.farmwire.specs.Lines.{node_text, life_text, ask_text, ticket_text, digits_text, bytes_text, version_text, slot_with, access_text, want_text, news_text, confirmed_text, granted_text, kind_text, why_text}
-use Rattle.farmwire.proofs.WordLemmas.{last_same}
+use Rattle.farm_base.proofs.TextLemmas.{Lacks-append, Lacks-middle, Lacks-cons, split_same, encode-lacks}
+use Rattle.words.specs.Words.{digits_text, why_text}
+use Rattle.farmwire.specs.Lawful.{IsNode, IsCounted, IsLife, IsAsk, IsKind, IsNews, IsConfirmed, IsGranted}
+use Rattle.farmwire.specs.Lines.{life_text, ask_text, bytes_text, version_text, news_text, confirmed_text, granted_text, kind_text}
+use Rattle.words.proofs.Spelling.{access_same, digest_same, slot_same}
 
 -- ---- numbers
 
@@ -42,10 +40,9 @@ decimal-lacks_high c n lt high i inside =
     let range = digit_at (decimal n) i (digits_decimal own n lt) inside in
     λ e. omega arith
 
-pub node_same : (m n : NodeId) → IsNode m → IsNode n → node_text m ≡ node_text n → m ≡ n
-node_same m n hm hn e =
-    let same = decimal_injective m.0 n.0 (omega arith) (omega arith) e in
-    λ i. record { 0 = same i }
+-- each node of a farm is one of the program
+pub node_fits : (n : NodeId) → IsNode n → n.0 < 2 ^ 32
+node_fits n h = omega arith
 
 pub counted_same : (m n : ℕ) → IsCounted m → IsCounted n → decimal m ≡ decimal n → m ≡ n
 counted_same m n hm hn e = decimal_injective m n hm.1 hn.1 e
@@ -56,13 +53,7 @@ life_same a b ha hb e = let same = counted_same a.0 b.0 ha hb e in λ i. record 
 pub ask_same : (a b : Ask) → IsAsk a → IsAsk b → ask_text a ≡ ask_text b → a ≡ b
 ask_same a b ha hb e = let same = counted_same a.0 b.0 ha hb e in λ i. record { 0 = same i }
 
-pub ticket_same : (a b : Ticket) → IsTicket a → IsTicket b → ticket_text a ≡ ticket_text b → a ≡ b
-ticket_same a b ha hb e = let same = counted_same a.0 b.0 ha hb e in λ i. record { 0 = same i }
-
--- ---- digests and bytes
-
-pub digest_same : (a b : Digest) → IsDigest a → IsDigest b → digits_text a ≡ digits_text b → a ≡ b
-digest_same a b ha hb e = let same = encode-injective a.0 b.0 ha.1 hb.1 e in λ i. record { 0 = same i }
+-- ---- bytes
 
 pub bytes_same : (a b : List ℕ) → IsBytes a → IsBytes b → bytes_text a ≡ bytes_text b → a ≡ b
 bytes_same a b ha hb e =
@@ -93,12 +84,6 @@ why_same TicketsSpent TicketsSpent e = refl
 
 -- ---- what may only be read
 
--- no mode begins as `ro=` does
-pub mode-no_r : (m : Mode) (x y : List ℕ) → mode_text m ++ x ≡ 114 ∷ y → ⊥
-mode-no_r Shared x y e = let h = ap (λ t. get_or t 0 0) e in omega arith
-mode-no_r Private x y e = let h = ap (λ t. get_or t 0 0) e in omega arith
-mode-no_r Locked x y e = let h = ap (λ t. get_or t 0 0) e in omega arith
-
 first_of_mode : (m : Mode) (x y z : List ℕ) → slice_index (((mode_text m ++ x) ++ y) ++ z) 0 ≢ 114
 first_of_mode Shared x y z e = omega arith
 first_of_mode Private x y z e = omega arith
@@ -108,25 +93,7 @@ first_of_mode Locked x y z e = omega arith
 pub slot-no_r : (s : SlotParts) (z : List ℕ) → slice_index (slot_text s ++ z) 0 ≢ 114
 slot-no_r s z e = first_of_mode s.folder.mode _ _ z e
 
-pub access_same : (a b : Bool) (x y : List ℕ) → slice_index x 0 ≢ 114 → slice_index y 0 ≢ 114 → access_text a ++ x ≡ access_text b ++ y → (a ≡ b) × (x ≡ y)
-access_same true true x y hx hy e = (refl, e)
-access_same true false x y hx hy e = absurd (hx (ap (λ t. get_or t 0 0) e))
-access_same false true x y hx hy e = absurd (hy (sym (ap (λ t. get_or t 0 0) e)))
-access_same false false x y hx hy e = (refl, cc e)
-
-first_of_folder : (m : Mode) (x : List ℕ) → slice_index (mode_text m ++ x) 0 ≢ 114
-first_of_folder Shared x e = omega arith
-first_of_folder Private x e = omega arith
-first_of_folder Locked x e = omega arith
-
 -- ---- items
-
-pub want_same : (a b : Want) → IsWant a → IsWant b → want_text a ≡ want_text b → a ≡ b
-want_same a b ha hb e =
-    let parts = access_same a.writable b.writable (folder_text a.folder) (folder_text b.folder)
-    (first_of_folder a.folder.mode _) (first_of_folder b.folder.mode _) e in
-    let folder = folder_text-injective a.folder b.folder ha hb parts.1 in
-    λ i. record { folder = folder i; writable = parts.0 i }
 
 -- neither a version nor a digest has a `=`
 pub digits-lack : (d : Digest) → IsDigest d → Lacks 61 (digits_text d)
@@ -144,20 +111,6 @@ pub version_same : (m n : ℕ) (c d : Digest) → m < 2 ^ 64 → n < 2 ^ 64 → 
 version_same m n c d hm hn hc hd e =
     let parts = version_parts n d (decimal m) (digits_text c) hn (decimal-lacks_high 58 m hm (omega arith)) e in
     (decimal_injective m n hm hn parts.0, digest_same c d hc hd parts.1)
-
-pub slot_same : (s t : SlotParts) (x y : List ℕ) → IsSlot s → IsSlot t → Lacks 61 x → Lacks 61 y → slot_with s x ≡ slot_with t y → (s ≡ t) × (x ≡ y)
-slot_same s t x y hs ht lx ly e =
-    let parts = last_same 61 (slot_text s) (slot_text t) x y e lx ly in
-    (slot_text-injective s t hs ht parts.0, parts.1)
-
--- a word without `=` has no slot
-pub slot_without : (word : List ℕ) (s : SlotParts) (behind : List ℕ) → Lacks 61 word → word ≡ slot_with s behind → ⊥
-slot_without word s behind l e = Lacks-middle 61 (slot_text s) behind (subst (Lacks 61) e l)
-
--- the parts of a word are determined
-pub slot_parts : (word slot behind : List ℕ) (s : SlotParts) (b : List ℕ) → Lacks 61 b → word ≡ slot ++ 61 ∷ behind → Lacks 61 behind → word ≡ slot_with s b
-    → (slot ≡ slot_text s) × (behind ≡ b)
-slot_parts word slot behind s b lb e l is = last_same 61 slot (slot_text s) behind b (sym e ∙ is) l lb
 
 -- a word without `:` has no version
 pub version_without : (word : List ℕ) (n : ℕ) (d : Digest) → Lacks 58 word → word ≡ version_text n d → ⊥

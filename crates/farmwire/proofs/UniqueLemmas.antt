@@ -15,12 +15,14 @@ use Rattle.farm_base.specs.declared.folder.FolderName.{FolderName}
 use Rattle.farm_base.proofs.NameLaws.{folder_text-injective}
 use Rattle.farmwire.specs.declared.verb.Verb.{Verb}
 use Rattle.farmwire.specs.declared.verb.Verb.TheVariants.{Hello, Acquire, Tenure, Commit, Release, Granted, Committed, Fenced, Denied, Recall, Fetch, Blob}
-use Rattle.farmwire.specs.Lawful.{IsLawful, IsWant, IsNews, IsConfirmed, IsGranted}
-use Rattle.farmwire.specs.Lines.{message_text, want_text, news_text, confirmed_text, granted_text}
+use Rattle.words.specs.Words.{IsWant, want_text}
+use Rattle.farmwire.specs.Lawful.{IsLawful, IsNews, IsConfirmed, IsGranted}
+use Rattle.farmwire.specs.Lines.{message_text, news_text, confirmed_text, granted_text}
 use Rattle.farmwire.specs.Sealed.{IsSpelled}
 use Rattle.farmwire.specs.Words.{verb_text, said, told, releases, fences, recalls, SpellAll, SpellWants, OfLease, Says}
-use Rattle.farmwire.proofs.ListLemmas.{map-injective}
-use Rattle.farmwire.proofs.Spelling.{node_same, life_same, ask_same, ticket_same, digest_same, bytes_same, kind_same, why_same, want_same, news_same, confirmed_same, granted_same}
+use Rattle.words.proofs.ListLemmas.{map-injective}
+use Rattle.words.proofs.Spelling.{node_same, ticket_same, digest_same, want_same}
+use Rattle.farmwire.proofs.Spelling.{node_fits, life_same, ask_same, bytes_same, kind_same, why_same, news_same, confirmed_same, granted_same}
 use Rattle.farmwire.proofs.SpelledLemmas.{words-from_spelled}
 
 -- ---- verbs
@@ -75,19 +77,19 @@ wants_same ws vs a b e ha hb = map-injective want_text IsWant want_same a b ha.l
 
 of_lease_same : (make : NodeId → Life → Ticket → Message) (ws : List (List ℕ)) (a b : Message) → OfLease make ws a → OfLease make ws b → a ≡ b
 of_lease_same make ws a b ha hb =
-    let n = node_same ha.node hb.node ha.is_node hb.is_node (cc (ha.text, hb.text)) in
+    let n = node_same ha.node hb.node (node_fits ha.node ha.is_node) (node_fits hb.node hb.is_node) (cc (ha.text, hb.text)) in
     let l = life_same ha.life hb.life ha.is_life hb.is_life (cc (ha.text, hb.text)) in
-    let t = ticket_same ha.ticket hb.ticket ha.is_ticket hb.is_ticket (cc (ha.text, hb.text)) in
+    let t = ticket_same ha.ticket hb.ticket ha.is_ticket.1 hb.is_ticket.1 (cc (ha.text, hb.text)) in
     ha.message ∙ cc (n, l, t) ∙ sym hb.message
 
 said_same : (v : Verb) (ws : List (List ℕ)) (a b : Message) → Says v ws a → Says v ws b → a ≡ b
 said_same Hello ws a b ha hb =
-    let n = node_same ha.node hb.node ha.is_node hb.is_node (cc (ha.text, hb.text)) in
+    let n = node_same ha.node hb.node (node_fits ha.node ha.is_node) (node_fits hb.node hb.is_node) (cc (ha.text, hb.text)) in
     let l = life_same ha.life hb.life ha.is_life hb.is_life (cc (ha.text, hb.text)) in
     let same : said ha.node ha.life request.Hello ≡ said hb.node hb.life request.Hello = λ i. said (n i) (l i) request.Hello in
     ha.message ∙ same ∙ sym hb.message
 said_same Acquire ws a b ha hb =
-    let n = node_same ha.node hb.node ha.is_node hb.is_node (cc (ha.text, hb.text)) in
+    let n = node_same ha.node hb.node (node_fits ha.node ha.is_node) (node_fits hb.node hb.is_node) (cc (ha.text, hb.text)) in
     let l = life_same ha.life hb.life ha.is_life hb.is_life (cc (ha.text, hb.text)) in
     let k = ask_same ha.ask hb.ask ha.is_ask hb.is_ask (cc (ha.text, hb.text)) in
     let wants = wants_same ha.folders hb.folders ha.wants hb.wants (cc (ha.text, hb.text)) ha.spelled hb.spelled in
@@ -95,7 +97,7 @@ said_same Acquire ws a b ha hb =
     λ i. said (n i) (l i) (request.Acquire (k i) (wants i) false) in
     ha.message ∙ same ∙ sym hb.message
 said_same Tenure ws a b ha hb =
-    let n = node_same ha.node hb.node ha.is_node hb.is_node (cc (ha.text, hb.text)) in
+    let n = node_same ha.node hb.node (node_fits ha.node ha.is_node) (node_fits hb.node hb.is_node) (cc (ha.text, hb.text)) in
     let l = life_same ha.life hb.life ha.is_life hb.is_life (cc (ha.text, hb.text)) in
     let k = ask_same ha.ask hb.ask ha.is_ask hb.is_ask (cc (ha.text, hb.text)) in
     let f = folder_text-injective ha.folder hb.folder ha.is_name hb.is_name (cc (ha.text, hb.text)) in
@@ -104,19 +106,19 @@ said_same Tenure ws a b ha hb =
     λ i. said (n i) (l i) (request.Acquire (k i) (alone (f i)) true) in
     ha.message ∙ same ∙ sym hb.message
 said_same Commit ws a b ha hb =
-    let n = node_same ha.node hb.node ha.is_node hb.is_node (cc (ha.text, hb.text)) in
+    let n = node_same ha.node hb.node (node_fits ha.node ha.is_node) (node_fits hb.node hb.is_node) (cc (ha.text, hb.text)) in
     let l = life_same ha.life hb.life ha.is_life hb.is_life (cc (ha.text, hb.text)) in
-    let t = ticket_same ha.ticket hb.ticket ha.is_ticket hb.is_ticket (cc (ha.text, hb.text)) in
+    let t = ticket_same ha.ticket hb.ticket ha.is_ticket.1 hb.is_ticket.1 (cc (ha.text, hb.text)) in
     let news = all_same news_text IsNews news_same ha.slots hb.slots ha.news hb.news (cc (ha.text, hb.text)) ha.spelled hb.spelled in
     let same : said ha.node ha.life (request.Commit ha.ticket ha.news) ≡ said hb.node hb.life (request.Commit hb.ticket hb.news) =
     λ i. said (n i) (l i) (request.Commit (t i) (news i)) in
     ha.message ∙ same ∙ sym hb.message
 said_same Release ws a b ha hb = of_lease_same releases ws a b ha hb
 said_same Granted ws a b ha hb =
-    let n = node_same ha.node hb.node ha.is_node hb.is_node (cc (ha.text, hb.text)) in
+    let n = node_same ha.node hb.node (node_fits ha.node ha.is_node) (node_fits hb.node hb.is_node) (cc (ha.text, hb.text)) in
     let l = life_same ha.life hb.life ha.is_life hb.is_life (cc (ha.text, hb.text)) in
     let k = ask_same ha.ask hb.ask ha.is_ask hb.is_ask (cc (ha.text, hb.text)) in
-    let t = ticket_same ha.ticket hb.ticket ha.is_ticket hb.is_ticket (cc (ha.text, hb.text)) in
+    let t = ticket_same ha.ticket hb.ticket ha.is_ticket.1 hb.is_ticket.1 (cc (ha.text, hb.text)) in
     let kind = kind_same ha.shared ha.tenure hb.shared hb.tenure ha.is_kind hb.is_kind (cc (ha.text, hb.text)) in
     let slots = all_same granted_text IsGranted granted_same ha.words hb.words ha.slots hb.slots (cc (ha.text, hb.text)) ha.spelled hb.spelled in
     let same : told (from_coord.Granted (record { ticket = ha.ticket; node = ha.node; life = ha.life; ask = ha.ask; shared = ha.shared; tenure = ha.tenure; slots = ha.slots }))
@@ -124,16 +126,16 @@ said_same Granted ws a b ha hb =
     λ i. told (from_coord.Granted (record { ticket = t i; node = n i; life = l i; ask = k i; shared = kind.0 i; tenure = kind.1 i; slots = slots i })) in
     ha.message ∙ same ∙ sym hb.message
 said_same Committed ws a b ha hb =
-    let n = node_same ha.node hb.node ha.is_node hb.is_node (cc (ha.text, hb.text)) in
+    let n = node_same ha.node hb.node (node_fits ha.node ha.is_node) (node_fits hb.node hb.is_node) (cc (ha.text, hb.text)) in
     let l = life_same ha.life hb.life ha.is_life hb.is_life (cc (ha.text, hb.text)) in
-    let t = ticket_same ha.ticket hb.ticket ha.is_ticket hb.is_ticket (cc (ha.text, hb.text)) in
+    let t = ticket_same ha.ticket hb.ticket ha.is_ticket.1 hb.is_ticket.1 (cc (ha.text, hb.text)) in
     let versions = all_same confirmed_text IsConfirmed confirmed_same ha.slots hb.slots ha.versions hb.versions (cc (ha.text, hb.text)) ha.spelled hb.spelled in
     let same : told (from_coord.Committed ha.node ha.life ha.ticket ha.versions) ≡ told (from_coord.Committed hb.node hb.life hb.ticket hb.versions) =
     λ i. told (from_coord.Committed (n i) (l i) (t i) (versions i)) in
     ha.message ∙ same ∙ sym hb.message
 said_same Fenced ws a b ha hb = of_lease_same fences ws a b ha hb
 said_same Denied ws a b ha hb =
-    let n = node_same ha.node hb.node ha.is_node hb.is_node (cc (ha.text, hb.text)) in
+    let n = node_same ha.node hb.node (node_fits ha.node ha.is_node) (node_fits hb.node hb.is_node) (cc (ha.text, hb.text)) in
     let l = life_same ha.life hb.life ha.is_life hb.is_life (cc (ha.text, hb.text)) in
     let k = ask_same ha.ask hb.ask ha.is_ask hb.is_ask (cc (ha.text, hb.text)) in
     let why = why_same ha.why hb.why (cc (ha.text, hb.text)) in
@@ -142,14 +144,14 @@ said_same Denied ws a b ha hb =
     ha.message ∙ same ∙ sym hb.message
 said_same Recall ws a b ha hb = of_lease_same recalls ws a b ha hb
 said_same Fetch ws a b ha hb =
-    let n = node_same ha.node hb.node ha.is_node hb.is_node (cc (ha.text, hb.text)) in
-    let f = node_same ha.from hb.from ha.is_from hb.is_from (cc (ha.text, hb.text)) in
+    let n = node_same ha.node hb.node (node_fits ha.node ha.is_node) (node_fits hb.node hb.is_node) (cc (ha.text, hb.text)) in
+    let f = node_same ha.from hb.from (node_fits ha.from ha.is_from) (node_fits hb.from hb.is_from) (cc (ha.text, hb.text)) in
     let d = digest_same ha.digest hb.digest ha.is_digest hb.is_digest (cc (ha.text, hb.text)) in
     let same : to.ToNode (to_node.Fetch (record { node = ha.node; from = ha.from; digest = ha.digest })) ≡ to.ToNode (to_node.Fetch (record { node = hb.node; from = hb.from; digest = hb.digest })) =
     λ i. to.ToNode (to_node.Fetch (record { node = n i; from = f i; digest = d i })) in
     ha.message ∙ same ∙ sym hb.message
 said_same Blob ws a b ha hb =
-    let n = node_same ha.node hb.node ha.is_node hb.is_node (cc (ha.text, hb.text)) in
+    let n = node_same ha.node hb.node (node_fits ha.node ha.is_node) (node_fits hb.node hb.is_node) (cc (ha.text, hb.text)) in
     let content = bytes_same ha.content hb.content ha.is_content hb.is_content (cc (ha.text, hb.text)) in
     let same : to.ToNode (to_node.Blob ha.node ha.content) ≡ to.ToNode (to_node.Blob hb.node hb.content) = λ i. to.ToNode (to_node.Blob (n i) (content i)) in
     ha.message ∙ same ∙ sym hb.message

@@ -25,7 +25,7 @@ use Rattle.farm_base.specs.declared.number.Ticket.{Ticket}
 use Rattle.farm_base.specs.declared.want.Want.{Want}
 use Rattle.farm_base.specs.Digests.{IsBytes, IsDigest}
 use Rattle.farm_base.specs.Names.{IsName, IsSlot}
-use Rattle.farm_base.specs.Wanted.{IsWants}
+use Rattle.words.specs.Words.{AreWants}
 
 -- ---- numbers
 
@@ -48,9 +48,6 @@ IsTicket t = IsCounted t.0
 
 -- ---- items; each of them holds of every one of the program
 
-abbrev pub IsWant : Want → Type 0
-IsWant want = IsName want.folder
-
 pub record IsNews (news : News) : Type 0 where
   pub slot : IsSlot news.slot
   pub digest : IsDigest news.digest
@@ -66,10 +63,6 @@ pub record IsGranted (granted : GrantedSlot) : Type 0 where
   pub digest : IsDigest granted.digest
 
 -- ---- messages
-
--- at most 16 folders, rising
-abbrev pub AreWants : List Want → Type 0
-AreWants wants = All IsWant wants × IsWants wants
 
 -- one SHARED folder, writable
 pub record IsTenure (wants : List Want) : Type 0 where

@@ -1,3 +1,4 @@
+pub mod Hashers
 pub mod Lawful
 pub mod Lines
 pub mod Macs

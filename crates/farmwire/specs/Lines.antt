@@ -1,7 +1,6 @@
 -- The text of each message: its words, parted by one space (this project's own). A value has one spelling.
 use Rattle.std.specs.Prelude.{ℕ, Bool, true, false, List, [], ◌∷◌, ◌++◌, map, codes, decimal}
 use Rattle.std.specs.List.{join_with_byte}
-use Rattle.hex.specs.Hex.{encode_lower}
 use Rattle.base64.specs.GeneralPurpose.{encode_of}
 use Rattle.base64.specs.Engines.{standard}
 use Rattle.farm_base.specs.declared.digest.Digest.{Digest}
@@ -16,21 +15,14 @@ use Rattle.farm_base.specs.declared.message.News.{News}
 use Rattle.farm_base.specs.declared.message.Request.{Request}
 use Rattle.farm_base.specs.declared.message.Request.TheVariants.{Hello, Acquire, Commit, Release}
 use Rattle.farm_base.specs.declared.message.ToNode.TheVariants as to_node
-use Rattle.farm_base.specs.declared.message.Why.{Why}
-use Rattle.farm_base.specs.declared.message.Why.TheVariants.{InstancesSpent, TicketsSpent}
 use Rattle.farm_base.specs.declared.number.Ask.{Ask}
 use Rattle.farm_base.specs.declared.number.Life.{Life}
 use Rattle.farm_base.specs.declared.number.NodeId.{NodeId}
-use Rattle.farm_base.specs.declared.number.Ticket.{Ticket}
 use Rattle.farm_base.specs.declared.want.Want.{Want}
-use Rattle.farm_base.specs.Names.{folder_text, slot_text}
-use Rattle.farm_base.specs.Slots.{SlotParts}
+use Rattle.farm_base.specs.Names.{folder_text}
+use Rattle.words.specs.Words.{node_text, ticket_text, digits_text, why_text, slot_with, access_text, want_text}
 
 -- ---- words
-
--- N
-abbrev pub node_text : NodeId → List ℕ
-node_text node = decimal node.0
 
 -- L
 abbrev pub life_text : Life → List ℕ
@@ -40,26 +32,9 @@ life_text life = decimal life.0
 abbrev pub ask_text : Ask → List ℕ
 ask_text ask = decimal ask.0
 
--- T
-abbrev pub ticket_text : Ticket → List ℕ
-ticket_text ticket = decimal ticket.0
-
--- DIGEST: 64 lower-case digits
-abbrev pub digits_text : Digest → List ℕ
-digits_text digest = encode_lower digest.0
-
 -- BYTES: standard base64 with padding, as RFC 4648 defines it in section 4
 abbrev pub bytes_text : List ℕ → List ℕ
 bytes_text bytes = encode_of standard bytes
-
--- `ro=` stands before what is only read
-abbrev pub access_text : Bool → List ℕ
-access_text true = []
-access_text false = codes "ro="
-
--- [ro=]FOLDER
-abbrev pub want_text : Want → List ℕ
-want_text want = access_text want.writable ++ folder_text want.folder
 
 -- FOLDER, for the folder of a tenure
 abbrev pub tenure_text : Want → List ℕ
@@ -68,10 +43,6 @@ tenure_text want = folder_text want.folder
 -- NUMBER:DIGEST
 abbrev pub version_text : ℕ → Digest → List ℕ
 version_text number digest = decimal number ++ 58 ∷ digits_text digest
-
--- SLOT=..; what stands behind it has no `=`, so the slot ends at the last `=` of the word
-abbrev pub slot_with : SlotParts → List ℕ → List ℕ
-slot_with slot behind = slot_text slot ++ 61 ∷ behind
 
 -- SLOT=DIGEST
 abbrev pub news_text : News → List ℕ
@@ -92,11 +63,6 @@ kind_text false false = codes "plain"
 kind_text true false = codes "shared"
 kind_text true true = codes "tenure"
 kind_text false true = []
-
--- why an ask is denied
-abbrev pub why_text : Why → List ℕ
-why_text InstancesSpent = codes "InstancesSpent"
-why_text TicketsSpent = codes "TicketsSpent"
 
 -- ---- messages
 

@@ -1,7 +1,6 @@
 -- What the words of a text say: a verb, and after it what the verb takes.
-use Rattle.std.specs.Prelude.{◌≡◌, ℕ, ◌==◌, Bool, false, true, List, [], ◌∷◌, ◌++◌, map, codes, IsPermutation}
-use Rattle.std.specs.List.{All, slice_split}
-use Rattle.std.specs.Borrow.{Bor}
+use Rattle.std.specs.Prelude.{◌≡◌, ℕ, Bool, false, true, List, [], ◌∷◌, ◌++◌, map, codes}
+use Rattle.std.specs.List.{All}
 use Rattle.farm_base.specs.declared.digest.Digest.{Digest}
 use Rattle.farm_base.specs.declared.folder.FolderName.{FolderName}
 use Rattle.farm_base.specs.declared.folder.Mode.TheVariants.{Shared}
@@ -23,19 +22,11 @@ use Rattle.farm_base.specs.declared.number.Ticket.{Ticket}
 use Rattle.farm_base.specs.declared.want.Want.{Want}
 use Rattle.farm_base.specs.Digests.{IsBytes, IsDigest}
 use Rattle.farm_base.specs.Names.{folder_text, IsName}
-use Rattle.farm_base.specs.Wanted.{IsWants}
 use Rattle.farmwire.specs.declared.verb.Verb.{Verb}
 use Rattle.farmwire.specs.declared.verb.Verb.TheVariants.{Hello, Acquire, Tenure, Commit, Release, Granted, Committed, Fenced, Denied, Recall, Fetch, Blob}
-use Rattle.farmwire.specs.Lawful.{IsNode, IsLife, IsAsk, IsTicket, IsKind, IsWant, AreWants, IsNews, IsConfirmed, IsGranted}
-use Rattle.farmwire.specs.Lines.{node_text, life_text, ask_text, ticket_text, digits_text, bytes_text, want_text, news_text, confirmed_text, granted_text, kind_text, why_text}
-
--- the words of a text: what stands between its spaces
-abbrev pub words : List ℕ → List (List ℕ)
-words text = slice_split (λ b. b == 32) text
-
--- the words as texts, wherever they lie in memory
-abbrev pub texts : List (Bor (List ℕ)) → List (List ℕ)
-texts ws = map (λ w. w.now) ws
+use Rattle.words.specs.Words.{AreWants, node_text, ticket_text, digits_text, want_text, why_text}
+use Rattle.farmwire.specs.Lawful.{IsNode, IsLife, IsAsk, IsTicket, IsKind, IsNews, IsConfirmed, IsGranted}
+use Rattle.farmwire.specs.Lines.{life_text, ask_text, bytes_text, news_text, confirmed_text, granted_text, kind_text}
 
 -- the words, each behind a space
 abbrev pub spaced : List (List ℕ) → List ℕ
@@ -84,14 +75,6 @@ pub record SpellAll {X : Type 0} (spelling : X → List ℕ) (Is : X → Type 0)
 pub record SpellWants (ws : List (List ℕ)) (wants : List Want) : Type 0 where
   pub lawful : AreWants wants
   pub text : ws ≡ map want_text wants
-
--- FOLDER.., in any order: the wants by rising folder
-pub record SpellGiven (ws : List (List ℕ)) (wants : List Want) : Type 0 where
-  pub given : List Want
-  pub each : All IsWant given
-  pub text : ws ≡ map want_text given
-  pub sorted : IsPermutation given wants
-  pub lawful : IsWants wants
 
 -- N L
 pub record Hellos (ws : List (List ℕ)) (m : Message) : Type 0 where

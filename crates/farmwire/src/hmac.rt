@@ -1,6 +1,8 @@
 //! HMAC-SHA256, and the key of a farm.
-ghost use Rattle.std.specs.Prelude.{◌≡◌, ◌≢◌, ◌↔◌, ◌<◌, ◌≤◌, ◌-◌, ◌++◌, length, replicate, IfOk, IsErrOf};
+ghost use Rattle.std.specs.Prelude.{◌≡◌, ◌≢◌, ◌↔◌, ◌<◌, ◌≤◌, ◌-◌, ◌++◌, ℕ, List, length, replicate, IfOk, IsErrOf};
+ghost use Rattle.sha2.specs.Hashers.{Holds256};
 ghost use Rattle.sha2.specs.Sha256.{sha256};
+ghost use Rattle.farmwire.specs.Hashers.{HasTaken};
 ghost use Rattle.farmwire.specs.Macs.{key_block, block_xor, hmac_sha256, without_end};
 
 use super::refusal::KeyRefusal;
@@ -45,40 +47,75 @@ fn padded(block: &[u8; 64], pad: u8) -> [u8; 64]
     padded
 }
 
-/// The SHA-256 of a block and what follows it.
-fn hashed(block: &[u8; 64], text: &[u8]) -> [u8; 32]
-    ensures { result ≡ sha256 (block.now ++ text.now) }
+/// A hasher that has taken in a block.
+fn holding(block: &[u8; 64]) -> Sha256
+    ensures { Holds256 result block.now }
 {
     let mut hasher = <Sha256 as sha2::Digest>::new();
     sha2::Digest::update(&mut hasher, block.as_slice());
+    hasher
+}
+
+/// The SHA-256 of what a hasher has taken in and this text behind it.
+fn digest_behind(front: &Sha256, text: &[u8]) -> [u8; 32]
+    ensures { (bytes : List ℕ) → Holds256 front.now bytes → result ≡ sha256 (bytes ++ text.now) }
+{
+    let mut hasher = front.clone().unwrap();
     sha2::Digest::update(&mut hasher, text);
     sha2::Digest::finalize(hasher)
 }
 
+/// What each MAC under a key begins with: hashers that have taken in the key's two blocks.
+#[derive(Drop)]
+struct KeyedHashers {
+    inner: Sha256,
+    outer: Sha256,
+}
+
+impl KeyedHashers {
+    fn of(key: &[u8]) -> Self
+        ensures { HasTaken result key.now }
+    {
+        let block = block_of(key);
+        KeyedHashers {
+            inner: holding(&padded(&block, 0x36)),
+            outer: holding(&padded(&block, 0x5c)),
+        }
+    }
+
+    /// The MAC of a text.
+    #[tactic(auto, unfolding(crate::specs::Macs::hmac_sha256))]
+    fn mac(&self, text: &[u8]) -> Digest
+        ensures { (key : List ℕ) → HasTaken self.now key → result ≡ record { 0 = hmac_sha256 key text.now } }
+    {
+        let inner = digest_behind(&self.inner, text);
+        Digest(digest_behind(&self.outer, inner.as_slice()))
+    }
+}
+
 /// The MAC of a text under a key of any length: HMAC-SHA256, as RFC 2104 defines it.
-#[tactic(auto, unfolding(crate::specs::Macs::hmac_sha256))]
 pub fn mac(key: &[u8], text: &[u8]) -> Digest
     ensures { result ≡ record { 0 = hmac_sha256 key.now text.now } }
 {
-    let block = block_of(key);
-    let inner = hashed(&padded(&block, 0x36), text);
-    Digest(hashed(&padded(&block, 0x5c), inner.as_slice()))
+    KeyedHashers::of(key).mac(text)
 }
 
 /// The key that the processes of a farm share, which contracts see as its bytes. It has at least 32.
 #[derive(Drop)]
 pub struct FarmKey {
     bytes: Vec<u8>,
+    hashers: KeyedHashers,
 }
 
 impl Model for FarmKey {
     ghost use Rattle.std.specs.Prelude.{ℕ, List, ◌≤◌, length};
+    ghost use Rattle.farmwire.specs.Hashers.{HasTaken};
 
     ghost Value = { List ℕ };
 
     ghost view = { λ k. k.bytes.items };
 
-    ghost invariant = { λ k. 32 ≤ length k.bytes.items };
+    ghost invariant = { λ k. (32 ≤ length k.bytes.items) × HasTaken k.hashers k.bytes.items };
 }
 
 impl FarmKey {
@@ -94,8 +131,9 @@ impl FarmKey {
         if key.len() < Self::LEAST {
             return Err(KeyRefusal::KeyTooShort);
         }
+        let hashers = KeyedHashers::of(key);
         match Vec::from_slice(alloc, key) {
-            Ok(bytes) => Ok(FarmKey { bytes }),
+            Ok(bytes) => Ok(FarmKey { bytes, hashers }),
             Err(_) => Err(KeyRefusal::OutOfMemory),
         }
     }
@@ -104,7 +142,7 @@ impl FarmKey {
     pub fn mac(&self, text: &[u8]) -> Digest
         ensures { result ≡ record { 0 = hmac_sha256 self.now text.now } }
     {
-        mac(self.bytes.as_slice(), text)
+        self.hashers.mac(text)
     }
 }
 

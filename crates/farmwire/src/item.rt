@@ -8,16 +8,16 @@ ghost use Rattle.farm_base.specs.declared.message.GrantedSlot.{GrantedSlot};
 ghost use Rattle.farm_base.specs.declared.message.News.{News};
 ghost use Rattle.farm_base.specs.declared.want.Want.{Want};
 ghost use Rattle.farm_base.specs.Digests.{IsDigest};
-ghost use Rattle.farmwire.specs.Lawful.{IsWant, IsNews, IsConfirmed, IsGranted};
-ghost use Rattle.farmwire.specs.Lines.{want_text, news_text, confirmed_text, granted_text, version_text};
-ghost use Rattle.farmwire.specs.Words.{texts, spaced, SpellAll, SpellGiven};
+ghost use Rattle.words.specs.Words.{IsWant, want_text, texts};
+ghost use Rattle.farmwire.specs.Lawful.{IsNews, IsConfirmed, IsGranted};
+ghost use Rattle.farmwire.specs.Lines.{news_text, confirmed_text, granted_text, version_text};
+ghost use Rattle.farmwire.specs.Words.{spaced, SpellAll};
 
-use super::refusal::ReadRefusal;
-use super::word::{access_of, digest_of, folder_of, last_split, slot_of};
 use farm_base::laws::{is_name, is_slot};
 use farm_base::reading::{number, split};
-use farm_base::{Confirmed, Digest, GrantedSlot, Key, News, Want, Wants};
+use farm_base::{Confirmed, Digest, GrantedSlot, Key, News, Want};
 use std::alloc::{AllocError, Global};
+use words::{ReadRefusal, access_of, digest_of, last_split, slot_of, want_of};
 
 /// A value that one word spells.
 pub trait Item: Sized {
@@ -72,11 +72,7 @@ impl Item for Want {
     ghost lawful = { IsWant };
 
     fn read(alloc: Global, word: &str) -> Result<Self, ReadRefusal> {
-        let (folder, writable) = access_of(word);
-        Ok(Want {
-            folder: folder_of(alloc, folder)?,
-            writable,
-        })
+        want_of(alloc, word)
     }
 
     fn push(&self, alloc: Global, text: &mut String) -> Result<(), AllocError> {
@@ -195,15 +191,6 @@ pub fn items_of<T: Item + Drop>(alloc: Global, words: &[&str]) -> Result<Vec<T>,
         items.push(T::read(alloc, word)?)?;
     }
     Ok(items)
-}
-
-/// The wants of these words, which stand in any order.
-pub fn given_wants(alloc: Global, words: &[&str]) -> Result<Wants, ReadRefusal>
-    ensures spelled { IfOk result (SpellGiven (texts words.now)) }
-    ensures only { result ≡ Err ReadRefusal.BadForm → (wants : List Want) → SpellGiven (texts words.now) wants → ⊥ }
-{
-    let wants: Vec<Want> = items_of(alloc, words)?;
-    Ok(Wants::of(wants)?)
 }
 
 /// Adds the words of these values, each behind a space.

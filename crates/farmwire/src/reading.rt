@@ -1,5 +1,5 @@
 //! The message that a text spells.
-ghost use Rattle.std.specs.Prelude.{◌≡◌, ℕ, List, ◌∷◌, [], ◌≢◌, IfOk, IfSome, IfNone};
+ghost use Rattle.std.specs.Prelude.{◌≡◌, List, ◌∷◌, [], ◌≢◌, IfOk, IfSome, IfNone};
 ghost use Rattle.std.specs.List.{IsAllAdjacentAnswer};
 ghost use Rattle.std.specs.Ordering.{is_lt};
 ghost use Rattle.farm_base.specs.declared.message.Message.{Message};
@@ -9,21 +9,20 @@ ghost use Rattle.farm_base.specs.declared.number.Life.{Life};
 ghost use Rattle.farm_base.specs.declared.number.NodeId.{NodeId};
 ghost use Rattle.farm_base.specs.declared.number.Ticket.{Ticket};
 ghost use Rattle.farmwire.specs.Lawful.{IsNode, IsLife, IsTicket};
-ghost use Rattle.farmwire.specs.Lines.{node_text, life_text, ticket_text};
+ghost use Rattle.words.specs.Words.{node_text, ticket_text, texts, words};
+ghost use Rattle.farmwire.specs.Lines.{life_text};
 ghost use Rattle.farmwire.specs.Sealed.{IsSpelled};
-ghost use Rattle.farmwire.specs.Words.{texts, words, said, told, SpellWants, Says, SpelledBy};
+ghost use Rattle.farmwire.specs.Words.{said, told, SpellWants, Says, SpelledBy};
 
 use super::item::items_of;
-use super::refusal::ReadRefusal;
 use super::verb::{Verb, verb_of};
-use super::word::{
-    ask_of, bytes_of, digest_of, folder_of, kind_of, life_of, node_of, ticket_of, why_of, words_of,
-};
+use super::word::{ask_of, bytes_of, kind_of, life_of, node_of, ticket_of, why_of};
 use farm_base::{
     Content, Fetch, FromCoord, Grant, Items, Life, Message, Mode, NodeId, Request, Ticket, ToCoord,
     ToNode, Want, Wants,
 };
 use std::alloc::Global;
+use words::{ReadRefusal, digest_of, folder_of, words_of};
 
 /// What a life of a node says.
 fn said(node: NodeId, life: Life, request: Request) -> Message

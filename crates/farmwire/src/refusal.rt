@@ -1,13 +1,12 @@
 ghost use Rattle.std.specs.Prelude.{◌≡◌};
-ghost use Rattle.farmwire.specs.Refusals.{wants_refusal, fault_of};
+ghost use Rattle.farmwire.specs.Refusals.{fault_of};
 ghost use Rattle.farmwire.specs.declared.refusal.LineFault.TheVariants as line;
-ghost use Rattle.farmwire.specs.declared.refusal.ReadRefusal.TheVariants as read;
 ghost use Rattle.farmwire.specs.declared.refusal.SealRefusal.TheVariants as seal;
 ghost use Rattle.farmwire.specs.declared.refusal.WriteRefusal.TheVariants as write;
 
-use farm_base::WantsRefusal;
-use std::alloc::{AllocError, AllocFailed};
+use std::alloc::AllocError;
 use thiserror::Error;
+use words::ReadRefusal;
 
 /// Why the bytes of a file are not the key of a farm.
 #[derive(Clone, Copy, Debug, PartialEq, Eq, Error)]
@@ -16,42 +15,6 @@ pub enum KeyRefusal {
     KeyTooShort,
     #[error("out of memory")]
     OutOfMemory,
-}
-
-/// Why a text is not read.
-#[derive(Clone, Copy, Debug, PartialEq, Eq, Error)]
-pub enum ReadRefusal {
-    #[error("not the text of a message")]
-    BadForm,
-    #[error("out of memory")]
-    OutOfMemory,
-}
-
-impl From<AllocError> for ReadRefusal {
-    ghost from_gives = { λ _ e. e ≡ read.OutOfMemory };
-
-    fn from(_error: AllocError) -> ReadRefusal {
-        ReadRefusal::OutOfMemory
-    }
-}
-
-impl<T: Drop> From<AllocFailed<T>> for ReadRefusal {
-    ghost from_gives = { λ _ e. e ≡ read.OutOfMemory };
-
-    fn from(_error: AllocFailed<T>) -> ReadRefusal {
-        ReadRefusal::OutOfMemory
-    }
-}
-
-impl From<WantsRefusal> for ReadRefusal {
-    ghost from_gives = { λ d e. e ≡ wants_refusal d };
-
-    fn from(error: WantsRefusal) -> ReadRefusal {
-        match error {
-            WantsRefusal::OutOfMemory => ReadRefusal::OutOfMemory,
-            WantsRefusal::TooManyWants | WantsRefusal::SameFolderTwice => ReadRefusal::BadForm,
-        }
-    }
 }
 
 /// Why a message is not written.

@@ -1,8 +1,9 @@
 //! The text of a message.
-ghost use Rattle.std.specs.Prelude.{◌≡◌, ℕ, List, [], ◌∷◌, ◌++◌, map, codes, decimal, Bool, true, false, IfOk, OnOk};
+ghost use Rattle.std.specs.Prelude.{◌≡◌, [], ◌∷◌, ◌++◌, map, codes, decimal, true, false, IfOk, OnOk};
 ghost use Rattle.std.specs.String.{string_bytes};
-ghost use Rattle.farmwire.specs.Lawful.{IsLawful, IsKind};
-ghost use Rattle.farmwire.specs.Lines.{node_text, life_text, digits_text, bytes_text, kind_text, why_text, tenure_text, grant_words, said_words, told_words, message_words};
+ghost use Rattle.farmwire.specs.Lawful.{IsLawful};
+ghost use Rattle.words.specs.Words.{node_text, digits_text};
+ghost use Rattle.farmwire.specs.Lines.{life_text, bytes_text, kind_text, tenure_text, grant_words, said_words, told_words, message_words};
 ghost use Rattle.farmwire.specs.Sealed.{IsSpelled};
 ghost use Rattle.farmwire.specs.Words.{spaced, line_of, joined};
 ghost use Rattle.farm_base.specs.declared.message.FromCoord.TheVariants.{Granted};
@@ -13,9 +14,9 @@ use super::refusal::WriteRefusal;
 use base64::engine::general_purpose::STANDARD;
 use farm_base::{
     Content, Fetch, FromCoord, Grant, Key, Life, Message, NodeId, Request, ToCoord, ToNode, Want,
-    Why,
 };
 use std::alloc::{AllocError, Global};
+use words::why_name;
 
 /// Adds a word behind a space.
 pub fn push_word(text: &mut String, word: &str) -> Result<(), AllocError>
@@ -112,16 +113,6 @@ pub fn kind_name(shared: bool, tenure: bool) -> &'static str
         (true, false) => "shared",
         (true, true) => "tenure",
         (false, true) => "",
-    }
-}
-
-/// The word of a refusal.
-pub fn why_name(why: Why) -> &'static str
-    ensures { result.now ≡ why_text why }
-{
-    match why {
-        Why::InstancesSpent => "InstancesSpent",
-        Why::TicketsSpent => "TicketsSpent",
     }
 }
 

@@ -1,5 +1,5 @@
 -- Hexadecimal digits without upper-case letters.
-use Rattle.std.proofs.Common.{◌≡◌, ℕ, zero, suc, ◌+◌, ◌*◌, ◌/◌, ◌%◌, ◌<◌, ◌≤◌, ◌==◌, Bool, true, false, ◌&&◌, ◌⊎◌, inl, inr, List, [], ◌∷◌, length, slice_index, Option, Some, None, Result, Ok, Err, refl, sym, ap, ◌∙◌, arith}
+use Rattle.std.proofs.Common.{◌≡◌, ℕ, zero, suc, ◌+◌, ◌*◌, ◌/◌, ◌%◌, ◌<◌, ◌==◌, Bool, true, false, ◌&&◌, ◌⊎◌, inl, inr, List, [], ◌∷◌, length, slice_index, Option, Some, None, Result, Ok, Err, refl, sym, ap, ◌∙◌, arith}
 use Rattle.std.specs.Prelude.{if◌then◌else◌, nat_lt}
 use Rattle.std.specs.List.{list_any}
 use Rattle.std.specs.Char.{is_ascii_uppercase}
@@ -9,8 +9,8 @@ use Rattle.hex.specs.Hex.{IsBytes, decode_of, decode_pairs, digit_or_error, hex_
 use Rattle.hex.specs.declared.error.FromHexError.{FromHexError}
 use Rattle.hex.specs.declared.error.FromHexError.TheVariants.{OutOfMemory}
 use Rattle.hex.proofs.HexLemmas.{decode_of-even, decode_of-odd, decode_of-encode_lower}
-use Rattle.schedule.specs.Refusals.{hex_refusal}
-use Rattle.schedule.specs.declared.refusal.LineRefusal.TheVariants.{BadLine}
+use Rattle.words.specs.Refusals.{hex_refusal}
+use Rattle.words.specs.declared.refusal.ReadRefusal.TheVariants.{BadForm}
 
 -- ---- the table
 
@@ -101,11 +101,7 @@ lower_no_upper (b ∷ bytes) h =
     rw (x, y) rest
 
 -- a text that isn't read, although memory didn't run out, is not the digits of bytes
-pub unread : (s bytes : List ℕ) (d : FromHexError) → (d ≡ OutOfMemory) ⊎ (decode_of s ≡ Err d) → hex_refusal d ≡ BadLine
+pub unread : (s bytes : List ℕ) (d : FromHexError) → (d ≡ OutOfMemory) ⊎ (decode_of s ≡ Err d) → hex_refusal d ≡ BadForm
     → IsBytes bytes → s ≡ encode_lower bytes → ⊥
 unread s bytes d (inl memory) bad h e = cc (ap hex_refusal memory, bad)
 unread s bytes d (inr fault) bad h e = cc (fault, ap decode_of e, decode_of-encode_lower bytes h)
-
--- a digit is `0` to `9` or `a` to `f`
-pub lower_digit-range : (d : ℕ) → d < 16 → (48 ≤ slice_index lower_digits d) × (slice_index lower_digits d ≤ 102)
-lower_digit-range d lt = rw (digit_is d lt) (grind (arith, nat_tests), grind (arith, nat_tests))

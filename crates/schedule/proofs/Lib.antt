@@ -1,6 +1,5 @@
 pub mod HexLemmas
 pub mod LineLemmas
-pub mod ListLemmas
 pub mod PlainLemmas
 mod PrintedVersions
 pub mod ScheduleLaws
@@ -8,4 +7,3 @@ pub mod ScheduleLemmas
 pub mod SpelledLemmas
 pub mod Spelling
 pub mod UniqueLemmas
-pub mod WordLemmas

@@ -1,53 +1,17 @@
 -- What the words after a verb say.
-use Rattle.std.proofs.Common.{◌≡◌, ℕ, ◌+◌, ◌<◌, ◌≤◌, true, false, Bool, List, [], ◌∷◌, map, length, get_or, Result, Err, sym, ◌∙◌, arith}
-use Rattle.std.specs.Prelude.{IsErrOf, ◌↔◌}
-use Rattle.std.specs.List.{All, IsDistinct, AllAdjacentBelow, IsAllAdjacentAnswer}
+use Rattle.std.proofs.Common.{◌≡◌, ℕ, ◌+◌, ◌<◌, true, false, Bool, List, [], ◌∷◌, map, length, get_or, sym, ◌∙◌, arith}
+use Rattle.std.specs.List.{All, AllAdjacentBelow, IsAllAdjacentAnswer}
 use Rattle.std.specs.List.Sorted.{IsStrictlySortedBy}
 use Rattle.std.specs.Ordering.{is_lt}
 use Rattle.std.proofs.lemmas.List.{get_or-map, length-map}
-use Rattle.std.proofs.lemmas.List.Sorted.{length_permutation, IsPermutation-sym}
 use Rattle.std.proofs.lemmas.Map.Keys.{sorted_from_all_adjacent, Less-from_sorted}
-use Rattle.farm_base.specs.declared.want.Want.{Want}
-use Rattle.farm_base.specs.declared.want.WantsRefusal.{WantsRefusal}
-use Rattle.farm_base.specs.declared.want.WantsRefusal.TheVariants.{TooManyWants, SameFolderTwice, OutOfMemory}
-use Rattle.farm_base.specs.Folders.{folder_eq}
 use Rattle.farm_base.specs.Slots.{slot_cmp}
-use Rattle.farm_base.specs.Wanted.{folders}
 use Rattle.farm_base.proofs.CompareLaws.{slot_total}
-use Rattle.farm_base.proofs.WantLemmas.{less-from_is_lt, distinct-from_sorted, distinct-permutation, not_less}
-use Rattle.schedule.specs.declared.refusal.LineRefusal.TheVariants.{BadLine}
-use Rattle.schedule.specs.Refusals.{wants_refusal}
-use Rattle.schedule.specs.Lines.{want_text, left_text, left_slots, IsWant, IsLeft, Left}
-use Rattle.schedule.specs.Words.{SpellWants, SpellLefts}
-use Rattle.schedule.proofs.ListLemmas.{map-injective}
-use Rattle.schedule.proofs.Spelling.{want_text-injective, left_text-injective}
-
--- ---- wants
-
--- the wants that a line gives, if they are lawful
-lawful_given : (ws : List (List ℕ)) (given wants : List Want) → All IsWant given → ws ≡ map want_text given → SpellWants ws wants
-    → (length given ≤ 16) × IsDistinct folder_eq (folders given)
-lawful_given ws given wants each e h =
-    let same : given ≡ h.given = map-injective want_text IsWant want_text-injective given h.given each h.each (sym e ∙ h.text) in
-    let len = length_permutation h.given wants h.sorted in
-    let few = h.lawful.0 in
-    let distinct = distinct-permutation wants h.given (IsPermutation-sym h.given wants h.sorted) (distinct-from_sorted wants h.lawful.1) in
-    rw same (omega arith, distinct)
-
--- wants that are refused are not lawful
-pub unlawful : {T : Type 0} (r : Result T WantsRefusal) (d : WantsRefusal) (n : ℕ) (ws : List (List ℕ)) (given wants : List Want)
-    → r ≡ Err d → wants_refusal d ≡ BadLine
-    → (IsErrOf r TooManyWants ↔ (16 < n)) → (IsErrOf r SameFolderTwice ↔ ((n ≤ 16) × (IsDistinct folder_eq (folders given) → ⊥)))
-    → n ≡ length given → All IsWant given → ws ≡ map want_text given → SpellWants ws wants → ⊥
-unlawful r TooManyWants n ws given wants was bad many twice len each e h =
-    let few = (lawful_given ws given wants each e h).0 in
-    let over = many.0 was in
-    omega arith
-unlawful r SameFolderTwice n ws given wants was bad many twice len each e h =
-    (twice.0 was).1 (lawful_given ws given wants each e h).1
-unlawful r OutOfMemory n ws given wants was bad many twice len each e h = cc bad
-
--- ---- what was left
+use Rattle.farm_base.proofs.WantLemmas.{less-from_is_lt, not_less}
+use Rattle.schedule.specs.Lines.{left_text, left_slots, IsLeft, Left}
+use Rattle.schedule.specs.Words.{SpellLefts}
+use Rattle.words.proofs.ListLemmas.{map-injective}
+use Rattle.schedule.proofs.Spelling.{left_text-injective}
 
 -- where each slot is below the next
 pub rising-from_answer : (lefts : List Left) → AllAdjacentBelow (λ a b. true ≡ is_lt (slot_cmp a.slot b.slot)) lefts (length lefts)

@@ -17,12 +17,12 @@ use Rattle.std.proofs.lemmas.Iterator.Consumers.{YieldsList-so_far, YieldsList-t
 use Rattle.lists.proofs.Places.{AllZip-push}
 use Rattle.protocol.specs.declared.event.Event.{Event}
 use Rattle.schedule.specs.declared.setup.Setup.{Setup}
-use Rattle.schedule.specs.declared.refusal.LineRefusal.{LineRefusal}
-use Rattle.schedule.specs.declared.refusal.LineRefusal.TheVariants.{BadLine, OutOfMemory}
+use Rattle.words.specs.declared.refusal.ReadRefusal.{ReadRefusal}
+use Rattle.words.specs.declared.refusal.ReadRefusal.TheVariants.{BadForm, OutOfMemory}
 use Rattle.schedule.specs.declared.refusal.ScheduleRefusal.{ScheduleRefusal}
 use Rattle.schedule.specs.declared.refusal.ScheduleRefusal.TheVariants as schedule
 use Rattle.schedule.specs.Lines.{IsSpelled}
-use Rattle.schedule.specs.Words.{texts}
+use Rattle.words.specs.Words.{texts}
 use Rattle.schedule.specs.Refusals.{refusal_at}
 use Rattle.schedule.specs.Schedules.{lines, most_bytes, EVENTS, is_filled, filled, IsSetup, AreEvents, IsRefused}
 use Rattle.schedule.specs.Steps.{AddsLine, AreRefused, IsLineRefused}
@@ -33,10 +33,10 @@ pub not_empty : (line : List ℕ) → (length line == 0) ≡ false → line ≢ 
 not_empty [] h = λ e. cc h
 not_empty (b ∷ line) h = λ e. cc e
 
-pub line_refused : {X : Type 0} (r : Result X LineRefusal) (refusal : LineRefusal) (line : List ℕ) (number count : ℕ) → r ≡ Err refusal
-    → line ≢ [] → count < EVENTS → (r ≡ Err BadLine → (e : Event) → IsSpelled line e → ⊥)
+pub line_refused : {X : Type 0} (r : Result X ReadRefusal) (refusal : ReadRefusal) (line : List ℕ) (number count : ℕ) → r ≡ Err refusal
+    → line ≢ [] → count < EVENTS → (r ≡ Err BadForm → (e : Event) → IsSpelled line e → ⊥)
     → IsLineRefused line number count (refusal_at refusal number)
-line_refused r BadLine line number count is some room none = (refl, some, room, none is)
+line_refused r BadForm line number count is some room none = (refl, some, room, none is)
 line_refused r OutOfMemory line number count is some room none = tt
 
 -- ---- the setup

@@ -1,5 +1,5 @@
 -- The words of a line say the event that the line spells.
-use Rattle.std.proofs.Common.{◌≡◌, ℕ, List, [], ◌∷◌, map, refl, sym, ap, ◌∙◌, subst, inl, inr, arith}
+use Rattle.std.proofs.Common.{◌≡◌, ℕ, List, [], ◌∷◌, map, refl, sym, ap, ◌∙◌, subst, inl, inr}
 use Rattle.std.specs.Prelude.{codes, decimal}
 use Rattle.std.specs.List.{All, join_with_byte}
 use Rattle.std.specs.Str.{IsUtf8}
@@ -7,7 +7,6 @@ use Rattle.std.proofs.lemmas.List.Elements.{All-nil, All-cons}
 use Rattle.std.proofs.lemmas.List.Sorted.{All-permutation, IsPermutation-sym}
 use Rattle.std.proofs.lemmas.List.Splits.{join_with_byte-slice_split}
 use Rattle.hex.specs.Hex.{encode_lower}
-use Rattle.farm_base.specs.declared.number.NodeId.{NodeId}
 use Rattle.farm_base.specs.declared.number.Ticket.{Ticket}
 use Rattle.farm_base.specs.Names.{folder_text, slot_text}
 use Rattle.protocol.specs.declared.answer.Kept.{Kept}
@@ -16,17 +15,13 @@ use Rattle.protocol.specs.declared.event.Event.{Event}
 use Rattle.protocol.specs.declared.event.Event.TheVariants as event
 use Rattle.schedule.specs.declared.verb.Verb.{Verb}
 use Rattle.schedule.specs.declared.verb.Verb.TheVariants.{Ask, Tenure, Deliver, Begin, Finish, Abort, Resend, Restart, Forge, Forget, Nudge, Withdraw, Prune, Retire, Fail}
-use Rattle.schedule.specs.Lines.{node_text, ticket_text, kept_text, want_text, left_text, digits_text, IsNode, IsTicket, IsWant, IsEvent, IsTextOf, IsSpelled}
-use Rattle.schedule.specs.Words.{words, verb_text, Says, SpelledBy}
-use Rattle.schedule.proofs.PlainLemmas.{IsWord, IsWord-from_test, decimal_word, hex_word, folder_word, slot_word, want_words, left_words, words-joined, joined_utf8}
+use Rattle.words.specs.Words.{node_text, ticket_text, want_text, digits_text, IsTicket, IsWant, words}
+use Rattle.schedule.specs.Lines.{kept_text, left_text, IsEvent, IsTextOf, IsSpelled}
+use Rattle.schedule.specs.Words.{verb_text, Says, SpelledBy}
+use Rattle.words.proofs.PlainLemmas.{IsWord, IsWord-from_test, decimal_word, hex_word, folder_word, slot_word, want_words, words-joined, joined_utf8, last_word, node_words}
+use Rattle.schedule.proofs.PlainLemmas.{left_words}
 
 -- ---- words of a text
-
-one_word : (w : List ℕ) → IsWord w → All IsWord (w ∷ [])
-one_word w h = All-cons IsWord w [] h (All-nil IsWord)
-
-node_words : (n : NodeId) (ws : List (List ℕ)) → IsNode n → All IsWord ws → All IsWord (node_text n ∷ ws)
-node_words n ws h hs = All-cons IsWord (node_text n) ws (decimal_word n.0 (omega arith)) hs
 
 ticket_words : (t : Ticket) (ws : List (List ℕ)) → IsTicket t → All IsWord ws → All IsWord (ticket_text t ∷ ws)
 ticket_words t ws h hs = All-cons IsWord (ticket_text t) ws (decimal_word t.0 h) hs
@@ -61,8 +56,8 @@ said_words Ask ws e h =
     let folders = subst (All IsWord) (sym h.spelled.text) (want_words h.spelled.given h.spelled.each) in
     subst (All IsWord) (sym h.text) (node_words h.node h.folders h.is_node folders)
 said_words Tenure ws e h =
-    subst (All IsWord) (sym h.text) (node_words h.node (folder_text h.folder ∷ []) h.is_node (one_word (folder_text h.folder) (folder_word h.folder h.is_name)))
-said_words Deliver ws e h = subst (All IsWord) (sym h.text) (one_word (decimal h.number) (decimal_word h.number h.fits))
+    subst (All IsWord) (sym h.text) (node_words h.node (folder_text h.folder ∷ []) h.is_node (last_word (folder_text h.folder) (folder_word h.folder h.is_name)))
+said_words Deliver ws e h = subst (All IsWord) (sym h.text) (last_word (decimal h.number) (decimal_word h.number h.fits))
 said_words Begin ws e h = subst (All IsWord) (sym h.text) (node_words h.node (ticket_text h.ticket ∷ []) h.is_node (ticket_words h.ticket [] h.is_ticket (All-nil IsWord)))
 said_words Finish ws e h =
     let slots = subst (All IsWord) (sym h.spelled.text) (left_words h.lefts h.spelled.each) in
@@ -70,16 +65,16 @@ said_words Finish ws e h =
 said_words Abort ws e h = subst (All IsWord) (sym h.text) (node_words h.node (ticket_text h.ticket ∷ []) h.is_node (ticket_words h.ticket [] h.is_ticket (All-nil IsWord)))
 said_words Resend ws e h = subst (All IsWord) (sym h.text) (node_words h.node [] h.is_node (All-nil IsWord))
 said_words Restart ws e (inl h) = subst (All IsWord) (sym h.text) (node_words h.node [] h.is_node (All-nil IsWord))
-said_words Restart ws e (inr h) = subst (All IsWord) (sym h.text) (one_word (codes "coordinator") coordinator_word)
+said_words Restart ws e (inr h) = subst (All IsWord) (sym h.text) (last_word (codes "coordinator") coordinator_word)
 said_words Forge ws e h =
-    subst (All IsWord) (sym h.text) (node_words h.node (encode_lower h.content ∷ []) h.is_node (one_word (encode_lower h.content) (hex_word h.content h.is_content)))
+    subst (All IsWord) (sym h.text) (node_words h.node (encode_lower h.content ∷ []) h.is_node (last_word (encode_lower h.content) (hex_word h.content h.is_content)))
 said_words Forget ws e h =
-    subst (All IsWord) (sym h.text) (node_words h.node (digits_text h.digest ∷ []) h.is_node (one_word (digits_text h.digest) (hex_word h.digest.0 h.is_digest.1)))
+    subst (All IsWord) (sym h.text) (node_words h.node (digits_text h.digest ∷ []) h.is_node (last_word (digits_text h.digest) (hex_word h.digest.0 h.is_digest.1)))
 said_words Nudge ws e h = subst (All IsWord) (sym h.text) (All-nil IsWord)
 said_words Withdraw ws e h = subst (All IsWord) (sym h.text) (ticket_words h.ticket [] h.is_ticket (All-nil IsWord))
-said_words Prune ws e h = subst (All IsWord) (sym h.text) (one_word (slot_text h.slot) (slot_word h.slot h.is_slot))
+said_words Prune ws e h = subst (All IsWord) (sym h.text) (last_word (slot_text h.slot) (slot_word h.slot h.is_slot))
 said_words Retire ws e h = subst (All IsWord) (sym h.text) (node_words h.node [] h.is_node (All-nil IsWord))
-said_words Fail ws e h = subst (All IsWord) (sym h.text) (one_word (kept_text h.kept) (kept_word h.kept))
+said_words Fail ws e h = subst (All IsWord) (sym h.text) (last_word (kept_text h.kept) (kept_word h.kept))
 
 -- ---- from the words to the line
 

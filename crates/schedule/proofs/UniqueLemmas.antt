@@ -1,23 +1,13 @@
 -- A line spells one event.
-use Rattle.std.proofs.Common.{◌≡◌, ℕ, zero, suc, ◌⊎◌, inl, inr, List, [], ◌∷◌, Option, Some, None, refl, sym, ap, ◌∙◌, subst, get_or, arith}
-use Rattle.std.specs.Prelude.{codes, IsPermutation, if◌then◌else◌}
-use Rattle.std.specs.List.{AllByRecursion, Contains}
-use Rattle.std.specs.List.Sorted.{IsStrictlySortedBy}
-use Rattle.std.specs.Ordering.{ordering_reverse}
+use Rattle.std.proofs.Common.{◌≡◌, ℕ, inl, inr, List, Option, Some, None, refl, sym, ap, ◌∙◌, subst, get_or, arith}
+use Rattle.std.specs.Prelude.{codes, if◌then◌else◌}
 use Rattle.std.specs.Str.{bytes_eq}
 use Rattle.std.specs.Str.Parse.{AllDigits}
-use Rattle.std.specs.declared.cmp.Ordering.TheVariants.{Less, Greater}
 use Rattle.std.proofs.lemmas.Fmt.{decimal_injective}
-use Rattle.std.proofs.lemmas.List.Sorted.{Contains-permutation, IsPermutation-sym}
-use Rattle.std.proofs.lemmas.Map.Keys.{sorted_head, sorted_tail}
 use Rattle.std.proofs.lemmas.Str.Parse.{digit_at}
-use Rattle.farm_base.specs.declared.folder.FolderName.{FolderName}
 use Rattle.farm_base.specs.declared.number.NodeId.{NodeId}
 use Rattle.farm_base.specs.declared.number.Ticket.{Ticket}
-use Rattle.farm_base.specs.declared.want.Want.{Want}
-use Rattle.farm_base.specs.Folders.{folder_cmp}
 use Rattle.farm_base.specs.Wanted.{folders}
-use Rattle.farm_base.proofs.CompareLaws.{folder_total}
 use Rattle.farm_base.proofs.NameLaws.{folder_text-injective, slot_text-injective}
 use Rattle.farm_base.proofs.TextLemmas.{encode-injective}
 use Rattle.protocol.specs.declared.answer.Kept.{Kept}
@@ -26,11 +16,14 @@ use Rattle.protocol.specs.declared.event.Event.{Event}
 use Rattle.protocol.specs.declared.event.Event.TheVariants as event
 use Rattle.schedule.specs.declared.verb.Verb.{Verb}
 use Rattle.schedule.specs.declared.verb.Verb.TheVariants.{Ask, Tenure, Deliver, Begin, Finish, Abort, Resend, Restart, Forge, Forget, Nudge, Withdraw, Prune, Retire, Fail}
-use Rattle.schedule.specs.Lines.{node_text, ticket_text, kept_text, want_text, left_text, IsNode, IsTicket, IsWant, IsLeft, Left, IsSpelled}
-use Rattle.schedule.specs.Words.{verb_text, Says, SpellWants, SpellLefts, OfNode, OfLease, Restarts}
-use Rattle.schedule.proofs.ListLemmas.{map-injective}
-use Rattle.schedule.proofs.PlainLemmas.{decimal_digits}
-use Rattle.schedule.proofs.Spelling.{want_text-injective, left_text-injective}
+use Rattle.words.specs.Words.{node_text, IsNode, SpellGiven}
+use Rattle.schedule.specs.Lines.{kept_text, left_text, IsLeft, Left, IsSpelled}
+use Rattle.schedule.specs.Words.{verb_text, Says, SpellLefts, OfNode, OfLease, Restarts}
+use Rattle.words.proofs.ListLemmas.{map-injective}
+use Rattle.words.proofs.PlainLemmas.{decimal_digits}
+use Rattle.schedule.proofs.Spelling.{left_text-injective}
+use Rattle.words.proofs.Spelling.{node_same, ticket_same}
+use Rattle.words.proofs.WantLemmas.{given_same}
 use Rattle.schedule.proofs.SpelledLemmas.{words-from_spelled}
 
 -- ---- verbs
@@ -78,17 +71,7 @@ some_same v w e = cc e
 verb_text-injective : (v w : Verb) → verb_text v ≡ verb_text w → v ≡ w
 verb_text-injective v w e = some_same v w (sym (verb_named-text v) ∙ ap verb_named e ∙ verb_named-text w)
 
--- ---- numbers
-
-node_same : (m n : NodeId) → IsNode m → IsNode n → node_text m ≡ node_text n → m ≡ n
-node_same m n hm hn e =
-    let same = decimal_injective m.0 n.0 (omega arith) (omega arith) e in
-    λ i. record { 0 = same i }
-
-ticket_same : (s t : Ticket) → IsTicket s → IsTicket t → ticket_text s ≡ ticket_text t → s ≡ t
-ticket_same s t hs ht e =
-    let same = decimal_injective s.0 t.0 hs ht e in
-    λ i. record { 0 = same i }
+-- ---- nodes
 
 -- a node's text has only digits
 node_no_coordinator : (n : NodeId) → IsNode n → node_text n ≡ codes "coordinator" → ⊥
@@ -104,68 +87,7 @@ kept_text-injective Old New e = let first = ap (λ t. get_or t 0 0) e in absurd 
 kept_text-injective New Old e = let first = ap (λ t. get_or t 0 0) e in absurd (omega arith)
 kept_text-injective New New e = refl
 
--- ---- wants
-
-in_tail : (v : Want) (vs : List Want) (x : Want) → Contains (v ∷ vs) x → (v ≡ x) ⊎ Contains vs x
-in_tail v vs x (zero, lt, e) = inl e
-in_tail v vs x (suc k, lt, e) = inr (k, omega arith, e)
-
-later : (v : Want) (vs : List Want) (x : Want) → Contains vs x → Contains (v ∷ vs) x
-later v vs x (k, lt, e) = (suc k, omega arith, e)
-
-here : (v : Want) (vs : List Want) → Contains (v ∷ vs) v
-here v vs = (zero, omega arith, refl)
-
-never_below_both : (f g : FolderName) → folder_cmp f g ≡ Less → folder_cmp g f ≡ Less → ⊥
-never_below_both f g up down =
-    let flipped = folder_total.antisymm f g in
-    let other : ordering_reverse (folder_cmp g f) ≡ Greater = ap ordering_reverse down in
-    cc (flipped, other, up)
-
-below_each : (f : FolderName) (ws : List Want) (x : Want) → AllByRecursion (λ g. folder_cmp f g ≡ Less) (folders ws) → Contains ws x
-    → folder_cmp f x.folder ≡ Less
-below_each f [] x h (k, lt, e) = absurd (omega arith)
-below_each f (w ∷ ws) x h (zero, lt, e) = subst (λ (y : Want). folder_cmp f y.folder ≡ Less) e h.0
-below_each f (w ∷ ws) x h (suc k, lt, e) = below_each f ws x h.1 (k, omega arith, e)
-
--- two lists with the same wants, both by rising folder, are equal
-sorted_same : (ws vs : List Want) → IsStrictlySortedBy folder_cmp (folders ws) → IsStrictlySortedBy folder_cmp (folders vs)
-    → ((x : Want) → Contains ws x → Contains vs x) → ((x : Want) → Contains vs x → Contains ws x) → ws ≡ vs
-sorted_same [] [] hw hv there back = refl
-sorted_same [] (v ∷ vs) hw hv there back = let h = (back v (here v vs)).1 in absurd (omega arith)
-sorted_same (w ∷ ws) [] hw hv there back = let h = (there w (here w ws)).1 in absurd (omega arith)
-sorted_same (w ∷ ws) (v ∷ vs) hw hv there back =
-    let above_w : (x : Want) → Contains ws x → folder_cmp w.folder x.folder ≡ Less = λ x. below_each w.folder ws x (sorted_head folder_cmp w.folder (folders ws) hw) in
-    let above_v : (x : Want) → Contains vs x → folder_cmp v.folder x.folder ≡ Less = λ x. below_each v.folder vs x (sorted_head folder_cmp v.folder (folders vs) hv) in
-    let first : w ≡ v = elim (in_tail v vs w (there w (here w ws))) [
-      | inl e ↦ sym e
-      | inr in_vs ↦ elim (in_tail w ws v (back v (here v vs))) [
-        | inl e ↦ e
-        | inr in_ws ↦ absurd (never_below_both w.folder v.folder (above_w v in_ws) (above_v w in_vs))
-      ]
-    ] in
-    let rest = sorted_same ws vs (sorted_tail folder_cmp w.folder (folders ws) hw) (sorted_tail folder_cmp v.folder (folders vs) hv)
-    (λ x c. elim (in_tail v vs x (there x (later w ws x c))) [
-      | inl e ↦
-          let below = subst (λ (y : Want). folder_cmp y.folder x.folder ≡ Less) (first ∙ e) (above_w x c) in
-          absurd (never_below_both x.folder x.folder below below)
-      | inr c' ↦ c'
-    ])
-    (λ x c. elim (in_tail w ws x (back x (later v vs x c))) [
-      | inl e ↦
-          let below = subst (λ (y : Want). folder_cmp y.folder x.folder ≡ Less) (sym first ∙ e) (above_v x c) in
-          absurd (never_below_both x.folder x.folder below below)
-      | inr c' ↦ c'
-    ]) in
-    cc (first, rest)
-
-wants_same : (ws : List (List ℕ)) (a b : List Want) → SpellWants ws a → SpellWants ws b → a ≡ b
-wants_same ws a b ha hb =
-    let given : ha.given ≡ hb.given = map-injective want_text IsWant want_text-injective ha.given hb.given ha.each hb.each (sym ha.text ∙ hb.text) in
-    let moved : IsPermutation ha.given b = subst (λ (l : List Want). IsPermutation l b) (sym given) hb.sorted in
-    sorted_same a b ha.lawful.1 hb.lawful.1
-    (λ x c. Contains-permutation ha.given b x moved (Contains-permutation a ha.given x (IsPermutation-sym ha.given a ha.sorted) c))
-    (λ x c. Contains-permutation ha.given a x ha.sorted (Contains-permutation b ha.given x (IsPermutation-sym ha.given b moved) c))
+-- ---- what was left
 
 lefts_same : (ws : List (List ℕ)) (a b : List Left) → SpellLefts ws a → SpellLefts ws b → a ≡ b
 lefts_same ws a b ha hb = map-injective left_text IsLeft left_text-injective a b ha.each hb.each (sym ha.text ∙ hb.text)
@@ -193,7 +115,7 @@ said_same : (v : Verb) (ws : List (List ℕ)) (a b : Event) → Says v ws a → 
 said_same Ask ws a b ha hb =
     let n = node_same ha.node hb.node ha.is_node hb.is_node (cc (ha.text, hb.text)) in
     let others : ha.folders ≡ hb.folders = cc (ha.text, hb.text) in
-    let wants = wants_same hb.folders ha.wants hb.wants (subst (λ ws. SpellWants ws ha.wants) others ha.spelled) hb.spelled in
+    let wants = given_same hb.folders ha.wants hb.wants (subst (λ ws. SpellGiven ws ha.wants) others ha.spelled) hb.spelled in
     ha.event ∙ cc (n, wants) ∙ sym hb.event
 said_same Tenure ws a b ha hb =
     let n = node_same ha.node hb.node ha.is_node hb.is_node (cc (ha.text, hb.text)) in

@@ -1,18 +1,15 @@
 -- The lines of a schedule's events. Each event has one line, except that its wants may stand in any order.
-use Rattle.std.specs.Prelude.{◌≡◌, ℕ, ◌<◌, ◌^◌, Bool, true, false, List, [], ◌∷◌, ◌++◌, map, codes, decimal, IsPermutation}
+use Rattle.std.specs.Prelude.{◌≡◌, ℕ, ◌<◌, ◌^◌, List, [], ◌∷◌, map, codes, decimal, IsPermutation}
 use Rattle.std.specs.List.{All, join_with_byte}
 use Rattle.std.specs.List.Sorted.{IsStrictlySortedBy}
 use Rattle.hex.specs.Hex.{IsBytes, encode_lower}
 pub use Rattle.protocol.specs.Nodes.{Left}
 use Rattle.farm_base.specs.Digests.{IsDigest}
-use Rattle.farm_base.specs.declared.digest.Digest.{Digest}
 use Rattle.farm_base.specs.declared.folder.Mode.TheVariants.{Shared}
-use Rattle.farm_base.specs.declared.number.NodeId.{NodeId}
-use Rattle.farm_base.specs.declared.number.Ticket.{Ticket}
 use Rattle.farm_base.specs.declared.want.Want.{Want}
 use Rattle.farm_base.specs.Names.{folder_text, slot_text, IsName, IsSlot}
 use Rattle.farm_base.specs.Slots.{SlotParts, slot_cmp}
-use Rattle.farm_base.specs.Wanted.{IsWants}
+use Rattle.words.specs.Words.{node_text, ticket_text, digits_text, want_text, slot_with, IsNode, IsTicket, AreWants}
 use Rattle.protocol.specs.declared.answer.Kept.{Kept}
 use Rattle.protocol.specs.declared.answer.Kept.TheVariants.{Old, New}
 use Rattle.protocol.specs.declared.event.Event.{Event}
@@ -20,42 +17,13 @@ use Rattle.protocol.specs.declared.event.Event.TheVariants.{Ask, Tenure, Deliver
 
 -- ---- words
 
-abbrev pub node_text : NodeId → List ℕ
-node_text node = decimal node.0
-
-abbrev pub ticket_text : Ticket → List ℕ
-ticket_text ticket = decimal ticket.0
-
--- holds of each node and each ticket of the program
-abbrev pub IsNode : NodeId → Type 0
-IsNode node = node.0 < 2 ^ 32
-
-abbrev pub IsTicket : Ticket → Type 0
-IsTicket ticket = ticket.0 < 2 ^ 64
-
--- `ro=` stands before a folder that is only read
-abbrev pub access_text : Bool → List ℕ
-access_text true = []
-access_text false = codes "ro="
-
-abbrev pub want_text : Want → List ℕ
-want_text want = access_text want.writable ++ folder_text want.folder
-
--- holds of each want of the program
-abbrev pub IsWant : Want → Type 0
-IsWant want = IsName want.folder
-
 -- no digit is `=`, so the last `=` separates the slot from the content's digits, which are lower case
 abbrev pub left_text : Left → List ℕ
-left_text left = slot_text left.slot ++ 61 ∷ encode_lower left.content
+left_text left = slot_with left.slot (encode_lower left.content)
 
 pub record IsLeft (left : Left) : Type 0 where
   pub slot : IsSlot left.slot
   pub content : IsBytes left.content
-
--- the 64 lower-case digits of a digest
-abbrev pub digits_text : Digest → List ℕ
-digits_text d = encode_lower d.0
 
 -- what the record holds after a save that failed: what it held before, or what was to be saved
 abbrev pub kept_text : Kept → List ℕ
@@ -68,9 +36,6 @@ left_slots lefts = map (λ left. left.slot) lefts
 
 abbrev pub AreLefts : List Left → Type 0
 AreLefts lefts = All IsLeft lefts × IsStrictlySortedBy slot_cmp (left_slots lefts)
-
-abbrev pub AreWants : List Want → Type 0
-AreWants wants = All IsWant wants × IsWants wants
 
 -- ---- events
 

@@ -3,9 +3,8 @@ use Rattle.std.specs.Prelude.{ℕ, List, ◌++◌, codes, decimal}
 use Rattle.std.specs.List.{flat_map}
 use Rattle.farm_base.specs.declared.message.Grant.{Grant}
 use Rattle.farm_base.specs.declared.message.GrantedSlot.{GrantedSlot}
-use Rattle.farm_base.specs.declared.message.Why.{Why}
-use Rattle.farm_base.specs.declared.message.Why.TheVariants.{InstancesSpent, TicketsSpent}
 use Rattle.farm_base.specs.Names.{slot_text}
+use Rattle.words.specs.Words.{why_text}
 use Rattle.protocol.specs.declared.answer.CoordNote.{CoordNote}
 use Rattle.protocol.specs.declared.answer.CoordNote.TheVariants as coord
 use Rattle.protocol.specs.declared.answer.NodeNote.{NodeNote}
@@ -20,11 +19,6 @@ granted_text s = codes " " ++ slot_text s.slot ++ codes "=" ++ decimal s.base
 -- the ticket, and each slot with the number of its base
 abbrev pub grant_text : Grant → List ℕ
 grant_text g = decimal g.ticket.0 ++ flat_map granted_text g.slots
-
--- why an ask was denied
-abbrev pub why_text : Why → List ℕ
-why_text InstancesSpent = codes "InstancesSpent"
-why_text TicketsSpent = codes "TicketsSpent"
 
 -- what the coordinator did
 abbrev pub coord_note_text : CoordNote → List ℕ

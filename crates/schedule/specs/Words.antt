@@ -1,8 +1,7 @@
 -- What the words of a line say: a verb, and after it what the verb takes.
-use Rattle.std.specs.Prelude.{◌≡◌, ◌⊎◌, ℕ, ◌<◌, ◌^◌, ◌==◌, List, [], ◌∷◌, map, codes, decimal, IsPermutation}
-use Rattle.std.specs.List.{All, slice_split}
+use Rattle.std.specs.Prelude.{◌≡◌, ◌⊎◌, ℕ, ◌<◌, ◌^◌, List, [], ◌∷◌, map, codes, decimal}
+use Rattle.std.specs.List.{All}
 use Rattle.std.specs.List.Sorted.{IsStrictlySortedBy}
-use Rattle.std.specs.Borrow.{Bor}
 use Rattle.hex.specs.Hex.{IsBytes, encode_lower}
 use Rattle.farm_base.specs.Digests.{IsDigest}
 use Rattle.farm_base.specs.declared.digest.Digest.{Digest}
@@ -13,21 +12,13 @@ use Rattle.farm_base.specs.declared.number.Ticket.{Ticket}
 use Rattle.farm_base.specs.declared.want.Want.{Want}
 use Rattle.farm_base.specs.Names.{folder_text, slot_text, IsName, IsSlot}
 use Rattle.farm_base.specs.Slots.{SlotParts, slot_cmp}
-use Rattle.farm_base.specs.Wanted.{IsWants}
 use Rattle.protocol.specs.declared.answer.Kept.{Kept}
 use Rattle.protocol.specs.declared.event.Event.{Event}
 use Rattle.protocol.specs.declared.event.Event.TheVariants as event
+use Rattle.words.specs.Words.{SpellGiven, node_text, ticket_text, digits_text, IsNode, IsTicket}
 use Rattle.schedule.specs.declared.verb.Verb.{Verb}
 use Rattle.schedule.specs.declared.verb.Verb.TheVariants.{Ask, Tenure, Deliver, Begin, Finish, Abort, Resend, Restart, Forge, Forget, Nudge, Withdraw, Prune, Retire, Fail}
-use Rattle.schedule.specs.Lines.{node_text, ticket_text, kept_text, want_text, left_text, digits_text, left_slots, IsNode, IsTicket, IsWant, IsLeft, Left}
-
--- the words of a line: what stands between its spaces
-abbrev pub words : List ℕ → List (List ℕ)
-words line = slice_split (λ b. b == 32) line
-
--- the words as texts, wherever they lie in memory
-abbrev pub texts : List (Bor (List ℕ)) → List (List ℕ)
-texts ws = map (λ w. w.now) ws
+use Rattle.schedule.specs.Lines.{kept_text, left_text, left_slots, IsLeft, Left}
 
 abbrev pub verb_text : Verb → List ℕ
 verb_text Ask = codes "ask"
@@ -46,14 +37,6 @@ verb_text Prune = codes "prune"
 verb_text Retire = codes "retire"
 verb_text Fail = codes "fail"
 
--- FOLDER..: the wants by rising folder, whose words may stand in any order
-pub record SpellWants (ws : List (List ℕ)) (wants : List Want) : Type 0 where
-  pub given : List Want
-  pub each : All IsWant given
-  pub text : ws ≡ map want_text given
-  pub sorted : IsPermutation given wants
-  pub lawful : IsWants wants
-
 -- SLOT=HEX..: the slots rise
 pub record SpellLefts (ws : List (List ℕ)) (lefts : List Left) : Type 0 where
   pub each : All IsLeft lefts
@@ -68,7 +51,7 @@ pub record Asks (ws : List (List ℕ)) (e : Event) : Type 0 where
   pub folders : List (List ℕ)
   pub wants : List Want
   pub is_node : IsNode node
-  pub spelled : SpellWants folders wants
+  pub spelled : SpellGiven folders wants
   pub text : ws ≡ node_text node ∷ folders
   pub event : e ≡ event.Ask node wants
 

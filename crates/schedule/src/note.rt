@@ -1,11 +1,13 @@
 ghost use Rattle.std.specs.Prelude.{◌≡◌, IfOk, OnOk, ◌++◌, codes, decimal};
 ghost use Rattle.std.specs.List.{flat_map};
 ghost use Rattle.std.specs.String.{string_bytes};
-ghost use Rattle.schedule.specs.Notes.{granted_text, grant_text, why_text, coord_note_text, node_note_text, note_text};
+ghost use Rattle.words.specs.Words.{why_text};
+ghost use Rattle.schedule.specs.Notes.{granted_text, grant_text, coord_note_text, node_note_text, note_text};
 
 use farm_base::{Grant, GrantedSlot, Why};
 use protocol::{CoordNote, EventNote, NodeNote};
 use std::alloc::{AllocError, Global};
+use words::why_name;
 
 /// Adds some words and a number.
 pub(crate) fn push_number(
@@ -47,15 +49,6 @@ fn push_grant(alloc: Global, text: &mut String, word: &str, grant: &Grant) -> Re
 {
     push_number(alloc, text, word, grant.ticket.0)?;
     push_slots(alloc, text, grant.slots.as_slice())
-}
-
-fn why_name(why: Why) -> &'static str
-    ensures { result.now ≡ why_text why }
-{
-    match why {
-        Why::InstancesSpent => "InstancesSpent",
-        Why::TicketsSpent => "TicketsSpent",
-    }
 }
 
 /// Adds why an ask was denied.

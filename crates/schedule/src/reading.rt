@@ -6,7 +6,7 @@ ghost use Rattle.schedule.specs.Schedules.{lines, IsSetup, AreEvents, IsSchedule
 ghost use Rattle.schedule.specs.Steps.{AddsLine, AreRefused, IsLineRefused};
 
 use super::line::event_of;
-use super::refusal::ScheduleRefusal;
+use super::refusal::{ScheduleRefusal, refusal_at};
 use super::setup::Setup;
 use farm_base::reading::{after, number};
 use farm_base::{EVENTS, NODES};
@@ -56,7 +56,7 @@ fn push_event(
             events.push(event)?;
             Ok(())
         }
-        Err(refusal) => Err(refusal.at(number)),
+        Err(refusal) => Err(refusal_at(refusal, number)),
     }
 }
 

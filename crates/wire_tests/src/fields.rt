@@ -74,6 +74,28 @@ fn messages_of_fields(rt: HostRuntime) -> Result<(), Fail> {
     Ok(())
 }
 
+/// Whether all parts of these bytes, from the first byte on, are refused as cut.
+fn are_cut(alloc: Global, bytes: &[u8]) -> Result<bool, Fail> {
+    for len in 1..bytes.len() {
+        if shown(alloc, &bytes[..len])?.as_str() != "Truncated" {
+            return Ok(false);
+        }
+    }
+    Ok(true)
+}
+
+/// Rows that are read have one field at most.
+#[test]
+fn fields_cut_at_every_byte(rt: HostRuntime) -> Result<(), Fail> {
+    for (bytes, wanted) in &ROWS {
+        let bytes = hex::decode(rt.alloc(), *bytes)?;
+        if wanted.contains(":") {
+            assert!(rt; are_cut(rt.alloc(), bytes.as_slice())?);
+        }
+    }
+    Ok(())
+}
+
 /// The joined bodies of the fields of a number.
 fn shown_joined(alloc: Global, found: &[Field<'_>], number: u32) -> Result<String, Fail> {
     match joined_body(alloc, found, number)? {

@@ -5,6 +5,7 @@ use opsproto::{
     Definition, ExecOp, Input, Kind, Meta, Mount, Op, OpRefusal, read_definition, read_op,
     write_definition, write_exec, write_op,
 };
+use protowire::WireRefusal;
 use std::alloc::{AllocError, Global};
 use std::test::Fail;
 
@@ -108,6 +109,42 @@ fn ops(rt: HostRuntime) -> Result<(), Fail> {
     for (digits, wanted) in &ROWS {
         let text = shown_op(rt.alloc(), *digits)?;
         assert_eq!(rt; text.as_str(), *wanted);
+    }
+    Ok(())
+}
+
+/// Ops in hexadecimal, and the lengths of their prefixes that are ops.
+const CUT: [(&str, &[usize]); 4] = [
+    (CACHED, &[0, 67]),
+    ("12050a030a01781a0012050a030a0179", &[0, 7, 9, 16]),
+    ("120112120100", &[0, 6]),
+    ("12050a030a017852011012050a030a0179", &[0, 7, 10, 17]),
+];
+
+/// Whether bytes are an op's. Fails where they are refused otherwise than as cut.
+fn is_op(alloc: Global, bytes: &[u8]) -> Result<bool, Fail> {
+    match read_op(alloc, bytes) {
+        Ok(_) => Ok(true),
+        Err(OpRefusal::Wire(WireRefusal::Truncated)) => Ok(false),
+        Err(refusal) => Err(refusal.into()),
+    }
+}
+
+/// Whether the prefixes of these lengths are ops, and no others.
+fn are_cut_so(alloc: Global, bytes: &[u8], lengths: &[usize]) -> Result<bool, Fail> {
+    for len in 0..=bytes.len() {
+        if is_op(alloc, &bytes[..len])? != lengths.contains(&len) {
+            return Ok(false);
+        }
+    }
+    Ok(true)
+}
+
+#[test]
+fn ops_cut_at_every_byte(rt: HostRuntime) -> Result<(), Fail> {
+    for (digits, lengths) in &CUT {
+        let bytes = hex::decode(rt.alloc(), *digits)?;
+        assert!(rt; are_cut_so(rt.alloc(), bytes.as_slice(), *lengths)?);
     }
     Ok(())
 }

@@ -1,6 +1,6 @@
 use Rattle.std.proofs.Common.{Err, ap}
-use Rattle.farmwire.proofs.ListLemmas.{stuck_at}
-use Rattle.farmwire.proofs.WordLemmas.{passed_on}
+use Rattle.words.proofs.ListLemmas.{stuck_at}
+use Rattle.words.proofs.WordLemmas.{passed_on}
 use Rattle.farmwire.proofs.item.items_of.Goals as goal
 
 pub returns-in_err-read-clause-only : goal.returns-in_err-read-clause-only

@@ -1,5 +1,6 @@
 use Rattle.std.proofs.Common.{take}
-use Rattle.farmwire.specs.Words.{texts, SpellAll}
+use Rattle.words.specs.Words.{texts}
+use Rattle.farmwire.specs.Words.{SpellAll}
 use Rattle.farmwire.proofs.item.items_of.Given as goal
 
 abbrev pub invariant-loop-word : goal.invariant-loop-word

@@ -1,7 +1,8 @@
 use Rattle.std.proofs.Common.{ap, sym, subst, ◌∙◌}
 use Rattle.std.proofs.lemmas.Result.{IfOk-weaker}
 use Rattle.farmwire.specs.Sealed.{IsSpelled}
-use Rattle.farmwire.specs.Words.{SpelledBy, texts, words}
+use Rattle.words.specs.Words.{texts, words}
+use Rattle.farmwire.specs.Words.{SpelledBy}
 use Rattle.farmwire.proofs.SpelledLemmas.{spelled-from_words, words-from_spelled, utf8-from_spelled}
 use Rattle.farmwire.proofs.reading.read.Goals as goal
 

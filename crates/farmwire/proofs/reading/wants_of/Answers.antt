@@ -1,10 +1,10 @@
 use Rattle.std.proofs.Common.{◌≡◌, map, ap, ◌∙◌, subst}
 use Rattle.std.specs.List.{All}
 use Rattle.farm_base.proofs.WantLemmas.{answer_true}
-use Rattle.farmwire.specs.Lawful.{IsWant}
-use Rattle.farmwire.specs.Lines.{want_text}
-use Rattle.farmwire.proofs.WantLemmas.{not_rising, unlawful, stays}
-use Rattle.farmwire.proofs.WordLemmas.{passed_on}
+use Rattle.words.specs.Words.{IsWant, want_text}
+use Rattle.words.proofs.WantLemmas.{moved_same}
+use Rattle.farmwire.proofs.WantLemmas.{not_rising, unlawful}
+use Rattle.words.proofs.WordLemmas.{passed_on}
 use Rattle.farmwire.proofs.reading.wants_of.Goals as goal
 
 pub returns-then-not-rises-clause-only : goal.returns-then-not-rises-clause-only
@@ -24,5 +24,5 @@ returns-clause-spelled c =
     let given = c.in_ok-wants.ensures.spelled in
     let sorted = c.in_ok-of.ensures.sorted in
     let up = rw c.as_slice.ensures.value at (answer_true _ _ c.rises.ensures c.if-not-rises.false) in
-    let same : c.in_ok-wants.wants.items ≡ c.in_ok-of.field-0 = stays _ _ up sorted.1 c.in_ok-of.ensures.same in
+    let same : c.in_ok-wants.wants.items ≡ c.in_ok-of.field-0 = moved_same _ _ up sorted.1 c.in_ok-of.ensures.same in
     record { lawful = (subst (All IsWant) same given.each, sorted); text = given.text ∙ ap (map want_text) same }

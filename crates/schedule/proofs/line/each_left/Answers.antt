@@ -1,8 +1,8 @@
 use Rattle.std.proofs.Common.{Err, ap}
 use Rattle.std.proofs.lemmas.List.Elements.{All-push}
 use Rattle.schedule.specs.Lines.{left_text, IsLeft}
-use Rattle.schedule.proofs.ListLemmas.{spelled_more, stuck_at}
-use Rattle.schedule.proofs.WordLemmas.{passed_on}
+use Rattle.words.proofs.ListLemmas.{spelled_more, stuck_at}
+use Rattle.words.proofs.WordLemmas.{passed_on}
 use Rattle.schedule.proofs.line.each_left.Goals as goal
 
 pub returns-in_err-left_of-clause-only : goal.returns-in_err-left_of-clause-only

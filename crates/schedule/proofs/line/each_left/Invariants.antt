@@ -1,7 +1,7 @@
 use Rattle.std.proofs.Common.{◌≡◌, map, take}
 use Rattle.std.specs.List.{All}
 use Rattle.schedule.specs.Lines.{left_text, IsLeft}
-use Rattle.schedule.specs.Words.{texts}
+use Rattle.words.specs.Words.{texts}
 use Rattle.schedule.proofs.line.each_left.Given as goal
 
 abbrev pub invariant-loop-word : goal.invariant-loop-word

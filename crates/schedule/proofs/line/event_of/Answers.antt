@@ -1,7 +1,8 @@
 use Rattle.std.proofs.Common.{ap, sym, subst, ◌∙◌}
 use Rattle.std.proofs.lemmas.Result.{IfOk-weaker}
 use Rattle.schedule.specs.Lines.{IsSpelled}
-use Rattle.schedule.specs.Words.{SpelledBy, texts, words}
+use Rattle.words.specs.Words.{texts, words}
+use Rattle.schedule.specs.Words.{SpelledBy}
 use Rattle.schedule.proofs.SpelledLemmas.{spelled-from_words, words-from_spelled, utf8-from_spelled}
 use Rattle.schedule.proofs.line.event_of.Goals as goal
 

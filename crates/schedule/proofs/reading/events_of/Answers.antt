@@ -3,7 +3,7 @@ use Rattle.std.proofs.lemmas.List.{length_push, length-map}
 use Rattle.std.proofs.lemmas.Result.{err_from_is_err_and}
 use Rattle.std.proofs.lemmas.Iterator.Splits.{YieldsList-from_slice_split}
 use Rattle.std.proofs.lemmas.Iterator.Consumers.{YieldsList-at, YieldsList-end}
-use Rattle.schedule.specs.Words.{texts}
+use Rattle.words.specs.Words.{texts}
 use Rattle.schedule.specs.Schedules.{AreEvents}
 use Rattle.schedule.proofs.ScheduleLemmas.{events_more, line_here, refused_here}
 use Rattle.schedule.proofs.reading.events_of.Goals as goal

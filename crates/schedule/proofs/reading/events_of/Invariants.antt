@@ -1,5 +1,5 @@
 use Rattle.std.proofs.Common.{◌≡◌, ◌+◌, length}
-use Rattle.schedule.specs.Words.{texts}
+use Rattle.words.specs.Words.{texts}
 use Rattle.schedule.specs.Schedules.{AreEvents}
 use Rattle.schedule.proofs.reading.events_of.Given as goal
 

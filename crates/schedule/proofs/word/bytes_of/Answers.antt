@@ -1,5 +1,5 @@
 use Rattle.schedule.proofs.HexLemmas.{lower_spelled, lower_no_upper, unread}
-use Rattle.schedule.proofs.WordLemmas.{passed_on}
+use Rattle.words.proofs.WordLemmas.{passed_on}
 use Rattle.schedule.proofs.word.bytes_of.Goals as goal
 
 pub returns-then-has_upper-clause-only : goal.returns-then-has_upper-clause-only

@@ -1,7 +1,8 @@
 use Rattle.std.proofs.Common.{◌≡◌, Err, None, ap, ◌∙◌}
 use Rattle.std.specs.Result.{result_ok}
-use Rattle.farmwire.proofs.Spelling.{slot_without, slot_parts, version-lacks}
-use Rattle.farmwire.proofs.WordLemmas.{passed_on}
+use Rattle.words.proofs.Spelling.{slot_without, slot_parts}
+use Rattle.farmwire.proofs.Spelling.{version-lacks}
+use Rattle.words.proofs.WordLemmas.{passed_on}
 use Rattle.farmwire.proofs.item.ConfirmedItem.read.Goals as goal
 
 pub returns-in_default-clause-only : goal.returns-in_default-clause-only

@@ -1,7 +1,7 @@
 use Rattle.std.proofs.Common.{Err, ap}
 use Rattle.farm_base.specs.declared.message.Confirmed.{Confirmed}
 use Rattle.farmwire.proofs.Spelling.{slot-no_r}
-use Rattle.farmwire.proofs.WordLemmas.{passed_on}
+use Rattle.words.proofs.WordLemmas.{passed_on}
 use Rattle.farmwire.proofs.item.GrantedSlotItem.read.Goals as goal
 
 pub returns-in_err-base-clause-only : goal.returns-in_err-base-clause-only

@@ -4,7 +4,7 @@ use Rattle.std.specs.List.{All}
 use Rattle.std.proofs.lemmas.List.{take_more, map-append}
 use Rattle.std.proofs.Math.Seq.{take-length}
 use Rattle.std.proofs.lemmas.List.Elements.{All-head, All-tail}
-use Rattle.schedule.specs.Words.{texts}
+use Rattle.words.specs.Words.{texts}
 
 -- one more word and value
 pub spelled_more : {X : Type 0} (text : X → List ℕ) (ws : List (Bor (List ℕ))) (xs : List X) (i : ℕ) (d : Bor (List ℕ)) (x : X)

@@ -1,9 +1,9 @@
 use Rattle.std.proofs.Common.{Err, ap}
 use Rattle.std.proofs.lemmas.List.Elements.{All-push}
-use Rattle.schedule.specs.Lines.{want_text, IsWant}
-use Rattle.schedule.proofs.ListLemmas.{spelled_more, stuck_at}
-use Rattle.schedule.proofs.WordLemmas.{passed_on}
-use Rattle.schedule.proofs.line.each_want.Goals as goal
+use Rattle.words.specs.Words.{want_text, IsWant}
+use Rattle.words.proofs.ListLemmas.{spelled_more, stuck_at}
+use Rattle.words.proofs.WordLemmas.{passed_on}
+use Rattle.words.proofs.want.each_want.Goals as goal
 
 pub returns-in_err-want_of-clause-only : goal.returns-in_err-want_of-clause-only
 returns-in_err-want_of-clause-only c = λ same wants each e.

@@ -1,6 +1,6 @@
 use Rattle.std.proofs.Common.{◌≡◌, sym, ◌∙◌, arith}
 use Rattle.std.proofs.lemmas.Fmt.{decimal_injective}
-use Rattle.schedule.proofs.word.node_of.Goals as goal
+use Rattle.words.proofs.word.node_of.Goals as goal
 
 pub returns-else-value-clause-only : goal.returns-else-value-clause-only
 returns-else-value-clause-only c = λ node fits e.

@@ -5,16 +5,13 @@ use Rattle.std.proofs.lemmas.List.{take-append-drop}
 use Rattle.std.specs.Str.Pattern.{RFindsChar}
 use Rattle.std.proofs.lemmas.Str.Pattern.{NoCharPasses-char, drop_at_char}
 use Rattle.farm_base.specs.Decimals.{Lacks}
-use Rattle.farm_base.specs.Names.{slot_text}
-use Rattle.farm_base.proofs.TextLemmas.{Lacks-middle, heads, encode-lacks}
-use Rattle.hex.specs.Hex.{encode_lower}
-use Rattle.schedule.specs.declared.refusal.LineRefusal.{LineRefusal}
-use Rattle.schedule.specs.Lines.{Left, IsLeft, left_text}
+use Rattle.farm_base.proofs.TextLemmas.{Lacks-middle, heads}
+use Rattle.words.specs.declared.refusal.ReadRefusal.{ReadRefusal}
 
 -- ---- exits by `?`
 
 -- the refusal that is passed on
-pub passed_on : {X : Type 0} (r : Result X LineRefusal) (d e : LineRefusal) → IsErrAnd r (λ y. y ≡ d) → r ≡ Err e → d ≡ e
+pub passed_on : {X : Type 0} (r : Result X ReadRefusal) (d e : ReadRefusal) → IsErrAnd r (λ y. y ≡ d) → r ≡ Err e → d ≡ e
 passed_on (Ok x) d e h is = absurd (cc is)
 passed_on (Err y) d e h is = cc (h, is)
 
@@ -47,14 +44,3 @@ last_same c (v ∷ a) (w ∷ b) x y e lx ly =
     let h = heads v w (a ++ c ∷ x) (b ++ c ∷ y) e in
     let rest = last_same c a b x y h.1 lx ly in
     (cc (h.0, rest.0), rest.1)
-
--- ---- what was left
-
-pub left_without : (word : List ℕ) (left : Left) → Lacks 61 word → word ≡ left_text left → ⊥
-left_without word left l e = Lacks-middle 61 (slot_text left.slot) (encode_lower left.content) (subst (Lacks 61) e l)
-
--- the parts of what was left are determined
-pub left_parts : (word slot digits : List ℕ) (left : Left) → IsLeft left → word ≡ slot ++ 61 ∷ digits → Lacks 61 digits → word ≡ left_text left
-    → (slot ≡ slot_text left.slot) × (digits ≡ encode_lower left.content)
-left_parts word slot digits left h e l is =
-    last_same 61 slot (slot_text left.slot) digits (encode_lower left.content) (sym e ∙ is) l (encode-lacks 61 refl left.content h.content)

@@ -1,8 +1,8 @@
 use Rattle.std.proofs.Common.{◌≡◌, map, take}
 use Rattle.std.specs.List.{All}
-use Rattle.schedule.specs.Lines.{want_text, IsWant}
-use Rattle.schedule.specs.Words.{texts}
-use Rattle.schedule.proofs.line.each_want.Given as goal
+use Rattle.words.specs.Words.{want_text, IsWant}
+use Rattle.words.specs.Words.{texts}
+use Rattle.words.proofs.want.each_want.Given as goal
 
 abbrev pub invariant-loop-word : goal.invariant-loop-word
 invariant-loop-word l = record {

@@ -1,9 +1,0 @@
-use Rattle.farmwire.proofs.WantLemmas.{none_given}
-use Rattle.farmwire.proofs.WordLemmas.{passed_on}
-use Rattle.farmwire.proofs.item.given_wants.Goals as goal
-
-pub returns-in_err-of-clause-only : goal.returns-in_err-of-clause-only
-returns-in_err-of-clause-only c = λ same wants h.
-    let bad = passed_on _ _ _ c.from_residual-in_err-of.ensures.1 same in
-    let given = c.in_ok-wants.ensures.spelled in
-    none_given c.of.result _ _ _ c.in_ok-wants.wants.items wants c.in_err-of.was bad c.of.ensures.too_many c.of.ensures.twice c.in_ok-wants.wants.ok.0 given.each given.text h
