@@ -16,3 +16,4 @@ pub mod FoldLemmas
 pub mod LogEntryLaws
 pub mod LogLemmas
 pub mod LogLaws
+mod FramingLemmas

@@ -1,5 +1,5 @@
 -- Who keeps the texts of a record, over saves and appends that may fail.
-use Rattle.std.specs.Prelude.{◌≡◌, ◌≢◌, ◌⊎◌, ℕ, ◌+◌, ◌<◌, Bool, true, false, not, is_some, Option, Some, None, min}
+use Rattle.std.specs.Prelude.{◌≡◌, ◌≢◌, ◌⊎◌, ℕ, ◌+◌, ◌<◌, Bool, true, false, not, is_some, Option, Some, None, length, min, take}
 use Rattle.protocol.specs.declared.answer.Kept.{Kept}
 use Rattle.protocol.specs.declared.answer.Kept.TheVariants.{Old, New}
 use Rattle.saverecord.specs.Texts.{Texts}
@@ -18,11 +18,11 @@ counted_up n = min (n + 1) 0xffff_ffff_ffff_ffff
 pub record Memory : Type 0 where
   -- what a load gives
   pub texts : Texts
-  -- if the next save or append is to fail, what it leaves
+  -- if the next save, append or sync is to fail, what a save or an append leaves
   pub armed : Option Kept
   -- the number of saves and appends that did not fail
   pub saves : ℕ
-  -- the number of saves and appends that failed
+  -- the number of saves, appends and syncs that failed
   pub failures : ℕ
 
 -- after these texts were to be kept: if that fails the old or the new ones are kept, and else the new ones
@@ -30,6 +30,11 @@ abbrev pub saved_by : Option Kept → Memory → Texts → Memory
 saved_by None m texts = record m { texts = texts; saves = counted_up m.saves }
 saved_by (Some Old) m texts = record m { armed = None; failures = counted_up m.failures }
 saved_by (Some New) m texts = record m { texts = texts; armed = None; failures = counted_up m.failures }
+
+-- after a sync, which fails if that is to come
+abbrev pub synced_by : Option Kept → Memory → Memory
+synced_by None m = m
+synced_by (Some kept) m = record m { armed = None; failures = counted_up m.failures }
 
 abbrev pub saved : Memory → Texts → Memory
 saved m texts = saved_by m.armed m texts
@@ -39,6 +44,15 @@ pub record MemorySaves (m : Memory) (texts : Texts) (ok : Bool) (n : Memory) : T
   pub succeeds : ok ≡ not (is_some m.armed)
   pub left : n ≡ saved m texts
 
+-- an entry that is gathered over a keeper in memory: it lasts as long as any
+abbrev pub MemoryGathers : Memory → Texts → Memory → Type 0
+MemoryGathers m texts n = n ≡ record m { texts = texts }
+
+-- a sync over a keeper in memory: it fails exactly where it was told to
+pub record MemorySyncs (m : Memory) (ok : Bool) (n : Memory) : Type 0 where
+  pub succeeds : ok ≡ not (is_some m.armed)
+  pub left : n ≡ synced_by m.armed m
+
 -- a load over a keeper in memory: its device never fails, and it stays as it was
 pub record MemoryLoads (m : Memory) (refusal : Option KeeperRefusal) (n : Memory) : Type 0 where
   pub never : refusal ≢ Some Fault
@@ -46,18 +60,45 @@ pub record MemoryLoads (m : Memory) (refusal : Option KeeperRefusal) (n : Memory
 
 -- a keeper in files, as contracts see it
 pub record Filed : Type 0 where
-  -- what the files are known to hold
+  -- the texts that it knows, of which the last entries may be gathered only
   pub texts : Texts
-  -- the number of saves, appends and loads that failed
+  -- how many of the entries the files are known to hold, behind the whole record
+  pub lasting : ℕ
+  -- the number of saves, appends, syncs and loads that failed
   pub failures : ℕ
+
+-- one more failure
+abbrev pub failed_once : Filed → Filed
+failed_once f = record f { failures = counted_up f.failures }
+
+-- the texts that the files are known to hold
+abbrev pub file_texts : Filed → Texts
+file_texts f = record f.texts { entries = take f.lasting f.texts.entries }
+
+-- they are known to hold all texts
+abbrev pub lasts : Filed → Filed
+lasts f = record f { lasting = length f.texts.entries }
 
 -- a save or an append over files: if it fails the old or the new texts are kept, and the failure is counted
 abbrev pub FileSaves : Filed → Texts → Bool → Filed → Type 0
-FileSaves f texts true g = g ≡ record f { texts = texts }
-FileSaves f texts false g = ((g.texts ≡ f.texts) ⊎ (g.texts ≡ texts)) × (g.failures ≡ counted_up f.failures)
+FileSaves f texts true g = g ≡ lasts (record f { texts = texts })
+FileSaves f texts false g = (g ≡ failed_once f) ⊎ (g ≡ failed_once (lasts (record f { texts = texts })))
 
--- a load over files: a fault is counted, and else it stays as it was
+-- an entry that is gathered over files: these stay as they were
+abbrev pub FileGathers : Filed → Texts → Filed → Type 0
+FileGathers f texts g = g ≡ record f { texts = texts }
+
+-- a sync over files: if it fails that is counted, and nothing else changes
+abbrev pub FileSyncs : Filed → Bool → Filed → Type 0
+FileSyncs f true g = g ≡ lasts f
+FileSyncs f false g = g ≡ failed_once f
+
+-- a load over files, which begins with a sync: a fault is counted
 abbrev pub FileLoads : Filed → Option KeeperRefusal → Filed → Type 0
-FileLoads f (Some Fault) g = g ≡ record f { failures = counted_up f.failures }
-FileLoads f (Some OutOfMemory) g = g ≡ f
-FileLoads f None g = g ≡ f
+FileLoads f (Some Fault) g = (g ≡ failed_once f) ⊎ (g ≡ failed_once (lasts f))
+FileLoads f (Some OutOfMemory) g = g ≡ lasts f
+FileLoads f None g = g ≡ lasts f
+
+-- a save or an append over a keeper that gathers: an entry is gathered, and a whole record saved
+abbrev pub GatherSaves : {K : Type 0} → (K → Texts → K → Type 0) → (K → Texts → Bool → K → Type 0) → K → Texts → Bool → K → Type 0
+GatherSaves gathering saving old texts ok new = ((ok ≡ true) × gathering old texts new) ⊎ saving old texts ok new

@@ -7,6 +7,7 @@ pub mod Records
 pub mod Relations
 pub mod Fits
 pub mod Texts
+pub mod Framing
 pub mod Keepers
 pub mod Ledgers
 pub mod LogEntries

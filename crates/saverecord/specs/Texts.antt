@@ -14,3 +14,7 @@ whole_alone bytes = record { whole = bytes; entries = [] }
 -- one more entry
 abbrev pub with_text : List ℕ → Texts → Texts
 with_text text t = record t { entries = t.entries ++ text ∷ [] }
+
+-- more entries
+abbrev pub with_texts : List (List ℕ) → Texts → Texts
+with_texts texts t = record t { entries = t.entries ++ texts }

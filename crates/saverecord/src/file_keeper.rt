@@ -1,21 +1,19 @@
 //! Keeps a record in files.
 ghost use Rattle.std.specs.Prelude.{◌≡◌, ◌≢◌, ◌≤◌, ◌⊎◌, [], IfOk, OnOk, OnErr, Some, Err};
 ghost use Rattle.std.specs.Result.{is_ok, result_err};
-ghost use Rattle.saverecord.specs.declared.file_keeper.LogFault.TheVariants as faults;
-ghost use Rattle.saverecord.specs.Keepers.{HasFailed, Filed, FileSaves, FileLoads, counted_up};
+ghost use Rattle.saverecord.specs.Keepers.{HasFailed, Filed, FileSaves, FileLoads, FileGathers, FileSyncs, file_texts, lasts};
 ghost use Rattle.saverecord.specs.Texts.{whole_alone, with_text};
 
+use super::framing::{LogFault, take_entries, write_entry};
 use super::keeper::Keeper;
 use super::log::Log;
 use super::refusal::{KeeperRefusal, SaveFault};
 use farm_base::Items;
-use sha2::Sha256;
 use std::alloc::{AllocError, Global};
 use std::fs::{self, OpenFile, OpenOptions};
 use std::io::{self, ErrorKind, Read, Write};
 use std::marker::Model;
 use std::rt::Files;
-use thiserror::Error;
 
 /// Keeps a record in a file, and the entries after it in a second one (the path with `.log` behind it). A save writes a
 /// third file (`.new`), which then takes the record's place, and empties the log. So after a crash the files hold the
@@ -25,7 +23,7 @@ use thiserror::Error;
 /// of another record, and what was cut short, are none: opening and loading cut them off. A damaged head is a fault.
 ///
 /// What is proved is said of the texts that it knows the files to hold, with which each load compares those that it
-/// reads. That a file system gives back what was written, also after a crash, is trusted.
+/// reads. Entries that were gathered are written together, by the next sync. That a file system gives back what was written, also after a crash, is trusted.
 #[derive(Drop)]
 pub struct FileKeeper<'a, R: Files> {
     files: &'a R,
@@ -37,6 +35,8 @@ pub struct FileKeeper<'a, R: Files> {
     /// The folder of all three.
     folder: String,
     log: Log,
+    /// How many of the log's entries its file has.
+    lasting: usize,
     /// The length of the log's file.
     tail_len: u64,
     failures: u64,
@@ -47,7 +47,7 @@ impl<'a, R: Files> Model for FileKeeper<'a, R> {
 
     ghost Value = { Filed };
 
-    ghost view = { λ k. record { texts = k.log; failures = k.failures } };
+    ghost view = { λ k. record { texts = k.log; lasting = k.lasting; failures = k.failures } };
 }
 
 /// The bytes of a file, none where there is no file.
@@ -79,107 +79,12 @@ fn folder_of(path: &str) -> &str {
     }
 }
 
-/// The name of a record in the log: its last eight bytes, which are of its digest; zeros where none was saved yet.
-fn name_of(whole: &[u8]) -> [u8; 8] {
-    match whole.last_chunk::<8>() {
-        None => [0; 8],
-        Some(name) => *name,
-    }
-}
-
-/// What stands before an entry in the log: the name of the record that it follows, and its length.
-fn head_of(whole: &[u8], len: u64) -> [u8; 16] {
-    let mut head = [0; 16];
-    head[..8].copy_from_slice(&name_of(whole));
-    head[8..].copy_from_slice(&len.to_be_bytes());
-    head
-}
-
-/// What stands between the head of an entry and the entry: eight bytes of the head's SHA-256.
-fn check_of(head: &[u8; 16]) -> [u8; 8] {
-    let digest: [u8; 32] = <Sha256 as sha2::Digest>::digest(head.as_slice());
-    let mut check = [0; 8];
-    check.copy_from_slice(&digest[..8]);
-    check
-}
-
-/// An entry of a log, and what stands behind it.
-type Taken<'b> = Option<(&'b [u8], &'b [u8])>;
-
-/// Why the file of a log tells no entries.
-#[derive(Clone, Copy, Debug, PartialEq, Eq, Error)]
-pub enum LogFault {
-    /// What stands before this entry, from 1, was damaged.
-    #[error("the head of entry {0} is damaged")]
-    BadHead(usize),
-    #[error("out of memory")]
-    OutOfMemory,
-}
-
-impl From<AllocError> for LogFault {
-    ghost from_gives = { λ _ fault. fault ≡ faults.OutOfMemory };
-
-    fn from(_error: AllocError) -> LogFault {
-        LogFault::OutOfMemory
-    }
-}
-
 /// What reading a log's file ends with.
 fn log_error(fault: LogFault) -> io::Error {
     match fault {
         LogFault::BadHead(_) => io::Error::from(ErrorKind::InvalidData),
         LogFault::OutOfMemory => io::Error::from(ErrorKind::OutOfMemory),
     }
-}
-
-/// The first entry of a log whose entries follow this record. None where it follows another one, or was cut short. The
-/// number is that of the entry, whose head may have been damaged.
-fn first_entry<'b>(whole: &[u8], bytes: &'b [u8], number: usize) -> Result<Taken<'b>, LogFault> {
-    let Some((head, rest)) = bytes.split_first_chunk::<16>() else {
-        return Ok(None);
-    };
-    let Some((check, rest)) = rest.split_first_chunk::<8>() else {
-        return Ok(None);
-    };
-    if *check != check_of(head) {
-        return Err(LogFault::BadHead(number));
-    }
-    let (name, len) = head.split_at(8);
-    let len = len
-        .last_chunk::<8>()
-        .map_or(0, |len| u64::from_be_bytes(*len));
-    if name != name_of(whole).as_slice() || len > rest.len() as u64 {
-        return Ok(None);
-    }
-    Ok(Some(rest.split_at(len as usize)))
-}
-
-/// Adds the entries that follow the record, and gives how many bytes stand behind them.
-fn take_entries(alloc: Global, log: &mut Log, bytes: &[u8]) -> Result<usize, LogFault>
-    ensures whole { IfOk result (λ left. log.new.whole ≡ log.old.whole) }
-    ensures none { bytes.now ≡ [] → IfOk result (λ left. log.new ≡ log.old) }
-{
-    let mut rest = bytes;
-    for number in 0..bytes.len() {
-        let Some((entry, after)) = first_entry(log.whole(), rest, number.saturating_add(1))? else {
-            return Ok(rest.len());
-        };
-        let entry = Vec::from_slice(alloc, entry)?;
-        log.push(entry)?;
-        rest = after;
-    }
-    Ok(rest.len())
-}
-
-/// The texts that these bytes of a record's file and of its log's hold, as `FileKeeper::open` takes them: entries that follow
-/// another record, and what was cut short, are none. It changes no file.
-pub fn texts_in(alloc: Global, whole: Vec<u8>, tail: &[u8]) -> Result<Log, LogFault>
-    ensures whole { IfOk result (λ log. log.whole ≡ whole.items) }
-    ensures none { tail.now ≡ [] → IfOk result (λ log. log ≡ whole_alone whole.items) }
-{
-    let mut log = Log::of(alloc, whole);
-    let _left = take_entries(alloc, &mut log, tail)?;
-    Ok(log)
 }
 
 /// Cuts a log's file to its first bytes, and waits until the device has it.
@@ -223,10 +128,11 @@ impl<'a, R: Files> FileKeeper<'a, R> {
     /// Keeps a record in the file of this path and its log, beginning with what they hold; where there is no file, no
     /// record was saved yet. A save also writes the path with `.new` behind it.
     pub fn open(files: &'a R, alloc: Global, path: &str) -> io::Result<Self>
-        ensures { IfOk result (λ k. k.failures ≡ 0) }
+        ensures { IfOk result (λ k. (k.failures ≡ 0) × (k ≡ lasts k)) }
     {
         let tail = format!(in alloc; "{path}.log")?;
         let (log, tail_len) = read_texts(files, alloc, path, tail.as_str())?;
+        let lasting = log.entries().len();
         Ok(FileKeeper {
             files,
             path: String::from_str(alloc, path)?,
@@ -234,6 +140,7 @@ impl<'a, R: Files> FileKeeper<'a, R> {
             tail,
             folder: String::from_str(alloc, folder_of(path))?,
             log,
+            lasting,
             tail_len,
             failures: 0,
         })
@@ -249,8 +156,8 @@ impl<'a, R: Files> FileKeeper<'a, R> {
             let _removed = fs::remove_file(files, draft.as_str());
             return Err(error);
         }
-        cut(files, tail.as_str(), 0)?;
-        fs::open(files, folder_of(path))?.sync_all()
+        fs::open(files, folder_of(path))?.sync_all()?;
+        cut(files, tail.as_str(), 0)
     }
 
     /// Tries whether a record can be put in the file of this path, and changes nothing that stands there.
@@ -265,7 +172,7 @@ impl<'a, R: Files> FileKeeper<'a, R> {
         fs::remove_file(files, draft.as_str())
     }
 
-    /// The texts that the files are known to hold.
+    /// The texts that it keeps. The files hold them, but for entries that are gathered only.
     pub fn log(&self) -> &Log
         ensures { result.now ≡ self.now.texts }
     {
@@ -283,33 +190,48 @@ impl<'a, R: Files> FileKeeper<'a, R> {
         fs::open(self.files, self.folder.as_str())?.sync_all()
     }
 
-    /// Empties the log, after a record took its place.
+    /// Empties the log, once the device has the name of the record that took its place.
     fn empty(&self) -> io::Result<()> {
-        cut(self.files, self.tail.as_str(), 0)?;
-        self.sync_folder()
+        self.sync_folder()?;
+        cut(self.files, self.tail.as_str(), 0)
     }
 
-    /// Writes the last entry behind the log's first bytes, and waits until the device has it.
-    fn put_last(&self) -> io::Result<()> {
-        let Some(entry) = self.log.entries().last() else {
-            return Ok(());
-        };
-        let entry = entry.as_slice();
-        let tail = self.tail.as_str();
+    /// Writes the entries that its file doesn't have behind the log's first bytes, and waits until the device has them: how many
+    /// bytes they take.
+    fn write_gathered(&self) -> io::Result<u64> {
         let mut file = OpenOptions::new()
             .append(true)
             .create(true)
-            .open(self.files, tail)?;
-        let head = head_of(self.log.whole(), entry.len() as u64);
-        file.write_all(&head)?;
-        file.write_all(&check_of(&head))?;
-        file.write_all(entry)?;
+            .open(self.files, self.tail.as_str())?;
+        let mut len = 0u64;
+        for entry in self.log.entries().iter().skip(self.lasting) {
+            let more = write_entry(&mut file, self.log.whole(), entry.as_slice())?;
+            len = len.saturating_add(more);
+        }
         file.sync_all()?;
         // The first entry may have made the file.
         if self.tail_len == 0 {
             self.sync_folder()?;
         }
-        Ok(())
+        Ok(len)
+    }
+
+    /// Has the log's file have all entries. Where that fails its file is cut to what it had.
+    fn put_gathered(&mut self) -> io::Result<()>
+        ensures ok { OnOk result (self.new ≡ lasts self.old) }
+        ensures err { OnErr result (self.new ≡ self.old) }
+    {
+        match self.write_gathered() {
+            Ok(len) => {
+                self.lasting = self.log.entries().len();
+                self.tail_len = self.tail_len.saturating_add(len);
+                Ok(())
+            }
+            Err(error) => {
+                let _uncut = cut(self.files, self.tail.as_str(), self.tail_len);
+                Err(error)
+            }
+        }
     }
 
     /// Whether the files hold the texts that they are known to hold.
@@ -320,9 +242,11 @@ impl<'a, R: Files> FileKeeper<'a, R> {
 }
 
 impl<'a, R: Files> Keeper for FileKeeper<'a, R> {
-    ghost use Rattle.saverecord.specs.Keepers.{FileSaves, FileLoads};
+    ghost use Rattle.saverecord.specs.Keepers.{FileSaves, FileLoads, FileGathers, FileSyncs, file_texts};
 
     ghost kept = { λ k. k.texts };
+
+    ghost lasting = { file_texts };
 
     ghost failed = { λ k. k.failures };
 
@@ -330,12 +254,17 @@ impl<'a, R: Files> Keeper for FileKeeper<'a, R> {
 
     ghost loading = { FileLoads };
 
+    ghost gathering = { FileGathers };
+
+    ghost syncing = { FileSyncs };
+
     fn save(&mut self, bytes: Vec<u8>) -> Result<(), SaveFault>
         ensures exact { FileSaves self.old (whole_alone bytes.items) (is_ok result) self.new }
         ensures ok { OnOk result (self.new.texts ≡ whole_alone bytes.items) }
         ensures fault { OnErr result ((self.new.texts ≡ self.old.texts) ⊎ (self.new.texts ≡ whole_alone bytes.items)) }
         ensures cause { OnErr result (HasFailed self.old.failures self.new.failures) }
         ensures count { self.old.failures ≤ self.new.failures }
+        ensures lasts { OnOk result (file_texts self.new ≡ self.new.texts) }
     {
         // Entries that follow the record of these bytes are not to follow it again.
         let stays = bytes.as_slice() == self.log.whole();
@@ -344,6 +273,7 @@ impl<'a, R: Files> Keeper for FileKeeper<'a, R> {
             return Err(SaveFault);
         }
         self.log.replace(bytes);
+        self.lasting = 0;
         self.tail_len = 0;
         if self.empty().is_err() {
             self.failures = self.failures.saturating_add(1);
@@ -360,17 +290,41 @@ impl<'a, R: Files> Keeper for FileKeeper<'a, R> {
         ensures same { result ≡ Err KeeperRefusal.OutOfMemory → self.new ≡ self.old }
         ensures count { self.old.failures ≤ self.new.failures }
     {
-        let len = (entry.len() as u64).saturating_add(24);
         if self.log.push(entry).is_err() {
             return Err(KeeperRefusal::OutOfMemory);
         }
-        if self.put_last().is_err() {
-            let _uncut = cut(self.files, self.tail.as_str(), self.tail_len);
+        if self.put_gathered().is_err() {
             self.log.pop();
             self.failures = self.failures.saturating_add(1);
             return Err(KeeperRefusal::Fault);
         }
-        self.tail_len = self.tail_len.saturating_add(len);
+        Ok(())
+    }
+
+    fn gather(&mut self, entry: Vec<u8>) -> Result<(), AllocError>
+        ensures exact { OnOk result (FileGathers self.old (with_text entry.items self.old.texts) self.new) }
+        ensures ok { OnOk result (self.new.texts ≡ with_text entry.items self.old.texts) }
+        ensures same { OnErr result (self.new ≡ self.old) }
+        ensures count { self.new.failures ≡ self.old.failures }
+    {
+        self.log.push(entry)
+    }
+
+    fn sync(&mut self) -> Result<(), SaveFault>
+        ensures exact { FileSyncs self.old (is_ok result) self.new }
+        ensures lasts { OnOk result (file_texts self.new ≡ self.new.texts) }
+        ensures fault { OnErr result (file_texts self.new ≡ file_texts self.old) }
+        ensures kept { self.new.texts ≡ self.old.texts }
+        ensures cause { OnErr result (HasFailed self.old.failures self.new.failures) }
+        ensures count { self.old.failures ≤ self.new.failures }
+    {
+        if self.lasting == self.log.entries().len() {
+            return Ok(());
+        }
+        if self.put_gathered().is_err() {
+            self.failures = self.failures.saturating_add(1);
+            return Err(SaveFault);
+        }
         Ok(())
     }
 
@@ -380,7 +334,11 @@ impl<'a, R: Files> Keeper for FileKeeper<'a, R> {
         ensures kept { self.new.texts ≡ self.old.texts }
         ensures cause { result ≡ Err KeeperRefusal.Fault → HasFailed self.old.failures self.new.failures }
         ensures count { self.old.failures ≤ self.new.failures }
+        ensures lasts { OnOk result (file_texts self.new ≡ self.new.texts) }
     {
+        if self.sync().is_err() {
+            return Err(KeeperRefusal::Fault);
+        }
         match self.is_there(alloc) {
             Ok(true) => match self.log.copy(alloc) {
                 Ok(log) => Ok(log),

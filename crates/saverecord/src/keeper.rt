@@ -1,13 +1,13 @@
 //! Who keeps the texts of a record.
 ghost use Rattle.std.specs.Prelude.{◌≡◌, ◌≢◌, ◌⊎◌, ◌≤◌, ℕ, Bool, List, [], Option, Err, IfOk, OnOk, OnErr, IsOk, ◌↔◌, Some, None};
 ghost use Rattle.std.specs.Result.{is_ok, result_err};
-ghost use Rattle.saverecord.specs.Keepers.{HasFailed, saved, MemorySaves, MemoryLoads};
+ghost use Rattle.saverecord.specs.Keepers.{HasFailed, saved, MemorySaves, MemoryLoads, MemoryGathers, MemorySyncs};
 ghost use Rattle.saverecord.specs.Texts.{Texts, whole_alone, with_text};
 
 use super::log::Log;
 use super::refusal::{KeeperRefusal, SaveFault};
 use protocol::Kept;
-use std::alloc::Global;
+use std::alloc::{AllocError, Global};
 use std::marker::Model;
 
 /// Keeps a whole record, and the entries that follow it.
@@ -18,6 +18,9 @@ pub trait Keeper: Drop {
     /// What a load gives.
     ghost kept: { Self → Texts };
 
+    /// What lasts: a crash leaves these texts, and of the entries that were gathered behind them the first ones, or none.
+    ghost lasting: { Self → Texts };
+
     /// How often the device failed.
     ghost failed: { Self → ℕ };
 
@@ -27,13 +30,20 @@ pub trait Keeper: Drop {
     /// What a load may refuse, and leave.
     ghost loading: { Self → Option KeeperRefusal → Self → Type 0 };
 
+    /// What gathering an entry leaves, once these texts are kept.
+    ghost gathering: { Self → Texts → Self → Type 0 };
+
+    /// What a sync leaves, and whether it succeeds.
+    ghost syncing: { Self → Bool → Self → Type 0 };
+
     /// Keeps this whole record in place of all earlier texts. It takes no memory.
     fn save(&mut self, bytes: Vec<u8>) -> Result<(), SaveFault>
         ensures exact { saving self.old (whole_alone bytes.items) (is_ok result) self.new }
         ensures ok { OnOk result (kept self.new ≡ whole_alone bytes.items) }
         ensures fault { OnErr result ((kept self.new ≡ kept self.old) ⊎ (kept self.new ≡ whole_alone bytes.items)) }
         ensures cause { OnErr result (HasFailed (failed self.old) (failed self.new)) }
-        ensures count { failed self.old ≤ failed self.new };
+        ensures count { failed self.old ≤ failed self.new }
+        ensures lasts { OnOk result (lasting self.new ≡ kept self.new) };
 
     /// Keeps this entry behind the texts that are kept. Where it wants memory that isn't there, nothing changes.
     fn append(&mut self, entry: Vec<u8>) -> Result<(), KeeperRefusal>
@@ -44,13 +54,30 @@ pub trait Keeper: Drop {
         ensures same { result ≡ Err KeeperRefusal.OutOfMemory → self.new ≡ self.old }
         ensures count { failed self.old ≤ failed self.new };
 
-    /// The texts that are kept.
+    /// Keeps this entry behind the texts that are kept, and leaves it to the next sync, save or load to make it last.
+    fn gather(&mut self, entry: Vec<u8>) -> Result<(), AllocError>
+        ensures exact { OnOk result (gathering self.old (with_text entry.items (kept self.old)) self.new) }
+        ensures ok { OnOk result (kept self.new ≡ with_text entry.items (kept self.old)) }
+        ensures same { OnErr result (self.new ≡ self.old) }
+        ensures count { failed self.new ≡ failed self.old };
+
+    /// Makes all that is kept last. It takes no memory.
+    fn sync(&mut self) -> Result<(), SaveFault>
+        ensures exact { syncing self.old (is_ok result) self.new }
+        ensures lasts { OnOk result (lasting self.new ≡ kept self.new) }
+        ensures fault { OnErr result (lasting self.new ≡ lasting self.old) }
+        ensures kept { kept self.new ≡ kept self.old }
+        ensures cause { OnErr result (HasFailed (failed self.old) (failed self.new)) }
+        ensures count { failed self.old ≤ failed self.new };
+
+    /// The texts that are kept, which it makes last.
     fn load(&mut self, alloc: Global) -> Result<Log, KeeperRefusal>
         ensures exact { loading self.old (result_err result) self.new }
         ensures texts { IfOk result (λ log. log ≡ kept self.old) }
         ensures kept { kept self.new ≡ kept self.old }
         ensures cause { result ≡ Err KeeperRefusal.Fault → HasFailed (failed self.old) (failed self.new) }
-        ensures count { failed self.old ≤ failed self.new };
+        ensures count { failed self.old ≤ failed self.new }
+        ensures lasts { OnOk result (lasting self.new ≡ kept self.new) };
 
     /// How often the device failed. The count stays at its greatest value.
     fn failures(&self) -> u64
@@ -101,7 +128,7 @@ impl MemoryKeeper {
         self.saves
     }
 
-    /// Makes the next save or append fail and leave this. Until then a later call replaces this one.
+    /// Makes the next save, append or sync fail, and a save or an append leave this. Until then a later call replaces this one.
     pub fn fail_next(&mut self, kept: Kept)
         ensures { self.new ≡ record self.old { armed = Some kept } }
     {
@@ -112,11 +139,17 @@ impl MemoryKeeper {
 impl Keeper for MemoryKeeper {
     ghost kept = { λ m. m.texts };
 
+    ghost lasting = { λ m. m.texts };
+
     ghost failed = { λ m. m.failures };
 
     ghost saving = { MemorySaves };
 
     ghost loading = { MemoryLoads };
+
+    ghost gathering = { MemoryGathers };
+
+    ghost syncing = { MemorySyncs };
 
     fn save(&mut self, bytes: Vec<u8>) -> Result<(), SaveFault>
         ensures exact { MemorySaves self.old (whole_alone bytes.items) (is_ok result) self.new }
@@ -157,6 +190,29 @@ impl Keeper for MemoryKeeper {
         self.armed = None;
         self.failures = self.failures.saturating_add(1);
         Err(KeeperRefusal::Fault)
+    }
+
+    fn gather(&mut self, entry: Vec<u8>) -> Result<(), AllocError>
+        ensures exact { OnOk result (MemoryGathers self.old (with_text entry.items self.old.texts) self.new) }
+        ensures ok { OnOk result (self.new.texts ≡ with_text entry.items self.old.texts) }
+        ensures same { OnErr result (self.new ≡ self.old) }
+        ensures count { self.new.failures ≡ self.old.failures }
+    {
+        self.log.push(entry)
+    }
+
+    fn sync(&mut self) -> Result<(), SaveFault>
+        ensures exact { MemorySyncs self.old (is_ok result) self.new }
+        ensures kept { self.new.texts ≡ self.old.texts }
+        ensures cause { OnErr result (HasFailed self.old.failures self.new.failures) }
+        ensures count { self.old.failures ≤ self.new.failures }
+    {
+        if self.armed.is_none() {
+            return Ok(());
+        }
+        self.armed = None;
+        self.failures = self.failures.saturating_add(1);
+        Err(SaveFault)
     }
 
     fn load(&mut self, alloc: Global) -> Result<Log, KeeperRefusal>
