@@ -79,3 +79,8 @@ Restarts loading texts old new (Ok done) = TakesUp loading texts old.keeper new
 Restarts loading texts old new (Err LoadFault) = loading old.keeper (Some Fault) new.keeper × (new.held ≡ old.held) × (new.down ≡ true)
 Restarts loading texts old new (Err OutOfMemory) = ((refusal : Option KeeperRefusal) × loading old.keeper refusal new.keeper) × (new.held ≡ old.held) × (new.down ≡ old.down)
 Restarts loading texts old new (Err e) = ⊥
+
+-- a sync, and whether it succeeded: where it didn't the coordinator is down
+abbrev pub Syncs : {K : Type 0} → (K → Bool → K → Type 0) → Seen K → Bool → Seen K → Type 0
+Syncs syncing old true new = syncing old.keeper true new.keeper × (new.held ≡ old.held) × (new.down ≡ old.down)
+Syncs syncing old false new = syncing old.keeper false new.keeper × (new.held ≡ old.held) × (new.down ≡ true)

@@ -1,4 +1,5 @@
-ghost use Rattle.std.specs.Prelude.{◌≡◌, ◌+◌, ◌≤◌, [], false, not, Some, Result, Ok, Err, IfOk, IfErr, option_copied, length};
+ghost use Rattle.std.specs.Prelude.{◌≡◌, ◌+◌, ◌≤◌, [], false, not, Some, Result, Ok, Err, IfOk, IfErr, OnOk, OnErr, option_copied, length};
+ghost use Rattle.std.specs.Result.{is_ok};
 ghost use Rattle.std.specs.List.{list_any};
 ghost use Rattle.std.specs.List.Sorted.{IsStrictlySortedBy};
 ghost use Rattle.farm_base.specs.Slots.{slot_cmp};
@@ -16,7 +17,7 @@ ghost use Rattle.coordinator.specs.Held.{line_at, ledger};
 ghost use Rattle.coordinator.specs.Promises.{OnlyGrow, GrantsAtOnce, EndsOnlyItsOwn, ChangesAsTold};
 ghost use Rattle.coordinator.specs.Held.{Held};
 ghost use Rattle.coordinator.specs.Seen.{IsKeeping};
-ghost use Rattle.coordinator.specs.Settling.{Answers, is_save_fault, Settles, Loads, TakesUp, Restarts};
+ghost use Rattle.coordinator.specs.Settling.{Answers, is_save_fault, Settles, Loads, TakesUp, Restarts, Syncs};
 ghost use Rattle.coordinator.specs.Shown.{after, shown};
 ghost use Rattle.saverecord.specs.Keepers.{HasFailed};
 ghost use Rattle.coordinator.specs.Sound.{IsRightful};
@@ -29,7 +30,7 @@ use super::text::Sizes;
 use farm_base::{Lease, NodeId, NodeLife, Parked, Slot, Ticket, ToCoord};
 use leases::SlotState;
 use protocol::{CoordRefusal, Kept};
-use saverecord::{Keeper, KeeperRefusal, MemoryKeeper, RecordRefusal};
+use saverecord::{Keeper, KeeperRefusal, MemoryKeeper, RecordRefusal, SaveFault};
 use std::alloc::{AllocError, Global};
 use std::marker::Model;
 use versions::Line;
@@ -131,6 +132,20 @@ impl<K: Keeper> Coordinator<K> {
                 Err(refusal)
             }
         }
+    }
+
+    /// Makes what its keeper has last. Where that fails it is down, and what it answered since the last sync isn't to be told.
+    pub fn sync(&mut self) -> Result<(), SaveFault>
+        ensures answer { Syncs K.syncing self.old (is_ok result) self.new }
+        ensures lasts { OnOk result (K.lasting self.new.keeper ≡ K.kept self.new.keeper) }
+        ensures kept { K.kept self.new.keeper ≡ K.kept self.old.keeper }
+        ensures cause { OnErr result (HasFailed (K.failed self.old.keeper) (K.failed self.new.keeper)) }
+    {
+        let synced = self.keeper.sync();
+        if synced.is_err() {
+            self.down = true;
+        }
+        synced
     }
 
     /// Saves an event that was worked out, where the record changed, and then applies it. Where the save fails it is down.
