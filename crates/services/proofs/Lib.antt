@@ -2,3 +2,4 @@ mod ServingLemmas
 mod CallLemmas
 pub mod SentLemmas
 mod ShownLemmas
+pub mod RuleLemmas

@@ -7,7 +7,9 @@ use Rattle.std.proofs.lemmas.List.{append-nil}
 use Rattle.services.specs.declared.lost.Lost.{Lost}
 use Rattle.services.specs.Buffers.{BufferParts, HasRead, IsKept}
 use Rattle.services.specs.Lines.{lines_behind, Ends, Grows}
-use Rattle.services.specs.Served.{Steps, Answers, joined, Serves, Replies}
+use Rattle.services.specs.declared.settled.Settled.{Settled}
+use Rattle.services.specs.Served.{Steps, Settling, Answers, joined, refused_save, refusals, settled_text, Batch, Batches, Serves, Takes, Writes}
+use Rattle.services.specs.Served.Batches.{Begins, Goes_on}
 
 -- ---- what a writer holds
 
@@ -23,11 +25,29 @@ appends_both (Some ws) None c xs ys h k = absurd h
 appends_both (Some ws) (Some us) None xs ys h k = absurd k
 appends_both (Some ws) (Some us) (Some vs) xs ys h k = k ∙ ap (λ front. front ++ ys) h ∙ append_assoc ws xs ys
 
+pub appends_nothing : (a : Option (List ℕ)) → Appends a a []
+appends_nothing None = tt
+appends_nothing (Some xs) = sym (append-nil xs)
+
 -- ---- one more answer
 
 pub joined-push : (answers : List (List ℕ)) (answer : List ℕ) → joined (answers ++ answer ∷ []) ≡ joined answers ++ answer
 joined-push [] answer = append-nil answer
 joined-push (a ∷ answers) answer = ap (λ rest. a ++ rest) (joined-push answers answer) ∙ sym (append_assoc a (joined answers) answer)
+
+-- one more was written
+pub more_joined : (a b c : Option (List ℕ)) (answers longer : List (List ℕ)) (answer : List ℕ) → longer ≡ answers ++ answer ∷ [] → Appends a b (joined answers) → Appends b c answer
+    → Appends a c (joined longer)
+more_joined a b c answers longer answer same h k =
+    subst (λ ls. Appends a c (joined ls)) (sym same) (subst (Appends a c) (sym (joined-push answers answer)) (appends_both a b c (joined answers) answer h k))
+
+pub refusals_push : (answers : List (List ℕ)) (answer : List ℕ) → refusals (answers ++ answer ∷ []) ≡ refusals answers ++ refused_save ∷ []
+refusals_push [] answer = refl
+refusals_push (a ∷ answers) answer = ap (λ rest. refused_save ∷ rest) (refusals_push answers answer)
+
+pub more_refusals : (a b c : Option (List ℕ)) (answers longer : List (List ℕ)) (answer : List ℕ) → longer ≡ answers ++ answer ∷ [] → Appends a b (joined (refusals answers))
+    → Appends b c refused_save → Appends a c (joined (refusals longer))
+more_refusals a b c answers longer answer same h k = more_joined a b c (refusals answers) (refusals longer) refused_save (ap refusals same ∙ refusals_push answers answer) h k
 
 answers-push : {S : Type 0} (steps : Steps S) (limit : ℕ) (old mid new : S) (lines answers : List (List ℕ)) (line answer : List ℕ) (given : Result (List ℕ) Lost)
     → Answers steps limit old lines answers mid → IsKept limit line given → steps mid given answer new
@@ -38,53 +58,14 @@ answers-push steps limit old mid new (l ∷ lines) [] line answer given h kept s
 answers-push steps limit old mid new (l ∷ lines) (a ∷ answers) line answer given h kept step =
     (h.0, h.1, h.2, h.3, answers-push steps limit h.1 mid new lines answers line answer given h.4 kept step)
 
-serves-push : {S : Type 0} (steps : Steps S) (limit : ℕ) (greeting : List ℕ) (lines : List (List ℕ)) (line : List ℕ) (given : Result (List ℕ) Lost)
-    (old mid new : S) (a b c : Option (List ℕ)) → Serves steps limit greeting lines old mid a b → IsKept limit line given → Replies steps given mid new b c
-    → Serves steps limit greeting (lines ++ line ∷ []) old new a c
-serves-push steps limit greeting lines line given old mid new a b c h kept reply = record {
-  answers = h.answers ++ reply.answer ∷ [];
-  answered = answers-push steps limit old mid new lines h.answers line reply.answer given h.answered kept reply.step;
-  written =
-      let both = appends_both a b c (greeting ++ joined h.answers) reply.answer h.written reply.written in
-      let same : (greeting ++ joined h.answers) ++ reply.answer ≡ greeting ++ joined (h.answers ++ reply.answer ∷ []) =
-      append_assoc greeting (joined h.answers) reply.answer ∙ ap (λ rest. greeting ++ rest) (sym (joined-push h.answers reply.answer)) in
-      subst (Appends a c) same both;
-}
+-- where there is no answer there was no line
+none_answered : {S : Type 0} (steps : Steps S) (limit : ℕ) (old new : S) (lines answers : List (List ℕ)) → answers ≡ [] → Answers steps limit old lines answers new
+    → (lines ≡ []) × (old ≡ new)
+none_answered steps limit old new [] [] none h = (refl, h)
+none_answered steps limit old new (l ∷ lines) [] none h = absurd h
+none_answered steps limit old new lines (a ∷ answers) none h = absurd (cc none)
 
--- ---- what was read
-
--- of a text that was known some lines were answered, and what stands behind them is still to be read, but for the front of a line
-pub record SoFar {S : Type 0} (steps : Steps S) (limit : ℕ) (greeting text : List ℕ) (old new : S) (before after : Option (List ℕ)) (buffer : BufferParts)
-    (left : Option (List ℕ)) : Type 0 where
-  pub front : List ℕ
-  pub rest : List ℕ
-  pub lines : List (List ℕ)
-  pub left_is : left ≡ Some rest
-  pub read : HasRead buffer front
-  pub split : lines_behind [] text ≡ lines ++ lines_behind front rest
-  pub serves : Serves steps limit greeting lines old new before after
-
--- at the start nothing was read
-pub at_start : {S : Type 0} (steps : Steps S) (limit : ℕ) (greeting : List ℕ) (old : S) (before after : Option (List ℕ)) (buffer : BufferParts)
-    (known left : Option (List ℕ)) → left ≡ known → HasRead buffer [] → Appends before after greeting
-    → IfSome known (λ text. SoFar steps limit greeting text old old before after buffer left)
-at_start steps limit greeting old before after buffer None left same read written = tt
-at_start steps limit greeting old before after buffer (Some text) left same read written = record {
-  front = [];
-  rest = text;
-  lines = [];
-  left_is = same;
-  read = read;
-  split = refl;
-  serves = record { answers = []; answered = refl; written = subst (Appends before after) (sym (append-nil greeting)) written };
-}
-
--- the first byte that is left
-taken : (left new : Option (List ℕ)) (rest : List ℕ) (byte : ℕ) → left ≡ Some rest → Consumes left new (byte ∷ [])
-    → (behind : List ℕ) × (new ≡ Some behind) × (rest ≡ byte ∷ behind)
-taken None new rest byte is h = absurd (cc is)
-taken (Some xs) None rest byte is h = absurd h
-taken (Some xs) (Some ys) rest byte is h = let same : xs ≡ rest = cc is in (ys, refl, sym same ∙ h)
+-- ---- the lines that some bytes end
 
 -- a line that goes on
 on_byte : (front rest behind : List ℕ) (byte : ℕ) → rest ≡ byte ∷ behind → (byte == 10) ≡ false → lines_behind front rest ≡ lines_behind (front ++ byte ∷ []) behind
@@ -94,94 +75,236 @@ on_byte front rest behind byte e other = rw (e, other) refl
 on_end : (front rest behind : List ℕ) (byte : ℕ) → rest ≡ byte ∷ behind → (byte == 10) ≡ true → lines_behind front rest ≡ front ∷ lines_behind [] behind
 on_end front rest behind byte e here = rw (e, here) refl
 
-pub more : {S : Type 0} (steps : Steps S) (limit : ℕ) (greeting : List ℕ) (old new : S) (before after : Option (List ℕ)) (buffer longer : BufferParts)
-    (known left later : Option (List ℕ)) (byte : ℕ) (line : Option (Result (List ℕ) Lost)) → (byte == 10) ≡ false → Consumes left later (byte ∷ [])
-    → ((front : List ℕ) → HasRead buffer front → Grows front byte line longer)
-    → IfSome known (λ text. SoFar steps limit greeting text old new before after buffer left)
-    → IfSome known (λ text. SoFar steps limit greeting text old new before after longer later)
-more steps limit greeting old new before after buffer longer None left later byte line other gone grows h = tt
-more steps limit greeting old new before after buffer longer (Some text) left later byte line other gone grows h =
-    let took = taken left later h.rest byte h.left_is gone in
-    record {
-      front = h.front ++ byte ∷ [];
-      rest = took.0;
+-- of these bytes some lines were answered and written, and some were answered only
+pub record Gathering {S : Type 0} (steps : Steps S) (settles : Settling S) (limit : ℕ) (bytes : List ℕ) (old now : S) (buffer : BufferParts)
+    (before after : Option (List ℕ)) (answers : List (List ℕ)) (front : List ℕ) : Type 0 where
+  pub lines : List (List ℕ)
+  pub waiting : List (List ℕ)
+  pub text : List ℕ
+  pub rest : List ℕ
+  pub settled_to : S
+  pub split : (more : List ℕ) → lines_behind front (bytes ++ more) ≡ (lines ++ waiting) ++ lines_behind rest more
+  pub read : HasRead buffer rest
+  pub answered : Batches steps settles limit old lines text settled_to
+  pub gathered : Answers steps limit settled_to waiting answers now
+  pub written : Appends before after text
+
+pub at_first : {S : Type 0} (steps : Steps S) (settles : Settling S) (limit : ℕ) (old : S) (buffer : BufferParts) (before : Option (List ℕ)) (answers : List (List ℕ)) → answers ≡ []
+    → (front : List ℕ) → HasRead buffer front → Gathering steps settles limit [] old old buffer before before answers front
+at_first steps settles limit old buffer before answers none front read = record {
+  lines = [];
+  waiting = [];
+  text = [];
+  rest = front;
+  settled_to = old;
+  split = λ more. refl;
+  read = read;
+  answered = Begins;
+  gathered = subst (λ (zs : List (List ℕ)). Answers steps limit old [] zs old) (sym none) refl;
+  written = appends_nothing before;
+}
+
+-- a byte that ends no line
+pub goes_on : {S : Type 0} (steps : Steps S) (settles : Settling S) (limit : ℕ) (bytes longer : List ℕ) (old now : S) (buffer later : BufferParts) (before after : Option (List ℕ))
+    (answers : List (List ℕ)) (front : List ℕ) (byte : ℕ) (line : Option (Result (List ℕ) Lost)) → longer ≡ bytes ++ byte ∷ [] → line ≡ None
+    → (byte ≡ 10 → (rest : List ℕ) → HasRead buffer rest → Ends buffer.limit rest line later)
+    → (byte ≢ 10 → (rest : List ℕ) → HasRead buffer rest → Grows rest byte line later)
+    → Gathering steps settles limit bytes old now buffer before after answers front → Gathering steps settles limit longer old now later before after answers front
+goes_on {S} steps settles limit bytes longer old now buffer later before after answers front byte line same none ends grows h =
+    elim (cases_Bool (byte == 10)) [
+      | inl here ↦ let end = ends (eqb-true byte 10 here) h.rest h.read in absurd (cc (end.line_is, none))
+      | inr other ↦ on other (grows (λ e. (let yes = eq-eqb byte 10 e in cc (yes, other))) h.rest h.read)
+    ]
+  where
+    on : (byte == 10) ≡ false → Grows h.rest byte line later → Gathering steps settles limit longer old now later before after answers front
+    on other grown = record {
       lines = h.lines;
-      left_is = took.1;
-      read = (grows h.front h.read).longer;
-      split = h.split ∙ ap (λ others. h.lines ++ others) (on_byte h.front h.rest took.0 byte took.2 other);
-      serves = h.serves;
+      waiting = h.waiting;
+      text = h.text;
+      rest = h.rest ++ byte ∷ [];
+      settled_to = h.settled_to;
+      split = λ more. ap (λ bs. lines_behind front (bs ++ more)) same ∙ ap (lines_behind front) (append_assoc bytes (byte ∷ []) more) ∙ h.split (byte ∷ more)
+          ∙ ap (λ ls. (h.lines ++ h.waiting) ++ ls) (on_byte h.rest (byte ∷ more) more byte refl other);
+      read = grown.longer;
+      answered = h.answered;
+      gathered = h.gathered;
+      written = h.written;
     }
 
-pub ended : {S : Type 0} (steps : Steps S) (limit : ℕ) (greeting : List ℕ) (old mid new : S) (a b c : Option (List ℕ)) (buffer empty : BufferParts)
-    (known left later : Option (List ℕ)) (byte : ℕ) (given : Result (List ℕ) Lost) → (byte == 10) ≡ true → Consumes left later (byte ∷ [])
-    → ((front : List ℕ) → HasRead buffer front → Ends limit front (Some given) empty) → Replies steps given mid new b c
-    → IfSome known (λ text. SoFar steps limit greeting text old mid a b buffer left)
-    → IfSome known (λ text. SoFar steps limit greeting text old new a c empty later)
-ended steps limit greeting old mid new a b c buffer empty None left later byte given here gone ends reply h = tt
-ended steps limit greeting old mid new a b c buffer empty (Some text) left later byte given here gone ends reply h =
-    let took = taken left later h.rest byte h.left_is gone in
-    let end = ends h.front h.read in
-    let same : end.ended ≡ given = cc end.line_is in
-    let kept : IsKept limit h.front given = subst (IsKept limit h.front) same end.is in
+-- a byte that ends a line, which is answered
+pub one_more : {S : Type 0} (steps : Steps S) (settles : Settling S) (limit : ℕ) (bytes longer : List ℕ) (old mid now : S) (buffer later : BufferParts) (before after : Option (List ℕ))
+    (answers more_answers : List (List ℕ)) (answer : List ℕ) (front : List ℕ) (byte : ℕ) (line : Option (Result (List ℕ) Lost)) (given : Result (List ℕ) Lost)
+    → longer ≡ bytes ++ byte ∷ [] → line ≡ Some given → buffer.limit ≡ limit
+    → (byte ≡ 10 → (rest : List ℕ) → HasRead buffer rest → Ends buffer.limit rest line later)
+    → (byte ≢ 10 → (rest : List ℕ) → HasRead buffer rest → Grows rest byte line later)
+    → steps mid given answer now → more_answers ≡ answers ++ answer ∷ []
+    → Gathering steps settles limit bytes old mid buffer before after answers front → Gathering steps settles limit longer old now later before after more_answers front
+one_more {S} steps settles limit bytes longer old mid now buffer later before after answers more_answers answer front byte line given same some limited ends grows step pushed h =
+    elim (cases_Bool (byte == 10)) [
+      | inl here ↦ end here (subst (λ n. Ends n h.rest (Some given) later) limited (subst (λ l. Ends buffer.limit h.rest l later) some (ends (eqb-true byte 10 here) h.rest h.read)))
+      | inr other ↦ let on = grows (λ e. (let yes = eq-eqb byte 10 e in cc (yes, other))) h.rest h.read in absurd (cc (on.line_is, some))
+    ]
+  where
+    end : (byte == 10) ≡ true → Ends limit h.rest (Some given) later → Gathering steps settles limit longer old now later before after more_answers front
+    end here ended =
+        let is : ended.ended ≡ given = cc ended.line_is in
+        let kept : IsKept limit h.rest given = subst (IsKept limit h.rest) is ended.is in
+        record {
+          lines = h.lines;
+          waiting = h.waiting ++ h.rest ∷ [];
+          text = h.text;
+          rest = [];
+          settled_to = h.settled_to;
+          split = λ more. ap (λ bs. lines_behind front (bs ++ more)) same ∙ ap (lines_behind front) (append_assoc bytes (byte ∷ []) more) ∙ h.split (byte ∷ more)
+              ∙ ap (λ ls. (h.lines ++ h.waiting) ++ ls) (on_end h.rest (byte ∷ more) more byte refl here)
+              ∙ sym (append_assoc (h.lines ++ h.waiting) (h.rest ∷ []) (lines_behind [] more))
+              ∙ ap (λ ls. ls ++ lines_behind [] more) (append_assoc h.lines h.waiting (h.rest ∷ []));
+          read = ended.empty;
+          answered = h.answered;
+          gathered = subst (λ zs. Answers steps limit h.settled_to (h.waiting ++ h.rest ∷ []) zs now) (sym pushed)
+              (answers-push steps limit h.settled_to mid now h.waiting answers h.rest answer given h.gathered kept step);
+          written = h.written;
+        }
+
+-- what was answered is settled and written
+pub all_written : {S : Type 0} (steps : Steps S) (settles : Settling S) (limit : ℕ) (bytes : List ℕ) (old mid now : S) (buffer : BufferParts) (a b c : Option (List ℕ))
+    (answers none : List (List ℕ)) (front : List ℕ) → none ≡ [] → Writes settles answers mid now b c
+    → Gathering steps settles limit bytes old mid buffer a b answers front → Gathering steps settles limit bytes old now buffer a c none front
+all_written steps settles limit bytes old mid now buffer a b c answers none front empty wrote h = record {
+  lines = h.lines ++ h.waiting;
+  waiting = [];
+  text = h.text ++ settled_text wrote.settled answers;
+  rest = h.rest;
+  settled_to = now;
+  split = λ more. h.split more ∙ ap (λ ls. ls ++ lines_behind h.rest more) (sym (append-nil (h.lines ++ h.waiting)));
+  read = h.read;
+  answered = Goes_on h.lines h.waiting h.text (settled_text wrote.settled answers) h.settled_to now h.answered (record {
+    answered_to = mid;
+    answers = answers;
+    settled = wrote.settled;
+    answered = h.gathered;
+    made = wrote.made;
+    text_is = refl;
+  });
+  gathered = subst (λ (zs : List (List ℕ)). Answers steps limit now [] zs now) (sym empty) refl;
+  written = appends_both a b c h.text (settled_text wrote.settled answers) h.written wrote.written;
+}
+
+-- nothing waits to be written
+pub at_last : {S : Type 0} (steps : Steps S) (settles : Settling S) (limit : ℕ) (bytes : List ℕ) (old now : S) (buffer : BufferParts) (before after : Option (List ℕ))
+    (none : List (List ℕ)) (front : List ℕ) → none ≡ [] → Gathering steps settles limit bytes old now buffer before after none front
+    → Takes steps settles limit bytes old now buffer before after front
+at_last steps settles limit bytes old now buffer before after none front empty h =
+    let nothing = none_answered steps limit h.settled_to now h.waiting none empty h.gathered in
     record {
-      front = [];
-      rest = took.0;
-      lines = h.lines ++ h.front ∷ [];
-      left_is = took.1;
-      read = end.empty;
-      split = h.split ∙ ap (λ others. h.lines ++ others) (on_end h.front h.rest took.0 byte took.2 here)
-          ∙ sym (append_assoc h.lines (h.front ∷ []) (lines_behind [] took.0));
-      serves = serves-push steps limit greeting h.lines h.front given old mid new a b c h.serves kept reply;
+      lines = h.lines;
+      text = h.text;
+      rest = h.rest;
+      split = λ more. h.split more ∙ ap (λ ls. (h.lines ++ ls) ++ lines_behind h.rest more) nothing.0 ∙ ap (λ ls. ls ++ lines_behind h.rest more) (append-nil h.lines);
+      read = h.read;
+      answered = subst (Batches steps settles limit old h.lines h.text) nothing.1 h.answered;
+      written = h.written;
     }
+
+-- ---- what was read
+
+batches_both : {S : Type 0} (steps : Steps S) (settles : Settling S) (limit : ℕ) (old mid new : S) (lines more : List (List ℕ)) (text added : List ℕ)
+    → Batches steps settles limit old lines text mid → Batches steps settles limit mid more added new → Batches steps settles limit old (lines ++ more) (text ++ added) new
+batches_both steps settles limit old mid new lines more text added h Begins =
+    subst (λ ls. Batches steps settles limit old ls (text ++ []) mid) (sym (append-nil lines)) (subst (λ t. Batches steps settles limit old lines t mid) (sym (append-nil text)) h)
+batches_both steps settles limit old mid new lines more text added h (Goes_on front last before end between final k b) =
+    subst (λ ls. Batches steps settles limit old ls (text ++ (before ++ end)) new) (append_assoc lines front last)
+    (subst (λ t. Batches steps settles limit old ((lines ++ front) ++ last) t new) (append_assoc text before end)
+    (Goes_on (lines ++ front) last (text ++ before) end between new (batches_both steps settles limit old mid between lines front text before h k) b))
+
+-- of a text that was known some lines were answered, and what stands behind them is still to be read, but for the front of a line
+pub record SoFar {S : Type 0} (steps : Steps S) (settles : Settling S) (limit : ℕ) (greeting text : List ℕ) (old new : S) (before after : Option (List ℕ)) (buffer : BufferParts)
+    (left : Option (List ℕ)) : Type 0 where
+  pub front : List ℕ
+  pub rest : List ℕ
+  pub lines : List (List ℕ)
+  pub left_is : left ≡ Some rest
+  pub read : HasRead buffer front
+  pub split : lines_behind [] text ≡ lines ++ lines_behind front rest
+  pub serves : Serves steps settles limit greeting lines old new before after
+
+-- at the start nothing was read
+pub at_start : {S : Type 0} (steps : Steps S) (settles : Settling S) (limit : ℕ) (greeting : List ℕ) (old : S) (before after : Option (List ℕ)) (buffer : BufferParts)
+    (known : Option (List ℕ)) → HasRead buffer [] → Appends before after greeting
+    → IfSome known (λ text. SoFar steps settles limit greeting text old old before after buffer known)
+at_start steps settles limit greeting old before after buffer None read written = tt
+at_start steps settles limit greeting old before after buffer (Some text) read written = record {
+  front = [];
+  rest = text;
+  lines = [];
+  left_is = refl;
+  read = read;
+  split = refl;
+  serves = record { text = []; answered = Begins; written = subst (Appends before after) (sym (append-nil greeting)) written };
+}
+
+-- the bytes that are left but for the first
+taken : (left new : Option (List ℕ)) (rest bytes : List ℕ) → left ≡ Some rest → Consumes left new bytes → (behind : List ℕ) × (new ≡ Some behind) × (rest ≡ bytes ++ behind)
+taken None new rest bytes is h = absurd (cc is)
+taken (Some xs) None rest bytes is h = absurd h
+taken (Some xs) (Some ys) rest bytes is h = let same : xs ≡ rest = cc is in (ys, refl, sym same ∙ h)
+
+-- some bytes were read, and the lines that they end answered
+pub more_read : {S : Type 0} (steps : Steps S) (settles : Settling S) (limit : ℕ) (greeting bytes : List ℕ) (old mid new : S) (a b c : Option (List ℕ)) (buffer later : BufferParts)
+    (known left behind : Option (List ℕ)) → Consumes left behind bytes → ((front : List ℕ) → HasRead buffer front → Takes steps settles limit bytes mid new later b c front)
+    → IfSome known (λ text. SoFar steps settles limit greeting text old mid a b buffer left)
+    → IfSome known (λ text. SoFar steps settles limit greeting text old new a c later behind)
+more_read steps settles limit greeting bytes old mid new a b c buffer later None left behind gone takes h = tt
+more_read steps settles limit greeting bytes old mid new a b c buffer later (Some text) left behind gone takes h =
+    let took = taken left behind h.rest bytes h.left_is gone in
+    let t = takes h.front h.read in
+    record {
+      front = t.rest;
+      rest = took.0;
+      lines = h.lines ++ t.lines;
+      left_is = took.1;
+      read = t.read;
+      split = h.split ∙ ap (λ rest. h.lines ++ lines_behind h.front rest) took.2 ∙ ap (λ ls. h.lines ++ ls) (t.split took.0)
+          ∙ sym (append_assoc h.lines t.lines (lines_behind t.rest took.0));
+      serves = record {
+        text = h.serves.text ++ t.text;
+        answered = batches_both steps settles limit old mid new h.lines t.lines h.serves.text t.text h.serves.answered t.answered;
+        written = subst (Appends a c) (append_assoc greeting h.serves.text t.text) (appends_both a b c (greeting ++ h.serves.text) t.text h.serves.written t.written);
+      };
+    }
+
+-- nothing was read
+pub none_read : {S : Type 0} (steps : Steps S) (settles : Settling S) (limit : ℕ) (greeting : List ℕ) (old new : S) (before after : Option (List ℕ)) (buffer : BufferParts)
+    (known left behind : Option (List ℕ)) → Keeps left behind → IfSome known (λ text. SoFar steps settles limit greeting text old new before after buffer left)
+    → IfSome known (λ text. SoFar steps settles limit greeting text old new before after buffer behind)
+none_read steps settles limit greeting old new before after buffer None left behind keeps h = tt
+none_read steps settles limit greeting old new before after buffer (Some text) left behind keeps h = record {
+  front = h.front;
+  rest = h.rest;
+  lines = h.lines;
+  left_is = still left behind h.rest h.left_is keeps;
+  read = h.read;
+  split = h.split;
+  serves = h.serves;
+}
+  where
+    still : (left behind : Option (List ℕ)) (rest : List ℕ) → left ≡ Some rest → Keeps left behind → behind ≡ Some rest
+    still None behind rest is keeps = absurd (cc is)
+    still (Some xs) None rest is keeps = absurd keeps
+    still (Some xs) (Some ys) rest is keeps = ap (λ zs. Some zs) keeps ∙ is
 
 -- at the end all whole lines were answered
-pub at_end : {S : Type 0} (steps : Steps S) (limit : ℕ) (greeting : List ℕ) (old new : S) (before after : Option (List ℕ)) (buffer : BufferParts)
-    (known left : Option (List ℕ)) → IsAtEnd left → IfSome known (λ text. SoFar steps limit greeting text old new before after buffer left)
-    → IfSome known (λ text. Serves steps limit greeting (lines_behind [] text) old new before after)
-at_end steps limit greeting old new before after buffer None left end h = tt
-at_end steps limit greeting old new before after buffer (Some text) left end h =
-    let none : h.rest ≡ [] = rest_none left h.rest h.left_is end in
+pub at_end : {S : Type 0} (steps : Steps S) (settles : Settling S) (limit : ℕ) (greeting bytes : List ℕ) (old new : S) (before after : Option (List ℕ)) (buffer : BufferParts)
+    (known left behind : Option (List ℕ)) → bytes ≡ [] → Consumes left behind bytes → IsAtEnd behind
+    → IfSome known (λ text. SoFar steps settles limit greeting text old new before after buffer left)
+    → IfSome known (λ text. Serves steps settles limit greeting (lines_behind [] text) old new before after)
+at_end steps settles limit greeting bytes old new before after buffer None left behind empty gone end h = tt
+at_end steps settles limit greeting bytes old new before after buffer (Some text) left behind empty gone end h =
+    let took = taken left behind h.rest bytes h.left_is gone in
+    let none : h.rest ≡ [] = took.2 ∙ ap (λ bs. bs ++ took.0) empty ∙ rest_none behind took.0 took.1 end in
     let whole : lines_behind [] text ≡ h.lines = h.split ∙ ap (λ rest. h.lines ++ lines_behind h.front rest) none ∙ append-nil h.lines in
-    subst (λ lines. Serves steps limit greeting lines old new before after) (sym whole) h.serves
+    subst (λ lines. Serves steps settles limit greeting lines old new before after) (sym whole) h.serves
   where
     rest_none : (left : Option (List ℕ)) (rest : List ℕ) → left ≡ Some rest → IsAtEnd left → rest ≡ []
     rest_none None rest is end = absurd (cc is)
     rest_none (Some xs) rest is end = let same : xs ≡ rest = cc is in sym same ∙ end
-
--- a byte that ends no line
-pub turn_on : {S : Type 0} (steps : Steps S) (limit : ℕ) (greeting : List ℕ) (old new : S) (before after : Option (List ℕ)) (buffer later : BufferParts)
-    (known left behind : Option (List ℕ)) (byte : ℕ) (line : Option (Result (List ℕ) Lost)) → line ≡ None → Consumes left behind (byte ∷ [])
-    → (byte ≡ 10 → (front : List ℕ) → HasRead buffer front → Ends buffer.limit front line later)
-    → (byte ≢ 10 → (front : List ℕ) → HasRead buffer front → Grows front byte line later)
-    → IfSome known (λ text. SoFar steps limit greeting text old new before after buffer left)
-    → IfSome known (λ text. SoFar steps limit greeting text old new before after later behind)
-turn_on steps limit greeting old new before after buffer later None left behind byte line none gone ends grows h = tt
-turn_on steps limit greeting old new before after buffer later (Some text) left behind byte line none gone ends grows h =
-    elim (cases_Bool (byte == 10)) [
-      | inl here ↦ let end = ends (eqb-true byte 10 here) h.front h.read in absurd (cc (end.line_is, none))
-      | inr other ↦
-          more steps limit greeting old new before after buffer later (Some text) left behind byte line other gone
-          (grows (λ e. (let same = eq-eqb byte 10 e in cc (same, other)))) h
-    ]
-
--- a byte that ends a line, which is answered
-pub turn_end : {S : Type 0} (steps : Steps S) (limit : ℕ) (greeting : List ℕ) (old mid new : S) (a b c : Option (List ℕ)) (buffer later : BufferParts)
-    (known left behind : Option (List ℕ)) (byte : ℕ) (line : Option (Result (List ℕ) Lost)) (given : Result (List ℕ) Lost) → line ≡ Some given
-    → buffer.limit ≡ limit → Consumes left behind (byte ∷ [])
-    → (byte ≡ 10 → (front : List ℕ) → HasRead buffer front → Ends buffer.limit front line later)
-    → (byte ≢ 10 → (front : List ℕ) → HasRead buffer front → Grows front byte line later)
-    → Replies steps given mid new b c
-    → IfSome known (λ text. SoFar steps limit greeting text old mid a b buffer left)
-    → IfSome known (λ text. SoFar steps limit greeting text old new a c later behind)
-turn_end steps limit greeting old mid new a b c buffer later None left behind byte line given some same gone ends grows reply h = tt
-turn_end steps limit greeting old mid new a b c buffer later (Some text) left behind byte line given some same gone ends grows reply h =
-    elim (cases_Bool (byte == 10)) [
-      | inl here ↦
-          ended steps limit greeting old mid new a b c buffer later (Some text) left behind byte given here gone
-          (λ front read. subst (λ n. Ends n front (Some given) later) same
-          (subst (λ l. Ends buffer.limit front l later) some (ends (eqb-true byte 10 here) front read)))
-          reply h
-      | inr other ↦
-          let on = grows (λ e. (let yes = eq-eqb byte 10 e in cc (yes, other))) h.front h.read in
-          absurd (cc (on.line_is, some))
-    ]

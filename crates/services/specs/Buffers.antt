@@ -1,5 +1,5 @@
 -- What a buffer of lines has read of the line that hasn't ended (this project's own).
-use Rattle.std.specs.Prelude.{◌≡◌, ℕ, ◌<◌, ◌≤◌, List, length, Result, Ok, Err}
+use Rattle.std.specs.Prelude.{◌≡◌, ℕ, ◌<◌, ◌≤◌, List, length, Option, None, Some, Result, Ok, Err}
 use Rattle.services.specs.declared.lost.Lost.{Lost}
 use Rattle.services.specs.declared.lost.Lost.TheVariants.{TooLong, OutOfMemory}
 
@@ -8,6 +8,11 @@ use Rattle.services.specs.declared.lost.Lost.TheVariants.{TooLong, OutOfMemory}
 pub record BufferParts : Type 0 where
   pub limit : ℕ
   pub kept : Result (List ℕ) Lost
+
+-- the bytes, or why they aren't kept
+abbrev pub kept_of : List ℕ → Option Lost → Result (List ℕ) Lost
+kept_of bytes None = Ok bytes
+kept_of bytes (Some lost) = Err lost
 
 -- what is kept of these bytes: all of them, if an end still fits behind them; memory may have run out instead
 abbrev pub IsKept : ℕ → List ℕ → Result (List ℕ) Lost → Type 0

@@ -27,6 +27,10 @@ Saving K = K → Texts → Bool → K → Type 0
 abbrev pub Loading : Type 0 → Type 1
 Loading K = K → Option KeeperRefusal → K → Type 0
 
+-- what a sync may leave
+abbrev pub Syncing : Type 0 → Type 1
+Syncing K = K → Bool → K → Type 0
+
 -- a restart, where one is due
 abbrev pub RestartsIf : {K : Type 0} → Bool → Loading K → Texts → Seen K → Seen K → Option (Result ⊤ CoordRefusal) → Type 0
 RestartsIf false loading texts old new restart = (restart ≡ None) × (new ≡ old)

@@ -7,3 +7,4 @@ pub mod Calls
 pub mod Carried
 pub mod Shown
 pub mod Written
+pub mod Rules

@@ -10,7 +10,8 @@ use Rattle.farm_base.specs.declared.number.NodeId.{NodeId}
 use Rattle.farm_base.specs.Contents.{empty_digest}
 use Rattle.farm_base.specs.Names.{slot_text}
 use Rattle.farm_base.specs.Slots.{SlotParts, slot_cmp}
-use Rattle.farmwire.specs.Lines.{access_text, digits_text, kind_text, want_text}
+use Rattle.words.specs.Words.{access_text, digits_text, want_text}
+use Rattle.farmwire.specs.Lines.{kind_text}
 use Rattle.farmwire.specs.Words.{spaced}
 use Rattle.leases.specs.Table.{among}
 use Rattle.protocol.specs.Ledger.{Lease, granted_slot, last_digest}

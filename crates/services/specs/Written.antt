@@ -1,8 +1,9 @@
 -- What a coordinator's filter writes (this project's own). The words of notes and refusals are those of a replay.
-use Rattle.std.specs.Prelude.{◌≡◌, ℕ, List, [], ◌++◌, codes, decimal, map, Option, Some, None, Result, Ok, Err, ⊤}
+use Rattle.std.specs.Prelude.{◌≡◌, ℕ, true, false, List, [], ◌++◌, codes, decimal, map, Option, Some, None, Result, Ok, Err, ⊤}
 use Rattle.std.specs.List.{flat_map}
 use Rattle.coordinator.specs.declared.handled.Handled.{Handled}
 use Rattle.coordinator.specs.Seen.{Seen}
+use Rattle.coordinator.specs.Settling.{Restarts, Syncs}
 use Rattle.protocol.specs.declared.answer.CoordNote.{CoordNote}
 use Rattle.protocol.specs.declared.answer.CoordRefusal.{CoordRefusal}
 use Rattle.protocol.specs.Machine.{Told}
@@ -17,21 +18,19 @@ use Rattle.services.specs.declared.reply.Ended.{Ended}
 use Rattle.services.specs.declared.reply.Over.{Over}
 use Rattle.services.specs.declared.reply.Over.TheVariants.{Outdated, Gone}
 use Rattle.services.specs.declared.reply.Reply.{Reply}
+use Rattle.services.specs.declared.settled.Settled.{Settled}
+use Rattle.services.specs.declared.settled.Settled.TheVariants.{Lasts, Failed}
 use Rattle.services.specs.declared.unread.Unread.{Unread}
 use Rattle.services.specs.Calls.{called, AsksFor, AsksNothing}
-use Rattle.services.specs.Carried.{Saving, Loading, OnlyRestarts, CarriesOut}
+use Rattle.services.specs.Carried.{Saving, Loading, Syncing, OnlyRestarts, CarriesOut}
 use Rattle.services.specs.Outside.{Sends}
-use Rattle.services.specs.Served.{OrLost, out_of_memory}
+use Rattle.services.specs.Served.{OrLost, out_of_memory, restart_line}
 use Rattle.services.specs.Shown.{IsShown}
 use Rattle.services.specs.Unreads.{unread_line}
 
 -- ---- facts and notes
 
--- the fact of a restart
-abbrev pub restart_line : Result ⊤ CoordRefusal → List ℕ
-restart_line (Ok done) = codes ": restarted\n"
-restart_line (Err refusal) = codes ": down " ++ (coord_refusal_text refusal ++ codes "\n")
-
+-- the facts of a restart, if there was one
 abbrev pub restart_lines : Option (Result ⊤ CoordRefusal) → List ℕ
 restart_lines None = []
 restart_lines (Some restart) = restart_line restart
@@ -81,3 +80,10 @@ pub data Filters {K : Type 0} (saving : Saving K) (loading : Loading K) (kept : 
       → Filters saving loading kept key given answer old new
   Drops : (why : Unread) → AsksNothing key given why → new ≡ old → OrLost (λ text. text ≡ unread_line why) answer
       → Filters saving loading kept key given answer old new
+
+-- ---- what was answered is made to last
+
+-- the keeper makes it last; or it can't, and the coordinator restarts
+abbrev pub Settles : {K : Type 0} → Syncing K → Loading K → (K → Texts) → (K → Texts) → Seen K → Settled → Seen K → Type 0
+Settles syncing loading kept lasting old Lasts new = Syncs syncing old true new × (lasting new.keeper ≡ kept new.keeper)
+Settles {K} syncing loading kept lasting old (Failed restart) new = (failed : Seen K) × Syncs syncing old false failed × Restarts loading (kept failed.keeper) failed new restart

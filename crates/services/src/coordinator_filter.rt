@@ -1,13 +1,16 @@
 //! A coordinator as a process that answers lines.
 ghost use Rattle.std.specs.Prelude.{◌≡◌};
-ghost use Rattle.services.specs.Written.{Filters};
+ghost use Rattle.services.specs.Served.{answer_text};
+ghost use Rattle.services.specs.Written.{Filters, Settles};
 
+use super::answer::Answer;
 use super::call::Order;
 use super::carrying::carry_out;
 use super::lost::Lost;
 use super::printing::print_reply;
 use super::reading::asked;
 use super::serving::Step;
+use super::settled::Settled;
 use super::showing::print_shown;
 use super::unread::print_unread;
 use coordinator::Coordinator;
@@ -23,10 +26,15 @@ pub struct CoordinatorFilter<K: Keeper> {
     pub key: FarmKey,
 }
 
-impl<K: Keeper> Step for CoordinatorFilter<K> {
-    ghost steps = { λ old line answer new. Filters K.saving K.loading K.kept old.key line answer old.coordinator new.coordinator × (new.key ≡ old.key) };
-
-    fn step(&mut self, alloc: Global, line: Result<Items<u8>, Lost>) -> Result<String, AllocError> {
+impl<K: Keeper> CoordinatorFilter<K> {
+    /// The text that answers a line.
+    fn text_of(
+        &mut self,
+        alloc: Global,
+        line: Result<Items<u8>, Lost>,
+    ) -> Result<String, AllocError>
+        ensures { Filters K.saving K.loading K.kept self.old.key line (answer_text result) self.old.coordinator self.new.coordinator × (self.new.key ≡ self.old.key) }
+    {
         match asked(alloc, &self.key, line) {
             Ok(Order::Call(call)) => {
                 let reply = carry_out(&mut self.coordinator, alloc, &call)?;
@@ -35,5 +43,24 @@ impl<K: Keeper> Step for CoordinatorFilter<K> {
             Ok(Order::Show(question)) => print_shown(alloc, &self.coordinator, &question),
             Err(why) => print_unread(alloc, why),
         }
+    }
+}
+
+impl<K: Keeper> Step for CoordinatorFilter<K> {
+    ghost use Rattle.services.specs.Written.{Filters, Settles};
+
+    ghost steps = { λ old line answer new. Filters K.saving K.loading K.kept old.key line answer old.coordinator new.coordinator × (new.key ≡ old.key) };
+
+    ghost settles = { λ old settled new. Settles K.syncing K.loading K.kept K.lasting old.coordinator settled new.coordinator × (new.key ≡ old.key) };
+
+    fn step(&mut self, alloc: Global, line: Result<Items<u8>, Lost>) -> Answer {
+        Answer::of(self.text_of(alloc, line))
+    }
+
+    fn settle(&mut self, alloc: Global) -> Settled {
+        if self.coordinator.sync().is_ok() {
+            return Settled::Lasts;
+        }
+        Settled::Failed(self.coordinator.restart(alloc))
     }
 }

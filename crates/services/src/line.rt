@@ -1,6 +1,6 @@
 //! Lines of at most a limit, in bounded memory.
 ghost use Rattle.std.specs.Prelude.{◌≡◌, ◌≢◌, ℕ, ◌<◌, List, [], ◌++◌, ◌∷◌};
-ghost use Rattle.services.specs.Buffers.{HasRead, IsKept};
+ghost use Rattle.services.specs.Buffers.{HasRead};
 ghost use Rattle.services.specs.Lines.{Ends, Grows};
 
 use super::lost::Lost;
@@ -13,32 +13,17 @@ use std::mem;
 #[derive(Drop)]
 pub struct LineBuffer {
     limit: usize,
-    kept: Result<Items<u8>, Lost>,
+    bytes: Vec<u8>,
+    /// Why the bytes aren't kept.
+    lost: Option<Lost>,
 }
 
 impl Model for LineBuffer {
-    ghost use Rattle.services.specs.Buffers.{BufferParts};
+    ghost use Rattle.services.specs.Buffers.{BufferParts, kept_of};
 
     ghost Value = { BufferParts };
 
-    ghost view = { λ b. record { limit = b.limit; kept = b.kept } };
-
-    ghost inverse = { λ d. record { limit = d.limit; kept = d.kept } };
-}
-
-/// One more byte of a line.
-fn longer(kept: Result<Items<u8>, Lost>, limit: usize, byte: u8) -> Result<Items<u8>, Lost>
-    requires { 0 < limit }
-    ensures { (front : List ℕ) → IsKept limit front kept → IsKept limit (front ++ byte ∷ []) result }
-{
-    let mut bytes = kept?.into_vec();
-    if bytes.len() >= limit - 1 {
-        return Err(Lost::TooLong);
-    }
-    match bytes.push(byte) {
-        Ok(()) => Ok(Items::new(bytes)),
-        Err(_) => Err(Lost::OutOfMemory),
-    }
+    ghost view = { λ b. record { limit = b.limit; kept = kept_of b.bytes.items b.lost } };
 }
 
 impl LineBuffer {
@@ -50,7 +35,40 @@ impl LineBuffer {
     {
         LineBuffer {
             limit,
-            kept: Ok(Items::new(Vec::new(alloc))),
+            bytes: Vec::new(alloc),
+            lost: None,
+        }
+    }
+
+    /// Ends the line.
+    fn end(&mut self, alloc: Global) -> Result<Items<u8>, Lost>
+        requires { 0 < self.old.limit }
+        ensures limit { self.new.limit ≡ self.old.limit }
+        ensures line { result ≡ self.old.kept }
+        ensures empty { HasRead self.new [] }
+    {
+        let bytes = mem::replace(&mut self.bytes, Vec::new(alloc));
+        match mem::replace(&mut self.lost, None) {
+            None => Ok(Items::new(bytes)),
+            Some(lost) => Err(lost),
+        }
+    }
+
+    /// Keeps one more byte, where its line still can be kept.
+    fn keep(&mut self, alloc: Global, byte: u8)
+        requires { 0 < self.old.limit }
+        ensures limit { self.new.limit ≡ self.old.limit }
+        ensures kept { (front : List ℕ) → HasRead self.old front → HasRead self.new (front ++ byte ∷ []) }
+    {
+        if self.lost.is_some() {
+            return;
+        }
+        if self.bytes.len() >= self.limit - 1 {
+            self.bytes = Vec::new(alloc);
+            self.lost = Some(Lost::TooLong);
+        } else if self.bytes.push(byte).is_err() {
+            self.bytes = Vec::new(alloc);
+            self.lost = Some(Lost::OutOfMemory);
         }
     }
 
@@ -61,11 +79,10 @@ impl LineBuffer {
         ensures ends { byte ≡ 10 → (front : List ℕ) → HasRead self.old front → Ends self.old.limit front result self.new }
         ensures grows { byte ≢ 10 → (front : List ℕ) → HasRead self.old front → Grows front byte result self.new }
     {
-        let kept = mem::replace(&mut self.kept, Ok(Items::new(Vec::new(alloc))));
         if byte == b'\n' {
-            return Some(kept);
+            return Some(self.end(alloc));
         }
-        self.kept = longer(kept, self.limit, byte);
+        self.keep(alloc, byte);
         None
     }
 }

@@ -1,35 +1,54 @@
-use Rattle.std.proofs.Common.{◌∙◌}
-use Rattle.std.specs.Io.Iter.{bytes_remaining}
-use Rattle.services.proofs.ServingLemmas.{kept_after, at_start, turn_on, turn_end}
+use Rattle.std.proofs.Common.{◌<◌, ◌∙◌, take, sym, ap, subst, arith}
+use Rattle.std.proofs.lemmas.Grind.{common_steps}
+use Rattle.services.specs.Served.{Takes}
+use Rattle.services.proofs.ServingLemmas.{kept_after, at_start, more_read, none_read, at_end}
+use Rattle.services.proofs.serving.serve.Goals.{in-Ok+in_ok-take-in-Ok, in-Err+else-ne}
 use Rattle.services.proofs.serving.serve.Goals as goal
-use Rattle.services.proofs.serving.serve.Goals.{in-Some-push+in_ok-reply, in_default-push}
 
 pub loop-init : goal.loop-init
 loop-init g c = record {
   limit = c.new-buffer.ensures.limit;
-  so_far = at_start g.S.Step.steps c.args.limit c.args.greeting.now c.args.step.now (g.W.Write.contents c.args.writer.now) (g.W.Write.contents c.flush.new.self)
-      c.new-buffer.result (g.R.Read.remaining c.args.reader) (bytes_remaining g.R.Read.remaining c.bytes-bytes.result) c.bytes-bytes.ensures c.new-buffer.ensures.empty
+  empty = c.in_ok-answers.ensures.items;
+  room = omega (arith, c.in_ok-answers.ensures.len, c.in_ok-answers.ensures.capacity);
+  chunk = grind (arith, common_steps, c.in_ok-chunk.ensures);
+  so_far = at_start g.S.Step.steps g.S.Step.settles c.args.limit c.args.greeting.now c.args.step.now (g.W.Write.contents c.args.writer.now) (g.W.Write.contents c.flush.new.self)
+      c.new-buffer.result (g.R.Read.remaining c.args.reader) c.new-buffer.ensures.empty
       (kept_after (g.W.Write.contents c.args.writer.now) (g.W.Write.contents c.write_all.new.self) (g.W.Write.contents c.flush.new.self) c.args.greeting.now
       c.in_ok-write_all.ensures.bytes c.flush.ensures.bytes);
 }
 
+pub returns-in-Ok-eq0 : goal.returns-in-Ok-eq0
+returns-in-Ok-eq0 g c =
+    let inv = c.loop.invariant in
+    let read = rw c.in-Ok-eq0.is at c.read_some.ensures.bytes in
+    at_end g.S.Step.steps g.S.Step.settles c.args.limit c.args.greeting.now (take c.in-Ok-eq0.field-0 c.read_some.new.chunk.items) c.args.step.now c.loop.step (g.W.Write.contents c.args.writer.now) (g.W.Write.contents c.loop.writer)
+    c.loop.buffer (g.R.Read.remaining c.args.reader) (g.R.Read.remaining c.loop.reader) (g.R.Read.remaining c.read_some.new.reader)
+    (ap (λ n. take n c.read_some.new.chunk.items) c.in-Ok-eq0.field-0-test) read.0 (read.1 c.in-Ok-eq0.field-0-test (subst (λ n. 0 < n) (sym c.read_some.ensures.len) inv.chunk)) inv.so_far
+
 pub loop-preserved : goal.loop-preserved
 loop-preserved g c =
     let inv = c.loop.invariant in
-    let gone = rw c.in_ok-byte.was at c.in-Some.ensures.steps in
-    let left = bytes_remaining g.R.Read.remaining c.loop.bytes in
-    let behind = bytes_remaining g.R.Read.remaining c.next.new.self in
-    let opening = g.W.Write.contents c.args.writer.now in
-    let before = g.W.Write.contents c.loop.writer in
-    record {
-      limit = c.push.ensures.limit ∙ inv.limit;
-      so_far = elim c.match-push.branch [
-        | in-Some-push+in_ok-reply w ↦ rw (w.step-is, w.writer-is)
-            (turn_end g.S.Step.steps c.args.limit c.args.greeting.now c.args.step.now c.loop.step w.reply.new.step opening before (g.W.Write.contents w.reply.new.writer)
-            c.loop.buffer c.push.new.self (g.R.Read.remaining c.args.reader) left behind c.in_ok-byte.field-0 c.push.result w.in-Some-push.line w.in-Some-push.is
-            inv.limit gone c.push.ensures.ends c.push.ensures.grows w.in_ok-reply.ensures inv.so_far)
-        | in_default-push w ↦ rw (w.step-is, w.writer-is)
-            (turn_on g.S.Step.steps c.args.limit c.args.greeting.now c.args.step.now c.loop.step opening before c.loop.buffer c.push.new.self
-            (g.R.Read.remaining c.args.reader) left behind c.in_ok-byte.field-0 c.push.result w.in_default-push.is gone c.push.ensures.ends c.push.ensures.grows inv.so_far)
-      ];
-    }
+    elim c.match-read_some.branch [
+      | in-Ok+in_ok-take-in-Ok w ↦ rw (w.writer-is, w.step-is, w.buffer-is, w.answers-is) (
+          let read = rw w.in-Ok.is at c.read_some.ensures.bytes in
+          record {
+            limit = w.take.ensures.limit ∙ inv.limit;
+            empty = w.in_ok-take-in-Ok.ensures.empty;
+            room = w.in_ok-take-in-Ok.ensures.room;
+            chunk = subst (λ n. 0 < n) (sym c.read_some.ensures.len) inv.chunk;
+            so_far = more_read g.S.Step.steps g.S.Step.settles c.args.limit c.args.greeting.now (take w.in-Ok.read c.read_some.new.chunk.items) c.args.step.now c.loop.step w.take.new.step
+                (g.W.Write.contents c.args.writer.now) (g.W.Write.contents c.loop.writer) (g.W.Write.contents w.take.new.writer) c.loop.buffer w.take.new.buffer (g.R.Read.remaining c.args.reader)
+                (g.R.Read.remaining c.loop.reader) (g.R.Read.remaining c.read_some.new.reader) read.0
+                (λ front had. subst (λ n. Takes g.S.Step.steps g.S.Step.settles n (take w.in-Ok.read c.read_some.new.chunk.items) c.loop.step w.take.new.step w.take.new.buffer (g.W.Write.contents c.loop.writer) (g.W.Write.contents w.take.new.writer) front) inv.limit
+                (subst (λ xs. Takes g.S.Step.steps g.S.Step.settles c.loop.buffer.limit (take w.in-Ok.read xs) c.loop.step w.take.new.step w.take.new.buffer (g.W.Write.contents c.loop.writer) (g.W.Write.contents w.take.new.writer) front) w.as_slice.ensures.value
+                (w.in_ok-take-in-Ok.ensures.taken front had))) inv.so_far;
+          })
+      | in-Err+else-ne w ↦ rw (w.writer-is, w.step-is, w.buffer-is, w.answers-is) (record {
+        limit = inv.limit;
+        empty = inv.empty;
+        room = inv.room;
+        chunk = subst (λ n. 0 < n) (sym c.read_some.ensures.len) inv.chunk;
+        so_far = none_read g.S.Step.steps g.S.Step.settles c.args.limit c.args.greeting.now c.args.step.now c.loop.step (g.W.Write.contents c.args.writer.now) (g.W.Write.contents c.loop.writer) c.loop.buffer
+            (g.R.Read.remaining c.args.reader) (g.R.Read.remaining c.loop.reader) (g.R.Read.remaining c.read_some.new.reader) (rw w.in-Err.is at c.read_some.ensures.bytes) inv.so_far;
+      })
+    ]
