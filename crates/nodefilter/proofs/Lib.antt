@@ -3,3 +3,4 @@ mod CarriedLemmas
 mod FiledLemmas
 mod KeepingLemmas
 mod StartLemmas
+pub mod RuleLemmas

@@ -8,7 +8,7 @@ use Rattle.farm_base.specs.declared.number.NodeId.{NodeId}
 use Rattle.farm_base.specs.Receivers.{receiver}
 use Rattle.farmwire.specs.declared.refusal.LineFault.TheVariants as line
 use Rattle.farmwire.specs.Sealed.{IsSealed, IsFault}
-use Rattle.farmwire.specs.Words.{words}
+use Rattle.words.specs.Words.{words}
 use Rattle.services.specs.declared.lost.Lost.{Lost}
 use Rattle.services.specs.declared.unread.Unread.{Unread}
 use Rattle.services.specs.declared.unread.Unread.TheVariants.{TooLong, BadMac, BadForm, NotMine, BadLine, OutOfMemory}

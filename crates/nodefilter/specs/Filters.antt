@@ -9,6 +9,8 @@ use Rattle.nodecore.specs.Asks.{told_state}
 use Rattle.protocol.specs.declared.answer.NodeRefusal.{NodeRefusal}
 use Rattle.protocol.specs.Lists.{nth}
 use Rattle.services.specs.declared.lost.Lost.{Lost}
+use Rattle.services.specs.declared.settled.Settled.{Settled}
+use Rattle.services.specs.declared.settled.Settled.TheVariants.{Lasts}
 use Rattle.services.specs.declared.unread.Unread.{Unread}
 use Rattle.services.specs.Served.{OrLost, out_of_memory}
 use Rattle.services.specs.Unreads.{unread_line}
@@ -74,3 +76,7 @@ pub data Filters {S : Type 0} (kept : Kept S) (given : Result (List ℕ) Lost) (
   Does : (o : Order) → old.down ≡ false → AsksFor old.key old.me given o → Follows kept o old new answer → Filters kept given answer old new
   Drops : (why : Unread) → old.down ≡ false → AsksNothing old.key old.me given why → new ≡ old → OrLost (λ text. text ≡ unread_line why) answer
       → Filters kept given answer old new
+
+-- what was answered lasts: contents and the life are kept before a line is answered
+abbrev pub IsSettled : {S : Type 0} → S → Settled → S → Type 0
+IsSettled old settled new = (settled ≡ Lasts) × (new ≡ old)

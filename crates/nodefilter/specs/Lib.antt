@@ -6,3 +6,4 @@ pub mod States
 pub mod Written
 pub mod Filters
 pub mod Starts
+pub mod Rules

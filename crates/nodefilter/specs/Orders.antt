@@ -11,8 +11,8 @@ use Rattle.farm_base.specs.Decimals.{Lacks}
 use Rattle.farm_base.specs.Digests.{IsDigest}
 use Rattle.farm_base.specs.Names.{folder_text, IsName, IsSlot}
 use Rattle.farmwire.specs.Lawful.{IsAsk, IsTicket}
-use Rattle.farmwire.specs.Lines.{ask_text, ticket_text, digits_text, slot_with}
-use Rattle.farmwire.specs.Words.{SpellGiven}
+use Rattle.words.specs.Words.{ticket_text, digits_text, slot_with, SpellGiven}
+use Rattle.farmwire.specs.Lines.{ask_text}
 use Rattle.nodefilter.specs.declared.order.Call.{Call}
 use Rattle.nodefilter.specs.declared.order.Call.TheVariants as call
 use Rattle.nodefilter.specs.declared.order.LeftFile.{LeftFile}

@@ -1,10 +1,11 @@
 -- How the process of a node begins (this project's own).
-use Rattle.std.specs.Prelude.{◌≡◌, ℕ, false, []}
+use Rattle.std.specs.Prelude.{◌≡◌, ℕ, true, false, []}
 use Rattle.std.specs.String.{string_bytes}
 use Rattle.nodecore.specs.declared.message.NodeDone.{NodeDone}
 use Rattle.nodecore.specs.Shown.{work_of}
 use Rattle.nodecore.specs.Stored.{kept_node}
-use Rattle.protocol.specs.Nodes.{Place, restarted}
+use Rattle.protocol.specs.Farm.{farm_limits}
+use Rattle.protocol.specs.Nodes.{Place, restarted, may_restart}
 use Rattle.nodefilter.specs.declared.about.About.TheVariants as about
 use Rattle.nodefilter.specs.declared.starting.Origin.{Origin}
 use Rattle.nodefilter.specs.declared.starting.Started.{Started}
@@ -20,6 +21,8 @@ place_in origin = record { node = origin.me; nodes = origin.nodes }
 pub record Begins {S : Type 0} (kept : Kept S) (last_life : S → ℕ) (origin : Origin S) (started : Started S) : Type 0 where
   pub done : NodeDone
   pub begun : restarted (place_in origin) (kept_node origin.last origin.contents.items []) ≡ work_of (seen started.filter).node done
+  -- its life isn't over for good
+  pub in_range : may_restart farm_limits (kept_node origin.last origin.contents.items []) ≡ true
   pub place : (seen started.filter).at ≡ place_in origin
   pub me : (seen started.filter).me ≡ origin.me
   pub key : (seen started.filter).key ≡ origin.key

@@ -2,7 +2,8 @@
 use Rattle.std.specs.Prelude.{◌≡◌, ℕ, List, [], ◌∷◌, ◌++◌, map, codes, Option, Some, None, Result, Ok, Err}
 use Rattle.farm_base.specs.declared.digest.Digest.{Digest}
 use Rattle.farm_base.specs.declared.number.Ask.{Ask}
-use Rattle.farmwire.specs.Lines.{ask_text, ticket_text, digits_text, confirmed_text, grant_words, why_text}
+use Rattle.words.specs.Words.{ticket_text, digits_text, why_text}
+use Rattle.farmwire.specs.Lines.{ask_text, confirmed_text, grant_words}
 use Rattle.farmwire.specs.Words.{spaced}
 use Rattle.nodecore.specs.declared.message.AskState.{AskState}
 use Rattle.nodecore.specs.declared.message.AskState.TheVariants as state

@@ -14,7 +14,7 @@ use super::store::{FileFault, Store};
 use farm_base::{Ask, Copied, Digest, Items, Left, NodeId, Text, Ticket};
 use farmwire::FarmKey;
 use nodecore::NodeCore;
-use services::{Lost, Step, print_unread};
+use services::{Answer, Lost, Settled, Step, print_unread};
 use std::alloc::{AllocError, Global};
 
 /// What is answered from the moment on that a content of the node can't be kept.
@@ -138,10 +138,15 @@ fn tell<S: Store>(filter: &NodeFilter<S>, alloc: Global, ask: Ask) -> Result<Str
     print_state(alloc, ask, &state)
 }
 
-impl<S: Store> Step for NodeFilter<S> {
-    ghost steps = { λ old line answer new. Filters S.kept line answer (seen old) (seen new) };
-
-    fn step(&mut self, alloc: Global, line: Result<Items<u8>, Lost>) -> Result<String, AllocError> {
+impl<S: Store> NodeFilter<S> {
+    /// The text that answers a line.
+    fn text_of(
+        &mut self,
+        alloc: Global,
+        line: Result<Items<u8>, Lost>,
+    ) -> Result<String, AllocError>
+        ensures { Filters S.kept line (answer_text result) (seen self.old) (seen self.new) }
+    {
         if self.down {
             return print_line(alloc, STORE_FAULT);
         }
@@ -153,5 +158,22 @@ impl<S: Store> Step for NodeFilter<S> {
             Ok(Order::State(ask)) => tell(self, alloc, ask),
             Err(why) => print_unread(alloc, why),
         }
+    }
+}
+
+impl<S: Store> Step for NodeFilter<S> {
+    ghost use Rattle.nodefilter.specs.Filters.{Filters, IsSettled};
+    ghost use Rattle.nodefilter.specs.States.{seen};
+
+    ghost steps = { λ old line answer new. Filters S.kept line answer (seen old) (seen new) };
+
+    ghost settles = { IsSettled };
+
+    fn step(&mut self, alloc: Global, line: Result<Items<u8>, Lost>) -> Answer {
+        Answer::of(self.text_of(alloc, line))
+    }
+
+    fn settle(&mut self, _alloc: Global) -> Settled {
+        Settled::Lasts
     }
 }

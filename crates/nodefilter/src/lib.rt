@@ -6,6 +6,7 @@ mod asking;
 mod carrying;
 mod file_store;
 mod filter;
+pub mod laws;
 mod order;
 mod printing;
 mod reading;

@@ -1,7 +1,8 @@
 //! The text of an answer.
 ghost use Rattle.std.specs.Prelude.{◌≡◌, ◌++◌, ◌∷◌, [], map, codes, IfOk, OnOk};
 ghost use Rattle.std.specs.String.{string_bytes};
-ghost use Rattle.farmwire.specs.Lines.{ask_text, ticket_text, digits_text, confirmed_text, grant_words, why_text};
+ghost use Rattle.words.specs.Words.{ticket_text, digits_text, why_text};
+ghost use Rattle.farmwire.specs.Lines.{ask_text, confirmed_text, grant_words};
 ghost use Rattle.farmwire.specs.Words.{spaced};
 ghost use Rattle.nodefilter.specs.Written.{noted, versions_text, denied_ask, told_note, note_line, refused_line, IsDone, IsWritten, content_line, over_text, state_text};
 
@@ -9,12 +10,13 @@ use super::about::About;
 use super::carrying::Carried;
 use farm_base::{Ask, Digest, Grant, Key, Ticket};
 use farmwire::item::push_items;
-use farmwire::{FarmKey, push_grant, push_number, push_word, why_name};
+use farmwire::{FarmKey, push_grant, push_number, push_word};
 use nodecore::{AskState, NodeDone};
 use protocol::{EventNote, EventRefusal, How, NodeNote, NodeRefusal};
 use schedule::{print_note, refusal_name};
 use services::push_messages;
 use std::alloc::{AllocError, Global};
+use words::why_name;
 
 /// Adds a verb and a ticket.
 fn push_ticket(

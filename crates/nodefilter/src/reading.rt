@@ -1,7 +1,7 @@
 //! What the agent's lines ask for.
 ghost use Rattle.std.specs.Prelude.{◌≡◌, ◌≢◌, List, ◌++◌, map, IfOk};
 ghost use Rattle.std.specs.List.{All};
-ghost use Rattle.farmwire.specs.Words.{texts, words};
+ghost use Rattle.words.specs.Words.{texts, words};
 ghost use Rattle.nodefilter.specs.declared.order.LeftFile.{LeftFile};
 ghost use Rattle.nodefilter.specs.declared.order.Order.{Order};
 ghost use Rattle.nodefilter.specs.Orders.{left_text, IsLeft, Says, AskedBy};
@@ -9,10 +9,9 @@ ghost use Rattle.nodefilter.specs.Orders.{left_text, IsLeft, Says, AskedBy};
 use super::order::{Call, LeftFile, Order};
 use super::verb::{Verb, verb_of};
 use farm_base::{Items, Mode, Text};
-use farmwire::ReadRefusal;
-use farmwire::item::given_wants;
-use farmwire::word::{ask_of, digest_of, folder_of, last_split, slot_of, ticket_of, words_of};
+use farmwire::word::{ask_of, ticket_of};
 use std::alloc::Global;
+use words::{ReadRefusal, digest_of, folder_of, given_wants, last_split, slot_of, words_of};
 
 /// The text of a word.
 fn text_of(alloc: Global, word: &str) -> Result<Text, ReadRefusal>

@@ -1,6 +1,6 @@
 use Rattle.std.proofs.Common.{ℕ, List, Err, ap, sym, subst}
 use Rattle.std.proofs.lemmas.Result.{IfOk-weaker}
-use Rattle.farmwire.specs.Words.{words}
+use Rattle.words.specs.Words.{words}
 use Rattle.nodefilter.specs.Asked.{IsHeard, Orders}
 use Rattle.nodefilter.specs.Asked.Orders.{Heard}
 use Rattle.nodefilter.specs.Orders.{AskedBy}

@@ -1,6 +1,6 @@
 use Rattle.std.proofs.Common.{Err, ap}
-use Rattle.farmwire.proofs.Spelling.{slot_without, slot_parts}
-use Rattle.farmwire.proofs.WordLemmas.{passed_on}
+use Rattle.words.proofs.Spelling.{slot_without, slot_parts}
+use Rattle.words.proofs.WordLemmas.{passed_on}
 use Rattle.nodefilter.proofs.reading.left_of.Goals as goal
 
 pub returns-in_default-clause-only : goal.returns-in_default-clause-only

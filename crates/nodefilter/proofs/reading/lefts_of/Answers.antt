@@ -1,7 +1,7 @@
 use Rattle.std.proofs.Common.{Err, ap}
 use Rattle.std.proofs.lemmas.List.Elements.{All-push}
-use Rattle.farmwire.proofs.ListLemmas.{spelled_more, stuck_at}
-use Rattle.farmwire.proofs.WordLemmas.{passed_on}
+use Rattle.words.proofs.ListLemmas.{spelled_more, stuck_at}
+use Rattle.words.proofs.WordLemmas.{passed_on}
 use Rattle.nodefilter.specs.Orders.{left_text, IsLeft}
 use Rattle.nodefilter.proofs.reading.lefts_of.Goals as goal
 

@@ -1,6 +1,6 @@
 use Rattle.std.proofs.Common.{◌≡◌, map, take}
 use Rattle.std.specs.List.{All}
-use Rattle.farmwire.specs.Words.{texts}
+use Rattle.words.specs.Words.{texts}
 use Rattle.nodefilter.specs.Orders.{left_text, IsLeft}
 use Rattle.nodefilter.proofs.reading.lefts_of.Given as goal
 

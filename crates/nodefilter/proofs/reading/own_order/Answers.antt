@@ -1,5 +1,5 @@
 use Rattle.std.proofs.Common.{ap, sym, subst, ◌∙◌}
-use Rattle.farmwire.specs.Words.{texts}
+use Rattle.words.specs.Words.{texts}
 use Rattle.nodefilter.specs.Orders.{AskedBy}
 use Rattle.nodefilter.proofs.reading.own_order.Goals as goal
 

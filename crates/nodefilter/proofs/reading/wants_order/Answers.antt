@@ -1,5 +1,5 @@
 use Rattle.std.proofs.Common.{Err, ap}
-use Rattle.farmwire.proofs.WordLemmas.{passed_on}
+use Rattle.words.proofs.WordLemmas.{passed_on}
 use Rattle.nodefilter.proofs.reading.wants_order.Goals as goal
 
 pub returns-in_err-wants-clause-only : goal.returns-in_err-wants-clause-only

@@ -1,11 +1,13 @@
-use Rattle.std.proofs.Common.{◌≡◌, ℕ, true, List, [], refl, sym, ap, ◌∙◌, subst}
+use Rattle.std.proofs.Common.{◌≡◌, ℕ, true, false, List, [], inl, inr, refl, sym, ap, ◌∙◌, subst}
+use Rattle.std.proofs.lemmas.Bool.{cases_Bool}
 use Rattle.std.proofs.lemmas.List.Elements.{All-weaker}
 use Rattle.farm_base.specs.Contents.{content_digest}
 use Rattle.farm_base.specs.declared.message.Version.{Version}
 use Rattle.nodecore.specs.Shown.{work_of, shown}
 use Rattle.nodecore.specs.Stored.{kept_node}
 use Rattle.protocol.specs.Names.{Digest, Life}
-use Rattle.protocol.specs.Nodes.{NodeWork, restarted}
+use Rattle.protocol.specs.Farm.{farm_limits}
+use Rattle.protocol.specs.Nodes.{NodeWork, restarted, may_restart}
 use Rattle.nodefilter.specs.Starts.{place_in}
 use Rattle.nodefilter.proofs.StartLemmas.{kept_all, went_well}
 use Rattle.nodefilter.proofs.starting.start.Goals as goal
@@ -23,6 +25,10 @@ returns g c =
     record {
       done = resumed.1;
       begun = begun;
+      in_range = elim (cases_Bool (may_restart farm_limits (kept_node origin.last origin.contents.items []))) [
+        | inl may ↦ may
+        | inr over ↦ (let refused = c.resume.ensures.spent.1 (subst (λ (versions : List (Version × Digest)). may_restart farm_limits (kept_node origin.last origin.contents.items versions) ≡ false) (sym c.new.ensures.items) over) in absurd (cc (c.in-Ok.is, refused)))
+      ];
       place = c.in-Ok.ensures.place;
       me = refl;
       key = refl;
