@@ -1,1 +1,2 @@
+mod FarmLemmas
 mod FilterLemmas

@@ -1,1 +1,2 @@
+pub mod Farms
 pub mod Served

@@ -1,20 +1,38 @@
 //! The coordinator as a process.
 ghost use Rattle.std.specs.Prelude.{◌≡◌, OnOk, IfSome};
+ghost use Rattle.processes.specs.Farms.{EveryFarmStaysSafe};
 ghost use Rattle.processes.specs.Served.{IsServed};
+ghost use Rattle.services.specs.Rules.{
+  IsHonest,
+  ABatchIsARun,
+  AKillIsARun,
+  AStartIsARun,
+  ABatchOverFilesIsARun,
+  AKillOverFilesIsARun,
+  AStartOverFilesIsARun,
+};
 
 use super::fault::ProcessFault;
 use super::files::{key_of, lock_of};
 use super::kept::started;
+use super::laws::a_farm_is_safe;
 use farmwire::LINE_LIMIT;
 use saverecord::Keeper;
+use services::laws::{
+    a_batch_is_a_run, a_batch_over_files_is_a_run, a_kill_is_a_run, a_start_is_a_run,
+    kills_and_starts_over_files_are_runs,
+};
 use services::{CoordinatorFilter, serve};
 use std::alloc::Global;
 use std::fs::File;
-use std::io::{self, BufReader, Read, Write};
+use std::io::{self, BufWriter, Read, Write};
 use std::rt::Files;
 
 /// How long a line may be, with its end and the `m ` of what came from outside.
 const MOST: usize = LINE_LIMIT + 2;
+
+/// How many bytes of answers are written at once, at most.
+const TOGETHER: usize = 65536;
 
 /// What a coordinator says before the first line.
 const GREETING: &str = "= started\n";
@@ -35,9 +53,16 @@ pub fn serve_coordinator<K: Keeper, R: Read + Drop, W: Write>(
     reader: R,
     writer: &mut W,
 ) -> io::Result<()>
-    ensures { OnOk result (IfSome (R.remaining reader) (λ text. IsServed K.saving K.loading K.kept filter.old.key text
+    ensures served { OnOk result (IfSome (R.remaining reader) (λ text. IsServed K.saving K.loading K.syncing K.kept K.lasting filter.old.key text
         filter.old.coordinator filter.new.coordinator (W.contents writer.old) (W.contents writer.new))) }
+    // So it is the coordinator of protocol's processes, whatever lines come, and wherever it is killed and started again.
+    ensures process { IsHonest K.saving K.loading K.syncing K.kept → ABatchIsARun K.saving K.loading K.syncing K.kept K.lasting }
+    ensures killed { IsHonest K.saving K.loading K.syncing K.kept → AKillIsARun K.saving K.loading K.kept }
+    ensures started { IsHonest K.saving K.loading K.syncing K.kept → AStartIsARun K.loading K.kept }
 {
+    a_batch_is_a_run::<K>();
+    a_kill_is_a_run::<K>();
+    a_start_is_a_run::<K>();
     serve(alloc, reader, writer, filter, MOST, GREETING.as_bytes())
 }
 
@@ -48,8 +73,8 @@ fn answer_input<K: Keeper, R: Input + AllocGlobal, W: Write>(
     writer: &mut W,
 ) -> Result<(), ProcessFault> {
     let alloc = rt.alloc();
-    let served = match BufReader::new(alloc, rt.reader()) {
-        Ok(reader) => serve_coordinator(alloc, &mut filter, reader, writer),
+    let served = match BufWriter::with_capacity(alloc, TOGETHER, writer) {
+        Ok(mut writer) => serve_coordinator(alloc, &mut filter, rt.reader(), &mut writer),
         Err(error) => Err(error),
     };
     match served {
@@ -64,7 +89,16 @@ pub fn run_coordinator<R: Files<File = File> + Input + AllocGlobal, W: Write>(
     rt: &R,
     place: CoordinatorPlace<'_>,
     writer: &mut W,
-) -> Result<(), ProcessFault> {
+) -> Result<(), ProcessFault>
+    ensures process { ABatchOverFilesIsARun }
+    ensures killed { AKillOverFilesIsARun }
+    ensures started { AStartOverFilesIsARun }
+    // With such nodes as `run_node` it is a farm of which the headline holds.
+    ensures farm { EveryFarmStaysSafe }
+{
+    a_farm_is_safe();
+    a_batch_over_files_is_a_run();
+    kills_and_starts_over_files_are_runs();
     let key = key_of(rt, place.key)?;
     let _lock = lock_of(rt, place.record)?;
     let coordinator = started(rt, place.record)?;

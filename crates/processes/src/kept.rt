@@ -2,7 +2,7 @@
 use super::fault::{Cause, ProcessFault};
 use super::files::bytes_if_there;
 use coordinator::{CoordRefusal, Coordinator, NotStarted};
-use saverecord::{FileKeeper, LogFault, RecordRefusal, texts_in};
+use saverecord::{FileKeeper, Gathered, LogFault, RecordRefusal, texts_in};
 use std::alloc::Global;
 use std::io;
 use std::rt::Files;
@@ -45,7 +45,7 @@ fn look<R: Files + AllocGlobal>(rt: &R, path: &str) -> io::Result<Option<Cause>>
 fn not_started<R: Files + AllocGlobal>(
     rt: &R,
     path: &str,
-    stopped: NotStarted<FileKeeper<'_, R>>,
+    stopped: NotStarted<Gathered<FileKeeper<'_, R>>>,
 ) -> ProcessFault {
     match stopped.refusal {
         CoordRefusal::OutOfMemory => ProcessFault::out_of_memory(rt.alloc()),
@@ -61,7 +61,7 @@ fn not_started<R: Files + AllocGlobal>(
 pub(crate) fn started<'a, R: Files + AllocGlobal>(
     rt: &'a R,
     path: &str,
-) -> Result<Coordinator<FileKeeper<'a, R>>, ProcessFault> {
+) -> Result<Coordinator<Gathered<FileKeeper<'a, R>>>, ProcessFault> {
     let alloc = rt.alloc();
     match look(rt, path) {
         Ok(None) => {}
@@ -72,7 +72,7 @@ pub(crate) fn started<'a, R: Files + AllocGlobal>(
         Ok(keeper) => keeper,
         Err(error) => return Err(ProcessFault::of_file(alloc, path, error)),
     };
-    match Coordinator::start(alloc, keeper) {
+    match Coordinator::start(alloc, Gathered::new(keeper)) {
         Ok(coordinator) => Ok(coordinator),
         Err(stopped) => Err(not_started(rt, path, stopped)),
     }

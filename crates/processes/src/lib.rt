@@ -5,6 +5,7 @@ mod coordinator_process;
 mod fault;
 mod files;
 mod kept;
+pub mod laws;
 mod node_process;
 
 pub use coordinator_process::{CoordinatorPlace, run_coordinator, serve_coordinator};

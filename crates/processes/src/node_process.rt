@@ -1,16 +1,20 @@
 //! A node as a process.
 ghost use Rattle.std.specs.Prelude.{◌≡◌, OnOk, IfSome};
+ghost use Rattle.nodefilter.specs.Rules.{ABatchIsARun, AKillIsARun, AStartIsARun};
+ghost use Rattle.processes.specs.Farms.{EveryFarmStaysSafe};
 ghost use Rattle.processes.specs.Served.{IsNodeServed};
 
 use super::fault::{Cause, ProcessFault};
 use super::files::{key_of, lock_of};
+use super::laws::a_farm_is_safe;
 use farm_base::{Life, NodeId};
 use farmwire::{FarmKey, LINE_LIMIT};
+use nodefilter::laws::{a_batch_is_a_run, a_kill_is_a_run, a_start_is_a_run};
 use nodefilter::{FileStore, OpenFault, Origin, StartFault, Started, Store, open_store, start};
 use services::serve;
 use std::alloc::{AllocError, Global};
 use std::fs::File;
-use std::io::{self, BufReader, Read, Write};
+use std::io::{self, Read, Write};
 use std::rt::{Clock, Files};
 use std::time::{SystemTime, UNIX_EPOCH};
 
@@ -36,9 +40,16 @@ pub fn serve_node<S: Store, R: Read + Drop, W: Write>(
     reader: R,
     writer: &mut W,
 ) -> io::Result<()>
-    ensures { OnOk result (IfSome (R.remaining reader) (λ text.
+    ensures served { OnOk result (IfSome (R.remaining reader) (λ text.
         IsNodeServed S.kept started text (W.contents writer.old) (W.contents writer.new))) }
+    // So it is a node of protocol's processes, whatever lines come, and wherever it is killed and started again.
+    ensures process { ABatchIsARun S.kept }
+    ensures killed { AKillIsARun S.kept }
+    ensures started { AStartIsARun S.kept S.last_life }
 {
+    a_batch_is_a_run::<S>();
+    a_kill_is_a_run::<S>();
+    a_start_is_a_run::<S>();
     let Started {
         mut filter,
         greeting,
@@ -129,11 +140,7 @@ fn answer_input<S: Store, R: Input + AllocGlobal, W: Write>(
     writer: &mut W,
 ) -> Result<(), ProcessFault> {
     let alloc = rt.alloc();
-    let served = match BufReader::new(alloc, rt.reader()) {
-        Ok(reader) => serve_node(alloc, started, reader, writer),
-        Err(error) => Err(error),
-    };
-    match served {
+    match serve_node(alloc, started, rt.reader(), writer) {
         Ok(()) => Ok(()),
         Err(error) => Err(ProcessFault::of_stream(alloc, error)),
     }
@@ -145,7 +152,11 @@ pub fn run_node<R: Files<File = File> + Input + Clock + AllocGlobal + Clone + Dr
     rt: &R,
     place: NodePlace<'_>,
     writer: &mut W,
-) -> Result<(), ProcessFault> {
+) -> Result<(), ProcessFault>
+    // With such a coordinator as `run_coordinator` it is a farm of which the headline holds.
+    ensures farm { EveryFarmStaysSafe }
+{
+    a_farm_is_safe();
     let key = key_of(rt, place.key)?;
     let _lock = lock_of(rt, place.store)?;
     let started = begun(rt, place, key)?;
