@@ -9,7 +9,8 @@ use Rattle.opsproto.specs.declared.definition.Definition.{Definition}
 use Rattle.opsproto.specs.Definitions.{definition_at}
 use Rattle.solverkeys.specs.GraphKeys.{AreKeys}
 use Rattle.commands.specs.declared.command.Command.{Command}
-use Rattle.commands.specs.declared.command.Command.TheVariants.{Check, Keys, Wants, Record, Replay}
+use Rattle.commands.specs.declared.command.Command.TheVariants.{Check, Keys, Wants, Record, Replay, Draw}
+use Rattle.commands.specs.Drawings.{IsDrawn}
 use Rattle.commands.specs.Records.{IsRecordText, IsNoRecord}
 use Rattle.commands.specs.Replays.{IsReplayed, IsUnread}
 use Rattle.commands.specs.Wants.{AreWantsListed}
@@ -67,6 +68,7 @@ IsAnswer Keys bytes text = (g : GraphParts) × SpellsGraph bytes g × AreListed 
 IsAnswer Wants bytes text = (g : GraphParts) × SpellsGraph bytes g × AreWantsListed g text
 IsAnswer Record bytes text = IsRecordText bytes text
 IsAnswer Replay bytes text = IsReplayed bytes text
+IsAnswer (Draw range) bytes text = IsDrawn range bytes text
 
 -- why nothing is printed
 abbrev pub IsRefused : Command → List ℕ → Failure → Type 0
@@ -75,3 +77,4 @@ IsRefused Keys = IsNoGraph
 IsRefused Wants = IsNoGraph
 IsRefused Record = IsNoRecord
 IsRefused Replay = IsUnread
+IsRefused (Draw range) = IsUnread

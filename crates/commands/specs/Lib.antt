@@ -1,5 +1,6 @@
 pub mod Acts
 pub mod Answers
+pub mod Drawings
 pub mod Failures
 pub mod Records
 pub mod Replays

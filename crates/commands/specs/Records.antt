@@ -7,7 +7,7 @@ use Rattle.farm_base.specs.declared.number.NodeId.{NodeId}
 use Rattle.farm_base.specs.Names.{slot_text}
 use Rattle.farm_base.specs.Slots.{SlotParts}
 use Rattle.versions.specs.declared.lines.SlotLine.{SlotLine}
-use Rattle.schedule.specs.Lines.{access_text}
+use Rattle.words.specs.Words.{access_text}
 use Rattle.schedule.specs.Printing.{line_text}
 use Rattle.saverecord.specs.declared.record.Record.{Record}
 use Rattle.saverecord.specs.Logs.{ledger_in}

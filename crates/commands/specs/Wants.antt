@@ -6,7 +6,7 @@ use Rattle.farm_base.specs.declared.digest.Key.{Key}
 use Rattle.farm_base.specs.declared.want.Want.{Want}
 use Rattle.farm_base.specs.Digests.{digest_text}
 use Rattle.farm_base.specs.Wanted.{IsWants}
-use Rattle.schedule.specs.Lines.{want_text}
+use Rattle.words.specs.Words.{want_text}
 use Rattle.vertices.specs.declared.vertex.Vertex.{Vertex}
 use Rattle.vertices.specs.Loading.{GraphParts}
 use Rattle.solverkeys.specs.GraphKeys.{AreKeys}

@@ -4,6 +4,7 @@ ghost use Rattle.std.specs.String.{string_bytes};
 ghost use Rattle.commands.specs.Answers.{result_text, check_text, key_line, vertex_digests, keys_text, SpellsGraph, IsNoGraph, AreListed, IsRefused, IsAnswer};
 
 use super::command::Command;
+use super::drawing::drawn;
 use super::failure::Failure;
 use super::record::recorded;
 use super::replaying::replayed;
@@ -127,5 +128,6 @@ pub fn answer(alloc: Global, command: Command, bytes: Vec<u8>) -> Result<String,
         }
         Command::Record => recorded(alloc, bytes.as_slice()),
         Command::Replay => replayed(alloc, bytes.as_slice()),
+        Command::Draw(range) => drawn(alloc, bytes.as_slice(), range),
     }
 }

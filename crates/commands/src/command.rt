@@ -3,7 +3,8 @@
 use super::running::Order;
 use clap::builder::ValueParser;
 use clap::{Arg, ArgAction, ArgMatches, Error};
-use farm_base::{NODES, NodeId};
+use draw::Range;
+use farm_base::{EVENTS, NODES, NodeId};
 use opsproto::LIMIT;
 use processes::{CoordinatorPlace, NodePlace};
 use std::alloc::{AllocError, Global};
@@ -21,6 +22,8 @@ pub enum Command {
     Record,
     /// Prints the result of each event of a schedule, and the lines of versions.
     Replay,
+    /// Draws a range of the events of a schedule, and the lines of versions after them.
+    Draw(Range),
 }
 
 /// What the program is asked to do.
@@ -141,6 +144,33 @@ fn replay_command<'a>(alloc: Global) -> Result<clap::Command<'a>, AllocError> {
         "A schedule; `-` is the standard input",
     )?
     .arg(strict_arg(alloc, "Ends with status 1 if an event is refused"))
+}
+
+/// What `draw` draws.
+const PICTURE: &str =
+    "Prints an SVG. Time runs down, with a lifeline for the coordinator and one for each node: an arrow for each delivery, a stub for a \
+message that none of the events delivers, bars for lives, leases and executions, and the lines of versions after the last event. At most \
+1,000 events are drawn.";
+
+/// The number of an event.
+fn event_arg<'a>(alloc: Global, name: &'static str, help: &'static str) -> Arg<'a> {
+    Arg::new(alloc, name)
+        .long(name)
+        .value_name("N")
+        .value_parser(ValueParser::Unsigned(1, EVENTS as u64))
+        .help(help)
+}
+
+fn draw_command<'a>(alloc: Global) -> Result<clap::Command<'a>, AllocError> {
+    subcommand(
+        alloc,
+        "draw",
+        "Draws what comes of the events of a schedule",
+        PICTURE,
+        "A schedule; `-` is the standard input",
+    )?
+    .arg(event_arg(alloc, "from", "The first event that is drawn, else 1"))?
+    .arg(event_arg(alloc, "to", "The last one, else the 200th from the first"))
 }
 
 fn strict_arg<'a>(alloc: Global, help: &'static str) -> Arg<'a> {
@@ -309,9 +339,17 @@ fn farmctl<'a>(alloc: Global) -> Result<clap::Command<'a>, AllocError> {
         .subcommand(wants_command(alloc)?)?
         .subcommand(record_command(alloc)?)?
         .subcommand(replay_command(alloc)?)?
+        .subcommand(draw_command(alloc)?)?
         .subcommand(run_command(alloc)?)?
         .subcommand(coordinator_command(alloc)?)?
         .subcommand(node_command(alloc)?)
+}
+
+/// Which events are to be drawn.
+fn range_of(found: &ArgMatches<'_>) -> Range {
+    let first: usize = found.get_one("from").unwrap_or(1);
+    let last = found.get_one("to").unwrap_or(first.saturating_add(199));
+    Range { first, last }
 }
 
 /// What the command of this name is asked to do.
@@ -321,6 +359,7 @@ fn named<'a>(name: &str, found: &ArgMatches<'a>) -> Request<'a> {
         "keys" => Request::Print(Command::Keys),
         "wants" => Request::Print(Command::Wants),
         "record" => Request::Print(Command::Record),
+        "draw" => Request::Print(Command::Draw(range_of(found))),
         "run" => Request::Run(Order {
             nodes: found.get_one("nodes").unwrap_or(1),
             record_path: found.get_str("record"),

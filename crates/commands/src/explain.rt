@@ -277,7 +277,9 @@ pub fn explained(
     bytes: &[u8],
 ) -> Result<Explanation, AllocError> {
     let fault = match request {
-        Request::Print(Command::Replay) => return schedule_explained(alloc, name, bytes),
+        Request::Print(Command::Replay | Command::Draw(_)) => {
+            return schedule_explained(alloc, name, bytes);
+        }
         Request::Print(Command::Record) => record_fault(alloc, bytes)?,
         _ => definition_fault(alloc, bytes)?,
     };

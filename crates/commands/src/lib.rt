@@ -1,10 +1,11 @@
 //! What the commands of the program answer: they check definitions of BuildKit, print their solver keys and what records
-//! keep, replay schedules of a farm, and build definitions on one.
+//! keep, replay and draw schedules of a farm, and build definitions on one.
 #![tactic(auto)]
 
 mod acts;
 mod answers;
 mod command;
+mod drawing;
 mod explain;
 mod failure;
 mod files;

@@ -2,7 +2,7 @@
 ghost use Rattle.std.specs.Prelude.{◌≡◌, ◌++◌, ℕ, List, OnOk};
 ghost use Rattle.std.specs.List.{flat_map};
 ghost use Rattle.std.specs.String.{string_bytes};
-ghost use Rattle.schedule.specs.Lines.{access_text};
+ghost use Rattle.words.specs.Words.{access_text};
 
 use std::alloc::{AllocError, Global};
 

@@ -1,0 +1,2 @@
+pub mod NextNumbers
+mod DrawnLemmas

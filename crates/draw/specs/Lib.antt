@@ -1,0 +1,11 @@
+pub mod Drawings
+pub mod Escapes
+pub mod Events
+pub mod Frames
+pub mod Lifelines
+pub mod Marks
+pub mod Pages
+pub mod Pictures
+pub mod Ranges
+pub mod Rows
+pub mod Shapes
