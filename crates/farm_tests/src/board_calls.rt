@@ -106,7 +106,11 @@ fn leased(
 }
 
 /// An execution on the folder, from its ask to its receipt.
-fn execute(alloc: Global, board: &mut Board, folder: &str) -> Result<Option<Receipt>, Fail> {
+pub(crate) fn execute(
+    alloc: Global,
+    board: &mut Board,
+    folder: &str,
+) -> Result<Option<Receipt>, Fail> {
     let slot = Slot::parse(alloc, folder)?;
     let Some(lease) = leased(alloc, board, 1, folder, 64)? else {
         return Ok(None);

@@ -117,7 +117,7 @@ const FAILED_SAVE: [(&str, &str); 2] = [
 ];
 
 /// What is written first.
-const STARTED: &str = "= started\n";
+pub const STARTED: &str = "= started\n";
 
 /// Adds a line: a message with its MAC.
 fn push_line(

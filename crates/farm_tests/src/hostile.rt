@@ -210,7 +210,7 @@ fn disturbed_at_each_place(rt: HostRuntime) -> Result<(), Fail> {
 
 /// What an executor does wrong.
 #[derive(Clone, Copy)]
-enum Misdeed {
+pub(crate) enum Misdeed {
     /// Edits a folder that its task doesn't have.
     OtherFolder,
     /// Writes more than 16 MiB.
@@ -260,10 +260,20 @@ impl Misdeed {
 
 /// Gives no output, and these edits.
 #[derive(Drop)]
-struct Misbehaving {
+pub(crate) struct Misbehaving {
     alloc: Global,
     misdeed: Misdeed,
     calls: Vec<Call>,
+}
+
+impl Misbehaving {
+    pub(crate) fn new(alloc: Global, misdeed: Misdeed) -> Self {
+        Misbehaving {
+            alloc,
+            misdeed,
+            calls: Vec::new(alloc),
+        }
+    }
 }
 
 /// The edits of a misdeed, in the first folder of a task.
@@ -327,14 +337,7 @@ fn end_of_jobs<R: Threads + Wait + Sync>(
     jobs: Vec<(NodeId, Keyed)>,
     misdeed: Misdeed,
 ) -> Result<Result<Answer, FarmStop>, Fail> {
-    let executor: Box<dyn Executor + Send> = Box::new(
-        alloc,
-        Misbehaving {
-            alloc,
-            misdeed,
-            calls: Vec::new(alloc),
-        },
-    )?;
+    let executor: Box<dyn Executor + Send> = Box::new(alloc, Misbehaving::new(alloc, misdeed))?;
     let executors = vec![in alloc; (NodeId(1), executor)]?;
     let plan = Vec::new(alloc);
     let end = Farm::run(

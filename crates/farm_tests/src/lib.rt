@@ -3,6 +3,8 @@
 #![tactic(auto)]
 
 #[cfg(test)]
+mod bad_contents;
+#[cfg(test)]
 mod board_calls;
 #[cfg(test)]
 mod coordinator_lines;
@@ -14,6 +16,8 @@ mod edits;
 mod explanations;
 #[cfg(test)]
 mod folder_bytes;
+#[cfg(test)]
+mod gathered;
 #[cfg(test)]
 mod hostile;
 #[cfg(test)]

@@ -250,14 +250,25 @@ fn records_and_refusals(rt: HostRuntime) -> Result<(), Fail> {
     Ok(())
 }
 
+/// The length of the first prefix that isn't refused as one that is cut.
+fn wrong_prefix(alloc: Global, bytes: &[u8]) -> Result<Option<usize>, Fail> {
+    for len in 0..bytes.len() {
+        let wanted = if len < 40 { "Truncated" } else { "BadDigest" };
+        if written(alloc, &bytes[..len])?.as_str() != wanted {
+            return Ok(Some(len));
+        }
+    }
+    Ok(None)
+}
+
+/// Each record that is read, of each version, cut at every byte.
 #[test]
 fn records_cut_short(rt: HostRuntime) -> Result<(), Fail> {
-    let bytes = hex::decode(rt.alloc(), NOTHING)?;
-    assert_eq!(rt; bytes.len(), 84);
-    for len in 0..84 {
-        let wanted = if len < 40 { "Truncated" } else { "BadDigest" };
-        let text = written(rt.alloc(), &bytes[..len])?;
-        assert_eq!(rt; text.as_str(), wanted);
+    for (spelled, wanted) in &ROWS {
+        let bytes = hex::decode(rt.alloc(), *spelled)?;
+        if *wanted == "same" || wanted.starts_with("424b") {
+            assert_eq!(rt; wrong_prefix(rt.alloc(), bytes.as_slice())?, None);
+        }
     }
     Ok(())
 }

@@ -1,6 +1,6 @@
 //! Runs of files on a farm, with what they print and the record that they keep.
 
-use super::printed::{NO_OP, spelled};
+use super::printed::{NO_OP, run_words, spelled};
 use commands::{Command, DONE, FAULT, Order, REFUSED, answer, run_scripts};
 use jobs::{Cause, Fault};
 use std::alloc::Global;
@@ -219,5 +219,24 @@ fn why_a_file_failed(rt: HostRuntime) -> Result<(), Fail> {
     for (place, cause) in &ended.failed {
         assert!(rt; *place == 1 && is_exit(cause, 1));
     }
+    Ok(())
+}
+
+/// Words of a run of a file whose step fails, and its status.
+const STRICT: [(&[&str], u8); 2] = [
+    (&["run", "--nodes", "1", "strict.llb"], DONE),
+    (&["run", "--nodes", "1", "--strict", "strict.llb"], REFUSED),
+];
+
+#[test]
+fn a_strict_run(rt: HostRuntime) -> Result<(), Fail> {
+    let (_, bytes) = file(rt.alloc(), &FAIL)?;
+    let bytes = bytes.ok_or("no file")?;
+    fs::write(&rt, "strict.llb", bytes.as_slice())?;
+    for (words, wanted) in &STRICT {
+        let (status, _, _) = run_words(&rt, words)?;
+        assert_eq!(rt; status, *wanted);
+    }
+    fs::remove_file(&rt, "strict.llb")?;
     Ok(())
 }
