@@ -11,7 +11,7 @@ import json
 import os
 import sys
 import time
-from typing import Any, Callable, Sequence
+from typing import Any, Callable, Iterator, Sequence
 
 from agent import client
 from agent.faults import LOST, MISSING, FarmFault, UsageFault
@@ -112,7 +112,7 @@ def _asking_words(verbs: Any) -> None:
     retire.add_argument("--gone", action="store_true", help="the node is gone for good: you vouch that all it ran is over")
     prune = _verb(verbs, "prune", do_prune, "makes a folder's next version the empty one", "farm prune locked:ccache")
     prune.add_argument("folder")
-    gc = _verb(verbs, "gc", do_gc, "forgets contents that nothing needs", "farm gc --keep 3")
+    gc = _verb(verbs, "gc", do_gc, "forgets what nothing needs, on this machine", "farm gc --keep 3")
     gc.add_argument("--keep", type=int, default=1, metavar="K", help="keeps the last K versions of each folder (%(default)s)")
     gc.add_argument("--grace", type=float, default=3600, metavar="SECONDS", help="keeps what is younger (%(default)s)")
 
@@ -173,13 +173,19 @@ def start_farm(home: str) -> None:
         raise fault
 
 
+def node_sockets(home: str) -> Iterator[str]:
+    """The sockets of the nodes of a home that answer, in the order of their numbers."""
+    found = os.listdir(home) if os.path.isdir(home) else []
+    names = sorted((name for name in found if name.startswith("node") and name.endswith(".sock")), key=lambda name: (len(name), name))
+    return (path for name in names if client.is_there(path := f"{home}/{name}"))
+
+
 def socket_of(home: str, node: int | None) -> str | None:
-    """The socket of a node of this machine."""
-    names = [f"node{node}"] if node is not None else sorted(
-        (name.removesuffix(".sock") for name in os.listdir(home) if name.startswith("node") and name.endswith(".sock")),
-        key=lambda name: (len(name), name),
-    ) if os.path.isdir(home) else []
-    return next((path for name in names if client.is_there(path := f"{home}/{name}.sock")), None)
+    """The socket of a node of this machine, or of the first one."""
+    if node is not None:
+        path = f"{home}/node{node}.sock"
+        return path if client.is_there(path) else None
+    return next(node_sockets(home), None)
 
 
 def ask_node(home: str, node: int | None, what: dict[str, Any]) -> int:
@@ -231,11 +237,16 @@ def do_build(args: argparse.Namespace) -> int:
 # Questions to the coordinator.
 
 
-def ask_coordinator(args: argparse.Namespace, what: dict[str, Any]) -> Any:
-    asked = client.ask(f"{args.home}/coordinator.sock", what)
+def told_at(path: str, what: dict[str, Any]) -> Any:
+    """What an agent tells."""
+    asked = client.ask(path, what)
     if asked.status:
         raise SystemExit(asked.status)
     return asked.told
+
+
+def ask_coordinator(args: argparse.Namespace, what: dict[str, Any]) -> Any:
+    return told_at(f"{args.home}/coordinator.sock", what)
 
 
 def _ago(at: float | None) -> str:
@@ -324,6 +335,7 @@ def do_prune(args: argparse.Namespace) -> int:
 
 
 def do_gc(args: argparse.Namespace) -> int:
+    """On the coordinator's machine all that the farm keeps; on another one what its own nodes have."""
     from agent import serving
     from agent.hints import Hints
     from agent.redis_store import RedisStore
@@ -331,21 +343,24 @@ def do_gc(args: argparse.Namespace) -> int:
 
     if args.keep < 1:
         raise UsageFault("the last version of a folder is always kept: --keep is at least 1")
-    kept = ask_coordinator(args, {"do": "store"})
-    begun = time.time()
-    needed = set(ask_coordinator(args, {"do": "needed", "keep": args.keep}))
-    contents = 0
-    for name in sorted(os.listdir(args.home)):
-        if name.startswith("node") and name.endswith(".sock"):
-            contents += int(client.ask(f"{args.home}/{name}", {"do": "forget", "needed": sorted(needed)}).told or 0)
+    nodes = list(node_sockets(args.home))
+    is_coordinators = client.is_there(f"{args.home}/coordinator.sock") or not nodes
+    path = f"{args.home}/coordinator.sock" if is_coordinators else nodes[0]
+    kept, begun = told_at(path, {"do": "store"}), time.time()
+    needed = set(told_at(path, {"do": "needed", "keep": args.keep}))
+
+    def grace() -> float:
+        return float(args.grace + time.time() - begun)
+
+    contents = sum(int(told_at(node, {"do": "forget", "needed": sorted(needed), "grace": grace()})) for node in nodes)
     store = serving.store_of(serving.Wanted(args.home, True, [], 1, kept["broker"], kept["contents"]), Hints(f"{args.home}/key"))
-    grace = args.grace + time.time() - begun
-    if isinstance(store, RedisStore):
-        indexes, chunks = store.forget(needed, grace)
+    if is_coordinators and isinstance(store, RedisStore):
+        indexes, chunks = store.forget(needed, grace())
         print(f"Redis forgot {indexes} indexes and {chunks} chunks")
     folder = store.folder if isinstance(store, RedisStore) else store
     assert isinstance(folder, FolderStore)
-    indexes, chunks = folder.forget(needed, grace)
+    is_ours = is_coordinators or not kept["contents"]  # a folder that all see is the coordinator's business
+    indexes, chunks = folder.forget(needed, grace()) if is_ours else (0, 0)
     print(f"forgot {contents} contents of nodes, {indexes} indexes and {chunks} chunks")
     return 0
 

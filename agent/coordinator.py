@@ -14,11 +14,13 @@ from agent.chunks import folder_size
 from agent.faults import FarmFault, LifeOver, UsageFault
 from agent.hints import Hints
 from agent.lines import Answer, Filter, FilterGone, Talk, line_of
+from agent.needs import parts
 from agent.node import HEARTBEAT, Setup
 from agent.transport import COORDINATOR, address_of, node_address
 from agent.words import DIGEST, is_folder
 
 NUDGE_MOST = 15.0
+AT_ONCE = 64  # lines that are carried together
 SINCE_MOST = 65_536  # leases whose beginning is known
 SILENT_LEAST = 3 * HEARTBEAT  # seconds: a shorter silence says nothing
 
@@ -34,6 +36,7 @@ class CoordinatorAgent:
         self.last: dict[str, tuple[int, list[dict[str, Any]]]] = {}  # of a slot: its last number, and its last versions
         self.begun = time.time()
         self.lock = threading.Lock()
+        self.telling = threading.Lock()
         words = ["coordinator", "--record", f"{setup.home}/record", "--key", setup.key]
         self.talk = Talk("coordinator", [setup.program, *words], lambda: None, self.hear)
 
@@ -84,9 +87,9 @@ class CoordinatorAgent:
         """Hears messages for ever, sends its grants again now and then, and withdraws the leases of nodes that fell silent."""
         delay, due = 1.0, time.monotonic() + 1.0
         while not self.talk.stopped:
-            line = self.setup.transport.receive(COORDINATOR, 0.5)
+            lines = self._lines(0.5)
             try:
-                if line is not None and self.receive(line).startswith(("granted", "parked")):
+                if any(note.startswith(("granted", "parked")) for note in self.receive(lines)):
                     delay = 1.0
                 if time.monotonic() > due:
                     self.call("nudge")
@@ -99,18 +102,29 @@ class CoordinatorAgent:
                 self.log(f"{type(fault).__name__}: {fault}")
                 time.sleep(1.0)
 
-    def receive(self, line: str) -> str:
-        """A line from outside. The note of the answer."""
-        words = self.hints.open(line)
-        if words:
-            self._hear_hint(words)
-            return ""
-        if "\n" in line or "\r" in line:
-            return ""
-        note = self.call("m " + line).note
-        if not note.startswith(("dropped", "refused")):
-            self.heard[int(line.split(" ", 2)[1])] = time.time()
-        return note
+    def _lines(self, timeout: float) -> list[str]:
+        """The lines that are here, once there is one."""
+        lines = list[str]()
+        line = self.setup.transport.receive(COORDINATOR, timeout)
+        while line is not None:
+            lines.append(line)
+            line = self.setup.transport.receive(COORDINATOR, 0) if len(lines) < AT_ONCE else None
+        return lines
+
+    def receive(self, lines: list[str]) -> list[str]:
+        """Lines from outside. The notes of the answers."""
+        passed = []
+        for line in lines:
+            words = self.hints.open(line)
+            if words:
+                self._hear_hint(words)
+            elif "\n" not in line and "\r" not in line:
+                passed.append(line)
+        notes = [answer.note for answer in self.talk.calls([f"m {line}" for line in passed])] if passed else []
+        for line, note in zip(passed, notes):
+            if not note.startswith(("dropped", "refused")):
+                self.heard[int(line.split(" ", 2)[1])] = time.time()
+        return notes
 
     def _hear_hint(self, words: list[str]) -> None:
         if words[0] == "here":
@@ -119,6 +133,19 @@ class CoordinatorAgent:
             node, ask, folders = int(words[1]), words[2], set(words[3:])
             held = self.holders(node, folders)
             self.setup.transport.send(node_address(node), self.hints.seal(f"held {node} {ask} {held}"))
+        if words[0] == "needs" and self.telling.acquire(blocking=False):  # one at a time: old questions come again too
+            threading.Thread(target=self._tell_needed, args=(int(words[1]), words[2], int(words[3])), daemon=True).start()
+
+    def _tell_needed(self, node: int, word: str, keep: int) -> None:
+        try:
+            told = parts(self.needed(keep))
+            for number, digests in enumerate(told):
+                text = " ".join(["needed", str(node), word, str(number), str(len(told)), *digests])
+                self.setup.transport.send(node_address(node), self.hints.seal(text))
+        except FarmFault as fault:
+            self.log(f"node {node} asks what is needed: {fault}")
+        finally:
+            self.telling.release()
 
     def holders(self, node: int, folders: set[str]) -> str:
         """Who has one of these folders, in words."""
@@ -221,8 +248,7 @@ class CoordinatorAgent:
                     last = Filter([self.setup.program, *words])
                 except FilterGone as gone:
                     raise FarmFault(f"no life of node {node} can be begun: {gone.said}") from None
-                for line in last.greeting.sends:
-                    self.receive(line)
+                self.receive(last.greeting.sends)
                 last.close()
         try:
             return self.operate("retire", str(node))

@@ -5,6 +5,7 @@ whole or not at all, and that no two processes of one talk run at once.
 """
 from __future__ import annotations
 
+import fcntl
 import os
 import subprocess
 import threading
@@ -61,13 +62,14 @@ class Filter:
             raise Missing(f"{command[0]} can't be started: {fault.strerror}") from None
         assert self.process.stdin and self.process.stdout and self.process.stderr
         self.input, self.output, self.errors = self.process.stdin, self.process.stdout, self.process.stderr
+        self.room = fcntl.fcntl(self.input, fcntl.F_GETPIPE_SZ) // 2  # what is written so is never waited for
         self.said: deque[str] = deque(maxlen=5)  # its last words on the standard error
         self.listener = threading.Thread(target=self._listen, daemon=True)
         self.listener.start()
         try:
             self.greeting = self._read()
         except FilterGone:
-            raise FilterGone(self.close(), self.last_words()) from None
+            raise FilterGone(self.close(5.0), self.last_words()) from None  # it is ending by itself, and its status says why
 
     def _listen(self) -> None:
         for raw in self.errors:
@@ -92,31 +94,44 @@ class Filter:
                 raise FilterGone  # no answer of a filter looks like this
 
     def call(self, line: str) -> Answer:
-        raw = line.encode()
-        if b"\n" in raw or b"\r" in raw:
+        answers: list[Answer] = []
+        self.calls([line], answers.append)
+        return answers[0]
+
+    def calls(self, lines: Sequence[str], hear: Callable[[Answer], None]) -> None:
+        """Hears the answer to each line. Lines are written together, as far as a pipe holds them, so that the filter may save together
+        what they change."""
+        raws = [line.encode() + b"\n" for line in lines]
+        if any(b"\n" in raw[:-1] or b"\r" in raw for raw in raws):
             raise ValueError("a line has no line feed within")
-        if len(raw) >= MOST:
-            return Answer(note="dropped TooLong")
         with self.lock:
             try:
-                self.input.write(raw + b"\n")
-                self.input.flush()
-                return self._read()
+                while raws:
+                    some = [raws.pop(0)]
+                    while raws and sum(map(len, some)) + len(raws[0]) <= self.room:
+                        some.append(raws.pop(0))
+                    self._write_and_hear(some, hear)
             except (OSError, ValueError):
                 raise FilterGone from None
+
+    def _write_and_hear(self, raws: list[bytes], hear: Callable[[Answer], None]) -> None:
+        self.input.write(b"".join(raw for raw in raws if len(raw) <= MOST))
+        self.input.flush()
+        for raw in raws:
+            hear(self._read() if len(raw) <= MOST else Answer(note="dropped TooLong"))
 
     def kill(self) -> None:
         self.process.kill()
 
-    def close(self) -> int:
+    def close(self, patience: float = 0.2) -> int:
         """Ends the process, and gives its status."""
         try:
             self.input.close()
-            self.process.wait(0.2)  # at the end of its input it ends by itself
+            self.process.wait(patience)  # at the end of its input it ends by itself
         except (OSError, subprocess.TimeoutExpired):
             self.process.kill()
         status = self.process.wait()
-        self.listener.join(1.0)
+        self.listener.join(5.0)
         self.output.close()
         self.errors.close()
         return status
@@ -129,7 +144,7 @@ class Talk:
     """A filter that is started again when it ends. Each process of it has an epoch, counted from 1."""
 
     def __init__(
-        self, name: str, command: Sequence[str], before: Callable[[], None], hear: Callable[[Answer], None], patience: float = 5.0
+        self, name: str, command: Sequence[str], before: Callable[[], None], hear: Callable[[Answer], None], patience: float = 15.0
     ) -> None:
         self.name, self.command, self.before, self.hear, self.patience = name, list(command), before, hear, patience
         self.birth = threading.RLock()
@@ -177,16 +192,25 @@ class Talk:
 
     def call(self, line: str, epoch: int | None = None) -> Answer:
         """An event. With an epoch it is of something of that process alone."""
+        return self.calls([line], epoch)[0]
+
+    def calls(self, lines: Sequence[str], epoch: int | None = None) -> list[Answer]:
+        """Events whose lines are written together."""
         present, process = self.present
         if process is None or epoch not in (None, present):
             raise LifeOver(f"the {self.name} was started again")
+        answers: list[Answer] = []
+        gone = False
         try:
-            answer = process.call(line)
+            process.calls(lines, answers.append)
         except FilterGone:
+            gone = True
+        for answer in answers:
+            self.hear(answer)
+        if gone:
             self.restart(present)
-            raise LifeOver(f"the {self.name} was started again") from None
-        self.hear(answer)
-        return answer
+            raise LifeOver(f"the {self.name} was started again")
+        return answers
 
     def restart(self, epoch: int) -> None:
         """Ends the process of this epoch, if it is the present one, and begins the next."""

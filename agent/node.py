@@ -18,6 +18,7 @@ from agent.executions import Executions
 from agent.faults import ClientGone, FarmFault, LifeOver, WaitOver
 from agent.hints import Hints
 from agent.lines import Answer, Talk, line_of
+from agent.needs import Needs
 from agent.places import Places
 from agent.shared import SharedFolders
 from agent.store import ChunksMissing, Store
@@ -71,6 +72,7 @@ class NodeAgent:
         self.ended: set[int] = set()  # tickets whose leases are said to have ended
         self.offered: dict[str, float] = {}  # of a content: when it was given to the store anew
         self.learned: dict[int, dict[str, tuple[int, str]]] = {}  # of a ticket: the versions of its commit
+        self.needs = Needs()
         self.shared = SharedFolders(self)
         words = ["node", "--node", str(node), "--nodes", str(nodes), "--store", f"{self.home}/filter", "--key", setup.key]
         self.talk = Talk(f"node {node}", [setup.program, *words], self.executions.all_over, self.hear)
@@ -173,6 +175,8 @@ class NodeAgent:
             self.ended.add(int(words[1]))
         elif words[0] == "held" and int(words[1]) == self.node:
             self.holders[int(words[2])] = " ".join(words[3:])
+        elif words[0] == "needed" and int(words[1]) == self.node:
+            self.needs.take(words[2:])
         elif words[0] == "gone" and int(words[1]) == self.node:
             self.retired = True
         elif words[0] == "outdated" and int(words[1]) == self.node and int(words[2]) > self.life:
@@ -194,6 +198,10 @@ class NodeAgent:
         if self.store.offer(digest):
             self.log(f"node {node} missed the content {digest}: it is in the store anew")
             self.setup.transport.send(node_address(node), self.hints.seal(f"offered {node}"))
+
+    def needed(self, keep: int) -> set[str]:
+        """What the coordinator says must not be forgotten, and the last versions of each folder."""
+        return self.needs.ask(lambda word: self.setup.transport.send(COORDINATOR, self.hints.seal(f"needs {self.node} {word} {keep}")))
 
     # Leases.
 

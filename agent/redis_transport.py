@@ -8,6 +8,7 @@ from __future__ import annotations
 import queue
 import threading
 import time
+from collections import deque
 
 from agent.redis_wire import Redis, RedisFault
 
@@ -21,6 +22,7 @@ class RedisTransport:
         self.server = Redis(url)
         self.farm = farm
         self.places: dict[str, bytes] = {}
+        self.here: dict[str, deque[str]] = {}  # lines that came together
         self.outbox: queue.Queue[tuple[str, str]] = queue.Queue(LENGTH)
         threading.Thread(target=self._send_all, daemon=True).start()
 
@@ -46,21 +48,26 @@ class RedisTransport:
                 pass  # they are lost
 
     def receive(self, address: str, timeout: float) -> str | None:
+        here = self.here.setdefault(address, deque())
+        if not here and timeout > 0:
+            try:
+                here.extend(self._read(address, timeout))
+            except (RedisFault, TypeError, ValueError, IndexError):  # no server of Redis answers what can't be taken apart so
+                self.places.pop(address, None)
+                time.sleep(min(timeout, 0.5))
+        return here.popleft() if here else None
+
+    def _read(self, address: str, timeout: float) -> list[str]:
         stream = self._stream(address)
-        try:
-            if address not in self.places:
-                ends = self.server.call("XREVRANGE", stream, "+", "-", "COUNT", 1)
-                self.places[address] = ends[0][0] if ends else b"0-0"
-            waited = max(1, int(timeout * 1000))
-            got = self.server.call("XREAD", "COUNT", 1, "BLOCK", waited, "STREAMS", stream, self.places[address])
-            if not got:
-                return None
-            self.places[address], fields = got[0][1][0]
+        if address not in self.places:
+            ends = self.server.call("XREVRANGE", stream, "+", "-", "COUNT", 1)
+            self.places[address] = ends[0][0] if ends else b"0-0"
+        waited = max(1, int(timeout * 1000))
+        got = self.server.call("XREAD", "COUNT", AT_ONCE, "BLOCK", waited, "STREAMS", stream, self.places[address])
+        lines = []
+        for place, fields in got[0][1] if got else []:
+            self.places[address] = place
             line = fields[fields.index(b"line") + 1] if b"line" in fields[::2] else b""
-            if len(line) > MOST or b"\n" in line or b"\r" in line:
-                return None
-            return str(line, errors="replace")
-        except (RedisFault, TypeError, ValueError, IndexError):  # no server of Redis answers what can't be taken apart so
-            self.places.pop(address, None)
-            time.sleep(min(timeout, 0.5))
-            return None
+            if len(line) <= MOST and b"\n" not in line and b"\r" not in line:
+                lines.append(str(line, errors="replace"))
+        return lines

@@ -7,6 +7,7 @@ from __future__ import annotations
 import socket
 import ssl
 import threading
+import time
 import urllib.parse
 from typing import Any, Sequence
 
@@ -15,6 +16,7 @@ from agent.faults import Missing
 MOST = 64 << 20  # bytes of one value, and items of one list
 DEPTH = 8  # of lists within lists
 PATIENCE = 8.0  # seconds in which some byte has to come
+LOADS = 60.0  # seconds that a server which was started just now may take to load its data
 
 Word = str | bytes | int
 Reply = Any  # bytes, int, None, or a list of replies
@@ -98,16 +100,26 @@ class Redis:
     """A server, for any number of threads: each call has a connection of its own while it lasts."""
 
     def __init__(self, url: str) -> None:
-        """Tries the server once."""
+        """Tries the server once, and again while it says that it loads its data."""
         self.idle: list[Link] = []
         self.url = urllib.parse.urlsplit(url)
         self.lock = threading.Lock()
         try:
             if self.url.scheme not in ("redis", "rediss"):
                 raise RedisFault("it begins with redis:// or rediss://")
-            self.call("PING")
+            self._greet(time.monotonic() + LOADS)
         except RedisFault as why:
             raise Missing(f"no Redis server answers at {url}: {why}") from None
+
+    def _greet(self, late: float) -> None:
+        while True:
+            try:
+                self.call("PING")
+                return
+            except RedisFault as why:
+                if not str(why).startswith("LOADING") or time.monotonic() > late:
+                    raise
+            time.sleep(0.1)
 
     def calls(self, commands: Sequence[Sequence[Word]]) -> list[Reply]:
         """The replies to commands that are sent together. The first that was refused is a fault."""

@@ -136,7 +136,7 @@ def _begin_node(served: Served, setup: Setup, number: int) -> None:
     served.nodes.append(agent)
     builds = Builds(agent)
     threading.Thread(target=agent.serve, daemon=True).start()
-    _serve(served, f"node{number}", lambda asked, link: answer_command(agent, builds, asked, link))
+    _serve(served, f"node{number}", lambda asked, link: answer_command(agent, builds, served.wanted, asked, link))
 
 
 def _serve(served: Served, name: str, handler: Any) -> None:
@@ -176,7 +176,7 @@ def serve(wanted: Wanted) -> int:
     return 0
 
 
-def answer_command(agent: NodeAgent, builds: Builds, asked: dict[str, Any], link: Connection) -> int:
+def answer_command(agent: NodeAgent, builds: Builds, wanted: Wanted, asked: dict[str, Any], link: Connection) -> int:
     """A request to a node."""
     if asked["do"] == "run":
         uncounted = LOST if asked["must_commit"] else None
@@ -189,16 +189,22 @@ def answer_command(agent: NodeAgent, builds: Builds, asked: dict[str, Any], link
     if asked["do"] == "build":
         return Build(builds, BuildAsked(**asked["build"]), link).run()
     if asked["do"] == "forget":
-        link.tell(forget(agent, set(asked["needed"])))
-        return 0
-    raise FarmFault(f"a node isn't asked to {asked['do']}")
+        link.tell(forget(agent, set(asked["needed"]), float(asked["grace"])))
+    elif asked["do"] == "needed":
+        link.tell(sorted(agent.needed(int(asked["keep"]))))
+    elif asked["do"] == "store":
+        link.tell({"broker": wanted.broker, "contents": wanted.contents})
+    else:
+        raise FarmFault(f"a node isn't asked to {asked['do']}")
+    return 0
 
 
-def forget(agent: NodeAgent, needed: set[str]) -> int:
-    """Forgets the contents of a node that aren't needed, as far as its filter lets it. How many went."""
-    folder = f"{agent.home}/filter/contents"
+def forget(agent: NodeAgent, needed: set[str], grace: float) -> int:
+    """Forgets the contents of a node that aren't needed and are older than the grace, as far as its filter lets it. How many went."""
+    folder, oldest = f"{agent.home}/filter/contents", time.time() - grace
     found = [name for name in os.listdir(folder) if DIGEST.fullmatch(name)] if os.path.isdir(folder) else []
-    return sum(not agent.call(line_of("forget", name)).is_refused for name in found if name not in needed)
+    gone = [name for name in found if name not in needed and os.lstat(f"{folder}/{name}").st_mtime <= oldest]
+    return sum(not agent.call(line_of("forget", name)).is_refused for name in gone)
 
 
 def answer_operator(agent: CoordinatorAgent, wanted: Wanted, asked: dict[str, Any], link: Connection) -> int:

@@ -30,7 +30,7 @@ class Transport(Protocol):
         """Sends a line towards a receiver. It never waits for one, and says nothing of what became of it."""
 
     def receive(self, address: str, timeout: float) -> str | None:
-        """The next line for a receiver; none where none came in time."""
+        """The next line for a receiver; none where none came in time. Without time it is one that is here already."""
 
 
 class LocalTransport:

@@ -46,6 +46,17 @@ class Lines(unittest.TestCase):
         self.assertEqual(talk.call("next").note, "did next")
         self.assertEqual(talk.call("m " + "x" * (25 << 20)).note, "dropped TooLong")
 
+    def test_together(self) -> None:
+        """However many lines there are, and however long their answers, each is heard."""
+        lines, heard = [f"{number} {'x' * number * 40}" for number in range(300)], list[Answer]()
+        lines[7] = "x" * (25 << 20)
+        self.filter().calls(lines, heard.append)
+        self.assertEqual([answer.note for answer in heard], ["dropped TooLong" if number == 7 else f"did {line}" for number, line in enumerate(lines)])
+        heard.clear()
+        with self.assertRaises(FilterGone):
+            self.filter().calls(["a", "b", "die", "c"], heard.append)
+        self.assertEqual([answer.note for answer in heard], ["did a", "did b"])
+
     def test_words(self) -> None:
         self.assertEqual(line_of("ask", "locked:a", "ro=locked:b"), "ask locked:a ro=locked:b")
         for word in ("", "a b", "a\nb", "a\tb", "a\0b", "a\u2028b"):

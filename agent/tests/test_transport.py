@@ -11,6 +11,7 @@ from agent import trees
 from agent.chunks import chunk_names
 from agent.faults import FarmFault, Missing
 from agent.hints import Hints, make_key
+from agent.needs import Needs, parts
 from agent.redis_store import RedisStore
 from agent.redis_transport import RedisTransport
 from agent.redis_wire import Redis, RedisFault
@@ -28,6 +29,30 @@ class Carries(support.RoomTest):
         transport.send("node.1", "d")
         self.assertEqual([transport.receive("node.1", 1.0), transport.receive("node.1", 1.0)], ["a b", "d"])
         self.assertIsNone(transport.receive("node.1", 0.05))
+
+
+class Needed(unittest.TestCase):
+    def test_answers(self) -> None:
+        """Only what answers the question that is open counts, and only all of it."""
+        needs, words = Needs(), list[str]()
+        digests = {f"{number:064x}" for number in range(8_001)}
+        told = parts(digests)
+        self.assertEqual([len(part) for part in told], [8_000, 1])
+        self.assertEqual(parts([]), [[]])
+
+        def send(word: str) -> None:
+            words.append(word)
+            needs.take([words[0][::-1], "0", "1", "0" * 64])
+            for number in (1, 0, 1)[: len(words) + 1]:
+                needs.take([word, str(number), "2", *told[number]])
+
+        self.assertEqual(needs.ask(send), digests)
+
+        def send_again(word: str) -> None:
+            needs.take([words[0], "0", "1", "old"])
+            needs.take([word, "0", "1"])
+
+        self.assertEqual(needs.ask(send_again), set())
 
 
 class Local(Carries):
@@ -54,8 +79,11 @@ class OverRedis(Carries):
             self.carries(transport)
             transport.server.call("XADD", "t:to:node.1", "*", "line", "two\nlines")
             transport.server.call("XADD", "t:to:node.1", "*", "other", "x")
-            self.assertIsNone(transport.receive("node.1", 0.05))
+            self.assertIsNone(transport.receive("node.1", 0))  # nothing is here yet
             self.assertEqual(transport.receive("node.1", 0.05), "")
+            for text in ("a", "b"):
+                transport.server.call("XADD", "t:to:node.1", "*", "line", text)
+            self.assertEqual([transport.receive("node.1", 1.0), transport.receive("node.1", 0)], ["a", "b"])
             self.assertFalse(RedisStore(url, self.path("a"), "t", b"k").keeps_well())
         transport.send("node.1", "lost")
         self.assertIsNone(transport.receive("node.1", 0.05))
@@ -127,6 +155,21 @@ class OverRedis(Carries):
                 with self.assertRaises(RedisFault, msg=said):
                     server_of(server.getsockname()[1]).calls([("PING",), ("PING",)])
                 thread.join()
+
+    def test_loads(self) -> None:
+        """A server that still loads its data is waited for."""
+        with socket.create_server(("127.0.0.1", 0)) as server:
+            def answers() -> None:
+                link, _ = server.accept()
+                with link:
+                    for said in (b"-LOADING Redis is loading the dataset in memory\r\n", b"+PONG\r\n"):
+                        link.recv(1000)
+                        link.sendall(said)
+
+            thread = threading.Thread(target=answers)
+            thread.start()
+            Redis(f"redis://127.0.0.1:{server.getsockname()[1]}")
+            thread.join()
 
     def test_password(self) -> None:
         with support.redis_server(self.room, "--requirepass", "a b") as url:

@@ -35,7 +35,7 @@ from agent.trials.verdict import HALF, Lines, Source, Told, Verdict, told_of  # 
 
 NODES, EACH = 3, 2  # commands at once on each node
 KINDS: dict[str, type[Farm]] = {"pipes": Pipes, "redis": OverRedis, "machines": Machines}
-CALM = 90.0  # seconds in which an undisturbed farm has to do its last commands
+CALM = 240.0  # seconds in which an undisturbed farm has to do its last commands, on a machine that others may have
 CHOICES = [["locked:a"], ["locked:a"], ["locked:b"], ["locked:a", "locked:b"], ["locked:a", "ro=locked:b"], ["private:p"], ["shared:s"]]
 SPOILT = 99  # the status of a command that found a folder in a state that no command leaves
 
@@ -167,7 +167,7 @@ class Chaos:
                 pass
             except FarmFault as fault:
                 self.faults.append(str(fault))
-                return
+                self.stopping.set()
 
     def disturb_by(self, what: str) -> None:
         dice, farm = self.dice, self.farm
@@ -264,6 +264,8 @@ class Chaos:
         wrong = self.join(workers) + self.faults
         if not wrong and not self.given.wrong:
             wrong += self.calm()
+        if self.faults:
+            return Verdict({}, [], ""), wrong  # no farm stands that could be judged
         lines = self.lines()
         verdict = Verdict(lines, self.told, self.farm.history)
         verdict.judge_lines()

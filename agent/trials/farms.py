@@ -22,7 +22,7 @@ from agent.tools import TOP, need
 
 DISTURBED = f"{TOP}/agent/trials/disturbed.py"
 PYTHON_FARM = [sys.executable, "-IS", f"{TOP}/farm"]
-UP_MOST = 30.0  # seconds
+UP_MOST = 180.0  # seconds: other work may have the machine
 CLONE_NEWNET = 0x40000000
 
 

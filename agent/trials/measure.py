@@ -1,11 +1,12 @@
 #!/usr/bin/env python3
-"""Measures the agent on this machine, in one run: what `farm run` costs beside the command, a folder of a gigabyte, and a source package
-built on three nodes with ccache in a leased folder, beside other places for it.
+"""Measures the agent on this machine, in one run: what `farm run` costs beside the command, a folder of a gigabyte, one of two in many
+files, and a source package built on three nodes with ccache in a leased folder, beside other places for it.
 
-usage: agent/trials/measure.py [start] [folder] [package SOURCE.tar.gz [MAKE WORDS..]]
+usage: agent/trials/measure.py [start] [folder] [many] [package SOURCE.tar.gz [MAKE WORDS..]]
 """
 from __future__ import annotations
 
+import contextlib
 import os
 import re
 import shutil
@@ -13,6 +14,7 @@ import statistics
 import subprocess
 import sys
 import tempfile
+import threading
 import time
 from pathlib import Path
 from typing import Callable
@@ -21,7 +23,8 @@ sys.dont_write_bytecode = True
 sys.path.insert(0, str(Path(__file__).resolve().parents[2]))
 
 from agent.tests.support import redis_server  # noqa: E402
-from agent.tools import TOP  # noqa: E402
+from agent.tools import TOP, farmctl  # noqa: E402
+from agent.trials.farms import children  # noqa: E402
 from agent.trials.gate import farm_up  # noqa: E402
 
 FARM = f"{TOP}/farm"
@@ -63,6 +66,63 @@ def folder(room: str) -> None:
         read = [FARM, "run", "--home", home, "--folder", f"ro=locked:big={room}/w", "--", "true"]
         row("1 GB: leased to be read", f"{seconds(read):.1f} s")
         row("1 GB: cp -a of it", f"{seconds(['cp', '-a', f'{room}/w', f'{room}/copy']):.1f} s")
+
+
+class Watched:
+    """The greatest memory of an agent, its filters and what it calls, by the program's name; and the seconds of a processor that it and
+    what it called took."""
+
+    def __init__(self, agent: int) -> None:
+        self.agent = agent
+        self.begun = self._seconds()
+        self.most: dict[str, int] = {}  # kB
+        self.stopping = threading.Event()
+        self.thread = threading.Thread(target=self._watch)
+        self.thread.start()
+
+    def _watch(self) -> None:
+        while not self.stopping.wait(0.05):
+            found = [self.agent]
+            for pid in found:
+                found += children(pid)
+                with contextlib.suppress(OSError, KeyError, ValueError):
+                    with open(f"/proc/{pid}/status") as file:
+                        told = dict(line.split(":", 1) for line in file)
+                    name = "agent" if pid == self.agent else told["Name"].strip()
+                    self.most[name] = max(self.most.get(name, 0), int(told["VmHWM"].split()[0]))
+
+    def _seconds(self) -> float:
+        with open(f"/proc/{self.agent}/stat") as file:
+            return sum(int(word) for word in file.read().rpartition(")")[2].split()[11:15]) / os.sysconf("SC_CLK_TCK")
+
+    def end(self, *names: str) -> str:
+        self.stopping.set()
+        self.thread.join()
+        memory = ", ".join(f"{name} {self.most.get(name, 0) / 1024:.0f} MB" for name in names)
+        return f"{self._seconds() - self.begun:.0f} s of a processor, {memory}"
+
+
+def size_of(folder: str) -> int:
+    return int(subprocess.run(["du", "-sb", folder], capture_output=True, text=True, check=True).stdout.split()[0])
+
+
+def many(room: str) -> None:
+    """Two gigabytes in 50,000 files, of which a second version changes a hundredth, on the other node."""
+    write = (
+        "import os, sys\nfor k in range(0, 50_000, int(sys.argv[2])):\n  os.makedirs(f'{sys.argv[1]}/{k % 250}', exist_ok=True)\n"
+        "  open(f'{sys.argv[1]}/{k % 250}/{k}', 'wb').write(os.urandom(40_000))"
+    )
+    with farm_up(room, 2) as home:
+        with open(f"{home}/pid") as file:
+            agent = int(file.read())
+        kept = 0
+        for node, every, name in ((1, 1, "written, and committed"), (1, 100, "500 changed, and committed"), (2, 100, "filled elsewhere, 500 changed, and committed")):
+            run = [FARM, "run", "--home", home, "--node", str(node), "--folder", f"locked:many={room}/w{node}", "--", "python3", "-c", write, f"{room}/w{node}", str(every)]
+            watched = Watched(agent)
+            took = seconds(run)
+            memory = watched.end("agent", "casync", os.path.basename(farmctl())[:15])  # as much of a name as the kernel tells
+            before, kept = kept, size_of(f"{home}/contents/chunks")
+            row(f"2 GB, 50,000 files: {name}", f"{took:.1f} s", f"{(kept - before) / 1e6:,.0f} MB of new chunks", memory)
 
 
 class Package:
@@ -117,7 +177,7 @@ def main() -> int:
     words = sys.argv[1:]
     source = words[words.index("package") + 1 :] if "package" in words else []
     print(f"load {os.getloadavg()[0]:.1f}, {os.cpu_count()} processors", flush=True)
-    jobs: dict[str, Callable[[str], None]] = {"start": start, "folder": folder, "package": lambda room: package(room, os.path.abspath(source[0]), source[1:])}
+    jobs: dict[str, Callable[[str], None]] = {"start": start, "folder": folder, "many": many, "package": lambda room: package(room, os.path.abspath(source[0]), source[1:])}
     for name, job in jobs.items():
         if name in words[: len(words) - len(source)]:
             with tempfile.TemporaryDirectory(prefix="farm-") as room:

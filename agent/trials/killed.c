@@ -1,0 +1,220 @@
+// Preloaded into a program, counts its calls that make, write, cut, sync, rename or remove files or write to a pipe, in the file KILL_COUNT
+// of eight bytes, and disturbs that of the number KILL_AT, from 1, as KILL_HOW says:
+//   before    the process is killed before the call
+//   half      only writes count: half of the bytes are written, and the process is killed
+//   cut       the power fails before the call: what was written and not synced is gone
+//   names     the same, and what was made or renamed in a folder that wasn't synced is as it was
+//   full      only calls on files count: this one fails with ENOSPC
+//   fuller    the same, and each later one that makes or writes a file
+#define _GNU_SOURCE
+#include <dlfcn.h>
+#include <errno.h>
+#include <fcntl.h>
+#include <limits.h>
+#include <signal.h>
+#include <stdarg.h>
+#include <stdint.h>
+#include <stdio.h>
+#include <stdlib.h>
+#include <string.h>
+#include <sys/mman.h>
+#include <sys/stat.h>
+#include <unistd.h>
+
+enum { MOST = 256 };
+static uint64_t own, *count = &own, at;
+static char how = '-'; // the first letter of KILL_HOW, but `r` of fuller
+static struct { dev_t dev; ino_t ino; int file; off_t len; } written[MOST]; // not synced: the length that lasts
+static struct { dev_t dev; ino_t ino; char from[PATH_MAX], to[PATH_MAX], was[PATH_MAX]; int had; } named[MOST]; // folder not synced
+static int writings, namings;
+
+#define REAL(name) ((__typeof__(&name))dlsym(RTLD_NEXT, #name))
+
+__attribute__((constructor)) static void begin(void) {
+  const char *path = getenv("KILL_COUNT"), *kind = getenv("KILL_HOW"), *number = getenv("KILL_AT");
+  if (!path || !kind || !number)
+    return;
+  int file = REAL(open)(path, O_RDWR);
+  void *made = file < 0 ? MAP_FAILED : mmap(0, sizeof *count, PROT_READ | PROT_WRITE, MAP_SHARED, file, 0);
+  if (made == MAP_FAILED)
+    _exit(126);
+  close(file);
+  count = made;
+  at = strtoull(number, 0, 10);
+  how = strcmp(kind, "fuller") ? kind[0] : 'r';
+}
+
+static void folder_of(const char *path, struct stat *found) {
+  char folder[PATH_MAX];
+  const char *end = strrchr(path, '/');
+  snprintf(folder, sizeof folder, "%.*s", end ? (int)(end - path + 1) : 1, end ? path : ".");
+  if (stat(folder, found))
+    abort();
+}
+
+// What a power failure leaves.
+static void undo(void) {
+  while (writings--)
+    if (REAL(ftruncate)(written[writings].file, written[writings].len))
+      abort();
+  while (namings--) {
+    if (!named[namings].from[0])
+      REAL(unlink)(named[namings].to);
+    else if (REAL(rename)(named[namings].to, named[namings].from) || (named[namings].had && REAL(rename)(named[namings].was, named[namings].to)))
+      abort();
+  }
+}
+
+static void end(void) {
+  if (how == 'c' || how == 'n')
+    undo();
+  kill(getpid(), SIGKILL);
+}
+
+static int is_file(int file) {
+  struct stat found;
+  return !fstat(file, &found) && (S_ISREG(found.st_mode) || S_ISDIR(found.st_mode));
+}
+
+// Counts a call. Whether it has to fail.
+static int fails(int counts) {
+  if (how == '-' || !counts)
+    return 0;
+  uint64_t now = ++*count;
+  if (how == 'f' || how == 'r') {
+    errno = ENOSPC;
+    return now == at || (how == 'r' && at && now > at);
+  }
+  if (now == at)
+    end();
+  return 0;
+}
+
+static int counts_file(int file) {
+  return how != 'h' && is_file(file);
+}
+
+static int counts_name(void) {
+  return how != 'h';
+}
+
+static void note_written(int file) {
+  struct stat found;
+  if ((how != 'c' && how != 'n') || fstat(file, &found) || !S_ISREG(found.st_mode))
+    return;
+  for (int i = 0; i < writings; i++)
+    if (written[i].dev == found.st_dev && written[i].ino == found.st_ino)
+      return;
+  if (writings == MOST)
+    abort();
+  written[writings].dev = found.st_dev, written[writings].ino = found.st_ino, written[writings].len = found.st_size;
+  written[writings++].file = fcntl(file, F_DUPFD_CLOEXEC, 200);
+}
+
+static void note_synced(int file) {
+  struct stat found;
+  if ((how != 'c' && how != 'n') || fstat(file, &found))
+    return;
+  for (int i = writings - 1; i >= 0; i--)
+    if (written[i].dev == found.st_dev && written[i].ino == found.st_ino) {
+      close(written[i].file);
+      written[i] = written[--writings];
+    }
+  int left = 0;
+  for (int i = 0; i < namings; i++)
+    if (named[i].dev == found.st_dev && named[i].ino == found.st_ino) {
+      if (named[i].had)
+        REAL(unlink)(named[i].was);
+    } else
+      named[left++] = named[i];
+  namings = left;
+}
+
+static void note_named(const char *from, const char *to) {
+  struct stat found;
+  if (how != 'n')
+    return;
+  if (namings == MOST)
+    abort();
+  folder_of(to, &found);
+  named[namings].dev = found.st_dev, named[namings].ino = found.st_ino;
+  snprintf(named[namings].from, PATH_MAX, "%s", from);
+  snprintf(named[namings].to, PATH_MAX, "%s", to);
+  if (snprintf(named[namings].was, PATH_MAX, "%s.was%d", to, namings) >= PATH_MAX)
+    abort();
+  named[namings].had = from[0] && !link(to, named[namings].was);
+  namings++;
+}
+
+ssize_t write(int file, const void *bytes, size_t size) {
+  int counts = file != 2 && (is_file(file) || (how != 'f' && how != 'r'));
+  if (how == 'h' && counts && ++*count == at) {
+    REAL(write)(file, bytes, size / 2);
+    end();
+  }
+  if (how != 'h' && fails(counts))
+    return -1;
+  note_written(file);
+  return REAL(write)(file, bytes, size);
+}
+
+int fsync(int file) {
+  if (fails(counts_file(file)))
+    return -1;
+  note_synced(file);
+  return REAL(fsync)(file);
+}
+
+int fdatasync(int file) {
+  if (fails(counts_file(file)))
+    return -1;
+  note_synced(file);
+  return REAL(fdatasync)(file);
+}
+
+int ftruncate(int file, off_t size) {
+  return fails(counts_file(file)) ? -1 : REAL(ftruncate)(file, size);
+}
+
+int rename(const char *from, const char *to) {
+  if (fails(counts_name()))
+    return -1;
+  note_named(from, to);
+  return REAL(rename)(from, to);
+}
+
+int unlink(const char *path) {
+  // A full disk has room for what is removed.
+  return counts_name() && how != 'f' && how != 'r' && fails(1) ? -1 : REAL(unlink)(path);
+}
+
+int mkdir(const char *path, mode_t mode) {
+  return fails(counts_name()) ? -1 : REAL(mkdir)(path, mode);
+}
+
+static int opened(int in, const char *path, int flags, mode_t mode) {
+  struct stat found;
+  int makes = (flags & O_CREAT) && fstatat(in, path, &found, 0);
+  if (fails(counts_name() && (makes || (flags & O_TRUNC))))
+    return -1;
+  int file = REAL(openat)(in, path, flags, mode);
+  if (makes && file >= 0 && in == AT_FDCWD)
+    note_named("", path);
+  return file;
+}
+
+int open(const char *path, int flags, ...) {
+  va_list more;
+  va_start(more, flags);
+  mode_t mode = flags & O_CREAT ? va_arg(more, mode_t) : 0;
+  va_end(more);
+  return opened(AT_FDCWD, path, flags, mode);
+}
+
+int openat(int in, const char *path, int flags, ...) {
+  va_list more;
+  va_start(more, flags);
+  mode_t mode = flags & O_CREAT ? va_arg(more, mode_t) : 0;
+  va_end(more);
+  return opened(in, path, flags, mode);
+}
