@@ -1,10 +1,11 @@
 #!/usr/bin/env bash
 # Six commands each add one to a number in a folder, three on each of two nodes: first in a folder that both see, then in one that a
-# farm leases. Prints what the number is then. Status 0 where the farm counted right.
+# farm leases. Then one on each adds 100 rows to SQLite's database. Prints what there is at the end. Status 0 where the farm lost nothing.
 #
 # usage: examples/count/run.sh
 set -euo pipefail
-top=$(cd "$(dirname "$0")/../.." && pwd)
+here=$(cd "$(dirname "$0")" && pwd)
+top=$here/../..
 room=$(mktemp -d /tmp/count-XXXXXX)
 farm=
 finish() {
@@ -13,28 +14,53 @@ finish() {
 }
 trap finish EXIT
 
-# Starts a command six times, with the node and a number of its own as its last words, and waits for all.
-six() {
-  local each pids=()
-  for each in 1 2 3 4 5 6; do
+# Starts a command as often as is said, with the node and a number of its own as its last words, and waits for all.
+times() {
+  local each pids=() count=$1
+  shift
+  for each in $(seq "$count"); do
     "$@" $((each % 2 + 1)) "$each" 2>>"$room/said" &
     pids+=($!)
   done
   for each in "${pids[@]}"; do wait "$each"; done
 }
 
+alone() { "$here/count.sh" "$room/plain"; }
+alone_rows() { "$here/rows.py" "$room/plain" "$2"; }
+leased() { "$top/farm" run --node "$1" --folder "locked:count=$room/w$2" -- "$here/count.sh" "$room/w$2"; }
+leased_rows() { "$top/farm" run --node "$1" --folder "locked:rows=$room/r$2" -- "$here/rows.py" "$room/r$2" "$2"; }
+
+# Adds the numbers that are written one a line.
+sum() {
+  local each all=0
+  while read -r each; do all=$((all + each)); done
+  printf '%s\n' "$all"
+}
+
 mkdir "$room/plain"
-alone() { "$top/examples/count/count.sh" "$room/plain"; }
-six alone
+times 6 alone
 printf 'a plain folder: 6 commands added one, and the number is %s\n' "$(cat "$room/plain/n")"
+has_sqlite=yes
+python3 -c 'import sqlite3' 2>/dev/null || has_sqlite=
+if [ -n "$has_sqlite" ]; then
+  confirmed=$(times 2 alone_rows | sum)
+  printf 'a plain folder: SQLite confirmed %s rows, and %s are there\n' "$confirmed" "$("$here/rows.py" "$room/plain" count)"
+fi
 
 export FARM_HOME=$room/home
 mkfifo "$room/up"
 "$top/farm" up --nodes 2 >"$room/up" 2>>"$room/said" &
 farm=$!
 read -r _ <"$room/up" || { cat "$room/said"; exit 1; }
-leased() { "$top/farm" run --node "$1" --folder "locked:count=$room/w$2" -- "$top/examples/count/count.sh" "$room/w$2"; }
-six leased
+times 6 leased
 "$top/farm" get locked:count "$room/last"
-printf 'leased folders: 6 commands added one, and the number is %s\n' "$(cat "$room/last/n")"
-[ "$(cat "$room/last/n")" = 6 ]
+number=$(cat "$room/last/n")
+printf 'leased folders: 6 commands added one, and the number is %s\n' "$number"
+if [ -n "$has_sqlite" ]; then
+  confirmed=$(times 2 leased_rows | sum)
+  "$top/farm" get locked:rows "$room/rows"
+  rows=$("$here/rows.py" "$room/rows" count)
+  printf 'leased folders: SQLite confirmed %s rows, and %s are there\n' "$confirmed" "$rows"
+  [ "$confirmed $rows" = '200 200' ]
+fi
+[ "$number" = 6 ]
