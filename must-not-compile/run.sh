@@ -45,13 +45,18 @@ for edit in must-not-compile/*/*.edit; do
   rm -rf "$room/crates/$name"
   copy_crate "$name"
   apply "$edit" "$room/crates/$name"
-  # Where the edit compiles, the check would go on to the libraries below: it is stopped.
-  said=$(cd "$room/crates/$name" && timeout 180 rt check --only "" 2>&1) || true
+  # Where the edit compiles, the check goes on to the libraries below, and is stopped in the end. A busy machine may take minutes
+  # before the compiler comes to the edit.
+  ended=0
+  said=$(cd "$room/crates/$name" && timeout 1200 rt check --only "" 2>&1) || ended=$?
   if grep -qF "error[$wanted]" <<<"$said"; then
     echo "$edit: refused: $(grep -m1 -F "error[$wanted]" <<<"$said" | cut -c1-140)"
   else
-    echo "$edit: NOT refused with $wanted:"
-    head -5 <<<"$said"
+    case $ended in
+      124) echo "$edit: NOT refused with $wanted within 20 minutes; it ended with:" ;;
+      *) echo "$edit: NOT refused with $wanted:" ;;
+    esac
+    tail -5 <<<"$said"
     failed=1
   fi
 done

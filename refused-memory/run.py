@@ -30,6 +30,8 @@ ROWS = [
     ("replay tenure.schedule", 0),
     ("replay coordinator-restarted.schedule", 0),
     ("replay --strict --explain failed-save.schedule", 1),
+    ("draw tenure.schedule", 0),
+    ("draw --explain failed-save.schedule", 0),
     ("check df-multistage.llb", 0),
     ("check --explain locked.schedule", 1),
     ("keys df-cache-modes.llb", 0),
