@@ -15,6 +15,7 @@ from typing import Iterator
 
 KINDS = ("ext2", "ext3", "ext4", "xfs", "tmpfs", "overlay", "f2fs")  # file systems
 TICK = 0.05  # seconds: two changes in one tick of the kernel's clock may have one time
+LOOKS = 40  # where all are too early the clock was set back, or something changes the folder all the time
 
 
 def signature(path: str) -> str | None:
@@ -26,7 +27,7 @@ def signature(path: str) -> str | None:
 
 
 def _signature(path: str) -> str | None:
-    while True:
+    for _ in range(LOOKS):
         whole = hashlib.sha256(_boot())
         newest = 0
         for name, here in _entries(path):
@@ -38,6 +39,7 @@ def _signature(path: str) -> str | None:
         if newest < time.time_ns() - TICK * 1e9:
             return whole.hexdigest()
         time.sleep(TICK)
+    return None
 
 
 def _entries(path: str) -> Iterator[tuple[str, os.stat_result]]:

@@ -159,6 +159,8 @@ class Standing(support.RoomTest):
             self.assertEqual(signature(self.path("w")), before)
             self.change(row)
             self.assertNotEqual(signature(self.path("w")), before, number)
+        with mock.patch("agent.standing.LOOKS", 2), mock.patch("agent.standing.time.time_ns", return_value=0):
+            self.assertIsNone(signature(self.path("w")), "the clock was set back")
         os.link(self.path("w/a/f"), self.path("w/a/g"))
         self.assertIsNone(signature(self.path("w")))
 

@@ -2,7 +2,8 @@
 """Runs commands and builds on a farm of three nodes while its processes are killed, its messages lost, repeated, delayed, damaged and
 forged, what a broker keeps overwritten, and leases withdrawn; then looks at every line, every version, and all that was told.
 
-The last line is `N right, M wrong`, and the status is 1 where something was wrong. Everything is on loopback and ends with the trial.
+The last line is `N right, M wrong`, and the status is 1 where something was wrong, or where a farm that nobody disturbs any more didn't
+end its commands in time: a line `late: ..` tells that. Everything is on loopback and ends with the trial.
 """
 from __future__ import annotations
 
@@ -78,6 +79,7 @@ class Chaos:
         self.farm: Farm = KINDS[given.over](f"{room}/farm", NODES, given.seed, given.wrong)
         self.attacker: Attacker | None = None
         self.faults: list[str] = []  # of agents that don't start again
+        self.late: list[str] = []  # what a farm that nobody disturbs didn't do in time
 
     def count(self, what: str) -> None:
         with self.lock:
@@ -229,16 +231,17 @@ class Chaos:
     # The whole.
 
     def calm(self) -> list[str]:
-        """Undisturbed, each node has to get each folder within some time."""
-        wrong = []
+        """Undisturbed, each node has to get each folder within some time. Which it was refused."""
+        refused: list[str] = []
         for node in range(1, NODES + 1):
             for folders in (["locked:a", "locked:b"], ["private:p"], ["shared:s"]):
                 if folders[0].startswith("shared:") and not can_have_namespaces():
                     continue
                 told = self.run(f"calm{node}", node, folders, f"calm{node}-{folders[0]}", 0.0, False, CALM)
                 if told.status or not told.committed:
-                    wrong.append(f"node {node} doesn't get {folders} any more: status {told.status}, {told.said[-300:]}")
-        return wrong
+                    found = self.late if told.status < 0 else refused
+                    found.append(f"node {node} doesn't get {folders} any more: status {told.status}, {told.said[-300:]}")
+        return refused
 
     def lines(self) -> Lines:
         lines: Lines = {}
@@ -248,7 +251,7 @@ class Chaos:
                 lines.setdefault(words[0], []).append((int(words[2]), int(words[4]), words[5]))
         return lines
 
-    def trial(self) -> tuple[Verdict, list[str]]:
+    def trial(self) -> Verdict:
         self.farm.begin()
         if isinstance(self.farm, OverRedis):
             self.attacker = Attacker(self.farm, self.given.seed, self.count)
@@ -261,35 +264,35 @@ class Chaos:
         saboteur.join()
         if self.attacker:
             self.attacker.stop()
-        wrong = self.join(workers) + self.faults
-        if not wrong and not self.given.wrong:
-            wrong += self.calm()
+        self.join(workers)
+        refused = [] if self.late or self.faults or self.given.wrong else self.calm()
         if self.faults:
-            return Verdict({}, [], ""), wrong  # no farm stands that could be judged
+            return Verdict({}, [], "")  # no farm stands that could be judged
         lines = self.lines()
         verdict = Verdict(lines, self.told, self.farm.history)
         verdict.judge_lines()
         verdict.judge_told()
         self.farm.end_agents()
         verdict.judge_contents(self.sources(), self.room)
-        for told in self.told:
-            if told.status == SPOILT:
-                verdict.blame(f"{told.token} found a folder as no command leaves it")
-        return verdict, wrong
+        for each in [*refused, *(f"{told.token} found a folder as no command leaves it" for told in self.told if told.status == SPOILT)]:
+            verdict.blame(each)
+        return verdict
 
-    def join(self, workers: list[threading.Thread]) -> list[str]:
+    def join(self, workers: list[threading.Thread]) -> None:
         """Waits for the last commands: a farm that nobody disturbs has to end them. Of one with a wrong agent nothing is expected."""
         end = time.monotonic() + (5.0 if self.given.wrong else CALM)
         for thread in workers:
             thread.join(max(0.0, end - time.monotonic()))
-        stuck = [name for name, thread in zip(list(self.clients), workers) if thread.is_alive()]
         with self.lock:
-            waiting = list(self.clients.values())
-        for process in waiting:
+            waiting = dict(self.clients)
+        standing = self.farm.standing() if waiting and not self.given.wrong else ""
+        for process in waiting.values():
             kill(process.pid)
         for thread in workers:
             thread.join(10)
-        return [f"commands of {', '.join(stuck)} didn't end"] if waiting and not self.given.wrong else []
+        if standing:
+            said = [f"{told.token} said {told.said[-500:]!r}" for told in self.told[-len(waiting) :]]
+            self.late.append(f"commands of {', '.join(waiting)} didn't end: {'; '.join(said)}\n{standing}")
 
     def sources(self) -> list[Source]:
         spoilt = self.attacker.spoilt if self.attacker else set()
@@ -337,7 +340,7 @@ def main() -> int:
     room = os.path.realpath(tempfile.mkdtemp(prefix="farm-chaos-"))
     chaos = Chaos(given, room)
     try:
-        verdict, wrong = chaos.trial()
+        verdict = chaos.trial()
     except FarmFault as fault:
         print(f"the trial can't go on: {fault}")
         return 1
@@ -347,16 +350,18 @@ def main() -> int:
         left = chaos.farm.left()
         if not given.verbose:
             shutil.rmtree(room, ignore_errors=True)
-    wrong += verdict.wrong + [f"a process is left: {each}" for each in left]
+    wrong = verdict.wrong + chaos.faults + [f"a process is left: {each}" for each in left]
     for counts in (chaos.counts, verdict.counts):
         print(", ".join(f"{count} {what}" for what, count in sorted(counts.items())))
+    for each in chaos.late[:20]:
+        print(f"late: {each}")
     for each in wrong[:20]:
         print(f"wrong: {each}")
     if given.verbose:
         print(f"kept in {room}")
     right = verdict.counts["versions taken out"]
     print(f"{given.over}, seed {given.seed}, {given.seconds:g} seconds: {right} right, {len(wrong)} wrong")
-    return 1 if wrong or not right else 0
+    return 1 if wrong or chaos.late or not right else 0
 
 
 if __name__ == "__main__":

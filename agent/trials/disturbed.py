@@ -5,10 +5,12 @@ that the agent is to have.
 """
 from __future__ import annotations
 
+import faulthandler
 import hashlib
 import json
 import os
 import random
+import signal
 import sys
 import threading
 from pathlib import Path
@@ -134,6 +136,7 @@ def publish_late(real: Callable[[Any, bytes], str]) -> Callable[[Any, bytes], st
 
 def main() -> int:
     said = json.loads(os.environ["TRIAL"])
+    faulthandler.register(signal.SIGUSR2)
     dice = random.Random(said["seed"])
     Told.history = said["history"]
     made: Any = serving

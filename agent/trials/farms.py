@@ -22,6 +22,7 @@ from agent.tools import TOP, need
 
 DISTURBED = f"{TOP}/agent/trials/disturbed.py"
 PYTHON_FARM = [sys.executable, "-IS", f"{TOP}/farm"]
+LAST = 150  # lines of an agent's log
 UP_MOST = 180.0  # seconds: other work may have the machine
 CLONE_NEWNET = 0x40000000
 
@@ -113,6 +114,19 @@ class Farm:
                 elif "--store" in words:
                     found[f"node{words[words.index('--node') + 1]}"] = pid
         return found
+
+    def standing(self) -> str:
+        """Where the threads of each agent stand, and what it said last."""
+        with self.lock:
+            agents = dict(self.agents)
+        for process in agents.values():
+            kill(process.pid, signal.SIGUSR2)
+        time.sleep(1.0)
+        told = []
+        for name in agents:
+            with open(f"{self.room}/{name}.log", errors="replace") as file:
+                told.append(f"{name}:\n{''.join(file.readlines()[-LAST:])}")
+        return "\n".join(told)
 
     def end_agents(self) -> None:
         with self.lock:

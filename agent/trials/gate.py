@@ -25,6 +25,7 @@ from agent.executions import can_have_namespaces  # noqa: E402
 from agent.tools import TOP, farmctl  # noqa: E402
 from agent.trials.farms import PYTHON_FARM  # noqa: E402
 
+MOST = 700  # lines of a trial that failed
 TRIAL = f"{TOP}/agent/trials/{{}}.py"
 DOCKERFILE = """FROM scratch
 COPY busybox /bin/busybox
@@ -141,8 +142,8 @@ def tried(name: str, *words: str, last: int = 1) -> str:
     done = subprocess.run([sys.executable, TRIAL.format(name), *words], stdin=subprocess.DEVNULL, capture_output=True, text=True, timeout=600)
     lines = (done.stdout + done.stderr).splitlines()
     if any(line.startswith("wrong: ") for line in lines):
-        raise Wrong("\n".join(lines[-25:]))
-    expect(done.returncode == 0 and bool(lines), "\n".join(lines[-25:]))
+        raise Wrong("\n".join(lines[-MOST:]))
+    expect(done.returncode == 0 and bool(lines), "\n".join(lines[-MOST:]))
     return "; ".join(lines[-last:])
 
 
