@@ -179,25 +179,25 @@ def over_redis(room: str) -> str:
 
 
 def found(room: str, *words: str) -> str:
-    """Chaos has to fail."""
-    try:
-        said = chaos(room, "--builds", "0", *words)
-    except Failed as fault:
-        wrong = [line for line in str(fault).splitlines() if line.startswith("wrong: ")]
-        expect(isinstance(fault, Wrong) and bool(wrong), str(fault))
-        return f"found, {wrong[-1]}"
+    """Chaos has to find the fault: the longer it goes on, the surer it does."""
+    said = ""
+    for seconds in ("8", "16", "32"):
+        try:
+            said = chaos(room, "--builds", "0", "--seconds", seconds, *words)
+        except Wrong as fault:
+            return "found, " + [line for line in str(fault).splitlines() if line.startswith("wrong: ")][-1]
     raise Failed(said)
 
 
 def early_agent(room: str) -> str:
     """An agent commits before its contents are kept."""
     need_tools("redis-server")
-    return found(room, "--over", "redis", "--seconds", "8", "--wrong", "early")
+    return found(room, "--over", "redis", "--wrong", "early")
 
 
 def stale_agent(room: str) -> str:
     """An agent takes what stands at a path for what it was."""
-    return found(room, "--over", "pipes", "--seconds", "8", "--wrong", "stale")
+    return found(room, "--over", "pipes", "--wrong", "stale")
 
 
 TRIALS: list[Callable[[str], str]] = [starts, kills, main_job, suites, count, over_pipes, over_redis, early_agent, stale_agent]
