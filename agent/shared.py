@@ -89,8 +89,7 @@ class SharedFolders:
                     continue
                 self.opening.add(folder)
             try:
-                opened = self._open(folder, epoch, patience)
-                prepare(opened)
+                opened = self._open(folder, epoch, patience, prepare)
                 with self.changed:
                     opened.recalled = opened.ticket in self.recalled
                     opened.users = 1
@@ -113,7 +112,7 @@ class SharedFolders:
             for tenure in self.tenures.values():
                 tenure.recalled = tenure.recalled or tenure.ticket == ticket
 
-    def _open(self, folder: str, epoch: int, patience: Patience) -> Tenure:
+    def _open(self, folder: str, epoch: int, patience: Patience, prepare: Callable[[Tenure], None]) -> Tenure:
         agent = self.agent
         ask: int | None = None
 
@@ -131,10 +130,12 @@ class SharedFolders:
             path = f"{agent.home}/shared/{short_name(folder)}"
             with agent.places.held(path):
                 agent.places.fill(agent.store, agent.content(slot, epoch, patience), path)
+            tenure = Tenure(ask, grant.ticket, slot, path, epoch)
+            prepare(tenure)
+            return tenure
         except BaseException:
             agent.give_back(grant.ticket, epoch)
             raise
-        return Tenure(ask, grant.ticket, slot, path, epoch)
 
     def leave(self, folder: str, tenure: Tenure) -> Closed:
         """Counts an execution out, once its own lease has ended. The last one closes the folder. What came of that."""
