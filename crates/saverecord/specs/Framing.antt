@@ -17,6 +17,10 @@ name_of whole = if nat_le 8 (length whole) then drop (length whole - 8) whole el
 abbrev pub check_of : List ℕ → List ℕ → List ℕ
 check_of name len = take 8 (sha256 (name ++ len))
 
+-- what stands before an entry that follows this record
+abbrev pub head_of : List ℕ → List ℕ → List ℕ
+head_of whole entry = name_of whole ++ (number64 (length entry) ++ check_of (name_of whole) (number64 (length entry)))
+
 -- an entry that follows this record, in the file
 abbrev pub framed : List ℕ → List ℕ → List ℕ
 framed whole entry = name_of whole ++ (number64 (length entry) ++ (check_of (name_of whole) (number64 (length entry)) ++ entry))

@@ -97,8 +97,17 @@ fn cut<R: Files>(files: &R, path: &str, len: u64) -> io::Result<()> {
     file.sync_all()
 }
 
+/// Waits until the device has the names of a folder's files.
+fn sync_names<R: Files>(files: &R, folder: &str) -> io::Result<()> {
+    fs::open(files, folder)?.sync_all()
+}
+
 /// The texts of a record's file and of its log's, and the log's length. What the log has behind the entries that follow
 /// the record is cut off.
+///
+/// A process that was killed, or a sync that failed, may have left a name or an entry that the device doesn't have. So it waits
+/// until the device has both, and the log isn't cut before the record's name is there: else a crash could bring back the record
+/// before it, whose entries are gone.
 fn read_texts<R: Files>(
     files: &R,
     alloc: Global,
@@ -109,7 +118,8 @@ fn read_texts<R: Files>(
     let bytes = read_file(files, alloc, tail)?;
     let left = take_entries(alloc, &mut log, bytes.as_slice()).map_err(log_error)?;
     let len = bytes.len().saturating_sub(left) as u64;
-    if left > 0 {
+    sync_names(files, folder_of(path))?;
+    if !bytes.is_empty() {
         cut(files, tail, len)?;
     }
     Ok((log, len))
@@ -156,7 +166,7 @@ impl<'a, R: Files> FileKeeper<'a, R> {
             let _removed = fs::remove_file(files, draft.as_str());
             return Err(error);
         }
-        fs::open(files, folder_of(path))?.sync_all()?;
+        sync_names(files, folder_of(path))?;
         cut(files, tail.as_str(), 0)
     }
 
@@ -185,14 +195,9 @@ impl<'a, R: Files> FileKeeper<'a, R> {
         fs::rename(self.files, self.draft.as_str(), self.path.as_str())
     }
 
-    /// Waits until the device has the files' names.
-    fn sync_folder(&self) -> io::Result<()> {
-        fs::open(self.files, self.folder.as_str())?.sync_all()
-    }
-
     /// Empties the log, once the device has the name of the record that took its place.
     fn empty(&self) -> io::Result<()> {
-        self.sync_folder()?;
+        sync_names(self.files, self.folder.as_str())?;
         cut(self.files, self.tail.as_str(), 0)
     }
 
@@ -211,7 +216,7 @@ impl<'a, R: Files> FileKeeper<'a, R> {
         file.sync_all()?;
         // The first entry may have made the file.
         if self.tail_len == 0 {
-            self.sync_folder()?;
+            sync_names(self.files, self.folder.as_str())?;
         }
         Ok(len)
     }

@@ -2,7 +2,7 @@
 ghost use Rattle.std.specs.Prelude.{◌≡◌, ◌++◌, [], Ok, None, IfOk, IfErr, IfSome, OnOk, Decides};
 ghost use Rattle.std.specs.Io.KnownBytes.{Appends};
 ghost use Rattle.saverecord.specs.declared.framing.LogFault.TheVariants as faults;
-ghost use Rattle.saverecord.specs.Framing.{name_of, check_of, framed, HasNone, IsEntry, IsFault, IsTold, AreTaken, AreTextsOf};
+ghost use Rattle.saverecord.specs.Framing.{name_of, check_of, head_of, framed, HasNone, IsEntry, IsFault, IsTold, AreTaken, AreTextsOf};
 ghost use Rattle.saverecord.specs.Texts.{whole_alone};
 
 use super::log::Log;
@@ -53,15 +53,26 @@ fn check_of(name: &[u8; 8], len: &[u8; 8]) -> [u8; 8]
     }
 }
 
+/// The head of an entry that follows this record.
+fn head_of(whole: &[u8], entry: &[u8]) -> [u8; 24]
+    ensures { result ≡ head_of whole.now entry.now }
+{
+    let name = name_of(whole);
+    let len = (entry.len() as u64).to_be_bytes();
+    let check = check_of(&name, &len);
+    let [a, b, c, d, e, f, g, h] = name;
+    let [i, j, k, l, m, n, o, p] = len;
+    let [q, r, s, t, u, v, w, x] = check;
+    [
+        a, b, c, d, e, f, g, h, i, j, k, l, m, n, o, p, q, r, s, t, u, v, w, x,
+    ]
+}
+
 /// Writes an entry that follows this record: how many bytes it takes.
 pub(crate) fn write_entry<W: Write>(file: &mut W, whole: &[u8], entry: &[u8]) -> io::Result<u64>
     ensures { OnOk result (Appends (W.contents file.old) (W.contents file.new) (framed whole.now entry.now)) }
 {
-    let name = name_of(whole);
-    let len = (entry.len() as u64).to_be_bytes();
-    file.write_all(&name)?;
-    file.write_all(&len)?;
-    file.write_all(&check_of(&name, &len))?;
+    file.write_all(&head_of(whole, entry))?;
     file.write_all(entry)?;
     Ok((entry.len() as u64).saturating_add(24))
 }
