@@ -5,6 +5,7 @@ use super::answers::graph_of;
 use super::command::{Command, Request};
 use super::failure::Failure;
 use super::line_fault::line_fault;
+use farm::FailedJob;
 use farm_base::{Key, Why};
 use jobs::{Cause, Fault};
 use opsproto::Kind;
@@ -153,12 +154,12 @@ fn cause_told(alloc: Global, bytes: &[u8], cause: Cause) -> Result<String, Alloc
 pub(crate) fn causes_told(
     alloc: Global,
     files: &[(String, Vec<u8>)],
-    failed: &[(usize, Cause)],
+    failed: &[FailedJob],
 ) -> Result<String, AllocError> {
     let mut lines = String::new(alloc);
-    for (place, cause) in failed {
-        if let Some((name, bytes)) = files.get(*place) {
-            let told = cause_told(alloc, bytes.as_slice(), *cause)?;
+    for job in failed {
+        if let Some((name, bytes)) = files.get(job.place) {
+            let told = cause_told(alloc, bytes.as_slice(), job.cause)?;
             write!(lines, "{name}: {told}\n")?;
         }
     }

@@ -11,9 +11,9 @@ use super::answers::graph_of;
 use super::failure::Failure;
 use super::scripted::Scripted;
 use executions::{Executor, OpenGate};
-use farm::{Farm, FarmEnd, FarmFault, FarmStop};
+use farm::{FailedJob, Farm, FarmEnd, FarmFault, FarmStop};
 use farm_base::NodeId;
-use jobs::{Answer, Cause};
+use jobs::Answer;
 use saverecord::FileKeeper;
 use schedule::Setup;
 use solverkeys::Keyed;
@@ -228,8 +228,8 @@ pub struct Order<'a> {
 pub struct Ended {
     /// The status of the program.
     pub status: u8,
-    /// Why each file that failed did: its place, from 0, and its cause.
-    pub failed: Vec<(usize, Cause)>,
+    /// Each file that failed, by its place from 0.
+    pub failed: Vec<FailedJob>,
 }
 
 /// What a run leaves to print and to keep.
@@ -237,8 +237,8 @@ struct Report {
     text: String,
     /// The coordinator's record at the end.
     saved: Vec<u8>,
-    /// Why each file that failed did.
-    failed: Vec<(usize, Cause)>,
+    /// Each file that failed.
+    failed: Vec<FailedJob>,
 }
 
 /// A fault, and the coordinator's record then, if it can be told.
@@ -282,7 +282,7 @@ fn make_report<R: Threads + Wait + Sync>(
     executors: Vec<(NodeId, Box<dyn Executor + Send>)>,
 ) -> Result<Report, Stop>
     requires { length inputs.names.items ≡ length inputs.jobs.items }
-    ensures run { IfOk result (λ report. IsRunOf setup (map string_bytes inputs.names.items) (string_bytes report.text) report.saved.items (map (λ each. each.0) report.failed.items)) }
+    ensures run { IfOk result (λ report. IsRunOf setup (map string_bytes inputs.names.items) (string_bytes report.text) report.saved.items (map (λ each. each.place) report.failed.items)) }
     // A record that a fault leaves is that of a farm of this setup.
     ensures left { IfErr result (λ stop. IfSome stop.saved (λ saved. IsRecordOf setup saved.items)) }
 {
@@ -398,7 +398,7 @@ pub fn solve<R: Files + AllocGlobal + Threads + Wait + Sync, O: Write, E: Write>
 ) -> Ended
     // At status 0 the standard output has the lines of a run of the files, and each that failed has its cause.
     ensures done { result.status ≡ 0 → (text : List ℕ) × (saved : List ℕ)
-        × IsRunOf (record { nodes = order.entry.nodes }) (names_of files.items) text saved (map (λ each. each.0) result.failed.items)
+        × IsRunOf (record { nodes = order.entry.nodes }) (names_of files.items) text saved (map (λ each. each.place) result.failed.items)
         × Appends (O.contents out.old) (O.contents out.new) text }
     ensures quiet { result.status ≡ 1 → out.new ≡ out.old }
 {

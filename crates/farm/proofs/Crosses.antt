@@ -22,11 +22,11 @@ use Rattle.jobs.specs.contracts.jobs.Jobs as Jobs
 use Rattle.executions.specs.contracts.live_shared.LiveShared as LiveShared
 use Rattle.solverkeys.specs.contracts.keyed.Keyed as Keyed
 use Rattle.farm.specs.contracts.work.Work as Work
-use Rattle.farm.specs.contracts.home.NodeJobs as NodeJobs
+use Rattle.farm.specs.contracts.node_state.NodeJobs as NodeJobs
 use Rattle.farm.specs.contracts.open_folders.OpenFolders as OpenFolders
-use Rattle.farm.specs.contracts.home.Home as Home
-use Rattle.farm.specs.contracts.desk.Desk as Desk
-use Rattle.farm.specs.contracts.hall.Hall as Hall
+use Rattle.farm.specs.contracts.node_state.NodeState as NodeState
+use Rattle.farm.specs.contracts.locked_board.LockedBoard as LockedBoard
+use Rattle.farm.specs.contracts.common.Common as Common
 
 pub message : IsSend Message.the_row
 message = search (sendable, crosses, maps.crosses) depth 60 fits 20000
@@ -95,11 +95,11 @@ node_jobs = search (sendable, crosses, maps.crosses, jobs) depth 60 fits 20000
 pub open_folders : IsSend OpenFolders.the_row
 open_folders = search (sendable, crosses, maps.crosses, live_shared) depth 60 fits 20000
 
-pub home : IsSync Home.the_row
-home = search (sendable, crosses, node_jobs, open_folders) depth 60 fits 20000
+pub node_state : IsSync NodeState.the_row
+node_state = search (sendable, crosses, node_jobs, open_folders) depth 60 fits 20000
 
-pub desk : IsSend Desk.the_row
-desk = search (sendable, crosses, maps.crosses, board) depth 60 fits 20000
+pub locked_board : IsSend LockedBoard.the_row
+locked_board = search (sendable, crosses, maps.crosses, board) depth 60 fits 20000
 
-pub hall : IsSync Hall.the_row
-hall = search (sendable, crosses, maps.crosses, home, desk, work) depth 60 fits 20000
+pub common : IsSync Common.the_row
+common = search (sendable, crosses, maps.crosses, node_state, locked_board, work) depth 60 fits 20000

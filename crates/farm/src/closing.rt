@@ -1,8 +1,8 @@
 //! The ends of tenures, whose folders are closed then.
-use super::desk::{Desk, Ends, Stage};
+use super::common::Common;
 use super::fault::FarmFault;
 use super::faults::shared_fault;
-use super::hall::Hall;
+use super::locked_board::{Ends, LockedBoard, Stage};
 use super::run::lefts_of;
 use super::worker::push_receipt;
 use farm_base::{Content, FolderName, NodeId};
@@ -38,26 +38,26 @@ fn abandon(leaving: Leaving) {
 /// Closes the folder of a tenure, and takes its content.
 fn close<R: Wait>(
     rt: &R,
-    hall: &Hall,
+    common: &Common,
     node: NodeId,
     folder: &FolderName,
 ) -> Result<(Running, Content), FarmFault> {
-    let Some(home) = hall.home(node) else {
+    let Some(state) = common.node(node) else {
         return Err(FarmFault::ReceiptLost);
     };
-    let closed = home.open.lock(rt).live.close(hall.alloc, folder);
+    let closed = state.open.lock(rt).live.close(common.alloc, folder);
     closed.map_err(shared_fault)
 }
 
 /// Ends a tenure with the content of its folder.
 fn finish(
     alloc: Global,
-    desk: &mut Desk,
+    locked: &mut LockedBoard,
     running: Running,
     content: Content,
 ) -> Result<Finished, FarmFault> {
     match lefts_of(alloc, &running, content) {
-        Ok(lefts) => desk.finish(alloc, running, lefts),
+        Ok(lefts) => locked.finish(alloc, running, lefts),
         Err(_) => {
             abandon_running(running);
             Err(FarmFault::Memory)
@@ -65,24 +65,24 @@ fn finish(
     }
 }
 
-/// Ends the next tenure that is to end, if there is one. Whoever calls this has the lock of the desk until then: so
+/// Ends the next tenure that is to end, if there is one. Whoever calls this has the lock of the board until then: so
 /// no execution asks for the folder between.
 pub(crate) fn end_next<R: Wait>(
     rt: &R,
-    hall: &Hall,
-    desk: &mut Desk,
+    common: &Common,
+    locked: &mut LockedBoard,
     leaving: &mut Vec<Leaving>,
     ends: Ends,
 ) -> Result<bool, FarmFault> {
-    let Some((node, folder)) = desk.next_to_end(hall.alloc, ends)? else {
+    let Some((node, folder)) = locked.next_to_end(common.alloc, ends)? else {
         return Ok(false);
     };
     if leaving.reserve(1).is_err() {
         return Err(FarmFault::Memory);
     }
-    let (running, content) = close(rt, hall, node, &folder)?;
-    let finished = finish(hall.alloc, desk, running, content)?;
-    desk.stage(node, &folder, Stage::Ending);
+    let (running, content) = close(rt, common, node, &folder)?;
+    let finished = finish(common.alloc, locked, running, content)?;
+    locked.stage(node, &folder, Stage::Ending);
     leaving.push_reserved(Leaving {
         node,
         folder,
@@ -93,7 +93,7 @@ pub(crate) fn end_next<R: Wait>(
 
 /// Looks whether the tenure that ended first is settled by now.
 pub(crate) fn settle_next(
-    desk: &mut Desk,
+    locked: &mut LockedBoard,
     leaving: &mut Vec<Leaving>,
     receipts: &mut Vec<Receipt>,
 ) -> Result<bool, FarmFault> {
@@ -105,7 +105,7 @@ pub(crate) fn settle_next(
         folder,
         finished,
     } = leaving.remove(0);
-    let receipt = match desk.board.receipt(finished) {
+    let receipt = match locked.board.receipt(finished) {
         Settled::Receipt(receipt) => Some(receipt),
         Settled::Fenced | Settled::Lost => None,
         Settled::Waiting(finished) => {
@@ -117,7 +117,7 @@ pub(crate) fn settle_next(
             return Ok(false);
         }
     };
-    desk.forget(node, &folder);
+    locked.forget(node, &folder);
     push_receipt(receipts, receipt)?;
     Ok(true)
 }

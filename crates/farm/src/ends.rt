@@ -15,13 +15,21 @@ pub struct OneEnd {
     pub schedule: Vec<Event>,
 }
 
+/// A job that failed, and why.
+#[derive(Debug, Drop)]
+pub struct FailedJob {
+    /// Its place among the jobs, from 0.
+    pub place: usize,
+    pub cause: Cause,
+}
+
 /// What a run of many executors leaves.
 #[derive(Drop)]
 pub struct FarmEnd {
     /// The answer of each job, in their order.
     pub answers: Vec<Answer>,
-    /// Why each job that failed did: its place, from 0, and its cause.
-    pub causes: Vec<(usize, Cause)>,
+    /// Each job that failed, in their order.
+    pub causes: Vec<FailedJob>,
     /// How many grants ended as committed.
     pub commits: u64,
     /// Those of the executions and tenures that left versions.

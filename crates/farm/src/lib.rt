@@ -4,14 +4,16 @@
 mod answers;
 mod bell;
 mod closing;
-mod desk;
+mod common;
 mod down;
+mod driver;
 mod ends;
 mod fault;
 mod faults;
-mod hall;
-mod home;
+mod lease;
+mod locked_board;
 mod many;
+mod node_state;
 mod one;
 mod open_folders;
 mod opening;
@@ -26,6 +28,6 @@ mod worker;
 mod worker_steps;
 
 pub use down::DownCount;
-pub use ends::{FarmEnd, FarmLeft, FarmStop, OneEnd};
+pub use ends::{FailedJob, FarmEnd, FarmLeft, FarmStop, OneEnd};
 pub use fault::FarmFault;
 pub use one::Farm;

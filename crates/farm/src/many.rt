@@ -14,13 +14,13 @@ ghost use Rattle.farmend.specs.Replays.{commits_after, farm_after};
 ghost use Rattle.farmend.specs.Standing.{IsStanding};
 
 use super::answers::{answer_of, cause_of};
-use super::desk::Desk;
-use super::ends::{FarmEnd, FarmLeft, FarmStop};
+use super::common::Common;
+use super::ends::{FailedJob, FarmEnd, FarmLeft, FarmStop};
 use super::fault::FarmFault;
 use super::faults::{early_fault, end_fault, start_fault};
-use super::hall::Hall;
+use super::locked_board::LockedBoard;
 use super::one::Farm;
-use super::opening::{Submitted, open, submit_all};
+use super::opening::{Submission, Submitted, open, submit_all};
 use super::plan::Plan;
 use super::setups::{beside_setup, is_staffed};
 use super::threads::{Ends, run_threads};
@@ -30,7 +30,7 @@ use executions::{Executor, Gate};
 use farm_base::NodeId;
 use farmboard::{Board, FarmStep, Receipt};
 use farmend::{EndRefusal, HandedBack, Hired, RunEnd, Standing, calls_of, check, check_standing};
-use jobs::{Answer, Cause, JobId};
+use jobs::{Answer, Cause};
 use schedule::Setup;
 use solverkeys::Keyed;
 use std::alloc::{AllocError, Global};
@@ -74,44 +74,43 @@ fn gather(
 fn answers_of<R: Wait>(
     rt: &R,
     alloc: Global,
-    hall: &Hall,
-    numbers: &[(NodeId, JobId)],
+    common: &Common,
+    numbers: &[Submission],
 ) -> Result<Vec<Answer>, FarmFault> {
     let mut answers = Vec::with_capacity(alloc, numbers.len())?;
-    for (node, number) in numbers {
-        let Some(home) = hall.home(*node) else {
+    for submission in numbers {
+        let Some(state) = common.node(submission.node) else {
             return Err(FarmFault::ReceiptLost);
         };
-        let answer = answer_of(&home.jobs.lock(rt).jobs, *number)?;
+        let answer = answer_of(&state.jobs.lock(rt).jobs, submission.number)?;
         answers.push(answer)?;
     }
     Ok(answers)
 }
 
-/// Why the job of this number on a node failed.
+/// Why a job failed.
 fn cause_at<R: Wait>(
     rt: &R,
     alloc: Global,
-    hall: &Hall,
-    number: (NodeId, JobId),
+    common: &Common,
+    submission: &Submission,
 ) -> Result<Cause, FarmFault> {
-    let (node, number) = number;
-    let Some(home) = hall.home(node) else {
+    let Some(state) = common.node(submission.node) else {
         return Err(FarmFault::ReceiptLost);
     };
-    let cause = cause_of(alloc, &home.jobs.lock(rt).jobs, number)?;
+    let cause = cause_of(alloc, &state.jobs.lock(rt).jobs, submission.number)?;
     Ok(cause)
 }
 
-/// Why each job that failed did: its place, and its cause.
+/// Each job that failed, and why.
 fn causes_of<R: Wait>(
     rt: &R,
     alloc: Global,
-    hall: &Hall,
-    numbers: &[(NodeId, JobId)],
+    common: &Common,
+    numbers: &[Submission],
     answers: &[Answer],
-) -> Result<Vec<(usize, Cause)>, FarmFault>
-    ensures { IfOk result (λ causes. map (λ each. each.0) causes.items ≡ failed_in answers.now) }
+) -> Result<Vec<FailedJob>, FarmFault>
+    ensures { IfOk result (λ causes. map (λ each. each.place) causes.items ≡ failed_in answers.now) }
 {
     let mut causes = Vec::new(alloc);
     let mut rest = answers;
@@ -120,7 +119,8 @@ fn causes_of<R: Wait>(
             break;
         };
         if let Answer::Failed = answer {
-            causes.push((place, cause_at(rt, alloc, hall, numbers[place])?))?;
+            let cause = cause_at(rt, alloc, common, &numbers[place])?;
+            causes.push(FailedJob { place, cause })?;
         }
         rest = others;
     }
@@ -134,27 +134,27 @@ fn causes_of<R: Wait>(
 fn told_of<R: Wait>(
     rt: &R,
     alloc: Global,
-    hall: &Hall,
-    numbers: &[(NodeId, JobId)],
+    common: &Common,
+    numbers: &[Submission],
 ) -> Result<Told, FarmFault>
-    ensures { IfOk result (λ told. map (λ each. each.0) told.causes.items ≡ failed_in told.answers.items) }
+    ensures { IfOk result (λ told. map (λ each. each.place) told.causes.items ≡ failed_in told.answers.items) }
 {
-    if let Some(fault) = *hall.fault.lock(rt) {
+    if let Some(fault) = *common.fault.lock(rt) {
         return Err(fault);
     }
-    let answers = answers_of(rt, alloc, hall, numbers)?;
-    let causes = causes_of(rt, alloc, hall, numbers, answers.as_slice())?;
+    let answers = answers_of(rt, alloc, common, numbers)?;
+    let causes = causes_of(rt, alloc, common, numbers, answers.as_slice())?;
     Ok(Told { answers, causes })
 }
 
 /// The board and the jobs.
-fn parts_of(hall: Hall) -> (Board, Vec<(NodeId, Keyed)>)
-    ensures { result.1.items ≡ hall.work.jobs.items }
+fn parts_of(common: Common) -> (Board, Vec<(NodeId, Keyed)>)
+    ensures { result.1.items ≡ common.work.jobs.items }
 {
-    let Hall {
+    let Common {
         alloc: _,
-        desk,
-        homes: _,
+        board,
+        nodes: _,
         work,
         fault: _,
         stop: _,
@@ -165,12 +165,12 @@ fn parts_of(hall: Hall) -> (Board, Vec<(NodeId, Keyed)>)
         steps: _,
         waits: _,
         ended: _,
-    } = hall;
-    let Desk {
+    } = common;
+    let LockedBoard {
         board,
         tenures: _,
         recalled: _,
-    } = desk.into_inner();
+    } = board.into_inner();
     (board, work.into_jobs())
 }
 
@@ -209,7 +209,7 @@ impl Farm {
         ensures answered { IfOk result (λ end. length end.answers.items ≡ length jobs.items) }
         ensures settled { IfOk result (λ end. All (λ answer. answer ≢ Answer.Waiting) end.answers.items) }
         // Each job that failed has its cause.
-        ensures causes { IfOk result (λ end. map (λ each. each.0) end.causes.items ≡ failed_in end.answers.items) }
+        ensures causes { IfOk result (λ end. map (λ each. each.place) end.causes.items ≡ failed_in end.answers.items) }
 
         // A fault hands back what stands, unless nothing was begun or it can't be told.
         ensures bare { IfErr result (λ stop. IfNone stop.left (is_bare stop.fault ≡ true)) }
@@ -223,7 +223,13 @@ impl Farm {
                 left: None,
             });
         }
-        match run_staffed(rt, alloc, setup, jobs, executors, fault_plan, gate) {
+        let order = Order {
+            setup,
+            jobs,
+            executors,
+            fault_plan,
+        };
+        match run_staffed(rt, alloc, order, gate) {
             Ok(end) => Ok(end),
             Err(FarmStop { fault, left }) => Err(FarmStop {
                 fault: beside_setup(fault),
@@ -233,42 +239,49 @@ impl Farm {
     }
 }
 
-/// Solves the jobs on their nodes, where each has an executor on its node.
-fn run_staffed<R: Threads + Wait + Sync, G: Gate>(
-    rt: &R,
-    alloc: Global,
+/// What is to be run: the setup and the jobs, who executes them, and how the farm is disturbed.
+#[derive(Drop)]
+struct Order {
     setup: Setup,
     jobs: Vec<(NodeId, Keyed)>,
     executors: Vec<(NodeId, Box<dyn Executor + Send>)>,
     fault_plan: Vec<(usize, FarmStep)>,
+}
+
+/// Solves the jobs on their nodes, where each has an executor on its node.
+fn run_staffed<R: Threads + Wait + Sync, G: Gate>(
+    rt: &R,
+    alloc: Global,
+    order: Order,
     gate: &G,
 ) -> Result<FarmEnd, FarmStop>
-    ensures saved { IfOk result (λ end. Holds (whole_alone end.saved.items) (farm_after setup end.schedule.items).saved) }
-    ensures commits { IfOk result (λ end. end.commits ≡ commits_after setup end.schedule.items) }
-    ensures receipts { IfOk result (λ end. All (StandsOn (farm_after setup end.schedule.items)) end.receipts.items) }
+    ensures saved { IfOk result (λ end. Holds (whole_alone end.saved.items) (farm_after order.setup end.schedule.items).saved) }
+    ensures commits { IfOk result (λ end. end.commits ≡ commits_after order.setup end.schedule.items) }
+    ensures receipts { IfOk result (λ end. All (StandsOn (farm_after order.setup end.schedule.items)) end.receipts.items) }
     ensures tickets { IfOk result (λ end. IsDistinct nat_eq (tickets_of end.receipts.items)) }
     ensures count { IfOk result (λ end. length end.receipts.items ≡ end.commits) }
-    ensures calls { IfOk result (λ end. AllZip Grew (map (λ each. history each.1) executors.items) (map (λ executor. history executor) end.executors.items)) }
+    ensures calls { IfOk result (λ end. AllZip Grew (map (λ each. history each.1) order.executors.items) (map (λ executor. history executor) end.executors.items)) }
     ensures answers { IfOk result (λ end.
-        let nodes = map (λ each. each.0) executors.items in
-        let had = map (λ each. history each.1) executors.items in
+        let nodes = map (λ each. each.0) order.executors.items in
+        let had = map (λ each. history each.1) order.executors.items in
         let ends = map (λ executor. history executor) end.executors.items in
-        AllZip (λ job answer. IsAnswered (farm_after setup end.schedule.items) (new_calls job.0 nodes had ends) job.0 job.1 answer) jobs.items end.answers.items) }
-    ensures answered { IfOk result (λ end. length end.answers.items ≡ length jobs.items) }
+        AllZip (λ job answer. IsAnswered (farm_after order.setup end.schedule.items) (new_calls job.0 nodes had ends) job.0 job.1 answer) order.jobs.items end.answers.items) }
+    ensures answered { IfOk result (λ end. length end.answers.items ≡ length order.jobs.items) }
     ensures settled { IfOk result (λ end. All (λ answer. answer ≢ Answer.Waiting) end.answers.items) }
-    ensures causes { IfOk result (λ end. map (λ each. each.0) end.causes.items ≡ failed_in end.answers.items) }
+    ensures causes { IfOk result (λ end. map (λ each. each.place) end.causes.items ≡ failed_in end.answers.items) }
     ensures bare { IfErr result (λ stop. IfNone stop.left (is_bare stop.fault ≡ true)) }
-    ensures stands { IfErr result (λ stop. IfSome stop.left (λ left. IsStanding setup left.schedule.items left.saved.items left.commits left.receipts.items)) }
+    ensures stands { IfErr result (λ stop. IfSome stop.left (λ left. IsStanding order.setup left.schedule.items left.saved.items left.commits left.receipts.items)) }
     ensures stands_by { IfErr result (λ stop. IfSome stop.left (λ left.
-        AllZip Grew (take (length left.executors.items) (map (λ each. history each.1) executors.items)) (map (λ executor. history executor) left.executors.items))) }
+        AllZip Grew (take (length left.executors.items) (map (λ each. history each.1) order.executors.items)) (map (λ executor. history executor) left.executors.items))) }
 {
-    let Ok(hired) = Hired::all(alloc, executors.as_slice()) else {
+    let setup = order.setup;
+    let Ok(hired) = Hired::all(alloc, order.executors.as_slice()) else {
         return Err(FarmStop {
             fault: FarmFault::Memory,
             left: None,
         });
     };
-    let solved = match solve_all(rt, alloc, setup, jobs, executors, fault_plan, gate) {
+    let solved = match solve_all(rt, alloc, order, gate) {
         Ok(solved) => solved,
         Err(fault) => {
             return Err(FarmStop {
@@ -397,7 +410,7 @@ fn stopped(
 #[derive(Drop)]
 struct Told {
     answers: Vec<Answer>,
-    causes: Vec<(usize, Cause)>,
+    causes: Vec<FailedJob>,
 }
 
 /// What the threads leave: what the jobs came to, or the first fault; what is checked; and the executors and jobs.
@@ -411,29 +424,32 @@ struct Solved {
 }
 
 /// Solves the jobs on their nodes.
-#[tactic(auto, using(crate::proofs::Crosses::hall))]
+#[tactic(auto, using(crate::proofs::Crosses::common))]
 fn solve_all<R: Threads + Wait + Sync, G: Gate>(
     rt: &R,
     alloc: Global,
-    setup: Setup,
-    jobs: Vec<(NodeId, Keyed)>,
-    executors: Vec<(NodeId, Box<dyn Executor + Send>)>,
-    fault_plan: Vec<(usize, FarmStep)>,
+    order: Order,
     gate: &G,
 ) -> Result<Solved, FarmFault>
-    ensures jobs { IfOk result (λ solved. solved.jobs.items ≡ jobs.items) }
-    ensures causes { IfOk result (λ solved. IfOk solved.told (λ told. map (λ each. each.0) told.causes.items ≡ failed_in told.answers.items)) }
+    ensures jobs { IfOk result (λ solved. solved.jobs.items ≡ order.jobs.items) }
+    ensures causes { IfOk result (λ solved. IfOk solved.told (λ told. map (λ each. each.place) told.causes.items ≡ failed_in told.answers.items)) }
 {
+    let Order {
+        setup,
+        jobs,
+        executors,
+        fault_plan,
+    } = order;
     let board = Board::start(alloc, setup).map_err(start_fault)?;
     let nodes = nodes_of(alloc, executors.as_slice())?;
     let Submitted { tables, numbers } = submit_all(alloc, setup.nodes, jobs.as_slice())?;
     let work = Work::of(alloc, jobs)?;
     let plan = Plan::of(fault_plan);
-    let hall = open(alloc, board, tables, work, nodes.len(), plan.next_due())?;
-    let ends = run_threads(rt, alloc, &hall, executors, plan, gate);
-    let told = told_of(rt, alloc, &hall, numbers.as_slice());
+    let common = open(alloc, board, tables, work, nodes.len(), plan.next_due())?;
+    let ends = run_threads(rt, alloc, &common, executors, plan, gate);
+    let told = told_of(rt, alloc, &common, numbers.as_slice());
     let (executors, receipts) = gather(alloc, ends)?;
-    let (board, jobs) = parts_of(hall);
+    let (board, jobs) = parts_of(common);
     Ok(Solved {
         told,
         board,

@@ -67,11 +67,12 @@ fn solve_on_one(
     let count = jobs.len();
     let mut executor = executor;
     let mut run = Run {
+        alloc,
         board: Board::start(alloc, setup).map_err(start_fault)?,
         jobs: Jobs::new(alloc),
         live: LiveShared::new(alloc),
     };
-    let solved = run.solve_jobs(alloc, jobs, &mut *executor);
+    let solved = run.solve_jobs(jobs, &mut *executor);
     let (board, jobs) = parts_of(run);
     solved?;
     end_of(alloc, setup, board, &jobs, count)
@@ -79,7 +80,12 @@ fn solve_on_one(
 
 /// The board and the jobs. Tenures that are still in use are given up.
 fn parts_of(run: Run) -> (Board, Jobs) {
-    let Run { board, jobs, live } = run;
+    let Run {
+        alloc: _,
+        board,
+        jobs,
+        live,
+    } = run;
     give_up_all(live);
     (board, jobs)
 }

@@ -1,12 +1,12 @@
-//! A hall where the threads of a farm can begin.
+//! What the threads of a farm share, as they begin.
 ghost use Rattle.std.specs.Prelude.{◌≡◌, IfOk};
 
 use super::bell::Bell;
-use super::desk::Desk;
+use super::common::Common;
 use super::fault::FarmFault;
 use super::faults::jobs_fault;
-use super::hall::Hall;
-use super::home::Home;
+use super::locked_board::LockedBoard;
+use super::node_state::NodeState;
 use super::work::{Work, shared_folders};
 use farm_base::NodeId;
 use farmboard::Board;
@@ -16,11 +16,18 @@ use std::alloc::{AllocError, Global};
 use std::sync::Mutex;
 use std::sync::atomic::{AtomicBool, AtomicU64};
 
-/// The jobs of each node, and for each job its node and its number there.
+/// Where a job was submitted: its node, and its number there.
+#[derive(Clone, Copy)]
+pub(crate) struct Submission {
+    pub(crate) node: NodeId,
+    pub(crate) number: JobId,
+}
+
+/// The jobs of each node, and where each job was submitted.
 #[derive(Drop)]
 pub(crate) struct Submitted {
     pub(crate) tables: Vec<Jobs>,
-    pub(crate) numbers: Vec<(NodeId, JobId)>,
+    pub(crate) numbers: Vec<Submission>,
 }
 
 /// A table without jobs for each node.
@@ -67,18 +74,21 @@ pub(crate) fn submit_all(
     let mut numbers = Vec::with_capacity(alloc, jobs.len())?;
     for (node, keyed) in jobs {
         let number = submit(alloc, &mut tables, nodes, *node, keyed)?;
-        numbers.push((*node, number))?;
+        numbers.push(Submission {
+            node: *node,
+            number,
+        })?;
     }
     Ok(Submitted { tables, numbers })
 }
 
 /// What belongs to each node.
-fn homes_of(alloc: Global, tables: Vec<Jobs>) -> Result<Vec<Home>, AllocError> {
-    let mut homes = Vec::with_capacity(alloc, tables.len())?;
+fn states_of(alloc: Global, tables: Vec<Jobs>) -> Result<Vec<NodeState>, AllocError> {
+    let mut states = Vec::with_capacity(alloc, tables.len())?;
     for table in tables {
-        homes.push(Home::new(alloc, table))?;
+        states.push(NodeState::new(alloc, table))?;
     }
-    Ok(homes)
+    Ok(states)
 }
 
 /// What each worker waits for: nothing, at first.
@@ -90,7 +100,7 @@ fn waits_of(alloc: Global, workers: usize) -> Result<Vec<AtomicU64>, AllocError>
     Ok(waits)
 }
 
-/// A hall for this number of workers. From `due` events on the router has to act before a message is delivered.
+/// What this number of workers share. From `due` events on the router has to act before a message is delivered.
 pub(crate) fn open(
     alloc: Global,
     board: Board,
@@ -98,19 +108,19 @@ pub(crate) fn open(
     work: Work,
     workers: usize,
     due: u64,
-) -> Result<Hall, AllocError>
-    ensures { IfOk result (λ hall. hall.work ≡ work) }
+) -> Result<Common, AllocError>
+    ensures { IfOk result (λ common. common.work ≡ work) }
 {
-    let desk = Desk {
+    let locked = LockedBoard {
         board,
         tenures: Vec::new(alloc),
         recalled: Vec::new(alloc),
     };
     let shares = !shared_folders(alloc, work.jobs())?.is_empty();
-    Ok(Hall {
+    Ok(Common {
         alloc,
-        desk: Mutex::new(desk),
-        homes: homes_of(alloc, tables)?,
+        board: Mutex::new(locked),
+        nodes: states_of(alloc, tables)?,
         work,
         fault: Mutex::new(None),
         stop: AtomicBool::new(false),

@@ -1,7 +1,7 @@
 //! The steps by which a run is disturbed.
-use super::desk::Desk;
 use super::fault::FarmFault;
 use super::faults::board_fault;
+use super::locked_board::LockedBoard;
 use farm_base::{FromCoord, Message, NodeId, Ticket, ToNode};
 use farmboard::{Board, BoardRefusal, FarmStep};
 use protocol::EventRefusal;
@@ -59,14 +59,18 @@ impl Plan {
     }
 
     /// Carries out the next step, if it is due and can be. A step that the farm refuses is over too.
-    pub(crate) fn next(&mut self, alloc: Global, desk: &mut Desk) -> Result<bool, FarmFault> {
-        let step = match self.due(desk.board.schedule().len()) {
+    pub(crate) fn next(
+        &mut self,
+        alloc: Global,
+        locked: &mut LockedBoard,
+    ) -> Result<bool, FarmFault> {
+        let step = match self.due(locked.board.schedule().len()) {
             Due::Nothing => return Ok(false),
             Due::Skip => FarmStep::Skip,
             Due::RestartNode(node) => FarmStep::RestartNode(node),
-            Due::Other => return self.take(alloc, desk),
+            Due::Other => return self.take(alloc, locked),
         };
-        match desk.board.fault(alloc, step) {
+        match locked.board.fault(alloc, step) {
             Err(BoardRefusal::TokenOut) => Ok(false),
             Err(BoardRefusal::Event(EventRefusal::NoSuchMessage)) => Ok(false),
             done => {
@@ -77,16 +81,16 @@ impl Plan {
     }
 
     /// Carries out the next step.
-    fn take(&mut self, alloc: Global, desk: &mut Desk) -> Result<bool, FarmFault> {
+    fn take(&mut self, alloc: Global, locked: &mut LockedBoard) -> Result<bool, FarmFault> {
         let Some((_, step)) = self.left.pop() else {
             return Ok(false);
         };
         if let FarmStep::Again(number) = &step {
-            if let Some(ticket) = recall_in(&desk.board, *number) {
-                desk.recall(ticket)?;
+            if let Some(ticket) = recall_in(&locked.board, *number) {
+                locked.recall(ticket)?;
             }
         }
-        is_done(desk.board.fault(alloc, step))
+        is_done(locked.board.fault(alloc, step))
     }
 }
 

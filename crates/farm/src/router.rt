@@ -4,11 +4,11 @@ ghost use Rattle.std.specs.Prelude.{◌≡◌, ◌+◌, ◌≤◌, ◌↔◌, Is
 ghost use Rattle.farm.specs.Downs.{counted, ENOUGH, IsFailedRestart};
 
 use super::closing::{Leaving, abandon_all, end_next, settle_next};
-use super::desk::{Desk, Ends};
+use super::common::Common;
 use super::down::DownCount;
 use super::fault::FarmFault;
 use super::faults::board_fault;
-use super::hall::Hall;
+use super::locked_board::{Ends, LockedBoard};
 use super::plan::Plan;
 use farm_base::NodeId;
 use farmboard::{BoardRefusal, FarmStep, Receipt};
@@ -44,7 +44,7 @@ enum Turn {
 
 /// Routes until all workers have ended and all tenures are settled, or a fault stops all. The answer are the receipts of the tenures
 /// that were settled by then.
-pub(crate) fn route<R: Wait>(rt: &R, alloc: Global, hall: &Hall, plan: Plan) -> Vec<Receipt> {
+pub(crate) fn route<R: Wait>(rt: &R, alloc: Global, common: &Common, plan: Plan) -> Vec<Receipt> {
     let mut router = Router {
         plan,
         leaving: Vec::new(alloc),
@@ -53,8 +53,8 @@ pub(crate) fn route<R: Wait>(rt: &R, alloc: Global, hall: &Hall, plan: Plan) -> 
         steps: 0,
         downs: DownCount::new(),
     };
-    if let Err(fault) = router.run(rt, hall) {
-        hall.fail(rt, fault);
+    if let Err(fault) = router.run(rt, common) {
+        common.fail(rt, fault);
     }
     let Router {
         plan: _,
@@ -69,14 +69,14 @@ pub(crate) fn route<R: Wait>(rt: &R, alloc: Global, hall: &Hall, plan: Plan) -> 
 }
 
 impl Router {
-    fn run<R: Wait>(&mut self, rt: &R, hall: &Hall) -> Result<(), FarmFault> {
+    fn run<R: Wait>(&mut self, rt: &R, common: &Common) -> Result<(), FarmFault> {
         for _ in rt.forever() {
-            let called = hall.calls.rings();
-            hall.go_on()?;
-            let changes = hall.changes();
-            match self.turn(rt, hall, changes)? {
-                Turn::Acted => hall.note_change(),
-                Turn::Waits => hall.calls.wait(rt, called),
+            let called = common.calls.rings();
+            common.go_on()?;
+            let changes = common.changes();
+            match self.turn(rt, common, changes)? {
+                Turn::Acted => common.note_change(),
+                Turn::Waits => common.calls.wait(rt, called),
                 Turn::Ends => return Ok(()),
             }
         }
@@ -84,68 +84,77 @@ impl Router {
     }
 
     /// One turn, in one hold of the lock.
-    fn turn<R: Wait>(&mut self, rt: &R, hall: &Hall, changes: u64) -> Result<Turn, FarmFault> {
-        let mut desk = hall.desk.lock(rt);
-        if self.act(rt, hall, &mut desk)? {
+    fn turn<R: Wait>(&mut self, rt: &R, common: &Common, changes: u64) -> Result<Turn, FarmFault> {
+        let mut locked = common.board.lock(rt);
+        if self.act(rt, common, &mut locked)? {
             return Ok(Turn::Acted);
         }
-        if hall.all_ended() && desk.tenures.is_empty() {
+        if common.all_ended() && locked.tenures.is_empty() {
             return Ok(Turn::Ends);
         }
-        if !hall.all_wait(changes) || hall.changes() != changes {
+        if !common.all_wait(changes) || common.changes() != changes {
             return Ok(Turn::Waits);
         }
-        self.send_again(hall, &mut desk)?;
+        self.send_again(common, &mut locked)?;
         Ok(Turn::Acted)
     }
 
     /// Does what is to be done next, if anything is.
-    fn act<R: Wait>(&mut self, rt: &R, hall: &Hall, desk: &mut Desk) -> Result<bool, FarmFault> {
-        if desk.board.world().coordinator().is_down() {
-            self.restart_coordinator(hall.alloc, desk)?;
+    fn act<R: Wait>(
+        &mut self,
+        rt: &R,
+        common: &Common,
+        locked: &mut LockedBoard,
+    ) -> Result<bool, FarmFault> {
+        if locked.board.world().coordinator().is_down() {
+            self.restart_coordinator(common.alloc, locked)?;
             return Ok(true);
         }
-        if self.disturb(rt, hall, desk)? {
+        if self.disturb(rt, common, locked)? {
             return Ok(true);
         }
-        let ends = if hall.all_ended() {
+        let ends = if common.all_ended() {
             Ends::All
         } else {
             Ends::Recalled
         };
-        if end_next(rt, hall, desk, &mut self.leaving, ends)? || self.settle_all(desk)? {
+        if end_next(rt, common, locked, &mut self.leaving, ends)? || self.settle_all(locked)? {
             return Ok(true);
         }
-        desk.deliver(hall.alloc)
+        locked.deliver(common.alloc)
     }
 
     /// Carries out the next step of the plan. Before a node restarts, its tenures end that no execution uses.
     fn disturb<R: Wait>(
         &mut self,
         rt: &R,
-        hall: &Hall,
-        desk: &mut Desk,
+        common: &Common,
+        locked: &mut LockedBoard,
     ) -> Result<bool, FarmFault> {
-        if let Some(node) = self.plan.next_restart(&desk.board) {
-            if end_next(rt, hall, desk, &mut self.leaving, Ends::OfNode(node))? {
+        if let Some(node) = self.plan.next_restart(&locked.board) {
+            if end_next(rt, common, locked, &mut self.leaving, Ends::OfNode(node))? {
                 return Ok(true);
             }
         }
-        let disturbed = self.plan.next(hall.alloc, desk);
-        hall.await_step(self.plan.next_due());
+        let disturbed = self.plan.next(common.alloc, locked);
+        common.await_step(self.plan.next_due());
         disturbed
     }
 
     /// Restarts the coordinator, which is down.
-    fn restart_coordinator(&mut self, alloc: Global, desk: &mut Desk) -> Result<(), FarmFault> {
-        let restarted = desk.board.fault(alloc, FarmStep::RestartCoordinator);
+    fn restart_coordinator(
+        &mut self,
+        alloc: Global,
+        locked: &mut LockedBoard,
+    ) -> Result<(), FarmFault> {
+        let restarted = locked.board.fault(alloc, FarmStep::RestartCoordinator);
         after_restart(&mut self.downs, restarted)
     }
 
     /// Looks whether a tenure that ended is settled by now.
-    fn settle_all(&mut self, desk: &mut Desk) -> Result<bool, FarmFault> {
+    fn settle_all(&mut self, locked: &mut LockedBoard) -> Result<bool, FarmFault> {
         for _ in 0..self.leaving.len() {
-            if settle_next(desk, &mut self.leaving, &mut self.receipts)? {
+            if settle_next(locked, &mut self.leaving, &mut self.receipts)? {
                 return Ok(true);
             }
         }
@@ -154,8 +163,8 @@ impl Router {
 
     /// Makes each node and the coordinator send again what is open. `Stalled` where that was done too often in a row,
     /// and no worker made a step in between.
-    fn send_again(&mut self, hall: &Hall, desk: &mut Desk) -> Result<(), FarmFault> {
-        let steps = hall.steps.load(Ordering::SeqCst);
+    fn send_again(&mut self, common: &Common, locked: &mut LockedBoard) -> Result<(), FarmFault> {
+        let steps = common.steps.load(Ordering::SeqCst);
         if steps != self.steps {
             self.steps = steps;
             self.rounds = 0;
@@ -164,7 +173,7 @@ impl Router {
             return Err(FarmFault::Stalled);
         }
         self.rounds += 1;
-        resend_all(hall.alloc, desk)
+        resend_all(common.alloc, locked)
     }
 }
 
@@ -195,16 +204,16 @@ fn after_restart(
 }
 
 /// Makes each node and the coordinator send again what is open.
-fn resend_all(alloc: Global, desk: &mut Desk) -> Result<(), FarmFault> {
-    for node in 0..desk.board.setup().nodes {
-        step(alloc, desk, FarmStep::Resend(NodeId(node + 1)))?;
+fn resend_all(alloc: Global, locked: &mut LockedBoard) -> Result<(), FarmFault> {
+    for node in 0..locked.board.setup().nodes {
+        step(alloc, locked, FarmStep::Resend(NodeId(node + 1)))?;
     }
-    step(alloc, desk, FarmStep::Nudge)
+    step(alloc, locked, FarmStep::Nudge)
 }
 
 /// Carries out a step, which the farm may refuse.
-fn step(alloc: Global, desk: &mut Desk, step: FarmStep) -> Result<(), FarmFault> {
-    match desk.board.fault(alloc, step) {
+fn step(alloc: Global, locked: &mut LockedBoard, step: FarmStep) -> Result<(), FarmFault> {
+    match locked.board.fault(alloc, step) {
         Ok(()) | Err(BoardRefusal::Event(_)) => Ok(()),
         Err(refusal) => Err(board_fault(refusal)),
     }

@@ -1,18 +1,23 @@
-//! A run of one executor.
+//! A run of one executor, on a board to which nobody else comes.
 ghost use Rattle.std.specs.Prelude.{◌≡◌, All, IfOk, OnOk, None};
 ghost use Rattle.farm_base.specs.declared.want.Want.{Want as SpecWant};
 ghost use Rattle.executions.specs.Live.{files_in};
-ghost use Rattle.farm.specs.Places.{Fits, IsSeenIn};
+ghost use Rattle.farm.specs.Leases.{IsLeaseOf};
+ghost use Rattle.farm.specs.Places.{IsSeenIn};
 
+use super::driver::{Ground, solve};
 use super::fault::FarmFault;
-use super::faults::{edits_fault, jobs_fault, run_fault, shared_fault};
+use super::faults::{edits_fault, jobs_fault, shared_fault};
+use super::lease::Lease;
 use super::steps::{finish, give_up, start, start_tenure};
-use super::work::{Place, Work, fit, shared_folders};
-use executions::{ExecOutcome, Executor, LiveShared, Ran, run_leased};
-use farm_base::{Content, Copied, FolderName, Items, Key, Left, Mode, NodeId, Ticket, Want};
+use super::work::{Work, shared_folders};
+use executions::{Executor, LiveShared};
+use farm_base::{
+    Content, Copied, Digest, FolderName, Items, Key, Left, Mode, NodeId, Ticket, Want, Wants,
+};
 use farmboard::{Board, Running, abandon_running};
 use folders::{Edit, Folder};
-use jobs::{Fault, Jobs, Task};
+use jobs::{Fault, Jobs};
 use solverkeys::Keyed;
 use std::alloc::{AllocError, Global};
 
@@ -21,6 +26,7 @@ pub(crate) const HOME: NodeId = NodeId(1);
 
 /// What a run of one executor works on. All is done on one node.
 pub(crate) struct Run {
+    pub(crate) alloc: Global,
     pub(crate) board: Board,
     pub(crate) jobs: Jobs,
     /// The SHARED folders whose tenures are in use.
@@ -31,22 +37,21 @@ impl Run {
     /// Solves the jobs, within the tenures of their SHARED folders.
     pub(crate) fn solve_jobs(
         &mut self,
-        alloc: Global,
         jobs: Vec<(NodeId, Keyed)>,
         executor: &mut dyn Executor,
     ) -> Result<(), FarmFault> {
-        let work = Work::of(alloc, jobs)?;
-        self.submit_all(alloc, work.jobs())?;
-        let folders = shared_folders(alloc, work.jobs())?;
-        self.open_all(alloc, folders.as_slice())?;
-        self.solve_all(alloc, &work, executor)?;
-        self.close_all(alloc, folders.as_slice())
+        let work = Work::of(self.alloc, jobs)?;
+        self.submit_all(work.jobs())?;
+        let folders = shared_folders(self.alloc, work.jobs())?;
+        self.open_all(folders.as_slice())?;
+        self.solve_all(&work, executor)?;
+        self.close_all(folders.as_slice())
     }
 
     /// Submits the jobs, in their order.
-    fn submit_all(&mut self, alloc: Global, jobs: &[(NodeId, Keyed)]) -> Result<(), FarmFault> {
+    fn submit_all(&mut self, jobs: &[(NodeId, Keyed)]) -> Result<(), FarmFault> {
         for (_, keyed) in jobs {
-            if let Err(refusal) = self.jobs.submit_keyed(alloc, keyed) {
+            if let Err(refusal) = self.jobs.submit_keyed(self.alloc, keyed) {
                 return Err(jobs_fault(refusal));
             }
         }
@@ -54,24 +59,24 @@ impl Run {
     }
 
     /// Takes the tenures of these SHARED folders into use, each once, in their order.
-    fn open_all(&mut self, alloc: Global, folders: &[FolderName]) -> Result<(), FarmFault>
+    fn open_all(&mut self, folders: &[FolderName]) -> Result<(), FarmFault>
         requires { All (λ folder. folder.mode ≡ Mode.Shared) folders.now }
     {
         for folder in folders {
             if !self.live.is_open(folder) {
-                self.open(alloc, folder.copy(alloc)?)?;
+                self.open(folder.copy(self.alloc)?)?;
             }
         }
         Ok(())
     }
 
     /// Takes the tenure of a SHARED folder into use.
-    fn open(&mut self, alloc: Global, folder: FolderName) -> Result<(), FarmFault>
+    fn open(&mut self, folder: FolderName) -> Result<(), FarmFault>
         requires shared { folder.mode ≡ Mode.Shared }
         requires closed { files_in self.old.live folder ≡ None }
     {
-        let running = start_tenure(alloc, &mut self.board, HOME, folder)?;
-        match self.live.open_folder(alloc, running) {
+        let running = start_tenure(self.alloc, &mut self.board, HOME, folder)?;
+        match self.live.open_folder(self.alloc, running) {
             Ok(()) => Ok(()),
             Err((running, refusal)) => {
                 abandon_running(running);
@@ -81,20 +86,20 @@ impl Run {
     }
 
     /// Ends the tenures of these SHARED folders, in their order. What stands in the folders is committed.
-    fn close_all(&mut self, alloc: Global, folders: &[FolderName]) -> Result<(), FarmFault> {
+    fn close_all(&mut self, folders: &[FolderName]) -> Result<(), FarmFault> {
         for folder in folders {
             if self.live.is_open(folder) {
-                self.close(alloc, folder)?;
+                self.close(folder)?;
             }
         }
         Ok(())
     }
 
     /// Ends the tenure of a SHARED folder.
-    fn close(&mut self, alloc: Global, folder: &FolderName) -> Result<(), FarmFault> {
-        let (running, content) = self.live.close(alloc, folder).map_err(shared_fault)?;
-        match lefts_of(alloc, &running, content) {
-            Ok(lefts) => finish(alloc, &mut self.board, running, lefts),
+    fn close(&mut self, folder: &FolderName) -> Result<(), FarmFault> {
+        let (running, content) = self.live.close(self.alloc, folder).map_err(shared_fault)?;
+        match lefts_of(self.alloc, &running, content) {
+            Ok(lefts) => finish(self.alloc, &mut self.board, running, lefts),
             Err(AllocError) => {
                 abandon_running(running);
                 Err(FarmFault::Memory)
@@ -103,121 +108,57 @@ impl Run {
     }
 
     /// Solves keys until none is ready. Each key is ready at most once.
-    fn solve_all(
-        &mut self,
-        alloc: Global,
-        work: &Work,
-        executor: &mut dyn Executor,
-    ) -> Result<(), FarmFault> {
+    fn solve_all(&mut self, work: &Work, executor: &mut dyn Executor) -> Result<(), FarmFault> {
         for _ in 0..work.count() {
-            let Some(task) = self.jobs.take_ready(alloc).map_err(jobs_fault)? else {
+            let Some(task) = self.jobs.take_ready(self.alloc).map_err(jobs_fault)? else {
                 return Ok(());
             };
-            self.solve(alloc, work, executor, task)?;
+            solve(self, work, HOME, executor, task)?;
         }
         Ok(())
     }
+}
 
-    /// Solves a task. A key whose ask is denied has failed.
-    fn solve(
-        &mut self,
-        alloc: Global,
-        work: &Work,
-        executor: &mut dyn Executor,
-        task: Task,
-    ) -> Result<(), FarmFault> {
-        let (place, wants) = fit(alloc, work, HOME, &task)?;
-        match start(alloc, &mut self.board, HOME, wants)? {
-            Ok(running) => self.execute(alloc, executor, running, task, place),
-            Err(why) => self
-                .jobs
-                .failed(task.key, Fault::Denied(why))
-                .map_err(jobs_fault),
-        }
+impl Ground for Run {
+    fn alloc(&self) -> Global {
+        self.alloc
     }
 
-    /// Executes a task under its lease. A failed execution leaves nothing.
-    fn execute(
-        &mut self,
-        alloc: Global,
-        executor: &mut dyn Executor,
-        running: Running,
-        task: Task,
-        place: Place<'_>,
-    ) -> Result<(), FarmFault>
-        requires { Fits place task running.wants }
-    {
-        match self.run_task(alloc, executor, &running, &task, place) {
-            Ok(ran) => self.take(alloc, running, task.key, ran),
-            Err(fault) => {
-                give_up(alloc, &mut self.board, running)?;
-                Err(fault)
-            }
-        }
+    fn lease(&mut self, _key: &Key, wants: Wants) -> Result<Lease, FarmFault> {
+        start(self.alloc, &mut self.board, HOME, wants)
     }
 
-    /// Has the executor execute a task.
-    fn run_task(
-        &self,
-        alloc: Global,
-        executor: &mut dyn Executor,
-        running: &Running,
-        task: &Task,
-        place: Place<'_>,
-    ) -> Result<Ran, FarmFault>
-        requires { Fits place task.now running.now.wants }
-    {
-        let Place { keyed, vertex } = place;
-        let shared = views_of(alloc, &self.live, running.wants().as_slice())?;
-        match run_leased(alloc, executor, running, task, keyed, vertex, shared) {
-            Ok(ran) => Ok(ran),
-            Err(refusal) => Err(run_fault(task.key, refusal)),
-        }
+    fn views(&mut self, wants: &[Want]) -> Result<Vec<(FolderName, Folder)>, FarmFault> {
+        views_of(self.alloc, &self.live, wants)
     }
 
-    /// Takes what an execution of a key answered.
-    fn take(
+    fn apply(
         &mut self,
-        alloc: Global,
-        running: Running,
-        key: Key,
-        ran: Ran,
-    ) -> Result<(), FarmFault> {
-        let Ran { outcome, news } = ran;
-        match outcome {
-            ExecOutcome::Done { outputs, edits } => {
-                self.keep(alloc, running, key, edits, news)?;
-                self.jobs.done(key, outputs.into_vec()).map_err(jobs_fault)
-            }
-            ExecOutcome::Failed(status) => {
-                give_up(alloc, &mut self.board, running)?;
-                self.jobs
-                    .failed(key, Fault::Exit(status))
-                    .map_err(jobs_fault)
-            }
-            ExecOutcome::OutOfMemory => {
-                abandon_running(running);
-                Err(FarmFault::Memory)
-            }
-        }
-    }
-
-    /// Keeps what an execution of a key leaves.
-    fn keep(
-        &mut self,
-        alloc: Global,
-        running: Running,
+        ticket: Ticket,
         key: Key,
         edits: Items<(FolderName, Items<Edit>)>,
-        news: Vec<Left>,
     ) -> Result<(), FarmFault> {
-        match apply_shared(alloc, &mut self.live, running.ticket(), key, edits) {
-            Ok(()) => finish(alloc, &mut self.board, running, news),
-            Err(fault) => {
-                give_up(alloc, &mut self.board, running)?;
-                Err(fault)
-            }
-        }
+        apply_shared(self.alloc, &mut self.live, ticket, key, edits)
+    }
+
+    fn finish(&mut self, running: Running, lefts: Vec<Left>) -> Result<(), FarmFault> {
+        finish(self.alloc, &mut self.board, running, lefts)
+    }
+
+    fn give_up(&mut self, running: Running) -> Result<(), FarmFault> {
+        give_up(self.alloc, &mut self.board, running)
+    }
+
+    fn give_up_last(&mut self, running: Running) -> Result<(), FarmFault> {
+        give_up(self.alloc, &mut self.board, running)
+    }
+
+    fn done(&mut self, key: Key, outputs: Vec<Digest>) -> Result<(), FarmFault> {
+        self.jobs.done(key, outputs).map_err(jobs_fault)
+    }
+
+    fn failed(&mut self, key: Key, fault: Fault) -> Result<(), FarmFault> {
+        self.jobs.failed(key, fault).map_err(jobs_fault)
     }
 }
 

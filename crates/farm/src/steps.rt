@@ -1,10 +1,12 @@
 //! The steps of one execution on a board to which nobody else comes. Each one delivers all messages.
 ghost use Rattle.std.specs.Prelude.{◌≡◌, IfOk, true};
 ghost use Rattle.executions.specs.Live.{IsTenureOf};
+ghost use Rattle.farm.specs.Leases.{IsLeaseOf, IsReplyTo};
 
 use super::fault::FarmFault;
 use super::faults::board_fault;
-use farm_base::{EVENTS, FolderName, Left, Mode, NodeId, Wants, Why};
+use super::lease::{Lease, Reply};
+use farm_base::{EVENTS, FolderName, Left, Mode, NodeId, Wants};
 use farmboard::{
     Accept, Asked, Board, Ended, Finished, Granted, Running, Settled, abandon_asked,
     abandon_finished, abandon_granted, abandon_running,
@@ -25,20 +27,16 @@ pub(crate) fn deliver_all(alloc: Global, board: &mut Board) -> Result<(), FarmFa
 }
 
 /// What became of an ask once all messages are delivered: its lease, or why it was denied.
-fn settle_ask(
-    alloc: Global,
-    board: &mut Board,
-    asked: Asked,
-) -> Result<Result<Granted, Why>, FarmFault>
-    ensures { IfOk result (λ settled. IfOk settled (λ granted. granted.wants ≡ asked.wants)) }
+fn settle_ask(alloc: Global, board: &mut Board, asked: Asked) -> Result<Reply, FarmFault>
+    ensures { IfOk result (IsReplyTo asked.wants) }
 {
     if let Err(fault) = deliver_all(alloc, board) {
         abandon_asked(asked);
         return Err(fault);
     }
     match board.accept(alloc, asked) {
-        Ok(Accept::Granted(granted)) => Ok(Ok(granted)),
-        Ok(Accept::Denied(why)) => Ok(Err(why)),
+        Ok(Accept::Granted(granted)) => Ok(Reply::Granted(granted)),
+        Ok(Accept::Denied(why)) => Ok(Reply::Denied(why)),
         Ok(Accept::Waiting(asked)) => {
             abandon_asked(asked);
             Err(FarmFault::ReceiptLost)
@@ -70,13 +68,13 @@ pub(crate) fn start(
     board: &mut Board,
     node: NodeId,
     wants: Wants,
-) -> Result<Result<Running, Why>, FarmFault>
-    ensures { IfOk result (λ started. IfOk started (λ running. running.wants ≡ wants)) }
+) -> Result<Lease, FarmFault>
+    ensures { IfOk result (IsLeaseOf wants) }
 {
     let asked = board.ask(alloc, node, wants).map_err(board_fault)?;
     match settle_ask(alloc, board, asked)? {
-        Ok(granted) => Ok(Ok(begin(alloc, board, granted)?)),
-        Err(why) => Ok(Err(why)),
+        Reply::Granted(granted) => Ok(Lease::Begun(begin(alloc, board, granted)?)),
+        Reply::Denied(why) => Ok(Lease::Denied(why)),
     }
 }
 
@@ -92,8 +90,8 @@ pub(crate) fn start_tenure(
 {
     let asked = board.ask_tenure(alloc, node, folder).map_err(board_fault)?;
     match settle_ask(alloc, board, asked)? {
-        Ok(granted) => tenure_of(begin(alloc, board, granted)?),
-        Err(_) => Err(FarmFault::ReceiptLost),
+        Reply::Granted(granted) => tenure_of(begin(alloc, board, granted)?),
+        Reply::Denied(_) => Err(FarmFault::ReceiptLost),
     }
 }
 

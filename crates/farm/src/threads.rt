@@ -1,6 +1,6 @@
 //! The threads of a farm: one for each executor, beside the router.
+use super::common::Shared;
 use super::fault::FarmFault;
-use super::hall::Shared;
 use super::plan::Plan;
 use super::router::route;
 use super::worker::{WorkerEnd, work};
@@ -19,7 +19,7 @@ pub(crate) struct Ends {
     pub(crate) receipts: Vec<Receipt>,
 }
 
-/// Starts a thread for each executor, routes in this one, and joins them. A fault is noted in the hall.
+/// Starts a thread for each executor, routes in this one, and joins them. A fault is noted for all of them.
 pub(crate) fn run_threads<R: Threads + Wait + Sync, G: Gate, S: Shared>(
     rt: &R,
     alloc: Global,
@@ -32,22 +32,22 @@ pub(crate) fn run_threads<R: Threads + Wait + Sync, G: Gate, S: Shared>(
         let mut children: Vec<JoinHandle<WorkerEnd>> = Vec::new(alloc);
         for (worker, hired) in executors.into_iter().enumerate() {
             if children.reserve(1).is_err() {
-                shared.hall().fail(rt, FarmFault::Memory);
+                shared.common().fail(rt, FarmFault::Memory);
                 break;
             }
-            match scope.spawn(move || work(rt, alloc, shared.hall(), gate, worker, hired)) {
+            match scope.spawn(move || work(rt, alloc, shared.common(), gate, worker, hired)) {
                 Ok(child) => children.push_reserved(child),
                 Err(_) => {
-                    shared.hall().fail(rt, FarmFault::NoThread);
+                    shared.common().fail(rt, FarmFault::NoThread);
                     break;
                 }
             }
         }
-        let receipts = route(rt, alloc, shared.hall(), plan);
+        let receipts = route(rt, alloc, shared.common(), plan);
         let mut workers = Vec::new(alloc);
         for child in children {
             if workers.push(child.join(rt)).is_err() {
-                shared.hall().fail(rt, FarmFault::Memory);
+                shared.common().fail(rt, FarmFault::Memory);
             }
         }
         Ends { workers, receipts }

@@ -5,7 +5,7 @@ ghost use Rattle.farm.specs.Places.{Fits};
 use super::fault::FarmFault;
 use cachemounts::wants_of;
 use farm_base::{Copied, FolderName, Key, Mode, NodeId, Wants};
-use farmend::Spot;
+use farmend::NodeKey;
 use jobs::Task;
 use solverkeys::Keyed;
 use std::alloc::{AllocError, Global};
@@ -15,7 +15,7 @@ use std::collections::HashMap;
 #[derive(Drop)]
 pub(crate) struct Work {
     jobs: Vec<(NodeId, Keyed)>,
-    homes: HashMap<Spot, usize>,
+    homes: HashMap<NodeKey, usize>,
 }
 
 /// A vertex of a graph.
@@ -59,7 +59,7 @@ impl Work {
     pub(crate) fn find(&self, node: NodeId, key: &Key) -> Option<Place<'_>>
         ensures { IfSome result (IsPlaceOf key.now) }
     {
-        let job = *self.homes.get(&Spot { node, key: *key })?;
+        let job = *self.homes.get(&NodeKey { node, key: *key })?;
         let (_, keyed) = self.jobs.get(job)?;
         let vertex = keyed.find(key)?;
         Some(Place { keyed, vertex })
@@ -87,13 +87,13 @@ pub(crate) fn fit<'a>(
 
 /// Notes the job of each key that has none yet on the node.
 fn add_keys(
-    homes: &mut HashMap<Spot, usize>,
+    homes: &mut HashMap<NodeKey, usize>,
     job: usize,
     node: NodeId,
     keys: &[Key],
 ) -> Result<(), AllocError> {
     for key in keys {
-        let spot = Spot { node, key: *key };
+        let spot = NodeKey { node, key: *key };
         if !homes.contains_key(&spot) {
             homes.insert(spot, job)?;
         }

@@ -3,7 +3,7 @@ ghost use Rattle.std.specs.Prelude.{◌≡◌, ◌++◌, Contains, IfOk, IfSome,
 ghost use Rattle.std.specs.Option.{option_copied};
 ghost use Rattle.farmend.specs.NewCalls.{IsAmong, IsCallFor, on_node, outputs_in};
 
-use super::spot::Spot;
+use super::node_key::NodeKey;
 use executions::Call;
 use farm_base::laws::equal_digests_are_one;
 use farm_base::{Copied, Digest, Items, Key, NodeId};
@@ -14,7 +14,7 @@ use std::collections::HashMap;
 /// ones.
 #[derive(Drop)]
 pub(crate) struct Book {
-    places: HashMap<Spot, (usize, usize)>,
+    places: HashMap<NodeKey, (usize, usize)>,
 }
 
 impl Book {
@@ -36,7 +36,7 @@ impl Book {
     ) -> Option<&'a Call>
         ensures { IfSome result (λ call. IsCallFor (on_node node news.now) key.now call.now) }
     {
-        let (executor, place) = *self.places.get(&Spot { node, key: *key })?;
+        let (executor, place) = *self.places.get(&NodeKey { node, key: *key })?;
         let call = call_at(news, node, executor, place)?;
         equal_digests_are_one();
         if call.key == *key { Some(call) } else { None }
@@ -84,18 +84,18 @@ pub(crate) fn output_in(call: &Call, index: u64) -> Option<&Digest>
 
 /// Books the calls of an executor for keys that have none yet.
 fn add_calls(
-    places: &mut HashMap<Spot, (usize, usize)>,
+    places: &mut HashMap<NodeKey, (usize, usize)>,
     executor: usize,
     node: NodeId,
     calls: &[Call],
 ) -> Result<(), AllocError> {
     for (place, call) in calls.iter().enumerate() {
-        let spot = Spot {
+        let here = NodeKey {
             node,
             key: call.key,
         };
-        if !places.contains_key(&spot) {
-            places.insert(spot, (executor, place))?;
+        if !places.contains_key(&here) {
+            places.insert(here, (executor, place))?;
         }
     }
     Ok(())

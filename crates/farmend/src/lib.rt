@@ -8,14 +8,14 @@ mod denials;
 mod end;
 mod hired;
 mod news;
+mod node_key;
 mod receipts;
 mod refusal;
 mod solved;
-mod spot;
 
 pub use checking::{check, check_standing};
 pub use end::{HandedBack, RunEnd, Standing};
 pub use hired::Hired;
 pub use news::calls_of;
+pub use node_key::NodeKey;
 pub use refusal::EndRefusal;
-pub use spot::Spot;

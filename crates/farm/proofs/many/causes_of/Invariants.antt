@@ -5,4 +5,4 @@ use Rattle.farm.proofs.many.causes_of.Given as goal
 
 -- the failed jobs so far are named, and the others are among the rest
 abbrev pub invariant-loop-place : goal.invariant-loop-place
-invariant-loop-place g l = map (λ each. each.0) l.causes.items ++ failed_from l.place l.rest ≡ failed_in l.answers
+invariant-loop-place g l = map (λ each. each.place) l.causes.items ++ failed_from l.place l.rest ≡ failed_in l.answers

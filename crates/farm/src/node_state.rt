@@ -18,7 +18,7 @@ pub(crate) struct NodeJobs {
 
 /// What belongs to a node.
 #[derive(Drop)]
-pub(crate) struct Home {
+pub(crate) struct NodeState {
     pub(crate) jobs: Mutex<NodeJobs>,
     pub(crate) open: Mutex<OpenFolders>,
 }
@@ -33,10 +33,10 @@ pub(crate) enum Next {
     End,
 }
 
-impl Home {
+impl NodeState {
     /// A node with these jobs.
     pub(crate) fn new(alloc: Global, jobs: Jobs) -> Self {
-        Home {
+        NodeState {
             jobs: Mutex::new(NodeJobs { jobs, out: 0 }),
             open: Mutex::new(OpenFolders {
                 live: LiveShared::new(alloc),

@@ -34,7 +34,7 @@ pub(crate) struct Tenure {
 
 /// The board, and how the tenures stand.
 #[derive(Drop)]
-pub(crate) struct Desk {
+pub(crate) struct LockedBoard {
     pub(crate) board: Board,
     pub(crate) tenures: Vec<Tenure>,
     /// The tickets of the tenures that were recalled.
@@ -55,7 +55,7 @@ impl Tenure {
     }
 }
 
-impl Desk {
+impl LockedBoard {
     /// Whether the tenure of this ticket was recalled.
     fn is_recalled(&self, ticket: Ticket) -> bool {
         self.recalled.iter().any(|other| *other == ticket)

@@ -1,21 +1,22 @@
 //! What the threads of a farm share.
 use super::bell::Bell;
-use super::desk::Desk;
 use super::fault::FarmFault;
-use super::home::Home;
+use super::locked_board::LockedBoard;
+use super::node_state::NodeState;
 use super::work::Work;
 use farm_base::NodeId;
 use std::alloc::Global;
 use std::sync::atomic::{AtomicBool, AtomicU64, Ordering};
 use std::sync::{Mutex, Wait};
 
-/// What the threads of a farm share. Whoever holds the lock of the desk may take that of a home, and no other way round.
+/// What the threads of a farm share. Whoever holds the lock of the board may take that of a node, and no other
+/// way round.
 #[derive(Drop)]
-pub(crate) struct Hall {
+pub(crate) struct Common {
     pub(crate) alloc: Global,
-    pub(crate) desk: Mutex<Desk>,
-    /// By node, from node 1 on.
-    pub(crate) homes: Vec<Home>,
+    pub(crate) board: Mutex<LockedBoard>,
+    /// From node 1 on.
+    pub(crate) nodes: Vec<NodeState>,
     pub(crate) work: Work,
     /// The first fault.
     pub(crate) fault: Mutex<Option<FarmFault>>,
@@ -37,13 +38,13 @@ pub(crate) struct Hall {
     pub(crate) ended: AtomicU64,
 }
 
-impl Hall {
+impl Common {
     /// What belongs to a node, if it is there.
-    pub(crate) fn home(&self, node: NodeId) -> Option<&Home> {
+    pub(crate) fn node(&self, node: NodeId) -> Option<&NodeState> {
         if node.0 == 0 {
             return None;
         }
-        self.homes.get(node.0 as usize - 1)
+        self.nodes.get(node.0 as usize - 1)
     }
 
     pub(crate) fn is_stopped(&self) -> bool {
@@ -151,13 +152,13 @@ fn is_end(wait: u64) -> bool {
     wait == ENDED
 }
 
-/// What a thread sees of the others. It stands for the hall where threads are started: all threads may share it.
+/// What a thread sees of the others. It stands for what they share where threads are started: all threads may share it.
 pub(crate) trait Shared: Sync {
-    fn hall(&self) -> &Hall;
+    fn common(&self) -> &Common;
 }
 
-impl Shared for Hall {
-    fn hall(&self) -> &Hall {
+impl Shared for Common {
+    fn common(&self) -> &Common {
         self
     }
 }

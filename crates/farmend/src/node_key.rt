@@ -2,7 +2,7 @@ use farm_base::{Key, NodeId};
 
 /// A key on a node.
 #[derive(Clone, Copy, Debug, PartialEq, Eq, Hash)]
-pub struct Spot {
+pub struct NodeKey {
     pub node: NodeId,
     pub key: Key,
 }
