@@ -252,21 +252,33 @@ fn push_label(marks: &mut Vec<Mark>, lines: &[u32], row: usize) -> Result<(), Al
     Ok(())
 }
 
+/// A row, what was held before it, and the rows after it.
+#[derive(Clone, Copy)]
+struct Here<'a> {
+    before: &'a [Held],
+    row: usize,
+    frame: &'a Frame,
+    rest: &'a [Frame],
+}
+
 /// Adds the marks of one kind that begin at a row.
 fn push_row(
     marks: &mut Vec<Mark>,
     pass: Pass,
     scene: &Scene,
-    before: &[Held],
-    row: usize,
-    frame: &Frame,
-    rest: &[Frame],
+    here: Here<'_>,
 ) -> Result<(), AllocError>
-    requires row { row + 1 + length rest.now < 2 ^ 64 }
+    requires row { here.row + 1 + length here.rest.now < 2 ^ 64 }
     requires frames { length scene.now.frames < 2 ^ 64 }
-    ensures { OnOk result (marks.new.items ≡ marks.old.items ++ row_marks pass scene.now before.now row frame.now rest.now) }
+    ensures { OnOk result (marks.new.items ≡ marks.old.items ++ row_marks pass scene.now here.before.now here.row here.frame.now here.rest.now) }
 {
     let lines = scene.lines.as_slice();
+    let Here {
+        before,
+        row,
+        frame,
+        rest,
+    } = here;
     match pass {
         Pass::Labels => push_label(marks, lines, row),
         Pass::Lives => push_lives(marks, lines, row, frame, rest),
@@ -286,7 +298,13 @@ fn push_pass(marks: &mut Vec<Mark>, pass: Pass, scene: &Scene) -> Result<(), All
     let mut row = 0;
     let mut left = scene.frames.as_slice();
     'rows: while let [frame, rest @ ..] = left {
-        push_row(marks, pass, scene, before, row, frame, rest)?;
+        let here = Here {
+            before,
+            row,
+            frame,
+            rest,
+        };
+        push_row(marks, pass, scene, here)?;
         before = frame.live.as_slice();
         left = rest;
         row += 1;

@@ -69,20 +69,31 @@ fn carried_out(
     Ok(outcome)
 }
 
+/// What is known of an event before it is carried out: its number, whose it is, and how many messages there are.
+#[derive(Clone, Copy)]
+struct Due {
+    number: u64,
+    actor: u32,
+    messages: u64,
+}
+
 /// The frame of an event that was carried out.
 fn framed(
     alloc: Global,
     world: &World,
-    number: u64,
-    actor: u32,
-    before: u64,
+    due: Due,
     event: &Event,
     outcome: &Result<Outcome, EventRefusal>,
 ) -> Result<Frame, AllocError>
-    ensures { IfOk result (λ frame. frame ≡ framed number actor before event.now outcome.now (shown world.now)) }
+    ensures { IfOk result (λ frame. frame ≡ framed due.number due.actor due.messages event.now outcome.now (shown world.now)) }
 {
+    let Due {
+        number,
+        actor,
+        messages,
+    } = due;
     let words = Text::new(print_outcome(alloc, number, outcome)?);
-    let sent = sent_after(alloc, world, before)?;
+    let sent = sent_after(alloc, world, messages)?;
     let live = held_of(alloc, world.coordinator().leases())?;
     Ok(Frame {
         words,
@@ -104,10 +115,13 @@ fn frame_of(
     ensures frame { IfOk result (λ frame. frame ≡ frame_of number (shown world.old) event.now) }
     ensures farm { OnOk result (shown world.new ≡ (step content_digest farm_limits (shown world.old) event.now).farm) }
 {
-    let actor = actor_of(world, event);
-    let before = world.pool_len();
+    let due = Due {
+        number,
+        actor: actor_of(world, event),
+        messages: world.pool_len(),
+    };
     let outcome = carried_out(alloc, world, event)?;
-    framed(alloc, world, number, actor, before, event, &outcome)
+    framed(alloc, world, due, event, &outcome)
 }
 
 /// The frame of what was before the event of this number.

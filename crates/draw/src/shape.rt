@@ -55,17 +55,20 @@ pub(crate) fn push_size(text: &mut String, width: u128, height: u128) -> Result<
     write!(text, "' width='{width}' height='{height}")
 }
 
-/// Adds the beginning of a bar.
-fn push_rect(
-    text: &mut String,
-    class: &str,
+/// Where a bar stands: its left edge, its width, and its first and last row.
+#[derive(Clone, Copy)]
+struct Bar {
     x: u128,
     width: u128,
     from: usize,
     to: usize,
-) -> Result<(), AllocError>
-    ensures { OnOk result (string_bytes text.new ≡ string_bytes text.old ++ rect_text class.now x width from to) }
+}
+
+/// Adds the beginning of a bar.
+fn push_rect(text: &mut String, class: &str, bar: Bar) -> Result<(), AllocError>
+    ensures { OnOk result (string_bytes text.new ≡ string_bytes text.old ++ rect_text class.now bar.x bar.width bar.from bar.to) }
 {
+    let Bar { x, width, from, to } = bar;
     let y = y_of(from);
     let height = 26 * (to.saturating_sub(from) as u128);
     write!(text, "<rect class='{class}' x='{x}' y='{y}")?;
@@ -74,19 +77,11 @@ fn push_rect(
 }
 
 /// Adds a bar.
-fn push_bar(
-    text: &mut String,
-    frames: &[Frame],
-    class: &str,
-    x: u128,
-    width: u128,
-    from: usize,
-    to: usize,
-) -> Result<(), AllocError>
-    ensures { OnOk result (string_bytes text.new ≡ string_bytes text.old ++ bar_text frames.now class.now x width from to) }
+fn push_bar(text: &mut String, frames: &[Frame], class: &str, bar: Bar) -> Result<(), AllocError>
+    ensures { OnOk result (string_bytes text.new ≡ string_bytes text.old ++ bar_text frames.now class.now bar.x bar.width bar.from bar.to) }
 {
-    push_rect(text, class, x, width, from, to)?;
-    push_titles(text, frames, from, to)?;
+    push_rect(text, class, bar)?;
+    push_titles(text, frames, bar.from, bar.to)?;
     text.push_str("</rect>\n")
 }
 
@@ -158,51 +153,40 @@ fn number_y(from_column: usize, from: usize, column: usize, to: usize) -> u128
     y_of(from) + height / (4 * columns.max(1))
 }
 
-/// Adds the beginning of an arrow from one row to another.
-fn push_shaft(
-    text: &mut String,
+/// The way of an arrow, from a row of one lifeline to a row of another.
+#[derive(Clone, Copy)]
+struct Way {
     from_column: usize,
     from: usize,
     column: usize,
     to: usize,
-) -> Result<(), AllocError>
-    ensures { OnOk result (string_bytes text.new ≡ string_bytes text.old ++ shaft_text from_column from column to) }
+}
+
+/// Adds the beginning of an arrow from one row to another.
+fn push_shaft(text: &mut String, way: Way) -> Result<(), AllocError>
+    ensures { OnOk result (string_bytes text.new ≡ string_bytes text.old ++ shaft_text way.from_column way.from way.column way.to) }
 {
-    push_line(text, x_of(from_column), y_of(from), x_of(column), y_of(to))
+    let (x, to_x) = (x_of(way.from_column), x_of(way.column));
+    push_line(text, x, y_of(way.from), to_x, y_of(way.to))
 }
 
 /// Adds the number on such an arrow.
-fn push_numbered(
-    text: &mut String,
-    from_column: usize,
-    from: usize,
-    column: usize,
-    to: usize,
-    number: u64,
-) -> Result<(), AllocError>
-    ensures { OnOk result (string_bytes text.new ≡ string_bytes text.old ++ numbered_text from_column from column to number) }
+fn push_numbered(text: &mut String, way: Way, number: u64) -> Result<(), AllocError>
+    ensures { OnOk result (string_bytes text.new ≡ string_bytes text.old ++ numbered_text way.from_column way.from way.column way.to number) }
 {
-    let x = number_x(from_column, column);
-    let y = number_y(from_column, from, column, to);
+    let x = number_x(way.from_column, way.column);
+    let y = number_y(way.from_column, way.from, way.column, way.to);
     push_number(text, x, y, number)
 }
 
 /// Adds the arrow of a message.
-fn push_arrow(
-    text: &mut String,
-    frames: &[Frame],
-    from_column: usize,
-    from: usize,
-    column: usize,
-    to: usize,
-    number: u64,
-) -> Result<(), AllocError>
-    ensures { OnOk result (string_bytes text.new ≡ string_bytes text.old ++ arrow_text frames.now from_column from column to number) }
+fn push_arrow(text: &mut String, frames: &[Frame], way: Way, number: u64) -> Result<(), AllocError>
+    ensures { OnOk result (string_bytes text.new ≡ string_bytes text.old ++ arrow_text frames.now way.from_column way.from way.column way.to number) }
 {
-    push_shaft(text, from_column, from, column, to)?;
-    push_titles(text, frames, from, to)?;
+    push_shaft(text, way)?;
+    push_titles(text, frames, way.from, way.to)?;
     text.push_str("</path>\n")?;
-    push_numbered(text, from_column, from, column, to, number)
+    push_numbered(text, way, number)
 }
 
 /// Adds the arrow of a message that was sent before the first row.
@@ -368,7 +352,8 @@ pub(crate) fn push_mark(text: &mut String, frames: &[Frame], mark: Mark) -> Resu
     match mark {
         Mark::Life { column, from, to } => {
             let x = 76 + 130 * (column as u128);
-            push_bar(text, frames, "life", x, 8, from, to)
+            let width = 8;
+            push_bar(text, frames, "life", Bar { x, width, from, to })
         }
         Mark::Lease {
             column,
@@ -376,36 +361,36 @@ pub(crate) fn push_mark(text: &mut String, frames: &[Frame], mark: Mark) -> Resu
             from,
             to,
             end,
-        } => push_bar(
-            text,
-            frames,
-            end_class(end),
-            lease_x(column, ticket),
-            9,
-            from,
-            to,
-        ),
+        } => {
+            let x = lease_x(column, ticket);
+            let width = 9;
+            push_bar(text, frames, end_class(end), Bar { x, width, from, to })
+        }
         Mark::Run {
             column,
             ticket,
             from,
             to,
-        } => push_bar(
-            text,
-            frames,
-            "run",
-            lease_x(column, ticket) + 3,
-            3,
-            from,
-            to,
-        ),
+        } => {
+            let x = lease_x(column, ticket) + 3;
+            let width = 3;
+            push_bar(text, frames, "run", Bar { x, width, from, to })
+        }
         Mark::Arrow {
             from_column,
             from,
             column,
             to,
             number,
-        } => push_arrow(text, frames, from_column, from, column, to, number),
+        } => {
+            let way = Way {
+                from_column,
+                from,
+                column,
+                to,
+            };
+            push_arrow(text, frames, way, number)
+        }
         Mark::Arrival {
             column,
             row,
