@@ -1,6 +1,7 @@
 #!/usr/bin/env python3
 """Kills each filter at each of its writes, syncs and renames in turn, over short conversations, starts it again, and looks at what it
-kept; so too where half of a write was done, where the power fails and takes what wasn't synced, and where the disk is full.
+kept; so too where half of a write was done, where the power fails and takes what wasn't synced, where the disk is full, where a call
+fails and the power does so some calls later, and where the power fails some calls after the start that follows a kill.
 
 Prints a line for each conversation and way, and as the last one `N right, M wrong`. The status is 1 where something was wrong.
 """
@@ -21,9 +22,9 @@ sys.path.insert(0, str(Path(__file__).resolve().parents[2]))
 
 from agent.lines import Answer, Filter, FilterGone  # noqa: E402
 from agent.tools import TOP, farmctl  # noqa: E402
-from agent.trials.talks import KEY, KINDS, Conversation, Filling, WithFullLog, Wrong, expect  # noqa: E402
+from agent.trials.talks import KEY, KINDS, Conversation, Filling, Step, WithFullLog, Wrong, expect  # noqa: E402
 
-WAYS = ("before", "half", "cut", "names", "full", "fuller")  # as killed.c has them
+WAYS = ("before", "half", "cut", "names", "full", "fuller", "later1", "later2", "later3", "later4", "again1", "again2", "again3", "again4")  # as killed.c has them
 TRIES = 4  # of a line that was refused for want of room
 
 
@@ -33,23 +34,40 @@ class Trial:
     def __init__(self, kind: type[Conversation], way: str, number: int, library: str) -> None:
         self.room = os.path.realpath(tempfile.mkdtemp(prefix="farm-kills-"))
         self.way = way
-        for name, data in (("key", KEY.encode()), ("count", bytes(8))):
+        for name, data in (("key", KEY.encode()), ("count", bytes(8)), ("count2", bytes(8))):
             with open(f"{self.room}/{name}", "wb") as file:
                 file.write(data)
-        self.disturbed = [f"LD_PRELOAD={library}", f"KILL_COUNT={self.room}/count", f"KILL_HOW={way}", f"KILL_AT={number}"]
+        front = [f"LD_PRELOAD={library}", f"KILL_LEFT={self.room}/left"]
+        how, power = (way[:-1], way[-1]) if way.startswith("again") else (way, "")
+        self.to_come = [[*front, f"KILL_COUNT={self.room}/count", f"KILL_HOW={how}", f"KILL_AT={number}"]]  # for each start that is disturbed
+        if power and number:
+            self.to_come.append([*front, f"KILL_COUNT={self.room}/count2", "KILL_HOW=names", f"KILL_AT={power}"])
+        self.is_disturbed = False
         self.talk = kind(self.room)
         self.filter: Filter | None = None
 
-    def start(self, is_disturbed: bool) -> None:
+    def start(self) -> None:
         """A start that nothing disturbs is never refused."""
         self.close()
+        self.is_disturbed = bool(self.to_come)
         try:
-            self.filter = Filter(["env", *(self.disturbed if is_disturbed else []), farmctl(), *self.talk.words])
+            self.filter = Filter(["env", *(self.to_come.pop(0) if self.to_come else []), farmctl(), *self.talk.words])
         except FilterGone as gone:
-            expect(is_disturbed, f"it doesn't start again: {gone.said}")
+            expect(self.is_disturbed, f"it doesn't start again: {gone.said}")
             expect(gone.status in (-9, 4), f"it doesn't start, with status {gone.status}: {gone.said}")
-            return self.start(False)
+            return self.start()
         self.talk.greeted(self.filter.greeting)
+
+    def carry_out(self, step: Step) -> None:
+        """Carries out a step, and starts the filter again where it ends amid it."""
+        try:
+            step(self)
+        except FilterGone:
+            if not self.is_disturbed:
+                raise
+            self.start()
+            self.carry_out(self.talk.judge)
+            self.carry_out(step)
 
     def close(self) -> None:
         if self.filter:
@@ -87,15 +105,11 @@ class Trial:
     def run(self, left: str = "") -> int:
         """Carries the conversation out, and gives how many calls there were. What it leaves may be copied to a folder."""
         try:
-            self.start(True)
+            self.start()
             for step in self.talk.steps:
-                try:
-                    step(self)
-                except FilterGone:
-                    self.start(False)
-                    self.talk.judge(self)
-                    step(self)
-            self.start(False)
+                self.carry_out(step)
+            self.to_come = []
+            self.start()
             self.talk.judge(self)
         finally:
             self.close()

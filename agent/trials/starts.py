@@ -133,12 +133,19 @@ def not_writable(room: Room, but: str = "") -> None:
             os.chmod(path, os.stat(path).st_mode & ~0o222)
 
 
-def only_reads(room: Room) -> None:
-    """Only the lock can be written: it starts, but carries out nothing that it can't save, until it can."""
+def lock_alone(room: Room) -> None:
     os.chmod(f"{room.path}/record.lock", 0o666)
     not_writable(room, but="record.lock")
-    state = room.state()
+
+
+def only_reads(room: Room) -> None:
+    """Once it has started its files can't be written any more: it carries out nothing that it can't save, until it can."""
+    for name in ("", "record", "record.log"):
+        os.chmod(f"{room.path}/{name}", 0o777)
+    os.chmod(f"{room.path}/record.lock", 0o666)
     coordinator = room.start("coordinator", as_nobody())
+    lock_alone(room)
+    state = room.state()
     pruned = coordinator.call("prune locked:a")
     expect((pruned.sends, pruned.note) == ([], "refused SaveFault"), f"it says {pruned}")
     line = coordinator.call("line locked:a")
@@ -184,7 +191,8 @@ ROWS: dict[str, Callable[[Room], None]] = {
     "a second process of a node": refused("node", 4, "fault Locked .*store.lock is locked", hold("node")),
     "a record that nobody may write": refused("coordinator", 4, "fault FileFault .*record.lock: ", not_writable, as_nobody),
     "a store that nobody may write": refused("node", 4, "fault FileFault .*store.lock: ", not_writable, as_nobody),
-    "a record of which the lock alone can be written": only_reads,
+    "a record of which the lock alone can be written": refused("coordinator", 4, "fault FileFault .*record: ", lock_alone, as_nobody),
+    "a record that can't be written any more": only_reads,
     "a folder that isn't there": refused("coordinator", 4, "fault FileFault .*no/record.lock: ", record="ROOM/no/record"),
     "a log without its record": refused("coordinator", 1, "refused LogAlone ", lambda room: room.write("record", b"")),
     "a damaged record": refused("coordinator", 1, "refused BadRecord ", damage("record", 50)),
