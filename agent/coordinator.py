@@ -87,8 +87,8 @@ class CoordinatorAgent:
         """Hears messages for ever, sends its grants again now and then, and withdraws the leases of nodes that fell silent."""
         delay, due = 1.0, time.monotonic() + 1.0
         while not self.talk.stopped:
-            lines = self._lines(0.5)
             try:
+                lines = self._lines(0.5)
                 if any(note.startswith(("granted", "parked")) for note in self.receive(lines)):
                     delay = 1.0
                 if time.monotonic() > due:
@@ -98,7 +98,7 @@ class CoordinatorAgent:
                     due = time.monotonic() + delay
             except LifeOver:
                 delay = 1.0
-            except (FarmFault, OSError, ValueError, IndexError) as fault:
+            except Exception as fault:  # whatever was wrong with one line, the next one is heard
                 self.log(f"{type(fault).__name__}: {fault}")
                 time.sleep(1.0)
 

@@ -5,6 +5,7 @@ line it sends is sent on, and that a content it is handed is one that the store 
 """
 from __future__ import annotations
 
+import contextlib
 import os
 import re
 import tempfile
@@ -15,7 +16,7 @@ from typing import Callable
 
 from agent.caller import Patience
 from agent.executions import Executions
-from agent.faults import ClientGone, FarmFault, LifeOver, WaitOver
+from agent.faults import FarmFault, LifeOver
 from agent.hints import Hints
 from agent.lines import Answer, Talk, line_of
 from agent.needs import Needs
@@ -131,13 +132,13 @@ class NodeAgent:
         data = self.store.index(digest)
         if data is None:
             return False
-        with tempfile.NamedTemporaryFile(dir=self.home) as file:
-            file.write(data)
-            file.flush()
-            try:
+        try:
+            with tempfile.NamedTemporaryFile(dir=self.home) as file:
+                file.write(data)
+                file.flush()
                 return not self.call(line_of("blob", file.name)).is_refused
-            except LifeOver:
-                return False
+        except (LifeOver, OSError):  # the other nodes are asked for it
+            return False
 
     # What comes from outside.
 
@@ -145,16 +146,16 @@ class NodeAgent:
         """Hears messages for ever."""
         heard = 0.0
         while not self.talk.stopped:
-            line = self.setup.transport.receive(node_address(self.node), 1.0)
-            if time.monotonic() - heard > HEARTBEAT:
-                heard = time.monotonic()
-                self.setup.transport.send(COORDINATOR, self.hints.seal(f"here {self.node}"))
             try:
+                line = self.setup.transport.receive(node_address(self.node), 1.0)
+                if time.monotonic() - heard > HEARTBEAT:
+                    heard = time.monotonic()
+                    self.setup.transport.send(COORDINATOR, self.hints.seal(f"here {self.node}"))
                 if line is not None:
                     self.receive(line)
             except LifeOver:
                 self.wake()
-            except (FarmFault, OSError, ValueError, IndexError) as fault:
+            except Exception as fault:  # whatever was wrong with one line, the next one is heard
                 self.log(f"{type(fault).__name__}: {fault}")
                 time.sleep(1.0)
 
@@ -253,17 +254,24 @@ class NodeAgent:
 
         try:
             self.wait(epoch, patience, is_decided)
-        except (ClientGone, WaitOver):
-            self.unwanted.add((epoch, ask))
-            is_decided()
-            if words[0] == "granted":
-                self.give_back(grant_of(words[1:]).ticket, epoch)
+        except LifeOver:
+            raise  # the ask ended with its life
+        except BaseException:
+            self._leave(ask, epoch)
             raise
         finally:
             self.holders.pop(ask, None)
         if words[0] != "granted":
             raise FarmFault(f"it wasn't granted: {' '.join(words)}")
         return grant_of(words[1:])
+
+    def _leave(self, ask: int, epoch: int) -> None:
+        """Nobody waits for an ask any more: its lease is given back, now or as soon as it is granted."""
+        self.unwanted.add((epoch, ask))
+        with contextlib.suppress(FarmFault, OSError):
+            words = self.call(f"state {ask}", epoch).note.split(" ")
+            if words[0] == "granted":
+                self.give_back(grant_of(words[1:]).ticket, epoch)
 
     def begin(self, ticket: int, epoch: int, patience: Patience) -> None:
         """Begins an execution, once the contents of its bases are here."""

@@ -10,7 +10,7 @@ import threading
 import time
 from collections import deque
 
-from agent.redis_wire import Redis, RedisFault
+from agent.redis_wire import Redis
 
 LENGTH = 2_000  # lines that a stream keeps
 MOST = 1 << 20  # characters of a line: contents go through the store, so a longer one is lost
@@ -44,7 +44,7 @@ class RedisTransport:
                 lines.append(self.outbox.get())
             try:
                 self.server.calls([("XADD", self._stream(to), "MAXLEN", "~", LENGTH, "*", "line", line) for to, line in lines])
-            except RedisFault:
+            except Exception:
                 pass  # they are lost
 
     def receive(self, address: str, timeout: float) -> str | None:
@@ -52,7 +52,7 @@ class RedisTransport:
         if not here and timeout > 0:
             try:
                 here.extend(self._read(address, timeout))
-            except (RedisFault, TypeError, ValueError, IndexError):  # no server of Redis answers what can't be taken apart so
+            except Exception:  # also where what answers is no server of Redis
                 self.places.pop(address, None)
                 time.sleep(min(timeout, 0.5))
         return here.popleft() if here else None
