@@ -27,6 +27,9 @@ def make_key(path: str) -> str:
         except FileExistsError:
             pass
         os.unlink(fresh)
+        folder = os.open(os.path.dirname(path), os.O_RDONLY | os.O_DIRECTORY)
+        os.fsync(folder)  # a farm whose key is lost can't go on
+        os.close(folder)
     return path
 
 

@@ -253,7 +253,10 @@ pub fn open_store<'a, R: Files + Alloc + Clone + Drop>(
         contents: Vec::new(alloc),
         wrong: Vec::new(alloc),
     };
-    for name in names_in(files, alloc, contents.as_str())? {
+    let names = names_in(files, alloc, contents.as_str())?;
+    // A process that was killed may have left names that the device doesn't have.
+    fs::open(files, contents.as_str())?.sync_all()?;
+    for name in names {
         store.find(alloc, name.as_str(), &mut found)?;
     }
     Ok((store, found))
