@@ -95,15 +95,8 @@ fn run_task<S: Ground>(
 {
     let Place { keyed, vertex } = place;
     let shared = ground.views(running.wants().as_slice())?;
-    match run_leased(
-        ground.alloc(),
-        executor,
-        running,
-        task,
-        keyed,
-        vertex,
-        shared,
-    ) {
+    let alloc = ground.alloc();
+    match run_leased(alloc, executor, running, task, keyed, vertex, shared) {
         Ok(ran) => Ok(ran),
         Err(refusal) => Err(run_fault(task.key, refusal)),
     }
