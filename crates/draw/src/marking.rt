@@ -270,7 +270,7 @@ fn push_row(
 ) -> Result<(), AllocError>
     requires row { here.row + 1 + length here.rest.now < 2 ^ 64 }
     requires frames { length scene.now.frames < 2 ^ 64 }
-    ensures { OnOk result (marks.new.items ≡ marks.old.items ++ row_marks pass scene.now here.before.now here.row here.frame.now here.rest.now) }
+    ensures { OnOk result (marks.new.items ≡ marks.old.items ++ row_marks pass scene.now here.entry.before.now here.entry.row here.entry.frame.now here.entry.rest.now) }
 {
     let lines = scene.lines.as_slice();
     let Here {
