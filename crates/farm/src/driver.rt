@@ -1,28 +1,41 @@
 //! One execution: it gets its lease, runs, and leaves something or gives the lease back. A run in one thread and the workers of a
 //! farm use this alike.
-ghost use Rattle.std.specs.Prelude.{◌≡◌, All, IfOk};
+ghost use Rattle.std.specs.Prelude.{◌≡◌, All, IfOk, IfSome};
 ghost use Rattle.farm.specs.Places.{Fits, IsSeenIn};
-ghost use Rattle.farm.specs.Leases.{IsLeaseOf};
+ghost use Rattle.farm.specs.Leases.{IsLeaseOf, IsReplyTo};
 
 use super::fault::FarmFault;
 use super::faults::run_fault;
-use super::lease::Lease;
+use super::lease::{Lease, Reply};
 use super::work::{Place, Work, fit};
-use executions::{ExecOutcome, Executor, Ran, run_leased};
-use farm_base::{Digest, FolderName, Items, Key, Left, NodeId, Ticket, Want, Wants};
-use farmboard::Running;
+use executions::{ExecOutcome, Executor, Gate, Ran, run_leased};
+use farm_base::{Digest, EVENTS, FolderName, Items, Key, Left, NodeId, Ticket, Want, Wants};
+use farmboard::{Granted, Running, abandon_granted};
 use folders::{Edit, Folder};
 use jobs::{Fault, Task};
 use std::alloc::Global;
+use std::thread;
+
+/// How often a gate is asked for one execution.
+const GATE_TURNS: u32 = 10_000_000;
 
 /// Where executions get their leases and SHARED folders, and what notes what came of keys: a board to which nobody else comes, or one
 /// that many threads share.
 pub(crate) trait Ground {
     fn alloc(&self) -> Global;
 
-    /// Asks for the lease of a key's execution, and begins it.
-    fn lease(&mut self, key: &Key, wants: Wants) -> Result<Lease, FarmFault>
-        ensures { IfOk result (IsLeaseOf wants) };
+    fn node(&self) -> NodeId;
+
+    /// A fault once all is to stop.
+    fn go_on(&self) -> Result<(), FarmFault>;
+
+    /// Asks for the lease of an execution, and waits for the reply. The tenures of its SHARED folders are in use by then.
+    fn ask(&mut self, wants: &Wants) -> Result<Reply, FarmFault>
+        ensures { IfOk result (IsReplyTo wants.now) };
+
+    /// Begins an execution under its lease, once its contents are there. None where it has to be asked for again.
+    fn begin(&mut self, granted: Granted, wants: &Wants) -> Result<Option<Running>, FarmFault>
+        ensures { IfOk result (λ begun. IfSome begun (λ running. running.wants ≡ granted.wants)) };
 
     /// The SHARED folders among the wants, as they stand.
     fn views(&mut self, wants: &[Want]) -> Result<Vec<(FolderName, Folder)>, FarmFault>
@@ -52,16 +65,70 @@ pub(crate) trait Ground {
     fn failed(&mut self, key: Key, fault: Fault) -> Result<(), FarmFault>;
 }
 
-/// Solves a task of a node. A key whose lease is denied has failed.
-pub(crate) fn solve<S: Ground>(
+/// Asks the gate until the execution of a key may begin.
+fn pass<S: Ground, G: Gate>(ground: &S, gate: &G, key: &Key) -> Result<(), FarmFault> {
+    for _ in 0..GATE_TURNS {
+        if gate.pass(ground.node(), key) {
+            return Ok(());
+        }
+        ground.go_on()?;
+        thread::yield_now();
+    }
+    Err(FarmFault::GateHeld(*key))
+}
+
+/// Begins an execution that the gate lets pass. None where it has to be asked for again.
+fn begin<S: Ground, G: Gate>(
     ground: &mut S,
+    gate: &G,
+    key: &Key,
+    granted: Granted,
+    wants: &Wants,
+) -> Result<Option<Running>, FarmFault>
+    ensures { IfOk result (λ begun. IfSome begun (λ running. running.wants ≡ granted.wants)) }
+{
+    match pass(ground, gate, key) {
+        Ok(()) => ground.begin(granted, wants),
+        Err(fault) => {
+            abandon_granted(granted);
+            Err(fault)
+        }
+    }
+}
+
+/// The lease of an execution, which has begun, unless it was denied. Each ask is an event, so they are at most as many as a schedule
+/// has.
+fn lease<S: Ground, G: Gate>(
+    ground: &mut S,
+    gate: &G,
+    key: &Key,
+    wants: &Wants,
+) -> Result<Lease, FarmFault>
+    ensures { IfOk result (IsLeaseOf wants.now) }
+{
+    for _ in 0..=EVENTS {
+        match ground.ask(wants)? {
+            Reply::Granted(granted) => {
+                if let Some(running) = begin(ground, gate, key, granted, wants)? {
+                    return Ok(Lease::Begun(running));
+                }
+            }
+            Reply::Denied(why) => return Ok(Lease::Denied(why)),
+        }
+    }
+    Err(FarmFault::HistoryFull)
+}
+
+/// Solves a task. A key whose lease is denied has failed.
+pub(crate) fn solve<S: Ground, G: Gate>(
+    ground: &mut S,
+    gate: &G,
     work: &Work,
-    node: NodeId,
     executor: &mut dyn Executor,
     task: Task,
 ) -> Result<(), FarmFault> {
-    let (place, wants) = fit(ground.alloc(), work, node, &task)?;
-    match ground.lease(&task.key, wants)? {
+    let (place, wants) = fit(ground.alloc(), work, ground.node(), &task)?;
+    match lease(ground, gate, &task.key, &wants)? {
         Lease::Begun(running) => execute(ground, executor, running, task, place),
         Lease::Denied(why) => ground.failed(task.key, Fault::Denied(why)),
     }

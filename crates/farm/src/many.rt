@@ -223,13 +223,7 @@ impl Farm {
                 left: None,
             });
         }
-        let order = Order {
-            setup,
-            jobs,
-            executors,
-            fault_plan,
-        };
-        match run_staffed(rt, alloc, order, gate) {
+        match run_staffed(rt, alloc, setup, jobs, executors, fault_plan, gate) {
             Ok(end) => Ok(end),
             Err(FarmStop { fault, left }) => Err(FarmStop {
                 fault: beside_setup(fault),
@@ -239,49 +233,42 @@ impl Farm {
     }
 }
 
-/// What is to be run: the setup and the jobs, who executes them, and how the farm is disturbed.
-#[derive(Drop)]
-struct Order {
-    setup: Setup,
-    jobs: Vec<(NodeId, Keyed)>,
-    executors: Vec<(NodeId, Box<dyn Executor + Send>)>,
-    fault_plan: Vec<(usize, FarmStep)>,
-}
-
 /// Solves the jobs on their nodes, where each has an executor on its node.
 fn run_staffed<R: Threads + Wait + Sync, G: Gate>(
     rt: &R,
     alloc: Global,
-    order: Order,
+    setup: Setup,
+    jobs: Vec<(NodeId, Keyed)>,
+    executors: Vec<(NodeId, Box<dyn Executor + Send>)>,
+    fault_plan: Vec<(usize, FarmStep)>,
     gate: &G,
 ) -> Result<FarmEnd, FarmStop>
-    ensures saved { IfOk result (λ end. Holds (whole_alone end.saved.items) (farm_after order.setup end.schedule.items).saved) }
-    ensures commits { IfOk result (λ end. end.commits ≡ commits_after order.setup end.schedule.items) }
-    ensures receipts { IfOk result (λ end. All (StandsOn (farm_after order.setup end.schedule.items)) end.receipts.items) }
+    ensures saved { IfOk result (λ end. Holds (whole_alone end.saved.items) (farm_after setup end.schedule.items).saved) }
+    ensures commits { IfOk result (λ end. end.commits ≡ commits_after setup end.schedule.items) }
+    ensures receipts { IfOk result (λ end. All (StandsOn (farm_after setup end.schedule.items)) end.receipts.items) }
     ensures tickets { IfOk result (λ end. IsDistinct nat_eq (tickets_of end.receipts.items)) }
     ensures count { IfOk result (λ end. length end.receipts.items ≡ end.commits) }
-    ensures calls { IfOk result (λ end. AllZip Grew (map (λ each. history each.1) order.executors.items) (map (λ executor. history executor) end.executors.items)) }
+    ensures calls { IfOk result (λ end. AllZip Grew (map (λ each. history each.1) executors.items) (map (λ executor. history executor) end.executors.items)) }
     ensures answers { IfOk result (λ end.
-        let nodes = map (λ each. each.0) order.executors.items in
-        let had = map (λ each. history each.1) order.executors.items in
+        let nodes = map (λ each. each.0) executors.items in
+        let had = map (λ each. history each.1) executors.items in
         let ends = map (λ executor. history executor) end.executors.items in
-        AllZip (λ job answer. IsAnswered (farm_after order.setup end.schedule.items) (new_calls job.0 nodes had ends) job.0 job.1 answer) order.jobs.items end.answers.items) }
-    ensures answered { IfOk result (λ end. length end.answers.items ≡ length order.jobs.items) }
+        AllZip (λ job answer. IsAnswered (farm_after setup end.schedule.items) (new_calls job.0 nodes had ends) job.0 job.1 answer) jobs.items end.answers.items) }
+    ensures answered { IfOk result (λ end. length end.answers.items ≡ length jobs.items) }
     ensures settled { IfOk result (λ end. All (λ answer. answer ≢ Answer.Waiting) end.answers.items) }
     ensures causes { IfOk result (λ end. map (λ each. each.place) end.causes.items ≡ failed_in end.answers.items) }
     ensures bare { IfErr result (λ stop. IfNone stop.left (is_bare stop.fault ≡ true)) }
-    ensures stands { IfErr result (λ stop. IfSome stop.left (λ left. IsStanding order.setup left.schedule.items left.saved.items left.commits left.receipts.items)) }
+    ensures stands { IfErr result (λ stop. IfSome stop.left (λ left. IsStanding setup left.schedule.items left.saved.items left.commits left.receipts.items)) }
     ensures stands_by { IfErr result (λ stop. IfSome stop.left (λ left.
-        AllZip Grew (take (length left.executors.items) (map (λ each. history each.1) order.executors.items)) (map (λ executor. history executor) left.executors.items))) }
+        AllZip Grew (take (length left.executors.items) (map (λ each. history each.1) executors.items)) (map (λ executor. history executor) left.executors.items))) }
 {
-    let setup = order.setup;
-    let Ok(hired) = Hired::all(alloc, order.executors.as_slice()) else {
+    let Ok(hired) = Hired::all(alloc, executors.as_slice()) else {
         return Err(FarmStop {
             fault: FarmFault::Memory,
             left: None,
         });
     };
-    let solved = match solve_all(rt, alloc, order, gate) {
+    let solved = match solve_all(rt, alloc, setup, jobs, executors, fault_plan, gate) {
         Ok(solved) => solved,
         Err(fault) => {
             return Err(FarmStop {
@@ -428,18 +415,15 @@ struct Solved {
 fn solve_all<R: Threads + Wait + Sync, G: Gate>(
     rt: &R,
     alloc: Global,
-    order: Order,
+    setup: Setup,
+    jobs: Vec<(NodeId, Keyed)>,
+    executors: Vec<(NodeId, Box<dyn Executor + Send>)>,
+    fault_plan: Vec<(usize, FarmStep)>,
     gate: &G,
 ) -> Result<Solved, FarmFault>
-    ensures jobs { IfOk result (λ solved. solved.jobs.items ≡ order.jobs.items) }
+    ensures jobs { IfOk result (λ solved. solved.jobs.items ≡ jobs.items) }
     ensures causes { IfOk result (λ solved. IfOk solved.told (λ told. map (λ each. each.place) told.causes.items ≡ failed_in told.answers.items)) }
 {
-    let Order {
-        setup,
-        jobs,
-        executors,
-        fault_plan,
-    } = order;
     let board = Board::start(alloc, setup).map_err(start_fault)?;
     let nodes = nodes_of(alloc, executors.as_slice())?;
     let Submitted { tables, numbers } = submit_all(alloc, setup.nodes, jobs.as_slice())?;

@@ -1,21 +1,21 @@
 //! A run of one executor, on a board to which nobody else comes.
-ghost use Rattle.std.specs.Prelude.{◌≡◌, All, IfOk, OnOk, None};
+ghost use Rattle.std.specs.Prelude.{◌≡◌, All, IfOk, IfSome, OnOk, None};
 ghost use Rattle.farm_base.specs.declared.want.Want.{Want as SpecWant};
 ghost use Rattle.executions.specs.Live.{files_in};
-ghost use Rattle.farm.specs.Leases.{IsLeaseOf};
+ghost use Rattle.farm.specs.Leases.{IsReplyTo};
 ghost use Rattle.farm.specs.Places.{IsSeenIn};
 
 use super::driver::{Ground, solve};
 use super::fault::FarmFault;
 use super::faults::{edits_fault, jobs_fault, shared_fault};
-use super::lease::Lease;
-use super::steps::{finish, give_up, start, start_tenure};
+use super::lease::Reply;
+use super::steps::{ask, begin, finish, give_up, start_tenure};
 use super::work::{Work, shared_folders};
-use executions::{Executor, LiveShared};
+use executions::{Executor, LiveShared, OpenGate};
 use farm_base::{
     Content, Copied, Digest, FolderName, Items, Key, Left, Mode, NodeId, Ticket, Want, Wants,
 };
-use farmboard::{Board, Running, abandon_running};
+use farmboard::{Board, Granted, Running, abandon_running};
 use folders::{Edit, Folder};
 use jobs::{Fault, Jobs};
 use solverkeys::Keyed;
@@ -113,7 +113,7 @@ impl Run {
             let Some(task) = self.jobs.take_ready(self.alloc).map_err(jobs_fault)? else {
                 return Ok(());
             };
-            solve(self, work, HOME, executor, task)?;
+            solve(self, &OpenGate, work, executor, task)?;
         }
         Ok(())
     }
@@ -124,8 +124,20 @@ impl Ground for Run {
         self.alloc
     }
 
-    fn lease(&mut self, _key: &Key, wants: Wants) -> Result<Lease, FarmFault> {
-        start(self.alloc, &mut self.board, HOME, wants)
+    fn node(&self) -> NodeId {
+        HOME
+    }
+
+    fn go_on(&self) -> Result<(), FarmFault> {
+        Ok(())
+    }
+
+    fn ask(&mut self, wants: &Wants) -> Result<Reply, FarmFault> {
+        ask(self.alloc, &mut self.board, HOME, wants)
+    }
+
+    fn begin(&mut self, granted: Granted, _wants: &Wants) -> Result<Option<Running>, FarmFault> {
+        Ok(Some(begin(self.alloc, &mut self.board, granted)?))
     }
 
     fn views(&mut self, wants: &[Want]) -> Result<Vec<(FolderName, Folder)>, FarmFault> {

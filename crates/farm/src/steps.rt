@@ -1,12 +1,12 @@
 //! The steps of one execution on a board to which nobody else comes. Each one delivers all messages.
 ghost use Rattle.std.specs.Prelude.{◌≡◌, IfOk, true};
 ghost use Rattle.executions.specs.Live.{IsTenureOf};
-ghost use Rattle.farm.specs.Leases.{IsLeaseOf, IsReplyTo};
+ghost use Rattle.farm.specs.Leases.{IsReplyTo};
 
 use super::fault::FarmFault;
 use super::faults::board_fault;
-use super::lease::{Lease, Reply};
-use farm_base::{EVENTS, FolderName, Left, Mode, NodeId, Wants};
+use super::lease::Reply;
+use farm_base::{Copied, EVENTS, FolderName, Left, Mode, NodeId, Wants};
 use farmboard::{
     Accept, Asked, Board, Ended, Finished, Granted, Running, Settled, abandon_asked,
     abandon_finished, abandon_granted, abandon_running,
@@ -50,7 +50,11 @@ fn settle_ask(alloc: Global, board: &mut Board, asked: Asked) -> Result<Reply, F
 }
 
 /// Begins an execution under its lease.
-fn begin(alloc: Global, board: &mut Board, granted: Granted) -> Result<Running, FarmFault>
+pub(crate) fn begin(
+    alloc: Global,
+    board: &mut Board,
+    granted: Granted,
+) -> Result<Running, FarmFault>
     ensures { IfOk result (λ running. running.wants ≡ granted.wants) }
 {
     match board.begin(alloc, granted) {
@@ -62,20 +66,19 @@ fn begin(alloc: Global, board: &mut Board, granted: Granted) -> Result<Running, 
     }
 }
 
-/// Begins an execution with these wants, unless its ask is denied.
-pub(crate) fn start(
+/// Asks for the lease of an execution with these wants.
+pub(crate) fn ask(
     alloc: Global,
     board: &mut Board,
     node: NodeId,
-    wants: Wants,
-) -> Result<Lease, FarmFault>
-    ensures { IfOk result (IsLeaseOf wants) }
+    wants: &Wants,
+) -> Result<Reply, FarmFault>
+    ensures { IfOk result (IsReplyTo wants.now) }
 {
-    let asked = board.ask(alloc, node, wants).map_err(board_fault)?;
-    match settle_ask(alloc, board, asked)? {
-        Reply::Granted(granted) => Ok(Lease::Begun(begin(alloc, board, granted)?)),
-        Reply::Denied(why) => Ok(Lease::Denied(why)),
-    }
+    let asked = board
+        .ask(alloc, node, wants.copy(alloc)?)
+        .map_err(board_fault)?;
+    settle_ask(alloc, board, asked)
 }
 
 /// Takes the tenure of a SHARED folder into use. Its ask isn't denied while there are tickets.

@@ -1,17 +1,17 @@
 //! A worker: it solves the keys of its node, one after the other, by its executor.
-ghost use Rattle.std.specs.Prelude.{◌≡◌, All, IfOk};
-ghost use Rattle.farm.specs.Leases.{IsLeaseOf};
+ghost use Rattle.std.specs.Prelude.{◌≡◌, All, IfOk, IfSome};
+ghost use Rattle.farm.specs.Leases.{IsReplyTo};
 ghost use Rattle.farm.specs.Places.{IsSeenIn};
 
 use super::common::Common;
 use super::driver::{Ground, solve};
 use super::fault::FarmFault;
-use super::lease::Lease;
+use super::lease::Reply;
 use super::node_state::{Next, NodeState};
 use super::run::{apply_shared, views_of};
 use executions::{Executor, Gate};
 use farm_base::{Digest, FolderName, Items, Key, Left, NodeId, Ticket, Want, Wants};
-use farmboard::{Receipt, Running};
+use farmboard::{Granted, Receipt, Running};
 use folders::{Edit, Folder};
 use jobs::Fault;
 use std::alloc::Global;
@@ -19,9 +19,8 @@ use std::sync::Wait;
 
 /// A worker: what it waits by, where it stands, and what it got.
 #[derive(Drop)]
-pub(crate) struct Worker<'a, R: Wait, G: Gate> {
-    pub(crate) rt: &'a R,
-    pub(crate) gate: &'a G,
+pub(crate) struct Worker<'r, 'a, R: Wait> {
+    pub(crate) rt: &'r R,
     pub(crate) common: &'a Common,
     /// What belongs to its node.
     pub(crate) state: &'a NodeState,
@@ -53,14 +52,13 @@ pub(crate) fn work<R: Wait, G: Gate>(
         Some(state) => {
             let worker = Worker {
                 rt,
-                gate,
                 common,
                 state,
                 node,
                 number,
                 receipts: Vec::new(alloc),
             };
-            worker.work(&mut *executor)
+            worker.work(gate, &mut *executor)
         }
         None => {
             common.fail(rt, FarmFault::ReceiptLost);
@@ -71,16 +69,15 @@ pub(crate) fn work<R: Wait, G: Gate>(
     WorkerEnd { executor, receipts }
 }
 
-impl<R: Wait, G: Gate> Worker<'_, R, G> {
+impl<R: Wait> Worker<'_, '_, R> {
     /// Solves keys until none is left on the node, or a fault stops all. The answer are the receipts.
-    fn work(self, executor: &mut dyn Executor) -> Vec<Receipt> {
+    fn work<G: Gate>(self, gate: &G, executor: &mut dyn Executor) -> Vec<Receipt> {
         let mut worker = self;
-        if let Err(fault) = worker.solve_all(executor) {
+        if let Err(fault) = worker.solve_all(gate, executor) {
             worker.common.fail(worker.rt, fault);
         }
         let Worker {
             rt: _,
-            gate: _,
             common: _,
             state: _,
             node: _,
@@ -91,15 +88,18 @@ impl<R: Wait, G: Gate> Worker<'_, R, G> {
     }
 
     /// Solves keys until none is left on the node.
-    fn solve_all(&mut self, executor: &mut dyn Executor) -> Result<(), FarmFault> {
+    fn solve_all<G: Gate>(
+        &mut self,
+        gate: &G,
+        executor: &mut dyn Executor,
+    ) -> Result<(), FarmFault> {
         let common = self.common;
-        let node = self.node;
         for _ in self.rt.forever() {
             common.go_on()?;
             let seen = common.changes();
             let next = self.state.jobs.lock(self.rt).next(common.alloc)?;
             match next {
-                Next::Solve(task) => solve(self, &common.work, node, executor, task)?,
+                Next::Solve(task) => solve(self, gate, &common.work, executor, task)?,
                 Next::Wait => common.pause(self.rt, self.number, seen)?,
                 Next::End => return Ok(()),
             }
@@ -108,19 +108,38 @@ impl<R: Wait, G: Gate> Worker<'_, R, G> {
     }
 }
 
-impl<R: Wait, G: Gate> Ground for Worker<'_, R, G> {
+impl<R: Wait> Ground for Worker<'_, '_, R> {
     fn alloc(&self) -> Global {
         self.common.alloc
     }
 
-    fn lease(&mut self, key: &Key, wants: Wants) -> Result<Lease, FarmFault> {
+    fn node(&self) -> NodeId {
+        self.node
+    }
+
+    fn go_on(&self) -> Result<(), FarmFault> {
+        self.common.go_on()
+    }
+
+    fn ask(&mut self, wants: &Wants) -> Result<Reply, FarmFault> {
         for _ in self.rt.forever() {
             self.common.go_on()?;
-            if let Some(lease) = self.try_lease(key, &wants)? {
-                return Ok(lease);
+            if let Some(why) = self.hold_tenures(wants.as_slice())? {
+                return Ok(Reply::Denied(why));
+            }
+            if let Some(reply) = self.ask_once(wants)? {
+                return Ok(reply);
             }
         }
         unreachable!()
+    }
+
+    fn begin(&mut self, granted: Granted, wants: &Wants) -> Result<Option<Running>, FarmFault> {
+        let begun = self.begin_granted(granted)?;
+        if begun.is_none() {
+            self.release(wants);
+        }
+        Ok(begun)
     }
 
     fn views(&mut self, wants: &[Want]) -> Result<Vec<(FolderName, Folder)>, FarmFault> {

@@ -10,19 +10,14 @@ use super::lease::{Lease, Reply};
 use super::locked_board::{LockedBoard, Stage};
 use super::steps::tenure_of;
 use super::worker::Worker;
-use executions::Gate;
-use farm_base::{FolderName, Key, Left, Mode, Want, Wants, Why};
+use farm_base::{FolderName, Left, Mode, Want, Wants, Why};
 use farmboard::{
     Accept, Asked, BoardRefusal, Finished, Granted, Look, Receipt, Running, Settled, abandon_asked,
     abandon_finished, abandon_granted,
 };
 use std::sync::Wait;
-use std::thread;
 
-/// How often a gate is asked for one execution.
-const GATE_TURNS: u32 = 10_000_000;
-
-impl<R: Wait, G: Gate> Worker<'_, R, G> {
+impl<R: Wait> Worker<'_, '_, R> {
     /// Delivers the messages, unless the router has to act first. The answer is the number of changes as of then: what is looked at
     /// in the same hold of the lock stands as it is until there is one more.
     pub(crate) fn deliver(&self, locked: &mut LockedBoard) -> Result<u64, FarmFault> {
@@ -73,7 +68,7 @@ impl<R: Wait, G: Gate> Worker<'_, R, G> {
     }
 
     /// Begins an execution once the contents are there from which it begins. None where its node restarted.
-    fn begin(&self, first: Granted) -> Result<Option<Running>, FarmFault>
+    pub(crate) fn begin_granted(&self, first: Granted) -> Result<Option<Running>, FarmFault>
         ensures { IfOk result (λ begun. IfSome begun (λ running. running.wants ≡ first.wants)) }
     {
         let mut granted = first;
@@ -174,7 +169,7 @@ impl<R: Wait, G: Gate> Worker<'_, R, G> {
         ensures { IfOk result (λ started. IfSome started (IsLeaseOf asked.wants)) }
     {
         match self.settle_ask(asked)? {
-            Some(Reply::Granted(granted)) => match self.begin(granted)? {
+            Some(Reply::Granted(granted)) => match self.begin_granted(granted)? {
                 Some(running) => Ok(Some(Lease::Begun(running))),
                 None => Ok(None),
             },
@@ -256,7 +251,7 @@ impl<R: Wait, G: Gate> Worker<'_, R, G> {
 
     /// Waits until the tenures of the SHARED folders of these wants are in use, by rising folder. The answer is why one was
     /// denied, if it was.
-    fn hold_tenures(&self, wants: &[Want]) -> Result<Option<Why>, FarmFault> {
+    pub(crate) fn hold_tenures(&self, wants: &[Want]) -> Result<Option<Why>, FarmFault> {
         for want in wants {
             if let Mode::Shared = want.folder.mode {
                 if let Some(why) = self.hold_tenure(&want.folder)? {
@@ -268,7 +263,7 @@ impl<R: Wait, G: Gate> Worker<'_, R, G> {
     }
 
     /// An execution of the node less uses the SHARED folders of these wants.
-    fn release(&self, wants: &Wants) {
+    pub(crate) fn release(&self, wants: &Wants) {
         self.common
             .board
             .lock(self.rt)
@@ -277,7 +272,7 @@ impl<R: Wait, G: Gate> Worker<'_, R, G> {
     }
 
     /// Asks for a lease and waits for it. None where it is to be asked for again.
-    fn ask(&self, wants: &Wants) -> Result<Option<Reply>, FarmFault>
+    pub(crate) fn ask_once(&self, wants: &Wants) -> Result<Option<Reply>, FarmFault>
         ensures { IfOk result (λ settled. IfSome settled (IsReplyTo wants.now)) }
     {
         let asked = self
@@ -299,51 +294,6 @@ impl<R: Wait, G: Gate> Worker<'_, R, G> {
                 self.release(wants);
                 Ok(None)
             }
-        }
-    }
-
-    /// Asks the gate until the execution of the key may begin.
-    fn pass_gate(&self, key: &Key) -> Result<(), FarmFault> {
-        for _ in 0..GATE_TURNS {
-            if self.gate.pass(self.node, key) {
-                return Ok(());
-            }
-            self.common.go_on()?;
-            thread::yield_now();
-        }
-        Err(FarmFault::GateHeld(*key))
-    }
-
-    /// Begins an execution that the gate lets pass. None where its node restarted.
-    fn begin_gated(&self, key: &Key, granted: Granted) -> Result<Option<Running>, FarmFault>
-        ensures { IfOk result (λ begun. IfSome begun (λ running. running.wants ≡ granted.wants)) }
-    {
-        match self.pass_gate(key) {
-            Ok(()) => self.begin(granted),
-            Err(fault) => {
-                abandon_granted(granted);
-                Err(fault)
-            }
-        }
-    }
-
-    /// Asks for the lease of an execution, and begins it. None where it is to be asked for again.
-    pub(crate) fn try_lease(&self, key: &Key, wants: &Wants) -> Result<Option<Lease>, FarmFault>
-        ensures { IfOk result (λ leased. IfSome leased (IsLeaseOf wants.now)) }
-    {
-        if let Some(why) = self.hold_tenures(wants.as_slice())? {
-            return Ok(Some(Lease::Denied(why)));
-        }
-        match self.ask(wants)? {
-            Some(Reply::Granted(granted)) => match self.begin_gated(key, granted)? {
-                Some(running) => Ok(Some(Lease::Begun(running))),
-                None => {
-                    self.release(wants);
-                    Ok(None)
-                }
-            },
-            Some(Reply::Denied(why)) => Ok(Some(Lease::Denied(why))),
-            None => Ok(None),
         }
     }
 }
