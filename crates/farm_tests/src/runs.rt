@@ -216,8 +216,8 @@ fn why_a_file_failed(rt: HostRuntime) -> Result<(), Fail> {
     let ended = run_scripts(&rt, order, files, &mut out, &mut err)?;
     assert_eq!(rt; ended.status, DONE);
     assert_eq!(rt; ended.failed.len(), 1);
-    for (place, cause) in &ended.failed {
-        assert!(rt; *place == 1 && is_exit(cause, 1));
+    for job in &ended.failed {
+        assert!(rt; job.place == 1 && is_exit(&job.cause, 1));
     }
     Ok(())
 }
