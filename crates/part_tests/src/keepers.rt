@@ -96,7 +96,7 @@ fn load_changed<R: Files>(rt: &R, alloc: Global, path: &str) -> Result<(Vec<u8>,
     Ok((whole, is_fault, keeper.failures()))
 }
 
-/// A file that is not there, that was saved, that another hand changed, and that can't be made.
+/// A file that is not there, that was saved, that another hand changed, and one in a folder that isn't there.
 #[test]
 fn records_in_files(rt: HostRuntime) -> Result<(), Fail> {
     let path = "kept.record";
@@ -109,9 +109,7 @@ fn records_in_files(rt: HostRuntime) -> Result<(), Fail> {
     assert_eq!(rt; failures, 1);
     fs::remove_file(&rt, path)?;
     fs::remove_file(&rt, "kept.record.log")?;
-    let (_, ok, loaded, failures) = save_one(&rt, rt.alloc(), "nowhere/kept.record")?;
-    assert!(rt; !ok && loaded.is_empty());
-    assert_eq!(rt; failures, 1);
+    assert!(rt; FileKeeper::open(&rt, rt.alloc(), "nowhere/kept.record").is_err());
     Ok(())
 }
 
