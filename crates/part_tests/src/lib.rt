@@ -7,6 +7,8 @@ mod build;
 #[cfg(test)]
 mod coordinator_lines;
 #[cfg(test)]
+mod crashes;
+#[cfg(test)]
 mod edits;
 #[cfg(test)]
 mod fields;

@@ -1,15 +1,15 @@
 -- Entries in the file of a log: where one begins it is the only one that does, and of a file that was cut the first ones are there.
-use Rattle.std.proofs.Common.{◌≡◌, ◌≢◌, ℕ, ◌+◌, ◌-◌, ◌<◌, ◌≤◌, List, [], ◌∷◌, ◌++◌, length, take, drop, true, false, inl, inr, refl, sym, ap, ◌∙◌, subst, zero, suc, append_assoc, arith, length-append}
+use Rattle.std.proofs.Common.{◌≡◌, ℕ, ◌+◌, ◌-◌, ◌<◌, ◌≤◌, List, [], ◌∷◌, ◌++◌, length, take, drop, true, inl, inr, refl, sym, ap, ◌∙◌, subst, append_assoc, arith, length-append}
 use Rattle.std.specs.Prelude.{All, nat_le}
 use Rattle.std.specs.Int.{w64, from_be_bytes}
 use Rattle.std.proofs.lemmas.Bool.{cases_Bool}
-use Rattle.std.proofs.lemmas.List.{append-nil, length-drop, take-append-drop, length-take-le, length-take}
+use Rattle.std.proofs.lemmas.List.{append-nil, length-drop, take-append-drop, length-take-le}
 use Rattle.std.proofs.lemmas.List.Elements.{All-head, All-tail, All-nil, All-push}
 use Rattle.std.proofs.lemmas.Nat.{from_be_bytes-to_be_bytes_8}
-use Rattle.std.proofs.Math.Seq.{take-append_seam, drop-append_seam, take-append-add}
+use Rattle.std.proofs.Math.Seq.{take-append_seam, drop-append_seam}
 use Rattle.sha2.specs.Sha256.{sha256}
 use Rattle.sha2.proofs.Facts256.{length-sha256}
-use Rattle.saverecord.specs.Framing.{name_of, check_of, framed, log_bytes, HasHead, HasNone, IsTold, HasEntries, AreTaken, ACutLogHasItsFirstEntries, ANewRecordHasNoOldEntry}
+use Rattle.saverecord.specs.Framing.{name_of, check_of, framed, log_bytes, HasHead, HasNone, IsTold, HasEntries, AreTaken}
 use Rattle.saverecord.specs.Spelling.{number64}
 use Rattle.saverecord.specs.Texts.{Texts, with_text, with_texts}
 
@@ -75,11 +75,11 @@ three_eights bytes name len check behind after last a b c = record {
   check_len = c.front_len;
 }
 
-number-length : (n : ℕ) → length (number64 n) ≡ 8
+pub number-length : (n : ℕ) → length (number64 n) ≡ 8
 number-length n = refl
 
 -- the head of an entry
-framed_head : (whole entry rest : List ℕ) → HasHead (framed whole entry ++ rest) (name_of whole) (number64 (length entry)) (check_of (name_of whole) (number64 (length entry))) (entry ++ rest)
+pub framed_head : (whole entry rest : List ℕ) → HasHead (framed whole entry ++ rest) (name_of whole) (number64 (length entry)) (check_of (name_of whole) (number64 (length entry))) (entry ++ rest)
 framed_head whole entry rest =
     let name = name_of whole in
     let len = number64 (length entry) in
@@ -98,7 +98,7 @@ framed_by whole bytes name len entry rest h named told =
     let same = ap (λ n. name ++ (n ++ (check_of name n ++ (entry ++ rest)))) (sym told) ∙ ap (λ m. m ++ (number64 (length entry) ++ (check_of m (number64 (length entry)) ++ (entry ++ rest)))) named in
     h.bytes_are ∙ same ∙ sym (framed_head whole entry rest).bytes_are
 
-told_again : (entry : List ℕ) → IsTold entry → from_be_bytes w64 (number64 (length entry)) ≡ length entry
+pub told_again : (entry : List ℕ) → IsTold entry → from_be_bytes w64 (number64 (length entry)) ≡ length entry
 told_again entry told = from_be_bytes-to_be_bytes_8 (length entry) told
 
 -- bytes with a head are long
@@ -109,6 +109,9 @@ head-length bytes name len check behind h =
   where
     more : (a b : ℕ) → a ≡ 8 → b ≡ length len + (length check + length behind) → length len ≡ 8 → length check ≡ 8 → a + b ≡ 24 + length behind
     more a b one two three four = omega arith
+
+pub framed-length : (whole entry : List ℕ) → length (framed whole entry) ≡ 24 + length entry
+framed-length whole entry = ap length (sym (append-nil (framed whole entry))) ∙ head-length _ _ _ _ _ (framed_head whole entry []) ∙ ap (λ zs. 24 + length zs) (append-nil entry)
 
 -- ---- entries
 
@@ -158,81 +161,15 @@ first_is whole entry rest bytes (f ∷ fs) behind told is h =
       has = record { told = All-tail IsTold f fs h.told; bytes_are = one.1; ends = h.ends };
     }
 
--- of an entry that was cut short none is found
-cut_none : (whole entry rest : List ℕ) (n : ℕ) (found : List (List ℕ)) (behind : List ℕ) → IsTold entry → n < length (framed whole entry)
-    → HasEntries whole (take n (framed whole entry ++ rest)) found behind → found ≡ []
-cut_none whole entry rest n [] behind told short h = refl
-cut_none whole entry rest n (f ∷ fs) behind told short h =
-    let bytes = framed whole entry ++ rest in
-    let front : take n bytes ≡ framed whole f ++ (log_bytes whole fs ++ behind) = h.bytes_are ∙ append_assoc (framed whole f) (log_bytes whole fs) behind in
-    let all : bytes ≡ framed whole f ++ ((log_bytes whole fs ++ behind) ++ drop n bytes) =
-    sym (take-append-drop n bytes) ∙ ap (λ zs. zs ++ drop n bytes) front ∙ append_assoc (framed whole f) (log_bytes whole fs ++ behind) (drop n bytes) in
-    let one = same_entry whole entry rest f ((log_bytes whole fs ++ behind) ++ drop n bytes) told (All-head IsTold f fs h.told) all in
-    let lens : length (take n bytes) ≡ length (framed whole f) + length (log_bytes whole fs ++ behind) = ap length front ∙ length-append (framed whole f) (log_bytes whole fs ++ behind) in
-    absurd (too_long (length (take n bytes)) (length (framed whole f)) (length (log_bytes whole fs ++ behind)) lens (at_most n bytes) (subst (λ e. n < length (framed whole e)) one.0 short))
-  where
-    at_most : (n : ℕ) (xs : List ℕ) → length (take n xs) ≤ n
-    at_most n xs = let l = length-take n xs in grind (arith, l)
-
-    too_long : (a b c : ℕ) → a ≡ b + c → a ≤ n → n < b → ⊥
-    too_long a b c e l m = omega arith
-
-none_in_none : (whole : List ℕ) (found : List (List ℕ)) (behind : List ℕ) → HasEntries whole [] found behind → found ≡ []
-none_in_none whole [] behind h = refl
-none_in_none whole (f ∷ fs) behind h =
-    let head = framed_head whole f (log_bytes whole fs ++ behind) in
-    let long = head-length _ _ _ _ _ head in
-    let none = ap length (h.bytes_are ∙ append_assoc (framed whole f) (log_bytes whole fs) behind) in
-    absurd (not_long (length (framed whole f ++ (log_bytes whole fs ++ behind))) (length (f ++ (log_bytes whole fs ++ behind))) none long)
-  where
-    not_long : (n m : ℕ) → 0 ≡ n → n ≡ 24 + m → ⊥
-    not_long n m e l = omega arith
-
--- of a file that was cut the first entries are there
-cut_found : (whole : List ℕ) (entries : List (List ℕ)) (n : ℕ) (bytes : List ℕ) (found : List (List ℕ)) (behind : List ℕ) → All IsTold entries
-    → bytes ≡ take n (log_bytes whole entries) → HasEntries whole bytes found behind → (k : ℕ) × (found ≡ take k entries)
-cut_found whole [] zero bytes found behind told is h = (0, none_in_none whole found behind (subst (λ bs. HasEntries whole bs found behind) is h))
-cut_found whole [] (suc n) bytes found behind told is h = (0, none_in_none whole found behind (subst (λ bs. HasEntries whole bs found behind) is h))
-cut_found whole (e ∷ es) n bytes found behind told is h =
-    elim (cases_Bool (nat_le (length (framed whole e)) n)) [
-      | inl long ↦
-          let m : ℕ = n - length (framed whole e) in
-          let first = first_is whole e (take m (log_bytes whole es)) bytes found behind (All-head IsTold e es told)
-          (is ∙ ap (λ k. take k (framed whole e ++ log_bytes whole es)) (over (length (framed whole e)) n long) ∙ take-append-add (framed whole e) (log_bytes whole es) m) h in
-          let rest = cut_found whole es m (take m (log_bytes whole es)) first.others behind (All-tail IsTold e es told) refl first.has in
-          (suc rest.0, first.found_is ∙ ap (λ fs. e ∷ fs) rest.1)
-      | inr short ↦ (
-        0,
-        cut_none whole e (log_bytes whole es) n found behind (All-head IsTold e es told) (under (length (framed whole e)) n short)
-            (subst (λ bs. HasEntries whole bs found behind) is h),
-      )
-    ]
-  where
-    over : (a n : ℕ) → nat_le a n ≡ true → n ≡ a + (n - a)
-    over a n l = grind arith
-
-    under : (a n : ℕ) → nat_le a n ≡ false → n < a
-    under a n l = grind arith
-
--- and behind entries that are whole
-pub behind_others : (whole : List ℕ) (old more : List (List ℕ)) (n : ℕ) (bytes : List ℕ) (found : List (List ℕ)) (behind : List ℕ) → All IsTold old → All IsTold more
-    → bytes ≡ log_bytes whole old ++ take n (log_bytes whole more) → HasEntries whole bytes found behind → (k : ℕ) × (found ≡ old ++ take k more)
-behind_others whole [] more n bytes found behind told too is h = cut_found whole more n bytes found behind too is h
-behind_others whole (e ∷ es) more n bytes found behind told too is h =
-    let first = first_is whole e (log_bytes whole es ++ take n (log_bytes whole more)) bytes found behind (All-head IsTold e es told)
-    (is ∙ append_assoc (framed whole e) (log_bytes whole es) (take n (log_bytes whole more))) h in
-    let rest = behind_others whole es more n (log_bytes whole es ++ take n (log_bytes whole more)) first.others behind (All-tail IsTold e es told) too refl first.has in
-    (rest.0, first.found_is ∙ ap (λ fs. e ∷ fs) rest.1)
-
--- another record has none of them
-pub none_of_others : (new old : List ℕ) (entries : List (List ℕ)) (bytes : List ℕ) (found : List (List ℕ)) (behind : List ℕ) → name_of new ≢ name_of old
-    → bytes ≡ log_bytes old entries → HasEntries new bytes found behind → found ≡ []
-none_of_others new old entries bytes [] behind differs is h = refl
-none_of_others new old [] bytes (f ∷ fs) behind differs is h = none_in_none new (f ∷ fs) behind (subst (λ bs. HasEntries new bs (f ∷ fs) behind) is h)
-none_of_others new old (e ∷ es) bytes (f ∷ fs) behind differs is h =
-    let same = sym (h.bytes_are ∙ append_assoc (framed new f) (log_bytes new fs) behind) ∙ is in
-    let other = subst (λ bs. HasHead bs (name_of old) (number64 (length e)) (check_of (name_of old) (number64 (length e))) (e ++ log_bytes old es)) (sym same) (framed_head old e (log_bytes old es)) in
-    absurd (differs (one_head _ _ _ _ _ _ _ _ _ (framed_head new f (log_bytes new fs ++ behind)) other).name_is)
+-- bytes have one list of entries
+pub one_list : (whole bytes : List ℕ) (found others : List (List ℕ)) (behind rest : List ℕ) → HasEntries whole bytes found behind → HasEntries whole bytes others rest → others ≡ found
+one_list whole bytes [] [] behind rest h k = refl
+one_list whole bytes [] (f ∷ fs) behind rest h k =
+    absurd (begins whole f (log_bytes whole fs ++ rest) (All-head IsTold f fs k.told) (subst (HasNone whole) (sym h.bytes_are ∙ k.bytes_are ∙ append_assoc (framed whole f) (log_bytes whole fs) rest) h.ends))
+one_list whole bytes (e ∷ es) others behind rest h k =
+    let first = first_is whole e (log_bytes whole es ++ behind) bytes others rest (All-head IsTold e es h.told) (h.bytes_are ∙ append_assoc (framed whole e) (log_bytes whole es) behind) k in
+    let less : HasEntries whole (log_bytes whole es ++ behind) es behind = record { told = All-tail IsTold e es h.told; bytes_are = refl; ends = h.ends } in
+    first.found_is ∙ ap (λ fs. e ∷ fs) (one_list whole (log_bytes whole es ++ behind) es first.others behind rest less first.has)
 
 -- ---- while a file is read
 
@@ -246,7 +183,7 @@ pub record SoFar (old : Texts) (bytes rest : List ℕ) (now : Texts) : Type 0 wh
 pub at_first : (old : Texts) (bytes : List ℕ) → SoFar old bytes bytes old
 at_first old bytes = record { entries = []; told = All-nil IsTold; bytes_are = refl; now_is = λ i. record old { entries = sym (append-nil old.entries) i } }
 
-log-push : (whole : List ℕ) (entries : List (List ℕ)) (entry : List ℕ) → log_bytes whole (entries ++ entry ∷ []) ≡ log_bytes whole entries ++ framed whole entry
+pub log-push : (whole : List ℕ) (entries : List (List ℕ)) (entry : List ℕ) → log_bytes whole (entries ++ entry ∷ []) ≡ log_bytes whole entries ++ framed whole entry
 log-push whole [] entry = append-nil (framed whole entry)
 log-push whole (e ∷ es) entry = ap (λ zs. framed whole e ++ zs) (log-push whole es entry) ∙ sym (append_assoc (framed whole e) (log_bytes whole es) (framed whole entry))
 
@@ -281,15 +218,3 @@ shorter whole entry rest after n most is h =
 
 pub at_last : (whole rest : List ℕ) (n most : ℕ) → length rest + n ≤ most → most ≤ n → HasNone whole rest
 at_last whole rest n most h l = inl (omega arith)
-
--- ---- the laws
-
-pub a_cut_log_has_its_first_entries : ACutLogHasItsFirstEntries
-a_cut_log_has_its_first_entries whole old more n texts told too h =
-    let found = behind_others whole old more n (log_bytes whole old ++ take n (log_bytes whole more)) texts.entries h.behind told too refl h.has in
-    (found.0, λ i. record { whole = h.whole_is i; entries = found.1 i })
-
-pub a_new_record_has_no_old_entry : ANewRecordHasNoOldEntry
-a_new_record_has_no_old_entry new old entries texts differs told h =
-    let none = none_of_others new old entries (log_bytes old entries) texts.entries h.behind differs refl h.has in
-    λ i. record { whole = h.whole_is i; entries = none i }

@@ -17,3 +17,9 @@ pub mod LogEntryLaws
 pub mod LogLemmas
 pub mod LogLaws
 mod FramingLemmas
+mod DiskLemmas
+mod CrashLemmas
+mod TakingLemmas
+mod AddingLemmas
+mod ReplacingLemmas
+mod SyncLemmas

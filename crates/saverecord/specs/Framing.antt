@@ -7,7 +7,7 @@ use Rattle.sha2.specs.Sha256.{sha256}
 use Rattle.saverecord.specs.declared.framing.LogFault.{LogFault}
 use Rattle.saverecord.specs.declared.framing.LogFault.TheVariants.{BadHead, OutOfMemory}
 use Rattle.saverecord.specs.Spelling.{number64}
-use Rattle.saverecord.specs.Texts.{Texts, whole_alone, with_texts}
+use Rattle.saverecord.specs.Texts.{Texts, with_texts}
 
 -- the name of a record in its log: its last eight bytes, which are of its digest
 abbrev pub name_of : List ℕ → List ℕ
@@ -89,17 +89,3 @@ pub record AreTextsOf (whole bytes : List ℕ) (texts : Texts) : Type 0 where
   pub behind : List ℕ
   pub whole_is : texts.whole ≡ whole
   pub has : HasEntries whole bytes texts.entries behind
-
--- ---- what a crash leaves
-
--- a crash while entries are written behind others leaves the first of their bytes. So there are the old entries, and the first of the
--- new ones
-abbrev pub ACutLogHasItsFirstEntries : Type 0
-ACutLogHasItsFirstEntries = (whole : List ℕ) (old more : List (List ℕ)) (n : ℕ) (texts : Texts) → All IsTold old → All IsTold more
-    → AreTextsOf whole (log_bytes whole old ++ take n (log_bytes whole more)) texts
-    → (k : ℕ) × (texts ≡ record { whole = whole; entries = old ++ take k more })
-
--- a crash after a new record took the place of an old one may leave the old one's entries, which are none of the new one
-abbrev pub ANewRecordHasNoOldEntry : Type 0
-ANewRecordHasNoOldEntry = (new old : List ℕ) (entries : List (List ℕ)) (texts : Texts) → name_of new ≢ name_of old → All IsTold entries
-    → AreTextsOf new (log_bytes old entries) texts → texts ≡ whole_alone new

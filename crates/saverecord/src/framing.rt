@@ -54,7 +54,7 @@ fn check_of(name: &[u8; 8], len: &[u8; 8]) -> [u8; 8]
 }
 
 /// The head of an entry that follows this record.
-fn head_of(whole: &[u8], entry: &[u8]) -> [u8; 24]
+pub(crate) fn head_of(whole: &[u8], entry: &[u8]) -> [u8; 24]
     ensures { result ≡ head_of whole.now entry.now }
 {
     let name = name_of(whole);
