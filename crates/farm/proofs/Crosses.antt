@@ -4,12 +4,14 @@ use denote.Struct.Declared.{shape}
 use Rattle.std.proofs.Crossing.{crosses}
 use Rattle.std.proofs.MapsCrossing as maps
 use Rattle.farm_base.specs.contracts.message.Message as Message
-use Rattle.protocol.specs.contracts.ask.KeptAsk as KeptAsk
 use Rattle.protocol.specs.contracts.event.Event as Event
 use Rattle.folders.specs.contracts.folder.Folder as Folder
 use Rattle.farmboard.specs.contracts.tokens.Running as Running
 use Rattle.executions.specs.contracts.batch.Batch as Batch
 use Rattle.executions.specs.contracts.live_shared.Open as Open
+use Rattle.nodecore.specs.contracts.all_asks.AllAsks as AllAsks
+use Rattle.nodecore.specs.contracts.ask_row.AskRow as AskRow
+use Rattle.nodecore.specs.contracts.ask_table.AskTable as AskTable
 use Rattle.nodecore.specs.contracts.stored.StoredContents as StoredContents
 use Rattle.nodecore.specs.contracts.ticket_index.TicketIndex as TicketIndex
 use Rattle.nodecore.specs.contracts.node_core.NodeCore as NodeCore
@@ -34,8 +36,15 @@ message = search (sendable, crosses, maps.crosses) depth 60 fits 20000
 pub event : IsSend Event.the_row
 event = search (sendable, crosses, maps.crosses) depth 60 fits 20000
 
-pub kept_ask : IsSend KeptAsk.the_row
-kept_ask = search (sendable, crosses, maps.crosses) depth 60 fits 20000
+ask_row : IsSend AskRow.the_row
+ask_row = search (sendable, crosses, maps.crosses) depth 60 fits 20000
+
+all_asks : IsSend AllAsks.the_row
+all_asks = search (sendable, crosses, maps.crosses) depth 60 fits 20000
+
+ask_table : IsSend AskTable.the_field.row
+ask_table =
+    struct_send (shape AskTable.the_type) (search sendable depth 40, (search (sendable, crosses, ask_row) depth 60 fits 20000, (search sendable depth 40, (search (sendable, crosses, all_asks) depth 40, tt))))
 
 stored_contents : IsSend StoredContents.the_field.row
 stored_contents = search (sendable, crosses, maps.crosses) depth 60 fits 20000
@@ -46,7 +55,7 @@ ticket_index = search (sendable, crosses, maps.crosses) depth 60 fits 20000
 pub node_core : IsSend NodeCore.the_row
 node_core =
     recorded_send NodeCore.the_field.row _ _ NodeCore.the_type.to_one
-    (struct_send (shape NodeCore.the_type) (search sendable depth 40, (search sendable depth 40, (search sendable depth 40, (search (sendable, crosses, kept_ask) depth 40, (ticket_index, (stored_contents, (search (sendable, crosses, maps.crosses) depth 60 fits 20000, (search sendable depth 40, tt)))))))))
+    (struct_send (shape NodeCore.the_type) (search sendable depth 40, (search sendable depth 40, (search sendable depth 40, (ask_table, (ticket_index, (stored_contents, (search (sendable, crosses, maps.crosses) depth 60 fits 20000, (search sendable depth 40, tt)))))))))
 
 ledger : IsSend Ledger.the_row
 ledger = search (sendable, crosses, maps.crosses) depth 60 fits 20000
