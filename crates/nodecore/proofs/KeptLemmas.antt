@@ -1,9 +1,14 @@
 -- What a test tells of the ask that it picks.
-use Rattle.std.proofs.Common.{◌≡◌, ℕ, ◌<◌, ◌==◌, Bool, true, false, not, ◌&&◌, [], inl, inr, List, length, get_or, slice_get, refl, ap, ◌∙◌, Some}
+use Rattle.std.proofs.Common.{◌≡◌, ◌⊎◌, ℕ, ◌<◌, ◌==◌, Bool, true, false, not, ◌&&◌, [], inl, inr, List, length, get_or, slice_get, refl, sym, ap, ◌∙◌, Option, None, Some}
 use Rattle.std.proofs.lemmas.Option.{slice_get-get_or, get_or_from_slice_get}
 use Rattle.protocol.specs.declared.answer.How.TheVariants as how
 use Rattle.protocol.specs.declared.answer.NodeNote.TheVariants as note
 use Rattle.nodecore.proofs.FirstLemmas.{FirstAt}
+use Rattle.nodecore.proofs.RowLemmas.{kept_at}
+use Rattle.nodecore.specs.declared.ask_row.AskRow.{AskRow}
+use Rattle.nodecore.specs.Rows.{HaveRows}
+use Rattle.protocol.proofs.Base.{some_is}
+use Rattle.protocol.specs.declared.answer.How.{How}
 use Rattle.protocol.proofs.Moving.{held_is, running_is, either_is}
 use Rattle.protocol.specs.Names.{Want, Ticket, Ask, Life}
 use Rattle.protocol.specs.Machine.{Grant, Why}
@@ -36,6 +41,9 @@ found_at t asks i d h s inside is uses = record { get = slice_get-get_or asks i 
 abbrev any_ask : KeptAsk
 any_ask = Over (how.Released (record { 0 = 0 }))
 
+abbrev pub any_row : AskRow
+any_row = record { place = 0; kept = any_ask }
+
 pub held_at : (t : Ticket) (asks : List KeptAsk) (i : ℕ) (f : FirstAt (held t) asks 0 i) → FoundAt t asks i f.what (held_ask f.what)
 held_at t asks i f = found_at t asks i any_ask f.what _ f.inside (held_is t (get_or asks i any_ask) f.what (f.here any_ask)) (λ all a. refl)
 
@@ -50,9 +58,13 @@ held_or_running_at t asks i f =
       | inr runs ↦ (running_ask f.what, found_at t asks i any_ask f.what (running_ask f.what) f.inside (runs, is.1) (λ all a. refl))
     ]
 
+-- what the row of an ask keeps
+pub kept_is : (all : List KeptAsk) (rows : List AskRow) (index : ℕ) (r : AskRow) (s : KeptAsk) → HaveRows all 0 rows → slice_get rows index ≡ Some r → slice_get all r.place ≡ Some s → r.kept ≡ s
+kept_is all rows index r s h get at = some_is r.kept s (sym (kept_at all rows index r h get) ∙ at)
+
 -- what is read there
-pub read_at : {t : Ticket} {asks : List KeptAsk} {i : ℕ} {h : HeldGrant} {s : KeptAsk} → FoundAt t asks i h s → (d : KeptAsk) → d ≡ get_or asks i d → d ≡ s
-read_at {t} {asks} {i} {h} {s} f d e = e ∙ get_or_from_slice_get asks i s d f.get
+pub read_row : (all : List KeptAsk) (rows : List AskRow) (index : ℕ) (r : AskRow) (s : KeptAsk) (d : AskRow) → HaveRows all 0 rows → slice_get rows index ≡ Some r → slice_get all r.place ≡ Some s → d ≡ get_or rows index d → d.kept ≡ s
+read_row all rows index r s d h get at e = ap (λ (x : AskRow). x.kept) (e ∙ get_or_from_slice_get rows index r d get) ∙ kept_is all rows index r s h get at
 
 -- a recalled ask
 recalled_is : (b : Bool) (x s : KeptAsk) → recalled_if b x ≡ Some s → x ≡ s
@@ -106,3 +118,16 @@ does_ok w v x (Err f) e h = refl
 -- a message for this life
 pub of_life_now : (l : Life) (x : Node) (w : NodeWork) → (l.0 == x.life.0) ≡ true → of_life l x w ≡ w
 of_life_now l x w e = rw e refl
+
+-- an ask that wasn't made, or is over, is granted nothing and denied nothing
+pub none_granted : (k : Limits) (at : Place) (g : Grant) (x : Node) (o : Option KeptAsk) → (o ≡ None) ⊎ ((how : How) × (o ≡ Some (Over how))) → granted k at g x o ≡ gives_back at g false x
+none_granted k at g x o h = elim h [
+  | inl e ↦ ap (granted k at g x) e
+  | inr e ↦ ap (granted k at g x) e.1
+]
+
+pub none_denied : (a : Ask) (why : Why) (x : Node) (o : Option KeptAsk) → (o ≡ None) ⊎ ((how : How) × (o ≡ Some (Over how))) → denied a why x o ≡ nothing x
+none_denied a why x o h = elim h [
+  | inl e ↦ ap (denied a why x) e
+  | inr e ↦ ap (denied a why x) e.1
+]

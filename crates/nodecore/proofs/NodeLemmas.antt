@@ -34,6 +34,10 @@ set_at asks i k s e = rw add-one (ap (set asks i) e)
 pub becomes_at : (x : Node) (asks : List KeptAsk) (i : ℕ) (k s : KeptAsk) → x.asks ≡ asks → s ≡ k → becomes (i + 1) s x ≡ record x { asks = set asks i k }
 becomes_at x asks i k s is e = ap (λ (l : List KeptAsk). record x { asks = l }) (ap (λ (l : List KeptAsk). set_nth l (i + 1) s) is ∙ set_at asks i k s e)
 
+-- the same, where the asks of the new node are known
+pub becomes_now : (x : Node) (asks : List KeptAsk) (i : ℕ) (s k : KeptAsk) → asks ≡ set x.asks i k → s ≡ k → becomes (i + 1) s x ≡ record x { asks = asks }
+becomes_now x asks i s k is e = becomes_at x x.asks i k s refl e ∙ ap (λ (l : List KeptAsk). record x { asks = l }) (sym is)
+
 -- begin
 
 pub begins_not : (t : Ticket) (x : Node) → x.spent ≡ false → first (held t) x.asks 0 ≡ None → begun t x ≡ Err refusal.NoSuchTicket

@@ -1,10 +1,9 @@
 -- The index of tickets finds each ask that has its lease under one.
-use Rattle.std.proofs.Common.{◌≡◌, ℕ, zero, suc, ◌+◌, ◌<◌, inl, inr, Bool, true, false, not, ◌&&◌, cond, List, [], ◌∷◌, ◌++◌, length, set, get_or, Option, Some, None, slice_get, is_some, refl, sym, ap, ◌∙◌, arith}
+use Rattle.std.proofs.Common.{◌≡◌, ◌≢◌, ℕ, zero, suc, ◌+◌, ◌<◌, inl, inr, Bool, true, false, not, ◌&&◌, cond, List, [], ◌∷◌, ◌++◌, set, Option, Some, None, slice_get, is_some, refl, sym, ap, ◌∙◌, arith}
 use Rattle.std.specs.Prelude.{◌==◌}
 use Rattle.std.specs.List.{position, position_from}
 use Rattle.std.proofs.lemmas.Bool.{cases_Bool, eqb-true, eq-eqb, ne_eqb}
 use Rattle.std.proofs.lemmas.Iterator.Adapters.{position_from-zero}
-use Rattle.std.proofs.lemmas.Option.{slice_get_read, slice_get-get_or}
 use Rattle.protocol.proofs.Base.{nth_set_cases, get_push_cases, some_is}
 use Rattle.protocol.specs.Names.{Want, Ticket}
 use Rattle.protocol.specs.Machine.{Grant, News}
@@ -19,7 +18,7 @@ use Rattle.nodecore.specs.declared.ticket_index.Holders.{Holders}
 use Rattle.nodecore.specs.declared.ticket_index.Holders.TheVariants.{One, Several}
 use Rattle.nodecore.specs.declared.ticket_index.TicketIndex.{TicketIndex}
 use Rattle.nodecore.specs.Asks.{is_sought, holds, runs, recalls, ends_with}
-use Rattle.nodecore.specs.Tickets.{ticket_eq, holders_of, has_place, may_have, with_holder, AreIndexed}
+use Rattle.nodecore.specs.Tickets.{ticket_eq, holders_of, has_place, may_have, with_holder, without_holder, AreIndexed}
 
 -- the first that a test picks, where it picks none before
 picked_at : (p : KeptAsk → Bool) (i : ℕ) (xs : List KeptAsk) (n : ℕ) (x : KeptAsk) → ((k : ℕ) (y : KeptAsk) → k < n → slice_get xs k ≡ Some y → p y ≡ false) → slice_get xs n ≡ Some x → p x ≡ true → position_from p i xs ≡ Some (i + n)
@@ -157,16 +156,43 @@ indexed_set x asks i old new h at told = record {
 }
 
 -- an ask at a place changes so
-pub indexed_changed : (f : KeptAsk → KeptAsk) (x : TicketIndex) (asks : List KeptAsk) (i : ℕ) (old new : KeptAsk) → ((ask : KeptAsk) (t : Ticket) → keeps (f ask) t ≡ true → keeps ask t ≡ true) → AreIndexed x asks → i < length asks → old ≡ get_or asks i old → new ≡ f old → AreIndexed x (set asks i new)
-indexed_changed f x asks i old new less h inside at is =
-    let get : slice_get asks i ≡ Some old = slice_get_read asks (length asks) i old refl inside at in
-    indexed_set x asks i old new h get (λ t kept. h.found i old t get (less old t (ap (λ (z : KeptAsk). keeps z t) (sym is) ∙ kept)))
+pub indexed_changed : (f : KeptAsk → KeptAsk) (x : TicketIndex) (asks : List KeptAsk) (i : ℕ) (old : KeptAsk) → ((ask : KeptAsk) (t : Ticket) → keeps (f ask) t ≡ true → keeps ask t ≡ true) → AreIndexed x asks → slice_get asks i ≡ Some old → AreIndexed x (set asks i (f old))
+indexed_changed f x asks i old less h get = indexed_set x asks i old (f old) h get (λ t kept. h.found i old t get (less old t kept))
 
 -- an ask at a place is over
-pub indexed_over : (x : TicketIndex) (asks : List KeptAsk) (i : ℕ) (how : How) → AreIndexed x asks → i < length asks → AreIndexed x (set asks i (Over how))
-indexed_over x asks i how h inside =
-    let old : KeptAsk = get_or asks i (Over how) in
-    indexed_set x asks i old (Over how) h (slice_get-get_or asks i (Over how) inside) (λ t kept. absurd (cc kept))
+pub ends_all : (how : How) (ask : KeptAsk) (t : Ticket) → keeps (Over how) t ≡ true → keeps ask t ≡ true
+ends_all how ask t kept = absurd (cc kept)
+
+released_more : (h : Option Holders) (i k : ℕ) → k ≢ i → has_place h k ≡ true → has_place (without_holder h i) k ≡ true
+released_more None i k other known = absurd (cc)
+released_more (Some (One place)) i k other known = by (place == i) refl
+  where
+    by : (b : Bool) → (place == i) ≡ b → has_place (cond b None (Some (One place))) k ≡ true
+    by true e =
+        let here : place ≡ i = eqb-true place i e in
+        let there : place ≡ k = eqb-true place k known in
+        let same : k ≡ i = sym there ∙ here in
+        absurd (other same)
+    by false e = known
+released_more (Some Several) i k other known = refl
+
+still_there : (x y : TicketIndex) (i : ℕ) (t : Ticket) → ((u : Ticket) → holders_of y u ≡ cond (ticket_eq t u) (without_holder (holders_of x t) i) (holders_of x u)) → (u : Ticket) (k : ℕ) (b : Bool) → ticket_eq t u ≡ b → k ≢ i → may_have x u k ≡ true → may_have y u k ≡ true
+still_there x y i t released u k false e other known = ap (λ (o : Option Holders). has_place o k) (released u ∙ ap (λ (b : Bool). cond b (without_holder (holders_of x t) i) (holders_of x u)) e) ∙ known
+still_there x y i t released u k true e other known =
+    let same : t.0 ≡ u.0 = eqb-true t.0 u.0 e in
+    let here : may_have x t k ≡ true = (λ j. may_have x (record { 0 = same j }) k) ∙ known in
+    ap (λ (o : Option Holders). has_place o k) (released u ∙ ap (λ (b : Bool). cond b (without_holder (holders_of x t) i) (holders_of x u)) e)
+    ∙ released_more (holders_of x t) i k other here
+
+-- an ask at a place is over, and its ticket is released
+pub indexed_released : (x y : TicketIndex) (asks : List KeptAsk) (i : ℕ) (old : KeptAsk) (how : How) (t : Ticket) → AreIndexed x asks → slice_get asks i ≡ Some old
+    → ((u : Ticket) → holders_of y u ≡ cond (ticket_eq t u) (without_holder (holders_of x t) i) (holders_of x u)) → AreIndexed y (set asks i (Over how))
+indexed_released x y asks i old how t h at released = record {
+  found = λ k ask u e kept. elim (nth_set_cases asks (suc i) (Over how) old (suc k) ask at e) [
+    | inl same ↦ (let bad : false ≡ true = ap (λ (z : KeptAsk). keeps z u) (sym same.1) ∙ kept in absurd (cc bad))
+    | inr other ↦ still_there x y i t released u k (ticket_eq t u) refl (λ is. other.0 (ap suc is)) (h.found k ask u other.1 kept)
+  ];
+}
 
 pub indexed_push : (x : TicketIndex) (asks : List KeptAsk) (w : List Want) (b : Bool) → AreIndexed x asks → AreIndexed x (asks ++ Open w b ∷ [])
 indexed_push x asks w b h = record {
@@ -195,10 +221,8 @@ held_told x i g (Running w h r) was told t kept = was t kept
 held_told x i g (Finished w h news) was told t kept = was t kept
 held_told x i g (Over how) was told t kept = was t kept
 
-pub indexed_held : (x : TicketIndex) (asks : List KeptAsk) (i : ℕ) (g : Grant) (old new : KeptAsk) → AreIndexed x asks → i < length asks → old ≡ get_or asks i old → new ≡ holds g old → may_have x g.ticket i ≡ true → AreIndexed x (set asks i new)
-indexed_held x asks i g old new h inside at is told =
-    let get : slice_get asks i ≡ Some old = slice_get_read asks (length asks) i old refl inside at in
-    indexed_set x asks i old new h get (λ t kept. held_told x i g old (λ u k. h.found i old u get k) told t (ap (λ (z : KeptAsk). keeps z t) (sym is) ∙ kept))
+pub indexed_held : (x : TicketIndex) (asks : List KeptAsk) (i : ℕ) (g : Grant) (old : KeptAsk) → AreIndexed x asks → slice_get asks i ≡ Some old → may_have x g.ticket i ≡ true → AreIndexed x (set asks i (holds g old))
+indexed_held x asks i g old h get told = indexed_set x asks i old (holds g old) h get (λ t kept. held_told x i g old (λ u k. h.found i old u get k) told t kept)
 
 -- what begins, is recalled or ends has its lease under the ticket that it had
 pub runs_less : (ask : KeptAsk) (t : Ticket) → keeps (runs ask) t ≡ true → keeps ask t ≡ true

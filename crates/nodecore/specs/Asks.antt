@@ -10,6 +10,8 @@ use Rattle.protocol.specs.declared.ask.KeptAsk.TheVariants.{Open, Holding, Runni
 use Rattle.protocol.specs.Nodes as node
 use Rattle.nodecore.specs.declared.asks.Sought.{Sought}
 use Rattle.nodecore.specs.declared.asks.Sought.TheVariants as sought
+use Rattle.nodecore.specs.declared.asks.AskChange.{AskChange}
+use Rattle.nodecore.specs.declared.asks.AskChange.TheVariants as change
 use Rattle.nodecore.specs.declared.message.AskState as state
 use Rattle.nodecore.specs.declared.message.AskState.TheVariants as told
 
@@ -97,6 +99,14 @@ recalls (Running wants g r) = Running wants g true
 recalls (Finished wants g news) = Finished wants g news
 recalls (Over how) = Over how
 
+-- an ask to which this happens
+abbrev pub changed : AskChange → KeptAsk → KeptAsk
+changed (change.Grant g) s = holds g s
+changed change.Begin s = runs s
+changed (change.Finish news) s = ends_with news s
+changed change.Recall s = recalls s
+changed (change.End how) s = Over how
+
 -- how an ask stands, as callers are told
 abbrev pub told_state : KeptAsk → state.AskState
 told_state (Open wants tenure) = told.Pending
@@ -104,6 +114,16 @@ told_state (Holding wants g r) = told.Granted g
 told_state (Running wants g r) = told.Running g
 told_state (Finished wants g news) = told.Finished g.ticket
 told_state (Over how) = told.Over how
+
+-- the same, where the ask may be forgotten
+abbrev pub told_unless : Bool → KeptAsk → state.AskState
+told_unless false x = told_state x
+told_unless true x = told.Forgotten
+
+-- how an ask that may not be there ended, None also where it is forgotten
+abbrev pub way_out_unless : Bool → Option KeptAsk → Option How
+way_out_unless false x = way_out_of x
+way_out_unless true x = None
 
 -- the slots of the lease that the coordinator grants, none where it says something else
 abbrev pub slots_told : FromCoord.FromCoord → List GrantedSlot

@@ -1,4 +1,6 @@
 pub mod Asks
+pub mod RowProps
+pub mod Rows
 pub mod Shown
 pub mod Stored
 pub mod Tickets

@@ -1,5 +1,5 @@
 -- What contracts see of a node.
-use Rattle.std.specs.Prelude.{◌≡◌, ◌==◌, ℕ, true, false, if◌then◌else◌, List, [], Option, None, Some, is_some, All, Result, Ok, Err}
+use Rattle.std.specs.Prelude.{◌≡◌, ◌==◌, ℕ, Bool, true, false, if◌then◌else◌, List, [], Option, None, Some, is_some, All, Result, Ok, Err}
 use Rattle.std.specs.declared.alloc.AllocError.{AllocError}
 use Rattle.protocol.specs.World.{Node}
 use Rattle.protocol.specs.Names.{Digest, Ticket}
@@ -16,6 +16,7 @@ use Rattle.protocol.specs.declared.answer.NodeRefusal.TheVariants.{OutOfMemory}
 use Rattle.nodecore.specs.declared.message.NodeDone.{NodeDone}
 use Rattle.nodecore.specs.declared.node_core.NodeCore.{NodeCore}
 use Rattle.nodecore.specs.Asks.{slots_told}
+use Rattle.nodecore.specs.Rows.{is_lost}
 pub use Rattle.nodecore.specs.Stored.{store_in, known_in, learn_all}
 
 -- the base of a granted slot
@@ -30,11 +31,15 @@ version_of v = (record { slot = v.slot; number = v.number }, v.digest)
 abbrev pub shown : NodeCore → Node
 shown x = record {
   life = x.life;
-  asks = x.asks.items;
+  asks = x.asks.all.asks;
   store = store_in x.contents.by_digest;
   known = known_in x.versions;
   spent = x.spent;
 }
+
+-- the ask of this number is over, and how it ended isn't kept any more
+abbrev pub forgets : NodeCore → ℕ → Bool
+forgets x = is_lost x.asks.all.asks x.asks.rows.items
 
 -- which node it is, and how many there are
 abbrev pub place : NodeCore → Place

@@ -31,6 +31,12 @@ with_holder None i = One i
 with_holder (Some (One place)) i = if place == i then One i else Several
 with_holder (Some Several) i = Several
 
+-- the holders of a ticket but the ask at the place
+abbrev pub without_holder : Option Holders → ℕ → Option Holders
+without_holder None i = None
+without_holder (Some (One place)) i = if place == i then None else Some (One place)
+without_holder (Some Several) i = Some Several
+
 -- how many more tickets fit in without memory
 abbrev pub ticket_room : TicketIndex → ℕ
 ticket_room x = spare x.holders

@@ -1,20 +1,17 @@
-//! The asks of a node's present life.
-ghost use Rattle.std.specs.Prelude.{◌≡◌, ◌+◌, ◌<◌, Bool, List, Some, IfOk, is_some, length, option_copied, position, slice_get};
+//! An ask of a node's present life.
+ghost use Rattle.std.specs.Prelude.{◌≡◌, Bool, IfOk, is_some, option_copied};
 ghost use Rattle.std.specs.List.{list_any};
 ghost use Rattle.farm_base.specs.Digests.{digest_eq};
 ghost use Rattle.protocol.specs.Names.{Want};
 ghost use Rattle.protocol.specs.World.{keeps};
-ghost use Rattle.protocol.specs.Nodes.{wants_folder, is_tenure_of, is_home_of, uses, at_home, held, running, finished, recallable, is_base, needs, in_use, others_use};
+ghost use Rattle.protocol.specs.Nodes.{wants_folder, is_tenure_of, is_home_of, uses, held, running, finished, recallable, is_base, needs};
 ghost use Rattle.protocol.specs.declared.answer.How.{How};
 ghost use Rattle.protocol.specs.declared.ask.KeptAsk.{KeptAsk};
-ghost use Rattle.nodecore.specs.Asks.{ends_with, holds, is_in_use, is_open, is_sought, lease_in, recalls, runs, slots_in, told_state, way_out};
-ghost use Rattle.nodecore.specs.Tickets.{AreIndexed};
+ghost use Rattle.nodecore.specs.Asks.{changed, ends_with, holds, is_open, is_sought, lease_in, recalls, runs, slots_in, told_state, way_out};
+ghost use Rattle.nodecore.specs.Rows.{is_over};
 
 use super::message::AskState;
-use super::ticket_index::{Holders, TicketIndex};
-use farm_base::{
-    Copied, Digest, FolderName, Grant, GrantedSlot, Items, Mode, News, Ticket, Want, Wants,
-};
+use farm_base::{Copied, Digest, FolderName, Grant, GrantedSlot, Items, News, Ticket, Want};
 use protocol::{How, KeptAsk};
 use std::alloc::{AllocError, Global};
 use std::mem;
@@ -30,6 +27,21 @@ pub(crate) enum Sought {
     Finished,
     /// A tenure that is granted or running and was not recalled.
     Recallable,
+}
+
+/// What happens to an ask. It changes no ask that stands otherwise than is said.
+#[derive(Debug, Drop)]
+pub(crate) enum AskChange {
+    /// An open ask is granted.
+    Grant(Grant),
+    /// A granted ask begins.
+    Begin,
+    /// A running ask ends with these news.
+    Finish(Items<News>),
+    /// An ask that is granted or running is recalled.
+    Recall,
+    /// An ask is over, however it stands.
+    End(How),
 }
 
 /// Whether a want is of the folder.
@@ -67,7 +79,7 @@ pub(crate) fn told(ask: &KeptAsk, alloc: Global) -> Result<AskState, AllocError>
 }
 
 /// Whether the ask is a tenure of the folder, and is present.
-fn is_tenure_of(ask: &KeptAsk, folder: &FolderName) -> bool
+pub(crate) fn is_tenure_of(ask: &KeptAsk, folder: &FolderName) -> bool
     ensures { result ≡ is_tenure_of folder.now ask.now }
 {
     match ask {
@@ -86,7 +98,7 @@ fn is_tenure_of(ask: &KeptAsk, folder: &FolderName) -> bool
 }
 
 /// Whether the ask is a tenure of the folder that is in use and not recalled.
-fn is_home_of(ask: &KeptAsk, folder: &FolderName) -> bool
+pub(crate) fn is_home_of(ask: &KeptAsk, folder: &FolderName) -> bool
     ensures { result ≡ is_home_of folder.now ask.now }
 {
     match ask {
@@ -113,7 +125,7 @@ fn uses(ask: &KeptAsk, folder: &FolderName) -> bool
 }
 
 /// Whether the ask uses one of the folders.
-fn uses_some(ask: &KeptAsk, wants: &[Want]) -> bool
+pub(crate) fn uses_some(ask: &KeptAsk, wants: &[Want]) -> bool
     ensures { result ≡ list_any (λ w. uses w.folder ask.now) wants.now }
 {
     wants.iter().any(|want| uses(ask, &want.folder))
@@ -169,7 +181,7 @@ fn is_recallable(ask: &KeptAsk, ticket: Ticket) -> bool
 }
 
 /// Whether the ask has its lease under the ticket, and stands so.
-fn is_sought(ask: &KeptAsk, sought: Sought, ticket: Ticket) -> bool
+pub(crate) fn is_sought(ask: &KeptAsk, sought: Sought, ticket: Ticket) -> bool
     ensures { result ≡ is_sought sought ticket ask.now }
 {
     match sought {
@@ -182,7 +194,7 @@ fn is_sought(ask: &KeptAsk, sought: Sought, ticket: Ticket) -> bool
 }
 
 /// Whether the digest is the base of the ask, which is granted and not begun.
-fn has_base(ask: &KeptAsk, digest: Digest) -> bool
+pub(crate) fn has_base(ask: &KeptAsk, digest: Digest) -> bool
     ensures { result ≡ is_base digest ask.now }
 {
     match ask {
@@ -193,7 +205,7 @@ fn has_base(ask: &KeptAsk, digest: Digest) -> bool
 
 /// Whether the ask needs the content of the digest: as a base of its grant until it has finished, and then as one of
 /// its news.
-fn needs(ask: &KeptAsk, digest: Digest) -> bool
+pub(crate) fn needs(ask: &KeptAsk, digest: Digest) -> bool
     ensures { result ≡ needs digest ask.now }
 {
     match ask {
@@ -263,7 +275,7 @@ fn nobody() -> KeptAsk
 }
 
 /// An open ask is granted.
-pub(crate) fn hold(ask: &mut KeptAsk, grant: Grant)
+fn hold(ask: &mut KeptAsk, grant: Grant)
     ensures { ask.new ≡ holds grant ask.old }
 {
     *ask = match mem::replace(ask, nobody()) {
@@ -277,7 +289,7 @@ pub(crate) fn hold(ask: &mut KeptAsk, grant: Grant)
 }
 
 /// A granted ask begins.
-pub(crate) fn begin(ask: &mut KeptAsk)
+fn begin(ask: &mut KeptAsk)
     ensures { ask.new ≡ runs ask.old }
 {
     *ask = match mem::replace(ask, nobody()) {
@@ -295,7 +307,7 @@ pub(crate) fn begin(ask: &mut KeptAsk)
 }
 
 /// A running ask ends with these news.
-pub(crate) fn finish(ask: &mut KeptAsk, news: Items<News>)
+fn finish(ask: &mut KeptAsk, news: Items<News>)
     ensures { ask.new ≡ ends_with news ask.old }
 {
     *ask = match mem::replace(ask, nobody()) {
@@ -305,7 +317,7 @@ pub(crate) fn finish(ask: &mut KeptAsk, news: Items<News>)
 }
 
 /// An ask that is granted or running is recalled.
-pub(crate) fn recall(ask: &mut KeptAsk)
+fn recall(ask: &mut KeptAsk)
     ensures { ask.new ≡ recalls ask.old }
 {
     match ask {
@@ -315,102 +327,22 @@ pub(crate) fn recall(ask: &mut KeptAsk)
     }
 }
 
-/// The place of the first ask with this ticket that stands so.
-fn place_in(asks: &[KeptAsk], sought: Sought, ticket: Ticket) -> Option<usize>
-    ensures { result ≡ position (is_sought sought ticket) asks.now }
+/// Does to an ask what happens to it.
+pub(crate) fn change(ask: &mut KeptAsk, with: AskChange)
+    ensures { ask.new ≡ changed with ask.old }
 {
-    asks.iter().position(|ask| is_sought(ask, sought, ticket))
-}
-
-/// The same, by an index of their tickets.
-pub(crate) fn place_of(
-    asks: &[KeptAsk],
-    by_ticket: &TicketIndex,
-    sought: Sought,
-    ticket: Ticket,
-) -> Option<usize>
-    requires { AreIndexed by_ticket.now asks.now }
-    ensures { result ≡ position (is_sought sought ticket) asks.now }
-{
-    match by_ticket.holders(ticket) {
-        None => None,
-        Some(Holders::One(place)) => {
-            let Some(ask) = asks.get(place) else {
-                return None;
-            };
-            if is_sought(ask, sought, ticket) {
-                Some(place)
-            } else {
-                None
-            }
-        }
-        Some(Holders::Several) => place_in(asks, sought, ticket),
+    match with {
+        AskChange::Grant(grant) => hold(ask, grant),
+        AskChange::Begin => begin(ask),
+        AskChange::Finish(news) => finish(ask, news),
+        AskChange::Recall => recall(ask),
+        AskChange::End(how) => *ask = KeptAsk::Over(how),
     }
 }
 
-/// Whether the digest is the base of a granted ask.
-pub(crate) fn any_base(asks: &[KeptAsk], digest: Digest) -> bool
-    ensures { result ≡ list_any (is_base digest) asks.now }
+/// Whether the ask is over.
+pub(crate) fn is_over(ask: &KeptAsk) -> bool
+    ensures { result ≡ is_over ask.now }
 {
-    asks.iter().any(|ask| has_base(ask, digest))
-}
-
-/// Whether an ask needs the content of the digest.
-pub(crate) fn any_needs(asks: &[KeptAsk], digest: Digest) -> bool
-    ensures { result ≡ list_any (needs digest) asks.now }
-{
-    asks.iter().any(|ask| needs(ask, digest))
-}
-
-/// Whether an ask other than that of this number uses one of the folders.
-fn others_use(asks: &[KeptAsk], number: usize, wants: &[Want]) -> bool
-    ensures { result ≡ others_use number wants.now asks.now 0 }
-{
-    for (i, ask) in asks.iter().enumerate() {
-        if i + 1 != number && uses_some(ask, wants) {
-            return true;
-        }
-    }
-    false
-}
-
-/// Whether the grant of the ask of this number is a tenure whose folder another ask uses.
-fn is_used(asks: &[KeptAsk], number: usize, wants: &Wants, grant: &Grant) -> bool
-    ensures { result ≡ in_use asks.now number wants.now grant.now }
-{
-    grant.tenure && others_use(asks, number, wants.as_slice())
-}
-
-/// Whether the ask at the place is granted or running as a tenure whose folder another ask uses.
-pub(crate) fn in_use(asks: &[KeptAsk], place: usize) -> bool
-    requires { place < length asks.now }
-    ensures { (ask : KeptAsk) → slice_get asks.now place ≡ Some ask → result ≡ is_in_use asks.now (place + 1) ask }
-{
-    match &asks[place] {
-        KeptAsk::Holding { wants, grant, .. } => is_used(asks, place + 1, wants, grant),
-        KeptAsk::Running { wants, grant, .. } => is_used(asks, place + 1, wants, grant),
-        _ => false,
-    }
-}
-
-/// Whether the tenure of the folder is in use and not recalled.
-fn is_home(asks: &[KeptAsk], folder: &FolderName) -> bool
-    ensures { result ≡ list_any (is_home_of folder.now) asks.now }
-{
-    asks.iter().any(|ask| is_home_of(ask, folder))
-}
-
-/// Whether an ask is the tenure of the folder.
-pub(crate) fn has_tenure(asks: &[KeptAsk], folder: &FolderName) -> bool
-    ensures { result ≡ list_any (is_tenure_of folder.now) asks.now }
-{
-    asks.iter().any(|ask| is_tenure_of(ask, folder))
-}
-
-/// Whether the tenure of each SHARED folder of the wants is in use and not recalled.
-pub(crate) fn at_home(asks: &[KeptAsk], wants: &[Want]) -> bool
-    ensures { result ≡ at_home asks.now wants.now }
-{
-    wants.iter().all(|want| !matches!(want.folder.mode, Mode::Shared)
-        || is_home(asks, &want.folder))
+    matches!(ask, KeptAsk::Over(_))
 }

@@ -1,13 +1,14 @@
-//! What a node stores no longer.
-ghost use Rattle.std.specs.Prelude.{◌≡◌};
+//! What a node stores and keeps no longer.
+ghost use Rattle.std.specs.Prelude.{◌≡◌, ◌≤◌, ◌⊎◌, length, true};
 ghost use Rattle.protocol.specs.Farm.{farm_limits};
 ghost use Rattle.protocol.specs.Nodes.{forgotten};
-ghost use Rattle.nodecore.specs.Shown.{place, shown, Answers};
+ghost use Rattle.nodecore.specs.Rows.{endings_after};
+ghost use Rattle.nodecore.specs.Shown.{forgets, place, shown, Answers};
 
-use super::asks::any_needs;
 use super::message::NodeDone;
 use super::node_core::NodeCore;
 use super::receive::silent;
+use super::scans::any_needs;
 use farm_base::{Digest, empty_digest};
 use protocol::{NodeNote, NodeRefusal};
 use std::alloc::Global;
@@ -22,6 +23,7 @@ impl NodeCore {
     pub fn forget(&mut self, alloc: Global, digest: Digest) -> Result<NodeDone, NodeRefusal>
         ensures answer { Answers (forgotten farm_limits digest (shown self.old)) (shown self.old) (shown self.new) result }
         ensures place { place self.new ≡ place self.old }
+        ensures told { forgets self.new ≡ forgets self.old }
     {
         if self.spent {
             return Err(NodeRefusal::LivesSpent);
@@ -29,10 +31,28 @@ impl NodeCore {
         if digest == empty_digest(alloc) || !self.contents.has(&digest) {
             return Err(NodeRefusal::NoSuchContent);
         }
-        if any_needs(self.asks.as_slice(), digest) {
+        if any_needs(&self.asks, digest) {
             return Err(NodeRefusal::Needed);
         }
         self.contents.remove(digest);
         Ok(silent(alloc, NodeNote::Forgot))
+    }
+    /// Keeps of the asks that are over only the last 1,024, so that the node takes memory and time by its open asks and
+    /// not by those of its whole life. It may be called after every event: mostly it does nothing, and over all calls it
+    /// takes a bounded time for each ask that was made.
+    pub fn forget_endings(&mut self)
+        ensures shown { shown self.new ≡ shown self.old }
+        ensures place { place self.new ≡ place self.old }
+        // What is forgotten more than before is over, and so are 1,024 asks of greater numbers.
+        ensures late { (a : _) → forgets self.new a ≡ true → (forgets self.old a ≡ true) ⊎ (1024 ≤ endings_after a (shown self.old).asks) }
+    {
+        self.asks.forget_endings();
+    }
+
+    /// How many asks are held: the present ones, and those that are over and not forgotten.
+    pub fn asks_held(&self) -> usize
+        ensures { result ≤ length (shown self.now).asks }
+    {
+        self.asks.rows.len()
     }
 }

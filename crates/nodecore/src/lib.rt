@@ -1,6 +1,9 @@
 //! What a node decides: its asks, the contents that it stores, and the versions that it knows.
 #![tactic(auto)]
 
+mod all_asks;
+mod ask_row;
+mod ask_table;
 mod asks;
 mod contents;
 mod fetching;
@@ -11,6 +14,7 @@ mod message;
 mod node_core;
 mod receive;
 mod resending;
+mod scans;
 mod sending;
 mod stored;
 mod ticket_index;
@@ -21,6 +25,12 @@ pub use message::{AskState, NodeDone};
 pub use node_core::NodeCore;
 pub use protocol::{How, NodeNote, NodeRefusal};
 // A crate can name a core in a contract only if the types of its fields are exported.
+#[doc(hidden)]
+pub use all_asks::AllAsks;
+#[doc(hidden)]
+pub use ask_row::AskRow;
+#[doc(hidden)]
+pub use ask_table::AskTable;
 #[doc(hidden)]
 pub use stored::StoredContents;
 #[doc(hidden)]

@@ -2,15 +2,16 @@
 ghost use Rattle.std.specs.Prelude.{◌≡◌, Err, IfOk, IfErr, is_some, option_copied};
 ghost use Rattle.protocol.specs.Lists.{nth};
 ghost use Rattle.protocol.specs.Nodes.{begun, first, held, running};
-ghost use Rattle.nodecore.specs.Asks.{way_out_of};
+ghost use Rattle.nodecore.specs.Asks.{way_out_unless};
 
-use super::asks::{Sought, lease, place_of, way_out};
+use super::asks::{Sought, lease, way_out};
 use super::node_core::NodeCore;
+use super::scans::row_of;
 use farm_base::{Ask, Grant, Ticket};
 use protocol::{How, NodeRefusal};
 
 impl NodeCore {
-    ghost use Rattle.nodecore.specs.Shown.{shown, MayBegin};
+    ghost use Rattle.nodecore.specs.Shown.{forgets, shown, MayBegin};
 
     /// Whether the node is down for good.
     pub fn is_spent(&self) -> bool
@@ -27,11 +28,10 @@ impl NodeCore {
         if self.spent {
             return Err(NodeRefusal::LivesSpent);
         }
-        let Some(place) = place_of(self.asks.as_slice(), &self.by_ticket, Sought::Held, ticket)
-        else {
+        let Some(row) = row_of(&self.asks, &self.by_ticket, Sought::Held, ticket) else {
             return Err(NodeRefusal::NoSuchTicket);
         };
-        let Some(grant) = lease(&self.asks[place]) else {
+        let Some(grant) = lease(&self.asks.rows[row].kept) else {
             unreachable!()
         };
         if !self.has_all(grant.slots.as_slice()) {
@@ -44,27 +44,23 @@ impl NodeCore {
     pub fn is_held(&self, ticket: Ticket) -> bool
         ensures { result ≡ is_some (first (held ticket) (shown self.now).asks 0) }
     {
-        place_of(self.asks.as_slice(), &self.by_ticket, Sought::Held, ticket).is_some()
+        row_of(&self.asks, &self.by_ticket, Sought::Held, ticket).is_some()
     }
 
     /// Whether an execution runs under the ticket.
     pub fn is_running(&self, ticket: Ticket) -> bool
         ensures { result ≡ is_some (first (running ticket) (shown self.now).asks 0) }
     {
-        place_of(
-            self.asks.as_slice(),
-            &self.by_ticket,
-            Sought::Running,
-            ticket,
-        )
-        .is_some()
+        row_of(&self.asks, &self.by_ticket, Sought::Running, ticket).is_some()
     }
 
-    /// How an ask of this life ended; None while it is present, and where there is none.
+    /// How an ask of this life ended; None while it is present, where there is none, and where it is forgotten.
     pub fn way_out(&self, ask: Ask) -> Option<&How>
-        ensures { option_copied result ≡ way_out_of (nth (shown self.now).asks ask.0) }
+        ensures { option_copied result ≡ way_out_unless (forgets self.now ask.0) (nth (shown self.now).asks ask.0) }
     {
-        let place = self.place_of(ask)?;
-        way_out(&self.asks[place])
+        let Some(row) = self.asks.row_of_ask(ask) else {
+            return None;
+        };
+        way_out(&self.asks.rows[row].kept)
     }
 }

@@ -19,4 +19,6 @@ pub enum AskState {
     /// The news were sent under this ticket, and nothing was heard of them.
     Finished(Ticket),
     Over(How),
+    /// It is over, and how it ended isn't kept any more.
+    Forgotten,
 }

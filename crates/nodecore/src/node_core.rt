@@ -2,18 +2,22 @@ ghost use Rattle.std.specs.Prelude.{◌≡◌, ◌∷◌, [], ◌<◌, ◌+◌, 
 ghost use Rattle.protocol.specs.Lists.{nth};
 ghost use Rattle.protocol.specs.Machine.{Said};
 ghost use Rattle.protocol.specs.World.{first_node};
-ghost use Rattle.protocol.specs.Nodes.{HeldGrant, first, held, finished_with, leaving, aborted, all_stored, asked, asked_tenure, begun, gives_up, may_restart, opens, restarted};
+ghost use Rattle.protocol.specs.Nodes.{HeldGrant, first, held, finished_with, leaving, aborted, all_stored, asked, asked_tenure, becomes, begun, gives_up, may_restart, opens, restarted};
 ghost use Rattle.farm_base.specs.Contents.{content_digest};
 ghost use Rattle.protocol.specs.Farm.{farm_limits};
 ghost use Rattle.protocol.specs.declared.ask.KeptAsk.{KeptAsk};
-ghost use Rattle.nodecore.specs.Asks.{told_state};
+ghost use Rattle.nodecore.specs.declared.ask_row.AskRow.{AskRow};
+ghost use Rattle.nodecore.specs.Asks.{told_unless};
+ghost use Rattle.nodecore.specs.Rows.{has_row, none_lost};
 ghost use Rattle.nodecore.specs.Stored.{kept_node, HaveOneDigestEach};
 ghost use Rattle.nodecore.specs.Tickets.{AreIndexed};
 
-use super::asks::{Sought, at_home, begin, finish, has_tenure, in_use, place_of, slots, told};
+use super::ask_table::AskTable;
+use super::asks::{AskChange, Sought, slots, told};
 use super::contents::{fits, known_from, news_of};
 use super::kept::{KeptContents, ResumeRefusal, ToKeep};
 use super::message::{AskState, NodeDone};
+use super::scans::{at_home, has_tenure, in_use, row_of};
 use super::stored::StoredContents;
 use super::ticket_index::TicketIndex;
 use farm_base::{
@@ -49,19 +53,18 @@ pub struct NodeCore {
     /// How many nodes the farm has.
     pub(crate) nodes: u32,
     pub(crate) life: Life,
-    /// The asks of this life, in their order.
-    pub(crate) asks: Vec<KeptAsk>,
+    pub(crate) asks: AskTable,
     /// Which of them have their lease under a ticket.
     pub(crate) by_ticket: TicketIndex,
     pub(crate) contents: StoredContents,
     pub(crate) versions: IndexMap<Version, Digest>,
     /// Whether it is down for good.
     pub(crate) spent: bool,
-    ghost indexed: { AreIndexed by_ticket asks.items },
+    ghost indexed: { AreIndexed by_ticket asks.all.asks },
 }
 
 impl NodeCore {
-    ghost use Rattle.nodecore.specs.Shown.{content_of, shown, place, work_of, Does, Answers, HasBases};
+    ghost use Rattle.nodecore.specs.Shown.{content_of, forgets, shown, place, work_of, Does, Answers, HasBases};
 
     /// A node in its first life, which sends nothing. `node` is its number, from 1 to `nodes`, the greatest number that
     /// the farm will have: a Fetch goes to each other one. **It may be called once for a node number, ever**, as long as
@@ -70,13 +73,14 @@ impl NodeCore {
     pub fn start(alloc: Global, node: NodeId, nodes: u32) -> Result<Self, AllocError>
         ensures node { IfOk result (λ core. shown core ≡ first_node content_digest) }
         ensures place { IfOk result (λ core. place core ≡ record { node = node; nodes = nodes }) }
+        ensures told { IfOk result (λ core. forgets core ≡ none_lost) }
     {
         let contents = StoredContents::new(alloc)?;
         Ok(NodeCore {
             node,
             nodes,
             life: Life(1),
-            asks: Vec::new(alloc),
+            asks: AskTable::new(alloc),
             by_ticket: TicketIndex::new(alloc),
             contents,
             versions: IndexMap::new(alloc),
@@ -101,6 +105,7 @@ impl NodeCore {
         // What a restart makes of the node that kept this.
         ensures done { IfOk result (λ resumed. restarted (record { node = node; nodes = nodes }) (kept_node last_life kept.contents.items kept.versions.items) ≡ work_of (shown resumed.0) resumed.1) }
         ensures place { IfOk result (λ resumed. place resumed.0 ≡ record { node = node; nodes = nodes }) }
+        ensures told { IfOk result (λ resumed. forgets resumed.0 ≡ none_lost) }
         ensures digests { OnOk result (HaveOneDigestEach kept.versions.items) }
 
         ensures spent { (result ≡ Err ResumeRefusal.LivesSpent) ↔ (may_restart farm_limits (kept_node last_life kept.contents.items kept.versions.items) ≡ false) }
@@ -125,7 +130,7 @@ impl NodeCore {
             node,
             nodes,
             life,
-            asks: Vec::new(alloc),
+            asks: AskTable::new(alloc),
             by_ticket: TicketIndex::new(alloc),
             contents,
             versions,
@@ -177,24 +182,24 @@ impl NodeCore {
         self.contents.get(digest)
     }
 
-    /// How an ask of this life stands.
+    /// How an ask of this life stands. How one ended is told as long as it is kept, so of each ask where `forget_endings`
+    /// isn't called.
     pub fn ask_state(&self, alloc: Global, ask: Ask) -> Result<Option<AskState>, AllocError>
-        ensures { IfOk result (λ state. state ≡ option_map told_state (nth (shown self.now).asks ask.0)) }
+        ensures { IfOk result (λ state. state ≡ option_map (told_unless (forgets self.now ask.0)) (nth (shown self.now).asks ask.0)) }
     {
-        let Some(place) = self.place_of(ask) else {
-            return Ok(None);
+        let Some(row) = self.asks.row_of_ask(ask) else {
+            return Ok(self.lost_state(ask));
         };
-        Ok(Some(told(&self.asks[place], alloc)?))
+        Ok(Some(told(&self.asks.rows[row].kept, alloc)?))
     }
 
-    /// The place of an ask of this life.
-    pub(crate) fn place_of(&self, ask: Ask) -> Option<usize>
-        ensures found { IfSome result (λ place. ask.0 ≡ place + 1) }
-        ensures inside { IfSome result (λ place. place < vec_len self.now.asks) }
-        ensures none { IfNone result (nth (shown self.now).asks ask.0 ≡ None) }
+    /// How an ask stands that has no row.
+    fn lost_state(&self, ask: Ask) -> Option<AskState>
+        requires { has_row self.now.asks.rows.items ask.0 ≡ false }
+        ensures { result ≡ option_map (told_unless (forgets self.now ask.0)) (nth (shown self.now).asks ask.0) }
     {
-        if 1 <= ask.0 && ask.0 <= self.asks.len() as u64 {
-            Some(ask.0 as usize - 1)
+        if self.asks.has_made(ask) {
+            Some(AskState::Forgotten)
         } else {
             None
         }
@@ -202,7 +207,7 @@ impl NodeCore {
 }
 
 impl NodeCore {
-    ghost use Rattle.nodecore.specs.Shown.{content_of, shown, place, work_of, Does, Answers, HasBases};
+    ghost use Rattle.nodecore.specs.Shown.{content_of, forgets, shown, place, work_of, Does, Answers, HasBases};
 
     /// One message to the coordinator.
     pub(crate) fn say(&self, alloc: Global, request: Request) -> Result<Items<Message>, AllocError>
@@ -213,19 +218,19 @@ impl NodeCore {
 
     /// Opens an ask.
     fn open(&mut self, alloc: Global, wants: Wants, tenure: bool) -> Result<NodeDone, AllocError>
-        requires { vec_len self.old.asks + 1 < 2 ^ 64 }
+        requires { self.old.asks.made + 1 < 2 ^ 64 }
         ensures work { Does (opens (place self.old) wants tenure (shown self.old)) (shown self.old) (shown self.new) result }
         ensures place { place self.new ≡ place self.old }
+        ensures told { forgets self.new ≡ forgets self.old }
     {
-        self.asks.reserve(1)?;
-        let ask = Ask(self.asks.len() as u64 + 1);
+        let ask = Ask(self.asks.made as u64 + 1);
         let request = Request::Acquire {
             ask,
             wants: wants.copy(alloc)?,
             tenure,
         };
         let sends = self.say(alloc, request)?;
-        self.asks.push_reserved(KeptAsk::Open { wants, tenure });
+        self.asks.push(KeptAsk::Open { wants, tenure })?;
         Ok(NodeDone {
             note: NodeNote::Asked(ask),
             sends,
@@ -236,14 +241,15 @@ impl NodeCore {
     pub fn ask(&mut self, alloc: Global, wants: Wants) -> Result<NodeDone, NodeRefusal>
         ensures answer { Answers (asked farm_limits (place self.old) wants (shown self.old)) (shown self.old) (shown self.new) result }
         ensures place { place self.new ≡ place self.old }
+        ensures told { forgets self.new ≡ forgets self.old }
     {
         if self.spent {
             return Err(NodeRefusal::LivesSpent);
         }
-        if !at_home(self.asks.as_slice(), wants.as_slice()) {
+        if !at_home(&self.asks, wants.as_slice()) {
             return Err(NodeRefusal::NotHomeHere);
         }
-        if self.asks.len() as u64 == GREATEST {
+        if self.asks.made as u64 == GREATEST {
             return Err(NodeRefusal::AsksSpent);
         }
         let Ok(done) = self.open(alloc, wants, false) else {
@@ -256,6 +262,7 @@ impl NodeCore {
     pub fn ask_tenure(&mut self, alloc: Global, folder: FolderName) -> Result<NodeDone, NodeRefusal>
         ensures answer { Answers (asked_tenure farm_limits (place self.old) folder (shown self.old)) (shown self.old) (shown self.new) result }
         ensures place { place self.new ≡ place self.old }
+        ensures told { forgets self.new ≡ forgets self.old }
     {
         if self.spent {
             return Err(NodeRefusal::LivesSpent);
@@ -265,10 +272,10 @@ impl NodeCore {
             mode: Mode::Shared,
             base: folder.base,
         };
-        if has_tenure(self.asks.as_slice(), &folder) {
+        if has_tenure(&self.asks, &folder) {
             return Err(NodeRefusal::TenureHere);
         }
-        if self.asks.len() as u64 == GREATEST {
+        if self.asks.made as u64 == GREATEST {
             return Err(NodeRefusal::AsksSpent);
         }
         let Ok(wants) = Wants::one(alloc, folder, true) else {
@@ -296,18 +303,18 @@ impl NodeCore {
         ensures answer { Answers (begun ticket (shown self.old)) (shown self.old) (shown self.new) result }
         ensures bases { (at : ℕ) (h : HeldGrant) → first (held ticket) (shown self.old).asks 0 ≡ Some (at, h) → OnOk result (HasBases (shown self.new) h.grant.slots) }
         ensures place { place self.new ≡ place self.old }
+        ensures told { forgets self.new ≡ forgets self.old }
     {
         if self.spent {
             return Err(NodeRefusal::LivesSpent);
         }
-        let Some(place) = place_of(self.asks.as_slice(), &self.by_ticket, Sought::Held, ticket)
-        else {
+        let Some(row) = row_of(&self.asks, &self.by_ticket, Sought::Held, ticket) else {
             return Err(NodeRefusal::NoSuchTicket);
         };
-        if !self.has_all(slots(&self.asks[place])) {
+        if !self.has_all(slots(&self.asks.rows[row].kept)) {
             return Err(NodeRefusal::ContentsMissing);
         }
-        begin(&mut self.asks[place]);
+        self.asks.change(row, AskChange::Begin);
         Ok(NodeDone {
             note: NodeNote::Begun(ticket),
             sends: Items::new(Vec::new(alloc)),
@@ -318,22 +325,18 @@ impl NodeCore {
     pub fn abort(&mut self, alloc: Global, ticket: Ticket) -> Result<NodeDone, NodeRefusal>
         ensures answer { Answers (aborted (place self.old) ticket (shown self.old)) (shown self.old) (shown self.new) result }
         ensures place { place self.new ≡ place self.old }
+        ensures told { forgets self.new ≡ forgets self.old }
     {
         if self.spent {
             return Err(NodeRefusal::LivesSpent);
         }
-        let Some(place) = place_of(
-            self.asks.as_slice(),
-            &self.by_ticket,
-            Sought::HeldOrRunning,
-            ticket,
-        ) else {
+        let Some(row) = row_of(&self.asks, &self.by_ticket, Sought::HeldOrRunning, ticket) else {
             return Err(NodeRefusal::NoSuchTicket);
         };
-        if in_use(self.asks.as_slice(), place) {
+        if in_use(&self.asks, row) {
             return Err(NodeRefusal::TenureInUse);
         }
-        let Ok(done) = self.give_up(alloc, place, ticket, NodeNote::Aborted(ticket)) else {
+        let Ok(done) = self.give_up(alloc, row, ticket, NodeNote::Aborted(ticket)) else {
             return Err(NodeRefusal::OutOfMemory);
         };
         Ok(done)
@@ -348,25 +351,21 @@ impl NodeCore {
     ) -> Result<NodeDone, NodeRefusal>
         ensures answer { Answers (finished_with content_digest (place self.old) ticket lefts.items (shown self.old)) (shown self.old) (shown self.new) result }
         ensures place { place self.new ≡ place self.old }
+        ensures told { forgets self.new ≡ forgets self.old }
     {
         if self.spent {
             return Err(NodeRefusal::LivesSpent);
         }
-        let Some(place) = place_of(
-            self.asks.as_slice(),
-            &self.by_ticket,
-            Sought::Running,
-            ticket,
-        ) else {
+        let Some(row) = row_of(&self.asks, &self.by_ticket, Sought::Running, ticket) else {
             return Err(NodeRefusal::NotRunning);
         };
-        if in_use(self.asks.as_slice(), place) {
+        if in_use(&self.asks, row) {
             return Err(NodeRefusal::TenureInUse);
         }
-        if !fits(lefts.as_slice(), slots(&self.asks[place])) {
+        if !fits(lefts.as_slice(), slots(&self.asks.rows[row].kept)) {
             return Err(NodeRefusal::WrongNews);
         }
-        let Ok(done) = self.leave(alloc, place, ticket, lefts) else {
+        let Ok(done) = self.leave(alloc, row, ticket, lefts) else {
             return Err(NodeRefusal::OutOfMemory);
         };
         Ok(done)
@@ -376,19 +375,21 @@ impl NodeCore {
     fn leave(
         &mut self,
         alloc: Global,
-        index: usize,
+        row: usize,
         ticket: Ticket,
         lefts: Vec<Left>,
     ) -> Result<NodeDone, AllocError>
-        requires { index < vec_len self.old.asks }
-        ensures work { (h : HeldGrant)
-            → slice_get self.old.asks.items index ≡ Some (KeptAsk.Running h.wants h.grant h.recalled)
+        requires { row < vec_len self.old.asks.rows }
+        ensures work { (at : AskRow) (h : HeldGrant)
+            → slice_get self.old.asks.rows.items row ≡ Some at
+            → at.kept ≡ KeptAsk.Running h.wants h.grant h.recalled
             → h.grant.ticket ≡ ticket
-            → Does (leaving content_digest (place self.old) (index + 1) h lefts.items (shown self.old)) (shown self.old) (shown self.new) result }
+            → Does (leaving content_digest (place self.old) (at.place + 1) h lefts.items (shown self.old)) (shown self.old) (shown self.new) result }
         ensures place { place self.new ≡ place self.old }
+        ensures told { forgets self.new ≡ forgets self.old }
     {
         if lefts.is_empty() {
-            return self.give_up(alloc, index, ticket, NodeNote::Finished(ticket));
+            return self.give_up(alloc, row, ticket, NodeNote::Finished(ticket));
         }
         let news = news_of(alloc, lefts.as_slice())?;
         let request = Request::Commit {
@@ -397,7 +398,7 @@ impl NodeCore {
         };
         let sends = self.say(alloc, request)?;
         self.contents.reserve(lefts.len())?;
-        finish(&mut self.asks[index], news);
+        self.asks.change(row, AskChange::Finish(news));
         self.contents.store_all(lefts);
         Ok(NodeDone {
             note: NodeNote::Finished(ticket),
@@ -409,17 +410,31 @@ impl NodeCore {
     pub(crate) fn give_up(
         &mut self,
         alloc: Global,
-        index: usize,
+        row: usize,
         ticket: Ticket,
         note: NodeNote,
     ) -> Result<NodeDone, AllocError>
-        requires { index < vec_len self.old.asks }
-        ensures work { Does (gives_up (place self.old) (index + 1) ticket note (shown self.old)) (shown self.old) (shown self.new) result }
+        requires { row < vec_len self.old.asks.rows }
+        ensures work { (at : AskRow) → slice_get self.old.asks.rows.items row ≡ Some at
+            → Does (gives_up (place self.old) (at.place + 1) ticket note (shown self.old)) (shown self.old) (shown self.new) result }
         ensures place { place self.new ≡ place self.old }
+        ensures told { forgets self.new ≡ forgets self.old }
     {
         let sends = self.say(alloc, Request::Release { ticket })?;
-        self.asks[index] = KeptAsk::Over(How::Released(ticket));
+        self.end(row, ticket, How::Released(ticket));
         Ok(NodeDone { note, sends })
+    }
+
+    /// The ask of a row is over, and its lease under the ticket.
+    pub(crate) fn end(&mut self, row: usize, ticket: Ticket, how: How)
+        requires { row < vec_len self.old.asks.rows }
+        ensures shown { (at : AskRow) → slice_get self.old.asks.rows.items row ≡ Some at → shown self.new ≡ becomes (at.place + 1) (KeptAsk.Over how) (shown self.old) }
+        ensures place { place self.new ≡ place self.old }
+        ensures told { forgets self.new ≡ forgets self.old }
+    {
+        let place = self.asks.rows[row].place;
+        self.asks.change(row, AskChange::End(how));
+        self.by_ticket.release(ticket, place);
     }
 
     /// Begins the next life: its asks are over, its contents and versions stay. The executions of the present life have
@@ -433,6 +448,8 @@ impl NodeCore {
         ensures memory { result ≡ Err NodeRefusal.OutOfMemory → shown self.new ≡ shown self.old }
         ensures only { OnErr result ((result ≡ Err NodeRefusal.LivesSpent) ⊎ (result ≡ Err NodeRefusal.OutOfMemory)) }
         ensures place { place self.new ≡ place self.old }
+        ensures told { OnOk result (forgets self.new ≡ none_lost) }
+        ensures kept { OnErr result (forgets self.new ≡ forgets self.old) }
     {
         if self.spent || self.life.0 == GREATEST {
             self.spent = true;
@@ -443,7 +460,7 @@ impl NodeCore {
             return Err(NodeRefusal::OutOfMemory);
         };
         self.life = life;
-        self.asks.clear();
+        self.asks = AskTable::new(alloc);
         self.by_ticket.clear();
         Ok(NodeDone {
             note: NodeNote::Life(life),

@@ -2,20 +2,22 @@ ghost use Rattle.std.specs.Prelude.{◌≡◌, ◌+◌, ◌<◌, [], List, Bool,
 ghost use Rattle.protocol.specs.Names.{Want};
 ghost use Rattle.protocol.specs.Farm.{farm_limits};
 ghost use Rattle.protocol.specs.declared.ask.KeptAsk.{KeptAsk};
+ghost use Rattle.nodecore.specs.declared.ask_row.AskRow.{AskRow};
 ghost use Rattle.protocol.specs.Lists.{nth};
 ghost use Rattle.protocol.specs.Nodes.{heard, unless_spent, brought, denied, dropped, fetched, finished, gives_back, granted, takes, learned, first, recallable, recalled};
 ghost use Rattle.farm_base.specs.Contents.{content_digest};
-ghost use Rattle.nodecore.specs.Shown.{shown, place, work_of, message_work, hearing, Does, Answers};
+ghost use Rattle.nodecore.specs.Shown.{forgets, shown, place, work_of, message_work, hearing, Does, Answers};
 
-use super::asks::{Sought, any_base, hold, is_open, keeps, place_of, recall};
+use super::asks::{AskChange, Sought, is_open, keeps};
 use super::contents::{bases, confirmed, learn};
 use super::message::NodeDone;
 use super::node_core::NodeCore;
+use super::scans::{any_base, row_of};
 use farm_base::{
     Ask, Confirmed, Content, Copied, Digest, FromCoord, Grant, Items, Message, NodeId, Request,
     Ticket, ToNode, Why,
 };
-use protocol::{How, KeptAsk, NodeNote, NodeRefusal};
+use protocol::{How, NodeNote, NodeRefusal};
 use std::alloc::{AllocError, Global};
 
 /// What sends nothing.
@@ -42,13 +44,15 @@ impl NodeCore {
     }
 
     /// An open ask has its lease.
-    fn take(&mut self, alloc: Global, index: usize, grant: &Grant) -> Result<NodeDone, AllocError>
-        requires { index < vec_len self.old.asks }
-        ensures work { (wants : List Want) (tenure : Bool)
-            → slice_get self.old.asks.items index ≡ Some (KeptAsk.Open wants tenure)
-            → grant.now.ask.0 ≡ index + 1
+    fn take(&mut self, alloc: Global, row: usize, grant: &Grant) -> Result<NodeDone, AllocError>
+        requires { row < vec_len self.old.asks.rows }
+        ensures work { (at : AskRow) (wants : List Want) (tenure : Bool)
+            → slice_get self.old.asks.rows.items row ≡ Some at
+            → at.kept ≡ KeptAsk.Open wants tenure
+            → grant.now.ask.0 ≡ at.place + 1
             → Does (takes farm_limits (place self.old) grant.now wants (shown self.old)) (shown self.old) (shown self.new) result }
         ensures place { place self.new ≡ place self.old }
+        ensures told { forgets self.new ≡ forgets self.old }
     {
         let sends = self.fetches(alloc, grant.slots.as_slice())?;
         let bases = bases(alloc, grant.slots.as_slice())?;
@@ -57,8 +61,8 @@ impl NodeCore {
         self.by_ticket.reserve()?;
         self.versions.reserve(bases.len())?;
         learn(&mut self.versions, bases);
-        self.by_ticket.note(grant.ticket, index);
-        hold(&mut self.asks[index], held);
+        self.by_ticket.note(grant.ticket, self.asks.rows[row].place);
+        self.asks.change(row, AskChange::Grant(held));
         Ok(NodeDone {
             note: NodeNote::Took(told),
             sends: Items::new(sends),
@@ -69,14 +73,15 @@ impl NodeCore {
     pub(crate) fn grant(&mut self, alloc: Global, grant: &Grant) -> Result<NodeDone, AllocError>
         ensures work { Does (granted farm_limits (place self.old) grant.now (shown self.old) (nth (shown self.old).asks grant.now.ask.0)) (shown self.old) (shown self.new) result }
         ensures place { place self.new ≡ place self.old }
+        ensures told { forgets self.new ≡ forgets self.old }
     {
-        let Some(index) = self.place_of(grant.ask) else {
+        let Some(row) = self.asks.row_of_ask(grant.ask) else {
             return self.give_back(alloc, grant);
         };
-        if is_open(&self.asks[index]) {
-            return self.take(alloc, index, grant);
+        if is_open(&self.asks.rows[row].kept) {
+            return self.take(alloc, row, grant);
         }
-        if keeps(&self.asks[index], grant.ticket) {
+        if keeps(&self.asks.rows[row].kept, grant.ticket) {
             return Ok(silent(alloc, NodeNote::Nothing));
         }
         self.give_back(alloc, grant)
@@ -86,16 +91,12 @@ impl NodeCore {
     pub(crate) fn drop_news(&mut self, alloc: Global, ticket: Ticket) -> NodeDone
         ensures work { dropped ticket (shown self.old) (first (finished ticket) (shown self.old).asks 0) ≡ work_of (shown self.new) result }
         ensures place { place self.new ≡ place self.old }
+        ensures told { forgets self.new ≡ forgets self.old }
     {
-        let Some(index) = place_of(
-            self.asks.as_slice(),
-            &self.by_ticket,
-            Sought::Finished,
-            ticket,
-        ) else {
+        let Some(row) = row_of(&self.asks, &self.by_ticket, Sought::Finished, ticket) else {
             return silent(alloc, NodeNote::Nothing);
         };
-        self.asks[index] = KeptAsk::Over(How::Fenced(ticket));
+        self.end(row, ticket, How::Fenced(ticket));
         silent(alloc, NodeNote::Dropped(ticket))
     }
 
@@ -108,20 +109,16 @@ impl NodeCore {
     ) -> Result<NodeDone, AllocError>
         ensures work { Does (learned ticket versions.now (shown self.old) (first (finished ticket) (shown self.old).asks 0)) (shown self.old) (shown self.new) result }
         ensures place { place self.new ≡ place self.old }
+        ensures told { forgets self.new ≡ forgets self.old }
     {
-        let Some(index) = place_of(
-            self.asks.as_slice(),
-            &self.by_ticket,
-            Sought::Finished,
-            ticket,
-        ) else {
+        let Some(row) = row_of(&self.asks, &self.by_ticket, Sought::Finished, ticket) else {
             return Ok(silent(alloc, NodeNote::Nothing));
         };
         let named = confirmed(alloc, versions.as_slice())?;
         let versions = versions.copy(alloc)?;
         self.versions.reserve(named.len())?;
         learn(&mut self.versions, named);
-        self.asks[index] = KeptAsk::Over(How::Committed { ticket, versions });
+        self.end(row, ticket, How::Committed { ticket, versions });
         Ok(silent(alloc, NodeNote::Learned(ticket)))
     }
 
@@ -129,14 +126,15 @@ impl NodeCore {
     pub(crate) fn deny(&mut self, alloc: Global, ask: Ask, why: Why) -> NodeDone
         ensures work { denied ask why (shown self.old) (nth (shown self.old).asks ask.0) ≡ work_of (shown self.new) result }
         ensures place { place self.new ≡ place self.old }
+        ensures told { forgets self.new ≡ forgets self.old }
     {
-        let Some(index) = self.place_of(ask) else {
+        let Some(row) = self.asks.row_of_ask(ask) else {
             return silent(alloc, NodeNote::Nothing);
         };
-        if !is_open(&self.asks[index]) {
+        if !is_open(&self.asks.rows[row].kept) {
             return silent(alloc, NodeNote::Nothing);
         }
-        self.asks[index] = KeptAsk::Over(How::Denied(why));
+        self.asks.change(row, AskChange::End(How::Denied(why)));
         silent(alloc, NodeNote::Denied(why))
     }
 
@@ -144,16 +142,12 @@ impl NodeCore {
     pub(crate) fn recall(&mut self, alloc: Global, ticket: Ticket) -> NodeDone
         ensures work { recalled ticket (shown self.old) (first (recallable ticket) (shown self.old).asks 0) ≡ work_of (shown self.new) result }
         ensures place { place self.new ≡ place self.old }
+        ensures told { forgets self.new ≡ forgets self.old }
     {
-        let Some(index) = place_of(
-            self.asks.as_slice(),
-            &self.by_ticket,
-            Sought::Recallable,
-            ticket,
-        ) else {
+        let Some(row) = row_of(&self.asks, &self.by_ticket, Sought::Recallable, ticket) else {
             return silent(alloc, NodeNote::Nothing);
         };
-        recall(&mut self.asks[index]);
+        self.asks.change(row, AskChange::Recall);
         silent(alloc, NodeNote::Recalled(ticket))
     }
 
@@ -185,9 +179,10 @@ impl NodeCore {
     pub(crate) fn bring(&mut self, alloc: Global, content: &Content) -> Result<NodeDone, AllocError>
         ensures work { Does (brought content_digest content.now (shown self.old)) (shown self.old) (shown self.new) result }
         ensures place { place self.new ≡ place self.old }
+        ensures told { forgets self.new ≡ forgets self.old }
     {
         let digest = content.digest();
-        if self.contents.has(&digest) || !any_base(self.asks.as_slice(), digest) {
+        if self.contents.has(&digest) || !any_base(&self.asks, digest) {
             return Ok(silent(alloc, NodeNote::Nothing));
         }
         let copy = content.copy(alloc)?;
@@ -200,6 +195,7 @@ impl NodeCore {
     fn hear(&mut self, alloc: Global, message: &FromCoord) -> Result<NodeDone, AllocError>
         ensures work { Does (heard farm_limits (place self.old) message.now (shown self.old)) (shown self.old) (shown self.new) result }
         ensures place { place self.new ≡ place self.old }
+        ensures told { forgets self.new ≡ forgets self.old }
     {
         if message.life().0 != self.life.0 {
             return Ok(silent(alloc, NodeNote::OldLife));
@@ -221,6 +217,7 @@ impl NodeCore {
     fn receive(&mut self, alloc: Global, message: &ToNode) -> Result<NodeDone, AllocError>
         ensures work { Does (message_work (place self.old) (shown self.old) message.now) (shown self.old) (shown self.new) result }
         ensures place { place self.new ≡ place self.old }
+        ensures told { forgets self.new ≡ forgets self.old }
     {
         match message {
             ToNode::FromCoord(message) => self.hear(alloc, message),
@@ -234,6 +231,7 @@ impl NodeCore {
     pub fn handle(&mut self, alloc: Global, message: &ToNode) -> Result<NodeDone, NodeRefusal>
         ensures answer { Answers (unless_spent (shown self.old) (hearing (place self.old) (shown self.old) message.now)) (shown self.old) (shown self.new) result }
         ensures place { place self.new ≡ place self.old }
+        ensures told { forgets self.new ≡ forgets self.old }
     {
         if self.spent {
             return Err(NodeRefusal::LivesSpent);

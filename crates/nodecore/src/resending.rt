@@ -45,8 +45,11 @@ impl NodeCore {
             ≡ hello self.now.node self.now.life ∷ all_again farm_limits (place self.now) (shown self.now) (shown self.now).asks 0) }
     {
         let mut sends = self.say(alloc, Request::Hello)?.into_vec();
-        for (i, kept) in self.asks.iter().enumerate() {
-            let mut again = self.again(alloc, Ask(i as u64 + 1), kept)?;
+        for row in self.asks.rows.iter() {
+            let is_made = row.place < self.asks.made;
+            prove!(is_made);
+            let ask = Ask(row.place as u64 + 1);
+            let mut again = self.again(alloc, ask, &row.kept)?;
             sends.append(&mut again)?;
         }
         Ok(sends)

@@ -1,7 +1,7 @@
 //! Which of a node's asks have their lease under a ticket.
 ghost use Rattle.std.specs.Prelude.{◌≡◌, ◌<◌, if◌then◌else◌, None, Some, OnOk};
 ghost use Rattle.protocol.specs.Names.{Ticket};
-ghost use Rattle.nodecore.specs.Tickets.{holders_of, ticket_eq, ticket_room, with_holder};
+ghost use Rattle.nodecore.specs.Tickets.{holders_of, ticket_eq, ticket_room, with_holder, without_holder};
 
 use farm_base::Ticket;
 use indexmap::IndexMap;
@@ -16,8 +16,8 @@ pub enum Holders {
     Several,
 }
 
-/// Which asks have their lease under each ticket that was granted to the node in this life. A ticket whose lease is over
-/// stays, as its ask does.
+/// Which asks have their lease under each ticket that was granted to the node in this life, and isn't over. A ticket that
+/// more than one ask may have stays as long as the life.
 #[derive(Debug, Drop)]
 pub struct TicketIndex {
     holders: IndexMap<Ticket, Holders>,
@@ -68,6 +68,17 @@ impl TicketIndex {
         let Ok(_) = self.holders.insert(ticket, holders) else {
             unreachable!();
         };
+    }
+
+    /// Notes that the ask at the place has its lease under the ticket no longer.
+    pub(crate) fn release(&mut self, ticket: Ticket, place: usize)
+        ensures { (t : Ticket) → holders_of self.new t ≡ (if ticket_eq ticket t then without_holder (holders_of self.old ticket) place else holders_of self.old t) }
+    {
+        if let Some(Holders::One(holder)) = self.holders(ticket) {
+            if holder == place {
+                let _ = self.holders.swap_remove(&ticket);
+            }
+        }
     }
 
     /// Forgets all tickets.

@@ -1,62 +1,69 @@
-use Rattle.std.proofs.Common.{◌≡◌, ◌<◌, false, true, length, slice_get, get_or, Option, Some, refl, ap, sym, ◌∙◌, subst, rules, arith}
-use Rattle.std.proofs.lemmas.Option.{slice_get_read, get_or_from_slice_get}
+use Rattle.std.proofs.Common.{◌≡◌, false, true, Option, Some, ap, sym, ◌∙◌, subst, rules}
+use Rattle.std.proofs.lemmas.Option.{get_or_from_slice_get}
 use Rattle.protocol.specs.Farm.{farm_limits}
 use Rattle.protocol.specs.Lists.{nth}
 use Rattle.protocol.specs.World.{keeps}
 use Rattle.protocol.specs.declared.ask.KeptAsk.{KeptAsk}
 use Rattle.protocol.specs.declared.ask.KeptAsk.TheVariants.{Open}
 use Rattle.protocol.specs.Nodes.{granted}
+use Rattle.nodecore.specs.declared.ask_row.AskRow.{AskRow}
 use Rattle.nodecore.specs.Asks.{is_open}
 use Rattle.nodecore.specs.Shown.{shown, place, work_of, Does}
-use Rattle.nodecore.proofs.AskLemmas.{nth_at}
-use Rattle.nodecore.proofs.KeptLemmas.{open_is, granted_kept, does_ok}
+use Rattle.nodecore.proofs.AskLemmas.{ask_at}
+use Rattle.nodecore.proofs.KeptLemmas.{open_is, granted_kept, none_granted, does_ok}
+use Rattle.nodecore.proofs.ScanLemmas.{nth_without}
 use Rattle.nodecore.proofs.node_core.NodeCore.grant.Goals as goal
+
+pub returns-in_default-clause-work : goal.returns-in_default-clause-work
+returns-in_default-clause-work c =
+    let x = shown c.args.self.now in
+    does_ok _ _ x c.give_back.result
+    (none_granted farm_limits (place c.args.self.now) c.args.grant.now x (nth x.asks c.args.grant.now.ask.0) (nth_without x.asks c.args.self.now.asks.rows.items c.args.grant.now.ask.0 c.args.self.now.asks.tied c.in_default.ensures.none))
+    c.give_back.ensures
 
 pub returns-then-is_open-clause-work : goal.returns-then-is_open-clause-work
 returns-then-is_open-clause-work c =
-    let asks = c.args.self.now.asks.items in
+    let all = c.args.self.now.asks.all.asks in
+    let rows = c.args.self.now.asks.rows.items in
     let grant = c.args.grant.now in
-    let i = c.in-Some.index in
-    let d = c.index.result.now in
     let x = shown c.args.self.now in
-    let inside : i < length asks = omega (arith, c.in-Some.ensures.inside) in
-    let opened : is_open d ≡ true = sym c.is_open.ensures ∙ search rules in
-    let (wants, tenure, is) = open_is d opened in
-    let there : nth asks grant.ask.0 ≡ Some (Open wants tenure) =
-    nth_at asks grant.ask.0 i d c.in-Some.ensures.found inside (search rules) ∙ ap (λ (k : KeptAsk). Some k) is in
-    let get : slice_get asks i ≡ Some (Open wants tenure) = slice_get_read asks (length asks) i d refl inside (search rules) ∙ ap (λ (k : KeptAsk). Some k) is in
-    subst (λ (o : Option KeptAsk). Does (granted farm_limits (place c.args.self.now) grant x o) x (shown c.take.new.self) c.take.result) (sym there)
-    (c.take.ensures.work wants tenure get c.in-Some.ensures.found)
+    let k = c.in-Some.ensures.found in
+    let there = ask_at all rows grant.ask.0 c.in-Some.row k c.args.self.now.asks.tied in
+    let same : c.index.result.now ≡ k.at = c.index.ensures ∙ get_or_from_slice_get rows c.in-Some.row k.at c.index.result.now k.get in
+    let opened : is_open k.at.kept ≡ true = ap (λ (r : AskRow). is_open r.kept) (sym same) ∙ sym c.is_open.ensures ∙ search rules in
+    let (wants, tenure, is) = open_is k.at.kept opened in
+    let open_there : nth all grant.ask.0 ≡ Some (Open wants tenure) = there ∙ ap (λ (s : KeptAsk). Some s) is in
+    subst (λ (o : Option KeptAsk). Does (granted farm_limits (place c.args.self.now) grant x o) x (shown c.take.new.self) c.take.result) (sym open_there)
+    (c.take.ensures.work k.at wants tenure k.get is k.number)
 
 pub returns-then-keeps-clause-work : goal.returns-then-keeps-clause-work
 returns-then-keeps-clause-work c =
-    let asks = c.args.self.now.asks.items in
+    let all = c.args.self.now.asks.all.asks in
+    let rows = c.args.self.now.asks.rows.items in
     let grant = c.args.grant.now in
-    let d = c.index.result.now in
     let x = shown c.args.self.now in
-    let inside : c.in-Some.index < length asks = omega (arith, c.in-Some.ensures.inside) in
-    let closed : is_open d ≡ false = sym c.is_open.ensures ∙ search rules in
-    let again : c.index-2.result.now ≡ get_or asks c.in-Some.index c.index-2.result.now = search rules in
-    let same : d ≡ c.index-2.result.now =
-    sym (again ∙ get_or_from_slice_get asks c.in-Some.index d c.index-2.result.now (slice_get_read asks (length asks) c.in-Some.index d refl inside (search rules))) in
-    let kept_here : keeps d grant.ticket ≡ true = ap (λ (k : KeptAsk). keeps k grant.ticket) same ∙ sym c.keeps.ensures ∙ search rules in
-    ap (granted farm_limits (place c.args.self.now) grant x) (nth_at asks grant.ask.0 c.in-Some.index d c.in-Some.ensures.found inside (search rules))
-    ∙ granted_kept farm_limits (place c.args.self.now) grant x d true closed kept_here
+    let k = c.in-Some.ensures.found in
+    let there = ask_at all rows grant.ask.0 c.in-Some.row k c.args.self.now.asks.tied in
+    let same : c.index.result.now ≡ k.at = c.index.ensures ∙ get_or_from_slice_get rows c.in-Some.row k.at c.index.result.now k.get in
+    let same_again : c.index-2.result.now ≡ k.at = c.index-2.ensures ∙ get_or_from_slice_get rows c.in-Some.row k.at c.index-2.result.now k.get in
+    let closed : is_open k.at.kept ≡ false = ap (λ (r : AskRow). is_open r.kept) (sym same) ∙ sym c.is_open.ensures ∙ search rules in
+    let kept_here : keeps k.at.kept grant.ticket ≡ true = ap (λ (r : AskRow). keeps r.kept grant.ticket) (sym same_again) ∙ sym c.keeps.ensures ∙ search rules in
+    ap (granted farm_limits (place c.args.self.now) grant x) there
+    ∙ granted_kept farm_limits (place c.args.self.now) grant x k.at.kept true closed kept_here
     ∙ sym (ap (work_of x) c.silent.ensures)
 
 pub returns-clause-work : goal.returns-clause-work
 returns-clause-work c =
-    let asks = c.args.self.now.asks.items in
+    let all = c.args.self.now.asks.all.asks in
+    let rows = c.args.self.now.asks.rows.items in
     let grant = c.args.grant.now in
-    let d = c.index.result.now in
     let x = shown c.args.self.now in
-    let inside : c.in-Some.index < length asks = omega (arith, c.in-Some.ensures.inside) in
-    let closed : is_open d ≡ false = sym c.is_open.ensures ∙ search rules in
-    let again : c.index-2.result.now ≡ get_or asks c.in-Some.index c.index-2.result.now = search rules in
-    let same : d ≡ c.index-2.result.now =
-    sym (again ∙ get_or_from_slice_get asks c.in-Some.index d c.index-2.result.now (slice_get_read asks (length asks) c.in-Some.index d refl inside (search rules))) in
-    let lost : keeps d grant.ticket ≡ false = ap (λ (k : KeptAsk). keeps k grant.ticket) same ∙ sym c.keeps.ensures ∙ search rules in
+    let k = c.in-Some.ensures.found in
+    let there = ask_at all rows grant.ask.0 c.in-Some.row k c.args.self.now.asks.tied in
+    let same : c.index.result.now ≡ k.at = c.index.ensures ∙ get_or_from_slice_get rows c.in-Some.row k.at c.index.result.now k.get in
+    let same_again : c.index-2.result.now ≡ k.at = c.index-2.ensures ∙ get_or_from_slice_get rows c.in-Some.row k.at c.index-2.result.now k.get in
+    let closed : is_open k.at.kept ≡ false = ap (λ (r : AskRow). is_open r.kept) (sym same) ∙ sym c.is_open.ensures ∙ search rules in
+    let lost : keeps k.at.kept grant.ticket ≡ false = ap (λ (r : AskRow). keeps r.kept grant.ticket) (sym same_again) ∙ sym c.keeps.ensures ∙ search rules in
     does_ok _ _ x c.give_back-2.result
-    (ap (granted farm_limits (place c.args.self.now) grant x) (nth_at asks grant.ask.0 c.in-Some.index d c.in-Some.ensures.found inside (search rules))
-    ∙ granted_kept farm_limits (place c.args.self.now) grant x d false closed lost)
+    (ap (granted farm_limits (place c.args.self.now) grant x) there ∙ granted_kept farm_limits (place c.args.self.now) grant x k.at.kept false closed lost)
     c.give_back-2.ensures

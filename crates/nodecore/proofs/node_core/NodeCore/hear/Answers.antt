@@ -1,10 +1,9 @@
-use Rattle.std.proofs.Common.{rules, ◌≡◌, ◌==◌, true, List, ap, sym, ◌∙◌, subst}
+use Rattle.std.proofs.Common.{rules, ◌≡◌, ◌==◌, true, ap, sym, ◌∙◌, subst}
 use Rattle.farm_base.specs.declared.message.FromCoord.{FromCoord}
 use Rattle.farm_base.specs.declared.message.FromCoord.TheVariants as coord
 use Rattle.farm_base.specs.Receivers.{told_life}
 use Rattle.protocol.specs.Farm.{farm_limits}
 use Rattle.protocol.specs.Names.{Life}
-use Rattle.protocol.specs.Machine.{Confirmed}
 use Rattle.protocol.specs.Nodes.{NodeWork, heard, learned, dropped, recalled, first, finished, recallable}
 use Rattle.nodecore.specs.Shown.{shown, place, Does}
 use Rattle.nodecore.proofs.KeptLemmas.{of_life_now}

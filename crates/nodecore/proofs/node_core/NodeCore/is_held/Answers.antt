@@ -1,10 +1,8 @@
-use Rattle.std.proofs.Common.{◌≡◌, ap, ◌∙◌, is_some, rules}
-use Rattle.std.specs.List.{position}
+use Rattle.std.proofs.Common.{◌∙◌}
 use Rattle.protocol.specs.Nodes.{held}
-use Rattle.nodecore.proofs.FirstLemmas.{picks, picked}
+use Rattle.nodecore.proofs.FirstLemmas.{picked}
+use Rattle.nodecore.proofs.ScanLemmas.{same_some}
 use Rattle.nodecore.proofs.node_core.NodeCore.is_held.Goals as goal
 
 pub returns : goal.returns
-returns c =
-    let at : c.place_of.result ≡ position (picks (held c.args.ticket)) c.args.self.now.asks.items = search rules in
-    c.is_some.ensures ∙ ap is_some at ∙ picked (held c.args.ticket) c.args.self.now.asks.items
+returns c = c.is_some.ensures ∙ same_some _ _ _ c.row_of.result c.row_of.ensures.found c.row_of.ensures.none ∙ picked (held c.args.ticket) c.args.self.now.asks.all.asks

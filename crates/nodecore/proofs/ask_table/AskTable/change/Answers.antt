@@ -1,0 +1,53 @@
+use Rattle.std.proofs.Common.{◌≡◌, ◌<◌, ◌+◌, List, length, set, slice_get, Some, refl, ap, sym, subst, ◌∙◌, arith}
+use Rattle.std.proofs.Math.ListN.{length-set}
+use Rattle.std.proofs.lemmas.Option.{slice_get_read}
+use Rattle.protocol.proofs.Base.{some_is}
+use Rattle.protocol.specs.declared.ask.KeptAsk.{KeptAsk}
+use Rattle.nodecore.specs.declared.ask_row.AskRow.{AskRow}
+use Rattle.nodecore.specs.Asks.{changed}
+use Rattle.nodecore.specs.Rows.{row, HaveRows, is_lost}
+use Rattle.nodecore.proofs.RowLemmas.{have_set}
+use Rattle.nodecore.proofs.LostLemmas.{lost_set}
+use Rattle.nodecore.proofs.TableLemmas.{noted_change}
+use Rattle.nodecore.proofs.ask_table.AskTable.change.Goals as goal
+
+pub invariant_of-self : goal.invariant_of-self
+invariant_of-self c =
+    let all = c.args.self.now.all.asks in
+    let rows = c.args.self.now.rows.items in
+    let i = c.args.row in
+    let old = c.index_mut.result.now in
+    let new = c.change.new.ask in
+    let inside : i < length rows = omega (arith, c.requires) in
+    let get : slice_get rows i ≡ Some old = slice_get_read rows (length rows) i old refl inside c.index_mut.ensures.value in
+    let after : c.note.new.self.asks ≡ set all old.place new = noted_change all rows i old new c.index.result.now c.from_ref.result.now c.note.new.self.asks c.args.self.now.tied get c.index.ensures c.from_ref.ensures.value c.note.ensures in
+    let zero_more : old.place ≡ 0 + old.place = omega arith in
+    record {
+      counted = c.args.self.now.counted ∙ sym (ap (λ (l : List KeptAsk). length l) after ∙ length-set all old.place new);
+      tied = subst (λ (l : List KeptAsk). HaveRows l 0 (set rows i (row old.place new))) (sym after) (have_set all 0 rows i old old.place new c.args.self.now.tied get zero_more);
+    }
+
+pub returns-clause-asks : goal.returns-clause-asks
+returns-clause-asks c = λ at got.
+    let all = c.args.self.now.all.asks in
+    let rows = c.args.self.now.rows.items in
+    let i = c.args.row in
+    let old = c.index_mut.result.now in
+    let new = c.change.new.ask in
+    let inside : i < length rows = omega (arith, c.requires) in
+    let get : slice_get rows i ≡ Some old = slice_get_read rows (length rows) i old refl inside c.index_mut.ensures.value in
+    let same : old ≡ at = some_is old at (sym get ∙ got) in
+    noted_change all rows i old new c.index.result.now c.from_ref.result.now c.note.new.self.asks c.args.self.now.tied get c.index.ensures c.from_ref.ensures.value c.note.ensures
+    ∙ ap (λ (n : KeptAsk). set all old.place n) c.change.ensures ∙ ap (λ (r : AskRow). set all r.place (changed c.args.with r.kept)) same
+
+pub returns-clause-told : goal.returns-clause-told
+returns-clause-told c =
+    let all = c.args.self.now.all.asks in
+    let rows = c.args.self.now.rows.items in
+    let i = c.args.row in
+    let old = c.index_mut.result.now in
+    let new = c.change.new.ask in
+    let inside : i < length rows = omega (arith, c.requires) in
+    let get : slice_get rows i ≡ Some old = slice_get_read rows (length rows) i old refl inside c.index_mut.ensures.value in
+    let after : c.note.new.self.asks ≡ set all old.place new = noted_change all rows i old new c.index.result.now c.from_ref.result.now c.note.new.self.asks c.args.self.now.tied get c.index.ensures c.from_ref.ensures.value c.note.ensures in
+    ap (λ (l : List KeptAsk). is_lost l (set rows i (row old.place new))) after ∙ lost_set all rows i old.place old new get
