@@ -23,11 +23,18 @@ pub struct AskTable {
     pub(crate) made: usize,
     /// By rising place.
     pub(crate) rows: Vec<AskRow>,
-    /// At so many rows `forget_endings` looks at them again.
-    due: usize,
+    /// How many of the rows are of asks that are over.
+    over: usize,
     pub(crate) all: AllAsks,
     ghost counted: { made ≡ length all.asks },
     ghost tied: { HaveRows all.asks 0 rows.items } by { HaveRows-prop all.asks 0 rows.items },
+}
+
+/// How many asks more are over once one was or wasn't, and is or isn't.
+fn ends(was_over: bool, is_over: bool) -> usize
+    ensures { result ≤ 1 }
+{
+    if is_over && !was_over { 1 } else { 0 }
 }
 
 /// From which row on this many asks are over: the first row, where there aren't so many.
@@ -54,7 +61,7 @@ impl AskTable {
         AskTable {
             made: 0,
             rows: Vec::new(alloc),
-            due: ENDINGS,
+            over: 0,
             all: AllAsks::new(),
         }
     }
@@ -114,23 +121,29 @@ impl AskTable {
         ensures asks { (at : _) → slice_get self.old.rows.items row ≡ Some at → self.new.all.asks ≡ slice_set self.old.all.asks at.place (changed with at.kept) }
         ensures told { is_lost self.new.all.asks self.new.rows.items ≡ is_lost self.old.all.asks self.old.rows.items }
     {
+        let was_over = is_over(&self.rows[row].kept);
         change(&mut self.rows[row].kept, with);
         self.all.note(from_ref(&self.rows[row]));
+        let more = ends(was_over, is_over(&self.rows[row].kept));
+        self.over = self.over.saturating_add(more);
     }
 
-    /// Takes the rows of the asks that are over but for the last `ENDINGS` of them. A call looks at the rows only once
-    /// they are twice as many as the last look left, and `ENDINGS` more, so that calls after each event cost little.
+    /// Whether it is time to take rows: the rows that may go are then at least half of all, so that the calls together look
+    /// at two rows for each that goes.
+    pub(crate) fn is_due(&self) -> bool {
+        self.rows.len().saturating_add(2 * ENDINGS) <= self.over.saturating_mul(2)
+    }
+
+    /// Takes the rows of the asks that are over but for the last `ENDINGS` of them, and gives their memory back.
     pub(crate) fn forget_endings(&mut self)
         ensures asks { self.new.all.asks ≡ self.old.all.asks }
         ensures late { (a : _) → is_lost self.new.all.asks self.new.rows.items a ≡ true
             → (is_lost self.old.all.asks self.old.rows.items a ≡ true) ⊎ (1024 ≤ endings_after a self.old.all.asks) }
     {
-        if self.rows.len() < self.due {
-            return;
-        }
         let first = last_endings(self.rows.as_slice(), ENDINGS);
         self.take_endings(first);
-        self.due = self.rows.len().saturating_mul(2).saturating_add(ENDINGS);
+        self.over = self.over.min(ENDINGS);
+        self.rows.shrink_to(self.rows.len().saturating_mul(2));
     }
 
     /// Takes the rows before this one that are of asks that are over.

@@ -46,7 +46,11 @@ impl NodeCore {
         // What is forgotten more than before is over, and so are 1,024 asks of greater numbers.
         ensures late { (a : _) → forgets self.new a ≡ true → (forgets self.old a ≡ true) ⊎ (1024 ≤ endings_after a (shown self.old).asks) }
     {
+        if !self.asks.is_due() {
+            return;
+        }
         self.asks.forget_endings();
+        self.by_ticket.shrink();
     }
 
     /// How many asks are held: the present ones, and those that are over and not forgotten.

@@ -81,6 +81,13 @@ impl TicketIndex {
         }
     }
 
+    /// Gives memory back that few tickets don't need.
+    pub(crate) fn shrink(&mut self)
+        ensures { (t : Ticket) → holders_of self.new t ≡ holders_of self.old t }
+    {
+        self.holders.shrink_to(self.holders.len().saturating_mul(2));
+    }
+
     /// Forgets all tickets.
     pub(crate) fn clear(&mut self)
         ensures { (t : Ticket) → holders_of self.new t ≡ None }

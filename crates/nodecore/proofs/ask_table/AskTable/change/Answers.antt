@@ -20,7 +20,7 @@ invariant_of-self c =
     let new = c.change.new.ask in
     let inside : i < length rows = omega (arith, c.requires) in
     let get : slice_get rows i ≡ Some old = slice_get_read rows (length rows) i old refl inside c.index_mut.ensures.value in
-    let after : c.note.new.self.asks ≡ set all old.place new = noted_change all rows i old new c.index.result.now c.from_ref.result.now c.note.new.self.asks c.args.self.now.tied get c.index.ensures c.from_ref.ensures.value c.note.ensures in
+    let after : c.note.new.self.asks ≡ set all old.place new = noted_change all rows i old new c.index-2.result.now c.from_ref.result.now c.note.new.self.asks c.args.self.now.tied get c.index-2.ensures c.from_ref.ensures.value c.note.ensures in
     let zero_more : old.place ≡ 0 + old.place = omega arith in
     record {
       counted = c.args.self.now.counted ∙ sym (ap (λ (l : List KeptAsk). length l) after ∙ length-set all old.place new);
@@ -37,7 +37,7 @@ returns-clause-asks c = λ at got.
     let inside : i < length rows = omega (arith, c.requires) in
     let get : slice_get rows i ≡ Some old = slice_get_read rows (length rows) i old refl inside c.index_mut.ensures.value in
     let same : old ≡ at = some_is old at (sym get ∙ got) in
-    noted_change all rows i old new c.index.result.now c.from_ref.result.now c.note.new.self.asks c.args.self.now.tied get c.index.ensures c.from_ref.ensures.value c.note.ensures
+    noted_change all rows i old new c.index-2.result.now c.from_ref.result.now c.note.new.self.asks c.args.self.now.tied get c.index-2.ensures c.from_ref.ensures.value c.note.ensures
     ∙ ap (λ (n : KeptAsk). set all old.place n) c.change.ensures ∙ ap (λ (r : AskRow). set all r.place (changed c.args.with r.kept)) same
 
 pub returns-clause-told : goal.returns-clause-told
@@ -49,5 +49,5 @@ returns-clause-told c =
     let new = c.change.new.ask in
     let inside : i < length rows = omega (arith, c.requires) in
     let get : slice_get rows i ≡ Some old = slice_get_read rows (length rows) i old refl inside c.index_mut.ensures.value in
-    let after : c.note.new.self.asks ≡ set all old.place new = noted_change all rows i old new c.index.result.now c.from_ref.result.now c.note.new.self.asks c.args.self.now.tied get c.index.ensures c.from_ref.ensures.value c.note.ensures in
+    let after : c.note.new.self.asks ≡ set all old.place new = noted_change all rows i old new c.index-2.result.now c.from_ref.result.now c.note.new.self.asks c.args.self.now.tied get c.index-2.ensures c.from_ref.ensures.value c.note.ensures in
     ap (λ (l : List KeptAsk). is_lost l (set rows i (row old.place new))) after ∙ lost_set all rows i old.place old new get
