@@ -1,5 +1,5 @@
 -- Nodes by their numbers.
-use Rattle.std.proofs.Common.{◌≡◌, ℕ, suc, zero, ◌+◌, ◌<◌, Bool, true, false, ◌==◌, if◌then◌else◌, List, [], ◌∷◌, ◌++◌, ◌⊎◌, inl, inr, length, get_or, Some, Result, Ok, Err, IfOk, OnErr, slice_set, refl, sym, ap, ◌∙◌, subst, add-one}
+use Rattle.std.proofs.Common.{◌≡◌, ℕ, suc, zero, ◌+◌, ◌<◌, Bool, true, false, ◌==◌, if◌then◌else◌, List, [], ◌∷◌, ◌++◌, ◌⊎◌, inl, inr, length, get_or, Some, Result, Ok, Err, IfOk, OnOk, OnErr, slice_set, refl, sym, ap, ◌∙◌, subst, add-one}
 use mathlib.Core.Path.{fun_ext}
 use Rattle.std.proofs.lemmas.Option.{slice_get_read, slice_get_cases}
 use Rattle.std.proofs.lemmas.List.{length-set, length_push}
@@ -19,7 +19,8 @@ use Rattle.farm_base.specs.Contents.{content_digest}
 use Rattle.farm_base.specs.Receivers.{receiver}
 use Rattle.farm_base.specs.declared.message.ToNode.{ToNode}
 use Rattle.nodecore.specs.declared.node_core.NodeCore.{NodeCore}
-use Rattle.nodecore.specs.Shown.{shown, place, work_of, message_work, hearing, Answers}
+use Rattle.nodecore.specs.Rows.{none_lost}
+use Rattle.nodecore.specs.Shown.{forgets, shown, place, work_of, message_work, hearing, Answers}
 use Rattle.world.specs.Tables.{node_at, shown_or_first, seat, IsSeated, AreSeated, AreFirstOf, AreFirst, OnlyNode, Restarts}
 
 -- the node of a number
@@ -42,12 +43,12 @@ put_at : (b : Bool) (old new v : Node) → (b ≡ true → v ≡ new) → (b ≡
 put_at true old new v here there = here refl
 put_at false old new v here there = there refl
 
-pub reseated : (cores : List NodeCore) (n : NodeId) (i : ℕ) (x y : NodeCore) → AreSeated cores → n.0 ≡ i + 1 → nth cores n.0 ≡ Some x → place y ≡ place x → Reseated cores n i y
-reseated cores n i x y all e at same =
+pub reseated : (cores : List NodeCore) (n : NodeId) (i : ℕ) (x y : NodeCore) → AreSeated cores → n.0 ≡ i + 1 → nth cores n.0 ≡ Some x → place y ≡ place x → forgets y ≡ none_lost → Reseated cores n i y
+reseated cores n i x y all e at same told =
     let is : set_nth cores n.0 y ≡ slice_set cores i y = set_is cores n.0 i y e in
     let len : length (slice_set cores i y) ≡ length cores = length-set cores i y in
     let here : nth (slice_set cores i y) n.0 ≡ Some y = ap (λ (l : List NodeCore). nth l n.0) (sym is) ∙ nth-set_same cores n.0 y x at in
-    let mine : IsSeated n.0 (length cores) y = record { number = ap (λ (p : Place). p.node.0) same ∙ (all n.0 x at).number; size = ap (λ (p : Place). p.nodes) same ∙ (all n.0 x at).size } in
+    let mine : IsSeated n.0 (length cores) y = record { number = ap (λ (p : Place). p.node.0) same ∙ (all n.0 x at).number; size = ap (λ (p : Place). p.nodes) same ∙ (all n.0 x at).size; told = told } in
     record {
       seated = λ m z h. subst (λ (k : ℕ). IsSeated m k z) (sym len) (elim (nth_set_cases cores n.0 y x m z at (ap (λ (l : List NodeCore). nth l m) is ∙ h)) [
         | inl same_node ↦ subst (λ (w : NodeCore). IsSeated m (length cores) w) (sym same_node.1) (subst (λ (k : ℕ). IsSeated k (length cores) y) (sym same_node.0) mine)
@@ -63,14 +64,14 @@ reseated cores n i x y all e at same =
     }
 
 -- one node more
-pub first_pushed : (all so_far : ℕ) (cores : List NodeCore) (x : NodeCore) → AreFirstOf all so_far cores → shown x ≡ first_node content_digest → place x ≡ record { node = record { 0 = so_far + 1 }; nodes = all }
+pub first_pushed : (all so_far : ℕ) (cores : List NodeCore) (x : NodeCore) → AreFirstOf all so_far cores → shown x ≡ first_node content_digest → place x ≡ record { node = record { 0 = so_far + 1 }; nodes = all } → forgets x ≡ none_lost
     → AreFirstOf all (so_far + 1) (cores ++ x ∷ [])
-first_pushed all so_far cores x h is at = record {
+first_pushed all so_far cores x h is at told = record {
   len = length_push cores x ∙ ap (λ (k : ℕ). k + 1) h.len;
   first = All-push (λ z. shown z ≡ first_node content_digest) cores x h.first is;
   seated = λ n z e. elim (nth_push_cases cores x n z e) [
     | inl old ↦ h.seated n z old
-    | inr new ↦ record { number = ap (λ (w : NodeCore). (place w).node.0) new.1 ∙ ap (λ (p : Place). p.node.0) at ∙ sym (new.0 ∙ ap (λ (k : ℕ). k + 1) h.len); size = ap (λ (w : NodeCore). (place w).nodes) new.1 ∙ ap (λ (p : Place). p.nodes) at }
+    | inr new ↦ record { number = ap (λ (w : NodeCore). (place w).node.0) new.1 ∙ ap (λ (p : Place). p.node.0) at ∙ sym (new.0 ∙ ap (λ (k : ℕ). k + 1) h.len); size = ap (λ (w : NodeCore). (place w).nodes) new.1 ∙ ap (λ (p : Place). p.nodes) at; told = ap (λ (w : NodeCore). forgets w) new.1 ∙ told }
   ];
 }
 
@@ -111,6 +112,11 @@ restarts_as p x y (Err refusal.TenureHere) d s m o = elim o [ inl e ↦ absurd (
 restarts_as p x y (Err refusal.TenureInUse) d s m o = elim o [ inl e ↦ absurd (cc) | inr e ↦ absurd (cc) ]
 restarts_as p x y (Err refusal.NoSuchContent) d s m o = elim o [ inl e ↦ absurd (cc) | inr e ↦ absurd (cc) ]
 restarts_as p x y (Err refusal.Needed) d s m o = elim o [ inl e ↦ absurd (cc) | inr e ↦ absurd (cc) ]
+
+-- a restart forgets nothing more
+pub told_again : (r : Result NodeDone NodeRefusal) (old new : ℕ → Bool) → OnOk r (new ≡ none_lost) → OnErr r (new ≡ old) → old ≡ none_lost → new ≡ none_lost
+told_again (Ok done) old new began kept told = began
+told_again (Err e) old new began kept told = kept ∙ told
 
 first_here : (cores : List NodeCore) (n : ℕ) → All (λ x. shown x ≡ first_node content_digest) cores → node_at cores n ≡ first_node content_digest
 first_here cores zero all = refl

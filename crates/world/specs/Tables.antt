@@ -10,7 +10,8 @@ use Rattle.nodecore.specs.declared.node_core.NodeCore.{NodeCore}
 use Rattle.protocol.specs.declared.answer.NodeRefusal.{NodeRefusal}
 use Rattle.protocol.specs.declared.answer.NodeRefusal.TheVariants as refusal
 use Rattle.nodecore.specs.declared.message.NodeDone.{NodeDone}
-use Rattle.nodecore.specs.Shown.{shown, place, work_of}
+use Rattle.nodecore.specs.Rows.{none_lost}
+use Rattle.nodecore.specs.Shown.{forgets, shown, place, work_of}
 use Rattle.world.specs.declared.call.Call.{Call}
 use Rattle.world.specs.declared.call.Call.TheVariants as call
 
@@ -22,10 +23,11 @@ shown_or_first (Some x) = shown x
 abbrev pub node_at : List NodeCore → ℕ → Node
 node_at cores n = shown_or_first (nth cores n)
 
--- the node knows its number, and how many nodes there are
+-- the node knows its number, and how many nodes there are, and has forgotten of no ask how it ended
 pub record IsSeated (n count : ℕ) (x : NodeCore) : Type 0 where
   pub number : (place x).node.0 ≡ n
   pub size : (place x).nodes ≡ count
+  pub told : forgets x ≡ none_lost
 
 abbrev pub AreSeated : List NodeCore → Type 0
 AreSeated cores = (n : ℕ) (x : NodeCore) → nth cores n ≡ Some x → IsSeated n (length cores) x

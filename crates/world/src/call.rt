@@ -1,4 +1,4 @@
-ghost use Rattle.nodecore.specs.Shown.{shown, place, Answers};
+ghost use Rattle.nodecore.specs.Shown.{forgets, shown, place, Answers};
 ghost use Rattle.world.specs.Tables.{called};
 ghost use Rattle.std.specs.Prelude.{◌≡◌};
 
@@ -30,6 +30,7 @@ pub(crate) fn answer(
     requires { node ≡ (place core.old).node }
     ensures answer { Answers (called call (place core.old) (shown core.old)) (shown core.old) (shown core.new) result }
     ensures place { place core.new ≡ place core.old }
+    ensures told { forgets core.new ≡ forgets core.old }
 {
     match call {
         Call::Ask(wants) => core.ask(alloc, wants),

@@ -1,7 +1,8 @@
 //! The nodes of a farm, by their numbers.
 ghost use Rattle.std.specs.Prelude.{◌≡◌, ◌+◌, ◌<◌, length, IfOk, IfSome, IfNone, is_some};
 ghost use Rattle.protocol.specs.Nodes.{unless_spent};
-ghost use Rattle.nodecore.specs.Shown.{shown, place, message_work, Answers};
+ghost use Rattle.nodecore.specs.Rows.{none_lost};
+ghost use Rattle.nodecore.specs.Shown.{forgets, shown, place, message_work, Answers};
 ghost use Rattle.farm_base.specs.Receivers.{receiver};
 ghost use Rattle.world.specs.Tables.{node_at, has, seat, called, AreSeated, AreFirst, OnlyNode, Restarts};
 
@@ -54,6 +55,7 @@ impl Nodes {
     pub(crate) fn get(&self, node: NodeId) -> Option<&NodeCore>
         ensures node { IfSome result (λ core. shown core.now ≡ node_at self.now.cores.items node.0) }
         ensures place { IfSome result (λ core. place core.now ≡ seat self.now.cores.items node) }
+        ensures told { IfSome result (λ core. forgets core.now ≡ none_lost) }
         ensures exact { is_some result ≡ has self.now.cores.items node }
     {
         let place = place_of(self.cores.as_slice(), node)?;

@@ -8,6 +8,7 @@ ghost use Rattle.protocol.specs.Follows.{SafeAfter, SafeBetween};
 ghost use Rattle.coordinator.specs.Held.{ledger};
 ghost use Rattle.saverecord.specs.Logs.{saved_in};
 ghost use Rattle.nodecore.specs.Shown as core;
+ghost use Rattle.nodecore.specs.Rows.{none_lost};
 ghost use Rattle.world.specs.Meanings.{MeansAsTold, GrantsAtOnce, AnswersAsks};
 ghost use Rattle.world.specs.Parts.{shown_parts};
 ghost use Rattle.world.specs.Setups.{IsSetup};
@@ -101,6 +102,8 @@ impl World {
     /// The node of this number, from 1 on.
     pub fn node(&self, node: NodeId) -> Option<&NodeCore>
         ensures node { IfSome result (λ x. core.shown x.now ≡ (shown self.now).nodes node.0) }
+        // It tells of each ask how it ended: no node of a farm forgets.
+        ensures told { IfSome result (λ x. core.forgets x.now ≡ none_lost) }
         ensures exact { is_some result ≡ is_node (shown self.now) node }
     {
         self.parts.nodes.get(node)

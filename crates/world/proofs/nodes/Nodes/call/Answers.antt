@@ -1,4 +1,4 @@
-use Rattle.std.proofs.Common.{◌≡◌, ◌<◌, length, Some, sym, ap, rules, arith}
+use Rattle.std.proofs.Common.{◌≡◌, ◌<◌, length, Some, sym, ap, ◌∙◌, rules, arith}
 use Rattle.std.proofs.Common.{List}
 use Rattle.protocol.specs.Lists.{nth}
 use Rattle.protocol.specs.Names.{NodeId}
@@ -25,7 +25,7 @@ invariant_of-self c =
     let x : NodeCore = c.index_mut.result.now in
     let inside : c.in_ok-place.place < length cores = omega (arith, c.in_ok-place.ensures.inside) in
     let at : nth cores n.0 ≡ Some x = nth_at cores n.0 c.in_ok-place.place x c.in_ok-place.ensures.found inside (search rules) in
-    let r : Reseated cores n c.in_ok-place.place c.answer.new.core = reseated cores n c.in_ok-place.place x c.answer.new.core c.args.self.now.seated c.in_ok-place.ensures.found at c.answer.ensures.place in
+    let r : Reseated cores n c.in_ok-place.place c.answer.new.core = reseated cores n c.in_ok-place.place x c.answer.new.core c.args.self.now.seated c.in_ok-place.ensures.found at c.answer.ensures.place (c.answer.ensures.told ∙ (c.args.self.now.seated n.0 x at).told) in
     record { seated = r.seated }
 
 pub returns-clause-others : goal.returns-clause-others
@@ -35,7 +35,7 @@ returns-clause-others c =
     let x : NodeCore = c.index_mut.result.now in
     let inside : c.in_ok-place.place < length cores = omega (arith, c.in_ok-place.ensures.inside) in
     let at : nth cores n.0 ≡ Some x = nth_at cores n.0 c.in_ok-place.place x c.in_ok-place.ensures.found inside (search rules) in
-    let r : Reseated cores n c.in_ok-place.place c.answer.new.core = reseated cores n c.in_ok-place.place x c.answer.new.core c.args.self.now.seated c.in_ok-place.ensures.found at c.answer.ensures.place in
+    let r : Reseated cores n c.in_ok-place.place c.answer.new.core = reseated cores n c.in_ok-place.place x c.answer.new.core c.args.self.now.seated c.in_ok-place.ensures.found at c.answer.ensures.place (c.answer.ensures.told ∙ (c.args.self.now.seated n.0 x at).told) in
     r.others
 
 pub returns-clause-answer : goal.returns-clause-answer
@@ -45,5 +45,5 @@ returns-clause-answer c =
     let x : NodeCore = c.index_mut.result.now in
     let inside : c.in_ok-place.place < length cores = omega (arith, c.in_ok-place.ensures.inside) in
     let at : nth cores n.0 ≡ Some x = nth_at cores n.0 c.in_ok-place.place x c.in_ok-place.ensures.found inside (search rules) in
-    let r : Reseated cores n c.in_ok-place.place c.answer.new.core = reseated cores n c.in_ok-place.place x c.answer.new.core c.args.self.now.seated c.in_ok-place.ensures.found at c.answer.ensures.place in
+    let r : Reseated cores n c.in_ok-place.place c.answer.new.core = reseated cores n c.in_ok-place.place x c.answer.new.core c.args.self.now.seated c.in_ok-place.ensures.found at c.answer.ensures.place (c.answer.ensures.told ∙ (c.args.self.now.seated n.0 x at).told) in
     answers_at (called c.args.call) (place x) (seat cores n) (shown x) (node_at cores n.0) (shown c.answer.new.core) (node_at _ n.0) c.answer.result (place_is cores n x (c.args.self.now.seated n.0 x at)) (sym (node_is cores n.0 x at)) (sym r.shown) c.answer.ensures.answer
