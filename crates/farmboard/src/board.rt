@@ -385,7 +385,7 @@ impl Board {
         ensures gone { IfOk result (λ x. is_some x ≡ is_in_life (farm_of self.now) node life) }
         ensures state { IfOk result (λ x. IfSome x (λ state. state ≡ state_of (farm_of self.now) node ask)) }
     {
-        let Some(core) = self.world.node(node) else {
+        let Some(core) = self.world().node(node) else {
             return Ok(None);
         };
         if core.life() != life {
