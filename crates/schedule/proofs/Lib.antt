@@ -1,3 +1,4 @@
+pub mod FormLemmas
 pub mod HexLemmas
 pub mod LineLemmas
 pub mod PlainLemmas

@@ -7,7 +7,6 @@ use Rattle.std.proofs.lemmas.Fmt.{decimal_injective}
 use Rattle.std.proofs.lemmas.Str.Parse.{digit_at}
 use Rattle.farm_base.specs.declared.number.NodeId.{NodeId}
 use Rattle.farm_base.specs.declared.number.Ticket.{Ticket}
-use Rattle.farm_base.specs.Wanted.{folders}
 use Rattle.farm_base.proofs.NameLaws.{folder_text-injective, slot_text-injective}
 use Rattle.farm_base.proofs.TextLemmas.{encode-injective}
 use Rattle.protocol.specs.declared.answer.Kept.{Kept}

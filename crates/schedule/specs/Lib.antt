@@ -1,3 +1,5 @@
+pub mod Faults
+pub mod Forms
 pub mod Lines
 pub mod Notes
 pub mod Printing

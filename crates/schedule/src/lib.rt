@@ -1,8 +1,10 @@
 //! The language of schedules: the text that spells a farm's events, and the text of what came of them.
 #![tactic(auto)]
 
+mod fault;
 pub mod laws;
 mod line;
+mod line_fault;
 mod note;
 mod outcome;
 mod reading;
@@ -12,7 +14,10 @@ mod setup;
 mod slot_line;
 mod verb;
 mod word;
+mod word_fault;
 
+pub use fault::{FormFault, LineFault, Spacing, WordFault};
+pub use line_fault::fault_of;
 pub use note::print_note;
 pub use outcome::print_outcome;
 pub use protocol::Event;
@@ -21,3 +26,4 @@ pub use refusal::ScheduleRefusal;
 pub use refusal_names::refusal_name;
 pub use setup::Setup;
 pub use slot_line::print_line;
+pub use verb::{Form, VERBS, Verb, Wanted};

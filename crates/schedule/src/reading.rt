@@ -17,7 +17,7 @@ use std::alloc::Global;
 const MOST_BYTES: usize = 16 << 20;
 
 /// The setup that a line spells.
-fn setup_of(line: &[u8]) -> Option<Setup>
+pub(crate) fn setup_of(line: &[u8]) -> Option<Setup>
     ensures found { IfSome result (IsSetup line.now) }
     ensures only { IfNone result ((setup : Setup) → IsSetup line.now setup → ⊥) }
 {

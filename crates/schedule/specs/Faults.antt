@@ -1,0 +1,101 @@
+-- What is wrong with a line of a schedule that can't be read.
+use Rattle.std.specs.Prelude.{◌≡◌, ◌≢◌, ℕ, ◌<◌, ◌≤◌, Bool, true, false, List, [], ◌∷◌, Option, Some, None, length, slice_index_or}
+use Rattle.std.specs.Str.{IsUtf8}
+use Rattle.protocol.specs.declared.event.Event.{Event}
+use Rattle.words.specs.Words.{words}
+use Rattle.schedule.specs.declared.fault.FormFault.{FormFault}
+use Rattle.schedule.specs.declared.fault.FormFault.TheVariants.{BadWord, ExtraWord, MissingWord, TooManyFolders, SameFolderTwice, SlotsDontRise}
+use Rattle.schedule.specs.declared.fault.WordFault.{WordFault}
+use Rattle.schedule.specs.declared.fault.LineFault.{LineFault}
+use Rattle.schedule.specs.declared.fault.LineFault.TheVariants.{NotUtf8, Spacing, NoSetup, NoEvent, Form}
+use Rattle.schedule.specs.declared.setup.Setup.{Setup}
+use Rattle.schedule.specs.declared.verb.Verb.{Verb}
+use Rattle.schedule.specs.declared.verb.Verb.TheVariants.{Ask, Finish}
+use Rattle.schedule.specs.declared.verb.Wanted.{Wanted}
+use Rattle.schedule.specs.Forms.{StandsFor, Fits, FitUpTo, wanted_at, first_words}
+use Rattle.schedule.specs.Lines.{IsSpelled}
+use Rattle.schedule.specs.Schedules.{IsSetup}
+use Rattle.schedule.specs.Words.{verb_text}
+
+-- the line of this number can be read: the first says a setup, and a later one an event, unless it is empty
+pub record IsRead (number : ℕ) (line : List ℕ) : Type 0 where
+  pub first : number ≡ 1 → (setup : Setup) × IsSetup line setup
+  pub later : number ≢ 1 → line ≢ [] → (e : Event) × IsSpelled line e
+
+-- whether it can be read
+abbrev pub IsReadAnswer : ℕ → List ℕ → Bool → Type 0
+IsReadAnswer number line true = IsRead number line
+IsReadAnswer number line false = IsRead number line → ⊥
+
+-- the words before this index stand for what is wanted there, and the one at it does not
+pub record IsFirstBad (verb : Verb) (ws : List (List ℕ)) (index : ℕ) (kind : Wanted) : Type 0 where
+  pub inside : index < length ws
+  pub before : FitUpTo verb ws index
+  pub wanted : wanted_at verb index ≡ Some kind
+  pub bad : (d : List ℕ) → StandsFor kind (slice_index_or ws index d) → ⊥
+
+-- no word may stand at this index, and those before it stand for what is wanted there
+pub record IsFirstExtra (verb : Verb) (ws : List (List ℕ)) (index : ℕ) : Type 0 where
+  pub inside : index < length ws
+  pub before : FitUpTo verb ws index
+  pub ended : wanted_at verb index ≡ None
+
+-- each word stands for what is wanted there, but there are too few
+pub record IsTooShort (verb : Verb) (ws : List (List ℕ)) : Type 0 where
+  pub each : FitUpTo verb ws (length ws)
+  pub short : length ws < length (first_words verb)
+
+-- each word stands for what is wanted there, and there are enough
+pub record Fit (verb : Verb) (ws : List (List ℕ)) : Type 0 where
+  pub each : FitUpTo verb ws (length ws)
+  pub enough : length (first_words verb) ≤ length ws
+
+-- whether the word stands for what is wanted
+abbrev pub Judges : Wanted → List ℕ → Option WordFault → Type 0
+Judges wanted word None = StandsFor wanted word
+Judges wanted word (Some fault) = StandsFor wanted word → ⊥
+
+-- what is wrong with the word at this index behind the verb, if something is
+abbrev pub IsFaultAt : Verb → ℕ → List ℕ → Option FormFault → Type 0
+IsFaultAt verb index word None = Fits (wanted_at verb index) word
+IsFaultAt verb index word (Some (BadWord i kind fault)) = (i ≡ index) × (wanted_at verb index ≡ Some kind) × (StandsFor kind word → ⊥)
+IsFaultAt verb index word (Some (ExtraWord i)) = (i ≡ index) × (wanted_at verb index ≡ None)
+IsFaultAt verb index word (Some fault) = ⊥
+
+-- why the words behind a verb say no event
+abbrev pub IsFormFault : Verb → List (List ℕ) → FormFault → Type 0
+IsFormFault verb ws (BadWord index wanted fault) = IsFirstBad verb ws index wanted
+IsFormFault verb ws (ExtraWord index) = IsFirstExtra verb ws index
+IsFormFault verb ws MissingWord = IsTooShort verb ws
+IsFormFault verb ws TooManyFolders = (verb ≡ Ask) × Fit verb ws × (17 < length ws)
+IsFormFault verb ws SameFolderTwice = (verb ≡ Ask) × Fit verb ws × (length ws ≤ 17)
+IsFormFault verb ws SlotsDontRise = (verb ≡ Finish) × Fit verb ws
+
+-- what is wrong with the first word behind the verb that can't stand there, if there is one
+abbrev pub AreJudged : Verb → List (List ℕ) → Option FormFault → Type 0
+AreJudged verb ws None = FitUpTo verb ws (length ws)
+AreJudged verb ws (Some fault) = IsFormFault verb ws fault
+
+-- the first word is this verb, and those behind it say no event, for this reason
+pub record HasFormFault (ws : List (List ℕ)) (verb : Verb) (fault : FormFault) : Type 0 where
+  pub behind : List (List ℕ)
+  pub text : ws ≡ verb_text verb ∷ behind
+  pub why : IsFormFault verb behind fault
+
+-- why the words of a line spell no event
+abbrev pub IsWordsFault : List (List ℕ) → LineFault → Type 0
+IsWordsFault ws NoEvent = (verb : Verb) (behind : List (List ℕ)) → ws ≢ verb_text verb ∷ behind
+IsWordsFault ws (Form verb fault) = HasFormFault ws verb fault
+IsWordsFault ws fault = ⊥
+
+-- why the line of this number can't be read
+abbrev pub IsLineFault : ℕ → List ℕ → LineFault → Type 0
+IsLineFault number line NotUtf8 = IsUtf8 line → ⊥
+IsLineFault number line (Spacing spacing) = Unit {0}
+IsLineFault number line NoSetup = number ≡ 1
+IsLineFault number line fault = IsWordsFault (words line) fault
+
+-- the line of this number can't be read, and this is why
+pub record IsFaultOf (number : ℕ) (line : List ℕ) (fault : LineFault) : Type 0 where
+  pub unread : IsRead number line → ⊥
+  pub why : IsLineFault number line fault

@@ -1,0 +1,142 @@
+//! What is wrong with a line that can't be read.
+ghost use Rattle.std.specs.Prelude.{◌≡◌, IfOk, IfSome};
+ghost use Rattle.protocol.specs.declared.event.Event.{Event};
+ghost use Rattle.words.specs.Words.{texts};
+ghost use Rattle.schedule.specs.Faults.{IsRead, IsReadAnswer, IsFaultAt, AreJudged, IsFormFault, IsWordsFault, IsLineFault, IsFaultOf};
+ghost use Rattle.schedule.specs.Words.{Says, SpelledBy};
+
+use super::fault::{FormFault, LineFault, Spacing};
+use super::line::event_of;
+use super::reading::setup_of;
+use super::verb::{Verb, verb_of};
+use super::word_fault::word_fault;
+use farm_base::Wants;
+use std::alloc::{AllocError, Global};
+use words::{ReadRefusal, words_of};
+
+/// What is wrong with the word at this index behind the verb.
+fn fault_at(
+    alloc: Global,
+    verb: Verb,
+    index: usize,
+    word: &str,
+) -> Result<Option<FormFault>, AllocError>
+    ensures { IfOk result (IsFaultAt verb index word.now) }
+{
+    let Some(wanted) = verb.wanted_at(index) else {
+        return Ok(Some(FormFault::ExtraWord(index)));
+    };
+    match word_fault(alloc, wanted, word)? {
+        Some(fault) => Ok(Some(FormFault::BadWord(index, wanted, fault))),
+        None => Ok(None),
+    }
+}
+
+/// What is wrong with the first word behind the verb that can't stand there.
+fn first_fault(alloc: Global, verb: Verb, words: &[&str]) -> Result<Option<FormFault>, AllocError>
+    ensures { IfOk result (AreJudged verb (texts words.now)) }
+{
+    for index in 0..words.len() {
+        if let Some(fault) = fault_at(alloc, verb, index, words[index])? {
+            return Ok(Some(fault));
+        }
+    }
+    Ok(None)
+}
+
+/// Why the words behind a verb say no event.
+fn form_fault(alloc: Global, verb: Verb, words: &[&str]) -> Result<FormFault, AllocError>
+    requires { (e : Event) → Says verb (texts words.now) e → ⊥ }
+    ensures { IfOk result (IsFormFault verb (texts words.now)) }
+{
+    if let Some(fault) = first_fault(alloc, verb, words)? {
+        return Ok(fault);
+    }
+    if words.len() < verb.form().words.len() {
+        return Ok(FormFault::MissingWord);
+    }
+    match verb {
+        Verb::Ask if words.len() > 1 + Wants::LIMIT => Ok(FormFault::TooManyFolders),
+        Verb::Ask => Ok(FormFault::SameFolderTwice),
+        Verb::Finish => Ok(FormFault::SlotsDontRise),
+        _ => unreachable!(),
+    }
+}
+
+/// Why the words of a line spell no event.
+fn words_fault(alloc: Global, words: &[&str]) -> Result<LineFault, AllocError>
+    requires { (e : Event) → SpelledBy (texts words.now) e → ⊥ }
+    ensures { IfOk result (IsWordsFault (texts words.now)) }
+{
+    let [verb, others @ ..] = words else {
+        return Ok(LineFault::NoEvent);
+    };
+    match verb_of(verb) {
+        Some(verb) => Ok(LineFault::Form(verb, form_fault(alloc, verb, others)?)),
+        None => Ok(LineFault::NoEvent),
+    }
+}
+
+/// How the words of a text are parted otherwise than by one space, if they are.
+fn spacing_of(text: &str) -> Option<Spacing> {
+    if text.ends_with('\r') {
+        return Some(Spacing::CarriageReturn);
+    }
+    if text.contains('\t') {
+        return Some(Spacing::Tab);
+    }
+    if text.starts_with(' ') || text.ends_with(' ') || text.contains("  ") {
+        return Some(Spacing::ExtraSpace);
+    }
+    None
+}
+
+/// Why the line of this number can't be read.
+fn why_unread(alloc: Global, number: u64, line: &[u8]) -> Result<LineFault, AllocError>
+    requires { IsRead number line.now → ⊥ }
+    ensures { IfOk result (IsLineFault number line.now) }
+{
+    let Ok(text) = str::from_utf8(line) else {
+        return Ok(LineFault::NotUtf8);
+    };
+    if let Some(spacing) = spacing_of(text) {
+        return Ok(LineFault::Spacing(spacing));
+    }
+    if number == 1 {
+        return Ok(LineFault::NoSetup);
+    }
+    let words = words_of(alloc, text)?;
+    words_fault(alloc, words.as_slice())
+}
+
+/// Whether the line of this number can be read.
+fn is_read(alloc: Global, number: u64, line: &[u8]) -> Result<bool, AllocError>
+    ensures { IfOk result (IsReadAnswer number line.now) }
+{
+    if number == 1 {
+        return Ok(setup_of(line).is_some());
+    }
+    if line.is_empty() {
+        return Ok(true);
+    }
+    match event_of(alloc, line) {
+        Ok(_) => Ok(true),
+        Err(ReadRefusal::BadForm) => Ok(false),
+        Err(ReadRefusal::OutOfMemory) => Err(AllocError),
+    }
+}
+
+/// Why the line of this number can't be read, unless it can. Lines are counted from 1.
+///
+/// Of several faults it's the first of these: the line is not UTF-8, its words are not parted by one space, it's the
+/// first and no setup, its verb, the first word that can't stand where it does, a word too few, and what the words say
+/// together.
+pub fn fault_of(alloc: Global, number: u64, line: &[u8]) -> Result<Option<LineFault>, AllocError>
+    ensures read { result ≡ Ok None → IsRead number line.now }
+    ensures fault { IfOk result (λ found. IfSome found (IsFaultOf number line.now)) }
+{
+    if is_read(alloc, number, line)? {
+        return Ok(None);
+    }
+    Ok(Some(why_unread(alloc, number, line)?))
+}
