@@ -1,5 +1,5 @@
 -- What is wrong with a line of a schedule that can't be read.
-use Rattle.std.specs.Prelude.{◌≡◌, ◌≢◌, ℕ, ◌<◌, ◌≤◌, Bool, true, false, List, [], ◌∷◌, Option, Some, None, length, slice_index_or}
+use Rattle.std.specs.Prelude.{◌≡◌, ◌≢◌, ℕ, ◌<◌, ◌≤◌, Bool, true, false, List, [], ◌∷◌, ◌++◌, Option, Some, None, Contains, codes, length, slice_index_or}
 use Rattle.std.specs.Str.{IsUtf8}
 use Rattle.protocol.specs.declared.event.Event.{Event}
 use Rattle.words.specs.Words.{words}
@@ -7,12 +7,16 @@ use Rattle.schedule.specs.declared.fault.FormFault.{FormFault}
 use Rattle.schedule.specs.declared.fault.FormFault.TheVariants.{BadWord, ExtraWord, MissingWord, TooManyFolders, SameFolderTwice, SlotsDontRise}
 use Rattle.schedule.specs.declared.fault.WordFault.{WordFault}
 use Rattle.schedule.specs.declared.fault.LineFault.{LineFault}
-use Rattle.schedule.specs.declared.fault.LineFault.TheVariants.{NotUtf8, Spacing, NoSetup, NoEvent, Form}
+use Rattle.schedule.specs.declared.fault.LineFault.TheVariants.{NotUtf8, NoSetup, NoEvent, Form}
+use Rattle.schedule.specs.declared.fault.LineFault.TheVariants as fault
+use Rattle.schedule.specs.declared.fault.Spacing.{Spacing}
+use Rattle.schedule.specs.declared.fault.Spacing.TheVariants.{CarriageReturn, Tab, ExtraSpace}
 use Rattle.schedule.specs.declared.setup.Setup.{Setup}
 use Rattle.schedule.specs.declared.verb.Verb.{Verb}
 use Rattle.schedule.specs.declared.verb.Verb.TheVariants.{Ask, Finish}
 use Rattle.schedule.specs.declared.verb.Wanted.{Wanted}
-use Rattle.schedule.specs.Forms.{StandsFor, Fits, FitUpTo, wanted_at, first_words}
+use Rattle.schedule.specs.Forms.{Fits, FitUpTo, wanted_at, first_words}
+use Rattle.schedule.specs.Lacks.{IsWordFault}
 use Rattle.schedule.specs.Lines.{IsSpelled}
 use Rattle.schedule.specs.Schedules.{IsSetup}
 use Rattle.schedule.specs.Words.{verb_text}
@@ -28,11 +32,11 @@ IsReadAnswer number line true = IsRead number line
 IsReadAnswer number line false = IsRead number line → ⊥
 
 -- the words before this index stand for what is wanted there, and the one at it does not
-pub record IsFirstBad (verb : Verb) (ws : List (List ℕ)) (index : ℕ) (kind : Wanted) : Type 0 where
+pub record IsFirstBad (verb : Verb) (ws : List (List ℕ)) (index : ℕ) (kind : Wanted) (fault : WordFault) : Type 0 where
   pub inside : index < length ws
   pub before : FitUpTo verb ws index
   pub wanted : wanted_at verb index ≡ Some kind
-  pub bad : (d : List ℕ) → StandsFor kind (slice_index_or ws index d) → ⊥
+  pub bad : (d : List ℕ) → IsWordFault kind (slice_index_or ws index d) fault
 
 -- no word may stand at this index, and those before it stand for what is wanted there
 pub record IsFirstExtra (verb : Verb) (ws : List (List ℕ)) (index : ℕ) : Type 0 where
@@ -50,21 +54,16 @@ pub record Fit (verb : Verb) (ws : List (List ℕ)) : Type 0 where
   pub each : FitUpTo verb ws (length ws)
   pub enough : length (first_words verb) ≤ length ws
 
--- whether the word stands for what is wanted
-abbrev pub Judges : Wanted → List ℕ → Option WordFault → Type 0
-Judges wanted word None = StandsFor wanted word
-Judges wanted word (Some fault) = StandsFor wanted word → ⊥
-
 -- what is wrong with the word at this index behind the verb, if something is
 abbrev pub IsFaultAt : Verb → ℕ → List ℕ → Option FormFault → Type 0
 IsFaultAt verb index word None = Fits (wanted_at verb index) word
-IsFaultAt verb index word (Some (BadWord i kind fault)) = (i ≡ index) × (wanted_at verb index ≡ Some kind) × (StandsFor kind word → ⊥)
+IsFaultAt verb index word (Some (BadWord i kind fault)) = (i ≡ index) × (wanted_at verb index ≡ Some kind) × IsWordFault kind word fault
 IsFaultAt verb index word (Some (ExtraWord i)) = (i ≡ index) × (wanted_at verb index ≡ None)
 IsFaultAt verb index word (Some fault) = ⊥
 
 -- why the words behind a verb say no event
 abbrev pub IsFormFault : Verb → List (List ℕ) → FormFault → Type 0
-IsFormFault verb ws (BadWord index wanted fault) = IsFirstBad verb ws index wanted
+IsFormFault verb ws (BadWord index kind fault) = IsFirstBad verb ws index kind fault
 IsFormFault verb ws (ExtraWord index) = IsFirstExtra verb ws index
 IsFormFault verb ws MissingWord = IsTooShort verb ws
 IsFormFault verb ws TooManyFolders = (verb ≡ Ask) × Fit verb ws × (17 < length ws)
@@ -88,12 +87,25 @@ IsWordsFault ws NoEvent = (verb : Verb) (behind : List (List ℕ)) → ws ≢ ve
 IsWordsFault ws (Form verb fault) = HasFormFault ws verb fault
 IsWordsFault ws fault = ⊥
 
+-- how the words of a line are parted otherwise than by one space
+abbrev pub IsMisspaced : List ℕ → Spacing → Type 0
+IsMisspaced line CarriageReturn = (front : List ℕ) × (line ≡ front ++ codes "\r")
+IsMisspaced line Tab = Contains line 9
+IsMisspaced line ExtraSpace = (line ≢ []) × Contains (words line) []
+
+-- the first of these that holds, if one does
+abbrev pub IsSpacing : List ℕ → Option Spacing → Type 0
+IsSpacing line None = (spacing : Spacing) → IsMisspaced line spacing → ⊥
+IsSpacing line (Some CarriageReturn) = IsMisspaced line CarriageReturn
+IsSpacing line (Some Tab) = IsMisspaced line Tab × (IsMisspaced line CarriageReturn → ⊥)
+IsSpacing line (Some ExtraSpace) = IsMisspaced line ExtraSpace × (IsMisspaced line CarriageReturn → ⊥) × (IsMisspaced line Tab → ⊥)
+
 -- why the line of this number can't be read
 abbrev pub IsLineFault : ℕ → List ℕ → LineFault → Type 0
 IsLineFault number line NotUtf8 = IsUtf8 line → ⊥
-IsLineFault number line (Spacing spacing) = Unit {0}
-IsLineFault number line NoSetup = number ≡ 1
-IsLineFault number line fault = IsWordsFault (words line) fault
+IsLineFault number line (fault.Spacing spacing) = IsSpacing line (Some spacing)
+IsLineFault number line NoSetup = (number ≡ 1) × IsSpacing line None
+IsLineFault number line fault = (number ≢ 1) × IsSpacing line None × IsWordsFault (words line) fault
 
 -- the line of this number can't be read, and this is why
 pub record IsFaultOf (number : ℕ) (line : List ℕ) (fault : LineFault) : Type 0 where

@@ -1,5 +1,6 @@
 pub mod Faults
 pub mod Forms
+pub mod Lacks
 pub mod Lines
 pub mod Notes
 pub mod Printing

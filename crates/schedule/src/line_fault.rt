@@ -1,8 +1,9 @@
 //! What is wrong with a line that can't be read.
-ghost use Rattle.std.specs.Prelude.{◌≡◌, IfOk, IfSome};
+ghost use Rattle.std.specs.Prelude.{◌≡◌, [], Contains, ◌↔◌, IsTrue, IfOk, IfSome};
 ghost use Rattle.protocol.specs.declared.event.Event.{Event};
-ghost use Rattle.words.specs.Words.{texts};
-ghost use Rattle.schedule.specs.Faults.{IsRead, IsReadAnswer, IsFaultAt, AreJudged, IsFormFault, IsWordsFault, IsLineFault, IsFaultOf};
+ghost use Rattle.words.specs.Words.{texts, words};
+ghost use Rattle.schedule.specs.declared.fault.Spacing.{Spacing};
+ghost use Rattle.schedule.specs.Faults.{IsRead, IsReadAnswer, IsFaultAt, AreJudged, IsFormFault, IsWordsFault, IsMisspaced, IsSpacing, IsLineFault, IsFaultOf};
 ghost use Rattle.schedule.specs.Words.{Says, SpelledBy};
 
 use super::fault::{FormFault, LineFault, Spacing};
@@ -77,15 +78,51 @@ fn words_fault(alloc: Global, words: &[&str]) -> Result<LineFault, AllocError>
     }
 }
 
-/// How the words of a text are parted otherwise than by one space, if they are.
-fn spacing_of(text: &str) -> Option<Spacing> {
-    if text.ends_with('\r') {
+/// Whether a line ends with a carriage return.
+fn ends_with_return(text: &str) -> bool
+    ensures { IsTrue result ↔ IsMisspaced text.now Spacing.CarriageReturn }
+{
+    text.ends_with('\r')
+}
+
+fn has_tab(text: &str) -> bool
+    ensures { IsTrue result ↔ IsMisspaced text.now Spacing.Tab }
+{
+    text.contains('\t')
+}
+
+/// Whether a word is empty.
+fn has_empty(words: &[&str]) -> bool
+    ensures { IsTrue result ↔ Contains (texts words.now) [] }
+{
+    for word in words {
+        if word.is_empty() {
+            return true;
+        }
+    }
+    false
+}
+
+/// Whether a space stands at an end of a line or beside another: the words of the line are these.
+fn has_extra_space(text: &str, parts: &[&str]) -> bool
+    requires { texts parts.now ≡ words text.now }
+    ensures { IsTrue result ↔ IsMisspaced text.now Spacing.ExtraSpace }
+{
+    !text.is_empty() && has_empty(parts)
+}
+
+/// How the words of a line, which are these, are parted otherwise than by one space, if they are.
+fn spacing_of(text: &str, parts: &[&str]) -> Option<Spacing>
+    requires { texts parts.now ≡ words text.now }
+    ensures { IsSpacing text.now result }
+{
+    if ends_with_return(text) {
         return Some(Spacing::CarriageReturn);
     }
-    if text.contains('\t') {
+    if has_tab(text) {
         return Some(Spacing::Tab);
     }
-    if text.starts_with(' ') || text.ends_with(' ') || text.contains("  ") {
+    if has_extra_space(text, parts) {
         return Some(Spacing::ExtraSpace);
     }
     None
@@ -99,13 +136,13 @@ fn why_unread(alloc: Global, number: u64, line: &[u8]) -> Result<LineFault, Allo
     let Ok(text) = str::from_utf8(line) else {
         return Ok(LineFault::NotUtf8);
     };
-    if let Some(spacing) = spacing_of(text) {
+    let words = words_of(alloc, text)?;
+    if let Some(spacing) = spacing_of(text, words.as_slice()) {
         return Ok(LineFault::Spacing(spacing));
     }
     if number == 1 {
         return Ok(LineFault::NoSetup);
     }
-    let words = words_of(alloc, text)?;
     words_fault(alloc, words.as_slice())
 }
 

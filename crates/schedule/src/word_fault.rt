@@ -1,7 +1,8 @@
 //! What is wrong with a single word.
 ghost use Rattle.std.specs.Prelude.{◌≡◌, IfOk};
+ghost use Rattle.std.specs.List.{list_all};
 ghost use Rattle.schedule.specs.declared.verb.Wanted.{Wanted};
-ghost use Rattle.schedule.specs.Faults.{Judges};
+ghost use Rattle.schedule.specs.Lacks.{is_lower_digit, content_lack, IsSlotLack, IsPartsLack, IsLeftLack, Judges};
 
 use super::fault::WordFault;
 use super::verb::Wanted;
@@ -89,7 +90,9 @@ fn shared_fault(alloc: Global, word: &str) -> Result<Option<WordFault>, AllocErr
 }
 
 /// Why a word is no slot.
-fn why_no_slot(alloc: Global, word: &str) -> Result<WordFault, AllocError> {
+fn slot_lack(alloc: Global, word: &str) -> Result<WordFault, AllocError>
+    ensures { IfOk result (IsSlotLack word.now) }
+{
     match folder_of(alloc, word) {
         Ok(_) => Ok(WordFault::NoInstance),
         Err(ReadRefusal::BadForm) => Ok(WordFault::NoSlot),
@@ -102,15 +105,28 @@ fn slot_fault(alloc: Global, word: &str) -> Result<Option<WordFault>, AllocError
 {
     match slot_of(alloc, word) {
         Ok(_) => Ok(None),
-        Err(ReadRefusal::BadForm) => Ok(Some(why_no_slot(alloc, word)?)),
+        Err(ReadRefusal::BadForm) => Ok(Some(slot_lack(alloc, word)?)),
         Err(ReadRefusal::OutOfMemory) => Err(AllocError),
     }
 }
 
+fn is_digit(byte: u8) -> bool
+    ensures { result ≡ is_lower_digit byte }
+{
+    byte.is_ascii_digit() || (b'a' <= byte && byte <= b'f')
+}
+
+fn are_digits(word: &[u8]) -> bool
+    ensures { result ≡ list_all is_lower_digit word.now }
+{
+    word.iter().all(|byte| is_digit(*byte))
+}
+
 /// Why a word is no content.
-fn why_no_content(word: &str) -> WordFault {
-    let is_digit = |byte: &u8| byte.is_ascii_digit() || (b'a' <= *byte && *byte <= b'f');
-    if word.as_bytes().iter().all(is_digit) {
+fn content_lack(word: &str) -> WordFault
+    ensures { result ≡ content_lack word.now }
+{
+    if are_digits(word.as_bytes()) {
         WordFault::OddDigits
     } else {
         WordFault::NoDigits
@@ -122,19 +138,28 @@ fn content_fault(alloc: Global, word: &str) -> Result<Option<WordFault>, AllocEr
 {
     match bytes_of(alloc, word) {
         Ok(_) => Ok(None),
-        Err(ReadRefusal::BadForm) => Ok(Some(why_no_content(word))),
+        Err(ReadRefusal::BadForm) => Ok(Some(content_lack(word))),
         Err(ReadRefusal::OutOfMemory) => Err(AllocError),
     }
 }
 
-/// Why a word is no slot with its content.
-fn why_no_left(alloc: Global, word: &str) -> Result<WordFault, AllocError> {
-    let Some((slot, digits)) = last_split(word, '=') else {
-        return Ok(WordFault::NoLeft);
-    };
+/// Why these words around a `=` are no slot with its content.
+fn parts_lack(alloc: Global, slot: &str, digits: &str) -> Result<WordFault, AllocError>
+    ensures { IfOk result (IsPartsLack slot.now digits.now) }
+{
     match slot_fault(alloc, slot)? {
         Some(fault) => Ok(fault),
-        None => Ok(why_no_content(digits)),
+        None => Ok(content_lack(digits)),
+    }
+}
+
+/// Why a word is no slot with its content.
+fn left_lack(alloc: Global, word: &str) -> Result<WordFault, AllocError>
+    ensures { IfOk result (IsLeftLack word.now) }
+{
+    match last_split(word, '=') {
+        Some((slot, digits)) => parts_lack(alloc, slot, digits),
+        None => Ok(WordFault::NoLeft),
     }
 }
 
@@ -143,7 +168,7 @@ fn left_fault(alloc: Global, word: &str) -> Result<Option<WordFault>, AllocError
 {
     match left_of(alloc, word) {
         Ok(_) => Ok(None),
-        Err(ReadRefusal::BadForm) => Ok(Some(why_no_left(alloc, word)?)),
+        Err(ReadRefusal::BadForm) => Ok(Some(left_lack(alloc, word)?)),
         Err(ReadRefusal::OutOfMemory) => Err(AllocError),
     }
 }
