@@ -1,5 +1,5 @@
 -- Words behind a verb that stand for what is wanted say an event.
-use Rattle.std.proofs.Common.{◌≡◌, ◌≢◌, ℕ, List, [], ◌∷◌, None, refl, inl, inr, arith}
+use Rattle.std.proofs.Common.{◌≡◌, ◌≢◌, ℕ, suc, ◌+◌, ◌<◌, ◌≤◌, List, [], ◌∷◌, None, map, drop, length, get_or, refl, ap, ◌∙◌, inl, inr, arith}
 use Rattle.farm_base.specs.declared.number.NodeId.{NodeId}
 use Rattle.farm_base.specs.declared.number.Ticket.{Ticket}
 use Rattle.protocol.specs.declared.event.Event.{Event}
@@ -8,9 +8,17 @@ use Rattle.schedule.specs.declared.verb.Verb.{Verb}
 use Rattle.schedule.specs.declared.verb.Verb.TheVariants.{Ask, Tenure, Deliver, Begin, Finish, Abort, Resend, Restart, Forge, Forget, Nudge, Withdraw, Prune, Retire, Fail}
 use Rattle.schedule.specs.declared.verb.Wanted.{Wanted}
 use Rattle.schedule.specs.declared.verb.Wanted.TheVariants as wanted
-use Rattle.schedule.specs.Faults.{Fit}
-use Rattle.schedule.specs.Forms.{StandsFor, first_words, further_words}
-use Rattle.schedule.specs.Words.{Says, OfNode, OfLease}
+use Rattle.schedule.specs.Faults.{Fit, AreManyFolders, AreFoldersTwice, AreFallingLefts}
+use Rattle.schedule.specs.Forms.{IsTextOfSome, StandsFor, first_words, further_words}
+use Rattle.schedule.specs.Lines.{left_text, IsLeft, Left}
+use Rattle.schedule.specs.Words.{Says, OfNode, OfLease, SpellLefts}
+use Rattle.words.specs.Words.{want_text, IsWant, SpellGiven}
+use Rattle.farm_base.specs.declared.want.Want.{Want}
+use Rattle.schedule.proofs.OrderLemmas.{in_order}
+use Rattle.std.specs.List.{All}
+use Rattle.std.proofs.lemmas.List.{length-map}
+use Rattle.std.proofs.lemmas.List.Elements.{All-nil, All-cons}
+use Rattle.std.proofs.lemmas.List.Sorted.{length_permutation}
 
 -- ---- lines of one word or two behind the verb
 
@@ -140,3 +148,109 @@ said_from_fit Fail ws no_ask no_finish fit none =
     let h = one_word Fail ws wanted.Kept refl refl fit in
     let kept = h.stands in
     none (event.FailSave kept.0) (record { kept = kept.0; text = cc (h.text, kept.2); event = refl })
+
+-- ---- further words
+
+-- the values of these words
+record HasValues {X : Type 0} (IsLawful : X → Type 0) (text : X → List ℕ) (ws : List (List ℕ)) : Type 0 where
+  pub values : List X
+  pub each : All IsLawful values
+  pub is : ws ≡ map text values
+
+values_of : {X : Type 0} (IsLawful : X → Type 0) (text : X → List ℕ) (ws : List (List ℕ))
+    → ((k : ℕ) (d : List ℕ) → k < length ws → IsTextOfSome IsLawful text (get_or ws k d)) → HasValues IsLawful text ws
+values_of IsLawful text [] h = record { values = []; each = All-nil IsLawful; is = refl }
+values_of IsLawful text (w ∷ ws) h =
+    let first = h 0 w (omega arith) in
+    let rest = values_of IsLawful text ws (λ k d lt. h (suc k) d (omega arith)) in
+    record {
+      values = first.0 ∷ rest.values;
+      each = All-cons IsLawful first.0 rest.values first.1 rest.each;
+      is = cc (first.2, rest.is);
+    }
+
+-- the folders of an ask
+given_wants : (ws : List (List ℕ)) → Fit Ask ws → HasValues IsWant want_text (drop 1 ws)
+given_wants [] fit = let few = fit.enough in absurd (omega arith)
+given_wants (n ∷ ws) fit = values_of IsWant want_text ws (λ k d lt. fit.each (suc k) d (omega arith))
+
+-- what was left at a finish
+given_lefts : (ws : List (List ℕ)) → Fit Finish ws → HasValues IsLeft left_text (drop 2 ws)
+given_lefts [] fit = let few = fit.enough in absurd (omega arith)
+given_lefts (n ∷ []) fit = let few = fit.enough in absurd (omega arith)
+given_lefts (n ∷ t ∷ ws) fit = values_of IsLeft left_text ws (λ k d lt. fit.each (suc (suc k)) d (omega arith))
+
+-- an ask of lawful folders is an event
+asked : (ws : List (List ℕ)) (wants : List Want) → Fit Ask ws → SpellGiven (drop 1 ws) wants → ((e : Event) → Says Ask ws e → ⊥) → ⊥
+asked [] wants fit spelled none = let few = fit.enough in omega arith
+asked (n ∷ ws) wants fit spelled none =
+    let node = fit.each 0 n (omega arith) in
+    none (event.Ask node.0 wants) (record {
+      node = node.0;
+      folders = ws;
+      wants = wants;
+      is_node = node.1;
+      spelled = spelled;
+      text = cc node.2;
+      event = refl;
+    })
+
+-- a finish of slots that rise is an event
+finished : (ws : List (List ℕ)) (lefts : List Left) → Fit Finish ws → SpellLefts (drop 2 ws) lefts → ((e : Event) → Says Finish ws e → ⊥) → ⊥
+finished [] lefts fit spelled none = let few = fit.enough in omega arith
+finished (n ∷ []) lefts fit spelled none = let few = fit.enough in omega arith
+finished (n ∷ t ∷ ws) lefts fit spelled none =
+    let node = fit.each 0 n (omega arith) in
+    let ticket = fit.each 1 t (omega arith) in
+    none (event.Finish node.0 ticket.0 lefts) (record {
+      node = node.0;
+      ticket = ticket.0;
+      slots = ws;
+      lefts = lefts;
+      is_node = node.1;
+      is_ticket = ticket.1;
+      spelled = spelled;
+      text = cc (node.2, ticket.2);
+      event = refl;
+    })
+
+folders_len : (ws : List (List ℕ)) (given : List Want) → Fit Ask ws → drop 1 ws ≡ map want_text given → length ws ≡ length given + 1
+folders_len [] given fit e = let few = fit.enough in absurd (omega arith)
+folders_len (n ∷ ws) given fit e = let len = ap (λ (l : List (List ℕ)). length l) e ∙ length-map given want_text in omega arith
+
+pub many_folders : (ws : List (List ℕ)) → Fit Ask ws → 17 < length ws → AreManyFolders (drop 1 ws)
+many_folders ws fit many =
+    let given = given_wants ws fit in
+    let len = folders_len ws given.values fit given.is in
+    record { given = given.values; are = record { each = given.each; text = given.is }; many = omega arith }
+
+pub folder_twice : (ws : List (List ℕ)) → Fit Ask ws → length ws ≤ 17 → ((e : Event) → Says Ask ws e → ⊥) → AreFoldersTwice (drop 1 ws)
+folder_twice ws fit few none =
+    let given = given_wants ws fit in
+    let len = folders_len ws given.values fit given.is in
+    record {
+      given = given.values;
+      are = record { each = given.each; text = given.is };
+      few = omega arith;
+      twice = λ distinct.
+          let sorted = in_order given.values distinct in
+          let len' = length_permutation given.values sorted.order sorted.moved in
+          asked ws sorted.order fit
+          (record {
+            given = given.values;
+            each = given.each;
+            text = given.is;
+            sorted = sorted.moved;
+            lawful = (omega arith, sorted.rising);
+          }) none;
+    }
+
+pub falling_lefts : (ws : List (List ℕ)) → Fit Finish ws → ((e : Event) → Says Finish ws e → ⊥) → AreFallingLefts (drop 2 ws)
+falling_lefts ws fit none =
+    let given = given_lefts ws fit in
+    record {
+      lefts = given.values;
+      each = given.each;
+      text = given.is;
+      falling = λ rising. finished ws given.values fit (record { each = given.each; text = given.is; rising = rising }) none;
+    }

@@ -1,6 +1,7 @@
 pub mod FormLemmas
 pub mod HexLemmas
 pub mod LineLemmas
+pub mod OrderLemmas
 pub mod PlainLemmas
 mod PrintedVersions
 pub mod ScheduleLaws

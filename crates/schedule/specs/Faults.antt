@@ -1,8 +1,14 @@
 -- What is wrong with a line of a schedule that can't be read.
-use Rattle.std.specs.Prelude.{◌≡◌, ◌≢◌, ℕ, ◌<◌, ◌≤◌, Bool, true, false, List, [], ◌∷◌, ◌++◌, Option, Some, None, Contains, codes, length, slice_index_or}
+use Rattle.std.specs.Prelude.{◌≡◌, ◌≢◌, ℕ, ◌<◌, ◌≤◌, Bool, true, false, List, [], ◌∷◌, ◌++◌, Option, Some, None, Contains, codes, drop, length, map, slice_index_or}
+use Rattle.std.specs.List.{All, IsDistinct}
+use Rattle.std.specs.List.Sorted.{IsStrictlySortedBy}
 use Rattle.std.specs.Str.{IsUtf8}
+use Rattle.farm_base.specs.declared.want.Want.{Want}
+use Rattle.farm_base.specs.Folders.{folder_eq}
+use Rattle.farm_base.specs.Slots.{slot_cmp}
+use Rattle.farm_base.specs.Wanted.{folders}
 use Rattle.protocol.specs.declared.event.Event.{Event}
-use Rattle.words.specs.Words.{words}
+use Rattle.words.specs.Words.{words, want_text, IsWant}
 use Rattle.schedule.specs.declared.fault.FormFault.{FormFault}
 use Rattle.schedule.specs.declared.fault.FormFault.TheVariants.{BadWord, ExtraWord, MissingWord, TooManyFolders, SameFolderTwice, SlotsDontRise}
 use Rattle.schedule.specs.declared.fault.WordFault.{WordFault}
@@ -17,7 +23,7 @@ use Rattle.schedule.specs.declared.verb.Verb.TheVariants.{Ask, Finish}
 use Rattle.schedule.specs.declared.verb.Wanted.{Wanted}
 use Rattle.schedule.specs.Forms.{Fits, FitUpTo, wanted_at, first_words}
 use Rattle.schedule.specs.Lacks.{IsWordFault}
-use Rattle.schedule.specs.Lines.{IsSpelled}
+use Rattle.schedule.specs.Lines.{left_slots, left_text, IsLeft, IsSpelled, Left}
 use Rattle.schedule.specs.Schedules.{IsSetup}
 use Rattle.schedule.specs.Words.{verb_text}
 
@@ -61,14 +67,39 @@ IsFaultAt verb index word (Some (BadWord i kind fault)) = (i ≡ index) × (want
 IsFaultAt verb index word (Some (ExtraWord i)) = (i ≡ index) × (wanted_at verb index ≡ None)
 IsFaultAt verb index word (Some fault) = ⊥
 
+-- the words are folders
+pub record AreFolders (ws : List (List ℕ)) (given : List Want) : Type 0 where
+  pub each : All IsWant given
+  pub text : ws ≡ map want_text given
+
+-- at most 16 folders, of which two are the same
+pub record AreFoldersTwice (ws : List (List ℕ)) : Type 0 where
+  pub given : List Want
+  pub are : AreFolders ws given
+  pub few : length given ≤ 16
+  pub twice : IsDistinct folder_eq (folders given) → ⊥
+
+-- more than 16 folders
+pub record AreManyFolders (ws : List (List ℕ)) : Type 0 where
+  pub given : List Want
+  pub are : AreFolders ws given
+  pub many : 16 < length given
+
+-- what was left, and the slots don't rise
+pub record AreFallingLefts (ws : List (List ℕ)) : Type 0 where
+  pub lefts : List Left
+  pub each : All IsLeft lefts
+  pub text : ws ≡ map left_text lefts
+  pub falling : IsStrictlySortedBy slot_cmp (left_slots lefts) → ⊥
+
 -- why the words behind a verb say no event
 abbrev pub IsFormFault : Verb → List (List ℕ) → FormFault → Type 0
 IsFormFault verb ws (BadWord index kind fault) = IsFirstBad verb ws index kind fault
 IsFormFault verb ws (ExtraWord index) = IsFirstExtra verb ws index
 IsFormFault verb ws MissingWord = IsTooShort verb ws
-IsFormFault verb ws TooManyFolders = (verb ≡ Ask) × Fit verb ws × (17 < length ws)
-IsFormFault verb ws SameFolderTwice = (verb ≡ Ask) × Fit verb ws × (length ws ≤ 17)
-IsFormFault verb ws SlotsDontRise = (verb ≡ Finish) × Fit verb ws
+IsFormFault verb ws TooManyFolders = (verb ≡ Ask) × Fit verb ws × AreManyFolders (drop 1 ws)
+IsFormFault verb ws SameFolderTwice = (verb ≡ Ask) × Fit verb ws × AreFoldersTwice (drop 1 ws)
+IsFormFault verb ws SlotsDontRise = (verb ≡ Finish) × Fit verb ws × AreFallingLefts (drop 2 ws)
 
 -- what is wrong with the first word behind the verb that can't stand there, if there is one
 abbrev pub AreJudged : Verb → List (List ℕ) → Option FormFault → Type 0

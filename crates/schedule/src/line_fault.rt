@@ -3,7 +3,7 @@ ghost use Rattle.std.specs.Prelude.{◌≡◌, [], Contains, ◌↔◌, IsTrue, 
 ghost use Rattle.protocol.specs.declared.event.Event.{Event};
 ghost use Rattle.words.specs.Words.{texts, words};
 ghost use Rattle.schedule.specs.declared.fault.Spacing.{Spacing};
-ghost use Rattle.schedule.specs.Faults.{IsRead, IsReadAnswer, IsFaultAt, AreJudged, IsFormFault, IsWordsFault, IsMisspaced, IsSpacing, IsLineFault, IsFaultOf};
+ghost use Rattle.schedule.specs.Faults.{IsRead, IsReadAnswer, IsFaultAt, AreJudged, Fit, IsFormFault, IsWordsFault, IsMisspaced, IsSpacing, IsLineFault, IsFaultOf};
 ghost use Rattle.schedule.specs.Words.{Says, SpelledBy};
 
 use super::fault::{FormFault, LineFault, Spacing};
@@ -45,6 +45,20 @@ fn first_fault(alloc: Global, verb: Verb, words: &[&str]) -> Result<Option<FormF
     Ok(None)
 }
 
+/// Why words behind a verb, each of which may stand there, say no event together.
+fn whole_fault(verb: Verb, words: &[&str]) -> FormFault
+    requires fit { Fit verb (texts words.now) }
+    requires silent { (e : Event) → Says verb (texts words.now) e → ⊥ }
+    ensures { IsFormFault verb (texts words.now) result }
+{
+    match verb {
+        Verb::Ask if words.len() > 1 + Wants::LIMIT => FormFault::TooManyFolders,
+        Verb::Ask => FormFault::SameFolderTwice,
+        Verb::Finish => FormFault::SlotsDontRise,
+        _ => unreachable!(),
+    }
+}
+
 /// Why the words behind a verb say no event.
 fn form_fault(alloc: Global, verb: Verb, words: &[&str]) -> Result<FormFault, AllocError>
     requires { (e : Event) → Says verb (texts words.now) e → ⊥ }
@@ -56,12 +70,7 @@ fn form_fault(alloc: Global, verb: Verb, words: &[&str]) -> Result<FormFault, Al
     if words.len() < verb.form().words.len() {
         return Ok(FormFault::MissingWord);
     }
-    match verb {
-        Verb::Ask if words.len() > 1 + Wants::LIMIT => Ok(FormFault::TooManyFolders),
-        Verb::Ask => Ok(FormFault::SameFolderTwice),
-        Verb::Finish => Ok(FormFault::SlotsDontRise),
-        _ => unreachable!(),
-    }
+    Ok(whole_fault(verb, words))
 }
 
 /// Why the words of a line spell no event.
