@@ -8,8 +8,8 @@ use Rattle.schedule.specs.declared.verb.Verb.{Verb}
 use Rattle.schedule.specs.declared.verb.Verb.TheVariants.{Ask, Tenure, Deliver, Begin, Finish, Abort, Resend, Restart, Forge, Forget, Nudge, Withdraw, Prune, Retire, Fail}
 use Rattle.schedule.specs.declared.verb.Wanted.{Wanted}
 use Rattle.schedule.specs.declared.verb.Wanted.TheVariants as wanted
-use Rattle.schedule.specs.Faults.{Fit, AreManyFolders, AreFoldersTwice, AreFallingLefts}
-use Rattle.schedule.specs.Forms.{IsTextOfSome, StandsFor, first_words, further_words}
+use Rattle.schedule.specs.Faults.{AreManyFolders, AreFoldersTwice, AreFallingLefts}
+use Rattle.schedule.specs.Forms.{IsTextOfSome, StandsFor, Fit, first_words, further_words}
 use Rattle.schedule.specs.Lines.{left_text, IsLeft, Left}
 use Rattle.schedule.specs.Words.{Says, OfNode, OfLease, SpellLefts}
 use Rattle.words.specs.Words.{want_text, IsWant, SpellGiven}

@@ -1,3 +1,4 @@
+pub mod FitLemmas
 pub mod FormLemmas
 pub mod HexLemmas
 pub mod LineLemmas

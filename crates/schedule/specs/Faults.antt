@@ -21,7 +21,7 @@ use Rattle.schedule.specs.declared.setup.Setup.{Setup}
 use Rattle.schedule.specs.declared.verb.Verb.{Verb}
 use Rattle.schedule.specs.declared.verb.Verb.TheVariants.{Ask, Finish}
 use Rattle.schedule.specs.declared.verb.Wanted.{Wanted}
-use Rattle.schedule.specs.Forms.{Fits, FitUpTo, wanted_at, first_words}
+use Rattle.schedule.specs.Forms.{Fit, Fits, FitUpTo, wanted_at, first_words}
 use Rattle.schedule.specs.Lacks.{IsWordFault}
 use Rattle.schedule.specs.Lines.{left_slots, left_text, IsLeft, IsSpelled, Left}
 use Rattle.schedule.specs.Schedules.{IsSetup}
@@ -54,11 +54,6 @@ pub record IsFirstExtra (verb : Verb) (ws : List (List ℕ)) (index : ℕ) : Typ
 pub record IsTooShort (verb : Verb) (ws : List (List ℕ)) : Type 0 where
   pub each : FitUpTo verb ws (length ws)
   pub short : length ws < length (first_words verb)
-
--- each word stands for what is wanted there, and there are enough
-pub record Fit (verb : Verb) (ws : List (List ℕ)) : Type 0 where
-  pub each : FitUpTo verb ws (length ws)
-  pub enough : length (first_words verb) ≤ length ws
 
 -- what is wrong with the word at this index behind the verb, if something is
 abbrev pub IsFaultAt : Verb → ℕ → List ℕ → Option FormFault → Type 0

@@ -1,16 +1,17 @@
 -- How the line of each event is written: what the words behind its verb stand for.
-use Rattle.std.specs.Prelude.{◌≡◌, ◌⊎◌, ℕ, ◌<◌, ◌^◌, List, [], ◌∷◌, Option, Some, None, map, codes, decimal, slice_index_or}
+use Rattle.std.specs.Prelude.{◌≡◌, ◌⊎◌, ℕ, ◌<◌, ◌≤◌, ◌^◌, List, [], ◌∷◌, Option, Some, None, map, length, codes, decimal, slice_index_or}
 use Rattle.hex.specs.Hex.{IsBytes, encode_lower}
 use Rattle.farm_base.specs.Digests.{IsDigest}
 use Rattle.farm_base.specs.declared.folder.FolderName.{FolderName}
 use Rattle.farm_base.specs.declared.folder.Mode.TheVariants.{Shared}
 use Rattle.farm_base.specs.Names.{folder_text, slot_text, IsName, IsSlot}
-use Rattle.words.specs.Words.{node_text, ticket_text, digits_text, want_text, IsNode, IsTicket, IsWant}
+use Rattle.words.specs.Words.{words, node_text, ticket_text, digits_text, want_text, IsNode, IsTicket, IsWant}
 use Rattle.schedule.specs.declared.verb.Verb.{Verb}
 use Rattle.schedule.specs.declared.verb.Verb.TheVariants.{Ask, Tenure, Deliver, Begin, Finish, Abort, Resend, Restart, Forge, Forget, Nudge, Withdraw, Prune, Retire, Fail}
 use Rattle.schedule.specs.declared.verb.Wanted.{Wanted}
 use Rattle.schedule.specs.declared.verb.Wanted.TheVariants as wanted
 use Rattle.schedule.specs.Lines.{kept_text, left_text, IsLeft}
+use Rattle.schedule.specs.Words.{verb_text}
 
 -- ---- words
 
@@ -80,3 +81,15 @@ Fits (Some wanted) word = StandsFor wanted word
 -- so many words behind the verb stand for what is wanted there
 abbrev pub FitUpTo : Verb → List (List ℕ) → ℕ → Type 0
 FitUpTo verb ws count = (k : ℕ) (d : List ℕ) → k < count → Fits (wanted_at verb k) (slice_index_or ws k d)
+
+-- each word stands for what is wanted there, and there are enough
+pub record Fit (verb : Verb) (ws : List (List ℕ)) : Type 0 where
+  pub each : FitUpTo verb ws (length ws)
+  pub enough : length (first_words verb) ≤ length ws
+
+-- the line is written as the form of its verb says
+pub record IsOfForm (line : List ℕ) : Type 0 where
+  pub verb : Verb
+  pub behind : List (List ℕ)
+  pub text : words line ≡ verb_text verb ∷ behind
+  pub fit : Fit verb behind

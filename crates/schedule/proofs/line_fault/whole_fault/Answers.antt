@@ -3,7 +3,7 @@ use Rattle.std.proofs.lemmas.List.{length-map}
 use Rattle.protocol.specs.declared.event.Event.{Event}
 use Rattle.words.specs.Words.{texts}
 use Rattle.schedule.specs.declared.verb.Verb.{Verb}
-use Rattle.schedule.specs.Faults.{Fit}
+use Rattle.schedule.specs.Forms.{Fit}
 use Rattle.schedule.specs.Words.{Says}
 use Rattle.schedule.proofs.FormLemmas.{said_from_fit, many_folders, folder_twice, falling_lefts}
 use Rattle.schedule.proofs.line_fault.whole_fault.Goals as goal
