@@ -6,7 +6,7 @@ use std::alloc::Global;
 use std::test::Fail;
 
 /// Schedules, their lines separated by semicolons, and what `--explain` says of them.
-const SCHEDULES: [(&str, &str); 21] = [
+const SCHEDULES: [(&str, &str); 30] = [
     ("nodes 1; nudge", ""),
     (
         "nodes 1025",
@@ -83,6 +83,42 @@ const SCHEDULES: [(&str, &str); 21] = [
     (
         "nodes 2; finish 1 1 locked:b= locked:a=",
         "F: line 2: the slots don't rise: SHARED, PRIVATE and LOCKED, each by its id and instance\n",
+    ),
+    (
+        "nodes 2; begin x",
+        "F: line 2: 'x' is no node: a number without a zero in front\n",
+    ),
+    (
+        "nodes 2; resend coordinator",
+        "F: line 2: 'coordinator' is no node: a number without a zero in front\n",
+    ),
+    (
+        "nodes 2; restart coordinator 1",
+        "F: line 2: '1' is a word too many: 'restart NODE'\n",
+    ),
+    (
+        "nodes 2; deliver 01",
+        "F: line 2: '01' is no message: a number without a zero in front\n",
+    ),
+    (
+        "nodes 2; prune shared:a#1",
+        "F: line 2: 'shared:a#1' is no slot: 'shared:ID', 'locked:ID' or 'private:ID#INSTANCE'\n",
+    ),
+    (
+        "nodes 2; finish 1 1 private:a=61",
+        "F: line 2: 'private:a' is PRIVATE and lacks its instance, as '#1' behind it\n",
+    ),
+    (
+        "nodes 2; finish 1 1 locked:a=6g",
+        "F: line 2: '6g' is no content: hexadecimal digits are 0 to 9 and a to f\n",
+    ),
+    (
+        "nodes 2; fail older",
+        "F: line 2: 'older' is neither 'old' nor 'new'\n",
+    ),
+    (
+        "nodes 2; ask 1 locked:a locked:b locked:c locked:d locked:e locked:f locked:g locked:h locked:i locked:j locked:k locked:l locked:m locked:n locked:o locked:p locked:q",
+        "F: line 2: more than 16 folders\n",
     ),
     (
         "nodes 1; begin 1 1; nudge; resend 2",
