@@ -1,5 +1,5 @@
 -- What is wrong with a line of a schedule that can't be read.
-use Rattle.std.specs.Prelude.{◌≡◌, ◌≢◌, ℕ, ◌<◌, ◌≤◌, Bool, true, false, List, [], ◌∷◌, ◌++◌, Option, Some, None, Contains, codes, drop, length, map, slice_index_or}
+use Rattle.std.specs.Prelude.{◌≡◌, ◌≢◌, ℕ, ◌<◌, ◌≤◌, List, [], ◌∷◌, ◌++◌, Option, Some, None, Contains, codes, drop, length, map, slice_index_or}
 use Rattle.std.specs.List.{All, IsDistinct}
 use Rattle.std.specs.List.Sorted.{IsStrictlySortedBy}
 use Rattle.std.specs.Str.{IsUtf8}
@@ -21,7 +21,7 @@ use Rattle.schedule.specs.declared.setup.Setup.{Setup}
 use Rattle.schedule.specs.declared.verb.Verb.{Verb}
 use Rattle.schedule.specs.declared.verb.Verb.TheVariants.{Ask, Finish}
 use Rattle.schedule.specs.declared.verb.Wanted.{Wanted}
-use Rattle.schedule.specs.Forms.{Fit, Fits, FitUpTo, wanted_at, first_words}
+use Rattle.schedule.specs.Forms.{Fit, FitUpTo, wanted_at, first_words}
 use Rattle.schedule.specs.Lacks.{IsWordFault}
 use Rattle.schedule.specs.Lines.{left_slots, left_text, IsLeft, IsSpelled, Left}
 use Rattle.schedule.specs.Schedules.{IsSetup}
@@ -31,11 +31,6 @@ use Rattle.schedule.specs.Words.{verb_text}
 pub record IsRead (number : ℕ) (line : List ℕ) : Type 0 where
   pub first : number ≡ 1 → (setup : Setup) × IsSetup line setup
   pub later : number ≢ 1 → line ≢ [] → (e : Event) × IsSpelled line e
-
--- whether it can be read
-abbrev pub IsReadAnswer : ℕ → List ℕ → Bool → Type 0
-IsReadAnswer number line true = IsRead number line
-IsReadAnswer number line false = IsRead number line → ⊥
 
 -- the words before this index stand for what is wanted there, and the one at it does not
 pub record IsFirstBad (verb : Verb) (ws : List (List ℕ)) (index : ℕ) (kind : Wanted) (fault : WordFault) : Type 0 where
@@ -54,13 +49,6 @@ pub record IsFirstExtra (verb : Verb) (ws : List (List ℕ)) (index : ℕ) : Typ
 pub record IsTooShort (verb : Verb) (ws : List (List ℕ)) : Type 0 where
   pub each : FitUpTo verb ws (length ws)
   pub short : length ws < length (first_words verb)
-
--- what is wrong with the word at this index behind the verb, if something is
-abbrev pub IsFaultAt : Verb → ℕ → List ℕ → Option FormFault → Type 0
-IsFaultAt verb index word None = Fits (wanted_at verb index) word
-IsFaultAt verb index word (Some (BadWord i kind fault)) = (i ≡ index) × (wanted_at verb index ≡ Some kind) × IsWordFault kind word fault
-IsFaultAt verb index word (Some (ExtraWord i)) = (i ≡ index) × (wanted_at verb index ≡ None)
-IsFaultAt verb index word (Some fault) = ⊥
 
 -- the words are folders
 pub record AreFolders (ws : List (List ℕ)) (given : List Want) : Type 0 where
@@ -95,11 +83,6 @@ IsFormFault verb ws MissingWord = IsTooShort verb ws
 IsFormFault verb ws TooManyFolders = (verb ≡ Ask) × Fit verb ws × AreManyFolders (drop 1 ws)
 IsFormFault verb ws SameFolderTwice = (verb ≡ Ask) × Fit verb ws × AreFoldersTwice (drop 1 ws)
 IsFormFault verb ws SlotsDontRise = (verb ≡ Finish) × Fit verb ws × AreFallingLefts (drop 2 ws)
-
--- what is wrong with the first word behind the verb that can't stand there, if there is one
-abbrev pub AreJudged : Verb → List (List ℕ) → Option FormFault → Type 0
-AreJudged verb ws None = FitUpTo verb ws (length ws)
-AreJudged verb ws (Some fault) = IsFormFault verb ws fault
 
 -- the first word is this verb, and those behind it say no event, for this reason
 pub record HasFormFault (ws : List (List ℕ)) (verb : Verb) (fault : FormFault) : Type 0 where

@@ -23,9 +23,11 @@ IsTextOfSome {X} IsLawful text word = (x : X) × IsLawful x × (word ≡ text x)
 abbrev pub IsAny : {X : Type 0} → X → Type 0
 IsAny x = Unit {0}
 
+-- the name of a SHARED folder
 abbrev pub IsSharedName : FolderName → Type 0
 IsSharedName folder = IsName folder × (folder.mode ≡ Shared)
 
+-- holds of each number of a message
 abbrev pub IsMessage : ℕ → Type 0
 IsMessage number = number < 2 ^ 64
 

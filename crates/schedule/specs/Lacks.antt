@@ -10,6 +10,7 @@ use Rattle.schedule.specs.declared.verb.Wanted.{Wanted}
 use Rattle.schedule.specs.declared.verb.Wanted.TheVariants as wanted
 use Rattle.schedule.specs.Forms.{IsTextOfSome, StandsFor}
 
+-- the word is a folder, without `ro=`
 abbrev pub IsFolder : List ℕ → Type 0
 IsFolder word = IsTextOfSome IsName folder_text word
 

@@ -1,4 +1,5 @@
 pub mod Faults
+pub mod Finding
 pub mod Forms
 pub mod Lacks
 pub mod Lines

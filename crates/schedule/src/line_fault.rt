@@ -3,7 +3,8 @@ ghost use Rattle.std.specs.Prelude.{◌≡◌, [], Contains, ◌↔◌, IsTrue, 
 ghost use Rattle.protocol.specs.declared.event.Event.{Event};
 ghost use Rattle.words.specs.Words.{texts, words};
 ghost use Rattle.schedule.specs.declared.fault.Spacing.{Spacing};
-ghost use Rattle.schedule.specs.Faults.{IsRead, IsReadAnswer, IsFaultAt, AreJudged, IsFormFault, IsWordsFault, IsMisspaced, IsSpacing, IsLineFault, IsFaultOf};
+ghost use Rattle.schedule.specs.Faults.{IsRead, IsFormFault, IsWordsFault, IsMisspaced, IsSpacing, IsLineFault, IsFaultOf};
+ghost use Rattle.schedule.specs.Finding.{IsReadAnswer, IsFaultAt, AreJudged};
 ghost use Rattle.schedule.specs.Forms.{Fit};
 ghost use Rattle.schedule.specs.Words.{Says, SpelledBy};
 

@@ -93,21 +93,9 @@ fn first_line(text: &[u8]) -> (&[u8], Option<&[u8]>)
 
 /// The farm's setup and the events that a text spells.
 ///
-/// The first line is `nodes N`, with N from 1 to 1,024. Each further line is an event, or empty:
-///
-/// - `ask N FOLDER..`, where `ro=` before a folder makes it read only; the folders may stand in any order
-/// - `tenure N FOLDER`, of a SHARED folder
-/// - `deliver K`
-/// - `begin N T`, `abort N T`
-/// - `finish N T SLOT=HEX..`, by rising slots
-/// - `resend N`
-/// - `nudge`
-/// - `withdraw T`
-/// - `prune SLOT`
-/// - `retire N`
-/// - `restart N`, `restart coordinator`
-/// - `forge N HEX`
-/// - `fail old`, `fail new`
+/// The first line is `nodes N`, with N from 1 to 1,024. Each further line is empty, or an event: its verb, and the words
+/// that `Verb::form` has for it, as `begin 1 7`. The folders of an `ask` may stand in any order, and `ro=` before one
+/// makes it read only; the slots of a `finish` rise.
 ///
 /// Lines end with a line feed, which the last may lack, and one space separates the words of a line. Numbers are
 /// decimal without leading zeros, hexadecimal digits lower case. A refusal is the first fault from the top.
