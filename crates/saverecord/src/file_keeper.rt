@@ -173,6 +173,10 @@ impl<'a, R: Files> Keeper for FileKeeper<'a, R> {
         ensures cause { OnErr result (HasFailed self.old.failures self.new.failures) }
         ensures count { self.old.failures ≤ self.new.failures }
     {
+        // Nothing is to be written then, also after a fault: what it left is told by the next load.
+        if self.files.has_all() {
+            return Ok(());
+        }
         if self.files.sync().is_err() {
             self.failed();
             return Err(SaveFault);

@@ -76,7 +76,7 @@ impl<'a, R: Files> HostDevice<'a, R> {
         fs::remove_file(self.files, self.draft.as_str())
     }
 
-    /// The log's file, opened to be written.
+    /// The log's file, opened with these options.
     fn open_log(&self, options: &mut OpenOptions) -> io::Result<R::File> {
         options.open(self.files, self.tail.as_str())
     }
@@ -126,7 +126,7 @@ impl<'a, R: Files> Device for HostDevice<'a, R> {
     }
 
     fn sync_log(&mut self) -> io::Result<()> {
-        match self.open_log(OpenOptions::new().write(true)) {
+        match self.open_log(OpenOptions::new().read(true)) {
             Ok(file) => file.sync_all()?,
             Err(error) if error.kind() == ErrorKind::NotFound => return Ok(()),
             Err(error) => return Err(error),
