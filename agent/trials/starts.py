@@ -153,6 +153,8 @@ def only_reads(room: Room) -> None:
     expect(room.state() == state, "its files were changed")
     for name in ("", "record", "record.log"):
         os.chmod(f"{room.path}/{name}", 0o777)
+    again = coordinator.call("line locked:a")
+    expect((again.facts, again.note) == (["restarted"], "refused SaveFault"), f"it doesn't restart: {again}")
     line = coordinator.call("line locked:a")
     expect(line.facts[:1] == [f"1 1 {DIGEST}"], f"it tells another line: {line}")
     expect(coordinator.call("prune locked:a").note.startswith("pruned "), "it doesn't save again")
