@@ -1,10 +1,11 @@
 -- What a node does of a call (this project's own).
-use Rattle.std.specs.Prelude.{◌≡◌, List, [], ◌∷◌, map, Option, Some, None, Result}
+use Rattle.std.specs.Prelude.{◌≡◌, ◌≤◌, ◌⊎◌, ℕ, true, List, [], ◌∷◌, map, Option, Some, None, Result}
 use Rattle.farm_base.specs.Contents.{content_digest}
 use Rattle.farm_base.specs.declared.message.FromCoord.{FromCoord}
 use Rattle.farm_base.specs.declared.message.FromCoord.TheVariants.{Granted, Committed, Fenced, Denied, Recall}
 use Rattle.farm_base.specs.declared.message.ToNode.TheVariants as to_node
 use Rattle.nodecore.specs.declared.message.NodeDone.{NodeDone}
+use Rattle.nodecore.specs.Rows.{endings_after}
 use Rattle.nodecore.specs.Shown.{Answers, hearing}
 use Rattle.protocol.specs.declared.answer.NodeRefusal.{NodeRefusal}
 use Rattle.protocol.specs.Farm.{farm_limits}
@@ -83,6 +84,8 @@ about_call (call.Forget digest) = about.Nothing
 -- the node does what the rules make of the call, and what it stored is kept then. If it can't be, the filter is down
 pub record CarriesOut {S : Type 0} (kept : Kept S) (call : Call) (old new : Seen S) (answer : Result NodeDone NodeRefusal) : Type 0 where
   pub done : Answers (node_answer old.me old.at old.node call) old.node new.node answer
-  pub same : new ≡ record old { node = new.node; store = new.store; down = new.down }
+  pub same : new ≡ record old { node = new.node; forgets = new.forgets; store = new.store; down = new.down }
+  -- an ask is forgotten only where 1,024 of greater numbers are over
+  pub late : (a : ℕ) → new.forgets a ≡ true → (old.forgets a ≡ true) ⊎ (1024 ≤ endings_after a new.node.asks)
   pub others : StayKept kept (forgotten_by call) old.store new.store
   pub sound : IsSound kept old → IsSound kept new

@@ -5,7 +5,7 @@ use Rattle.farm_base.specs.declared.left.Left.{Left}
 use Rattle.farm_base.specs.declared.number.Ask.{Ask}
 use Rattle.farm_base.specs.declared.number.Ticket.{Ticket}
 use Rattle.nodecore.specs.declared.message.NodeDone.{NodeDone}
-use Rattle.nodecore.specs.Asks.{told_state}
+use Rattle.nodecore.specs.Asks.{told_unless}
 use Rattle.protocol.specs.declared.answer.NodeRefusal.{NodeRefusal}
 use Rattle.protocol.specs.Lists.{nth}
 use Rattle.services.specs.declared.lost.Lost.{Lost}
@@ -66,7 +66,7 @@ pub data Follows {S : Type 0} (kept : Kept S) (o : Order) (old new : Seen S) (an
   -- it isn't stored here
   Has_not : (digest : Digest) (file : List ℕ) → o ≡ order.Content digest file → old.node.store digest ≡ None → new ≡ old
       → OrLost (λ text. text ≡ no_content) answer → Follows kept o old new answer
-  Tells : (ask : Ask) → o ≡ order.State ask → new ≡ old → OrLost (λ text. text ≡ noted (state_text ask (option_map told_state (nth old.node.asks ask.0)))) answer
+  Tells : (ask : Ask) → o ≡ order.State ask → new ≡ old → OrLost (λ text. text ≡ noted (state_text ask (option_map (told_unless (old.forgets ask.0)) (nth old.node.asks ask.0)))) answer
       → Follows kept o old new answer
 
 -- a line is answered

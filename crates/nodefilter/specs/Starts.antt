@@ -2,6 +2,7 @@
 use Rattle.std.specs.Prelude.{◌≡◌, ℕ, true, false, []}
 use Rattle.std.specs.String.{string_bytes}
 use Rattle.nodecore.specs.declared.message.NodeDone.{NodeDone}
+use Rattle.nodecore.specs.Rows.{none_lost}
 use Rattle.nodecore.specs.Shown.{work_of}
 use Rattle.nodecore.specs.Stored.{kept_node}
 use Rattle.protocol.specs.Farm.{farm_limits}
@@ -24,6 +25,7 @@ pub record Begins {S : Type 0} (kept : Kept S) (last_life : S → ℕ) (origin :
   -- its life isn't over for good
   pub in_range : may_restart farm_limits (kept_node origin.last origin.contents.items []) ≡ true
   pub place : (seen started.filter).at ≡ place_in origin
+  pub told : (seen started.filter).forgets ≡ none_lost
   pub me : (seen started.filter).me ≡ origin.me
   pub key : (seen started.filter).key ≡ origin.key
   pub up : (seen started.filter).down ≡ false

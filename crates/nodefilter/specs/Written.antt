@@ -90,3 +90,4 @@ state_text ask (Some (state.Granted grant)) = codes "granted" ++ spaced (grant_w
 state_text ask (Some (state.Running grant)) = codes "running" ++ spaced (grant_words grant)
 state_text ask (Some (state.Finished ticket)) = codes "finished" ++ spaced (ticket_text ticket ∷ [])
 state_text ask (Some (state.Over how)) = over_text ask how
+state_text ask (Some state.Forgotten) = codes "none"

@@ -1,7 +1,8 @@
 //! Calls that are carried out.
-ghost use Rattle.std.specs.Prelude.{◌≡◌, ◌∷◌, [], true, false, map, Some, None, IfOk, OnOk, OnErr};
+ghost use Rattle.std.specs.Prelude.{◌≡◌, ◌≤◌, ◌⊎◌, ◌∷◌, ℕ, [], true, false, map, Some, None, IfOk, OnOk, OnErr};
 ghost use Rattle.farm_base.specs.Contents.{content_digest};
-ghost use Rattle.nodecore.specs.Shown.{shown, place, Answers};
+ghost use Rattle.nodecore.specs.Rows.{endings_after};
+ghost use Rattle.nodecore.specs.Shown.{forgets, shown, place, Answers};
 ghost use Rattle.nodefilter.specs.declared.order.Call.{Call};
 ghost use Rattle.nodefilter.specs.Carried.{node_answer, brought_by, forgotten_by, about_told, about_call, CarriesOut};
 ghost use Rattle.nodefilter.specs.States.{seen};
@@ -25,6 +26,7 @@ fn answer(
 ) -> Result<NodeDone, NodeRefusal>
     ensures done { Answers (node_answer me (place core.old) (shown core.old) call) (shown core.old) (shown core.new) result }
     ensures place { place core.new ≡ place core.old }
+    ensures told { forgets core.new ≡ forgets core.old }
 {
     match call {
         Call::Receive(message) => core.handle(alloc, &message),
@@ -37,6 +39,22 @@ fn answer(
         Call::Bring(content) => core.handle(alloc, &ToNode::Blob { node: me, content }),
         Call::Forget(digest) => core.forget(alloc, digest),
     }
+}
+
+/// Makes the call, and forgets how asks ended that are long over.
+fn answered(
+    core: &mut NodeCore,
+    alloc: Global,
+    me: NodeId,
+    call: Call,
+) -> Result<NodeDone, NodeRefusal>
+    ensures done { Answers (node_answer me (place core.old) (shown core.old) call) (shown core.old) (shown core.new) result }
+    ensures place { place core.new ≡ place core.old }
+    ensures late { (a : ℕ) → forgets core.new a ≡ true → (forgets core.old a ≡ true) ⊎ (1024 ≤ endings_after a (shown core.new).asks) }
+{
+    let answer = answer(core, alloc, me, call);
+    core.forget_endings();
+    answer
 }
 
 /// The digests of what was left.
@@ -198,7 +216,7 @@ pub(crate) fn carry_out<S: Store>(
     let about = about_call(alloc, &call)?;
     let brought = brought_by(alloc, &call)?;
     let gone = forgotten_by(&call);
-    let answer = answer(&mut filter.core, alloc, filter.me, call);
+    let answer = answered(&mut filter.core, alloc, filter.me, call);
     let done = answer.is_ok();
     let kept = keep_changes(
         &mut filter.store,

@@ -186,6 +186,7 @@ fn push_state(
         Some(AskState::Running(grant)) => push_lease(alloc, text, "running", grant),
         Some(AskState::Finished(ticket)) => push_ticket(alloc, text, "finished", *ticket),
         Some(AskState::Over(how)) => push_over(alloc, text, ask, how),
+        Some(AskState::Forgotten) => text.push_str("none"),
     }
 }
 

@@ -10,11 +10,12 @@ returns-clause-done g c =
     let others = rw c.forgotten_by-gone.ensures at kept.others in
     let all = rw c.in_ok-brought.ensures at (rw c.as_slice.ensures at kept.kept) in
     let old = c.args.filter.now in
-    let new = record old { core = c.answer-answer.new.core; store = c.keep_changes-kept.new.store; down = not c.keep_changes-kept.result } in
+    let new = record old { core = c.answered-answer.new.core; store = c.keep_changes-kept.new.store; down = not c.keep_changes-kept.result } in
     record {
-      done = c.answer-answer.ensures.done;
-      same = rw c.answer-answer.ensures.place refl;
+      done = c.answered-answer.ensures.done;
+      same = rw c.answered-answer.ensures.place refl;
+      late = c.answered-answer.ensures.late;
       others = others;
-      sound = stays_sound g.S.Store.kept c.args.call (seen old) (seen new) c.answer-answer.result c.keep_changes-kept.result c.answer-answer.ensures.done others
+      sound = stays_sound g.S.Store.kept c.args.call (seen old) (seen new) c.answered-answer.result c.keep_changes-kept.result c.answered-answer.ensures.done others
           (λ fine ok. all fine (done ∙ ok)) (λ no. (kept.idle (done ∙ no)).1) refl c.requires;
     }

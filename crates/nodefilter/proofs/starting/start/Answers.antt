@@ -30,6 +30,7 @@ returns g c =
         | inr over ↦ (let refused = c.resume.ensures.spent.1 (subst (λ (versions : List (Version × Digest)). may_restart farm_limits (kept_node origin.last origin.contents.items versions) ≡ false) (sym c.new.ensures.items) over) in absurd (cc (c.in-Ok.is, refused)))
       ];
       place = c.in-Ok.ensures.place;
+      told = c.in-Ok.ensures.told;
       me = refl;
       key = refl;
       up = refl;
