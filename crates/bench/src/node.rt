@@ -1,4 +1,4 @@
-//! Events of a node, against the leases that it has.
+//! Events of a node, against the leases that it has and the asks that it made.
 
 use super::clock::seconds_since;
 use super::event::{BATCHES, FEW, MANY, TURNS};
@@ -13,6 +13,11 @@ use std::time::Instant;
 
 /// What a lease takes: it is asked for, granted, begun and given back.
 const EVENTS_OF_A_LEASE: u32 = 4;
+
+/// How many asks of a node are over that is old, and how many are open.
+const OVER: u32 = 1_000_000;
+
+const OPEN: u32 = 10;
 
 /// The slot of a lease, whose base is the empty content.
 fn slots(alloc: Global) -> anyhow::Result<Items<GrantedSlot>> {
@@ -95,11 +100,73 @@ fn with_leases<R: Clock + AllocGlobal>(rt: &R, count: u32) -> anyhow::Result<f64
     keep_and_time(rt, &mut node, count)
 }
 
+/// The node takes the leases of so many asks, gives each back, and forgets after each event what it may.
+fn end_all(node: &mut NodeCore, alloc: Global, count: u32) -> anyhow::Result<()> {
+    for number in 1..count.saturating_add(1) {
+        take(node, alloc, number)?;
+        node.forget_endings();
+        give_back(node, alloc, Ticket(u64::from(number)))?;
+        node.forget_endings();
+    }
+    Ok(())
+}
+
+/// The node asks for so many leases, and none is granted.
+fn open_all(node: &mut NodeCore, alloc: Global, count: u32) -> anyhow::Result<()> {
+    for _ in 0..count {
+        let wants = wants(alloc)?;
+        let _asked = node.ask(alloc, wants)?;
+    }
+    Ok(())
+}
+
+/// The time of a resend of a batch.
+fn resending<R: Clock + AllocGlobal>(rt: &R, node: &NodeCore) -> anyhow::Result<f64> {
+    let start = Instant::now(rt)?;
+    for _ in 0..TURNS {
+        let _sent = node.resend(rt.alloc())?;
+    }
+    Ok(seconds_since(rt, start) / f64::from(TURNS))
+}
+
+/// The least time of a resend of the node once so many of its asks are over and `OPEN` are open.
+fn age_and_time<R: Clock + AllocGlobal>(
+    rt: &R,
+    node: &mut NodeCore,
+    over: u32,
+) -> anyhow::Result<f64> {
+    end_all(node, rt.alloc(), over)?;
+    open_all(node, rt.alloc(), OPEN)?;
+    let mut least = f64::INFINITY;
+    for _ in 0..BATCHES {
+        least = least.min(resending(rt, node)?);
+    }
+    Ok(least)
+}
+
+/// The same of a node in its first life, and how many asks it holds then.
+fn with_age<R: Clock + AllocGlobal>(rt: &R, over: u32) -> anyhow::Result<(f64, usize)> {
+    let mut node = Box::new(rt.alloc(), NodeCore::start(rt.alloc(), NodeId(1), 1)?)?;
+    let time = age_and_time(rt, &mut node, over)?;
+    Ok((time, node.asks_held()))
+}
+
+/// Prints how the time of a resend grows with the asks of a life.
+fn measure_age<R: Print + Clock + AllocGlobal>(rt: &R) -> anyhow::Result<()> {
+    let (old, held) = with_age(rt, OVER)?;
+    let (young, _) = with_age(rt, 0)?;
+    let growth = old / young;
+    println!(rt;
+        "resend, a node of which {OVER} asks are over and {OPEN} are open: {growth:.2} of that of one that made {OPEN}; it holds {held} asks"
+    )?;
+    Ok(())
+}
+
 /// Prints how the time of an event of a node grows with the leases that it has.
 pub fn measure<R: Print + Clock + AllocGlobal>(rt: &R) -> anyhow::Result<()> {
     let growth = with_leases(rt, MANY)? / with_leases(rt, FEW)?;
     println!(rt;
         "events, a node that has {MANY} leases: {growth:.2} of an event of one that has {FEW}"
     )?;
-    Ok(())
+    measure_age(rt)
 }
