@@ -11,6 +11,8 @@ mod crashes;
 #[cfg(test)]
 mod edits;
 #[cfg(test)]
+mod endings;
+#[cfg(test)]
 mod fields;
 #[cfg(test)]
 mod folder_bytes;
