@@ -100,7 +100,7 @@ fn with_leases<R: Clock + AllocGlobal>(rt: &R, count: u32) -> anyhow::Result<f64
     keep_and_time(rt, &mut node, count)
 }
 
-/// The node takes the leases of so many asks, gives each back, and forgets after each event what it may.
+/// The node takes the leases of `count` asks, gives each back, and forgets after each event what it may.
 fn end_all(node: &mut NodeCore, alloc: Global, count: u32) -> anyhow::Result<()> {
     for number in 1..count.saturating_add(1) {
         take(node, alloc, number)?;
@@ -111,7 +111,7 @@ fn end_all(node: &mut NodeCore, alloc: Global, count: u32) -> anyhow::Result<()>
     Ok(())
 }
 
-/// The node asks for so many leases, and none is granted.
+/// The node asks for `count` leases, and none is granted.
 fn open_all(node: &mut NodeCore, alloc: Global, count: u32) -> anyhow::Result<()> {
     for _ in 0..count {
         let wants = wants(alloc)?;
@@ -129,7 +129,7 @@ fn resending<R: Clock + AllocGlobal>(rt: &R, node: &NodeCore) -> anyhow::Result<
     Ok(seconds_since(rt, start) / f64::from(TURNS))
 }
 
-/// The least time of a resend of the node once so many of its asks are over and `OPEN` are open.
+/// The least time of a resend of the node once `over` of its asks are over and `OPEN` are open.
 fn age_and_time<R: Clock + AllocGlobal>(
     rt: &R,
     node: &mut NodeCore,

@@ -36,7 +36,7 @@ fn deny(alloc: Global, node: &mut NodeCore, number: u64) -> Result<(), Fail> {
     Ok(())
 }
 
-/// The node asks so many times, and none of it is answered.
+/// The node asks `count` times, and none of it is answered.
 fn ask_often(alloc: Global, node: &mut NodeCore, count: u64) -> Result<(), Fail> {
     for _ in 0..count {
         ask(alloc, node)?;
@@ -44,7 +44,7 @@ fn ask_often(alloc: Global, node: &mut NodeCore, count: u64) -> Result<(), Fail>
     Ok(())
 }
 
-/// The node asks so many times behind its open asks, and each time is denied.
+/// The node asks `count` times behind its open asks, and each time is denied.
 fn ask_in_vain(alloc: Global, node: &mut NodeCore, count: u64) -> Result<(), Fail> {
     for number in 0..count {
         ask(alloc, node)?;
