@@ -304,13 +304,13 @@ const CALLS: usize = 60;
 #[test]
 fn power_fails_at_each_call(rt: HostRuntime) -> Result<(), Fail> {
     let alloc = rt.alloc();
-    let mut all = 0;
+    let mut all: usize = 0;
     for call in 0..CALLS {
         let mut memory = Memory::new(alloc, b"", b"", call, true)?;
         let done = steps_done(alloc, &mut memory)?;
         assert!(rt; leaves_what_is_wanted(alloc, &memory, done)?);
         if done == STEPS.len() {
-            all += 1;
+            all = all.saturating_add(1);
         }
     }
     assert!(rt; all > 0 && all < CALLS);
@@ -340,13 +340,13 @@ fn is_settled_again(alloc: Global, memory: &mut Memory) -> Result<Option<Vec<u8>
 #[test]
 fn one_call_fails(rt: HostRuntime) -> Result<(), Fail> {
     let alloc = rt.alloc();
-    let mut settled = 0;
+    let mut settled: usize = 0;
     for call in 0..CALLS {
         let mut memory = Memory::new(alloc, b"", b"", call, false)?;
         let Some(known) = is_settled_again(alloc, &mut memory)? else {
             continue;
         };
-        settled += 1;
+        settled = settled.saturating_add(1);
         assert_eq!(rt; memory.logs.len(), 1);
         assert_eq!(rt; memory.records.len(), 1);
         let texts = opened(alloc, memory.record.as_slice(), memory.log.as_slice())?;

@@ -48,7 +48,7 @@ fn ask_often(alloc: Global, node: &mut NodeCore, count: u64) -> Result<(), Fail>
 fn ask_in_vain(alloc: Global, node: &mut NodeCore, count: u64) -> Result<(), Fail> {
     for number in 0..count {
         ask(alloc, node)?;
-        deny(alloc, node, OPEN + number + 1)?;
+        deny(alloc, node, number.saturating_add(OPEN + 1))?;
     }
     Ok(())
 }
