@@ -37,7 +37,7 @@ fn ends(was_over: bool, is_over: bool) -> usize
     if is_over && !was_over { 1 } else { 0 }
 }
 
-/// From which row on this many asks are over: the first row, where there aren't so many.
+/// From which row on `many` asks are over: the first row, where fewer are.
 fn last_endings(rows: &[AskRow], many: usize) -> usize
     ensures { (result ≡ 0) ⊎ (many ≤ row_endings (drop result rows.now)) }
 {

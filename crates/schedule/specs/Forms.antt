@@ -80,7 +80,7 @@ abbrev pub Fits : Option Wanted → List ℕ → Type 0
 Fits None word = ⊥
 Fits (Some wanted) word = StandsFor wanted word
 
--- so many words behind the verb stand for what is wanted there
+-- the first `count` words behind the verb stand for what is wanted there
 abbrev pub FitUpTo : Verb → List (List ℕ) → ℕ → Type 0
 FitUpTo verb ws count = (k : ℕ) (d : List ℕ) → k < count → Fits (wanted_at verb k) (slice_index_or ws k d)
 
