@@ -1,10 +1,50 @@
 //! What the coordinator keeps for an ask: the lease that was granted, or the ask while it waits.
+ghost use Rattle.std.specs.Prelude.{◌≡◌};
+ghost use Rattle.farm_base.specs.Kinds.{is_tenure, has_shared, kind_of};
+
 use super::copied::Copied;
 use super::items::Items;
 use super::number::{Ask, Life, NodeId, Ticket};
 use super::slot::Slot;
 use super::want::Wants;
 use std::alloc::{AllocError, Global};
+
+/// What a lease is given for.
+#[derive(Clone, Copy, Debug, PartialEq, Eq)]
+pub enum LeaseKind {
+    /// An execution that uses no SHARED folder.
+    Plain,
+    /// An execution that uses a SHARED folder, on the node that has the folder's tenure.
+    Shared,
+    /// The tenure of a SHARED folder.
+    Tenure,
+}
+
+impl LeaseKind {
+    /// The kind of a lease, by whether its wants have a SHARED folder and whether it is a tenure.
+    pub fn of(shared: bool, tenure: bool) -> LeaseKind
+        ensures { result ≡ kind_of shared tenure }
+    {
+        match (shared, tenure) {
+            (_, true) => LeaseKind::Tenure,
+            (true, false) => LeaseKind::Shared,
+            (false, false) => LeaseKind::Plain,
+        }
+    }
+
+    /// Whether the wants have a SHARED folder.
+    pub fn has_shared(self) -> bool
+        ensures { result ≡ has_shared self }
+    {
+        self != LeaseKind::Plain
+    }
+
+    pub fn is_tenure(self) -> bool
+        ensures { result ≡ is_tenure self }
+    {
+        self == LeaseKind::Tenure
+    }
+}
 
 /// A lease that was granted and has not ended.
 #[derive(Debug, Drop)]

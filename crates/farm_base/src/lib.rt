@@ -26,7 +26,7 @@ pub use copied::Copied;
 pub use digest::{BadDigestText, BadKeyText, Digest, Key, are_bytes};
 pub use folder::{Base, FolderName, Index, Mode};
 pub use items::{Items, copy_all};
-pub use lease::{Lease, NodeLife, Parked};
+pub use lease::{Lease, LeaseKind, NodeLife, Parked};
 pub use left::Left;
 pub use limits::{EVENTS, GREATEST, INSTANCES, NODES};
 pub use message::{

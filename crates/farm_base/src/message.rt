@@ -6,6 +6,7 @@ use super::content::Content;
 use super::copied::Copied;
 use super::digest::Digest;
 use super::items::Items;
+use super::lease::LeaseKind;
 use super::number::{Ask, Life, NodeId, Ticket};
 use super::slot::Slot;
 use super::want::Wants;
@@ -89,10 +90,7 @@ pub struct Grant {
     pub node: NodeId,
     pub life: Life,
     pub ask: Ask,
-    /// Whether the wants have a SHARED folder.
-    pub shared: bool,
-    /// Whether the lease is the tenure of a SHARED folder.
-    pub tenure: bool,
+    pub kind: LeaseKind,
     /// The slots, rising.
     pub slots: Items<GrantedSlot>,
 }
@@ -278,8 +276,7 @@ impl Copied for Grant {
             node: self.node,
             life: self.life,
             ask: self.ask,
-            shared: self.shared,
-            tenure: self.tenure,
+            kind: self.kind,
             slots: self.slots.copy(alloc)?,
         })
     }
