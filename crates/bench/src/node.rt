@@ -4,7 +4,7 @@ use super::clock::seconds_since;
 use super::event::{BATCHES, FEW, MANY, TURNS};
 use super::replay::{FOLDER, wants};
 use farm_base::{
-    Ask, Content, FromCoord, Grant, GrantedSlot, Items, Life, NodeId, Slot, Ticket, ToNode,
+    Ask, Content, FromCoord, Grant, GrantedSlot, Items, LeaseKind, Life, NodeId, Slot, Ticket, ToNode,
 };
 use nodecore::NodeCore;
 use std::alloc::Global;
@@ -38,8 +38,7 @@ fn granted(alloc: Global, number: u64) -> anyhow::Result<ToNode> {
         node: NodeId(1),
         life: Life(1),
         ask: Ask(number),
-        shared: false,
-        tenure: false,
+        kind: LeaseKind::Plain,
         slots: slots(alloc)?,
     })))
 }

@@ -9,7 +9,7 @@ ghost use Rattle.coordinator.specs.Shown.{lines_with, saved_under};
 
 use super::parked_asks::ParkedAsks;
 use super::spent_folders::SpentFolders;
-use farm_base::{Grant, Items, Lease, Mode, News, NodeId, Slot};
+use farm_base::{Grant, Items, Lease, LeaseKind, Mode, News, NodeId, Slot};
 use leases::{LeaseTable, Lives, RetiredNodes, TicketSource, is_saved};
 use std::alloc::{AllocError, Global};
 use versions::{Added, Lines, granted_slots};
@@ -78,8 +78,7 @@ pub(crate) fn grant_of(
         node: lease.node,
         life: lease.life,
         ask: lease.ask,
-        shared: lease.shared,
-        tenure: lease.tenure,
+        kind: LeaseKind::of(lease.shared, lease.tenure),
         slots: Items::new(slots),
     })
 }

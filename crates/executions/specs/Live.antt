@@ -5,6 +5,7 @@ use Rattle.std.specs.Option.{option_map}
 use Rattle.farm_base.specs.declared.folder.FolderName.{FolderName}
 use Rattle.farm_base.specs.declared.number.Ticket.{Ticket}
 use Rattle.farm_base.specs.Folders.{folder_eq}
+use Rattle.farm_base.specs.Kinds.{is_tenure}
 use Rattle.protocol.specs.Names.{Shared}
 use Rattle.folders.specs.declared.edit.Edit.{Edit}
 use Rattle.folders.specs.Edits.{edited_all}
@@ -55,7 +56,7 @@ has_changed live ticket name = list_any (is_by ticket name) live.batches
 
 -- the execution of the tenure of a SHARED folder
 pub record IsTenureOf (r : Running) (f : FolderName) : Type 0 where
-  pub tenure : r.grant.tenure ≡ true
+  pub tenure : is_tenure r.grant.kind ≡ true
   pub shared : f.mode ≡ Shared
   pub wants : r.wants ≡ record { folder = f; writable = true } ∷ []
 

@@ -1,6 +1,7 @@
 //! The steps of one execution on a board to which nobody else comes. Each one delivers all messages.
 ghost use Rattle.std.specs.Prelude.{◌≡◌, IfOk, true};
 ghost use Rattle.executions.specs.Live.{IsTenureOf};
+ghost use Rattle.farm_base.specs.Kinds.{is_tenure};
 ghost use Rattle.farm.specs.Leases.{IsReplyTo};
 
 use super::fault::FarmFault;
@@ -100,9 +101,9 @@ pub(crate) fn start_tenure(
 
 /// The execution, which is that of a tenure.
 pub(crate) fn tenure_of(running: Running) -> Result<Running, FarmFault>
-    ensures { IfOk result (λ tenure. (tenure ≡ running) × (running.grant.tenure ≡ true)) }
+    ensures { IfOk result (λ tenure. (tenure ≡ running) × (is_tenure running.grant.kind ≡ true)) }
 {
-    if running.grant().tenure {
+    if running.grant().kind.is_tenure() {
         return Ok(running);
     }
     abandon_running(running);

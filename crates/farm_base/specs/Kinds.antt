@@ -1,7 +1,7 @@
 -- What a lease is given for (this project's own).
-use Rattle.std.specs.Prelude.{Bool, true, false}
+use Rattle.std.specs.Prelude.{◌≡◌, Bool, true, false}
 pub use Rattle.farm_base.specs.declared.lease.LeaseKind.{LeaseKind}
-pub use Rattle.farm_base.specs.declared.lease.LeaseKind.TheVariants as kind
+use Rattle.farm_base.specs.declared.lease.LeaseKind.TheVariants as kind
 
 abbrev pub is_tenure : LeaseKind → Bool
 is_tenure kind.Plain = false
@@ -19,3 +19,7 @@ abbrev pub kind_of : Bool → Bool → LeaseKind
 kind_of shared true = kind.Tenure
 kind_of true false = kind.Shared
 kind_of false false = kind.Plain
+
+-- a tenure's wants have a SHARED folder
+abbrev pub IsKind : Bool → Bool → Type 0
+IsKind shared tenure = tenure ≡ true → shared ≡ true

@@ -31,7 +31,7 @@ fn tenure(alloc: Global, board: &mut Board, folder: FolderName) -> Result<Option
     let Some(running) = begun(alloc, board, lease) else {
         return Ok(None);
     };
-    if running.grant().tenure {
+    if running.grant().kind.is_tenure() {
         return Ok(Some(running));
     }
     abandon_running(running);

@@ -5,6 +5,8 @@ use Rattle.std.specs.List.{All, join_with_byte}
 use Rattle.std.specs.Str.{IsUtf8}
 use Rattle.std.proofs.lemmas.List.Elements.{All-nil, All-cons}
 use Rattle.std.proofs.lemmas.List.Splits.{join_with_byte-slice_split}
+use Rattle.farm_base.specs.declared.lease.LeaseKind.{LeaseKind}
+use Rattle.farm_base.specs.declared.lease.LeaseKind.TheVariants as kind
 use Rattle.farm_base.specs.declared.message.FromCoord.{FromCoord}
 use Rattle.farm_base.specs.declared.message.FromCoord.TheVariants as from_coord
 use Rattle.farm_base.specs.declared.message.Message.{Message}
@@ -51,11 +53,10 @@ verb_word Recall = IsWord-from_test (verb_text Recall) refl
 verb_word Fetch = IsWord-from_test (verb_text Fetch) refl
 verb_word Blob = IsWord-from_test (verb_text Blob) refl
 
-kind_word : (shared tenure : Bool) → IsWord (kind_text shared tenure)
-kind_word false false = IsWord-from_test (kind_text false false) refl
-kind_word true false = IsWord-from_test (kind_text true false) refl
-kind_word true true = IsWord-from_test (kind_text true true) refl
-kind_word false true = IsWord-from_test (kind_text false true) refl
+kind_word : (k : LeaseKind) → IsWord (kind_text k)
+kind_word kind.Plain = IsWord-from_test (kind_text kind.Plain) refl
+kind_word kind.Shared = IsWord-from_test (kind_text kind.Shared) refl
+kind_word kind.Tenure = IsWord-from_test (kind_text kind.Tenure) refl
 
 why_word : (why : Why) → IsWord (why_text why)
 why_word InstancesSpent = IsWord-from_test (why_text InstancesSpent) refl
@@ -89,10 +90,10 @@ said_are_words Commit ws m h =
 said_are_words Release ws m h = lease_words releases ws m h
 said_are_words Granted ws m h =
     let slots = item_words granted_text IsGranted granted_word h.words h.slots h.spelled in
-    let kind = then_word (kind_text h.shared h.tenure) h.words (kind_word h.shared h.tenure) slots in
-    let ticket = counted_words h.ticket.0 (kind_text h.shared h.tenure ∷ h.words) h.is_ticket kind in
+    let kind = then_word (kind_text h.kind) h.words (kind_word h.kind) slots in
+    let ticket = counted_words h.ticket.0 (kind_text h.kind ∷ h.words) h.is_ticket kind in
     subst (All IsWord) (sym h.text)
-    (numbered_words h.node h.life h.ask.0 (ticket_text h.ticket ∷ kind_text h.shared h.tenure ∷ h.words) h.is_node h.is_life h.is_ask ticket)
+    (numbered_words h.node h.life h.ask.0 (ticket_text h.ticket ∷ kind_text h.kind ∷ h.words) h.is_node h.is_life h.is_ask ticket)
 said_are_words Committed ws m h =
     let slots = item_words confirmed_text IsConfirmed confirmed_word h.slots h.versions h.spelled in
     subst (All IsWord) (sym h.text) (numbered_words h.node h.life h.ticket.0 h.slots h.is_node h.is_life h.is_ticket slots)
@@ -143,9 +144,9 @@ said_spelled Release ws m h =
     (record { lawful = record { node = h.is_node; life = h.is_life; request = h.is_ticket }; text = ap (spoken Release) h.text })
 said_spelled Granted ws m h =
     let ws_are = h.text
-    ∙ ap (λ others. node_text h.node ∷ life_text h.life ∷ ask_text h.ask ∷ ticket_text h.ticket ∷ kind_text h.shared h.tenure ∷ others) h.spelled.text in
+    ∙ ap (λ others. node_text h.node ∷ life_text h.life ∷ ask_text h.ask ∷ ticket_text h.ticket ∷ kind_text h.kind ∷ others) h.spelled.text in
     subst (IsSpelled (spoken Granted ws)) (sym h.message) (record {
-      lawful = record { node = h.is_node; life = h.is_life; ask = h.is_ask; ticket = h.is_ticket; kind = h.is_kind; slots = h.spelled.each };
+      lawful = record { node = h.is_node; life = h.is_life; ask = h.is_ask; ticket = h.is_ticket; slots = h.spelled.each };
       text = ap (spoken Granted) ws_are;
     })
 said_spelled Committed ws m h =
@@ -254,21 +255,19 @@ said_saying n l (request.Release t) hn hl h = record {
 told_saying : (f : FromCoord) → IsTold f → Saying (told f)
 told_saying (from_coord.Granted g) h = record {
   verb = Granted;
-  behind = node_text g.node ∷ life_text g.life ∷ ask_text g.ask ∷ ticket_text g.ticket ∷ kind_text g.shared g.tenure ∷ map granted_text g.slots;
+  behind = node_text g.node ∷ life_text g.life ∷ ask_text g.ask ∷ ticket_text g.ticket ∷ kind_text g.kind ∷ map granted_text g.slots;
   says = record {
     node = g.node;
     life = g.life;
     ask = g.ask;
     ticket = g.ticket;
-    shared = g.shared;
-    tenure = g.tenure;
+    kind = g.kind;
     words = map granted_text g.slots;
     slots = g.slots;
     is_node = h.node;
     is_life = h.life;
     is_ask = h.ask;
     is_ticket = h.ticket;
-    is_kind = h.kind;
     spelled = record { each = h.slots; text = refl };
     text = refl;
     message = refl;

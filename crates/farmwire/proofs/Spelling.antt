@@ -11,6 +11,8 @@ use Rattle.hex.specs.Hex.{IsBytes}
 use Rattle.farm_base.specs.declared.digest.Digest.{Digest}
 use Rattle.farm_base.specs.declared.folder.Mode.{Mode}
 use Rattle.farm_base.specs.declared.folder.Mode.TheVariants.{Shared, Private, Locked}
+use Rattle.farm_base.specs.declared.lease.LeaseKind.{LeaseKind}
+use Rattle.farm_base.specs.declared.lease.LeaseKind.TheVariants as kind
 use Rattle.farm_base.specs.declared.message.Confirmed.{Confirmed}
 use Rattle.farm_base.specs.declared.message.GrantedSlot.{GrantedSlot}
 use Rattle.farm_base.specs.declared.message.News.{News}
@@ -25,7 +27,7 @@ use Rattle.farm_base.specs.Names.{mode_text, slot_text}
 use Rattle.farm_base.specs.Slots.{SlotParts}
 use Rattle.farm_base.proofs.TextLemmas.{Lacks-append, Lacks-middle, Lacks-cons, split_same, encode-lacks}
 use Rattle.words.specs.Words.{digits_text, why_text}
-use Rattle.farmwire.specs.Lawful.{IsNode, IsCounted, IsLife, IsAsk, IsKind, IsNews, IsConfirmed, IsGranted}
+use Rattle.farmwire.specs.Lawful.{IsNode, IsCounted, IsLife, IsAsk, IsNews, IsConfirmed, IsGranted}
 use Rattle.farmwire.specs.Lines.{life_text, ask_text, bytes_text, version_text, news_text, confirmed_text, granted_text, kind_text}
 use Rattle.words.proofs.Spelling.{access_same, digest_same, slot_same}
 
@@ -63,18 +65,16 @@ bytes_same a b ha hb e =
 
 -- ---- kinds and reasons
 
-pub kind_same : (s t u v : Bool) → IsKind s t → IsKind u v → kind_text s t ≡ kind_text u v → (s ≡ u) × (t ≡ v)
-kind_same false true u v h k e = absurd (cc (h refl))
-kind_same s t false true h k e = absurd (cc (k refl))
-kind_same false false false false h k e = (refl, refl)
-kind_same false false true false h k e = let first = ap (λ t. get_or t 0 0) e in absurd (omega arith)
-kind_same false false true true h k e = let first = ap (λ t. get_or t 0 0) e in absurd (omega arith)
-kind_same true false false false h k e = let first = ap (λ t. get_or t 0 0) e in absurd (omega arith)
-kind_same true false true false h k e = (refl, refl)
-kind_same true false true true h k e = let first = ap (λ t. get_or t 0 0) e in absurd (omega arith)
-kind_same true true false false h k e = let first = ap (λ t. get_or t 0 0) e in absurd (omega arith)
-kind_same true true true false h k e = let first = ap (λ t. get_or t 0 0) e in absurd (omega arith)
-kind_same true true true true h k e = (refl, refl)
+pub kind_same : (a b : LeaseKind) → kind_text a ≡ kind_text b → a ≡ b
+kind_same kind.Plain kind.Plain e = refl
+kind_same kind.Shared kind.Shared e = refl
+kind_same kind.Tenure kind.Tenure e = refl
+kind_same kind.Plain kind.Shared e = let first = ap (λ t. get_or t 0 0) e in absurd (omega arith)
+kind_same kind.Plain kind.Tenure e = let first = ap (λ t. get_or t 0 0) e in absurd (omega arith)
+kind_same kind.Shared kind.Plain e = let first = ap (λ t. get_or t 0 0) e in absurd (omega arith)
+kind_same kind.Shared kind.Tenure e = let first = ap (λ t. get_or t 0 0) e in absurd (omega arith)
+kind_same kind.Tenure kind.Plain e = let first = ap (λ t. get_or t 0 0) e in absurd (omega arith)
+kind_same kind.Tenure kind.Shared e = let first = ap (λ t. get_or t 0 0) e in absurd (omega arith)
 
 pub why_same : (a b : Why) → why_text a ≡ why_text b → a ≡ b
 why_same InstancesSpent InstancesSpent e = refl

@@ -119,11 +119,11 @@ said_same Granted ws a b ha hb =
     let l = life_same ha.life hb.life ha.is_life hb.is_life (cc (ha.text, hb.text)) in
     let k = ask_same ha.ask hb.ask ha.is_ask hb.is_ask (cc (ha.text, hb.text)) in
     let t = ticket_same ha.ticket hb.ticket ha.is_ticket.1 hb.is_ticket.1 (cc (ha.text, hb.text)) in
-    let kind = kind_same ha.shared ha.tenure hb.shared hb.tenure ha.is_kind hb.is_kind (cc (ha.text, hb.text)) in
+    let kind = kind_same ha.kind hb.kind (cc (ha.text, hb.text)) in
     let slots = all_same granted_text IsGranted granted_same ha.words hb.words ha.slots hb.slots (cc (ha.text, hb.text)) ha.spelled hb.spelled in
-    let same : told (from_coord.Granted (record { ticket = ha.ticket; node = ha.node; life = ha.life; ask = ha.ask; shared = ha.shared; tenure = ha.tenure; slots = ha.slots }))
-    ≡ told (from_coord.Granted (record { ticket = hb.ticket; node = hb.node; life = hb.life; ask = hb.ask; shared = hb.shared; tenure = hb.tenure; slots = hb.slots })) =
-    λ i. told (from_coord.Granted (record { ticket = t i; node = n i; life = l i; ask = k i; shared = kind.0 i; tenure = kind.1 i; slots = slots i })) in
+    let same : told (from_coord.Granted (record { ticket = ha.ticket; node = ha.node; life = ha.life; ask = ha.ask; kind = ha.kind; slots = ha.slots }))
+    ≡ told (from_coord.Granted (record { ticket = hb.ticket; node = hb.node; life = hb.life; ask = hb.ask; kind = hb.kind; slots = hb.slots })) =
+    λ i. told (from_coord.Granted (record { ticket = t i; node = n i; life = l i; ask = k i; kind = kind i; slots = slots i })) in
     ha.message ∙ same ∙ sym hb.message
 said_same Committed ws a b ha hb =
     let n = node_same ha.node hb.node (node_fits ha.node ha.is_node) (node_fits hb.node hb.is_node) (cc (ha.text, hb.text)) in

@@ -84,16 +84,11 @@ pub record IsSaid (y : ToCoord) : Type 0 where
   pub life : IsLife y.life
   pub request : IsRequest y.request
 
--- only the tenure of a SHARED folder is a tenure
-abbrev pub IsKind : Bool → Bool → Type 0
-IsKind shared tenure = tenure ≡ true → shared ≡ true
-
 pub record IsGrant (g : Grant) : Type 0 where
   pub node : IsNode g.node
   pub life : IsLife g.life
   pub ask : IsAsk g.ask
   pub ticket : IsTicket g.ticket
-  pub kind : IsKind g.shared g.tenure
   pub slots : All IsGranted g.slots
 
 abbrev pub IsTold : FromCoord → Type 0

@@ -4,6 +4,8 @@ use Rattle.std.specs.List.{join_with_byte}
 use Rattle.base64.specs.GeneralPurpose.{encode_of}
 use Rattle.base64.specs.Engines.{standard}
 use Rattle.farm_base.specs.declared.digest.Digest.{Digest}
+use Rattle.farm_base.specs.declared.lease.LeaseKind.{LeaseKind}
+use Rattle.farm_base.specs.declared.lease.LeaseKind.TheVariants as kind
 use Rattle.farm_base.specs.declared.message.Confirmed.{Confirmed}
 use Rattle.farm_base.specs.declared.message.FromCoord.{FromCoord}
 use Rattle.farm_base.specs.declared.message.FromCoord.TheVariants.{Granted, Committed, Fenced, Denied, Recall}
@@ -56,13 +58,11 @@ confirmed_text version = slot_with version.slot (version_text version.number ver
 abbrev pub granted_text : GrantedSlot → List ℕ
 granted_text granted = access_text granted.writable ++ slot_with granted.slot (version_text granted.base granted.digest)
 
--- KIND: whether the wants have a SHARED folder, and whether the lease is its tenure. A tenure without a SHARED folder is no
--- lease (`IsKind`), and has no word.
-abbrev pub kind_text : Bool → Bool → List ℕ
-kind_text false false = codes "plain"
-kind_text true false = codes "shared"
-kind_text true true = codes "tenure"
-kind_text false true = []
+-- KIND
+abbrev pub kind_text : LeaseKind → List ℕ
+kind_text kind.Plain = codes "plain"
+kind_text kind.Shared = codes "shared"
+kind_text kind.Tenure = codes "tenure"
 
 -- ---- messages
 
@@ -77,7 +77,7 @@ said_words n l (Release t) = codes "release" ∷ node_text n ∷ life_text l ∷
 -- N L A T KIND [ro=]SLOT=BASE:DIGEST..
 abbrev pub grant_words : Grant → List (List ℕ)
 grant_words g =
-    node_text g.node ∷ life_text g.life ∷ ask_text g.ask ∷ ticket_text g.ticket ∷ kind_text g.shared g.tenure ∷ map granted_text g.slots
+    node_text g.node ∷ life_text g.life ∷ ask_text g.ask ∷ ticket_text g.ticket ∷ kind_text g.kind ∷ map granted_text g.slots
 
 -- the words of what the coordinator tells
 abbrev pub told_words : FromCoord → List (List ℕ)

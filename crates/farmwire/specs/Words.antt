@@ -4,6 +4,7 @@ use Rattle.std.specs.List.{All}
 use Rattle.farm_base.specs.declared.digest.Digest.{Digest}
 use Rattle.farm_base.specs.declared.folder.FolderName.{FolderName}
 use Rattle.farm_base.specs.declared.folder.Mode.TheVariants.{Shared}
+use Rattle.farm_base.specs.declared.lease.LeaseKind.{LeaseKind}
 use Rattle.farm_base.specs.declared.message.Confirmed.{Confirmed}
 use Rattle.farm_base.specs.declared.message.FromCoord.{FromCoord}
 use Rattle.farm_base.specs.declared.message.FromCoord.TheVariants as from_coord
@@ -25,7 +26,7 @@ use Rattle.farm_base.specs.Names.{folder_text, IsName}
 use Rattle.farmwire.specs.declared.verb.Verb.{Verb}
 use Rattle.farmwire.specs.declared.verb.Verb.TheVariants.{Hello, Acquire, Tenure, Commit, Release, Granted, Committed, Fenced, Denied, Recall, Fetch, Blob}
 use Rattle.words.specs.Words.{AreWants, node_text, ticket_text, digits_text, want_text, why_text}
-use Rattle.farmwire.specs.Lawful.{IsNode, IsLife, IsAsk, IsTicket, IsKind, IsNews, IsConfirmed, IsGranted}
+use Rattle.farmwire.specs.Lawful.{IsNode, IsLife, IsAsk, IsTicket, IsNews, IsConfirmed, IsGranted}
 use Rattle.farmwire.specs.Lines.{life_text, ask_text, bytes_text, news_text, confirmed_text, granted_text, kind_text}
 
 -- the words, each behind a space
@@ -153,18 +154,16 @@ pub record Grants (ws : List (List ℕ)) (m : Message) : Type 0 where
   pub life : Life
   pub ask : Ask
   pub ticket : Ticket
-  pub shared : Bool
-  pub tenure : Bool
+  pub kind : LeaseKind
   pub words : List (List ℕ)
   pub slots : List GrantedSlot
   pub is_node : IsNode node
   pub is_life : IsLife life
   pub is_ask : IsAsk ask
   pub is_ticket : IsTicket ticket
-  pub is_kind : IsKind shared tenure
   pub spelled : SpellAll granted_text IsGranted words slots
-  pub text : ws ≡ node_text node ∷ life_text life ∷ ask_text ask ∷ ticket_text ticket ∷ kind_text shared tenure ∷ words
-  pub message : m ≡ told (from_coord.Granted (record { ticket = ticket; node = node; life = life; ask = ask; shared = shared; tenure = tenure; slots = slots }))
+  pub text : ws ≡ node_text node ∷ life_text life ∷ ask_text ask ∷ ticket_text ticket ∷ kind_text kind ∷ words
+  pub message : m ≡ told (from_coord.Granted (record { ticket = ticket; node = node; life = life; ask = ask; kind = kind; slots = slots }))
 
 -- N L T SLOT=NUMBER:DIGEST..
 pub record Confirms (ws : List (List ℕ)) (m : Message) : Type 0 where

@@ -62,7 +62,6 @@ fn is_grant(grant: &Grant) -> bool
         && is_counted(grant.life.0)
         && is_counted(grant.ask.0)
         && is_counted(grant.ticket.0)
-        && (!grant.tenure || grant.shared)
 }
 
 fn is_told(message: &FromCoord) -> bool

@@ -174,15 +174,14 @@ fn granted_of(alloc: Global, words: &[&str]) -> Result<Message, ReadRefusal>
     let life = life_of(life).ok_or(ReadRefusal::BadForm)?;
     let ask = ask_of(ask).ok_or(ReadRefusal::BadForm)?;
     let ticket = ticket_of(ticket).ok_or(ReadRefusal::BadForm)?;
-    let (shared, tenure) = kind_of(kind).ok_or(ReadRefusal::BadForm)?;
+    let kind = kind_of(kind).ok_or(ReadRefusal::BadForm)?;
     let slots = Items::new(items_of(alloc, slots)?);
     Ok(told(FromCoord::Granted(Grant {
         ticket,
         node,
         life,
         ask,
-        shared,
-        tenure,
+        kind,
         slots,
     })))
 }

@@ -1,5 +1,6 @@
 //! The words of a text, for the grammars of the layers above too.
 ghost use Rattle.std.specs.Prelude.{◌≡◌, ◌≢◌, ℕ, ◌<◌, Bool, List, IfOk, IfSome, IfNone};
+ghost use Rattle.farm_base.specs.declared.lease.LeaseKind.{LeaseKind};
 ghost use Rattle.farm_base.specs.declared.message.Why.{Why};
 ghost use Rattle.farm_base.specs.declared.number.Ask.{Ask};
 ghost use Rattle.farm_base.specs.declared.number.Life.{Life};
@@ -7,14 +8,14 @@ ghost use Rattle.farm_base.specs.declared.number.NodeId.{NodeId};
 ghost use Rattle.farm_base.specs.declared.number.Ticket.{Ticket};
 ghost use Rattle.farm_base.specs.Digests.{IsBytes};
 ghost use Rattle.std.specs.Prelude.{decimal};
-ghost use Rattle.farmwire.specs.Lawful.{IsNode, IsCounted, IsLife, IsAsk, IsTicket, IsKind};
+ghost use Rattle.farmwire.specs.Lawful.{IsNode, IsCounted, IsLife, IsAsk, IsTicket};
 ghost use Rattle.words.specs.Words.{node_text, ticket_text, why_text};
 ghost use Rattle.farmwire.specs.Lines.{life_text, ask_text, bytes_text, kind_text};
 
 use base64::DecodeAllocError;
 use base64::engine::general_purpose::STANDARD;
 use farm_base::reading::number;
-use farm_base::{Ask, Life, NODES, NodeId, Ticket, Why};
+use farm_base::{Ask, LeaseKind, Life, NODES, NodeId, Ticket, Why};
 use std::alloc::Global;
 use words::ReadRefusal;
 
@@ -70,15 +71,15 @@ pub fn ticket_of(word: &str) -> Option<Ticket>
     if 1 <= ticket.0 { Some(ticket) } else { None }
 }
 
-/// Whether the wants have a SHARED folder, and whether the lease is its tenure.
-pub fn kind_of(word: &str) -> Option<(bool, bool)>
-    ensures found { IfSome result (λ kind. (word.now ≡ kind_text kind.0 kind.1) × IsKind kind.0 kind.1) }
-    ensures only { IfNone result ((shared tenure : Bool) → IsKind shared tenure → word.now ≢ kind_text shared tenure) }
+/// The kind of a lease.
+pub fn kind_of(word: &str) -> Option<LeaseKind>
+    ensures found { IfSome result (λ kind. word.now ≡ kind_text kind) }
+    ensures only { IfNone result ((kind : LeaseKind) → word.now ≢ kind_text kind) }
 {
     match word {
-        "plain" => Some((false, false)),
-        "shared" => Some((true, false)),
-        "tenure" => Some((true, true)),
+        "plain" => Some(LeaseKind::Plain),
+        "shared" => Some(LeaseKind::Shared),
+        "tenure" => Some(LeaseKind::Tenure),
         _ => None,
     }
 }

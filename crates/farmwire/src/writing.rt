@@ -12,7 +12,7 @@ use super::item::push_items;
 use super::lawful::is_lawful;
 use super::refusal::WriteRefusal;
 use base64::engine::general_purpose::STANDARD;
-use farm_base::{
+use farm_base::{LeaseKind, 
     Content, Fetch, FromCoord, Grant, Key, Life, Message, NodeId, Request, ToCoord, ToNode, Want,
 };
 use std::alloc::{AllocError, Global};
@@ -105,14 +105,13 @@ fn said_text(alloc: Global, message: &ToCoord) -> Result<String, AllocError>
 }
 
 /// The word of a lease's kind.
-pub fn kind_name(shared: bool, tenure: bool) -> &'static str
-    ensures { result.now ≡ kind_text shared tenure }
+pub fn kind_name(kind: LeaseKind) -> &'static str
+    ensures { result.now ≡ kind_text kind }
 {
-    match (shared, tenure) {
-        (false, false) => "plain",
-        (true, false) => "shared",
-        (true, true) => "tenure",
-        (false, true) => "",
+    match kind {
+        LeaseKind::Plain => "plain",
+        LeaseKind::Shared => "shared",
+        LeaseKind::Tenure => "tenure",
     }
 }
 
@@ -124,7 +123,7 @@ pub fn push_grant(alloc: Global, text: &mut String, grant: &Grant) -> Result<(),
     push_number(alloc, text, grant.life.0)?;
     push_number(alloc, text, grant.ask.0)?;
     push_number(alloc, text, grant.ticket.0)?;
-    push_word(text, kind_name(grant.shared, grant.tenure))?;
+    push_word(text, kind_name(grant.kind))?;
     push_items(alloc, text, grant.slots.as_slice())
 }
 

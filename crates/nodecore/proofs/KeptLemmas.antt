@@ -1,6 +1,7 @@
 -- What a test tells of the ask that it picks.
 use Rattle.std.proofs.Common.{◌≡◌, ◌⊎◌, ℕ, ◌<◌, ◌==◌, Bool, true, false, not, ◌&&◌, [], inl, inr, List, length, get_or, slice_get, refl, sym, ap, ◌∙◌, Option, None, Some}
 use Rattle.std.proofs.lemmas.Option.{slice_get-get_or, get_or_from_slice_get}
+use Rattle.farm_base.specs.Kinds.{is_tenure}
 use Rattle.protocol.specs.declared.answer.How.TheVariants as how
 use Rattle.protocol.specs.declared.answer.NodeNote.TheVariants as note
 use Rattle.nodecore.proofs.FirstLemmas.{FirstAt}
@@ -73,8 +74,8 @@ recalled_is false x s e = absurd (cc)
 
 pub recalls_is : (t : Ticket) (d s : KeptAsk) → recallable t d ≡ Some s → recalls d ≡ s
 recalls_is t (Open w b) s e = absurd (cc)
-recalls_is t (Holding w g r) s e = recalled_is ((g.ticket.0 == t.0) && g.tenure && not r) (Holding w g true) s e
-recalls_is t (Running w g r) s e = recalled_is ((g.ticket.0 == t.0) && g.tenure && not r) (Running w g true) s e
+recalls_is t (Holding w g r) s e = recalled_is ((g.ticket.0 == t.0) && is_tenure g.kind && not r) (Holding w g true) s e
+recalls_is t (Running w g r) s e = recalled_is ((g.ticket.0 == t.0) && is_tenure g.kind && not r) (Running w g true) s e
 recalls_is t (Finished w g news) s e = absurd (cc)
 recalls_is t (Over how) s e = absurd (cc)
 

@@ -4,6 +4,7 @@ use Rattle.std.specs.Prelude.{◌==◌}
 use Rattle.std.specs.List.{position, position_from}
 use Rattle.std.proofs.lemmas.Bool.{cases_Bool, eqb-true, eq-eqb, ne_eqb}
 use Rattle.std.proofs.lemmas.Iterator.Adapters.{position_from-zero}
+use Rattle.farm_base.specs.Kinds.{is_tenure}
 use Rattle.protocol.proofs.Base.{nth_set_cases, get_push_cases, some_is}
 use Rattle.protocol.specs.Names.{Want, Ticket}
 use Rattle.protocol.specs.Machine.{Grant, News}
@@ -70,8 +71,8 @@ sought_keeps sought.Finished t (Running w g r) e = absurd (cc)
 sought_keeps sought.Finished t (Finished w g news) e = under_is (g.ticket.0 == t.0) _ e
 sought_keeps sought.Finished t (Over how) e = absurd (cc)
 sought_keeps sought.Recallable t (Open w b) e = absurd (cc)
-sought_keeps sought.Recallable t (Holding w g r) e = recallable_is (g.ticket.0 == t.0) g.tenure (not r) (Holding w g true) e
-sought_keeps sought.Recallable t (Running w g r) e = recallable_is (g.ticket.0 == t.0) g.tenure (not r) (Running w g true) e
+sought_keeps sought.Recallable t (Holding w g r) e = recallable_is (g.ticket.0 == t.0) (is_tenure g.kind) (not r) (Holding w g true) e
+sought_keeps sought.Recallable t (Running w g r) e = recallable_is (g.ticket.0 == t.0) (is_tenure g.kind) (not r) (Running w g true) e
 sought_keeps sought.Recallable t (Finished w g news) e = absurd (cc)
 sought_keeps sought.Recallable t (Over how) e = absurd (cc)
 

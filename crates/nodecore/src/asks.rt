@@ -85,13 +85,13 @@ pub(crate) fn is_tenure_of(ask: &KeptAsk, folder: &FolderName) -> bool
     match ask {
         KeptAsk::Open { wants, tenure } => *tenure && wants_folder(wants.as_slice(), folder),
         KeptAsk::Holding { wants, grant, .. } => {
-            grant.tenure && wants_folder(wants.as_slice(), folder)
+            grant.kind.is_tenure() && wants_folder(wants.as_slice(), folder)
         }
         KeptAsk::Running { wants, grant, .. } => {
-            grant.tenure && wants_folder(wants.as_slice(), folder)
+            grant.kind.is_tenure() && wants_folder(wants.as_slice(), folder)
         }
         KeptAsk::Finished { wants, grant, .. } => {
-            grant.tenure && wants_folder(wants.as_slice(), folder)
+            grant.kind.is_tenure() && wants_folder(wants.as_slice(), folder)
         }
         KeptAsk::Over(_) => false,
     }
@@ -106,7 +106,7 @@ pub(crate) fn is_home_of(ask: &KeptAsk, folder: &FolderName) -> bool
             wants,
             grant,
             recalled,
-        } => { !*recalled && grant.tenure && wants_folder(wants.as_slice(), folder) }
+        } => { !*recalled && grant.kind.is_tenure() && wants_folder(wants.as_slice(), folder) }
         _ => false,
     }
 }
@@ -170,12 +170,12 @@ fn is_recallable(ask: &KeptAsk, ticket: Ticket) -> bool
             grant,
             recalled,
             ..
-        } => { grant.ticket.0 == ticket.0 && grant.tenure && !*recalled }
+        } => { grant.ticket.0 == ticket.0 && grant.kind.is_tenure() && !*recalled }
         KeptAsk::Running {
             grant,
             recalled,
             ..
-        } => { grant.ticket.0 == ticket.0 && grant.tenure && !*recalled }
+        } => { grant.ticket.0 == ticket.0 && grant.kind.is_tenure() && !*recalled }
         _ => false,
     }
 }

@@ -96,7 +96,7 @@ fn others_use(asks: &AskTable, place: usize, wants: &[Want]) -> bool
 fn is_used(asks: &AskTable, place: usize, wants: &Wants, grant: &Grant) -> bool
     ensures { result ≡ in_use asks.now.all.asks (place + 1) wants.now grant.now }
 {
-    grant.tenure && others_use(asks, place, wants.as_slice())
+    grant.kind.is_tenure() && others_use(asks, place, wants.as_slice())
 }
 
 /// Whether the ask of a row is granted or running as a tenure whose folder another ask uses.

@@ -2,7 +2,7 @@
 //! damaged. The MACs of lines, and those of keys of one block and of a byte more, are Python's (hmac, hashlib).
 
 use farm_base::{
-    Ask, FolderName, FromCoord, Grant, Items, Key, Life, Message, NodeId, Request, Ticket, ToCoord,
+    Ask, FolderName, FromCoord, Grant, Items, Key, LeaseKind, Life, Message, NodeId, Request, Ticket, ToCoord,
     ToNode, Wants,
 };
 use farmwire::{
@@ -381,31 +381,28 @@ fn key_files(rt: HostRuntime) -> Result<(), Fail> {
     Ok(())
 }
 
-/// Node, life, ask and ticket of a grant, whether its wants have a SHARED folder, whether it is a tenure, and whether it has a
-/// line.
-const GRANTS: [(u32, u64, u64, u64, bool, bool, bool); 10] = [
-    (1, 1, 1, 1, false, false, true),
-    (1, 1, 1, 1, true, false, true),
-    (1, 1, 1, 1, true, true, true),
-    (1, 1, 1, 1, false, true, false),
-    (1024, u64::MAX, u64::MAX, u64::MAX, false, false, true),
-    (0, 1, 1, 1, false, false, false),
-    (1025, 1, 1, 1, false, false, false),
-    (1, 0, 1, 1, false, false, false),
-    (1, 1, 0, 1, false, false, false),
-    (1, 1, 1, 0, false, false, false),
+/// Node, life, ask and ticket of a grant, its kind, and whether it has a line.
+const GRANTS: [(u32, u64, u64, u64, LeaseKind, bool); 9] = [
+    (1, 1, 1, 1, LeaseKind::Plain, true),
+    (1, 1, 1, 1, LeaseKind::Shared, true),
+    (1, 1, 1, 1, LeaseKind::Tenure, true),
+    (1024, u64::MAX, u64::MAX, u64::MAX, LeaseKind::Plain, true),
+    (0, 1, 1, 1, LeaseKind::Plain, false),
+    (1025, 1, 1, 1, LeaseKind::Plain, false),
+    (1, 0, 1, 1, LeaseKind::Plain, false),
+    (1, 1, 0, 1, LeaseKind::Plain, false),
+    (1, 1, 1, 0, LeaseKind::Plain, false),
 ];
 
 #[test]
 fn grants(rt: HostRuntime) -> Result<(), Fail> {
-    for (node, life, ask, ticket, shared, tenure, wanted) in &GRANTS {
+    for (node, life, ask, ticket, kind, wanted) in &GRANTS {
         let message = Message::ToNode(ToNode::FromCoord(FromCoord::Granted(Grant {
             ticket: Ticket(*ticket),
             node: NodeId(*node),
             life: Life(*life),
             ask: Ask(*ask),
-            shared: *shared,
-            tenure: *tenure,
+            kind: *kind,
             slots: Items::new(Vec::new(rt.alloc())),
         })));
         assert!(rt; is_lawful(&message) == *wanted);

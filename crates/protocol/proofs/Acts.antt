@@ -1,6 +1,7 @@
 -- What each act of a node keeps.
 use Rattle.std.proofs.Common.{◌≡◌, ◌≢◌, ℕ, zero, suc, ◌+◌, ◌≤◌, List, [], ◌∷◌, ◌++◌, ◌⊎◌, Bool, true, false, not, eqb, length, Option, Some, refl, sym, ◌∙◌, ap, subst, inl, inr, arith}
 use Rattle.std.proofs.lemmas.Bool.{cases_Bool, eqb-true, cases_eq}
+use Rattle.farm_base.specs.Kinds.{is_tenure}
 use Rattle.protocol.specs.Lists.{In, nth, set_nth}
 use Rattle.protocol.specs.Names.{Slot, slot_eq, digest_eq, NodeId, Life, Ask, Ticket, Digest, Want, FolderName, wants_shared, tenure_wants}
 use Rattle.protocol.specs.Machine.{GrantedSlot, Grant, News, Confirmed, Granted, Message, Told, Fetches, Blob, hello, acquire, commit, release, Machine, AnswersAsk, line, written, slots_of, Names, Stands}
@@ -164,7 +165,7 @@ home_end asks a wants g r new at idle none home b s w e now shared free = elim (
     | inl p ↦ (let same : Running wants g r ≡ Running h.1 h.2 h.3 = some_is (Running wants g r) (Running h.1 h.2 h.3) (sym at ∙ ap (nth asks) (sym p) ∙ h.5) in
         let w' : h.1 ≡ wants = cc in
         let g' : h.2 ≡ g = cc in
-        absurd (idle (subst (λ (z : Grant). z.tenure ≡ true) g' h.6) h.4 (subst (In h.4) w' h.7) b s q.1 q.0 (uses_from s w h.4.folder now (sym h.8))))
+        absurd (idle (subst (λ (z : Grant). is_tenure z.kind ≡ true) g' h.6) h.4 (subst (In h.4) w' h.7) b s q.1 q.0 (uses_from s w h.4.folder now (sym h.8))))
     | inr ne ↦ (h.0, h.1, h.2, h.3, h.4, nth-set_other asks a h.0 new ne ∙ h.5, h.6, h.7, h.8)
   ])
 ]
@@ -218,21 +219,21 @@ module _ (sha : List ℕ → Digest) (w : World) (inv : Inv sha w) (n : NodeId) 
 
   -- a Grant that was sent to this life answers the ask that it names, with its wants
   grant_wanted : (g : Grant) → In (Granted g) w.machine.made → g.node ≡ n → g.life ≡ x.life → (s : KeptAsk) → nth x.asks g.ask.0 ≡ Some s
-      → (wants : List Want) × Wanted s wants g.tenure × AnswersAsk g wants × ForTenure g.tenure wants
+      → (wants : List Want) × Wanted s wants (is_tenure g.kind) × AnswersAsk g wants × ForTenure (is_tenure g.kind) wants
   grant_wanted g made at life s e =
       let r = inv.asked g made in
-      let ok = inv.messages (acquire g.node g.life g.ask r.0 g.tenure) r.1 in
-      let here : WasAsked x g.life g.ask.0 r.0 g.tenure = subst (λ (z : NodeId). WasAsked (w.nodes z.0) g.life g.ask.0 r.0 g.tenure) at ok.0 in (
+      let ok = inv.messages (acquire g.node g.life g.ask r.0 (is_tenure g.kind)) r.1 in
+      let here : WasAsked x g.life g.ask.0 r.0 (is_tenure g.kind) = subst (λ (z : NodeId). WasAsked (w.nodes z.0) g.life g.ask.0 r.0 (is_tenure g.kind)) at ok.0 in (
         r.0,
         elim here [
           | inl lt ↦ (let e' : g.life.0 ≡ x.life.0 = ap (λ (z : Life). z.0) life in absurd (omega arith))
-          | inr k ↦ subst (λ z. Wanted z r.0 g.tenure) (some_is k.1.0 s (sym k.1.1 ∙ e)) k.1.2
+          | inr k ↦ subst (λ z. Wanted z r.0 (is_tenure g.kind)) (some_is k.1.0 s (sym k.1.1 ∙ e)) k.1.2
         ],
         r.2,
         ok.1,
       )
 
-  taken : (g : Grant) (wants : List Want) (tenure : Bool) → In (Told (told.Granted g)) w.pool → g.node ≡ n → g.life ≡ x.life → nth x.asks g.ask.0 ≡ Some (Open wants tenure) → AnswersAsk g wants × (tenure ≡ g.tenure)
+  taken : (g : Grant) (wants : List Want) (tenure : Bool) → In (Told (told.Granted g)) w.pool → g.node ≡ n → g.life ≡ x.life → nth x.asks g.ask.0 ≡ Some (Open wants tenure) → AnswersAsk g wants × (tenure ≡ is_tenure g.kind)
   taken g wants tenure i at life e =
       let r = grant_wanted g (inv.messages (Told (told.Granted g)) i) at life (Open wants tenure) e in
       (subst (AnswersAsk g) (sym r.1.0) r.2, r.1.1)
@@ -387,8 +388,8 @@ module _ (sha : List ℕ → Digest) (w : World) (inv : Inv sha w) (n : NodeId) 
   act_sends sends x' (Gives_back g i p q o k) nodes' same y h =
       let made = inv.messages (Told (told.Granted g)) i in
       let r = inv.asked g made in
-      let ok = inv.messages (acquire g.node g.life g.ask r.0 g.tenure) r.1 in
-      let here : WasAsked x g.life g.ask.0 r.0 g.tenure = subst (λ (z : NodeId). WasAsked (w.nodes z.0) g.life g.ask.0 r.0 g.tenure) p ok.0 in
+      let ok = inv.messages (acquire g.node g.life g.ask r.0 (is_tenure g.kind)) r.1 in
+      let here : WasAsked x g.life g.ask.0 r.0 (is_tenure g.kind) = subst (λ (z : NodeId). WasAsked (w.nodes z.0) g.life g.ask.0 r.0 (is_tenure g.kind)) p ok.0 in
       let s : Spent x g = elim here [
         | inl lt ↦ inl lt
         | inr a ↦ inr (q, (a.1.0, a.1.1, spent_from a.1.0 g.ticket (λ ws b e. o ws b (a.1.1 ∙ ap Some e)) (k a.1.0 a.1.1)))

@@ -3,6 +3,7 @@ use Rattle.std.proofs.Common.{◌≡◌, ◌≢◌, ℕ, suc, ◌+◌, ◌≤◌
 use Rattle.std.proofs.lemmas.Bool.{cases_Bool, eqb-true, and_parts, not-true, eqb-false, cases_eq, ne_eqb}
 use Rattle.std.specs.List.{find}
 use Rattle.std.specs.Prelude.{is_some}
+use Rattle.farm_base.specs.Kinds.{is_tenure}
 use Rattle.protocol.specs.Lists.{In, put, is_nil}
 use Rattle.protocol.specs.Names.{Slot, slots_eq, is_private, is_shared, wants_shared, only_slot, Digest, NodeId, Life, Ticket, Want, leased_wants}
 use Rattle.protocol.specs.Machine.{Grant, News, Confirmed, LineVersion, Granted, Ending, Committed, Released, Withdrawn, Died, Message, Said, ToCoord, FromCoord, Parked, Machine, Has, Live, Retired, line, version_of, digest_for, slots_of, written, acquire, commit, release, MayEnd, Step, Ends, Parks, Stands, Says, Says_committed, Says_fenced, Says_denied, Says_recall}
@@ -153,7 +154,7 @@ module _ (k : Limits) (fits : k.instances ≤ 4096) (pool : List Message) (m : M
       let wanted = from_any (λ (v : Want). has_slot h.slots (only_slot v.folder)) (leased_wants p.tenure p.wants) r.1 in
       let has : Has g.0 (only_slot wanted.0.folder) = has_lease g.0 (only_slot wanted.0.folder) (subst (λ (z : Lease). has_slot z.slots (only_slot wanted.0.folder) ≡ true) (sym g.2) wanted.2) in
       let shared : is_shared wanted.0.folder.mode ≡ true = (from_filter wants_shared wanted.0 p.wants (subst (λ b. In wanted.0 (leased_wants b p.wants)) t wanted.1)).1 in
-      let tenure : g.0.tenure ≡ true = (sound_at w f).tenures g.0 (only_slot wanted.0.folder) g.1.0 has shared in
+      let tenure : is_tenure g.0.kind ≡ true = (sound_at w f).tenures g.0 (only_slot wanted.0.folder) g.1.0 has shared in
       say_it (told.Recall h.node h.life h.ticket) w f (subst (λ (z : Lease). Says k.empty pool f.machine (told.Recall z.node z.life z.ticket)) g.2 (Says_recall g.0 g.1 tenure))
 
   recalls_it : (b : Bool) (p : Parked) (w : Work) (f : Fo w) → (b ≡ true → p.tenure ≡ true) → Fo (recalls b p w)
@@ -265,7 +266,7 @@ module _ (k : Limits) (fits : k.instances ≤ 4096) (pool : List Message) (m : M
       }
 
   -- withdrawals, which retire the PRIVATE slots
-  pub withdrawn_ends : (is : (ℕ → Option Ending) → Type 0) (test : Lease → Bool) (changed : Bool) (retired' : Slot → Bool) (w : Work) (f : Fo w) → ((g : Grant) → Live f.machine g → picks test g ≡ true → g.tenure ≡ false)
+  pub withdrawn_ends : (is : (ℕ → Option Ending) → Type 0) (test : Lease → Bool) (changed : Bool) (retired' : Slot → Bool) (w : Work) (f : Fo w) → ((g : Grant) → Live f.machine g → picks test g ≡ true → is_tenure g.kind ≡ false)
       → ((s : Slot) → retired' s ≡ true → (w.ledger.retired s ≡ true) ⊎ ((is_private s.folder.mode ≡ true) × ((h : Lease) × In h w.ledger.live × (test h ≡ true) × (has_slot h.slots s ≡ true))))
       → ((s : Slot) → w.ledger.retired s ≡ true → retired' s ≡ true)
       → ((s : Slot) (h : Lease) → is_private s.folder.mode ≡ true → In h w.ledger.live → test h ≡ true → has_slot h.slots s ≡ true → retired' s ≡ true)
@@ -275,7 +276,7 @@ module _ (k : Limits) (fits : k.instances ≤ 4096) (pool : List Message) (m : M
       let b : Machine = f.machine in
       let sound' = sound_at w f in
       let core = core_at w f in
-      let tenure_free : (g : Grant) → Live b g → picks test g ≡ true → g.tenure ≡ false = plain in
+      let tenure_free : (g : Grant) → Live b g → picks test g ≡ true → is_tenure g.kind ≡ false = plain in
       let r = end_live_withdrawn b (picks test) w.sends f.works tenure_free in
       record {
         machine = record b { ending = r.0 };
@@ -298,15 +299,15 @@ module _ (k : Limits) (fits : k.instances ≤ 4096) (pool : List Message) (m : M
       }
     where
       -- only live grants are ended, and none of these is a tenure
-      end_live_withdrawn : (b : Machine) (test : Grant → Bool) (sends : List FromCoord) → Works k.empty pool m b sends → ((g : Grant) → Live b g → test g ≡ true → g.tenure ≡ false)
+      end_live_withdrawn : (b : Machine) (test : Grant → Bool) (sends : List FromCoord) → Works k.empty pool m b sends → ((g : Grant) → Live b g → test g ≡ true → is_tenure g.kind ≡ false)
           → (e : ℕ → Option Ending) × Works k.empty pool m (record b { ending = e }) sends × EndsThose b.ending e test Withdrawn b.made
       end_live_withdrawn b test sends works plain =
-          let r = end_those k.empty pool m b sends works (λ g. test g && not g.tenure) Withdrawn (λ e g i t. not-true g.tenure (and_parts (test g) (not g.tenure) t).1) b.made (λ x i. i) in (
+          let r = end_those k.empty pool m b sends works (λ g. test g && not (is_tenure g.kind)) Withdrawn (λ e g i t. not-true (is_tenure g.kind) (and_parts (test g) (not (is_tenure g.kind)) t).1) b.made (λ x i. i) in (
             r.0,
             r.1,
             record {
-              done = λ g i t e. (let free : g.tenure ≡ false = plain g (i, e) t in r.2.done g i (rw (t, free) refl) e);
-              only = λ t. elim (r.2.only t) [ inl e ↦ inl e | inr q ↦ inr (q.0, q.1, (and_parts (test q.0) (not q.0.tenure) q.2).0, q.3, q.4, q.5) ];
+              done = λ g i t e. (let free : is_tenure g.kind ≡ false = plain g (i, e) t in r.2.done g i (rw (t, free) refl) e);
+              only = λ t. elim (r.2.only t) [ inl e ↦ inl e | inr q ↦ inr (q.0, q.1, (and_parts (test q.0) (not (is_tenure q.0.kind)) q.2).0, q.3, q.4, q.5) ];
             },
           )
 

@@ -2,6 +2,7 @@
 use Rattle.std.proofs.Common.{◌≡◌, ◌≢◌, map, ◌||◌, ℕ, ◌<◌, ◌≤◌, slice_get, List, [], ◌∷◌, ◌++◌, Bool, true, false, ◌⊎◌, Option, Some, None, Result, Ok, Err, refl, sym, ◌∙◌, ap, subst, inl, inr, arith, append-nil}
 use Rattle.std.proofs.lemmas.Bool.{cases_Bool}
 use Rattle.std.specs.Prelude.{⊤, if◌then◌else◌}
+use Rattle.farm_base.specs.Kinds.{is_tenure}
 use Rattle.farm_base.specs.declared.message.Message.TheVariants as to
 use Rattle.farm_base.specs.declared.message.ToNode.TheVariants as to_node
 use Rattle.protocol.specs.Lists.{In, IsFrontOf, nth}
@@ -90,8 +91,8 @@ tenure_slot wants us f is e i = by us (e ∙ ap (leased_wants true) is) i
     by (u ∷ []) e i = (w, u, is, refl, refl, for_want u w (list_head (want_of u) w [] [] e) (i u (inl refl)))
     by (u ∷ v ∷ vs) e i = some_none (want_of v) (map want_of vs) (list_tail (want_of u) w (map want_of (v ∷ vs)) [] e)
 
-slots_wanted : (g : Grant) (wants : List Want) → AnswersAsk g wants → SlotsWanted g.tenure wants g.slots
-slots_wanted g wants a = by g.tenure a.slots a.tenure
+slots_wanted : (g : Grant) (wants : List Want) → AnswersAsk g wants → SlotsWanted (is_tenure g.kind) wants g.slots
+slots_wanted g wants a = by (is_tenure g.kind) a.slots a.tenure
   where
     by : (tenure : Bool) → map want_of g.slots ≡ leased_wants tenure wants → (tenure ≡ true → (f : FolderName) × (wants ≡ tenure_wants f)) → SlotsWanted tenure wants g.slots
     by true e h = (let r = h refl in tenure_slot wants g.slots r.0 r.1 e a.instances)
@@ -249,21 +250,21 @@ module _ (sha : List ℕ → Digest) (k : Limits) (farm : IsFarm sha k) where
       by b c (Recovers m' e) j = j
 
   -- an ask that was sent wants what the execution under its grant is for
-  wants_are : (v : World) → Moves sha (start sha) v → (n : NodeId) (h : Grant) (ws wants : List Want) → InUse v n h ws → In (acquire h.node h.life h.ask wants h.tenure) v.pool → ws ≡ wants
+  wants_are : (v : World) → Moves sha (start sha) v → (n : NodeId) (h : Grant) (ws wants : List Want) → InUse v n h ws → In (acquire h.node h.life h.ask wants (is_tenure h.kind)) v.pool → ws ≡ wants
   wants_are v run' n h ws wants used sent =
       let inv = (moves_inv sha (start sha) v (start_whole sha) run').0.now in
       let its = ((inv.nodes n).states used.0 (Running ws h used.1) used.2).0 in
-      by its.1 its.2 its.3 (inv.messages (acquire h.node h.life h.ask wants h.tenure) sent).0
+      by its.1 its.2 its.3 (inv.messages (acquire h.node h.life h.ask wants (is_tenure h.kind)) sent).0
     where
-      by : h.node ≡ n → h.life ≡ (v.nodes n.0).life → h.ask.0 ≡ used.0 → WasAsked (v.nodes h.node.0) h.life h.ask.0 wants h.tenure → ws ≡ wants
-      by at life ask was = elim (subst (λ (z : NodeId). WasAsked (v.nodes z.0) h.life h.ask.0 wants h.tenure) at was) [
+      by : h.node ≡ n → h.life ≡ (v.nodes n.0).life → h.ask.0 ≡ used.0 → WasAsked (v.nodes h.node.0) h.life h.ask.0 wants (is_tenure h.kind) → ws ≡ wants
+      by at life ask was = elim (subst (λ (z : NodeId). WasAsked (v.nodes z.0) h.life h.ask.0 wants (is_tenure h.kind)) at was) [
         | inl older ↦ (let older' : h.life.0 < (v.nodes n.0).life.0 = older in let same : h.life.0 ≡ (v.nodes n.0).life.0 = ap (λ (z : Life). z.0) life in absurd (omega arith))
         | inr now ↦ (let is : now.1.0 ≡ Running ws h used.1 = some_is now.1.0 (Running ws h used.1) (sym now.1.1 ∙ ap (nth (v.nodes n.0).asks) ask ∙ used.2) in
-            (subst (λ z. Wanted z wants h.tenure) is now.1.2).0)
+            (subst (λ z. Wanted z wants (is_tenure h.kind)) is now.1.2).0)
       ]
 
   -- an execution that wants a SHARED folder is where its tenure is in use
-  home_of : (v : World) → Moves sha (start sha) v → (n : NodeId) (h : Grant) (ws wants : List Want) (w : Want) (f : FolderName) → InUse v n h ws → In (acquire h.node h.life h.ask wants h.tenure) v.pool → In w wants → w.folder ≡ f → f.mode ≡ Shared
+  home_of : (v : World) → Moves sha (start sha) v → (n : NodeId) (h : Grant) (ws wants : List Want) (w : Want) (f : FolderName) → InUse v n h ws → In (acquire h.node h.life h.ask wants (is_tenure h.kind)) v.pool → In w wants → w.folder ≡ f → f.mode ≡ Shared
       → (q : Grant) × (us : List Want) × InUse v n q us × Has q (only_slot f)
   home_of v run' n h ws wants w f used sent i at shared =
       let is = wants_are v run' n h ws wants used sent in
@@ -301,8 +302,8 @@ module _ (sha : List ℕ → Digest) (k : Limits) (farm : IsFarm sha k) where
           let made' : In (Granted g') two.world.machine.made = later.made (Granted g') ((moves_inv sha (start sha) v (start_whole sha) moves2).0.now.messages (Told (told.Granted g')) (subst (In (Told (told.Granted g'))) (sym mid.2.pool) sent'.0)) in
           let is' : g' ≡ h' = same_grant (sha []) two.world.machine inv3.sound g' h' made' (used_made two.world moves3 n' h' ws' b.did.1.4) (ap (λ (z : Ticket). z.0) (sent'.1 ∙ sym b.did.1.2)) in
           let there : (m : Message) → In m after.pool → In m two.world.pool = λ m j. still_sent v two.world two.moves m (subst (In m) (sym mid.2.pool) j) in
-          let home = home_of two.world moves3 n h ws wants w f still (subst (λ (z : Grant). In (acquire z.node z.life z.ask wants z.tenure) two.world.pool) is (there (acquire g.node g.life g.ask wants g.tenure) asked)) i is_f shared in
-          let home' = home_of two.world moves3 n' h' ws' wants' w' f b.did.1.4 (subst (λ (z : Grant). In (acquire z.node z.life z.ask wants' z.tenure) two.world.pool) is' (there (acquire g'.node g'.life g'.ask wants' g'.tenure) asked')) i' is_f' shared in
+          let home = home_of two.world moves3 n h ws wants w f still (subst (λ (z : Grant). In (acquire z.node z.life z.ask wants (is_tenure z.kind)) two.world.pool) is (there (acquire g.node g.life g.ask wants (is_tenure g.kind)) asked)) i is_f shared in
+          let home' = home_of two.world moves3 n' h' ws' wants' w' f b.did.1.4 (subst (λ (z : Grant). In (acquire z.node z.life z.ask wants' (is_tenure z.kind)) two.world.pool) is' (there (acquire g'.node g'.life g'.ask wants' (is_tenure g'.kind)) asked')) i' is_f' shared in
           ((every_run_is_safe sha two.world moves3).alone n n' home.0 home'.0 home.1 home'.1 (only_slot f) home.2 home'.2 home.3 home'.3 (ap (λ m. is_private m || is_shared m) shared)).0
 
   -- an event finds the world's machine, or what the record holds
@@ -485,7 +486,7 @@ module _ (sha : List ℕ → Digest) (k : Limits) (farm : IsFarm sha k) where
     wanted = λ g i.
         (let inv = (moves_inv sha (start sha) u (start_whole sha) moves).0.now in
         let r = inv.asked g (inv.messages (Told (told.Granted g)) (subst (In (Told (told.Granted g))) (sym shows.pool) i)) in
-        (r.0, subst (In (acquire g.node g.life g.ask r.0 g.tenure)) shows.pool r.1, slots_wanted g r.0 r.2));
+        (r.0, subst (In (acquire g.node g.life g.ask r.0 (is_tenure g.kind))) shows.pool r.1, slots_wanted g r.0 r.2));
     fenced = λ n l t i late x v j at.
         (let r = run_next sha k farm late u moves s shows in
         let all = moves_trans sha (start sha) u r.world moves r.moves in

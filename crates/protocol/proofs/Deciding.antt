@@ -4,6 +4,7 @@ use Rattle.std.proofs.lemmas.Bool.{eqb-true, and_parts, or_parts, cases_Bool}
 use Rattle.std.proofs.lemmas.Bool.Decides.{nat_tests}
 use Rattle.std.specs.List.{list_any}
 use Rattle.std.specs.Prelude.{nat_lt, if◌then◌else◌}
+use Rattle.farm_base.specs.Kinds.{is_tenure}
 use Rattle.protocol.specs.Lists.{In, is_nil}
 use Rattle.protocol.specs.Names.{Slot, slots_eq, NodeId, Life, Ticket, Digest}
 use Rattle.protocol.specs.Machine.{Grant, Granted, ticket_of, News, LineVersion, Message, Parked, Machine, Live, slots_of, written}
@@ -92,11 +93,11 @@ module _ (k : Limits) (pool : List Message) (m : Machine) (sound : Sound k.empty
       on_test (Withdraw t) h.tenure refusal.Tenure (Ok (notes (note.Withdrawn h.ticket) (retried k (withdraws h (begin_work q))))) (λ tenure. (g.0, g.1, ticket, ap (λ (z : Lease). z.tenure) g.2 ∙ tenure))
       (none g.0 g.1 ticket (ap (λ (z : Lease). z.tenure) g.2))
     where
-      none : (g : Grant) → Live m g → g.ticket ≡ t → g.tenure ≡ h.tenure → h.tenure ≡ false → (r : CoordRefusal) → CallBecause k m (Withdraw t) r → ⊥
+      none : (g : Grant) → Live m g → g.ticket ≡ t → is_tenure g.kind ≡ h.tenure → h.tenure ≡ false → (r : CoordRefusal) → CallBecause k m (Withdraw t) r → ⊥
       none g live at is free refusal.NotLive z = z (g, live, at)
       none g live at is free refusal.Tenure (x, l, at', tenure) =
           (let same : x ≡ g = same_grant k.empty m sound x g l.0 live.0 (ap (λ (z : Ticket). z.0) (at' ∙ sym at)) in
-          true_false x.tenure tenure (ap (λ (z : Grant). z.tenure) same ∙ is ∙ free))
+          true_false (is_tenure x.kind) tenure (ap (λ (z : Grant). is_tenure z.kind) same ∙ is ∙ free))
       none g live at is free r z = z
 
   pub withdrawn_exact : (t : Ticket) → Exact (Withdraw t) (withdrawn k t (begin_work q))
@@ -140,7 +141,7 @@ module _ (k : Limits) (pool : List Message) (m : Machine) (sound : Sound k.empty
       none here free refusal.NodeRetired z = true_false (q.gone n.0) (ap (λ (f : ℕ → Bool). f n.0) agrees.gone ∙ z) here
       none here free refusal.TenureHeld (inl (g, live, at, tenure)) =
           (let o = or_parts (list_any (λ (g : Lease). is_at n g && g.tenure) q.live) (is_home n q.old_home) free in
-          true_false (is_at n (lease_from g) && g.tenure) (both_true (is_at n (lease_from g)) g.tenure (subst (λ (z : NodeId). eqb g.node.0 z.0 ≡ true) at (eqb_same g.node.0)) tenure)
+          true_false (is_at n (lease_from g) && is_tenure g.kind) (both_true (is_at n (lease_from g)) (is_tenure g.kind) (subst (λ (z : NodeId). eqb g.node.0 z.0 ≡ true) at (eqb_same g.node.0)) tenure)
           (any_none (λ (g : Lease). is_at n g && g.tenure) (lease_from g) q.live o.0 (agrees.live_kept g live)))
       none here free refusal.TenureHeld (inr home) =
           (let o = or_parts (list_any (λ (g : Lease). is_at n g && g.tenure) q.live) (is_home n q.old_home) free in

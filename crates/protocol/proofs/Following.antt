@@ -2,8 +2,10 @@
 use Rattle.std.proofs.Common.{◌≡◌, ◌≢◌, ℕ, ◌+◌, ◌<◌, ◌≤◌, List, [], ◌∷◌, ◌++◌, ◌⊎◌, Bool, true, false, not, ◌&&◌, eqb, length, map, filter, Option, Some, None, refl, sym, ◌∙◌, ap, subst, inl, inr, arith, append-nil}
 use Rattle.std.proofs.lemmas.Bool.{cases_Bool, and_parts, eqb-false, eqb-true, not-false}
 use Rattle.std.specs.Prelude.{nat_lt}
+use Rattle.farm_base.specs.Kinds.{has_shared, is_tenure, IsKind}
+use Rattle.farm_base.proofs.KindLemmas.{shared_back, tenure_back}
 use Rattle.protocol.specs.Lists.{In}
-use Rattle.protocol.specs.Names.{Mode, Shared, Private, Locked, Slot, slot_eq, slots_eq, is_private, only_slot, IsInstance, Digest, NodeId, Life, Ask, Ticket, Want, FolderName, leased_wants, tenure_wants}
+use Rattle.protocol.specs.Names.{Mode, Shared, Private, Locked, Slot, slot_eq, slots_eq, is_private, only_slot, IsInstance, Digest, NodeId, Life, Ask, Ticket, Want, FolderName, any_shared, leased_wants, tenure_wants}
 use Rattle.protocol.specs.Machine.{Grant, GrantedSlot, News, Ending, Granted, Pruned, ticket_of, Withdrawn, Message, FromCoord, Parked, Machine, Live, Free, Based, AnswersAsk, SameAsk, want_of, line, version_at, slots_of, Names, written, acquire, commit, release, IsPartOf, Ends_part, Keeps, Leaves, Step, Grants, Ends, Prunes, Sees, Retires, Parks, Unparks, Raises, Steps, No_step, One_more, Says, Says_granted, Says_committed, Says_fenced, Says_denied, Says_recall}
 use Rattle.farm_base.specs.declared.message.FromCoord.TheVariants as told
 use Rattle.farm_base.specs.declared.message.Why.{Why}
@@ -268,17 +270,21 @@ module _ (k : Limits) (fits : k.instances ≤ 4096) (pool : List Message) (m : M
       let s : Slot = slot_for k.instances (is_free q) r.0 in
       subst (λ (z : GrantedSlot). Free b z.slot × Based k.empty b z) (sym r.2)
       ((all r.0 r.1).0, (ap length (going.core.lines s), subst (λ v. Names k.empty v (length (q.line s)) (last_digest k.empty (q.line s))) (going.core.lines s) (names_last k.empty (q.line s))))) in
+      let kind : IsKind h.shared h.tenure = λ t. (let f = sent.tenures p.node p.life p.ask p.wants p.tenure asked t in ap any_shared f.1) in
+      let shared : has_shared g.kind ≡ any_shared p.wants = shared_back h.shared h.tenure kind in
+      let tenure : is_tenure g.kind ≡ p.tenure = tenure_back h.shared h.tenure in
       let answers : AnswersAsk g p.wants = record {
-        shared = refl;
-        slots = wants_back q ws;
+        shared = shared;
+        slots = subst (λ b. map want_of g.slots ≡ leased_wants b p.wants) (sym tenure) (wants_back q ws);
         instances = λ u i. (let r = granted_from q ws u i in subst (λ (z : GrantedSlot). IsInstance z.slot.folder.mode z.slot.instance) (sym r.2) (all r.0 r.1).1);
-        tenure = sent.tenures p.node p.life p.ask p.wants p.tenure asked;
+        tenure = λ t. sent.tenures p.node p.life p.ask p.wants p.tenure asked (sym tenure ∙ t);
       } in
       let alone : (x : Grant) → Live b x → SameAsk g x → ⊥ = λ x l same. no_grant k.empty b q p going.core none x l (sym same.0, sym same.1, sym same.2) in
-      let home : g.tenure ≡ true → (x : NodeId) → b.old_home ≡ Some x → x ≡ g.node =
-      λ t x o. home_of q.old_home p.node x (and_here p.tenure (another q.old_home p.node) t picked.here) (going.core.old_home ∙ o) in
+      let home : is_tenure g.kind ≡ true → (x : NodeId) → b.old_home ≡ Some x → x ≡ g.node =
+      λ t x o. home_of q.old_home p.node x (and_here p.tenure (another q.old_home p.node) (sym tenure ∙ t) picked.here) (going.core.old_home ∙ o) in
       let next : Machine = record b { made = Granted g ∷ b.made; last = g.ticket.0 } in
-      let step : Step k.empty pool b next = Grants g p.wants asked answers (subst (λ z. z p.node.0 ≡ false) going.core.gone here) alone home below free in
+      let asked' : In (acquire p.node p.life p.ask p.wants (is_tenure g.kind)) pool = subst (λ b. In (acquire p.node p.life p.ask p.wants b) pool) (sym tenure) asked in
+      let step : Step k.empty pool b next = Grants g p.wants asked' answers (subst (λ z. z p.node.0 ≡ false) going.core.gone here) alone home below free in
       let now = now_sound b w.sends going.works in
       let new : b.ending g.ticket.0 ≡ None = fresh k.empty b now g.ticket.0 below in
       record {
@@ -289,7 +295,7 @@ module _ (k : Limits) (fits : k.instances ≤ 4096) (pool : List Message) (m : M
           | inl e ↦ (let same : x ≡ g = cc in inr (in_right (told.Granted x) w.sends (told.Granted g ∷ []) (inl (ap told.Granted same))))
           | inr j ↦ more_sent x w.sends (told.Granted g) (going.granted x j)
         ];
-        core = give_core b q g h (raised k q) now going.core below (lease-grant k.empty q.line h) (raised_covers k q going.core.ceiling (not-false (nat_lt q.last k.greatest) picked.below)) (raised_block k q going.core.block) le;
+        core = give_core b q g h (raised k q) now going.core below (lease-grant k.empty q.line h kind) (raised_covers k q going.core.ceiling (not-false (nat_lt q.last k.greatest) picked.below)) (raised_block k q going.core.block) le;
         parked = going.parked;
       }
 

@@ -1,6 +1,7 @@
 -- The invariant of the world, and what of it stays as the world goes on.
 use Rattle.std.proofs.Common.{◌≡◌, ◌≢◌, ℕ, ◌<◌, ◌≤◌, List, [], ◌⊎◌, Bool, true, false, not, eqb, Some, subst, inl, inr, arith, ap}
 use Rattle.std.specs.Prelude.{⊤}
+use Rattle.farm_base.specs.Kinds.{is_tenure}
 use Rattle.protocol.specs.Lists.{In, nth}
 use Rattle.protocol.specs.Names.{Slot, NodeId, Life, Ticket, Digest, Want, FolderName, wants_shared, tenure_wants}
 use Rattle.protocol.specs.Machine.{Grant, News, Confirmed, Ending, Committed, Released, Withdrawn, Died, Granted, Message, Said, ToCoord, FromCoord, acquire, WasHeard, Machine, AnswersAsk, line, written, slots_of, Names, Stands}
@@ -16,9 +17,9 @@ use Rattle.protocol.proofs.Steps.{Sound, Later, names_later}
 -- the ask was made with these wants
 abbrev pub Wanted : KeptAsk → List Want → Bool → Type 0
 Wanted (Open ws t) wants tenure = (ws ≡ wants) × (t ≡ tenure)
-Wanted (Holding ws g r) wants tenure = (ws ≡ wants) × (g.tenure ≡ tenure)
-Wanted (Running ws g r) wants tenure = (ws ≡ wants) × (g.tenure ≡ tenure)
-Wanted (Finished ws g news) wants tenure = (ws ≡ wants) × (g.tenure ≡ tenure)
+Wanted (Holding ws g r) wants tenure = (ws ≡ wants) × (is_tenure g.kind ≡ tenure)
+Wanted (Running ws g r) wants tenure = (ws ≡ wants) × (is_tenure g.kind ≡ tenure)
+Wanted (Finished ws g news) wants tenure = (ws ≡ wants) × (is_tenure g.kind ≡ tenure)
 Wanted (Over how) wants tenure = ⊤
 
 -- under this ticket the ask neither executes nor will
@@ -61,14 +62,14 @@ WantsNow (Over how) w = ⊥
 
 abbrev pub for_tenure : KeptAsk → Bool
 for_tenure (Open wants tenure) = tenure
-for_tenure (Holding wants g r) = g.tenure
-for_tenure (Running wants g r) = g.tenure
-for_tenure (Finished wants g news) = g.tenure
+for_tenure (Holding wants g r) = is_tenure g.kind
+for_tenure (Running wants g r) = is_tenure g.kind
+for_tenure (Finished wants g news) = is_tenure g.kind
 for_tenure (Over how) = false
 
 -- a tenure of the folder is in use
 abbrev pub HasTenure : List KeptAsk → FolderName → Type 0
-HasTenure asks f = (b : ℕ) × (wants : List Want) × (g : Grant) × (r : Bool) × (v : Want) × (nth asks b ≡ Some (Running wants g r)) × (g.tenure ≡ true) × In v wants × (v.folder ≡ f)
+HasTenure asks f = (b : ℕ) × (wants : List Want) × (g : Grant) × (r : Bool) × (v : Want) × (nth asks b ≡ Some (Running wants g r)) × (is_tenure g.kind ≡ true) × In v wants × (v.folder ≡ f)
 
 -- each ask with a SHARED want, but the tenures themselves, is where its tenure is in use
 abbrev pub AtHome : List KeptAsk → Type 0
@@ -112,7 +113,7 @@ Fate nodes g Died = g.life.0 < (nodes g.node.0).life.0
 
 -- the grant answers an ask that was sent
 abbrev pub WasWanted : List Message → Grant → Type 0
-WasWanted pool g = (wants : List Want) × In (acquire g.node g.life g.ask wants g.tenure) pool × AnswersAsk g wants
+WasWanted pool g = (wants : List Want) × In (acquire g.node g.life g.ask wants (is_tenure g.kind)) pool × AnswersAsk g wants
 
 pub record Inv (sha : List ℕ → Digest) (w : World) : Type 0 where
   pub sound : Sound (sha []) w.machine

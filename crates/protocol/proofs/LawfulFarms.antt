@@ -5,6 +5,7 @@ use Rattle.std.proofs.lemmas.Bool.Decides.{nat_tests}
 use Rattle.std.specs.Prelude.{nat_lt, nat_le, if◌then◌else◌}
 use Rattle.std.specs.List.{list_any, flat_map}
 use Rattle.std.specs.List.Sorted.{IsStrictlySortedBy}
+use Rattle.farm_base.specs.Kinds.{is_tenure}
 use Rattle.farm_base.specs.Wanted.{IsWants}
 use Rattle.farm_base.specs.declared.message.Message.TheVariants as to
 use Rattle.farm_base.specs.declared.message.ToNode.{ToNode}
@@ -72,12 +73,12 @@ first_from {A} test (s ∷ asks) k a x e = by (test s) refl e (first_from test a
 
 recallable_closed : (t : Ticket) (s x : KeptAsk) → recallable t s ≡ Some x → IsClosed x
 recallable_closed t (Open wants tenure) x e = none_some x e
-recallable_closed t (Holding wants g r) x e = by (eqb g.ticket.0 t.0 && g.tenure && not r) e
+recallable_closed t (Holding wants g r) x e = by (eqb g.ticket.0 t.0 && is_tenure g.kind && not r) e
   where
     by : (b : Bool) → recalled_if b (Holding wants g true) ≡ Some x → IsClosed x
     by true h = (let is : Holding wants g true ≡ x = (let same : Some (Holding wants g true) ≡ Some x = h in cc) in subst IsClosed is (holding_closed wants g true))
     by false h = none_some x h
-recallable_closed t (Running wants g r) x e = by (eqb g.ticket.0 t.0 && g.tenure && not r) e
+recallable_closed t (Running wants g r) x e = by (eqb g.ticket.0 t.0 && is_tenure g.kind && not r) e
   where
     by : (b : Bool) → recalled_if b (Running wants g true) ≡ Some x → IsClosed x
     by true h = (let is : Running wants g true ≡ x = (let same : Some (Running wants g true) ≡ Some x = h in cc) in subst IsClosed is (running_closed wants g true))

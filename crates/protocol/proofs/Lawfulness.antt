@@ -430,7 +430,7 @@ module _ (top : ℕ) (k : Limits) where
   withdrawing_lawful : (o : Option Lease) (t : Ticket) (q : Ledger) → IsLawful top q → lease_under q.live t ≡ o → IsLawfulWork top (withdrawing k o (begin_work q))
   withdrawing_lawful None t q l e = tt
   withdrawing_lawful (Some g) t q l e =
-      if_lawful g.tenure coord.Tenure (Ok (notes (note.Withdrawn g.ticket) (retried k (withdraws g (begin_work q))))) (retried_lawful (withdraws g (begin_work q)) (withdraws_lawful g (begin_work q) (find_some (has_ticket t) q.live g e).0 l))
+      if_lawful (g.tenure) coord.Tenure (Ok (notes (note.Withdrawn g.ticket) (retried k (withdraws g (begin_work q))))) (retried_lawful (withdraws g (begin_work q)) (withdraws_lawful g (begin_work q) (find_some (has_ticket t) q.live g e).0 l))
 
   goes_lawful : (n : NodeId) (w : Work) → IsNumber top n → IsLawful top w.ledger → IsLawful top (goes n w).ledger
   goes_lawful n w number l =

@@ -3,6 +3,8 @@ use Rattle.std.proofs.Common.{◌≡◌, ◌≢◌, ℕ, zero, suc, ◌+◌, ◌
 use Rattle.std.proofs.lemmas.Bool.{cases_Bool, and_parts, not-true, or_parts}
 use Rattle.std.proofs.lemmas.Bool.Decides.{nat_tests}
 use Rattle.std.specs.List.{find}
+use Rattle.farm_base.specs.Kinds.{IsKind}
+use Rattle.farm_base.proofs.KindLemmas.{kind_back, is_kind, tenure_back, shared_back}
 use Rattle.protocol.specs.Lists.{In}
 use Rattle.protocol.specs.Names.{Slot, slot_eq, Digest, NodeId, Life, Ask, FolderName}
 use Rattle.protocol.specs.Machine.{Grant, GrantedSlot, LineVersion, Message, Parked, Machine, Has, Live, Leased, Retired, Free, line, Names, written, acquire}
@@ -124,15 +126,25 @@ grant-lease empty m q g sound core l =
     λ u i. (let base : u.base ≡ length (line empty m u.slot) = sound.based g u l i in
     let named : Names empty (line empty m u.slot) (length (line empty m u.slot)) u.digest = subst (λ b. Names empty (line empty m u.slot) b u.digest) base (sound.named g u l.0 i) in
     (base ∙ ap length (sym (core.lines u.slot)), names_at_end empty (line empty m u.slot) u.digest named ∙ ap (last_digest empty) (sym (core.lines u.slot)))) in
-    ap (λ (us : List GrantedSlot). record { ticket = g.ticket; node = g.node; life = g.life; ask = g.ask; shared = g.shared; tenure = g.tenure; slots = us }) (slots_back empty q.line g.slots all)
+    let kind = kind_back g.kind in
+    let slots = slots_back empty q.line g.slots all in
+    λ i. record { ticket = g.ticket; node = g.node; life = g.life; ask = g.ask; kind = kind i; slots = slots i }
 
 pairs_back : (empty : Digest) (line : Slot → List LineVersion) (xs : List (Slot × Bool)) → map (λ (v : GrantedSlot). (v.slot, v.writable)) (map (granted_slot empty line) xs) ≡ xs
 pairs_back empty line [] = refl
 pairs_back empty line (x ∷ xs) = (let rest = pairs_back empty line xs in λ i. x ∷ rest i)
 
 -- the lease of a lease's Grant is that lease
-pub lease-grant : (empty : Digest) (line : Slot → List LineVersion) (h : Lease) → lease_from (grant_of empty line h) ≡ h
-lease-grant empty line h = ap (λ (xs : List (Slot × Bool)). record { ticket = h.ticket; node = h.node; life = h.life; ask = h.ask; shared = h.shared; tenure = h.tenure; slots = xs }) (pairs_back empty line h.slots)
+pub lease-grant : (empty : Digest) (line : Slot → List LineVersion) (h : Lease) → IsKind h.shared h.tenure → lease_from (grant_of empty line h) ≡ h
+lease-grant empty line h is =
+    let shared = shared_back h.shared h.tenure is in
+    let tenure = tenure_back h.shared h.tenure in
+    let slots = pairs_back empty line h.slots in
+    λ i. record { ticket = h.ticket; node = h.node; life = h.life; ask = h.ask; shared = shared i; tenure = tenure i; slots = slots i }
+
+-- a live lease is a grant's
+pub live_kind : (empty : Digest) (m : Machine) (q : Ledger) (h : Lease) → Core empty m q → In h q.live → IsKind h.shared h.tenure
+live_kind empty m q h core i = (let g = core.live_made h i in subst (λ (x : Lease). IsKind x.shared x.tenure) g.2 (is_kind g.0.kind))
 
 -- ---- leased and free slots
 

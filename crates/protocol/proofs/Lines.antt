@@ -2,6 +2,7 @@
 use Rattle.std.proofs.Common.{◌≡◌, ◌≢◌, ℕ, ◌<◌, ◌≤◌, List, [], ◌∷◌, ◌++◌, ◌⊎◌, Bool, true, false, Option, Some, None, refl, sym, ◌∙◌, ap, subst, inl, inr, arith, append-nil}
 use Rattle.std.proofs.lemmas.Bool.{cases_Bool}
 use Rattle.std.specs.Prelude.{⊤}
+use Rattle.farm_base.specs.Kinds.{is_tenure}
 use Rattle.protocol.specs.Lists.{In, put}
 use Rattle.protocol.specs.Names.{Slot, slot_eq, is_alone, Digest, Ticket}
 use Rattle.protocol.specs.Machine.{GrantedSlot, Grant, News, LineVersion, Ending, Committed, Released, Withdrawn, Died, Made, Granted, Pruned, ticket_of, Has, digest_for, version_of, version_at, added, line_of, written, slots_of}
@@ -111,7 +112,7 @@ written_in s (u ∷ us) h =
 abbrev pub Lawful : Grant → Ending → Type 0
 Lawful g (Committed news) = slots_of news ≡ written g.slots
 Lawful g Released = ⊤
-Lawful g Withdrawn = g.tenure ≡ false
+Lawful g Withdrawn = is_tenure g.kind ≡ false
 Lawful g Died = ⊤
 
 -- an ending adds nothing to a line, or its grant has the slot

@@ -3,6 +3,7 @@ use Rattle.std.proofs.Common.{◌≡◌, ◌≢◌, ℕ, zero, suc, ◌+◌, Lis
 use Rattle.std.proofs.lemmas.Bool.{and_parts, or_parts, ne_eqb, cases_Bool, eqb-true, not-true, cases_eq, not-false}
 use Rattle.std.specs.List.{list_any, list_all, flat_map}
 use Rattle.std.specs.Prelude.{⊤, nat_lt, is_some}
+use Rattle.farm_base.specs.Kinds.{is_tenure}
 use Rattle.farm_base.specs.Folders.{folder_eq}
 use Rattle.protocol.specs.Lists.{In, put, nth, set_nth}
 use Rattle.protocol.specs.Names.{Shared, slots_eq, digest_eq, NodeId, Life, Ask, Ticket, Digest, Want, FolderName, wants_shared, tenure_wants}
@@ -38,11 +39,11 @@ get_from x [] i = absurd i
 get_from x (y ∷ ys) (inl e) = (0, ap Some (sym e))
 get_from x (y ∷ ys) (inr i) = (let r = get_from x ys i in (suc r.0, r.1))
 
-home_runs : (f : FolderName) (s : KeptAsk) → is_home_of f s ≡ true → (wants : List Want) × (g : Grant) × (w : Want) × (s ≡ Running wants g false) × (g.tenure ≡ true) × In w wants × (w.folder ≡ f)
+home_runs : (f : FolderName) (s : KeptAsk) → is_home_of f s ≡ true → (wants : List Want) × (g : Grant) × (w : Want) × (s ≡ Running wants g false) × (is_tenure g.kind ≡ true) × In w wants × (w.folder ≡ f)
 home_runs f (Open wants tenure) h = (let bad : false ≡ true = h in cc)
 home_runs f (Holding wants g r) h = (let bad : false ≡ true = h in cc)
 home_runs f (Running wants g true) h = (let bad : false ≡ true = h in cc)
-home_runs f (Running wants g false) h = (let b = and_parts g.tenure (wants_folder f wants) h in let w = wants_folder_in f wants b.1 in (wants, g, w.0, refl, b.0, w.1, w.2))
+home_runs f (Running wants g false) h = (let b = and_parts (is_tenure g.kind) (wants_folder f wants) h in let w = wants_folder_in f wants b.1 in (wants, g, w.0, refl, b.0, w.1, w.2))
 home_runs f (Finished wants g news) h = (let bad : false ≡ true = h in cc)
 home_runs f (Over how) h = (let bad : false ≡ true = h in cc)
 
@@ -156,14 +157,14 @@ Recalls t s x = (wants : List Want) × (g : Grant) × (g.ticket ≡ t) × (((s �
 pub recallable_is : (t : Ticket) (s x : KeptAsk) → recallable t s ≡ Some x → Recalls t s x
 recallable_is t (Open wants tenure) x e = none_some x e
 recallable_is t (Holding wants g r) x e =
-    let u = recalled_if_is ((eqb g.ticket.0 t.0) && g.tenure && not r) (Holding wants g true) x e in
-    let b = and_parts ((eqb g.ticket.0 t.0) && g.tenure) (not r) u.0 in
-    let c = and_parts (eqb g.ticket.0 t.0) g.tenure b.0 in
+    let u = recalled_if_is ((eqb g.ticket.0 t.0) && is_tenure g.kind && not r) (Holding wants g true) x e in
+    let b = and_parts ((eqb g.ticket.0 t.0) && is_tenure g.kind) (not r) u.0 in
+    let c = and_parts (eqb g.ticket.0 t.0) (is_tenure g.kind) b.0 in
     (wants, g, ticket_is g.ticket t (eqb-true g.ticket.0 t.0 c.0), inl (ap (Holding wants g) (not-true r b.1), sym u.1))
 recallable_is t (Running wants g r) x e =
-    let u = recalled_if_is ((eqb g.ticket.0 t.0) && g.tenure && not r) (Running wants g true) x e in
-    let b = and_parts ((eqb g.ticket.0 t.0) && g.tenure) (not r) u.0 in
-    let c = and_parts (eqb g.ticket.0 t.0) g.tenure b.0 in
+    let u = recalled_if_is ((eqb g.ticket.0 t.0) && is_tenure g.kind && not r) (Running wants g true) x e in
+    let b = and_parts ((eqb g.ticket.0 t.0) && is_tenure g.kind) (not r) u.0 in
+    let c = and_parts (eqb g.ticket.0 t.0) (is_tenure g.kind) b.0 in
     (wants, g, ticket_is g.ticket t (eqb-true g.ticket.0 t.0 c.0), inr (ap (Running wants g) (not-true r b.1), sym u.1))
 recallable_is t (Finished wants g news) x e = none_some x e
 recallable_is t (Over how) x e = none_some x e

@@ -4,6 +4,7 @@ use Rattle.std.proofs.lemmas.Bool.{ne_eqb, cases_eq, cases_Bool, and_parts, not-
 use Rattle.std.proofs.lemmas.Bool.Decides.{nat_tests}
 use Rattle.std.specs.List.{list_any, list_all, flat_map}
 use Rattle.std.specs.Prelude.{⊤, nat_lt, is_some}
+use Rattle.farm_base.specs.Kinds.{is_tenure}
 use Rattle.protocol.specs.Lists.{In, nth, set_nth}
 use Rattle.protocol.specs.Names.{Shared, slots_eq, digest_eq, NodeId, Life, Ask, Ticket, Digest, Want, FolderName, wants_shared, tenure_wants}
 use Rattle.protocol.specs.Machine.{GrantedSlot, News, Confirmed, Grant, Message, Told, Fetch, Fetches, Blob, FromCoord, hello, acquire, commit, slots_of, written}
@@ -43,9 +44,9 @@ not_all test (x ∷ xs) h = elim (cases_Bool (test x)) [
 
 tenure_is : (f : FolderName) (s : KeptAsk) → is_tenure_of f s ≡ true → IsTenureOf f s
 tenure_is f (Open wants tenure) h = (let b = and_parts tenure (wants_folder f wants) h in let w = wants_folder_in f wants b.1 in subst (λ t. IsTenureOf f (Open wants t)) (sym b.0) (Asked_tenure w.0 wants w.1 w.2))
-tenure_is f (Holding wants g r) h = (let b = and_parts g.tenure (wants_folder f wants) h in let w = wants_folder_in f wants b.1 in Held_tenure w.0 wants g r w.1 w.2 b.0)
-tenure_is f (Running wants g r) h = (let b = and_parts g.tenure (wants_folder f wants) h in let w = wants_folder_in f wants b.1 in Running_tenure w.0 wants g r w.1 w.2 b.0)
-tenure_is f (Finished wants g news) h = (let b = and_parts g.tenure (wants_folder f wants) h in let w = wants_folder_in f wants b.1 in Finished_tenure w.0 wants g news w.1 w.2 b.0)
+tenure_is f (Holding wants g r) h = (let b = and_parts (is_tenure g.kind) (wants_folder f wants) h in let w = wants_folder_in f wants b.1 in Held_tenure w.0 wants g r w.1 w.2 b.0)
+tenure_is f (Running wants g r) h = (let b = and_parts (is_tenure g.kind) (wants_folder f wants) h in let w = wants_folder_in f wants b.1 in Running_tenure w.0 wants g r w.1 w.2 b.0)
+tenure_is f (Finished wants g news) h = (let b = and_parts (is_tenure g.kind) (wants_folder f wants) h in let w = wants_folder_in f wants b.1 in Finished_tenure w.0 wants g news w.1 w.2 b.0)
 tenure_is f (Over how) h = (let bad : false ≡ true = h in cc)
 
 uses_is : (f : FolderName) (s : KeptAsk) → uses f s ≡ true → Uses f s
@@ -73,7 +74,7 @@ others_some a wants (x ∷ xs) k h = elim (cases_Bool (not (eqb (k + 1) a) && li
 
 not_idle : (asks : List KeptAsk) (a : ℕ) (wants : List Want) (g : Grant) → in_use asks a wants g ≡ true → Idle asks a wants g → ⊥
 not_idle asks a wants g h idle =
-    let b = and_parts g.tenure (others_use a wants asks 0) h in
+    let b = and_parts (is_tenure g.kind) (others_use a wants asks 0) h in
     let r = others_some a wants asks 0 b.1 in
     idle b.0 r.2 r.5 (suc r.0) r.1 r.3 (λ e. r.4 (let z : 0 + r.0 + 1 ≡ suc r.0 = omega arith in z ∙ e)) (uses_is r.2.folder r.1 r.6)
 
@@ -530,10 +531,10 @@ module _ (sha : List ℕ → Digest) (k : Limits) (n : NodeId) (size : ℕ) (x :
   denied_means l a why number (Some (Finished wants h news)) e q = not_open l a why number (Some (Finished wants h news)) e (λ ws t is. (let bad : Finished wants h news ≡ Open ws t = some_is (Finished wants h news) (Open ws t) is in cc)) q
   denied_means l a why number (Some (Over how)) e q = not_open l a why number (Some (Over how)) e (λ ws t is. (let bad : Over how ≡ Open ws t = some_is (Over how) (Open ws t) is in cc)) q
 
-  recall_some : (g : Grant) (t : Ticket) (s : KeptAsk) → g.ticket ≡ t → g.tenure ≡ true → recalled_if ((eqb g.ticket.0 t.0) && g.tenure && not false) s ≡ Some s
+  recall_some : (g : Grant) (t : Ticket) (s : KeptAsk) → g.ticket ≡ t → is_tenure g.kind ≡ true → recalled_if ((eqb g.ticket.0 t.0) && is_tenure g.kind && not false) s ≡ Some s
   recall_some g t s e tenure = (let same : eqb g.ticket.0 t.0 ≡ true = subst (λ (z : Ticket). eqb g.ticket.0 z.0 ≡ true) e (eqb_same g.ticket.0) in rw (same, tenure) refl)
 
-  none_recalled : (t : Ticket) → first (recallable t) x.asks 0 ≡ None → (a : ℕ) (wants : List Want) (g : Grant) → g.ticket ≡ t → g.tenure ≡ true → (nth x.asks a ≡ Some (Holding wants g false)) ⊎ (nth x.asks a ≡ Some (Running wants g false)) → ⊥
+  none_recalled : (t : Ticket) → first (recallable t) x.asks 0 ≡ None → (a : ℕ) (wants : List Want) (g : Grant) → g.ticket ≡ t → is_tenure g.kind ≡ true → (nth x.asks a ≡ Some (Holding wants g false)) ⊎ (nth x.asks a ≡ Some (Running wants g false)) → ⊥
   none_recalled t e a wants g ticket tenure (inl i) = none_some (Holding wants g true) (sym (none_at (recallable t) x.asks e a (Holding wants g false) i) ∙ recall_some g t (Holding wants g true) ticket tenure)
   none_recalled t e a wants g ticket tenure (inr i) = none_some (Running wants g true) (sym (none_at (recallable t) x.asks e a (Running wants g false) i) ∙ recall_some g t (Running wants g true) ticket tenure)
 

@@ -6,7 +6,7 @@ use Rattle.std.specs.List.{list_any, find}
 use Rattle.std.specs.Prelude.{⊤, nat_lt, if◌then◌else◌}
 use Rattle.protocol.specs.Lists.{In, is_nil}
 use Rattle.protocol.specs.Names.{Slot, slot_eq, slots_eq, Private, is_private, leased_wants, NodeId, Life, Ask, Ticket, Want, FolderName}
-use Rattle.protocol.specs.Machine.{Grant, Granted, News, slots_of, Message, FromCoord, ToCoord, Parked, IsPartOf, Ends_part, Keeps, Leaves, Machine, Has, Live, Retired, Ending, Withdrawn, ticket_of, line}
+use Rattle.protocol.specs.Machine.{Grant, Granted, News, slots_of, Message, FromCoord, ToCoord, Parked, IsPartOf, Ends_part, Keeps, Leaves, Machine, Has, Live, Retired, Ending, Withdrawn, ticket_of, line, LineVersion}
 use Rattle.farm_base.specs.declared.message.Request.{Request}
 use Rattle.farm_base.specs.declared.message.Request.TheVariants.{Hello, Acquire, Commit, Release}
 use Rattle.farm_base.specs.declared.message.FromCoord.TheVariants as told
@@ -19,7 +19,7 @@ use Rattle.protocol.specs.Ledger as ledger
 use Rattle.protocol.specs.Follows.{lease_from, NoneReady, Agrees}
 use Rattle.protocol.specs.Meaning.{instance_of, HasLowest, before, WasFirst, CouldBeGranted, PassesOverNone}
 use Rattle.protocol.proofs.Base.{true_false, none_some, in_append, in_left, in_right, in_one, in_filter, from_filter, from_map, from_any, any_in, any_none, eqb_same, slot_eq_is}
-use Rattle.protocol.proofs.Leases.{Core, core_of, lowest-none, lowest-free, lowest-taken, lease_has, has_lease, lease-grant, find_some}
+use Rattle.protocol.proofs.Leases.{Core, core_of, lowest-none, lowest-free, lowest-taken, lease_has, has_lease, lease-grant, live_kind, find_some}
 use Rattle.protocol.proofs.Following.{part_refl, part_filter}
 use Rattle.protocol.proofs.Trying.{waiting_part}
 use Rattle.protocol.proofs.Parking.{Fewer, less_ready, not_cleared, recalls-ledger}
@@ -173,9 +173,13 @@ module _ (k : Limits) where
       let up : (tried k r w).ledger.last ≤ (try_all k ps (tried k r w)).ledger.last = m.last in
       subst (λ z. Settled (try_all k ps (tried k r w)).ledger z t) (sym e) (one_settled r w (try_all k ps (tried k r w)).ledger t tops m (omega arith))
 
+  -- a lease is this grant's, by the lines as they were at some time
+  abbrev HasLease : Ledger → Grant → Type 0
+  HasLease x g = (lines : Slot → List LineVersion) × (h : Lease) × In h x.live × (grant_of k.empty lines h ≡ g)
+
   -- what is sent as granted is leased
   abbrev SendsLeased : Work → Type 0
-  SendsLeased w = (g : Grant) → In (told.Granted g) w.sends → In (lease_from g) w.ledger.live
+  SendsLeased w = (g : Grant) → In (told.Granted g) w.sends → HasLease w.ledger g
 
   grant_is : (g h : Grant) → told.Granted g ≡ told.Granted h → g ≡ h
   grant_is g h e = cc
@@ -189,7 +193,7 @@ module _ (k : Limits) where
   again_leased : (h : Lease) (w : Work) → In h w.ledger.live → SendsLeased w → SendsLeased (says (told.Granted (grant_of k.empty w.ledger.line h)) w)
   again_leased h w at s g i = elim (in_append (told.Granted g) w.sends (told.Granted (grant_of k.empty w.ledger.line h) ∷ []) i) [
     | inl j ↦ s g j
-    | inr j ↦ subst (λ z. In z w.ledger.live) (sym (ap lease_from (grant_is g (grant_of k.empty w.ledger.line h) (in_one (told.Granted g) (told.Granted (grant_of k.empty w.ledger.line h)) j)) ∙ lease-grant k.empty w.ledger.line h)) at
+    | inr j ↦ (w.ledger.line, h, at, sym (grant_is g (grant_of k.empty w.ledger.line h) (in_one (told.Granted g) (told.Granted (grant_of k.empty w.ledger.line h)) j)))
   ]
 
   gives_leased : (p : Parked) (w : Work) → SendsLeased w → SendsLeased (gives k p w)
@@ -197,8 +201,8 @@ module _ (k : Limits) where
   gives_leased p w s g i =
       let h : Lease = lease_for k w.ledger p in
       elim (in_append (told.Granted g) w.sends (told.Granted (grant_of k.empty w.ledger.line h) ∷ []) i) [
-        | inl j ↦ in_left (lease_from g) w.ledger.live (h ∷ []) (s g j)
-        | inr j ↦ in_right (lease_from g) w.ledger.live (h ∷ []) (inl (ap lease_from (grant_is g (grant_of k.empty w.ledger.line h) (in_one (told.Granted g) (told.Granted (grant_of k.empty w.ledger.line h)) j)) ∙ lease-grant k.empty w.ledger.line h))
+        | inl j ↦ (let r = s g j in (r.0, r.1, in_left r.1 w.ledger.live (h ∷ []) r.2, r.3))
+        | inr j ↦ (w.ledger.line, h, in_right h w.ledger.live (h ∷ []) (inl refl), sym (grant_is g (grant_of k.empty w.ledger.line h) (in_one (told.Granted g) (told.Granted (grant_of k.empty w.ledger.line h)) j)))
       ]
 
   carried_leased : (d : Decision) (p : Parked) (w : Work) → SendsLeased w → SendsLeased (carried_out d k p w)
@@ -262,7 +266,7 @@ module _ (k : Limits) where
 
     -- what is granted is leased, and each lease that is new is in order
     pub record Orderly (w : Work) : Type 0 where
-      pub sends : (g : Grant) → In (told.Granted g) w.sends → In (lease_from g) w.ledger.live
+      pub sends : (g : Grant) → In (told.Granted g) w.sends → HasLease w.ledger g
       pub new : (h : Lease) → In h w.ledger.live → (h.ticket.0 ≤ q.last) ⊎ (LowestIn w.ledger h × (NoneReady k q → Passed w.ledger q.parked h))
 
     noted : (c : CoordNote) (w : Work) → Orderly w → Orderly (notes c w)
@@ -696,8 +700,14 @@ lt_true a b h = grind (arith, nat_tests)
 -- work of an event on a ledger that agrees with the machine before it, and the machine after it
 module _ (k : Limits) (pool : List Message) (m : Machine) (q : Ledger) (D : Parked → Type 0) (agrees : Agrees k.empty pool m q) (made : (g : Grant) → In (Granted g) m.made → g.ticket.0 ≤ m.last)
     (v : Machine) (w : Work) (sound : Sound k.empty v) (agrees' : Agrees k.empty pool v w.ledger) (granted : (g : Grant) → In (Granted g) v.made → In (Granted g) m.made ⊎ In (told.Granted g) w.sends) (o : Orderly k q D w) where
+  leased_so : (g : Grant) → In (told.Granted g) w.sends → In (lease_from g) w.ledger.live
+  leased_so g sent =
+      let r = o.sends g sent in
+      let back : lease_from (grant_of k.empty r.0 r.1) ≡ r.1 = lease-grant k.empty r.0 r.1 (live_kind k.empty v w.ledger r.1 (core_of k.empty pool v w.ledger agrees') r.2) in
+      subst (λ z. In z w.ledger.live) (sym back ∙ ap lease_from r.3) r.2
+
   new_lease : (g : Grant) → In (told.Granted g) w.sends → m.last < g.ticket.0 → LowestIn w.ledger (lease_from g) × (NoneReady k q → Passed k q D w.ledger q.parked (lease_from g))
-  new_lease g sent above = elim (o.new (lease_from g) (o.sends g sent)) [
+  new_lease g sent above = elim (o.new (lease_from g) (leased_so g sent)) [
     | inl le ↦ (let le' : g.ticket.0 ≤ q.last = le in let last : q.last ≡ m.last = agrees.last in absurd (omega arith))
     | inr r ↦ r
   ]
@@ -714,7 +724,7 @@ module _ (k : Limits) (pool : List Message) (m : Machine) (q : Ledger) (D : Park
   old_ended : (g : Grant) (y : Ending) → In (Granted g) v.made → v.ending g.ticket.0 ≡ Some y → g.ticket.0 ≤ q.last
   old_ended g y i e = elim (granted g i) [
     | inl old ↦ (let le : g.ticket.0 ≤ m.last = made g old in let last : q.last ≡ m.last = agrees.last in omega arith)
-    | inr sent ↦ (let z = agrees'.live_made (lease_from g) (o.sends g sent) in
+    | inr sent ↦ (let z = agrees'.live_made (lease_from g) (leased_so g sent) in
         let same : z.0 ≡ g = same_grant k.empty v sound z.0 g z.1.0 i (ap (λ (x : Lease). x.ticket.0) z.2) in
         none_some y (sym (subst (λ (x : Grant). v.ending x.ticket.0 ≡ None) same z.1.1) ∙ e))
   ]

@@ -4,6 +4,7 @@ use Rattle.std.proofs.lemmas.Bool.{cases_eq, cases_Bool, eqb-false, and_parts, e
 use Rattle.std.proofs.lemmas.Bool.Decides.{nat_tests}
 use Rattle.std.specs.List.{list_any}
 use Rattle.std.specs.Prelude.{⊤, nat_lt, if◌then◌else◌}
+use Rattle.farm_base.specs.Kinds.{is_tenure}
 use Rattle.protocol.specs.Lists.{In, put, is_nil}
 use Rattle.protocol.specs.Names.{Slot, slot_eq, is_private, NodeId, Life, Ticket}
 use Rattle.protocol.specs.Machine.{Grant, GrantedSlot, LineVersion, Ending, Granted, Pruned, Withdrawn, Died, Message, Said, ToCoord, FromCoord, Parked, Machine, Has, Live, line, WasHeard, cleared, IsPartOf, Step, Prunes, Sees, Retires, Unparks, Raises, Says, Says_recall}
@@ -219,7 +220,7 @@ module _ (k : Limits) (fits : k.instances ≤ 4096) (pool : List Message) (m : M
   goes_it n w f here plain home so =
       let gone' : Slot → Bool = retire_all (filter (is_at n) w.ledger.live) w.ledger.retired in
       let ended = calls.withdrawn_ends k fits pool m sound sent P is (is_at n) true gone' w f
-      (λ g l t. (let x : (is_at n (lease_from g) && g.tenure) ≡ false = any_none (λ (h : Lease). is_at n h && h.tenure) (lease_from g) w.ledger.live plain (f.agrees.live_kept g l) in rw t at x))
+      (λ g l t. (let x : (is_at n (lease_from g) && is_tenure g.kind) ≡ false = any_none (λ (h : Lease). is_at n h && h.tenure) (lease_from g) w.ledger.live plain (f.agrees.live_kept g l) in rw t at x))
       (λ s t. elim (or_cases (is_private s.folder.mode && some_lease (filter (is_at n) w.ledger.live) s) (w.ledger.retired s) t) [
         | inl new ↦ (let b = and_parts (is_private s.folder.mode) (some_lease (filter (is_at n) w.ledger.live) s) new in
             let r = from_any (λ (h : Lease). has_slot h.slots s) (filter (is_at n) w.ledger.live) b.1 in
@@ -242,7 +243,7 @@ module _ (k : Limits) (fits : k.instances ≤ 4096) (pool : List Message) (m : M
   pub reread_it : (w : Work) (f : Fi k fits pool m sound sent P w) → SoEnds (λ h. not (is_saved h)) Withdrawn w f → Fi k fits pool m sound sent is (record w { ledger = reread w.ledger; changed = true })
   reread_it w f so =
       let ended = calls.withdrawn_ends k fits pool m sound sent P is (λ h. not (is_saved h)) true w.ledger.retired w f
-      (λ g l t. (or_parts g.tenure (list_any (λ (x : Slot × Bool). is_private x.0.folder.mode) (lease_from g).slots) (not-true (is_saved (lease_from g)) t)).0)
+      (λ g l t. (or_parts (is_tenure g.kind) (list_any (λ (x : Slot × Bool). is_private x.0.folder.mode) (lease_from g).slots) (not-true (is_saved (lease_from g)) t)).0)
       (λ s t. inl t) (λ s t. t)
       (λ s h p i t has. (let o = or_parts h.tenure (list_any (λ (x : Slot × Bool). is_private x.0.folder.mode) h.slots) (not-true (is_saved h) t) in
       let r = from_any (λ (x : Slot × Bool). slot_eq x.0 s) h.slots has in
@@ -320,7 +321,7 @@ module _ (k : Limits) (fits : k.instances ≤ 4096) (pool : List Message) (m : M
       let once : Works k.empty pool m f.machine (w.sends ++ y ∷ []) = Speaks f.machine w.sends y f.works (grant_says k fits pool m sound sent P w f h i) in
       elim (cases_Bool (is_awaited w.ledger.parked h)) [
         | inl t ↦ rw t (let g = f.agrees.live_made h i in
-            let tenure : g.0.tenure ≡ true = ap (λ (z : Lease). z.tenure) g.2 ∙ (and_parts h.tenure (list_any (λ p. p.tenure && holds_wanted p h) w.ledger.parked) t).0 in
+            let tenure : is_tenure g.0.kind ≡ true = ap (λ (z : Lease). z.tenure) g.2 ∙ (and_parts h.tenure (list_any (λ p. p.tenure && holds_wanted p h) w.ledger.parked) t).0 in
             let r : FromCoord = told.Recall h.node h.life h.ticket in
             let may : Says k.empty pool f.machine r = subst (λ (z : Lease). Says k.empty pool f.machine (told.Recall z.node z.life z.ticket)) g.2 (Says_recall g.0 g.1 tenure) in
             (record { machine = f.machine; works = Speaks f.machine (w.sends ++ y ∷ []) r once may; ended = f.ended; granted = λ g i. more_sent k fits pool m sound sent P g (w.sends ++ y ∷ []) r (more_sent k fits pool m sound sent P g w.sends y (f.granted g i)); agrees = f.agrees }, refl))
@@ -341,7 +342,7 @@ in_private x = is_private x.0.folder.mode
 -- a grant whose lease isn't saved
 pub unsaved_ends : (g : Grant) → is_saved (lease_from g) ≡ false → RestartEnds g Withdrawn
 unfolding in_private
-unsaved_ends g t = (let o = or_parts g.tenure (list_any in_private (lease_from g).slots) t in (
+unsaved_ends g t = (let o = or_parts (is_tenure g.kind) (list_any in_private (lease_from g).slots) t in (
   o.0,
   λ s has. subst (λ (z : Slot). is_private z.folder.mode ≡ false) has.2
       (any_none in_private (has.0.slot, has.0.writable) (lease_from g).slots o.1 (in_map (λ (v : GrantedSlot). (v.slot, v.writable)) has.0 g.slots has.1)),
@@ -567,7 +568,7 @@ module _ (k : Limits) (fits : k.instances ≤ 4096) (pool : List Message) (m : M
       private : Slot × Bool → Bool
       private x = is_private x.0.folder.mode
 
-      unsaved : (g : Grant) → g.tenure ≡ false → ((s : Slot) → Has g s → is_private s.folder.mode ≡ false) → not (is_saved (lease_from g)) ≡ true
+      unsaved : (g : Grant) → is_tenure g.kind ≡ false → ((s : Slot) → Has g s → is_private s.folder.mode ≡ false) → not (is_saved (lease_from g)) ≡ true
       unsaved g plain none = elim (cases_Bool (list_any private (lease_from g).slots)) [
         | inl t ↦ (let r = from_any private (lease_from g).slots t in
             let u = from_map (λ (v : GrantedSlot). (v.slot, v.writable)) r.0 g.slots r.1 in

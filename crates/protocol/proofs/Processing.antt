@@ -3,6 +3,7 @@ use Rattle.std.proofs.Common.{◌≡◌, ℕ, zero, suc, ◌+◌, ◌<◌, ◌�
 use Rattle.std.proofs.lemmas.Bool.{and_parts, cases_Bool, cases_eq}
 use Rattle.std.proofs.lemmas.Bool.Decides.{nat_tests}
 use Rattle.std.specs.Prelude.{nat_lt, nat_le, if◌then◌else◌}
+use Rattle.farm_base.specs.Kinds.{is_tenure}
 use Rattle.farm_base.specs.declared.message.Message.TheVariants as to
 use Rattle.farm_base.specs.declared.message.ToNode.TheVariants as to_node
 use Rattle.farm_base.specs.declared.message.FromCoord.TheVariants as told
@@ -623,8 +624,8 @@ only_honest_are_a_farm sha k farm size events p is = record {
       let live = f.shows.now.live_made g (subst (λ (z : Ledger). In g z.live) (sym (is.memory q mem)) i) in
       let gr : Grant = live.0 in
       let want = inv.asked gr live.1.0 in
-      let said = inv.messages (acquire gr.node gr.life gr.ask want.0 gr.tenure) want.1 in
-      let there : HasAsked (f.world.nodes gr.node.0) gr.life gr.ask = was_asked (f.world.nodes gr.node.0) gr.life gr.ask want.0 gr.tenure said.0 in
+      let said = inv.messages (acquire gr.node gr.life gr.ask want.0 (is_tenure gr.kind)) want.1 in
+      let there : HasAsked (f.world.nodes gr.node.0) gr.life gr.ask = was_asked (f.world.nodes gr.node.0) gr.life gr.ask want.0 (is_tenure gr.kind) said.0 in
       let same = f.shows.nodes gr.node.0 in
       let here : HasAsked (p.nodes gr.node.0) gr.life gr.ask =
       asked_here (f.world.nodes gr.node.0) (p.nodes gr.node.0) (ap (λ (z : Node). z.life) same ∙ (is.nodes gr.node.0).life) (ap (λ (z : Node). z.asks) same ∙ (is.nodes gr.node.0).asks) gr.life gr.ask there in

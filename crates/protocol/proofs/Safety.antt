@@ -2,6 +2,7 @@
 use Rattle.std.proofs.Common.{◌≡◌, ◌≢◌, ℕ, ◌+◌, ◌<◌, List, [], ◌∷◌, ◌++◌, Bool, true, not, eqb, map, Option, Some, None, slice_get, refl, sym, ◌∙◌, ap, subst, inl, inr, arith, append-nil}
 use Rattle.std.proofs.lemmas.Bool.{cases_Bool, cases_order}
 use Rattle.std.proofs.lemmas.Bool.Decides.{nat_tests}
+use Rattle.farm_base.specs.Kinds.{is_tenure}
 use Rattle.protocol.specs.Lists.{In, nth}
 use Rattle.protocol.specs.Names.{Mode, Shared, Slot, IsInstance, is_alone, wants_shared, only_slot, Digest, NodeId, Life, Ticket, Want, FolderName, leased_wants, tenure_wants}
 use Rattle.protocol.specs.Machine.{Grant, News, LineVersion, Confirmed, Ending, Committed, Released, Withdrawn, Died, Made, Granted, Pruned, ticket_of, AnswersAsk, want_of, Told, Has, added, line, line_of, version_at, Names, Stands}
@@ -74,7 +75,7 @@ spent_running s wants g r e h =
     no_spent_self t h = let same : eqb t t ≡ true = grind (arith, nat_tests) in let bad : not true ≡ true = subst (λ b. not b ≡ true) same h in cc
 
 -- the one slot of a tenure
-tenure_slot : (g : Grant) (wants : List Want) (v : Want) → AnswersAsk g wants → g.tenure ≡ true → In v wants → Has g (only_slot v.folder)
+tenure_slot : (g : Grant) (wants : List Want) (v : Want) → AnswersAsk g wants → is_tenure g.kind ≡ true → In v wants → Has g (only_slot v.folder)
 tenure_slot g wants v answers t i =
     let f = answers.tenure t in
     let one : v ≡ record { folder = record f.0 { mode = Shared }; writable = true } = in_one v (record { folder = record f.0 { mode = Shared }; writable = true }) (subst (In v) f.1 i) in
@@ -143,8 +144,8 @@ module _ (sha : List ℕ → Digest) (w : World) (inv : Inv sha w) where
       (v.slot, record { ticket = t; digest = v.digest }, get_in (line (sha []) w.machine v.slot) r.0 (record { ticket = t; digest = v.digest }) r.2, refl)
 
   home_of : (n : NodeId) (g : Grant) (ws : List Want) (v : Want) → InUse w n g ws → In v ws → wants_shared v ≡ true
-      → (h : Grant) × (ws' : List Want) × InUse w n h ws' × (h.tenure ≡ true) × Has h (only_slot v.folder)
-  home_of n g ws v u i shared = elim (cases_Bool g.tenure) [
+      → (h : Grant) × (ws' : List Want) × InUse w n h ws' × (is_tenure h.kind ≡ true) × Has h (only_slot v.folder)
+  home_of n g ws v u i shared = elim (cases_Bool (is_tenure g.kind)) [
     | inl t ↦ (g, ws, u, t, tenure_slot g ws v (in_use_ok n g ws u).1 t i)
     | inr t ↦ (let h = (inv.nodes n).homes u.0 (Running ws g u.1) v u.2 i shared t in
         let used : InUse w n h.2 h.1 = (h.0, h.3, h.5) in

@@ -1,6 +1,7 @@
 -- Each event of the replay is a list of moves of the world, and so every schedule is safe.
 use Rattle.std.proofs.Common.{◌≡◌, ◌≢◌, ℕ, zero, suc, ◌+◌, ◌<◌, ◌≤◌, ◌⊎◌, List, [], ◌∷◌, ◌++◌, Bool, true, false, not, ◌&&◌, eqb, length, map, Option, Some, None, Result, Ok, Err, refl, sym, ◌∙◌, ap, subst, inl, inr, arith, append-nil, append_assoc}
 use Rattle.std.proofs.lemmas.Bool.{cases_eq, cases_Bool, and_parts, not-true, eqb-true}
+use Rattle.farm_base.specs.Kinds.{is_tenure}
 use Rattle.protocol.specs.Lists.{In, put, nth}
 use Rattle.protocol.specs.Names.{Shared, FolderName, only_slot, leased_wants, tenure_wants, Slot, NodeId, Life, Ask, Ticket, Digest, Want}
 use Rattle.farm_base.specs.declared.message.Why.{Why}
@@ -75,7 +76,7 @@ end_more pool more m g Withdrawn h = h
 end_more pool more m g Died h = (h.0, heard_more pool more g.node h.0 h.1, h.2, h.3)
 
 step_more : (empty : Digest) (pool more : List Message) (m m' : Machine) → Step empty pool m m' → Step empty (pool ++ more) m m'
-step_more empty pool more m m' (Grants g wants asked answers here alone home newer free) = Grants g wants (in_left (acquire g.node g.life g.ask wants g.tenure) pool more asked) answers here alone home newer free
+step_more empty pool more m m' (Grants g wants asked answers here alone home newer free) = Grants g wants (in_left (acquire g.node g.life g.ask wants (is_tenure g.kind)) pool more asked) answers here alone home newer free
 step_more empty pool more m m' (Ends g y live may) = Ends g y live (end_more pool more m g y may)
 step_more empty pool more m m' (Prunes t s newer idle some) = Prunes t s newer idle some
 step_more empty pool more m m' (Sees n l heard here newer none quiet) = Sees n l (heard_more pool more n l heard) here newer none quiet
@@ -1190,12 +1191,12 @@ module _ (sha : List ℕ → Digest) (k : Limits) (farm : IsFarm sha k) where
   and_both : (a b : Bool) → a ≡ true → b ≡ true → (a && b) ≡ true
   and_both a b p q = rw (p, q) refl
 
-  awaited_is : (u : World) (run : Moves sha (start sha) u) (s : Farm) (shows : Shows sha u s) (g : Grant) → g.tenure ≡ true → IsAwaited u.machine g → is_awaited s.ledger.parked (lease_from g) ≡ true
+  awaited_is : (u : World) (run : Moves sha (start sha) u) (s : Farm) (shows : Shows sha u s) (g : Grant) → is_tenure g.kind ≡ true → IsAwaited u.machine g → is_awaited s.ledger.parked (lease_from g) ≡ true
   awaited_is u run s shows g tenure (p, x, i, asks, j, shared, has) =
       let holds : holds_wanted p (lease_from g) ≡ true = any_in (λ (v : Want). has_slot (lease_from g).slots (only_slot v.folder)) x (leased_wants p.tenure p.wants)
       (subst (λ b. In x (leased_wants b p.wants)) (sym asks) (wanting.leased_in true x p.wants j (ap (takes_slot true) shared))) (lease_has g (only_slot x.folder) has) in
       let some : list_any (λ (r : Parked). r.tenure && holds_wanted r (lease_from g)) s.ledger.parked ≡ true = any_in (λ (r : Parked). r.tenure && holds_wanted r (lease_from g)) p s.ledger.parked (subst (In p) (sym (agrees_in u run s shows Nudge).parked) i) (and_both p.tenure (holds_wanted p (lease_from g)) asks holds) in
-      and_both g.tenure (list_any (λ (r : Parked). r.tenure && holds_wanted r (lease_from g)) s.ledger.parked) tenure some
+      and_both (is_tenure g.kind) (list_any (λ (r : Parked). r.tenure && holds_wanted r (lease_from g)) s.ledger.parked) tenure some
 
   retires_only : (s : Farm) (n : NodeId) (j : ℕ) → (put n.0 true s.ledger.gone j ≡ s.ledger.gone j) ⊎ (Retire n ≡ Retire (record { 0 = j }))
   retires_only s n j = elim (cases_eq j n.0) [ inl e ↦ inr (ap Retire (node_is n (record { 0 = j }) (sym e))) | inr ne ↦ inl (put_other n.0 true s.ledger.gone j ne) ]

@@ -1,6 +1,7 @@
 -- What each step of the machine keeps.
 use Rattle.std.proofs.Common.{◌≡◌, ◌≢◌, ℕ, ◌+◌, ◌<◌, ◌≤◌, List, [], ◌∷◌, ◌++◌, ◌⊎◌, Bool, true, false, not, ◌||◌, length, Option, Some, None, slice_get, refl, sym, ◌∙◌, ap, subst, inl, inr, arith, append-nil}
 use Rattle.std.proofs.lemmas.Bool.{not-true, cases_order, cases_eq, cases_Bool}
+use Rattle.farm_base.specs.Kinds.{is_tenure}
 use Rattle.protocol.specs.Lists.{In, IsFrontOf, put}
 use Rattle.protocol.specs.Names.{Mode, Shared, Private, Locked, Slot, slot_eq, is_private, is_shared, is_alone, wants_shared, Digest, NodeId, Ticket, Want, leased_wants}
 use Rattle.protocol.specs.Machine.{GrantedSlot, Grant, LineVersion, Ending, Committed, Released, Withdrawn, Died, Made, Granted, Pruned, ticket_of, Message, Machine, Has, Live, Leased, Free, version_at, added, line, Names, Based, AnswersAsk, want_of, MayEnd, Parked, Step, Grants, Ends, Prunes, Sees, Retires, Parks, Unparks, Raises}
@@ -29,7 +30,7 @@ pub record Sound (empty : Digest) (m : Machine) : Type 0 where
   pub named : (g : Grant) (u : GrantedSlot) → In (Granted g) m.made → In u g.slots → Names empty (line empty m u.slot) u.base u.digest
   pub placed : (s : Slot) (j : ℕ) (v : LineVersion) → slice_get (line empty m s) j ≡ Some v → Placed m s j v
   -- a grant of a SHARED slot is a tenure
-  pub tenures : (g : Grant) (s : Slot) → In (Granted g) m.made → Has g s → is_shared s.folder.mode ≡ true → g.tenure ≡ true
+  pub tenures : (g : Grant) (s : Slot) → In (Granted g) m.made → Has g s → is_shared s.folder.mode ≡ true → is_tenure g.kind ≡ true
 
 -- what stays once it is so
 pub record Later (empty : Digest) (m m' : Machine) : Type 0 where
@@ -58,10 +59,10 @@ leased_shared : (tenure : Bool) (wants : List Want) (w : Want) → In w (leased_
 leased_shared true wants w i h = refl
 leased_shared false wants w i h = (let r = from_filter (λ v. not (wants_shared v)) w wants i in true_false (wants_shared w) h (not-true (wants_shared w) r.1))
 
-pub answers_tenure : (g : Grant) (wants : List Want) (s : Slot) → AnswersAsk g wants → Has g s → is_shared s.folder.mode ≡ true → g.tenure ≡ true
+pub answers_tenure : (g : Grant) (wants : List Want) (s : Slot) → AnswersAsk g wants → Has g s → is_shared s.folder.mode ≡ true → is_tenure g.kind ≡ true
 answers_tenure g wants s answers has h =
-    let i : In (want_of has.0) (leased_wants g.tenure wants) = subst (In (want_of has.0)) answers.slots (in_map want_of has.0 g.slots has.1) in
-    leased_shared g.tenure wants (want_of has.0) i (subst (λ (z : Slot). is_shared z.folder.mode ≡ true) (sym has.2) h)
+    let i : In (want_of has.0) (leased_wants (is_tenure g.kind) wants) = subst (In (want_of has.0)) answers.slots (in_map want_of has.0 g.slots has.1) in
+    leased_shared (is_tenure g.kind) wants (want_of has.0) i (subst (λ (z : Slot). is_shared z.folder.mode ≡ true) (sym has.2) h)
 
 -- a slot of its own is PRIVATE or SHARED
 pub alone_cases : (s : Slot) → is_alone s ≡ true → (is_private s.folder.mode ≡ true) ⊎ (is_shared s.folder.mode ≡ true)
@@ -113,7 +114,7 @@ module _ (empty : Digest) (m : Machine) (sound : Sound empty m) where
 
 module _ (empty : Digest) (m : Machine) (sound : Sound empty m) (g : Grant) (newer : m.last < g.ticket.0)
     (free : (u : GrantedSlot) → In u g.slots → Free m u.slot × Based empty m u)
-    (tenure : (s : Slot) → Has g s → is_shared s.folder.mode ≡ true → g.tenure ≡ true) where
+    (tenure : (s : Slot) → Has g s → is_shared s.folder.mode ≡ true → is_tenure g.kind ≡ true) where
   abbrev after_grant : Machine
   after_grant = record m { made = Granted g ∷ m.made; last = g.ticket.0 }
 
@@ -123,8 +124,8 @@ module _ (empty : Digest) (m : Machine) (sound : Sound empty m) (g : Grant) (new
   -- a grant of a SHARED slot never ended Withdrawn
   tenure_kept : (g' : Grant) (s : Slot) (y : Ending) → In (Granted g') m.made → Has g' s → m.ending g'.ticket.0 ≡ Some y → is_shared s.folder.mode ≡ true → y ≢ Withdrawn
   tenure_kept g' s y i k e h w =
-      let law : g'.tenure ≡ false = subst (Lawful g') w (sound.laws g' y i e) in
-      true_false g'.tenure (sound.tenures g' s i k h) law
+      let law : is_tenure g'.kind ≡ false = subst (Lawful g') w (sound.laws g' y i e) in
+      true_false (is_tenure g'.kind) (sound.tenures g' s i k h) law
 
   grant_gone : (g' : Grant) (s : Slot) → In (Granted g') m.made → Has g s → Has g' s → Gone m.ending (Granted g) s g'
   grant_gone g' s i k k' =
@@ -178,7 +179,7 @@ module _ (empty : Digest) (m : Machine) (sound : Sound empty m) (g : Grant) (new
     ]);
     placed = λ s j v h. grant_placed s j v (subst (λ l. slice_get l j ≡ Some v) (grant_line s) h);
     tenures = λ g' s k has h. elim k [
-      | inl p ↦ (let q : g' ≡ g = granted_is g' g p in subst (λ (z : Grant). z.tenure ≡ true) (sym q) (tenure s (subst (λ (z : Grant). Has z s) q has) h))
+      | inl p ↦ (let q : g' ≡ g = granted_is g' g p in subst (λ (z : Grant). is_tenure z.kind ≡ true) (sym q) (tenure s (subst (λ (z : Grant). Has z s) q has) h))
       | inr i ↦ sound.tenures g' s i has h
     ];
   }

@@ -1,6 +1,7 @@
 -- Each move keeps the invariant, and so every run is safe.
 use Rattle.std.proofs.Common.{◌≡◌, ◌≢◌, ℕ, zero, suc, ◌<◌, ◌≤◌, List, [], ◌∷◌, ◌++◌, true, Option, Some, None, refl, sym, ◌∙◌, ap, subst, inl, inr, arith}
 use Rattle.std.proofs.lemmas.Bool.{cases_eq, cases_Bool}
+use Rattle.farm_base.specs.Kinds.{is_tenure}
 use Rattle.protocol.specs.Lists.{In, put, nth}
 use Rattle.protocol.specs.Names.{Slot, slot_eq, Digest, NodeId, Ticket}
 use Rattle.protocol.specs.Machine.{Grant, News, LineVersion, Ending, Committed, Released, Withdrawn, Died, Made, Granted, ticket_of, Message, Told, FromCoord, acquire, commit, release, Machine, Live, added, line, line_of, digest_for, version_of, version_at, written, slots_of, MayEnd, Step, Grants, Ends, Prunes, Sees, Retires, Parks, Unparks, Raises, Steps, No_step, One_more, Says, Says_granted, Says_committed, Says_fenced, Says_denied, Says_recall}
@@ -22,7 +23,7 @@ onward_trans : (empty : Digest) (w v u : World) → Onward empty w v → Onward 
 onward_trans empty w v u p q = record { machine = later_trans empty w.machine v.machine u.machine p.machine q.machine; pool = λ x i. q.pool x (p.pool x i) }
 
 wanted_later : (pool sends : List Message) (g : Grant) → WasWanted pool g → WasWanted (pool ++ sends) g
-wanted_later pool sends g r = (r.0, in_left (acquire g.node g.life g.ask r.0 g.tenure) pool sends r.1, r.2)
+wanted_later pool sends g r = (r.0, in_left (acquire g.node g.life g.ask r.0 (is_tenure g.kind)) pool sends r.1, r.2)
 
 module _ (sha : List ℕ → Digest) (w : World) (inv : Inv sha w) where
   -- a node acts

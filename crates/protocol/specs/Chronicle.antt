@@ -1,5 +1,6 @@
 -- What is so of every schedule (docs/PROOFS.md, "The headline").
 use Rattle.std.specs.Prelude.{◌≡◌, ◌≢◌, Bool, ℕ, ◌+◌, ◌<◌, ◌≤◌, ◌⊎◌, nat_lt, false, true, slice_get, List, [], ◌∷◌, ◌++◌, Option, Some, None, ⊤, Ok, Err}
+use Rattle.farm_base.specs.Kinds.{is_tenure}
 use Rattle.protocol.specs.Lists.{In, IsFrontOf, nth}
 use Rattle.protocol.specs.Names.{Slot, is_alone, IsInstance, Shared, Private, FolderName, NodeId, Life, Ask, Ticket, Digest, Want}
 use Rattle.protocol.specs.Machine.{Grant, GrantedSlot, Confirmed, LineVersion, Message, Said, Told, ToCoord, Parked, Machine, Live, Has, acquire}
@@ -76,7 +77,7 @@ SentUnder pool t g = In (Told (told.Granted g)) pool × (g.ticket ≡ t)
 
 -- and the ask that it answers wants the folder
 abbrev pub WantedUnder : List Message → Ticket → FolderName → Type 0
-WantedUnder pool t f = (g : Grant) × (wants : List Want) × (w : Want) × SentUnder pool t g × In (acquire g.node g.life g.ask wants g.tenure) pool × In w wants × (w.folder ≡ f)
+WantedUnder pool t f = (g : Grant) × (wants : List Want) × (w : Want) × SentUnder pool t g × In (acquire g.node g.life g.ask wants (is_tenure g.kind)) pool × In w wants × (w.folder ≡ f)
 
 -- two executions, on these nodes under these tickets, may be at once: they have no instance of a PRIVATE folder in common,
 -- and where both want one SHARED folder they are on one node
@@ -133,7 +134,7 @@ pub record Headline (sha : List ℕ → Digest) (k : Limits) (s : Farm) : Type 0
       → let after : Farm = run sha k late (step sha k s (Begin n t)).farm in
       (step sha k after (Begin n' t')).outcome ≡ Ok o' → NoneShared after.pool t t'
   -- each Grant ever sent answers an ask that was sent, and has the slots that it wanted
-  pub wanted : (g : Grant) → In (Told (told.Granted g)) s.pool → (wants : List Want) × In (acquire g.node g.life g.ask wants g.tenure) s.pool × SlotsWanted g.tenure wants g.slots
+  pub wanted : (g : Grant) → In (Told (told.Granted g)) s.pool → (wants : List Want) × In (acquire g.node g.life g.ask wants (is_tenure g.kind)) s.pool × SlotsWanted (is_tenure g.kind) wants g.slots
   -- with a PRIVATE folder's instance that the farm has
   pub instance : (g : Grant) (u : GrantedSlot) → In (Told (told.Granted g)) s.pool → In u g.slots → u.slot.folder.mode ≡ Private → u.slot.instance ≤ k.instances
   -- what is asked under one name is one

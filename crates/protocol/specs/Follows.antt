@@ -1,6 +1,7 @@
 -- The ledger agrees with a machine that forgets nothing, and a farm's state with a world
 -- (docs/PROOFS.md, "From the replay to the world").
 use Rattle.std.specs.Prelude.{◌≡◌, ◌≢◌, ℕ, ◌+◌, ◌<◌, ◌≤◌, nat_lt, if◌then◌else◌, true, false, List, [], ◌∷◌, ◌++◌, ◌⊎◌, map, Option, Some, None, ⊤, Result, Ok, Err}
+use Rattle.farm_base.specs.Kinds.{has_shared, is_tenure}
 use Rattle.protocol.specs.Lists.{In}
 use Rattle.farm_base.specs.declared.message.Request.TheVariants.{Acquire, Commit, Release}
 use Rattle.farm_base.specs.declared.message.FromCoord.TheVariants as told
@@ -22,8 +23,8 @@ lease_from g = record {
   node = g.node;
   life = g.life;
   ask = g.ask;
-  shared = g.shared;
-  tenure = g.tenure;
+  shared = has_shared g.kind;
+  tenure = is_tenure g.kind;
   slots = map (λ u. (u.slot, u.writable)) g.slots;
 }
 
@@ -125,7 +126,7 @@ FollowsOk empty pool m ends (Err e) = ⊤
 
 -- what is asked for rightly is accepted: the withdrawal of a live grant, unless it is a tenure
 abbrev pub WithdrawIsTaken : Limits → Machine → Ledger → Type 0
-WithdrawIsTaken k m q = (g : Grant) → Live m g → g.tenure ≡ false → (w : Work) × (withdrawn k g.ticket (begin_work q) ≡ Ok w)
+WithdrawIsTaken k m q = (g : Grant) → Live m g → is_tenure g.kind ≡ false → (w : Work) × (withdrawn k g.ticket (begin_work q) ≡ Ok w)
 
 -- and the Commit of a live grant, of no older life of its node, with news for exactly its writable slots
 abbrev pub CommitIsTaken : Limits → Machine → Ledger → Type 0

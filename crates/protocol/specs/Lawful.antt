@@ -25,15 +25,15 @@ pub record IsSpeaker (top : ℕ) (n : NodeId) (l : Life) : Type 0 where
   pub life : 1 ≤ l.0
 
 -- one SHARED folder, writable
-abbrev pub is_tenure : List Want → Bool
-is_tenure [] = false
-is_tenure (w ∷ []) = is_shared w.folder.mode && w.writable
-is_tenure (w ∷ x ∷ ws) = false
+abbrev pub are_for_tenure : List Want → Bool
+are_for_tenure [] = false
+are_for_tenure (w ∷ []) = is_shared w.folder.mode && w.writable
+are_for_tenure (w ∷ x ∷ ws) = false
 
 -- at most 16 folders, each once; a tenure wants its SHARED folder alone, writable
 pub record AreAsked (tenure : Bool) (wants : List Want) : Type 0 where
   pub sorted : IsWants wants
-  pub one : tenure ≡ true → is_tenure wants ≡ true
+  pub one : tenure ≡ true → are_for_tenure wants ≡ true
 
 abbrev pub IsRequest : Request → Type 0
 IsRequest Hello = ⊤

@@ -5,6 +5,7 @@ use Rattle.std.specs.List.{list_any, find}
 use Rattle.protocol.specs.Lists.{put, is_nil}
 use Rattle.protocol.specs.Names.{Slot, slot_eq, slots_eq, is_private, only_slot, NodeId, Life, Ask, Ticket, Digest, Want, FolderName, any_shared, leased_wants}
 use Rattle.protocol.specs.Machine.{News, GrantedSlot, Confirmed, LineVersion, Grant, FromCoord, ToCoord, Parked, version_of, digest_for, slots_of, cleared}
+use Rattle.farm_base.specs.Kinds.{kind_of}
 use Rattle.farm_base.specs.declared.message.Request.{Request}
 use Rattle.farm_base.specs.declared.message.Request.TheVariants.{Hello, Acquire, Commit, Release}
 use Rattle.farm_base.specs.declared.message.FromCoord.TheVariants as told
@@ -121,8 +122,7 @@ grant_of empty line g = record {
   node = g.node;
   life = g.life;
   ask = g.ask;
-  shared = g.shared;
-  tenure = g.tenure;
+  kind = kind_of g.shared g.tenure;
   slots = map (granted_slot empty line) g.slots;
 }
 

@@ -1,6 +1,7 @@
 -- The coordinator's machine, which forgets nothing: every grant ever made, how each ended, and what is read
 -- off these (docs/PROTOCOL.md, "The machine"). The rules are this project's own.
 use Rattle.std.specs.Prelude.{◌≡◌, ◌≢◌, ℕ, ◌+◌, ◌<◌, ◌≤◌, Bool, true, false, ◌==◌, if◌then◌else◌, List, [], ◌∷◌, ◌++◌, length, map, ◌⊎◌, Option, Some, None, slice_get}
+use Rattle.farm_base.specs.Kinds.{has_shared, is_tenure}
 use Rattle.protocol.specs.Lists.{In, put}
 use Rattle.protocol.specs.Names.{Slot, slot_eq, is_private, IsInstance, NodeId, Life, Ask, Ticket, Digest, Want, FolderName, any_shared, leased_wants, tenure_wants}
 use Rattle.farm_base.specs.declared.message.Request.TheVariants as request
@@ -151,13 +152,13 @@ Based empty m u = (u.base ≡ length (line empty m u.slot)) × Names empty (line
 
 -- the grant answers an ask with these wants
 pub record AnswersAsk (g : Grant) (wants : List Want) : Type 0 where
-  pub shared : g.shared ≡ any_shared wants
+  pub shared : has_shared g.kind ≡ any_shared wants
   -- its slots are those of the wants, in their order
-  pub slots : map want_of g.slots ≡ leased_wants g.tenure wants
+  pub slots : map want_of g.slots ≡ leased_wants (is_tenure g.kind) wants
   -- a PRIVATE folder's instances are 1 to 4,096, every other's is 0
   pub instances : (u : GrantedSlot) → In u g.slots → IsInstance u.slot.folder.mode u.slot.instance
   -- a tenure is of one SHARED folder, writable
-  pub tenure : g.tenure ≡ true → (f : FolderName) × (wants ≡ tenure_wants f)
+  pub tenure : is_tenure g.kind ≡ true → (f : FolderName) × (wants ≡ tenure_wants f)
 
 -- both answer one ask
 abbrev pub SameAsk : Grant → Grant → Type 0
@@ -171,7 +172,7 @@ WasHeard pool n l = (m : ToCoord) × In (Said m) pool × (m.node ≡ n) × (m.li
 abbrev pub MayEnd : List Message → Machine → Grant → Ending → Type 0
 MayEnd pool m g (Committed news) = In (commit g.node g.life g.ticket news) pool × (slots_of news ≡ written g.slots) × (news ≢ [])
 MayEnd pool m g Released = In (release g.node g.life g.ticket) pool
-MayEnd pool m g Withdrawn = g.tenure ≡ false
+MayEnd pool m g Withdrawn = is_tenure g.kind ≡ false
 MayEnd pool m g Died = (l : Life) × WasHeard pool g.node l × (g.life.0 < l.0) × (m.gone g.node.0 ≡ false)
 
 -- clears the old home if it is this node
@@ -188,12 +189,12 @@ pub data IsPartOf {A : Type 0} : List A → List A → Type 0 where
 -- one step of the machine, where these messages were ever sent
 pub data Step (empty : Digest) (pool : List Message) (m : Machine) : Machine → Type 0 where
   Grants : (g : Grant) (wants : List Want)
-      → In (acquire g.node g.life g.ask wants g.tenure) pool
+      → In (acquire g.node g.life g.ask wants (is_tenure g.kind)) pool
       → AnswersAsk g wants
       → (m.gone g.node.0 ≡ false)
       → ((h : Grant) → Live m h → SameAsk g h → ⊥)
       -- a tenure waits until the old home is cleared, or is the old home's
-      → (g.tenure ≡ true → (h : NodeId) → m.old_home ≡ Some h → h ≡ g.node)
+      → (is_tenure g.kind ≡ true → (h : NodeId) → m.old_home ≡ Some h → h ≡ g.node)
       → m.last < g.ticket.0
       → ((u : GrantedSlot) → In u g.slots → Free m u.slot × Based empty m u)
       → Step empty pool m (record m { made = Granted g ∷ m.made; last = g.ticket.0 })
@@ -257,4 +258,4 @@ pub data Says (empty : Digest) (pool : List Message) (m : Machine) : FromCoord �
   Says_denied : (n : NodeId) (l : Life) (a : Ask) (why : Why) (wants : List Want) (tenure : Bool)
       → In (acquire n l a wants tenure) pool
       → Says empty pool m (told.Denied n l a why)
-  Says_recall : (g : Grant) → Live m g → (g.tenure ≡ true) → Says empty pool m (told.Recall g.node g.life g.ticket)
+  Says_recall : (g : Grant) → Live m g → (is_tenure g.kind ≡ true) → Says empty pool m (told.Recall g.node g.life g.ticket)

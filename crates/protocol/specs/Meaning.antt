@@ -1,6 +1,7 @@
 -- What an answered event means: of the world before it, u, and the world after it, v (docs/PROOFS.md,
 -- "What the notes mean").
 use Rattle.std.specs.Prelude.{◌≡◌, ◌≢◌, ℕ, ◌+◌, ◌-◌, ◌<◌, ◌≤◌, nat_lt, filter, Bool, false, true, if◌then◌else◌, ◌⊎◌, Option, Some, None, ⊤, List, [], ◌∷◌, ◌++◌, length, map, Result, Ok, Err}
+use Rattle.farm_base.specs.Kinds.{is_tenure}
 use Rattle.protocol.specs.Lists.{In, put, nth, set_nth}
 use Rattle.protocol.specs.Names.{Slot, slot_eq, is_private, Mode, Shared, Private, Locked, FolderName, NodeId, Life, Ask, Ticket, Digest, Want, tenure_wants}
 use Rattle.protocol.specs.Machine.{Grant, GrantedSlot, Granted, ticket_of, Message, Told, News, Confirmed, LineVersion, Ending, Committed, Released, Withdrawn, Died, Said, Fetch, Fetches, Blob, FromCoord, ToCoord, Parked, IsPartOf, Machine, Has, Live, Leased, Retired, Free, line, version_of, digest_for, slots_of, written, hello, acquire, commit, release}
@@ -50,7 +51,7 @@ RetireEnds n g y = (g.node ≡ n) × (y ≡ Withdrawn)
 
 -- the record has a lease only if it has a PRIVATE slot or is a tenure
 abbrev pub RestartEnds : Grant → Ending → Type 0
-RestartEnds g y = (g.tenure ≡ false) × ((s : Slot) → Has g s → is_private s.folder.mode ≡ false) × (y ≡ Withdrawn)
+RestartEnds g y = (is_tenure g.kind ≡ false) × ((s : Slot) → Has g s → is_private s.folder.mode ≡ false) × (y ≡ Withdrawn)
 
 abbrev pub NoEnds : Grant → Ending → Type 0
 NoEnds g y = ⊥
@@ -210,7 +211,7 @@ MessageMeans empty y m told m' sends = ⊥
 abbrev pub CoordDid : Digest → World → Event → EventNote → Machine → List Message → Type 0
 CoordDid empty u (Deliver number) said m' sends = (y : ToCoord) → nth u.pool number ≡ Some (Said y) → (told : CoordNote) × (said ≡ note.Coord told) × MessageMeans empty y u.machine told m' sends
 CoordDid empty u Nudge said m' sends = (said ≡ note.Coord coord.Nudged) × ((g : Grant) → Live u.machine g → In (Told (message.Granted g)) sends)
-    × ((g : Grant) → Live u.machine g → g.tenure ≡ true → IsAwaited u.machine g → In (Told (message.Recall g.node g.life g.ticket)) sends)
+    × ((g : Grant) → Live u.machine g → is_tenure g.kind ≡ true → IsAwaited u.machine g → In (Told (message.Recall g.node g.life g.ticket)) sends)
 CoordDid empty u (Withdraw t) said m' sends = (said ≡ note.Coord (coord.Withdrawn t)) × IsLive u.machine t
 CoordDid empty u (Prune s) said m' sends = (t : Ticket) × (said ≡ note.Coord (coord.Pruned t)) × (u.machine.last < t.0)
 CoordDid empty u (Retire n) said m' sends = (said ≡ note.Coord (coord.Retired n)) × (u.machine.gone n.0 ≡ false) × (m'.gone n.0 ≡ true)
@@ -308,7 +309,7 @@ IsAnsweredBefore x (message.Granted g) = (s : KeptAsk) × IsAsk x g.ask.0 s × (
 IsAnsweredBefore x (message.Committed n l t versions) = (a : ℕ) (wants : List Want) (g : Grant) (news : List News) → IsAsk x a (Finished wants g news) → g.ticket ≢ t
 IsAnsweredBefore x (message.Fenced n l t) = (a : ℕ) (wants : List Want) (g : Grant) (news : List News) → IsAsk x a (Finished wants g news) → g.ticket ≢ t
 IsAnsweredBefore x (message.Denied n l a why) = (wants : List Want) (tenure : Bool) → IsAsk x a.0 (Open wants tenure) → ⊥
-IsAnsweredBefore x (message.Recall n l t) = (a : ℕ) (wants : List Want) (g : Grant) → g.ticket ≡ t → g.tenure ≡ true → IsAsk x a (Holding wants g false) ⊎ IsAsk x a (Running wants g false) → ⊥
+IsAnsweredBefore x (message.Recall n l t) = (a : ℕ) (wants : List Want) (g : Grant) → g.ticket ≡ t → is_tenure g.kind ≡ true → IsAsk x a (Holding wants g false) ⊎ IsAsk x a (Running wants g false) → ⊥
 
 -- a grant that isn't begun has the digest as a base
 abbrev pub IsBase : Node → Digest → Type 0

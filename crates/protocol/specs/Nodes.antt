@@ -1,6 +1,7 @@
 -- What a node does at each message and call, all choices made (docs/PROTOCOL.md, "What a node does").
 use Rattle.std.specs.Prelude.{ℕ, zero, suc, ◌+◌, Bool, true, false, not, ◌&&◌, ◌||◌, ◌==◌, nat_lt, if◌then◌else◌, List, [], ◌∷◌, ◌++◌, length, map, filter, Option, Some, None, is_some, Result, Ok, Err}
 use Rattle.std.specs.List.{list_any, list_all, flat_map}
+use Rattle.farm_base.specs.Kinds.{is_tenure}
 use Rattle.farm_base.specs.Folders.{folder_eq}
 use Rattle.protocol.specs.Lists.{nth, set_nth}
 use Rattle.protocol.specs.Names.{Shared, slots_eq, digest_eq, NodeId, Life, Ask, Ticket, Digest, Want, FolderName, wants_shared, tenure_wants}
@@ -44,16 +45,16 @@ wants_folder f wants = list_any (λ w. folder_eq w.folder f) wants
 -- the ask is a tenure of the folder, and is present
 abbrev pub is_tenure_of : FolderName → KeptAsk → Bool
 is_tenure_of f (Open wants tenure) = tenure && wants_folder f wants
-is_tenure_of f (Holding wants g r) = g.tenure && wants_folder f wants
-is_tenure_of f (Running wants g r) = g.tenure && wants_folder f wants
-is_tenure_of f (Finished wants g news) = g.tenure && wants_folder f wants
+is_tenure_of f (Holding wants g r) = is_tenure g.kind && wants_folder f wants
+is_tenure_of f (Running wants g r) = is_tenure g.kind && wants_folder f wants
+is_tenure_of f (Finished wants g news) = is_tenure g.kind && wants_folder f wants
 is_tenure_of f (Over how) = false
 
 -- the ask is a tenure of the folder that is in use and not recalled
 abbrev pub is_home_of : FolderName → KeptAsk → Bool
 is_home_of f (Open wants tenure) = false
 is_home_of f (Holding wants g r) = false
-is_home_of f (Running wants g r) = not r && (g.tenure && wants_folder f wants)
+is_home_of f (Running wants g r) = not r && (is_tenure g.kind && wants_folder f wants)
 is_home_of f (Finished wants g news) = false
 is_home_of f (Over how) = false
 
@@ -74,7 +75,7 @@ others_use a wants [] k = false
 others_use a wants (s ∷ ss) k = (not (k + 1 == a) && list_any (λ w. uses w.folder s) wants) || others_use a wants ss (k + 1)
 
 abbrev pub in_use : List KeptAsk → ℕ → List Want → Grant → Bool
-in_use asks a wants g = g.tenure && others_use a wants asks 0
+in_use asks a wants g = is_tenure g.kind && others_use a wants asks 0
 
 -- a granted ask, and whether it was recalled
 pub record HeldGrant : Type 0 where
@@ -135,8 +136,8 @@ recalled_if false s = None
 -- a tenure that is granted or running under the ticket and was not recalled, as it is then
 abbrev pub recallable : Ticket → KeptAsk → Option KeptAsk
 recallable t (Open wants tenure) = None
-recallable t (Holding wants g r) = recalled_if ((g.ticket.0 == t.0) && g.tenure && not r) (Holding wants g true)
-recallable t (Running wants g r) = recalled_if ((g.ticket.0 == t.0) && g.tenure && not r) (Running wants g true)
+recallable t (Holding wants g r) = recalled_if ((g.ticket.0 == t.0) && is_tenure g.kind && not r) (Holding wants g true)
+recallable t (Running wants g r) = recalled_if ((g.ticket.0 == t.0) && is_tenure g.kind && not r) (Running wants g true)
 recallable t (Finished wants g news) = None
 recallable t (Over how) = None
 

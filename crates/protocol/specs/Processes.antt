@@ -3,6 +3,7 @@
 -- is the premise on the farm's key, under which no other line opens, nor half a line. Further premises: one process at a time is
 -- the coordinator, or is one node; what was saved lasts; an execution is over before its node's next life begins.
 use Rattle.std.specs.Prelude.{◌≡◌, ◌≢◌, ℕ, ◌+◌, ◌<◌, ◌≤◌, Bool, true, false, if◌then◌else◌, List, [], ◌∷◌, ◌++◌, map, ◌⊎◌, Option, Some, None, is_some, Result, Ok, Err, slice_get, ⊤}
+use Rattle.farm_base.specs.Kinds.{is_tenure}
 use Rattle.protocol.specs.Lists.{In, IsFrontOf, put, nth}
 use Rattle.protocol.specs.Names.{Slot, is_alone, wants_shared, only_slot, NodeId, Life, Ask, Ticket, Digest, Want, FolderName}
 use Rattle.protocol.specs.Machine.{Grant, Confirmed, LineVersion, Message, ToCoord, ToNode, Said, Told, Has, hello, IsPartOf}
@@ -226,7 +227,7 @@ pub record StaySafe (sha : List ℕ → Digest) (p later : Processes) : Type 0 w
       → (n ≡ n') × (g ≡ g')
   -- an execution that wants a SHARED folder is on a node where the tenure of it is in use
   pub at_home : (n : NodeId) (g : Grant) (wants : List Want) (v : Want) → Executes (p.nodes n.0) g wants → In v wants → wants_shared v ≡ true
-      → (h : Grant) × (ws : List Want) × Executes (p.nodes n.0) h ws × (h.tenure ≡ true) × Has h (only_slot v.folder)
+      → (h : Grant) × (ws : List Want) × Executes (p.nodes n.0) h ws × (is_tenure h.kind ≡ true) × Has h (only_slot v.folder)
   -- a line on the disk only grows
   pub lines : (s : Slot) → IsFrontOf (p.coordinator.disk.line s) (later.coordinator.disk.line s)
   -- each version that a confirmation names, once that is written, stands there on the disk

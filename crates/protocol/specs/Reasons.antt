@@ -1,5 +1,6 @@
 -- When each refusal comes (docs/PROOFS.md, "What is accepted").
 use Rattle.std.specs.Prelude.{◌≡◌, ◌≢◌, ℕ, ◌≤◌, Bool, true, false, ◌⊎◌, Option, Some, None, ⊤, List, [], length, map, Result, Ok, Err}
+use Rattle.farm_base.specs.Kinds.{is_tenure}
 use Rattle.protocol.specs.Lists.{In, nth}
 use Rattle.protocol.specs.Names.{Shared, NodeId, Ticket, Want, wants_shared}
 use Rattle.protocol.specs.Machine.{Grant, GrantedSlot, Message, Said, ToCoord, Machine, Live, Leased, line, written}
@@ -23,12 +24,12 @@ use Rattle.protocol.specs.Meaning.{IsLive, IsAsk, IsNeeded, node_at}
 -- a call of the coordinator may be refused for this, and for nothing else
 abbrev pub CallBecause : Limits → Machine → Event → CoordRefusal → Type 0
 CallBecause k m (Withdraw t) coord.NotLive = IsLive m t → ⊥
-CallBecause k m (Withdraw t) coord.Tenure = (g : Grant) × Live m g × (g.ticket ≡ t) × (g.tenure ≡ true)
+CallBecause k m (Withdraw t) coord.Tenure = (g : Grant) × Live m g × (g.ticket ≡ t) × (is_tenure g.kind ≡ true)
 CallBecause k m (Prune s) coord.SlotLeased = Leased m s
 CallBecause k m (Prune s) coord.NoSuchSlot = line k.empty m s ≡ []
 CallBecause k m (Prune s) coord.TicketsSpent = k.greatest ≤ m.last
 CallBecause k m (Retire n) coord.NodeRetired = m.gone n.0 ≡ true
-CallBecause k m (Retire n) coord.TenureHeld = ((g : Grant) × Live m g × (g.node ≡ n) × (g.tenure ≡ true)) ⊎ (m.old_home ≡ Some n)
+CallBecause k m (Retire n) coord.TenureHeld = ((g : Grant) × Live m g × (g.node ≡ n) × (is_tenure g.kind ≡ true)) ⊎ (m.old_home ≡ Some n)
 CallBecause k m e r = ⊥
 
 -- what the coordinator decides at an event

@@ -1,5 +1,6 @@
 -- What is promised of every run (docs/PROTOCOL.md, "What is safe").
 use Rattle.std.specs.Prelude.{◌≡◌, ◌≢◌, ℕ, ◌<◌, Bool, List, [], ◌∷◌, ◌⊎◌, Some, None, true, slice_get, ⊤}
+use Rattle.farm_base.specs.Kinds.{is_tenure}
 use Rattle.protocol.specs.Lists.{In, IsFrontOf, nth}
 use Rattle.protocol.specs.Names.{Slot, is_alone, wants_shared, only_slot, NodeId, Life, Ticket, Digest, Want}
 use Rattle.protocol.specs.Machine.{GrantedSlot, Grant, LineVersion, Confirmed, Made, Granted, ticket_of, Told, Has, Withdrawn, Died, line, Names, Stands, Machine}
@@ -53,7 +54,7 @@ pub record Safe (sha : List ℕ → Digest) (w : World) : Type 0 where
       → (w.machine.ending g.ticket.0 ≡ None) → (w.machine.ending g'.ticket.0 ≡ None) → (n ≡ n') × (g ≡ g')
   -- an execution that wants a SHARED folder is on a node where the tenure of it is in use
   pub at_home : (n : NodeId) (g : Grant) (wants : List Want) (v : Want) → InUse w n g wants → In v wants → wants_shared v ≡ true
-      → (h : Grant) × (ws : List Want) × InUse w n h ws × (h.tenure ≡ true) × Has h (only_slot v.folder)
+      → (h : Grant) × (ws : List Want) × InUse w n h ws × (is_tenure h.kind ≡ true) × Has h (only_slot v.folder)
 
 -- of a world and a later one
 pub record SafeSince (sha : List ℕ → Digest) (w u : World) : Type 0 where

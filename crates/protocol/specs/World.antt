@@ -1,5 +1,6 @@
 -- The world: the machine, every message ever sent, and the nodes (docs/PROTOCOL.md, "The world").
 use Rattle.std.specs.Prelude.{◌≡◌, ◌≢◌, ℕ, ◌+◌, Bool, true, false, ◌==◌, if◌then◌else◌, List, [], ◌∷◌, ◌++◌, length, ◌⊎◌, Option, Some, None}
+use Rattle.farm_base.specs.Kinds.{is_tenure}
 use Rattle.protocol.specs.Lists.{In, put, nth, set_nth}
 use Rattle.protocol.specs.Names.{Slot, Shared, slot_eq, digest_eq, NodeId, Life, Ask, Ticket, Digest, Want, FolderName, wants_shared, tenure_wants}
 use Rattle.protocol.specs.Machine.{GrantedSlot, Grant, News, Confirmed, Message, Told, Fetches, Blob, hello, acquire, commit, release, Machine, Step, Steps, Says, written, slots_of}
@@ -54,13 +55,13 @@ without d store e = if digest_eq e d then None else store e
 -- an ask that is present and whose wants have the folder is the tenure of it
 pub data IsTenureOf (f : FolderName) : KeptAsk → Type 0 where
   Asked_tenure : (w : Want) (wants : List Want) → In w wants → (w.folder ≡ f) → IsTenureOf f (Open wants true)
-  Held_tenure : (w : Want) (wants : List Want) (g : Grant) (r : Bool) → In w wants → (w.folder ≡ f) → (g.tenure ≡ true) → IsTenureOf f (Holding wants g r)
-  Running_tenure : (w : Want) (wants : List Want) (g : Grant) (r : Bool) → In w wants → (w.folder ≡ f) → (g.tenure ≡ true) → IsTenureOf f (Running wants g r)
-  Finished_tenure : (w : Want) (wants : List Want) (g : Grant) (news : List News) → In w wants → (w.folder ≡ f) → (g.tenure ≡ true) → IsTenureOf f (Finished wants g news)
+  Held_tenure : (w : Want) (wants : List Want) (g : Grant) (r : Bool) → In w wants → (w.folder ≡ f) → (is_tenure g.kind ≡ true) → IsTenureOf f (Holding wants g r)
+  Running_tenure : (w : Want) (wants : List Want) (g : Grant) (r : Bool) → In w wants → (w.folder ≡ f) → (is_tenure g.kind ≡ true) → IsTenureOf f (Running wants g r)
+  Finished_tenure : (w : Want) (wants : List Want) (g : Grant) (news : List News) → In w wants → (w.folder ≡ f) → (is_tenure g.kind ≡ true) → IsTenureOf f (Finished wants g news)
 
 -- the tenure of the folder is in use here, recalled or not
 abbrev pub RunsTenure : List KeptAsk → FolderName → Bool → Type 0
-RunsTenure asks f recalled = (a : ℕ) × (wants : List Want) × (g : Grant) × (w : Want) × (nth asks a ≡ Some (Running wants g recalled)) × (g.tenure ≡ true) × In w wants × (w.folder ≡ f)
+RunsTenure asks f recalled = (a : ℕ) × (wants : List Want) × (g : Grant) × (w : Want) × (nth asks a ≡ Some (Running wants g recalled)) × (is_tenure g.kind ≡ true) × In w wants × (w.folder ≡ f)
 
 -- the ask wants the folder, and is open, granted or running
 pub data Uses (f : FolderName) : KeptAsk → Type 0 where
@@ -70,7 +71,7 @@ pub data Uses (f : FolderName) : KeptAsk → Type 0 where
 
 -- a tenure may end only where no other ask of the node uses its folder
 abbrev pub Idle : List KeptAsk → ℕ → List Want → Grant → Type 0
-Idle asks a wants g = g.tenure ≡ true → (w : Want) → In w wants → (b : ℕ) (s : KeptAsk) → nth asks b ≡ Some s → b ≢ a → Uses w.folder s → ⊥
+Idle asks a wants g = is_tenure g.kind ≡ true → (w : Want) → In w wants → (b : ℕ) (s : KeptAsk) → nth asks b ≡ Some s → b ≢ a → Uses w.folder s → ⊥
 
 abbrev pub has_life : Node → ℕ → Node
 has_life x l = record x { life = record { 0 = l }; asks = [] }

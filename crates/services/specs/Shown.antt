@@ -8,6 +8,7 @@ use Rattle.farm_base.specs.declared.lease.NodeLife.{NodeLife}
 use Rattle.farm_base.specs.declared.message.LineVersion.{LineVersion}
 use Rattle.farm_base.specs.declared.number.NodeId.{NodeId}
 use Rattle.farm_base.specs.Contents.{empty_digest}
+use Rattle.farm_base.specs.Kinds.{kind_of}
 use Rattle.farm_base.specs.Names.{slot_text}
 use Rattle.farm_base.specs.Slots.{SlotParts, slot_cmp}
 use Rattle.words.specs.Words.{access_text, digits_text, want_text}
@@ -59,7 +60,7 @@ holder_text lease =
 
 -- `: lease T N L A KIND [ro=]SLOT..`
 abbrev pub lease_fact : Lease → List ℕ
-lease_fact lease = holder_text lease ++ kind_text lease.shared lease.tenure ++ flat_map leased_text lease.slots ++ codes "\n"
+lease_fact lease = holder_text lease ++ kind_text (kind_of lease.shared lease.tenure) ++ flat_map leased_text lease.slots ++ codes "\n"
 
 -- the word of what is asked for
 abbrev pub asked_text : Bool → List ℕ

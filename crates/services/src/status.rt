@@ -6,7 +6,7 @@ ghost use Rattle.services.specs.Shown.{leased_text, holder_text, lease_fact, ask
 
 use super::printed::{Printed, push_each};
 use coordinator::Coordinator;
-use farm_base::{Key, Lease, LineVersion, NodeId, NodeLife, Parked, Slot, Ticket};
+use farm_base::{Key, Lease, LeaseKind, LineVersion, NodeId, NodeLife, Parked, Slot, Ticket};
 use farmwire::{kind_name, push_items};
 use saverecord::Keeper;
 use std::alloc::{AllocError, Global};
@@ -40,7 +40,7 @@ impl Printed for Lease {
 
     fn push(&self, alloc: Global, text: &mut String) -> Result<(), AllocError> {
         push_holder(text, self)?;
-        text.push_str(kind_name(self.shared, self.tenure))?;
+        text.push_str(kind_name(LeaseKind::of(self.shared, self.tenure)))?;
         push_each(alloc, text, self.slots.as_slice())?;
         text.push('\n')
     }
