@@ -6,6 +6,7 @@ use Rattle.std.proofs.lemmas.List.Folds.{list_any-append}
 use Rattle.farm_base.proofs.CompareLaws.{digest_exact, digest_eq-itself}
 use Rattle.farm_base.specs.Contents.{content_digest}
 use Rattle.farm_base.specs.Digests.{digest_eq}
+use Rattle.protocol.proofs.Others.{or_left, or_right}
 use Rattle.protocol.specs.Names.{Digest}
 
 -- the digest is one of these
@@ -16,21 +17,13 @@ is_among ds d = list_any (λ e. digest_eq e d) ds
 abbrev pub AreAmong : List Digest → List (List ℕ) → Type 0
 AreAmong ds cs = All (λ (c : List ℕ). is_among ds (content_digest c) ≡ true) cs
 
-left_true : (a b : Bool) → a ≡ true → (a || b) ≡ true
-left_true true b h = refl
-left_true false b h = absurd (cc h)
-
-right_true : (a b : Bool) → b ≡ true → (a || b) ≡ true
-right_true true b h = refl
-right_true false b h = h
-
 pub among_more : (ds : List Digest) (e d : Digest) → is_among ds d ≡ true → is_among (ds ++ e ∷ []) d ≡ true
-among_more ds e d h = list_any-append (λ (x : Digest). digest_eq x d) ds (e ∷ []) ∙ left_true (is_among ds d) (is_among (e ∷ []) d) h
+among_more ds e d h = list_any-append (λ (x : Digest). digest_eq x d) ds (e ∷ []) ∙ or_left (is_among ds d) (is_among (e ∷ []) d) h
 
 pub among_last : (ds : List Digest) (d : Digest) → is_among (ds ++ d ∷ []) d ≡ true
 among_last ds d =
     list_any-append (λ (x : Digest). digest_eq x d) ds (d ∷ [])
-    ∙ right_true (is_among ds d) (is_among (d ∷ []) d) (left_true (digest_eq d d) false (digest_eq-itself d))
+    ∙ or_right (is_among ds d) (is_among (d ∷ []) d) (or_left (digest_eq d d) false (digest_eq-itself d))
 
 pub all_more : (ds : List Digest) (e : Digest) (cs : List (List ℕ)) → AreAmong ds cs → AreAmong (ds ++ e ∷ []) cs
 all_more ds e cs h =
@@ -50,7 +43,7 @@ kept_front : (gone d e : Digest) (rest : List Digest) (is_gone is_it : Bool) →
 kept_front gone d e rest true true g i apart more h = absurd (apart (ap (λ (x : Digest). Some x) (sym (digest_exact e gone g) ∙ digest_exact e d i)))
 kept_front gone d e rest true false g i apart more h = more h
 kept_front gone d e rest false true g i apart more h = rw i refl
-kept_front gone d e rest false false g i apart more h = right_true (digest_eq e d) _ (more h)
+kept_front gone d e rest false false g i apart more h = or_right (digest_eq e d) _ (more h)
 
 pub still_among : (gone d : Digest) (ds : List Digest) → Some gone ≢ Some d → is_among ds d ≡ true → is_among (filter (λ (x : Digest). not (digest_eq x gone)) ds) d ≡ true
 still_among gone d [] apart h = absurd (cc h)

@@ -17,7 +17,7 @@ use Rattle.protocol.specs.Replay.{Farm, run, opening}
 use Rattle.protocol.specs.Follows.{lease_from, Agrees, MayBeGranted, after_life}
 use Rattle.protocol.specs.Meaning.{CouldBeGranted, IsOf}
 use Rattle.protocol.specs.Chronicle.{NoParkedAskCouldBeGranted, EndsNothing, IsNew, EveryAskIsAnswered}
-use Rattle.protocol.proofs.Base.{true_false, eqb_same, any_in, from_any, from_filter, cases_option, node_is}
+use Rattle.protocol.proofs.Base.{true_false, eqb_same, any_in, from_any, from_filter, cases_option, node_is, names_same}
 use Rattle.protocol.proofs.Steps.{Sound}
 use Rattle.protocol.proofs.Worlds.{moves_inv, start_whole}
 use Rattle.protocol.proofs.Leases.{Core, core_of, grant-lease, find_some, find_none, find_in}
@@ -31,13 +31,6 @@ pub no_parked_ask_could_be_granted : NoParkedAskCouldBeGranted
 no_parked_ask_could_be_granted sha k farm size events u shows p i could =
     let s : Farm = run sha k events (opening sha size) in
     no_parked_ask_is_ready sha k size events p (subst (In p) (sym shows.now.parked) i) (could_give k u.machine s.ledger (core_of k.empty u.pool u.machine s.ledger (subst (λ z. Agrees z u.pool u.machine s.ledger) (sym farm.empty) shows.now)) p could)
-
-names_same : (n n' : NodeId) (l l' : Life) (a a' : Ask) → n ≡ n' → l ≡ l' → a ≡ a' → ((eqb n.0 n'.0) && (eqb l.0 l'.0) && (eqb a.0 a'.0)) ≡ true
-names_same n n' l l' a a' p q r =
-    let x : eqb n.0 n'.0 ≡ true = subst (λ (z : NodeId). eqb n.0 z.0 ≡ true) p (eqb_same n.0) in
-    let y : eqb l.0 l'.0 ≡ true = subst (λ (z : Life). eqb l.0 z.0 ≡ true) q (eqb_same l.0) in
-    let w : eqb a.0 a'.0 ≡ true = subst (λ (z : Ask). eqb a.0 z.0 ≡ true) r (eqb_same a.0) in
-    rw (x, y, w) refl
 
 lt_is : (a b : ℕ) → a < b → nat_lt a b ≡ true
 lt_is a b h = grind (arith, nat_tests)

@@ -11,7 +11,7 @@ use Rattle.protocol.specs.Ledger.{Limits, begin_work}
 use Rattle.protocol.specs.Replay.{Event, run, opening}
 use Rattle.protocol.specs.Follows.{Shows, IsFarm, OnlyItself}
 use Rattle.protocol.specs.Chronicle.{FittingMessageIsGranted}
-use Rattle.protocol.proofs.Base.{in_append, in_one, none_some, some_is, nth_in}
+use Rattle.protocol.proofs.Base.{in_append, in_one, none_some, some_is, nth_in, request_is}
 use Rattle.protocol.proofs.Invariant.{Inv, Wanted, WasAsked}
 use Rattle.protocol.proofs.Worlds.{moves_inv, start_whole}
 use Rattle.protocol.proofs.Schedules.{from_opening}
@@ -24,9 +24,6 @@ OneAsk pool = (n : NodeId) (l : Life) (a : Ask) (ws ws' : List Want) (t t' : Boo
 
 said_is : (y z : ToCoord) → Said y ≡ Said z → y ≡ z
 said_is y z e = cc
-
-request_is : (a a' : Ask) (ws ws' : List Want) (t t' : Bool) → Acquire a ws t ≡ Acquire a' ws' t' → (a ≡ a') × (ws ≡ ws') × (t ≡ t')
-request_is a a' ws ws' t t' e = (cc, cc, cc)
 
 acquire_is : (n n' : NodeId) (l l' : Life) (a a' : Ask) (ws ws' : List Want) (t t' : Bool) → acquire n l a ws t ≡ acquire n' l' a' ws' t' → (n ≡ n') × (l ≡ l') × (a ≡ a') × (ws ≡ ws') × (t ≡ t')
 acquire_is n n' l l' a a' ws ws' t t' e =

@@ -1,9 +1,9 @@
 -- Members, places, fronts, functions changed at one place, and names.
-use Rattle.std.proofs.Common.{◌≡◌, ◌≢◌, ℕ, suc, zero, ◌+◌, List, [], ◌∷◌, ◌++◌, ◌⊎◌, Bool, true, false, eqb, length, map, filter, Option, Some, None, slice_get, refl, sym, ◌∙◌, ap, subst, inl, inr, arith, append_assoc, append-nil}
+use Rattle.std.proofs.Common.{◌≡◌, ◌≢◌, ℕ, suc, zero, ◌+◌, List, [], ◌∷◌, ◌++◌, ◌⊎◌, Bool, true, false, not, ◌&&◌, ◌≤◌, eqb, length, map, filter, Option, Some, None, slice_get, refl, sym, ◌∙◌, ap, subst, inl, inr, arith, append_assoc, append-nil}
 use Rattle.std.proofs.lemmas.Bool.{ne_eqb, cases_eq, and_parts, eqb-true, cases_Bool}
 use Rattle.std.proofs.lemmas.Bool.Decides.{nat_tests}
 use Rattle.std.proofs.lemmas.Slice.Eq.{bytes_eq-Decides}
-use Rattle.std.specs.Prelude.{All}
+use Rattle.std.specs.Prelude.{All, nat_lt}
 use Rattle.std.specs.List.{list_any}
 pub use Rattle.lists.proofs.Places.{get_front}
 use Rattle.std.specs.Option.{option_eq}
@@ -14,7 +14,8 @@ use Rattle.farm_base.specs.declared.folder.Base.{Base}
 use Rattle.farm_base.proofs.NameLaws.{folder_exact}
 use Rattle.lists.proofs.Places.{get_push_end, get-set_same, get-set_other}
 use Rattle.protocol.specs.Lists.{In, IsFrontOf, put, nth, set_nth}
-use Rattle.protocol.specs.Names.{Slot, slot_eq, digest_eq, Digest, FolderName, NodeId, Life, Ask, Ticket}
+use Rattle.protocol.specs.Names.{Slot, slot_eq, digest_eq, Digest, FolderName, NodeId, Life, Ask, Ticket, Want}
+use Rattle.farm_base.specs.declared.message.Request.TheVariants.{Acquire}
 
 pub in_left : {A : Type 0} (x : A) (xs ys : List A) → In x xs → In x (xs ++ ys)
 in_left x [] ys h = absurd h
@@ -215,3 +216,19 @@ pub all_in : {A : Type 0} (P : A → Type 0) (xs : List A) → All P xs → (x :
 all_in P [] h x i = absurd i
 all_in P (y ∷ ys) h x (inl e) = subst P (sym e) (h 0 y (omega arith))
 all_in P (y ∷ ys) h x (inr i) = all_in P ys (λ k d inside. h (suc k) d (omega arith)) x i
+
+pub names_same : (n n' : NodeId) (l l' : Life) (a a' : Ask) → n ≡ n' → l ≡ l' → a ≡ a' → ((eqb n.0 n'.0) && (eqb l.0 l'.0) && (eqb a.0 a'.0)) ≡ true
+names_same n n' l l' a a' p q r =
+    let x : eqb n.0 n'.0 ≡ true = subst (λ (z : NodeId). eqb n.0 z.0 ≡ true) p (eqb_same n.0) in
+    let y : eqb l.0 l'.0 ≡ true = subst (λ (z : Life). eqb l.0 z.0 ≡ true) q (eqb_same l.0) in
+    let w : eqb a.0 a'.0 ≡ true = subst (λ (z : Ask). eqb a.0 z.0 ≡ true) r (eqb_same a.0) in
+    rw (x, y, w) refl
+
+pub request_is : (a a' : Ask) (ws ws' : List Want) (t t' : Bool) → Acquire a ws t ≡ Acquire a' ws' t' → (a ≡ a') × (ws ≡ ws') × (t ≡ t')
+request_is a a' ws ws' t t' e = (cc, cc, cc)
+
+pub both_true : (a b : Bool) → a ≡ true → b ≡ true → (a && b) ≡ true
+both_true a b p q = rw (p, q) refl
+
+pub ge_from : (a b : ℕ) → not (nat_lt a b) ≡ true → b ≤ a
+ge_from a b h = grind (arith, nat_tests)

@@ -18,7 +18,7 @@ use Rattle.protocol.specs.Replay.{Event, Withdraw, Prune, Retire}
 use Rattle.protocol.specs.Ledger.{Limits, Ledger, Lease, Work, begin_work, has_slot, is_leased, writable_slots, Decision, Give, Deny, Wait, decision, gives, carried_out, tried, try_all, retried, has_ticket, lease_under, may_commit, may_release, committing, released, answering, is_older, sees, is_home, newer_life, handled, withdrawing, withdrawn, is_at, retired, pruned, notes, withdraws, prunes}
 use Rattle.protocol.specs.Follows.{lease_from, Agrees, CommitIsTaken, ReleaseIsTaken}
 use Rattle.protocol.specs.Reasons.{CallBecause}
-use Rattle.protocol.proofs.Base.{true_false, eqb_same, node_is, ticket_is, from_any, any_none, in_left, in_filter}
+use Rattle.protocol.proofs.Base.{true_false, eqb_same, node_is, ticket_is, from_any, any_none, in_left, in_filter, both_true}
 use Rattle.protocol.proofs.Steps.{Sound, same_grant, made_below}
 use Rattle.protocol.proofs.Leases.{core_of, not_leased, has_lease, writable-from, find_some, find_none, find_in}
 use Rattle.protocol.proofs.Following.{slots_eq_same}
@@ -51,9 +51,6 @@ le_not a b h = grind (arith, nat_tests)
 
 not_lt_self : (a : ℕ) → nat_lt a a ≡ false
 not_lt_self a = grind (arith, nat_tests)
-
-both_true : (a b : Bool) → a ≡ true → b ≡ true → (a && b) ≡ true
-both_true a b p q = rw (p, q) refl
 
 -- its leases have tickets of their own
 pub apart_of : (empty : Digest) (pool : List Message) (m : Machine) (q : Ledger) → Sound empty m → Agrees empty pool m q → Apart q

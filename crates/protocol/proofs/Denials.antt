@@ -19,7 +19,7 @@ use Rattle.protocol.specs.Ledger.{Limits, Ledger, Lease, Work, begin_work, says,
 use Rattle.protocol.specs.Ledger as ledger
 use Rattle.protocol.specs.Follows.{lease_from, NoLease, Waits, Agrees}
 use Rattle.protocol.specs.Meaning.{instance_of, IsDenied, DeniedBecause}
-use Rattle.protocol.proofs.Base.{true_false, in_append, in_one, from_any, any_none, eqb_same, from_filter}
+use Rattle.protocol.proofs.Base.{true_false, in_append, in_one, from_any, any_none, eqb_same, from_filter, names_same, ge_from}
 use Rattle.protocol.proofs.Leases.{core_of, find_none, find_some, flip_false, parked_part, waits_less, waits_filter}
 use Rattle.protocol.proofs.Trying.{tried_waits, tried-gone, try-gone, waiting_in, waiting_waits}
 use Rattle.protocol.proofs.Parking.{Fewer, fewer_refl, still_free, gives_fewer, recalls-ledger}
@@ -57,9 +57,6 @@ pick_deny false false true d y e = (let bad : Wait ≡ Deny y = e in cc)
 pick_deny false false false true y e = (let is : Deny why.TicketsSpent ≡ Deny y = e in inr (cc, refl))
 pick_deny false false false false y e = (let bad : Give ≡ Deny y = e in cc)
 
-ge_from : (a b : ℕ) → not (nat_lt a b) ≡ true → b ≤ a
-ge_from a b h = grind (arith, nat_tests)
-
 no_denied_grant : {P : Type 0} (n : NodeId) (l : Life) (a : Ask) (y : Why) (g : Grant) → told.Denied n l a y ≡ told.Granted g → P
 no_denied_grant n l a y g e = cc
 
@@ -74,13 +71,6 @@ no_denied_commit n l a y n' l' t vs e = cc
 
 no_denied_fence : {P : Type 0} (n : NodeId) (l : Life) (a : Ask) (y : Why) (n' : NodeId) (l' : Life) (t : Ticket) → told.Denied n l a y ≡ told.Fenced n' l' t → P
 no_denied_fence n l a y n' l' t e = cc
-
-names_same : (n n' : NodeId) (l l' : Life) (a a' : Ask) → n ≡ n' → l ≡ l' → a ≡ a' → ((eqb n.0 n'.0) && (eqb l.0 l'.0) && (eqb a.0 a'.0)) ≡ true
-names_same n n' l l' a a' p q r =
-    let x : eqb n.0 n'.0 ≡ true = subst (λ (z : NodeId). eqb n.0 z.0 ≡ true) p (eqb_same n.0) in
-    let y : eqb l.0 l'.0 ≡ true = subst (λ (z : Life). eqb l.0 z.0 ≡ true) q (eqb_same l.0) in
-    let w : eqb a.0 a'.0 ≡ true = subst (λ (z : Ask). eqb a.0 z.0 ≡ true) r (eqb_same a.0) in
-    rw (x, y, w) refl
 
 module _ (k : Limits) (pool : List Message) where
   denied_reason : (q : Ledger) (p : Parked) (y : Why) → decision k q p ≡ Deny y → Reason k q p.wants y

@@ -22,15 +22,12 @@ use Rattle.protocol.specs.Replay as replay
 use Rattle.protocol.specs.Meaning.{life_of, IsBase, Arrives, AsksAround, IsFetchFor, Repeats, Hello_again, Acquire_again, Commit_again, Fetch_again, Stored, Needs, Held_base, Running_base, Sent_news, IsNeeded, NodeMeans}
 use Rattle.protocol.specs.Reasons.{HoldsUnder, RunsUnder, NodeBecause}
 use Rattle.farm_base.proofs.CompareLaws.{digest_exact}
-use Rattle.protocol.proofs.Base.{in_filter, in_map, in_append, in_one, from_filter, from_map, node_is, cases_option, true_false, none_some, some_is, eqb_same, digest_eq_same, life_is, any_in, from_any, nth_in, in_left, in_right}
+use Rattle.protocol.proofs.Base.{in_filter, in_map, in_append, in_one, from_filter, from_map, node_is, cases_option, true_false, none_some, some_is, eqb_same, digest_eq_same, life_is, any_in, from_any, nth_in, in_left, in_right, ge_from}
 use Rattle.protocol.proofs.Following.{slots_eq_is, slots_eq_same}
 use Rattle.protocol.proofs.Moving.{found, held_is, running_is, either_is, finished_is, recallable_is, all_in, some_home, wants_folder_in, wants_folder_is, tenure_test, idle_from, stored_some, get_from}
 use Rattle.protocol.proofs.Using.{GrantOf, OneEach}
 
 -- ---- what tests say, the other way round
-
-below_not : (a b : ℕ) → not (nat_lt a b) ≡ true → b ≤ a
-below_not a b h = grind (arith, nat_tests)
 
 below_is : (a b : ℕ) → not (nat_lt a b) ≡ false → b ≤ a → ⊥
 below_is a b h = λ le. grind (arith, nat_tests)
@@ -246,7 +243,7 @@ module _ (sha : List ℕ → Digest) (k : Limits) (n : NodeId) (size : ℕ) (x :
       (λ away. (let r = not_all (λ (w : Want). not (wants_shared w) || list_any (is_home_of w.folder) x.asks) wants (not-true (at_home x.asks wants) away) in
       let o = or_parts (not (wants_shared r.0)) (list_any (is_home_of r.0.folder) x.asks) r.2 in
       (r.0, r.1, not-false (wants_shared r.0) o.0, λ runs. true_false (list_any (is_home_of r.0.folder) x.asks) (home_is r.0.folder x.asks runs) o.1)))
-      (λ home. on_guard None e (not (nat_lt (length x.asks) k.greatest)) refusal.AsksSpent _ (below_not (length x.asks) k.greatest)
+      (λ home. on_guard None e (not (nat_lt (length x.asks) k.greatest)) refusal.AsksSpent _ (ge_from (length x.asks) k.greatest)
       (λ left. ((wants, false, (refl, refl), refl, refl, refl), none up home left))))
     where
       none : x.spent ≡ false → not (at_home x.asks wants) ≡ false → not (nat_lt (length x.asks) k.greatest) ≡ false → (r : NodeRefusal) → NodeBecause k (replay.Ask n wants) x r → ⊥
@@ -263,7 +260,7 @@ module _ (sha : List ℕ → Digest) (k : Limits) (n : NodeId) (size : ℕ) (x :
       let g : FolderName = record f { mode = Shared } in
       on_guard None e x.spent refusal.LivesSpent _ (λ down. down) (λ up. on_guard None e (list_any (is_tenure_of g) x.asks) refusal.TenureHere _
       (λ some. (let r = from_any (is_tenure_of g) x.asks some in let a = get_from r.0 x.asks r.1 in (suc a.0, r.0, a.1, tenure_is g r.0 r.2)))
-      (λ idle. on_guard None e (not (nat_lt (length x.asks) k.greatest)) refusal.AsksSpent _ (below_not (length x.asks) k.greatest)
+      (λ idle. on_guard None e (not (nat_lt (length x.asks) k.greatest)) refusal.AsksSpent _ (ge_from (length x.asks) k.greatest)
       (λ left. ((tenure_wants f, true, (refl, refl), refl, refl, refl), none up idle left))))
     where
       none : x.spent ≡ false → list_any (is_tenure_of (record f { mode = Shared })) x.asks ≡ false → not (nat_lt (length x.asks) k.greatest) ≡ false → (r : NodeRefusal) → NodeBecause k (Tenure n f) x r → ⊥

@@ -19,7 +19,7 @@ use Rattle.protocol.specs.declared.answer.EventNote.TheVariants as event
 use Rattle.protocol.specs.Ledger.{Limits, Ledger, Lease, Work, begin_work, says, notes, is_leased, grant_of, Decision, Give, Deny, Wait, elsewhere, decision, lease_for, gives, denies, carried_out, tried, stays, try_all, waiting, parks, retried, is_of, lease_of, is_parked, holds_wanted, recall, recalls, decided, acquiring, lease_under, ends, commits, place_on_line, versions_of, on_all, may_commit, is_its, confirms, committing, may_release, released, answering, is_older, is_older_ask, sees, is_home, newer_life, handled, withdraws, withdrawing, withdrawn, is_at, goes, retired, prunes, pruned, is_awaited, nudges, nudge_all, nudged}
 use Rattle.protocol.specs.Ledger as ledger
 use Rattle.protocol.specs.Meaning.{commit_adds, request_adds, prune_adds, heard_lives, Again}
-use Rattle.protocol.proofs.Base.{any_in, none_some, some_is, true_false, eqb_same, slot_eq_same, put_same, put_other, in_filter, in_left, in_append, in_right, in_one, from_any, get_in, node_is, life_is, ask_is}
+use Rattle.protocol.proofs.Base.{any_in, none_some, some_is, true_false, eqb_same, slot_eq_same, put_same, put_other, in_filter, in_left, in_append, in_right, in_one, from_any, get_in, node_is, life_is, ask_is, request_is}
 use Rattle.protocol.proofs.Leases.{find_some}
 use Rattle.protocol.proofs.Parking.{newer_was}
 use Rattle.protocol.proofs.Calls.{place_stands, some_test, is_nil_is}
@@ -36,9 +36,6 @@ no_fence n l t g e = cc
 
 no_confirmation : (n : NodeId) (l : Life) (t : Ticket) (vs : List Confirmed) (g : Grant) → told.Granted g ≡ told.Committed n l t vs → ⊥
 no_confirmation n l t vs g e = cc
-
-request_is : (a a' : Ask) (ws ws' : List Want) (t t' : Bool) → Acquire a ws t ≡ Acquire a' ws' t' → (a ≡ a') × (ws ≡ ws') × (t ≡ t')
-request_is a a' ws ws' t t' e = (cc, cc, cc)
 
 grant_is : (g h : Grant) → told.Granted g ≡ told.Granted h → g ≡ h
 grant_is g h e = cc

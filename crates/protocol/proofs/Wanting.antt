@@ -10,7 +10,7 @@ use Rattle.farm_base.specs.declared.message.Why.TheVariants as why
 use Rattle.protocol.specs.Ledger.{Limits, Ledger, Lease, has_slot, some_lease, is_leased, is_free, lowest, all_taken, busy, pick, another, elsewhere, Give, Deny, Wait, decision}
 use Rattle.protocol.specs.Follows.{lease_from}
 use Rattle.protocol.specs.Meaning.{takes_slot, instance_of, HasFreeSlot, AllTaken, IsElsewhere, AreFree, CouldBeGranted, IsHeldUp}
-use Rattle.protocol.proofs.Base.{node_is, life_is, ask_is, true_false, none_some, some_is, eqb_same, any_in, from_any, in_filter, from_filter, any_none}
+use Rattle.protocol.proofs.Base.{node_is, life_is, ask_is, true_false, none_some, some_is, eqb_same, any_in, from_any, in_filter, from_filter, any_none, both_true}
 use Rattle.protocol.proofs.Leases.{Core, has_lease, lease_has, lowest-free, lowest-taken, lowest_is, free_is}
 use Rattle.protocol.proofs.Following.{pick_give}
 use Rattle.protocol.proofs.Parking.{picks}
@@ -58,9 +58,6 @@ leased_from false w wants i = (let r = from_filter (λ v. not (wants_shared v)) 
 takes_private : (tenure : Bool) → takes_slot tenure Private ≡ true → tenure ≡ false
 takes_private true h = (let bad : false ≡ true = h in cc)
 takes_private false h = refl
-
-and_two : (a b : Bool) → a ≡ true → b ≡ true → (a && b) ≡ true
-and_two a b p q = rw (p, q) refl
 
 -- ---- instances
 
@@ -230,7 +227,7 @@ module _ (k : Limits) (m : Machine) (q : Ledger) (core : Core k.empty m q) where
       let none = none_lowest w.folder all in
       deny_picks (elsewhere q p) (all_taken k.instances (is_free q) ws) (busy (is_leased q) ws) (not (nat_lt q.last k.greatest))
       (no_tenure p.tenure q.old_home p.node tenure)
-      (any_in (λ (v : Want). is_private v.folder.mode && eqb (lowest (is_free q) v.folder 1 k.instances) 0) w ws (leased_in p.tenure w p.wants i takes) (and_two (is_private w.folder.mode) (eqb (lowest (is_free q) w.folder 1 k.instances) 0) is none))
+      (any_in (λ (v : Want). is_private v.folder.mode && eqb (lowest (is_free q) v.folder 1 k.instances) 0) w ws (leased_in p.tenure w p.wants i takes) (both_true (is_private w.folder.mode) (eqb (lowest (is_free q) w.folder 1 k.instances) 0) is none))
 
   ticket_picks : (a b c d : Bool) → a ≡ false → b ≡ false → c ≡ false → d ≡ true → pick a b c d ≡ Deny why.TicketsSpent
   ticket_picks a b c d e f g h = rw (e, f, g, h) refl
