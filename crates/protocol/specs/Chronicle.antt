@@ -24,47 +24,65 @@ use Rattle.protocol.specs.Meaning.{adds, StopsAt, IsElsewhere, AreFree, AllTaken
 use Rattle.protocol.specs.Reasons.{decision_at, Fair}
 use Rattle.protocol.specs.Follows.{IsFarm, SavedAgrees, Shows, NoneReady, after_life, MayBeGranted}
 
--- from here on a world after each event: led to by moves from the one before, u, meant by the event, fair, shown by the
+-- from here on a world after each event: led to by moves from the one before, meant by the event, fair, shown by the
 -- farm, safe, and safe since each earlier one
 abbrev pub ChronicleFrom : (List ℕ → Digest) → Limits → List Event → Farm → World → List World → Type 0
-ChronicleFrom sha k [] s u earlier = ⊤
-ChronicleFrom sha k (e ∷ es) s u earlier = (v : World) × Moves sha u v × Means sha k s.size u e (step sha k s e).outcome v × Fair k u s e (step sha k s e).outcome × Shows sha v (step sha k s e).farm
-    × Safe sha v × ((w : World) → In w (u ∷ earlier) → SafeSince sha w v) × ChronicleFrom sha k es (step sha k s e).farm v (u ∷ earlier)
+ChronicleFrom sha limits [] farm world earlier = ⊤
+ChronicleFrom sha limits (event ∷ rest) farm world earlier = (later : World) × Moves sha world later
+    × Means sha limits farm.size world event (step sha limits farm event).outcome later
+    × Fair limits world farm event (step sha limits farm event).outcome
+    × Shows sha later (step sha limits farm event).farm
+    × Safe sha later × ((past : World) → In past (world ∷ earlier) → SafeSince sha past later)
+    × ChronicleFrom sha limits rest (step sha limits farm event).farm later (world ∷ earlier)
 
 abbrev pub Chronicle : (List ℕ → Digest) → Limits → List Event → Farm → World → Type 0
-Chronicle sha k events s u = ChronicleFrom sha k events s u []
+Chronicle sha limits events farm world = ChronicleFrom sha limits events farm world []
 
 abbrev pub EveryScheduleHasAChronicle : Type 0
-EveryScheduleHasAChronicle = (sha : List ℕ → Digest) (k : Limits) → IsFarm sha k → (size : ℕ) (events : List Event) → Chronicle sha k events (opening sha size) (start sha)
+EveryScheduleHasAChronicle = (sha : List ℕ → Digest) (limits : Limits) → IsFarm sha limits
+    → (size : ℕ) (events : List Event) → Chronicle sha limits events (opening sha size) (start sha)
 
 -- from this farm on no event commits under the ticket, and it is on no line
-pub record StaysOut (sha : List ℕ → Digest) (k : Limits) (s : Farm) (t : Ticket) : Type 0 where
-  pub uncommitted : (late : List Event) (e : Event) (o : Outcome) → (step sha k (run sha k late s) e).outcome ≡ Ok o → o.note ≡ note.Coord (coord.Committed t) → ⊥
-  pub off_line : (late : List Event) (x : Slot) (v : LineVersion) → In v ((run sha k late s).ledger.line x) → v.ticket ≡ t → ⊥
+pub record StaysOut (sha : List ℕ → Digest) (limits : Limits) (farm : Farm) (ticket : Ticket) : Type 0 where
+  pub uncommitted : (late : List Event) (event : Event) (outcome : Outcome)
+      → (step sha limits (run sha limits late farm) event).outcome ≡ Ok outcome
+      → outcome.note ≡ note.Coord (coord.Committed ticket) → ⊥
+  pub off_line : (late : List Event) (slot : Slot) (version : LineVersion)
+      → In version ((run sha limits late farm).ledger.line slot) → version.ticket ≡ ticket → ⊥
 
 -- no event that is accepted ends the execution under the ticket on the node
 abbrev pub GoesOn : (List ℕ → Digest) → Limits → NodeId → Ticket → List Event → Farm → Type 0
-GoesOn sha k n t [] s = ⊤
-GoesOn sha k n t (e ∷ es) s = ((g : Grant) (o : Outcome) → (step sha k s e).outcome ≡ Ok o → g.ticket ≡ t → StopsAt e n g → ⊥) × GoesOn sha k n t es (step sha k s e).farm
+GoesOn sha limits node ticket [] farm = ⊤
+GoesOn sha limits node ticket (event ∷ rest) farm =
+    ((grant : Grant) (outcome : Outcome) → (step sha limits farm event).outcome ≡ Ok outcome
+      → grant.ticket ≡ ticket → StopsAt event node grant → ⊥)
+    × GoesOn sha limits node ticket rest (step sha limits farm event).farm
 
 -- the grants of two tickets, as they were sent, share no slot of a PRIVATE or SHARED folder
 abbrev pub NoneShared : List Message → Ticket → Ticket → Type 0
-NoneShared pool t t' = (g g' : Grant) (s : Slot) → In (Told (told.Granted g)) pool → In (Told (told.Granted g')) pool → g.ticket ≡ t → g'.ticket ≡ t' → Has g s → Has g' s → is_alone s ≡ true → ⊥
+NoneShared pool ticket ticket' = (grant grant' : Grant) (slot : Slot) → In (Told (told.Granted grant)) pool
+    → In (Told (told.Granted grant')) pool → grant.ticket ≡ ticket → grant'.ticket ≡ ticket' → Has grant slot
+    → Has grant' slot → is_alone slot ≡ true → ⊥
 
 -- the slot is for the want: of its folder, writable as it is wanted, one of the instances of a PRIVATE folder or the
 -- only slot of another
 abbrev pub IsSlotFor : Want → GrantedSlot → Type 0
-IsSlotFor w u = (u.slot.folder ≡ w.folder) × (u.writable ≡ w.writable) × IsInstance w.folder.mode u.slot.instance
+IsSlotFor want granted = (granted.slot.folder ≡ want.folder) × (granted.writable ≡ want.writable)
+    × IsInstance want.folder.mode granted.slot.instance
 
 -- one slot for each want that isn't SHARED, in the order of the wants, and no other slot
 pub data OneForEach : List Want → List GrantedSlot → Type 0 where
   No_wants : OneForEach [] []
-  Shared_want : (w : Want) (wants : List Want) (slots : List GrantedSlot) → w.folder.mode ≡ Shared → OneForEach wants slots → OneForEach (w ∷ wants) slots
-  Other_want : (w : Want) (wants : List Want) (u : GrantedSlot) (slots : List GrantedSlot) → w.folder.mode ≢ Shared → IsSlotFor w u → OneForEach wants slots → OneForEach (w ∷ wants) (u ∷ slots)
+  Shared_want : (want : Want) (wants : List Want) (slots : List GrantedSlot) → want.folder.mode ≡ Shared
+      → OneForEach wants slots → OneForEach (want ∷ wants) slots
+  Other_want : (want : Want) (wants : List Want) (granted : GrantedSlot) (slots : List GrantedSlot)
+      → want.folder.mode ≢ Shared → IsSlotFor want granted → OneForEach wants slots
+      → OneForEach (want ∷ wants) (granted ∷ slots)
 
 -- a tenure has the slot of the one SHARED folder that it wants
 abbrev pub TenureSlot : List Want → List GrantedSlot → Type 0
-TenureSlot wants slots = (w : Want) × (u : GrantedSlot) × (wants ≡ w ∷ []) × (slots ≡ u ∷ []) × (w.folder.mode ≡ Shared) × IsSlotFor w u
+TenureSlot wants slots = (want : Want) × (granted : GrantedSlot) × (wants ≡ want ∷ []) × (slots ≡ granted ∷ [])
+    × (want.folder.mode ≡ Shared) × IsSlotFor want granted
 
 -- the slots of a Grant are those that its ask wanted
 abbrev pub SlotsWanted : Bool → List Want → List GrantedSlot → Type 0
@@ -73,163 +91,241 @@ SlotsWanted false wants slots = OneForEach wants slots
 
 -- a Grant with this ticket was sent
 abbrev pub SentUnder : List Message → Ticket → Grant → Type 0
-SentUnder pool t g = In (Told (told.Granted g)) pool × (g.ticket ≡ t)
+SentUnder pool ticket grant = In (Told (told.Granted grant)) pool × (grant.ticket ≡ ticket)
 
 -- and the ask that it answers wants the folder
 abbrev pub WantedUnder : List Message → Ticket → FolderName → Type 0
-WantedUnder pool t f = (g : Grant) × (wants : List Want) × (w : Want) × SentUnder pool t g × In (acquire g.node g.life g.ask wants (is_tenure g.kind)) pool × In w wants × (w.folder ≡ f)
+WantedUnder pool ticket folder = (grant : Grant) × (wants : List Want) × (want : Want) × SentUnder pool ticket grant
+    × In (acquire grant.node grant.life grant.ask wants (is_tenure grant.kind)) pool × In want wants
+    × (want.folder ≡ folder)
 
--- two executions, on these nodes under these tickets, may be at once: they have no instance of a PRIVATE folder in common,
--- and where both want one SHARED folder they are on one node
-pub record MayBeAtOnce (pool : List Message) (n n' : NodeId) (t t' : Ticket) : Type 0 where
-  pub private : (g g' : Grant) (s : Slot) → SentUnder pool t g → SentUnder pool t' g' → Has g s → Has g' s → s.folder.mode ≡ Private → ⊥
-  pub shared : (f : FolderName) → f.mode ≡ Shared → WantedUnder pool t f → WantedUnder pool t' f → n ≡ n'
+-- two executions, on these nodes under these tickets, may be at once: they have no instance of a PRIVATE folder in
+-- common, and where both want one SHARED folder they are on one node
+pub record MayBeAtOnce (pool : List Message) (node node' : NodeId) (ticket ticket' : Ticket) : Type 0 where
+  pub private : (grant grant' : Grant) (slot : Slot) → SentUnder pool ticket grant → SentUnder pool ticket' grant'
+      → Has grant slot → Has grant' slot → slot.folder.mode ≡ Private → ⊥
+  pub shared : (folder : FolderName) → folder.mode ≡ Shared → WantedUnder pool ticket folder
+      → WantedUnder pool ticket' folder → node ≡ node'
 
 -- the farm with no failure armed
 abbrev pub unarmed : Farm → Farm
-unarmed s = record s { armed = None }
+unarmed farm = record farm { armed = None }
 
 -- the answer to one more event names the version for the slot
 abbrev pub NamesVersion : (List ℕ → Digest) → Limits → Farm → Event → Slot → LineVersion → Type 0
-NamesVersion sha k s e x v = (o : Outcome) × ((step sha k s e).outcome ≡ Ok o) × In v (adds k.empty s.pool e o.note x)
+NamesVersion sha limits farm event slot version = (outcome : Outcome)
+    × ((step sha limits farm event).outcome ≡ Ok outcome)
+    × In version (adds limits.empty farm.pool event outcome.note slot)
 
 -- or its save failed, and its answer would have named it without that failure: the record kept it
 abbrev pub Writes : (List ℕ → Digest) → Limits → Farm → Event → Slot → LineVersion → Type 0
-Writes sha k s e x v = NamesVersion sha k s e x v ⊎ (((step sha k s e).outcome ≡ Err (refusal.Coord coord_refusal.SaveFault)) × NamesVersion sha k (unarmed s) e x v)
+Writes sha limits farm event slot version = NamesVersion sha limits farm event slot version
+    ⊎ (((step sha limits farm event).outcome ≡ Err (refusal.Coord coord_refusal.SaveFault))
+      × NamesVersion sha limits (unarmed farm) event slot version)
 
 -- each version that ever stands on a line is of such an event. As lines only grow at their end, they stand in the
 -- order of these events
 abbrev pub EveryVersionIsAnswered : Type 0
-EveryVersionIsAnswered = (sha : List ℕ → Digest) (k : Limits) → IsFarm sha k → (size : ℕ) (events : List Event) (x : Slot) (v : LineVersion) → In v ((run sha k events (opening sha size)).ledger.line x)
-    → (early late : List Event) × (e : Event) × (events ≡ early ++ e ∷ late) × Writes sha k (run sha k early (opening sha size)) e x v
+EveryVersionIsAnswered = (sha : List ℕ → Digest) (limits : Limits) → IsFarm sha limits
+    → (size : ℕ) (events : List Event) (slot : Slot) (version : LineVersion)
+    → In version ((run sha limits events (opening sha size)).ledger.line slot)
+    → (early late : List Event) × (event : Event) × (events ≡ early ++ event ∷ late)
+    × Writes sha limits (run sha limits early (opening sha size)) event slot version
 
 -- what the record holds after a save that failed: what it held before, or what was to be saved
 abbrev pub HoldsAfter : Limits → Farm → Event → Option Kept → Saved → Type 0
-HoldsAfter k s e None saved = ⊥
-HoldsAfter k s e (Some Old) saved = saved ≡ s.saved
-HoldsAfter k s e (Some New) saved = (w : Work) × (decision_at k s e ≡ Some (Ok w)) × (saved ≡ saves w.ledger)
+HoldsAfter limits farm event None saved = ⊥
+HoldsAfter limits farm event (Some Old) saved = saved ≡ farm.saved
+HoldsAfter limits farm event (Some New) saved = (work : Work) × (decision_at limits farm event ≡ Some (Ok work))
+    × (saved ≡ saves work.ledger)
 
--- a save that failed brought the coordinator down, with the record that the armed failure leaves, and no failure is armed now
-pub record IsFailed (k : Limits) (s : Farm) (e : Event) (after : Farm) : Type 0 where
+-- a save that failed brought the coordinator down, with the record that the armed failure leaves, and no failure is
+-- armed now
+pub record IsFailed (limits : Limits) (farm : Farm) (event : Event) (after : Farm) : Type 0 where
   pub down : after.down ≡ true
-  pub saved : HoldsAfter k s e s.armed after.saved
+  pub saved : HoldsAfter limits farm event farm.armed after.saved
   pub armed : after.armed ≡ None
-  pub ledger : after.ledger ≡ s.ledger
+  pub ledger : after.ledger ≡ farm.ledger
 
 -- of an event that arms no failure
-pub record LeavesArmed (k : Limits) (s : Farm) (e : Event) (t : Turn) : Type 0 where
-  pub failed : t.outcome ≡ Err (refusal.Coord coord_refusal.SaveFault) → IsFailed k s e t.farm
-  pub stays : t.outcome ≢ Err (refusal.Coord coord_refusal.SaveFault) → t.farm.armed ≡ s.armed
+pub record LeavesArmed (limits : Limits) (farm : Farm) (event : Event) (turn : Turn) : Type 0 where
+  pub failed : turn.outcome ≡ Err (refusal.Coord coord_refusal.SaveFault) → IsFailed limits farm event turn.farm
+  pub stays : turn.outcome ≢ Err (refusal.Coord coord_refusal.SaveFault) → turn.farm.armed ≡ farm.armed
 
 -- of a farm that a schedule led to, and one more event
-pub record Headline (sha : List ℕ → Digest) (k : Limits) (s : Farm) : Type 0 where
-  pub withdrawn : (t : Ticket) (o : Outcome) → (step sha k s (Withdraw t)).outcome ≡ Ok o → StaysOut sha k (step sha k s (Withdraw t)).farm t
+pub record Headline (sha : List ℕ → Digest) (limits : Limits) (farm : Farm) : Type 0 where
+  pub withdrawn : (ticket : Ticket) (outcome : Outcome) → (step sha limits farm (Withdraw ticket)).outcome ≡ Ok outcome
+      → StaysOut sha limits (step sha limits farm (Withdraw ticket)).farm ticket
   -- of each lease of a node that is retired
-  pub retired : (n : NodeId) (o : Outcome) → (step sha k s (Retire n)).outcome ≡ Ok o → (g : Lease) → In g s.ledger.live → g.node ≡ n → StaysOut sha k (step sha k s (Retire n)).farm g.ticket
+  pub retired : (node : NodeId) (outcome : Outcome) → (step sha limits farm (Retire node)).outcome ≡ Ok outcome
+      → (lease : Lease) → In lease farm.ledger.live → lease.node ≡ node
+      → StaysOut sha limits (step sha limits farm (Retire node)).farm lease.ticket
   -- of each lease of an older life once a newer is heard of
-  pub older : (number : ℕ) (y : ToCoord) (o : Outcome) → nth s.pool number ≡ Some (Said y) → (step sha k s (Deliver number)).outcome ≡ Ok o → s.ledger.gone y.node.0 ≡ false → s.ledger.lives y.node.0 < y.life.0
-      → (g : Lease) → In g s.ledger.live → g.node ≡ y.node → g.life.0 < y.life.0 → StaysOut sha k (step sha k s (Deliver number)).farm g.ticket
+  pub older : (number : ℕ) (saying : ToCoord) (outcome : Outcome) → nth farm.pool number ≡ Some (Said saying)
+      → (step sha limits farm (Deliver number)).outcome ≡ Ok outcome → farm.ledger.gone saying.node.0 ≡ false
+      → farm.ledger.lives saying.node.0 < saying.life.0
+      → (lease : Lease) → In lease farm.ledger.live → lease.node ≡ saying.node → lease.life.0 < saying.life.0
+      → StaysOut sha limits (step sha limits farm (Deliver number)).farm lease.ticket
   -- from an accepted begin on, until an event that ends it, none begins that shares such a slot with it
-  pub alone : (n n' : NodeId) (t t' : Ticket) (late : List Event) (o o' : Outcome) → (step sha k s (Begin n t)).outcome ≡ Ok o → GoesOn sha k n t late (step sha k s (Begin n t)).farm
-      → let after : Farm = run sha k late (step sha k s (Begin n t)).farm in
-      (step sha k after (Begin n' t')).outcome ≡ Ok o' → NoneShared after.pool t t'
+  pub alone : (node node' : NodeId) (ticket ticket' : Ticket) (late : List Event) (outcome outcome' : Outcome)
+      → (step sha limits farm (Begin node ticket)).outcome ≡ Ok outcome
+      → GoesOn sha limits node ticket late (step sha limits farm (Begin node ticket)).farm
+      → let after : Farm = run sha limits late (step sha limits farm (Begin node ticket)).farm in
+      (step sha limits after (Begin node' ticket')).outcome ≡ Ok outcome' → NoneShared after.pool ticket ticket'
   -- each Grant ever sent answers an ask that was sent, and has the slots that it wanted
-  pub wanted : (g : Grant) → In (Told (told.Granted g)) s.pool → (wants : List Want) × In (acquire g.node g.life g.ask wants (is_tenure g.kind)) s.pool × SlotsWanted (is_tenure g.kind) wants g.slots
+  pub wanted : (grant : Grant) → In (Told (told.Granted grant)) farm.pool → (wants : List Want)
+      × In (acquire grant.node grant.life grant.ask wants (is_tenure grant.kind)) farm.pool
+      × SlotsWanted (is_tenure grant.kind) wants grant.slots
   -- with a PRIVATE folder's instance that the farm has
-  pub instance : (g : Grant) (u : GrantedSlot) → In (Told (told.Granted g)) s.pool → In u g.slots → u.slot.folder.mode ≡ Private → u.slot.instance ≤ k.instances
+  pub instance : (grant : Grant) (granted : GrantedSlot) → In (Told (told.Granted grant)) farm.pool
+      → In granted grant.slots → granted.slot.folder.mode ≡ Private → granted.slot.instance ≤ limits.instances
   -- what is asked under one name is one
-  pub one_ask : (n : NodeId) (l : Life) (a : Ask) (wants wants' : List Want) (tenure tenure' : Bool) → In (acquire n l a wants tenure) s.pool → In (acquire n l a wants' tenure') s.pool → (wants ≡ wants') × (tenure ≡ tenure')
+  pub one_ask : (node : NodeId) (life : Life) (ask : Ask) (wants wants' : List Want) (tenure tenure' : Bool)
+      → In (acquire node life ask wants tenure) farm.pool → In (acquire node life ask wants' tenure') farm.pool
+      → (wants ≡ wants') × (tenure ≡ tenure')
   -- from an accepted begin on, until an event that ends it, none begins that may not be at once with it
-  pub apart : (n n' : NodeId) (t t' : Ticket) (late : List Event) (o o' : Outcome) → (step sha k s (Begin n t)).outcome ≡ Ok o → GoesOn sha k n t late (step sha k s (Begin n t)).farm
-      → let after : Farm = run sha k late (step sha k s (Begin n t)).farm in
-      (step sha k after (Begin n' t')).outcome ≡ Ok o' → MayBeAtOnce after.pool n n' t t'
+  pub apart : (node node' : NodeId) (ticket ticket' : Ticket) (late : List Event) (outcome outcome' : Outcome)
+      → (step sha limits farm (Begin node ticket)).outcome ≡ Ok outcome
+      → GoesOn sha limits node ticket late (step sha limits farm (Begin node ticket)).farm
+      → let after : Farm = run sha limits late (step sha limits farm (Begin node ticket)).farm in
+      (step sha limits after (Begin node' ticket')).outcome ≡ Ok outcome'
+      → MayBeAtOnce after.pool node node' ticket ticket'
   -- what was ever fenced is on no line
-  pub fenced : (n : NodeId) (l : Life) (t : Ticket) → In (Told (told.Fenced n l t)) s.pool → (late : List Event) (x : Slot) (v : LineVersion) → In v ((run sha k late s).ledger.line x) → v.ticket ≡ t → ⊥
+  pub fenced : (node : NodeId) (life : Life) (ticket : Ticket) → In (Told (told.Fenced node life ticket)) farm.pool
+      → (late : List Event) (slot : Slot) (version : LineVersion)
+      → In version ((run sha limits late farm).ledger.line slot) → version.ticket ≡ ticket → ⊥
   -- each folder's versions form one line that only grows, with rising tickets
-  pub rising : (x : Slot) → Rising (s.ledger.line x)
-  pub grows : (late : List Event) (x : Slot) → IsFrontOf (s.ledger.line x) ((run sha k late s).ledger.line x)
+  pub rising : (slot : Slot) → Rising (farm.ledger.line slot)
+  pub grows : (late : List Event) (slot : Slot)
+      → IsFrontOf (farm.ledger.line slot) ((run sha limits late farm).ledger.line slot)
   -- by exactly what the answer names
-  pub answered : s.down ≡ false → (e : Event) (o : Outcome) → (step sha k s e).outcome ≡ Ok o → (x : Slot) → (step sha k s e).farm.ledger.line x ≡ s.ledger.line x ++ adds k.empty s.pool e o.note x
+  pub answered : farm.down ≡ false → (event : Event) (outcome : Outcome)
+      → (step sha limits farm event).outcome ≡ Ok outcome → (slot : Slot)
+      → (step sha limits farm event).farm.ledger.line slot
+      ≡ farm.ledger.line slot ++ adds limits.empty farm.pool event outcome.note slot
   -- two nodes hold one content for a version, then or later, or the two contents are a collision
-  pub contents : (late : List Event) (n n' : NodeId) (x : Slot) (number : ℕ) (c c' : List ℕ) → HoldsContent (s.nodes n.0) x number c → HoldsContent ((run sha k late s).nodes n'.0) x number c'
-      → (c ≡ c') ⊎ ((c ≢ c') × (sha c ≡ sha c'))
+  pub contents : (late : List Event) (node node' : NodeId) (slot : Slot) (number : ℕ) (content content' : List ℕ)
+      → HoldsContent (farm.nodes node.0) slot number content
+      → HoldsContent ((run sha limits late farm).nodes node'.0) slot number content'
+      → (content ≡ content') ⊎ ((content ≢ content') × (sha content ≡ sha content'))
   -- a node whose last life is over is down for good
-  pub spent : (n : NodeId) → (step sha k s (RestartNode n)).outcome ≡ Err (refusal.Node node_refusal.LivesSpent) → ((step sha k s (RestartNode n)).farm.nodes n.0).spent ≡ true
+  pub spent : (node : NodeId)
+      → (step sha limits farm (RestartNode node)).outcome ≡ Err (refusal.Node node_refusal.LivesSpent)
+      → ((step sha limits farm (RestartNode node)).farm.nodes node.0).spent ≡ true
   -- a failure is armed by its event alone, and stays armed until a save fails so
-  pub arms : (kept : Kept) → (step sha k s (FailSave kept)).farm ≡ record s { armed = Some kept }
-  pub armed : (e : Event) → ((kept : Kept) → e ≢ FailSave kept) → LeavesArmed k s e (step sha k s e)
+  pub arms : (kept : Kept) → (step sha limits farm (FailSave kept)).farm ≡ record farm { armed = Some kept }
+  pub armed : (event : Event) → ((kept : Kept) → event ≢ FailSave kept)
+      → LeavesArmed limits farm event (step sha limits farm event)
   -- of each lease that the record doesn't have, where the coordinator restarts
-  pub restarted : s.down ≡ false → (g : Lease) → In g s.ledger.live → is_saved g ≡ false → StaysOut sha k (step sha k s RestartCoordinator).farm g.ticket
+  pub restarted : farm.down ≡ false → (lease : Lease) → In lease farm.ledger.live → is_saved lease ≡ false
+      → StaysOut sha limits (step sha limits farm RestartCoordinator).farm lease.ticket
 
 abbrev pub EveryScheduleMeans : Type 0
-EveryScheduleMeans = (sha : List ℕ → Digest) (k : Limits) → IsFarm sha k → (size : ℕ) (events : List Event) → Headline sha k (run sha k events (opening sha size))
+EveryScheduleMeans = (sha : List ℕ → Digest) (limits : Limits) → IsFarm sha limits → (size : ℕ) (events : List Event)
+    → Headline sha limits (run sha limits events (opening sha size))
 
 abbrev pub NoParkedAskIsReady : Type 0
-NoParkedAskIsReady = (sha : List ℕ → Digest) (k : Limits) (size : ℕ) (events : List Event) → NoneReady k (run sha k events (opening sha size)).ledger
+NoParkedAskIsReady = (sha : List ℕ → Digest) (limits : Limits) (size : ℕ) (events : List Event)
+    → NoneReady limits (run sha limits events (opening sha size)).ledger
 
 -- an Acquire that was sent, of a node that isn't retired, of no older life, that the rules let be granted, is granted
 -- where it is delivered
 abbrev pub FittingMessageIsGranted : Type 0
-FittingMessageIsGranted = (sha : List ℕ → Digest) (k : Limits) → IsFarm sha k → (size : ℕ) (events : List Event) (number : ℕ) (p : Parked) →
-    let q = (run sha k events (opening sha size)).ledger in
-    let y : ToCoord = record { node = p.node; life = p.life; request = Acquire p.ask p.wants p.tenure } in
-    let v : Work = after_life k p.node p.life (begin_work q) in
-    let grant : Grant = grant_of k.empty v.ledger.line (lease_for k v.ledger p) in
-    nth (run sha k events (opening sha size)).pool number ≡ Some (Said y) → q.gone p.node.0 ≡ false → nat_lt p.life.0 (q.lives p.node.0) ≡ false
-    → MayBeGranted k v.ledger p → ((handled k y (begin_work q)).note ≡ coord.Granted grant) × In (told.Granted grant) (handled k y (begin_work q)).sends
+FittingMessageIsGranted = (sha : List ℕ → Digest) (limits : Limits) → IsFarm sha limits
+    → (size : ℕ) (events : List Event) (number : ℕ) (parked : Parked) →
+    let ledger = (run sha limits events (opening sha size)).ledger in
+    let saying : ToCoord = record {
+      node = parked.node;
+      life = parked.life;
+      request = Acquire parked.ask parked.wants parked.tenure
+    } in
+    let work : Work = after_life limits parked.node parked.life (begin_work ledger) in
+    let grant : Grant = grant_of limits.empty work.ledger.line (lease_for limits work.ledger parked) in
+    nth (run sha limits events (opening sha size)).pool number ≡ Some (Said saying) → ledger.gone parked.node.0 ≡ false
+    → nat_lt parked.life.0 (ledger.lives parked.node.0) ≡ false
+    → MayBeGranted limits work.ledger parked → ((handled limits saying (begin_work ledger)).note ≡ coord.Granted grant)
+    × In (told.Granted grant) (handled limits saying (begin_work ledger)).sends
 
 -- in no world that a farm of a run may be in could a parked ask be granted
 abbrev pub NoParkedAskCouldBeGranted : Type 0
-NoParkedAskCouldBeGranted = (sha : List ℕ → Digest) (k : Limits) → IsFarm sha k → (size : ℕ) (events : List Event) (u : World) → Shows sha u (run sha k events (opening sha size)) → (p : Parked) → In p u.machine.parked → CouldBeGranted k u.machine p → ⊥
+NoParkedAskCouldBeGranted = (sha : List ℕ → Digest) (limits : Limits) → IsFarm sha limits
+    → (size : ℕ) (events : List Event) (world : World) → Shows sha world (run sha limits events (opening sha size))
+    → (parked : Parked) → In parked world.machine.parked → CouldBeGranted limits world.machine parked → ⊥
 
 -- a message of this life ends no lease and clears no old home
 abbrev pub EndsNothing : Machine → NodeId → Life → Type 0
-EndsNothing m n l = (m.lives n.0 ≡ l.0) ⊎ ((m.lives n.0 < l.0) × ((g : Grant) → Live m g → g.node ≡ n → g.life.0 < l.0 → ⊥) × (m.old_home ≢ Some n))
+EndsNothing machine node life = (machine.lives node.0 ≡ life.0)
+    ⊎ ((machine.lives node.0 < life.0)
+      × ((grant : Grant) → Live machine grant → grant.node ≡ node → grant.life.0 < life.0 → ⊥)
+      × (machine.old_home ≢ Some node))
 
 -- no live grant and no parked ask is this ask's
 abbrev pub IsNew : Machine → Parked → Type 0
-IsNew m p = ((g : Grant) → Live m g → IsOf p.node p.life p.ask g → ⊥) × ((r : Parked) → In r m.parked → (r.node ≡ p.node) × (r.life ≡ p.life) × (r.ask ≡ p.ask) → ⊥)
+IsNew machine parked = ((grant : Grant) → Live machine grant → IsOf parked.node parked.life parked.ask grant → ⊥)
+    × ((other : Parked) → In other machine.parked → (other.node ≡ parked.node) × (other.life ≡ parked.life)
+      × (other.ask ≡ parked.ask) → ⊥)
 
--- how an ask is answered, m being the machine before
-pub record AsksAreAnswered (k : Limits) (m : Machine) (p : Parked) (answer : CoordNote) : Type 0 where
+-- how an ask is answered, of the machine before
+pub record AsksAreAnswered (limits : Limits) (machine : Machine) (asked : Parked) (answer : CoordNote) : Type 0 where
   -- one that is leased is granted again
-  pub before : m.lives p.node.0 ≡ p.life.0 → (g : Grant) → Live m g → IsOf p.node p.life p.ask g → (h : Grant) × Live m h × IsOf p.node p.life p.ask h × (answer ≡ coord.GrantedBefore h)
+  pub before : machine.lives asked.node.0 ≡ asked.life.0 → (grant : Grant) → Live machine grant
+      → IsOf asked.node asked.life asked.ask grant → (held : Grant) × Live machine held
+      × IsOf asked.node asked.life asked.ask held × (answer ≡ coord.GrantedBefore held)
   -- one that could be granted is
-  pub granted : EndsNothing m p.node p.life → ((g : Grant) → Live m g → IsOf p.node p.life p.ask g → ⊥) → CouldBeGranted k m p → (g : Grant) × (answer ≡ coord.Granted g)
+  pub granted : EndsNothing machine asked.node asked.life
+      → ((grant : Grant) → Live machine grant → IsOf asked.node asked.life asked.ask grant → ⊥)
+      → CouldBeGranted limits machine asked → (grant : Grant) × (answer ≡ coord.Granted grant)
   -- one that must wait for another node waits
-  pub elsewhere : m.lives p.node.0 ≡ p.life.0 → ((g : Grant) → Live m g → IsOf p.node p.life p.ask g → ⊥) → IsElsewhere m p → answer ≡ coord.Parked
+  pub elsewhere : machine.lives asked.node.0 ≡ asked.life.0
+      → ((grant : Grant) → Live machine grant → IsOf asked.node asked.life asked.ask grant → ⊥)
+      → IsElsewhere machine asked → answer ≡ coord.Parked
   -- one that isn't parked and wants a PRIVATE folder with no instance left is denied
-  pub instances : m.lives p.node.0 ≡ p.life.0 → IsNew m p → p.tenure ≡ false → (w : Want) → In w p.wants → w.folder.mode ≡ Private → AllTaken k.instances m w.folder → answer ≡ coord.Denied why.InstancesSpent
+  pub instances : machine.lives asked.node.0 ≡ asked.life.0 → IsNew machine asked → asked.tenure ≡ false
+      → (want : Want) → In want asked.wants → want.folder.mode ≡ Private
+      → AllTaken limits.instances machine want.folder → answer ≡ coord.Denied why.InstancesSpent
   -- so is one whose slots are free where no ticket is left
-  pub tickets : m.lives p.node.0 ≡ p.life.0 → IsNew m p → (IsElsewhere m p → ⊥) → AreFree k m p → k.greatest ≤ m.last → answer ≡ coord.Denied why.TicketsSpent
+  pub tickets : machine.lives asked.node.0 ≡ asked.life.0 → IsNew machine asked → (IsElsewhere machine asked → ⊥)
+      → AreFree limits machine asked → limits.greatest ≤ machine.last → answer ≡ coord.Denied why.TicketsSpent
   -- one that is held up waits
-  pub parked : m.lives p.node.0 ≡ p.life.0 → ((g : Grant) → Live m g → IsOf p.node p.life p.ask g → ⊥) → IsHeldUp k m p → answer ≡ coord.Parked
+  pub parked : machine.lives asked.node.0 ≡ asked.life.0
+      → ((grant : Grant) → Live machine grant → IsOf asked.node asked.life asked.ask grant → ⊥)
+      → IsHeldUp limits machine asked → answer ≡ coord.Parked
 
 -- an Acquire of a node that isn't retired is answered so
 abbrev pub EveryAskIsAnswered : Type 0
-EveryAskIsAnswered = (sha : List ℕ → Digest) (k : Limits) → IsFarm sha k → (size : ℕ) (events : List Event) (u : World) → Moves sha (start sha) u → Shows sha u (run sha k events (opening sha size)) → (p : Parked)
-    → In (acquire p.node p.life p.ask p.wants p.tenure) u.pool → u.machine.gone p.node.0 ≡ false
-    → AsksAreAnswered k u.machine p (handled k (record { node = p.node; life = p.life; request = Acquire p.ask p.wants p.tenure }) (begin_work (run sha k events (opening sha size)).ledger)).note
+EveryAskIsAnswered = (sha : List ℕ → Digest) (limits : Limits) → IsFarm sha limits
+    → (size : ℕ) (events : List Event) (world : World) → Moves sha (start sha) world
+    → Shows sha world (run sha limits events (opening sha size)) → (parked : Parked)
+    → In (acquire parked.node parked.life parked.ask parked.wants parked.tenure) world.pool
+    → world.machine.gone parked.node.0 ≡ false
+    → AsksAreAnswered limits world.machine parked (handled limits
+      (record { node = parked.node; life = parked.life; request = Acquire parked.ask parked.wants parked.tenure })
+      (begin_work (run sha limits events (opening sha size)).ledger)).note
 
 -- while the coordinator is up the record is that of its ledger; after a failed save it is that of a ledger of the
 -- machine that the save kept
-pub record IsSavedFarm (sha : List ℕ → Digest) (s : Farm) : Type 0 where
-  pub up : s.down ≡ false → s.saved ≡ saves s.ledger
-  pub either : (u : World) × Moves sha (start sha) u × SavedAgrees (sha []) u.pool u.down s
+pub record IsSavedFarm (sha : List ℕ → Digest) (farm : Farm) : Type 0 where
+  pub up : farm.down ≡ false → farm.saved ≡ saves farm.ledger
+  pub either : (world : World) × Moves sha (start sha) world × SavedAgrees (sha []) world.pool world.down farm
 
 abbrev pub EveryFarmIsSaved : Type 0
-EveryFarmIsSaved = (sha : List ℕ → Digest) (k : Limits) → IsFarm sha k → (size : ℕ) (events : List Event) → IsSavedFarm sha (run sha k events (opening sha size))
+EveryFarmIsSaved = (sha : List ℕ → Digest) (limits : Limits) → IsFarm sha limits → (size : ℕ) (events : List Event)
+    → IsSavedFarm sha (run sha limits events (opening sha size))
 
 -- a restart can't take back what was sent: no ticket is above the record's ceiling, and each version that a
 -- confirmation names stands on the record's line
-pub record Covered (s : Farm) : Type 0 where
-  pub tickets : (g : Grant) → In (Told (told.Granted g)) s.pool → g.ticket.0 ≤ s.saved.ceiling
-  pub versions : (n : NodeId) (l : Life) (t : Ticket) (versions : List Confirmed) (v : Confirmed) → In (Told (told.Committed n l t versions)) s.pool → In v versions
-      → (j : ℕ) × (v.number ≡ j + 1) × (slice_get (s.saved.line v.slot) j ≡ Some (record { ticket = t; digest = v.digest }))
+pub record Covered (farm : Farm) : Type 0 where
+  pub tickets : (grant : Grant) → In (Told (told.Granted grant)) farm.pool → grant.ticket.0 ≤ farm.saved.ceiling
+  pub versions : (node : NodeId) (life : Life) (ticket : Ticket) (versions : List Confirmed) (version : Confirmed)
+      → In (Told (told.Committed node life ticket versions)) farm.pool → In version versions
+      → (index : ℕ) × (version.number ≡ index + 1)
+      × (slice_get (farm.saved.line version.slot) index ≡ Some (record { ticket = ticket; digest = version.digest }))
 
 abbrev pub EveryRecordCovers : Type 0
-EveryRecordCovers = (sha : List ℕ → Digest) (k : Limits) → IsFarm sha k → (size : ℕ) (events : List Event) → Covered (run sha k events (opening sha size))
+EveryRecordCovers = (sha : List ℕ → Digest) (limits : Limits) → IsFarm sha limits → (size : ℕ) (events : List Event)
+    → Covered (run sha limits events (opening sha size))
 
 -- a restart reads the record and nothing else
 abbrev pub RestartReadsTheRecord : Type 0
-RestartReadsTheRecord = (sha : List ℕ → Digest) (k : Limits) (s t : Farm) → s.saved ≡ t.saved → (step sha k s RestartCoordinator).farm.ledger ≡ (step sha k t RestartCoordinator).farm.ledger
+RestartReadsTheRecord = (sha : List ℕ → Digest) (limits : Limits) (farm other : Farm) → farm.saved ≡ other.saved
+    → (step sha limits farm RestartCoordinator).farm.ledger ≡ (step sha limits other RestartCoordinator).farm.ledger

@@ -18,173 +18,214 @@ use Rattle.protocol.specs.Reasons.{Fair}
 
 -- the lease of a grant: what is kept of it
 abbrev pub lease_from : Grant → Lease
-lease_from g = record {
-  ticket = g.ticket;
-  node = g.node;
-  life = g.life;
-  ask = g.ask;
-  shared = has_shared g.kind;
-  tenure = is_tenure g.kind;
-  slots = map (λ u. (u.slot, u.writable)) g.slots;
+lease_from grant = record {
+  ticket = grant.ticket;
+  node = grant.node;
+  life = grant.life;
+  ask = grant.ask;
+  shared = has_shared grant.kind;
+  tenure = is_tenure grant.kind;
+  slots = map (λ granted. (granted.slot, granted.writable)) grant.slots;
 }
 
 -- no lease is this ask's
 abbrev pub NoLease : List Lease → Parked → Type 0
-NoLease live p = (g : Lease) → In g live → is_of p.node p.life p.ask g ≡ false
+NoLease live parked = (lease : Lease) → In lease live → is_of parked.node parked.life parked.ask lease ≡ false
 
 -- the parked asks are of different asks, and none has a lease
 abbrev pub Waits : List Lease → List Parked → Type 0
 Waits live [] = ⊤
-Waits live (p ∷ ps) = NoLease live p × (is_parked ps p.node p.life p.ask ≡ false) × Waits live ps
+Waits live (parked ∷ queue) = NoLease live parked × (is_parked queue parked.node parked.life parked.ask ≡ false)
+    × Waits live queue
 
 -- the ledger keeps exactly what is still of use of the machine, these messages having been sent
-pub record Agrees (empty : Digest) (pool : List Message) (m : Machine) (q : Ledger) : Type 0 where
+pub record Agrees (empty : Digest) (pool : List Message) (machine : Machine) (ledger : Ledger) : Type 0 where
   -- the leases are exactly the live grants
-  pub live_made : (h : Lease) → In h q.live → (g : Grant) × Live m g × (lease_from g ≡ h)
-  pub live_kept : (g : Grant) → Live m g → In (lease_from g) q.live
+  pub live_made : (lease : Lease) → In lease ledger.live
+      → (grant : Grant) × Live machine grant × (lease_from grant ≡ lease)
+  pub live_kept : (grant : Grant) → Live machine grant → In (lease_from grant) ledger.live
   -- the retired slots are exactly the machine's
-  pub retired_made : (s : Slot) → q.retired s ≡ true → Retired m s
-  pub retired_kept : (s : Slot) → Retired m s → q.retired s ≡ true
-  pub lines : (s : Slot) → q.line s ≡ line empty m s
-  pub last : q.last ≡ m.last
+  pub retired_made : (slot : Slot) → ledger.retired slot ≡ true → Retired machine slot
+  pub retired_kept : (slot : Slot) → Retired machine slot → ledger.retired slot ≡ true
+  pub lines : (slot : Slot) → ledger.line slot ≡ line empty machine slot
+  pub last : ledger.last ≡ machine.last
   -- tickets are saved in blocks of 64
-  pub ceiling : q.last ≤ q.ceiling
-  pub block : q.ceiling ≤ q.last + 64
-  pub old_home : q.old_home ≡ m.old_home
-  pub gone : q.gone ≡ m.gone
-  pub lives : q.lives ≡ m.lives
-  pub parked : q.parked ≡ m.parked
+  pub ceiling : ledger.last ≤ ledger.ceiling
+  pub block : ledger.ceiling ≤ ledger.last + 64
+  pub old_home : ledger.old_home ≡ machine.old_home
+  pub gone : ledger.gone ≡ machine.gone
+  pub lives : ledger.lives ≡ machine.lives
+  pub parked : ledger.parked ≡ machine.parked
   -- each parked ask was sent by a node that isn't retired, in a life that was seen
-  pub asked : (p : Parked) → In p q.parked → In (acquire p.node p.life p.ask p.wants p.tenure) pool × (q.gone p.node.0 ≡ false) × (p.life.0 ≤ q.lives p.node.0)
+  pub asked : (parked : Parked) → In parked ledger.parked
+      → In (acquire parked.node parked.life parked.ask parked.wants parked.tenure) pool
+      × (ledger.gone parked.node.0 ≡ false) × (parked.life.0 ≤ ledger.lives parked.node.0)
   -- so was each lease
-  pub seen : (h : Lease) → In h q.live → h.life.0 ≤ q.lives h.node.0
-  pub waits : Waits q.live q.parked
+  pub seen : (lease : Lease) → In lease ledger.live → lease.life.0 ≤ ledger.lives lease.node.0
+  pub waits : Waits ledger.live ledger.parked
 
 -- what the coordinator does at one event: steps, and what it says, in order
-pub data Works (empty : Digest) (pool : List Message) (m : Machine) : Machine → List FromCoord → Type 0 where
-  Begins_work : Works empty pool m m []
-  Goes_on : (a b : Machine) (sends : List FromCoord) → Works empty pool m a sends → Step empty pool a b → Works empty pool m b sends
-  Speaks : (a : Machine) (sends : List FromCoord) (y : FromCoord) → Works empty pool m a sends → Says empty pool a y → Works empty pool m a (sends ++ y ∷ [])
+pub data Works (empty : Digest) (pool : List Message) (machine : Machine) : Machine → List FromCoord → Type 0 where
+  Begins_work : Works empty pool machine machine []
+  Goes_on : (now next : Machine) (sends : List FromCoord) → Works empty pool machine now sends
+      → Step empty pool now next → Works empty pool machine next sends
+  Speaks : (now : Machine) (sends : List FromCoord) (telling : FromCoord) → Works empty pool machine now sends
+      → Says empty pool now telling → Works empty pool machine now (sends ++ telling ∷ [])
 
 -- the machine may do what the work did, and `is` holds of how tickets ended then
-pub record Follows (empty : Digest) (pool : List Message) (m : Machine) (is : (ℕ → Option Ending) → Type 0) (w : Work) : Type 0 where
+pub record Follows (empty : Digest) (pool : List Message) (before : Machine) (is : (ℕ → Option Ending) → Type 0)
+    (work : Work) : Type 0 where
   pub machine : Machine
-  pub works : Works empty pool m machine w.sends
+  pub works : Works empty pool before machine work.sends
   pub ended : is machine.ending
   -- what is granted is sent
-  pub granted : (g : Grant) → In (Granted g) machine.made → In (Granted g) m.made ⊎ In (told.Granted g) w.sends
-  pub agrees : Agrees empty pool machine w.ledger
+  pub granted : (grant : Grant) → In (Granted grant) machine.made
+      → In (Granted grant) before.made ⊎ In (told.Granted grant) work.sends
+  pub agrees : Agrees empty pool machine work.ledger
 
--- the record holds what the ledger saves, or after a failed save, of the machine that it kept, what a ledger of that saves
+-- the record holds what the ledger saves, or after a failed save, of the machine that it kept, what a ledger of that
+-- saves
 abbrev pub SavedAgrees : Digest → List Message → Option Machine → Farm → Type 0
-SavedAgrees empty pool None s = (s.down ≡ false) × (s.saved ≡ saves s.ledger)
-SavedAgrees empty pool (Some m) s = (s.down ≡ true) × ((q : Ledger) × Agrees empty pool m q × (s.saved ≡ saves q))
+SavedAgrees empty pool None farm = (farm.down ≡ false) × (farm.saved ≡ saves farm.ledger)
+SavedAgrees empty pool (Some kept) farm = (farm.down ≡ true)
+    × ((ledger : Ledger) × Agrees empty pool kept ledger × (farm.saved ≡ saves ledger))
 
 -- a farm's state is that of the world
-pub record Shows (sha : List ℕ → Digest) (u : World) (s : Farm) : Type 0 where
-  pub now : Agrees (sha []) u.pool u.machine s.ledger
-  pub saved : SavedAgrees (sha []) u.pool u.down s
-  pub pool : u.pool ≡ s.pool
-  pub nodes : (n : ℕ) → u.nodes n ≡ s.nodes n
+pub record Shows (sha : List ℕ → Digest) (world : World) (farm : Farm) : Type 0 where
+  pub now : Agrees (sha []) world.pool world.machine farm.ledger
+  pub saved : SavedAgrees (sha []) world.pool world.down farm
+  pub pool : world.pool ≡ farm.pool
+  pub nodes : (number : ℕ) → world.nodes number ≡ farm.nodes number
 
 -- the limits of a farm whose contents have these digests
-pub record IsFarm (sha : List ℕ → Digest) (k : Limits) : Type 0 where
-  pub empty : k.empty ≡ sha []
-  pub instances : k.instances ≤ 4096
+pub record IsFarm (sha : List ℕ → Digest) (limits : Limits) : Type 0 where
+  pub empty : limits.empty ≡ sha []
+  pub instances : limits.instances ≤ 4096
 
 -- a world that the farm is in after the events, safe
-pub record SafeAfter (sha : List ℕ → Digest) (s : Farm) : Type 0 where
+pub record SafeAfter (sha : List ℕ → Digest) (farm : Farm) : Type 0 where
   pub world : World
   pub moves : Moves sha (start sha) world
-  pub shows : Shows sha world s
+  pub shows : Shows sha world farm
   pub safe : Safe sha world
 
 -- worlds that a farm is in before and after some events: the later follows from the earlier, and stays safe
-pub record SafeBetween (sha : List ℕ → Digest) (s t : Farm) : Type 0 where
-  pub before : SafeAfter sha s
-  pub after : SafeAfter sha t
+pub record SafeBetween (sha : List ℕ → Digest) (farm later : Farm) : Type 0 where
+  pub before : SafeAfter sha farm
+  pub after : SafeAfter sha later
   pub moves : Moves sha before.world after.world
   pub since : SafeSince sha before.world after.world
 
 abbrev pub EveryScheduleIsSafe : Type 0
-EveryScheduleIsSafe = (sha : List ℕ → Digest) (k : Limits) → IsFarm sha k → (size : ℕ) (events : List Event) → SafeAfter sha (run sha k events (opening sha size))
+EveryScheduleIsSafe = (sha : List ℕ → Digest) (limits : Limits) → IsFarm sha limits → (size : ℕ) (events : List Event)
+    → SafeAfter sha (run sha limits events (opening sha size))
 
 abbrev pub EveryScheduleStaysSafe : Type 0
-EveryScheduleStaysSafe = (sha : List ℕ → Digest) (k : Limits) → IsFarm sha k → (size : ℕ) (early late : List Event)
-    → SafeBetween sha (run sha k early (opening sha size)) (run sha k (early ++ late) (opening sha size))
+EveryScheduleStaysSafe = (sha : List ℕ → Digest) (limits : Limits) → IsFarm sha limits
+    → (size : ℕ) (early late : List Event)
+    → SafeBetween sha (run sha limits early (opening sha size)) (run sha limits (early ++ late) (opening sha size))
 
 -- each event, from any world of a run that a farm is in, leads to a world that the farm is in then, and means what
 -- its outcome says; it is refused only with a reason, and accepted only without one
 abbrev pub EveryEventIsMoves : Type 0
-EveryEventIsMoves = (sha : List ℕ → Digest) (k : Limits) → IsFarm sha k → (u : World) → Moves sha (start sha) u → (s : Farm) → Shows sha u s → (e : Event)
-    → (v : World) × Moves sha u v × Shows sha v (step sha k s e).farm × Means sha k s.size u e (step sha k s e).outcome v × Fair k u s e (step sha k s e).outcome
+EveryEventIsMoves = (sha : List ℕ → Digest) (limits : Limits) → IsFarm sha limits → (world : World)
+    → Moves sha (start sha) world → (farm : Farm) → Shows sha world farm → (event : Event)
+    → (later : World) × Moves sha world later × Shows sha later (step sha limits farm event).farm
+    × Means sha limits farm.size world event (step sha limits farm event).outcome later
+    × Fair limits world farm event (step sha limits farm event).outcome
 
 -- the machine may do what an accepted call did, and it ends these
 abbrev pub FollowsOk : Digest → List Message → Machine → (Grant → Ending → Type 0) → Result Work CoordRefusal → Type 0
-FollowsOk empty pool m ends (Ok w) = Follows empty pool m (Meant m ends w.note) w
-FollowsOk empty pool m ends (Err e) = ⊤
+FollowsOk empty pool machine ends (Ok work) = Follows empty pool machine (Meant machine ends work.note) work
+FollowsOk empty pool machine ends (Err why) = ⊤
 
 -- what is asked for rightly is accepted: the withdrawal of a live grant, unless it is a tenure
 abbrev pub WithdrawIsTaken : Limits → Machine → Ledger → Type 0
-WithdrawIsTaken k m q = (g : Grant) → Live m g → is_tenure g.kind ≡ false → (w : Work) × (withdrawn k g.ticket (begin_work q) ≡ Ok w)
+WithdrawIsTaken limits machine ledger = (grant : Grant) → Live machine grant → is_tenure grant.kind ≡ false
+    → (work : Work) × (withdrawn limits grant.ticket (begin_work ledger) ≡ Ok work)
 
 -- and the Commit of a live grant, of no older life of its node, with news for exactly its writable slots
 abbrev pub CommitIsTaken : Limits → Machine → Ledger → Type 0
-CommitIsTaken k m q = (g : Grant) (news : List News) → Live m g → m.gone g.node.0 ≡ false → m.lives g.node.0 ≤ g.life.0 → slots_of news ≡ written g.slots → news ≢ []
-    → (handled k (record { node = g.node; life = g.life; request = Commit g.ticket news }) (begin_work q)).note ≡ note.Committed g.ticket
+CommitIsTaken limits machine ledger = (grant : Grant) (news : List News) → Live machine grant
+    → machine.gone grant.node.0 ≡ false → machine.lives grant.node.0 ≤ grant.life.0
+    → slots_of news ≡ written grant.slots → news ≢ []
+    → (handled limits (record { node = grant.node; life = grant.life; request = Commit grant.ticket news })
+      (begin_work ledger)).note ≡ note.Committed grant.ticket
 
 -- and its Release
 abbrev pub ReleaseIsTaken : Limits → Machine → Ledger → Type 0
-ReleaseIsTaken k m q = (g : Grant) → Live m g → m.gone g.node.0 ≡ false → m.lives g.node.0 ≤ g.life.0
-    → (handled k (record { node = g.node; life = g.life; request = Release g.ticket }) (begin_work q)).note ≡ note.Released g.ticket
+ReleaseIsTaken limits machine ledger = (grant : Grant) → Live machine grant → machine.gone grant.node.0 ≡ false
+    → machine.lives grant.node.0 ≤ grant.life.0
+    → (handled limits (record { node = grant.node; life = grant.life; request = Release grant.ticket })
+      (begin_work ledger)).note ≡ note.Released grant.ticket
 
--- whatever message comes, sent or not, it ends no grant but one of its node: one of its life, or one of an older life where
--- its life is a newer one
+-- whatever message comes, sent or not, it ends no grant but one of its node: one of its life, or one of an older life
+-- where its life is a newer one
 abbrev pub OnlyItsOwn : Limits → Machine → Ledger → Type 0
-OnlyItsOwn k m q = (y : ToCoord) (g : Grant) → Live m g → In (lease_from g) (handled k y (begin_work q)).ledger.live
-    ⊎ ((g.node ≡ y.node) × ((g.life ≡ y.life) ⊎ ((g.life.0 < y.life.0) × (m.lives y.node.0 < y.life.0))))
+OnlyItsOwn limits machine ledger = (saying : ToCoord) (grant : Grant) → Live machine grant
+    → In (lease_from grant) (handled limits saying (begin_work ledger)).ledger.live
+    ⊎ ((grant.node ≡ saying.node)
+      × ((grant.life ≡ saying.life) ⊎ ((grant.life.0 < saying.life.0) × (machine.lives saying.node.0 < saying.life.0))))
 
 -- every decision on a ledger that agrees with the machine of a world of a run
-pub record EveryDecision (k : Limits) (pool : List Message) (m : Machine) (q : Ledger) : Type 0 where
-  pub message : (y : ToCoord) → In (Said y) pool → Follows k.empty pool m (Meant m (MessageEnds m y (handled k y (begin_work q)).note) (handled k y (begin_work q)).note) (handled k y (begin_work q))
-  pub own : OnlyItsOwn k m q
-  pub commit_taken : CommitIsTaken k m q
-  pub release_taken : ReleaseIsTaken k m q
-  pub withdraw_taken : WithdrawIsTaken k m q
-  pub withdraw : (t : Ticket) → FollowsOk k.empty pool m (WithdrawEnds t) (withdrawn k t (begin_work q))
-  pub retire : (n : NodeId) → FollowsOk k.empty pool m (RetireEnds n) (retired k n (begin_work q))
-  pub prune : (s : Slot) → FollowsOk k.empty pool m NoEnds (pruned k s (begin_work q))
-  pub nudge : Follows k.empty pool m (Meant m NoEnds note.Nudged) (nudged k (begin_work q))
-  pub restart : Follows k.empty pool m (Meant m RestartEnds note.Nothing) (record (begin_work q) { ledger = reread q; changed = true })
+pub record EveryDecision (limits : Limits) (pool : List Message) (machine : Machine) (ledger : Ledger) : Type 0 where
+  pub message : (saying : ToCoord) → In (Said saying) pool
+      → Follows limits.empty pool machine
+        (Meant machine (MessageEnds machine saying (handled limits saying (begin_work ledger)).note)
+          (handled limits saying (begin_work ledger)).note)
+        (handled limits saying (begin_work ledger))
+  pub own : OnlyItsOwn limits machine ledger
+  pub commit_taken : CommitIsTaken limits machine ledger
+  pub release_taken : ReleaseIsTaken limits machine ledger
+  pub withdraw_taken : WithdrawIsTaken limits machine ledger
+  pub withdraw : (ticket : Ticket)
+      → FollowsOk limits.empty pool machine (WithdrawEnds ticket) (withdrawn limits ticket (begin_work ledger))
+  pub retire : (node : NodeId)
+      → FollowsOk limits.empty pool machine (RetireEnds node) (retired limits node (begin_work ledger))
+  pub prune : (slot : Slot) → FollowsOk limits.empty pool machine NoEnds (pruned limits slot (begin_work ledger))
+  pub nudge : Follows limits.empty pool machine (Meant machine NoEnds note.Nudged) (nudged limits (begin_work ledger))
+  pub restart : Follows limits.empty pool machine (Meant machine RestartEnds note.Nothing)
+      (record (begin_work ledger) { ledger = reread ledger; changed = true })
 
 abbrev pub EveryDecisionFollows : Type 0
-EveryDecisionFollows = (sha : List ℕ → Digest) (k : Limits) → IsFarm sha k → (u : World) → Moves sha (start sha) u → (q : Ledger) → Agrees k.empty u.pool u.machine q → EveryDecision k u.pool u.machine q
+EveryDecisionFollows = (sha : List ℕ → Digest) (limits : Limits) → IsFarm sha limits → (world : World)
+    → Moves sha (start sha) world → (ledger : Ledger) → Agrees limits.empty world.pool world.machine ledger
+    → EveryDecision limits world.pool world.machine ledger
 
 -- the work after the step on the message's life
 abbrev pub after_life : Limits → NodeId → Life → Work → Work
-after_life k n l w = if nat_lt (w.ledger.lives n.0) l.0 then newer_life k n l w else w
+after_life limits node life work =
+    if nat_lt (work.ledger.lives node.0) life.0 then newer_life limits node life work else work
 
 -- no parked ask could be granted
 abbrev pub NoneReady : Limits → Ledger → Type 0
-NoneReady k q = (p : Parked) → In p q.parked → decision k q p ≡ Give → ⊥
+NoneReady limits ledger = (parked : Parked) → In parked ledger.parked → decision limits ledger parked ≡ Give → ⊥
 
 -- where an ask of this name is parked, it is this one
 abbrev pub OnlyItself : Ledger → Parked → Type 0
-OnlyItself q p = (r : Parked) → In r q.parked → r.node ≡ p.node → r.life ≡ p.life → r.ask ≡ p.ask → r ≡ p
+OnlyItself ledger parked = (other : Parked) → In other ledger.parked → other.node ≡ parked.node
+    → other.life ≡ parked.life → other.ask ≡ parked.ask → other ≡ parked
 
 -- the rules let the ask be granted: it has no lease; another node isn't the old home of a tenure; an
 -- instance is left of each PRIVATE folder; the slot of each other folder isn't leased; a ticket is left
-pub record MayBeGranted (k : Limits) (q : Ledger) (p : Parked) : Type 0 where
-  pub new : lease_of q.live p.node p.life p.ask ≡ None
-  pub here : elsewhere q p ≡ false
-  pub left : all_taken k.instances (is_free q) (leased_wants p.tenure p.wants) ≡ false
-  pub idle : busy (is_leased q) (leased_wants p.tenure p.wants) ≡ false
-  pub ticket : nat_lt q.last k.greatest ≡ true
+pub record MayBeGranted (limits : Limits) (ledger : Ledger) (parked : Parked) : Type 0 where
+  pub new : lease_of ledger.live parked.node parked.life parked.ask ≡ None
+  pub here : elsewhere ledger parked ≡ false
+  pub left : all_taken limits.instances (is_free ledger) (leased_wants parked.tenure parked.wants) ≡ false
+  pub idle : busy (is_leased ledger) (leased_wants parked.tenure parked.wants) ≡ false
+  pub ticket : nat_lt ledger.last limits.greatest ≡ true
 
 -- an Acquire of a node that isn't retired, of no older life, that the rules let be granted, is granted in that call
 abbrev pub FittingAskIsGranted : Type 0
-FittingAskIsGranted = (k : Limits) (p : Parked) (w : Work) → NoneReady k w.ledger → OnlyItself w.ledger p → w.ledger.gone p.node.0 ≡ false → nat_lt p.life.0 (w.ledger.lives p.node.0) ≡ false
-    → let v : Work = after_life k p.node p.life w in
-    let grant : Grant = grant_of k.empty v.ledger.line (lease_for k v.ledger p) in
-    let y : ToCoord = record { node = p.node; life = p.life; request = Acquire p.ask p.wants p.tenure } in
-    MayBeGranted k v.ledger p → ((handled k y w).note ≡ note.Granted grant) × In (told.Granted grant) (handled k y w).sends
+FittingAskIsGranted = (limits : Limits) (parked : Parked) (work : Work) → NoneReady limits work.ledger
+    → OnlyItself work.ledger parked → work.ledger.gone parked.node.0 ≡ false
+    → nat_lt parked.life.0 (work.ledger.lives parked.node.0) ≡ false
+    → let seen : Work = after_life limits parked.node parked.life work in
+    let grant : Grant = grant_of limits.empty seen.ledger.line (lease_for limits seen.ledger parked) in
+    let saying : ToCoord = record {
+      node = parked.node;
+      life = parked.life;
+      request = Acquire parked.ask parked.wants parked.tenure
+    } in
+    MayBeGranted limits seen.ledger parked → ((handled limits saying work).note ≡ note.Granted grant)
+    × In (told.Granted grant) (handled limits saying work).sends
