@@ -1,4 +1,5 @@
 pub mod AskLemmas
+pub mod CountLemmas
 pub mod FetchLemmas
 pub mod NodeLemmas
 pub mod FirstLemmas

@@ -12,7 +12,7 @@ use Rattle.nodecore.specs.declared.ask_row.AskRow.{AskRow}
 use Rattle.nodecore.specs.declared.message.AskState.TheVariants as told
 use Rattle.nodecore.specs.Asks.{told_unless, way_out_unless}
 use Rattle.nodecore.specs.Rows.{is_over, row, HaveRows, has_row, is_lost, none_lost, endings, endings_after, row_endings, IsRowOfAsk}
-use Rattle.nodecore.proofs.RowLemmas.{placed}
+use Rattle.nodecore.proofs.RowLemmas.{placed, more_counts}
 
 -- nothing is lost where nothing was made
 none_made : (rows : List AskRow) (a : ℕ) → is_lost [] rows a ≡ none_lost a
@@ -99,14 +99,10 @@ taken : (p f : AskRow → Bool) (rows : List AskRow) → list_any f rows ≡ tru
 taken p f [] has left = absurd (cc has)
 taken p f (x ∷ xs) has left = taken_step p f x xs (p x) (f x) refl refl has left (taken p f xs)
 
-fewer_by : (b : Bool) (m n : ℕ) → m ≤ n → m ≤ cond b (n + 1) n
-fewer_by true m n h = omega (arith, h)
-fewer_by false m n h = h
-
 fewer : (xs : List KeptAsk) (m : ℕ) → endings (drop m xs) ≤ endings xs
 fewer xs zero = omega arith
 fewer [] (suc m) = omega arith
-fewer (x ∷ xs) (suc m) = fewer_by (is_over x) (endings (drop m xs)) (endings xs) (fewer xs m)
+fewer (x ∷ xs) (suc m) = more_counts (is_over x) (endings (drop m xs)) (endings xs) (fewer xs m)
 
 later_fewer : (xs : List KeptAsk) (a m : ℕ) → a ≤ m → endings (drop m xs) ≤ endings (drop a xs)
 later_fewer xs zero m h = fewer xs m

@@ -1,15 +1,12 @@
 -- The rows of a node's asks.
-use Rattle.std.proofs.Common.{◌≡◌, ◌⊎◌, ℕ, zero, suc, ◌+◌, ◌<◌, ◌≤◌, inl, inr, Bool, true, false, cond, List, [], ◌∷◌, ◌++◌, length, set, drop, filter, Some, None, slice_get, refl, sym, ap, subst, ◌∙◌, arith}
+use Rattle.std.proofs.Common.{◌≡◌, ◌⊎◌, ℕ, zero, suc, ◌+◌, ◌<◌, ◌≤◌, inl, inr, Bool, true, false, cond, List, [], ◌∷◌, ◌++◌, length, set, drop, filter, Some, slice_get, refl, sym, ap, subst, ◌∙◌, arith}
 use Rattle.std.specs.Prelude.{◌==◌}
 use Rattle.std.specs.Bool.{MatchBool}
 use Rattle.std.proofs.lemmas.Bool.{cases_Bool, eqb-true, eq-eqb, ne_eqb}
-use Rattle.protocol.proofs.Base.{some_is}
+use Rattle.protocol.proofs.Base.{none_some, some_is}
 use Rattle.protocol.specs.declared.ask.KeptAsk.{KeptAsk}
 use Rattle.nodecore.specs.declared.ask_row.AskRow.{AskRow}
 use Rattle.nodecore.specs.Rows.{is_over, row, HaveRows, with_ask, endings, row_endings}
-
-none_some : {A : Type 0} {P : Type 0} (x : A) → None ≡ Some x → P
-none_some x e = absurd (cc)
 
 -- no row stands where no ask does
 no_rows : {P : Type 0} (rows : List AskRow) (index : ℕ) (r : AskRow) → rows ≡ [] → slice_get rows index ≡ Some r → P
@@ -37,11 +34,11 @@ pub opened : (s : KeptAsk) (ss : List KeptAsk) (k : ℕ) (rows : List AskRow) �
 opened s ss k [] h = inr h
 opened s ss k (r ∷ rs) h = opened_by s ss k r rs (r.place == k) refl h
 
-over_counts : (b : Bool) (m n : ℕ) → m ≤ n → cond b (m + 1) m ≤ cond b (n + 1) n
+pub over_counts : (b : Bool) (m n : ℕ) → m ≤ n → cond b (m + 1) m ≤ cond b (n + 1) n
 over_counts true m n h = omega (arith, h)
 over_counts false m n h = omega (arith, h)
 
-more_counts : (b : Bool) (m n : ℕ) → m ≤ n → m ≤ cond b (n + 1) n
+pub more_counts : (b : Bool) (m n : ℕ) → m ≤ n → m ≤ cond b (n + 1) n
 more_counts true m n h = omega (arith, h)
 more_counts false m n h = omega (arith, h)
 

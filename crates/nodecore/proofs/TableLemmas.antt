@@ -68,7 +68,7 @@ pub none_zero : (rows : List AskRow) → has_row rows 0 ≡ false
 none_zero [] = refl
 none_zero (r ∷ rs) = ap (λ (b : Bool). b || has_row rs 0) (ne_eqb (r.place + 1) 0 (λ e. omega (arith, e))) ∙ none_zero rs
 
-get_set : {A : Type 0} (xs : List A) (i : ℕ) (x d : A) → i < length xs → get_or (set xs i x) i d ≡ x
+pub get_set : {A : Type 0} (xs : List A) (i : ℕ) (x d : A) → i < length xs → get_or (set xs i x) i d ≡ x
 get_set [] i x d h = absurd (omega (arith, h))
 get_set (y ∷ ys) zero x d h = refl
 get_set (y ∷ ys) (suc i) x d h = get_set ys i x d (omega (arith, h))

@@ -1,4 +1,5 @@
 pub mod Asks
+pub mod HeldAsks
 pub mod RowProps
 pub mod Rows
 pub mod Shown

@@ -53,6 +53,11 @@ abbrev pub endings : List KeptAsk → ℕ
 endings [] = 0
 endings (s ∷ ss) = if is_over s then endings ss + 1 else endings ss
 
+-- how many of the asks are present: not over
+abbrev pub present_asks : List KeptAsk → ℕ
+present_asks [] = 0
+present_asks (s ∷ ss) = if is_over s then present_asks ss else present_asks ss + 1
+
 -- how many asks of greater numbers than this one are over
 abbrev pub endings_after : ℕ → List KeptAsk → ℕ
 endings_after a asks = endings (drop a asks)

@@ -1,7 +1,7 @@
 //! The asks of a node's present life: all that aren't over, and the last of those that are.
-ghost use Rattle.std.specs.Prelude.{◌≡◌, ◌<◌, ◌≤◌, ◌+◌, ◌^◌, ◌∷◌, ◌++◌, ◌⊎◌, [], Some, IfSome, IfNone, is_some, OnOk, OnErr, slice_get, slice_set, length, vec_len, drop, false, true};
+ghost use Rattle.std.specs.Prelude.{◌≡◌, ◌<◌, ◌≤◌, ◌+◌, ◌*◌, ◌^◌, ◌∷◌, ◌++◌, ◌⊎◌, ◌&&◌, [], Some, IfSome, IfNone, is_some, OnOk, OnErr, slice_get, slice_set, length, vec_len, drop, false, true, not, nat_le, if◌then◌else◌};
 ghost use Rattle.protocol.specs.Lists.{nth};
-ghost use Rattle.nodecore.specs.Rows.{HaveRows, IsRowOf, IsRowOfAsk, endings_after, has_row, is_lost, none_lost, row_endings};
+ghost use Rattle.nodecore.specs.Rows.{HaveRows, IsRowOf, IsRowOfAsk, endings_after, has_row, is_lost, is_over, none_lost, row_endings};
 ghost use Rattle.nodecore.specs.Asks.{changed};
 ghost use Rattle.nodecore.specs.RowProps.{HaveRows-prop};
 
@@ -27,19 +27,22 @@ pub struct AskTable {
     over: usize,
     pub(crate) all: AllAsks,
     ghost counted: { made ≡ length all.asks },
+    ghost over_counted: { over ≡ row_endings rows.items },
     ghost tied: { HaveRows all.asks 0 rows.items } by { HaveRows-prop all.asks 0 rows.items },
 }
 
 /// How many asks more are over once one was or wasn't, and is or isn't.
 fn ends(was_over: bool, is_over: bool) -> usize
-    ensures { result ≤ 1 }
+    ensures few { result ≤ 1 }
+    ensures exact { result ≡ (if is_over && not was_over then 1 else 0) }
 {
     if is_over && !was_over { 1 } else { 0 }
 }
 
 /// From which row on `many` asks are over: the first row, where fewer are.
 fn last_endings(rows: &[AskRow], many: usize) -> usize
-    ensures { (result ≡ 0) ⊎ (many ≤ row_endings (drop result rows.now)) }
+    ensures enough { (result ≡ 0) ⊎ (many ≤ row_endings (drop result rows.now)) }
+    ensures no_more { row_endings (drop result rows.now) ≤ many }
 {
     let mut first = rows.len();
     let mut left = many;
@@ -66,9 +69,10 @@ impl AskTable {
         }
     }
 
-    /// One ask more. Fails only where memory runs out, and changes nothing then.
+    /// One ask more, which isn't over. Fails only where memory runs out, and changes nothing then.
     pub(crate) fn push(&mut self, ask: KeptAsk) -> Result<(), AllocError>
-        requires { self.old.made + 1 < 2 ^ 64 }
+        requires room { self.old.made + 1 < 2 ^ 64 }
+        requires present { is_over ask ≡ false }
         ensures pushed { OnOk result (self.new.all.asks ≡ self.old.all.asks ++ ask ∷ []) }
         ensures memory { OnErr result (self.new.all.asks ≡ self.old.all.asks) }
         ensures told { is_lost self.new.all.asks self.new.rows.items ≡ is_lost self.old.all.asks self.old.rows.items }
@@ -125,13 +129,15 @@ impl AskTable {
         change(&mut self.rows[row].kept, with);
         self.all.note(from_ref(&self.rows[row]));
         let more = ends(was_over, is_over(&self.rows[row].kept));
-        self.over = self.over.saturating_add(more);
+        self.over += more;
     }
 
     /// Whether it is time to take rows: the rows that may go are then at least half of all, so that the calls together look
     /// at two rows for each that goes.
-    pub(crate) fn is_due(&self) -> bool {
-        self.rows.len().saturating_add(2 * ENDINGS) <= self.over.saturating_mul(2)
+    pub(crate) fn is_due(&self) -> bool
+        ensures { result ≡ nat_le (vec_len self.now.rows + 2048) (2 * row_endings self.now.rows.items) }
+    {
+        self.rows.len() + 2 * ENDINGS <= 2 * self.over
     }
 
     /// Takes the rows of the asks that are over but for the last `ENDINGS` of them, and gives their memory back.
@@ -139,27 +145,28 @@ impl AskTable {
         ensures asks { self.new.all.asks ≡ self.old.all.asks }
         ensures late { (a : _) → is_lost self.new.all.asks self.new.rows.items a ≡ true
             → (is_lost self.old.all.asks self.old.rows.items a ≡ true) ⊎ (1024 ≤ endings_after a self.old.all.asks) }
+        ensures few { row_endings self.new.rows.items ≤ 1024 }
     {
         let first = last_endings(self.rows.as_slice(), ENDINGS);
         self.take_endings(first);
-        self.over = self.over.min(ENDINGS);
         self.rows.shrink_to(self.rows.len().saturating_mul(2));
     }
 
     /// Takes the rows before this one that are of asks that are over.
     fn take_endings(&mut self, first: usize)
+        requires { (first ≡ 0) ⊎ (first < vec_len self.old.rows) }
         ensures asks { self.new.all.asks ≡ self.old.all.asks }
         ensures late { (a : _) → is_lost self.new.all.asks self.new.rows.items a ≡ true
             → (is_lost self.old.all.asks self.old.rows.items a ≡ true) ⊎ ((0 < first) × (row_endings (drop first self.old.rows.items) ≤ endings_after a self.old.all.asks)) }
+        ensures few { row_endings self.new.rows.items ≤ row_endings (drop first self.old.rows.items) }
     {
         if first == 0 {
             return;
         }
-        let Some(row) = self.rows.get(first) else {
-            return;
-        };
-        let from = row.place;
+        let from = self.rows[first].place;
+        let rows = self.rows.len();
         self.rows
             .retain(|row| from <= row.place || !is_over(&row.kept));
+        self.over -= rows - self.rows.len();
     }
 }

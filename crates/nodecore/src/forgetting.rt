@@ -2,6 +2,7 @@
 ghost use Rattle.std.specs.Prelude.{◌≡◌, ◌≤◌, ◌⊎◌, length, true};
 ghost use Rattle.protocol.specs.Farm.{farm_limits};
 ghost use Rattle.protocol.specs.Nodes.{forgotten};
+ghost use Rattle.nodecore.specs.HeldAsks.{asks_held_by, IsFewHeld};
 ghost use Rattle.nodecore.specs.Rows.{endings_after};
 ghost use Rattle.nodecore.specs.Shown.{forgets, place, shown, Answers};
 
@@ -45,6 +46,8 @@ impl NodeCore {
         ensures place { place self.new ≡ place self.old }
         // What is forgotten more than before is over, and so are 1,024 asks of greater numbers.
         ensures late { (a : _) → forgets self.new a ≡ true → (forgets self.old a ≡ true) ⊎ (1024 ≤ endings_after a (shown self.old).asks) }
+        // At most twice as many asks are held then as are present, and 2,048 more.
+        ensures few { IsFewHeld self.new }
     {
         if !self.asks.is_due() {
             return;
@@ -55,7 +58,8 @@ impl NodeCore {
 
     /// How many asks are held: the present ones, and those that are over and not forgotten.
     pub fn asks_held(&self) -> usize
-        ensures { result ≤ length (shown self.now).asks }
+        ensures exact { result ≡ asks_held_by self.now }
+        ensures made { result ≤ length (shown self.now).asks }
     {
         self.asks.rows.len()
     }

@@ -1,8 +1,12 @@
-use Rattle.std.proofs.Common.{◌≡◌, ◌-◌, true, false, ap, sym, ◌∙◌, arith}
+use Rattle.std.proofs.Common.{◌≡◌, ◌-◌, length, true, false, ap, sym, ◌∙◌, arith}
+use Rattle.std.proofs.lemmas.List.{at_drop_all}
 use Rattle.nodecore.specs.declared.ask_row.AskRow.{AskRow}
-use Rattle.nodecore.specs.Rows.{is_over}
+use Rattle.nodecore.specs.Rows.{is_over, row_endings}
 use Rattle.nodecore.proofs.TableLemmas.{endings_back}
 use Rattle.nodecore.proofs.ask_table.last_endings.Goals as goal
+
+pub loop-first-init : goal.loop-first-init
+loop-first-init c = (let none = at_drop_all row_endings c.args.rows.now (length c.args.rows.now) (omega arith) in record { inside = omega arith; many = omega (arith, none) })
 
 pub loop-first-preserved-then-is_over : goal.loop-first-preserved-then-is_over
 loop-first-preserved-then-is_over c =

@@ -1,11 +1,11 @@
-use Rattle.std.proofs.Common.{◌≤◌, ◌+◌, length, drop}
+use Rattle.std.proofs.Common.{◌≡◌, ◌≤◌, ◌+◌, length, drop}
 use Rattle.nodecore.specs.Rows.{row_endings}
 use Rattle.nodecore.proofs.ask_table.last_endings.Given as goal
 
 abbrev pub invariant-loop-first : goal.invariant-loop-first
 invariant-loop-first l = record {
   inside : l.first ≤ length l.rows;
-  many : l.many ≤ l.left + row_endings (drop l.first l.rows);
+  many : l.left + row_endings (drop l.first l.rows) ≡ l.many;
 }
 
 abbrev pub decreases-loop-first : goal.decreases-loop-first

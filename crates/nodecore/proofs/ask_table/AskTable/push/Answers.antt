@@ -1,6 +1,7 @@
 use Rattle.std.proofs.Common.{◌≡◌, ◌+◌, ◌++◌, ◌∷◌, [], List, length, ap, sym, subst, ◌∙◌, arith, length-append}
 use Rattle.protocol.specs.declared.ask.KeptAsk.{KeptAsk}
-use Rattle.nodecore.specs.Rows.{HaveRows, is_lost}
+use Rattle.nodecore.specs.Rows.{HaveRows, is_lost, row_endings}
+use Rattle.nodecore.proofs.CountLemmas.{endings_push}
 use Rattle.nodecore.proofs.RowLemmas.{have_push}
 use Rattle.nodecore.proofs.LostLemmas.{lost_push}
 use Rattle.nodecore.proofs.TableLemmas.{noted_push}
@@ -20,6 +21,7 @@ invariant_of-self-2 c =
     record {
       counted = (let more = length-append all (c.args.ask ∷ []) in let is = ap (λ (l : List KeptAsk). length l) after in omega (arith, more, is, counted));
       tied = subst (λ (l : List KeptAsk). HaveRows l 0 c.push.new.self.items) (sym after) (subst (HaveRows (all ++ c.args.ask ∷ []) 0) (sym pushed) (have_push all 0 rows made c.args.ask c.args.self.now.tied place));
+      over_counted = c.args.self.now.over_counted ∙ sym (ap row_endings pushed ∙ endings_push rows made c.args.ask c.requires.present);
     }
 
 pub returns-clause-pushed : goal.returns-clause-pushed
