@@ -17,11 +17,13 @@ File = String Global × Option (Vec ℕ Global)
 
 -- the file could be read, and this is what is printed for it
 abbrev pub AnswersFile : Command → File → List ℕ → Type 0
-AnswersFile command file text = (bytes : List ℕ) × (option_map (λ (v : Vec ℕ Global). v.items) file.1 ≡ Some bytes) × IsAnswer command bytes text
+AnswersFile command file text = (bytes : List ℕ) × (option_map (λ (v : Vec ℕ Global). v.items) file.1 ≡ Some bytes)
+    × IsAnswer command bytes text
 
 -- this is what is printed for all of them, one after the other
 abbrev pub AnswersAll : Command → List File → List ℕ → Type 0
-AnswersAll command files text = (texts : List (List ℕ)) × AllZip (AnswersFile command) files texts × (text ≡ flat_map (λ (t : List ℕ). t) texts)
+AnswersAll command files text = (texts : List (List ℕ)) × AllZip (AnswersFile command) files texts
+    × (text ≡ flat_map (λ (t : List ℕ). t) texts)
 
 -- why there is no answer for a file, as a line: it could not be read, or it is refused for something other than memory
 abbrev pub FaultsFile : Command → File → List ℕ → Type 0

@@ -19,7 +19,8 @@ use Rattle.commands.specs.declared.failure.Failure.TheVariants as failure
 
 -- `vertices N result DIGEST INDEX`
 abbrev pub result_text : ℕ → Digest → ℕ → List ℕ
-result_text len digest index = codes "vertices " ++ decimal len ++ codes " result " ++ digest_text digest ++ codes " " ++ decimal index ++ codes "\n"
+result_text len digest index =
+    codes "vertices " ++ decimal len ++ codes " result " ++ digest_text digest ++ codes " " ++ decimal index ++ codes "\n"
 
 -- what `check` prints: the result's vertex by its digest
 abbrev pub check_of : GraphParts → Option Vertex → List ℕ

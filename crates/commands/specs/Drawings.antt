@@ -8,4 +8,5 @@ use Rattle.draw.specs.Drawings.{IsPicture}
 
 -- the bytes spell a schedule, and this is the picture of a range of its events
 abbrev pub IsDrawn : Range → List ℕ → List ℕ → Type 0
-IsDrawn range bytes text = (setup : Setup) × (events : List Event) × schedule.IsSchedule bytes setup events × IsPicture setup events range text
+IsDrawn range bytes text = (setup : Setup) × (events : List Event) × schedule.IsSchedule bytes setup events
+    × IsPicture setup events range text

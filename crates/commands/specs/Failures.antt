@@ -45,7 +45,8 @@ load_text (load.NoMounts place) = codes "NoMounts " ++ decimal place
 load_text (load.NoRoot place) = codes "NoRoot " ++ decimal place
 load_text (load.BadMountInput place) = codes "BadMountInput " ++ decimal place
 load_text (load.NoCacheOpt place) = codes "NoCacheOpt " ++ decimal place
-load_text (load.UnknownSharing place value) = codes "UnknownSharing " ++ decimal place ++ codes " " ++ signed_decimal value
+load_text (load.UnknownSharing place value) =
+    codes "UnknownSharing " ++ decimal place ++ codes " " ++ signed_decimal value
 load_text (load.TooManyCacheMounts place) = codes "TooManyCacheMounts " ++ decimal place
 load_text load.Cycle = codes "Cycle"
 load_text load.OutOfMemory = codes "OutOfMemory"

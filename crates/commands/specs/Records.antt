@@ -39,11 +39,13 @@ leased_text leased = codes " " ++ access_text leased.1 ++ slot_text leased.0
 
 -- `lease TICKET NODE LIFE ASK`
 abbrev pub holder_text : Lease → List ℕ
-holder_text lease = codes "lease " ++ decimal lease.ticket.0 ++ codes " " ++ decimal lease.node.0 ++ codes " " ++ decimal lease.life.0 ++ codes " " ++ decimal lease.ask.0
+holder_text lease =
+    codes "lease " ++ decimal lease.ticket.0 ++ codes " " ++ decimal lease.node.0 ++ codes " " ++ decimal lease.life.0 ++ codes " " ++ decimal lease.ask.0
 
 -- who holds the lease, `shared` and `tenure` where they hold, and the slots
 abbrev pub lease_line : Lease → List ℕ
-lease_line lease = holder_text lease ++ word_if lease.shared (codes " shared") ++ word_if lease.tenure (codes " tenure") ++ flat_map leased_text lease.slots ++ codes "\n"
+lease_line lease =
+    holder_text lease ++ word_if lease.shared (codes " shared") ++ word_if lease.tenure (codes " tenure") ++ flat_map leased_text lease.slots ++ codes "\n"
 
 -- `retired SLOT`
 abbrev pub retired_line : SlotParts → List ℕ
@@ -75,4 +77,5 @@ IsNoRecord bytes failure.Memory = ⊤
 
 -- the bytes of a record hold what this one holds with some entries behind it
 abbrev pub HoldsWith : List ℕ → List ℕ → Type 0
-HoldsWith whole bytes = (entries : List (List ℕ)) × (ledger_in (whole_alone bytes) ≡ ledger_in (record { whole = whole; entries = entries }))
+HoldsWith whole bytes = (entries : List (List ℕ))
+    × (ledger_in (whole_alone bytes) ≡ ledger_in (record { whole = whole; entries = entries }))

@@ -17,7 +17,8 @@ use Rattle.commands.specs.declared.failure.Failure.TheVariants as failure
 -- the lines of events in the farm, the first with this number
 abbrev pub events_text : ℕ → List Event → Farm → List ℕ
 events_text number [] s = []
-events_text number (e ∷ es) s = outcome_text number (step content_digest farm_limits s e).outcome ++ events_text (number + 1) es (step content_digest farm_limits s e).farm
+events_text number (e ∷ es) s =
+    outcome_text number (step content_digest farm_limits s e).outcome ++ events_text (number + 1) es (step content_digest farm_limits s e).farm
 
 -- what is printed for events in a farm: their lines, and the lines of versions of the farm after them
 pub record IsPrinted (s : Farm) (events : List Event) (text : List ℕ) : Type 0 where
@@ -36,11 +37,13 @@ pub record HasHeadline (setup : Setup) (events : List Event) : Type 0 where
 
 -- the bytes spell a schedule, and this is what is printed for it
 abbrev pub IsReplayed : List ℕ → List ℕ → Type 0
-IsReplayed bytes text = (setup : Setup) × (events : List Event) × schedule.IsSchedule bytes setup events × IsReplayOf setup events text
+IsReplayed bytes text = (setup : Setup) × (events : List Event) × schedule.IsSchedule bytes setup events
+    × IsReplayOf setup events text
 
 -- the headline holds of the schedule that the bytes spell
 abbrev pub TellsHeadline : List ℕ → Type 0
-TellsHeadline bytes = (setup : Setup) (events : List Event) → schedule.IsSchedule bytes setup events → HasHeadline setup events
+TellsHeadline bytes = (setup : Setup) (events : List Event) → schedule.IsSchedule bytes setup events
+    → HasHeadline setup events
 
 -- why the bytes don't spell a schedule: their first fault
 abbrev pub IsUnread : List ℕ → Failure → Type 0

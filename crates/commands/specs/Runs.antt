@@ -38,8 +38,8 @@ abbrev pub names_of : List File → List (List ℕ)
 names_of files = map (λ (file : File). string_bytes file.0) files
 
 -- what is printed for a run of files of these names, and what is saved: there is a schedule of the farm after which the
--- coordinator's record is the saved one; each file has an answer; and as many commits are printed as grants of the schedule
--- ended committed; and these are the places of the files that failed
+-- coordinator's record is the saved one; each file has an answer; and as many commits are printed as grants of the
+-- schedule ended committed; and these are the places of the files that failed
 pub record IsRunOf (setup : Setup) (names : List (List ℕ)) (text saved failed : List ℕ) : Type 0 where
   pub events : List Event
   pub answers : List Answer

@@ -30,7 +30,8 @@ pub record IsWantsLine (g : GraphParts) (keys : List Key) (numbered : ℕ × Ver
 
 -- what is printed for a graph that has these keys: the lines of its vertices, by rising place
 abbrev pub AreWantsLines : GraphParts → List Key → List ℕ → Type 0
-AreWantsLines g keys text = (lines : List (List ℕ)) × AllZip (IsWantsLine g keys) (enumerate_from 0 g.vertices) lines × (text ≡ flat_map (λ (line : List ℕ). line) lines)
+AreWantsLines g keys text = (lines : List (List ℕ)) × AllZip (IsWantsLine g keys) (enumerate_from 0 g.vertices) lines
+    × (text ≡ flat_map (λ (line : List ℕ). line) lines)
 
 -- what `wants` prints for a graph
 abbrev pub AreWantsListed : GraphParts → List ℕ → Type 0

@@ -41,7 +41,8 @@ pub record KeepsOf (ns : List ℕ) (x y : NotedAsks) : Type 0 where
 
 -- it says so of each of the asks, which have these numbers
 abbrev pub AreIndexed : NotedAsks → List Parked → List ℕ → Type 0
-AreIndexed x ps ns = (length ns ≡ length ps) × ((k : ℕ) (d : Parked) → k < length ps → IsIndexed x (slice_index_or ns k 0) (slice_index_or ps k d))
+AreIndexed x ps ns = (length ns ≡ length ps)
+    × ((k : ℕ) (d : Parked) → k < length ps → IsIndexed x (slice_index_or ns k 0) (slice_index_or ps k d))
 
 -- there is a number, and it is at most this one
 abbrev pub Reaches : Option ℕ → ℕ → Type 0

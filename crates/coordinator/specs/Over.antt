@@ -19,7 +19,8 @@ Begins i (o ∷ os) = i ≤ o
 -- of a list whose first has this place what is not at these places
 abbrev pub still_at : {A : Type 0} → ℕ → List ℕ → List A → List A
 still_at i over [] = []
-still_at i over (x ∷ xs) = if is_over_at i over then still_at (i + 1) (later_over i over) xs else x ∷ still_at (i + 1) (later_over i over) xs
+still_at i over (x ∷ xs) =
+    if is_over_at i over then still_at (i + 1) (later_over i over) xs else x ∷ still_at (i + 1) (later_over i over) xs
 
 -- of a list what is not at these places
 abbrev pub still_waiting : {A : Type 0} → List ℕ → List A → List A

@@ -27,17 +27,19 @@ granted q p = grant_of farm_limits.empty q.line (lease_for farm_limits q p)
 -- an ask that the rules let be granted is granted in that call, if the node isn't retired, the life isn't older, and no
 -- ask of its name is parked
 abbrev pub GrantsAtOnce : Ledger → ToCoord → CoordNote → List FromCoord → Type 0
-GrantsAtOnce q y n sends = (ask : Ask) (wants : List Want) (tenure : Bool) → y.request ≡ Acquire ask wants tenure → is_parked q.parked y.node y.life ask ≡ false
+GrantsAtOnce q y n sends = (ask : Ask) (wants : List Want) (tenure : Bool) → y.request ≡ Acquire ask wants tenure
+    → is_parked q.parked y.node y.life ask ≡ false
     → q.gone y.node.0 ≡ false → nat_lt y.life.0 (q.lives y.node.0) ≡ false
     → let after : Ledger = (after_life farm_limits y.node y.life (begin_work q)).ledger in
     let grant : Grant = granted after (asked y ask wants tenure) in
     MayBeGranted farm_limits after (asked y ask wants tenure) → (n ≡ note.Granted grant) × In (told.Granted grant) sends
 
--- whatever the message, sent by a node of the farm or not, it ends no lease but one of its node: one of its life, or one of
--- an older life where its life is newer than any seen
+-- whatever the message, sent by a node of the farm or not, it ends no lease but one of its node: one of its life, or
+-- one of an older life where its life is newer than any seen
 abbrev pub EndsOnlyItsOwn : Ledger → ToCoord → Ledger → Type 0
 EndsOnlyItsOwn old y new = (g : Lease) → In g old.live
-    → In g new.live ⊎ ((g.node ≡ y.node) × ((g.life ≡ y.life) ⊎ ((g.life.0 < y.life.0) × (old.lives y.node.0 < y.life.0))))
+    → In g new.live
+    ⊎ ((g.node ≡ y.node) × ((g.life ≡ y.life) ⊎ ((g.life.0 < y.life.0) × (old.lives y.node.0 < y.life.0))))
 
 -- what the record holds is as before, unless the work says that it changed
 abbrev pub ChangesAsTold : Ledger → Result Work CoordRefusal → Type 0

@@ -13,7 +13,8 @@ use Rattle.coordinator.specs.Seen.{Seen}
 use Rattle.coordinator.specs.declared.handled.Handled.{Handled}
 
 -- the keeper was asked once to keep texts that hold this: a whole record, or an entry behind those that it had
-pub record Saves {K : Type 0} (saving : K → Texts → Bool → K → Type 0) (s : Saved) (ok : Bool) (old new : K) : Type 0 where
+pub record Saves {K : Type 0} (saving : K → Texts → Bool → K → Type 0) (s : Saved) (ok : Bool)
+    (old new : K) : Type 0 where
   pub texts : Texts
   pub holds : Holds texts s
   pub left : saving old texts ok new
@@ -24,7 +25,8 @@ SavesIf saving true s old new = Saves saving s true old new
 SavesIf saving false s old new = new ≡ old
 
 -- the work is saved and done, and what it sends is handed out
-pub record Does {K : Type 0} (saving : K → Texts → Bool → K → Type 0) (w : Work) (old new : Seen K) (h : Handled) : Type 0 where
+pub record Does {K : Type 0} (saving : K → Texts → Bool → K → Type 0) (w : Work) (old new : Seen K)
+    (h : Handled) : Type 0 where
   pub saved : SavesIf saving w.changed (saves w.ledger) old.keeper new.keeper
   pub ledger : ledger new.held ≡ w.ledger
   pub up : new.down ≡ false
@@ -44,40 +46,51 @@ is_save_fault (Err SaveFault) = true
 is_save_fault result = false
 
 -- the answer of a coordinator that is up, where the rules make this work of the event
-abbrev pub Answers : {K : Type 0} → (K → Texts → Bool → K → Type 0) → Result Work CoordRefusal → Seen K → Seen K → Result Handled CoordRefusal → Type 0
+abbrev pub Answers : {K : Type 0} → (K → Texts → Bool → K → Type 0) → Result Work CoordRefusal → Seen K → Seen K
+    → Result Handled CoordRefusal → Type 0
 Answers saving (Ok w) old new (Ok h) = Does saving w old new h
 Answers saving (Ok w) old new (Err SaveFault) = Fails saving w old new
 Answers saving (Ok w) old new (Err e) = (e ≡ OutOfMemory) × (new ≡ old)
 Answers saving (Err e) old new result = (result ≡ Err e) × (new ≡ old)
 
 -- a coordinator that is down does nothing
-abbrev pub SettlesWhile : {K : Type 0} → Bool → (K → Texts → Bool → K → Type 0) → Result Work CoordRefusal → Seen K → Seen K → Result Handled CoordRefusal → Type 0
+abbrev pub SettlesWhile : {K : Type 0} → Bool → (K → Texts → Bool → K → Type 0) → Result Work CoordRefusal → Seen K
+    → Seen K → Result Handled CoordRefusal → Type 0
 SettlesWhile true saving work old new result = (result ≡ Err Down) × (new ≡ old)
 SettlesWhile false saving work old new result = Answers saving work old new result
 
 -- the answer of a coordinator, where the rules make this work of the event
-abbrev pub Settles : {K : Type 0} → (K → Texts → Bool → K → Type 0) → Result Work CoordRefusal → Seen K → Seen K → Result Handled CoordRefusal → Type 0
+abbrev pub Settles : {K : Type 0} → (K → Texts → Bool → K → Type 0) → Result Work CoordRefusal → Seen K → Seen K
+    → Result Handled CoordRefusal → Type 0
 Settles saving work old new result = SettlesWhile old.down saving work old new result
 
 -- the answer of a load of these texts
-abbrev pub Loads : {K : Type 0} → (K → Option KeeperRefusal → K → Type 0) → Texts → K → K → Result Held CoordRefusal → Type 0
-Loads loading texts old new (Ok held) = loading old None new × ((s : Saved) × Holds texts s) × (ledger held ≡ reads (saved_in texts))
+abbrev pub Loads : {K : Type 0} → (K → Option KeeperRefusal → K → Type 0) → Texts → K → K → Result Held CoordRefusal
+    → Type 0
+Loads loading texts old new (Ok held) = loading old None new × ((s : Saved) × Holds texts s)
+    × (ledger held ≡ reads (saved_in texts))
 Loads loading texts old new (Err BadRecord) = loading old None new × ((e : RecordRefusal) × (ledger_in texts ≡ Err e))
 Loads loading texts old new (Err LoadFault) = loading old (Some Fault) new
 Loads loading texts old new (Err OutOfMemory) = (refusal : Option KeeperRefusal) × loading old refusal new
 Loads loading texts old new (Err e) = ⊥
 
 -- a restart takes up what the keeper's texts hold
-pub record TakesUp {K : Type 0} (loading : K → Option KeeperRefusal → K → Type 0) (texts : Texts) (old : K) (new : Seen K) : Type 0 where
+pub record TakesUp {K : Type 0} (loading : K → Option KeeperRefusal → K → Type 0) (texts : Texts) (old : K)
+    (new : Seen K) : Type 0 where
   pub loaded : loading old None new.keeper
   pub ledger : ledger new.held ≡ reads (saved_in texts)
   pub up : new.down ≡ false
 
--- the answer of a restart: where the keeper's device fails the coordinator is down, where memory runs out it is as it was
-abbrev pub Restarts : {K : Type 0} → (K → Option KeeperRefusal → K → Type 0) → Texts → Seen K → Seen K → Result ⊤ CoordRefusal → Type 0
+-- the answer of a restart: where the keeper's device fails the coordinator is down, where memory runs out it is as it
+-- was
+abbrev pub Restarts : {K : Type 0} → (K → Option KeeperRefusal → K → Type 0) → Texts → Seen K → Seen K
+    → Result ⊤ CoordRefusal → Type 0
 Restarts loading texts old new (Ok done) = TakesUp loading texts old.keeper new
-Restarts loading texts old new (Err LoadFault) = loading old.keeper (Some Fault) new.keeper × (new.held ≡ old.held) × (new.down ≡ true)
-Restarts loading texts old new (Err OutOfMemory) = ((refusal : Option KeeperRefusal) × loading old.keeper refusal new.keeper) × (new.held ≡ old.held) × (new.down ≡ old.down)
+Restarts loading texts old new (Err LoadFault) = loading old.keeper (Some Fault) new.keeper × (new.held ≡ old.held)
+    × (new.down ≡ true)
+Restarts loading texts old new (Err OutOfMemory) =
+    ((refusal : Option KeeperRefusal) × loading old.keeper refusal new.keeper) × (new.held ≡ old.held)
+    × (new.down ≡ old.down)
 Restarts loading texts old new (Err e) = ⊥
 
 -- a sync, and whether it succeeded: where it didn't the coordinator is down

@@ -18,7 +18,8 @@ is_noted noted f = list_any (λ g. folder_eq g f) noted
 
 -- each such folder that the ask wants is among these
 abbrev pub IsNoted : List FolderName → (Slot → Bool) → Parked → Type 0
-IsNoted noted free p = (w : Want) → In w p.wants → is_private_spent free w.folder ≡ true → is_noted noted w.folder ≡ true
+IsNoted noted free p = (w : Want) → In w p.wants → is_private_spent free w.folder ≡ true
+    → is_noted noted w.folder ≡ true
 
 -- so it is with each parked ask
 abbrev pub AreNoted : List FolderName → Ledger → Type 0

@@ -20,15 +20,18 @@ abbrev pub farm_after : Farm → List Event → Range → Farm
 farm_after s events range = run content_digest farm_limits (drawn range events) (farm_before s events range)
 
 abbrev pub scene_of : Farm → ℕ → List Event → Range → Scene
-scene_of s nodes events range = scene_from nodes (frames_from (skipped range (length events) + 1) (drawn range events) (farm_before s events range))
+scene_of s nodes events range =
+    scene_from nodes (frames_from (skipped range (length events) + 1) (drawn range events) (farm_before s events range))
 
 abbrev pub extent_of : ℕ → List Event → Range → Extent
-extent_of nodes events range = record { first = skipped range (length events) + 1; last = drawn_to range (length events); events = length events; nodes = nodes }
+extent_of nodes events range =
+    record { first = skipped range (length events) + 1; last = drawn_to range (length events); events = length events; nodes = nodes }
 
 -- this is the picture of a range of the events of a farm with `nodes` nodes, and of the lines of versions after them
 abbrev pub IsPictureIn : Farm → ℕ → List Event → Range → List ℕ → Type 0
 IsPictureIn s nodes events range text =
-    (lines : List ℕ) × ArePrinted (farm_after s events range).ledger.line lines × (text ≡ page_text (extent_of nodes events range) (scene_of s nodes events range) lines)
+    (lines : List ℕ) × ArePrinted (farm_after s events range).ledger.line lines
+    × (text ≡ page_text (extent_of nodes events range) (scene_of s nodes events range) lines)
 
 -- this is the picture of a range of a schedule's events
 abbrev pub IsPicture : Setup → List Event → Range → List ℕ → Type 0

@@ -2,7 +2,8 @@
 use Rattle.std.specs.Prelude.{ℕ, ◌==◌, nat_le, nat_lt, ◌&&◌, ◌||◌, if◌then◌else◌, List, [], ◌∷◌, codes, length, take}
 use Rattle.std.specs.List.{flat_map}
 
--- a visible ASCII byte, a space or a line feed stands for itself, unless XML means something by it; any other byte is `?`
+-- a visible ASCII byte, a space or a line feed stands for itself, unless XML means something by it; any other byte is
+-- `?`
 unfoldable pub escaped : ℕ → List ℕ
 escaped b =
     if b == 38 then codes "&amp;"

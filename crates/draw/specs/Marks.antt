@@ -20,11 +20,13 @@ use Rattle.draw.specs.Rows.{first_row, column_of, has_line}
 
 -- a life of this lifeline begins: at row 0 that of each one that is not down, and then by a start
 abbrev pub begins_life : ℕ → ℕ → Frame → Bool
-begins_life row line f = if row == 0 then not (line == 0 && is_fault f.done) else (nat_eq f.actor line && is_start f.done)
+begins_life row line f =
+    if row == 0 then not (line == 0 && is_fault f.done) else (nat_eq f.actor line && is_start f.done)
 
 -- the bar of a life, up to the start or the failed save that ends it
 abbrev pub life_mark : List ℕ → ℕ → Frame → List Frame → ℕ → List Mark
-life_mark lines row f rest line = if begins_life row line f then mark.Life (column_of lines line) row (first_row (Stopped line) (row + 1) rest) ∷ [] else []
+life_mark lines row f rest line =
+    if begins_life row line f then mark.Life (column_of lines line) row (first_row (Stopped line) (row + 1) rest) ∷ [] else []
 
 -- how a lease of this ticket ends by an event after which it is live no more
 abbrev pub end_of : ℕ → Done → End
@@ -47,13 +49,15 @@ lease_mark lines before row rest h =
 
 -- the bar of an execution that begins
 abbrev pub run_marks : List ℕ → ℕ → Frame → Done → List Frame → List Mark
-run_marks lines row f (done.Begun ticket) rest = mark.Run (column_of lines f.actor) ticket row (first_row (RunOver f.actor ticket) (row + 1) rest) ∷ []
+run_marks lines row f (done.Begun ticket) rest =
+    mark.Run (column_of lines f.actor) ticket row (first_row (RunOver f.actor ticket) (row + 1) rest) ∷ []
 run_marks lines row f _ rest = []
 
 -- the arrow of a message to the row where it is taken, from the frame that sent it, if that is drawn
 abbrev pub arrow_mark : List ℕ → ℕ → Frame → ℕ → ℕ → Option Frame → Mark
 arrow_mark lines row f number sent_row None = mark.Arrival (column_of lines f.actor) row number
-arrow_mark lines row f number sent_row (Some sender) = mark.Arrow (column_of lines sender.actor) sent_row (column_of lines f.actor) row number
+arrow_mark lines row f number sent_row (Some sender) =
+    mark.Arrow (column_of lines sender.actor) sent_row (column_of lines f.actor) row number
 
 abbrev pub arrow_marks : Scene → ℕ → Frame → Option ℕ → List Mark
 arrow_marks s row f None = []
@@ -99,4 +103,5 @@ all_of pass s = pass_marks pass s [] 0 s.frames
 
 -- all marks, what covers others behind them
 abbrev pub marks_of : Scene → List Mark
-marks_of s = all_of pass.Labels s ++ all_of pass.Lives s ++ all_of pass.Leases s ++ all_of pass.Runs s ++ all_of pass.Lost s ++ all_of pass.Arrows s ++ all_of pass.Signs s
+marks_of s =
+    all_of pass.Labels s ++ all_of pass.Lives s ++ all_of pass.Leases s ++ all_of pass.Runs s ++ all_of pass.Lost s ++ all_of pass.Arrows s ++ all_of pass.Signs s

@@ -38,10 +38,12 @@ name_text line = if line == 0 then codes "coordinator" else codes "node " ++ dec
 
 -- a lifeline, down to the row behind the last
 abbrev pub named_text : ℕ → ℕ → List ℕ
-named_text column line = codes "<text class='name' x='" ++ decimal (x_of column) ++ codes "' y='92'>" ++ name_text line ++ codes "</text>"
+named_text column line =
+    codes "<text class='name' x='" ++ decimal (x_of column) ++ codes "' y='92'>" ++ name_text line ++ codes "</text>"
 
 abbrev pub drop_text : ℕ → ℕ → List ℕ
-drop_text rows column = codes "<path class='line' d='M" ++ decimal (x_of column) ++ codes " 98V" ++ decimal (y_of rows) ++ codes "'/>\n"
+drop_text rows column =
+    codes "<path class='line' d='M" ++ decimal (x_of column) ++ codes " 98V" ++ decimal (y_of rows) ++ codes "'/>\n"
 
 abbrev pub lifeline_text : ℕ → ℕ → ℕ → List ℕ
 lifeline_text rows column line = named_text column line ++ drop_text rows column
@@ -68,7 +70,8 @@ abbrev pub shown_text : List ℕ → List ℕ
 shown_text lines = flat_map version_byte (shown lines) ++ dots_of MOST_LINES lines
 
 unfoldable pub versions_text : ℕ → List ℕ → List ℕ
-versions_text y lines = codes "<text class='versions' y='" ++ decimal y ++ codes "'><tspan x='20'>" ++ shown_text lines ++ codes "</tspan></text>\n"
+versions_text y lines =
+    codes "<text class='versions' y='" ++ decimal y ++ codes "'><tspan x='20'>" ++ shown_text lines ++ codes "</tspan></text>\n"
 
 abbrev pub width_of : Scene → ℕ
 width_of s = 500 + 130 * length s.lines
@@ -95,4 +98,5 @@ foot_text s lines = versions_text (foot_y s) lines ++ codes "</svg>\n"
 
 -- the picture of a scene, with these lines of versions under it
 abbrev pub page_text : Extent → Scene → List ℕ → List ℕ
-page_text e s lines = begun_text NAMESPACE.now STYLE.now s lines ++ headed_text LEGEND.now e s ++ body_text s (marks_of s) ++ foot_text s lines
+page_text e s lines =
+    begun_text NAMESPACE.now STYLE.now s lines ++ headed_text LEGEND.now e s ++ body_text s (marks_of s) ++ foot_text s lines

@@ -41,7 +41,8 @@ sent_of pool number = record { number = number; to = addressee (nth pool number)
 abbrev pub sent_after : ℕ → List Message → List Sent
 sent_after before pool = map (sent_of pool) (range_with_len (before + 1) (length pool - before))
 
--- the frame of an event, given its number, its lifeline, how many messages were sent before, what came of it, and the farm after it
+-- the frame of an event, given its number, its lifeline, how many messages were sent before, what came of it, and the
+-- farm after it
 abbrev pub framed : ℕ → ℕ → ℕ → Event → Result Outcome EventRefusal → Farm → Frame
 framed number actor before e outcome after = record {
   words = outcome_text number outcome;
@@ -54,7 +55,8 @@ framed number actor before e outcome after = record {
 
 -- the frame of an event of a farm
 abbrev pub frame_of : ℕ → Farm → Event → Frame
-frame_of number s e = framed number (actor_of s.pool e) (length s.pool) e (step content_digest farm_limits s e).outcome (step content_digest farm_limits s e).farm
+frame_of number s e =
+    framed number (actor_of s.pool e) (length s.pool) e (step content_digest farm_limits s e).outcome (step content_digest farm_limits s e).farm
 
 -- the frames of events of a farm, the first with this number
 abbrev pub frames_of : ℕ → List Event → Farm → List Frame

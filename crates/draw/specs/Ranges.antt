@@ -8,4 +8,5 @@ abbrev pub skipped : Range → ℕ → ℕ
 skipped range events = min (range.first - 1) events
 
 abbrev pub drawn_to : Range → ℕ → ℕ
-drawn_to range events = max (skipped range events) (min range.last (skipped range events + min MOST_EVENTS (events - skipped range events)))
+drawn_to range events =
+    max (skipped range events) (min range.last (skipped range events + min MOST_EVENTS (events - skipped range events)))

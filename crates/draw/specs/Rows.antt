@@ -4,7 +4,8 @@ use Rattle.std.specs.List.{list_any}
 use Rattle.draw.specs.declared.sought.Sought.{Sought}
 use Rattle.draw.specs.Frames.{Frame, meets}
 
--- the row of the first of these frames that is looked for, where the first of all has this row; the row behind them if none is
+-- the row of the first of these frames that is looked for, where the first of all has this row; the row behind them if
+-- none is
 abbrev pub first_row : Sought → ℕ → List Frame → ℕ
 first_row sought row [] = row
 first_row sought row (f ∷ fs) = if meets sought f then row else first_row sought (row + 1) fs

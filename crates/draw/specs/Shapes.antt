@@ -22,7 +22,8 @@ abbrev pub title_text : List Frame → ℕ → List ℕ
 title_text frames row = codes "<title>" ++ escaped_text (words_at frames row) ++ codes "</title>"
 
 abbrev pub titles_text : List Frame → ℕ → ℕ → List ℕ
-titles_text frames from to = codes "<title>" ++ escaped_text (words_at frames from) ++ escaped_text (words_at frames to) ++ codes "</title>"
+titles_text frames from to =
+    codes "<title>" ++ escaped_text (words_at frames from) ++ escaped_text (words_at frames to) ++ codes "</title>"
 
 -- the size of something
 unfoldable pub size_text : ℕ → ℕ → List ℕ
@@ -34,7 +35,8 @@ rect_text class x width from to =
     codes "<rect class='" ++ class ++ codes "' x='" ++ decimal x ++ codes "' y='" ++ decimal (y_of from) ++ size_text width (26 * (to - from)) ++ codes "' rx='2'>"
 
 abbrev pub bar_text : List Frame → List ℕ → ℕ → ℕ → ℕ → ℕ → List ℕ
-bar_text frames class x width from to = rect_text class x width from to ++ titles_text frames from to ++ codes "</rect>\n"
+bar_text frames class x width from to =
+    rect_text class x width from to ++ titles_text frames from to ++ codes "</rect>\n"
 
 abbrev pub end_class : End → List ℕ
 end_class «end».Committed = codes "committed"
@@ -50,26 +52,30 @@ lease_x column ticket = x_of column + 9 + 10 * ((ticket + 4) % 5)
 
 -- the number of a message
 abbrev pub number_text : ℕ → ℕ → ℕ → List ℕ
-number_text x y number = codes "<text class='number' x='" ++ decimal x ++ codes "' y='" ++ decimal y ++ codes "'>" ++ decimal number ++ codes "</text>\n"
+number_text x y number =
+    codes "<text class='number' x='" ++ decimal x ++ codes "' y='" ++ decimal y ++ codes "'>" ++ decimal number ++ codes "</text>\n"
 
 abbrev pub point_text : ℕ → ℕ → List ℕ
 point_text x y = decimal x ++ codes " " ++ decimal y
 
 abbrev pub line_text : ℕ → ℕ → ℕ → ℕ → List ℕ
-line_text x y to_x to_y = codes "<path class='arrow' d='M" ++ point_text x y ++ codes "L" ++ point_text to_x to_y ++ codes "'>"
+line_text x y to_x to_y =
+    codes "<path class='arrow' d='M" ++ point_text x y ++ codes "L" ++ point_text to_x to_y ++ codes "'>"
 
 -- where the number of an arrow stands: on it, a quarter of a column from its beginning
 abbrev pub number_x : ℕ → ℕ → ℕ
 number_x from_column column = if nat_lt from_column column then x_of from_column + 32 else 48 + 130 * from_column
 
 abbrev pub number_y : ℕ → ℕ → ℕ → ℕ → ℕ
-number_y from_column from column to = y_of from + 26 * (to - from) / (4 * max 1 (from_column - column + (column - from_column)))
+number_y from_column from column to =
+    y_of from + 26 * (to - from) / (4 * max 1 (from_column - column + (column - from_column)))
 
 abbrev pub shaft_text : ℕ → ℕ → ℕ → ℕ → List ℕ
 shaft_text from_column from column to = line_text (x_of from_column) (y_of from) (x_of column) (y_of to)
 
 abbrev pub numbered_text : ℕ → ℕ → ℕ → ℕ → ℕ → List ℕ
-numbered_text from_column from column to number = number_text (number_x from_column column) (number_y from_column from column to) number
+numbered_text from_column from column to number =
+    number_text (number_x from_column column) (number_y from_column from column to) number
 
 abbrev pub arrow_text : List Frame → ℕ → ℕ → ℕ → ℕ → ℕ → List ℕ
 arrow_text frames from_column from column to number =
@@ -85,7 +91,8 @@ abbrev pub spot_text : ℕ → ℕ → List ℕ
 spot_text column row = point_text (x_of column) (y_of row)
 
 abbrev pub path_text : List ℕ → ℕ → ℕ → List ℕ → List ℕ
-path_text class column row outline = codes "<path class='" ++ class ++ codes "' d='M" ++ spot_text column row ++ outline ++ codes "'>"
+path_text class column row outline =
+    codes "<path class='" ++ class ++ codes "' d='M" ++ spot_text column row ++ outline ++ codes "'>"
 
 -- a stub goes to the right or to the left
 abbrev pub stub_text : ℕ → ℕ → List ℕ → List ℕ
@@ -113,7 +120,8 @@ sign_outline sign.Armed = codes "m0-9l9 9l-9 9l-9-9z"
 sign_outline sign.Started = codes "m-7 6l7-13l7 13z"
 
 abbrev pub sign_text : List Frame → ℕ → ℕ → Sign → List ℕ
-sign_text frames column row s = path_text (sign_class s) column row (sign_outline s) ++ title_text frames row ++ codes "</path>\n"
+sign_text frames column row s =
+    path_text (sign_class s) column row (sign_outline s) ++ title_text frames row ++ codes "</path>\n"
 
 -- the first 56 bytes of longer words
 abbrev pub shortened : List ℕ → List ℕ
@@ -130,7 +138,8 @@ abbrev pub begun_label : ℕ → ℕ → List ℕ
 begun_label column row = guide_text (y_of row) (30 + 130 * column) ++ beside_text (40 + 130 * column) (y_of row + 4)
 
 abbrev pub label_text : List Frame → ℕ → ℕ → List ℕ
-label_text frames column row = begun_label column row ++ shortened (words_at frames row) ++ title_text frames row ++ codes "</text>\n"
+label_text frames column row =
+    begun_label column row ++ shortened (words_at frames row) ++ title_text frames row ++ codes "</text>\n"
 
 abbrev pub mark_text : List Frame → Mark → List ℕ
 mark_text frames (mark.Life column from to) = bar_text frames (codes "life") (76 + 130 * column) 8 from to

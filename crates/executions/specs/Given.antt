@@ -31,7 +31,8 @@ output_at outputs (pos place) = slice_get outputs place
 output_at outputs (negsuc number) = None
 
 -- the view of a cache mount, of which there are its place among the mounts and that of its folder among the wants
-pub record IsViewAt (seen : FolderName → Files) (wants : List Want) (outputs : List Digest) (mounts : List (Mount Text)) (places : ℕ × ℕ) (view : View) : Type 0 where
+pub record IsViewAt (seen : FolderName → Files) (wants : List Want) (outputs : List Digest) (mounts : List (Mount Text))
+    (places : ℕ × ℕ) (view : View) : Type 0 where
   pub mount : Mount Text
   pub want : Want
   pub mount_there : slice_get mounts places.0 ≡ Some mount
@@ -44,7 +45,8 @@ pub record IsViewAt (seen : FolderName → Files) (wants : List Want) (outputs :
 
 -- what is given for a task that is the vertex of a number: what the vertex does, the outputs that its inputs name,
 -- and a view of each of its cache mounts, in order
-pub record IsGiven (k : KeyedParts) (number : ℕ) (task : Task) (seen : FolderName → Files) (wants : List Want) (given : TaskParts) : Type 0 where
+pub record IsGiven (k : KeyedParts) (number : ℕ) (task : Task) (seen : FolderName → Files) (wants : List Want)
+    (given : TaskParts) : Type 0 where
   pub vertex : Vertex
   pub there : slice_get k.graph.vertices number ≡ Some vertex
   pub key : given.key ≡ task.key

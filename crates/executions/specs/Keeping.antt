@@ -23,7 +23,8 @@ pub record IsAsMade (batches : List Batch) (o : Open) : Type 0 where
 pub record IsKept (batches : List Batch) (folders : List Open) : Type 0 where
   pub each : (place : ℕ) (o : Open) → slice_get folders place ≡ Some o → IsAsMade batches o
   -- no folder is open twice
-  pub apart : (j k : ℕ) (one other : Open) → slice_get folders j ≡ Some one → slice_get folders k ≡ Some other → one.folder ≡ other.folder → j ≡ k
+  pub apart : (j k : ℕ) (one other : Open) → slice_get folders j ≡ Some one → slice_get folders k ≡ Some other
+      → one.folder ≡ other.folder → j ≡ k
   pub once : AreOnce batches
 
 -- why no folder was read

@@ -62,7 +62,8 @@ is_left u = u.writable && not (is_shared u.slot.folder.mode)
 
 -- the slot with the bytes of its folder: as it was changed, or as it was seen where it wasn't
 abbrev pub left_in : (FolderName → Files) → List Named → SlotParts → Left
-left_in seen changed slot = record { slot = slot; content = folder_bytes (unwrap_or (lookup (folder_eq slot.folder) changed) (seen slot.folder)) }
+left_in seen changed slot =
+    record { slot = slot; content = folder_bytes (unwrap_or (lookup (folder_eq slot.folder) changed) (seen slot.folder)) }
 
 -- the content of each such slot at the end
 abbrev pub lefts : (FolderName → Files) → List Named → List GrantedSlot → List Left

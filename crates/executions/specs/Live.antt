@@ -62,7 +62,8 @@ pub record IsTenureOf (r : Running) (f : FolderName) : Type 0 where
 
 -- the folder is open from now on, unless a content of its tenure isn't folder bytes
 abbrev pub Opens : Live → FolderName → Running → Result ⊤ (Running × SharedRefusal) → Live → Type 0
-Opens old f r (Ok tt) new = new ≡ record old { folders = old.folders ++ record { folder = f; running = r; since = length old.batches } ∷ [] }
+Opens old f r (Ok tt) new =
+    new ≡ record old { folders = old.folders ++ record { folder = f; running = r; since = length old.batches } ∷ [] }
 Opens old f r (Err (token, BadContents)) new = ((slot : _) × (read_all (held r) ≡ Err slot)) × (token ≡ r) × (new ≡ old)
 Opens old f r (Err (token, OutOfMemory)) new = (token ≡ r) × (new ≡ old)
 Opens old f r (Err (token, Twice)) new = ⊥
@@ -80,18 +81,23 @@ Views live name (Err BadContents) = ⊥
 
 -- one whole batch is appended, or nothing
 abbrev pub Applies : Live → Ticket → FolderName → List Edit → Result ⊤ SharedRefusal → Live → Type 0
-Applies old ticket name edits (Ok tt) new = ((files : Files) × (files_in old name ≡ Some files)) × (has_changed old ticket name ≡ false)
+Applies old ticket name edits (Ok tt) new = ((files : Files) × (files_in old name ≡ Some files))
+    × (has_changed old ticket name ≡ false)
     × (new ≡ record old { batches = old.batches ++ batch ticket name edits ∷ [] })
 Applies old ticket name edits (Err NotOpen) new = (files_in old name ≡ None) × (new ≡ old)
 Applies old ticket name edits (Err Twice) new = (has_changed old ticket name ≡ true) × (new ≡ old)
-Applies old ticket name edits (Err TooLarge) new = ((files : Files) × (files_in old name ≡ Some files) × (most_bytes < length (folder_bytes (edited_all files edits)))) × (new ≡ old)
+Applies old ticket name edits (Err TooLarge) new =
+    ((files : Files) × (files_in old name ≡ Some files) × (most_bytes < length (folder_bytes (edited_all files edits))))
+    × (new ≡ old)
 Applies old ticket name edits (Err OutOfMemory) new = new ≡ old
 Applies old ticket name edits (Err BadContents) new = ⊥
 
 -- the folder isn't open any more: its tenure is given back, with the bytes of the folder
 abbrev pub Closes : Live → FolderName → Result (Running × List ℕ) SharedRefusal → Live → Type 0
-Closes old name (Ok (token, content)) new = (place : ℕ) × (o : Opened) × (slice_get old.folders place ≡ Some o) × (o.folder ≡ name)
-    × (token ≡ o.running) × (content ≡ folder_bytes (files_of old.batches o)) × (new ≡ record old { folders = remove old.folders place })
+Closes old name (Ok (token, content)) new = (place : ℕ) × (o : Opened) × (slice_get old.folders place ≡ Some o)
+    × (o.folder ≡ name)
+    × (token ≡ o.running) × (content ≡ folder_bytes (files_of old.batches o))
+    × (new ≡ record old { folders = remove old.folders place })
 Closes old name (Err NotOpen) new = (files_in old name ≡ None) × (new ≡ old)
 Closes old name (Err OutOfMemory) new = new ≡ old
 Closes old name (Err Twice) new = ⊥
@@ -101,4 +107,5 @@ Closes old name (Err BadContents) new = ⊥
 -- the folder that was opened last isn't open any more
 abbrev pub Pops : Live → Option Running → Live → Type 0
 Pops old None new = (old.folders ≡ []) × (new ≡ old)
-Pops old (Some token) new = (o : Opened) × (old.folders ≡ new.folders ++ o ∷ []) × (token ≡ o.running) × (new.batches ≡ old.batches)
+Pops old (Some token) new = (o : Opened) × (old.folders ≡ new.folders ++ o ∷ []) × (token ≡ o.running)
+    × (new.batches ≡ old.batches)

@@ -24,4 +24,5 @@ pub record Fits (p : Place) (task : Task) (ws : List Want) : Type 0 where
 
 -- the folder of the want is among these, if it is SHARED
 abbrev pub IsSeenIn : List (FolderName × Files) → Want → Type 0
-IsSeenIn folders want = want.folder.mode ≡ Shared → Contains (map (λ (folder : FolderName × Files). folder.0) folders) want.folder
+IsSeenIn folders want = want.folder.mode ≡ Shared
+    → Contains (map (λ (folder : FolderName × Files). folder.0) folders) want.folder

@@ -58,7 +58,8 @@ pub record IsBegunOf (g : Granted) (r : Running) : Type 0 where
 pub record IsUsed (s : Farm) (r : Running) : Type 0 where
   pub there : is_node s r.node ≡ true
   pub life : r.life ≡ (s.nodes r.node.0).life
-  pub runs : (a : ℕ) × (wants : List Want) × (recalled : Bool) × (nth (s.nodes r.node.0).asks a ≡ Some (ask.Running wants r.grant recalled))
+  pub runs : (a : ℕ) × (wants : List Want) × (recalled : Bool)
+      × (nth (s.nodes r.node.0).asks a ≡ Some (ask.Running wants r.grant recalled))
 
 -- the node is in this life and isn't down, and an ask of it is granted under the ticket and not begun
 abbrev pub is_held : Farm → NodeId → Life → Ticket → Bool
@@ -76,5 +77,6 @@ GivesBack has old e t new Stale = (has ≡ false) × (new ≡ old)
 -- the lease is kept: the schedule is full, memory ran out, or the world refused the event, as it is the tenure of a
 -- folder that another ask of the node uses
 abbrev pub KeepsLease : Bool → History → Event → History → BoardRefusal → Type 0
-KeepsLease has old e new (board.Event r) = (has ≡ true) × (r ≡ refusal.Node node.TenureInUse) × Took old e new (Err (board.Event r))
+KeepsLease has old e new (board.Event r) = (has ≡ true) × (r ≡ refusal.Node node.TenureInUse)
+    × Took old e new (Err (board.Event r))
 KeepsLease has old e new r = (has ≡ true) × Took old e new (Err r)

@@ -37,7 +37,8 @@ leases_at e live = []
 -- what an accepted event adds, s being the farm after it. A failed save that kept a Commit left its lease live, until a
 -- restart finds it committed
 abbrev pub counted : List Lease → Farm → Result Outcome EventRefusal → Counts → Counts
-counted leases s (Ok o) c = record c { committed = c.committed + one_if (tells_commit o.note); kept = c.kept + one_if (list_any (is_on_line s) leases) }
+counted leases s (Ok o) c =
+    record c { committed = c.committed + one_if (tells_commit o.note); kept = c.kept + one_if (list_any (is_on_line s) leases) }
 counted leases s (Err r) c = record c { refused = c.refused + 1 }
 
 -- what is counted after these events
@@ -47,7 +48,8 @@ counts_from (e ∷ es) s c =
     counts_from es (step content_digest farm_limits s e).farm (counted (leases_at e s.ledger.live) (step content_digest farm_limits s e).farm (step content_digest farm_limits s e).outcome c)
 
 unfoldable pub counts_of : History → Counts
-counts_of h = counts_from h.events (opening content_digest h.setup.nodes) (record { committed = 0; kept = 0; refused = 0 })
+counts_of h =
+    counts_from h.events (opening content_digest h.setup.nodes) (record { committed = 0; kept = 0; refused = 0 })
 
 -- the grants that ended as committed
 abbrev pub commits_of : History → ℕ

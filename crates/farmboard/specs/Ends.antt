@@ -11,4 +11,5 @@ version_of x = record { slot = x.slot; number = 0 }
 
 -- the execution that is over, with the versions that it adds
 abbrev pub finished_of : Running → List Left → Finished
-finished_of r lefts = record { node = r.node; life = r.life; ask = r.grant.ask; ticket = r.grant.ticket; versions = map version_of lefts }
+finished_of r lefts =
+    record { node = r.node; life = r.life; ask = r.grant.ask; ticket = r.grant.ticket; versions = map version_of lefts }

@@ -41,7 +41,8 @@ and_then h e = record h { events = h.events ++ e ∷ [] }
 -- full, or memory ran out
 abbrev pub Took : History → Event → History → Result Outcome BoardRefusal → Type 0
 Took old e new (Ok o) = (length old.events < EVENTS) × (outcome_of old e ≡ Ok o) × (new ≡ and_then old e)
-Took old e new (Err (board.Event r)) = (length old.events < EVENTS) × (outcome_of old e ≡ Err r) × (new ≡ and_then old e)
+Took old e new (Err (board.Event r)) = (length old.events < EVENTS) × (outcome_of old e ≡ Err r)
+    × (new ≡ and_then old e)
 Took old e new (Err board.HistoryFull) = (EVENTS ≤ length old.events) × (new ≡ old)
 Took old e new (Err board.TokenOut) = ⊥
 Took old e new (Err board.OutOfMemory) = new ≡ old

@@ -24,7 +24,8 @@ is_use_of n t u = (u.node.0 == n.0) && (u.ticket.0 == t.0)
 
 -- the node executes an ask under the ticket
 abbrev pub Runs : Farm → InUse → Type 0
-Runs s u = (a : ℕ) × (wants : List Want) × (g : Grant) × (recalled : Bool) × (nth (s.nodes u.node.0).asks a ≡ Some (ask.Running wants g recalled)) × (g.ticket ≡ u.ticket)
+Runs s u = (a : ℕ) × (wants : List Want) × (g : Grant) × (recalled : Bool)
+    × (nth (s.nodes u.node.0).asks a ≡ Some (ask.Running wants g recalled)) × (g.ticket ≡ u.ticket)
 
 -- these are the executions of the farm's nodes
 pub record AreUsed (s : Farm) (uses : List InUse) : Type 0 where
@@ -47,7 +48,8 @@ out_if (Err r) e out = out
 -- what is in use after these events
 abbrev pub out_from : List Event → Farm → List InUse → List InUse
 out_from [] s out = out
-out_from (e ∷ es) s out = out_from es (step content_digest farm_limits s e).farm (out_if (step content_digest farm_limits s e).outcome e out)
+out_from (e ∷ es) s out =
+    out_from es (step content_digest farm_limits s e).farm (out_if (step content_digest farm_limits s e).outcome e out)
 
 unfoldable pub out_of : History → List InUse
 out_of h = out_from h.events (opening content_digest h.setup.nodes) []

@@ -52,7 +52,8 @@ is_live s t = list_any (λ g. g.ticket.0 == t.0) s.ledger.live
 
 -- all that it left stands on the lines under its ticket, and its node has heard of it or restarted; or it left nothing
 abbrev pub is_confirmed : Farm → Finished → Bool
-is_confirmed s f = is_nil f.versions || (list_all (stands s f.ticket) f.versions && (has_restarted s f || is_committed (way_out_in s f)))
+is_confirmed s f = is_nil f.versions
+    || (list_all (stands s f.ticket) f.versions && (has_restarted s f || is_committed (way_out_in s f)))
 
 -- its node has heard that it doesn't count
 abbrev pub is_dropped : Farm → Finished → Bool
@@ -70,7 +71,8 @@ Fares s f fate.Open = (is_confirmed s f ≡ false) × (is_dropped s f ≡ false)
 
 -- a receipt has the versions with their numbers
 abbrev pub Settles : Farm → Finished → Settled → Type 0
-Settles s f (Receipt r) = (is_confirmed s f ≡ true) × (r.ticket ≡ f.ticket) × (r.versions ≡ map (numbered s f.ticket) f.versions)
+Settles s f (Receipt r) = (is_confirmed s f ≡ true) × (r.ticket ≡ f.ticket)
+    × (r.versions ≡ map (numbered s f.ticket) f.versions)
 Settles s f Fenced = (is_confirmed s f ≡ false) × (is_dropped s f ≡ true)
 Settles s f Lost = (is_confirmed s f ≡ false) × (is_lost s f ≡ true)
 Settles s f (Waiting g) = (g ≡ f) × (is_confirmed s f ≡ false) × (is_dropped s f ≡ false) × (is_lost s f ≡ false)

@@ -36,7 +36,9 @@ pub record IsAskOf (h : History) (n : NodeId) (ws : List Want) (a : Asked) : Typ
 -- lost: the node restarted since; else the ask is granted, denied, or neither
 abbrev pub Accepts : Farm → Asked → Accept → Type 0
 Accepts s a accept.Lost = is_in_life s a.node a.life ≡ false
-Accepts s a (accept.Granted g) = (is_in_life s a.node a.life ≡ true) × (state_of s a.node a.ask ≡ Some (state.Granted g.grant))
+Accepts s a (accept.Granted g) = (is_in_life s a.node a.life ≡ true)
+    × (state_of s a.node a.ask ≡ Some (state.Granted g.grant))
     × (g.node ≡ a.node) × (g.life ≡ a.life) × (g.wants ≡ a.wants)
-Accepts s a (accept.Denied why) = (is_in_life s a.node a.life ≡ true) × (state_of s a.node a.ask ≡ Some (state.Over (how.Denied why)))
+Accepts s a (accept.Denied why) = (is_in_life s a.node a.life ≡ true)
+    × (state_of s a.node a.ask ≡ Some (state.Over (how.Denied why)))
 Accepts s a (accept.Waiting b) = (is_in_life s a.node a.life ≡ true) × IsUndecided (state_of s a.node a.ask) × (b ≡ a)

@@ -28,7 +28,9 @@ IsAnswered s news node keyed (Output digest) = IsSolved news keyed digest
 IsAnswered s news node keyed Failed = IsFailing news keyed ⊎ WasDenied s node
 IsAnswered s news node keyed Waiting = ⊥
 
--- one answer for each job, each with its reason in the new calls on the job's node: of the executors, in order, their nodes,
--- the calls that they had, and those at the end
-abbrev pub AreAnswered : Farm → List NodeId → List (List Call) → List (List Call) → List (NodeId × KeyedParts) → List Answer → Type 0
-AreAnswered s nodes hads ends jobs answers = AllZip (λ job answer. IsAnswered s (new_calls job.0 nodes hads ends) job.0 job.1 answer) jobs answers
+-- one answer for each job, each with its reason in the new calls on the job's node: of the executors, in order, their
+-- nodes, the calls that they had, and those at the end
+abbrev pub AreAnswered : Farm → List NodeId → List (List Call) → List (List Call) → List (NodeId × KeyedParts)
+    → List Answer → Type 0
+AreAnswered s nodes hads ends jobs answers =
+    AllZip (λ job answer. IsAnswered s (new_calls job.0 nodes hads ends) job.0 job.1 answer) jobs answers

@@ -54,5 +54,6 @@ on_node node (each ∷ news) = if each.0.0 == node.0 then each.1.now ∷ on_node
 -- of each executor, in order, its node, the calls that it had, those at the end, and its node with its new calls
 abbrev pub AreNew : List NodeId → List (List Call) → List (List Call) → List (NodeId × Bor (List Call)) → Type 0
 AreNew [] [] [] [] = ⊤
-AreNew (n ∷ nodes) (had ∷ hads) (end ∷ ends) (each ∷ news) = (each.0 ≡ n) × (end ≡ had ++ each.1.now) × AreNew nodes hads ends news
+AreNew (n ∷ nodes) (had ∷ hads) (end ∷ ends) (each ∷ news) = (each.0 ≡ n) × (end ≡ had ++ each.1.now)
+    × AreNew nodes hads ends news
 AreNew nodes hads ends news = ⊥

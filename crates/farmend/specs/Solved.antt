@@ -18,7 +18,8 @@ module _ (news : List (List Call)) (k : KeyedParts) where
   -- the digest is the output that the job's result names, and each key that it depends on has a call that gave outputs
   pub record IsSolved (digest : Digest) : Type 0 where
     pub result : (key : Key) → slice_get k.keys k.graph.result.0 ≡ Some key → Gave news key k.graph.result.1 digest
-    pub needed : (number : ℕ) (key : Key) → IsNeeded k.graph number → slice_get k.keys number ≡ Some key → GaveOutputs news key
+    pub needed : (number : ℕ) (key : Key) → IsNeeded k.graph number → slice_get k.keys number ≡ Some key
+    → GaveOutputs news key
 
 -- the job takes the output of this index of the vertex: as its result, or by an edge of a vertex that it depends on
 pub data Takes (g : GraphParts) (number index : ℕ) : Type 0 where
@@ -45,11 +46,13 @@ news_in made = on_node made.node made.news.now
 -- a flag for each key; a call gave outputs of those that are flagged
 pub record AreGiven (news : List (List Call)) (keys : List Key) (flags : List Bool) : Type 0 where
   pub count : length flags ≡ length keys
-  pub given : (number : ℕ) (key : Key) → flag_at flags number ≡ true → slice_get keys number ≡ Some key → GaveOutputs news key
+  pub given : (number : ℕ) (key : Key) → flag_at flags number ≡ true → slice_get keys number ≡ Some key
+      → GaveOutputs news key
 
 -- the inputs of the vertex are flagged, if it is
 abbrev pub IsClosedAt : GraphParts → List Bool → ℕ → Type 0
-IsClosedAt g flags number = flag_at flags number ≡ true → All (λ (edge : ℕ × ℕ). flag_at flags edge.0 ≡ true) (list_at g.edges number)
+IsClosedAt g flags number = flag_at flags number ≡ true
+    → All (λ (edge : ℕ × ℕ). flag_at flags edge.0 ≡ true) (list_at g.edges number)
 
 -- the inputs of what is flagged are flagged
 abbrev pub IsClosed : GraphParts → List Bool → Type 0

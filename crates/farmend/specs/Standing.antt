@@ -9,9 +9,10 @@ use Rattle.farmboard.specs.declared.tokens.Receipt.{Receipt}
 use Rattle.farmend.specs.Receipts.{StandsOn, tickets_of}
 use Rattle.farmend.specs.Replays.{farm_after, commits_after}
 
--- the replay of the setup and the events has the bytes as its record, and these commits; the receipts are on its lines, each under a
--- ticket of its own, and at most as many as the commits: a commit has none if nobody saw its end
-pub record IsStanding (setup : Setup) (events : List Event) (saved : List ℕ) (commits : ℕ) (receipts : List Receipt) : Type 0 where
+-- the replay of the setup and the events has the bytes as its record, and these commits; the receipts are on its lines,
+-- each under a ticket of its own, and at most as many as the commits: a commit has none if nobody saw its end
+pub record IsStanding (setup : Setup) (events : List Event) (saved : List ℕ) (commits : ℕ)
+    (receipts : List Receipt) : Type 0 where
   pub record_is : Holds (whole_alone saved) (farm_after setup events).saved
   pub commits_are : commits ≡ commits_after setup events
   pub stand : All (StandsOn (farm_after setup events)) receipts

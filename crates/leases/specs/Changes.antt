@@ -44,7 +44,8 @@ standing ended (Some g) = if has_ended ended g then None else Some g
 
 -- the table with the changes
 abbrev pub changed : Table → Change → Table
-changed t c = record { live = filter (λ g. not (has_ended c.ended g)) t.live ++ c.granted; retired = t.retired ++ c.retired }
+changed t c =
+    record { live = filter (λ g. not (has_ended c.ended g)) t.live ++ c.granted; retired = t.retired ++ c.retired }
 
 -- the tickets of the leases that these end, of those that the record has
 abbrev pub saved_tickets : List Ending → List Lease → List Ticket

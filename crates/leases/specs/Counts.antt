@@ -1,4 +1,5 @@
--- The live leases by ask and by node: how many leases an ask or a node has, and which ticket the oldest of them may have.
+-- The live leases by ask and by node: how many leases an ask or a node has, and which ticket the oldest of them may
+-- have.
 use Rattle.std.specs.Prelude.{◌≡◌, ◌==◌, ◌&&◌, ℕ, ◌+◌, ◌^◌, ◌<◌, ◌≤◌, min, Bool, false, All, List, ◌++◌, length, filter, Option, Some, None}
 use Rattle.indexmap.specs.IndexMap.{get, spare}
 use Rattle.farm_base.specs.declared.lease.Lease.{Lease}
@@ -47,8 +48,8 @@ abbrev pub oldest_of : Option LeaseCount → Option Ticket
 oldest_of None = None
 oldest_of (Some e) = Some e.oldest
 
--- an entry counts these leases at least, or its count has reached its greatest value; and none of them has a lower ticket
--- than its oldest
+-- an entry counts these leases at least, or its count has reached its greatest value; and none of them has a lower
+-- ticket than its oldest
 pub record Counts (o : Option LeaseCount) (leases : List Lease) : Type 0 where
   pub times : times_in o + 1 < 2 ^ 64 → length leases ≤ times_in o
   pub oldest : All (λ g. oldest_in o ≤ g.ticket.0) leases

@@ -39,7 +39,8 @@ folder_room x = spare x.by_folder
 
 -- of 1 to 4,096, an instance is taken exactly if a lease has its slot
 abbrev pub AreTaken : (FolderName → ℕ → Bool) → List Lease → Type 0
-AreTaken taken leases = (f : FolderName) (i : ℕ) → 1 ≤ i → i ≤ INSTANCES → taken f i ≡ some_lease leases (record { folder = f; instance = i })
+AreTaken taken leases = (f : FolderName) (i : ℕ) → 1 ≤ i → i ≤ INSTANCES
+    → taken f i ≡ some_lease leases (record { folder = f; instance = i })
 
 -- slots that are never granted again, as contracts see them
 pub record Retired : Type 0 where
@@ -51,7 +52,8 @@ pub record Retired : Type 0 where
 
 -- an instance of up to 4,096 is taken exactly if its slot is among these
 abbrev pub AreRetired : (FolderName → ℕ → Bool) → List Slot → Type 0
-AreRetired taken slots = (f : FolderName) (i : ℕ) → i ≤ INSTANCES → taken f i ≡ among slots (record { folder = f; instance = i })
+AreRetired taken slots = (f : FolderName) (i : ℕ) → i ≤ INSTANCES
+    → taken f i ≡ among slots (record { folder = f; instance = i })
 
 -- the folder and the instance of each of these slots
 abbrev pub slot_names : List Slot → List (FolderName × ℕ)

@@ -22,7 +22,8 @@ pub record Live : Type 0 where
   pub count_room : ℕ
 
 -- leases that may be live together, with an index of their folders, their instances and counts of them by ask and node
-pub record AreLive (at : FolderName → Option Ticket) (taken : FolderName → ℕ → Bool) (counts : LeaseCounts) (leases : List Lease) : Type 0 where
+pub record AreLive (at : FolderName → Option Ticket) (taken : FolderName → ℕ → Bool) (counts : LeaseCounts)
+    (leases : List Lease) : Type 0 where
   pub sound : AreLeases leases
   pub indexed : AreIndexed at leases
   pub taken_is : AreTaken taken leases

@@ -13,4 +13,5 @@ pub record IsLowestFree (free : Slot → Bool) (f : FolderName) (i : ℕ) : Type
 -- `lowest` is the lowest free instance of 1 to 4,096, and 0 exactly if none is free
 pub record LowestIsLowest (free : Slot → Bool) (f : FolderName) : Type 0 where
   pub found : lowest free f 1 INSTANCES ≢ 0 → IsLowestFree free f (lowest free f 1 INSTANCES)
-  pub none : lowest free f 1 INSTANCES ≡ 0 → (j : ℕ) → 1 ≤ j → j ≤ INSTANCES → free (record { folder = f; instance = j }) ≡ false
+  pub none : lowest free f 1 INSTANCES ≡ 0 → (j : ℕ) → 1 ≤ j → j ≤ INSTANCES
+      → free (record { folder = f; instance = j }) ≡ false

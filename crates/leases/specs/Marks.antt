@@ -11,4 +11,5 @@ Marks old new f test = (i : ℕ) → i ≤ INSTANCES → has new i ≡ (test (re
 
 -- each instance whose slot passes the test is taken out
 abbrev pub Unmarks : Instances → Instances → FolderName → (Slot → Bool) → Type 0
-Unmarks old new f test = (i : ℕ) → i ≤ INSTANCES → has new i ≡ (not (test (record { folder = f; instance = i })) && has old i)
+Unmarks old new f test = (i : ℕ) → i ≤ INSTANCES
+    → has new i ≡ (not (test (record { folder = f; instance = i })) && has old i)

@@ -43,7 +43,8 @@ is_among nodes n = list_any (λ node. node.0 == n) nodes
 
 -- whether these wants fit. A PRIVATE folder has 4,096 instances
 abbrev pub fit_of : Table → Bool → List Want → Fit
-fit_of t tenure wants = first_fit (all_taken INSTANCES (is_free t) (leased_wants tenure wants)) (busy (is_leased t) (leased_wants tenure wants))
+fit_of t tenure wants =
+    first_fit (all_taken INSTANCES (is_free t) (leased_wants tenure wants)) (busy (is_leased t) (leased_wants tenure wants))
 
 -- a lease takes a slot for the want
 abbrev pub takes : Bool → Want → Bool

@@ -13,4 +13,5 @@ pub HaveRows-prop : (all : List KeptAsk) (k : ℕ) (rows : List AskRow) → IsPr
 HaveRows-prop [] k [] = Prim.hlevel (Unit-prop, props)
 HaveRows-prop [] k (r ∷ rs) = Prim.hlevel props
 HaveRows-prop (s ∷ ss) k [] = Prim.hlevel (HaveRows-prop ss (k + 1) [], props)
-HaveRows-prop (s ∷ ss) k (r ∷ rs) = Prim.hlevel (kept_set, HaveRows-prop ss (k + 1) rs, HaveRows-prop ss (k + 1) (r ∷ rs), props)
+HaveRows-prop (s ∷ ss) k (r ∷ rs) =
+    Prim.hlevel (kept_set, HaveRows-prop ss (k + 1) rs, HaveRows-prop ss (k + 1) (r ∷ rs), props)

@@ -23,7 +23,8 @@ abbrev pub HaveRows : List KeptAsk → ℕ → List AskRow → Type 0
 HaveRows [] k [] = ⊤
 HaveRows [] k (r ∷ rs) = ⊥
 HaveRows (s ∷ ss) k [] = (is_over s ≡ true) × HaveRows ss (k + 1) []
-HaveRows (s ∷ ss) k (r ∷ rs) = MatchBool (r.place == k) ((r.kept ≡ s) × HaveRows ss (k + 1) rs) ((is_over s ≡ true) × HaveRows ss (k + 1) (r ∷ rs))
+HaveRows (s ∷ ss) k (r ∷ rs) =
+    MatchBool (r.place == k) ((r.kept ≡ s) × HaveRows ss (k + 1) rs) ((is_over s ≡ true) × HaveRows ss (k + 1) (r ∷ rs))
 
 -- the asks with one at the place, at the end where none is there yet
 abbrev pub with_ask : List KeptAsk → ℕ → KeptAsk → List KeptAsk

@@ -59,7 +59,8 @@ abbrev pub agree_on : List (Version × Digest) → (Slot → ℕ → Option Dige
 agree_on [] known = true
 agree_on (v ∷ vs) known = agrees (known v.0.slot v.0.number) v.1 && agree_on vs (learn_one v known)
 
--- the node that kept exactly these contents and versions, in the last life that it had. The empty content is always stored
+-- the node that kept exactly these contents and versions, in the last life that it had. The empty content is always
+-- stored
 abbrev pub kept_node : Life → List (List ℕ) → List (Version × Digest) → Node
 kept_node last contents versions = record (first_node content_digest) {
   life = last;

@@ -43,4 +43,5 @@ ticket_room x = spare x.holders
 
 -- each ask that has its lease under a ticket is found by it
 pub record AreIndexed (x : TicketIndex) (asks : List KeptAsk) : Type 0 where
-  pub found : (i : ℕ) (ask : KeptAsk) (t : Ticket) → slice_get asks i ≡ Some ask → keeps ask t ≡ true → may_have x t i ≡ true
+  pub found : (i : ℕ) (ask : KeptAsk) (t : Ticket) → slice_get asks i ≡ Some ask → keeps ask t ≡ true
+      → may_have x t i ≡ true

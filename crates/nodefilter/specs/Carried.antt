@@ -27,7 +27,8 @@ node_answer me at x (call.Receive message) = unless_spent x (hearing at x messag
 node_answer me at x (call.Ask wants) = node_decided content_digest farm_limits at x (process.Ask_lease wants)
 node_answer me at x (call.Tenure folder) = node_decided content_digest farm_limits at x (process.Ask_tenure folder)
 node_answer me at x (call.Begin ticket) = node_decided content_digest farm_limits at x (process.Begin ticket)
-node_answer me at x (call.Finish ticket lefts) = node_decided content_digest farm_limits at x (process.Finish ticket lefts)
+node_answer me at x (call.Finish ticket lefts) =
+    node_decided content_digest farm_limits at x (process.Finish ticket lefts)
 node_answer me at x (call.Abort ticket) = node_decided content_digest farm_limits at x (process.Abort ticket)
 node_answer me at x call.Resend = node_decided content_digest farm_limits at x process.Resend
 node_answer me at x (call.Bring content) = unless_spent x (hearing at x (to_node.Blob me content))
@@ -82,7 +83,8 @@ about_call (call.Bring content) = about.Nothing
 about_call (call.Forget digest) = about.Nothing
 
 -- the node does what the rules make of the call, and what it stored is kept then. If it can't be, the filter is down
-pub record CarriesOut {S : Type 0} (kept : Kept S) (call : Call) (old new : Seen S) (answer : Result NodeDone NodeRefusal) : Type 0 where
+pub record CarriesOut {S : Type 0} (kept : Kept S) (call : Call) (old new : Seen S)
+    (answer : Result NodeDone NodeRefusal) : Type 0 where
   pub done : Answers (node_answer old.me old.at old.node call) old.node new.node answer
   pub same : new ≡ record old { node = new.node; forgets = new.forgets; store = new.store; down = new.down }
   -- an ask is forgotten only where 1,024 of greater numbers are over

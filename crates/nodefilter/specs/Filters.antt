@@ -33,7 +33,8 @@ AreLeft files lefts = map (λ (left : Left). left.slot) lefts ≡ map (λ (file 
 -- the call that an order is for, once its files are read; of what they have nothing is known
 pub data IsCallOf : Order → Call → Type 0 where
   Itself : (call : Call) → IsCallOf (order.Call call) call
-  Left_in : (ticket : Ticket) (files : List LeftFile) (lefts : List Left) → AreLeft files lefts → IsCallOf (order.Finish ticket files) (call.Finish ticket lefts)
+  Left_in : (ticket : Ticket) (files : List LeftFile) (lefts : List Left) → AreLeft files lefts
+      → IsCallOf (order.Finish ticket files) (call.Finish ticket lefts)
   Brought_in : (file content : List ℕ) → IsCallOf (order.Blob file) (call.Bring content)
 
 -- the order needs a file
@@ -51,7 +52,8 @@ IsAnswered false key it answer text = IsWritten key it answer text
 
 -- a call is made, or memory runs out before it
 pub data Makes {S : Type 0} (kept : Kept S) (call : Call) (old new : Seen S) (answer : List ℕ) : Type 0 where
-  Made : (done : Result NodeDone NodeRefusal) → CarriesOut kept call old new done → OrLost (IsAnswered new.down old.key (about_call call) done) answer
+  Made : (done : Result NodeDone NodeRefusal) → CarriesOut kept call old new done
+      → OrLost (IsAnswered new.down old.key (about_call call) done) answer
       → Makes kept call old new answer
   Stopped : new ≡ old → answer ≡ out_of_memory → Makes kept call old new answer
 
@@ -61,20 +63,25 @@ pub data Follows {S : Type 0} (kept : Kept S) (o : Order) (old new : Seen S) (an
   -- a file can't be used, or memory runs out
   Misses : HasFile o → new ≡ old → OrLost (λ text. text ≡ file_fault) answer → Follows kept o old new answer
   -- the content of this digest is put in the file
-  Hands : (digest : Digest) (file : List ℕ) → o ≡ order.Content digest file → is_some (old.node.store digest) ≡ true → new ≡ old
+  Hands : (digest : Digest) (file : List ℕ) → o ≡ order.Content digest file → is_some (old.node.store digest) ≡ true
+      → new ≡ old
       → OrLost (λ text. text ≡ content_line digest) answer → Follows kept o old new answer
   -- it isn't stored here
   Has_not : (digest : Digest) (file : List ℕ) → o ≡ order.Content digest file → old.node.store digest ≡ None → new ≡ old
       → OrLost (λ text. text ≡ no_content) answer → Follows kept o old new answer
-  Tells : (ask : Ask) → o ≡ order.State ask → new ≡ old → OrLost (λ text. text ≡ noted (state_text ask (option_map (told_unless (old.forgets ask.0)) (nth old.node.asks ask.0)))) answer
+  Tells : (ask : Ask) → o ≡ order.State ask → new ≡ old
+      → OrLost (λ text. text ≡ noted (state_text ask (option_map (told_unless (old.forgets ask.0)) (nth old.node.asks ask.0)))) answer
       → Follows kept o old new answer
 
 -- a line is answered
-pub data Filters {S : Type 0} (kept : Kept S) (given : Result (List ℕ) Lost) (answer : List ℕ) (old new : Seen S) : Type 0 where
+pub data Filters {S : Type 0} (kept : Kept S) (given : Result (List ℕ) Lost) (answer : List ℕ)
+    (old new : Seen S) : Type 0 where
   -- since a content could not be kept nothing is done, until the process starts again
   Is_down : old.down ≡ true → new ≡ old → OrLost (λ text. text ≡ store_fault) answer → Filters kept given answer old new
-  Does : (o : Order) → old.down ≡ false → AsksFor old.key old.me given o → Follows kept o old new answer → Filters kept given answer old new
-  Drops : (why : Unread) → old.down ≡ false → AsksNothing old.key old.me given why → new ≡ old → OrLost (λ text. text ≡ unread_line why) answer
+  Does : (o : Order) → old.down ≡ false → AsksFor old.key old.me given o → Follows kept o old new answer
+      → Filters kept given answer old new
+  Drops : (why : Unread) → old.down ≡ false → AsksNothing old.key old.me given why → new ≡ old
+      → OrLost (λ text. text ≡ unread_line why) answer
       → Filters kept given answer old new
 
 -- what was answered lasts: contents and the life are kept before a line is answered

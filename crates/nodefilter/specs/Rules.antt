@@ -37,7 +37,8 @@ use Rattle.nodefilter.specs.Stores.{Kept}
 
 -- each of these lines that says something to the node was written by a process: that is the premise on the farm's key
 abbrev pub AreOfTheFarm : List ℕ → NodeId → List (List ℕ) → List Message → Type 0
-AreOfTheFarm key me lines written = (line : List ℕ) (message : ToNode) → In line lines → Orders key me line (order.Call (call.Receive message)) → In (to.ToNode message) written
+AreOfTheFarm key me lines written = (line : List ℕ) (message : ToNode) → In line lines
+    → Orders key me line (order.Call (call.Receive message)) → In (to.ToNode message) written
 
 -- the filter is one of the farm's nodes, and this is its state among the processes
 pub record IsNodeOf {S : Type 0} (p : Processes) (f : Seen S) : Type 0 where
@@ -61,12 +62,14 @@ sends_of true answer = []
 sends_of false (Ok done) = done.sends
 sends_of false (Err refusal) = []
 
-abbrev pub made_messages : {S : Type 0} {kept : Kept S} {call : Call} {old new : Seen S} {answer : List ℕ} → Makes kept call old new answer → List Message
+abbrev pub made_messages : {S : Type 0} {kept : Kept S} {call : Call} {old new : Seen S} {answer : List ℕ}
+    → Makes kept call old new answer → List Message
 made_messages {S} {kept} {call} {old} {new} {answer} (Made done carries (inl written)) = sends_of new.down done
 made_messages {S} {kept} {call} {old} {new} {answer} (Made done carries (inr lost)) = []
 made_messages {S} {kept} {call} {old} {new} {answer} (Stopped same out) = []
 
-abbrev pub followed_messages : {S : Type 0} {kept : Kept S} {o : Order} {old new : Seen S} {answer : List ℕ} → Follows kept o old new answer → List Message
+abbrev pub followed_messages : {S : Type 0} {kept : Kept S} {o : Order} {old new : Seen S} {answer : List ℕ}
+    → Follows kept o old new answer → List Message
 followed_messages (Calls call is makes) = made_messages makes
 followed_messages (Misses file same text) = []
 followed_messages (Hands digest file is stored same text) = []
@@ -74,37 +77,44 @@ followed_messages (Has_not digest file is none same text) = []
 followed_messages (Tells ask is same text) = []
 
 -- those of a line's answer
-abbrev pub line_messages : {S : Type 0} {kept : Kept S} {given : Result (List ℕ) Lost} {answer : List ℕ} {old new : Seen S} → Filters kept given answer old new → List Message
+abbrev pub line_messages : {S : Type 0} {kept : Kept S} {given : Result (List ℕ) Lost} {answer : List ℕ}
+    {old new : Seen S} → Filters kept given answer old new → List Message
 line_messages (Is_down down same text) = []
 line_messages (Does o up asks follows) = followed_messages follows
 line_messages (Drops why up nothing_asked same text) = []
 
 -- those of the answers of some lines
-abbrev pub messages_of : {S : Type 0} (kept : Kept S) (limit : ℕ) (old new : NodeFilter S) (lines answers : List (List ℕ))
+abbrev pub messages_of : {S : Type 0} (kept : Kept S) (limit : ℕ) (old new : NodeFilter S)
+    (lines answers : List (List ℕ))
     → Answers (node_steps kept) limit old lines answers new → List Message
 messages_of kept limit old new [] [] h = []
 messages_of kept limit old new [] (answer ∷ answers) h = []
 messages_of kept limit old new (line ∷ lines) [] h = []
-messages_of kept limit old new (line ∷ lines) (answer ∷ answers) h = line_messages h.3 ++ messages_of kept limit h.1 new lines answers h.4
+messages_of kept limit old new (line ∷ lines) (answer ∷ answers) h =
+    line_messages h.3 ++ messages_of kept limit h.1 new lines answers h.4
 
 -- those of lines that were answered together
-abbrev pub batch_messages : {S : Type 0} (kept : Kept S) (limit : ℕ) (lines : List (List ℕ)) (text : List ℕ) (old new : NodeFilter S)
+abbrev pub batch_messages : {S : Type 0} (kept : Kept S) (limit : ℕ) (lines : List (List ℕ)) (text : List ℕ)
+    (old new : NodeFilter S)
     → Batch (node_steps kept) IsSettled limit lines text old new → List Message
 batch_messages kept limit lines text old new b = messages_of kept limit old b.answered_to lines b.answers b.answered
 
 -- ---- the rules
 
--- what a node's filter does with lines that come together a node of the processes may do, and what it writes that may write
+-- what a node's filter does with lines that come together a node of the processes may do, and what it writes that may
+-- write
 abbrev pub ABatchIsARun : {S : Type 0} → Kept S → Type 0
 ABatchIsARun {S} kept =
     (limit : ℕ) (lines : List (List ℕ)) (text : List ℕ) (old new : NodeFilter S) (p : Processes)
     → IsNodeOf p (seen old) → AreOfTheFarm (seen old).key (seen old).me lines p.written
     → (b : Batch (node_steps kept) IsSettled limit lines text old new) →
     let messages : List Message = batch_messages kept limit lines text old new b in
-    Runs content_digest farm_limits NODES p (with_node p (seen old).me (seen new).node messages) × Says_all (seen old).key messages text
+    Runs content_digest farm_limits NODES p (with_node p (seen old).me (seen new).node messages)
+    × Says_all (seen old).key messages text
 
--- where the filter is killed amid a batch, of which it answered these lines and wrote nothing, the rules let the node come as far, and
--- write as little. Its asks are as they were until its next life begins, since an execution may outlast its process
+-- where the filter is killed amid a batch, of which it answered these lines and wrote nothing, the rules let the node
+-- come as far, and write as little. Its asks are as they were until its next life begins, since an execution may
+-- outlast its process
 abbrev pub AKillIsARun : {S : Type 0} → Kept S → Type 0
 AKillIsARun {S} kept =
     (limit : ℕ) (lines answers : List (List ℕ)) (old new : NodeFilter S) (p : Processes)
@@ -112,8 +122,8 @@ AKillIsARun {S} kept =
     → Answers (node_steps kept) limit old lines answers new
     → Runs content_digest farm_limits NODES p (with_node p (seen old).me (seen new).node [])
 
--- what a process begins from is what the node of the processes has: a life that isn't below its last one, and of its contents those that
--- were found, the empty one among them. Others are lost
+-- what a process begins from is what the node of the processes has: a life that isn't below its last one, and of its
+-- contents those that were found, the empty one among them. Others are lost
 pub record IsLeftOf {S : Type 0} (p : Processes) (origin : Origin S) : Type 0 where
   pub number : IsNumber NODES origin.me
   pub goes_on : (p.nodes origin.me.0).spent ≡ false

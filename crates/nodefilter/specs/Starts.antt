@@ -19,7 +19,8 @@ abbrev pub place_in : {S : Type 0} → Origin S → Place
 place_in origin = record { node = origin.me; nodes = origin.nodes }
 
 -- the node is what a restart makes of what was kept; its life is kept, and the greeting says it
-pub record Begins {S : Type 0} (kept : Kept S) (last_life : S → ℕ) (origin : Origin S) (started : Started S) : Type 0 where
+pub record Begins {S : Type 0} (kept : Kept S) (last_life : S → ℕ) (origin : Origin S)
+    (started : Started S) : Type 0 where
   pub done : NodeDone
   pub begun : restarted (place_in origin) (kept_node origin.last origin.contents.items []) ≡ work_of (seen started.filter).node done
   -- its life isn't over for good

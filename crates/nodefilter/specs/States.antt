@@ -19,4 +19,5 @@ pub record Seen (S : Type 0) : Type 0 where
   pub down : Bool
 
 abbrev pub seen : {S : Type 0} → NodeFilter S → Seen S
-seen f = record { node = shown f.core; at = place f.core; forgets = forgets f.core; me = f.me; key = f.key; store = f.store; down = f.down }
+seen f =
+    record { node = shown f.core; at = place f.core; forgets = forgets f.core; me = f.me; key = f.key; store = f.store; down = f.down }

@@ -1,4 +1,5 @@
--- What a node's filter writes (this project's own). The words of notes and refusals are those of a replay, with what they are about.
+-- What a node's filter writes (this project's own). The words of notes and refusals are those of a replay, with what
+-- they are about.
 use Rattle.std.specs.Prelude.{◌≡◌, ℕ, List, [], ◌∷◌, ◌++◌, map, codes, Option, Some, None, Result, Ok, Err}
 use Rattle.farm_base.specs.declared.digest.Digest.{Digest}
 use Rattle.farm_base.specs.declared.number.Ask.{Ask}
@@ -79,7 +80,8 @@ content_line digest = noted (codes "content" ++ spaced (digits_text digest ∷ [
 
 abbrev pub over_text : Ask → How → List ℕ
 over_text ask (how.Denied why) = codes "denied" ++ spaced (ask_text ask ∷ why_text why ∷ [])
-over_text ask (how.Committed ticket versions) = codes "committed" ++ spaced (ticket_text ticket ∷ map confirmed_text versions)
+over_text ask (how.Committed ticket versions) =
+    codes "committed" ++ spaced (ticket_text ticket ∷ map confirmed_text versions)
 over_text ask (how.Fenced ticket) = codes "fenced" ++ spaced (ticket_text ticket ∷ [])
 over_text ask (how.Released ticket) = codes "released" ++ spaced (ticket_text ticket ∷ [])
 

@@ -1,5 +1,5 @@
--- A farm of these programs: a coordinator over a record in files, and nodes over folders (this project's own). Its premises are those
--- of protocol's processes, in whose words it is told.
+-- A farm of these programs: a coordinator over a record in files, and nodes over folders (this project's own). Its
+-- premises are those of protocol's processes, in whose words it is told.
 use Rattle.std.specs.Prelude.{◌≡◌, ℕ, List, []}
 use Rattle.coordinator.specs.Seen.{Seen}
 use Rattle.coordinator.specs.Settling.{TakesUp}
@@ -35,28 +35,37 @@ saves = GatherSaves FileGathers FileSaves
 abbrev pub last_life : store.Filed → ℕ
 last_life folder = folder.last.0
 
--- what one of the programs does, and the processes after it. Each line that opens under the key was written by one of them
+-- what one of the programs does, and the processes after it. Each line that opens under the key was written by one of
+-- them
 pub data Does (key : List ℕ) (p : Processes) : Processes → Type 0 where
   -- the coordinator answers lines that come together
-  Answers_lines : (limit : ℕ) (lines : List (List ℕ)) (text : List ℕ) (old new : Seen Filed) → p.coordinator ≡ process_of texts_of old → AreOfTheFarm key lines p.written
+  Answers_lines : (limit : ℕ) (lines : List (List ℕ)) (text : List ℕ) (old new : Seen Filed)
+      → p.coordinator ≡ process_of texts_of old → AreOfTheFarm key lines p.written
       → (b : Batch (filter_steps saves FileLoads texts_of key) (Settles FileSyncs FileLoads texts_of file_texts) limit lines text old new)
       → Does key p (with_coordinator p (process_of texts_of new) (batch_messages saves FileLoads FileSyncs texts_of file_texts key limit lines text old new b))
   -- it is killed when it has answered some, but written nothing
-  Is_killed : (limit : ℕ) (lines answers : List (List ℕ)) (old new : Seen Filed) → p.coordinator ≡ process_of texts_of old → AreOfTheFarm key lines p.written
+  Is_killed : (limit : ℕ) (lines answers : List (List ℕ)) (old new : Seen Filed)
+      → p.coordinator ≡ process_of texts_of old → AreOfTheFarm key lines p.written
       → Answers (filter_steps saves FileLoads texts_of key) limit old lines answers new
       → Does key p (with_coordinator p (killed_of texts_of new) [])
   -- it starts from what its files hold
-  Starts : (keeper : Filed) (new : Seen Filed) → p.coordinator.disk ≡ saved_in keeper.texts → TakesUp FileLoads keeper.texts keeper new
+  Starts : (keeper : Filed) (new : Seen Filed) → p.coordinator.disk ≡ saved_in keeper.texts
+      → TakesUp FileLoads keeper.texts keeper new
       → Does key p (with_coordinator p (process_of texts_of new) [])
   -- the same of a node
-  Node_answers_lines : (limit : ℕ) (lines : List (List ℕ)) (text : List ℕ) (old new : NodeFilter store.Filed) → (seen old).key ≡ key → IsNodeOf p (seen old)
-      → node.AreOfTheFarm (seen old).key (seen old).me lines p.written → (b : Batch (node_steps has_digest) IsSettled limit lines text old new)
+  Node_answers_lines : (limit : ℕ) (lines : List (List ℕ)) (text : List ℕ) (old new : NodeFilter store.Filed)
+      → (seen old).key ≡ key → IsNodeOf p (seen old)
+      → node.AreOfTheFarm (seen old).key (seen old).me lines p.written
+      → (b : Batch (node_steps has_digest) IsSettled limit lines text old new)
       → Does key p (with_node p (seen old).me (seen new).node (node.batch_messages has_digest limit lines text old new b))
-  Node_is_killed : (limit : ℕ) (lines answers : List (List ℕ)) (old new : NodeFilter store.Filed) → (seen old).key ≡ key → IsNodeOf p (seen old)
-      → node.AreOfTheFarm (seen old).key (seen old).me lines p.written → Answers (node_steps has_digest) limit old lines answers new
+  Node_is_killed : (limit : ℕ) (lines answers : List (List ℕ)) (old new : NodeFilter store.Filed) → (seen old).key ≡ key
+      → IsNodeOf p (seen old)
+      → node.AreOfTheFarm (seen old).key (seen old).me lines p.written
+      → Answers (node_steps has_digest) limit old lines answers new
       → Does key p (with_node p (seen old).me (seen new).node [])
   -- it starts from what its folder has, and says so
-  Node_starts : (origin : Origin store.Filed) (started : Started store.Filed) → origin.key ≡ key → IsLeftOf p origin → (begins : Begins has_digest last_life origin started)
+  Node_starts : (origin : Origin store.Filed) (started : Started store.Filed) → origin.key ≡ key → IsLeftOf p origin
+      → (begins : Begins has_digest last_life origin started)
       → Does key p (with_node p origin.me (seen started.filter).node begins.done.sends)
 
 -- they do one thing after the other
@@ -66,8 +75,10 @@ pub data Comes_to (key : List ℕ) (p : Processes) : Processes → Type 0 where
 
 -- so they are processes of the protocol, of which all five clauses hold
 abbrev pub EveryFarmIsARun : Type 0
-EveryFarmIsARun = (key : List ℕ) (p later : Processes) → Comes_to key p later → Runs content_digest farm_limits NODES p later
+EveryFarmIsARun = (key : List ℕ) (p later : Processes) → Comes_to key p later
+    → Runs content_digest farm_limits NODES p later
 
 -- the headline, of a farm at some time and later
 abbrev pub EveryFarmStaysSafe : Type 0
-EveryFarmStaysSafe = (key : List ℕ) (p later : Processes) → Comes_to key (first_processes content_digest) p → Comes_to key p later → StaySafe content_digest p later
+EveryFarmStaysSafe = (key : List ℕ) (p later : Processes) → Comes_to key (first_processes content_digest) p
+    → Comes_to key p later → StaySafe content_digest p later

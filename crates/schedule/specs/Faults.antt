@@ -107,7 +107,8 @@ abbrev pub IsSpacing : List ℕ → Option Spacing → Type 0
 IsSpacing line None = (spacing : Spacing) → IsMisspaced line spacing → ⊥
 IsSpacing line (Some CarriageReturn) = IsMisspaced line CarriageReturn
 IsSpacing line (Some Tab) = IsMisspaced line Tab × (IsMisspaced line CarriageReturn → ⊥)
-IsSpacing line (Some ExtraSpace) = IsMisspaced line ExtraSpace × (IsMisspaced line CarriageReturn → ⊥) × (IsMisspaced line Tab → ⊥)
+IsSpacing line (Some ExtraSpace) = IsMisspaced line ExtraSpace × (IsMisspaced line CarriageReturn → ⊥)
+    × (IsMisspaced line Tab → ⊥)
 
 -- why the line of this number can't be read
 abbrev pub IsLineFault : ℕ → List ℕ → LineFault → Type 0

@@ -15,7 +15,8 @@ IsReadAnswer number line false = IsRead number line → ⊥
 -- what is wrong with the word at this index behind the verb, if something is
 abbrev pub IsFaultAt : Verb → ℕ → List ℕ → Option FormFault → Type 0
 IsFaultAt verb index word None = Fits (wanted_at verb index) word
-IsFaultAt verb index word (Some (BadWord i kind fault)) = (i ≡ index) × (wanted_at verb index ≡ Some kind) × IsWordFault kind word fault
+IsFaultAt verb index word (Some (BadWord i kind fault)) = (i ≡ index) × (wanted_at verb index ≡ Some kind)
+    × IsWordFault kind word fault
 IsFaultAt verb index word (Some (ExtraWord i)) = (i ≡ index) × (wanted_at verb index ≡ None)
 IsFaultAt verb index word (Some fault) = ⊥
 

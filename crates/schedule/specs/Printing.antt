@@ -12,7 +12,8 @@ use Rattle.schedule.specs.RefusalNames.{refusal_text}
 
 -- the numbers of the messages that were sent: nothing, ` -> FIRST`, or ` -> FIRST..LAST`
 abbrev pub sent_text : ℕ → ℕ → List ℕ
-sent_text first sent = if nat_eq sent 0 then [] else codes " -> " ++ decimal first ++ (if nat_eq sent 1 then [] else codes ".." ++ decimal (first + sent - 1))
+sent_text first sent =
+    if nat_eq sent 0 then [] else codes " -> " ++ decimal first ++ (if nat_eq sent 1 then [] else codes ".." ++ decimal (first + sent - 1))
 
 -- what the event did and sent, or `refused` and why
 abbrev pub answer_text : Result Outcome EventRefusal → List ℕ
@@ -25,7 +26,8 @@ outcome_text number outcome = decimal number ++ codes " " ++ answer_text outcome
 
 -- ` NUMBER:TICKET:DIGITS`
 abbrev pub version_text : ℕ × LineVersion → List ℕ
-version_text (number, version) = codes " " ++ decimal number ++ codes ":" ++ decimal version.ticket.0 ++ codes ":" ++ encode_lower version.digest.0
+version_text (number, version) =
+    codes " " ++ decimal number ++ codes ":" ++ decimal version.ticket.0 ++ codes ":" ++ encode_lower version.digest.0
 
 -- the line of a slot: its name, and its versions, numbered from 1
 abbrev pub line_text : SlotParts → List LineVersion → List ℕ

@@ -81,6 +81,7 @@ IsBadBehind (first ∷ others) line = BehindSetup IsNoEventBehind (first ∷ oth
 -- why the text is refused: its first fault. Lines are counted from 1; memory may run out at any text
 abbrev pub IsRefused : List ℕ → ScheduleRefusal → Type 0
 IsRefused text TooLarge = most_bytes < length text
-IsRefused text (BadLine number) = (length text ≤ most_bytes) × HasLine (lines text) (λ front line. (number ≡ length front + 1) × IsBadBehind front line)
+IsRefused text (BadLine number) = (length text ≤ most_bytes)
+    × HasLine (lines text) (λ front line. (number ≡ length front + 1) × IsBadBehind front line)
 IsRefused text TooManyEvents = (length text ≤ most_bytes) × HasLine (lines text) (BehindSetup IsTooManyBehind)
 IsRefused text OutOfMemory = Unit {0}

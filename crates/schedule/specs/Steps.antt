@@ -27,6 +27,7 @@ AreRefused ls OutOfMemory = Unit {0}
 -- why the line with this number is refused, after count events
 abbrev pub IsLineRefused : List ℕ → ℕ → ℕ → ScheduleRefusal → Type 0
 IsLineRefused line number count TooLarge = ⊥
-IsLineRefused line number count (BadLine n) = (n ≡ number) × (line ≢ []) × (count < EVENTS) × ((e : Event) → IsSpelled line e → ⊥)
+IsLineRefused line number count (BadLine n) = (n ≡ number) × (line ≢ []) × (count < EVENTS)
+    × ((e : Event) → IsSpelled line e → ⊥)
 IsLineRefused line number count TooManyEvents = (line ≢ []) × (EVENTS ≤ count)
 IsLineRefused line number count OutOfMemory = Unit {0}

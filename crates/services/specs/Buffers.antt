@@ -3,8 +3,8 @@ use Rattle.std.specs.Prelude.{◌≡◌, ℕ, ◌<◌, ◌≤◌, List, length, 
 use Rattle.services.specs.declared.lost.Lost.{Lost}
 use Rattle.services.specs.declared.lost.Lost.TheVariants.{TooLong, OutOfMemory}
 
--- a buffer, as contracts see it: how many bytes a line has at most with its end, and the bytes since the last LF, or why they
--- weren't kept
+-- a buffer, as contracts see it: how many bytes a line has at most with its end, and the bytes since the last LF, or
+-- why they weren't kept
 pub record BufferParts : Type 0 where
   pub limit : ℕ
   pub kept : Result (List ℕ) Lost

@@ -32,14 +32,16 @@ abbrev pub Syncing : Type 0 → Type 1
 Syncing K = K → Bool → K → Type 0
 
 -- a restart, where one is due
-abbrev pub RestartsIf : {K : Type 0} → Bool → Loading K → Texts → Seen K → Seen K → Option (Result ⊤ CoordRefusal) → Type 0
+abbrev pub RestartsIf : {K : Type 0} → Bool → Loading K → Texts → Seen K → Seen K → Option (Result ⊤ CoordRefusal)
+    → Type 0
 RestartsIf false loading texts old new restart = (restart ≡ None) × (new ≡ old)
 RestartsIf true loading texts old new None = ⊥
 RestartsIf true loading texts old new (Some result) = Restarts loading texts old new result
 
 -- nothing but that restart was done
 abbrev pub OnlyRestarts : {K : Type 0} → Loading K → Texts → Seen K → Seen K → Type 0
-OnlyRestarts loading texts old new = (restart : Option (Result ⊤ CoordRefusal)) × RestartsIf old.down loading texts old new restart
+OnlyRestarts loading texts old new = (restart : Option (Result ⊤ CoordRefusal))
+    × RestartsIf old.down loading texts old new restart
 
 -- whether the operator's call ends a lease, if it isn't refused
 abbrev pub ends : process.Call → Lease → Bool
@@ -65,9 +67,10 @@ abbrev pub over_of : process.Call → Result Handled CoordRefusal → List NodeL
 over_of (process.Handle message) (Ok handled) lives = unheard message handled.note lives
 over_of call answer lives = None
 
--- a coordinator that is down restarts; then the call is made, which it refuses while it is down; and where its save failed the
--- coordinator restarts
-pub record CarriesOut {K : Type 0} (saving : Saving K) (loading : Loading K) (kept : K → Texts) (call : process.Call) (old new : Seen K) (reply : Reply) : Type 0 where
+-- a coordinator that is down restarts; then the call is made, which it refuses while it is down; and where its save
+-- failed the coordinator restarts
+pub record CarriesOut {K : Type 0} (saving : Saving K) (loading : Loading K) (kept : K → Texts) (call : process.Call)
+    (old new : Seen K) (reply : Reply) : Type 0 where
   pub ready : Seen K
   pub done : Seen K
   pub before : RestartsIf old.down loading (kept old.keeper) old ready reply.before

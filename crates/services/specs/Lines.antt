@@ -3,7 +3,8 @@ use Rattle.std.specs.Prelude.{◌≡◌, ℕ, ◌==◌, if◌then◌else◌, Lis
 use Rattle.services.specs.declared.lost.Lost.{Lost}
 use Rattle.services.specs.Buffers.{BufferParts, HasRead, IsKept}
 
--- the whole lines of a text, without their ends, where these bytes stand before it; what stands behind the last LF is none
+-- the whole lines of a text, without their ends, where these bytes stand before it; what stands behind the last LF is
+-- none
 abbrev pub lines_behind : List ℕ → List ℕ → List (List ℕ)
 lines_behind front [] = []
 lines_behind front (b ∷ text) = if b == 10 then front ∷ lines_behind [] text else lines_behind (front ++ b ∷ []) text

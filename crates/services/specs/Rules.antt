@@ -1,4 +1,5 @@
--- A coordinator's filter is the coordinator of protocol's processes: what it does with lines is what the rules let that do.
+-- A coordinator's filter is the coordinator of protocol's processes: what it does with lines is what the rules let that
+-- do.
 use Rattle.std.specs.Prelude.{◌≡◌, ◌⊎◌, ℕ, Bool, true, false, List, [], ◌∷◌, ◌++◌, map, Option, Some, None, Result, Ok, Err}
 use mathlib.Core.Logic.{inl, inr}
 use Rattle.coordinator.specs.declared.handled.Handled.{Handled}
@@ -30,10 +31,13 @@ use Rattle.services.specs.Served.{Steps, Answers, Batch}
 use Rattle.services.specs.Written.{Filters, Settles}
 use Rattle.services.specs.Written.Filters.{Calls, Stops, Shows, Drops}
 
--- a keeper's relations say of the texts that are kept what their names say: where a save fails these are the old or the new ones
-pub record IsHonest {K : Type 0} (saving : Saving K) (loading : Loading K) (syncing : Syncing K) (kept : K → Texts) : Type 0 where
+-- a keeper's relations say of the texts that are kept what their names say: where a save fails these are the old or the
+-- new ones
+pub record IsHonest {K : Type 0} (saving : Saving K) (loading : Loading K) (syncing : Syncing K)
+    (kept : K → Texts) : Type 0 where
   pub saves : (old : K) (texts : Texts) (new : K) → saving old texts true new → kept new ≡ texts
-  pub fails : (old : K) (texts : Texts) (new : K) → saving old texts false new → (kept new ≡ kept old) ⊎ (kept new ≡ texts)
+  pub fails : (old : K) (texts : Texts) (new : K) → saving old texts false new → (kept new ≡ kept old)
+      ⊎ (kept new ≡ texts)
   pub loads : (old : K) (refusal : Option KeeperRefusal) (new : K) → loading old refusal new → kept new ≡ kept old
   pub syncs : (old : K) (ok : Bool) (new : K) → syncing old ok new → kept new ≡ kept old
 
@@ -59,9 +63,11 @@ pub data Says_all (key : List ℕ) : List Message → List ℕ → Type 0 where
   Says_more : (messages more : List Message) (text added : List ℕ) → Says key messages text → Says_all key more added
       → Says_all key (messages ++ more) (text ++ added)
 
--- each of these lines that says something to a coordinator was written by a process: that is the premise on the farm's key
+-- each of these lines that says something to a coordinator was written by a process: that is the premise on the farm's
+-- key
 abbrev pub AreOfTheFarm : List ℕ → List (List ℕ) → List Message → Type 0
-AreOfTheFarm key lines written = (line : List ℕ) (message : ToCoord) → In line lines → Asks key line (Handle message) → In (Said message) written
+AreOfTheFarm key lines written = (line : List ℕ) (message : ToCoord) → In line lines → Asks key line (Handle message)
+    → In (Said message) written
 
 -- these processes, whose coordinator is this one now and wrote these messages
 abbrev pub with_coordinator : Processes → Coordinator → List Message → Processes
@@ -78,7 +84,8 @@ sends_of (Ok handled) = map Told handled.sends
 sends_of (Err refusal) = []
 
 -- those of a line's answer
-abbrev pub line_messages : {K : Type 0} {saving : Saving K} {loading : Loading K} {kept : K → Texts} {key : List ℕ} {given : Result (List ℕ) Lost} {answer : List ℕ} {old new : Seen K}
+abbrev pub line_messages : {K : Type 0} {saving : Saving K} {loading : Loading K} {kept : K → Texts} {key : List ℕ}
+    {given : Result (List ℕ) Lost} {answer : List ℕ} {old new : Seen K}
     → Filters saving loading kept key given answer old new → List Message
 line_messages (Calls call reply asks done (inl written)) = sends_of reply.answer
 line_messages (Calls call reply asks done (inr lost)) = []
@@ -87,20 +94,24 @@ line_messages (Shows question asks same shown) = []
 line_messages (Drops why asks same unread) = []
 
 -- those of the answers of some lines
-abbrev pub messages_of : {K : Type 0} (saving : Saving K) (loading : Loading K) (kept : K → Texts) (key : List ℕ) (limit : ℕ) (old new : Seen K) (lines answers : List (List ℕ))
+abbrev pub messages_of : {K : Type 0} (saving : Saving K) (loading : Loading K) (kept : K → Texts) (key : List ℕ)
+    (limit : ℕ) (old new : Seen K) (lines answers : List (List ℕ))
     → Answers (filter_steps saving loading kept key) limit old lines answers new → List Message
 messages_of saving loading kept key limit old new [] [] h = []
 messages_of saving loading kept key limit old new [] (answer ∷ answers) h = []
 messages_of saving loading kept key limit old new (line ∷ lines) [] h = []
-messages_of saving loading kept key limit old new (line ∷ lines) (answer ∷ answers) h = line_messages h.3 ++ messages_of saving loading kept key limit h.1 new lines answers h.4
+messages_of saving loading kept key limit old new (line ∷ lines) (answer ∷ answers) h =
+    line_messages h.3 ++ messages_of saving loading kept key limit h.1 new lines answers h.4
 
 -- of lines that were answered together all, or none where the answers don't last
 abbrev pub settled_messages : Settled → List Message → List Message
 settled_messages Lasts messages = messages
 settled_messages (Failed restart) messages = []
 
-abbrev pub batch_messages : {K : Type 0} (saving : Saving K) (loading : Loading K) (syncing : Syncing K) (kept lasting : K → Texts) (key : List ℕ) (limit : ℕ) (lines : List (List ℕ)) (text : List ℕ) (old new : Seen K)
-    → Batch (filter_steps saving loading kept key) (Settles syncing loading kept lasting) limit lines text old new → List Message
+abbrev pub batch_messages : {K : Type 0} (saving : Saving K) (loading : Loading K) (syncing : Syncing K)
+    (kept lasting : K → Texts) (key : List ℕ) (limit : ℕ) (lines : List (List ℕ)) (text : List ℕ) (old new : Seen K)
+    → Batch (filter_steps saving loading kept key) (Settles syncing loading kept lasting) limit lines text old new
+    → List Message
 batch_messages saving loading syncing kept lasting key limit lines text old new b =
     settled_messages b.settled (messages_of saving loading kept key limit old b.answered_to lines b.answers b.answered)
 
@@ -109,7 +120,8 @@ batch_messages saving loading syncing kept lasting key limit lines text old new 
 -- what a filter does with lines that come together the coordinator of processes may do, and what it writes it may write
 abbrev pub ABatchIsARun : {K : Type 0} → Saving K → Loading K → Syncing K → (K → Texts) → (K → Texts) → Type 0
 ABatchIsARun {K} saving loading syncing kept lasting =
-    (sha : List ℕ → Digest) (key : List ℕ) (limit : ℕ) (lines : List (List ℕ)) (text : List ℕ) (old new : Seen K) (p : Processes)
+    (sha : List ℕ → Digest) (key : List ℕ) (limit : ℕ) (lines : List (List ℕ)) (text : List ℕ) (old new : Seen K)
+    (p : Processes)
     → p.coordinator ≡ process_of kept old → AreOfTheFarm key lines p.written
     → (b : Batch (filter_steps saving loading kept key) (Settles syncing loading kept lasting) limit lines text old new) →
     let messages : List Message = batch_messages saving loading syncing kept lasting key limit lines text old new b in
@@ -119,11 +131,12 @@ ABatchIsARun {K} saving loading syncing kept lasting =
 abbrev pub killed_of : {K : Type 0} → (K → Texts) → Seen K → Coordinator
 killed_of kept seen = record { memory = None; disk = saved_in (kept seen.keeper) }
 
--- where a filter is killed amid a batch, of which it answered these lines and wrote nothing, the rules let the coordinator be killed so:
--- its disk may have what was decided of any of them
+-- where a filter is killed amid a batch, of which it answered these lines and wrote nothing, the rules let the
+-- coordinator be killed so: its disk may have what was decided of any of them
 abbrev pub AKillIsARun : {K : Type 0} → Saving K → Loading K → (K → Texts) → Type 0
 AKillIsARun {K} saving loading kept =
-    (sha : List ℕ → Digest) (key : List ℕ) (limit : ℕ) (lines answers : List (List ℕ)) (old new : Seen K) (p : Processes)
+    (sha : List ℕ → Digest) (key : List ℕ) (limit : ℕ) (lines answers : List (List ℕ)) (old new : Seen K)
+    (p : Processes)
     → p.coordinator ≡ process_of kept old → AreOfTheFarm key lines p.written
     → Answers (filter_steps saving loading kept key) limit old lines answers new
     → Runs sha farm_limits NODES p (with_coordinator p (killed_of kept new) [])

@@ -41,7 +41,8 @@ Answers steps limit old [] [] new = old ≡ new
 Answers steps limit old [] (answer ∷ answers) new = ⊥
 Answers steps limit old (line ∷ lines) [] new = ⊥
 Answers {S} steps limit old (line ∷ lines) (answer ∷ answers) new =
-    (given : Result (List ℕ) Lost) × (next : S) × IsKept limit line given × steps old given answer next × Answers steps limit next lines answers new
+    (given : Result (List ℕ) Lost) × (next : S) × IsKept limit line given × steps old given answer next
+    × Answers steps limit next lines answers new
 
 -- the answers, one behind the other
 abbrev pub joined : List (List ℕ) → List ℕ
@@ -56,13 +57,15 @@ Settling S = S → Settled → S → Type 0
 abbrev pub refusals : List (List ℕ) → List (List ℕ)
 refusals answers = map (λ answer. refused_save) answers
 
--- what is written of lines that were answered together: their answers, or else the fact of the restart, and then each is refused
+-- what is written of lines that were answered together: their answers, or else the fact of the restart, and then each
+-- is refused
 abbrev pub settled_text : Settled → List (List ℕ) → List ℕ
 settled_text Lasts answers = joined answers
 settled_text (Failed restart) answers = restart_line restart ++ joined (refusals answers)
 
 -- these lines were answered together: then what was answered was made to last, and then this text was written
-pub record Batch {S : Type 0} (steps : Steps S) (settles : Settling S) (limit : ℕ) (lines : List (List ℕ)) (text : List ℕ) (old new : S) : Type 0 where
+pub record Batch {S : Type 0} (steps : Steps S) (settles : Settling S) (limit : ℕ) (lines : List (List ℕ))
+    (text : List ℕ) (old new : S) : Type 0 where
   pub answered_to : S
   pub answers : List (List ℕ)
   pub settled : Settled
@@ -71,21 +74,27 @@ pub record Batch {S : Type 0} (steps : Steps S) (settles : Settling S) (limit : 
   pub text_is : text ≡ settled_text settled answers
 
 -- lines were answered, some together and one batch after the other, and of all of them this text was written
-pub data Batches {S : Type 0} (steps : Steps S) (settles : Settling S) (limit : ℕ) (old : S) : List (List ℕ) → List ℕ → S → Type 0 where
+pub data Batches {S : Type 0} (steps : Steps S) (settles : Settling S) (limit : ℕ)
+    (old : S) : List (List ℕ) → List ℕ → S → Type 0 where
   Begins : Batches steps settles limit old [] [] old
-  Goes_on : (lines more : List (List ℕ)) (text added : List ℕ) (mid new : S) → Batches steps settles limit old lines text mid
-      → Batch steps settles limit more added mid new → Batches steps settles limit old (lines ++ more) (text ++ added) new
+  Goes_on : (lines more : List (List ℕ)) (text added : List ℕ) (mid new : S)
+      → Batches steps settles limit old lines text mid
+      → Batch steps settles limit more added mid new
+      → Batches steps settles limit old (lines ++ more) (text ++ added) new
 
 -- these lines were answered, and the greeting and the answers written
-pub record Serves {S : Type 0} (steps : Steps S) (settles : Settling S) (limit : ℕ) (greeting : List ℕ) (lines : List (List ℕ)) (old new : S) (before after : Option (List ℕ)) : Type 0 where
+pub record Serves {S : Type 0} (steps : Steps S) (settles : Settling S) (limit : ℕ) (greeting : List ℕ)
+    (lines : List (List ℕ)) (old new : S) (before after : Option (List ℕ)) : Type 0 where
   pub text : List ℕ
   pub answered : Batches steps settles limit old lines text new
   pub written : Appends before after (greeting ++ text)
 
 -- ---- of some bytes
 
--- the lines that these bytes end were answered: what stood before them is the front of the first, and this is left of the last
-pub record Takes {S : Type 0} (steps : Steps S) (settles : Settling S) (limit : ℕ) (bytes : List ℕ) (old new : S) (later : BufferParts)
+-- the lines that these bytes end were answered: what stood before them is the front of the first, and this is left of
+-- the last
+pub record Takes {S : Type 0} (steps : Steps S) (settles : Settling S) (limit : ℕ) (bytes : List ℕ) (old new : S)
+    (later : BufferParts)
     (before after : Option (List ℕ)) (front : List ℕ) : Type 0 where
   pub lines : List (List ℕ)
   pub text : List ℕ
@@ -96,7 +105,8 @@ pub record Takes {S : Type 0} (steps : Steps S) (settles : Settling S) (limit : 
   pub written : Appends before after text
 
 -- the answers were settled, and the text of it written
-pub record Writes {S : Type 0} (settles : Settling S) (answers : List (List ℕ)) (old new : S) (before after : Option (List ℕ)) : Type 0 where
+pub record Writes {S : Type 0} (settles : Settling S) (answers : List (List ℕ)) (old new : S)
+    (before after : Option (List ℕ)) : Type 0 where
   pub settled : Settled
   pub made : settles old settled new
   pub written : Appends before after (settled_text settled answers)

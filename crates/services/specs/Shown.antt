@@ -28,7 +28,8 @@ use Rattle.versions.specs.Lines.{line_shown}
 
 -- `: NUMBER TICKET DIGEST`
 abbrev pub version_line : ℕ × LineVersion → List ℕ
-version_line (number, version) = codes ": " ++ decimal number ++ codes " " ++ decimal version.ticket.0 ++ codes " " ++ digits_text version.digest ++ codes "\n"
+version_line (number, version) =
+    codes ": " ++ decimal number ++ codes " " ++ decimal version.ticket.0 ++ codes " " ++ digits_text version.digest ++ codes "\n"
 
 -- its versions, numbered from 1
 abbrev pub line_answer : Option (List LineVersion) → List ℕ
@@ -60,7 +61,8 @@ holder_text lease =
 
 -- `: lease T N L A KIND [ro=]SLOT..`
 abbrev pub lease_fact : Lease → List ℕ
-lease_fact lease = holder_text lease ++ kind_text (kind_of lease.shared lease.tenure) ++ flat_map leased_text lease.slots ++ codes "\n"
+lease_fact lease =
+    holder_text lease ++ kind_text (kind_of lease.shared lease.tenure) ++ flat_map leased_text lease.slots ++ codes "\n"
 
 -- the word of what is asked for
 abbrev pub asked_text : Bool → List ℕ
@@ -101,8 +103,8 @@ last_at lines slot = last_fact slot (line_shown (line_at lines slot))
 abbrev pub tickets_fact : ℕ → List ℕ
 tickets_fact last = codes ": tickets " ++ decimal last ++ codes "\n"
 
--- the live leases, the oldest first; the asks that wait, in order of arrival; the greatest life seen of each node; the nodes and these
--- slots, which are retired; the last version of each of these slots; and the last ticket
+-- the live leases, the oldest first; the asks that wait, in order of arrival; the greatest life seen of each node; the
+-- nodes and these slots, which are retired; the last version of each of these slots; and the last ticket
 abbrev pub status_text : Held → List SlotParts → List SlotParts → List ℕ
 status_text held retired slots =
     flat_map lease_fact held.live ++ flat_map parked_fact held.parked ++ flat_map life_fact held.lives ++ flat_map gone_fact held.gone
@@ -134,7 +136,8 @@ bases_needed lines lease = flat_map (base_needed lines) lease.slots
 
 -- the last version of each of these slots, and then the bases of the live leases
 abbrev pub needed_text : Held → List SlotParts → List ℕ
-needed_text held slots = flat_map (last_needed held.lines) slots ++ flat_map (bases_needed held.lines) held.live ++ codes "= needed\n"
+needed_text held slots =
+    flat_map (last_needed held.lines) slots ++ flat_map (bases_needed held.lines) held.live ++ codes "= needed\n"
 
 pub record IsNeeded (held : Held) (text : List ℕ) : Type 0 where
   pub slots : List SlotParts

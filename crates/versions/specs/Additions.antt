@@ -19,7 +19,8 @@ IsAbove lines t s = All (λ v. v.ticket.0 < t.0) (line_at lines s)
 -- no slot occurs twice among the additions, each has room, and the ticket is above all on their lines
 abbrev pub AreReady : List SlotLine → Ticket → List Addition → Type 0
 AreReady lines t [] = Unit {0}
-AreReady lines t (a ∷ rest) = HasRoom lines a × IsAbove lines t a.slot × All (λ b. slot_eq a.slot b.slot ≡ false) rest × AreReady lines t rest
+AreReady lines t (a ∷ rest) = HasRoom lines a × IsAbove lines t a.slot × All (λ b. slot_eq a.slot b.slot ≡ false) rest
+    × AreReady lines t rest
 
 -- the same for what a commit adds, if there is one
 abbrev pub IsReady : List SlotLine → Option Added → Type 0

@@ -31,8 +31,10 @@ IsFair u s e r = Fair farm_limits u s e r
 
 -- each world of a run that the farm was in moves to one that it is in now, and the event means there what it answered
 abbrev pub MeansAsTold : Farm → Event → Result Outcome EventRefusal → Farm → Type 0
-MeansAsTold old e result new = (u : protocol.World) → Moves content_digest (start content_digest) u → Shows content_digest u old
-    → (v : protocol.World) × Moves content_digest u v × Shows content_digest v new × Means content_digest farm_limits old.size u e result v × IsFair u old e result
+MeansAsTold old e result new = (u : protocol.World) → Moves content_digest (start content_digest) u
+    → Shows content_digest u old
+    → (v : protocol.World) × Moves content_digest u v × Shows content_digest v new
+    × Means content_digest farm_limits old.size u e result v × IsFair u old e result
 
 -- the event granted this, and sent it
 pub record Grants (g : Grant) (result : Result Outcome EventRefusal) (new : Farm) : Type 0 where
@@ -43,11 +45,13 @@ pub record Grants (g : Grant) (result : Result Outcome EventRefusal) (new : Farm
 -- in a run an Acquire that is delivered, of a node that isn't retired, of no older life, that the rules let be granted,
 -- is granted in that event, by a coordinator that isn't down and where no save is to fail
 abbrev pub GrantsAtOnce : Farm → Event → Result Outcome EventRefusal → Farm → Type 0
-GrantsAtOnce old e result new = (size : ℕ) (events : List Event) → old ≡ run content_digest farm_limits events (opening content_digest size)
+GrantsAtOnce old e result new = (size : ℕ) (events : List Event)
+    → old ≡ run content_digest farm_limits events (opening content_digest size)
     → old.down ≡ false → old.armed ≡ None → (number : ℕ) (p : Parked) → e ≡ Deliver number
     → let y : ToCoord = record { node = p.node; life = p.life; request = Acquire p.ask p.wants p.tenure } in
     let after : Ledger = (after_life farm_limits p.node p.life (begin_work old.ledger)).ledger in
-    nth old.pool number ≡ Some (Said y) → old.ledger.gone p.node.0 ≡ false → nat_lt p.life.0 (old.ledger.lives p.node.0) ≡ false
+    nth old.pool number ≡ Some (Said y) → old.ledger.gone p.node.0 ≡ false
+    → nat_lt p.life.0 (old.ledger.lives p.node.0) ≡ false
     → MayBeGranted farm_limits after p → Grants (granted after p) result new
 
 -- the coordinator's answer is one of these
@@ -55,14 +59,17 @@ abbrev pub IsTold : (CoordNote → Type 0) → Result Outcome EventRefusal → T
 IsTold IsOne (Ok o) = (told : CoordNote) × (o.note ≡ note.Coord told) × IsOne told
 IsTold IsOne (Err e) = e ≡ OutOfMemory
 
--- in a run an Acquire that is delivered, of a node that isn't retired, is answered by the slots of the machine, whichever
--- world the farm is in; where the coordinator isn't down and no save is to fail
+-- in a run an Acquire that is delivered, of a node that isn't retired, is answered by the slots of the machine,
+-- whichever world the farm is in; where the coordinator isn't down and no save is to fail
 abbrev pub AnswersAsks : Farm → Event → Result Outcome EventRefusal → Type 0
-AnswersAsks old e result = (size : ℕ) (events : List Event) → old ≡ run content_digest farm_limits events (opening content_digest size)
+AnswersAsks old e result = (size : ℕ) (events : List Event)
+    → old ≡ run content_digest farm_limits events (opening content_digest size)
     → old.down ≡ false → old.armed ≡ None → (number : ℕ) (p : Parked) → e ≡ Deliver number
     → nth old.pool number ≡ Some (acquire p.node p.life p.ask p.wants p.tenure) → old.ledger.gone p.node.0 ≡ false
-    → (u : protocol.World) → Moves content_digest (start content_digest) u → Shows content_digest u old → IsTold (AsksAreAnswered farm_limits u.machine p) result
+    → (u : protocol.World) → Moves content_digest (start content_digest) u → Shows content_digest u old
+    → IsTold (AsksAreAnswered farm_limits u.machine p) result
 
 -- whichever world the farm is in, no parked ask could be granted
 abbrev pub NoneWaitsIdly : Farm → Type 0
-NoneWaitsIdly s = (u : protocol.World) → Shows content_digest u s → (p : Parked) → In p u.machine.parked → CouldBeGranted farm_limits u.machine p → ⊥
+NoneWaitsIdly s = (u : protocol.World) → Shows content_digest u s → (p : Parked) → In p u.machine.parked
+    → CouldBeGranted farm_limits u.machine p → ⊥

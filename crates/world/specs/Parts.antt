@@ -23,4 +23,5 @@ shown_parts p = record {
 
 -- the farm with this coordinator and these messages
 abbrev pub with_coordinator : Farm → Seen Memory → List Message → Farm
-with_coordinator s c pool = record s { ledger = ledger c.held; saved = saved_in c.keeper.texts; down = c.down; armed = c.keeper.armed; pool = pool }
+with_coordinator s c pool =
+    record s { ledger = ledger c.held; saved = saved_in c.keeper.texts; down = c.down; armed = c.keeper.armed; pool = pool }

@@ -17,10 +17,13 @@ StaysSafe size events = (early late rest : List Event) → events ≡ early ++ (
 
 -- each version on a line is of one answer of the schedule, or of one that a failed save kept
 abbrev pub AnswersVersions : ℕ → List Event → Type 0
-AnswersVersions size events = (x : Slot) (v : LineVersion) → In v ((run content_digest farm_limits events (opening content_digest size)).ledger.line x)
-    → (early late : List Event) × (e : Event) × (events ≡ early ++ e ∷ late) × Writes content_digest farm_limits (run content_digest farm_limits early (opening content_digest size)) e x v
+AnswersVersions size events = (x : Slot) (v : LineVersion)
+    → In v ((run content_digest farm_limits events (opening content_digest size)).ledger.line x)
+    → (early late : List Event) × (e : Event) × (events ≡ early ++ e ∷ late)
+    × Writes content_digest farm_limits (run content_digest farm_limits early (opening content_digest size)) e x v
 
 -- the headline holds after each part of the schedule
 abbrev pub KeepsHeadline : ℕ → List Event → Type 0
 KeepsHeadline size events = (early rest : List Event) → events ≡ early ++ rest
-    → Headline content_digest farm_limits (run content_digest farm_limits early (opening content_digest size)) × AnswersVersions size early
+    → Headline content_digest farm_limits (run content_digest farm_limits early (opening content_digest size))
+    × AnswersVersions size early

@@ -66,6 +66,7 @@ AreFirst count cores = AreFirstOf count count cores
 -- the result of a restart: a new life, or the last one is over for good
 abbrev pub Restarts : Place → Node → Node → Result NodeDone NodeRefusal → Type 0
 Restarts p old new (Ok done) = (may_restart farm_limits old ≡ true) × (restarted p old ≡ work_of new done)
-Restarts p old new (Err refusal.LivesSpent) = (may_restart farm_limits old ≡ false) × (new ≡ record old { spent = true })
+Restarts p old new (Err refusal.LivesSpent) = (may_restart farm_limits old ≡ false)
+    × (new ≡ record old { spent = true })
 Restarts p old new (Err refusal.OutOfMemory) = new ≡ old
 Restarts p old new (Err e) = ⊥

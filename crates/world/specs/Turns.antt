@@ -36,7 +36,8 @@ from_node e = refusal.Node e
 -- there is room for what the message makes its receiver send; a room that is no machine's number isn't looked at
 abbrev pub FitsIn : Farm → Message → ℕ → Type 0
 FitsIn s (ToCoord y) room = length (handled farm_limits y (begin_work s.ledger)).sends ≤ room
-FitsIn s (ToNode m) room = is_node s (receiver m) ≡ true → room < 0xffff_ffff_ffff_ffff → length (message_work (at s (receiver m)) (s.nodes (receiver m).0) m).sends ≤ room
+FitsIn s (ToNode m) room = is_node s (receiver m) ≡ true → room < 0xffff_ffff_ffff_ffff
+    → length (message_work (at s (receiver m)) (s.nodes (receiver m).0) m).sends ≤ room
 
 -- maps the coordinator's refusal to the event's
 abbrev pub from_coordinator : CoordRefusal → EventRefusal
@@ -45,7 +46,8 @@ from_coordinator e = refusal.Coord e
 
 -- a node of this number is retired, if it is there
 abbrev pub retiring : NodeId → Farm → Turn
-retiring n s = if is_node s n then coordinated s.down (retired farm_limits n (begin_work s.ledger)) s else refused refusal.NoSuchNode s
+retiring n s =
+    if is_node s n then coordinated s.down (retired farm_limits n (begin_work s.ledger)) s else refused refusal.NoSuchNode s
 
 -- a node of this number restarts, if it is there
 abbrev pub restarting : NodeId → Farm → Turn
