@@ -4,7 +4,8 @@ use super::clock::seconds_since;
 use super::event::{BATCHES, FEW, MANY, TURNS};
 use super::replay::{FOLDER, wants};
 use farm_base::{
-    Ask, Content, FromCoord, Grant, GrantedSlot, Items, LeaseKind, Life, NodeId, Slot, Ticket, ToNode,
+    Ask, Content, FromCoord, Grant, GrantedSlot, Items, LeaseKind, Life, NodeId, Slot, Ticket,
+    ToNode,
 };
 use nodecore::NodeCore;
 use std::alloc::Global;

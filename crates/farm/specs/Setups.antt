@@ -17,7 +17,7 @@ is_there setup node = nat_le 1 node.0 && nat_le node.0 setup.nodes
 abbrev pub is_staffed : {A B : Type 0} → Setup → List (NodeId × A) → List (NodeId × B) → Bool
 is_staffed setup jobs executors = is_in_range setup
     && (list_all (λ e. is_there setup e.0) executors
-      && list_all (λ job. list_any (λ e. e.0.0 == job.0.0) executors) jobs)
+    && list_all (λ job. list_any (λ e. e.0.0 == job.0.0) executors) jobs)
 
 -- each job is on node 1
 abbrev pub is_of_one : {A : Type 0} → Setup → List (NodeId × A) → Bool

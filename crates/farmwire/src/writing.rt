@@ -12,8 +12,9 @@ use super::item::push_items;
 use super::lawful::is_lawful;
 use super::refusal::WriteRefusal;
 use base64::engine::general_purpose::STANDARD;
-use farm_base::{LeaseKind, 
-    Content, Fetch, FromCoord, Grant, Key, Life, Message, NodeId, Request, ToCoord, ToNode, Want,
+use farm_base::{
+    Content, Fetch, FromCoord, Grant, Key, LeaseKind, Life, Message, NodeId, Request, ToCoord,
+    ToNode, Want,
 };
 use std::alloc::{AllocError, Global};
 use words::why_name;

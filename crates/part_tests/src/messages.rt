@@ -2,8 +2,8 @@
 //! damaged. The MACs of lines, and those of keys of one block and of a byte more, are Python's (hmac, hashlib).
 
 use farm_base::{
-    Ask, FolderName, FromCoord, Grant, Items, Key, LeaseKind, Life, Message, NodeId, Request, Ticket, ToCoord,
-    ToNode, Wants,
+    Ask, FolderName, FromCoord, Grant, Items, Key, LeaseKind, Life, Message, NodeId, Request,
+    Ticket, ToCoord, ToNode, Wants,
 };
 use farmwire::{
     FarmKey, KeyRefusal, LINE_LIMIT, LineFault, ReadRefusal, WriteRefusal, is_lawful, mac, open,

@@ -55,7 +55,7 @@ abbrev pub GoesOn : (List ℕ → Digest) → Limits → NodeId → Ticket → L
 GoesOn sha limits node ticket [] farm = ⊤
 GoesOn sha limits node ticket (event ∷ rest) farm =
     ((grant : Grant) (outcome : Outcome) → (step sha limits farm event).outcome ≡ Ok outcome
-      → grant.ticket ≡ ticket → StopsAt event node grant → ⊥)
+    → grant.ticket ≡ ticket → StopsAt event node grant → ⊥)
     × GoesOn sha limits node ticket rest (step sha limits farm event).farm
 
 -- the grants of two tickets, as they were sent, share no slot of a PRIVATE or SHARED folder
@@ -121,7 +121,7 @@ NamesVersion sha limits farm event slot version = (outcome : Outcome)
 abbrev pub Writes : (List ℕ → Digest) → Limits → Farm → Event → Slot → LineVersion → Type 0
 Writes sha limits farm event slot version = NamesVersion sha limits farm event slot version
     ⊎ (((step sha limits farm event).outcome ≡ Err (refusal.Coord coord_refusal.SaveFault))
-      × NamesVersion sha limits (unarmed farm) event slot version)
+    × NamesVersion sha limits (unarmed farm) event slot version)
 
 -- each version that ever stands on a line is of such an event. As lines only grow at their end, they stand in the
 -- order of these events
@@ -237,7 +237,7 @@ FittingMessageIsGranted = (sha : List ℕ → Digest) (limits : Limits) → IsFa
     let saying : ToCoord = record {
       node = parked.node;
       life = parked.life;
-      request = Acquire parked.ask parked.wants parked.tenure
+      request = Acquire parked.ask parked.wants parked.tenure;
     } in
     let work : Work = after_life limits parked.node parked.life (begin_work ledger) in
     let grant : Grant = grant_of limits.empty work.ledger.line (lease_for limits work.ledger parked) in
@@ -256,14 +256,14 @@ NoParkedAskCouldBeGranted = (sha : List ℕ → Digest) (limits : Limits) → Is
 abbrev pub EndsNothing : Machine → NodeId → Life → Type 0
 EndsNothing machine node life = (machine.lives node.0 ≡ life.0)
     ⊎ ((machine.lives node.0 < life.0)
-      × ((grant : Grant) → Live machine grant → grant.node ≡ node → grant.life.0 < life.0 → ⊥)
-      × (machine.old_home ≢ Some node))
+    × ((grant : Grant) → Live machine grant → grant.node ≡ node → grant.life.0 < life.0 → ⊥)
+    × (machine.old_home ≢ Some node))
 
 -- no live grant and no parked ask is this ask's
 abbrev pub IsNew : Machine → Parked → Type 0
 IsNew machine parked = ((grant : Grant) → Live machine grant → IsOf parked.node parked.life parked.ask grant → ⊥)
     × ((other : Parked) → In other machine.parked → (other.node ≡ parked.node) × (other.life ≡ parked.life)
-      × (other.ask ≡ parked.ask) → ⊥)
+    × (other.ask ≡ parked.ask) → ⊥)
 
 -- how an ask is answered, of the machine before
 pub record AsksAreAnswered (limits : Limits) (machine : Machine) (asked : Parked) (answer : CoordNote) : Type 0 where
@@ -299,8 +299,8 @@ EveryAskIsAnswered = (sha : List ℕ → Digest) (limits : Limits) → IsFarm sh
     → In (acquire parked.node parked.life parked.ask parked.wants parked.tenure) world.pool
     → world.machine.gone parked.node.0 ≡ false
     → AsksAreAnswered limits world.machine parked (handled limits
-      (record { node = parked.node; life = parked.life; request = Acquire parked.ask parked.wants parked.tenure })
-      (begin_work (run sha limits events (opening sha size)).ledger)).note
+    (record { node = parked.node; life = parked.life; request = Acquire parked.ask parked.wants parked.tenure })
+    (begin_work (run sha limits events (opening sha size)).ledger)).note
 
 -- while the coordinator is up the record is that of its ledger; after a failed save it is that of a ledger of the
 -- machine that the save kept

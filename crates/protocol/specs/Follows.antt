@@ -150,14 +150,14 @@ CommitIsTaken limits machine ledger = (grant : Grant) (news : List News) → Liv
     → machine.gone grant.node.0 ≡ false → machine.lives grant.node.0 ≤ grant.life.0
     → slots_of news ≡ written grant.slots → news ≢ []
     → (handled limits (record { node = grant.node; life = grant.life; request = Commit grant.ticket news })
-      (begin_work ledger)).note ≡ note.Committed grant.ticket
+    (begin_work ledger)).note ≡ note.Committed grant.ticket
 
 -- and its Release
 abbrev pub ReleaseIsTaken : Limits → Machine → Ledger → Type 0
 ReleaseIsTaken limits machine ledger = (grant : Grant) → Live machine grant → machine.gone grant.node.0 ≡ false
     → machine.lives grant.node.0 ≤ grant.life.0
     → (handled limits (record { node = grant.node; life = grant.life; request = Release grant.ticket })
-      (begin_work ledger)).note ≡ note.Released grant.ticket
+    (begin_work ledger)).note ≡ note.Released grant.ticket
 
 -- whatever message comes, sent or not, it ends no grant but one of its node: one of its life, or one of an older life
 -- where its life is a newer one
@@ -165,15 +165,15 @@ abbrev pub OnlyItsOwn : Limits → Machine → Ledger → Type 0
 OnlyItsOwn limits machine ledger = (saying : ToCoord) (grant : Grant) → Live machine grant
     → In (lease_from grant) (handled limits saying (begin_work ledger)).ledger.live
     ⊎ ((grant.node ≡ saying.node)
-      × ((grant.life ≡ saying.life) ⊎ ((grant.life.0 < saying.life.0) × (machine.lives saying.node.0 < saying.life.0))))
+    × ((grant.life ≡ saying.life) ⊎ ((grant.life.0 < saying.life.0) × (machine.lives saying.node.0 < saying.life.0))))
 
 -- every decision on a ledger that agrees with the machine of a world of a run
 pub record EveryDecision (limits : Limits) (pool : List Message) (machine : Machine) (ledger : Ledger) : Type 0 where
   pub message : (saying : ToCoord) → In (Said saying) pool
       → Follows limits.empty pool machine
-        (Meant machine (MessageEnds machine saying (handled limits saying (begin_work ledger)).note)
-          (handled limits saying (begin_work ledger)).note)
-        (handled limits saying (begin_work ledger))
+      (Meant machine (MessageEnds machine saying (handled limits saying (begin_work ledger)).note)
+      (handled limits saying (begin_work ledger)).note)
+      (handled limits saying (begin_work ledger))
   pub own : OnlyItsOwn limits machine ledger
   pub commit_taken : CommitIsTaken limits machine ledger
   pub release_taken : ReleaseIsTaken limits machine ledger
@@ -225,7 +225,7 @@ FittingAskIsGranted = (limits : Limits) (parked : Parked) (work : Work) → None
     let saying : ToCoord = record {
       node = parked.node;
       life = parked.life;
-      request = Acquire parked.ask parked.wants parked.tenure
+      request = Acquire parked.ask parked.wants parked.tenure;
     } in
     MayBeGranted limits seen.ledger parked → ((handled limits saying work).note ≡ note.Granted grant)
     × In (told.Granted grant) (handled limits saying work).sends

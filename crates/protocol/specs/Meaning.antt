@@ -36,7 +36,7 @@ pub record Ended (machine : Machine) (ends : Grant → Ending → Type 0) (endin
   pub all : (grant : Grant) (how : Ending) → Live machine grant → ends grant how → ending grant.ticket.0 ≡ Some how
   pub only : (ticket : ℕ) → (ending ticket ≡ machine.ending ticket)
       ⊎ ((grant : Grant) × (how : Ending) × Live machine grant × ends grant how × (grant.ticket.0 ≡ ticket)
-        × (ending ticket ≡ Some how))
+      × (ending ticket ≡ Some how))
 
 -- how a message ends a live grant, where this was the answer to it
 pub data MessageEnds (machine : Machine) (saying : ToCoord) (answer : CoordNote) (grant : Grant) : Ending → Type 0 where
@@ -129,7 +129,7 @@ lives_at pool event said lives = lives
 abbrev pub IsAnswered : Parked → List Message → Type 0
 IsAnswered parked sends =
     ((grant : Grant) × In (Told (told.Granted grant)) sends
-      × (grant.node ≡ parked.node) × (grant.life ≡ parked.life) × (grant.ask ≡ parked.ask))
+    × (grant.node ≡ parked.node) × (grant.life ≡ parked.life) × (grant.ask ≡ parked.ask))
     ⊎ ((why : Why) × In (Told (told.Denied parked.node parked.life parked.ask why)) sends)
 
 -- a parked ask that an event drops unanswered: of an older life of the message's node, of a node that retires, and all
@@ -189,7 +189,7 @@ Asks saying grant = (grant.node ≡ saying.node) × (grant.life ≡ saying.life)
 abbrev pub OnAll : Digest → Machine → Ticket → List News → Type 0
 OnAll empty machine ticket news = (news ≢ [])
     × ((item : News) → In item news → (version : LineVersion) × In version (line empty machine item.slot)
-      × (version.ticket ≡ ticket))
+    × (version.ticket ≡ ticket))
 
 abbrev pub instance_of : FolderName → ℕ → Slot
 instance_of folder number = record { folder = folder; instance = number }
@@ -204,7 +204,7 @@ IsAwaited machine grant = (parked : Parked) × (want : Want) × In parked machin
 abbrev pub Recalls : ToCoord → Machine → Machine → List Message → Type 0
 Recalls saying machine after sends = (ask : Ask) (wants : List Want) → saying.request ≡ request.Acquire ask wants true
     → ((parked : Parked) → In parked machine.parked
-      → (parked.node ≡ saying.node) × (parked.life ≡ saying.life) × (parked.ask ≡ ask) → ⊥)
+    → (parked.node ≡ saying.node) × (parked.life ≡ saying.life) × (parked.ask ≡ ask) → ⊥)
     → ((home : NodeId) → after.old_home ≡ Some home → home.0 ≡ saying.node.0)
     → (grant : Grant) (want : Want) → Live after grant → In want wants → want.folder.mode ≡ Shared
     → Has grant (instance_of want.folder 0) → In (Told (told.Recall grant.node grant.life grant.ticket)) sends
@@ -242,8 +242,8 @@ MessageMeans empty saying machine coord.NodeRetired after sends = (machine.gone 
 -- a Release is of no lease of its sender
 MessageMeans empty saying machine coord.Nothing after sends = (saying.request ≡ request.Hello)
     ⊎ ((ticket : Ticket) × (saying.request ≡ request.Release ticket)
-      × ((grant : Grant) → Live after grant → grant.ticket ≡ ticket → grant.node ≡ saying.node
-        → grant.life ≡ saying.life → ⊥))
+    × ((grant : Grant) → Live after grant → grant.ticket ≡ ticket → grant.node ≡ saying.node
+    → grant.life ≡ saying.life → ⊥))
 MessageMeans empty saying machine answer after sends = ⊥
 
 -- what the coordinator did at an accepted event
@@ -253,7 +253,7 @@ CoordDid empty world (Deliver number) said after sends = (saying : ToCoord) → 
 CoordDid empty world Nudge said after sends = (said ≡ note.Coord coord.Nudged)
     × ((grant : Grant) → Live world.machine grant → In (Told (told.Granted grant)) sends)
     × ((grant : Grant) → Live world.machine grant → is_tenure grant.kind ≡ true → IsAwaited world.machine grant
-      → In (Told (told.Recall grant.node grant.life grant.ticket)) sends)
+    → In (Told (told.Recall grant.node grant.life grant.ticket)) sends)
 CoordDid empty world (Withdraw ticket) said after sends =
     (said ≡ note.Coord (coord.Withdrawn ticket)) × IsLive world.machine ticket
 CoordDid empty world (Prune slot) said after sends =
@@ -447,7 +447,7 @@ NodeMeans sha limits size heard event node state (node_note.Begun ticket) sends 
     × ((number : ℕ) × (wants : List Want) × (grant : Grant) × (recalled : Bool)
     × IsAsk state number (Holding wants grant recalled) × (grant.ticket ≡ ticket)
     × ((granted : GrantedSlot) → In granted grant.slots → (content : List ℕ)
-      × (state.store granted.digest ≡ Some content))
+    × (state.store granted.digest ≡ Some content))
     × (sends ≡ []) × (after ≡ record state { asks = set_nth state.asks number (Running wants grant recalled) }))
 NodeMeans sha limits size heard event node state (node_note.Finished ticket) sends after =
     (event ≡ Finish node ticket (lefts_at event))
@@ -463,13 +463,13 @@ NodeMeans sha limits size heard event node state (node_note.Aborted ticket) send
 NodeMeans sha limits size heard event node state node_note.Resent sends after = (event ≡ Resend node)
     × In (hello node state.life) sends
     × ((number : ℕ) (wants : List Want) (tenure : Bool) → IsAsk state number (Open wants tenure)
-      → In (acquire node state.life (record { 0 = number }) wants tenure) sends)
+    → In (acquire node state.life (record { 0 = number }) wants tenure) sends)
     × ((number : ℕ) (wants : List Want) (grant : Grant) (news : List News)
-      → IsAsk state number (Finished wants grant news)
-      → In (commit node state.life grant.ticket news) sends)
+    → IsAsk state number (Finished wants grant news)
+    → In (commit node state.life grant.ticket news) sends)
     × ((number : ℕ) (wants : List Want) (grant : Grant) (recalled : Bool)
-      → IsAsk state number (Holding wants grant recalled)
-      → AsksAround limits size node state grant.slots sends)
+    → IsAsk state number (Holding wants grant recalled)
+    → AsksAround limits size node state grant.slots sends)
     × (after ≡ state) × ((message : Message) → In message sends → Repeats limits size node state message)
 NodeMeans sha limits size heard event node state (node_note.Life life) sends after =
     (event ≡ RestartNode node) × (life.0 ≡ state.life.0 + 1) × (sends ≡ hello node life ∷ [])
@@ -480,7 +480,7 @@ NodeMeans sha limits size heard event node state (node_note.Took grant) sends af
     × ((wants : List Want) × (tenure : Bool) × IsAsk state grant.ask.0 (Open wants tenure)
     × (after ≡ record state {
       asks = set_nth state.asks grant.ask.0 (Holding wants grant false);
-      known = learn_bases grant.slots state.known
+      known = learn_bases grant.slots state.known;
     }))
     × ((message : Message) → In message sends → IsFetchFor limits size node state grant.slots message)
 NodeMeans sha limits size heard event node state (node_note.GaveBack ticket) sends after = (grant : Grant)
@@ -496,7 +496,7 @@ NodeMeans sha limits size heard event node state (node_note.Learned ticket) send
     × IsAsk state number (Finished wants grant news) × (grant.ticket ≡ ticket) × (sends ≡ [])
     × (after ≡ record state {
       asks = set_nth state.asks number (Over (how.Committed ticket versions));
-      known = learn_versions versions state.known
+      known = learn_versions versions state.known;
     }))
 NodeMeans sha limits size heard event node state (node_note.Dropped ticket) sends after = (life : Life)
     × (heard ≡ Some (Told (told.Fenced node life ticket))) × (life ≡ state.life)
@@ -511,9 +511,9 @@ NodeMeans sha limits size heard event node state (node_note.Recalled ticket) sen
     × (heard ≡ Some (Told (told.Recall node life ticket))) × (life ≡ state.life)
     × ((number : ℕ) × (wants : List Want) × (grant : Grant) × (grant.ticket ≡ ticket) × (sends ≡ []) × (
     (IsAsk state number (Holding wants grant false)
-      × (after ≡ record state { asks = set_nth state.asks number (Holding wants grant true) }))
+    × (after ≡ record state { asks = set_nth state.asks number (Holding wants grant true) }))
     ⊎ (IsAsk state number (Running wants grant false)
-      × (after ≡ record state { asks = set_nth state.asks number (Running wants grant true) }))))
+    × (after ≡ record state { asks = set_nth state.asks number (Running wants grant true) }))))
 NodeMeans sha limits size heard event node state node_note.SentBlob sends after = (fetch : Fetch) × (content : List ℕ)
     × (heard ≡ Some (Fetches fetch)) × (state.store fetch.digest ≡ Some content)
     × (sends ≡ Blob fetch.from content ∷ []) × (after ≡ state)
@@ -536,7 +536,7 @@ abbrev pub NodeDid : (List ℕ → Digest) → Limits → ℕ → World → Even
 NodeDid sha limits size world event answer sends later = (later.machine ≡ world.machine)
     × ((node : NodeId) × (node_at world event ≡ Some node)
     × NodeMeans sha limits size (heard_at world event) event node (world.nodes node.0) answer sends
-      (later.nodes node.0))
+    (later.nodes node.0))
 
 -- what is delivered is answered by whom it is for
 abbrev pub Hears : Option Message → EventNote → Type 0
@@ -646,7 +646,7 @@ HasLowest machine grant = (slot : Slot) (number : ℕ) → Has grant slot → sl
     → 1 ≤ number → number < slot.instance
     → Retired machine (instance_of slot.folder number)
     ⊎ ((older : Grant) × Live machine older × older.ticket.0 < grant.ticket.0
-      × Has older (instance_of slot.folder number))
+    × Has older (instance_of slot.folder number))
 
 -- the machine without what was given from this ticket on: as it stood when the ticket was given, where no grant has
 -- ended since
@@ -684,7 +684,7 @@ KeepsOrder world event said old new = IsPartOf old new
 abbrev pub IsDue : World → Event → NodeId → Life → Ask → Type 0
 IsDue world event node life ask =
     ((parked : Parked) × In parked (Finds world event).parked
-      × (parked.node ≡ node) × (parked.life ≡ life) × (parked.ask ≡ ask))
+    × (parked.node ≡ node) × (parked.life ≡ life) × (parked.ask ≡ ask))
     ⊎ ((wants : List Want) × (tenure : Bool) × (heard_at world event ≡ Some (acquire node life ask wants tenure)))
 
 -- the event delivers a Commit of this node and life under the ticket
@@ -755,7 +755,7 @@ abbrev pub Survives : (List ℕ → Digest) → World → Event → Machine → 
 Survives sha world event kept = (kept ≡ world.machine)
     ⊎ ((answer : CoordNote) × (sends : List Message) × Carried (sha []) world event (note.Coord answer) sends kept
     × ((grant : Grant) → In (Granted grant) kept.made → In (Granted grant) (Finds world event).made
-      ⊎ HasLowest kept grant))
+    ⊎ HasLowest kept grant))
 
 -- a refused event changes no lease, sends nothing, and leaves what each node keeps, asks and knows; where its save
 -- failed the coordinator is down
@@ -768,7 +768,7 @@ pub record Unchanged (sha : List ℕ → Digest) (world : World) (event : Event)
   -- a node whose greatest life is over is down for good
   pub nodes : (number : ℕ) → (later.nodes number ≡ world.nodes number)
       ⊎ ((event ≡ RestartNode (record { 0 = number }))
-        × (later.nodes number ≡ record (world.nodes number) { spent = true }))
+      × (later.nodes number ≡ record (world.nodes number) { spent = true }))
 
 -- an event with this outcome, from the world before it to the world after it
 abbrev pub Means : (List ℕ → Digest) → Limits → ℕ → World → Event → Result Outcome EventRefusal → World → Type 0

@@ -100,13 +100,13 @@ pub data CoordinatorDoes (limits : Limits) (size : ℕ) (written : List Message)
       → AllMayCome size written calls
       → IsPartOf (batch limits calls (begin_batch ledger coordinator.disk)).sends lines
       → CoordinatorDoes limits size written coordinator lines
-        (is_up (batch limits calls (begin_batch ledger coordinator.disk)))
+      (is_up (batch limits calls (begin_batch ledger coordinator.disk)))
   -- it is killed before the save is done, or the save fails. The disk has the record after the first of the calls,
   -- which may be none or all of them, and nothing is written
   Fails : (ledger : Ledger) (early late : List Call) → coordinator.memory ≡ Some ledger
       → AllMayCome size written (early ++ late)
       → CoordinatorDoes limits size written coordinator []
-        (is_down (batch limits early (begin_batch ledger coordinator.disk)))
+      (is_down (batch limits early (begin_batch ledger coordinator.disk)))
   Is_killed : CoordinatorDoes limits size written coordinator [] (record coordinator { memory = None })
   -- it starts, from its disk and nothing else
   Starts : CoordinatorDoes limits size written coordinator []
@@ -169,7 +169,7 @@ pub data NodeDoes (sha : List ℕ → Digest) (limits : Limits) (written : List 
   Loses : (store : Digest → Option (List ℕ)) (known : Slot → ℕ → Option Digest)
       → ((digest : Digest) (content : List ℕ) → store digest ≡ Some content → state.store digest ≡ Some content)
       → ((slot : Slot) (number : ℕ) (digest : Digest) → known slot number ≡ Some digest
-        → state.known slot number ≡ Some digest)
+      → state.known slot number ≡ Some digest)
       → NodeDoes sha limits written node state [] (record state { store = store; known = known })
   -- its greatest life is over
   Is_spent : may_restart limits state ≡ false
@@ -182,11 +182,11 @@ pub data Happens (sha : List ℕ → Digest) (limits : Limits) (size : ℕ) (pro
   Coordinator_does : (lines : List Message) (after : Coordinator)
       → CoordinatorDoes limits size processes.written processes.coordinator lines after
       → Happens sha limits size processes
-        (record processes { coordinator = after; written = processes.written ++ lines })
+      (record processes { coordinator = after; written = processes.written ++ lines })
   Node_does : (node : NodeId) (lines : List Message) (after : Node) → IsNumber size node
       → NodeDoes sha limits processes.written node (processes.nodes node.0) lines after
       → Happens sha limits size processes
-        (record processes { nodes = put node.0 after processes.nodes; written = processes.written ++ lines })
+      (record processes { nodes = put node.0 after processes.nodes; written = processes.written ++ lines })
 
 pub data Runs (sha : List ℕ → Digest) (limits : Limits) (size : ℕ) : Processes → Processes → Type 0 where
   Rests : (processes : Processes) → Runs sha limits size processes processes
@@ -273,7 +273,7 @@ pub record StaySafe (sha : List ℕ → Digest) (processes later : Processes) : 
       → In (Told (told.Committed node life ticket versions)) processes.written → In version versions
       → (index : ℕ) × (version.number ≡ index + 1)
       × (slice_get (later.coordinator.disk.line version.slot) index
-        ≡ Some (record { ticket = ticket; digest = version.digest }))
+      ≡ Some (record { ticket = ticket; digest = version.digest }))
   -- what was fenced is on no line
   pub fenced : (node : NodeId) (life : Life) (ticket : Ticket)
       → In (Told (told.Fenced node life ticket)) processes.written → (slot : Slot) (version : LineVersion)
@@ -317,7 +317,7 @@ pub record AreHonest (processes : Processes) : Type 0 where
       → In (Told (told.Committed node life ticket versions)) processes.written → In version versions
       → (index : ℕ) × (version.number ≡ index + 1)
       × (slice_get (processes.coordinator.disk.line version.slot) index
-        ≡ Some (record { ticket = ticket; digest = version.digest }))
+      ≡ Some (record { ticket = ticket; digest = version.digest }))
   pub leases : (ledger : Ledger) (lease : Lease) → processes.coordinator.memory ≡ Some ledger → In lease ledger.live
       → HasAsked (processes.nodes lease.node.0) lease.life lease.ask
 
