@@ -19,7 +19,7 @@ module _ (news : List (List Call)) (k : KeyedParts) where
   pub record IsSolved (digest : Digest) : Type 0 where
     pub result : (key : Key) → slice_get k.keys k.graph.result.0 ≡ Some key → Gave news key k.graph.result.1 digest
     pub needed : (number : ℕ) (key : Key) → IsNeeded k.graph number → slice_get k.keys number ≡ Some key
-    → GaveOutputs news key
+        → GaveOutputs news key
 
 -- the job takes the output of this index of the vertex: as its result, or by an edge of a vertex that it depends on
 pub data Takes (g : GraphParts) (number index : ℕ) : Type 0 where
