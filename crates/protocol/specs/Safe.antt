@@ -7,65 +7,115 @@ use Rattle.protocol.specs.Machine.{GrantedSlot, Grant, LineVersion, Confirmed, M
 use Rattle.farm_base.specs.declared.message.FromCoord.TheVariants as told
 use Rattle.protocol.specs.World.{World, Node, Running, Moves, start}
 
--- node n executes under the grant, for these wants
+-- the node executes under the grant, for these wants
 abbrev pub InUse : World → NodeId → Grant → List Want → Type 0
-InUse w n g wants = (a : ℕ) × (recalled : Bool) × (nth (w.nodes n.0).asks a ≡ Some (Running wants g recalled))
+InUse world node grant wants =
+    (place : ℕ) × (recalled : Bool) × (nth (world.nodes node.0).asks place ≡ Some (Running wants grant recalled))
 
--- the node holds the content for version k of the slot
+-- the node holds the content for this version of the slot
 abbrev pub HoldsContent : Node → Slot → ℕ → List ℕ → Type 0
-HoldsContent x s k c = (d : Digest) × (x.known s k ≡ Some d) × (x.store d ≡ Some c)
+HoldsContent state slot number content =
+    (digest : Digest) × (state.known slot number ≡ Some digest) × (state.store digest ≡ Some content)
 
+-- the grant of the ticket was withdrawn, or its life was over
 abbrev pub IsWithdrawn : Machine → Ticket → Type 0
-IsWithdrawn m t = (m.ending t.0 ≡ Some Withdrawn) ⊎ (m.ending t.0 ≡ Some Died)
+IsWithdrawn machine ticket = (machine.ending ticket.0 ≡ Some Withdrawn) ⊎ (machine.ending ticket.0 ≡ Some Died)
 
 -- a version of the ticket stands on a line
 abbrev pub OnALine : Digest → Machine → Ticket → Type 0
-OnALine empty m t = (s : Slot) × (v : LineVersion) × In v (line empty m s) × (v.ticket ≡ t)
+OnALine empty machine ticket =
+    (slot : Slot) × (version : LineVersion) × In version (line empty machine slot) × (version.ticket ≡ ticket)
 
+-- the tickets rise along the line
 abbrev pub Rising : List LineVersion → Type 0
 Rising [] = ⊤
-Rising (v ∷ vs) = ((x : LineVersion) → In x vs → v.ticket.0 < x.ticket.0) × Rising vs
+Rising (version ∷ versions) =
+    ((newer : LineVersion) → In newer versions → version.ticket.0 < newer.ticket.0) × Rising versions
 
+-- the tickets fall: the newest stands first
 abbrev pub Falling : List Made → Type 0
 Falling [] = ⊤
-Falling (x ∷ xs) = ((y : Made) → In y xs → ticket_of y < ticket_of x) × Falling xs
+Falling (given ∷ made) = ((older : Made) → In older made → ticket_of older < ticket_of given) × Falling made
 
-pub record Safe (sha : List ℕ → Digest) (w : World) : Type 0 where
+-- what holds in every world that a run comes to
+pub record Safe (sha : List ℕ → Digest) (world : World) : Type 0 where
   -- no two grants or prunes have one ticket: the newest stands first
-  pub tickets : Falling w.machine.made
+  pub tickets : Falling world.machine.made
   -- tickets strictly rise along each line
-  pub rising : (s : Slot) → Rising (line (sha []) w.machine s)
+  pub rising : (slot : Slot) → Rising (line (sha []) world.machine slot)
   -- what a Grant ever sent names is on its line, or is version 0, which is empty
-  pub granted : (g : Grant) (u : GrantedSlot) → In (Told (told.Granted g)) w.pool → In u g.slots → Names (sha []) (line (sha []) w.machine u.slot) u.base u.digest
+  pub granted : (grant : Grant) (granted_slot : GrantedSlot)
+      → In (Told (told.Granted grant)) world.pool
+      → In granted_slot grant.slots
+      → Names (sha []) (line (sha []) world.machine granted_slot.slot) granted_slot.base granted_slot.digest
   -- what a confirmation ever sent names stands on its line under its ticket
-  pub confirmed : (n : NodeId) (l : Life) (t : Ticket) (versions : List Confirmed) (v : Confirmed) → In (Told (told.Committed n l t versions)) w.pool → In v versions → Stands (sha []) w.machine t v
+  pub confirmed : (node : NodeId) (life : Life) (ticket : Ticket) (versions : List Confirmed) (version : Confirmed)
+      → In (Told (told.Committed node life ticket versions)) world.pool
+      → In version versions
+      → Stands (sha []) world.machine ticket version
   -- a commit follows the version that its grant began from
-  pub bases : (s : Slot) (j : ℕ) (v : LineVersion) (g : Grant) → slice_get (line (sha []) w.machine s) j ≡ Some v → In (Granted g) w.machine.made → g.ticket ≡ v.ticket
-      → (u : GrantedSlot) × In u g.slots × (u.slot ≡ s) × (u.base ≡ j)
+  pub bases : (slot : Slot) (index : ℕ) (version : LineVersion) (grant : Grant)
+      → slice_get (line (sha []) world.machine slot) index ≡ Some version
+      → In (Granted grant) world.machine.made
+      → grant.ticket ≡ version.ticket
+      → (granted_slot : GrantedSlot)
+          × In granted_slot grant.slots
+          × (granted_slot.slot ≡ slot)
+          × (granted_slot.base ≡ index)
   -- no withdrawn ticket stands on a line, or is confirmed
-  pub withdrawn : (t : Ticket) → IsWithdrawn w.machine t → OnALine (sha []) w.machine t → ⊥
-  pub unconfirmed : (n : NodeId) (l : Life) (t : Ticket) (versions : List Confirmed) → IsWithdrawn w.machine t → In (Told (told.Committed n l t versions)) w.pool → ⊥
+  pub withdrawn : (ticket : Ticket) → IsWithdrawn world.machine ticket → OnALine (sha []) world.machine ticket → ⊥
+  pub unconfirmed : (node : NodeId) (life : Life) (ticket : Ticket) (versions : List Confirmed)
+      → IsWithdrawn world.machine ticket
+      → In (Told (told.Committed node life ticket versions)) world.pool
+      → ⊥
   -- no ticket that was fenced stands on a line
-  pub fenced : (n : NodeId) (l : Life) (t : Ticket) → In (Told (told.Fenced n l t)) w.pool → OnALine (sha []) w.machine t → ⊥
+  pub fenced : (node : NodeId) (life : Life) (ticket : Ticket)
+      → In (Told (told.Fenced node life ticket)) world.pool
+      → OnALine (sha []) world.machine ticket
+      → ⊥
   -- two different executions never share a PRIVATE or SHARED slot
-  pub alone : (n n' : NodeId) (g g' : Grant) (ws ws' : List Want) (s : Slot) → InUse w n g ws → InUse w n' g' ws' → Has g s → Has g' s → (is_alone s ≡ true) → (n ≡ n') × (g ≡ g')
+  pub alone : (node node' : NodeId) (grant grant' : Grant) (wants wants' : List Want) (slot : Slot)
+      → InUse world node grant wants
+      → InUse world node' grant' wants'
+      → Has grant slot
+      → Has grant' slot
+      → (is_alone slot ≡ true)
+      → (node ≡ node') × (grant ≡ grant')
   -- of the executions that share a slot at most one has a live ticket
-  pub one_live : (n n' : NodeId) (g g' : Grant) (ws ws' : List Want) (s : Slot) → InUse w n g ws → InUse w n' g' ws' → Has g s → Has g' s
-      → (w.machine.ending g.ticket.0 ≡ None) → (w.machine.ending g'.ticket.0 ≡ None) → (n ≡ n') × (g ≡ g')
+  pub one_live : (node node' : NodeId) (grant grant' : Grant) (wants wants' : List Want) (slot : Slot)
+      → InUse world node grant wants
+      → InUse world node' grant' wants'
+      → Has grant slot
+      → Has grant' slot
+      → (world.machine.ending grant.ticket.0 ≡ None)
+      → (world.machine.ending grant'.ticket.0 ≡ None)
+      → (node ≡ node') × (grant ≡ grant')
   -- an execution that wants a SHARED folder is on a node where the tenure of it is in use
-  pub at_home : (n : NodeId) (g : Grant) (wants : List Want) (v : Want) → InUse w n g wants → In v wants → wants_shared v ≡ true
-      → (h : Grant) × (ws : List Want) × InUse w n h ws × (is_tenure h.kind ≡ true) × Has h (only_slot v.folder)
+  pub at_home : (node : NodeId) (grant : Grant) (wants : List Want) (want : Want)
+      → InUse world node grant wants
+      → In want wants
+      → wants_shared want ≡ true
+      → (other : Grant) × (other_wants : List Want)
+          × InUse world node other other_wants
+          × (is_tenure other.kind ≡ true)
+          × Has other (only_slot want.folder)
 
--- of a world and a later one
-pub record SafeSince (sha : List ℕ → Digest) (w u : World) : Type 0 where
+-- what holds of a world and a later one of the same run
+pub record SafeSince (sha : List ℕ → Digest) (world later : World) : Type 0 where
   -- a line only grows
-  pub lines : (s : Slot) → IsFrontOf (line (sha []) w.machine s) (line (sha []) u.machine s)
+  pub lines : (slot : Slot) → IsFrontOf (line (sha []) world.machine slot) (line (sha []) later.machine slot)
   -- two nodes, one of them earlier, hold one content for a version, or the two contents are a collision
-  pub contents : (n n' : NodeId) (s : Slot) (k : ℕ) (c c' : List ℕ) → HoldsContent (w.nodes n.0) s k c → HoldsContent (u.nodes n'.0) s k c'
-      → (c ≡ c') ⊎ ((c ≢ c') × (sha c ≡ sha c'))
+  pub contents : (node node' : NodeId) (slot : Slot) (number : ℕ) (content content' : List ℕ)
+      → HoldsContent (world.nodes node.0) slot number content
+      → HoldsContent (later.nodes node'.0) slot number content'
+      → (content ≡ content') ⊎ ((content ≢ content') × (sha content ≡ sha content'))
 
 abbrev pub EveryRunIsSafe : Type 0
-EveryRunIsSafe = (sha : List ℕ → Digest) (w : World) → Moves sha (start sha) w → Safe sha w
+EveryRunIsSafe = (sha : List ℕ → Digest) (world : World) → Moves sha (start sha) world → Safe sha world
 
 abbrev pub EveryRunStaysSafe : Type 0
-EveryRunStaysSafe = (sha : List ℕ → Digest) (w u : World) → Moves sha (start sha) w → Moves sha w u → SafeSince sha w u
+EveryRunStaysSafe =
+    (sha : List ℕ → Digest) (world later : World)
+    → Moves sha (start sha) world
+    → Moves sha world later
+    → SafeSince sha world later

@@ -12,6 +12,7 @@ pub use Rattle.protocol.specs.declared.ask.KeptAsk.{KeptAsk}
 pub use Rattle.protocol.specs.declared.ask.KeptAsk.TheVariants.{Open, Holding, Running, Finished, Over}
 use Rattle.protocol.specs.declared.answer.How.TheVariants as how
 
+-- what a node knows and keeps
 pub record Node : Type 0 where
   pub life : Life
   -- the asks of this life, in their order
@@ -25,116 +26,216 @@ pub record Node : Type 0 where
 
 -- the ask has this grant, and its end isn't known
 abbrev pub keeps : KeptAsk → Ticket → Bool
-keeps (Open wants tenure) t = false
-keeps (Holding wants g recalled) t = g.ticket.0 == t.0
-keeps (Running wants g recalled) t = g.ticket.0 == t.0
-keeps (Finished wants g news) t = g.ticket.0 == t.0
-keeps (Over how) t = false
+keeps (Open wants tenure) ticket = false
+keeps (Holding wants grant recalled) ticket = grant.ticket.0 == ticket.0
+keeps (Running wants grant recalled) ticket = grant.ticket.0 == ticket.0
+keeps (Finished wants grant news) ticket = grant.ticket.0 == ticket.0
+keeps (Over ending) ticket = false
 
+-- the digest of this version of the slot becomes known
 abbrev pub learn : Slot → ℕ → Digest → (Slot → ℕ → Option Digest) → Slot → ℕ → Option Digest
-learn s k d known s' k' = if slot_eq s' s then (if k' == k then Some d else known s' k') else known s' k'
+learn slot number digest known other_slot other_number =
+    if slot_eq other_slot slot
+    then (if other_number == number then Some digest else known other_slot other_number)
+    else known other_slot other_number
 
 -- the base versions of a grant become known
 abbrev pub learn_bases : List GrantedSlot → (Slot → ℕ → Option Digest) → Slot → ℕ → Option Digest
 learn_bases [] known = known
-learn_bases (u ∷ us) known = learn_bases us (learn u.slot u.base u.digest known)
+learn_bases (granted ∷ slots) known = learn_bases slots (learn granted.slot granted.base granted.digest known)
 
 -- the versions of a confirmation become known
 abbrev pub learn_versions : List Confirmed → (Slot → ℕ → Option Digest) → Slot → ℕ → Option Digest
 learn_versions [] known = known
-learn_versions (v ∷ vs) known = learn_versions vs (learn v.slot v.number v.digest known)
+learn_versions (version ∷ versions) known =
+    learn_versions versions (learn version.slot version.number version.digest known)
 
 -- the content is stored under the digest
 abbrev pub keep : Digest → List ℕ → (Digest → Option (List ℕ)) → Digest → Option (List ℕ)
-keep d c store e = if digest_eq e d then Some c else store e
+keep digest content store other = if digest_eq other digest then Some content else store other
 
 -- nothing is stored under the digest
 abbrev pub without : Digest → (Digest → Option (List ℕ)) → Digest → Option (List ℕ)
-without d store e = if digest_eq e d then None else store e
+without digest store other = if digest_eq other digest then None else store other
 
 -- an ask that is present and whose wants have the folder is the tenure of it
-pub data IsTenureOf (f : FolderName) : KeptAsk → Type 0 where
-  Asked_tenure : (w : Want) (wants : List Want) → In w wants → (w.folder ≡ f) → IsTenureOf f (Open wants true)
-  Held_tenure : (w : Want) (wants : List Want) (g : Grant) (r : Bool) → In w wants → (w.folder ≡ f) → (is_tenure g.kind ≡ true) → IsTenureOf f (Holding wants g r)
-  Running_tenure : (w : Want) (wants : List Want) (g : Grant) (r : Bool) → In w wants → (w.folder ≡ f) → (is_tenure g.kind ≡ true) → IsTenureOf f (Running wants g r)
-  Finished_tenure : (w : Want) (wants : List Want) (g : Grant) (news : List News) → In w wants → (w.folder ≡ f) → (is_tenure g.kind ≡ true) → IsTenureOf f (Finished wants g news)
+pub data IsTenureOf (folder : FolderName) : KeptAsk → Type 0 where
+  Asked_tenure : (want : Want) (wants : List Want)
+      → In want wants
+      → (want.folder ≡ folder)
+      → IsTenureOf folder (Open wants true)
+  Held_tenure : (want : Want) (wants : List Want) (grant : Grant) (recalled : Bool)
+      → In want wants
+      → (want.folder ≡ folder)
+      → (is_tenure grant.kind ≡ true)
+      → IsTenureOf folder (Holding wants grant recalled)
+  Running_tenure : (want : Want) (wants : List Want) (grant : Grant) (recalled : Bool)
+      → In want wants
+      → (want.folder ≡ folder)
+      → (is_tenure grant.kind ≡ true)
+      → IsTenureOf folder (Running wants grant recalled)
+  Finished_tenure : (want : Want) (wants : List Want) (grant : Grant) (news : List News)
+      → In want wants
+      → (want.folder ≡ folder)
+      → (is_tenure grant.kind ≡ true)
+      → IsTenureOf folder (Finished wants grant news)
 
 -- the tenure of the folder is in use here, recalled or not
 abbrev pub RunsTenure : List KeptAsk → FolderName → Bool → Type 0
-RunsTenure asks f recalled = (a : ℕ) × (wants : List Want) × (g : Grant) × (w : Want) × (nth asks a ≡ Some (Running wants g recalled)) × (is_tenure g.kind ≡ true) × In w wants × (w.folder ≡ f)
+RunsTenure asks folder recalled =
+    (place : ℕ) × (wants : List Want) × (grant : Grant) × (want : Want)
+    × (nth asks place ≡ Some (Running wants grant recalled))
+    × (is_tenure grant.kind ≡ true)
+    × In want wants
+    × (want.folder ≡ folder)
 
 -- the ask wants the folder, and is open, granted or running
-pub data Uses (f : FolderName) : KeptAsk → Type 0 where
-  Open_uses : (w : Want) (wants : List Want) (tenure : Bool) → In w wants → (w.folder ≡ f) → Uses f (Open wants tenure)
-  Held_uses : (w : Want) (wants : List Want) (g : Grant) (r : Bool) → In w wants → (w.folder ≡ f) → Uses f (Holding wants g r)
-  Running_uses : (w : Want) (wants : List Want) (g : Grant) (r : Bool) → In w wants → (w.folder ≡ f) → Uses f (Running wants g r)
+pub data Uses (folder : FolderName) : KeptAsk → Type 0 where
+  Open_uses : (want : Want) (wants : List Want) (tenure : Bool)
+      → In want wants
+      → (want.folder ≡ folder)
+      → Uses folder (Open wants tenure)
+  Held_uses : (want : Want) (wants : List Want) (grant : Grant) (recalled : Bool)
+      → In want wants
+      → (want.folder ≡ folder)
+      → Uses folder (Holding wants grant recalled)
+  Running_uses : (want : Want) (wants : List Want) (grant : Grant) (recalled : Bool)
+      → In want wants
+      → (want.folder ≡ folder)
+      → Uses folder (Running wants grant recalled)
 
 -- a tenure may end only where no other ask of the node uses its folder
 abbrev pub Idle : List KeptAsk → ℕ → List Want → Grant → Type 0
-Idle asks a wants g = is_tenure g.kind ≡ true → (w : Want) → In w wants → (b : ℕ) (s : KeptAsk) → nth asks b ≡ Some s → b ≢ a → Uses w.folder s → ⊥
+Idle asks place wants grant =
+    is_tenure grant.kind ≡ true
+    → (want : Want) → In want wants
+    → (other_place : ℕ) (kept : KeptAsk) → nth asks other_place ≡ Some kept
+    → other_place ≢ place
+    → Uses want.folder kept
+    → ⊥
 
+-- the node in a new life, which has no ask
 abbrev pub has_life : Node → ℕ → Node
-has_life x l = record x { life = record { 0 = l }; asks = [] }
+has_life state life = record state { life = record { 0 = life }; asks = [] }
 
 -- what a node with this number does: the messages that it sends, and its next state. `sha` gives a content's digest
-pub data Act (sha : List ℕ → Digest) (pool : List Message) (n : NodeId) (x : Node) : List Message → Node → Type 0 where
+pub data Act (sha : List ℕ → Digest) (pool : List Message) (node : NodeId) (state : Node)
+    : List Message → Node → Type 0 where
+  -- a new ask: its number is one above the last
   Asks : (wants : List Want)
       -- the tenure of each SHARED want is in use here and not recalled
-      → ((w : Want) → In w wants → wants_shared w ≡ true → RunsTenure x.asks w.folder false)
-      → Act sha pool n x (acquire n x.life (record { 0 = length x.asks + 1 }) wants false ∷ []) (record x { asks = x.asks ++ Open wants false ∷ [] })
-  Asks_tenure : (f : FolderName)
-      → ((a : ℕ) (s : KeptAsk) → nth x.asks a ≡ Some s → IsTenureOf (record f { mode = Shared }) s → ⊥)
-      → Act sha pool n x (acquire n x.life (record { 0 = length x.asks + 1 }) (tenure_wants f) true ∷ []) (record x { asks = x.asks ++ Open (tenure_wants f) true ∷ [] })
-  Asks_again : (a : Ask) (wants : List Want) (tenure : Bool) → (nth x.asks a.0 ≡ Some (Open wants tenure))
-      → Act sha pool n x (acquire n x.life a wants tenure ∷ []) x
-  Greets : Act sha pool n x (hello n x.life ∷ []) x
-  Takes : (g : Grant) (wants : List Want) (tenure : Bool) → In (Told (told.Granted g)) pool → (g.node ≡ n) → (g.life ≡ x.life) → (nth x.asks g.ask.0 ≡ Some (Open wants tenure))
-      → Act sha pool n x [] (record x { asks = set_nth x.asks g.ask.0 (Holding wants g false); known = learn_bases g.slots x.known })
-  Gives_back : (g : Grant) → In (Told (told.Granted g)) pool → (g.node ≡ n) → (g.life ≡ x.life)
+      → ((want : Want) → In want wants → wants_shared want ≡ true → RunsTenure state.asks want.folder false)
+      → Act sha pool node state
+          (acquire node state.life (record { 0 = length state.asks + 1 }) wants false ∷ [])
+          (record state { asks = state.asks ++ Open wants false ∷ [] })
+  -- a new ask for the tenure of a folder, where no ask of the node is that tenure
+  Asks_tenure : (folder : FolderName)
+      → ((place : ℕ) (kept : KeptAsk) → nth state.asks place ≡ Some kept
+          → IsTenureOf (record folder { mode = Shared }) kept
+          → ⊥)
+      → Act sha pool node state
+          (acquire node state.life (record { 0 = length state.asks + 1 }) (tenure_wants folder) true ∷ [])
+          (record state { asks = state.asks ++ Open (tenure_wants folder) true ∷ [] })
+  -- an open ask is sent again
+  Asks_again : (ask : Ask) (wants : List Want) (tenure : Bool)
+      → (nth state.asks ask.0 ≡ Some (Open wants tenure))
+      → Act sha pool node state (acquire node state.life ask wants tenure ∷ []) state
+  -- the node says that its life has begun
+  Greets : Act sha pool node state (hello node state.life ∷ []) state
+  -- a Grant of an open ask is taken
+  Takes : (grant : Grant) (wants : List Want) (tenure : Bool)
+      → In (Told (told.Granted grant)) pool
+      → (grant.node ≡ node)
+      → (grant.life ≡ state.life)
+      → (nth state.asks grant.ask.0 ≡ Some (Open wants tenure))
+      → Act sha pool node state []
+          (record state {
+            asks = set_nth state.asks grant.ask.0 (Holding wants grant false);
+            known = learn_bases grant.slots state.known })
+  -- a Grant that no ask waits for or has is given back
+  Gives_back : (grant : Grant) → In (Told (told.Granted grant)) pool → (grant.node ≡ node) → (grant.life ≡ state.life)
       -- the ask isn't open, and hasn't this grant
-      → ((wants : List Want) (tenure : Bool) → nth x.asks g.ask.0 ≢ Some (Open wants tenure))
-      → ((s : KeptAsk) → nth x.asks g.ask.0 ≡ Some s → keeps s g.ticket ≡ false)
-      → Act sha pool n x (release n x.life g.ticket ∷ []) x
-  Begins : (wants : List Want) (g : Grant) (r : Bool) (a : ℕ) → (nth x.asks a ≡ Some (Holding wants g r))
+      → ((wants : List Want) (tenure : Bool) → nth state.asks grant.ask.0 ≢ Some (Open wants tenure))
+      → ((kept : KeptAsk) → nth state.asks grant.ask.0 ≡ Some kept → keeps kept grant.ticket ≡ false)
+      → Act sha pool node state (release node state.life grant.ticket ∷ []) state
+  -- an execution begins
+  Begins : (wants : List Want) (grant : Grant) (recalled : Bool) (place : ℕ)
+      → (nth state.asks place ≡ Some (Holding wants grant recalled))
       -- all base contents are stored
-      → ((u : GrantedSlot) → In u g.slots → (c : List ℕ) × (x.store u.digest ≡ Some c))
-      → Act sha pool n x [] (record x { asks = set_nth x.asks a (Running wants g r) })
-  Finishes : (wants : List Want) (g : Grant) (r : Bool) (a : ℕ) (news : List News) (store : Digest → Option (List ℕ)) → (nth x.asks a ≡ Some (Running wants g r))
-      → Idle x.asks a wants g
-      → (slots_of news ≡ written g.slots) → (news ≢ [])
+      → ((granted : GrantedSlot) → In granted grant.slots
+          → (content : List ℕ) × (state.store granted.digest ≡ Some content))
+      → Act sha pool node state [] (record state { asks = set_nth state.asks place (Running wants grant recalled) })
+  -- an execution ends with news, which are sent
+  Finishes : (wants : List Want) (grant : Grant) (recalled : Bool) (place : ℕ)
+      (news : List News) (store : Digest → Option (List ℕ))
+      → (nth state.asks place ≡ Some (Running wants grant recalled))
+      → Idle state.asks place wants grant
+      → (slots_of news ≡ written grant.slots)
+      → (news ≢ [])
       -- what is stored is what was, and contents under their digests
-      → ((d : Digest) (c : List ℕ) → store d ≡ Some c → ((x.store d ≡ Some c) ⊎ (sha c ≡ d)))
-      → Act sha pool n x (commit n x.life g.ticket news ∷ []) (record x { asks = set_nth x.asks a (Finished wants g news); store = store })
+      → ((digest : Digest) (content : List ℕ) → store digest ≡ Some content
+          → ((state.store digest ≡ Some content) ⊎ (sha content ≡ digest)))
+      → Act sha pool node state
+          (commit node state.life grant.ticket news ∷ [])
+          (record state { asks = set_nth state.asks place (Finished wants grant news); store = store })
   -- an execution ends with nothing to write, or is aborted, or a grant is given back unused
-  Gives_up : (wants : List Want) (g : Grant) (r : Bool) (a : ℕ) → ((nth x.asks a ≡ Some (Holding wants g r)) ⊎ (nth x.asks a ≡ Some (Running wants g r)))
-      → Idle x.asks a wants g
-      → Act sha pool n x (release n x.life g.ticket ∷ []) (record x { asks = set_nth x.asks a (Over (how.Released g.ticket)) })
-  Sends_commit : (wants : List Want) (g : Grant) (a : ℕ) (news : List News) → (nth x.asks a ≡ Some (Finished wants g news))
-      → Act sha pool n x (commit n x.life g.ticket news ∷ []) x
-  Learns : (wants : List Want) (g : Grant) (a : ℕ) (news : List News) (versions : List Confirmed) → In (Told (told.Committed n x.life g.ticket versions)) pool
-      → (nth x.asks a ≡ Some (Finished wants g news))
-      → Act sha pool n x [] (record x { asks = set_nth x.asks a (Over (how.Committed g.ticket versions)); known = learn_versions versions x.known })
-  Drops : (wants : List Want) (g : Grant) (a : ℕ) (news : List News) → In (Told (told.Fenced n x.life g.ticket)) pool → (nth x.asks a ≡ Some (Finished wants g news))
-      → Act sha pool n x [] (record x { asks = set_nth x.asks a (Over (how.Fenced g.ticket)) })
-  Is_denied : (a : Ask) (why : Why) (wants : List Want) (tenure : Bool) → In (Told (told.Denied n x.life a why)) pool → (nth x.asks a.0 ≡ Some (Open wants tenure))
-      → Act sha pool n x [] (record x { asks = set_nth x.asks a.0 (Over (how.Denied why)) })
-  Is_recalled : (wants : List Want) (g : Grant) (a : ℕ) → In (Told (told.Recall n x.life g.ticket)) pool → (nth x.asks a ≡ Some (Holding wants g false))
-      → Act sha pool n x [] (record x { asks = set_nth x.asks a (Holding wants g true) })
-  Is_recalled_running : (wants : List Want) (g : Grant) (a : ℕ) → In (Told (told.Recall n x.life g.ticket)) pool → (nth x.asks a ≡ Some (Running wants g false))
-      → Act sha pool n x [] (record x { asks = set_nth x.asks a (Running wants g true) })
+  Gives_up : (wants : List Want) (grant : Grant) (recalled : Bool) (place : ℕ)
+      → ((nth state.asks place ≡ Some (Holding wants grant recalled))
+          ⊎ (nth state.asks place ≡ Some (Running wants grant recalled)))
+      → Idle state.asks place wants grant
+      → Act sha pool node state
+          (release node state.life grant.ticket ∷ [])
+          (record state { asks = set_nth state.asks place (Over (how.Released grant.ticket)) })
+  -- news that were not answered are sent again
+  Sends_commit : (wants : List Want) (grant : Grant) (place : ℕ) (news : List News)
+      → (nth state.asks place ≡ Some (Finished wants grant news))
+      → Act sha pool node state (commit node state.life grant.ticket news ∷ []) state
+  -- the news count, and their versions become known
+  Learns : (wants : List Want) (grant : Grant) (place : ℕ) (news : List News) (versions : List Confirmed)
+      → In (Told (told.Committed node state.life grant.ticket versions)) pool
+      → (nth state.asks place ≡ Some (Finished wants grant news))
+      → Act sha pool node state []
+          (record state {
+            asks = set_nth state.asks place (Over (how.Committed grant.ticket versions));
+            known = learn_versions versions state.known })
+  -- the news do not count
+  Drops : (wants : List Want) (grant : Grant) (place : ℕ) (news : List News)
+      → In (Told (told.Fenced node state.life grant.ticket)) pool
+      → (nth state.asks place ≡ Some (Finished wants grant news))
+      → Act sha pool node state [] (record state { asks = set_nth state.asks place (Over (how.Fenced grant.ticket)) })
+  -- an open ask is denied
+  Is_denied : (ask : Ask) (why : Why) (wants : List Want) (tenure : Bool)
+      → In (Told (told.Denied node state.life ask why)) pool
+      → (nth state.asks ask.0 ≡ Some (Open wants tenure))
+      → Act sha pool node state [] (record state { asks = set_nth state.asks ask.0 (Over (how.Denied why)) })
+  -- a grant is recalled, before its execution or in it
+  Is_recalled : (wants : List Want) (grant : Grant) (place : ℕ)
+      → In (Told (told.Recall node state.life grant.ticket)) pool
+      → (nth state.asks place ≡ Some (Holding wants grant false))
+      → Act sha pool node state [] (record state { asks = set_nth state.asks place (Holding wants grant true) })
+  Is_recalled_running : (wants : List Want) (grant : Grant) (place : ℕ)
+      → In (Told (told.Recall node state.life grant.ticket)) pool
+      → (nth state.asks place ≡ Some (Running wants grant false))
+      → Act sha pool node state [] (record state { asks = set_nth state.asks place (Running wants grant true) })
   -- any bytes may come, and are kept under their own digest
-  Stores : (c : List ℕ)
-      → Act sha pool n x [] (record x { store = keep (sha c) c x.store })
+  Stores : (content : List ℕ)
+      → Act sha pool node state [] (record state { store = keep (sha content) content state.store })
   -- what is stored may go, whatever it is for. Its versions stay known
-  Forgets : (d : Digest) (c : List ℕ) → (x.store d ≡ Some c)
-      → Act sha pool n x [] (record x { store = without d x.store })
-  Asks_content : (other : NodeId) (d : Digest) → Act sha pool n x (Fetches (record { node = other; from = n; digest = d }) ∷ []) x
-  Sends_blob : (other : NodeId) (c : List ℕ) → Act sha pool n x (Blob other c ∷ []) x
+  Forgets : (digest : Digest) (content : List ℕ)
+      → (state.store digest ≡ Some content)
+      → Act sha pool node state [] (record state { store = without digest state.store })
+  -- any node may be asked for any content, and may be sent any
+  Asks_content : (other : NodeId) (digest : Digest)
+      → Act sha pool node state (Fetches (record { node = other; from = node; digest = digest }) ∷ []) state
+  Sends_blob : (other : NodeId) (content : List ℕ) → Act sha pool node state (Blob other content ∷ []) state
   -- a restart ends the executions, and keeps the contents with the known versions
-  Restarts : Act sha pool n x (hello n (record { 0 = x.life.0 + 1 }) ∷ []) (has_life x (x.life.0 + 1))
+  Restarts : Act sha pool node state
+          (hello node (record { 0 = state.life.0 + 1 }) ∷ [])
+          (has_life state (state.life.0 + 1))
   -- the greatest life is over
-  Stops : Act sha pool n x [] (record x { spent = true })
+  Stops : Act sha pool node state [] (record state { spent = true })
 
+-- the machine, what its record holds while it is down, the messages ever sent, and the nodes
 pub record World : Type 0 where
   pub machine : Machine
   -- after a failed save: what the record holds, the machine before the event or after it
@@ -144,35 +245,58 @@ pub record World : Type 0 where
 
 -- one move of the world. A change of the machine and what it says are moves of their own: so a change whose
 -- messages were never sent is one too
-pub data Move (sha : List ℕ → Digest) (w : World) : World → Type 0 where
-  Node_moves : (n : NodeId) (sends : List Message) (x : Node) → Act sha w.pool n (w.nodes n.0) sends x
-      → Move sha w (record w { nodes = put n.0 x w.nodes; pool = w.pool ++ sends })
-  Machine_moves : (m : Machine) → (w.down ≡ None) → Step (sha []) w.pool w.machine m → Move sha w (record w { machine = m })
-  Machine_says : (message : FromCoord) → (w.down ≡ None) → Says (sha []) w.pool w.machine message → Move sha w (record w { pool = w.pool ++ Told message ∷ [] })
+pub data Move (sha : List ℕ → Digest) (world : World) : World → Type 0 where
+  -- a node does something
+  Node_moves : (node : NodeId) (sends : List Message) (state : Node)
+      → Act sha world.pool node (world.nodes node.0) sends state
+      → Move sha world (record world { nodes = put node.0 state world.nodes; pool = world.pool ++ sends })
+  -- the machine makes a step, or says something: not while it is down
+  Machine_moves : (machine : Machine)
+      → (world.down ≡ None)
+      → Step (sha []) world.pool world.machine machine
+      → Move sha world (record world { machine = machine })
+  Machine_says : (telling : FromCoord)
+      → (world.down ≡ None)
+      → Says (sha []) world.pool world.machine telling
+      → Move sha world (record world { pool = world.pool ++ Told telling ∷ [] })
   -- a save fails: the record holds none of the event's steps, or all
-  Fails : (m : Machine) → (w.down ≡ None) → Steps (sha []) w.pool w.machine m → Move sha w (record w { down = Some m })
+  Fails : (machine : Machine)
+      → (world.down ≡ None)
+      → Steps (sha []) world.pool world.machine machine
+      → Move sha world (record world { down = Some machine })
   -- a restart reads the record
-  Recovers : (m : Machine) → (w.down ≡ Some m) → Move sha w (record w { machine = m; down = None })
+  Recovers : (machine : Machine)
+      → (world.down ≡ Some machine)
+      → Move sha world (record world { machine = machine; down = None })
 
 -- any number of moves
 pub data Moves (sha : List ℕ → Digest) : World → World → Type 0 where
-  Still : (w : World) → Moves sha w w
-  Then : (w v u : World) → Moves sha w v → Move sha v u → Moves sha w u
+  Still : (world : World) → Moves sha world world
+  Then : (world middle later : World) → Moves sha world middle → Move sha middle later → Moves sha world later
 
 -- a node in its first life. Every node stores the empty content
 abbrev pub first_node : (List ℕ → Digest) → Node
 first_node sha = record {
   life = record { 0 = 1 };
   asks = [];
-  store = keep (sha []) [] (λ d. None);
-  known = λ s k. None;
+  store = keep (sha []) [] (λ digest. None);
+  known = λ slot number. None;
   spent = false;
 }
 
+-- the world where nothing has happened
 abbrev pub start : (List ℕ → Digest) → World
 start sha = record {
-  machine = record { made = []; ending = λ t. None; last = 0; old_home = None; gone = λ n. false; lives = λ n. 0; parked = [] };
+  machine = record {
+    made = [];
+    ending = λ ticket. None;
+    last = 0;
+    old_home = None;
+    gone = λ node. false;
+    lives = λ node. 0;
+    parked = []
+  };
   down = None;
   pool = [];
-  nodes = λ n. first_node sha;
+  nodes = λ node. first_node sha;
 }
