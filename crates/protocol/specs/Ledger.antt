@@ -27,6 +27,7 @@ pub record Limits : Type 0 where
   -- the greatest ticket, life and ask
   pub greatest : ℕ
 
+-- what the coordinator knows of its farm
 pub record Ledger : Type 0 where
   -- the live leases, the oldest first
   pub live : List Lease
@@ -45,7 +46,17 @@ pub record Ledger : Type 0 where
 
 -- the coordinator of a farm where nothing happened
 abbrev pub opening : Ledger
-opening = record { live = []; retired = λ s. false; gone = λ n. false; line = λ s. []; last = 0; ceiling = 0; old_home = None; lives = λ n. 0; parked = [] }
+opening = record {
+  live = [];
+  retired = λ slot. false;
+  gone = λ node. false;
+  line = λ slot. [];
+  last = 0;
+  ceiling = 0;
+  old_home = None;
+  lives = λ node. 0;
+  parked = []
+}
 
 -- the result of an event: the ledger after it, what is sent, whether the record changed, and the note
 pub record Work : Type 0 where
@@ -54,387 +65,498 @@ pub record Work : Type 0 where
   pub changed : Bool
   pub note : CoordNote
 
+-- no work is done yet
 abbrev pub begin_work : Ledger → Work
-begin_work q = record { ledger = q; sends = []; changed = false; note = note.Nothing }
+begin_work ledger = record { ledger = ledger; sends = []; changed = false; note = note.Nothing }
 
+-- one more message is sent
 abbrev pub says : FromCoord → Work → Work
-says y w = record w { sends = w.sends ++ y ∷ [] }
+says telling work = record work { sends = work.sends ++ telling ∷ [] }
 
+-- what happened is noted
 abbrev pub notes : CoordNote → Work → Work
-notes n w = record w { note = n }
+notes noted work = record work { note = noted }
 
 -- leases and slots
 
+-- the slot is one of these
 abbrev pub has_slot : List (Slot × Bool) → Slot → Bool
-has_slot slots s = list_any (λ x. slot_eq x.0 s) slots
+has_slot slots slot = list_any (λ pair. slot_eq pair.0 slot) slots
 
+-- one of the leases has the slot
 abbrev pub some_lease : List Lease → Slot → Bool
-some_lease leases s = list_any (λ g. has_slot g.slots s) leases
+some_lease leases slot = list_any (λ lease. has_slot lease.slots slot) leases
 
 abbrev pub is_leased : Ledger → Slot → Bool
-is_leased q s = some_lease q.live s
+is_leased ledger slot = some_lease ledger.live slot
 
+-- the slot is neither leased nor retired
 abbrev pub is_free : Ledger → Slot → Bool
-is_free q s = not (some_lease q.live s) && not (q.retired s)
+is_free ledger slot = not (some_lease ledger.live slot) && not (ledger.retired slot)
 
--- the lowest free instance of a folder among the k from i on; 0 where there is none
+-- the lowest free instance of a folder among this many from `instance` on; 0 where there is none
 unfoldable pub lowest : (Slot → Bool) → FolderName → ℕ → ℕ → ℕ
-lowest free f i zero = 0
-lowest free f i (suc k) = if free (record { folder = f; instance = i }) then i else lowest free f (i + 1) k
+lowest free folder instance zero = 0
+lowest free folder instance (suc count) =
+    if free (record { folder = folder; instance = instance }) then instance else lowest free folder (instance + 1) count
 
+-- the instance that a want gets. The last Bool says whether its folder is PRIVATE
 abbrev pub instance_for : ℕ → (Slot → Bool) → FolderName → Bool → ℕ
-instance_for instances free f true = lowest free f 1 instances
-instance_for instances free f false = 0
+instance_for instances free folder true = lowest free folder 1 instances
+instance_for instances free folder false = 0
 
 -- the slot that a want gets: the lowest free instance of a PRIVATE folder, any other folder's one slot
 abbrev pub slot_for : ℕ → (Slot → Bool) → Want → Slot
-slot_for instances free w = record { folder = w.folder; instance = instance_for instances free w.folder (is_private w.folder.mode) }
+slot_for instances free want =
+    record { folder = want.folder; instance = instance_for instances free want.folder (is_private want.folder.mode) }
 
 -- a PRIVATE folder has no instance left
 abbrev pub all_taken : ℕ → (Slot → Bool) → List Want → Bool
-all_taken instances free wants = list_any (λ w. is_private w.folder.mode && (lowest free w.folder 1 instances == 0)) wants
+all_taken instances free wants =
+    list_any (λ want. is_private want.folder.mode && (lowest free want.folder 1 instances == 0)) wants
 
 -- the one slot of another folder is leased
 abbrev pub busy : (Slot → Bool) → List Want → Bool
-busy leased wants = list_any (λ w. not (is_private w.folder.mode) && leased (only_slot w.folder)) wants
+busy leased wants = list_any (λ want. not (is_private want.folder.mode) && leased (only_slot want.folder)) wants
 
 -- a lease that the record has: one with a PRIVATE slot, or a tenure
 abbrev pub is_saved : Lease → Bool
-is_saved g = g.tenure || list_any (λ x. is_private x.0.folder.mode) g.slots
+is_saved lease = lease.tenure || list_any (λ pair. is_private pair.0.folder.mode) lease.slots
 
 -- the slots that a lease may write
 abbrev pub writable_slots : List (Slot × Bool) → List Slot
 writable_slots [] = []
-writable_slots (x ∷ xs) = if x.1 then x.0 ∷ writable_slots xs else writable_slots xs
+writable_slots (pair ∷ pairs) = if pair.1 then pair.0 ∷ writable_slots pairs else writable_slots pairs
 
+-- the digest of the line's last version. A line with none has the empty content
 abbrev pub last_digest : Digest → List LineVersion → Digest
 last_digest empty [] = empty
-last_digest empty (v ∷ []) = v.digest
-last_digest empty (v ∷ x ∷ vs) = last_digest empty (x ∷ vs)
+last_digest empty (version ∷ []) = version.digest
+last_digest empty (version ∷ next ∷ versions) = last_digest empty (next ∷ versions)
 
+-- a slot as its Grant has it: with the last version of its line
 abbrev pub granted_slot : Digest → (Slot → List LineVersion) → Slot × Bool → GrantedSlot
-granted_slot empty line x = record { slot = x.0; writable = x.1; base = length (line x.0); digest = last_digest empty (line x.0) }
+granted_slot empty line pair =
+    record { slot = pair.0; writable = pair.1; base = length (line pair.0); digest = last_digest empty (line pair.0) }
 
 -- the Grant of a lease. The base of each slot is its line's last version, since a leased slot's line stands still
 abbrev pub grant_of : Digest → (Slot → List LineVersion) → Lease → Grant
-grant_of empty line g = record {
-  ticket = g.ticket;
-  node = g.node;
-  life = g.life;
-  ask = g.ask;
-  kind = kind_of g.shared g.tenure;
-  slots = map (granted_slot empty line) g.slots;
+grant_of empty line lease = record {
+  ticket = lease.ticket;
+  node = lease.node;
+  life = lease.life;
+  ask = lease.ask;
+  kind = kind_of lease.shared lease.tenure;
+  slots = map (granted_slot empty line) lease.slots;
 }
 
 -- deciding an ask
 
 -- the first that applies: another node is the old home; no instance is left; a slot is leased; no ticket is left
 abbrev pub pick : Bool → Bool → Bool → Bool → Decision
-pick true b c d = Wait
-pick false true c d = Deny InstancesSpent
-pick false false true d = Wait
+pick true no_instance taken no_ticket = Wait
+pick false true taken no_ticket = Deny InstancesSpent
+pick false false true no_ticket = Wait
 pick false false false true = Deny TicketsSpent
 pick false false false false = Give
 
+-- the old home is a node other than this one
 abbrev pub another : Option NodeId → NodeId → Bool
-another None n = false
-another (Some h) n = not (h.0 == n.0)
+another None node = false
+another (Some home) node = not (home.0 == node.0)
 
 -- a tenure waits while another node is the old home
 abbrev pub elsewhere : Ledger → Parked → Bool
-elsewhere q p = p.tenure && another q.old_home p.node
+elsewhere ledger parked = parked.tenure && another ledger.old_home parked.node
 
+-- what is done with the ask now
 unfoldable pub decision : Limits → Ledger → Parked → Decision
-decision k q p = pick (elsewhere q p) (all_taken k.instances (is_free q) (leased_wants p.tenure p.wants)) (busy (is_leased q) (leased_wants p.tenure p.wants)) (not (nat_lt q.last k.greatest))
+decision limits ledger parked =
+    pick
+        (elsewhere ledger parked)
+        (all_taken limits.instances (is_free ledger) (leased_wants parked.tenure parked.wants))
+        (busy (is_leased ledger) (leased_wants parked.tenure parked.wants))
+        (not (nat_lt ledger.last limits.greatest))
 
+-- the lease that the ask gets, under the next ticket
 abbrev pub lease_for : Limits → Ledger → Parked → Lease
-lease_for k q p = record {
-  ticket = record { 0 = q.last + 1 };
-  node = p.node;
-  life = p.life;
-  ask = p.ask;
-  shared = any_shared p.wants;
-  tenure = p.tenure;
-  slots = map (λ w. (slot_for k.instances (is_free q) w, w.writable)) (leased_wants p.tenure p.wants);
+lease_for limits ledger parked = record {
+  ticket = record { 0 = ledger.last + 1 };
+  node = parked.node;
+  life = parked.life;
+  ask = parked.ask;
+  shared = any_shared parked.wants;
+  tenure = parked.tenure;
+  slots = map (λ want. (slot_for limits.instances (is_free ledger) want, want.writable))
+    (leased_wants parked.tenure parked.wants);
 }
 
 -- the ceiling that the next ticket needs: tickets are saved in blocks of 64
 abbrev pub raised : Limits → Ledger → ℕ
-raised k q = if q.last == q.ceiling then min (q.ceiling + 64) k.greatest else q.ceiling
+raised limits ledger =
+    if ledger.last == ledger.ceiling then min (ledger.ceiling + 64) limits.greatest else ledger.ceiling
 
+-- the lease is live, its ticket is the last, and its Grant is sent
 abbrev pub granting : Limits → Lease → Work → Work
-granting k g w = record w {
-  ledger = record w.ledger { live = w.ledger.live ++ g ∷ []; last = w.ledger.last + 1; ceiling = raised k w.ledger };
-  sends = w.sends ++ told.Granted (grant_of k.empty w.ledger.line g) ∷ [];
-  changed = w.changed || (w.ledger.last == w.ledger.ceiling) || is_saved g;
+granting limits lease work = record work {
+  ledger = record work.ledger {
+    live = work.ledger.live ++ lease ∷ [];
+    last = work.ledger.last + 1;
+    ceiling = raised limits work.ledger
+  };
+  sends = work.sends ++ told.Granted (grant_of limits.empty work.ledger.line lease) ∷ [];
+  changed = work.changed || (work.ledger.last == work.ledger.ceiling) || is_saved lease;
 }
 
+-- the ask is granted
 unfoldable pub gives : Limits → Parked → Work → Work
-gives k p w = granting k (lease_for k w.ledger p) w
+gives limits parked work = granting limits (lease_for limits work.ledger parked) work
 
+-- the node is told that its ask is denied
 abbrev pub denies : Why → Parked → Work → Work
-denies why p w = says (told.Denied p.node p.life p.ask why) w
+denies why parked work = says (told.Denied parked.node parked.life parked.ask why) work
 
 -- trying the parked asks again
 
+-- the decision is carried out. An ask that waits changes nothing
 abbrev pub carried_out : Decision → Limits → Parked → Work → Work
-carried_out Give k p w = gives k p w
-carried_out (Deny why) k p w = denies why p w
-carried_out Wait k p w = w
+carried_out Give limits parked work = gives limits parked work
+carried_out (Deny why) limits parked work = denies why parked work
+carried_out Wait limits parked work = work
 
+-- the ask stays parked
 abbrev pub waits : Decision → Bool
 waits Give = false
 waits (Deny why) = false
 waits Wait = true
 
+-- a parked ask is tried
 unfoldable pub tried : Limits → Parked → Work → Work
-tried k p w = carried_out (decision k w.ledger p) k p w
+tried limits parked work = carried_out (decision limits work.ledger parked) limits parked work
 
+-- a parked ask that is tried stays
 unfoldable pub stays : Limits → Parked → Work → Bool
-stays k p w = waits (decision k w.ledger p)
+stays limits parked work = waits (decision limits work.ledger parked)
 
 -- each of the asks in order of arrival
 abbrev pub try_all : Limits → List Parked → Work → Work
-try_all k [] w = w
-try_all k (p ∷ ps) w = try_all k ps (tried k p w)
+try_all limits [] work = work
+try_all limits (parked ∷ queue) work = try_all limits queue (tried limits parked work)
 
 -- those of them that stay
 abbrev pub waiting : Limits → List Parked → Work → List Parked
-waiting k [] w = []
-waiting k (p ∷ ps) w = if stays k p w then p ∷ waiting k ps (tried k p w) else waiting k ps (tried k p w)
+waiting limits [] work = []
+waiting limits (parked ∷ queue) work =
+    if stays limits parked work
+    then parked ∷ waiting limits queue (tried limits parked work)
+    else waiting limits queue (tried limits parked work)
 
+-- these asks are parked
 abbrev pub parks : List Parked → Work → Work
-parks parked w = record w { ledger = record w.ledger { parked = parked } }
+parks queue work = record work { ledger = record work.ledger { parked = queue } }
 
+-- all parked asks are tried, and those that stay are parked
 unfoldable pub retried : Limits → Work → Work
-retried k w = parks (waiting k w.ledger.parked w) (try_all k w.ledger.parked w)
+retried limits work = parks (waiting limits work.ledger.parked work) (try_all limits work.ledger.parked work)
 
 -- Acquire
 
+-- the lease answers this ask of this life of this node
 abbrev pub is_of : NodeId → Life → Ask → Lease → Bool
-is_of n l a g = (g.node.0 == n.0) && (g.life.0 == l.0) && (g.ask.0 == a.0)
+is_of node life ask lease = (lease.node.0 == node.0) && (lease.life.0 == life.0) && (lease.ask.0 == ask.0)
 
 -- the lease of an ask
 abbrev pub lease_of : List Lease → NodeId → Life → Ask → Option Lease
-lease_of leases n l a = find (is_of n l a) leases
+lease_of leases node life ask = find (is_of node life ask) leases
 
+-- this ask of this life of this node is parked
 abbrev pub is_parked : List Parked → NodeId → Life → Ask → Bool
-is_parked parked n l a = list_any (λ p. (p.node.0 == n.0) && (p.life.0 == l.0) && (p.ask.0 == a.0)) parked
+is_parked queue node life ask =
+    list_any (λ parked. (parked.node.0 == node.0) && (parked.life.0 == life.0) && (parked.ask.0 == ask.0)) queue
 
 -- the lease has a slot that the ask wants
 abbrev pub holds_wanted : Parked → Lease → Bool
-holds_wanted p g = list_any (λ w. has_slot g.slots (only_slot w.folder)) (leased_wants p.tenure p.wants)
+holds_wanted parked lease =
+    list_any (λ want. has_slot lease.slots (only_slot want.folder)) (leased_wants parked.tenure parked.wants)
 
+-- the lease's node is told to give it up
 abbrev pub recall : Option Lease → Work → Work
-recall None w = w
-recall (Some g) w = says (told.Recall g.node g.life g.ticket) w
+recall None work = work
+recall (Some lease) work = says (told.Recall lease.node lease.life lease.ticket) work
 
 -- who holds the tenure that is asked for is told to give it up
 abbrev pub recalls : Bool → Parked → Work → Work
-recalls true p w = recall (find (holds_wanted p) w.ledger.live) w
-recalls false p w = w
+recalls true parked work = recall (find (holds_wanted parked) work.ledger.live) work
+recalls false parked work = work
 
+-- what comes of a new ask
 abbrev pub decided : Decision → Limits → Parked → Work → Work
-decided Give k p w = notes (note.Granted (grant_of k.empty w.ledger.line (lease_for k w.ledger p))) (gives k p w)
-decided (Deny why) k p w = notes (note.Denied why) (denies why p w)
-decided Wait k p w = notes note.Parked (parks (w.ledger.parked ++ p ∷ []) (recalls (p.tenure && not (elsewhere w.ledger p)) p w))
+decided Give limits parked work =
+    notes (note.Granted (grant_of limits.empty work.ledger.line (lease_for limits work.ledger parked)))
+        (gives limits parked work)
+decided (Deny why) limits parked work = notes (note.Denied why) (denies why parked work)
+decided Wait limits parked work =
+    notes note.Parked
+        (parks (work.ledger.parked ++ parked ∷ [])
+          (recalls (parked.tenure && not (elsewhere work.ledger parked)) parked work))
 
+-- an ask comes: its lease is live, or it is parked already, or it is new
 abbrev pub acquiring : Limits → Option Lease → Bool → Parked → Work → Work
-acquiring k (Some g) b p w = notes (note.GrantedBefore (grant_of k.empty w.ledger.line g)) (says (told.Granted (grant_of k.empty w.ledger.line g)) w)
-acquiring k None true p w = notes note.Parked w
-acquiring k None false p w = decided (decision k w.ledger p) k p w
+acquiring limits (Some lease) queued parked work =
+    notes (note.GrantedBefore (grant_of limits.empty work.ledger.line lease))
+        (says (told.Granted (grant_of limits.empty work.ledger.line lease)) work)
+acquiring limits None true parked work = notes note.Parked work
+acquiring limits None false parked work = decided (decision limits work.ledger parked) limits parked work
 
 -- Commit and Release
 
 abbrev pub has_ticket : Ticket → Lease → Bool
-has_ticket t g = g.ticket.0 == t.0
+has_ticket ticket lease = lease.ticket.0 == ticket.0
 
 -- the lease of a ticket
 abbrev pub lease_under : List Lease → Ticket → Option Lease
-lease_under leases t = find (has_ticket t) leases
+lease_under leases ticket = find (has_ticket ticket) leases
 
+-- the leases but the one of the ticket
 abbrev pub without : Ticket → List Lease → List Lease
-without t leases = filter (λ g. not (has_ticket t g)) leases
+without ticket leases = filter (λ lease. not (has_ticket ticket lease)) leases
 
 -- the lease ends, and nothing else changes
 abbrev pub ends : Lease → Work → Work
-ends g w = record w { ledger = record w.ledger { live = without g.ticket w.ledger.live }; changed = w.changed || is_saved g }
+ends lease work = record work {
+  ledger = record work.ledger { live = without lease.ticket work.ledger.live };
+  changed = work.changed || is_saved lease
+}
 
 -- the lease ends, and each line gets its version
 abbrev pub commits : Ticket → List News → Work → Work
-commits t news w = record w {
-  ledger = record w.ledger { live = without t w.ledger.live; line = λ s. w.ledger.line s ++ version_of t (digest_for s news) };
-  changed = true;
-}
-
--- the number and digest of a ticket's version on a line, after k others
-abbrev pub place_on_line : Ticket → List LineVersion → ℕ → Option (ℕ × Digest)
-place_on_line t [] k = None
-place_on_line t (v ∷ vs) k = if v.ticket.0 == t.0 then Some (k + 1, v.digest) else place_on_line t vs (k + 1)
-
-abbrev pub confirmed : Slot → Option (ℕ × Digest) → List Confirmed
-confirmed s None = []
-confirmed s (Some x) = record { slot = s; number = x.0; digest = x.1 } ∷ []
-
--- the versions that the ticket has on the lines of these slots
-abbrev pub versions_of : (Slot → List LineVersion) → Ticket → List News → List Confirmed
-versions_of line t [] = []
-versions_of line t (x ∷ xs) = confirmed x.slot (place_on_line t (line x.slot) 0) ++ versions_of line t xs
-
--- the ticket is on the line of each of these slots
-abbrev pub on_all : (Slot → List LineVersion) → Ticket → List News → Bool
-on_all line t [] = true
-on_all line t (x ∷ xs) = is_some (place_on_line t (line x.slot) 0) && on_all line t xs
-
-abbrev pub is_its : NodeId → Life → Lease → Bool
-is_its n l g = (g.node.0 == n.0) && (g.life.0 == l.0)
-
--- the lease is of this node and life, and the slots are one or more and exactly its writable ones
-abbrev pub may_commit : NodeId → Life → List News → Option Lease → Bool
-may_commit n l news None = false
-may_commit n l news (Some g) = is_its n l g && slots_eq (slots_of news) (writable_slots g.slots) && not (is_nil news)
-
-abbrev pub may_release : NodeId → Life → Option Lease → Bool
-may_release n l None = false
-may_release n l (Some g) = is_its n l g
-
-abbrev pub confirms : NodeId → Life → Ticket → List News → Work → Work
-confirms n l t news w = says (told.Committed n l t (versions_of w.ledger.line t news)) w
-
-abbrev pub answered : Bool → NodeId → Life → Ticket → List News → Work → Work
-answered true n l t news w = notes (note.CommittedBefore t) (confirms n l t news w)
-answered false n l t news w = notes (note.Fenced t) (says (told.Fenced n l t) w)
-
-abbrev pub committing : Limits → Bool → NodeId → Life → Ticket → List News → Work → Work
-committing k true n l t news w = notes (note.Committed t) (retried k (confirms n l t news (commits t news w)))
-committing k false n l t news w = answered (not (is_nil news) && on_all w.ledger.line t news) n l t news w
-
-abbrev pub released : Limits → Bool → Ticket → Option Lease → Work → Work
-released k b t None w = w
-released k false t (Some g) w = w
-released k true t (Some g) w = notes (note.Released t) (retried k (ends g w))
-
--- a message of the life that is now the greatest
-abbrev pub answering : Limits → NodeId → Life → Request → Work → Work
-answering k n l Hello w = w
-answering k n l (Acquire a wants tenure) w = acquiring k (lease_of w.ledger.live n l a) (is_parked w.ledger.parked n l a) (record { node = n; life = l; ask = a; wants = wants; tenure = tenure }) w
-answering k n l (Commit t news) w = committing k (may_commit n l news (lease_under w.ledger.live t)) n l t news w
-answering k n l (Release t) w = released k (may_release n l (lease_under w.ledger.live t)) t (lease_under w.ledger.live t) w
-
--- a newer life
-
-abbrev pub is_older : NodeId → Life → Lease → Bool
-is_older n l g = (g.node.0 == n.0) && nat_lt g.life.0 l.0
-
-abbrev pub is_older_ask : NodeId → Life → Parked → Bool
-is_older_ask n l p = (p.node.0 == n.0) && nat_lt p.life.0 l.0
-
--- the life is kept; the leases and asks of the node's older lives go, and an old home that is this node
-abbrev pub sees : NodeId → Life → Work → Work
-sees n l w = record w {
-  ledger = record w.ledger {
-    live = filter (λ g. not (is_older n l g)) w.ledger.live;
-    lives = put n.0 l.0 w.ledger.lives;
-    parked = filter (λ p. not (is_older_ask n l p)) w.ledger.parked;
-    old_home = cleared n w.ledger.old_home;
+commits ticket news work = record work {
+  ledger = record work.ledger {
+    live = without ticket work.ledger.live;
+    line = λ slot. work.ledger.line slot ++ version_of ticket (digest_for slot news)
   };
   changed = true;
 }
 
+-- the number and digest of a ticket's version on a line, this many others being before
+abbrev pub place_on_line : Ticket → List LineVersion → ℕ → Option (ℕ × Digest)
+place_on_line ticket [] before = None
+place_on_line ticket (version ∷ versions) before =
+    if version.ticket.0 == ticket.0
+    then Some (before + 1, version.digest)
+    else place_on_line ticket versions (before + 1)
+
+-- what a confirmation says of the slot, where the ticket has a version on its line
+abbrev pub confirmed : Slot → Option (ℕ × Digest) → List Confirmed
+confirmed slot None = []
+confirmed slot (Some found) = record { slot = slot; number = found.0; digest = found.1 } ∷ []
+
+-- the versions that the ticket has on the lines of these slots
+abbrev pub versions_of : (Slot → List LineVersion) → Ticket → List News → List Confirmed
+versions_of line ticket [] = []
+versions_of line ticket (item ∷ news) =
+    confirmed item.slot (place_on_line ticket (line item.slot) 0) ++ versions_of line ticket news
+
+-- the ticket is on the line of each of these slots
+abbrev pub on_all : (Slot → List LineVersion) → Ticket → List News → Bool
+on_all line ticket [] = true
+on_all line ticket (item ∷ news) = is_some (place_on_line ticket (line item.slot) 0) && on_all line ticket news
+
+-- the lease is of this life of this node
+abbrev pub is_its : NodeId → Life → Lease → Bool
+is_its node life lease = (lease.node.0 == node.0) && (lease.life.0 == life.0)
+
+-- the lease is of this node and life, and the slots are one or more and exactly its writable ones
+abbrev pub may_commit : NodeId → Life → List News → Option Lease → Bool
+may_commit node life news None = false
+may_commit node life news (Some lease) =
+    is_its node life lease && slots_eq (slots_of news) (writable_slots lease.slots) && not (is_nil news)
+
+-- the lease is live, and of this node and life
+abbrev pub may_release : NodeId → Life → Option Lease → Bool
+may_release node life None = false
+may_release node life (Some lease) = is_its node life lease
+
+-- the node is told that its news count, and as which versions
+abbrev pub confirms : NodeId → Life → Ticket → List News → Work → Work
+confirms node life ticket news work =
+    says (told.Committed node life ticket (versions_of work.ledger.line ticket news)) work
+
+-- news that end no lease: they count where all their versions stand on the lines already
+abbrev pub answered : Bool → NodeId → Life → Ticket → List News → Work → Work
+answered true node life ticket news work = notes (note.CommittedBefore ticket) (confirms node life ticket news work)
+answered false node life ticket news work = notes (note.Fenced ticket) (says (told.Fenced node life ticket) work)
+
+-- news come: the lease that they are for ends, where they may end it
+abbrev pub committing : Limits → Bool → NodeId → Life → Ticket → List News → Work → Work
+committing limits true node life ticket news work =
+    notes (note.Committed ticket) (retried limits (confirms node life ticket news (commits ticket news work)))
+committing limits false node life ticket news work =
+    answered (not (is_nil news) && on_all work.ledger.line ticket news) node life ticket news work
+
+-- a lease is given back: it ends, where it may
+abbrev pub released : Limits → Bool → Ticket → Option Lease → Work → Work
+released limits allowed ticket None work = work
+released limits false ticket (Some lease) work = work
+released limits true ticket (Some lease) work = notes (note.Released ticket) (retried limits (ends lease work))
+
+-- a message of the life that is now the greatest
+abbrev pub answering : Limits → NodeId → Life → Request → Work → Work
+answering limits node life Hello work = work
+answering limits node life (Acquire ask wants tenure) work =
+    acquiring limits (lease_of work.ledger.live node life ask) (is_parked work.ledger.parked node life ask)
+        (record { node = node; life = life; ask = ask; wants = wants; tenure = tenure }) work
+answering limits node life (Commit ticket news) work =
+    committing limits (may_commit node life news (lease_under work.ledger.live ticket)) node life ticket news work
+answering limits node life (Release ticket) work =
+    released limits (may_release node life (lease_under work.ledger.live ticket)) ticket
+        (lease_under work.ledger.live ticket) work
+
+-- a newer life
+
+-- the lease is of an older life of the node
+abbrev pub is_older : NodeId → Life → Lease → Bool
+is_older node life lease = (lease.node.0 == node.0) && nat_lt lease.life.0 life.0
+
+-- the ask is of an older life of the node
+abbrev pub is_older_ask : NodeId → Life → Parked → Bool
+is_older_ask node life parked = (parked.node.0 == node.0) && nat_lt parked.life.0 life.0
+
+-- the life is kept; the leases and asks of the node's older lives go, and an old home that is this node
+abbrev pub sees : NodeId → Life → Work → Work
+sees node life work = record work {
+  ledger = record work.ledger {
+    live = filter (λ lease. not (is_older node life lease)) work.ledger.live;
+    lives = put node.0 life.0 work.ledger.lives;
+    parked = filter (λ parked. not (is_older_ask node life parked)) work.ledger.parked;
+    old_home = cleared node work.ledger.old_home;
+  };
+  changed = true;
+}
+
+-- the old home is this node
 abbrev pub is_home : NodeId → Option NodeId → Bool
-is_home n None = false
-is_home n (Some h) = h.0 == n.0
+is_home node None = false
+is_home node (Some home) = home.0 == node.0
 
 -- where a lease ended or the old home was cleared the parked asks are tried
 unfoldable pub newer_life : Limits → NodeId → Life → Work → Work
-newer_life k n l w = if list_any (is_older n l) w.ledger.live || is_home n w.ledger.old_home then retried k (sees n l w) else sees n l w
+newer_life limits node life work =
+    if list_any (is_older node life) work.ledger.live || is_home node work.ledger.old_home
+    then retried limits (sees node life work)
+    else sees node life work
 
 -- a message of this life of this node: is the node retired, then its life, then what it says
 unfoldable pub handled : Limits → ToCoord → Work → Work
-handled k y w =
-    if w.ledger.gone y.node.0 then notes note.NodeRetired w
-    else (if nat_lt y.life.0 (w.ledger.lives y.node.0) then notes note.OldLife w
-    else (if nat_lt (w.ledger.lives y.node.0) y.life.0 then answering k y.node y.life y.request (newer_life k y.node y.life w)
-    else answering k y.node y.life y.request w))
+handled limits saying work =
+    if work.ledger.gone saying.node.0 then notes note.NodeRetired work
+    else (if nat_lt saying.life.0 (work.ledger.lives saying.node.0) then notes note.OldLife work
+    else (if nat_lt (work.ledger.lives saying.node.0) saying.life.0
+        then answering limits saying.node saying.life saying.request (newer_life limits saying.node saying.life work)
+    else answering limits saying.node saying.life saying.request work))
 
 -- the coordinator's own calls
 
 -- the PRIVATE slots of a withdrawn lease are retired
 abbrev pub retires : Lease → (Slot → Bool) → Slot → Bool
-retires g retired s = (is_private s.folder.mode && has_slot g.slots s) || retired s
+retires lease retired slot = (is_private slot.folder.mode && has_slot lease.slots slot) || retired slot
 
+-- the lease ends, and its PRIVATE slots are retired
 abbrev pub withdraws : Lease → Work → Work
-withdraws g w = record w {
-  ledger = record w.ledger { live = without g.ticket w.ledger.live; retired = retires g w.ledger.retired };
-  changed = w.changed || is_saved g;
+withdraws lease work = record work {
+  ledger = record work.ledger {
+    live = without lease.ticket work.ledger.live;
+    retired = retires lease work.ledger.retired
+  };
+  changed = work.changed || is_saved lease;
 }
 
+-- a lease is withdrawn, unless it is a tenure
 abbrev pub withdrawing : Limits → Option Lease → Work → Result Work CoordRefusal
-withdrawing k None w = Err refusal.NotLive
-withdrawing k (Some g) w = if g.tenure then Err refusal.Tenure else Ok (notes (note.Withdrawn g.ticket) (retried k (withdraws g w)))
+withdrawing limits None work = Err refusal.NotLive
+withdrawing limits (Some lease) work =
+    if lease.tenure then Err refusal.Tenure
+    else Ok (notes (note.Withdrawn lease.ticket) (retried limits (withdraws lease work)))
 
+-- the lease of the ticket is withdrawn
 abbrev pub withdrawn : Limits → Ticket → Work → Result Work CoordRefusal
-withdrawn k t w = withdrawing k (lease_under w.ledger.live t) w
+withdrawn limits ticket work = withdrawing limits (lease_under work.ledger.live ticket) work
 
 abbrev pub is_at : NodeId → Lease → Bool
-is_at n g = g.node.0 == n.0
+is_at node lease = lease.node.0 == node.0
 
 -- all leases of the node are withdrawn, and its parked asks go
 abbrev pub retire_all : List Lease → (Slot → Bool) → Slot → Bool
-retire_all leases retired s = (is_private s.folder.mode && some_lease leases s) || retired s
+retire_all leases retired slot = (is_private slot.folder.mode && some_lease leases slot) || retired slot
 
+-- the node is retired, and nothing of it is left
 abbrev pub goes : NodeId → Work → Work
-goes n w = record w {
-  ledger = record w.ledger {
-    live = filter (λ g. not (is_at n g)) w.ledger.live;
-    retired = retire_all (filter (is_at n) w.ledger.live) w.ledger.retired;
-    gone = put n.0 true w.ledger.gone;
-    parked = filter (λ p. not (p.node.0 == n.0)) w.ledger.parked;
+goes node work = record work {
+  ledger = record work.ledger {
+    live = filter (λ lease. not (is_at node lease)) work.ledger.live;
+    retired = retire_all (filter (is_at node) work.ledger.live) work.ledger.retired;
+    gone = put node.0 true work.ledger.gone;
+    parked = filter (λ parked. not (parked.node.0 == node.0)) work.ledger.parked;
   };
   changed = true;
 }
 
+-- a node is retired, unless it holds a tenure or is the old home
 abbrev pub retired : Limits → NodeId → Work → Result Work CoordRefusal
-retired k n w =
-    if w.ledger.gone n.0 then Err refusal.NodeRetired
-    else (if list_any (λ g. is_at n g && g.tenure) w.ledger.live || is_home n w.ledger.old_home then Err refusal.TenureHeld
-    else Ok (notes (note.Retired n) (if list_any (is_at n) w.ledger.live then retried k (goes n w) else goes n w)))
+retired limits node work =
+    if work.ledger.gone node.0 then Err refusal.NodeRetired
+    else (if list_any (λ lease. is_at node lease && lease.tenure) work.ledger.live || is_home node work.ledger.old_home
+        then Err refusal.TenureHeld
+    else Ok (notes (note.Retired node)
+        (if list_any (is_at node) work.ledger.live then retried limits (goes node work) else goes node work)))
 
 -- the empty content, under a new ticket
 abbrev pub prunes : Limits → Slot → Work → Work
-prunes k s w = record w {
-  ledger = record w.ledger {
-    line = λ x. if slot_eq s x then w.ledger.line x ++ record { ticket = record { 0 = w.ledger.last + 1 }; digest = k.empty } ∷ [] else w.ledger.line x;
-    last = w.ledger.last + 1;
-    ceiling = raised k w.ledger;
+prunes limits slot work = record work {
+  ledger = record work.ledger {
+    line = λ other.
+      if slot_eq slot other
+      then work.ledger.line other ++ record { ticket = record { 0 = work.ledger.last + 1 }; digest = limits.empty } ∷ []
+      else work.ledger.line other;
+    last = work.ledger.last + 1;
+    ceiling = raised limits work.ledger;
   };
   changed = true;
 }
 
+-- a slot that is not leased and has a version is pruned
 abbrev pub pruned : Limits → Slot → Work → Result Work CoordRefusal
-pruned k s w =
-    if is_leased w.ledger s then Err refusal.SlotLeased
-    else (if is_nil (w.ledger.line s) then Err refusal.NoSuchSlot
-    else (if nat_lt w.ledger.last k.greatest then Ok (notes (note.Pruned (record { 0 = w.ledger.last + 1 })) (prunes k s w)) else Err refusal.TicketsSpent))
+pruned limits slot work =
+    if is_leased work.ledger slot then Err refusal.SlotLeased
+    else (if is_nil (work.ledger.line slot) then Err refusal.NoSuchSlot
+    else (if nat_lt work.ledger.last limits.greatest
+        then Ok (notes (note.Pruned (record { 0 = work.ledger.last + 1 })) (prunes limits slot work))
+    else Err refusal.TicketsSpent))
 
 -- a parked ask is for the tenure that the lease is
 abbrev pub is_awaited : List Parked → Lease → Bool
-is_awaited parked g = g.tenure && list_any (λ p. p.tenure && holds_wanted p g) parked
+is_awaited queue lease = lease.tenure && list_any (λ parked. parked.tenure && holds_wanted parked lease) queue
 
+-- the Grant of the lease is sent again, and a Recall where its tenure is awaited
 abbrev pub nudges : Limits → Lease → Work → Work
-nudges k g w = if is_awaited w.ledger.parked g then says (told.Recall g.node g.life g.ticket) (says (told.Granted (grant_of k.empty w.ledger.line g)) w) else says (told.Granted (grant_of k.empty w.ledger.line g)) w
+nudges limits lease work =
+    if is_awaited work.ledger.parked lease
+    then says (told.Recall lease.node lease.life lease.ticket)
+        (says (told.Granted (grant_of limits.empty work.ledger.line lease)) work)
+    else says (told.Granted (grant_of limits.empty work.ledger.line lease)) work
 
 -- the Grant of each lease again, the oldest first
 abbrev pub nudge_all : Limits → List Lease → Work → Work
-nudge_all k [] w = w
-nudge_all k (g ∷ gs) w = nudge_all k gs (nudges k g w)
+nudge_all limits [] work = work
+nudge_all limits (lease ∷ leases) work = nudge_all limits leases (nudges limits lease work)
 
+-- all leases are told again
 abbrev pub nudged : Limits → Work → Work
-nudged k w = notes note.Nudged (nudge_all k w.ledger.live w)
+nudged limits work = notes note.Nudged (nudge_all limits work.ledger.live work)
 
 -- what the record has of a ledger: the leases that are saved, and of the tickets the ceiling
 abbrev pub reread : Ledger → Ledger
-reread q = record q { live = filter is_saved q.live; last = q.ceiling; parked = [] }
+reread ledger = record ledger { live = filter is_saved ledger.live; last = ledger.ceiling; parked = [] }
 
 -- what the record holds: no last ticket, no parked ask, and of the leases those that are saved
 pub record Saved : Type 0 where
@@ -446,8 +568,28 @@ pub record Saved : Type 0 where
   pub old_home : Option NodeId
   pub lives : ℕ → ℕ
 
+-- the record of a ledger
 abbrev pub saves : Ledger → Saved
-saves q = record { live = filter is_saved q.live; retired = q.retired; gone = q.gone; line = q.line; ceiling = q.ceiling; old_home = q.old_home; lives = q.lives }
+saves ledger = record {
+  live = filter is_saved ledger.live;
+  retired = ledger.retired;
+  gone = ledger.gone;
+  line = ledger.line;
+  ceiling = ledger.ceiling;
+  old_home = ledger.old_home;
+  lives = ledger.lives
+}
 
+-- the ledger that a record is read as
 abbrev pub reads : Saved → Ledger
-reads r = record { live = r.live; retired = r.retired; gone = r.gone; line = r.line; last = r.ceiling; ceiling = r.ceiling; old_home = r.old_home; lives = r.lives; parked = [] }
+reads saved = record {
+  live = saved.live;
+  retired = saved.retired;
+  gone = saved.gone;
+  line = saved.line;
+  last = saved.ceiling;
+  ceiling = saved.ceiling;
+  old_home = saved.old_home;
+  lives = saved.lives;
+  parked = []
+}

@@ -33,37 +33,41 @@ pub data Made : Type 0 where
   Granted : (grant : Grant) → Made
   Pruned : (ticket : Ticket) (slot : Slot) → Made
 
+-- the ticket that was given
 abbrev pub ticket_of : Made → ℕ
-ticket_of (Granted g) = g.ticket.0
-ticket_of (Pruned t s) = t.0
+ticket_of (Granted grant) = grant.ticket.0
+ticket_of (Pruned ticket slot) = ticket.0
 
 -- a message to the coordinator
 abbrev pub Said : ToCoord → Message
-Said y = to.ToCoord y
+Said saying = to.ToCoord saying
 
 -- a message of the coordinator to a node
 abbrev pub Told : FromCoord → Message
-Told y = to.ToNode (to_node.FromCoord y)
+Told telling = to.ToNode (to_node.FromCoord telling)
 
 -- the two that nodes send each other
 abbrev pub Fetches : Fetch → Message
-Fetches y = to.ToNode (to_node.Fetch y)
+Fetches fetch = to.ToNode (to_node.Fetch fetch)
 
 abbrev pub Blob : NodeId → List ℕ → Message
-Blob n c = to.ToNode (to_node.Blob n c)
+Blob node content = to.ToNode (to_node.Blob node content)
 
+-- the four things that a node says to the coordinator
 abbrev pub hello : NodeId → Life → Message
-hello n l = Said (record { node = n; life = l; request = request.Hello })
+hello node life = Said (record { node = node; life = life; request = request.Hello })
 
 abbrev pub acquire : NodeId → Life → Ask → List Want → Bool → Message
-acquire n l a wants tenure = Said (record { node = n; life = l; request = request.Acquire a wants tenure })
+acquire node life ask wants tenure =
+    Said (record { node = node; life = life; request = request.Acquire ask wants tenure })
 
 abbrev pub commit : NodeId → Life → Ticket → List News → Message
-commit n l t news = Said (record { node = n; life = l; request = request.Commit t news })
+commit node life ticket news = Said (record { node = node; life = life; request = request.Commit ticket news })
 
 abbrev pub release : NodeId → Life → Ticket → Message
-release n l t = Said (record { node = n; life = l; request = request.Release t })
+release node life ticket = Said (record { node = node; life = life; request = request.Release ticket })
 
+-- what the machine knows
 pub record Machine : Type 0 where
   -- all that tickets were ever given for, the newest first
   pub made : List Made
@@ -82,103 +86,123 @@ pub record Machine : Type 0 where
 
 -- the grant has the slot
 abbrev pub Has : Grant → Slot → Type 0
-Has g s = (u : GrantedSlot) × In u g.slots × (u.slot ≡ s)
+Has grant slot = (granted : GrantedSlot) × In granted grant.slots × (granted.slot ≡ slot)
 
 -- the grant was made and has not ended
 abbrev pub Live : Machine → Grant → Type 0
-Live m g = In (Granted g) m.made × (m.ending g.ticket.0 ≡ None)
+Live machine grant = In (Granted grant) machine.made × (machine.ending grant.ticket.0 ≡ None)
 
+-- a live grant has the slot
 abbrev pub Leased : Machine → Slot → Type 0
-Leased m s = (g : Grant) × Live m g × Has g s
+Leased machine slot = (grant : Grant) × Live machine grant × Has grant slot
 
 -- a PRIVATE slot is retired where a grant that has it ended Withdrawn
 abbrev pub Retired : Machine → Slot → Type 0
-Retired m s = (is_private s.folder.mode ≡ true) × ((g : Grant) × In (Granted g) m.made × (m.ending g.ticket.0 ≡ Some Withdrawn) × Has g s)
+Retired machine slot =
+    (is_private slot.folder.mode ≡ true)
+    × ((grant : Grant)
+        × In (Granted grant) machine.made
+        × (machine.ending grant.ticket.0 ≡ Some Withdrawn)
+        × Has grant slot)
 
+-- the slot may be granted
 abbrev pub Free : Machine → Slot → Type 0
-Free m s = (Leased m s → ⊥) × (Retired m s → ⊥)
+Free machine slot = (Leased machine slot → ⊥) × (Retired machine slot → ⊥)
 
 -- the news for a slot
 abbrev pub digest_for : Slot → List News → Option Digest
-digest_for s [] = None
-digest_for s (x ∷ xs) = if slot_eq x.slot s then Some x.digest else digest_for s xs
+digest_for slot [] = None
+digest_for slot (item ∷ news) = if slot_eq item.slot slot then Some item.digest else digest_for slot news
 
+-- a version under the ticket, where there is a digest
 abbrev pub version_of : Ticket → Option Digest → List LineVersion
-version_of t None = []
-version_of t (Some d) = record { ticket = t; digest = d } ∷ []
+version_of ticket None = []
+version_of ticket (Some digest) = record { ticket = ticket; digest = digest } ∷ []
 
 -- what the end of a grant adds to a slot's line
 abbrev pub version_at : Slot → Ticket → Option Ending → List LineVersion
-version_at s t None = []
-version_at s t (Some (Committed news)) = version_of t (digest_for s news)
-version_at s t (Some Released) = []
-version_at s t (Some Withdrawn) = []
-version_at s t (Some Died) = []
+version_at slot ticket None = []
+version_at slot ticket (Some (Committed news)) = version_of ticket (digest_for slot news)
+version_at slot ticket (Some Released) = []
+version_at slot ticket (Some Withdrawn) = []
+version_at slot ticket (Some Died) = []
 
 -- what a ticket adds to a slot's line
 abbrev pub added : Digest → Slot → (ℕ → Option Ending) → Made → List LineVersion
-added empty s ending (Granted g) = version_at s g.ticket (ending g.ticket.0)
-added empty s ending (Pruned t p) = if slot_eq p s then record { ticket = t; digest = empty } ∷ [] else []
+added empty slot endings (Granted grant) = version_at slot grant.ticket (endings grant.ticket.0)
+added empty slot endings (Pruned ticket pruned) =
+    if slot_eq pruned slot then record { ticket = ticket; digest = empty } ∷ [] else []
 
 -- the line of a slot: the news for it of committed grants, and its prunes, by rising ticket
 abbrev pub line_of : Digest → Slot → (ℕ → Option Ending) → List Made → List LineVersion
-line_of empty s ending [] = []
-line_of empty s ending (x ∷ xs) = line_of empty s ending xs ++ added empty s ending x
+line_of empty slot endings [] = []
+line_of empty slot endings (given ∷ made) = line_of empty slot endings made ++ added empty slot endings given
 
 -- the line of a slot, `empty` being the digest of the empty content
 abbrev pub line : Digest → Machine → Slot → List LineVersion
-line empty m s = line_of empty s m.ending m.made
+line empty machine slot = line_of empty slot machine.ending machine.made
 
--- version k of the line has this digest. Version 0 is the empty content
+-- the version of this number has this digest on the line. Version 0 is the empty content
 abbrev pub Names : Digest → List LineVersion → ℕ → Digest → Type 0
-Names empty xs k d = ((k ≡ 0) × (d ≡ empty)) ⊎ ((j : ℕ) × (v : LineVersion) × (k ≡ j + 1) × (slice_get xs j ≡ Some v) × (v.digest ≡ d))
+Names empty versions number digest =
+    ((number ≡ 0) × (digest ≡ empty))
+    ⊎ ((index : ℕ) × (version : LineVersion)
+        × (number ≡ index + 1)
+        × (slice_get versions index ≡ Some version)
+        × (version.digest ≡ digest))
 
 -- the slots that a grant may write
 abbrev pub written : List GrantedSlot → List Slot
 written [] = []
-written (u ∷ us) = if u.writable then u.slot ∷ written us else written us
+written (granted ∷ slots) = if granted.writable then granted.slot ∷ written slots else written slots
 
 -- the slots of some news
 abbrev pub slots_of : List News → List Slot
-slots_of news = map (λ x. x.slot) news
+slots_of news = map (λ item. item.slot) news
 
 -- what a slot of a grant was wanted as
 abbrev pub want_of : GrantedSlot → Want
-want_of u = record { folder = u.slot.folder; writable = u.writable }
+want_of granted = record { folder = granted.slot.folder; writable = granted.writable }
 
 -- the base is the last version of its line
 abbrev pub Based : Digest → Machine → GrantedSlot → Type 0
-Based empty m u = (u.base ≡ length (line empty m u.slot)) × Names empty (line empty m u.slot) u.base u.digest
+Based empty machine granted =
+    (granted.base ≡ length (line empty machine granted.slot))
+    × Names empty (line empty machine granted.slot) granted.base granted.digest
 
 -- the grant answers an ask with these wants
-pub record AnswersAsk (g : Grant) (wants : List Want) : Type 0 where
-  pub shared : has_shared g.kind ≡ any_shared wants
+pub record AnswersAsk (grant : Grant) (wants : List Want) : Type 0 where
+  pub shared : has_shared grant.kind ≡ any_shared wants
   -- its slots are those of the wants, in their order
-  pub slots : map want_of g.slots ≡ leased_wants (is_tenure g.kind) wants
+  pub slots : map want_of grant.slots ≡ leased_wants (is_tenure grant.kind) wants
   -- a PRIVATE folder's instances are 1 to 4,096, every other's is 0
-  pub instances : (u : GrantedSlot) → In u g.slots → IsInstance u.slot.folder.mode u.slot.instance
+  pub instances : (granted : GrantedSlot)
+      → In granted grant.slots
+      → IsInstance granted.slot.folder.mode granted.slot.instance
   -- a tenure is of one SHARED folder, writable
-  pub tenure : is_tenure g.kind ≡ true → (f : FolderName) × (wants ≡ tenure_wants f)
+  pub tenure : is_tenure grant.kind ≡ true → (folder : FolderName) × (wants ≡ tenure_wants folder)
 
 -- both answer one ask
 abbrev pub SameAsk : Grant → Grant → Type 0
-SameAsk g h = (g.node ≡ h.node) × (g.life ≡ h.life) × (g.ask ≡ h.ask)
+SameAsk grant other = (grant.node ≡ other.node) × (grant.life ≡ other.life) × (grant.ask ≡ other.ask)
 
 -- a message of this life of this node was sent
 abbrev pub WasHeard : List Message → NodeId → Life → Type 0
-WasHeard pool n l = (m : ToCoord) × In (Said m) pool × (m.node ≡ n) × (m.life ≡ l)
+WasHeard pool node life = (saying : ToCoord) × In (Said saying) pool × (saying.node ≡ node) × (saying.life ≡ life)
 
 -- a live grant may end so, where these messages were ever sent
 abbrev pub MayEnd : List Message → Machine → Grant → Ending → Type 0
-MayEnd pool m g (Committed news) = In (commit g.node g.life g.ticket news) pool × (slots_of news ≡ written g.slots) × (news ≢ [])
-MayEnd pool m g Released = In (release g.node g.life g.ticket) pool
-MayEnd pool m g Withdrawn = is_tenure g.kind ≡ false
-MayEnd pool m g Died = (l : Life) × WasHeard pool g.node l × (g.life.0 < l.0) × (m.gone g.node.0 ≡ false)
+MayEnd pool machine grant (Committed news) =
+    In (commit grant.node grant.life grant.ticket news) pool × (slots_of news ≡ written grant.slots) × (news ≢ [])
+MayEnd pool machine grant Released = In (release grant.node grant.life grant.ticket) pool
+MayEnd pool machine grant Withdrawn = is_tenure grant.kind ≡ false
+MayEnd pool machine grant Died =
+    (life : Life) × WasHeard pool grant.node life × (grant.life.0 < life.0) × (machine.gone grant.node.0 ≡ false)
 
 -- clears the old home if it is this node
 abbrev pub cleared : NodeId → Option NodeId → Option NodeId
-cleared n None = None
-cleared n (Some h) = if h.0 == n.0 then None else Some h
+cleared node None = None
+cleared node (Some home) = if home.0 == node.0 then None else Some home
 
 -- the second list is the first without some of its elements
 pub data IsPartOf {A : Type 0} : List A → List A → Type 0 where
@@ -187,75 +211,103 @@ pub data IsPartOf {A : Type 0} : List A → List A → Type 0 where
   Leaves : (x : A) (xs ys : List A) → IsPartOf xs ys → IsPartOf (x ∷ xs) ys
 
 -- one step of the machine, where these messages were ever sent
-pub data Step (empty : Digest) (pool : List Message) (m : Machine) : Machine → Type 0 where
-  Grants : (g : Grant) (wants : List Want)
-      → In (acquire g.node g.life g.ask wants (is_tenure g.kind)) pool
-      → AnswersAsk g wants
-      → (m.gone g.node.0 ≡ false)
-      → ((h : Grant) → Live m h → SameAsk g h → ⊥)
+pub data Step (empty : Digest) (pool : List Message) (machine : Machine) : Machine → Type 0 where
+  -- an ask that was sent is granted, under a ticket above all others
+  Grants : (grant : Grant) (wants : List Want)
+      → In (acquire grant.node grant.life grant.ask wants (is_tenure grant.kind)) pool
+      → AnswersAsk grant wants
+      → (machine.gone grant.node.0 ≡ false)
+      → ((other : Grant) → Live machine other → SameAsk grant other → ⊥)
       -- a tenure waits until the old home is cleared, or is the old home's
-      → (is_tenure g.kind ≡ true → (h : NodeId) → m.old_home ≡ Some h → h ≡ g.node)
-      → m.last < g.ticket.0
-      → ((u : GrantedSlot) → In u g.slots → Free m u.slot × Based empty m u)
-      → Step empty pool m (record m { made = Granted g ∷ m.made; last = g.ticket.0 })
-  Ends : (g : Grant) (y : Ending) → Live m g → MayEnd pool m g y
-      → Step empty pool m (record m { ending = put g.ticket.0 (Some y) m.ending })
-  Prunes : (t : Ticket) (s : Slot)
-      → m.last < t.0
-      → (Leased m s → ⊥)
-      → (line empty m s ≢ [])
-      → Step empty pool m (record m { made = Pruned t s ∷ m.made; last = t.0 })
+      → (is_tenure grant.kind ≡ true → (home : NodeId) → machine.old_home ≡ Some home → home ≡ grant.node)
+      → machine.last < grant.ticket.0
+      → ((granted : GrantedSlot) → In granted grant.slots → Free machine granted.slot × Based empty machine granted)
+      → Step empty pool machine (record machine { made = Granted grant ∷ machine.made; last = grant.ticket.0 })
+  -- a live grant ends
+  Ends : (grant : Grant) (how : Ending)
+      → Live machine grant
+      → MayEnd pool machine grant how
+      → Step empty pool machine (record machine { ending = put grant.ticket.0 (Some how) machine.ending })
+  -- the empty content is added to the line of a slot that no live grant has
+  Prunes : (ticket : Ticket) (slot : Slot)
+      → machine.last < ticket.0
+      → (Leased machine slot → ⊥)
+      → (line empty machine slot ≢ [])
+      → Step empty pool machine (record machine { made = Pruned ticket slot ∷ machine.made; last = ticket.0 })
   -- a newer life is kept once nothing of the node's older lives is left
-  Sees : (n : NodeId) (l : Life)
-      → WasHeard pool n l
-      → (m.gone n.0 ≡ false)
-      → m.lives n.0 < l.0
-      → ((g : Grant) → Live m g → g.node ≡ n → g.life.0 < l.0 → ⊥)
-      → ((p : Parked) → In p m.parked → p.node ≡ n → p.life.0 < l.0 → ⊥)
-      → Step empty pool m (record m { lives = put n.0 l.0 m.lives; old_home = cleared n m.old_home })
+  Sees : (node : NodeId) (life : Life)
+      → WasHeard pool node life
+      → (machine.gone node.0 ≡ false)
+      → machine.lives node.0 < life.0
+      → ((grant : Grant) → Live machine grant → grant.node ≡ node → grant.life.0 < life.0 → ⊥)
+      → ((parked : Parked) → In parked machine.parked → parked.node ≡ node → parked.life.0 < life.0 → ⊥)
+      → Step empty pool machine
+          (record machine { lives = put node.0 life.0 machine.lives; old_home = cleared node machine.old_home })
   -- a node retires once no lease and no parked ask of it is left
-  Retires : (n : NodeId)
-      → (m.gone n.0 ≡ false)
-      → (m.old_home ≢ Some n)
-      → ((g : Grant) → Live m g → g.node ≢ n)
-      → ((p : Parked) → In p m.parked → p.node ≢ n)
-      → Step empty pool m (record m { gone = put n.0 true m.gone })
-  Parks : (p : Parked)
-      → In (acquire p.node p.life p.ask p.wants p.tenure) pool
-      → ((g : Grant) → Live m g → (g.node ≡ p.node) × (g.life ≡ p.life) × (g.ask ≡ p.ask) → ⊥)
-      → Step empty pool m (record m { parked = m.parked ++ p ∷ [] })
-  Unparks : (parked : List Parked)
-      → IsPartOf m.parked parked
-      → Step empty pool m (record m { parked = parked })
+  Retires : (node : NodeId)
+      → (machine.gone node.0 ≡ false)
+      → (machine.old_home ≢ Some node)
+      → ((grant : Grant) → Live machine grant → grant.node ≢ node)
+      → ((parked : Parked) → In parked machine.parked → parked.node ≢ node)
+      → Step empty pool machine (record machine { gone = put node.0 true machine.gone })
+  -- an ask that was sent and has no live grant is parked
+  Parks : (parked : Parked)
+      → In (acquire parked.node parked.life parked.ask parked.wants parked.tenure) pool
+      → ((grant : Grant) → Live machine grant
+          → (grant.node ≡ parked.node) × (grant.life ≡ parked.life) × (grant.ask ≡ parked.ask)
+          → ⊥)
+      → Step empty pool machine (record machine { parked = machine.parked ++ parked ∷ [] })
+  -- some parked asks are no longer parked
+  Unparks : (queue : List Parked)
+      → IsPartOf machine.parked queue
+      → Step empty pool machine (record machine { parked = queue })
   -- at a restart the last ticket rises to the saved ceiling
-  Raises : (t : ℕ)
-      → m.last ≤ t
-      → Step empty pool m (record m { last = t })
+  Raises : (ceiling : ℕ)
+      → machine.last ≤ ceiling
+      → Step empty pool machine (record machine { last = ceiling })
 
 -- any number of steps, these messages having been sent
 pub data Steps (empty : Digest) (pool : List Message) : Machine → Machine → Type 0 where
-  No_step : (m : Machine) → Steps empty pool m m
-  One_more : (a b c : Machine) → Steps empty pool a b → Step empty pool b c → Steps empty pool a c
+  No_step : (machine : Machine) → Steps empty pool machine machine
+  One_more : (machine middle later : Machine)
+      → Steps empty pool machine middle
+      → Step empty pool middle later
+      → Steps empty pool machine later
 
 -- a version that a confirmation names stands on its line under the ticket
 abbrev pub Stands : Digest → Machine → Ticket → Confirmed → Type 0
-Stands empty m t v = (j : ℕ) × (v.number ≡ j + 1) × (slice_get (line empty m v.slot) j ≡ Some (record { ticket = t; digest = v.digest }))
+Stands empty machine ticket version =
+    (index : ℕ)
+    × (version.number ≡ index + 1)
+    × (slice_get (line empty machine version.slot) index ≡ Some (record { ticket = ticket; digest = version.digest }))
 
 -- what the machine may say, as it stands
-pub data Says (empty : Digest) (pool : List Message) (m : Machine) : FromCoord → Type 0 where
-  Says_granted : (g : Grant) → Live m g → Says empty pool m (told.Granted g)
-  Says_committed : (g : Grant) (versions : List Confirmed)
-      → In (Granted g) m.made
-      → ((v : Confirmed) → In v versions → Stands empty m g.ticket v)
+pub data Says (empty : Digest) (pool : List Message) (machine : Machine) : FromCoord → Type 0 where
+  Says_granted : (grant : Grant) → Live machine grant → Says empty pool machine (told.Granted grant)
+  Says_committed : (grant : Grant) (versions : List Confirmed)
+      → In (Granted grant) machine.made
+      → ((version : Confirmed) → In version versions → Stands empty machine grant.ticket version)
       → (versions ≢ [])
-      → Says empty pool m (told.Committed g.node g.life g.ticket versions)
-  Says_fenced : (n : NodeId) (l : Life) (t : Ticket) (news : List News)
-      → In (commit n l t news) pool
-      → ((g : Grant) → Live m g → (g.ticket ≡ t) → (g.node ≡ n) → (g.life ≡ l) → (slots_of news ≡ written g.slots) → (news ≢ []) → ⊥)
+      → Says empty pool machine (told.Committed grant.node grant.life grant.ticket versions)
+  Says_fenced : (node : NodeId) (life : Life) (ticket : Ticket) (news : List News)
+      → In (commit node life ticket news) pool
+      → ((grant : Grant) → Live machine grant
+          → (grant.ticket ≡ ticket)
+          → (grant.node ≡ node)
+          → (grant.life ≡ life)
+          → (slots_of news ≡ written grant.slots)
+          → (news ≢ [])
+          → ⊥)
       -- not one or more slots with the ticket on the line of each
-      → ((news ≢ []) → ((x : News) → In x news → (v : LineVersion) × In v (line empty m x.slot) × (v.ticket ≡ t)) → ⊥)
-      → Says empty pool m (told.Fenced n l t)
-  Says_denied : (n : NodeId) (l : Life) (a : Ask) (why : Why) (wants : List Want) (tenure : Bool)
-      → In (acquire n l a wants tenure) pool
-      → Says empty pool m (told.Denied n l a why)
-  Says_recall : (g : Grant) → Live m g → (is_tenure g.kind ≡ true) → Says empty pool m (told.Recall g.node g.life g.ticket)
+      → ((news ≢ [])
+          → ((item : News) → In item news
+              → (version : LineVersion) × In version (line empty machine item.slot) × (version.ticket ≡ ticket))
+          → ⊥)
+      → Says empty pool machine (told.Fenced node life ticket)
+  Says_denied : (node : NodeId) (life : Life) (ask : Ask) (why : Why) (wants : List Want) (tenure : Bool)
+      → In (acquire node life ask wants tenure) pool
+      → Says empty pool machine (told.Denied node life ask why)
+  Says_recall : (grant : Grant)
+      → Live machine grant
+      → (is_tenure grant.kind ≡ true)
+      → Says empty pool machine (told.Recall grant.node grant.life grant.ticket)
