@@ -24,13 +24,14 @@ pub record NodeWork : Type 0 where
   pub sends : List Message
   pub note : NodeNote
 
+-- what a call of a node gives
 abbrev pub NodeAnswer : Type 0
 NodeAnswer = Result NodeWork NodeRefusal
 
 -- the refusal, where the test says so
 abbrev pub guard : Bool → NodeRefusal → NodeAnswer → NodeAnswer
-guard true e r = Err e
-guard false e r = r
+guard true reason answer = Err reason
+guard false reason answer = answer
 
 -- which node it is, and how many there are
 pub record Place : Type 0 where
@@ -39,43 +40,48 @@ pub record Place : Type 0 where
 
 -- asks and folders
 
+-- one of the wants has the folder
 abbrev pub wants_folder : FolderName → List Want → Bool
-wants_folder f wants = list_any (λ w. folder_eq w.folder f) wants
+wants_folder folder wants = list_any (λ want. folder_eq want.folder folder) wants
 
 -- the ask is a tenure of the folder, and is present
 abbrev pub is_tenure_of : FolderName → KeptAsk → Bool
-is_tenure_of f (Open wants tenure) = tenure && wants_folder f wants
-is_tenure_of f (Holding wants g r) = is_tenure g.kind && wants_folder f wants
-is_tenure_of f (Running wants g r) = is_tenure g.kind && wants_folder f wants
-is_tenure_of f (Finished wants g news) = is_tenure g.kind && wants_folder f wants
-is_tenure_of f (Over how) = false
+is_tenure_of folder (Open wants tenure) = tenure && wants_folder folder wants
+is_tenure_of folder (Holding wants grant recalled) = is_tenure grant.kind && wants_folder folder wants
+is_tenure_of folder (Running wants grant recalled) = is_tenure grant.kind && wants_folder folder wants
+is_tenure_of folder (Finished wants grant news) = is_tenure grant.kind && wants_folder folder wants
+is_tenure_of folder (Over ending) = false
 
 -- the ask is a tenure of the folder that is in use and not recalled
 abbrev pub is_home_of : FolderName → KeptAsk → Bool
-is_home_of f (Open wants tenure) = false
-is_home_of f (Holding wants g r) = false
-is_home_of f (Running wants g r) = not r && (is_tenure g.kind && wants_folder f wants)
-is_home_of f (Finished wants g news) = false
-is_home_of f (Over how) = false
+is_home_of folder (Open wants tenure) = false
+is_home_of folder (Holding wants grant recalled) = false
+is_home_of folder (Running wants grant recalled) = not recalled && (is_tenure grant.kind && wants_folder folder wants)
+is_home_of folder (Finished wants grant news) = false
+is_home_of folder (Over ending) = false
 
 -- the ask wants the folder, and is open, granted or running
 abbrev pub uses : FolderName → KeptAsk → Bool
-uses f (Open wants tenure) = wants_folder f wants
-uses f (Holding wants g r) = wants_folder f wants
-uses f (Running wants g r) = wants_folder f wants
-uses f (Finished wants g news) = false
-uses f (Over how) = false
+uses folder (Open wants tenure) = wants_folder folder wants
+uses folder (Holding wants grant recalled) = wants_folder folder wants
+uses folder (Running wants grant recalled) = wants_folder folder wants
+uses folder (Finished wants grant news) = false
+uses folder (Over ending) = false
 
+-- the tenure of each SHARED want is in use here and not recalled
 abbrev pub at_home : List KeptAsk → List Want → Bool
-at_home asks wants = list_all (λ w. not (wants_shared w) || list_any (is_home_of w.folder) asks) wants
+at_home asks wants = list_all (λ want. not (wants_shared want) || list_any (is_home_of want.folder) asks) wants
 
--- an ask other than the a-th uses one of the folders, after k others
+-- an ask that isn't at this place uses one of the folders, `before` asks being before these
 abbrev pub others_use : ℕ → List Want → List KeptAsk → ℕ → Bool
-others_use a wants [] k = false
-others_use a wants (s ∷ ss) k = (not (k + 1 == a) && list_any (λ w. uses w.folder s) wants) || others_use a wants ss (k + 1)
+others_use place wants [] before = false
+others_use place wants (kept ∷ asks) before =
+    (not (before + 1 == place) && list_any (λ want. uses want.folder kept) wants)
+    || others_use place wants asks (before + 1)
 
+-- the grant is a tenure whose folder another ask uses
 abbrev pub in_use : List KeptAsk → ℕ → List Want → Grant → Bool
-in_use asks a wants g = is_tenure g.kind && others_use a wants asks 0
+in_use asks place wants grant = is_tenure grant.kind && others_use place wants asks 0
 
 -- a granted ask, and whether it was recalled
 pub record HeldGrant : Type 0 where
@@ -89,267 +95,380 @@ pub record Sent : Type 0 where
   pub grant : Grant
   pub news : List News
 
--- the number of the first ask of which `test` gives something, and that, after k others
+-- of an ask and the asks after it, the first that gives something
 abbrev pub first_of : {A : Type 0} → ℕ → Option A → Option (ℕ × A) → Option (ℕ × A)
-first_of k (Some x) others = Some (k, x)
-first_of k None others = others
+first_of place (Some x) later = Some (place, x)
+first_of place None later = later
 
+-- the place of the first ask of which `test` gives something, and that, `before` asks being before these
 abbrev pub first : {A : Type 0} → (KeptAsk → Option A) → List KeptAsk → ℕ → Option (ℕ × A)
-first test [] k = None
-first test (s ∷ ss) k = first_of (k + 1) (test s) (first test ss (k + 1))
+first test [] before = None
+first test (kept ∷ asks) before = first_of (before + 1) (test kept) (first test asks (before + 1))
 
+-- the element, where the grant has the ticket
 abbrev pub under : {A : Type 0} → Grant → Ticket → A → Option A
-under g t x = if g.ticket.0 == t.0 then Some x else None
+under grant ticket x = if grant.ticket.0 == ticket.0 then Some x else None
 
+-- the ask that is granted under the ticket and not begun
 abbrev pub held : Ticket → KeptAsk → Option HeldGrant
-held t (Open wants tenure) = None
-held t (Holding wants g r) = under g t (record { wants = wants; grant = g; recalled = r })
-held t (Running wants g r) = None
-held t (Finished wants g news) = None
-held t (Over how) = None
+held ticket (Open wants tenure) = None
+held ticket (Holding wants grant recalled) =
+    under grant ticket (record { wants = wants; grant = grant; recalled = recalled })
+held ticket (Running wants grant recalled) = None
+held ticket (Finished wants grant news) = None
+held ticket (Over ending) = None
 
+-- the ask that runs under the ticket
 abbrev pub running : Ticket → KeptAsk → Option HeldGrant
-running t (Open wants tenure) = None
-running t (Holding wants g r) = None
-running t (Running wants g r) = under g t (record { wants = wants; grant = g; recalled = r })
-running t (Finished wants g news) = None
-running t (Over how) = None
+running ticket (Open wants tenure) = None
+running ticket (Holding wants grant recalled) = None
+running ticket (Running wants grant recalled) =
+    under grant ticket (record { wants = wants; grant = grant; recalled = recalled })
+running ticket (Finished wants grant news) = None
+running ticket (Over ending) = None
 
+-- the ask that is granted or runs under the ticket
 abbrev pub held_or_running : Ticket → KeptAsk → Option HeldGrant
-held_or_running t (Open wants tenure) = None
-held_or_running t (Holding wants g r) = under g t (record { wants = wants; grant = g; recalled = r })
-held_or_running t (Running wants g r) = under g t (record { wants = wants; grant = g; recalled = r })
-held_or_running t (Finished wants g news) = None
-held_or_running t (Over how) = None
+held_or_running ticket (Open wants tenure) = None
+held_or_running ticket (Holding wants grant recalled) =
+    under grant ticket (record { wants = wants; grant = grant; recalled = recalled })
+held_or_running ticket (Running wants grant recalled) =
+    under grant ticket (record { wants = wants; grant = grant; recalled = recalled })
+held_or_running ticket (Finished wants grant news) = None
+held_or_running ticket (Over ending) = None
 
+-- the ask whose news were sent under the ticket
 abbrev pub finished : Ticket → KeptAsk → Option Sent
-finished t (Open wants tenure) = None
-finished t (Holding wants g r) = None
-finished t (Running wants g r) = None
-finished t (Finished wants g news) = under g t (record { wants = wants; grant = g; news = news })
-finished t (Over how) = None
+finished ticket (Open wants tenure) = None
+finished ticket (Holding wants grant recalled) = None
+finished ticket (Running wants grant recalled) = None
+finished ticket (Finished wants grant news) = under grant ticket (record { wants = wants; grant = grant; news = news })
+finished ticket (Over ending) = None
 
+-- the ask, where the test says so
 abbrev pub recalled_if : Bool → KeptAsk → Option KeptAsk
-recalled_if true s = Some s
-recalled_if false s = None
+recalled_if true kept = Some kept
+recalled_if false kept = None
 
 -- a tenure that is granted or running under the ticket and was not recalled, as it is then
 abbrev pub recallable : Ticket → KeptAsk → Option KeptAsk
-recallable t (Open wants tenure) = None
-recallable t (Holding wants g r) = recalled_if ((g.ticket.0 == t.0) && is_tenure g.kind && not r) (Holding wants g true)
-recallable t (Running wants g r) = recalled_if ((g.ticket.0 == t.0) && is_tenure g.kind && not r) (Running wants g true)
-recallable t (Finished wants g news) = None
-recallable t (Over how) = None
+recallable ticket (Open wants tenure) = None
+recallable ticket (Holding wants grant recalled) =
+    recalled_if ((grant.ticket.0 == ticket.0) && is_tenure grant.kind && not recalled) (Holding wants grant true)
+recallable ticket (Running wants grant recalled) =
+    recalled_if ((grant.ticket.0 == ticket.0) && is_tenure grant.kind && not recalled) (Running wants grant true)
+recallable ticket (Finished wants grant news) = None
+recallable ticket (Over ending) = None
 
+-- the ask at the place is this now
 abbrev pub becomes : ℕ → KeptAsk → Node → Node
-becomes a s x = record x { asks = set_nth x.asks a s }
+becomes place kept state = record state { asks = set_nth state.asks place kept }
 
 -- contents
 
 abbrev pub is_stored : Node → Digest → Bool
-is_stored x d = is_some (x.store d)
+is_stored state digest = is_some (state.store digest)
 
+-- the base of each slot is stored
 abbrev pub all_stored : Node → List GrantedSlot → Bool
-all_stored x slots = list_all (λ u. is_stored x u.digest) slots
+all_stored state slots = list_all (λ granted_slot. is_stored state granted_slot.digest) slots
 
 -- the base has to be fetched
 abbrev pub is_missing : Limits → Node → GrantedSlot → Bool
-is_missing k x u = not (digest_eq u.digest k.empty) && not (is_stored x u.digest)
+is_missing limits state granted_slot =
+    not (digest_eq granted_slot.digest limits.empty) && not (is_stored state granted_slot.digest)
 
--- the k numbers from i on
+-- the nodes of this many numbers, from `number` on
 abbrev pub nodes_from : ℕ → ℕ → List NodeId
-nodes_from i zero = []
-nodes_from i (suc k) = record { 0 = i } ∷ nodes_from (i + 1) k
+nodes_from number zero = []
+nodes_from number (suc count) = record { 0 = number } ∷ nodes_from (number + 1) count
 
+-- the nodes but this one
 abbrev pub others : Place → List NodeId
-others at = filter (λ n. not (n.0 == at.node.0)) (nodes_from 1 at.nodes)
+others here = filter (λ node. not (node.0 == here.node.0)) (nodes_from 1 here.nodes)
 
 -- a Fetch of the digest to each other node
 abbrev pub fetches_of : Place → Digest → List Message
-fetches_of at d = map (λ n. Fetches (record { node = n; from = at.node; digest = d })) (others at)
+fetches_of here digest = map (λ node. Fetches (record { node = node; from = here.node; digest = digest })) (others here)
 
 -- the Fetches of the missing bases, slots in order
 unfoldable pub fetches : Limits → Place → Node → List GrantedSlot → List Message
-fetches k at x slots = flat_map (λ u. fetches_of at u.digest) (filter (is_missing k x) slots)
+fetches limits here state slots =
+    flat_map (λ granted_slot. fetches_of here granted_slot.digest) (filter (is_missing limits state) slots)
 
 -- the digest is the base of a granted ask
 abbrev pub is_base : Digest → KeptAsk → Bool
-is_base d (Open wants tenure) = false
-is_base d (Holding wants g r) = list_any (λ u. digest_eq u.digest d) g.slots
-is_base d (Running wants g r) = false
-is_base d (Finished wants g news) = false
-is_base d (Over how) = false
+is_base digest (Open wants tenure) = false
+is_base digest (Holding wants grant recalled) =
+    list_any (λ granted_slot. digest_eq granted_slot.digest digest) grant.slots
+is_base digest (Running wants grant recalled) = false
+is_base digest (Finished wants grant news) = false
+is_base digest (Over ending) = false
 
 -- the ask needs the content of the digest: as a base of its grant until it has finished, and then as one of its news
 abbrev pub needs : Digest → KeptAsk → Bool
-needs d (Open wants tenure) = false
-needs d (Holding wants g r) = list_any (λ u. digest_eq u.digest d) g.slots
-needs d (Running wants g r) = list_any (λ u. digest_eq u.digest d) g.slots
-needs d (Finished wants g news) = list_any (λ y. digest_eq y.digest d) news
-needs d (Over how) = false
+needs digest (Open wants tenure) = false
+needs digest (Holding wants grant recalled) =
+    list_any (λ granted_slot. digest_eq granted_slot.digest digest) grant.slots
+needs digest (Running wants grant recalled) =
+    list_any (λ granted_slot. digest_eq granted_slot.digest digest) grant.slots
+needs digest (Finished wants grant news) = list_any (λ item. digest_eq item.digest digest) news
+needs digest (Over ending) = false
 
 -- calls
 
+-- the number of the next ask: they are counted from 1
 abbrev pub next_ask : Node → Ask
-next_ask x = record { 0 = length x.asks + 1 }
+next_ask state = record { 0 = length state.asks + 1 }
 
+-- a new ask is open, and is sent
 abbrev pub opens : Place → List Want → Bool → Node → NodeWork
-opens at wants tenure x = record {
-  node = record x { asks = x.asks ++ Open wants tenure ∷ [] };
-  sends = acquire at.node x.life (next_ask x) wants tenure ∷ [];
-  note = note.Asked (next_ask x);
+opens here wants tenure state = record {
+  node = record state { asks = state.asks ++ Open wants tenure ∷ [] };
+  sends = acquire here.node state.life (next_ask state) wants tenure ∷ [];
+  note = note.Asked (next_ask state);
 }
 
+-- a node asks for a lease
 abbrev pub asked : Limits → Place → List Want → Node → NodeAnswer
-asked k at wants x = guard x.spent refusal.LivesSpent (guard (not (at_home x.asks wants)) refusal.NotHomeHere (guard (not (nat_lt (length x.asks) k.greatest)) refusal.AsksSpent (Ok (opens at wants false x))))
+asked limits here wants state =
+    guard state.spent refusal.LivesSpent
+    (guard (not (at_home state.asks wants)) refusal.NotHomeHere
+    (guard (not (nat_lt (length state.asks) limits.greatest)) refusal.AsksSpent
+    (Ok (opens here wants false state))))
 
--- a tenure of the SHARED folder of this name
+-- a node asks for the tenure of the SHARED folder of this name
 abbrev pub asked_tenure : Limits → Place → FolderName → Node → NodeAnswer
-asked_tenure k at f x = guard x.spent refusal.LivesSpent (guard (list_any (is_tenure_of (record f { mode = Shared })) x.asks) refusal.TenureHere (guard (not (nat_lt (length x.asks) k.greatest)) refusal.AsksSpent (Ok (opens at (tenure_wants f) true x))))
+asked_tenure limits here folder state =
+    guard state.spent refusal.LivesSpent
+    (guard (list_any (is_tenure_of (record folder { mode = Shared })) state.asks) refusal.TenureHere
+    (guard (not (nat_lt (length state.asks) limits.greatest)) refusal.AsksSpent
+    (Ok (opens here (tenure_wants folder) true state))))
 
+-- a granted ask begins, where its base contents are stored
 abbrev pub beginning : Ticket → Node → Option (ℕ × HeldGrant) → NodeAnswer
-beginning t x None = Err refusal.NoSuchTicket
-beginning t x (Some (a, h)) = guard (not (all_stored x h.grant.slots)) refusal.ContentsMissing (Ok (record { node = becomes a (Running h.wants h.grant h.recalled) x; sends = []; note = note.Begun t }))
+beginning ticket state None = Err refusal.NoSuchTicket
+beginning ticket state (Some (place, found)) =
+    guard (not (all_stored state found.grant.slots)) refusal.ContentsMissing
+    (Ok (record {
+      node = becomes place (Running found.wants found.grant found.recalled) state;
+      sends = [];
+      note = note.Begun ticket
+    }))
 
+-- a node begins the execution of the ticket
 abbrev pub begun : Ticket → Node → NodeAnswer
-begun t x = guard x.spent refusal.LivesSpent (beginning t x (first (held t) x.asks 0))
+begun ticket state = guard state.spent refusal.LivesSpent (beginning ticket state (first (held ticket) state.asks 0))
 
+-- the news of what an execution left
 abbrev pub news_of : (List ℕ → Digest) → List Left → List News
-news_of sha lefts = map (λ x. record { slot = x.slot; digest = sha x.content }) lefts
+news_of sha lefts = map (λ left. record { slot = left.slot; digest = sha left.content }) lefts
 
 -- each content is stored. A digest that is stored already keeps its content
 abbrev pub stored : (List ℕ → Digest) → List Left → (Digest → Option (List ℕ)) → Digest → Option (List ℕ)
 stored sha [] store = store
-stored sha (x ∷ xs) store = if is_some (store (sha x.content)) then stored sha xs store else stored sha xs (keep (sha x.content) x.content store)
+stored sha (left ∷ lefts) store =
+    if is_some (store (sha left.content))
+    then stored sha lefts store
+    else stored sha lefts (keep (sha left.content) left.content store)
 
+-- the ask is over, and its lease is given back
 abbrev pub gives_up : Place → ℕ → Ticket → NodeNote → Node → NodeWork
-gives_up at a t n x = record { node = becomes a (Over (how.Released t)) x; sends = release at.node x.life t ∷ []; note = n }
-
-abbrev pub leaves : (List ℕ → Digest) → Place → ℕ → HeldGrant → List Left → Node → NodeWork
-leaves sha at a h lefts x = record {
-  node = record (becomes a (Finished h.wants h.grant (news_of sha lefts)) x) { store = stored sha lefts x.store };
-  sends = commit at.node x.life h.grant.ticket (news_of sha lefts) ∷ [];
-  note = note.Finished h.grant.ticket;
+gives_up here place ticket noted state = record {
+  node = becomes place (Over (how.Released ticket)) state;
+  sends = release here.node state.life ticket ∷ [];
+  note = noted
 }
 
+-- the ask has finished: what it left is stored, and its news are sent
+abbrev pub leaves : (List ℕ → Digest) → Place → ℕ → HeldGrant → List Left → Node → NodeWork
+leaves sha here place found lefts state = record {
+  node = record (becomes place (Finished found.wants found.grant (news_of sha lefts)) state) {
+    store = stored sha lefts state.store
+  };
+  sends = commit here.node state.life found.grant.ticket (news_of sha lefts) ∷ [];
+  note = note.Finished found.grant.ticket;
+}
+
+-- an execution that left nothing gives its lease back
 abbrev pub leaving : (List ℕ → Digest) → Place → ℕ → HeldGrant → List Left → Node → NodeWork
-leaving sha at a h [] x = gives_up at a h.grant.ticket (note.Finished h.grant.ticket) x
-leaving sha at a h (l ∷ ls) x = leaves sha at a h (l ∷ ls) x
+leaving sha here place found [] state = gives_up here place found.grant.ticket (note.Finished found.grant.ticket) state
+leaving sha here place found (left ∷ lefts) state = leaves sha here place found (left ∷ lefts) state
 
+-- a running ask finishes: no other ask uses its tenure's folder, and what it left is for exactly its writable slots
 abbrev pub finishing : (List ℕ → Digest) → Place → List Left → Node → Option (ℕ × HeldGrant) → NodeAnswer
-finishing sha at lefts x None = Err refusal.NotRunning
-finishing sha at lefts x (Some (a, h)) =
-    guard (in_use x.asks a h.wants h.grant) refusal.TenureInUse (guard (not (slots_eq (slots_of (news_of sha lefts)) (written h.grant.slots))) refusal.WrongNews (Ok (leaving sha at a h lefts x)))
+finishing sha here lefts state None = Err refusal.NotRunning
+finishing sha here lefts state (Some (place, found)) =
+    guard (in_use state.asks place found.wants found.grant) refusal.TenureInUse
+    (guard (not (slots_eq (slots_of (news_of sha lefts)) (written found.grant.slots))) refusal.WrongNews
+    (Ok (leaving sha here place found lefts state)))
 
+-- a node finishes the execution of the ticket
 abbrev pub finished_with : (List ℕ → Digest) → Place → Ticket → List Left → Node → NodeAnswer
-finished_with sha at t lefts x = guard x.spent refusal.LivesSpent (finishing sha at lefts x (first (running t) x.asks 0))
+finished_with sha here ticket lefts state =
+    guard state.spent refusal.LivesSpent (finishing sha here lefts state (first (running ticket) state.asks 0))
 
+-- a granted or running ask is given up, where no other ask uses its tenure's folder
 abbrev pub aborting : Place → Node → Option (ℕ × HeldGrant) → NodeAnswer
-aborting at x None = Err refusal.NoSuchTicket
-aborting at x (Some (a, h)) = guard (in_use x.asks a h.wants h.grant) refusal.TenureInUse (Ok (gives_up at a h.grant.ticket (note.Aborted h.grant.ticket) x))
+aborting here state None = Err refusal.NoSuchTicket
+aborting here state (Some (place, found)) =
+    guard (in_use state.asks place found.wants found.grant) refusal.TenureInUse
+    (Ok (gives_up here place found.grant.ticket (note.Aborted found.grant.ticket) state))
 
+-- a node gives up the ask of the ticket
 abbrev pub aborted : Place → Ticket → Node → NodeAnswer
-aborted at t x = guard x.spent refusal.LivesSpent (aborting at x (first (held_or_running t) x.asks 0))
+aborted here ticket state =
+    guard state.spent refusal.LivesSpent (aborting here state (first (held_or_running ticket) state.asks 0))
 
 -- the content of the digest is no longer stored. The empty content always is
 abbrev pub forgotten : Limits → Digest → Node → NodeAnswer
-forgotten k d x =
-    guard x.spent refusal.LivesSpent (guard (digest_eq d k.empty || not (is_stored x d)) refusal.NoSuchContent (guard (list_any (needs d) x.asks) refusal.Needed (Ok (record { node = record x { store = without d x.store }; sends = []; note = note.Forgot }))))
+forgotten limits digest state =
+    guard state.spent refusal.LivesSpent
+    (guard (digest_eq digest limits.empty || not (is_stored state digest)) refusal.NoSuchContent
+    (guard (list_any (needs digest) state.asks) refusal.Needed
+    (Ok (record { node = record state { store = without digest state.store }; sends = []; note = note.Forgot }))))
 
 -- what an ask sends again
 abbrev pub again : Limits → Place → Node → Ask → KeptAsk → List Message
-again k at x a (Open wants tenure) = acquire at.node x.life a wants tenure ∷ []
-again k at x a (Holding wants g r) = fetches k at x g.slots
-again k at x a (Running wants g r) = []
-again k at x a (Finished wants g news) = commit at.node x.life g.ticket news ∷ []
-again k at x a (Over how) = []
+again limits here state ask (Open wants tenure) = acquire here.node state.life ask wants tenure ∷ []
+again limits here state ask (Holding wants grant recalled) = fetches limits here state grant.slots
+again limits here state ask (Running wants grant recalled) = []
+again limits here state ask (Finished wants grant news) = commit here.node state.life grant.ticket news ∷ []
+again limits here state ask (Over ending) = []
 
+-- what these asks send again, `before` asks being before them
 abbrev pub all_again : Limits → Place → Node → List KeptAsk → ℕ → List Message
-all_again k at x [] i = []
-all_again k at x (s ∷ ss) i = again k at x (record { 0 = i + 1 }) s ++ all_again k at x ss (i + 1)
+all_again limits here state [] before = []
+all_again limits here state (kept ∷ asks) before =
+    again limits here state (record { 0 = before + 1 }) kept ++ all_again limits here state asks (before + 1)
 
+-- a node sends again what was not answered
 abbrev pub resent : Limits → Place → Node → NodeAnswer
-resent k at x = guard x.spent refusal.LivesSpent (Ok (record { node = x; sends = hello at.node x.life ∷ all_again k at x x.asks 0; note = note.Resent }))
+resent limits here state =
+    guard state.spent refusal.LivesSpent
+    (Ok (record {
+      node = state;
+      sends = hello here.node state.life ∷ all_again limits here state state.asks 0;
+      note = note.Resent
+    }))
 
 -- a restart of a node whose life isn't the greatest
 abbrev pub restarted : Place → Node → NodeWork
-restarted at x = record { node = has_life x (x.life.0 + 1); sends = hello at.node (record { 0 = x.life.0 + 1 }) ∷ []; note = note.Life (record { 0 = x.life.0 + 1 }) }
+restarted here state = record {
+  node = has_life state (state.life.0 + 1);
+  sends = hello here.node (record { 0 = state.life.0 + 1 }) ∷ [];
+  note = note.Life (record { 0 = state.life.0 + 1 })
+}
 
+-- a life is left for the node
 abbrev pub may_restart : Limits → Node → Bool
-may_restart k x = not x.spent && nat_lt x.life.0 k.greatest
+may_restart limits state = not state.spent && nat_lt state.life.0 limits.greatest
 
 -- messages
 
+-- nothing changes and nothing is sent
 abbrev pub nothing : Node → NodeWork
-nothing x = record { node = x; sends = []; note = note.Nothing }
+nothing state = record { node = state; sends = []; note = note.Nothing }
 
+-- an open ask takes its Grant, and the missing bases are fetched
 abbrev pub takes : Limits → Place → Grant → List Want → Node → NodeWork
-takes k at g wants x = record {
-  node = record (becomes g.ask.0 (Holding wants g false) x) { known = learn_bases g.slots x.known };
-  sends = fetches k at x g.slots;
-  note = note.Took g;
+takes limits here grant wants state = record {
+  node = record (becomes grant.ask.0 (Holding wants grant false) state) { known = learn_bases grant.slots state.known };
+  sends = fetches limits here state grant.slots;
+  note = note.Took grant;
 }
 
+-- a Grant that no ask waits for is given back, unless an ask has it already
 abbrev pub gives_back : Place → Grant → Bool → Node → NodeWork
-gives_back at g true x = nothing x
-gives_back at g false x = record { node = x; sends = release at.node x.life g.ticket ∷ []; note = note.GaveBack g.ticket }
+gives_back here grant true state = nothing state
+gives_back here grant false state =
+    record { node = state; sends = release here.node state.life grant.ticket ∷ []; note = note.GaveBack grant.ticket }
 
+-- a Grant comes: its ask is open and takes it, or it is given back
 abbrev pub granted : Limits → Place → Grant → Node → Option KeptAsk → NodeWork
-granted k at g x None = gives_back at g false x
-granted k at g x (Some (Open wants tenure)) = takes k at g wants x
-granted k at g x (Some (Holding wants h r)) = gives_back at g (keeps (Holding wants h r) g.ticket) x
-granted k at g x (Some (Running wants h r)) = gives_back at g (keeps (Running wants h r) g.ticket) x
-granted k at g x (Some (Finished wants h news)) = gives_back at g (keeps (Finished wants h news) g.ticket) x
-granted k at g x (Some (Over how)) = gives_back at g false x
+granted limits here grant state None = gives_back here grant false state
+granted limits here grant state (Some (Open wants tenure)) = takes limits here grant wants state
+granted limits here grant state (Some (Holding wants other recalled)) =
+    gives_back here grant (keeps (Holding wants other recalled) grant.ticket) state
+granted limits here grant state (Some (Running wants other recalled)) =
+    gives_back here grant (keeps (Running wants other recalled) grant.ticket) state
+granted limits here grant state (Some (Finished wants other news)) =
+    gives_back here grant (keeps (Finished wants other news) grant.ticket) state
+granted limits here grant state (Some (Over ending)) = gives_back here grant false state
 
+-- the news count
 abbrev pub learned : Ticket → List Confirmed → Node → Option (ℕ × Sent) → NodeWork
-learned t versions x None = nothing x
-learned t versions x (Some (a, s)) = record { node = record (becomes a (Over (how.Committed t versions)) x) { known = learn_versions versions x.known }; sends = []; note = note.Learned t }
+learned ticket versions state None = nothing state
+learned ticket versions state (Some (place, sent)) = record {
+  node = record (becomes place (Over (how.Committed ticket versions)) state) {
+    known = learn_versions versions state.known
+  };
+  sends = [];
+  note = note.Learned ticket
+}
 
+-- the news do not count
 abbrev pub dropped : Ticket → Node → Option (ℕ × Sent) → NodeWork
-dropped t x None = nothing x
-dropped t x (Some (a, s)) = record { node = becomes a (Over (how.Fenced t)) x; sends = []; note = note.Dropped t }
+dropped ticket state None = nothing state
+dropped ticket state (Some (place, sent)) =
+    record { node = becomes place (Over (how.Fenced ticket)) state; sends = []; note = note.Dropped ticket }
 
+-- an open ask is denied
 abbrev pub denied : Ask → Why → Node → Option KeptAsk → NodeWork
-denied a why x None = nothing x
-denied a why x (Some (Open wants tenure)) = record { node = becomes a.0 (Over (how.Denied why)) x; sends = []; note = note.Denied why }
-denied a why x (Some (Holding wants g r)) = nothing x
-denied a why x (Some (Running wants g r)) = nothing x
-denied a why x (Some (Finished wants g news)) = nothing x
-denied a why x (Some (Over how)) = nothing x
+denied ask why state None = nothing state
+denied ask why state (Some (Open wants tenure)) =
+    record { node = becomes ask.0 (Over (how.Denied why)) state; sends = []; note = note.Denied why }
+denied ask why state (Some (Holding wants grant recalled)) = nothing state
+denied ask why state (Some (Running wants grant recalled)) = nothing state
+denied ask why state (Some (Finished wants grant news)) = nothing state
+denied ask why state (Some (Over ending)) = nothing state
 
+-- the tenure is recalled
 abbrev pub recalled : Ticket → Node → Option (ℕ × KeptAsk) → NodeWork
-recalled t x None = nothing x
-recalled t x (Some (a, s)) = record { node = becomes a s x; sends = []; note = note.Recalled t }
+recalled ticket state None = nothing state
+recalled ticket state (Some (place, kept)) =
+    record { node = becomes place kept state; sends = []; note = note.Recalled ticket }
 
 -- a message of another life of the node is ignored
 abbrev pub of_life : Life → Node → NodeWork → NodeWork
-of_life l x w = if l.0 == x.life.0 then w else record { node = x; sends = []; note = note.OldLife }
+of_life life state work =
+    if life.0 == state.life.0 then work else record { node = state; sends = []; note = note.OldLife }
 
+-- what the coordinator says is heard
 abbrev pub heard : Limits → Place → FromCoord → Node → NodeWork
-heard k at (told.Granted g) x = of_life g.life x (granted k at g x (nth x.asks g.ask.0))
-heard k at (told.Committed n l t versions) x = of_life l x (learned t versions x (first (finished t) x.asks 0))
-heard k at (told.Fenced n l t) x = of_life l x (dropped t x (first (finished t) x.asks 0))
-heard k at (told.Denied n l a why) x = of_life l x (denied a why x (nth x.asks a.0))
-heard k at (told.Recall n l t) x = of_life l x (recalled t x (first (recallable t) x.asks 0))
+heard limits here (told.Granted grant) state =
+    of_life grant.life state (granted limits here grant state (nth state.asks grant.ask.0))
+heard limits here (told.Committed node life ticket versions) state =
+    of_life life state (learned ticket versions state (first (finished ticket) state.asks 0))
+heard limits here (told.Fenced node life ticket) state =
+    of_life life state (dropped ticket state (first (finished ticket) state.asks 0))
+heard limits here (told.Denied node life ask why) state =
+    of_life life state (denied ask why state (nth state.asks ask.0))
+heard limits here (told.Recall node life ticket) state =
+    of_life life state (recalled ticket state (first (recallable ticket) state.asks 0))
 
+-- a content that is asked for is sent, where it is stored
 abbrev pub fetched : NodeId → Node → Option (List ℕ) → NodeWork
-fetched from x None = nothing x
-fetched from x (Some c) = record { node = x; sends = Blob from c ∷ []; note = note.SentBlob }
+fetched from state None = nothing state
+fetched from state (Some content) = record { node = state; sends = Blob from content ∷ []; note = note.SentBlob }
 
 -- a content that is wanted and isn't stored is stored
 abbrev pub brought : (List ℕ → Digest) → List ℕ → Node → NodeWork
-brought sha c x =
-    if not (is_stored x (sha c)) && list_any (is_base (sha c)) x.asks
-    then record { node = record x { store = keep (sha c) c x.store }; sends = []; note = note.BlobTaken }
-    else nothing x
+brought sha content state =
+    if not (is_stored state (sha content)) && list_any (is_base (sha content)) state.asks
+    then record {
+      node = record state { store = keep (sha content) content state.store };
+      sends = [];
+      note = note.BlobTaken
+    }
+    else nothing state
 
 -- the result of a message
 abbrev pub received : (List ℕ → Digest) → Limits → Place → ToNode → Node → NodeWork
-received sha k at (to_node.FromCoord y) x = heard k at y x
-received sha k at (to_node.Fetch y) x = fetched y.from x (x.store y.digest)
-received sha k at (to_node.Blob n c) x = brought sha c x
+received sha limits here (to_node.FromCoord telling) state = heard limits here telling state
+received sha limits here (to_node.Fetch fetch) state = fetched fetch.from state (state.store fetch.digest)
+received sha limits here (to_node.Blob node content) state = brought sha content state
 
 -- a node that is down for good answers LivesSpent to all
 abbrev pub unless_spent : Node → NodeWork → NodeAnswer
-unless_spent x w = guard x.spent refusal.LivesSpent (Ok w)
+unless_spent state work = guard state.spent refusal.LivesSpent (Ok work)

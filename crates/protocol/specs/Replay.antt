@@ -37,100 +37,143 @@ pub record Farm : Type 0 where
   pub pool : List Message
   pub nodes : ℕ → Node
 
+-- a farm where nothing happened
 abbrev pub opening : (List ℕ → Digest) → ℕ → Farm
-opening sha size = record { size = size; ledger = ledger.opening; saved = saves ledger.opening; down = false; armed = None; pool = []; nodes = λ n. first_node sha }
+opening sha size = record {
+  size = size;
+  ledger = ledger.opening;
+  saved = saves ledger.opening;
+  down = false;
+  armed = None;
+  pool = [];
+  nodes = λ who. first_node sha
+}
 
 -- an event's farm, and its outcome
 pub record Turn : Type 0 where
   pub farm : Farm
   pub outcome : Result Outcome EventRefusal
 
+-- a refused event leaves this farm
 abbrev pub refused : EventRefusal → Farm → Turn
-refused e s = record { farm = s; outcome = Err e }
+refused reason farm = record { farm = farm; outcome = Err reason }
 
+-- the number of the first message that the event sends, or 0
 abbrev pub first_sent : Farm → List Message → ℕ
-first_sent s [] = 0
-first_sent s (y ∷ ys) = length s.pool + 1
+first_sent farm [] = 0
+first_sent farm (message ∷ messages) = length farm.pool + 1
 
+-- an accepted event leaves the farm `after`, and sends these messages
 abbrev pub done : EventNote → List Message → Farm → Farm → Turn
-done n sends s after = record { farm = after; outcome = Ok (record { note = n; first = first_sent s sends; sent = length sends }) }
+done noted sends farm after =
+    record { farm = after; outcome = Ok (record { note = noted; first = first_sent farm sends; sent = length sends }) }
 
 -- the coordinator
 
+-- the work of the coordinator is done, `saved` being in its record
 abbrev pub after_work : Saved → Work → Farm → Turn
-after_work saved w s = done (note.Coord w.note) (map Told w.sends) s (record s { ledger = w.ledger; saved = saved; pool = s.pool ++ map Told w.sends })
+after_work saved work farm =
+    done (note.Coord work.note) (map Told work.sends) farm
+        (record farm { ledger = work.ledger; saved = saved; pool = farm.pool ++ map Told work.sends })
 
 -- the record is saved where it changed, and then all is sent; or the save fails, and nothing is sent
 abbrev pub settled : Bool → Option Kept → Work → Farm → Turn
-settled false armed w s = after_work s.saved w s
-settled true None w s = after_work (saves w.ledger) w s
-settled true (Some Old) w s = record { farm = record s { down = true; armed = None }; outcome = Err (refusal.Coord coord.SaveFault) }
-settled true (Some New) w s = record { farm = record s { saved = saves w.ledger; down = true; armed = None }; outcome = Err (refusal.Coord coord.SaveFault) }
+settled false armed work farm = after_work farm.saved work farm
+settled true None work farm = after_work (saves work.ledger) work farm
+settled true (Some Old) work farm =
+    record { farm = record farm { down = true; armed = None }; outcome = Err (refusal.Coord coord.SaveFault) }
+settled true (Some New) work farm = record {
+  farm = record farm { saved = saves work.ledger; down = true; armed = None };
+  outcome = Err (refusal.Coord coord.SaveFault)
+}
 
+-- a call of the coordinator is refused, or its work is settled
 abbrev pub settles : Result Work CoordRefusal → Farm → Turn
-settles (Err e) s = refused (refusal.Coord e) s
-settles (Ok w) s = settled w.changed s.armed w s
+settles (Err reason) farm = refused (refusal.Coord reason) farm
+settles (Ok work) farm = settled work.changed farm.armed work farm
 
 -- nothing is done while the coordinator is down
 abbrev pub coordinated : Bool → Result Work CoordRefusal → Farm → Turn
-coordinated true work s = refused (refusal.Coord coord.Down) s
-coordinated false work s = settles work s
+coordinated true result farm = refused (refusal.Coord coord.Down) farm
+coordinated false result farm = settles result farm
 
 -- the nodes
 
+-- the farm has a node with this number: they are counted from 1
 abbrev pub is_node : Farm → NodeId → Bool
-is_node s n = nat_le 1 n.0 && nat_le n.0 s.size
+is_node farm who = nat_le 1 who.0 && nat_le who.0 farm.size
 
+-- the place of the node in the farm
 abbrev pub at : Farm → NodeId → Place
-at s n = record { node = n; nodes = s.size }
+at farm who = record { node = who; nodes = farm.size }
 
+-- the node does this work
 abbrev pub moved : NodeId → NodeWork → Farm → Turn
-moved n w s = done (note.Node w.note) w.sends s (record s { nodes = put n.0 w.node s.nodes; pool = s.pool ++ w.sends })
+moved who work farm =
+    done (note.Node work.note) work.sends farm
+        (record farm { nodes = put who.0 work.node farm.nodes; pool = farm.pool ++ work.sends })
 
+-- a call of the node is refused, or its work is done
 abbrev pub answered : NodeId → NodeAnswer → Farm → Turn
-answered n (Err e) s = refused (refusal.Node e) s
-answered n (Ok w) s = moved n w s
+answered who (Err reason) farm = refused (refusal.Node reason) farm
+answered who (Ok work) farm = moved who work farm
 
+-- what a node answers, where the farm has it
 abbrev pub at_node : Bool → NodeId → NodeAnswer → Farm → Turn
-at_node true n answer s = answered n answer s
-at_node false n answer s = refused refusal.NoSuchNode s
+at_node true who answer farm = answered who answer farm
+at_node false who answer farm = refused refusal.NoSuchNode farm
 
+-- what a call of the node gives in the farm
 abbrev pub node_does : NodeId → (Place → Node → NodeAnswer) → Farm → Turn
-node_does n f s = at_node (is_node s n) n (f (at s n) (s.nodes n.0)) s
+node_does who call farm = at_node (is_node farm who) who (call (at farm who) (farm.nodes who.0)) farm
 
 -- a node that can't restart is down for good
 abbrev pub restarts : Limits → NodeId → Farm → Turn
-restarts k n s =
-    if may_restart k (s.nodes n.0) then moved n (restarted (at s n) (s.nodes n.0)) s
-    else refused (refusal.Node node.LivesSpent) (record s { nodes = put n.0 (record (s.nodes n.0) { spent = true }) s.nodes })
+restarts limits who farm =
+    if may_restart limits (farm.nodes who.0)
+    then moved who (restarted (at farm who) (farm.nodes who.0)) farm
+    else refused (refusal.Node node.LivesSpent)
+        (record farm { nodes = put who.0 (record (farm.nodes who.0) { spent = true }) farm.nodes })
 
 -- deliveries
 
+-- the message arrives, at the coordinator or at its node
 abbrev pub delivered : (List ℕ → Digest) → Limits → Option Message → Farm → Turn
-delivered sha k None s = refused refusal.NoSuchMessage s
-delivered sha k (Some (to.ToCoord y)) s = coordinated s.down (Ok (handled k y (begin_work s.ledger))) s
-delivered sha k (Some (to.ToNode y)) s = node_does (receiver y) (λ p x. unless_spent x (received sha k p y x)) s
+delivered sha limits None farm = refused refusal.NoSuchMessage farm
+delivered sha limits (Some (to.ToCoord saying)) farm =
+    coordinated farm.down (Ok (handled limits saying (begin_work farm.ledger))) farm
+delivered sha limits (Some (to.ToNode mail)) farm =
+    node_does (receiver mail) (λ here state. unless_spent state (received sha limits here mail state)) farm
 
--- a restart reads the record and nothing else
+-- what each event does. A restart of the coordinator reads the record and nothing else
 unfoldable pub step : (List ℕ → Digest) → Limits → Farm → Event → Turn
-step sha k s (Ask n wants) = node_does n (λ p x. asked k p wants x) s
-step sha k s (Tenure n folder) = node_does n (λ p x. asked_tenure k p folder x) s
-step sha k s (Deliver number) = delivered sha k (nth s.pool number) s
-step sha k s (Begin n t) = node_does n (λ p x. begun t x) s
-step sha k s (Finish n t lefts) = node_does n (λ p x. finished_with sha p t lefts x) s
-step sha k s (Abort n t) = node_does n (λ p x. aborted p t x) s
-step sha k s (Resend n) = node_does n (λ p x. resent k p x) s
-step sha k s Nudge = coordinated s.down (Ok (nudged k (begin_work s.ledger))) s
-step sha k s (Withdraw t) = coordinated s.down (withdrawn k t (begin_work s.ledger)) s
-step sha k s (Prune slot) = coordinated s.down (pruned k slot (begin_work s.ledger)) s
-step sha k s (Retire n) = if is_node s n then coordinated s.down (retired k n (begin_work s.ledger)) s else refused refusal.NoSuchNode s
-step sha k s (RestartNode n) = if is_node s n then restarts k n s else refused refusal.NoSuchNode s
-step sha k s RestartCoordinator = done note.Restarted [] s (record s { ledger = reads s.saved; down = false })
-step sha k s (Forge n c) = node_does n (λ p x. unless_spent x (brought sha c x)) s
-step sha k s (Forget n d) = node_does n (λ p x. forgotten k d x) s
-step sha k s (FailSave kept) = done note.Armed [] s (record s { armed = Some kept })
+step sha limits farm (Ask who wants) = node_does who (λ here state. asked limits here wants state) farm
+step sha limits farm (Tenure who folder) = node_does who (λ here state. asked_tenure limits here folder state) farm
+step sha limits farm (Deliver number) = delivered sha limits (nth farm.pool number) farm
+step sha limits farm (Begin who ticket) = node_does who (λ here state. begun ticket state) farm
+step sha limits farm (Finish who ticket lefts) =
+    node_does who (λ here state. finished_with sha here ticket lefts state) farm
+step sha limits farm (Abort who ticket) = node_does who (λ here state. aborted here ticket state) farm
+step sha limits farm (Resend who) = node_does who (λ here state. resent limits here state) farm
+step sha limits farm Nudge = coordinated farm.down (Ok (nudged limits (begin_work farm.ledger))) farm
+step sha limits farm (Withdraw ticket) = coordinated farm.down (withdrawn limits ticket (begin_work farm.ledger)) farm
+step sha limits farm (Prune slot) = coordinated farm.down (pruned limits slot (begin_work farm.ledger)) farm
+step sha limits farm (Retire who) =
+    if is_node farm who
+    then coordinated farm.down (retired limits who (begin_work farm.ledger)) farm
+    else refused refusal.NoSuchNode farm
+step sha limits farm (RestartNode who) =
+    if is_node farm who
+    then restarts limits who farm
+    else refused refusal.NoSuchNode farm
+step sha limits farm RestartCoordinator =
+    done note.Restarted [] farm (record farm { ledger = reads farm.saved; down = false })
+step sha limits farm (Forge who content) =
+    node_does who (λ here state. unless_spent state (brought sha content state)) farm
+step sha limits farm (Forget who digest) = node_does who (λ here state. forgotten limits digest state) farm
+step sha limits farm (FailSave kept) = done note.Armed [] farm (record farm { armed = Some kept })
 
 -- the farm after a whole schedule
 abbrev pub run : (List ℕ → Digest) → Limits → List Event → Farm → Farm
-run sha k [] s = s
-run sha k (e ∷ es) s = run sha k es (step sha k s e).farm
+run sha limits [] farm = farm
+run sha limits (event ∷ events) farm = run sha limits events (step sha limits farm event).farm
