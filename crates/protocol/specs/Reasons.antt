@@ -23,88 +23,127 @@ use Rattle.protocol.specs.Meaning.{IsLive, IsAsk, IsNeeded, node_at}
 
 -- a call of the coordinator may be refused for this, and for nothing else
 abbrev pub CallBecause : Limits → Machine → Event → CoordRefusal → Type 0
-CallBecause k m (Withdraw t) coord.NotLive = IsLive m t → ⊥
-CallBecause k m (Withdraw t) coord.Tenure = (g : Grant) × Live m g × (g.ticket ≡ t) × (is_tenure g.kind ≡ true)
-CallBecause k m (Prune s) coord.SlotLeased = Leased m s
-CallBecause k m (Prune s) coord.NoSuchSlot = line k.empty m s ≡ []
-CallBecause k m (Prune s) coord.TicketsSpent = k.greatest ≤ m.last
-CallBecause k m (Retire n) coord.NodeRetired = m.gone n.0 ≡ true
-CallBecause k m (Retire n) coord.TenureHeld = ((g : Grant) × Live m g × (g.node ≡ n) × (is_tenure g.kind ≡ true)) ⊎ (m.old_home ≡ Some n)
-CallBecause k m e r = ⊥
+CallBecause limits machine (Withdraw ticket) coord.NotLive = IsLive machine ticket → ⊥
+CallBecause limits machine (Withdraw ticket) coord.Tenure =
+    (grant : Grant) × Live machine grant × (grant.ticket ≡ ticket) × (is_tenure grant.kind ≡ true)
+CallBecause limits machine (Prune slot) coord.SlotLeased = Leased machine slot
+CallBecause limits machine (Prune slot) coord.NoSuchSlot = line limits.empty machine slot ≡ []
+CallBecause limits machine (Prune slot) coord.TicketsSpent = limits.greatest ≤ machine.last
+CallBecause limits machine (Retire who) coord.NodeRetired = machine.gone who.0 ≡ true
+CallBecause limits machine (Retire who) coord.TenureHeld =
+    ((grant : Grant) × Live machine grant × (grant.node ≡ who) × (is_tenure grant.kind ≡ true))
+    ⊎ (machine.old_home ≡ Some who)
+CallBecause limits machine happening reason = ⊥
 
--- what the coordinator decides at an event
+-- what the coordinator decides at a message
 abbrev pub message_decision : Limits → Farm → Option Message → Option (Result Work CoordRefusal)
-message_decision k s (Some (to.ToCoord y)) = Some (Ok (handled k y (begin_work s.ledger)))
-message_decision k s o = None
+message_decision limits farm (Some (to.ToCoord saying)) = Some (Ok (handled limits saying (begin_work farm.ledger)))
+message_decision limits farm other = None
 
+-- what the coordinator decides at the event
 abbrev pub decision_at : Limits → Farm → Event → Option (Result Work CoordRefusal)
-decision_at k s (Deliver number) = message_decision k s (nth s.pool number)
-decision_at k s Nudge = Some (Ok (nudged k (begin_work s.ledger)))
-decision_at k s (Withdraw t) = Some (withdrawn k t (begin_work s.ledger))
-decision_at k s (Prune slot) = Some (pruned k slot (begin_work s.ledger))
-decision_at k s (Retire n) = Some (retired k n (begin_work s.ledger))
-decision_at k s e = None
+decision_at limits farm (Deliver number) = message_decision limits farm (nth farm.pool number)
+decision_at limits farm Nudge = Some (Ok (nudged limits (begin_work farm.ledger)))
+decision_at limits farm (Withdraw ticket) = Some (withdrawn limits ticket (begin_work farm.ledger))
+decision_at limits farm (Prune slot) = Some (pruned limits slot (begin_work farm.ledger))
+decision_at limits farm (Retire who) = Some (retired limits who (begin_work farm.ledger))
+decision_at limits farm happening = None
 
 -- the decision changes what the record holds
 abbrev pub NeedsSave : Limits → Farm → Event → Type 0
-NeedsSave k s e = (w : Work) × (decision_at k s e ≡ Some (Ok w)) × (saves w.ledger ≢ saves s.ledger)
+NeedsSave limits farm happening =
+    (work : Work) × (decision_at limits farm happening ≡ Some (Ok work)) × (saves work.ledger ≢ saves farm.ledger)
 
 -- the farm has a node with this number: they are counted from 1
 abbrev pub IsThere : Farm → NodeId → Type 0
-IsThere s n = (1 ≤ n.0) × (n.0 ≤ s.size)
+IsThere farm who = (1 ≤ who.0) × (who.0 ≤ farm.size)
 
 -- the event is for the coordinator
 abbrev pub Reaches : World → Farm → Event → Type 0
-Reaches u s (Deliver number) = (y : ToCoord) × (nth u.pool number ≡ Some (Said y))
-Reaches u s Nudge = ⊤
-Reaches u s (Withdraw t) = ⊤
-Reaches u s (Prune slot) = ⊤
-Reaches u s (Retire n) = IsThere s n
-Reaches u s e = ⊥
+Reaches world farm (Deliver number) = (saying : ToCoord) × (nth world.pool number ≡ Some (Said saying))
+Reaches world farm Nudge = ⊤
+Reaches world farm (Withdraw ticket) = ⊤
+Reaches world farm (Prune slot) = ⊤
+Reaches world farm (Retire who) = IsThere farm who
+Reaches world farm happening = ⊥
 
+-- the coordinator may refuse an event for this
 abbrev pub CoordBecause : Limits → World → Farm → Event → CoordRefusal → Type 0
-CoordBecause k u s e coord.Down = u.down ≢ None
-CoordBecause k u s e coord.SaveFault = (u.down ≡ None) × (s.armed ≢ None) × NeedsSave k s e
-CoordBecause k u s e r = (u.down ≡ None) × CallBecause k u.machine e r
+CoordBecause limits world farm happening coord.Down = world.down ≢ None
+CoordBecause limits world farm happening coord.SaveFault =
+    (world.down ≡ None) × (farm.armed ≢ None) × NeedsSave limits farm happening
+CoordBecause limits world farm happening reason =
+    (world.down ≡ None) × CallBecause limits world.machine happening reason
 
 -- ---- the nodes
 
--- an ask holds the grant of the ticket, or runs under it
+-- an ask holds the grant of the ticket
 abbrev pub HoldsUnder : Node → Ticket → ℕ → List Want → Grant → Type 0
-HoldsUnder x t a wants g = ((recalled : Bool) × IsAsk x a (Holding wants g recalled)) × (g.ticket ≡ t)
+HoldsUnder state ticket place wants grant =
+    ((recalled : Bool) × IsAsk state place (Holding wants grant recalled)) × (grant.ticket ≡ ticket)
 
+-- an ask runs under the ticket
 abbrev pub RunsUnder : Node → Ticket → ℕ → List Want → Grant → Type 0
-RunsUnder x t a wants g = ((recalled : Bool) × IsAsk x a (Running wants g recalled)) × (g.ticket ≡ t)
+RunsUnder state ticket place wants grant =
+    ((recalled : Bool) × IsAsk state place (Running wants grant recalled)) × (grant.ticket ≡ ticket)
 
+-- a node may refuse an event for this
 abbrev pub NodeBecause : Limits → Event → Node → NodeRefusal → Type 0
-NodeBecause k (RestartNode n) x node.LivesSpent = (x.spent ≡ true) ⊎ (k.greatest ≤ x.life.0)
-NodeBecause k (replay.Ask n wants) x node.NotHomeHere = (w : Want) × In w wants × (wants_shared w ≡ true) × (RunsTenure x.asks w.folder false → ⊥)
-NodeBecause k (replay.Ask n wants) x node.AsksSpent = k.greatest ≤ length x.asks
-NodeBecause k (Tenure n f) x node.TenureHere = (a : ℕ) × (s : KeptAsk) × IsAsk x a s × IsTenureOf (record f { mode = Shared }) s
-NodeBecause k (Tenure n f) x node.AsksSpent = k.greatest ≤ length x.asks
-NodeBecause k (Begin n t) x node.NoSuchTicket = (a : ℕ) (wants : List Want) (g : Grant) → HoldsUnder x t a wants g → ⊥
-NodeBecause k (Begin n t) x node.ContentsMissing = (a : ℕ) × (wants : List Want) × (g : Grant) × (u : GrantedSlot) × HoldsUnder x t a wants g × In u g.slots × (x.store u.digest ≡ None)
-NodeBecause k (Finish n t lefts) x node.NotRunning = (a : ℕ) (wants : List Want) (g : Grant) → RunsUnder x t a wants g → ⊥
-NodeBecause k (Finish n t lefts) x node.TenureInUse = (a : ℕ) × (wants : List Want) × (g : Grant) × RunsUnder x t a wants g × (Idle x.asks a wants g → ⊥)
-NodeBecause k (Finish n t lefts) x node.WrongNews = (a : ℕ) × (wants : List Want) × (g : Grant) × RunsUnder x t a wants g × (map (λ (z : Left). z.slot) lefts ≢ written g.slots)
-NodeBecause k (Abort n t) x node.NoSuchTicket = (a : ℕ) (wants : List Want) (g : Grant) → HoldsUnder x t a wants g ⊎ RunsUnder x t a wants g → ⊥
-NodeBecause k (Abort n t) x node.TenureInUse = (a : ℕ) × (wants : List Want) × (g : Grant) × (HoldsUnder x t a wants g ⊎ RunsUnder x t a wants g) × (Idle x.asks a wants g → ⊥)
-NodeBecause k (Forget n d) x node.NoSuchContent = (d ≡ k.empty) ⊎ (x.store d ≡ None)
-NodeBecause k (Forget n d) x node.Needed = IsNeeded x d
-NodeBecause k e x node.LivesSpent = x.spent ≡ true
-NodeBecause k e x r = ⊥
+NodeBecause limits (RestartNode who) state node.LivesSpent = (state.spent ≡ true) ⊎ (limits.greatest ≤ state.life.0)
+NodeBecause limits (replay.Ask who wants) state node.NotHomeHere =
+    (want : Want) × In want wants × (wants_shared want ≡ true) × (RunsTenure state.asks want.folder false → ⊥)
+NodeBecause limits (replay.Ask who wants) state node.AsksSpent = limits.greatest ≤ length state.asks
+NodeBecause limits (Tenure who folder) state node.TenureHere =
+    (place : ℕ) × (kept : KeptAsk) × IsAsk state place kept × IsTenureOf (record folder { mode = Shared }) kept
+NodeBecause limits (Tenure who folder) state node.AsksSpent = limits.greatest ≤ length state.asks
+NodeBecause limits (Begin who ticket) state node.NoSuchTicket =
+    (place : ℕ) (wants : List Want) (grant : Grant) → HoldsUnder state ticket place wants grant → ⊥
+NodeBecause limits (Begin who ticket) state node.ContentsMissing =
+    (place : ℕ) × (wants : List Want) × (grant : Grant) × (granted : GrantedSlot)
+    × HoldsUnder state ticket place wants grant
+    × In granted grant.slots
+    × (state.store granted.digest ≡ None)
+NodeBecause limits (Finish who ticket lefts) state node.NotRunning =
+    (place : ℕ) (wants : List Want) (grant : Grant) → RunsUnder state ticket place wants grant → ⊥
+NodeBecause limits (Finish who ticket lefts) state node.TenureInUse =
+    (place : ℕ) × (wants : List Want) × (grant : Grant)
+    × RunsUnder state ticket place wants grant
+    × (Idle state.asks place wants grant → ⊥)
+NodeBecause limits (Finish who ticket lefts) state node.WrongNews =
+    (place : ℕ) × (wants : List Want) × (grant : Grant)
+    × RunsUnder state ticket place wants grant
+    × (map (λ (left : Left). left.slot) lefts ≢ written grant.slots)
+NodeBecause limits (Abort who ticket) state node.NoSuchTicket =
+    (place : ℕ) (wants : List Want) (grant : Grant)
+    → HoldsUnder state ticket place wants grant ⊎ RunsUnder state ticket place wants grant
+    → ⊥
+NodeBecause limits (Abort who ticket) state node.TenureInUse =
+    (place : ℕ) × (wants : List Want) × (grant : Grant)
+    × (HoldsUnder state ticket place wants grant ⊎ RunsUnder state ticket place wants grant)
+    × (Idle state.asks place wants grant → ⊥)
+NodeBecause limits (Forget who digest) state node.NoSuchContent = (digest ≡ limits.empty) ⊎ (state.store digest ≡ None)
+NodeBecause limits (Forget who digest) state node.Needed = IsNeeded state digest
+NodeBecause limits happening state node.LivesSpent = state.spent ≡ true
+NodeBecause limits happening state reason = ⊥
 
 -- ---- events
 
 -- why an event is refused so
 abbrev pub Because : Limits → World → Farm → Event → EventRefusal → Type 0
-Because k u s e event.NoSuchMessage = (number : ℕ) × (e ≡ Deliver number) × (nth u.pool number ≡ None)
-Because k u s e event.NoSuchNode = (n : NodeId) × ((node_at u e ≡ Some n) ⊎ (e ≡ Retire n)) × (IsThere s n → ⊥)
-Because k u s e (event.Node r) = (n : NodeId) × (node_at u e ≡ Some n) × IsThere s n × NodeBecause k e (u.nodes n.0) r
-Because k u s e (event.Coord r) = Reaches u s e × CoordBecause k u s e r
-Because k u s e event.OutOfMemory = ⊥
+Because limits world farm happening event.NoSuchMessage =
+    (number : ℕ) × (happening ≡ Deliver number) × (nth world.pool number ≡ None)
+Because limits world farm happening event.NoSuchNode =
+    (who : NodeId) × ((node_at world happening ≡ Some who) ⊎ (happening ≡ Retire who)) × (IsThere farm who → ⊥)
+Because limits world farm happening (event.Node reason) =
+    (who : NodeId)
+    × (node_at world happening ≡ Some who)
+    × IsThere farm who
+    × NodeBecause limits happening (world.nodes who.0) reason
+Because limits world farm happening (event.Coord reason) =
+    Reaches world farm happening × CoordBecause limits world farm happening reason
+Because limits world farm happening event.OutOfMemory = ⊥
 
 -- a refusal has its reason, and what is accepted has no reason to be refused
 abbrev pub Fair : Limits → World → Farm → Event → Result Outcome EventRefusal → Type 0
-Fair k u s e (Ok o) = (r : EventRefusal) → Because k u s e r → ⊥
-Fair k u s e (Err r) = Because k u s e r
+Fair limits world farm happening (Ok outcome) = (reason : EventRefusal) → Because limits world farm happening reason → ⊥
+Fair limits world farm happening (Err reason) = Because limits world farm happening reason
