@@ -55,7 +55,7 @@ opening = record {
   ceiling = 0;
   old_home = None;
   lives = λ node. 0;
-  parked = []
+  parked = [];
 }
 
 -- the result of an event: the ledger after it, what is sent, whether the record changed, and the note
@@ -173,10 +173,10 @@ elsewhere ledger parked = parked.tenure && another ledger.old_home parked.node
 unfoldable pub decision : Limits → Ledger → Parked → Decision
 decision limits ledger parked =
     pick
-        (elsewhere ledger parked)
-        (all_taken limits.instances (is_free ledger) (leased_wants parked.tenure parked.wants))
-        (busy (is_leased ledger) (leased_wants parked.tenure parked.wants))
-        (not (nat_lt ledger.last limits.greatest))
+    (elsewhere ledger parked)
+    (all_taken limits.instances (is_free ledger) (leased_wants parked.tenure parked.wants))
+    (busy (is_leased ledger) (leased_wants parked.tenure parked.wants))
+    (not (nat_lt ledger.last limits.greatest))
 
 -- the lease that the ask gets, under the next ticket
 abbrev pub lease_for : Limits → Ledger → Parked → Lease
@@ -188,7 +188,7 @@ lease_for limits ledger parked = record {
   shared = any_shared parked.wants;
   tenure = parked.tenure;
   slots = map (λ want. (slot_for limits.instances (is_free ledger) want, want.writable))
-    (leased_wants parked.tenure parked.wants);
+      (leased_wants parked.tenure parked.wants);
 }
 
 -- the ceiling that the next ticket needs: tickets are saved in blocks of 64
@@ -202,7 +202,7 @@ granting limits lease work = record work {
   ledger = record work.ledger {
     live = work.ledger.live ++ lease ∷ [];
     last = work.ledger.last + 1;
-    ceiling = raised limits work.ledger
+    ceiling = raised limits work.ledger;
   };
   sends = work.sends ++ told.Granted (grant_of limits.empty work.ledger.line lease) ∷ [];
   changed = work.changed || (work.ledger.last == work.ledger.ceiling) || is_saved lease;
@@ -293,18 +293,18 @@ recalls false parked work = work
 abbrev pub decided : Decision → Limits → Parked → Work → Work
 decided Give limits parked work =
     notes (note.Granted (grant_of limits.empty work.ledger.line (lease_for limits work.ledger parked)))
-        (gives limits parked work)
+    (gives limits parked work)
 decided (Deny why) limits parked work = notes (note.Denied why) (denies why parked work)
 decided Wait limits parked work =
     notes note.Parked
-        (parks (work.ledger.parked ++ parked ∷ [])
-          (recalls (parked.tenure && not (elsewhere work.ledger parked)) parked work))
+    (parks (work.ledger.parked ++ parked ∷ [])
+    (recalls (parked.tenure && not (elsewhere work.ledger parked)) parked work))
 
 -- an ask comes: its lease is live, or it is parked already, or it is new
 abbrev pub acquiring : Limits → Option Lease → Bool → Parked → Work → Work
 acquiring limits (Some lease) queued parked work =
     notes (note.GrantedBefore (grant_of limits.empty work.ledger.line lease))
-        (says (told.Granted (grant_of limits.empty work.ledger.line lease)) work)
+    (says (told.Granted (grant_of limits.empty work.ledger.line lease)) work)
 acquiring limits None true parked work = notes note.Parked work
 acquiring limits None false parked work = decided (decision limits work.ledger parked) limits parked work
 
@@ -325,7 +325,7 @@ without ticket leases = filter (λ lease. not (has_ticket ticket lease)) leases
 abbrev pub ends : Lease → Work → Work
 ends lease work = record work {
   ledger = record work.ledger { live = without lease.ticket work.ledger.live };
-  changed = work.changed || is_saved lease
+  changed = work.changed || is_saved lease;
 }
 
 -- the lease ends, and each line gets its version
@@ -333,7 +333,7 @@ abbrev pub commits : Ticket → List News → Work → Work
 commits ticket news work = record work {
   ledger = record work.ledger {
     live = without ticket work.ledger.live;
-    line = λ slot. work.ledger.line slot ++ version_of ticket (digest_for slot news)
+    line = λ slot. work.ledger.line slot ++ version_of ticket (digest_for slot news);
   };
   changed = true;
 }
@@ -405,12 +405,12 @@ abbrev pub answering : Limits → NodeId → Life → Request → Work → Work
 answering limits node life Hello work = work
 answering limits node life (Acquire ask wants tenure) work =
     acquiring limits (lease_of work.ledger.live node life ask) (is_parked work.ledger.parked node life ask)
-        (record { node = node; life = life; ask = ask; wants = wants; tenure = tenure }) work
+    (record { node = node; life = life; ask = ask; wants = wants; tenure = tenure }) work
 answering limits node life (Commit ticket news) work =
     committing limits (may_commit node life news (lease_under work.ledger.live ticket)) node life ticket news work
 answering limits node life (Release ticket) work =
     released limits (may_release node life (lease_under work.ledger.live ticket)) ticket
-        (lease_under work.ledger.live ticket) work
+    (lease_under work.ledger.live ticket) work
 
 -- a newer life
 
@@ -452,7 +452,7 @@ handled limits saying work =
     if work.ledger.gone saying.node.0 then notes note.NodeRetired work
     else (if nat_lt saying.life.0 (work.ledger.lives saying.node.0) then notes note.OldLife work
     else (if nat_lt (work.ledger.lives saying.node.0) saying.life.0
-        then answering limits saying.node saying.life saying.request (newer_life limits saying.node saying.life work)
+    then answering limits saying.node saying.life saying.request (newer_life limits saying.node saying.life work)
     else answering limits saying.node saying.life saying.request work))
 
 -- the coordinator's own calls
@@ -466,7 +466,7 @@ abbrev pub withdraws : Lease → Work → Work
 withdraws lease work = record work {
   ledger = record work.ledger {
     live = without lease.ticket work.ledger.live;
-    retired = retires lease work.ledger.retired
+    retired = retires lease work.ledger.retired;
   };
   changed = work.changed || is_saved lease;
 }
@@ -506,18 +506,18 @@ abbrev pub retired : Limits → NodeId → Work → Result Work CoordRefusal
 retired limits node work =
     if work.ledger.gone node.0 then Err refusal.NodeRetired
     else (if list_any (λ lease. is_at node lease && lease.tenure) work.ledger.live || is_home node work.ledger.old_home
-        then Err refusal.TenureHeld
+    then Err refusal.TenureHeld
     else Ok (notes (note.Retired node)
-        (if list_any (is_at node) work.ledger.live then retried limits (goes node work) else goes node work)))
+    (if list_any (is_at node) work.ledger.live then retried limits (goes node work) else goes node work)))
 
 -- the empty content, under a new ticket
 abbrev pub prunes : Limits → Slot → Work → Work
 prunes limits slot work = record work {
   ledger = record work.ledger {
     line = λ other.
-      if slot_eq slot other
-      then work.ledger.line other ++ record { ticket = record { 0 = work.ledger.last + 1 }; digest = limits.empty } ∷ []
-      else work.ledger.line other;
+        if slot_eq slot other
+        then work.ledger.line other ++ record { ticket = record { 0 = work.ledger.last + 1 }; digest = limits.empty } ∷ []
+        else work.ledger.line other;
     last = work.ledger.last + 1;
     ceiling = raised limits work.ledger;
   };
@@ -530,7 +530,7 @@ pruned limits slot work =
     if is_leased work.ledger slot then Err refusal.SlotLeased
     else (if is_nil (work.ledger.line slot) then Err refusal.NoSuchSlot
     else (if nat_lt work.ledger.last limits.greatest
-        then Ok (notes (note.Pruned (record { 0 = work.ledger.last + 1 })) (prunes limits slot work))
+    then Ok (notes (note.Pruned (record { 0 = work.ledger.last + 1 })) (prunes limits slot work))
     else Err refusal.TicketsSpent))
 
 -- a parked ask is for the tenure that the lease is
@@ -542,7 +542,7 @@ abbrev pub nudges : Limits → Lease → Work → Work
 nudges limits lease work =
     if is_awaited work.ledger.parked lease
     then says (told.Recall lease.node lease.life lease.ticket)
-        (says (told.Granted (grant_of limits.empty work.ledger.line lease)) work)
+    (says (told.Granted (grant_of limits.empty work.ledger.line lease)) work)
     else says (told.Granted (grant_of limits.empty work.ledger.line lease)) work
 
 -- the Grant of each lease again, the oldest first
@@ -577,7 +577,7 @@ saves ledger = record {
   line = ledger.line;
   ceiling = ledger.ceiling;
   old_home = ledger.old_home;
-  lives = ledger.lives
+  lives = ledger.lives;
 }
 
 -- the ledger that a record is read as
@@ -591,5 +591,5 @@ reads saved = record {
   ceiling = saved.ceiling;
   old_home = saved.old_home;
   lives = saved.lives;
-  parked = []
+  parked = [];
 }

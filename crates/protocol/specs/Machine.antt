@@ -101,9 +101,9 @@ abbrev pub Retired : Machine → Slot → Type 0
 Retired machine slot =
     (is_private slot.folder.mode ≡ true)
     × ((grant : Grant)
-        × In (Granted grant) machine.made
-        × (machine.ending grant.ticket.0 ≡ Some Withdrawn)
-        × Has grant slot)
+    × In (Granted grant) machine.made
+    × (machine.ending grant.ticket.0 ≡ Some Withdrawn)
+    × Has grant slot)
 
 -- the slot may be granted
 abbrev pub Free : Machine → Slot → Type 0
@@ -147,9 +147,9 @@ abbrev pub Names : Digest → List LineVersion → ℕ → Digest → Type 0
 Names empty versions number digest =
     ((number ≡ 0) × (digest ≡ empty))
     ⊎ ((index : ℕ) × (version : LineVersion)
-        × (number ≡ index + 1)
-        × (slice_get versions index ≡ Some version)
-        × (version.digest ≡ digest))
+    × (number ≡ index + 1)
+    × (slice_get versions index ≡ Some version)
+    × (version.digest ≡ digest))
 
 -- the slots that a grant may write
 abbrev pub written : List GrantedSlot → List Slot
@@ -242,7 +242,7 @@ pub data Step (empty : Digest) (pool : List Message) (machine : Machine) : Machi
       → ((grant : Grant) → Live machine grant → grant.node ≡ node → grant.life.0 < life.0 → ⊥)
       → ((parked : Parked) → In parked machine.parked → parked.node ≡ node → parked.life.0 < life.0 → ⊥)
       → Step empty pool machine
-          (record machine { lives = put node.0 life.0 machine.lives; old_home = cleared node machine.old_home })
+      (record machine { lives = put node.0 life.0 machine.lives; old_home = cleared node machine.old_home })
   -- a node retires once no lease and no parked ask of it is left
   Retires : (node : NodeId)
       → (machine.gone node.0 ≡ false)
@@ -254,8 +254,8 @@ pub data Step (empty : Digest) (pool : List Message) (machine : Machine) : Machi
   Parks : (parked : Parked)
       → In (acquire parked.node parked.life parked.ask parked.wants parked.tenure) pool
       → ((grant : Grant) → Live machine grant
-          → (grant.node ≡ parked.node) × (grant.life ≡ parked.life) × (grant.ask ≡ parked.ask)
-          → ⊥)
+      → (grant.node ≡ parked.node) × (grant.life ≡ parked.life) × (grant.ask ≡ parked.ask)
+      → ⊥)
       → Step empty pool machine (record machine { parked = machine.parked ++ parked ∷ [] })
   -- some parked asks are no longer parked
   Unparks : (queue : List Parked)
@@ -292,17 +292,17 @@ pub data Says (empty : Digest) (pool : List Message) (machine : Machine) : FromC
   Says_fenced : (node : NodeId) (life : Life) (ticket : Ticket) (news : List News)
       → In (commit node life ticket news) pool
       → ((grant : Grant) → Live machine grant
-          → (grant.ticket ≡ ticket)
-          → (grant.node ≡ node)
-          → (grant.life ≡ life)
-          → (slots_of news ≡ written grant.slots)
-          → (news ≢ [])
-          → ⊥)
+      → (grant.ticket ≡ ticket)
+      → (grant.node ≡ node)
+      → (grant.life ≡ life)
+      → (slots_of news ≡ written grant.slots)
+      → (news ≢ [])
+      → ⊥)
       -- not one or more slots with the ticket on the line of each
       → ((news ≢ [])
-          → ((item : News) → In item news
-              → (version : LineVersion) × In version (line empty machine item.slot) × (version.ticket ≡ ticket))
-          → ⊥)
+      → ((item : News) → In item news
+      → (version : LineVersion) × In version (line empty machine item.slot) × (version.ticket ≡ ticket))
+      → ⊥)
       → Says empty pool machine (told.Fenced node life ticket)
   Says_denied : (node : NodeId) (life : Life) (ask : Ask) (why : Why) (wants : List Want) (tenure : Bool)
       → In (acquire node life ask wants tenure) pool

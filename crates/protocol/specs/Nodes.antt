@@ -253,7 +253,7 @@ beginning ticket state (Some (place, found)) =
     (Ok (record {
       node = becomes place (Running found.wants found.grant found.recalled) state;
       sends = [];
-      note = note.Begun ticket
+      note = note.Begun ticket;
     }))
 
 -- a node begins the execution of the ticket
@@ -277,14 +277,14 @@ abbrev pub gives_up : Place → ℕ → Ticket → NodeNote → Node → NodeWor
 gives_up here place ticket noted state = record {
   node = becomes place (Over (how.Released ticket)) state;
   sends = release here.node state.life ticket ∷ [];
-  note = noted
+  note = noted;
 }
 
 -- the ask has finished: what it left is stored, and its news are sent
 abbrev pub leaves : (List ℕ → Digest) → Place → ℕ → HeldGrant → List Left → Node → NodeWork
 leaves sha here place found lefts state = record {
   node = record (becomes place (Finished found.wants found.grant (news_of sha lefts)) state) {
-    store = stored sha lefts state.store
+    store = stored sha lefts state.store;
   };
   sends = commit here.node state.life found.grant.ticket (news_of sha lefts) ∷ [];
   note = note.Finished found.grant.ticket;
@@ -349,7 +349,7 @@ resent limits here state =
     (Ok (record {
       node = state;
       sends = hello here.node state.life ∷ all_again limits here state state.asks 0;
-      note = note.Resent
+      note = note.Resent;
     }))
 
 -- a restart of a node whose life isn't the greatest
@@ -357,7 +357,7 @@ abbrev pub restarted : Place → Node → NodeWork
 restarted here state = record {
   node = has_life state (state.life.0 + 1);
   sends = hello here.node (record { 0 = state.life.0 + 1 }) ∷ [];
-  note = note.Life (record { 0 = state.life.0 + 1 })
+  note = note.Life (record { 0 = state.life.0 + 1 });
 }
 
 -- a life is left for the node
@@ -401,10 +401,10 @@ abbrev pub learned : Ticket → List Confirmed → Node → Option (ℕ × Sent)
 learned ticket versions state None = nothing state
 learned ticket versions state (Some (place, sent)) = record {
   node = record (becomes place (Over (how.Committed ticket versions)) state) {
-    known = learn_versions versions state.known
+    known = learn_versions versions state.known;
   };
   sends = [];
-  note = note.Learned ticket
+  note = note.Learned ticket;
 }
 
 -- the news do not count
@@ -459,7 +459,7 @@ brought sha content state =
     then record {
       node = record state { store = keep (sha content) content state.store };
       sends = [];
-      note = note.BlobTaken
+      note = note.BlobTaken;
     }
     else nothing state
 

@@ -46,7 +46,7 @@ opening sha size = record {
   down = false;
   armed = None;
   pool = [];
-  nodes = λ who. first_node sha
+  nodes = λ who. first_node sha;
 }
 
 -- an event's farm, and its outcome
@@ -74,7 +74,7 @@ done noted sends farm after =
 abbrev pub after_work : Saved → Work → Farm → Turn
 after_work saved work farm =
     done (note.Coord work.note) (map Told work.sends) farm
-        (record farm { ledger = work.ledger; saved = saved; pool = farm.pool ++ map Told work.sends })
+    (record farm { ledger = work.ledger; saved = saved; pool = farm.pool ++ map Told work.sends })
 
 -- the record is saved where it changed, and then all is sent; or the save fails, and nothing is sent
 abbrev pub settled : Bool → Option Kept → Work → Farm → Turn
@@ -84,7 +84,7 @@ settled true (Some Old) work farm =
     record { farm = record farm { down = true; armed = None }; outcome = Err (refusal.Coord coord.SaveFault) }
 settled true (Some New) work farm = record {
   farm = record farm { saved = saves work.ledger; down = true; armed = None };
-  outcome = Err (refusal.Coord coord.SaveFault)
+  outcome = Err (refusal.Coord coord.SaveFault);
 }
 
 -- a call of the coordinator is refused, or its work is settled
@@ -111,7 +111,7 @@ at farm who = record { node = who; nodes = farm.size }
 abbrev pub moved : NodeId → NodeWork → Farm → Turn
 moved who work farm =
     done (note.Node work.note) work.sends farm
-        (record farm { nodes = put who.0 work.node farm.nodes; pool = farm.pool ++ work.sends })
+    (record farm { nodes = put who.0 work.node farm.nodes; pool = farm.pool ++ work.sends })
 
 -- a call of the node is refused, or its work is done
 abbrev pub answered : NodeId → NodeAnswer → Farm → Turn
@@ -133,7 +133,7 @@ restarts limits who farm =
     if may_restart limits (farm.nodes who.0)
     then moved who (restarted (at farm who) (farm.nodes who.0)) farm
     else refused (refusal.Node node.LivesSpent)
-        (record farm { nodes = put who.0 (record (farm.nodes who.0) { spent = true }) farm.nodes })
+    (record farm { nodes = put who.0 (record (farm.nodes who.0) { spent = true }) farm.nodes })
 
 -- deliveries
 

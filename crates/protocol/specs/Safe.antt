@@ -59,9 +59,9 @@ pub record Safe (sha : List ℕ → Digest) (world : World) : Type 0 where
       → In (Granted grant) world.machine.made
       → grant.ticket ≡ version.ticket
       → (granted_slot : GrantedSlot)
-          × In granted_slot grant.slots
-          × (granted_slot.slot ≡ slot)
-          × (granted_slot.base ≡ index)
+      × In granted_slot grant.slots
+      × (granted_slot.slot ≡ slot)
+      × (granted_slot.base ≡ index)
   -- no withdrawn ticket stands on a line, or is confirmed
   pub withdrawn : (ticket : Ticket) → IsWithdrawn world.machine ticket → OnALine (sha []) world.machine ticket → ⊥
   pub unconfirmed : (node : NodeId) (life : Life) (ticket : Ticket) (versions : List Confirmed)
@@ -96,9 +96,9 @@ pub record Safe (sha : List ℕ → Digest) (world : World) : Type 0 where
       → In want wants
       → wants_shared want ≡ true
       → (other : Grant) × (other_wants : List Want)
-          × InUse world node other other_wants
-          × (is_tenure other.kind ≡ true)
-          × Has other (only_slot want.folder)
+      × InUse world node other other_wants
+      × (is_tenure other.kind ≡ true)
+      × Has other (only_slot want.folder)
 
 -- what holds of a world and a later one of the same run
 pub record SafeSince (sha : List ℕ → Digest) (world later : World) : Type 0 where

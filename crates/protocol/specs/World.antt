@@ -126,16 +126,16 @@ pub data Act (sha : List ℕ → Digest) (pool : List Message) (node : NodeId) (
       -- the tenure of each SHARED want is in use here and not recalled
       → ((want : Want) → In want wants → wants_shared want ≡ true → RunsTenure state.asks want.folder false)
       → Act sha pool node state
-          (acquire node state.life (record { 0 = length state.asks + 1 }) wants false ∷ [])
-          (record state { asks = state.asks ++ Open wants false ∷ [] })
+      (acquire node state.life (record { 0 = length state.asks + 1 }) wants false ∷ [])
+      (record state { asks = state.asks ++ Open wants false ∷ [] })
   -- a new ask for the tenure of a folder, where no ask of the node is that tenure
   Asks_tenure : (folder : FolderName)
       → ((place : ℕ) (kept : KeptAsk) → nth state.asks place ≡ Some kept
-          → IsTenureOf (record folder { mode = Shared }) kept
-          → ⊥)
+      → IsTenureOf (record folder { mode = Shared }) kept
+      → ⊥)
       → Act sha pool node state
-          (acquire node state.life (record { 0 = length state.asks + 1 }) (tenure_wants folder) true ∷ [])
-          (record state { asks = state.asks ++ Open (tenure_wants folder) true ∷ [] })
+      (acquire node state.life (record { 0 = length state.asks + 1 }) (tenure_wants folder) true ∷ [])
+      (record state { asks = state.asks ++ Open (tenure_wants folder) true ∷ [] })
   -- an open ask is sent again
   Asks_again : (ask : Ask) (wants : List Want) (tenure : Bool)
       → (nth state.asks ask.0 ≡ Some (Open wants tenure))
@@ -149,9 +149,10 @@ pub data Act (sha : List ℕ → Digest) (pool : List Message) (node : NodeId) (
       → (grant.life ≡ state.life)
       → (nth state.asks grant.ask.0 ≡ Some (Open wants tenure))
       → Act sha pool node state []
-          (record state {
-            asks = set_nth state.asks grant.ask.0 (Holding wants grant false);
-            known = learn_bases grant.slots state.known })
+      (record state {
+        asks = set_nth state.asks grant.ask.0 (Holding wants grant false);
+        known = learn_bases grant.slots state.known;
+      })
   -- a Grant that no ask waits for or has is given back
   Gives_back : (grant : Grant) → In (Told (told.Granted grant)) pool → (grant.node ≡ node) → (grant.life ≡ state.life)
       -- the ask isn't open, and hasn't this grant
@@ -163,7 +164,7 @@ pub data Act (sha : List ℕ → Digest) (pool : List Message) (node : NodeId) (
       → (nth state.asks place ≡ Some (Holding wants grant recalled))
       -- all base contents are stored
       → ((granted : GrantedSlot) → In granted grant.slots
-          → (content : List ℕ) × (state.store granted.digest ≡ Some content))
+      → (content : List ℕ) × (state.store granted.digest ≡ Some content))
       → Act sha pool node state [] (record state { asks = set_nth state.asks place (Running wants grant recalled) })
   -- an execution ends with news, which are sent
   Finishes : (wants : List Want) (grant : Grant) (recalled : Bool) (place : ℕ)
@@ -174,18 +175,18 @@ pub data Act (sha : List ℕ → Digest) (pool : List Message) (node : NodeId) (
       → (news ≢ [])
       -- what is stored is what was, and contents under their digests
       → ((digest : Digest) (content : List ℕ) → store digest ≡ Some content
-          → ((state.store digest ≡ Some content) ⊎ (sha content ≡ digest)))
+      → ((state.store digest ≡ Some content) ⊎ (sha content ≡ digest)))
       → Act sha pool node state
-          (commit node state.life grant.ticket news ∷ [])
-          (record state { asks = set_nth state.asks place (Finished wants grant news); store = store })
+      (commit node state.life grant.ticket news ∷ [])
+      (record state { asks = set_nth state.asks place (Finished wants grant news); store = store })
   -- an execution ends with nothing to write, or is aborted, or a grant is given back unused
   Gives_up : (wants : List Want) (grant : Grant) (recalled : Bool) (place : ℕ)
       → ((nth state.asks place ≡ Some (Holding wants grant recalled))
-          ⊎ (nth state.asks place ≡ Some (Running wants grant recalled)))
+      ⊎ (nth state.asks place ≡ Some (Running wants grant recalled)))
       → Idle state.asks place wants grant
       → Act sha pool node state
-          (release node state.life grant.ticket ∷ [])
-          (record state { asks = set_nth state.asks place (Over (how.Released grant.ticket)) })
+      (release node state.life grant.ticket ∷ [])
+      (record state { asks = set_nth state.asks place (Over (how.Released grant.ticket)) })
   -- news that were not answered are sent again
   Sends_commit : (wants : List Want) (grant : Grant) (place : ℕ) (news : List News)
       → (nth state.asks place ≡ Some (Finished wants grant news))
@@ -195,9 +196,10 @@ pub data Act (sha : List ℕ → Digest) (pool : List Message) (node : NodeId) (
       → In (Told (told.Committed node state.life grant.ticket versions)) pool
       → (nth state.asks place ≡ Some (Finished wants grant news))
       → Act sha pool node state []
-          (record state {
-            asks = set_nth state.asks place (Over (how.Committed grant.ticket versions));
-            known = learn_versions versions state.known })
+      (record state {
+        asks = set_nth state.asks place (Over (how.Committed grant.ticket versions));
+        known = learn_versions versions state.known;
+      })
   -- the news do not count
   Drops : (wants : List Want) (grant : Grant) (place : ℕ) (news : List News)
       → In (Told (told.Fenced node state.life grant.ticket)) pool
@@ -230,8 +232,8 @@ pub data Act (sha : List ℕ → Digest) (pool : List Message) (node : NodeId) (
   Sends_blob : (other : NodeId) (content : List ℕ) → Act sha pool node state (Blob other content ∷ []) state
   -- a restart ends the executions, and keeps the contents with the known versions
   Restarts : Act sha pool node state
-          (hello node (record { 0 = state.life.0 + 1 }) ∷ [])
-          (has_life state (state.life.0 + 1))
+      (hello node (record { 0 = state.life.0 + 1 }) ∷ [])
+      (has_life state (state.life.0 + 1))
   -- the greatest life is over
   Stops : Act sha pool node state [] (record state { spent = true })
 
@@ -294,7 +296,7 @@ start sha = record {
     old_home = None;
     gone = λ node. false;
     lives = λ node. 0;
-    parked = []
+    parked = [];
   };
   down = None;
   pool = [];
