@@ -355,3 +355,22 @@ fn one_call_fails(rt: HostRuntime) -> Result<(), Fail> {
     assert!(rt; settled > CALLS / 2);
     Ok(())
 }
+
+/// Other bytes with the name of a record that entries follow are refused, and nothing is touched. Where none follow it they aren't.
+#[test]
+fn a_name_that_is_taken(rt: HostRuntime) -> Result<(), Fail> {
+    let alloc = rt.alloc();
+    let mut memory = Memory::new(alloc, b"a record, NAME 01", b"", usize::MAX, true)?;
+    let mut files = RecordFiles::open(alloc, Disk::new(Lent(&mut memory)))?;
+    files.replace(Vec::from_slice(alloc, b"another record, NAME 01")?)?;
+    gather(alloc, &mut files, &[b"one"])?;
+    files.sync()?;
+    let third = Vec::from_slice(alloc, b"a third record, NAME 01")?;
+    assert!(rt; files.replace(third).is_err());
+    assert!(rt; files.is_settled());
+    let texts = spelled(alloc, files.log())?;
+    assert_eq!(rt; texts.as_slice(), b"another record, NAME 01|one".as_slice());
+    files.replace(Vec::from_slice(alloc, b"a third record, NAME 02")?)?;
+    assert!(rt; files.has_all());
+    Ok(())
+}

@@ -9,7 +9,7 @@ use Rattle.std.proofs.lemmas.Grind.{flat_map-append}
 use Rattle.std.proofs.Math.Seq.{take-append-add}
 use Rattle.saverecord.specs.Disks.{Files}
 use Rattle.saverecord.specs.Framing.{name_of, check_of, framed, log_bytes, HasNone, IsTold, HasEntries}
-use Rattle.saverecord.specs.Settled.{Holds, HoldsSome, IsAddedTo}
+use Rattle.saverecord.specs.Settled.{Clashes, Holds, HoldsSome, IsAddedTo}
 use Rattle.saverecord.specs.Spelling.{number64}
 use Rattle.saverecord.specs.Texts.{Texts, whole_alone}
 use Rattle.saverecord.proofs.FramingLemmas.{framed_head, framed-length, name-length, number-length, check-length, told_again}
@@ -135,21 +135,21 @@ holds_some old more f told too added =
     )
 
 -- opening a new record gives none of the old one's entries
-pub holds_new : (old : Texts) (new : List ℕ) (f : Files) → name_of new ≢ name_of old.whole → f ≡ record { whole = new; log = log_bytes old.whole old.entries } → Holds (whole_alone new) f
-holds_new old new f differs is = subst (λ g. Holds (whole_alone new) g) (sym is) (record {
+pub holds_new : (old : Texts) (new : List ℕ) (f : Files) → new ≢ old.whole → ¬ Clashes new old → f ≡ record { whole = new; log = log_bytes old.whole old.entries } → Holds (whole_alone new) f
+holds_new old new f differs no_clash is = subst (λ g. Holds (whole_alone new) g) (sym is) (record {
   behind = log_bytes old.whole old.entries;
   whole_is = refl;
-  has = record { told = All-nil IsTold; bytes_are = refl; ends = none old.entries };
+  has = record { told = All-nil IsTold; bytes_are = refl; ends = none old.entries (λ some same. no_clash (differs, same, some)) };
 })
   where
-    none : (entries : List (List ℕ)) → HasNone new (log_bytes old.whole entries)
-    none [] = inl (omega arith)
-    none (e ∷ es) = inr (record {
+    none : (entries : List (List ℕ)) → (entries ≢ [] → name_of new ≢ name_of old.whole) → HasNone new (log_bytes old.whole entries)
+    none [] apart = inl (omega arith)
+    none (e ∷ es) apart = inr (record {
       name = name_of old.whole;
       len = number64 (length e);
       behind = e ++ log_bytes old.whole es;
       head = framed_head old.whole e (log_bytes old.whole es);
-      other = inl (λ same. differs (sym same));
+      other = inl (λ same. apart (λ no_entry. absurd (cc)) (sym same));
     })
 
 -- opening what holds these texts gives them

@@ -4,8 +4,8 @@ use Rattle.std.proofs.lemmas.List.Elements.{All-nil}
 use Rattle.saverecord.specs.Calls.{Called}
 use Rattle.saverecord.specs.Disks.{Files, with_whole, MaySee, MayLeave, IsTidied, Leaves}
 use Rattle.saverecord.specs.Disks.Leaves.{Begins}
-use Rattle.saverecord.specs.Framing.{name_of, IsTold}
-use Rattle.saverecord.specs.Settled.{files_of, HoldsOneOf, IsSettled}
+use Rattle.saverecord.specs.Framing.{IsTold}
+use Rattle.saverecord.specs.Settled.{files_of, Clashes, HoldsOneOf, IsSettled}
 use Rattle.saverecord.specs.Texts.{Texts, whole_alone}
 use Rattle.saverecord.specs.declared.device_call.DeviceCall.TheVariants.{WriteDraft, RenameDraft}
 use Rattle.saverecord.proofs.CrashLemmas.{holds, holds_new}
@@ -31,13 +31,13 @@ module _ (old : Texts) (new : List ℕ) (first : List Called) (settled : IsSettl
   pub drafted : (done : Bool) (last : List Called) → last ≡ (WriteDraft done, new) ∷ first → Leaves P first last
   drafted done last is = goes_on P first first (WriteDraft done, new) last is not_begun old_left
 
-  pub renamed : (done : Bool) (mid last : List Called) → name_of new ≢ name_of old.whole → mid ≡ (WriteDraft true, new) ∷ first → last ≡ (RenameDraft done, []) ∷ mid → Leaves P first last
-  renamed done mid last differs is_mid is =
+  pub renamed : (done : Bool) (mid last : List Called) → new ≢ old.whole → ¬ Clashes new old → mid ≡ (WriteDraft true, new) ∷ first → last ≡ (RenameDraft done, []) ∷ mid → Leaves P first last
+  renamed done mid last differs no_clash is_mid is =
       goes_on P first ((WriteDraft true, new) ∷ first) (RenameDraft done, []) last (is ∙ ap (λ (cs : List Called). (RenameDraft done, []) ∷ cs) is_mid) (drafted true ((WriteDraft true, new) ∷ first) refl) here
     where
       here : (f : Files) → MayLeave ((RenameDraft done, []) ∷ (WriteDraft true, new) ∷ first) f → P f
       here f (inl left) = old_left f left
-      here f (inr (whole, has_draft, (d, left, changed))) = inr (holds_new old new f differs (changed ∙ ap (with_whole whole) (settled.left d left) ∙ ap (λ w. with_whole w (files_of old)) (has_draft new refl)))
+      here f (inr (whole, has_draft, (d, left, changed))) = inr (holds_new old new f differs no_clash (changed ∙ ap (with_whole whole) (settled.left d left) ∙ ap (λ w. with_whole w (files_of old)) (has_draft new refl)))
 
   -- the log is emptied then
   pub emptied : (mid last : List Called) → Leaves P first mid → ((f : Files) → MaySee mid f → f.whole ≡ new) → Leaves (IsTidied 0 mid) mid last → Leaves P first last

@@ -1,6 +1,6 @@
 -- What the files of a record hold, and what a crash may leave of them while they are written (this project's own; docs/FORMATS.md, "What
 -- a crash leaves").
-use Rattle.std.specs.Prelude.{◌≡◌, ◌≢◌, ◌⊎◌, ℕ, List, ◌∷◌, ◌++◌, length, take}
+use Rattle.std.specs.Prelude.{◌≡◌, ◌≢◌, ◌⊎◌, ℕ, List, [], ◌∷◌, ◌++◌, length, take}
 use Rattle.protocol.specs.Lists.{In}
 use Rattle.saverecord.specs.Calls.{Called}
 use Rattle.saverecord.specs.Disks.{Files, cut_to, MaySee, MayLeave}
@@ -46,6 +46,12 @@ IsAddedTo old more f = (f.whole ≡ old.whole) × ((n : ℕ) × (f.log ≡ log_b
 abbrev pub HoldsSome : Texts → List (List ℕ) → Files → Type 0
 HoldsSome old more f = (k : ℕ) × Holds (with_texts (take k more) old) f
 
+-- ---- while a record takes another one's place
+
+-- entries of these texts would be taken for entries of these other bytes, which have their record's name
+abbrev pub Clashes : List ℕ → Texts → Type 0
+Clashes bytes texts = (bytes ≢ texts.whole) × (name_of bytes ≡ name_of texts.whole) × (texts.entries ≢ [])
+
 -- opening gives these texts or those
 abbrev pub HoldsOneOf : Texts → Texts → Files → Type 0
 HoldsOneOf old new f = Holds old f ⊎ Holds new f
@@ -59,7 +65,3 @@ StandsIn texts whole log = (whole ≡ texts.whole) × ((rest : List ℕ) × (log
 -- files that might be left before; or such files of this record, with the log cut behind these entries
 abbrev pub IsCut : Texts → List Called → Files → Type 0
 IsCut texts old f = (d : Files) × MayLeave old d × ((f ≡ d) ⊎ ((d.whole ≡ texts.whole) × (f ≡ cut_to (length (log_bytes texts.whole texts.entries)) d)))
-
--- records of different bytes have different names, which are of their digests
-abbrev pub HaveNamesOfTheirOwn : List ℕ → List ℕ → Type 0
-HaveNamesOfTheirOwn a b = a ≢ b → name_of a ≢ name_of b

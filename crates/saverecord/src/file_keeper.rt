@@ -18,7 +18,8 @@ use std::rt::Files;
 
 /// Keeps a record in a file, and the entries after it in a second one (the path with `.log` behind it). A save writes a
 /// third file (`.new`), which then takes the record's place, and empties the log. So after a crash the files hold the
-/// old texts or the new ones: the calls of `RecordFiles`, which it consists of, say so.
+/// old texts or the new ones: the calls of `RecordFiles`, which it consists of, say so. A save after which they could hold the new
+/// record with the old one's entries is refused.
 ///
 /// In the log each entry stands behind the name of the record that it follows, its length, and a check of both. Entries
 /// of another record, and what was cut short, are none: opening and loading cut them off. A damaged head is a fault.
@@ -53,7 +54,8 @@ impl<'a, R: Files> FileKeeper<'a, R> {
     }
 
     /// Puts a record in the file of this path, in the place of what stood there and in its log, of which it reads nothing. After an
-    /// error the old record stands there with its log, or this one does: entries that may be left in the log follow another record.
+    /// error the old record stands there with its log, or this one does: entries that may be left in the log are none of its, unless it
+    /// has the old record's name.
     pub fn put(files: &'a R, alloc: Global, path: &str, bytes: &[u8]) -> io::Result<()> {
         let mut device = HostDevice::new(files, alloc, path)?;
         device.write_draft(bytes)?;

@@ -30,7 +30,7 @@ impl From<AllocError> for LogFault {
 }
 
 /// The name of a record in the log: its last eight bytes, which are of its digest; zeros where it has fewer.
-fn name_of(whole: &[u8]) -> [u8; 8]
+pub(crate) fn name_of(whole: &[u8]) -> [u8; 8]
     ensures { result ≡ name_of whole.now }
 {
     match whole.last_chunk::<8>() {
@@ -78,7 +78,7 @@ pub(crate) fn write_entry<W: Write>(file: &mut W, whole: &[u8], entry: &[u8]) ->
 }
 
 /// Whether eight bytes are the same as others.
-fn are_same(some: &[u8; 8], others: &[u8; 8]) -> bool
+pub(crate) fn are_same(some: &[u8; 8], others: &[u8; 8]) -> bool
     ensures { Decides result (some.now ≡ others.now) }
 {
     some.as_slice() == others.as_slice()

@@ -1,14 +1,14 @@
 //! The texts of a record in its files, over a device that may lose what it wasn't told to sync.
-ghost use Rattle.std.specs.Prelude.{◌≡◌, ◌≢◌, ◌<◌, ◌≤◌, ◌⊎◌, ◌++◌, ◌∷◌, ◌+◌, [], ℕ, List, true, false, length, take, drop, IfOk, IfSome, OnOk, OnErr, All};
+ghost use Rattle.std.specs.Prelude.{◌≡◌, ◌≢◌, ◌<◌, ◌≤◌, ◌⊎◌, ◌++◌, ◌∷◌, ◌+◌, [], ℕ, List, true, false, length, take, drop, IfOk, IfSome, OnOk, OnErr, IsErr, Decides, All};
 ghost use Rattle.saverecord.specs.Disks.{calls_of, Files, IsTidied, Leaves, MaySee};
 ghost use Rattle.saverecord.specs.Framing.{framed, log_bytes, AreTextsOf, IsTold};
-ghost use Rattle.saverecord.specs.Settled.{HaveNamesOfTheirOwn, HoldsOneOf, HoldsSome, HasRead, IsAddedTo, IsCut, IsSettled, IsTakenUp, StandsIn};
+ghost use Rattle.saverecord.specs.Settled.{Clashes, HoldsOneOf, HoldsSome, HasRead, IsAddedTo, IsCut, IsSettled, IsTakenUp, StandsIn};
 ghost use Rattle.saverecord.specs.Texts.{Texts, whole_alone};
 ghost use Rattle.saverecord.specs.declared.device_call.DeviceCall.TheVariants.{WriteDraft, RenameDraft};
 
 use super::device::Device;
 use super::disk::Disk;
-use super::framing::{LogFault, head_of, take_entries};
+use super::framing::{LogFault, are_same, head_of, name_of, take_entries};
 use super::log::Log;
 use farm_base::Items;
 use std::alloc::{AllocError, Global};
@@ -17,7 +17,8 @@ use std::io::{self, ErrorKind};
 /// The texts of a record in its files.
 ///
 /// While it is settled a crash leaves the texts that it knows to last, and nothing else. A call that fails may leave it unsettled: the
-/// files have then the texts from before the call or those that it was to leave, and each call but `reload` is refused.
+/// files have then the texts from before the call or those that it was to leave, and `sync` and `replace` are refused until `reload` has
+/// read them. `gather` touches no file.
 #[derive(Drop)]
 pub struct RecordFiles<D: Device> {
     pub(crate) disk: Disk<D>,
@@ -225,12 +226,21 @@ impl<D: Device> RecordFiles<D> {
         }
     }
 
+    /// Whether the entries that last would be taken for entries of these other bytes, which have the record's name.
+    fn clashes(&self, bytes: &[u8]) -> bool
+        ensures { Decides result (Clashes bytes.now (lasting_in self.now)) }
+    {
+        let whole = self.log.whole();
+        self.lasting > 0 && are_same(&name_of(bytes), &name_of(whole)) && bytes != whole
+    }
+
     /// Puts a record of these bytes in the record's place.
     fn put(&mut self, bytes: &[u8]) -> io::Result<()>
-        requires { is_settled self.old ≡ true }
+        requires settled { is_settled self.old ≡ true }
+        requires no_clash { ¬ Clashes bytes.now (lasting_in self.old) }
         ensures done { OnOk result (calls_in self.new ≡ (RenameDraft true, []) ∷ (WriteDraft true, bytes.now) ∷ calls_in self.old) }
         ensures texts { (texts_in self.new ≡ texts_in self.old) × (how_many_last self.new ≡ how_many_last self.old) }
-        ensures any_moment { HaveNamesOfTheirOwn bytes.now (texts_in self.old).whole → bytes.now ≢ (texts_in self.old).whole
+        ensures any_moment { bytes.now ≢ (texts_in self.old).whole
             → Leaves (HoldsOneOf (lasting_in self.old) (whole_alone bytes.now)) (calls_in self.old) (calls_in self.new) }
     {
         self.disk.write_draft(bytes)?;
@@ -254,19 +264,26 @@ impl<D: Device> RecordFiles<D> {
         Ok(())
     }
 
-    /// Puts a record of these bytes in the place of all texts. After an error it has the texts from before or these.
+    /// Puts a record of these bytes in the place of all texts. After an error it has the texts from before or these. It refuses a record
+    /// that a crash could leave with entries of the one before it.
     pub fn replace(&mut self, bytes: Vec<u8>) -> io::Result<()>
         ensures ok { OnOk result ((texts_in self.new ≡ whole_alone bytes.items) × (how_many_last self.new ≡ 0) × (is_settled self.new ≡ true)) }
         ensures err { OnErr result (((texts_in self.new ≡ texts_in self.old) × (how_many_last self.new ≡ how_many_last self.old))
             ⊎ ((texts_in self.new ≡ whole_alone bytes.items) × (how_many_last self.new ≡ 0))) }
         ensures unsettled { is_settled self.old ≡ false → calls_in self.new ≡ calls_in self.old }
 
+        // Nothing is touched where other bytes have the name that entries follow.
+        ensures clash { Clashes bytes.items (lasting_in self.old) → IsErr result × (self.new ≡ self.old) }
+
         // A crash at any moment leaves the old texts or the new ones.
-        ensures any_moment { is_settled self.old ≡ true → HaveNamesOfTheirOwn bytes.items (texts_in self.old).whole
+        ensures any_moment { is_settled self.old ≡ true
             → Leaves (HoldsOneOf (lasting_in self.old) (whole_alone bytes.items)) (calls_in self.old) (calls_in self.new) }
     {
         if !self.settled {
             return Err(unsettled());
+        }
+        if self.clashes(bytes.as_slice()) {
+            return Err(io::Error::from(ErrorKind::InvalidInput));
         }
         if bytes.as_slice() == self.log.whole() {
             return self.empty(bytes);
