@@ -91,16 +91,7 @@ impl Draft {
         let Ok(ticket) = self.change.tickets.next() else {
             unreachable!();
         };
-        self.change.table.grant(
-            alloc,
-            &base.table,
-            p.node,
-            p.life,
-            p.ask,
-            &p.wants,
-            p.tenure,
-            ticket,
-        )?;
+        self.change.table.grant(alloc, &base.table, p, ticket)?;
         let Some(lease) = self.change.table.lease(&base.table, ticket) else {
             unreachable!();
         };

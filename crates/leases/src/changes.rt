@@ -14,7 +14,7 @@ use super::lease_table::{Fit, LeaseTable};
 use super::saved::{saved_copies, saved_tickets, ticket_of_saved};
 use super::slots::rising;
 use super::view::View;
-use farm_base::{Ask, FolderName, Lease, Life, NodeId, Slot, Ticket, Wants, copy_all};
+use farm_base::{Ask, FolderName, Lease, Life, NodeId, Parked, Slot, Ticket, Wants, copy_all};
 use std::alloc::{AllocError, Global};
 use std::marker::Model;
 
@@ -143,22 +143,26 @@ impl TableChange {
         &mut self,
         alloc: Global,
         table: &LeaseTable,
-        node: NodeId,
-        life: Life,
-        ask: Ask,
-        wants: &Wants,
-        tenure: bool,
+        parked: &Parked,
         ticket: Ticket,
     ) -> Result<(), AllocError>
-        requires fits { fit_of (changed table.now self.old) tenure wants.now ≡ Fit.Fits }
+        requires fits { fit_of (changed table.now self.old) parked.now.tenure parked.now.wants ≡ Fit.Fits }
         requires above { All (λ g. g.ticket.0 < ticket.0) (changed table.now self.old).live }
-        ensures ok { OnOk result (changed table.now self.new ≡ record (changed table.now self.old) { live = (changed table.now self.old).live ++ lease_for (changed table.now self.old) node life ask wants.now tenure ticket ∷ [] }) }
-        ensures found { OnOk result (lease_under (changed table.now self.new).live ticket ≡ Some (lease_for (changed table.now self.old) node life ask wants.now tenure ticket)) }
+        ensures ok { OnOk result (changed table.now self.new ≡ record (changed table.now self.old) { live = (changed table.now self.old).live ++ lease_for (changed table.now self.old) parked.now.node parked.now.life parked.now.ask parked.now.wants parked.now.tenure ticket ∷ [] }) }
+        ensures found { OnOk result (lease_under (changed table.now self.new).live ticket ≡ Some (lease_for (changed table.now self.old) parked.now.node parked.now.life parked.now.ask parked.now.wants parked.now.tenure ticket)) }
         ensures sound { OnOk result (AreLeases (changed table.now self.old).live → AreLeases (changed table.now self.new).live) }
         ensures err { OnErr result (self.new ≡ self.old) }
     {
         let view = self.over(table);
-        let lease = view.lease_for(alloc, node, life, ask, wants, tenure, ticket)?;
+        let lease = view.lease_for(
+            alloc,
+            parked.node,
+            parked.life,
+            parked.ask,
+            &parked.wants,
+            parked.tenure,
+            ticket,
+        )?;
         self.granted.push(lease)?;
         Ok(())
     }
