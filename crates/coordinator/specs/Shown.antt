@@ -8,11 +8,12 @@ use Rattle.leases.specs.Changes.{changed}
 use Rattle.leases.specs.Leases.{Table}
 use Rattle.leases.specs.Table.{among, retires_some}
 pub use Rattle.versions.specs.Lines.{LineOf, lines_with}
+use Rattle.versions.specs.declared.lines.Added.{Added}
 use Rattle.coordinator.specs.declared.state.State.{State}
 use Rattle.coordinator.specs.declared.change.Change.{Change}
 use Rattle.coordinator.specs.declared.new_life.NewLife.{NewLife}
 use Rattle.coordinator.specs.declared.draft.Draft.{Draft}
-use Rattle.coordinator.specs.Held.{Held, life_at, is_among}
+use Rattle.coordinator.specs.Held.{Held, line_at, life_at, is_among}
 use Rattle.coordinator.specs.Waiting.{waits_after}
 use Rattle.coordinator.specs.Queue.{asks_of}
 
@@ -63,6 +64,20 @@ after line h c = record {
 -- the result of an event so far
 abbrev pub shown : LineOf → Held → Draft → Work
 shown line h d = record { ledger = after line h d.change; sends = d.sends.items; changed = d.changed; note = d.note }
+
+-- the ledger of what is held with an event's changes: with what it adds to the lines, and with the lines as they were
+abbrev pub ledger_with : Held → Option Added → Change → Ledger
+ledger_with h added c = after (lines_with h.lines added) h c
+
+abbrev pub ledger_at : Held → Change → Ledger
+ledger_at h c = after (line_at h.lines) h c
+
+-- the result of an event so far, with the same lines
+abbrev pub work_with : Held → Option Added → Draft → Work
+work_with h added d = shown (lines_with h.lines added) h d
+
+abbrev pub work_at : Held → Draft → Work
+work_at h d = shown (line_at h.lines) h d
 
 -- the record has the lease, if there is one
 abbrev pub saved_under : Option Lease → Bool

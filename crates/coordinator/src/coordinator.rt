@@ -5,7 +5,7 @@ ghost use Rattle.std.specs.List.Sorted.{IsStrictlySortedBy};
 ghost use Rattle.farm_base.specs.Slots.{slot_cmp};
 ghost use Rattle.farm_base.specs.declared.limits.TheConstants.{NODES};
 ghost use Rattle.leases.specs.Table.{among, state_of};
-ghost use Rattle.versions.specs.Lines.{lines_with, room_needed, line_shown};
+ghost use Rattle.versions.specs.Lines.{room_needed, line_shown};
 ghost use Rattle.protocol.specs.Farm.{farm_limits};
 ghost use Rattle.protocol.specs.Lists.{is_nil};
 ghost use Rattle.protocol.specs.Names.{slot_eq, NodeId, Slot, Ticket};
@@ -18,7 +18,7 @@ ghost use Rattle.coordinator.specs.Promises.{OnlyGrow, GrantsAtOnce, EndsOnlyIts
 ghost use Rattle.coordinator.specs.Held.{Held};
 ghost use Rattle.coordinator.specs.Seen.{IsKeeping};
 ghost use Rattle.coordinator.specs.Settling.{Answers, is_save_fault, Settles, Loads, TakesUp, Restarts, Syncs};
-ghost use Rattle.coordinator.specs.Shown.{after, shown};
+ghost use Rattle.coordinator.specs.Shown.{work_with, ledger_with};
 ghost use Rattle.saverecord.specs.Keepers.{HasFailed};
 ghost use Rattle.coordinator.specs.Sound.{IsRightful};
 ghost use Rattle.versions.specs.Additions.{IsReady};
@@ -151,12 +151,12 @@ impl<K: Keeper> Coordinator<K> {
     /// Saves an event that was worked out, where the record changed, and then applies it. Where the save fails it is down.
     fn settle(&mut self, alloc: Global, prepared: Prepared) -> Result<Handled, CoordRefusal>
         requires up { self.old.down ≡ false }
-        requires told { ChangesAsTold (ledger self.old.held) (Ok (shown (lines_with self.old.held.lines prepared.added) self.old.held prepared.draft.value)) }
-        requires rightful { IsRightful (after (lines_with self.old.held.lines prepared.added) self.old.held prepared.draft.value.change) }
+        requires told { ChangesAsTold (ledger self.old.held) (Ok (work_with self.old.held prepared.added prepared.draft.value)) }
+        requires rightful { IsRightful (ledger_with self.old.held prepared.added prepared.draft.value.change) }
         requires ready { IsReady self.old.held.lines prepared.added }
         requires empty { prepared.room.items ≡ [] }
         requires larger { room_needed self.old.held.lines prepared.added ≤ vec_capacity prepared.room }
-        ensures answer { Answers K.saving (Ok (shown (lines_with self.old.held.lines prepared.added) self.old.held prepared.draft.value)) self.old self.new result }
+        ensures answer { Answers K.saving (Ok (work_with self.old.held prepared.added prepared.draft.value)) self.old self.new result }
         ensures cause { result ≡ Err CoordRefusal.SaveFault → HasFailed (K.failed self.old.keeper) (K.failed self.new.keeper) }
         ensures grow { OnlyGrow (line_at self.old.held.lines) (line_at self.new.held.lines) }
     {

@@ -7,11 +7,11 @@ ghost use Rattle.leases.specs.Changes.{ends_lease};
 ghost use Rattle.leases.specs.Table.{fit_of};
 ghost use Rattle.leases.specs.declared.lease_table.Fit.{Fit};
 ghost use Rattle.protocol.specs.Ledger.{Ledger, begin_work, decision, decided, sees, is_older, is_home, ends, without, Lease, lease_for, grant_of, gives, denies, tried, try_all, stays, waiting, retried, elsewhere, recall, recalls, holds_wanted, acquiring, lease_of, is_parked, confirms, committing, may_commit, may_release, lease_under, released, newer_life, answering, handled};
-ghost use Rattle.coordinator.specs.Held.{Held, line_at};
+ghost use Rattle.coordinator.specs.Held.{Held};
 ghost use Rattle.coordinator.specs.Idle.{AreHeldUp, AreIdle};
 ghost use Rattle.coordinator.specs.Keeps.{held, NotesSpent};
 ghost use Rattle.farm_base.specs.Wanted.{IsWants};
-ghost use Rattle.coordinator.specs.Shown.{LineOf, kept, after, shown, table_after, lines_with, ended, ended_committed};
+ghost use Rattle.coordinator.specs.Shown.{LineOf, kept, after, shown, table_after, lines_with, work_with, work_at, ledger_with, ledger_at, ended, ended_committed};
 ghost use Rattle.coordinator.specs.Over.{still_waiting};
 ghost use Rattle.coordinator.specs.Waiting.{ends_ask, waits_after};
 ghost use Rattle.coordinator.specs.Queue.{asks_of};
@@ -82,10 +82,10 @@ impl Draft {
         requires given { All (λ g. g.ticket.0 ≤ self.old.change.tickets.position) (table_after (held base.now) self.old.change).live }
         requires fits { fit_of (table_after (held base.now) self.old.change) p.now.tenure p.now.wants ≡ Fit.Fits }
         requires room { self.old.change.tickets.position ≢ u64.MAX }
-        ensures work { OnOk result (shown (lines_with base.now.lines added.now) (held base.now) self.new
-            ≡ gives farm_limits p.now (shown (lines_with base.now.lines added.now) (held base.now) self.old)) }
+        ensures work { OnOk result (work_with (held base.now) added.now self.new
+            ≡ gives farm_limits p.now (work_with (held base.now) added.now self.old)) }
         ensures grant { IfOk result (λ grant. grant
-            ≡ grant_of empty_digest (lines_with base.now.lines added.now) (lease_for farm_limits (after (lines_with base.now.lines added.now) (held base.now) self.old.change) p.now)) }
+            ≡ grant_of empty_digest (lines_with base.now.lines added.now) (lease_for farm_limits (ledger_with (held base.now) added.now self.old.change) p.now)) }
     {
         let needs_block = self.change.tickets.needs_block();
         let Ok(ticket) = self.change.tickets.next() else {
@@ -121,10 +121,10 @@ impl Draft {
         added: &Option<Added>,
         p: &Parked,
     ) -> Result<bool, AllocError>
-        requires { IsSound (after (lines_with base.now.lines added.now) (held base.now) self.old.change) }
-        ensures work { OnOk result (shown (lines_with base.now.lines added.now) (held base.now) self.new
-            ≡ tried farm_limits p.now (shown (lines_with base.now.lines added.now) (held base.now) self.old)) }
-        ensures waits { IfOk result (λ waits. waits ≡ stays farm_limits p.now (shown (lines_with base.now.lines added.now) (held base.now) self.old)) }
+        requires { IsSound (ledger_with (held base.now) added.now self.old.change) }
+        ensures work { OnOk result (work_with (held base.now) added.now self.new
+            ≡ tried farm_limits p.now (work_with (held base.now) added.now self.old)) }
+        ensures waits { IfOk result (λ waits. waits ≡ stays farm_limits p.now (work_with (held base.now) added.now self.old)) }
     {
         match self.change.decide(base, p) {
             Decision::Give => {
@@ -148,11 +148,11 @@ impl Draft {
         p: &Parked,
         is_over: bool,
     ) -> Result<bool, AllocError>
-        requires { IsSound (after (lines_with base.now.lines added.now) (held base.now) self.old.change) }
-        ensures work { OnOk result (shown (lines_with base.now.lines added.now) (held base.now) self.new
-            ≡ (if is_over then shown (lines_with base.now.lines added.now) (held base.now) self.old
-            else tried farm_limits p.now (shown (lines_with base.now.lines added.now) (held base.now) self.old))) }
-        ensures over { IfOk result (λ over. over ≡ (is_over || not (stays farm_limits p.now (shown (lines_with base.now.lines added.now) (held base.now) self.old)))) }
+        requires { IsSound (ledger_with (held base.now) added.now self.old.change) }
+        ensures work { OnOk result (work_with (held base.now) added.now self.new
+            ≡ (if is_over then work_with (held base.now) added.now self.old
+            else tried farm_limits p.now (work_with (held base.now) added.now self.old))) }
+        ensures over { IfOk result (λ over. over ≡ (is_over || not (stays farm_limits p.now (work_with (held base.now) added.now self.old)))) }
     {
         if is_over {
             return Ok(true);
@@ -170,13 +170,13 @@ impl Draft {
         asks: &[Parked],
         over: &[usize],
     ) -> Result<Over, AllocError>
-        requires sound { IsSound (after (lines_with base.now.lines added.now) (held base.now) self.old.change) }
+        requires sound { IsSound (ledger_with (held base.now) added.now self.old.change) }
         requires wants { All (λ p. IsWants p.wants) asks.now }
-        ensures work { OnOk result (shown (lines_with base.now.lines added.now) (held base.now) self.new
-            ≡ try_all farm_limits (still_waiting over.now asks.now) (shown (lines_with base.now.lines added.now) (held base.now) self.old)) }
+        ensures work { OnOk result (work_with (held base.now) added.now self.new
+            ≡ try_all farm_limits (still_waiting over.now asks.now) (work_with (held base.now) added.now self.old)) }
         ensures stay { IfOk result (λ done. still_waiting done.places.items asks.now
-            ≡ waiting farm_limits (still_waiting over.now asks.now) (shown (lines_with base.now.lines added.now) (held base.now) self.old)) }
-        ensures sound { OnOk result (IsSound (after (lines_with base.now.lines added.now) (held base.now) self.new.change)) }
+            ≡ waiting farm_limits (still_waiting over.now asks.now) (work_with (held base.now) added.now self.old)) }
+        ensures sound { OnOk result (IsSound (ledger_with (held base.now) added.now self.new.change)) }
     {
         let mut rest = over;
         let mut done = Over::new(alloc);
@@ -201,14 +201,14 @@ impl Draft {
         over: &Over,
         freed: Vec<(Slot, bool)>,
     ) -> Result<Over, AllocError>
-        requires sound { IsSound (after (lines_with base.now.lines added.now) (held base.now) self.old.change) }
+        requires sound { IsSound (ledger_with (held base.now) added.now self.old.change) }
         requires wants { All (λ p. IsWants p.wants) (asks_of base.now.parked) }
         requires noted { NotesSpent base.now }
         requires idle { (line : LineOf) → AreIdle freed.items (after line (held base.now) self.old.change) (still_waiting over.now.places.items (asks_of base.now.parked)) }
-        ensures work { OnOk result (shown (lines_with base.now.lines added.now) (held base.now) self.new
-            ≡ try_all farm_limits (still_waiting over.now.places.items (asks_of base.now.parked)) (shown (lines_with base.now.lines added.now) (held base.now) self.old)) }
+        ensures work { OnOk result (work_with (held base.now) added.now self.new
+            ≡ try_all farm_limits (still_waiting over.now.places.items (asks_of base.now.parked)) (work_with (held base.now) added.now self.old)) }
         ensures stay { IfOk result (λ done. still_waiting done.places.items (asks_of base.now.parked)
-            ≡ waiting farm_limits (still_waiting over.now.places.items (asks_of base.now.parked)) (shown (lines_with base.now.lines added.now) (held base.now) self.old)) }
+            ≡ waiting farm_limits (still_waiting over.now.places.items (asks_of base.now.parked)) (work_with (held base.now) added.now self.old)) }
     {
         let asks = base.parked.waiting();
         let mut freed = freed;
@@ -237,10 +237,10 @@ impl Draft {
         base: &State,
         added: &Option<Added>,
     ) -> Result<(), AllocError>
-        requires sound { IsSound (after (lines_with base.now.lines added.now) (held base.now) self.old.change) }
+        requires sound { IsSound (ledger_with (held base.now) added.now self.old.change) }
         requires wants { All (λ p. IsWants p.wants) (asks_of base.now.parked) }
-        ensures { OnOk result (shown (lines_with base.now.lines added.now) (held base.now) self.new
-            ≡ retried farm_limits (shown (lines_with base.now.lines added.now) (held base.now) self.old)) }
+        ensures { OnOk result (work_with (held base.now) added.now self.new
+            ≡ retried farm_limits (work_with (held base.now) added.now self.old)) }
     {
         let ParkedChange { over, since } = mem::replace(
             &mut self.change.parked,
@@ -262,12 +262,12 @@ impl Draft {
         freed: Vec<(Slot, bool)>,
     ) -> Result<(), AllocError>
         requires since { self.old.change.parked.since.items ≡ [] }
-        requires sound { IsSound (after (lines_with base.now.lines added.now) (held base.now) self.old.change) }
+        requires sound { IsSound (ledger_with (held base.now) added.now self.old.change) }
         requires wants { All (λ p. IsWants p.wants) (asks_of base.now.parked) }
         requires noted { NotesSpent base.now }
-        requires idle { AreIdle freed.items (after (lines_with base.now.lines added.now) (held base.now) self.old.change) (waits_after (asks_of base.now.parked) self.old.change.parked) }
-        ensures { OnOk result (shown (lines_with base.now.lines added.now) (held base.now) self.new
-            ≡ retried farm_limits (shown (lines_with base.now.lines added.now) (held base.now) self.old)) }
+        requires idle { AreIdle freed.items (ledger_with (held base.now) added.now self.old.change) (waits_after (asks_of base.now.parked) self.old.change.parked) }
+        ensures { OnOk result (work_with (held base.now) added.now self.new
+            ≡ retried farm_limits (work_with (held base.now) added.now self.old)) }
     {
         let before = mem::replace(&mut self.change.parked, ParkedChange::new(alloc));
         let over = self.try_wanting(alloc, base, added, &before.over, freed)?;
@@ -287,12 +287,12 @@ impl Draft {
         added: &Option<Added>,
         freed: Vec<(Slot, bool)>,
     ) -> Result<(), AllocError>
-        requires sound { IsSound (after (lines_with base.now.lines added.now) (held base.now) self.old.change) }
+        requires sound { IsSound (ledger_with (held base.now) added.now self.old.change) }
         requires wants { All (λ p. IsWants p.wants) (asks_of base.now.parked) }
         requires noted { NotesSpent base.now }
-        requires idle { AreIdle freed.items (after (lines_with base.now.lines added.now) (held base.now) self.old.change) (waits_after (asks_of base.now.parked) self.old.change.parked) }
-        ensures { OnOk result (shown (lines_with base.now.lines added.now) (held base.now) self.new
-            ≡ retried farm_limits (shown (lines_with base.now.lines added.now) (held base.now) self.old)) }
+        requires idle { AreIdle freed.items (ledger_with (held base.now) added.now self.old.change) (waits_after (asks_of base.now.parked) self.old.change.parked) }
+        ensures { OnOk result (work_with (held base.now) added.now self.new
+            ≡ retried farm_limits (work_with (held base.now) added.now self.old)) }
     {
         let asks = base.parked.waiting().len();
         if self.change.parked.since.is_empty() && freed.len() <= asks / freed.len().max(1) {
@@ -340,9 +340,9 @@ impl Draft {
         added: &Option<Added>,
         p: Parked,
     ) -> Result<(), AllocError>
-        requires { IsSound (after (lines_with base.now.lines added.now) (held base.now) self.old.change) }
-        ensures { OnOk result (shown (lines_with base.now.lines added.now) (held base.now) self.new
-            ≡ decided (decision farm_limits (after (lines_with base.now.lines added.now) (held base.now) self.old.change) p) farm_limits p (shown (lines_with base.now.lines added.now) (held base.now) self.old)) }
+        requires { IsSound (ledger_with (held base.now) added.now self.old.change) }
+        ensures { OnOk result (work_with (held base.now) added.now self.new
+            ≡ decided (decision farm_limits (ledger_with (held base.now) added.now self.old.change) p) farm_limits p (work_with (held base.now) added.now self.old)) }
     {
         match self.change.decide(base, &p) {
             Decision::Give => {
@@ -371,9 +371,9 @@ impl Draft {
         p: &Parked,
     ) -> Result<bool, AllocError>
         ensures found { IfOk result (λ found. found ≡ is_some (lease_of (table_after (held base.now) self.old.change).live p.now.node p.now.life p.now.ask)) }
-        ensures work { IfOk result (λ found. shown (lines_with base.now.lines added.now) (held base.now) self.new ≡ (if found
-            then acquiring farm_limits (lease_of (table_after (held base.now) self.old.change).live p.now.node p.now.life p.now.ask) false p.now (shown (lines_with base.now.lines added.now) (held base.now) self.old)
-            else shown (lines_with base.now.lines added.now) (held base.now) self.old)) }
+        ensures work { IfOk result (λ found. work_with (held base.now) added.now self.new ≡ (if found
+            then acquiring farm_limits (lease_of (table_after (held base.now) self.old.change).live p.now.node p.now.life p.now.ask) false p.now (work_with (held base.now) added.now self.old)
+            else work_with (held base.now) added.now self.old)) }
     {
         let Some(lease) = self
             .change
@@ -395,9 +395,9 @@ impl Draft {
         added: &Option<Added>,
         p: Parked,
     ) -> Result<(), AllocError>
-        requires { IsSound (after (lines_with base.now.lines added.now) (held base.now) self.old.change) }
-        ensures { OnOk result (shown (lines_with base.now.lines added.now) (held base.now) self.new
-            ≡ acquiring farm_limits (lease_of (table_after (held base.now) self.old.change).live p.node p.life p.ask) (is_parked (waits_after (asks_of base.now.parked) self.old.change.parked) p.node p.life p.ask) p (shown (lines_with base.now.lines added.now) (held base.now) self.old)) }
+        requires { IsSound (ledger_with (held base.now) added.now self.old.change) }
+        ensures { OnOk result (work_with (held base.now) added.now self.new
+            ≡ acquiring farm_limits (lease_of (table_after (held base.now) self.old.change).live p.node p.life p.ask) (is_parked (waits_after (asks_of base.now.parked) self.old.change.parked) p.node p.life p.ask) p (work_with (held base.now) added.now self.old)) }
     {
         if self.grant_again(alloc, base, added, &p)? {
             return Ok(());
@@ -422,8 +422,8 @@ impl Draft {
         ticket: Ticket,
         news: &[News],
     ) -> Result<(), AllocError>
-        ensures { OnOk result (shown (lines_with base.now.lines added.now) (held base.now) self.new
-            ≡ confirms node life ticket news.now (shown (lines_with base.now.lines added.now) (held base.now) self.old)) }
+        ensures { OnOk result (work_with (held base.now) added.now self.new
+            ≡ confirms node life ticket news.now (work_with (held base.now) added.now self.old)) }
     {
         let versions = confirmed(alloc, &base.lines, added, ticket, news)?;
         self.sends.push(FromCoord::Committed {
@@ -445,8 +445,8 @@ impl Draft {
         ticket: Ticket,
         news: &[News],
     ) -> Result<(), AllocError>
-        ensures { OnOk result (shown (line_at base.now.lines) (held base.now) self.new
-            ≡ committing farm_limits false node life ticket news.now (shown (line_at base.now.lines) (held base.now) self.old)) }
+        ensures { OnOk result (work_at (held base.now) self.new
+            ≡ committing farm_limits false node life ticket news.now (work_at (held base.now) self.old)) }
     {
         if !news.is_empty() && all_stand(&base.lines, ticket, news) {
             self.confirm(alloc, base, &None, node, life, ticket, news)?;
@@ -475,8 +475,8 @@ impl Draft {
         base: &State,
         ticket: Ticket,
     ) -> Result<Vec<(Slot, bool)>, AllocError>
-        requires sound { IsSound (after (line_at base.now.lines) (held base.now) self.now.change) }
-        requires held_up { AreHeldUp (after (line_at base.now.lines) (held base.now) self.now.change) }
+        requires sound { IsSound (ledger_at (held base.now) self.now.change) }
+        requires held_up { AreHeldUp (ledger_at (held base.now) self.now.change) }
         ensures { IfOk result (λ freed. (q : Ledger) → q.live ≡ without ticket (table_after (held base.now) self.now.change).live → q.old_home ≡ self.now.change.old_home
             → q.parked ≡ waits_after (asks_of base.now.parked) self.now.change.parked → AreIdle freed.items q q.parked) }
     {
@@ -493,7 +493,7 @@ impl Draft {
         base: &State,
         ending: Ending,
     ) -> Result<Vec<(Slot, bool)>, AllocError>
-        requires { AreHeldUp (after (line_at base.now.lines) (held base.now) self.now.change) }
+        requires { AreHeldUp (ledger_at (held base.now) self.now.change) }
         ensures { IfOk result (λ freed. (q : Ledger) → q.live ≡ filter (λ g. not (ends_lease ending g)) (table_after (held base.now) self.now.change).live → q.old_home ≡ self.now.change.old_home
             → q.parked ≡ filter (λ p. not (ends_ask ending p)) (waits_after (asks_of base.now.parked) self.now.change.parked) → AreIdle freed.items q q.parked) }
     {
@@ -509,12 +509,12 @@ impl Draft {
         life: Life,
         ticket: Ticket,
     ) -> Result<(), AllocError>
-        requires sound { IsSound (after (line_at base.now.lines) (held base.now) self.old.change) }
+        requires sound { IsSound (ledger_at (held base.now) self.old.change) }
         requires wants { All (λ p. IsWants p.wants) (asks_of base.now.parked) }
         requires noted { NotesSpent base.now }
-        requires held_up { AreHeldUp (after (line_at base.now.lines) (held base.now) self.old.change) }
-        ensures { OnOk result (shown (line_at base.now.lines) (held base.now) self.new
-            ≡ released farm_limits (may_release node life (lease_under (table_after (held base.now) self.old.change).live ticket)) ticket (lease_under (table_after (held base.now) self.old.change).live ticket) (shown (line_at base.now.lines) (held base.now) self.old)) }
+        requires held_up { AreHeldUp (ledger_at (held base.now) self.old.change) }
+        ensures { OnOk result (work_at (held base.now) self.new
+            ≡ released farm_limits (may_release node life (lease_under (table_after (held base.now) self.old.change).live ticket)) ticket (lease_under (table_after (held base.now) self.old.change).live ticket) (work_at (held base.now) self.old)) }
     {
         if !self.change.may_release(base, node, life, ticket) {
             return Ok(());
@@ -545,12 +545,12 @@ impl Draft {
         ticket: Ticket,
         news: &[News],
     ) -> Result<Option<Added>, AllocError>
-        requires sound { IsSound (after (line_at base.now.lines) (held base.now) self.old.change) }
+        requires sound { IsSound (ledger_at (held base.now) self.old.change) }
         requires wants { All (λ p. IsWants p.wants) (asks_of base.now.parked) }
         requires noted { NotesSpent base.now }
-        requires held_up { AreHeldUp (after (line_at base.now.lines) (held base.now) self.old.change) }
-        ensures work { IfOk result (λ added. shown (lines_with base.now.lines added) (held base.now) self.new
-            ≡ committing farm_limits (may_commit node life news.now (lease_under (table_after (held base.now) self.old.change).live ticket)) node life ticket news.now (shown (line_at base.now.lines) (held base.now) self.old)) }
+        requires held_up { AreHeldUp (ledger_at (held base.now) self.old.change) }
+        ensures work { IfOk result (λ added. work_with (held base.now) added self.new
+            ≡ committing farm_limits (may_commit node life news.now (lease_under (table_after (held base.now) self.old.change).live ticket)) node life ticket news.now (work_at (held base.now) self.old)) }
         ensures ready { IfOk result (IsReady base.now.lines) }
     {
         if !self.change.may_commit(base, node, life, ticket, news) {
@@ -597,13 +597,13 @@ impl Draft {
         node: NodeId,
         life: Life,
     ) -> Result<(), AllocError>
-        requires sound { IsSound (after (line_at base.now.lines) (held base.now) self.old.change) }
+        requires sound { IsSound (ledger_at (held base.now) self.old.change) }
         requires wants { All (λ p. IsWants p.wants) (asks_of base.now.parked) }
         requires noted { NotesSpent base.now }
-        requires held_up { AreHeldUp (after (line_at base.now.lines) (held base.now) self.old.change) }
+        requires held_up { AreHeldUp (ledger_at (held base.now) self.old.change) }
         requires life { 1 ≤ life.0 }
         requires first { self.old.change.life ≡ None }
-        ensures { OnOk result (shown (line_at base.now.lines) (held base.now) self.new ≡ newer_life farm_limits node life (shown (line_at base.now.lines) (held base.now) self.old)) }
+        ensures { OnOk result (work_at (held base.now) self.new ≡ newer_life farm_limits node life (work_at (held base.now) self.old)) }
     {
         let was_home = is_home(node, self.change.old_home);
         let had_leases = self.change.table.has_lease_below(&base.table, node, life);
@@ -624,12 +624,12 @@ impl Draft {
         base: &State,
         message: &ToCoord,
     ) -> Result<Option<Added>, AllocError>
-        requires sound { IsSound (after (line_at base.now.lines) (held base.now) self.old.change) }
+        requires sound { IsSound (ledger_at (held base.now) self.old.change) }
         requires wants { All (λ p. IsWants p.wants) (asks_of base.now.parked) }
         requires noted { NotesSpent base.now }
-        requires held_up { AreHeldUp (after (line_at base.now.lines) (held base.now) self.old.change) }
-        ensures work { IfOk result (λ added. shown (lines_with base.now.lines added) (held base.now) self.new
-            ≡ answering farm_limits message.now.node message.now.life message.now.request (shown (line_at base.now.lines) (held base.now) self.old)) }
+        requires held_up { AreHeldUp (ledger_at (held base.now) self.old.change) }
+        ensures work { IfOk result (λ added. work_with (held base.now) added self.new
+            ≡ answering farm_limits message.now.node message.now.life message.now.request (work_at (held base.now) self.old)) }
         ensures ready { IfOk result (IsReady base.now.lines) }
     {
         match &message.request {
@@ -670,13 +670,13 @@ impl Draft {
         base: &State,
         message: &ToCoord,
     ) -> Result<Option<Added>, AllocError>
-        requires sound { IsSound (after (line_at base.now.lines) (held base.now) self.old.change) }
+        requires sound { IsSound (ledger_at (held base.now) self.old.change) }
         requires wants { All (λ p. IsWants p.wants) (asks_of base.now.parked) }
         requires noted { NotesSpent base.now }
         requires first { self.old.change.life ≡ None }
-        requires held_up { AreHeldUp (after (line_at base.now.lines) (held base.now) self.old.change) }
-        ensures work { IfOk result (λ added. shown (lines_with base.now.lines added) (held base.now) self.new
-            ≡ handled farm_limits message.now (shown (line_at base.now.lines) (held base.now) self.old)) }
+        requires held_up { AreHeldUp (ledger_at (held base.now) self.old.change) }
+        ensures work { IfOk result (λ added. work_with (held base.now) added self.new
+            ≡ handled farm_limits message.now (work_at (held base.now) self.old)) }
         ensures ready { IfOk result (IsReady base.now.lines) }
     {
         if self.change.is_gone(base, message.node) {

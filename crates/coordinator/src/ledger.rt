@@ -23,7 +23,7 @@ ghost use Rattle.saverecord.specs.Keepers.{HasFailed};
 ghost use Rattle.coordinator.specs.Keeps.{held, NotesSpent};
 ghost use Rattle.coordinator.specs.Seen.{IsKeeping};
 ghost use Rattle.coordinator.specs.Settling.{Answers, is_save_fault};
-ghost use Rattle.coordinator.specs.Shown.{LineOf, kept, after, shown};
+ghost use Rattle.coordinator.specs.Shown.{LineOf, kept, after, work_with, ledger_with};
 ghost use Rattle.versions.specs.Lines.{lines_with, room_needed, line_shown};
 ghost use Rattle.coordinator.specs.Sound.{IsSound, IsRightful};
 ghost use Rattle.coordinator.specs.Queue.{HasRoomFor};
@@ -162,9 +162,9 @@ impl Ledger {
 
     /// The whole record of an event that was worked out.
     fn record_bytes(&self, alloc: Global, prepared: &Prepared) -> Result<Vec<u8>, AllocError>
-        requires rightful { IsRightful (after (lines_with self.now.lines prepared.now.added) self.now prepared.now.draft.value.change) }
+        requires rightful { IsRightful (ledger_with self.now prepared.now.added prepared.now.draft.value.change) }
         requires ready { IsReady self.now.lines prepared.now.added }
-        ensures { IfOk result (λ bytes. Holds (whole_alone bytes.items) (saves (after (lines_with self.now.lines prepared.now.added) self.now prepared.now.draft.value.change))) }
+        ensures { IfOk result (λ bytes. Holds (whole_alone bytes.items) (saves (ledger_with self.now prepared.now.added prepared.now.draft.value.change))) }
     {
         let change = &prepared.draft.change;
         let record = record_of(alloc, &self.state, change, &prepared.added)?;
@@ -174,11 +174,11 @@ impl Ledger {
 
     /// The entry of an event that was worked out: what it changes in the record.
     fn entry_bytes(&self, alloc: Global, prepared: &Prepared) -> Result<Vec<u8>, AllocError>
-        requires rightful { IsRightful (after (lines_with self.now.lines prepared.now.added) self.now prepared.now.draft.value.change) }
+        requires rightful { IsRightful (ledger_with self.now prepared.now.added prepared.now.draft.value.change) }
         requires ready { IsReady self.now.lines prepared.now.added }
         requires block { self.now.ceiling ≤ prepared.now.draft.value.change.tickets.ceiling }
         ensures { IfOk result (λ bytes. (t : Texts) → Holds t (saves (ledger self.now))
-            → Holds (with_text bytes.items t) (saves (after (lines_with self.now.lines prepared.now.added) self.now prepared.now.draft.value.change))) }
+            → Holds (with_text bytes.items t) (saves (ledger_with self.now prepared.now.added prepared.now.draft.value.change))) }
     {
         let change = &prepared.draft.change;
         let entry = entry_of(alloc, &self.state, change, &prepared.added)?;
@@ -192,10 +192,10 @@ impl Ledger {
         alloc: Global,
         prepared: &Prepared,
     ) -> Result<Option<Text>, AllocError>
-        requires rightful { IsRightful (after (lines_with self.now.lines prepared.now.added) self.now prepared.now.draft.value.change) }
+        requires rightful { IsRightful (ledger_with self.now prepared.now.added prepared.now.draft.value.change) }
         requires ready { IsReady self.now.lines prepared.now.added }
         ensures text { IfOk result (λ o. IfSome o (λ text. (t : Texts) → Holds t (saves (ledger self.now))
-            → Holds (kept_with text t) (saves (after (lines_with self.now.lines prepared.now.added) self.now prepared.now.draft.value.change)))) }
+            → Holds (kept_with text t) (saves (ledger_with self.now prepared.now.added prepared.now.draft.value.change)))) }
         ensures changed { IfOk result (λ o. is_some o ≡ prepared.now.draft.value.changed) }
     {
         if !prepared.draft.changed {
@@ -213,10 +213,10 @@ impl Ledger {
     /// Works out what a message does. Nothing changes before `settle`.
     pub(crate) fn prepare(&self, alloc: Global, message: &ToCoord) -> Result<Prepared, AllocError>
         requires { IsSaid NODES message.now }
-        ensures work { IfOk result (λ p. shown (lines_with self.now.lines p.added) self.now p.draft.value
+        ensures work { IfOk result (λ p. work_with self.now p.added p.draft.value
             ≡ handled farm_limits message.now (begin_work (ledger self.now))) }
         ensures told { IfOk result (λ p. ChangesAsTold (ledger self.now) (Ok (handled farm_limits message.now (begin_work (ledger self.now))))) }
-        ensures rightful { IfOk result (λ p. IsRightful (after (lines_with self.now.lines p.added) self.now p.draft.value.change)) }
+        ensures rightful { IfOk result (λ p. IsRightful (ledger_with self.now p.added p.draft.value.change)) }
         ensures ready { IfOk result (λ p. IsReady self.now.lines p.added) }
         ensures empty { IfOk result (λ p. p.room.items ≡ []) }
         ensures larger { IfOk result (λ p. room_needed self.now.lines p.added ≤ vec_capacity p.room) }
@@ -235,13 +235,13 @@ impl Ledger {
         keeper: &mut K,
         prepared: Prepared,
     ) -> Result<Handled, CoordRefusal>
-        requires told { ChangesAsTold (ledger self.old) (Ok (shown (lines_with self.old.lines prepared.added) self.old prepared.draft.value)) }
-        requires rightful { IsRightful (after (lines_with self.old.lines prepared.added) self.old prepared.draft.value.change) }
+        requires told { ChangesAsTold (ledger self.old) (Ok (work_with self.old prepared.added prepared.draft.value)) }
+        requires rightful { IsRightful (ledger_with self.old prepared.added prepared.draft.value.change) }
         requires ready { IsReady self.old.lines prepared.added }
         requires empty { prepared.room.items ≡ [] }
         requires larger { room_needed self.old.lines prepared.added ≤ vec_capacity prepared.room }
         requires keeping { IsKeeping (K.kept keeper.old) self.old false }
-        ensures answer { Answers K.saving (Ok (shown (lines_with self.old.lines prepared.added) self.old prepared.draft.value))
+        ensures answer { Answers K.saving (Ok (work_with self.old prepared.added prepared.draft.value))
             (record { held = self.old; keeper = keeper.old; down = false }) (record { held = self.new; keeper = keeper.new; down = is_save_fault result }) result }
         ensures cause { result ≡ Err CoordRefusal.SaveFault → HasFailed (K.failed keeper.old) (K.failed keeper.new) }
         ensures keeping { IsKeeping (K.kept keeper.new) self.new (is_save_fault result) }
@@ -282,9 +282,9 @@ impl Ledger {
     /// Works out the withdrawal of a lease, which adds nothing to the lines.
     pub(crate) fn withdrawal(&self, alloc: Global, ticket: Ticket) -> Result<Prepared, AllocError>
         requires { result_err (withdrawn farm_limits ticket (begin_work (ledger self.now))) ≡ None }
-        ensures work { IfOk result (λ p. withdrawn farm_limits ticket (begin_work (ledger self.now)) ≡ Ok (shown (lines_with self.now.lines p.added) self.now p.draft.value)) }
+        ensures work { IfOk result (λ p. withdrawn farm_limits ticket (begin_work (ledger self.now)) ≡ Ok (work_with self.now p.added p.draft.value)) }
         ensures told { IfOk result (λ p. ChangesAsTold (ledger self.now) (withdrawn farm_limits ticket (begin_work (ledger self.now)))) }
-        ensures rightful { IfOk result (λ p. IsRightful (after (lines_with self.now.lines p.added) self.now p.draft.value.change)) }
+        ensures rightful { IfOk result (λ p. IsRightful (ledger_with self.now p.added p.draft.value.change)) }
         ensures ready { IfOk result (λ p. IsReady self.now.lines p.added) }
         ensures empty { IfOk result (λ p. p.room.items ≡ []) }
         ensures larger { IfOk result (λ p. room_needed self.now.lines p.added ≤ vec_capacity p.room) }
@@ -310,9 +310,9 @@ impl Ledger {
     pub(crate) fn retirement(&self, alloc: Global, node: NodeId) -> Result<Prepared, AllocError>
         requires accepted { result_err (retired farm_limits node (begin_work (ledger self.now))) ≡ None }
         requires number { IsNumber NODES node }
-        ensures work { IfOk result (λ p. retired farm_limits node (begin_work (ledger self.now)) ≡ Ok (shown (lines_with self.now.lines p.added) self.now p.draft.value)) }
+        ensures work { IfOk result (λ p. retired farm_limits node (begin_work (ledger self.now)) ≡ Ok (work_with self.now p.added p.draft.value)) }
         ensures told { IfOk result (λ p. ChangesAsTold (ledger self.now) (retired farm_limits node (begin_work (ledger self.now)))) }
-        ensures rightful { IfOk result (λ p. IsRightful (after (lines_with self.now.lines p.added) self.now p.draft.value.change)) }
+        ensures rightful { IfOk result (λ p. IsRightful (ledger_with self.now p.added p.draft.value.change)) }
         ensures ready { IfOk result (λ p. IsReady self.now.lines p.added) }
         ensures empty { IfOk result (λ p. p.room.items ≡ []) }
         ensures larger { IfOk result (λ p. room_needed self.now.lines p.added ≤ vec_capacity p.room) }
@@ -345,9 +345,9 @@ impl Ledger {
     /// Works out the prune of a slot's line.
     pub(crate) fn pruning(&self, alloc: Global, slot: &Slot) -> Result<Prepared, AllocError>
         requires { result_err (pruned farm_limits slot.now (begin_work (ledger self.now))) ≡ None }
-        ensures work { IfOk result (λ p. pruned farm_limits slot.now (begin_work (ledger self.now)) ≡ Ok (shown (lines_with self.now.lines p.added) self.now p.draft.value)) }
+        ensures work { IfOk result (λ p. pruned farm_limits slot.now (begin_work (ledger self.now)) ≡ Ok (work_with self.now p.added p.draft.value)) }
         ensures told { IfOk result (λ p. ChangesAsTold (ledger self.now) (pruned farm_limits slot.now (begin_work (ledger self.now)))) }
-        ensures rightful { IfOk result (λ p. IsRightful (after (lines_with self.now.lines p.added) self.now p.draft.value.change)) }
+        ensures rightful { IfOk result (λ p. IsRightful (ledger_with self.now p.added p.draft.value.change)) }
         ensures ready { IfOk result (λ p. IsReady self.now.lines p.added) }
         ensures empty { IfOk result (λ p. p.room.items ≡ []) }
         ensures larger { IfOk result (λ p. room_needed self.now.lines p.added ≤ vec_capacity p.room) }

@@ -6,11 +6,11 @@ ghost use Rattle.farm_base.specs.Contents.{empty_digest};
 ghost use Rattle.protocol.specs.Farm.{farm_limits};
 ghost use Rattle.protocol.specs.Ledger.{begin_work, withdrawn, pruned, retired, retried, goes, holds_wanted, is_awaited, nudges, nudge_all};
 ghost use Rattle.versions.specs.Additions.{HasRoom, IsReady};
-ghost use Rattle.versions.specs.Lines.{lines_with, news_of};
+ghost use Rattle.versions.specs.Lines.{news_of};
 ghost use Rattle.coordinator.specs.Held.{line_at};
 ghost use Rattle.coordinator.specs.Keeps.{held, NotesSpent};
 ghost use Rattle.farm_base.specs.Wanted.{IsWants};
-ghost use Rattle.coordinator.specs.Shown.{LineOf, having_said, kept, after, shown, withdraws_under};
+ghost use Rattle.coordinator.specs.Shown.{LineOf, having_said, kept, shown, work_with, work_at, ledger_with, ledger_at, withdraws_under};
 ghost use Rattle.coordinator.specs.Idle.{AreHeldUp, AreIdle};
 ghost use Rattle.coordinator.specs.Queue.{asks_of};
 ghost use Rattle.coordinator.specs.Waiting.{waits_after};
@@ -138,13 +138,13 @@ impl Draft {
         base: &State,
         ticket: Ticket,
     ) -> Result<(), AllocError>
-        requires sound { IsSound (after (line_at base.now.lines) (held base.now) self.old.change) }
+        requires sound { IsSound (ledger_at (held base.now) self.old.change) }
         requires wants { All (λ p. IsWants p.wants) (asks_of base.now.parked) }
-        requires held_up { AreHeldUp (after (line_at base.now.lines) (held base.now) self.old.change) }
+        requires held_up { AreHeldUp (ledger_at (held base.now) self.old.change) }
         requires noted { NotesSpent base.now }
-        requires accepted { result_err (withdrawn farm_limits ticket (shown (line_at base.now.lines) (held base.now) self.old)) ≡ None }
-        ensures work { OnOk result (withdrawn farm_limits ticket (shown (line_at base.now.lines) (held base.now) self.old) ≡ Ok (shown (line_at base.now.lines) (held base.now) self.new)) }
-        ensures sound { OnOk result (IsSound (after (line_at base.now.lines) (held base.now) self.new.change)) }
+        requires accepted { result_err (withdrawn farm_limits ticket (work_at (held base.now) self.old)) ≡ None }
+        ensures work { OnOk result (withdrawn farm_limits ticket (work_at (held base.now) self.old) ≡ Ok (work_at (held base.now) self.new)) }
+        ensures sound { OnOk result (IsSound (ledger_at (held base.now) self.new.change)) }
     {
         let freed = self.freed_by(alloc, base, ticket)?;
         self.take_back(alloc, base, ticket)?;
@@ -161,12 +161,12 @@ impl Draft {
         due: bool,
         freed: Vec<(Slot, bool)>,
     ) -> Result<(), AllocError>
-        requires sound { IsSound (after (line_at base.now.lines) (held base.now) self.old.change) }
+        requires sound { IsSound (ledger_at (held base.now) self.old.change) }
         requires wants { All (λ p. IsWants p.wants) (asks_of base.now.parked) }
         requires noted { NotesSpent base.now }
-        requires idle { AreIdle freed.items (after (line_at base.now.lines) (held base.now) self.old.change) (waits_after (asks_of base.now.parked) self.old.change.parked) }
-        ensures { OnOk result (shown (line_at base.now.lines) (held base.now) self.new
-            ≡ (if due then retried farm_limits (shown (line_at base.now.lines) (held base.now) self.old) else shown (line_at base.now.lines) (held base.now) self.old)) }
+        requires idle { AreIdle freed.items (ledger_at (held base.now) self.old.change) (waits_after (asks_of base.now.parked) self.old.change.parked) }
+        ensures { OnOk result (work_at (held base.now) self.new
+            ≡ (if due then retried farm_limits (work_at (held base.now) self.old) else work_at (held base.now) self.old)) }
     {
         if !due {
             return Ok(());
@@ -196,14 +196,14 @@ impl Draft {
         base: &State,
         node: NodeId,
     ) -> Result<(), AllocError>
-        requires sound { IsSound (after (line_at base.now.lines) (held base.now) self.old.change) }
+        requires sound { IsSound (ledger_at (held base.now) self.old.change) }
         requires wants { All (λ p. IsWants p.wants) (asks_of base.now.parked) }
         requires noted { NotesSpent base.now }
-        requires held_up { AreHeldUp (after (line_at base.now.lines) (held base.now) self.old.change) }
-        requires accepted { result_err (retired farm_limits node (shown (line_at base.now.lines) (held base.now) self.old)) ≡ None }
+        requires held_up { AreHeldUp (ledger_at (held base.now) self.old.change) }
+        requires accepted { result_err (retired farm_limits node (work_at (held base.now) self.old)) ≡ None }
         requires first { self.old.change.gone ≡ None }
-        ensures work { OnOk result (retired farm_limits node (shown (line_at base.now.lines) (held base.now) self.old) ≡ Ok (shown (line_at base.now.lines) (held base.now) self.new)) }
-        ensures sound { OnOk result (IsSound (after (line_at base.now.lines) (held base.now) self.new.change)) }
+        ensures work { OnOk result (retired farm_limits node (work_at (held base.now) self.old) ≡ Ok (work_at (held base.now) self.new)) }
+        ensures sound { OnOk result (IsSound (ledger_at (held base.now) self.new.change)) }
     {
         let had_leases = self.change.table.has_lease_of(&base.table, node);
         let freed = self.freed_by_node(alloc, base, Ending::Node(node))?;
@@ -220,11 +220,11 @@ impl Draft {
         base: &State,
         slot: &Slot,
     ) -> Result<Option<Added>, AllocError>
-        requires sound { IsSound (after (line_at base.now.lines) (held base.now) self.old.change) }
-        requires accepted { result_err (pruned farm_limits slot.now (shown (line_at base.now.lines) (held base.now) self.old)) ≡ None }
-        ensures work { IfOk result (λ added. pruned farm_limits slot.now (shown (line_at base.now.lines) (held base.now) self.old) ≡ Ok (shown (lines_with base.now.lines added) (held base.now) self.new)) }
+        requires sound { IsSound (ledger_at (held base.now) self.old.change) }
+        requires accepted { result_err (pruned farm_limits slot.now (work_at (held base.now) self.old)) ≡ None }
+        ensures work { IfOk result (λ added. pruned farm_limits slot.now (work_at (held base.now) self.old) ≡ Ok (work_with (held base.now) added self.new)) }
         ensures ready { IfOk result (IsReady base.now.lines) }
-        ensures sound { IfOk result (λ added. IsSound (after (lines_with base.now.lines added) (held base.now) self.new.change)) }
+        ensures sound { IfOk result (λ added. IsSound (ledger_with (held base.now) added self.new.change)) }
     {
         let additions = emptied(alloc, &base.lines, slot)?;
         let Ok(ticket) = self.change.tickets.next() else {
