@@ -9,7 +9,7 @@ use Rattle.protocol.specs.Machine.{Grant, Said, Told, ToCoord, Parked, acquire}
 use Rattle.protocol.specs.Ledger.{Ledger, begin_work}
 use Rattle.protocol.specs.World as protocol
 use Rattle.protocol.specs.World.{Moves, start}
-use Rattle.protocol.specs.Replay.{Farm, run, opening}
+use Rattle.protocol.specs.Replay.{Farm}
 use Rattle.protocol.specs.Follows.{Shows, MayBeGranted, after_life}
 use Rattle.protocol.specs.Meaning.{CouldBeGranted, Means}
 use Rattle.protocol.specs.Chronicle.{AsksAreAnswered}
@@ -23,53 +23,60 @@ use Rattle.protocol.specs.declared.answer.Outcome.{Outcome}
 use Rattle.protocol.specs.declared.event.Event.{Event}
 use Rattle.protocol.specs.declared.event.Event.TheVariants.{Deliver}
 use Rattle.coordinator.specs.Promises.{granted}
+use Rattle.world.specs.Replays.{replayed}
 
 -- a refusal has its reason, and what is accepted has no reason to be refused; but for want of memory
 abbrev pub IsFair : protocol.World → Farm → Event → Result Outcome EventRefusal → Type 0
-IsFair u s e (Err OutOfMemory) = ⊤
-IsFair u s e r = Fair farm_limits u s e r
+IsFair world farm event (Err OutOfMemory) = ⊤
+IsFair world farm event result = Fair farm_limits world farm event result
 
 -- each world of a run that the farm was in moves to one that it is in now, and the event means there what it answered
 abbrev pub MeansAsTold : Farm → Event → Result Outcome EventRefusal → Farm → Type 0
-MeansAsTold old e result new = (u : protocol.World) → Moves content_digest (start content_digest) u
-    → Shows content_digest u old
-    → (v : protocol.World) × Moves content_digest u v × Shows content_digest v new
-    × Means content_digest farm_limits old.size u e result v × IsFair u old e result
+MeansAsTold old event result new = (world : protocol.World) → Moves content_digest (start content_digest) world
+    → Shows content_digest world old
+    → (later : protocol.World) × Moves content_digest world later × Shows content_digest later new
+    × Means content_digest farm_limits old.size world event result later × IsFair world old event result
 
 -- the event granted this, and sent it
-pub record Grants (g : Grant) (result : Result Outcome EventRefusal) (new : Farm) : Type 0 where
+pub record Grants (grant : Grant) (result : Result Outcome EventRefusal) (new : Farm) : Type 0 where
   pub done : IsOkUnless result OutOfMemory
-  pub note : IfOk result (λ o. o.note ≡ note.Coord (coord.Granted g))
-  pub sent : OnOk result (In (Told (told.Granted g)) new.pool)
+  pub note : IfOk result (λ outcome. outcome.note ≡ note.Coord (coord.Granted grant))
+  pub sent : OnOk result (In (Told (told.Granted grant)) new.pool)
 
 -- in a run an Acquire that is delivered, of a node that isn't retired, of no older life, that the rules let be granted,
 -- is granted in that event, by a coordinator that isn't down and where no save is to fail
 abbrev pub GrantsAtOnce : Farm → Event → Result Outcome EventRefusal → Farm → Type 0
-GrantsAtOnce old e result new = (size : ℕ) (events : List Event)
-    → old ≡ run content_digest farm_limits events (opening content_digest size)
-    → old.down ≡ false → old.armed ≡ None → (number : ℕ) (p : Parked) → e ≡ Deliver number
-    → let y : ToCoord = record { node = p.node; life = p.life; request = Acquire p.ask p.wants p.tenure } in
-    let after : Ledger = (after_life farm_limits p.node p.life (begin_work old.ledger)).ledger in
-    nth old.pool number ≡ Some (Said y) → old.ledger.gone p.node.0 ≡ false
-    → nat_lt p.life.0 (old.ledger.lives p.node.0) ≡ false
-    → MayBeGranted farm_limits after p → Grants (granted after p) result new
+GrantsAtOnce old event result new = (size : ℕ) (events : List Event)
+    → old ≡ replayed size events
+    → old.down ≡ false → old.armed ≡ None → (number : ℕ) (parked : Parked) → event ≡ Deliver number
+    → let saying : ToCoord = record {
+      node = parked.node;
+      life = parked.life;
+      request = Acquire parked.ask parked.wants parked.tenure;
+    } in
+    let after : Ledger = (after_life farm_limits parked.node parked.life (begin_work old.ledger)).ledger in
+    nth old.pool number ≡ Some (Said saying) → old.ledger.gone parked.node.0 ≡ false
+    → nat_lt parked.life.0 (old.ledger.lives parked.node.0) ≡ false
+    → MayBeGranted farm_limits after parked → Grants (granted after parked) result new
 
 -- the coordinator's answer is one of these
 abbrev pub IsTold : (CoordNote → Type 0) → Result Outcome EventRefusal → Type 0
-IsTold IsOne (Ok o) = (told : CoordNote) × (o.note ≡ note.Coord told) × IsOne told
-IsTold IsOne (Err e) = e ≡ OutOfMemory
+IsTold IsOne (Ok outcome) = (told : CoordNote) × (outcome.note ≡ note.Coord told) × IsOne told
+IsTold IsOne (Err why) = why ≡ OutOfMemory
 
 -- in a run an Acquire that is delivered, of a node that isn't retired, is answered by the slots of the machine,
 -- whichever world the farm is in; where the coordinator isn't down and no save is to fail
 abbrev pub AnswersAsks : Farm → Event → Result Outcome EventRefusal → Type 0
-AnswersAsks old e result = (size : ℕ) (events : List Event)
-    → old ≡ run content_digest farm_limits events (opening content_digest size)
-    → old.down ≡ false → old.armed ≡ None → (number : ℕ) (p : Parked) → e ≡ Deliver number
-    → nth old.pool number ≡ Some (acquire p.node p.life p.ask p.wants p.tenure) → old.ledger.gone p.node.0 ≡ false
-    → (u : protocol.World) → Moves content_digest (start content_digest) u → Shows content_digest u old
-    → IsTold (AsksAreAnswered farm_limits u.machine p) result
+AnswersAsks old event result = (size : ℕ) (events : List Event)
+    → old ≡ replayed size events
+    → old.down ≡ false → old.armed ≡ None → (number : ℕ) (parked : Parked) → event ≡ Deliver number
+    → nth old.pool number ≡ Some (acquire parked.node parked.life parked.ask parked.wants parked.tenure)
+    → old.ledger.gone parked.node.0 ≡ false
+    → (world : protocol.World) → Moves content_digest (start content_digest) world → Shows content_digest world old
+    → IsTold (AsksAreAnswered farm_limits world.machine parked) result
 
 -- whichever world the farm is in, no parked ask could be granted
 abbrev pub NoneWaitsIdly : Farm → Type 0
-NoneWaitsIdly s = (u : protocol.World) → Shows content_digest u s → (p : Parked) → In p u.machine.parked
-    → CouldBeGranted farm_limits u.machine p → ⊥
+NoneWaitsIdly farm = (world : protocol.World) → Shows content_digest world farm → (parked : Parked)
+    → In parked world.machine.parked
+    → CouldBeGranted farm_limits world.machine parked → ⊥

@@ -5,11 +5,11 @@ ghost use Rattle.protocol.specs.Farm.{farm_limits};
 ghost use Rattle.protocol.specs.World.{start};
 ghost use Rattle.protocol.specs.Follows.{SafeAfter};
 ghost use Rattle.protocol.specs.Chronicle.{Chronicle, Headline};
-ghost use Rattle.protocol.specs.Replay.{opening, run, step};
+ghost use Rattle.protocol.specs.Replay.{opening, step};
 ghost use Rattle.world.specs.Meanings.{NoneWaitsIdly};
 ghost use Rattle.world.specs.Setups.{IsSetup};
 ghost use Rattle.world.specs.Shown.{shown};
-ghost use Rattle.world.specs.Replays.{StaysSafe, KeepsHeadline};
+ghost use Rattle.world.specs.Replays.{replayed, StaysSafe, KeepsHeadline};
 
 use super::laws::every_replay_means;
 use super::world::{World, is_setup};
@@ -50,7 +50,7 @@ impl World {
 /// answers, and the headline of this project holds after each part of it, and so of the farm that is handed back, where no
 /// ask waits that could be granted.
 pub fn replay(alloc: Global, setup: Setup, events: &[Event]) -> Result<World, ReplayRefusal>
-    ensures farm { IfOk result (λ w. shown w ≡ run content_digest farm_limits events.now (opening content_digest setup.nodes)) }
+    ensures farm { IfOk result (λ w. shown w ≡ replayed setup.nodes events.now) }
     ensures safe { IfOk result (λ w. SafeAfter content_digest (shown w)) }
     ensures stays { IfOk result (λ w. StaysSafe setup.nodes events.now) }
     ensures chronicle { IfOk result (λ w. Chronicle content_digest farm_limits events.now (opening content_digest setup.nodes) (start content_digest)) }
