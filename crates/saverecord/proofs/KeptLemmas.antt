@@ -23,7 +23,7 @@ use Rattle.protocol.specs.Lists.{In}
 use Rattle.protocol.specs.Names.{Slot, slot_eq, is_shared, is_private, NodeId, Want, FolderName, wants_shared, leased_wants}
 use Rattle.protocol.specs.Machine.{LineVersion}
 use Rattle.protocol.specs.Ledger.{Lease, has_slot}
-use Rattle.protocol.specs.Lawful.{IsNumber, is_tenure, AreAsked, want_of, IsHolder, AreApart, AllApart}
+use Rattle.protocol.specs.Lawful.{IsNumber, are_for_tenure, AreAsked, want_of, IsHolder, AreApart, AllApart}
 use Rattle.protocol.proofs.Base.{all_in, true_false, eqb_same, slot_eq_same, any_in, in_map, from_filter}
 use Rattle.farm_base.specs.declared.limits.TheConstants.{NODES}
 use Rattle.versions.specs.declared.lines.SlotLine.{SlotLine}
@@ -76,7 +76,7 @@ tenured [] w h e = absurd (let one : 0 ≡ 1 = ap length e in omega arith)
 tenured (x ∷ []) w h e = (subst (AllByRecursion (λ (w : Want). (is_shared w.folder.mode && w.writable) ≡ true)) (sym e) (h, tt)).0
 tenured (x ∷ y ∷ rest) w h e = absurd (let one : length (map want_of (x ∷ y ∷ rest)) ≡ 1 = ap length e in omega arith)
 
-tenure_slots : (slots : List (Slot × Bool)) (wants : List Want) → is_tenure wants ≡ true → map want_of slots ≡ leased_wants true wants → is_tenured slots ≡ true
+tenure_slots : (slots : List (Slot × Bool)) (wants : List Want) → are_for_tenure wants ≡ true → map want_of slots ≡ leased_wants true wants → is_tenured slots ≡ true
 tenure_slots slots [] h e = absurd (cc h)
 tenure_slots slots (w ∷ []) h e = tenured slots w h (e ∙ (rw (and_parts (is_shared w.folder.mode) w.writable h).0 refl))
 tenure_slots slots (w ∷ x ∷ wants) h e = absurd (cc h)
