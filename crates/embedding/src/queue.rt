@@ -1,7 +1,7 @@
 //! One coordinator and two nodes over a queue.
 ghost use Rattle.std.specs.Prelude.{◌≡◌, IsTrue};
 ghost use Rattle.farm_base.specs.declared.limits.TheConstants.{NODES};
-ghost use Rattle.protocol.specs.Lawful.{IsSaid, is_tenure};
+ghost use Rattle.protocol.specs.Lawful.{IsSaid, are_for_tenure};
 
 use coordinator::Coordinator;
 use farm_base::{
@@ -17,8 +17,8 @@ use std::collections::VecDeque;
 const FOLDER: &str = "locked:apt";
 
 /// Whether a tenure is asked for so.
-fn is_tenure(wants: &[Want]) -> bool
-    ensures { result ≡ is_tenure wants.now }
+fn are_for_tenure(wants: &[Want]) -> bool
+    ensures { result ≡ are_for_tenure wants.now }
 {
     match wants {
         [want] => matches!(want.folder.mode, Mode::Shared) && want.writable,
@@ -33,7 +33,7 @@ fn is_said(message: &ToCoord) -> bool
     let is_request = match &message.request {
         Request::Acquire { ask, wants, tenure } => {
             let wants = wants.as_slice();
-            1 <= ask.0 && (!*tenure || is_tenure(wants))
+            1 <= ask.0 && (!*tenure || are_for_tenure(wants))
         }
         _ => true,
     };

@@ -2,7 +2,7 @@
 //! Python's hashlib.
 ghost use Rattle.std.specs.Prelude.{◌≡◌, ◌≤◌, IsTrue};
 ghost use Rattle.farm_base.specs.declared.limits.TheConstants.{NODES};
-ghost use Rattle.protocol.specs.Lawful.{AreAsked, IsRequest, IsSaid, is_tenure};
+ghost use Rattle.protocol.specs.Lawful.{AreAsked, IsRequest, IsSaid, are_for_tenure};
 
 use super::records::ALL_PARTS;
 use coordinator::{CoordNote, CoordRefusal, Coordinator, Handled};
@@ -53,8 +53,8 @@ fn said(alloc: Global, node: u32, life: u64, folder: &str) -> Result<ToCoord, Fa
 }
 
 /// Whether a tenure is asked for so.
-fn is_tenure(wants: &[Want]) -> bool
-    ensures { result ≡ is_tenure wants.now }
+fn are_for_tenure(wants: &[Want]) -> bool
+    ensures { result ≡ are_for_tenure wants.now }
 {
     match wants {
         [want] => matches!(want.folder.mode, Mode::Shared) && want.writable,
@@ -69,7 +69,7 @@ fn is_asked(ask: Ask, wants: &Wants, tenure: bool) -> bool
 {
     let wants = wants.as_slice();
     if tenure {
-        1 <= ask.0 && is_tenure(wants)
+        1 <= ask.0 && are_for_tenure(wants)
     } else {
         1 <= ask.0
     }

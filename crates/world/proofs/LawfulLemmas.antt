@@ -6,7 +6,7 @@ use Rattle.farm_base.specs.Wanted.{IsWants}
 use Rattle.farm_base.specs.declared.limits.TheConstants.{NODES}
 use Rattle.farm_base.specs.declared.message.Request.{Request}
 use Rattle.farm_base.specs.declared.message.Request.TheVariants.{Hello, Acquire, Commit, Release}
-use Rattle.protocol.specs.Lawful.{IsNumber, IsSpeaker, AreAsked, IsRequest, IsSaid, IsLawfulFarm, is_tenure}
+use Rattle.protocol.specs.Lawful.{IsNumber, IsSpeaker, AreAsked, IsRequest, IsSaid, IsLawfulFarm, are_for_tenure}
 use Rattle.protocol.specs.Lists.{nth}
 use Rattle.protocol.specs.Machine.{Said, ToCoord}
 use Rattle.protocol.specs.Names.{NodeId, Life, Want}
@@ -28,7 +28,7 @@ IsSpeaker-prop top n l x y =
 AreAsked-prop : (tenure : Bool) (wants : List Want) → IsProp (AreAsked tenure wants)
 AreAsked-prop tenure wants x y =
     let sorted_prop : IsProp (IsWants wants) = hlevel props in
-    let one_prop : IsProp (tenure ≡ true → is_tenure wants ≡ true) = hlevel props in
+    let one_prop : IsProp (tenure ≡ true → are_for_tenure wants ≡ true) = hlevel props in
     λ i. record {
       sorted = sorted_prop x.sorted y.sorted i;
       one = one_prop x.one y.one i;
