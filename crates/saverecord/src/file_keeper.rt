@@ -31,6 +31,17 @@ pub struct FileKeeper<'a, R: Files> {
     failures: u64,
 }
 
+/// A copy of the texts.
+fn copied(alloc: Global, log: &Log) -> Result<Log, KeeperRefusal>
+    ensures texts { IfOk result (λ copy. copy ≡ log.now) }
+    ensures fault { result ≢ Err KeeperRefusal.Fault }
+{
+    match log.copy(alloc) {
+        Ok(copy) => Ok(copy),
+        Err(_) => Err(KeeperRefusal::OutOfMemory),
+    }
+}
+
 impl<'a, R: Files> Model for FileKeeper<'a, R> {
     ghost use Rattle.saverecord.specs.Keepers.{Filed};
     ghost use Rattle.saverecord.specs.RecordFiles.{texts_in, how_many_last};
@@ -87,6 +98,19 @@ impl<'a, R: Files> FileKeeper<'a, R> {
         self.failures = self.failures.saturating_add(1);
     }
 
+    /// Writes the entries that are gathered only. A failure is counted.
+    fn write(&mut self) -> Result<(), SaveFault>
+        ensures exact { FileSyncs self.old (is_ok result) self.new }
+        ensures cause { OnErr result (HasFailed self.old.failures self.new.failures) }
+        ensures count { self.old.failures ≤ self.new.failures }
+    {
+        if self.files.sync().is_err() {
+            self.failed();
+            return Err(SaveFault);
+        }
+        Ok(())
+    }
+
     /// Has the files hold all texts.
     fn load_files(&mut self, alloc: Global) -> io::Result<()>
         ensures ok { OnOk result (self.new ≡ lasts self.old) }
@@ -97,6 +121,20 @@ impl<'a, R: Files> FileKeeper<'a, R> {
         }
         self.files.reload(alloc)?;
         self.files.sync()
+    }
+
+    /// Why a load is refused with this error. A fault is counted. Entries that are gathered only can't be told to last, so that want of
+    /// memory is as a fault then.
+    fn refusal_of(&mut self, error: &io::Error) -> KeeperRefusal
+        ensures memory { result ≡ KeeperRefusal.OutOfMemory → (self.new ≡ self.old) × (self.old ≡ lasts self.old) }
+        ensures fault { result ≡ KeeperRefusal.Fault → (self.new ≡ failed_once self.old) × HasFailed self.old.failures self.new.failures }
+        ensures count { self.old.failures ≤ self.new.failures }
+    {
+        if error.kind() == ErrorKind::OutOfMemory && self.has_all() {
+            return KeeperRefusal::OutOfMemory;
+        }
+        self.failed();
+        KeeperRefusal::Fault
     }
 
     /// Whether no entry is gathered only.
@@ -150,9 +188,8 @@ impl<'a, R: Files> Keeper for FileKeeper<'a, R> {
         if self.files.gather(entry).is_err() {
             return Err(KeeperRefusal::OutOfMemory);
         }
-        if self.files.sync().is_err() {
+        if self.write().is_err() {
             self.files.drop_last();
-            self.failed();
             return Err(KeeperRefusal::Fault);
         }
         Ok(())
@@ -179,11 +216,7 @@ impl<'a, R: Files> Keeper for FileKeeper<'a, R> {
         if self.files.has_all() {
             return Ok(());
         }
-        if self.files.sync().is_err() {
-            self.failed();
-            return Err(SaveFault);
-        }
-        Ok(())
+        self.write()
     }
 
     fn load(&mut self, alloc: Global) -> Result<Log, KeeperRefusal>
@@ -195,18 +228,8 @@ impl<'a, R: Files> Keeper for FileKeeper<'a, R> {
         ensures lasts { OnOk result (file_texts self.new ≡ self.new.texts) }
     {
         match self.load_files(alloc) {
-            Ok(()) => match self.log().copy(alloc) {
-                Ok(log) => Ok(log),
-                Err(_) => Err(KeeperRefusal::OutOfMemory),
-            },
-            // Entries that are gathered only can't be told to last, so that want of memory is as a fault then.
-            Err(error) if error.kind() == ErrorKind::OutOfMemory && self.has_all() => {
-                Err(KeeperRefusal::OutOfMemory)
-            }
-            Err(_) => {
-                self.failed();
-                Err(KeeperRefusal::Fault)
-            }
+            Ok(()) => copied(alloc, self.log()),
+            Err(error) => Err(self.refusal_of(&error)),
         }
     }
 
