@@ -1,8 +1,6 @@
 -- What a graph adds to the submitted keys.
 use Rattle.std.proofs.Common.{◌≡◌, ℕ, zero, suc, ◌+◌, ◌-◌, ◌<◌, ◌≤◌, ◌⊎◌, replicate, inl, inr, Bool, true, false, List, [], ◌∷◌, ◌++◌, map, length, take, get_or, Some, slice_get, refl, ap, sym, ◌∙◌, subst, arith, append-nil, append_assoc, if◌then◌else◌}
 use Rattle.std.specs.Vec.{vec_capacity}
-use Rattle.std.specs.declared.alloc.Global.{Global}
-use Rattle.std.specs.declared.vec.Vec.{Vec}
 use Rattle.std.specs.List.{list_any, All, Contains, IsDistinct}
 use Rattle.std.proofs.lemmas.Bool.{cases_Bool, cases_eq, cases_lt}
 use Rattle.std.proofs.lemmas.List.{take-append-le, take_all, length-append, length-replicate, length-map}
@@ -21,6 +19,7 @@ use Rattle.solverkeys.proofs.KeyLemmas.{edges_within}
 use Rattle.solverkeys.specs.GraphKeys.{TakesKeys}
 use Rattle.jobs.specs.declared.entry.Entry.{Entry}
 use Rattle.jobs.specs.declared.entry.Progress.TheVariants.{Waiting}
+use Rattle.jobs.specs.declared.known_keys.KnownKeys.{KnownKeys}
 use Rattle.jobs.specs.declared.ready_list.ReadyList.{ReadyList}
 use Rattle.jobs.specs.declared.table.Table.{Table}
 use Rattle.jobs.specs.declared.users.Users.{Users}
@@ -347,23 +346,25 @@ taken_back old grown now marks h front ks unique es =
       marked = subst (λ (xs : List Entry). AreMarks xs marks) (sym same) h.marked;
     }
 
-pub listed_back : (old grown now : Table) (u v : Users) (was marks : List Bool) (todo next : Vec ℕ Global) (l m : ReadyList) (count : ℕ) → AreListed old u was todo l → next.items ≡ todo.items → vec_capacity todo ≤ vec_capacity next → marks ≡ was → IsSameUsers u v → IsSameList l m → m.cursors.items ≡ l.cursors.items → IsFront old grown → count ≡ length old.entries.items
-    → now.numbers.keys ≡ take count grown.numbers.keys → IsUnique key_eq now.numbers → now.entries.items ≡ take count grown.entries.items → AreListed now v marks next m
-listed_back old grown now u v was marks todo next l m count h idle more unmarked still same cursors front is ks unique es =
-    let es_is : now.entries.items ≡ take (length old.entries.items) grown.entries.items = es ∙ ap (λ n. take n grown.entries.items) is in
-    let back : now.entries.items ≡ old.entries.items = es_is ∙ front_take old.entries.items grown.entries.items front.entries in
+pub listed_back : (old grown : KnownKeys) (now : Table) (count : ℕ) → AreListed old → grown.todo.items ≡ old.todo.items → vec_capacity old.todo ≤ vec_capacity grown.todo → grown.marks.items ≡ old.marks.items → IsSameUsers old.users grown.users → IsSameList old.ready grown.ready
+    → grown.ready.cursors.items ≡ old.ready.cursors.items → IsFront old.table grown.table → count ≡ length old.table.entries.items → now.numbers.keys ≡ take count grown.table.numbers.keys → IsUnique key_eq now.numbers
+    → now.entries.items ≡ take count grown.table.entries.items → AreListed (record grown { table = now })
+listed_back old grown now count h idle more unmarked still same cursors front is ks unique es =
+    let entries = old.table.entries.items in
+    let es_is : now.entries.items ≡ take (length entries) grown.table.entries.items = es ∙ ap (λ n. take n grown.table.entries.items) is in
+    let back : now.entries.items ≡ entries = es_is ∙ front_take entries grown.table.entries.items front.entries in
     record {
-      kept = subst (AreKept now) (sym unmarked) (taken_back old grown now was h.kept front (ks ∙ ap (λ n. take n grown.numbers.keys) is) unique es_is);
+      kept = subst (AreKept now) (sym unmarked) (taken_back old.table grown.table now old.marks.items h.kept front (ks ∙ ap (λ n. take n grown.table.numbers.keys) is) unique es_is);
       closed = subst IsClosed (sym back) h.closed;
-      used = subst (λ (xs : List Entry). AreUsers xs v) (sym back) (users_same old.entries.items u v still h.used);
+      used = subst (λ (xs : List Entry). AreUsers xs grown.users) (sym back) (users_same entries old.users grown.users still h.used);
       count = ap length still.lasts ∙ h.count ∙ sym (ap length back);
       idle = idle ∙ h.idle;
       todo_room = let r = h.todo_room in let n = ap length back in omega (arith, r, n, more);
       right = subst AreHandedRight (sym back) h.right;
-      list = subst (λ (xs : List Entry). IsList xs m) (sym back) (list_same old.entries.items l m same h.list);
-      all = subst (λ (xs : List Entry). ListsAll xs m) (sym back) (all_same old.entries.items l m same h.all);
-      room = subst (λ (n : ℕ). HasRoom n m) (sym (ap length back)) (same.room (length old.entries.items) h.room);
-      cursors = subst (AreCursors now.entries.items) (sym cursors) (subst (λ (xs : List Entry). AreCursors xs l.cursors.items) (sym back) h.cursors);
+      list = subst (λ (xs : List Entry). IsList xs grown.ready) (sym back) (list_same entries old.ready grown.ready same h.list);
+      all = subst (λ (xs : List Entry). ListsAll xs grown.ready) (sym back) (all_same entries old.ready grown.ready same h.all);
+      room = subst (λ (n : ℕ). HasRoom n grown.ready) (sym (ap length back)) (same.room (length entries) h.room);
+      cursors = subst (AreCursors now.entries.items) (sym cursors) (subst (λ (xs : List Entry). AreCursors xs old.ready.cursors.items) (sym back) h.cursors);
     }
 
 -- ---- the list where keys are added

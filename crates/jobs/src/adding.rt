@@ -10,12 +10,12 @@ ghost use Rattle.jobs.specs.ReadyLists.{HasRoom, IsSameList};
 ghost use Rattle.jobs.specs.Tables.{IsTable};
 ghost use Rattle.jobs.specs.Users.{AreUsers, IsClosed, IsSameUsers};
 
+use super::known_keys::KnownKeys;
 use super::marking::{mark_new, spread};
 use super::reaching::reached;
 use super::ready::list_ready;
 use super::ready_list::ReadyList;
 use super::table::Table;
-use super::users::Users;
 use farm_base::{Items, Key};
 use std::alloc::{AllocError, Global};
 use vertices::Graph;
@@ -121,43 +121,39 @@ fn fill(marks: &mut Vec<bool>, cursors: &mut Vec<usize>, count: usize)
 /// runs out some keys may be there.
 fn grow(
     alloc: Global,
-    table: &mut Table,
-    users: &mut Users,
-    marks: &mut Vec<bool>,
-    todo: &mut Vec<usize>,
-    ready: &mut ReadyList,
+    known: &mut KnownKeys,
     graph: &Graph,
     keys: &[Key],
     reached: &[bool],
 ) -> Result<(), AllocError>
-    requires table { IsTable table.old }
-    requires closed { IsClosed table.old.entries.items }
-    requires users { AreUsers table.old.entries.items users.old }
-    requires count { length users.old.lasts.items ≡ length table.old.entries.items }
+    requires table { IsTable known.old.table }
+    requires closed { IsClosed known.old.table.entries.items }
+    requires users { AreUsers known.old.table.entries.items known.old.users }
+    requires count { length known.old.users.lasts.items ≡ length known.old.table.entries.items }
     requires keys { AreKeys graph.now keys.now }
     requires reached { AreReached graph.now reached.now }
-    ensures front { IsFront table.old table.new }
-    ensures table { OnOk result (IsTable table.new) }
-    ensures added { OnOk result (AreAdded graph.now keys.now table.old.entries.items table.new.entries.items) }
-    ensures closed { OnOk result (IsClosed table.new.entries.items) }
-    ensures users { OnOk result (AreUsers table.new.entries.items users.new) }
-    ensures count { OnOk result (length users.new.lasts.items ≡ length table.new.entries.items) }
-    ensures marks { OnOk result (marks.new.items ≡ take (length table.new.entries.items) marks.old.items ++ replicate (length table.new.entries.items - length marks.old.items) false) }
-    ensures room { OnOk result (HasRoom (length table.new.entries.items) ready.new) }
-    ensures list { IsSameList ready.old ready.new }
-    ensures cursors { OnOk result (ready.new.cursors.items ≡ take (length table.new.entries.items) ready.old.cursors.items ++ replicate (length table.new.entries.items - length ready.old.cursors.items) 0) }
-    ensures todo { todo.new.items ≡ todo.old.items }
-    ensures todo_room { OnOk result (length table.new.entries.items ≤ vec_capacity todo.new) }
-    ensures todo_capacity { vec_capacity todo.old ≤ vec_capacity todo.new }
-    ensures err { OnErr result (marks.new.items ≡ marks.old.items) }
-    ensures same_users { OnErr result (IsSameUsers users.old users.new) }
-    ensures same_cursors { OnErr result (ready.new.cursors.items ≡ ready.old.cursors.items) }
+    ensures front { IsFront known.old.table known.new.table }
+    ensures table { OnOk result (IsTable known.new.table) }
+    ensures added { OnOk result (AreAdded graph.now keys.now known.old.table.entries.items known.new.table.entries.items) }
+    ensures closed { OnOk result (IsClosed known.new.table.entries.items) }
+    ensures users { OnOk result (AreUsers known.new.table.entries.items known.new.users) }
+    ensures count { OnOk result (length known.new.users.lasts.items ≡ length known.new.table.entries.items) }
+    ensures marks { OnOk result (let count = length known.new.table.entries.items in known.new.marks.items ≡ take count known.old.marks.items ++ replicate (count - length known.old.marks.items) false) }
+    ensures room { OnOk result (HasRoom (length known.new.table.entries.items) known.new.ready) }
+    ensures list { IsSameList known.old.ready known.new.ready }
+    ensures cursors { OnOk result (let count = length known.new.table.entries.items in known.new.ready.cursors.items ≡ take count known.old.ready.cursors.items ++ replicate (count - length known.old.ready.cursors.items) 0) }
+    ensures todo { known.new.todo.items ≡ known.old.todo.items }
+    ensures todo_room { OnOk result (length known.new.table.entries.items ≤ vec_capacity known.new.todo) }
+    ensures todo_capacity { vec_capacity known.old.todo ≤ vec_capacity known.new.todo }
+    ensures err { OnErr result (known.new.marks.items ≡ known.old.marks.items) }
+    ensures same_users { OnErr result (IsSameUsers known.old.users known.new.users) }
+    ensures same_cursors { OnErr result (known.new.ready.cursors.items ≡ known.old.ready.cursors.items) }
 {
-    add_all(alloc, table, graph, keys, reached)?;
-    let count = table.entries.len();
-    make_room(marks, todo, ready, count)?;
-    users.extend(table)?;
-    fill(marks, &mut ready.cursors, count);
+    add_all(alloc, &mut known.table, graph, keys, reached)?;
+    let count = known.table.entries.len();
+    make_room(&mut known.marks, &mut known.todo, &mut known.ready, count)?;
+    known.users.extend(&known.table)?;
+    fill(&mut known.marks, &mut known.ready.cursors, count);
     Ok(())
 }
 
@@ -165,35 +161,30 @@ fn grow(
 /// nothing is changed.
 fn extend(
     alloc: Global,
-    table: &mut Table,
-    users: &mut Users,
-    marks: &mut Vec<bool>,
-    todo: &mut Vec<usize>,
-    ready: &mut ReadyList,
+    known: &mut KnownKeys,
     graph: &Graph,
     keys: &[Key],
     reached: &[bool],
 ) -> Result<(), AllocError>
-    requires listed { AreListed table.old users.old marks.old.items todo.old ready.old }
+    requires listed { AreListed known.old }
     requires keys { AreKeys graph.now keys.now }
     requires reached { AreReached graph.now reached.now }
-    ensures listed { AreListed table.new users.new marks.new.items todo.new ready.new }
-    ensures added { OnOk result (AreAdded graph.now keys.now table.old.entries.items table.new.entries.items) }
-    ensures err { OnErr result (table.new.entries.items ≡ table.old.entries.items) }
+    ensures listed { AreListed known.new }
+    ensures added { OnOk result (AreAdded graph.now keys.now known.old.table.entries.items known.new.table.entries.items) }
+    ensures err { OnErr result (known.new.table.entries.items ≡ known.old.table.entries.items) }
 {
-    let count = table.entries.len();
-    match grow(
-        alloc, table, users, marks, todo, ready, graph, keys, reached,
-    ) {
+    let count = known.table.entries.len();
+    match grow(alloc, known, graph, keys, reached) {
         Ok(()) => {
-            let flags = marks.as_mut_slice();
-            mark_new(table, flags, todo, count);
-            spread(users, flags, todo);
-            list_ready(table, marks.as_slice(), ready, count);
+            let flags = known.marks.as_mut_slice();
+            mark_new(&known.table, flags, &mut known.todo, count);
+            spread(&known.users, flags, &mut known.todo);
+            let marks = known.marks.as_slice();
+            list_ready(&known.table, marks, &mut known.ready, count);
             Ok(())
         }
         Err(error) => {
-            table.truncate(count);
+            known.table.truncate(count);
             Err(error)
         }
     }
@@ -202,47 +193,39 @@ fn extend(
 /// The same, for the keys of the vertices that the graph's result depends on.
 fn extend_reached(
     alloc: Global,
-    table: &mut Table,
-    users: &mut Users,
-    marks: &mut Vec<bool>,
-    todo: &mut Vec<usize>,
-    ready: &mut ReadyList,
+    known: &mut KnownKeys,
     graph: &Graph,
     keys: &[Key],
 ) -> Result<(), AllocError>
-    requires listed { AreListed table.old users.old marks.old.items todo.old ready.old }
+    requires listed { AreListed known.old }
     requires keys { AreKeys graph.now keys.now }
-    ensures listed { AreListed table.new users.new marks.new.items todo.new ready.new }
-    ensures added { OnOk result (AreAdded graph.now keys.now table.old.entries.items table.new.entries.items) }
-    ensures err { OnErr result (table.new.entries.items ≡ table.old.entries.items) }
+    ensures listed { AreListed known.new }
+    ensures added { OnOk result (AreAdded graph.now keys.now known.old.table.entries.items known.new.table.entries.items) }
+    ensures err { OnErr result (known.new.table.entries.items ≡ known.old.table.entries.items) }
 {
     let reached = reached(alloc, graph)?;
     let flags = reached.as_slice();
-    extend(alloc, table, users, marks, todo, ready, graph, keys, flags)
+    extend(alloc, known, graph, keys, flags)
 }
 
 /// Adds a job: its result, and the keys that this depends on. Where memory runs out nothing is changed.
 pub(crate) fn add_job(
     alloc: Global,
     results: &mut Vec<(Key, u64)>,
-    table: &mut Table,
-    users: &mut Users,
-    marks: &mut Vec<bool>,
-    todo: &mut Vec<usize>,
-    ready: &mut ReadyList,
+    known: &mut KnownKeys,
     graph: &Graph,
     keys: &[Key],
 ) -> Result<(), AllocError>
-    requires listed { AreListed table.old users.old marks.old.items todo.old ready.old }
+    requires listed { AreListed known.old }
     requires keys { AreKeys graph.now keys.now }
-    ensures listed { AreListed table.new users.new marks.new.items todo.new ready.new }
+    ensures listed { AreListed known.new }
     ensures results { OnOk result ((key : SpecKey) → slice_get keys.now graph.now.result.0 ≡ Some key → results.new.items ≡ results.old.items ++ (key, graph.now.result.1) ∷ []) }
-    ensures added { OnOk result (AreAdded graph.now keys.now table.old.entries.items table.new.entries.items) }
-    ensures err { OnErr result (table.new.entries.items ≡ table.old.entries.items) }
+    ensures added { OnOk result (AreAdded graph.now keys.now known.old.table.entries.items known.new.table.entries.items) }
+    ensures err { OnErr result (known.new.table.entries.items ≡ known.old.table.entries.items) }
     ensures same_results { OnErr result (results.new.items ≡ results.old.items) }
 {
     results.reserve(1)?;
-    extend_reached(alloc, table, users, marks, todo, ready, graph, keys)?;
+    extend_reached(alloc, known, graph, keys)?;
     let (result, index) = graph.result();
     results.push_reserved((keys[result], index));
     Ok(())

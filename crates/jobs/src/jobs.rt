@@ -16,13 +16,11 @@ use super::adding::add_job;
 use super::answer::{Answer, Cause, JobId, JobsRefusal};
 use super::blaming::cause_of;
 use super::entry::{Fault, Progress, Task};
+use super::known_keys::KnownKeys;
 use super::marking::answer_of;
 use super::needing::last_needed;
 use super::ready::task_of;
-use super::ready_list::ReadyList;
 use super::settling::finish;
-use super::table::Table;
-use super::users::Users;
 use farm_base::{Digest, Items, Key};
 use solverkeys::Keyed;
 use std::alloc::Global;
@@ -34,14 +32,7 @@ use vertices::Graph;
 pub struct Jobs {
     /// For each job the key and the output index of its result.
     results: Vec<(Key, u64)>,
-    table: Table,
-    users: Users,
-    /// For each key whether it fails.
-    marks: Vec<bool>,
-    /// The failing keys whose users are to be looked at: none between calls, and room for all keys.
-    todo: Vec<usize>,
-    /// The keys that were handed out, and the ready ones.
-    ready: ReadyList,
+    known: KnownKeys,
 }
 
 impl Model for Jobs {
@@ -50,9 +41,9 @@ impl Model for Jobs {
 
     ghost Value = { History };
 
-    ghost view = { λ j. history j.results.items j.table.entries.items };
+    ghost view = { λ j. history j.results.items j.known.table.entries.items };
 
-    ghost invariant = { λ j. AreListed j.table j.users j.marks.items j.todo j.ready };
+    ghost invariant = { λ j. AreListed j.known };
 }
 
 impl Jobs {
@@ -63,11 +54,7 @@ impl Jobs {
     {
         Jobs {
             results: Vec::new(alloc),
-            table: Table::new(alloc),
-            users: Users::new(alloc),
-            marks: Vec::new(alloc),
-            todo: Vec::new(alloc),
-            ready: ReadyList::new(alloc),
+            known: KnownKeys::new(alloc),
         }
     }
 
@@ -87,11 +74,7 @@ impl Jobs {
         ensures err { OnErr result (self.new ≡ self.old) }
     {
         let job = JobId(self.results.len());
-        let (results, table, users) = (&mut self.results, &mut self.table, &mut self.users);
-        let (marks, todo, ready) = (&mut self.marks, &mut self.todo, &mut self.ready);
-        add_job(
-            alloc, results, table, users, marks, todo, ready, graph, keys,
-        )?;
+        add_job(alloc, &mut self.results, &mut self.known, graph, keys)?;
         Ok(job)
     }
 
@@ -117,12 +100,12 @@ impl Jobs {
         ensures refusal { IfErr result (λ refused. refused ≡ refusal.OutOfMemory) }
         ensures err { OnErr result (self.new ≡ self.old) }
     {
-        let Some(number) = self.ready.first() else {
+        let Some(number) = self.known.ready.first() else {
             return Ok(None);
         };
-        let task = task_of(alloc, &self.table, number)?;
-        self.table.set_progress(number, Progress::Out);
-        self.ready.take();
+        let task = task_of(alloc, &self.known.table, number)?;
+        self.known.table.set_progress(number, Progress::Out);
+        self.known.ready.take();
         Ok(Some(task))
     }
 
@@ -130,7 +113,7 @@ impl Jobs {
     pub fn ready(&self) -> &[Key]
         ensures { AreReadyKeys self.now.keys result.now }
     {
-        self.ready.as_slice()
+        self.known.ready.as_slice()
     }
 
     /// Sets the progress of a key that is being solved, where that ends it.
@@ -141,12 +124,10 @@ impl Jobs {
         ensures only { OnErr result ((entry : SpecEntry) → IsSubmitted self.old.keys key.now entry → entry.progress ≡ Out → ⊥) }
         ensures err { OnErr result (self.new ≡ self.old) }
     {
-        let Some(number) = self.table.number_out(key) else {
+        let Some(number) = self.known.table.number_out(key) else {
             return Err(JobsRefusal::NotRunningKey);
         };
-        let (table, marks) = (&mut self.table, self.marks.as_mut_slice());
-        let (todo, ready) = (&mut self.todo, &mut self.ready);
-        finish(table, &self.users, marks, todo, ready, number, progress);
+        finish(&mut self.known, number, progress);
         Ok(())
     }
 
@@ -176,7 +157,7 @@ impl Jobs {
         ensures answer { (wanted : _) → slice_get self.now.jobs job.0 ≡ Some wanted → IsAnswer self.now.keys wanted result }
     {
         match self.results.get(job.0) {
-            Some(wanted) => answer_of(&self.table, self.marks.as_slice(), wanted),
+            Some(wanted) => answer_of(&self.known.table, self.known.marks.as_slice(), wanted),
             None => Err(JobsRefusal::NoSuchJob),
         }
     }
@@ -193,8 +174,8 @@ impl Jobs {
         let Some(wanted) = self.results.get(job.0) else {
             return Err(JobsRefusal::NoSuchJob);
         };
-        let (table, marks) = (&self.table, self.marks.as_slice());
-        let cause = cause_of(alloc, table, &self.users, marks, wanted)?;
+        let (table, marks) = (&self.known.table, self.known.marks.as_slice());
+        let cause = cause_of(alloc, table, &self.known.users, marks, wanted)?;
         Ok(cause)
     }
 
@@ -206,6 +187,7 @@ impl Jobs {
         ensures needed { IfSome result (NeedsOutput self.now key.now) }
         ensures greatest { (index : ℕ) → NeedsOutput self.now key.now index → IsSomeAnd result (λ last. index ≤ last) }
     {
-        last_needed(&self.table, &self.users, self.results.as_slice(), key)
+        let (table, users) = (&self.known.table, &self.known.users);
+        last_needed(table, users, self.results.as_slice(), key)
     }
 }

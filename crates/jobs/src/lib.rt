@@ -6,6 +6,7 @@ mod answer;
 mod blaming;
 mod entry;
 mod jobs;
+mod known_keys;
 pub mod laws;
 mod marking;
 mod needing;

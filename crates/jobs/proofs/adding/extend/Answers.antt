@@ -12,106 +12,106 @@ use Rattle.jobs.proofs.adding.extend.Goals as goal
 
 pub mark_new-requires-clause-count : goal.mark_new-requires-clause-count
 mark_new-requires-clause-count c =
-    ap length c.as_mut_slice-flags.ensures.value ∙ between_size c.args.graph.now c.args.keys.now c.args.table.now.entries.items c.grow.new.table.entries.items c.in-Ok.ensures.added
-    c.args.marks.now.items c.grow.new.marks.items c.requires.listed.kept.marked c.in-Ok.ensures.marks
+    ap length c.as_mut_slice-flags.ensures.value ∙ between_size c.args.graph.now c.args.keys.now c.args.known.now.table.entries.items c.grow.new.known.table.entries.items c.in-Ok.ensures.added
+    c.args.known.now.marks.items c.grow.new.known.marks.items c.requires.listed.kept.marked c.in-Ok.ensures.marks
 
 pub list_ready-requires-clause-before : goal.list_ready-requires-clause-before
 list_ready-requires-clause-before c m less r =
-    let old = c.args.table.now.entries.items in
-    let len = c.args.table.now.entries.ok.0 in
-    all_same old c.args.ready.now c.grow.new.ready c.in-Ok.ensures.list c.requires.listed.all m
-    (ready_before c.args.graph.now c.args.keys.now old c.grow.new.table.entries.items c.in-Ok.ensures.added m (let n = c.len-count.ensures in omega (arith, less, n, len)) r)
+    let old = c.args.known.now.table.entries.items in
+    let len = c.args.known.now.table.entries.ok.0 in
+    all_same old c.args.known.now.ready c.grow.new.known.ready c.in-Ok.ensures.list c.requires.listed.all m
+    (ready_before c.args.graph.now c.args.keys.now old c.grow.new.known.table.entries.items c.in-Ok.ensures.added m (let n = c.len-count.ensures in omega (arith, less, n, len)) r)
 
 pub list_ready-requires-clause-list : goal.list_ready-requires-clause-list
 list_ready-requires-clause-list c =
-    let table = c.grow.new.table in
-    added_list c.args.graph.now c.args.keys.now c.args.table.now.entries.items table.entries.items c.in-Ok.ensures.added c.grow.new.ready (distinct table c.in-Ok.ensures.table) c.requires.listed.right
-    (list_same c.args.table.now.entries.items c.args.ready.now c.grow.new.ready c.in-Ok.ensures.list c.requires.listed.list)
+    let table = c.grow.new.known.table in
+    added_list c.args.graph.now c.args.keys.now c.args.known.now.table.entries.items table.entries.items c.in-Ok.ensures.added c.grow.new.known.ready (distinct table c.in-Ok.ensures.table) c.requires.listed.right
+    (list_same c.args.known.now.table.entries.items c.args.known.now.ready c.grow.new.known.ready c.in-Ok.ensures.list c.requires.listed.list)
 
 pub list_ready-requires-clause-cursors : goal.list_ready-requires-clause-cursors
 list_ready-requires-clause-cursors c =
-    cursors_added c.args.graph.now c.args.keys.now c.args.table.now.entries.items c.grow.new.table.entries.items c.in-Ok.ensures.added c.args.ready.now.cursors.items c.grow.new.ready.cursors.items c.in-Ok.ensures.cursors
+    cursors_added c.args.graph.now c.args.keys.now c.args.known.now.table.entries.items c.grow.new.known.table.entries.items c.in-Ok.ensures.added c.args.known.now.ready.cursors.items c.grow.new.known.ready.cursors.items c.in-Ok.ensures.cursors
     c.requires.listed.cursors
 
 pub returns-in-Err-clause-listed : goal.returns-in-Err-clause-listed
 returns-in-Err-clause-listed c =
     let t = c.truncate.ensures in
     let e = c.in-Err.ensures in
-    let len = c.args.table.now.entries.ok.0 in
-    listed_back c.args.table.now c.grow.new.table c.truncate.new.self c.args.users.now c.grow.new.users c.args.marks.now.items c.grow.new.marks.items c.args.todo.now c.grow.new.todo c.args.ready.now c.grow.new.ready c.len-count.result c.requires.listed
+    let len = c.args.known.now.table.entries.ok.0 in
+    listed_back c.args.known.now c.grow.new.known c.truncate.new.self c.len-count.result c.requires.listed
     e.todo e.todo_capacity e.err e.same_users e.list e.same_cursors e.front
     (let n = c.len-count.ensures in omega (arith, n, len)) t.keys t.unique t.entries
 
 pub spread-requires-clause-users : goal.spread-requires-clause-users
 spread-requires-clause-users c place link at =
     let e = c.in-Ok.ensures in
-    let within = user_within c.grow.new.table.entries.items c.grow.new.users e.users place link at in
+    let within = user_within c.grow.new.known.table.entries.items c.grow.new.known.users e.users place link at in
     let size = c.mark_new.auto.marks ∙ ap length c.as_mut_slice-flags.ensures.value
-    ∙ between_size c.args.graph.now c.args.keys.now c.args.table.now.entries.items c.grow.new.table.entries.items e.added c.args.marks.now.items c.grow.new.marks.items c.requires.listed.kept.marked e.marks in
+    ∙ between_size c.args.graph.now c.args.keys.now c.args.known.now.table.entries.items c.grow.new.known.table.entries.items e.added c.args.known.now.marks.items c.grow.new.known.marks.items c.requires.listed.kept.marked e.marks in
     omega (arith, within, size)
 
 pub spread-requires-clause-others : goal.spread-requires-clause-others
 spread-requires-clause-others c place link at f =
     let g = c.args.graph.now in
     let keys = c.args.keys.now in
-    let es = c.args.table.now.entries.items in
-    let now = c.grow.new.table.entries.items in
+    let es = c.args.known.now.table.entries.items in
+    let now = c.grow.new.known.table.entries.items in
     let e = c.in-Ok.ensures in
-    let old = c.args.marks.now.items in
-    let marks = c.grow.new.marks in
+    let old = c.args.known.now.marks.items in
+    let marks = c.grow.new.known.marks in
     let was = c.requires.listed.kept.marked in
     let slice = c.as_mut_slice-flags.ensures.value in
     let m = c.mark_new.ensures in
     let mid = c.mark_new.new.marks in
-    let marking = subst (λ (xs : List Bool). Marking xs c.grow.new.todo.items mid c.mark_new.new.todo.items) slice m.marks in
-    let count : c.len-count.result ≡ length es = c.len-count.ensures ∙ c.args.table.now.entries.ok.0 in
-    added_users g keys es now e.added old marks.items was e.marks mid c.grow.new.todo.items c.mark_new.new.todo.items c.len-count.result count marking m.users link.user link.source (e.users.inputs place link at).user f
+    let marking = subst (λ (xs : List Bool). Marking xs c.grow.new.known.todo.items mid c.mark_new.new.todo.items) slice m.marks in
+    let count : c.len-count.result ≡ length es = c.len-count.ensures ∙ c.args.known.now.table.entries.ok.0 in
+    added_users g keys es now e.added old marks.items was e.marks mid c.grow.new.known.todo.items c.mark_new.new.todo.items c.len-count.result count marking m.users link.user link.source (e.users.inputs place link at).user f
 
 pub list_ready-requires-clause-kept : goal.list_ready-requires-clause-kept
 list_ready-requires-clause-kept c =
     let g = c.args.graph.now in
     let keys = c.args.keys.now in
-    let es = c.args.table.now.entries.items in
-    let now = c.grow.new.table.entries.items in
+    let es = c.args.known.now.table.entries.items in
+    let now = c.grow.new.known.table.entries.items in
     let e = c.in-Ok.ensures in
-    let old = c.args.marks.now.items in
-    let marks = c.grow.new.marks in
+    let old = c.args.known.now.marks.items in
+    let marks = c.grow.new.known.marks in
     let was = c.requires.listed.kept.marked in
     let slice = c.as_mut_slice-flags.ensures.value in
     let m = c.mark_new.ensures in
     let mid = c.mark_new.new.marks in
-    let marking = subst (λ (xs : List Bool). Marking xs c.grow.new.todo.items mid c.mark_new.new.todo.items) slice m.marks in
-    let count : c.len-count.result ≡ length es = c.len-count.ensures ∙ c.args.table.now.entries.ok.0 in
+    let marking = subst (λ (xs : List Bool). Marking xs c.grow.new.known.todo.items mid c.mark_new.new.todo.items) slice m.marks in
+    let count : c.len-count.result ≡ length es = c.len-count.ensures ∙ c.args.known.now.table.entries.ok.0 in
     let s = c.spread.ensures in
     let new = c.spread.new.marks in
     let size : length new ≡ length marks.items = c.spread.auto.marks ∙ c.mark_new.auto.marks ∙ ap length slice in
     let fail = subst (λ (xs : List Bool). MarksFail now xs → MarksFail now mid) slice m.fail in
-    let all : AreMarks now new = added_marks g keys es now e.added old marks.items was e.marks c.grow.new.users e.users e.count mid new c.len-count.result count marking.kept fail m.lacking s.keeps s.only s.all_marked size in
+    let all : AreMarks now new = added_marks g keys es now e.added old marks.items was e.marks c.grow.new.known.users e.users e.count mid new c.len-count.result count marking.kept fail m.lacking s.keeps s.only s.all_marked size in
     record {
       numbered = e.table;
-      marked = subst (AreMarks now) (sym (c.as_slice.ensures.value ∙ whole marks.items new marks.len marks.ok.0 size)) all;
+      marked = subst (AreMarks now) (sym (c.as_slice-marks.ensures.value ∙ whole marks.items new marks.len marks.ok.0 size)) all;
     }
 
 pub returns-in-Ok-clause-listed : goal.returns-in-Ok-clause-listed
 returns-in-Ok-clause-listed c =
     let g = c.args.graph.now in
     let keys = c.args.keys.now in
-    let es = c.args.table.now.entries.items in
-    let now = c.grow.new.table.entries.items in
+    let es = c.args.known.now.table.entries.items in
+    let now = c.grow.new.known.table.entries.items in
     let e = c.in-Ok.ensures in
-    let old = c.args.marks.now.items in
-    let marks = c.grow.new.marks in
+    let old = c.args.known.now.marks.items in
+    let marks = c.grow.new.known.marks in
     let was = c.requires.listed.kept.marked in
     let slice = c.as_mut_slice-flags.ensures.value in
     let m = c.mark_new.ensures in
     let mid = c.mark_new.new.marks in
-    let marking = subst (λ (xs : List Bool). Marking xs c.grow.new.todo.items mid c.mark_new.new.todo.items) slice m.marks in
-    let count : c.len-count.result ≡ length es = c.len-count.ensures ∙ c.args.table.now.entries.ok.0 in
+    let marking = subst (λ (xs : List Bool). Marking xs c.grow.new.known.todo.items mid c.mark_new.new.todo.items) slice m.marks in
+    let count : c.len-count.result ≡ length es = c.len-count.ensures ∙ c.args.known.now.table.entries.ok.0 in
     let s = c.spread.ensures in
     let new = c.spread.new.marks in
     let size : length new ≡ length marks.items = c.spread.auto.marks ∙ c.mark_new.auto.marks ∙ ap length slice in
     let fail = subst (λ (xs : List Bool). MarksFail now xs → MarksFail now mid) slice m.fail in
-    let all : AreMarks now new = added_marks g keys es now e.added old marks.items was e.marks c.grow.new.users e.users e.count mid new c.len-count.result count marking.kept fail m.lacking s.keeps s.only s.all_marked size in
+    let all : AreMarks now new = added_marks g keys es now e.added old marks.items was e.marks c.grow.new.known.users e.users e.count mid new c.len-count.result count marking.kept fail m.lacking s.keeps s.only s.all_marked size in
     record {
       kept = record { numbered = e.table; marked = subst (AreMarks now) (sym (whole marks.items new marks.len marks.ok.0 size)) all };
       closed = e.closed;

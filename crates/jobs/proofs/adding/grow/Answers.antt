@@ -5,7 +5,7 @@ use Rattle.jobs.proofs.adding.grow.Goals as goal
 pub extend-requires-clause-users : goal.extend-requires-clause-users
 extend-requires-clause-users c =
     let e = c.in_ok-add_all.ensures in
-    users_added c.args.graph.now c.args.keys.now c.args.table.now.entries.items c.add_all.new.table.entries.items e.added c.args.users.now (distinct c.add_all.new.table e.table) c.requires.closed c.requires.count c.requires.users
+    users_added c.args.graph.now c.args.keys.now c.args.known.now.table.entries.items c.add_all.new.table.entries.items e.added c.args.known.now.users (distinct c.add_all.new.table e.table) c.requires.closed c.requires.count c.requires.users
 
 pub returns-clause-closed : goal.returns-clause-closed
 returns-clause-closed c = c.in_ok-add_all.ensures.closed c.requires.closed

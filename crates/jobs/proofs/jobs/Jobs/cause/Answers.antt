@@ -15,7 +15,7 @@ returns-clause-cause c = λ wanted is.
     let x = c.in-Some.wanted.now in
     let look = c.in-Some.ensures.lookup in
     let within : job < length list = (let test = look.0 in grind (arith, nat_tests)) in
-    let there = shown_at c.self.inside.results.items list c.self.inside.table.entries.items c.args.self.now job x c.self.view_is c.deref.ensures.value (slice_get_read list (length list) job x refl within look.1) in
+    let there = shown_at c.self.inside.results.items list c.self.inside.known.table.entries.items c.args.self.now job x c.self.view_is c.deref.ensures.value (slice_get_read list (length list) job x refl within look.1) in
     subst (λ (w : Key × ℕ). IsCause c.args.self.now.keys w c.in_ok-cause.cause) (some_is x wanted (sym there ∙ is))
     (subst (λ (h : History). IsCause h.keys x c.in_ok-cause.cause) c.self.view_is c.in_ok-cause.ensures)
 
@@ -26,6 +26,6 @@ returns-clause-missing c = λ none.
     let x = c.in-Some.wanted.now in
     let look = c.in-Some.ensures.lookup in
     let within : job < length list = (let test = look.0 in grind (arith, nat_tests)) in
-    let there = shown_at c.self.inside.results.items list c.self.inside.table.entries.items c.args.self.now job x c.self.view_is c.deref.ensures.value (slice_get_read list (length list) job x refl within look.1) in
+    let there = shown_at c.self.inside.results.items list c.self.inside.known.table.entries.items c.args.self.now job x c.self.view_is c.deref.ensures.value (slice_get_read list (length list) job x refl within look.1) in
     let bad : ◌≡◌ {A = Option (Key × ℕ)} (Some x) None = sym there ∙ none in
     absurd (cc bad)

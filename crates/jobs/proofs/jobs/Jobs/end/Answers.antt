@@ -12,7 +12,7 @@ returns-in_default-clause-only c = subst (λ (h : History). (entry : Entry) → 
 pub returns-clause-ok : goal.returns-clause-ok
 returns-clause-ok c =
     let found = c.in-Some.ensures.found in
-    moves_shown c.self.inside.results.items c.self.inside.table.entries.items c.finish.new.table.entries.items c.args.self.now c.in-Some.number found.0 c.args.key.now Out c.args.progress c.self.view_is found.1 found.2 found.3 (c.finish.ensures.entries found.0 found.1)
+    moves_shown c.self.inside.results.items c.self.inside.known.table.entries.items c.finish.new.known.table.entries.items c.args.self.now c.in-Some.number found.0 c.args.key.now Out c.args.progress c.self.view_is found.1 found.2 found.3 (c.finish.ensures.entries found.0 found.1)
 
 pub finish-requires-clause-out : goal.finish-requires-clause-out
 finish-requires-clause-out c = let found = c.in-Some.ensures.found in (found.0, found.1, found.3)

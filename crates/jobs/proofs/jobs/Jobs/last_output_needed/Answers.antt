@@ -8,4 +8,4 @@ use Rattle.jobs.proofs.jobs.Jobs.last_output_needed.Goals as goal
 pub returns-clause-greatest : goal.returns-clause-greatest
 returns-clause-greatest c =
     subst (λ (h : History). (index : ℕ) → NeedsOutput h c.args.key.now index → IsSomeAnd c.last_needed.result (λ last. index ≤ last))
-    (ap (λ (xs : List (Key × ℕ)). history xs c.self.inside.table.entries.items) c.as_slice.ensures.value ∙ c.self.view_is) c.last_needed.ensures.greatest
+    (ap (λ (xs : List (Key × ℕ)). history xs c.self.inside.known.table.entries.items) c.as_slice.ensures.value ∙ c.self.view_is) c.last_needed.ensures.greatest

@@ -8,10 +8,10 @@ use Rattle.jobs.proofs.jobs.Jobs.ready.Goals as goal
 pub as_slice-requires : goal.as_slice-requires
 as_slice-requires c =
     let h = c.self.invariant.list in
-    let n = same_count c.self.inside.table.entries.items c.self.inside.ready h in
+    let n = same_count c.self.inside.known.table.entries.items c.self.inside.known.ready h in
     let w = h.within in
     omega (arith, n, w)
 
 pub returns : goal.returns
 returns c = subst (λ (h : History). AreReadyKeys h.keys c.as_slice.result.now) c.self.view_is
-    (lends_ready c.self.inside.table.entries.items c.self.inside.ready c.as_slice.result.now c.self.invariant.list c.self.invariant.all c.as_slice.ensures)
+    (lends_ready c.self.inside.known.table.entries.items c.self.inside.known.ready c.as_slice.result.now c.self.invariant.list c.self.invariant.all c.as_slice.ensures)

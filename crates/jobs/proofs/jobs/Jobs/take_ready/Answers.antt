@@ -16,25 +16,25 @@ use Rattle.jobs.proofs.jobs.Jobs.take_ready.Goals as goal
 pub returns-in_default-clause-none : goal.returns-in_default-clause-none
 returns-in_default-clause-none c =
     subst (λ (h : History). HasNoReady h) c.self.view_is
-    (none_ready c.self.inside.table.entries.items c.self.inside.ready c.self.invariant.list c.self.invariant.all (sym c.in_default.ensures))
+    (none_ready c.self.inside.known.table.entries.items c.self.inside.known.ready c.self.invariant.list c.self.invariant.all (sym c.in_default.ensures))
 
 pub task_of-requires-clause-there : goal.task_of-requires-clause-there
 task_of-requires-clause-there c =
-    let r = first_is_ready c.self.inside.table.entries.items c.self.inside.ready c.self.invariant.list c.self.invariant.all c.in-Some.number (sym c.in-Some.ensures) in
+    let r = first_is_ready c.self.inside.known.table.entries.items c.self.inside.known.ready c.self.invariant.list c.self.invariant.all c.in-Some.number (sym c.in-Some.ensures) in
     (r.entry, r.at, r.ready.inputs)
 
 pub set_progress-requires : goal.set_progress-requires
 set_progress-requires c =
-    let r = first_is_ready c.self.inside.table.entries.items c.self.inside.ready c.self.invariant.list c.self.invariant.all c.in-Some.number (sym c.in-Some.ensures) in
-    slice_get_within c.self.inside.table.entries.items c.in-Some.number r.entry r.at
+    let r = first_is_ready c.self.inside.known.table.entries.items c.self.inside.known.ready c.self.invariant.list c.self.invariant.all c.in-Some.number (sym c.in-Some.ensures) in
+    slice_get_within c.self.inside.known.table.entries.items c.in-Some.number r.entry r.at
 
 pub take-requires : goal.take-requires
-take-requires c = first_within c.self.inside.table.entries.items c.self.inside.ready c.self.invariant.list c.self.invariant.all c.in-Some.number (sym c.in-Some.ensures)
+take-requires c = first_within c.self.inside.known.table.entries.items c.self.inside.known.ready c.self.invariant.list c.self.invariant.all c.in-Some.number (sym c.in-Some.ensures)
 
 pub invariant_of-self : goal.invariant_of-self
 invariant_of-self c =
-    let es = c.self.inside.table.entries.items in
-    let l = c.self.inside.ready in
+    let es = c.self.inside.known.table.entries.items in
+    let l = c.self.inside.known.ready in
     let h = c.self.invariant.list in
     let all = c.self.invariant.all in
     let n = c.in-Some.number in
@@ -47,10 +47,10 @@ invariant_of-self c =
     record {
       kept = record {
         numbered = numbered;
-        marked = marks_out es c.self.inside.marks.items n r.entry r.at now.entries.items r.ready.waiting now_is c.self.invariant.kept.marked;
+        marked = marks_out es c.self.inside.known.marks.items n r.entry r.at now.entries.items r.ready.waiting now_is c.self.invariant.kept.marked;
       };
       closed = closed_moved es n r.entry r.at Out now.entries.items now_is c.self.invariant.closed;
-      used = users_moved es n r.entry r.at Out now.entries.items c.self.inside.users now_is c.self.invariant.used;
+      used = users_moved es n r.entry r.at Out now.entries.items c.self.inside.known.users now_is c.self.invariant.used;
       count = c.self.invariant.count ∙ sym (ap length now_is ∙ length-set es n (record r.entry { progress = Out }));
       idle = c.self.invariant.idle;
       todo_room = let t_room = c.self.invariant.todo_room in let k = ap length now_is ∙ length-set es n (record r.entry { progress = Out }) in omega (arith, t_room, k);
@@ -65,8 +65,8 @@ invariant_of-self c =
 
 pub returns-clause-taken : goal.returns-clause-taken
 returns-clause-taken c =
-    let es = c.self.inside.table.entries.items in
-    let l = c.self.inside.ready in
+    let es = c.self.inside.known.table.entries.items in
+    let l = c.self.inside.known.ready in
     let h = c.self.invariant.list in
     let all = c.self.invariant.all in
     let n = c.in-Some.number in
