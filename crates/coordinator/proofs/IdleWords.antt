@@ -15,16 +15,16 @@ use Rattle.leases.specs.Leases.{IsBefore}
 use Rattle.leases.specs.declared.ending.Ending.{Ending}
 use Rattle.leases.proofs.TableLemmas.{AllPairs-head, AllPairs-tail}
 use Rattle.protocol.proofs.Base.{true_false, any_in, from_any, from_filter, slot_eq_is}
-use Rattle.coordinator.specs.Idle.{slots_under, is_open, is_held_up, AreHeldUp, IsIdle, AreIdle}
-use Rattle.coordinator.specs.Spent.{is_private_spent, is_noted, IsNoted, WantsNoneOf}
+use Rattle.parked.specs.Idle.{slots_under, is_open, is_held_up, AreHeldUp, IsIdle, AreIdle}
+use Rattle.parked.specs.Spent.{is_private_spent, is_noted, IsNoted, WantsNoneOf}
 use Rattle.farm_base.specs.declared.limits.TheConstants.{INSTANCES}
 use Rattle.protocol.specs.Farm.{farm_limits}
 use Rattle.farm_base.specs.Folders.{folder_eq}
 use Rattle.farm_base.proofs.CompareLaws.{folder_eq-itself}
 use Rattle.leases.proofs.MarkLemmas.{drop-item}
-use Rattle.coordinator.specs.Over.{Begins, still_at}
-use Rattle.coordinator.specs.Noted.{WantsNone}
-use Rattle.coordinator.proofs.WaitingWords.{begins-before, stays-first}
+use Rattle.parked.specs.Over.{Begins, still_at}
+use Rattle.parked.specs.Noted.{WantsNone}
+use Rattle.parked.proofs.WaitingWords.{begins-before, stays-first}
 use Rattle.coordinator.proofs.HeldUp.{LeasesMore, tried-more, any_more, either_more}
 use Rattle.coordinator.proofs.StateWords.{decision-is}
 use Rattle.coordinator.proofs.Trying.{tried-is, stays-is}

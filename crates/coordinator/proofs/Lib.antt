@@ -1,9 +1,6 @@
 pub mod StateWords
 pub mod Trying
-pub mod WaitingWords
-pub mod PassedWords
-pub mod NotedWords
-pub mod NewestWords
+pub mod TryingAll
 pub mod SoundWords
 pub mod Kept
 pub mod Sends
@@ -11,7 +8,6 @@ pub mod OwnCalls
 pub mod Prunes
 pub mod OwnSends
 pub mod HeldUp
-pub mod OverWords
 pub mod IdleWords
 pub mod SpentWords
 pub mod Recording

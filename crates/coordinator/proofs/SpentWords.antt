@@ -18,7 +18,7 @@ use Rattle.leases.specs.Changes.{Change, changed, has_ended}
 use Rattle.leases.specs.Leases.{Table}
 use Rattle.leases.specs.Table.{among, is_free, is_spent}
 use Rattle.leases.proofs.LowestLaw.{lowest_is_lowest}
-use Rattle.coordinator.specs.Spent.{is_private_spent, is_noted, IsNoted}
+use Rattle.parked.specs.Spent.{is_private_spent, is_noted, IsNoted}
 use Rattle.coordinator.proofs.IdleWords.{leased-among}
 use Rattle.coordinator.proofs.Trying.{tried-is}
 

@@ -2,9 +2,9 @@
 use Rattle.coordinator.specs.declared.state.State.{State}
 use Rattle.coordinator.specs.Held.{Held, line_at}
 use Rattle.coordinator.specs.Shown.{kept}
-use Rattle.coordinator.specs.Queue.{asks_of}
+use Rattle.parked.specs.Queue.{asks_of}
 use Rattle.coordinator.specs.Sound.{IsRightful}
-use Rattle.coordinator.specs.Spent.{AreNoted}
+use Rattle.parked.specs.Spent.{AreNoted}
 
 abbrev pub held : State → Held
 held s = record {

@@ -1,13 +1,5 @@
 pub mod Held
-pub mod Over
-pub mod Waiting
-pub mod Numbers
-pub mod Queue
-pub mod Newest
-pub mod Noted
 pub mod Shown
-pub mod Idle
-pub mod Spent
 pub mod Sound
 pub mod Keeps
 pub mod Promises

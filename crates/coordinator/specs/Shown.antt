@@ -14,8 +14,8 @@ use Rattle.coordinator.specs.declared.change.Change.{Change}
 use Rattle.coordinator.specs.declared.new_life.NewLife.{NewLife}
 use Rattle.coordinator.specs.declared.draft.Draft.{Draft}
 use Rattle.coordinator.specs.Held.{Held, line_at, life_at, is_among}
-use Rattle.coordinator.specs.Waiting.{waits_after}
-use Rattle.coordinator.specs.Queue.{asks_of}
+use Rattle.parked.specs.Waiting.{waits_after}
+use Rattle.parked.specs.Queue.{asks_of}
 
 -- the ledger that a state shows, with these lines
 abbrev pub kept : LineOf → State → Ledger

@@ -6,20 +6,18 @@ ghost use Rattle.protocol.specs.Farm.{farm_limits};
 ghost use Rattle.protocol.specs.Ledger.{decision, elsewhere, may_commit, may_release, lease_under};
 ghost use Rattle.leases.specs.Table.{fit_of, life_at, is_among, is_free};
 ghost use Rattle.coordinator.specs.Held.{Held};
-ghost use Rattle.coordinator.specs.Idle.{is_open, AreIdle};
+ghost use Rattle.parked.specs.Idle.{is_open, AreIdle};
 ghost use Rattle.coordinator.specs.Keeps.{held, NotesSpent};
-ghost use Rattle.coordinator.specs.Over.{Begins, still_at};
-ghost use Rattle.coordinator.specs.Queue.{asks_of};
-ghost use Rattle.coordinator.specs.Spent.{IsNoted, AreNoted};
+ghost use Rattle.parked.specs.Over.{Begins, still_at};
+ghost use Rattle.parked.specs.Queue.{asks_of};
+ghost use Rattle.parked.specs.Spent.{IsNoted, AreNoted};
 ghost use Rattle.coordinator.specs.Shown.{LineOf, after, table_after, with_life, with_gone, kept};
 
 use super::new_life::NewLife;
-use super::over::first_over;
-use super::parked_change::ParkedChange;
-use super::spent_folders::SpentFolders;
 use super::state::{State, fit_slots};
 use farm_base::{Copied, Life, Mode, News, NodeId, Parked, Slot, Ticket, Why};
 use leases::{Fit, TableChange, TicketSource};
+use parked::{ParkedChange, SpentFolders, first_over};
 use protocol::Decision;
 use std::alloc::{AllocError, Global};
 

@@ -8,27 +8,25 @@ ghost use Rattle.leases.specs.Table.{fit_of};
 ghost use Rattle.leases.specs.declared.lease_table.Fit.{Fit};
 ghost use Rattle.protocol.specs.Ledger.{Ledger, begin_work, decision, decided, sees, is_older, is_home, ends, without, Lease, lease_for, grant_of, gives, denies, tried, try_all, stays, waiting, retried, elsewhere, recall, recalls, holds_wanted, acquiring, lease_of, is_parked, confirms, committing, may_commit, may_release, lease_under, released, newer_life, answering, handled};
 ghost use Rattle.coordinator.specs.Held.{Held};
-ghost use Rattle.coordinator.specs.Idle.{AreHeldUp, AreIdle};
+ghost use Rattle.parked.specs.Idle.{AreHeldUp, AreIdle};
 ghost use Rattle.coordinator.specs.Keeps.{held, NotesSpent};
 ghost use Rattle.farm_base.specs.Wanted.{IsWants};
 ghost use Rattle.coordinator.specs.Shown.{LineOf, kept, after, shown, table_after, lines_with, work_with, work_at, ledger_with, ledger_at, ended, ended_committed};
-ghost use Rattle.coordinator.specs.Over.{still_waiting};
-ghost use Rattle.coordinator.specs.Waiting.{ends_ask, waits_after};
-ghost use Rattle.coordinator.specs.Queue.{asks_of};
+ghost use Rattle.parked.specs.Over.{still_waiting};
+ghost use Rattle.parked.specs.Waiting.{ends_ask, waits_after};
+ghost use Rattle.parked.specs.Queue.{asks_of};
 ghost use Rattle.coordinator.specs.Sound.{IsSound};
 ghost use Rattle.versions.specs.Additions.{IsReady};
 
 use super::change::Change;
 use super::new_life::NewLife;
-use super::over::{Over, split_over};
-use super::parked_change::ParkedChange;
-use super::passing::{take_out, without_first};
 use super::state::{State, cleared, grant_of, is_home, is_some_saved};
 use farm_base::{
     Copied, FromCoord, Grant, Items, Life, News, NodeId, Parked, Request, Slot, Ticket, ToCoord,
     Why,
 };
 use leases::{Ending, is_saved};
+use parked::{Over, ParkedChange, split_over, take_out, without_first};
 use protocol::{CoordNote, Decision};
 use std::alloc::{AllocError, Global};
 use std::mem;

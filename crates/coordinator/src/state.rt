@@ -7,10 +7,9 @@ ghost use Rattle.protocol.specs.Machine.{slots_of, cleared};
 ghost use Rattle.protocol.specs.Ledger.{grant_of, is_saved, is_home, writable_slots};
 ghost use Rattle.coordinator.specs.Shown.{lines_with, saved_under};
 
-use super::parked_asks::ParkedAsks;
-use super::spent_folders::SpentFolders;
 use farm_base::{Grant, Items, Lease, LeaseKind, Mode, News, NodeId, Slot};
 use leases::{LeaseTable, Lives, RetiredNodes, TicketSource, is_saved};
+use parked::{ParkedAsks, SpentFolders};
 use std::alloc::{AllocError, Global};
 use versions::{Added, Lines, granted_slots};
 

@@ -4,15 +4,15 @@ use Rattle.protocol.specs.Names.{FolderName, Slot}
 use Rattle.protocol.specs.Machine.{Parked}
 use Rattle.protocol.specs.Ledger.{Ledger}
 use Rattle.saverecord.proofs.LedgerLemmas.{in_at}
-use Rattle.coordinator.specs.Idle.{AreIdle}
+use Rattle.parked.specs.Idle.{AreIdle}
 use Rattle.coordinator.specs.Keeps.{held}
-use Rattle.coordinator.specs.Over.{still_at}
-use Rattle.coordinator.specs.Queue.{asks_of}
+use Rattle.parked.specs.Over.{still_at}
+use Rattle.parked.specs.Queue.{asks_of}
 use Rattle.coordinator.specs.Shown.{after}
-use Rattle.coordinator.specs.Spent.{WantsNoneOf}
-use Rattle.coordinator.specs.Noted.{WantsNone}
+use Rattle.parked.specs.Spent.{WantsNoneOf}
+use Rattle.parked.specs.Noted.{WantsNone}
 use Rattle.coordinator.proofs.IdleWords.{are-idle-open, unwanted-waits}
-use Rattle.coordinator.proofs.OverWords.{still-has}
+use Rattle.parked.proofs.OverWords.{still-has}
 use Rattle.coordinator.proofs.change.Change.first_due.Goals as goal
 
 pub returns-clause-forward : goal.returns-clause-forward

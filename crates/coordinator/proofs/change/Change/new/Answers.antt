@@ -6,9 +6,9 @@ use Rattle.leases.specs.Leases.{Table}
 use Rattle.leases.specs.Table.{among}
 use Rattle.leases.proofs.ChangeLemmas.{changed-none}
 use Rattle.coordinator.specs.Shown.{kept}
-use Rattle.coordinator.specs.Over.{still_waiting}
-use Rattle.coordinator.specs.Queue.{asks_of}
-use Rattle.coordinator.proofs.WaitingWords.{still-none}
+use Rattle.parked.specs.Over.{still_waiting}
+use Rattle.parked.specs.Queue.{asks_of}
+use Rattle.parked.proofs.WaitingWords.{still-none}
 use Rattle.coordinator.proofs.change.Change.new.Goals as goal
 
 pub returns-clause-ledger : goal.returns-clause-ledger

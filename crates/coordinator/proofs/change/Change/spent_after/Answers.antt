@@ -5,11 +5,11 @@ use Rattle.protocol.proofs.Base.{all_in, in_append}
 use Rattle.leases.specs.Table.{is_free}
 use Rattle.saverecord.proofs.LedgerLemmas.{all_from_in}
 use Rattle.coordinator.specs.Keeps.{held}
-use Rattle.coordinator.specs.Over.{still_waiting}
-use Rattle.coordinator.specs.Queue.{asks_of}
+use Rattle.parked.specs.Over.{still_waiting}
+use Rattle.parked.specs.Queue.{asks_of}
 use Rattle.coordinator.specs.Shown.{table_after}
-use Rattle.coordinator.specs.Spent.{IsNoted}
-use Rattle.coordinator.proofs.NewestWords.{all-still}
+use Rattle.parked.specs.Spent.{IsNoted}
+use Rattle.parked.proofs.NewestWords.{all-still}
 use Rattle.coordinator.proofs.change.Change.spent_after.Goals as goal
 
 pub returns : goal.returns

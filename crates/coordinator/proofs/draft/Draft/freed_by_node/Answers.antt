@@ -2,10 +2,10 @@ use Rattle.std.proofs.Common.{List, Bool, not, sym, subst}
 use Rattle.protocol.specs.Names.{Slot}
 use Rattle.protocol.specs.Ledger.{Ledger}
 use Rattle.coordinator.specs.Held.{line_at}
-use Rattle.coordinator.specs.Idle.{AreIdle}
+use Rattle.parked.specs.Idle.{AreIdle}
 use Rattle.coordinator.specs.Keeps.{held}
 use Rattle.coordinator.specs.Shown.{after}
-use Rattle.coordinator.specs.Waiting.{ends_ask}
+use Rattle.parked.specs.Waiting.{ends_ask}
 use Rattle.coordinator.proofs.IdleWords.{are-idle-ended}
 use Rattle.coordinator.proofs.draft.Draft.freed_by_node.Goals as goal
 

@@ -4,15 +4,16 @@ use Rattle.farm_base.specs.Wanted.{IsWants}
 use Rattle.protocol.specs.Farm.{farm_limits}
 use Rattle.protocol.specs.Machine.{Parked}
 use Rattle.protocol.specs.Ledger.{Work, parks, try_all, waiting}
-use Rattle.coordinator.specs.Idle.{AreIdle}
+use Rattle.parked.specs.Idle.{AreIdle}
 use Rattle.coordinator.specs.Keeps.{held}
-use Rattle.coordinator.specs.Over.{still_waiting}
-use Rattle.coordinator.specs.Queue.{asks_of}
+use Rattle.parked.specs.Over.{still_waiting}
+use Rattle.parked.specs.Queue.{asks_of}
 use Rattle.coordinator.specs.Shown.{LineOf, after, shown, lines_with}
-use Rattle.coordinator.specs.Waiting.{waits_after}
-use Rattle.coordinator.specs.declared.parked_change.ParkedChange.{ParkedChange}
+use Rattle.parked.specs.Waiting.{waits_after}
+use Rattle.parked.specs.declared.parked_change.ParkedChange.{ParkedChange}
 use Rattle.coordinator.proofs.SoundWords.{sound-parks}
-use Rattle.coordinator.proofs.WaitingWords.{still-none, retried-split}
+use Rattle.parked.proofs.WaitingWords.{still-none}
+use Rattle.coordinator.proofs.TryingAll.{retried-split}
 use Rattle.coordinator.proofs.draft.Draft.retry_wanting.Goals as goal
 
 pub try_wanting-requires-clause-sound : goal.try_wanting-requires-clause-sound

@@ -5,10 +5,11 @@ use Rattle.protocol.specs.Machine.{Parked}
 use Rattle.protocol.specs.Ledger.{Work, try_all, waiting}
 use Rattle.leases.proofs.MarkLemmas.{drop-item}
 use Rattle.coordinator.specs.Keeps.{held}
-use Rattle.coordinator.specs.Over.{still_at}
+use Rattle.parked.specs.Over.{still_at}
 use Rattle.coordinator.specs.Shown.{LineOf, shown, lines_with}
 use Rattle.coordinator.proofs.SoundWords.{sound-unless}
-use Rattle.coordinator.proofs.WaitingWords.{try-next, stay-next, noted-append, noted-below, begins-noted}
+use Rattle.parked.proofs.WaitingWords.{noted-append, noted-below, begins-noted}
+use Rattle.coordinator.proofs.TryingAll.{try-next, stay-next}
 use Rattle.coordinator.proofs.draft.Draft.try_asks.Goals as goal
 
 pub loop-place-preserved : goal.loop-place-preserved

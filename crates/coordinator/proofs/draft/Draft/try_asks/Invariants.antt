@@ -2,7 +2,7 @@ use Rattle.std.proofs.Common.{◌≡◌, ◌<◌, ◌≤◌, ◌-◌, ◌++◌, 
 use Rattle.protocol.specs.Farm.{farm_limits}
 use Rattle.protocol.specs.Ledger.{try_all, waiting}
 use Rattle.coordinator.specs.Keeps.{held}
-use Rattle.coordinator.specs.Over.{Begins, still_at}
+use Rattle.parked.specs.Over.{Begins, still_at}
 use Rattle.coordinator.specs.Shown.{after, shown, lines_with}
 use Rattle.coordinator.specs.Sound.{IsSound}
 use Rattle.coordinator.proofs.draft.Draft.try_asks.Given as goal

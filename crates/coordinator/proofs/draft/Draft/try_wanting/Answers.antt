@@ -6,14 +6,15 @@ use Rattle.protocol.specs.Machine.{Parked}
 use Rattle.protocol.specs.Ledger.{Work, try_all, waiting, tried}
 use Rattle.leases.proofs.MarkLemmas.{drop-item}
 use Rattle.coordinator.specs.Keeps.{held}
-use Rattle.coordinator.specs.Over.{Begins, AreRising, later_over, still_at}
-use Rattle.coordinator.specs.Queue.{asks_of}
+use Rattle.parked.specs.Over.{Begins, AreRising, later_over, still_at}
+use Rattle.parked.specs.Queue.{asks_of}
 use Rattle.coordinator.specs.Shown.{LineOf, shown, lines_with}
 use Rattle.coordinator.proofs.IdleWords.{Passes, idle-unless, waited-passes}
-use Rattle.coordinator.proofs.OverWords.{begins-zero, begins-later, rising-later, still-more, still-behind}
+use Rattle.parked.proofs.OverWords.{begins-zero, begins-later, rising-later, still-more, still-behind}
 use Rattle.coordinator.proofs.SoundWords.{sound-unless}
 use Rattle.coordinator.proofs.SpentWords.{noted-tried}
-use Rattle.coordinator.proofs.WaitingWords.{any_ask, try-next, stay-next, noted-append, noted-below, begins-noted, begins-before}
+use Rattle.parked.proofs.WaitingWords.{any_ask, noted-append, noted-below, begins-noted, begins-before}
+use Rattle.coordinator.proofs.TryingAll.{try-next, stay-next}
 use Rattle.coordinator.proofs.draft.Draft.try_wanting.Goals as goal
 
 pub first_due-place-requires-clause-over : goal.first_due-place-requires-clause-over

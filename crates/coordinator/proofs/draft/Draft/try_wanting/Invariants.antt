@@ -4,13 +4,13 @@ use Rattle.protocol.specs.Lists.{In}
 use Rattle.protocol.specs.Machine.{Parked}
 use Rattle.protocol.specs.Ledger.{try_all, waiting}
 use Rattle.leases.specs.Table.{is_free}
-use Rattle.coordinator.specs.Idle.{AreIdle}
+use Rattle.parked.specs.Idle.{AreIdle}
 use Rattle.coordinator.specs.Keeps.{held}
-use Rattle.coordinator.specs.Over.{Begins, AreRising, still_at}
-use Rattle.coordinator.specs.Queue.{asks_of}
+use Rattle.parked.specs.Over.{Begins, AreRising, still_at}
+use Rattle.parked.specs.Queue.{asks_of}
 use Rattle.coordinator.specs.Shown.{LineOf, after, shown, table_after, lines_with}
 use Rattle.coordinator.specs.Sound.{IsSound}
-use Rattle.coordinator.specs.Spent.{IsNoted}
+use Rattle.parked.specs.Spent.{IsNoted}
 use Rattle.coordinator.proofs.draft.Draft.try_wanting.Given as goal
 
 abbrev pub invariant-loop-place : goal.invariant-loop-place

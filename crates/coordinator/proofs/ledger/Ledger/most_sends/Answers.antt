@@ -3,7 +3,7 @@ use Rattle.protocol.specs.Machine.{Parked}
 use Rattle.protocol.specs.Farm.{farm_limits}
 use Rattle.coordinator.specs.Held.{Held, ledger}
 use Rattle.coordinator.proofs.Sends.{handled_few}
-use Rattle.coordinator.specs.Queue.{asks_of}
+use Rattle.parked.specs.Queue.{asks_of}
 use Rattle.coordinator.proofs.ledger.Ledger.most_sends.Goals as goal
 
 pub returns : goal.returns

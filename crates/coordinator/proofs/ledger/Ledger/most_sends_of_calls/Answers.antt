@@ -3,7 +3,7 @@ use Rattle.protocol.specs.Machine.{Parked}
 use Rattle.protocol.specs.Farm.{farm_limits}
 use Rattle.coordinator.specs.Held.{Held, ledger}
 use Rattle.coordinator.proofs.OwnSends.{withdrawn_few, retired_few, pruned_none}
-use Rattle.coordinator.specs.Queue.{asks_of}
+use Rattle.parked.specs.Queue.{asks_of}
 use Rattle.coordinator.proofs.ledger.Ledger.most_sends_of_calls.Goals as goal
 
 pub returns-clause-withdraw : goal.returns-clause-withdraw

@@ -7,14 +7,14 @@ use Rattle.saverecord.specs.Logs.{Holds}
 use Rattle.coordinator.specs.declared.state.State.{State}
 use Rattle.coordinator.specs.declared.change.Change.{Change}
 use Rattle.coordinator.specs.declared.draft.Draft.{Draft}
-use Rattle.coordinator.specs.declared.spent_folders.SpentFolders.{SpentFolders}
+use Rattle.parked.specs.declared.spent_folders.SpentFolders.{SpentFolders}
 use Rattle.coordinator.specs.Held.{Held, line_at, ledger}
 use Rattle.coordinator.specs.Keeps.{held, IsKeepable}
 use Rattle.coordinator.specs.Seen.{IsKeeping}
 use Rattle.coordinator.specs.Settling.{Answers, is_save_fault}
 use Rattle.coordinator.specs.Shown.{LineOf, kept, after, shown, lines_with}
 use Rattle.coordinator.specs.Sound.{IsRightful}
-use Rattle.coordinator.specs.Spent.{AreNoted}
+use Rattle.parked.specs.Spent.{AreNoted}
 use Rattle.coordinator.specs.Promises.{OnlyGrow}
 use Rattle.coordinator.proofs.Kept.{grows, stays}
 use Rattle.coordinator.proofs.Keeping.{holds_after, saved_ok, saved_not}

@@ -1,9 +1,0 @@
-use Rattle.std.proofs.Common.{◌≡◌, true, arith}
-use Rattle.protocol.specs.Names.{Want}
-use Rattle.coordinator.specs.Noted.{notes_want}
-use Rattle.coordinator.proofs.NotedWords.{each_in}
-use Rattle.coordinator.proofs.noted_asks.NotedAsks.add_wants.Goals as goal
-
-pub returns-clause-added : goal.returns-clause-added
-returns-clause-added c w i =
-    each_in (λ (v : Want). notes_want c.loop-want.self v.folder c.args.number ≡ true) c.args.wants.now (λ k d inside. c.loop-want.invariant.added k d (omega arith)) w i

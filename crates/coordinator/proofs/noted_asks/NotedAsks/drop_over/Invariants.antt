@@ -1,5 +1,0 @@
-use Rattle.coordinator.specs.Noted.{KeepsOf}
-use Rattle.coordinator.proofs.noted_asks.NotedAsks.drop_over.Given as goal
-
-abbrev pub invariant-loop-place : goal.invariant-loop-place
-invariant-loop-place l = KeepsOf l.waiting l.initial.self l.self

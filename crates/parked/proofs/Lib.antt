@@ -1,0 +1,5 @@
+pub mod WaitingWords
+pub mod PassedWords
+pub mod NotedWords
+pub mod NewestWords
+pub mod OverWords

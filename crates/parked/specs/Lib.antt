@@ -1,0 +1,8 @@
+pub mod Over
+pub mod Waiting
+pub mod Numbers
+pub mod Queue
+pub mod Newest
+pub mod Noted
+pub mod Idle
+pub mod Spent
