@@ -2,11 +2,11 @@
 use Rattle.std.proofs.Common.{◌≡◌, ◌≢◌, ℕ, Bool, true, false, ◌||◌, not, if◌then◌else◌, List, [], ◌∷◌, ◌++◌, filter, Some, refl, sym, ap, ◌∙◌, subst}
 use Rattle.std.specs.List.{All, list_any}
 use Rattle.std.proofs.lemmas.List.Elements.{All-push, All-weaker}
+use Rattle.std.proofs.lemmas.Bool.{or_left, or_right}
 use Rattle.std.proofs.lemmas.List.Folds.{list_any-append}
 use Rattle.farm_base.proofs.CompareLaws.{digest_exact, digest_eq-itself}
 use Rattle.farm_base.specs.Contents.{content_digest}
 use Rattle.farm_base.specs.Digests.{digest_eq}
-use Rattle.protocol.proofs.Others.{or_left, or_right}
 use Rattle.protocol.specs.Names.{Digest}
 
 -- the digest is one of these
