@@ -133,7 +133,7 @@ impl LockedBoard {
         self.tenures.retain(|tenure| !tenure.is_of(node, folder));
     }
 
-    /// An execution more uses the folder on the node.
+    /// Counts an execution that begins to use the folder on the node.
     fn take_up(&mut self, node: NodeId, folder: &FolderName) {
         for tenure in self.tenures.iter_mut() {
             if tenure.is_of(node, folder) {
@@ -142,7 +142,7 @@ impl LockedBoard {
         }
     }
 
-    /// An execution less uses the folder on the node.
+    /// Counts off an execution that no longer uses the folder on the node.
     fn put_down(&mut self, node: NodeId, folder: &FolderName) {
         for tenure in self.tenures.iter_mut() {
             if tenure.is_of(node, folder) {
@@ -151,7 +151,7 @@ impl LockedBoard {
         }
     }
 
-    /// An execution less uses the SHARED folders of these wants.
+    /// Counts off an execution that no longer uses the SHARED folders of these wants.
     pub(crate) fn release(&mut self, node: NodeId, wants: &[Want]) {
         for want in wants {
             if matches!(want.folder.mode, Mode::Shared) {
@@ -160,7 +160,7 @@ impl LockedBoard {
         }
     }
 
-    /// An execution more uses the SHARED folders of these wants.
+    /// Counts an execution that begins to use the SHARED folders of these wants.
     fn reserve(&mut self, node: NodeId, wants: &[Want]) {
         for want in wants {
             if matches!(want.folder.mode, Mode::Shared) {
