@@ -10,7 +10,7 @@ use Rattle.protocol.specs.Names.{Slot}
 use Rattle.protocol.specs.Machine.{LineVersion}
 use Rattle.protocol.specs.Chronicle.{Writes, Headline}
 
--- the farm of so many nodes after these events
+-- the farm of this size after these events
 abbrev pub replayed : ℕ → List Event → Farm
 replayed size events = run content_digest farm_limits events (opening content_digest size)
 
