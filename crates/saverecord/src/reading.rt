@@ -64,27 +64,27 @@ fn take_retired_nodes(
 /// Reads the parts of a record into this one.
 #[tactic(auto, unfolding(crate::specs::Records::body_at))]
 fn fill<'b>(
-    record: &mut Record,
+    into: &mut Record,
     alloc: Global,
     layout: Layout,
     bytes: &'b [u8],
 ) -> Result<&'b [u8], RecordRefusal>
-    ensures { Gives (λ rest. (record.new, rest.now)) result (body_at layout bytes.now) }
+    ensures { Gives (λ rest. (into.new, rest.now)) result (body_at layout bytes.now) }
 {
     let (last, rest) = take_u64(bytes, 0, u64::MAX)?;
-    record.last = Ticket(last);
+    into.last = Ticket(last);
     let (old_home, rest) = take_home(rest)?;
-    record.old_home = old_home;
+    into.old_home = old_home;
     let (lives, rest) = take_list(alloc, layout, rest)?;
-    record.lives = lives;
+    into.lives = lives;
     let (retired_nodes, rest) = take_retired_nodes(alloc, layout, rest)?;
-    record.retired_nodes = retired_nodes;
+    into.retired_nodes = retired_nodes;
     let (leases, rest) = take_list(alloc, layout, rest)?;
-    record.leases = leases;
+    into.leases = leases;
     let (retired, rest) = take_list(alloc, layout, rest)?;
-    record.retired = retired;
+    into.retired = retired;
     let (lines, rest) = take_list(alloc, layout, rest)?;
-    record.lines = lines;
+    into.lines = lines;
     Ok(rest)
 }
 
