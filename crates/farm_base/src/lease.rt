@@ -1,6 +1,6 @@
 //! What the coordinator keeps for an ask: the lease that was granted, or the ask while it waits.
 ghost use Rattle.std.specs.Prelude.{◌≡◌};
-ghost use Rattle.farm_base.specs.Kinds.{is_tenure, has_shared, kind_of};
+ghost use Rattle.farm_base.specs.Kinds.{is_tenure, kind_of};
 
 use super::copied::Copied;
 use super::items::Items;
@@ -30,13 +30,6 @@ impl LeaseKind {
             (true, false) => LeaseKind::Shared,
             (false, false) => LeaseKind::Plain,
         }
-    }
-
-    /// Whether the wants have a SHARED folder.
-    pub fn has_shared(self) -> bool
-        ensures { result ≡ has_shared self }
-    {
-        self != LeaseKind::Plain
     }
 
     pub fn is_tenure(self) -> bool

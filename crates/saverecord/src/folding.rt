@@ -192,7 +192,7 @@ fn with_entry(before: Folded, entry: LogEntry) -> Result<Folded, RecordRefusal>
 }
 
 /// The record of a farm where nothing happened.
-pub(crate) fn blank(alloc: Global) -> Record
+fn blank(alloc: Global) -> Record
     ensures { result ≡ blank }
 {
     Record {

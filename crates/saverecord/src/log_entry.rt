@@ -96,49 +96,28 @@ fn spelled(alloc: Global, entry: &LogEntry) -> Result<Vec<u8>, AllocError>
     Ok(out)
 }
 
-/// Reads the parts of an entry into this one.
 #[tactic(auto, unfolding(crate::specs::LogEntries::parts_at))]
-fn fill<'b>(entry: &mut LogEntry, alloc: Global, bytes: &'b [u8]) -> Result<&'b [u8], RecordRefusal>
-    ensures { Gives (λ rest. (entry.new, rest.now)) result (parts_at bytes.now) }
-{
-    let (last, rest) = take_u64(bytes, 0, u64::MAX)?;
-    entry.last = Ticket(last);
-    let (old_home, rest) = take_home(rest)?;
-    entry.old_home = old_home;
-    let (lives, rest) = take_list(alloc, Layout::Third, rest)?;
-    entry.lives = lives;
-    let (retired_nodes, rest) = take_list(alloc, Layout::Third, rest)?;
-    entry.retired_nodes = retired_nodes;
-    let (ended, rest) = take_list(alloc, Layout::Third, rest)?;
-    entry.ended = ended;
-    let (leases, rest) = take_list(alloc, Layout::Third, rest)?;
-    entry.leases = leases;
-    let (retired, rest) = take_list(alloc, Layout::Third, rest)?;
-    entry.retired = retired;
-    let (lines, rest) = take_list(alloc, Layout::Third, rest)?;
-    entry.lines = lines;
-    Ok(rest)
-}
-
-/// An entry of nothing.
-fn blank(alloc: Global) -> LogEntry {
-    LogEntry {
-        last: Ticket(0),
-        old_home: None,
-        lives: Items::new(Vec::new(alloc)),
-        retired_nodes: Items::new(Vec::new(alloc)),
-        ended: Items::new(Vec::new(alloc)),
-        leases: Items::new(Vec::new(alloc)),
-        retired: Items::new(Vec::new(alloc)),
-        lines: Items::new(Vec::new(alloc)),
-    }
-}
-
 fn take_parts(alloc: Global, bytes: &[u8]) -> Result<(LogEntry, &[u8]), RecordRefusal>
     ensures { Gives (λ x. (x.0, x.1.now)) result (parts_at bytes.now) }
 {
-    let mut entry = blank(alloc);
-    let rest = fill(&mut entry, alloc, bytes)?;
+    let (last, rest) = take_u64(bytes, 0, u64::MAX)?;
+    let (old_home, rest) = take_home(rest)?;
+    let (lives, rest) = take_list(alloc, Layout::Third, rest)?;
+    let (retired_nodes, rest) = take_list(alloc, Layout::Third, rest)?;
+    let (ended, rest) = take_list(alloc, Layout::Third, rest)?;
+    let (leases, rest) = take_list(alloc, Layout::Third, rest)?;
+    let (retired, rest) = take_list(alloc, Layout::Third, rest)?;
+    let (lines, rest) = take_list(alloc, Layout::Third, rest)?;
+    let entry = LogEntry {
+        last: Ticket(last),
+        old_home,
+        lives,
+        retired_nodes,
+        ended,
+        leases,
+        retired,
+        lines,
+    };
     Ok((entry, rest))
 }
 

@@ -7,7 +7,6 @@ ghost use Rattle.saverecord.specs.Parts.{Gives};
 ghost use Rattle.saverecord.specs.Records.{home_of, home_at, list_at, retired_nodes_at, body_at, whole_body, layout_of, signed, opened, place_for, has_life, with_life, with_home, from_first, judged, record_of};
 
 use super::entry::{Entry, take_counted};
-use super::folding::blank;
 use super::layout::Layout;
 use super::part::{take_u32, take_u64};
 use super::record::Record;
@@ -61,38 +60,26 @@ fn take_retired_nodes(
     }
 }
 
-/// Reads the parts of a record into this one.
 #[tactic(auto, unfolding(crate::specs::Records::body_at))]
-fn fill<'b>(
-    into: &mut Record,
-    alloc: Global,
-    layout: Layout,
-    bytes: &'b [u8],
-) -> Result<&'b [u8], RecordRefusal>
-    ensures { Gives (λ rest. (into.new, rest.now)) result (body_at layout bytes.now) }
-{
-    let (last, rest) = take_u64(bytes, 0, u64::MAX)?;
-    into.last = Ticket(last);
-    let (old_home, rest) = take_home(rest)?;
-    into.old_home = old_home;
-    let (lives, rest) = take_list(alloc, layout, rest)?;
-    into.lives = lives;
-    let (retired_nodes, rest) = take_retired_nodes(alloc, layout, rest)?;
-    into.retired_nodes = retired_nodes;
-    let (leases, rest) = take_list(alloc, layout, rest)?;
-    into.leases = leases;
-    let (retired, rest) = take_list(alloc, layout, rest)?;
-    into.retired = retired;
-    let (lines, rest) = take_list(alloc, layout, rest)?;
-    into.lines = lines;
-    Ok(rest)
-}
-
 fn take_body(alloc: Global, layout: Layout, bytes: &[u8]) -> Result<(Record, &[u8]), RecordRefusal>
     ensures { Gives (λ x. (x.0, x.1.now)) result (body_at layout bytes.now) }
 {
-    let mut record = blank(alloc);
-    let rest = fill(&mut record, alloc, layout, bytes)?;
+    let (last, rest) = take_u64(bytes, 0, u64::MAX)?;
+    let (old_home, rest) = take_home(rest)?;
+    let (lives, rest) = take_list(alloc, layout, rest)?;
+    let (retired_nodes, rest) = take_retired_nodes(alloc, layout, rest)?;
+    let (leases, rest) = take_list(alloc, layout, rest)?;
+    let (retired, rest) = take_list(alloc, layout, rest)?;
+    let (lines, rest) = take_list(alloc, layout, rest)?;
+    let record = Record {
+        last: Ticket(last),
+        old_home,
+        lives,
+        retired_nodes,
+        leases,
+        retired,
+        lines,
+    };
     Ok((record, rest))
 }
 
