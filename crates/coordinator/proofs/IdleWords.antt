@@ -15,7 +15,7 @@ use Rattle.leases.specs.Leases.{IsBefore}
 use Rattle.leases.specs.declared.ending.Ending.{Ending}
 use Rattle.leases.proofs.TableLemmas.{AllPairs-head, AllPairs-tail}
 use Rattle.protocol.proofs.Base.{true_false, any_in, from_any, from_filter, slot_eq_is}
-use Rattle.parked.specs.Idle.{slots_under, is_open, is_held_up, AreHeldUp, IsIdle, AreIdle}
+use Rattle.coordinator.specs.Idle.{slots_under, is_open, is_held_up, AreHeldUp, IsIdle, AreIdle}
 use Rattle.parked.specs.Spent.{is_private_spent, is_noted, IsNoted, WantsNoneOf}
 use Rattle.farm_base.specs.declared.limits.TheConstants.{INSTANCES}
 use Rattle.protocol.specs.Farm.{farm_limits}

@@ -21,7 +21,7 @@ use Rattle.versions.specs.declared.lines.SlotLine.{SlotLine}
 use Rattle.coordinator.specs.declared.draft.Draft.{Draft}
 use Rattle.coordinator.specs.Held.{Held, line_at}
 use Rattle.coordinator.specs.Shown.{lines_with, shown}
-use Rattle.parked.specs.Idle.{AreHeldUp}
+use Rattle.coordinator.specs.Idle.{AreHeldUp}
 use Rattle.coordinator.specs.Promises.{OnlyGrow, asked, granted, GrantsAtOnce}
 
 -- an event begins in its box as it was made

@@ -12,7 +12,7 @@ use Rattle.protocol.specs.Farm.{farm_limits}
 use Rattle.protocol.specs.Lawful as lawful
 use Rattle.protocol.proofs.Lawfulness.{every_ledger_stays_lawful}
 use Rattle.coordinator.specs.Sound.{IsSound, IsRightful, IsRequest}
-use Rattle.parked.specs.Idle.{AreHeldUp}
+use Rattle.coordinator.specs.Idle.{AreHeldUp}
 use Rattle.coordinator.proofs.HeldUp.{handled-held, withdrawn-held, retired-held, pruned-held}
 use Rattle.coordinator.proofs.SoundWords.{sound-handled}
 

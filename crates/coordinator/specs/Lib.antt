@@ -1,5 +1,6 @@
 pub mod Held
 pub mod Shown
+pub mod Idle
 pub mod Sound
 pub mod Keeps
 pub mod Promises

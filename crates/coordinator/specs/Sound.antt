@@ -9,7 +9,7 @@ pub use Rattle.leases.specs.Leases.{IsOpen}
 use Rattle.protocol.specs.Names.{Slot}
 use Rattle.protocol.specs.Ledger.{Ledger}
 use Rattle.protocol.specs.Lawful.{IsLawful}
-use Rattle.parked.specs.Idle.{AreHeldUp}
+use Rattle.coordinator.specs.Idle.{AreHeldUp}
 
 pub record IsSound (q : Ledger) : Type 0 where
   pub leases : AreLeases q.live

@@ -6,7 +6,7 @@ ghost use Rattle.protocol.specs.Farm.{farm_limits};
 ghost use Rattle.protocol.specs.Ledger.{decision, elsewhere, may_commit, may_release, lease_under};
 ghost use Rattle.leases.specs.Table.{fit_of, life_at, is_among, is_free};
 ghost use Rattle.coordinator.specs.Held.{Held};
-ghost use Rattle.parked.specs.Idle.{is_open, AreIdle};
+ghost use Rattle.coordinator.specs.Idle.{is_open, AreIdle};
 ghost use Rattle.coordinator.specs.Keeps.{held, NotesSpent};
 ghost use Rattle.parked.specs.Over.{Begins, still_at};
 ghost use Rattle.parked.specs.Queue.{asks_of};

@@ -8,7 +8,7 @@ ghost use Rattle.leases.specs.Table.{fit_of};
 ghost use Rattle.leases.specs.declared.lease_table.Fit.{Fit};
 ghost use Rattle.protocol.specs.Ledger.{Ledger, begin_work, decision, decided, sees, is_older, is_home, ends, without, Lease, lease_for, grant_of, gives, denies, tried, try_all, stays, waiting, retried, elsewhere, recall, recalls, holds_wanted, acquiring, lease_of, is_parked, confirms, committing, may_commit, may_release, lease_under, released, newer_life, answering, handled};
 ghost use Rattle.coordinator.specs.Held.{Held};
-ghost use Rattle.parked.specs.Idle.{AreHeldUp, AreIdle};
+ghost use Rattle.coordinator.specs.Idle.{AreHeldUp, AreIdle};
 ghost use Rattle.coordinator.specs.Keeps.{held, NotesSpent};
 ghost use Rattle.farm_base.specs.Wanted.{IsWants};
 ghost use Rattle.coordinator.specs.Shown.{LineOf, kept, after, shown, table_after, lines_with, work_with, work_at, ledger_with, ledger_at, ended, ended_committed};

@@ -11,7 +11,7 @@ ghost use Rattle.coordinator.specs.Held.{line_at};
 ghost use Rattle.coordinator.specs.Keeps.{held, NotesSpent};
 ghost use Rattle.farm_base.specs.Wanted.{IsWants};
 ghost use Rattle.coordinator.specs.Shown.{LineOf, having_said, kept, shown, work_with, work_at, ledger_with, ledger_at, withdraws_under};
-ghost use Rattle.parked.specs.Idle.{AreHeldUp, AreIdle};
+ghost use Rattle.coordinator.specs.Idle.{AreHeldUp, AreIdle};
 ghost use Rattle.parked.specs.Queue.{asks_of};
 ghost use Rattle.parked.specs.Waiting.{waits_after};
 ghost use Rattle.coordinator.specs.Sound.{IsSound};

@@ -4,5 +4,4 @@ pub mod Numbers
 pub mod Queue
 pub mod Newest
 pub mod Noted
-pub mod Idle
 pub mod Spent

@@ -4,7 +4,7 @@ use Rattle.protocol.specs.Names.{FolderName, Slot}
 use Rattle.protocol.specs.Machine.{Parked}
 use Rattle.protocol.specs.Ledger.{Ledger}
 use Rattle.saverecord.proofs.LedgerLemmas.{in_at}
-use Rattle.parked.specs.Idle.{AreIdle}
+use Rattle.coordinator.specs.Idle.{AreIdle}
 use Rattle.coordinator.specs.Keeps.{held}
 use Rattle.parked.specs.Over.{still_at}
 use Rattle.parked.specs.Queue.{asks_of}

@@ -2,7 +2,7 @@ use Rattle.std.proofs.Common.{refl, ◌≡◌, false, ap, sym, ◌∙◌, subst}
 use Rattle.protocol.specs.Farm.{farm_limits}
 use Rattle.protocol.specs.Ledger.{Work, retried, sees, is_home}
 use Rattle.coordinator.specs.Held.{line_at}
-use Rattle.parked.specs.Idle.{AreIdle}
+use Rattle.coordinator.specs.Idle.{AreIdle}
 use Rattle.coordinator.specs.Keeps.{held}
 use Rattle.coordinator.specs.Shown.{LineOf, shown}
 use Rattle.coordinator.specs.Sound.{IsSound}

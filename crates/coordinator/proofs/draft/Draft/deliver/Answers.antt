@@ -7,7 +7,7 @@ use Rattle.coordinator.specs.Shown.{LineOf, shown}
 use Rattle.coordinator.specs.Sound.{IsSound}
 use Rattle.protocol.specs.Ledger.{Work, answering}
 use Rattle.coordinator.proofs.Trying.{handled-gone, handled-old, handled-new, handled-same}
-use Rattle.parked.specs.Idle.{AreHeldUp}
+use Rattle.coordinator.specs.Idle.{AreHeldUp}
 use Rattle.coordinator.proofs.HeldUp.{newer_life-held}
 use Rattle.coordinator.proofs.SoundWords.{sound-newer_life}
 use Rattle.coordinator.proofs.draft.Draft.deliver.Goals as goal

@@ -3,7 +3,7 @@ use Rattle.std.specs.Prelude.{option_copied}
 use Rattle.protocol.specs.Names.{Slot}
 use Rattle.protocol.specs.Ledger.{Ledger, lease_under}
 use Rattle.coordinator.specs.Held.{line_at}
-use Rattle.parked.specs.Idle.{slots_under, AreIdle}
+use Rattle.coordinator.specs.Idle.{slots_under, AreIdle}
 use Rattle.coordinator.specs.Keeps.{held}
 use Rattle.coordinator.specs.Shown.{after}
 use Rattle.coordinator.proofs.IdleWords.{are-idle-freed}

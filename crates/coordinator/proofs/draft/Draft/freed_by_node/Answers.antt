@@ -2,7 +2,7 @@ use Rattle.std.proofs.Common.{List, Bool, not, sym, subst}
 use Rattle.protocol.specs.Names.{Slot}
 use Rattle.protocol.specs.Ledger.{Ledger}
 use Rattle.coordinator.specs.Held.{line_at}
-use Rattle.parked.specs.Idle.{AreIdle}
+use Rattle.coordinator.specs.Idle.{AreIdle}
 use Rattle.coordinator.specs.Keeps.{held}
 use Rattle.coordinator.specs.Shown.{after}
 use Rattle.parked.specs.Waiting.{ends_ask}

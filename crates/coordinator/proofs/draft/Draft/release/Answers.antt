@@ -1,7 +1,7 @@
 use Rattle.std.proofs.Common.{◌≡◌, true, refl, ap, sym, ◌∙◌, subst}
 use Rattle.protocol.specs.Farm.{farm_limits}
 use Rattle.protocol.specs.declared.answer.CoordNote.TheVariants as note
-use Rattle.parked.specs.Idle.{AreIdle}
+use Rattle.coordinator.specs.Idle.{AreIdle}
 use Rattle.coordinator.specs.Keeps.{held}
 use Rattle.coordinator.specs.Held.{line_at}
 use Rattle.coordinator.specs.Shown.{LineOf, shown, ended}

@@ -4,7 +4,7 @@ use Rattle.farm_base.specs.Wanted.{IsWants}
 use Rattle.protocol.specs.Farm.{farm_limits}
 use Rattle.protocol.specs.Machine.{Parked}
 use Rattle.protocol.specs.Ledger.{Work, parks, try_all, waiting}
-use Rattle.parked.specs.Idle.{AreIdle}
+use Rattle.coordinator.specs.Idle.{AreIdle}
 use Rattle.coordinator.specs.Keeps.{held}
 use Rattle.parked.specs.Over.{still_waiting}
 use Rattle.parked.specs.Queue.{asks_of}

@@ -4,7 +4,7 @@ use Rattle.protocol.specs.Lists.{In}
 use Rattle.protocol.specs.Machine.{Parked}
 use Rattle.protocol.specs.Ledger.{try_all, waiting}
 use Rattle.leases.specs.Table.{is_free}
-use Rattle.parked.specs.Idle.{AreIdle}
+use Rattle.coordinator.specs.Idle.{AreIdle}
 use Rattle.coordinator.specs.Keeps.{held}
 use Rattle.parked.specs.Over.{Begins, AreRising, still_at}
 use Rattle.parked.specs.Queue.{asks_of}

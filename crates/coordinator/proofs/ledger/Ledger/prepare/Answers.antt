@@ -1,6 +1,6 @@
 use Rattle.std.proofs.Common.{◌≡◌, ap, sym, ◌∙◌, subst}
 use Rattle.protocol.specs.Farm.{farm_limits}
-use Rattle.parked.specs.Idle.{AreHeldUp}
+use Rattle.coordinator.specs.Idle.{AreHeldUp}
 use Rattle.protocol.specs.Ledger.{Work, begin_work, handled}
 use Rattle.coordinator.specs.Held.{Held, line_at, ledger}
 use Rattle.coordinator.specs.Keeps.{held}
