@@ -118,125 +118,6 @@ Idle asks place wants grant =
 abbrev pub has_life : Node → ℕ → Node
 has_life state life = record state { life = record { 0 = life }; asks = [] }
 
--- what a node with this number does: the messages that it sends, and its next state. `sha` gives a content's digest
-pub data Act (sha : List ℕ → Digest) (pool : List Message) (node : NodeId) (state : Node)
-    : List Message → Node → Type 0 where
-  -- a new ask: its number is one above the last
-  Asks : (wants : List Want)
-      -- the tenure of each SHARED want is in use here and not recalled
-      → ((want : Want) → In want wants → wants_shared want ≡ true → RunsTenure state.asks want.folder false)
-      → Act sha pool node state
-      (acquire node state.life (record { 0 = length state.asks + 1 }) wants false ∷ [])
-      (record state { asks = state.asks ++ Open wants false ∷ [] })
-  -- a new ask for the tenure of a folder, where no ask of the node is that tenure
-  Asks_tenure : (folder : FolderName)
-      → ((place : ℕ) (kept : KeptAsk) → nth state.asks place ≡ Some kept
-      → IsTenureOf (record folder { mode = Shared }) kept
-      → ⊥)
-      → Act sha pool node state
-      (acquire node state.life (record { 0 = length state.asks + 1 }) (tenure_wants folder) true ∷ [])
-      (record state { asks = state.asks ++ Open (tenure_wants folder) true ∷ [] })
-  -- an open ask is sent again
-  Asks_again : (ask : Ask) (wants : List Want) (tenure : Bool)
-      → (nth state.asks ask.0 ≡ Some (Open wants tenure))
-      → Act sha pool node state (acquire node state.life ask wants tenure ∷ []) state
-  -- the node says that its life has begun
-  Greets : Act sha pool node state (hello node state.life ∷ []) state
-  -- a Grant of an open ask is taken
-  Takes : (grant : Grant) (wants : List Want) (tenure : Bool)
-      → In (Told (told.Granted grant)) pool
-      → (grant.node ≡ node)
-      → (grant.life ≡ state.life)
-      → (nth state.asks grant.ask.0 ≡ Some (Open wants tenure))
-      → Act sha pool node state []
-      (record state {
-        asks = set_nth state.asks grant.ask.0 (Holding wants grant false);
-        known = learn_bases grant.slots state.known;
-      })
-  -- a Grant that no ask waits for or has is given back
-  Gives_back : (grant : Grant) → In (Told (told.Granted grant)) pool → (grant.node ≡ node) → (grant.life ≡ state.life)
-      -- the ask isn't open, and hasn't this grant
-      → ((wants : List Want) (tenure : Bool) → nth state.asks grant.ask.0 ≢ Some (Open wants tenure))
-      → ((kept : KeptAsk) → nth state.asks grant.ask.0 ≡ Some kept → keeps kept grant.ticket ≡ false)
-      → Act sha pool node state (release node state.life grant.ticket ∷ []) state
-  -- an execution begins
-  Begins : (wants : List Want) (grant : Grant) (recalled : Bool) (place : ℕ)
-      → (nth state.asks place ≡ Some (Holding wants grant recalled))
-      -- all base contents are stored
-      → ((granted : GrantedSlot) → In granted grant.slots
-      → (content : List ℕ) × (state.store granted.digest ≡ Some content))
-      → Act sha pool node state [] (record state { asks = set_nth state.asks place (Running wants grant recalled) })
-  -- an execution ends with news, which are sent
-  Finishes : (wants : List Want) (grant : Grant) (recalled : Bool) (place : ℕ)
-      (news : List News) (store : Digest → Option (List ℕ))
-      → (nth state.asks place ≡ Some (Running wants grant recalled))
-      → Idle state.asks place wants grant
-      → (slots_of news ≡ written grant.slots)
-      → (news ≢ [])
-      -- what is stored is what was, and contents under their digests
-      → ((digest : Digest) (content : List ℕ) → store digest ≡ Some content
-      → ((state.store digest ≡ Some content) ⊎ (sha content ≡ digest)))
-      → Act sha pool node state
-      (commit node state.life grant.ticket news ∷ [])
-      (record state { asks = set_nth state.asks place (Finished wants grant news); store = store })
-  -- an execution ends with nothing to write, or is aborted, or a grant is given back unused
-  Gives_up : (wants : List Want) (grant : Grant) (recalled : Bool) (place : ℕ)
-      → ((nth state.asks place ≡ Some (Holding wants grant recalled))
-      ⊎ (nth state.asks place ≡ Some (Running wants grant recalled)))
-      → Idle state.asks place wants grant
-      → Act sha pool node state
-      (release node state.life grant.ticket ∷ [])
-      (record state { asks = set_nth state.asks place (Over (how.Released grant.ticket)) })
-  -- news that were not answered are sent again
-  Sends_commit : (wants : List Want) (grant : Grant) (place : ℕ) (news : List News)
-      → (nth state.asks place ≡ Some (Finished wants grant news))
-      → Act sha pool node state (commit node state.life grant.ticket news ∷ []) state
-  -- the news count, and their versions become known
-  Learns : (wants : List Want) (grant : Grant) (place : ℕ) (news : List News) (versions : List Confirmed)
-      → In (Told (told.Committed node state.life grant.ticket versions)) pool
-      → (nth state.asks place ≡ Some (Finished wants grant news))
-      → Act sha pool node state []
-      (record state {
-        asks = set_nth state.asks place (Over (how.Committed grant.ticket versions));
-        known = learn_versions versions state.known;
-      })
-  -- the news do not count
-  Drops : (wants : List Want) (grant : Grant) (place : ℕ) (news : List News)
-      → In (Told (told.Fenced node state.life grant.ticket)) pool
-      → (nth state.asks place ≡ Some (Finished wants grant news))
-      → Act sha pool node state [] (record state { asks = set_nth state.asks place (Over (how.Fenced grant.ticket)) })
-  -- an open ask is denied
-  Is_denied : (ask : Ask) (why : Why) (wants : List Want) (tenure : Bool)
-      → In (Told (told.Denied node state.life ask why)) pool
-      → (nth state.asks ask.0 ≡ Some (Open wants tenure))
-      → Act sha pool node state [] (record state { asks = set_nth state.asks ask.0 (Over (how.Denied why)) })
-  -- a grant is recalled, before its execution or in it
-  Is_recalled : (wants : List Want) (grant : Grant) (place : ℕ)
-      → In (Told (told.Recall node state.life grant.ticket)) pool
-      → (nth state.asks place ≡ Some (Holding wants grant false))
-      → Act sha pool node state [] (record state { asks = set_nth state.asks place (Holding wants grant true) })
-  Is_recalled_running : (wants : List Want) (grant : Grant) (place : ℕ)
-      → In (Told (told.Recall node state.life grant.ticket)) pool
-      → (nth state.asks place ≡ Some (Running wants grant false))
-      → Act sha pool node state [] (record state { asks = set_nth state.asks place (Running wants grant true) })
-  -- any bytes may come, and are kept under their own digest
-  Stores : (content : List ℕ)
-      → Act sha pool node state [] (record state { store = keep (sha content) content state.store })
-  -- what is stored may go, whatever it is for. Its versions stay known
-  Forgets : (digest : Digest) (content : List ℕ)
-      → (state.store digest ≡ Some content)
-      → Act sha pool node state [] (record state { store = without digest state.store })
-  -- any node may be asked for any content, and may be sent any
-  Asks_content : (other : NodeId) (digest : Digest)
-      → Act sha pool node state (Fetches (record { node = other; from = node; digest = digest }) ∷ []) state
-  Sends_blob : (other : NodeId) (content : List ℕ) → Act sha pool node state (Blob other content ∷ []) state
-  -- a restart ends the executions, and keeps the contents with the known versions
-  Restarts : Act sha pool node state
-      (hello node (record { 0 = state.life.0 + 1 }) ∷ [])
-      (has_life state (state.life.0 + 1))
-  -- the greatest life is over
-  Stops : Act sha pool node state [] (record state { spent = true })
-
 -- the machine, what its record holds while it is down, the messages ever sent, and the nodes
 pub record World : Type 0 where
   pub machine : Machine
@@ -245,60 +126,179 @@ pub record World : Type 0 where
   pub pool : List Message
   pub nodes : ℕ → Node
 
--- one move of the world. A change of the machine and what it says are moves of their own: so a change whose
--- messages were never sent is one too
-pub data Move (sha : List ℕ → Digest) (world : World) : World → Type 0 where
-  -- a node does something
-  Node_moves : (node : NodeId) (sends : List Message) (state : Node)
-      → Act sha world.pool node (world.nodes node.0) sends state
-      → Move sha world (record world { nodes = put node.0 state world.nodes; pool = world.pool ++ sends })
-  -- the machine makes a step, or says something: not while it is down
-  Machine_moves : (machine : Machine)
-      → (world.down ≡ None)
-      → Step (sha []) world.pool world.machine machine
-      → Move sha world (record world { machine = machine })
-  Machine_says : (telling : FromCoord)
-      → (world.down ≡ None)
-      → Says (sha []) world.pool world.machine telling
-      → Move sha world (record world { pool = world.pool ++ Told telling ∷ [] })
-  -- a save fails: the record holds none of the event's steps, or all
-  Fails : (machine : Machine)
-      → (world.down ≡ None)
-      → Steps (sha []) world.pool world.machine machine
-      → Move sha world (record world { down = Some machine })
-  -- a restart reads the record
-  Recovers : (machine : Machine)
-      → (world.down ≡ Some machine)
-      → Move sha world (record world { machine = machine; down = None })
+module _ (sha : List ℕ → Digest) where
+  -- what a node with this number does: the messages that it sends, and its next state. `sha` gives a content's digest
+  pub data Act (pool : List Message) (node : NodeId) (state : Node) : List Message → Node → Type 0 where
+    -- a new ask: its number is one above the last
+    Asks : (wants : List Want)
+        -- the tenure of each SHARED want is in use here and not recalled
+        → ((want : Want) → In want wants → wants_shared want ≡ true → RunsTenure state.asks want.folder false)
+        → Act pool node state
+        (acquire node state.life (record { 0 = length state.asks + 1 }) wants false ∷ [])
+        (record state { asks = state.asks ++ Open wants false ∷ [] })
+    -- a new ask for the tenure of a folder, where no ask of the node is that tenure
+    Asks_tenure : (folder : FolderName)
+        → ((place : ℕ) (kept : KeptAsk) → nth state.asks place ≡ Some kept
+        → IsTenureOf (record folder { mode = Shared }) kept
+        → ⊥)
+        → Act pool node state
+        (acquire node state.life (record { 0 = length state.asks + 1 }) (tenure_wants folder) true ∷ [])
+        (record state { asks = state.asks ++ Open (tenure_wants folder) true ∷ [] })
+    -- an open ask is sent again
+    Asks_again : (ask : Ask) (wants : List Want) (tenure : Bool)
+        → (nth state.asks ask.0 ≡ Some (Open wants tenure))
+        → Act pool node state (acquire node state.life ask wants tenure ∷ []) state
+    -- the node says that its life has begun
+    Greets : Act pool node state (hello node state.life ∷ []) state
+    -- a Grant of an open ask is taken
+    Takes : (grant : Grant) (wants : List Want) (tenure : Bool)
+        → In (Told (told.Granted grant)) pool
+        → (grant.node ≡ node)
+        → (grant.life ≡ state.life)
+        → (nth state.asks grant.ask.0 ≡ Some (Open wants tenure))
+        → Act pool node state []
+        (record state {
+          asks = set_nth state.asks grant.ask.0 (Holding wants grant false);
+          known = learn_bases grant.slots state.known;
+        })
+    -- a Grant that no ask waits for or has is given back
+    Gives_back : (grant : Grant) → In (Told (told.Granted grant)) pool → (grant.node ≡ node) → (grant.life ≡ state.life)
+        -- the ask isn't open, and hasn't this grant
+        → ((wants : List Want) (tenure : Bool) → nth state.asks grant.ask.0 ≢ Some (Open wants tenure))
+        → ((kept : KeptAsk) → nth state.asks grant.ask.0 ≡ Some kept → keeps kept grant.ticket ≡ false)
+        → Act pool node state (release node state.life grant.ticket ∷ []) state
+    -- an execution begins
+    Begins : (wants : List Want) (grant : Grant) (recalled : Bool) (place : ℕ)
+        → (nth state.asks place ≡ Some (Holding wants grant recalled))
+        -- all base contents are stored
+        → ((granted : GrantedSlot) → In granted grant.slots
+        → (content : List ℕ) × (state.store granted.digest ≡ Some content))
+        → Act pool node state [] (record state { asks = set_nth state.asks place (Running wants grant recalled) })
+    -- an execution ends with news, which are sent
+    Finishes : (wants : List Want) (grant : Grant) (recalled : Bool) (place : ℕ)
+        (news : List News) (store : Digest → Option (List ℕ))
+        → (nth state.asks place ≡ Some (Running wants grant recalled))
+        → Idle state.asks place wants grant
+        → (slots_of news ≡ written grant.slots)
+        → (news ≢ [])
+        -- what is stored is what was, and contents under their digests
+        → ((digest : Digest) (content : List ℕ) → store digest ≡ Some content
+        → ((state.store digest ≡ Some content) ⊎ (sha content ≡ digest)))
+        → Act pool node state
+        (commit node state.life grant.ticket news ∷ [])
+        (record state { asks = set_nth state.asks place (Finished wants grant news); store = store })
+    -- an execution ends with nothing to write, or is aborted, or a grant is given back unused
+    Gives_up : (wants : List Want) (grant : Grant) (recalled : Bool) (place : ℕ)
+        → ((nth state.asks place ≡ Some (Holding wants grant recalled))
+        ⊎ (nth state.asks place ≡ Some (Running wants grant recalled)))
+        → Idle state.asks place wants grant
+        → Act pool node state
+        (release node state.life grant.ticket ∷ [])
+        (record state { asks = set_nth state.asks place (Over (how.Released grant.ticket)) })
+    -- news that were not answered are sent again
+    Sends_commit : (wants : List Want) (grant : Grant) (place : ℕ) (news : List News)
+        → (nth state.asks place ≡ Some (Finished wants grant news))
+        → Act pool node state (commit node state.life grant.ticket news ∷ []) state
+    -- the news count, and their versions become known
+    Learns : (wants : List Want) (grant : Grant) (place : ℕ) (news : List News) (versions : List Confirmed)
+        → In (Told (told.Committed node state.life grant.ticket versions)) pool
+        → (nth state.asks place ≡ Some (Finished wants grant news))
+        → Act pool node state []
+        (record state {
+          asks = set_nth state.asks place (Over (how.Committed grant.ticket versions));
+          known = learn_versions versions state.known;
+        })
+    -- the news do not count
+    Drops : (wants : List Want) (grant : Grant) (place : ℕ) (news : List News)
+        → In (Told (told.Fenced node state.life grant.ticket)) pool
+        → (nth state.asks place ≡ Some (Finished wants grant news))
+        → Act pool node state [] (record state { asks = set_nth state.asks place (Over (how.Fenced grant.ticket)) })
+    -- an open ask is denied
+    Is_denied : (ask : Ask) (why : Why) (wants : List Want) (tenure : Bool)
+        → In (Told (told.Denied node state.life ask why)) pool
+        → (nth state.asks ask.0 ≡ Some (Open wants tenure))
+        → Act pool node state [] (record state { asks = set_nth state.asks ask.0 (Over (how.Denied why)) })
+    -- a grant is recalled, before its execution or in it
+    Is_recalled : (wants : List Want) (grant : Grant) (place : ℕ)
+        → In (Told (told.Recall node state.life grant.ticket)) pool
+        → (nth state.asks place ≡ Some (Holding wants grant false))
+        → Act pool node state [] (record state { asks = set_nth state.asks place (Holding wants grant true) })
+    Is_recalled_running : (wants : List Want) (grant : Grant) (place : ℕ)
+        → In (Told (told.Recall node state.life grant.ticket)) pool
+        → (nth state.asks place ≡ Some (Running wants grant false))
+        → Act pool node state [] (record state { asks = set_nth state.asks place (Running wants grant true) })
+    -- any bytes may come, and are kept under their own digest
+    Stores : (content : List ℕ)
+        → Act pool node state [] (record state { store = keep (sha content) content state.store })
+    -- what is stored may go, whatever it is for. Its versions stay known
+    Forgets : (digest : Digest) (content : List ℕ)
+        → (state.store digest ≡ Some content)
+        → Act pool node state [] (record state { store = without digest state.store })
+    -- any node may be asked for any content, and may be sent any
+    Asks_content : (other : NodeId) (digest : Digest)
+        → Act pool node state (Fetches (record { node = other; from = node; digest = digest }) ∷ []) state
+    Sends_blob : (other : NodeId) (content : List ℕ) → Act pool node state (Blob other content ∷ []) state
+    -- a restart ends the executions, and keeps the contents with the known versions
+    Restarts : Act pool node state
+        (hello node (record { 0 = state.life.0 + 1 }) ∷ [])
+        (has_life state (state.life.0 + 1))
+    -- the greatest life is over
+    Stops : Act pool node state [] (record state { spent = true })
 
--- any number of moves
-pub data Moves (sha : List ℕ → Digest) : World → World → Type 0 where
-  Still : (world : World) → Moves sha world world
-  Then : (world middle later : World) → Moves sha world middle → Move sha middle later → Moves sha world later
+  -- one move of the world. A change of the machine and what it says are moves of their own: so a change whose
+  -- messages were never sent is one too
+  pub data Move (world : World) : World → Type 0 where
+    -- a node does something
+    Node_moves : (node : NodeId) (sends : List Message) (state : Node)
+        → Act world.pool node (world.nodes node.0) sends state
+        → Move world (record world { nodes = put node.0 state world.nodes; pool = world.pool ++ sends })
+    -- the machine makes a step, or says something: not while it is down
+    Machine_moves : (machine : Machine)
+        → (world.down ≡ None)
+        → Step (sha []) world.pool world.machine machine
+        → Move world (record world { machine = machine })
+    Machine_says : (telling : FromCoord)
+        → (world.down ≡ None)
+        → Says (sha []) world.pool world.machine telling
+        → Move world (record world { pool = world.pool ++ Told telling ∷ [] })
+    -- a save fails: the record holds none of the event's steps, or all
+    Fails : (machine : Machine)
+        → (world.down ≡ None)
+        → Steps (sha []) world.pool world.machine machine
+        → Move world (record world { down = Some machine })
+    -- a restart reads the record
+    Recovers : (machine : Machine)
+        → (world.down ≡ Some machine)
+        → Move world (record world { machine = machine; down = None })
 
--- a node in its first life. Every node stores the empty content
-abbrev pub first_node : (List ℕ → Digest) → Node
-first_node sha = record {
-  life = record { 0 = 1 };
-  asks = [];
-  store = keep (sha []) [] (λ digest. None);
-  known = λ slot number. None;
-  spent = false;
-}
+  -- any number of moves
+  pub data Moves : World → World → Type 0 where
+    Still : (world : World) → Moves world world
+    Then : (world middle later : World) → Moves world middle → Move middle later → Moves world later
 
--- the world where nothing has happened
-abbrev pub start : (List ℕ → Digest) → World
-start sha = record {
-  machine = record {
-    made = [];
-    ending = λ ticket. None;
-    last = 0;
-    old_home = None;
-    gone = λ node. false;
-    lives = λ node. 0;
-    parked = [];
-  };
-  down = None;
-  pool = [];
-  nodes = λ node. first_node sha;
-}
+  -- a node in its first life. Every node stores the empty content
+  abbrev pub first_node : Node
+  first_node = record {
+    life = record { 0 = 1 };
+    asks = [];
+    store = keep (sha []) [] (λ digest. None);
+    known = λ slot number. None;
+    spent = false;
+  }
+
+  -- the world where nothing has happened
+  abbrev pub start : World
+  start = record {
+    machine = record {
+      made = [];
+      ending = λ ticket. None;
+      last = 0;
+      old_home = None;
+      gone = λ node. false;
+      lives = λ node. 0;
+      parked = [];
+    };
+    down = None;
+    pool = [];
+    nodes = λ node. first_node;
+  }
