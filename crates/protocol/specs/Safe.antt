@@ -37,78 +37,83 @@ abbrev pub Falling : List Made → Type 0
 Falling [] = ⊤
 Falling (given ∷ made) = ((older : Made) → In older made → ticket_of older < ticket_of given) × Falling made
 
--- what holds in every world that a run comes to
-pub record Safe (sha : List ℕ → Digest) (world : World) : Type 0 where
-  -- no two grants or prunes have one ticket: the newest stands first
-  pub tickets : Falling world.machine.made
-  -- tickets strictly rise along each line
-  pub rising : (slot : Slot) → Rising (line (sha []) world.machine slot)
-  -- what a Grant ever sent names is on its line, or is version 0, which is empty
-  pub granted : (grant : Grant) (granted_slot : GrantedSlot)
-      → In (Told (told.Granted grant)) world.pool
-      → In granted_slot grant.slots
-      → Names (sha []) (line (sha []) world.machine granted_slot.slot) granted_slot.base granted_slot.digest
-  -- what a confirmation ever sent names stands on its line under its ticket
-  pub confirmed : (node : NodeId) (life : Life) (ticket : Ticket) (versions : List Confirmed) (version : Confirmed)
-      → In (Told (told.Committed node life ticket versions)) world.pool
-      → In version versions
-      → Stands (sha []) world.machine ticket version
-  -- a commit follows the version that its grant began from
-  pub bases : (slot : Slot) (index : ℕ) (version : LineVersion) (grant : Grant)
-      → slice_get (line (sha []) world.machine slot) index ≡ Some version
-      → In (Granted grant) world.machine.made
-      → grant.ticket ≡ version.ticket
-      → (granted_slot : GrantedSlot)
-      × In granted_slot grant.slots
-      × (granted_slot.slot ≡ slot)
-      × (granted_slot.base ≡ index)
-  -- no withdrawn ticket stands on a line, or is confirmed
-  pub withdrawn : (ticket : Ticket) → IsWithdrawn world.machine ticket → OnALine (sha []) world.machine ticket → ⊥
-  pub unconfirmed : (node : NodeId) (life : Life) (ticket : Ticket) (versions : List Confirmed)
-      → IsWithdrawn world.machine ticket
-      → In (Told (told.Committed node life ticket versions)) world.pool
-      → ⊥
-  -- no ticket that was fenced stands on a line
-  pub fenced : (node : NodeId) (life : Life) (ticket : Ticket)
-      → In (Told (told.Fenced node life ticket)) world.pool
-      → OnALine (sha []) world.machine ticket
-      → ⊥
-  -- two different executions never share a PRIVATE or SHARED slot
-  pub alone : (node node' : NodeId) (grant grant' : Grant) (wants wants' : List Want) (slot : Slot)
-      → InUse world node grant wants
-      → InUse world node' grant' wants'
-      → Has grant slot
-      → Has grant' slot
-      → (is_alone slot ≡ true)
-      → (node ≡ node') × (grant ≡ grant')
-  -- of the executions that share a slot at most one has a live ticket
-  pub one_live : (node node' : NodeId) (grant grant' : Grant) (wants wants' : List Want) (slot : Slot)
-      → InUse world node grant wants
-      → InUse world node' grant' wants'
-      → Has grant slot
-      → Has grant' slot
-      → (world.machine.ending grant.ticket.0 ≡ None)
-      → (world.machine.ending grant'.ticket.0 ≡ None)
-      → (node ≡ node') × (grant ≡ grant')
-  -- an execution that wants a SHARED folder is on a node where the tenure of it is in use
-  pub at_home : (node : NodeId) (grant : Grant) (wants : List Want) (want : Want)
-      → InUse world node grant wants
-      → In want wants
-      → wants_shared want ≡ true
-      → (other : Grant) × (other_wants : List Want)
-      × InUse world node other other_wants
-      × (is_tenure other.kind ≡ true)
-      × Has other (only_slot want.folder)
+module _ (sha : List ℕ → Digest) where
+  -- the line of the slot in the world
+  abbrev line_in : World → Slot → List LineVersion
+  line_in world slot = line (sha []) world.machine slot
 
--- what holds of a world and a later one of the same run
-pub record SafeSince (sha : List ℕ → Digest) (world later : World) : Type 0 where
-  -- a line only grows
-  pub lines : (slot : Slot) → IsFrontOf (line (sha []) world.machine slot) (line (sha []) later.machine slot)
-  -- two nodes, one of them earlier, hold one content for a version, or the two contents are a collision
-  pub contents : (node node' : NodeId) (slot : Slot) (number : ℕ) (content content' : List ℕ)
-      → HoldsContent (world.nodes node.0) slot number content
-      → HoldsContent (later.nodes node'.0) slot number content'
-      → (content ≡ content') ⊎ ((content ≢ content') × (sha content ≡ sha content'))
+  -- what holds in every world that a run comes to
+  pub record Safe (world : World) : Type 0 where
+    -- no two grants or prunes have one ticket: the newest stands first
+    pub tickets : Falling world.machine.made
+    -- tickets strictly rise along each line
+    pub rising : (slot : Slot) → Rising (line_in world slot)
+    -- what a Grant ever sent names is on its line, or is version 0, which is empty
+    pub granted : (grant : Grant) (granted_slot : GrantedSlot)
+        → In (Told (told.Granted grant)) world.pool
+        → In granted_slot grant.slots
+        → Names (sha []) (line_in world granted_slot.slot) granted_slot.base granted_slot.digest
+    -- what a confirmation ever sent names stands on its line under its ticket
+    pub confirmed : (node : NodeId) (life : Life) (ticket : Ticket) (versions : List Confirmed) (version : Confirmed)
+        → In (Told (told.Committed node life ticket versions)) world.pool
+        → In version versions
+        → Stands (sha []) world.machine ticket version
+    -- a commit follows the version that its grant began from
+    pub bases : (slot : Slot) (index : ℕ) (version : LineVersion) (grant : Grant)
+        → slice_get (line_in world slot) index ≡ Some version
+        → In (Granted grant) world.machine.made
+        → grant.ticket ≡ version.ticket
+        → (granted_slot : GrantedSlot)
+        × In granted_slot grant.slots
+        × (granted_slot.slot ≡ slot)
+        × (granted_slot.base ≡ index)
+    -- no withdrawn ticket stands on a line, or is confirmed
+    pub withdrawn : (ticket : Ticket) → IsWithdrawn world.machine ticket → OnALine (sha []) world.machine ticket → ⊥
+    pub unconfirmed : (node : NodeId) (life : Life) (ticket : Ticket) (versions : List Confirmed)
+        → IsWithdrawn world.machine ticket
+        → In (Told (told.Committed node life ticket versions)) world.pool
+        → ⊥
+    -- no ticket that was fenced stands on a line
+    pub fenced : (node : NodeId) (life : Life) (ticket : Ticket)
+        → In (Told (told.Fenced node life ticket)) world.pool
+        → OnALine (sha []) world.machine ticket
+        → ⊥
+    -- two different executions never share a PRIVATE or SHARED slot
+    pub alone : (node node' : NodeId) (grant grant' : Grant) (wants wants' : List Want) (slot : Slot)
+        → InUse world node grant wants
+        → InUse world node' grant' wants'
+        → Has grant slot
+        → Has grant' slot
+        → (is_alone slot ≡ true)
+        → (node ≡ node') × (grant ≡ grant')
+    -- of the executions that share a slot at most one has a live ticket
+    pub one_live : (node node' : NodeId) (grant grant' : Grant) (wants wants' : List Want) (slot : Slot)
+        → InUse world node grant wants
+        → InUse world node' grant' wants'
+        → Has grant slot
+        → Has grant' slot
+        → (world.machine.ending grant.ticket.0 ≡ None)
+        → (world.machine.ending grant'.ticket.0 ≡ None)
+        → (node ≡ node') × (grant ≡ grant')
+    -- an execution that wants a SHARED folder is on a node where the tenure of it is in use
+    pub at_home : (node : NodeId) (grant : Grant) (wants : List Want) (want : Want)
+        → InUse world node grant wants
+        → In want wants
+        → wants_shared want ≡ true
+        → (other : Grant) × (other_wants : List Want)
+        × InUse world node other other_wants
+        × (is_tenure other.kind ≡ true)
+        × Has other (only_slot want.folder)
+
+  -- what holds of a world and a later one of the same run
+  pub record SafeSince (world later : World) : Type 0 where
+    -- a line only grows
+    pub lines : (slot : Slot) → IsFrontOf (line_in world slot) (line_in later slot)
+    -- two nodes, one of them earlier, hold one content for a version, or the two contents are a collision
+    pub contents : (node node' : NodeId) (slot : Slot) (number : ℕ) (content content' : List ℕ)
+        → HoldsContent (world.nodes node.0) slot number content
+        → HoldsContent (later.nodes node'.0) slot number content'
+        → (content ≡ content') ⊎ ((content ≢ content') × (sha content ≡ sha content'))
 
 abbrev pub EveryRunIsSafe : Type 0
 EveryRunIsSafe = (sha : List ℕ → Digest) (world : World) → Moves sha (start sha) world → Safe sha world
