@@ -173,11 +173,6 @@ is_stored state digest = is_some (state.store digest)
 abbrev pub all_stored : Node → List GrantedSlot → Bool
 all_stored state slots = list_all (λ granted_slot. is_stored state granted_slot.digest) slots
 
--- the base has to be fetched
-abbrev pub is_missing : Limits → Node → GrantedSlot → Bool
-is_missing limits state granted_slot =
-    not (digest_eq granted_slot.digest limits.empty) && not (is_stored state granted_slot.digest)
-
 -- the nodes of this many numbers, from `number` on
 abbrev pub nodes_from : ℕ → ℕ → List NodeId
 nodes_from number zero = []
@@ -190,11 +185,6 @@ others here = filter (λ node. not (node.0 == here.node.0)) (nodes_from 1 here.n
 -- a Fetch of the digest to each other node
 abbrev pub fetches_of : Place → Digest → List Message
 fetches_of here digest = map (λ node. Fetches (record { node = node; from = here.node; digest = digest })) (others here)
-
--- the Fetches of the missing bases, slots in order
-unfoldable pub fetches : Limits → Place → Node → List GrantedSlot → List Message
-fetches limits here state slots =
-    flat_map (λ granted_slot. fetches_of here granted_slot.digest) (filter (is_missing limits state) slots)
 
 -- the digest is the base of a granted ask
 abbrev pub is_base : Digest → KeptAsk → Bool
@@ -229,22 +219,6 @@ opens here wants tenure state = record {
   note = note.Asked (next_ask state);
 }
 
--- a node asks for a lease
-abbrev pub asked : Limits → Place → List Want → Node → NodeAnswer
-asked limits here wants state =
-    guard state.spent refusal.LivesSpent
-    (guard (not (at_home state.asks wants)) refusal.NotHomeHere
-    (guard (not (nat_lt (length state.asks) limits.greatest)) refusal.AsksSpent
-    (Ok (opens here wants false state))))
-
--- a node asks for the tenure of the SHARED folder of this name
-abbrev pub asked_tenure : Limits → Place → FolderName → Node → NodeAnswer
-asked_tenure limits here folder state =
-    guard state.spent refusal.LivesSpent
-    (guard (list_any (is_tenure_of (record folder { mode = Shared })) state.asks) refusal.TenureHere
-    (guard (not (nat_lt (length state.asks) limits.greatest)) refusal.AsksSpent
-    (Ok (opens here (tenure_wants folder) true state))))
-
 -- a granted ask begins, where its base contents are stored
 abbrev pub beginning : Ticket → Node → Option (ℕ × HeldGrant) → NodeAnswer
 beginning ticket state None = Err refusal.NoSuchTicket
@@ -260,18 +234,6 @@ beginning ticket state (Some (place, found)) =
 abbrev pub begun : Ticket → Node → NodeAnswer
 begun ticket state = guard state.spent refusal.LivesSpent (beginning ticket state (first (held ticket) state.asks 0))
 
--- the news of what an execution left
-abbrev pub news_of : (List ℕ → Digest) → List Left → List News
-news_of sha lefts = map (λ left. record { slot = left.slot; digest = sha left.content }) lefts
-
--- each content is stored. A digest that is stored already keeps its content
-abbrev pub stored : (List ℕ → Digest) → List Left → (Digest → Option (List ℕ)) → Digest → Option (List ℕ)
-stored sha [] store = store
-stored sha (left ∷ lefts) store =
-    if is_some (store (sha left.content))
-    then stored sha lefts store
-    else stored sha lefts (keep (sha left.content) left.content store)
-
 -- the ask is over, and its lease is given back
 abbrev pub gives_up : Place → ℕ → Ticket → NodeNote → Node → NodeWork
 gives_up here place ticket noted state = record {
@@ -279,34 +241,6 @@ gives_up here place ticket noted state = record {
   sends = release here.node state.life ticket ∷ [];
   note = noted;
 }
-
--- the ask has finished: what it left is stored, and its news are sent
-abbrev pub leaves : (List ℕ → Digest) → Place → ℕ → HeldGrant → List Left → Node → NodeWork
-leaves sha here place found lefts state = record {
-  node = record (becomes place (Finished found.wants found.grant (news_of sha lefts)) state) {
-    store = stored sha lefts state.store;
-  };
-  sends = commit here.node state.life found.grant.ticket (news_of sha lefts) ∷ [];
-  note = note.Finished found.grant.ticket;
-}
-
--- an execution that left nothing gives its lease back
-abbrev pub leaving : (List ℕ → Digest) → Place → ℕ → HeldGrant → List Left → Node → NodeWork
-leaving sha here place found [] state = gives_up here place found.grant.ticket (note.Finished found.grant.ticket) state
-leaving sha here place found (left ∷ lefts) state = leaves sha here place found (left ∷ lefts) state
-
--- a running ask finishes: no other ask uses its tenure's folder, and what it left is for exactly its writable slots
-abbrev pub finishing : (List ℕ → Digest) → Place → List Left → Node → Option (ℕ × HeldGrant) → NodeAnswer
-finishing sha here lefts state None = Err refusal.NotRunning
-finishing sha here lefts state (Some (place, found)) =
-    guard (in_use state.asks place found.wants found.grant) refusal.TenureInUse
-    (guard (not (slots_eq (slots_of (news_of sha lefts)) (written found.grant.slots))) refusal.WrongNews
-    (Ok (leaving sha here place found lefts state)))
-
--- a node finishes the execution of the ticket
-abbrev pub finished_with : (List ℕ → Digest) → Place → Ticket → List Left → Node → NodeAnswer
-finished_with sha here ticket lefts state =
-    guard state.spent refusal.LivesSpent (finishing sha here lefts state (first (running ticket) state.asks 0))
 
 -- a granted or running ask is given up, where no other ask uses its tenure's folder
 abbrev pub aborting : Place → Node → Option (ℕ × HeldGrant) → NodeAnswer
@@ -320,38 +254,6 @@ abbrev pub aborted : Place → Ticket → Node → NodeAnswer
 aborted here ticket state =
     guard state.spent refusal.LivesSpent (aborting here state (first (held_or_running ticket) state.asks 0))
 
--- the content of the digest is no longer stored. The empty content always is
-abbrev pub forgotten : Limits → Digest → Node → NodeAnswer
-forgotten limits digest state =
-    guard state.spent refusal.LivesSpent
-    (guard (digest_eq digest limits.empty || not (is_stored state digest)) refusal.NoSuchContent
-    (guard (list_any (needs digest) state.asks) refusal.Needed
-    (Ok (record { node = record state { store = without digest state.store }; sends = []; note = note.Forgot }))))
-
--- what an ask sends again
-abbrev pub again : Limits → Place → Node → Ask → KeptAsk → List Message
-again limits here state ask (Open wants tenure) = acquire here.node state.life ask wants tenure ∷ []
-again limits here state ask (Holding wants grant recalled) = fetches limits here state grant.slots
-again limits here state ask (Running wants grant recalled) = []
-again limits here state ask (Finished wants grant news) = commit here.node state.life grant.ticket news ∷ []
-again limits here state ask (Over ending) = []
-
--- what these asks send again, `before` asks being before them
-abbrev pub all_again : Limits → Place → Node → List KeptAsk → ℕ → List Message
-all_again limits here state [] before = []
-all_again limits here state (kept ∷ asks) before =
-    again limits here state (record { 0 = before + 1 }) kept ++ all_again limits here state asks (before + 1)
-
--- a node sends again what was not answered
-abbrev pub resent : Limits → Place → Node → NodeAnswer
-resent limits here state =
-    guard state.spent refusal.LivesSpent
-    (Ok (record {
-      node = state;
-      sends = hello here.node state.life ∷ all_again limits here state state.asks 0;
-      note = note.Resent;
-    }))
-
 -- a restart of a node whose life isn't the greatest
 abbrev pub restarted : Place → Node → NodeWork
 restarted here state = record {
@@ -360,9 +262,109 @@ restarted here state = record {
   note = note.Life (record { 0 = state.life.0 + 1 });
 }
 
--- a life is left for the node
-abbrev pub may_restart : Limits → Node → Bool
-may_restart limits state = not state.spent && nat_lt state.life.0 limits.greatest
+module _ (sha : List ℕ → Digest) where
+  -- the news of what an execution left
+  abbrev pub news_of : List Left → List News
+  news_of lefts = map (λ left. record { slot = left.slot; digest = sha left.content }) lefts
+
+  -- each content is stored. A digest that is stored already keeps its content
+  abbrev pub stored : List Left → (Digest → Option (List ℕ)) → Digest → Option (List ℕ)
+  stored [] store = store
+  stored (left ∷ lefts) store =
+      if is_some (store (sha left.content))
+      then stored lefts store
+      else stored lefts (keep (sha left.content) left.content store)
+
+  -- the ask has finished: what it left is stored, and its news are sent
+  abbrev pub leaves : Place → ℕ → HeldGrant → List Left → Node → NodeWork
+  leaves here place found lefts state = record {
+    node = record (becomes place (Finished found.wants found.grant (news_of lefts)) state) {
+      store = stored lefts state.store;
+    };
+    sends = commit here.node state.life found.grant.ticket (news_of lefts) ∷ [];
+    note = note.Finished found.grant.ticket;
+  }
+
+  -- an execution that left nothing gives its lease back
+  abbrev pub leaving : Place → ℕ → HeldGrant → List Left → Node → NodeWork
+  leaving here place found [] state = gives_up here place found.grant.ticket (note.Finished found.grant.ticket) state
+  leaving here place found (left ∷ lefts) state = leaves here place found (left ∷ lefts) state
+
+  -- a running ask finishes: no other ask uses its tenure's folder, and what it left is for exactly its writable slots
+  abbrev pub finishing : Place → List Left → Node → Option (ℕ × HeldGrant) → NodeAnswer
+  finishing here lefts state None = Err refusal.NotRunning
+  finishing here lefts state (Some (place, found)) =
+      guard (in_use state.asks place found.wants found.grant) refusal.TenureInUse
+      (guard (not (slots_eq (slots_of (news_of lefts)) (written found.grant.slots))) refusal.WrongNews
+      (Ok (leaving here place found lefts state)))
+
+  -- a node finishes the execution of the ticket
+  abbrev pub finished_with : Place → Ticket → List Left → Node → NodeAnswer
+  finished_with here ticket lefts state =
+      guard state.spent refusal.LivesSpent (finishing here lefts state (first (running ticket) state.asks 0))
+
+module _ (limits : Limits) where
+  -- the base has to be fetched
+  abbrev pub is_missing : Node → GrantedSlot → Bool
+  is_missing state granted_slot =
+      not (digest_eq granted_slot.digest limits.empty) && not (is_stored state granted_slot.digest)
+
+  -- the Fetches of the missing bases, slots in order
+  unfoldable pub fetches : Place → Node → List GrantedSlot → List Message
+  fetches here state slots =
+      flat_map (λ granted_slot. fetches_of here granted_slot.digest) (filter (is_missing state) slots)
+
+  -- a node asks for a lease
+  abbrev pub asked : Place → List Want → Node → NodeAnswer
+  asked here wants state =
+      guard state.spent refusal.LivesSpent
+      (guard (not (at_home state.asks wants)) refusal.NotHomeHere
+      (guard (not (nat_lt (length state.asks) limits.greatest)) refusal.AsksSpent
+      (Ok (opens here wants false state))))
+
+  -- a node asks for the tenure of the SHARED folder of this name
+  abbrev pub asked_tenure : Place → FolderName → Node → NodeAnswer
+  asked_tenure here folder state =
+      guard state.spent refusal.LivesSpent
+      (guard (list_any (is_tenure_of (record folder { mode = Shared })) state.asks) refusal.TenureHere
+      (guard (not (nat_lt (length state.asks) limits.greatest)) refusal.AsksSpent
+      (Ok (opens here (tenure_wants folder) true state))))
+
+  -- the content of the digest is no longer stored. The empty content always is
+  abbrev pub forgotten : Digest → Node → NodeAnswer
+  forgotten digest state =
+      guard state.spent refusal.LivesSpent
+      (guard (digest_eq digest limits.empty || not (is_stored state digest)) refusal.NoSuchContent
+      (guard (list_any (needs digest) state.asks) refusal.Needed
+      (Ok (record { node = record state { store = without digest state.store }; sends = []; note = note.Forgot }))))
+
+  -- what an ask sends again
+  abbrev pub again : Place → Node → Ask → KeptAsk → List Message
+  again here state ask (Open wants tenure) = acquire here.node state.life ask wants tenure ∷ []
+  again here state ask (Holding wants grant recalled) = fetches here state grant.slots
+  again here state ask (Running wants grant recalled) = []
+  again here state ask (Finished wants grant news) = commit here.node state.life grant.ticket news ∷ []
+  again here state ask (Over ending) = []
+
+  -- what these asks send again, `before` asks being before them
+  abbrev pub all_again : Place → Node → List KeptAsk → ℕ → List Message
+  all_again here state [] before = []
+  all_again here state (kept ∷ asks) before =
+      again here state (record { 0 = before + 1 }) kept ++ all_again here state asks (before + 1)
+
+  -- a node sends again what was not answered
+  abbrev pub resent : Place → Node → NodeAnswer
+  resent here state =
+      guard state.spent refusal.LivesSpent
+      (Ok (record {
+        node = state;
+        sends = hello here.node state.life ∷ all_again here state state.asks 0;
+        note = note.Resent;
+      }))
+
+  -- a life is left for the node
+  abbrev pub may_restart : Node → Bool
+  may_restart state = not state.spent && nat_lt state.life.0 limits.greatest
 
 -- messages
 
@@ -370,31 +372,11 @@ may_restart limits state = not state.spent && nat_lt state.life.0 limits.greates
 abbrev pub nothing : Node → NodeWork
 nothing state = record { node = state; sends = []; note = note.Nothing }
 
--- an open ask takes its Grant, and the missing bases are fetched
-abbrev pub takes : Limits → Place → Grant → List Want → Node → NodeWork
-takes limits here grant wants state = record {
-  node = record (becomes grant.ask.0 (Holding wants grant false) state) { known = learn_bases grant.slots state.known };
-  sends = fetches limits here state grant.slots;
-  note = note.Took grant;
-}
-
 -- a Grant that no ask waits for is given back, unless an ask has it already
 abbrev pub gives_back : Place → Grant → Bool → Node → NodeWork
 gives_back here grant true state = nothing state
 gives_back here grant false state =
     record { node = state; sends = release here.node state.life grant.ticket ∷ []; note = note.GaveBack grant.ticket }
-
--- a Grant comes: its ask is open and takes it, or it is given back
-abbrev pub granted : Limits → Place → Grant → Node → Option KeptAsk → NodeWork
-granted limits here grant state None = gives_back here grant false state
-granted limits here grant state (Some (Open wants tenure)) = takes limits here grant wants state
-granted limits here grant state (Some (Holding wants other recalled)) =
-    gives_back here grant (keeps (Holding wants other recalled) grant.ticket) state
-granted limits here grant state (Some (Running wants other recalled)) =
-    gives_back here grant (keeps (Running wants other recalled) grant.ticket) state
-granted limits here grant state (Some (Finished wants other news)) =
-    gives_back here grant (keeps (Finished wants other news) grant.ticket) state
-granted limits here grant state (Some (Over ending)) = gives_back here grant false state
 
 -- the news count
 abbrev pub learned : Ticket → List Confirmed → Node → Option (ℕ × Sent) → NodeWork
@@ -434,41 +416,65 @@ abbrev pub of_life : Life → Node → NodeWork → NodeWork
 of_life life state work =
     if life.0 == state.life.0 then work else record { node = state; sends = []; note = note.OldLife }
 
--- what the coordinator says is heard
-abbrev pub heard : Limits → Place → FromCoord → Node → NodeWork
-heard limits here (told.Granted grant) state =
-    of_life grant.life state (granted limits here grant state (nth state.asks grant.ask.0))
-heard limits here (told.Committed node life ticket versions) state =
-    of_life life state (learned ticket versions state (first (finished ticket) state.asks 0))
-heard limits here (told.Fenced node life ticket) state =
-    of_life life state (dropped ticket state (first (finished ticket) state.asks 0))
-heard limits here (told.Denied node life ask why) state =
-    of_life life state (denied ask why state (nth state.asks ask.0))
-heard limits here (told.Recall node life ticket) state =
-    of_life life state (recalled ticket state (first (recallable ticket) state.asks 0))
-
 -- a content that is asked for is sent, where it is stored
 abbrev pub fetched : NodeId → Node → Option (List ℕ) → NodeWork
 fetched from state None = nothing state
 fetched from state (Some content) = record { node = state; sends = Blob from content ∷ []; note = note.SentBlob }
 
--- a content that is wanted and isn't stored is stored
-abbrev pub brought : (List ℕ → Digest) → List ℕ → Node → NodeWork
-brought sha content state =
-    if not (is_stored state (sha content)) && list_any (is_base (sha content)) state.asks
-    then record {
-      node = record state { store = keep (sha content) content state.store };
-      sends = [];
-      note = note.BlobTaken;
-    }
-    else nothing state
-
--- the result of a message
-abbrev pub received : (List ℕ → Digest) → Limits → Place → ToNode → Node → NodeWork
-received sha limits here (to_node.FromCoord telling) state = heard limits here telling state
-received sha limits here (to_node.Fetch fetch) state = fetched fetch.from state (state.store fetch.digest)
-received sha limits here (to_node.Blob node content) state = brought sha content state
-
 -- a node that is down for good answers LivesSpent to all
 abbrev pub unless_spent : Node → NodeWork → NodeAnswer
 unless_spent state work = guard state.spent refusal.LivesSpent (Ok work)
+
+module _ (limits : Limits) where
+  -- an open ask takes its Grant, and the missing bases are fetched
+  abbrev pub takes : Place → Grant → List Want → Node → NodeWork
+  takes here grant wants state = record {
+    node = record (becomes grant.ask.0 (Holding wants grant false) state) {
+      known = learn_bases grant.slots state.known;
+    };
+    sends = fetches limits here state grant.slots;
+    note = note.Took grant;
+  }
+
+  -- a Grant comes: its ask is open and takes it, or it is given back
+  abbrev pub granted : Place → Grant → Node → Option KeptAsk → NodeWork
+  granted here grant state None = gives_back here grant false state
+  granted here grant state (Some (Open wants tenure)) = takes here grant wants state
+  granted here grant state (Some (Holding wants other recalled)) =
+      gives_back here grant (keeps (Holding wants other recalled) grant.ticket) state
+  granted here grant state (Some (Running wants other recalled)) =
+      gives_back here grant (keeps (Running wants other recalled) grant.ticket) state
+  granted here grant state (Some (Finished wants other news)) =
+      gives_back here grant (keeps (Finished wants other news) grant.ticket) state
+  granted here grant state (Some (Over ending)) = gives_back here grant false state
+
+  -- what the coordinator says is heard
+  abbrev pub heard : Place → FromCoord → Node → NodeWork
+  heard here (told.Granted grant) state =
+      of_life grant.life state (granted here grant state (nth state.asks grant.ask.0))
+  heard here (told.Committed node life ticket versions) state =
+      of_life life state (learned ticket versions state (first (finished ticket) state.asks 0))
+  heard here (told.Fenced node life ticket) state =
+      of_life life state (dropped ticket state (first (finished ticket) state.asks 0))
+  heard here (told.Denied node life ask why) state = of_life life state (denied ask why state (nth state.asks ask.0))
+  heard here (told.Recall node life ticket) state =
+      of_life life state (recalled ticket state (first (recallable ticket) state.asks 0))
+
+module _ (sha : List ℕ → Digest) where
+  -- a content that is wanted and isn't stored is stored
+  abbrev pub brought : List ℕ → Node → NodeWork
+  brought content state =
+      if not (is_stored state (sha content)) && list_any (is_base (sha content)) state.asks
+      then record {
+        node = record state { store = keep (sha content) content state.store };
+        sends = [];
+        note = note.BlobTaken;
+      }
+      else nothing state
+
+  module _ (limits : Limits) where
+    -- the result of a message
+    abbrev pub received : Place → ToNode → Node → NodeWork
+    received here (to_node.FromCoord telling) state = heard limits here telling state
+    received here (to_node.Fetch fetch) state = fetched fetch.from state (state.store fetch.digest)
+    received here (to_node.Blob node content) state = brought content state
