@@ -169,54 +169,52 @@ another (Some home) node = not (home.0 == node.0)
 abbrev pub elsewhere : Ledger → Parked → Bool
 elsewhere ledger parked = parked.tenure && another ledger.old_home parked.node
 
--- what is done with the ask now
-unfoldable pub decision : Limits → Ledger → Parked → Decision
-decision limits ledger parked =
-    pick
-    (elsewhere ledger parked)
-    (all_taken limits.instances (is_free ledger) (leased_wants parked.tenure parked.wants))
-    (busy (is_leased ledger) (leased_wants parked.tenure parked.wants))
-    (not (nat_lt ledger.last limits.greatest))
+module _ (limits : Limits) where
+  -- what is done with the ask now
+  unfoldable pub decision : Ledger → Parked → Decision
+  decision ledger parked =
+      pick
+      (elsewhere ledger parked)
+      (all_taken limits.instances (is_free ledger) (leased_wants parked.tenure parked.wants))
+      (busy (is_leased ledger) (leased_wants parked.tenure parked.wants))
+      (not (nat_lt ledger.last limits.greatest))
 
--- the lease that the ask gets, under the next ticket
-abbrev pub lease_for : Limits → Ledger → Parked → Lease
-lease_for limits ledger parked = record {
-  ticket = record { 0 = ledger.last + 1 };
-  node = parked.node;
-  life = parked.life;
-  ask = parked.ask;
-  shared = any_shared parked.wants;
-  tenure = parked.tenure;
-  slots = map (λ want. (slot_for limits.instances (is_free ledger) want, want.writable))
-      (leased_wants parked.tenure parked.wants);
-}
+  -- the lease that the ask gets, under the next ticket
+  abbrev pub lease_for : Ledger → Parked → Lease
+  lease_for ledger parked = record {
+    ticket = record { 0 = ledger.last + 1 };
+    node = parked.node;
+    life = parked.life;
+    ask = parked.ask;
+    shared = any_shared parked.wants;
+    tenure = parked.tenure;
+    slots = map (λ want. (slot_for limits.instances (is_free ledger) want, want.writable))
+        (leased_wants parked.tenure parked.wants);
+  }
 
--- the ceiling that the next ticket needs: tickets are saved in blocks of 64
-abbrev pub raised : Limits → Ledger → ℕ
-raised limits ledger =
-    if ledger.last == ledger.ceiling then min (ledger.ceiling + 64) limits.greatest else ledger.ceiling
+  -- the ceiling that the next ticket needs: tickets are saved in blocks of 64
+  abbrev pub raised : Ledger → ℕ
+  raised ledger = if ledger.last == ledger.ceiling then min (ledger.ceiling + 64) limits.greatest else ledger.ceiling
 
--- the lease is live, its ticket is the last, and its Grant is sent
-abbrev pub granting : Limits → Lease → Work → Work
-granting limits lease work = record work {
-  ledger = record work.ledger {
-    live = work.ledger.live ++ lease ∷ [];
-    last = work.ledger.last + 1;
-    ceiling = raised limits work.ledger;
-  };
-  sends = work.sends ++ told.Granted (grant_of limits.empty work.ledger.line lease) ∷ [];
-  changed = work.changed || (work.ledger.last == work.ledger.ceiling) || is_saved lease;
-}
+  -- the lease is live, its ticket is the last, and its Grant is sent
+  abbrev pub granting : Lease → Work → Work
+  granting lease work = record work {
+    ledger = record work.ledger {
+      live = work.ledger.live ++ lease ∷ [];
+      last = work.ledger.last + 1;
+      ceiling = raised work.ledger;
+    };
+    sends = work.sends ++ told.Granted (grant_of limits.empty work.ledger.line lease) ∷ [];
+    changed = work.changed || (work.ledger.last == work.ledger.ceiling) || is_saved lease;
+  }
 
--- the ask is granted
-unfoldable pub gives : Limits → Parked → Work → Work
-gives limits parked work = granting limits (lease_for limits work.ledger parked) work
+  -- the ask is granted
+  unfoldable pub gives : Parked → Work → Work
+  gives parked work = granting (lease_for work.ledger parked) work
 
 -- the node is told that its ask is denied
 abbrev pub denies : Why → Parked → Work → Work
 denies why parked work = says (told.Denied parked.node parked.life parked.ask why) work
-
--- trying the parked asks again
 
 -- the decision is carried out. An ask that waits changes nothing
 abbrev pub carried_out : Decision → Limits → Parked → Work → Work
@@ -230,36 +228,11 @@ waits Give = false
 waits (Deny why) = false
 waits Wait = true
 
--- a parked ask is tried
-unfoldable pub tried : Limits → Parked → Work → Work
-tried limits parked work = carried_out (decision limits work.ledger parked) limits parked work
-
--- a parked ask that is tried stays
-unfoldable pub stays : Limits → Parked → Work → Bool
-stays limits parked work = waits (decision limits work.ledger parked)
-
--- each of the asks in order of arrival
-abbrev pub try_all : Limits → List Parked → Work → Work
-try_all limits [] work = work
-try_all limits (parked ∷ queue) work = try_all limits queue (tried limits parked work)
-
--- those of them that stay
-abbrev pub waiting : Limits → List Parked → Work → List Parked
-waiting limits [] work = []
-waiting limits (parked ∷ queue) work =
-    if stays limits parked work
-    then parked ∷ waiting limits queue (tried limits parked work)
-    else waiting limits queue (tried limits parked work)
+-- Acquire
 
 -- these asks are parked
 abbrev pub parks : List Parked → Work → Work
 parks queue work = record work { ledger = record work.ledger { parked = queue } }
-
--- all parked asks are tried, and those that stay are parked
-unfoldable pub retried : Limits → Work → Work
-retried limits work = parks (waiting limits work.ledger.parked work) (try_all limits work.ledger.parked work)
-
--- Acquire
 
 -- the lease answers this ask of this life of this node
 abbrev pub is_of : NodeId → Life → Ask → Lease → Bool
@@ -299,14 +272,6 @@ decided Wait limits parked work =
     notes note.Parked
     (parks (work.ledger.parked ++ parked ∷ [])
     (recalls (parked.tenure && not (elsewhere work.ledger parked)) parked work))
-
--- an ask comes: its lease is live, or it is parked already, or it is new
-abbrev pub acquiring : Limits → Option Lease → Bool → Parked → Work → Work
-acquiring limits (Some lease) queued parked work =
-    notes (note.GrantedBefore (grant_of limits.empty work.ledger.line lease))
-    (says (told.Granted (grant_of limits.empty work.ledger.line lease)) work)
-acquiring limits None true parked work = notes note.Parked work
-acquiring limits None false parked work = decided (decision limits work.ledger parked) limits parked work
 
 -- Commit and Release
 
@@ -387,31 +352,6 @@ abbrev pub answered : Bool → NodeId → Life → Ticket → List News → Work
 answered true node life ticket news work = notes (note.CommittedBefore ticket) (confirms node life ticket news work)
 answered false node life ticket news work = notes (note.Fenced ticket) (says (told.Fenced node life ticket) work)
 
--- news come: the lease that they are for ends, where they may end it
-abbrev pub committing : Limits → Bool → NodeId → Life → Ticket → List News → Work → Work
-committing limits true node life ticket news work =
-    notes (note.Committed ticket) (retried limits (confirms node life ticket news (commits ticket news work)))
-committing limits false node life ticket news work =
-    answered (not (is_nil news) && on_all work.ledger.line ticket news) node life ticket news work
-
--- a lease is given back: it ends, where it may
-abbrev pub released : Limits → Bool → Ticket → Option Lease → Work → Work
-released limits allowed ticket None work = work
-released limits false ticket (Some lease) work = work
-released limits true ticket (Some lease) work = notes (note.Released ticket) (retried limits (ends lease work))
-
--- a message of the life that is now the greatest
-abbrev pub answering : Limits → NodeId → Life → Request → Work → Work
-answering limits node life Hello work = work
-answering limits node life (Acquire ask wants tenure) work =
-    acquiring limits (lease_of work.ledger.live node life ask) (is_parked work.ledger.parked node life ask)
-    (record { node = node; life = life; ask = ask; wants = wants; tenure = tenure }) work
-answering limits node life (Commit ticket news) work =
-    committing limits (may_commit node life news (lease_under work.ledger.live ticket)) node life ticket news work
-answering limits node life (Release ticket) work =
-    released limits (may_release node life (lease_under work.ledger.live ticket)) ticket
-    (lease_under work.ledger.live ticket) work
-
 -- a newer life
 
 -- the lease is of an older life of the node
@@ -439,22 +379,6 @@ abbrev pub is_home : NodeId → Option NodeId → Bool
 is_home node None = false
 is_home node (Some home) = home.0 == node.0
 
--- where a lease ended or the old home was cleared the parked asks are tried
-unfoldable pub newer_life : Limits → NodeId → Life → Work → Work
-newer_life limits node life work =
-    if list_any (is_older node life) work.ledger.live || is_home node work.ledger.old_home
-    then retried limits (sees node life work)
-    else sees node life work
-
--- a message of this life of this node: is the node retired, then its life, then what it says
-unfoldable pub handled : Limits → ToCoord → Work → Work
-handled limits saying work =
-    if work.ledger.gone saying.node.0 then notes note.NodeRetired work
-    else (if nat_lt saying.life.0 (work.ledger.lives saying.node.0) then notes note.OldLife work
-    else (if nat_lt (work.ledger.lives saying.node.0) saying.life.0
-    then answering limits saying.node saying.life saying.request (newer_life limits saying.node saying.life work)
-    else answering limits saying.node saying.life saying.request work))
-
 -- the coordinator's own calls
 
 -- the PRIVATE slots of a withdrawn lease are retired
@@ -470,17 +394,6 @@ withdraws lease work = record work {
   };
   changed = work.changed || is_saved lease;
 }
-
--- a lease is withdrawn, unless it is a tenure
-abbrev pub withdrawing : Limits → Option Lease → Work → Result Work CoordRefusal
-withdrawing limits None work = Err refusal.NotLive
-withdrawing limits (Some lease) work =
-    if lease.tenure then Err refusal.Tenure
-    else Ok (notes (note.Withdrawn lease.ticket) (retried limits (withdraws lease work)))
-
--- the lease of the ticket is withdrawn
-abbrev pub withdrawn : Limits → Ticket → Work → Result Work CoordRefusal
-withdrawn limits ticket work = withdrawing limits (lease_under work.ledger.live ticket) work
 
 abbrev pub is_at : NodeId → Lease → Bool
 is_at node lease = lease.node.0 == node.0
@@ -501,58 +414,158 @@ goes node work = record work {
   changed = true;
 }
 
--- a node is retired, unless it holds a tenure or is the old home
-abbrev pub retired : Limits → NodeId → Work → Result Work CoordRefusal
-retired limits node work =
-    if work.ledger.gone node.0 then Err refusal.NodeRetired
-    else (if list_any (λ lease. is_at node lease && lease.tenure) work.ledger.live || is_home node work.ledger.old_home
-    then Err refusal.TenureHeld
-    else Ok (notes (note.Retired node)
-    (if list_any (is_at node) work.ledger.live then retried limits (goes node work) else goes node work)))
-
--- the empty content, under a new ticket
-abbrev pub prunes : Limits → Slot → Work → Work
-prunes limits slot work = record work {
-  ledger = record work.ledger {
-    line = λ other.
-        if slot_eq slot other
-        then work.ledger.line other ++ record { ticket = record { 0 = work.ledger.last + 1 }; digest = limits.empty } ∷ []
-        else work.ledger.line other;
-    last = work.ledger.last + 1;
-    ceiling = raised limits work.ledger;
-  };
-  changed = true;
-}
-
--- a slot that is not leased and has a version is pruned
-abbrev pub pruned : Limits → Slot → Work → Result Work CoordRefusal
-pruned limits slot work =
-    if is_leased work.ledger slot then Err refusal.SlotLeased
-    else (if is_nil (work.ledger.line slot) then Err refusal.NoSuchSlot
-    else (if nat_lt work.ledger.last limits.greatest
-    then Ok (notes (note.Pruned (record { 0 = work.ledger.last + 1 })) (prunes limits slot work))
-    else Err refusal.TicketsSpent))
-
 -- a parked ask is for the tenure that the lease is
 abbrev pub is_awaited : List Parked → Lease → Bool
 is_awaited queue lease = lease.tenure && list_any (λ parked. parked.tenure && holds_wanted parked lease) queue
 
--- the Grant of the lease is sent again, and a Recall where its tenure is awaited
-abbrev pub nudges : Limits → Lease → Work → Work
-nudges limits lease work =
-    if is_awaited work.ledger.parked lease
-    then says (told.Recall lease.node lease.life lease.ticket)
-    (says (told.Granted (grant_of limits.empty work.ledger.line lease)) work)
-    else says (told.Granted (grant_of limits.empty work.ledger.line lease)) work
+-- what the coordinator does
 
--- the Grant of each lease again, the oldest first
-abbrev pub nudge_all : Limits → List Lease → Work → Work
-nudge_all limits [] work = work
-nudge_all limits (lease ∷ leases) work = nudge_all limits leases (nudges limits lease work)
+module _ (limits : Limits) where
+  -- the Grant of the lease, as the lines stand
+  abbrev its_grant : Work → Lease → Grant
+  its_grant work lease = grant_of limits.empty work.ledger.line lease
 
--- all leases are told again
-abbrev pub nudged : Limits → Work → Work
-nudged limits work = notes note.Nudged (nudge_all limits work.ledger.live work)
+  -- trying the parked asks again
+
+  -- a parked ask is tried
+  unfoldable pub tried : Parked → Work → Work
+  tried parked work = carried_out (decision limits work.ledger parked) limits parked work
+
+  -- a parked ask that is tried stays
+  unfoldable pub stays : Parked → Work → Bool
+  stays parked work = waits (decision limits work.ledger parked)
+
+  -- each of the asks in order of arrival
+  abbrev pub try_all : List Parked → Work → Work
+  try_all [] work = work
+  try_all (parked ∷ queue) work = try_all queue (tried parked work)
+
+  -- those of them that stay
+  abbrev pub waiting : List Parked → Work → List Parked
+  waiting [] work = []
+  waiting (parked ∷ queue) work =
+      if stays parked work
+      then parked ∷ waiting queue (tried parked work)
+      else waiting queue (tried parked work)
+
+  -- all parked asks are tried, and those that stay are parked
+  unfoldable pub retried : Work → Work
+  retried work = parks (waiting work.ledger.parked work) (try_all work.ledger.parked work)
+
+  -- at a message
+
+  -- an ask comes: its lease is live, or it is parked already, or it is new
+  abbrev pub acquiring : Option Lease → Bool → Parked → Work → Work
+  acquiring (Some lease) queued parked work =
+      notes (note.GrantedBefore (its_grant work lease)) (says (told.Granted (its_grant work lease)) work)
+  acquiring None true parked work = notes note.Parked work
+  acquiring None false parked work = decided (decision limits work.ledger parked) limits parked work
+
+  -- news come: the lease that they are for ends, where they may end it
+  abbrev pub committing : Bool → NodeId → Life → Ticket → List News → Work → Work
+  committing true node life ticket news work =
+      notes (note.Committed ticket) (retried (confirms node life ticket news (commits ticket news work)))
+  committing false node life ticket news work =
+      answered (not (is_nil news) && on_all work.ledger.line ticket news) node life ticket news work
+
+  -- a lease is given back: it ends, where it may
+  abbrev pub released : Bool → Ticket → Option Lease → Work → Work
+  released allowed ticket None work = work
+  released false ticket (Some lease) work = work
+  released true ticket (Some lease) work = notes (note.Released ticket) (retried (ends lease work))
+
+  -- a message of the life that is now the greatest
+  abbrev pub answering : NodeId → Life → Request → Work → Work
+  answering node life Hello work = work
+  answering node life (Acquire ask wants tenure) work =
+      acquiring (lease_of work.ledger.live node life ask) (is_parked work.ledger.parked node life ask)
+      (record { node = node; life = life; ask = ask; wants = wants; tenure = tenure }) work
+  answering node life (Commit ticket news) work =
+      committing (may_commit node life news (lease_under work.ledger.live ticket)) node life ticket news work
+  answering node life (Release ticket) work =
+      released (may_release node life (lease_under work.ledger.live ticket)) ticket
+      (lease_under work.ledger.live ticket) work
+
+  -- where a lease ended or the old home was cleared the parked asks are tried
+  unfoldable pub newer_life : NodeId → Life → Work → Work
+  newer_life node life work =
+      if list_any (is_older node life) work.ledger.live || is_home node work.ledger.old_home
+      then retried (sees node life work)
+      else sees node life work
+
+  -- a message of this life of this node: is the node retired, then its life, then what it says
+  unfoldable pub handled : ToCoord → Work → Work
+  handled saying work =
+      if work.ledger.gone saying.node.0 then notes note.NodeRetired work
+      else (if nat_lt saying.life.0 (work.ledger.lives saying.node.0) then notes note.OldLife work
+      else (if nat_lt (work.ledger.lives saying.node.0) saying.life.0
+      then answering saying.node saying.life saying.request (newer_life saying.node saying.life work)
+      else answering saying.node saying.life saying.request work))
+
+  -- at a call of its own
+
+  -- a lease is withdrawn, unless it is a tenure
+  abbrev pub withdrawing : Option Lease → Work → Result Work CoordRefusal
+  withdrawing None work = Err refusal.NotLive
+  withdrawing (Some lease) work =
+      if lease.tenure then Err refusal.Tenure
+      else Ok (notes (note.Withdrawn lease.ticket) (retried (withdraws lease work)))
+
+  -- the lease of the ticket is withdrawn
+  abbrev pub withdrawn : Ticket → Work → Result Work CoordRefusal
+  withdrawn ticket work = withdrawing (lease_under work.ledger.live ticket) work
+
+  -- a node is retired, unless it holds a tenure or is the old home
+  abbrev pub retired : NodeId → Work → Result Work CoordRefusal
+  retired node work =
+      if work.ledger.gone node.0 then Err refusal.NodeRetired
+      else (if list_any (λ lease. is_at node lease && lease.tenure) work.ledger.live
+      || is_home node work.ledger.old_home
+      then Err refusal.TenureHeld
+      else Ok (notes (note.Retired node)
+      (if list_any (is_at node) work.ledger.live then retried (goes node work) else goes node work)))
+
+  -- the empty content, under a new ticket
+  abbrev pub prunes : Slot → Work → Work
+  prunes slot work = record work {
+    ledger = record work.ledger {
+      line = λ other.
+          if slot_eq slot other
+          then work.ledger.line other
+          ++ record { ticket = record { 0 = work.ledger.last + 1 }; digest = limits.empty } ∷ []
+          else work.ledger.line other;
+      last = work.ledger.last + 1;
+      ceiling = raised limits work.ledger;
+    };
+    changed = true;
+  }
+
+  -- a slot that is not leased and has a version is pruned
+  abbrev pub pruned : Slot → Work → Result Work CoordRefusal
+  pruned slot work =
+      if is_leased work.ledger slot then Err refusal.SlotLeased
+      else (if is_nil (work.ledger.line slot) then Err refusal.NoSuchSlot
+      else (if nat_lt work.ledger.last limits.greatest
+      then Ok (notes (note.Pruned (record { 0 = work.ledger.last + 1 })) (prunes slot work))
+      else Err refusal.TicketsSpent))
+
+  -- the Grant of the lease is sent again, and a Recall where its tenure is awaited
+  abbrev pub nudges : Lease → Work → Work
+  nudges lease work =
+      if is_awaited work.ledger.parked lease
+      then says (told.Recall lease.node lease.life lease.ticket) (says (told.Granted (its_grant work lease)) work)
+      else says (told.Granted (its_grant work lease)) work
+
+  -- the Grant of each lease again, the oldest first
+  abbrev pub nudge_all : List Lease → Work → Work
+  nudge_all [] work = work
+  nudge_all (lease ∷ leases) work = nudge_all leases (nudges lease work)
+
+  -- all leases are told again
+  abbrev pub nudged : Work → Work
+  nudged work = notes note.Nudged (nudge_all work.ledger.live work)
+
+-- the record
 
 -- what the record has of a ledger: the leases that are saved, and of the tickets the ceiling
 abbrev pub reread : Ledger → Ledger
