@@ -137,43 +137,45 @@ restarts limits who farm =
 
 -- deliveries
 
--- the message arrives, at the coordinator or at its node
-abbrev pub delivered : (List ℕ → Digest) → Limits → Option Message → Farm → Turn
-delivered sha limits None farm = refused refusal.NoSuchMessage farm
-delivered sha limits (Some (to.ToCoord saying)) farm =
-    coordinated farm.down (Ok (handled limits saying (begin_work farm.ledger))) farm
-delivered sha limits (Some (to.ToNode mail)) farm =
-    node_does (receiver mail) (λ here state. unless_spent state (received sha limits here mail state)) farm
+module _ (sha : List ℕ → Digest) (limits : Limits) where
+  -- the message arrives, at the coordinator or at its node
+  abbrev pub delivered : Option Message → Farm → Turn
+  delivered None farm = refused refusal.NoSuchMessage farm
+  delivered (Some (to.ToCoord saying)) farm =
+      coordinated farm.down (Ok (handled limits saying (begin_work farm.ledger))) farm
+  delivered (Some (to.ToNode mail)) farm =
+      node_does (receiver mail) (λ here state. unless_spent state (received sha limits here mail state)) farm
 
--- what each event does. A restart of the coordinator reads the record and nothing else
-unfoldable pub step : (List ℕ → Digest) → Limits → Farm → Event → Turn
-step sha limits farm (Ask who wants) = node_does who (λ here state. asked limits here wants state) farm
-step sha limits farm (Tenure who folder) = node_does who (λ here state. asked_tenure limits here folder state) farm
-step sha limits farm (Deliver number) = delivered sha limits (nth farm.pool number) farm
-step sha limits farm (Begin who ticket) = node_does who (λ here state. begun ticket state) farm
-step sha limits farm (Finish who ticket lefts) =
-    node_does who (λ here state. finished_with sha here ticket lefts state) farm
-step sha limits farm (Abort who ticket) = node_does who (λ here state. aborted here ticket state) farm
-step sha limits farm (Resend who) = node_does who (λ here state. resent limits here state) farm
-step sha limits farm Nudge = coordinated farm.down (Ok (nudged limits (begin_work farm.ledger))) farm
-step sha limits farm (Withdraw ticket) = coordinated farm.down (withdrawn limits ticket (begin_work farm.ledger)) farm
-step sha limits farm (Prune slot) = coordinated farm.down (pruned limits slot (begin_work farm.ledger)) farm
-step sha limits farm (Retire who) =
-    if is_node farm who
-    then coordinated farm.down (retired limits who (begin_work farm.ledger)) farm
-    else refused refusal.NoSuchNode farm
-step sha limits farm (RestartNode who) =
-    if is_node farm who
-    then restarts limits who farm
-    else refused refusal.NoSuchNode farm
-step sha limits farm RestartCoordinator =
-    done note.Restarted [] farm (record farm { ledger = reads farm.saved; down = false })
-step sha limits farm (Forge who content) =
-    node_does who (λ here state. unless_spent state (brought sha content state)) farm
-step sha limits farm (Forget who digest) = node_does who (λ here state. forgotten limits digest state) farm
-step sha limits farm (FailSave kept) = done note.Armed [] farm (record farm { armed = Some kept })
+  -- what each event does. A restart of the coordinator reads the record and nothing else
+  unfoldable pub step : Farm → Event → Turn
+  step farm (Ask who wants) = node_does who (λ here state. asked limits here wants state) farm
+  step farm (Tenure who folder) = node_does who (λ here state. asked_tenure limits here folder state) farm
+  step farm (Deliver number) = delivered (nth farm.pool number) farm
+  step farm (Begin who ticket) = node_does who (λ here state. begun ticket state) farm
+  step farm (Finish who ticket lefts) = node_does who (λ here state. finished_with sha here ticket lefts state) farm
+  step farm (Abort who ticket) = node_does who (λ here state. aborted here ticket state) farm
+  step farm (Resend who) = node_does who (λ here state. resent limits here state) farm
+  step farm Nudge = coordinated farm.down (Ok (nudged limits (begin_work farm.ledger))) farm
+  step farm (Withdraw ticket) = coordinated farm.down (withdrawn limits ticket (begin_work farm.ledger)) farm
+  step farm (Prune slot) = coordinated farm.down (pruned limits slot (begin_work farm.ledger)) farm
+  step farm (Retire who) =
+      if is_node farm who
+      then coordinated farm.down (retired limits who (begin_work farm.ledger)) farm
+      else refused refusal.NoSuchNode farm
+  step farm (RestartNode who) =
+      if is_node farm who
+      then restarts limits who farm
+      else refused refusal.NoSuchNode farm
+  step farm RestartCoordinator = done note.Restarted [] farm (record farm { ledger = reads farm.saved; down = false })
+  step farm (Forge who content) = node_does who (λ here state. unless_spent state (brought sha content state)) farm
+  step farm (Forget who digest) = node_does who (λ here state. forgotten limits digest state) farm
+  step farm (FailSave kept) = done note.Armed [] farm (record farm { armed = Some kept })
 
--- the farm after a whole schedule
-abbrev pub run : (List ℕ → Digest) → Limits → List Event → Farm → Farm
-run sha limits [] farm = farm
-run sha limits (event ∷ events) farm = run sha limits events (step sha limits farm event).farm
+  -- the farm after a whole schedule
+  abbrev pub run : List Event → Farm → Farm
+  run [] farm = farm
+  run (event ∷ events) farm = run events (step farm event).farm
+
+  -- the farm of this size that a schedule leads to
+  abbrev pub scheduled : ℕ → List Event → Farm
+  scheduled size events = run events (opening sha size)
