@@ -332,25 +332,6 @@ lefts_at event = []
 abbrev pub IsAsk : Node → ℕ → KeptAsk → Type 0
 IsAsk state number kept = nth state.asks number ≡ Some kept
 
--- nothing that was stored goes, and the contents are stored under their digests
-pub record Stored (sha : List ℕ → Digest) (contents : List (List ℕ))
-    (store after : Digest → Option (List ℕ)) : Type 0 where
-  pub kept : (digest : Digest) (content : List ℕ) → store digest ≡ Some content → after digest ≡ Some content
-  pub named : (digest : Digest) (content : List ℕ) → after digest ≡ Some content
-      → (store digest ≡ Some content) ⊎ (In content contents × (sha content ≡ digest))
-  pub all : (content : List ℕ) → In content contents → (stored : List ℕ) × (after (sha content) ≡ Some stored)
-
--- the node finished with nothing to write, or sent its news
-abbrev pub Leaves : (List ℕ → Digest) → List Left → NodeId → Node → Grant → List Want → ℕ → List Message → Node → Type 0
-Leaves sha [] node state grant wants number sends after =
-    (sends ≡ release node state.life grant.ticket ∷ [])
-    × (after ≡ record state { asks = set_nth state.asks number (Over (how.Released grant.ticket)) })
-Leaves sha (left ∷ lefts) node state grant wants number sends after =
-    let news : List News = news_of sha (left ∷ lefts) in
-    (sends ≡ commit node state.life grant.ticket news ∷ []) × (slots_of news ≡ written grant.slots)
-    × Stored sha (map (λ (item : Left). item.content) (left ∷ lefts)) state.store after.store
-    × (after ≡ record state { asks = set_nth state.asks number (Finished wants grant news); store = after.store })
-
 -- the life that a message of the coordinator is for
 abbrev pub life_of : FromCoord → Life
 life_of (told.Granted grant) = grant.life
@@ -394,149 +375,168 @@ pub data Needs (digest : Digest) : KeptAsk → Type 0 where
 abbrev pub IsNeeded : Node → Digest → Type 0
 IsNeeded state digest = (number : ℕ) × (kept : KeptAsk) × IsAsk state number kept × Needs digest kept
 
--- the node has nothing to do at the message
-abbrev pub IsStale : (List ℕ → Digest) → Node → Message → Type 0
-IsStale sha state (to.ToCoord saying) = ⊥
-IsStale sha state (to.ToNode (to_node.FromCoord telling)) = (life_of telling ≡ state.life)
-    × IsAnsweredBefore state telling
--- of a content that isn't stored here
-IsStale sha state (to.ToNode (to_node.Fetch fetch)) = state.store fetch.digest ≡ None
--- stored already, or the base of no grant
-IsStale sha state (to.ToNode (to_node.Blob node content)) =
-    (state.store (sha content) ≢ None) ⊎ (IsBase state (sha content) → ⊥)
-
 -- what arrives at a node: a message, or a content that nobody sent
 abbrev pub Arrives : Option Message → Event → NodeId → Message → Type 0
 Arrives heard event node message =
     (heard ≡ Some message) ⊎ ((content : List ℕ) × (event ≡ Forge node content) × (message ≡ Blob node content))
 
--- each other node is asked for each base that isn't stored here, but the empty content
-abbrev pub AsksAround : Limits → ℕ → NodeId → Node → List GrantedSlot → List Message → Type 0
-AsksAround limits size node state slots sends = (granted : GrantedSlot) (other : NodeId) → In granted slots
-    → granted.digest ≢ limits.empty → state.store granted.digest ≡ None → 1 ≤ other.0 → other.0 ≤ size
-    → other.0 ≢ node.0
-    → In (Fetches (record { node = other; from = node; digest = granted.digest })) sends
+module _ (sha : List ℕ → Digest) where
+  -- nothing that was stored goes, and the contents are stored under their digests
+  pub record Stored (contents : List (List ℕ)) (store after : Digest → Option (List ℕ)) : Type 0 where
+    pub kept : (digest : Digest) (content : List ℕ) → store digest ≡ Some content → after digest ≡ Some content
+    pub named : (digest : Digest) (content : List ℕ) → after digest ≡ Some content
+        → (store digest ≡ Some content) ⊎ (In content contents × (sha content ≡ digest))
+    pub all : (content : List ℕ) → In content contents → (stored : List ℕ) × (after (sha content) ≡ Some stored)
 
--- such a Fetch
-abbrev pub IsFetchFor : Limits → ℕ → NodeId → Node → List GrantedSlot → Message → Type 0
-IsFetchFor limits size node state slots message = (granted : GrantedSlot) × (other : NodeId) × In granted slots
-    × (granted.digest ≢ limits.empty) × (state.store granted.digest ≡ None)
-    × (1 ≤ other.0) × (other.0 ≤ size) × (other.0 ≢ node.0)
-    × (message ≡ Fetches (record { node = other; from = node; digest = granted.digest }))
+  -- the node finished with nothing to write, or sent its news
+  abbrev pub Leaves : List Left → NodeId → Node → Grant → List Want → ℕ → List Message → Node → Type 0
+  Leaves [] node state grant wants number sends after =
+      (sends ≡ release node state.life grant.ticket ∷ [])
+      × (after ≡ record state { asks = set_nth state.asks number (Over (how.Released grant.ticket)) })
+  Leaves (left ∷ lefts) node state grant wants number sends after =
+      let news : List News = news_of sha (left ∷ lefts) in
+      (sends ≡ commit node state.life grant.ticket news ∷ []) × (slots_of news ≡ written grant.slots)
+      × Stored (map (λ (item : Left). item.content) (left ∷ lefts)) state.store after.store
+      × (after ≡ record state { asks = set_nth state.asks number (Finished wants grant news); store = after.store })
 
--- what a node sends again
-pub data Repeats (limits : Limits) (size : ℕ) (node : NodeId) (state : Node) : Message → Type 0 where
-  Hello_again : Repeats limits size node state (hello node state.life)
-  Acquire_again : (ask : Ask) (wants : List Want) (tenure : Bool) → IsAsk state ask.0 (Open wants tenure)
-      → Repeats limits size node state (acquire node state.life ask wants tenure)
-  Commit_again : (number : ℕ) (wants : List Want) (grant : Grant) (news : List News)
+  -- the node has nothing to do at the message
+  abbrev pub IsStale : Node → Message → Type 0
+  IsStale state (to.ToCoord saying) = ⊥
+  IsStale state (to.ToNode (to_node.FromCoord telling)) = (life_of telling ≡ state.life)
+      × IsAnsweredBefore state telling
+  -- of a content that isn't stored here
+  IsStale state (to.ToNode (to_node.Fetch fetch)) = state.store fetch.digest ≡ None
+  -- stored already, or the base of no grant
+  IsStale state (to.ToNode (to_node.Blob node content)) =
+      (state.store (sha content) ≢ None) ⊎ (IsBase state (sha content) → ⊥)
+
+module _ (limits : Limits) where
+  -- each other node is asked for each base that isn't stored here, but the empty content
+  abbrev pub AsksAround : ℕ → NodeId → Node → List GrantedSlot → List Message → Type 0
+  AsksAround size node state slots sends = (granted : GrantedSlot) (other : NodeId) → In granted slots
+      → granted.digest ≢ limits.empty → state.store granted.digest ≡ None → 1 ≤ other.0 → other.0 ≤ size
+      → other.0 ≢ node.0
+      → In (Fetches (record { node = other; from = node; digest = granted.digest })) sends
+
+  -- such a Fetch
+  abbrev pub IsFetchFor : ℕ → NodeId → Node → List GrantedSlot → Message → Type 0
+  IsFetchFor size node state slots message = (granted : GrantedSlot) × (other : NodeId) × In granted slots
+      × (granted.digest ≢ limits.empty) × (state.store granted.digest ≡ None)
+      × (1 ≤ other.0) × (other.0 ≤ size) × (other.0 ≢ node.0)
+      × (message ≡ Fetches (record { node = other; from = node; digest = granted.digest }))
+
+  -- what a node sends again
+  pub data Repeats (size : ℕ) (node : NodeId) (state : Node) : Message → Type 0 where
+    Hello_again : Repeats size node state (hello node state.life)
+    Acquire_again : (ask : Ask) (wants : List Want) (tenure : Bool) → IsAsk state ask.0 (Open wants tenure)
+        → Repeats size node state (acquire node state.life ask wants tenure)
+    Commit_again : (number : ℕ) (wants : List Want) (grant : Grant) (news : List News)
+        → IsAsk state number (Finished wants grant news)
+        → Repeats size node state (commit node state.life grant.ticket news)
+    Fetch_again : (number : ℕ) (wants : List Want) (grant : Grant) (recalled : Bool) (message : Message)
+        → IsAsk state number (Holding wants grant recalled) → IsFetchFor size node state grant.slots message
+        → Repeats size node state message
+
+module _ (sha : List ℕ → Digest) (limits : Limits) where
+  -- what the answer of a node says, of its state before and the one after
+  abbrev pub NodeMeans : ℕ → Option Message → Event → NodeId → Node → NodeNote → List Message → Node → Type 0
+  NodeMeans size heard event node state (node_note.Asked ask) sends after =
+      (wants : List Want) × (tenure : Bool) × AsksFor event wants tenure × (ask.0 ≡ length state.asks + 1)
+      × (sends ≡ acquire node state.life ask wants tenure ∷ [])
+      × (after ≡ record state { asks = state.asks ++ Open wants tenure ∷ [] })
+  NodeMeans size heard event node state (node_note.Begun ticket) sends after = (event ≡ Begin node ticket)
+      × ((number : ℕ) × (wants : List Want) × (grant : Grant) × (recalled : Bool)
+      × IsAsk state number (Holding wants grant recalled) × (grant.ticket ≡ ticket)
+      × ((granted : GrantedSlot) → In granted grant.slots → (content : List ℕ)
+      × (state.store granted.digest ≡ Some content))
+      × (sends ≡ []) × (after ≡ record state { asks = set_nth state.asks number (Running wants grant recalled) }))
+  NodeMeans size heard event node state (node_note.Finished ticket) sends after =
+      (event ≡ Finish node ticket (lefts_at event))
+      × ((number : ℕ) × (wants : List Want) × (grant : Grant) × (recalled : Bool)
+      × IsAsk state number (Running wants grant recalled) × (grant.ticket ≡ ticket)
+      × Leaves sha (lefts_at event) node state grant wants number sends after)
+  NodeMeans size heard event node state (node_note.Aborted ticket) sends after = (event ≡ Abort node ticket)
+      × ((number : ℕ) × (wants : List Want) × (grant : Grant) × (recalled : Bool)
+      × (IsAsk state number (Holding wants grant recalled) ⊎ IsAsk state number (Running wants grant recalled))
+      × (grant.ticket ≡ ticket)
+      × (sends ≡ release node state.life ticket ∷ [])
+      × (after ≡ record state { asks = set_nth state.asks number (Over (how.Released ticket)) }))
+  NodeMeans size heard event node state node_note.Resent sends after = (event ≡ Resend node)
+      × In (hello node state.life) sends
+      × ((number : ℕ) (wants : List Want) (tenure : Bool) → IsAsk state number (Open wants tenure)
+      → In (acquire node state.life (record { 0 = number }) wants tenure) sends)
+      × ((number : ℕ) (wants : List Want) (grant : Grant) (news : List News)
       → IsAsk state number (Finished wants grant news)
-      → Repeats limits size node state (commit node state.life grant.ticket news)
-  Fetch_again : (number : ℕ) (wants : List Want) (grant : Grant) (recalled : Bool) (message : Message)
-      → IsAsk state number (Holding wants grant recalled) → IsFetchFor limits size node state grant.slots message
-      → Repeats limits size node state message
+      → In (commit node state.life grant.ticket news) sends)
+      × ((number : ℕ) (wants : List Want) (grant : Grant) (recalled : Bool)
+      → IsAsk state number (Holding wants grant recalled)
+      → AsksAround limits size node state grant.slots sends)
+      × (after ≡ state) × ((message : Message) → In message sends → Repeats limits size node state message)
+  NodeMeans size heard event node state (node_note.Life life) sends after =
+      (event ≡ RestartNode node) × (life.0 ≡ state.life.0 + 1) × (sends ≡ hello node life ∷ [])
+      × (after ≡ has_life state life.0)
+  NodeMeans size heard event node state (node_note.Took grant) sends after =
+      (heard ≡ Some (Told (told.Granted grant))) × (grant.life ≡ state.life)
+      × AsksAround limits size node state grant.slots sends
+      × ((wants : List Want) × (tenure : Bool) × IsAsk state grant.ask.0 (Open wants tenure)
+      × (after ≡ record state {
+        asks = set_nth state.asks grant.ask.0 (Holding wants grant false);
+        known = learn_bases grant.slots state.known;
+      }))
+      × ((message : Message) → In message sends → IsFetchFor limits size node state grant.slots message)
+  NodeMeans size heard event node state (node_note.GaveBack ticket) sends after = (grant : Grant)
+      × (heard ≡ Some (Told (told.Granted grant))) × (grant.ticket ≡ ticket) × (grant.life ≡ state.life)
+      -- of no open ask, nor one that has it
+      × ((wants : List Want) (tenure : Bool) → IsAsk state grant.ask.0 (Open wants tenure) → ⊥)
+      × ((kept : KeptAsk) → IsAsk state grant.ask.0 kept → keeps kept grant.ticket ≡ false)
+      × (sends ≡ release node state.life ticket ∷ []) × (after ≡ state)
+  NodeMeans size heard event node state (node_note.Learned ticket) sends after =
+      (life : Life) × (versions : List Confirmed)
+      × (heard ≡ Some (Told (told.Committed node life ticket versions))) × (life ≡ state.life)
+      × ((number : ℕ) × (wants : List Want) × (grant : Grant) × (news : List News)
+      × IsAsk state number (Finished wants grant news) × (grant.ticket ≡ ticket) × (sends ≡ [])
+      × (after ≡ record state {
+        asks = set_nth state.asks number (Over (how.Committed ticket versions));
+        known = learn_versions versions state.known;
+      }))
+  NodeMeans size heard event node state (node_note.Dropped ticket) sends after = (life : Life)
+      × (heard ≡ Some (Told (told.Fenced node life ticket))) × (life ≡ state.life)
+      × ((number : ℕ) × (wants : List Want) × (grant : Grant) × (news : List News)
+      × IsAsk state number (Finished wants grant news) × (grant.ticket ≡ ticket) × (sends ≡ [])
+      × (after ≡ record state { asks = set_nth state.asks number (Over (how.Fenced ticket)) }))
+  NodeMeans size heard event node state (node_note.Denied why) sends after = (life : Life) × (ask : Ask)
+      × (heard ≡ Some (Told (told.Denied node life ask why))) × (life ≡ state.life)
+      × ((wants : List Want) × (tenure : Bool) × IsAsk state ask.0 (Open wants tenure) × (sends ≡ [])
+      × (after ≡ record state { asks = set_nth state.asks ask.0 (Over (how.Denied why)) }))
+  NodeMeans size heard event node state (node_note.Recalled ticket) sends after = (life : Life)
+      × (heard ≡ Some (Told (told.Recall node life ticket))) × (life ≡ state.life)
+      × ((number : ℕ) × (wants : List Want) × (grant : Grant) × (grant.ticket ≡ ticket) × (sends ≡ []) × (
+      (IsAsk state number (Holding wants grant false)
+      × (after ≡ record state { asks = set_nth state.asks number (Holding wants grant true) }))
+      ⊎ (IsAsk state number (Running wants grant false)
+      × (after ≡ record state { asks = set_nth state.asks number (Running wants grant true) }))))
+  NodeMeans size heard event node state node_note.SentBlob sends after = (fetch : Fetch) × (content : List ℕ)
+      × (heard ≡ Some (Fetches fetch)) × (state.store fetch.digest ≡ Some content)
+      × (sends ≡ Blob fetch.from content ∷ []) × (after ≡ state)
+  NodeMeans size heard event node state node_note.BlobTaken sends after = (content : List ℕ)
+      × Arrives heard event node (Blob node content) × (state.store (sha content) ≡ None) × IsBase state (sha content)
+      × (sends ≡ []) × (after ≡ record state { store = keep (sha content) content state.store })
+  -- what is stored goes by this alone: each other answer says what the store is then, and has all that was in it
+  NodeMeans size heard event node state node_note.Forgot sends after = (digest : Digest) × (content : List ℕ)
+      × (event ≡ Forget node digest) × (digest ≢ limits.empty) × (state.store digest ≡ Some content)
+      × (IsNeeded state digest → ⊥)
+      × (sends ≡ []) × (after ≡ record state { store = without digest state.store })
+  NodeMeans size heard event node state node_note.OldLife sends after = (telling : FromCoord)
+      × (heard ≡ Some (Told telling)) × ((life_of telling).0 ≢ state.life.0) × (sends ≡ []) × (after ≡ state)
+  NodeMeans size heard event node state node_note.Nothing sends after =
+      ((message : Message) × Arrives heard event node message × IsStale sha state message) × (sends ≡ [])
+      × (after ≡ state)
 
--- what the answer of a node says, of its state before and the one after
-abbrev pub NodeMeans : (List ℕ → Digest) → Limits → ℕ → Option Message → Event → NodeId → Node → NodeNote → List Message
-    → Node → Type 0
-NodeMeans sha limits size heard event node state (node_note.Asked ask) sends after =
-    (wants : List Want) × (tenure : Bool) × AsksFor event wants tenure × (ask.0 ≡ length state.asks + 1)
-    × (sends ≡ acquire node state.life ask wants tenure ∷ [])
-    × (after ≡ record state { asks = state.asks ++ Open wants tenure ∷ [] })
-NodeMeans sha limits size heard event node state (node_note.Begun ticket) sends after = (event ≡ Begin node ticket)
-    × ((number : ℕ) × (wants : List Want) × (grant : Grant) × (recalled : Bool)
-    × IsAsk state number (Holding wants grant recalled) × (grant.ticket ≡ ticket)
-    × ((granted : GrantedSlot) → In granted grant.slots → (content : List ℕ)
-    × (state.store granted.digest ≡ Some content))
-    × (sends ≡ []) × (after ≡ record state { asks = set_nth state.asks number (Running wants grant recalled) }))
-NodeMeans sha limits size heard event node state (node_note.Finished ticket) sends after =
-    (event ≡ Finish node ticket (lefts_at event))
-    × ((number : ℕ) × (wants : List Want) × (grant : Grant) × (recalled : Bool)
-    × IsAsk state number (Running wants grant recalled) × (grant.ticket ≡ ticket)
-    × Leaves sha (lefts_at event) node state grant wants number sends after)
-NodeMeans sha limits size heard event node state (node_note.Aborted ticket) sends after = (event ≡ Abort node ticket)
-    × ((number : ℕ) × (wants : List Want) × (grant : Grant) × (recalled : Bool)
-    × (IsAsk state number (Holding wants grant recalled) ⊎ IsAsk state number (Running wants grant recalled))
-    × (grant.ticket ≡ ticket)
-    × (sends ≡ release node state.life ticket ∷ [])
-    × (after ≡ record state { asks = set_nth state.asks number (Over (how.Released ticket)) }))
-NodeMeans sha limits size heard event node state node_note.Resent sends after = (event ≡ Resend node)
-    × In (hello node state.life) sends
-    × ((number : ℕ) (wants : List Want) (tenure : Bool) → IsAsk state number (Open wants tenure)
-    → In (acquire node state.life (record { 0 = number }) wants tenure) sends)
-    × ((number : ℕ) (wants : List Want) (grant : Grant) (news : List News)
-    → IsAsk state number (Finished wants grant news)
-    → In (commit node state.life grant.ticket news) sends)
-    × ((number : ℕ) (wants : List Want) (grant : Grant) (recalled : Bool)
-    → IsAsk state number (Holding wants grant recalled)
-    → AsksAround limits size node state grant.slots sends)
-    × (after ≡ state) × ((message : Message) → In message sends → Repeats limits size node state message)
-NodeMeans sha limits size heard event node state (node_note.Life life) sends after =
-    (event ≡ RestartNode node) × (life.0 ≡ state.life.0 + 1) × (sends ≡ hello node life ∷ [])
-    × (after ≡ has_life state life.0)
-NodeMeans sha limits size heard event node state (node_note.Took grant) sends after =
-    (heard ≡ Some (Told (told.Granted grant))) × (grant.life ≡ state.life)
-    × AsksAround limits size node state grant.slots sends
-    × ((wants : List Want) × (tenure : Bool) × IsAsk state grant.ask.0 (Open wants tenure)
-    × (after ≡ record state {
-      asks = set_nth state.asks grant.ask.0 (Holding wants grant false);
-      known = learn_bases grant.slots state.known;
-    }))
-    × ((message : Message) → In message sends → IsFetchFor limits size node state grant.slots message)
-NodeMeans sha limits size heard event node state (node_note.GaveBack ticket) sends after = (grant : Grant)
-    × (heard ≡ Some (Told (told.Granted grant))) × (grant.ticket ≡ ticket) × (grant.life ≡ state.life)
-    -- of no open ask, nor one that has it
-    × ((wants : List Want) (tenure : Bool) → IsAsk state grant.ask.0 (Open wants tenure) → ⊥)
-    × ((kept : KeptAsk) → IsAsk state grant.ask.0 kept → keeps kept grant.ticket ≡ false)
-    × (sends ≡ release node state.life ticket ∷ []) × (after ≡ state)
-NodeMeans sha limits size heard event node state (node_note.Learned ticket) sends after =
-    (life : Life) × (versions : List Confirmed)
-    × (heard ≡ Some (Told (told.Committed node life ticket versions))) × (life ≡ state.life)
-    × ((number : ℕ) × (wants : List Want) × (grant : Grant) × (news : List News)
-    × IsAsk state number (Finished wants grant news) × (grant.ticket ≡ ticket) × (sends ≡ [])
-    × (after ≡ record state {
-      asks = set_nth state.asks number (Over (how.Committed ticket versions));
-      known = learn_versions versions state.known;
-    }))
-NodeMeans sha limits size heard event node state (node_note.Dropped ticket) sends after = (life : Life)
-    × (heard ≡ Some (Told (told.Fenced node life ticket))) × (life ≡ state.life)
-    × ((number : ℕ) × (wants : List Want) × (grant : Grant) × (news : List News)
-    × IsAsk state number (Finished wants grant news) × (grant.ticket ≡ ticket) × (sends ≡ [])
-    × (after ≡ record state { asks = set_nth state.asks number (Over (how.Fenced ticket)) }))
-NodeMeans sha limits size heard event node state (node_note.Denied why) sends after = (life : Life) × (ask : Ask)
-    × (heard ≡ Some (Told (told.Denied node life ask why))) × (life ≡ state.life)
-    × ((wants : List Want) × (tenure : Bool) × IsAsk state ask.0 (Open wants tenure) × (sends ≡ [])
-    × (after ≡ record state { asks = set_nth state.asks ask.0 (Over (how.Denied why)) }))
-NodeMeans sha limits size heard event node state (node_note.Recalled ticket) sends after = (life : Life)
-    × (heard ≡ Some (Told (told.Recall node life ticket))) × (life ≡ state.life)
-    × ((number : ℕ) × (wants : List Want) × (grant : Grant) × (grant.ticket ≡ ticket) × (sends ≡ []) × (
-    (IsAsk state number (Holding wants grant false)
-    × (after ≡ record state { asks = set_nth state.asks number (Holding wants grant true) }))
-    ⊎ (IsAsk state number (Running wants grant false)
-    × (after ≡ record state { asks = set_nth state.asks number (Running wants grant true) }))))
-NodeMeans sha limits size heard event node state node_note.SentBlob sends after = (fetch : Fetch) × (content : List ℕ)
-    × (heard ≡ Some (Fetches fetch)) × (state.store fetch.digest ≡ Some content)
-    × (sends ≡ Blob fetch.from content ∷ []) × (after ≡ state)
-NodeMeans sha limits size heard event node state node_note.BlobTaken sends after = (content : List ℕ)
-    × Arrives heard event node (Blob node content) × (state.store (sha content) ≡ None) × IsBase state (sha content)
-    × (sends ≡ []) × (after ≡ record state { store = keep (sha content) content state.store })
--- what is stored goes by this alone: each other answer says what the store is then, and has all that was in it
-NodeMeans sha limits size heard event node state node_note.Forgot sends after = (digest : Digest) × (content : List ℕ)
-    × (event ≡ Forget node digest) × (digest ≢ limits.empty) × (state.store digest ≡ Some content)
-    × (IsNeeded state digest → ⊥)
-    × (sends ≡ []) × (after ≡ record state { store = without digest state.store })
-NodeMeans sha limits size heard event node state node_note.OldLife sends after = (telling : FromCoord)
-    × (heard ≡ Some (Told telling)) × ((life_of telling).0 ≢ state.life.0) × (sends ≡ []) × (after ≡ state)
-NodeMeans sha limits size heard event node state node_note.Nothing sends after =
-    ((message : Message) × Arrives heard event node message × IsStale sha state message) × (sends ≡ [])
-    × (after ≡ state)
-
--- a node's answer leaves the machine
-abbrev pub NodeDid : (List ℕ → Digest) → Limits → ℕ → World → Event → NodeNote → List Message → World → Type 0
-NodeDid sha limits size world event answer sends later = (later.machine ≡ world.machine)
-    × ((node : NodeId) × (node_at world event ≡ Some node)
-    × NodeMeans sha limits size (heard_at world event) event node (world.nodes node.0) answer sends
-    (later.nodes node.0))
+  -- a node's answer leaves the machine
+  abbrev pub NodeDid : ℕ → World → Event → NodeNote → List Message → World → Type 0
+  NodeDid size world event answer sends later = (later.machine ≡ world.machine)
+      × ((node : NodeId) × (node_at world event ≡ Some node)
+      × NodeMeans size (heard_at world event) event node (world.nodes node.0) answer sends (later.nodes node.0))
 
 -- what is delivered is answered by whom it is for
 abbrev pub Hears : Option Message → EventNote → Type 0
@@ -594,44 +594,45 @@ abbrev pub IsElsewhere : Machine → Parked → Type 0
 IsElsewhere machine parked =
     (parked.tenure ≡ true) × ((home : NodeId) × (machine.old_home ≡ Some home) × (home.0 ≢ parked.node.0))
 
--- a slot of each folder that the ask takes one of is free
-abbrev pub AreFree : Limits → Machine → Parked → Type 0
-AreFree limits machine parked = (want : Want) → In want parked.wants → takes_slot parked.tenure want.folder.mode ≡ true
-    → HasFreeSlot limits.instances machine want.folder want.folder.mode
-
--- the ask could be granted: it has not to wait for another node, its slots are free, and a ticket is left
-pub record CouldBeGranted (limits : Limits) (machine : Machine) (parked : Parked) : Type 0 where
-  pub here : IsElsewhere machine parked → ⊥
-  pub free : AreFree limits machine parked
-  pub ticket : machine.last < limits.greatest
-
--- the only slot of a folder that it takes one of is leased, and of each PRIVATE one an instance is free
-pub record IsHeldUp (limits : Limits) (machine : Machine) (parked : Parked) : Type 0 where
-  pub leased : (want : Want) × In want parked.wants × (takes_slot parked.tenure want.folder.mode ≡ true)
-      × (want.folder.mode ≢ Private) × Leased machine (instance_of want.folder 0)
-  pub free : (want : Want) → In want parked.wants → want.folder.mode ≡ Private
-      → HasFreeSlot limits.instances machine want.folder Private
-
 -- the grant answers this ask
 abbrev pub IsOf : NodeId → Life → Ask → Grant → Type 0
 IsOf node life ask grant = (grant.node ≡ node) × (grant.life ≡ life) × (grant.ask ≡ ask)
 
--- why an ask with these wants is denied
-abbrev pub DeniedBecause : Limits → Machine → List Want → Why → Type 0
-DeniedBecause limits machine wants why.InstancesSpent =
-    (want : Want) × In want wants × (want.folder.mode ≡ Private) × AllTaken limits.instances machine want.folder
-DeniedBecause limits machine wants why.TicketsSpent = limits.greatest ≤ machine.last
+module _ (limits : Limits) where
+  -- a slot of each folder that the ask takes one of is free
+  abbrev pub AreFree : Machine → Parked → Type 0
+  AreFree machine parked = (want : Want) → In want parked.wants → takes_slot parked.tenure want.folder.mode ≡ true
+      → HasFreeSlot limits.instances machine want.folder want.folder.mode
 
--- an ask that was denied so: it was sent, there is the reason, and it is neither leased nor parked
-pub record IsDenied (limits : Limits) (pool : List Message) (machine : Machine) (node : NodeId) (life : Life)
-    (ask : Ask) (because : Why) : Type 0 where
-  pub wants : List Want
-  pub tenure : Bool
-  pub asked : In (acquire node life ask wants tenure) pool
-  pub reason : DeniedBecause limits machine wants because
-  pub unleased : (grant : Grant) → Live machine grant → IsOf node life ask grant → ⊥
-  pub unparked : (parked : Parked) → In parked machine.parked
-      → (parked.node ≡ node) × (parked.life ≡ life) × (parked.ask ≡ ask) → ⊥
+  -- the ask could be granted: it has not to wait for another node, its slots are free, and a ticket is left
+  pub record CouldBeGranted (machine : Machine) (parked : Parked) : Type 0 where
+    pub here : IsElsewhere machine parked → ⊥
+    pub free : AreFree machine parked
+    pub ticket : machine.last < limits.greatest
+
+  -- the only slot of a folder that it takes one of is leased, and of each PRIVATE one an instance is free
+  pub record IsHeldUp (machine : Machine) (parked : Parked) : Type 0 where
+    pub leased : (want : Want) × In want parked.wants × (takes_slot parked.tenure want.folder.mode ≡ true)
+        × (want.folder.mode ≢ Private) × Leased machine (instance_of want.folder 0)
+    pub free : (want : Want) → In want parked.wants → want.folder.mode ≡ Private
+        → HasFreeSlot limits.instances machine want.folder Private
+
+  -- why an ask with these wants is denied
+  abbrev pub DeniedBecause : Machine → List Want → Why → Type 0
+  DeniedBecause machine wants why.InstancesSpent =
+      (want : Want) × In want wants × (want.folder.mode ≡ Private) × AllTaken limits.instances machine want.folder
+  DeniedBecause machine wants why.TicketsSpent = limits.greatest ≤ machine.last
+
+  -- an ask that was denied so: it was sent, there is the reason, and it is neither leased nor parked
+  pub record IsDenied (pool : List Message) (machine : Machine) (node : NodeId) (life : Life)
+      (ask : Ask) (because : Why) : Type 0 where
+    pub wants : List Want
+    pub tenure : Bool
+    pub asked : In (acquire node life ask wants tenure) pool
+    pub reason : DeniedBecause machine wants because
+    pub unleased : (grant : Grant) → Live machine grant → IsOf node life ask grant → ⊥
+    pub unparked : (parked : Parked) → In parked machine.parked
+        → (parked.node ≡ node) × (parked.life ≡ life) × (parked.ask ≡ ask) → ⊥
 
 -- a live grant with these names is awaited
 abbrev pub IsRecalled : Machine → NodeId → Life → Ticket → Type 0
@@ -716,61 +717,61 @@ abbrev pub first_number : List Message → List Message → ℕ
 first_number pool [] = 0
 first_number pool (message ∷ sent) = length pool + 1
 
--- an accepted event of a farm of `size` nodes
-pub record Answered (sha : List ℕ → Digest) (limits : Limits) (size : ℕ) (world : World) (event : Event)
-    (outcome : Outcome) (later : World) : Type 0 where
-  pub sent : List Message
-  pub pool : later.pool ≡ world.pool ++ sent
-  -- a coordinator that is down stays so until it restarts
-  pub down : (later.down ≡ world.down) ⊎ ((event ≡ RestartCoordinator) × (later.down ≡ None))
-  -- the answer says how many messages were sent, and the number of the first
-  pub count : outcome.sent ≡ length sent
-  pub first : outcome.first ≡ first_number world.pool sent
-  pub carried : Carried (sha []) world event outcome.note sent later.machine
-  -- a grant that is new has a ticket above the last, and at most the last now
-  pub above : (grant : Grant) → In (Granted grant) later.machine.made → In (Granted grant) (Finds world event).made
-      ⊎ (((Finds world event).last < grant.ticket.0) × (grant.ticket.0 ≤ later.machine.last))
-  pub tickets : TicketsRise event (Finds world event).last (length sent) later.machine.last
-  pub recalled : (node : NodeId) (life : Life) (ticket : Ticket) → In (Told (told.Recall node life ticket)) sent
-      → IsRecalled later.machine node life ticket
-  pub denied : (node : NodeId) (life : Life) (ask : Ask) (because : Why)
-      → In (Told (told.Denied node life ask because)) sent
-      → IsDenied limits world.pool later.machine node life ask because
-  pub node : (answer : NodeNote) → outcome.note ≡ note.Node answer
-      → NodeDid sha limits size world event answer sent later
-  -- no other node changes
-  pub others : (other : NodeId) → (later.nodes other.0 ≡ world.nodes other.0) ⊎ (node_at world event ≡ Some other)
-  pub used : Used world event later
-  pub did : Did world event outcome.note later
-  -- a grant that is new has the lowest instances, and its ask was the first that could be granted
-  pub lowest : (grant : Grant) → In (Granted grant) later.machine.made
-      → In (Granted grant) (Finds world event).made ⊎ HasLowest later.machine grant
-  pub oldest : (grant : Grant) → In (Granted grant) later.machine.made → In (Granted grant) (Finds world event).made
-      ⊎ PassesOverNone limits (DropsAt world.pool event) (Finds world event) later.machine grant
-  pub queue : KeepsOrder world event outcome.note (Finds world event).parked later.machine.parked
-  pub replies : (telling : FromCoord) → In (Told telling) sent → Replies world event outcome.note telling
+module _ (sha : List ℕ → Digest) where
+  -- what the record holds after a refused event: the machine before, or what the event would have made of it
+  abbrev pub Survives : World → Event → Machine → Type 0
+  Survives world event kept = (kept ≡ world.machine)
+      ⊎ ((answer : CoordNote) × (sends : List Message) × Carried (sha []) world event (note.Coord answer) sends kept
+      × ((grant : Grant) → In (Granted grant) kept.made → In (Granted grant) (Finds world event).made
+      ⊎ HasLowest kept grant))
 
--- what the record holds after a refused event: the machine before, or what the event would have made of it
-abbrev pub Survives : (List ℕ → Digest) → World → Event → Machine → Type 0
-Survives sha world event kept = (kept ≡ world.machine)
-    ⊎ ((answer : CoordNote) × (sends : List Message) × Carried (sha []) world event (note.Coord answer) sends kept
-    × ((grant : Grant) → In (Granted grant) kept.made → In (Granted grant) (Finds world event).made
-    ⊎ HasLowest kept grant))
+  -- a refused event changes no lease, sends nothing, and leaves what each node keeps, asks and knows; where its save
+  -- failed the coordinator is down
+  pub record Unchanged (world : World) (event : Event) (why : EventRefusal) (later : World) : Type 0 where
+    pub down : (later.down ≡ world.down) ⊎ ((why ≡ refusal.Coord coord_refusal.SaveFault)
+        × ((kept : Machine) × (later.down ≡ Some kept) × Survives world event kept))
+    pub machine : later.machine ≡ world.machine
+    pub pool : later.pool ≡ world.pool
+    -- a node whose greatest life is over is down for good
+    pub nodes : (number : ℕ) → (later.nodes number ≡ world.nodes number)
+        ⊎ ((event ≡ RestartNode (record { 0 = number }))
+        × (later.nodes number ≡ record (world.nodes number) { spent = true }))
 
--- a refused event changes no lease, sends nothing, and leaves what each node keeps, asks and knows; where its save
--- failed the coordinator is down
-pub record Unchanged (sha : List ℕ → Digest) (world : World) (event : Event) (why : EventRefusal)
-    (later : World) : Type 0 where
-  pub down : (later.down ≡ world.down) ⊎ ((why ≡ refusal.Coord coord_refusal.SaveFault)
-      × ((kept : Machine) × (later.down ≡ Some kept) × Survives sha world event kept))
-  pub machine : later.machine ≡ world.machine
-  pub pool : later.pool ≡ world.pool
-  -- a node whose greatest life is over is down for good
-  pub nodes : (number : ℕ) → (later.nodes number ≡ world.nodes number)
-      ⊎ ((event ≡ RestartNode (record { 0 = number }))
-      × (later.nodes number ≡ record (world.nodes number) { spent = true }))
+module _ (sha : List ℕ → Digest) (limits : Limits) where
+  -- an accepted event of a farm of `size` nodes
+  pub record Answered (size : ℕ) (world : World) (event : Event) (outcome : Outcome) (later : World) : Type 0 where
+    pub sent : List Message
+    pub pool : later.pool ≡ world.pool ++ sent
+    -- a coordinator that is down stays so until it restarts
+    pub down : (later.down ≡ world.down) ⊎ ((event ≡ RestartCoordinator) × (later.down ≡ None))
+    -- the answer says how many messages were sent, and the number of the first
+    pub count : outcome.sent ≡ length sent
+    pub first : outcome.first ≡ first_number world.pool sent
+    pub carried : Carried (sha []) world event outcome.note sent later.machine
+    -- a grant that is new has a ticket above the last, and at most the last now
+    pub above : (grant : Grant) → In (Granted grant) later.machine.made → In (Granted grant) (Finds world event).made
+        ⊎ (((Finds world event).last < grant.ticket.0) × (grant.ticket.0 ≤ later.machine.last))
+    pub tickets : TicketsRise event (Finds world event).last (length sent) later.machine.last
+    pub recalled : (node : NodeId) (life : Life) (ticket : Ticket) → In (Told (told.Recall node life ticket)) sent
+        → IsRecalled later.machine node life ticket
+    pub denied : (node : NodeId) (life : Life) (ask : Ask) (because : Why)
+        → In (Told (told.Denied node life ask because)) sent
+        → IsDenied limits world.pool later.machine node life ask because
+    pub node : (answer : NodeNote) → outcome.note ≡ note.Node answer
+        → NodeDid sha limits size world event answer sent later
+    -- no other node changes
+    pub others : (other : NodeId) → (later.nodes other.0 ≡ world.nodes other.0) ⊎ (node_at world event ≡ Some other)
+    pub used : Used world event later
+    pub did : Did world event outcome.note later
+    -- a grant that is new has the lowest instances, and its ask was the first that could be granted
+    pub lowest : (grant : Grant) → In (Granted grant) later.machine.made
+        → In (Granted grant) (Finds world event).made ⊎ HasLowest later.machine grant
+    pub oldest : (grant : Grant) → In (Granted grant) later.machine.made → In (Granted grant) (Finds world event).made
+        ⊎ PassesOverNone limits (DropsAt world.pool event) (Finds world event) later.machine grant
+    pub queue : KeepsOrder world event outcome.note (Finds world event).parked later.machine.parked
+    pub replies : (telling : FromCoord) → In (Told telling) sent → Replies world event outcome.note telling
 
--- an event with this outcome, from the world before it to the world after it
-abbrev pub Means : (List ℕ → Digest) → Limits → ℕ → World → Event → Result Outcome EventRefusal → World → Type 0
-Means sha limits size world event (Ok outcome) later = Answered sha limits size world event outcome later
-Means sha limits size world event (Err why) later = Unchanged sha world event why later
+  -- an event with this outcome, from the world before it to the world after it
+  abbrev pub Means : ℕ → World → Event → Result Outcome EventRefusal → World → Type 0
+  Means size world event (Ok outcome) later = Answered size world event outcome later
+  Means size world event (Err why) later = Unchanged sha world event why later
