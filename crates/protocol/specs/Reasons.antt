@@ -19,41 +19,6 @@ use Rattle.protocol.specs.Replay.{Event, Tenure, Deliver, Begin, Finish, Abort, 
 use Rattle.protocol.specs.Replay as replay
 use Rattle.protocol.specs.Meaning.{IsLive, IsAsk, IsNeeded, node_at}
 
--- ---- the coordinator
-
--- a call of the coordinator may be refused for this, and for nothing else
-abbrev pub CallBecause : Limits → Machine → Event → CoordRefusal → Type 0
-CallBecause limits machine (Withdraw ticket) coord.NotLive = IsLive machine ticket → ⊥
-CallBecause limits machine (Withdraw ticket) coord.Tenure =
-    (grant : Grant) × Live machine grant × (grant.ticket ≡ ticket) × (is_tenure grant.kind ≡ true)
-CallBecause limits machine (Prune slot) coord.SlotLeased = Leased machine slot
-CallBecause limits machine (Prune slot) coord.NoSuchSlot = line limits.empty machine slot ≡ []
-CallBecause limits machine (Prune slot) coord.TicketsSpent = limits.greatest ≤ machine.last
-CallBecause limits machine (Retire who) coord.NodeRetired = machine.gone who.0 ≡ true
-CallBecause limits machine (Retire who) coord.TenureHeld =
-    ((grant : Grant) × Live machine grant × (grant.node ≡ who) × (is_tenure grant.kind ≡ true))
-    ⊎ (machine.old_home ≡ Some who)
-CallBecause limits machine happening reason = ⊥
-
--- what the coordinator decides at a message
-abbrev pub message_decision : Limits → Farm → Option Message → Option (Result Work CoordRefusal)
-message_decision limits farm (Some (to.ToCoord saying)) = Some (Ok (handled limits saying (begin_work farm.ledger)))
-message_decision limits farm other = None
-
--- what the coordinator decides at the event
-abbrev pub decision_at : Limits → Farm → Event → Option (Result Work CoordRefusal)
-decision_at limits farm (Deliver number) = message_decision limits farm (nth farm.pool number)
-decision_at limits farm Nudge = Some (Ok (nudged limits (begin_work farm.ledger)))
-decision_at limits farm (Withdraw ticket) = Some (withdrawn limits ticket (begin_work farm.ledger))
-decision_at limits farm (Prune slot) = Some (pruned limits slot (begin_work farm.ledger))
-decision_at limits farm (Retire who) = Some (retired limits who (begin_work farm.ledger))
-decision_at limits farm happening = None
-
--- the decision changes what the record holds
-abbrev pub NeedsSave : Limits → Farm → Event → Type 0
-NeedsSave limits farm happening =
-    (work : Work) × (decision_at limits farm happening ≡ Some (Ok work)) × (saves work.ledger ≢ saves farm.ledger)
-
 -- the farm has a node with this number: they are counted from 1
 abbrev pub IsThere : Farm → NodeId → Type 0
 IsThere farm who = (1 ≤ who.0) × (who.0 ≤ farm.size)
@@ -67,16 +32,6 @@ Reaches world farm (Prune slot) = ⊤
 Reaches world farm (Retire who) = IsThere farm who
 Reaches world farm happening = ⊥
 
--- the coordinator may refuse an event for this
-abbrev pub CoordBecause : Limits → World → Farm → Event → CoordRefusal → Type 0
-CoordBecause limits world farm happening coord.Down = world.down ≢ None
-CoordBecause limits world farm happening coord.SaveFault =
-    (world.down ≡ None) × (farm.armed ≢ None) × NeedsSave limits farm happening
-CoordBecause limits world farm happening reason =
-    (world.down ≡ None) × CallBecause limits world.machine happening reason
-
--- ---- the nodes
-
 -- an ask holds the grant of the ticket
 abbrev pub HoldsUnder : Node → Ticket → ℕ → List Want → Grant → Type 0
 HoldsUnder state ticket place wants grant =
@@ -87,63 +42,108 @@ abbrev pub RunsUnder : Node → Ticket → ℕ → List Want → Grant → Type 
 RunsUnder state ticket place wants grant =
     ((recalled : Bool) × IsAsk state place (Running wants grant recalled)) × (grant.ticket ≡ ticket)
 
--- a node may refuse an event for this
-abbrev pub NodeBecause : Limits → Event → Node → NodeRefusal → Type 0
-NodeBecause limits (RestartNode who) state node.LivesSpent = (state.spent ≡ true) ⊎ (limits.greatest ≤ state.life.0)
-NodeBecause limits (replay.Ask who wants) state node.NotHomeHere =
-    (want : Want) × In want wants × (wants_shared want ≡ true) × (RunsTenure state.asks want.folder false → ⊥)
-NodeBecause limits (replay.Ask who wants) state node.AsksSpent = limits.greatest ≤ length state.asks
-NodeBecause limits (Tenure who folder) state node.TenureHere =
-    (place : ℕ) × (kept : KeptAsk) × IsAsk state place kept × IsTenureOf (record folder { mode = Shared }) kept
-NodeBecause limits (Tenure who folder) state node.AsksSpent = limits.greatest ≤ length state.asks
-NodeBecause limits (Begin who ticket) state node.NoSuchTicket =
-    (place : ℕ) (wants : List Want) (grant : Grant) → HoldsUnder state ticket place wants grant → ⊥
-NodeBecause limits (Begin who ticket) state node.ContentsMissing =
-    (place : ℕ) × (wants : List Want) × (grant : Grant) × (granted : GrantedSlot)
-    × HoldsUnder state ticket place wants grant
-    × In granted grant.slots
-    × (state.store granted.digest ≡ None)
-NodeBecause limits (Finish who ticket lefts) state node.NotRunning =
-    (place : ℕ) (wants : List Want) (grant : Grant) → RunsUnder state ticket place wants grant → ⊥
-NodeBecause limits (Finish who ticket lefts) state node.TenureInUse =
-    (place : ℕ) × (wants : List Want) × (grant : Grant)
-    × RunsUnder state ticket place wants grant
-    × (Idle state.asks place wants grant → ⊥)
-NodeBecause limits (Finish who ticket lefts) state node.WrongNews =
-    (place : ℕ) × (wants : List Want) × (grant : Grant)
-    × RunsUnder state ticket place wants grant
-    × (map (λ (left : Left). left.slot) lefts ≢ written grant.slots)
-NodeBecause limits (Abort who ticket) state node.NoSuchTicket =
-    (place : ℕ) (wants : List Want) (grant : Grant)
-    → HoldsUnder state ticket place wants grant ⊎ RunsUnder state ticket place wants grant
-    → ⊥
-NodeBecause limits (Abort who ticket) state node.TenureInUse =
-    (place : ℕ) × (wants : List Want) × (grant : Grant)
-    × (HoldsUnder state ticket place wants grant ⊎ RunsUnder state ticket place wants grant)
-    × (Idle state.asks place wants grant → ⊥)
-NodeBecause limits (Forget who digest) state node.NoSuchContent = (digest ≡ limits.empty) ⊎ (state.store digest ≡ None)
-NodeBecause limits (Forget who digest) state node.Needed = IsNeeded state digest
-NodeBecause limits happening state node.LivesSpent = state.spent ≡ true
-NodeBecause limits happening state reason = ⊥
+module _ (limits : Limits) where
+  -- ---- the coordinator
 
--- ---- events
+  -- a call of the coordinator may be refused for this, and for nothing else
+  abbrev pub CallBecause : Machine → Event → CoordRefusal → Type 0
+  CallBecause machine (Withdraw ticket) coord.NotLive = IsLive machine ticket → ⊥
+  CallBecause machine (Withdraw ticket) coord.Tenure =
+      (grant : Grant) × Live machine grant × (grant.ticket ≡ ticket) × (is_tenure grant.kind ≡ true)
+  CallBecause machine (Prune slot) coord.SlotLeased = Leased machine slot
+  CallBecause machine (Prune slot) coord.NoSuchSlot = line limits.empty machine slot ≡ []
+  CallBecause machine (Prune slot) coord.TicketsSpent = limits.greatest ≤ machine.last
+  CallBecause machine (Retire who) coord.NodeRetired = machine.gone who.0 ≡ true
+  CallBecause machine (Retire who) coord.TenureHeld =
+      ((grant : Grant) × Live machine grant × (grant.node ≡ who) × (is_tenure grant.kind ≡ true))
+      ⊎ (machine.old_home ≡ Some who)
+  CallBecause machine happening reason = ⊥
 
--- why an event is refused so
-abbrev pub Because : Limits → World → Farm → Event → EventRefusal → Type 0
-Because limits world farm happening event.NoSuchMessage =
-    (number : ℕ) × (happening ≡ Deliver number) × (nth world.pool number ≡ None)
-Because limits world farm happening event.NoSuchNode =
-    (who : NodeId) × ((node_at world happening ≡ Some who) ⊎ (happening ≡ Retire who)) × (IsThere farm who → ⊥)
-Because limits world farm happening (event.Node reason) =
-    (who : NodeId)
-    × (node_at world happening ≡ Some who)
-    × IsThere farm who
-    × NodeBecause limits happening (world.nodes who.0) reason
-Because limits world farm happening (event.Coord reason) =
-    Reaches world farm happening × CoordBecause limits world farm happening reason
-Because limits world farm happening event.OutOfMemory = ⊥
+  -- what the coordinator decides at a message
+  abbrev pub message_decision : Farm → Option Message → Option (Result Work CoordRefusal)
+  message_decision farm (Some (to.ToCoord saying)) = Some (Ok (handled limits saying (begin_work farm.ledger)))
+  message_decision farm other = None
 
--- a refusal has its reason, and what is accepted has no reason to be refused
-abbrev pub Fair : Limits → World → Farm → Event → Result Outcome EventRefusal → Type 0
-Fair limits world farm happening (Ok outcome) = (reason : EventRefusal) → Because limits world farm happening reason → ⊥
-Fair limits world farm happening (Err reason) = Because limits world farm happening reason
+  -- what the coordinator decides at the event
+  abbrev pub decision_at : Farm → Event → Option (Result Work CoordRefusal)
+  decision_at farm (Deliver number) = message_decision farm (nth farm.pool number)
+  decision_at farm Nudge = Some (Ok (nudged limits (begin_work farm.ledger)))
+  decision_at farm (Withdraw ticket) = Some (withdrawn limits ticket (begin_work farm.ledger))
+  decision_at farm (Prune slot) = Some (pruned limits slot (begin_work farm.ledger))
+  decision_at farm (Retire who) = Some (retired limits who (begin_work farm.ledger))
+  decision_at farm happening = None
+
+  -- the decision changes what the record holds
+  abbrev pub NeedsSave : Farm → Event → Type 0
+  NeedsSave farm happening =
+      (work : Work) × (decision_at farm happening ≡ Some (Ok work)) × (saves work.ledger ≢ saves farm.ledger)
+
+  -- the coordinator may refuse an event for this
+  abbrev pub CoordBecause : World → Farm → Event → CoordRefusal → Type 0
+  CoordBecause world farm happening coord.Down = world.down ≢ None
+  CoordBecause world farm happening coord.SaveFault =
+      (world.down ≡ None) × (farm.armed ≢ None) × NeedsSave farm happening
+  CoordBecause world farm happening reason = (world.down ≡ None) × CallBecause world.machine happening reason
+
+  -- ---- the nodes
+
+  -- a node may refuse an event for this
+  abbrev pub NodeBecause : Event → Node → NodeRefusal → Type 0
+  NodeBecause (RestartNode who) state node.LivesSpent = (state.spent ≡ true) ⊎ (limits.greatest ≤ state.life.0)
+  NodeBecause (replay.Ask who wants) state node.NotHomeHere =
+      (want : Want) × In want wants × (wants_shared want ≡ true) × (RunsTenure state.asks want.folder false → ⊥)
+  NodeBecause (replay.Ask who wants) state node.AsksSpent = limits.greatest ≤ length state.asks
+  NodeBecause (Tenure who folder) state node.TenureHere =
+      (place : ℕ) × (kept : KeptAsk) × IsAsk state place kept × IsTenureOf (record folder { mode = Shared }) kept
+  NodeBecause (Tenure who folder) state node.AsksSpent = limits.greatest ≤ length state.asks
+  NodeBecause (Begin who ticket) state node.NoSuchTicket =
+      (place : ℕ) (wants : List Want) (grant : Grant) → HoldsUnder state ticket place wants grant → ⊥
+  NodeBecause (Begin who ticket) state node.ContentsMissing =
+      (place : ℕ) × (wants : List Want) × (grant : Grant) × (granted : GrantedSlot)
+      × HoldsUnder state ticket place wants grant
+      × In granted grant.slots
+      × (state.store granted.digest ≡ None)
+  NodeBecause (Finish who ticket lefts) state node.NotRunning =
+      (place : ℕ) (wants : List Want) (grant : Grant) → RunsUnder state ticket place wants grant → ⊥
+  NodeBecause (Finish who ticket lefts) state node.TenureInUse =
+      (place : ℕ) × (wants : List Want) × (grant : Grant)
+      × RunsUnder state ticket place wants grant
+      × (Idle state.asks place wants grant → ⊥)
+  NodeBecause (Finish who ticket lefts) state node.WrongNews =
+      (place : ℕ) × (wants : List Want) × (grant : Grant)
+      × RunsUnder state ticket place wants grant
+      × (map (λ (left : Left). left.slot) lefts ≢ written grant.slots)
+  NodeBecause (Abort who ticket) state node.NoSuchTicket =
+      (place : ℕ) (wants : List Want) (grant : Grant)
+      → HoldsUnder state ticket place wants grant ⊎ RunsUnder state ticket place wants grant
+      → ⊥
+  NodeBecause (Abort who ticket) state node.TenureInUse =
+      (place : ℕ) × (wants : List Want) × (grant : Grant)
+      × (HoldsUnder state ticket place wants grant ⊎ RunsUnder state ticket place wants grant)
+      × (Idle state.asks place wants grant → ⊥)
+  NodeBecause (Forget who digest) state node.NoSuchContent = (digest ≡ limits.empty) ⊎ (state.store digest ≡ None)
+  NodeBecause (Forget who digest) state node.Needed = IsNeeded state digest
+  NodeBecause happening state node.LivesSpent = state.spent ≡ true
+  NodeBecause happening state reason = ⊥
+
+  -- ---- events
+
+  -- why an event is refused so
+  abbrev pub Because : World → Farm → Event → EventRefusal → Type 0
+  Because world farm happening event.NoSuchMessage =
+      (number : ℕ) × (happening ≡ Deliver number) × (nth world.pool number ≡ None)
+  Because world farm happening event.NoSuchNode =
+      (who : NodeId) × ((node_at world happening ≡ Some who) ⊎ (happening ≡ Retire who)) × (IsThere farm who → ⊥)
+  Because world farm happening (event.Node reason) =
+      (who : NodeId)
+      × (node_at world happening ≡ Some who)
+      × IsThere farm who
+      × NodeBecause happening (world.nodes who.0) reason
+  Because world farm happening (event.Coord reason) =
+      Reaches world farm happening × CoordBecause world farm happening reason
+  Because world farm happening event.OutOfMemory = ⊥
+
+  -- a refusal has its reason, and what is accepted has no reason to be refused
+  abbrev pub Fair : World → Farm → Event → Result Outcome EventRefusal → Type 0
+  Fair world farm happening (Ok outcome) = (reason : EventRefusal) → Because world farm happening reason → ⊥
+  Fair world farm happening (Err reason) = Because world farm happening reason
