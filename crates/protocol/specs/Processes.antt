@@ -16,7 +16,7 @@ use Rattle.protocol.specs.Ledger.{Limits, Ledger, Work, begin_work, handled, wit
 use Rattle.protocol.specs.Ledger as ledgers
 use Rattle.protocol.specs.World.{KeptAsk, Node, Running, has_life, first_node}
 use Rattle.protocol.specs.Nodes.{Place, Left, NodeWork, NodeAnswer, asked, asked_tenure, begun, finished_with, aborted, forgotten, resent, may_restart, received, brought, unless_spent}
-use Rattle.protocol.specs.Replay.{Farm, Event, run, opening, receiver}
+use Rattle.protocol.specs.Replay.{Farm, Event, run, scheduled, receiver}
 use Rattle.protocol.specs.Safe.{HoldsContent}
 use Rattle.protocol.specs.Lawful.{IsNumber}
 use Rattle.protocol.specs.Follows.{IsFarm}
@@ -54,13 +54,6 @@ MayCome size written Nudge = ⊤
 abbrev pub AllMayCome : ℕ → List Message → List Call → Type 0
 AllMayCome size written calls = (call : Call) → In call calls → MayCome size written call
 
-abbrev pub decided : Limits → Ledger → Call → Result Work CoordRefusal
-decided limits ledger (Handle saying) = Ok (handled limits saying (begin_work ledger))
-decided limits ledger (Withdraw ticket) = withdrawn limits ticket (begin_work ledger)
-decided limits ledger (Prune slot) = pruned limits slot (begin_work ledger)
-decided limits ledger (Retire node) = retired limits node (begin_work ledger)
-decided limits ledger Nudge = Ok (nudged limits (begin_work ledger))
-
 -- what it has of the calls that it took: the ledger, the record that it is to save, and the lines that it is to write
 -- then
 pub record Batch : Type 0 where
@@ -80,11 +73,6 @@ taken (Ok work) gathered = record {
   sends = gathered.sends ++ map Told work.sends;
 }
 
--- the calls in their order
-abbrev pub batch : Limits → List Call → Batch → Batch
-batch limits [] gathered = gathered
-batch limits (call ∷ calls) gathered = batch limits calls (taken (decided limits gathered.ledger call) gathered)
-
 -- the coordinator after the calls: it goes on, or all that is left of it is its disk
 abbrev pub is_up : Batch → Coordinator
 is_up gathered = record { memory = Some gathered.ledger; disk = gathered.to_save }
@@ -92,25 +80,39 @@ is_up gathered = record { memory = Some gathered.ledger; disk = gathered.to_save
 abbrev pub is_down : Batch → Coordinator
 is_down gathered = record { memory = None; disk = gathered.to_save }
 
--- what the coordinator does, and the lines of it that reach the network
-pub data CoordinatorDoes (limits : Limits) (size : ℕ) (written : List Message)
-    (coordinator : Coordinator) : List Message → Coordinator → Type 0 where
-  -- it takes one call or several, saves once, and writes then. Of that a part is lost, if it is killed while it writes
-  Works : (ledger : Ledger) (calls : List Call) (lines : List Message) → coordinator.memory ≡ Some ledger
-      → AllMayCome size written calls
-      → IsPartOf (batch limits calls (begin_batch ledger coordinator.disk)).sends lines
-      → CoordinatorDoes limits size written coordinator lines
-      (is_up (batch limits calls (begin_batch ledger coordinator.disk)))
-  -- it is killed before the save is done, or the save fails. The disk has the record after the first of the calls,
-  -- which may be none or all of them, and nothing is written
-  Fails : (ledger : Ledger) (early late : List Call) → coordinator.memory ≡ Some ledger
-      → AllMayCome size written (early ++ late)
-      → CoordinatorDoes limits size written coordinator []
-      (is_down (batch limits early (begin_batch ledger coordinator.disk)))
-  Is_killed : CoordinatorDoes limits size written coordinator [] (record coordinator { memory = None })
-  -- it starts, from its disk and nothing else
-  Starts : CoordinatorDoes limits size written coordinator []
-      (record coordinator { memory = Some (reads coordinator.disk) })
+module _ (limits : Limits) where
+  abbrev pub decided : Ledger → Call → Result Work CoordRefusal
+  decided ledger (Handle saying) = Ok (handled limits saying (begin_work ledger))
+  decided ledger (Withdraw ticket) = withdrawn limits ticket (begin_work ledger)
+  decided ledger (Prune slot) = pruned limits slot (begin_work ledger)
+  decided ledger (Retire node) = retired limits node (begin_work ledger)
+  decided ledger Nudge = Ok (nudged limits (begin_work ledger))
+
+  -- the calls in their order
+  abbrev pub batch : List Call → Batch → Batch
+  batch [] gathered = gathered
+  batch (call ∷ calls) gathered = batch calls (taken (decided gathered.ledger call) gathered)
+
+  -- what the coordinator does, and the lines of it that reach the network
+  pub data CoordinatorDoes (size : ℕ) (written : List Message) (coordinator : Coordinator)
+      : List Message → Coordinator → Type 0 where
+    -- it takes one call or several, saves once, and writes then. Of that a part is lost, if it is killed while it
+    -- writes
+    Works : (ledger : Ledger) (calls : List Call) (lines : List Message) → coordinator.memory ≡ Some ledger
+        → AllMayCome size written calls
+        → IsPartOf (batch calls (begin_batch ledger coordinator.disk)).sends lines
+        → CoordinatorDoes size written coordinator lines
+        (is_up (batch calls (begin_batch ledger coordinator.disk)))
+    -- it is killed before the save is done, or the save fails. The disk has the record after the first of the calls,
+    -- which may be none or all of them, and nothing is written
+    Fails : (ledger : Ledger) (early late : List Call) → coordinator.memory ≡ Some ledger
+        → AllMayCome size written (early ++ late)
+        → CoordinatorDoes size written coordinator []
+        (is_down (batch early (begin_batch ledger coordinator.disk)))
+    Is_killed : CoordinatorDoes size written coordinator [] (record coordinator { memory = None })
+    -- it starts, from its disk and nothing else
+    Starts : CoordinatorDoes size written coordinator []
+        (record coordinator { memory = Some (reads coordinator.disk) })
 
 -- ---- the nodes
 
@@ -139,67 +141,59 @@ MayReach written node Resend = ⊤
 MayReach written node (Bring content) = ⊤
 MayReach written node (Forget digest) = ⊤
 
-abbrev pub node_decided : (List ℕ → Digest) → Limits → Place → Node → NodeCall → NodeAnswer
-node_decided sha limits at state (Receive message) = unless_spent state (received sha limits at message state)
-node_decided sha limits at state (Ask_lease wants) = asked limits at wants state
-node_decided sha limits at state (Ask_tenure folder) = asked_tenure limits at folder state
-node_decided sha limits at state (Begin ticket) = begun ticket state
-node_decided sha limits at state (Finish ticket lefts) = finished_with sha at ticket lefts state
-node_decided sha limits at state (Abort ticket) = aborted at ticket state
-node_decided sha limits at state Resend = resent limits at state
-node_decided sha limits at state (Bring content) = unless_spent state (brought sha content state)
-node_decided sha limits at state (Forget digest) = forgotten limits digest state
+module _ (sha : List ℕ → Digest) (limits : Limits) where
+  abbrev pub node_decided : Place → Node → NodeCall → NodeAnswer
+  node_decided at state (Receive message) = unless_spent state (received sha limits at message state)
+  node_decided at state (Ask_lease wants) = asked limits at wants state
+  node_decided at state (Ask_tenure folder) = asked_tenure limits at folder state
+  node_decided at state (Begin ticket) = begun ticket state
+  node_decided at state (Finish ticket lefts) = finished_with sha at ticket lefts state
+  node_decided at state (Abort ticket) = aborted at ticket state
+  node_decided at state Resend = resent limits at state
+  node_decided at state (Bring content) = unless_spent state (brought sha content state)
+  node_decided at state (Forget digest) = forgotten limits digest state
 
--- what a node does, and the lines of it that reach the network
-pub data NodeDoes (sha : List ℕ → Digest) (limits : Limits) (written : List Message) (node : NodeId)
-    (state : Node) : List Message → Node → Type 0 where
-  -- it does an accepted call, and writes then. Of that a part is lost, if it is killed while it writes. `count` is how
-  -- many nodes it takes the farm to have, when it asks the others for contents
-  Acts : (count : ℕ) (call : NodeCall) (work : NodeWork) (lines : List Message) → MayReach written node call
-      → node_decided sha limits (record { node = node; nodes = count }) state call ≡ Ok work
-      → IsPartOf work.sends lines
-      → NodeDoes sha limits written node state lines work.node
-  -- it starts, after a kill or for the first time, in a greater life, which is on its disk before a line of that life
-  -- is written. Until then its asks are as they were, since an execution may outlast its process
-  Begins_life : (life : Life) (lines : List Message) → state.spent ≡ false → state.life.0 < life.0
-      → life.0 ≤ limits.greatest
-      → IsPartOf (hello node life ∷ []) lines
-      → NodeDoes sha limits written node state lines (has_life state life.0)
-  -- some contents or known versions are gone: lost with its disk, or not yet there when it was killed
-  Loses : (store : Digest → Option (List ℕ)) (known : Slot → ℕ → Option Digest)
-      → ((digest : Digest) (content : List ℕ) → store digest ≡ Some content → state.store digest ≡ Some content)
-      → ((slot : Slot) (number : ℕ) (digest : Digest) → known slot number ≡ Some digest
-      → state.known slot number ≡ Some digest)
-      → NodeDoes sha limits written node state [] (record state { store = store; known = known })
-  -- its greatest life is over
-  Is_spent : may_restart limits state ≡ false
-      → NodeDoes sha limits written node state [] (record state { spent = true })
+  -- what a node does, and the lines of it that reach the network
+  pub data NodeDoes (written : List Message) (node : NodeId) (state : Node) : List Message → Node → Type 0 where
+    -- it does an accepted call, and writes then. Of that a part is lost, if it is killed while it writes. `count` is
+    -- how many nodes it takes the farm to have, when it asks the others for contents
+    Acts : (count : ℕ) (call : NodeCall) (work : NodeWork) (lines : List Message) → MayReach written node call
+        → node_decided (record { node = node; nodes = count }) state call ≡ Ok work
+        → IsPartOf work.sends lines
+        → NodeDoes written node state lines work.node
+    -- it starts, after a kill or for the first time, in a greater life, which is on its disk before a line of that life
+    -- is written. Until then its asks are as they were, since an execution may outlast its process
+    Begins_life : (life : Life) (lines : List Message) → state.spent ≡ false → state.life.0 < life.0
+        → life.0 ≤ limits.greatest
+        → IsPartOf (hello node life ∷ []) lines
+        → NodeDoes written node state lines (has_life state life.0)
+    -- some contents or known versions are gone: lost with its disk, or not yet there when it was killed
+    Loses : (store : Digest → Option (List ℕ)) (known : Slot → ℕ → Option Digest)
+        → ((digest : Digest) (content : List ℕ) → store digest ≡ Some content → state.store digest ≡ Some content)
+        → ((slot : Slot) (number : ℕ) (digest : Digest) → known slot number ≡ Some digest
+        → state.known slot number ≡ Some digest)
+        → NodeDoes written node state [] (record state { store = store; known = known })
+    -- its greatest life is over
+    Is_spent : may_restart limits state ≡ false
+        → NodeDoes written node state [] (record state { spent = true })
 
--- ---- runs
+  -- ---- runs
 
--- one process does something
-pub data Happens (sha : List ℕ → Digest) (limits : Limits) (size : ℕ) (processes : Processes) : Processes → Type 0 where
-  Coordinator_does : (lines : List Message) (after : Coordinator)
-      → CoordinatorDoes limits size processes.written processes.coordinator lines after
-      → Happens sha limits size processes
-      (record processes { coordinator = after; written = processes.written ++ lines })
-  Node_does : (node : NodeId) (lines : List Message) (after : Node) → IsNumber size node
-      → NodeDoes sha limits processes.written node (processes.nodes node.0) lines after
-      → Happens sha limits size processes
-      (record processes { nodes = put node.0 after processes.nodes; written = processes.written ++ lines })
+  -- one process does something
+  pub data Happens (size : ℕ) (processes : Processes) : Processes → Type 0 where
+    Coordinator_does : (lines : List Message) (after : Coordinator)
+        → CoordinatorDoes limits size processes.written processes.coordinator lines after
+        → Happens size processes
+        (record processes { coordinator = after; written = processes.written ++ lines })
+    Node_does : (node : NodeId) (lines : List Message) (after : Node) → IsNumber size node
+        → NodeDoes processes.written node (processes.nodes node.0) lines after
+        → Happens size processes
+        (record processes { nodes = put node.0 after processes.nodes; written = processes.written ++ lines })
 
-pub data Runs (sha : List ℕ → Digest) (limits : Limits) (size : ℕ) : Processes → Processes → Type 0 where
-  Rests : (processes : Processes) → Runs sha limits size processes processes
-  Goes_on : (processes middle later : Processes) → Runs sha limits size processes middle
-      → Happens sha limits size middle later → Runs sha limits size processes later
-
--- nothing is on the coordinator's disk, and no process has written a line
-abbrev pub first_processes : (List ℕ → Digest) → Processes
-first_processes sha = record {
-  coordinator = record { memory = None; disk = saves ledgers.opening };
-  nodes = λ node. first_node sha;
-  written = [];
-}
+  pub data Runs (size : ℕ) : Processes → Processes → Type 0 where
+    Rests : (processes : Processes) → Runs size processes processes
+    Goes_on : (processes middle later : Processes) → Runs size processes middle
+        → Happens size middle later → Runs size processes later
 
 -- ---- the processes are the farm
 
@@ -210,32 +204,41 @@ IsOfLeases (to.ToNode (to_node.FromCoord message)) = ⊤
 IsOfLeases (to.ToNode (to_node.Fetch message)) = ⊥
 IsOfLeases (to.ToNode (to_node.Blob node content)) = ⊥
 
--- the farm's node is this process: in its life and with its asks. It has all that the process has of contents and known
--- versions, and what the process lost
-pub record IsNodeOf (sha : List ℕ → Digest) (state process : Node) : Type 0 where
-  pub life : state.life ≡ process.life
-  pub asks : state.asks ≡ process.asks
-  pub spent : state.spent ≡ process.spent
-  pub contents : (digest : Digest) (content : List ℕ) → process.store digest ≡ Some content → (sha content ≡ digest)
-      × (is_some (state.store digest) ≡ true)
-  pub versions : (slot : Slot) (number : ℕ) (digest : Digest) → process.known slot number ≡ Some digest
-      → state.known slot number ≡ Some digest
+module _ (sha : List ℕ → Digest) where
+  -- nothing is on the coordinator's disk, and no process has written a line
+  abbrev pub first_processes : Processes
+  first_processes = record {
+    coordinator = record { memory = None; disk = saves ledgers.opening };
+    nodes = λ node. first_node sha;
+    written = [];
+  }
 
--- each process's state is its part of the farm's, and all that was written of leases is in its pool
-pub record IsFarmOf (sha : List ℕ → Digest) (farm : Farm) (processes : Processes) : Type 0 where
-  pub up : farm.down ≡ false
-  pub disk : farm.saved ≡ processes.coordinator.disk
-  pub memory : (ledger : Ledger) → processes.coordinator.memory ≡ Some ledger → farm.ledger ≡ ledger
-  pub nodes : (number : ℕ) → IsNodeOf sha (farm.nodes number) (processes.nodes number)
-  pub written : (message : Message) → IsOfLeases message → In message processes.written → In message farm.pool
+  -- the farm's node is this process: in its life and with its asks. It has all that the process has of contents and
+  -- known versions, and what the process lost
+  pub record IsNodeOf (state process : Node) : Type 0 where
+    pub life : state.life ≡ process.life
+    pub asks : state.asks ≡ process.asks
+    pub spent : state.spent ≡ process.spent
+    pub contents : (digest : Digest) (content : List ℕ) → process.store digest ≡ Some content → (sha content ≡ digest)
+        × (is_some (state.store digest) ≡ true)
+    pub versions : (slot : Slot) (number : ℕ) (digest : Digest) → process.known slot number ≡ Some digest
+        → state.known slot number ≡ Some digest
 
--- schedules that lead to the farms of processes and of the same processes later
-pub record AreScheduled (sha : List ℕ → Digest) (limits : Limits) (size : ℕ)
-    (processes later : Processes) : Type 0 where
-  pub early : List Event
-  pub late : List Event
-  pub before : IsFarmOf sha (run sha limits early (opening sha size)) processes
-  pub after : IsFarmOf sha (run sha limits late (run sha limits early (opening sha size))) later
+  -- each process's state is its part of the farm's, and all that was written of leases is in its pool
+  pub record IsFarmOf (farm : Farm) (processes : Processes) : Type 0 where
+    pub up : farm.down ≡ false
+    pub disk : farm.saved ≡ processes.coordinator.disk
+    pub memory : (ledger : Ledger) → processes.coordinator.memory ≡ Some ledger → farm.ledger ≡ ledger
+    pub nodes : (number : ℕ) → IsNodeOf (farm.nodes number) (processes.nodes number)
+    pub written : (message : Message) → IsOfLeases message → In message processes.written → In message farm.pool
+
+  module _ (limits : Limits) where
+    -- schedules that lead to the farms of processes and of the same processes later
+    pub record AreScheduled (size : ℕ) (processes later : Processes) : Type 0 where
+      pub early : List Event
+      pub late : List Event
+      pub before : IsFarmOf (scheduled sha limits size early) processes
+      pub after : IsFarmOf (run sha limits late (scheduled sha limits size early)) later
 
 abbrev pub ProcessesAreTheFarm : Type 0
 ProcessesAreTheFarm = (sha : List ℕ → Digest) (limits : Limits) (size : ℕ) (processes later : Processes)
@@ -326,7 +329,7 @@ pub record AreHonest (processes : Processes) : Type 0 where
 abbrev pub OnlyHonestAreAFarm : Type 0
 OnlyHonestAreAFarm = (sha : List ℕ → Digest) (limits : Limits) → IsFarm sha limits
     → (size : ℕ) (events : List Event) (processes : Processes)
-    → IsFarmOf sha (run sha limits events (opening sha size)) processes → AreHonest processes
+    → IsFarmOf sha (scheduled sha limits size events) processes → AreHonest processes
 
 -- ---- and processes can do all that a farm does
 
@@ -340,4 +343,4 @@ pub record ProcessesOf (farm : Farm) (processes : Processes) : Type 0 where
 abbrev pub EveryFarmIsProcesses : Type 0
 EveryFarmIsProcesses = (sha : List ℕ → Digest) (limits : Limits) (size : ℕ) (events : List Event)
     → (processes : Processes) × Runs sha limits size (first_processes sha) processes
-    × ProcessesOf (run sha limits events (opening sha size)) processes
+    × ProcessesOf (scheduled sha limits size events) processes
