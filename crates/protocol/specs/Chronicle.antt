@@ -295,7 +295,8 @@ NoParkedAskIsReady = (sha : List ℕ → Digest) (limits : Limits) (size : ℕ) 
 abbrev pub FittingMessageIsGranted : Type 0
 FittingMessageIsGranted = (sha : List ℕ → Digest) (limits : Limits) → IsFarm sha limits
     → (size : ℕ) (events : List Event) (number : ℕ) (parked : Parked) →
-    let ledger = (scheduled sha limits size events).ledger in
+    let farm : Farm = scheduled sha limits size events in
+    let ledger = farm.ledger in
     let saying : ToCoord = record {
       node = parked.node;
       life = parked.life;
@@ -303,9 +304,11 @@ FittingMessageIsGranted = (sha : List ℕ → Digest) (limits : Limits) → IsFa
     } in
     let work : Work = after_life limits parked.node parked.life (begin_work ledger) in
     let grant : Grant = grant_of limits.empty work.ledger.line (lease_for limits work.ledger parked) in
-    nth (scheduled sha limits size events).pool number ≡ Some (Said saying) → ledger.gone parked.node.0 ≡ false
+    nth farm.pool number ≡ Some (Said saying)
+    → ledger.gone parked.node.0 ≡ false
     → nat_lt parked.life.0 (ledger.lives parked.node.0) ≡ false
-    → MayBeGranted limits work.ledger parked → ((handled limits saying (begin_work ledger)).note ≡ coord.Granted grant)
+    → MayBeGranted limits work.ledger parked
+    → ((handled limits saying (begin_work ledger)).note ≡ coord.Granted grant)
     × In (told.Granted grant) (handled limits saying (begin_work ledger)).sends
 
 -- in no world that a farm of a run may be in could a parked ask be granted
@@ -318,12 +321,16 @@ NoParkedAskCouldBeGranted = (sha : List ℕ → Digest) (limits : Limits) → Is
 abbrev pub EveryAskIsAnswered : Type 0
 EveryAskIsAnswered = (sha : List ℕ → Digest) (limits : Limits) → IsFarm sha limits
     → (size : ℕ) (events : List Event) (world : World) → Moves sha (start sha) world
-    → Shows sha world (scheduled sha limits size events) → (parked : Parked)
+    → let farm : Farm = scheduled sha limits size events in
+    Shows sha world farm → (parked : Parked)
     → In (acquire parked.node parked.life parked.ask parked.wants parked.tenure) world.pool
     → world.machine.gone parked.node.0 ≡ false
-    → AsksAreAnswered limits world.machine parked (handled limits
-    (record { node = parked.node; life = parked.life; request = Acquire parked.ask parked.wants parked.tenure })
-    (begin_work (scheduled sha limits size events).ledger)).note
+    → let saying : ToCoord = record {
+      node = parked.node;
+      life = parked.life;
+      request = Acquire parked.ask parked.wants parked.tenure;
+    } in
+    AsksAreAnswered limits world.machine parked (handled limits saying (begin_work farm.ledger)).note
 
 -- while the coordinator is up the record is that of its ledger; after a failed save it is that of a ledger of the
 -- machine that the save kept
