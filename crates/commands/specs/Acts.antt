@@ -4,12 +4,12 @@ use Rattle.std.specs.List.{flat_map, AllZip}
 use Rattle.std.specs.declared.vec.Vec.{Vec}
 use Rattle.std.specs.declared.alloc.Global.{Global}
 use Rattle.std.specs.declared.string.String.{String}
-use Rattle.commands.specs.declared.command.Command.{Command}
+use Rattle.answers.specs.declared.command.Command.{Command}
 use Rattle.std.specs.String.{string_bytes}
-use Rattle.commands.specs.declared.failure.Failure.{Failure}
-use Rattle.commands.specs.declared.failure.Failure.TheVariants as failures
-use Rattle.commands.specs.Failures.{failure_line}
-use Rattle.commands.specs.Answers.{IsAnswer, IsRefused}
+use Rattle.answers.specs.declared.failure.Failure.{Failure}
+use Rattle.answers.specs.declared.failure.Failure.TheVariants as failures
+use Rattle.answers.specs.Failures.{failure_line}
+use Rattle.answers.specs.Answers.{IsAnswer, IsRefused}
 
 -- a file: its name, and its bytes if it could be read
 abbrev pub File : Type 0

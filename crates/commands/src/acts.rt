@@ -1,17 +1,16 @@
 //! What the program does: reads, answers, prints.
 ghost use Rattle.std.specs.Prelude.{◌≡◌, ◌≢◌, ◌++◌, ℕ, List, codes};
 ghost use Rattle.std.specs.Io.KnownBytes.{Appends};
-ghost use Rattle.commands.specs.declared.failure.Failure.TheVariants as failures;
-ghost use Rattle.commands.specs.Failures.{failure_line};
+ghost use Rattle.answers.specs.declared.failure.Failure.TheVariants as failures;
+ghost use Rattle.answers.specs.Failures.{failure_line};
 ghost use Rattle.commands.specs.Acts.{AnswersAll, FirstFault};
 
-use super::answers::answer;
-use super::command::{Command, Options, Request, Words, words_of};
-use super::explain::{Explanation, causes_told, copies_of, explained, push_log_fault};
-use super::failure::Failure;
+use super::command::{Options, Request, Words, words_of};
+use super::explain::{causes_told, copies_of, explained, push_log_fault};
 use super::files::{contents, kept};
 use super::processing::{be_node, coordinate};
 use super::running::{Order, run_scripts};
+use answers::{Command, Explanation, Failure, answer};
 use std::alloc::{AllocError, Global};
 use std::fs::File;
 use std::io::{self, Write};

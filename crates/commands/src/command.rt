@@ -1,6 +1,7 @@
 //! The words of the command line.
 
 use super::running::Order;
+use answers::Command;
 use clap::builder::ValueParser;
 use clap::{Arg, ArgAction, ArgMatches, Error};
 use draw::Range;
@@ -8,23 +9,6 @@ use farm_base::{EVENTS, NODES, NodeId};
 use opsproto::LIMIT;
 use processes::{CoordinatorPlace, NodePlace};
 use std::alloc::{AllocError, Global};
-
-/// What the program is asked to do with a file.
-#[derive(Clone, Copy, Debug, PartialEq, Eq)]
-pub enum Command {
-    /// Says whether a definition can be solved, and what its result is.
-    Check,
-    /// Prints the solver key of each vertex.
-    Keys,
-    /// Prints the folders that each vertex wants for its cache mounts.
-    Wants,
-    /// Prints what a record keeps.
-    Record,
-    /// Prints the result of each event of a schedule, and the lines of versions.
-    Replay,
-    /// Draws a range of the events of a schedule, and the lines of versions after them.
-    Draw(Range),
-}
 
 /// What the program is asked to do.
 #[derive(Clone, Copy, Debug, PartialEq, Eq)]

@@ -1,7 +1,6 @@
 //! Reading the files that the words name.
 
-use super::failure::Failure;
-use super::record::whole_of;
+use answers::{Failure, whole_of};
 use std::alloc::Global;
 use std::io::{ErrorKind, Read};
 use std::rt::Files;

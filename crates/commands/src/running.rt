@@ -3,18 +3,17 @@ ghost use Rattle.std.specs.Prelude.{◌≡◌, ◌≢◌, ◌+◌, ◌++◌, ◌
 ghost use Rattle.std.specs.String.{string_bytes};
 ghost use Rattle.std.specs.Io.KnownBytes.{Appends};
 ghost use Rattle.commands.specs.declared.running.InputFault.TheVariants as inputs;
-ghost use Rattle.commands.specs.Answers.{SpellsGraph, IsNoGraph};
+ghost use Rattle.answers.specs.Answers.{SpellsGraph, IsNoGraph};
 ghost use Rattle.commands.specs.Runs.{answer_text, job_line, job_lines, commits_line, names_of, IsRunOf, IsRecordOf};
 
 use super::acts::{DONE, FAULT, MEMORY, REFUSED, print, print_failure, print_unreadable};
-use super::answers::graph_of;
-use super::failure::Failure;
 use super::scripted::Scripted;
+use answers::{Failure, graph_of};
 use executions::{Executor, OpenGate};
 use farm::{FailedJob, Farm, FarmEnd, FarmFault, FarmStop};
 use farm_base::NodeId;
+use filekeeper::FileKeeper;
 use jobs::Answer;
-use saverecord::FileKeeper;
 use schedule::Setup;
 use solverkeys::Keyed;
 use std::alloc::{AllocError, AllocFailed, Global};

@@ -1,7 +1,8 @@
 //! What `--explain` says, and the words that ask for it.
 
 use super::printed::{lines_of, strings};
-use commands::{Command, Options, Request, explained, words_of};
+use answers::Command;
+use commands::{Options, Request, explained, words_of};
 use std::alloc::Global;
 use std::test::Fail;
 

@@ -1,6 +1,7 @@
 //! What the program prints for small definitions, words and schedules, each worked out by hand.
 
-use commands::{Command, DONE, FAULT, REFUSED, USAGE, act, run};
+use answers::Command;
+use commands::{DONE, FAULT, REFUSED, USAGE, act, run};
 use farm_base::Digest;
 use protowire::put_message;
 use sha2::Sha256;

@@ -1,7 +1,8 @@
 //! Records of each version, and what `record` prints for each. Bytes and texts were made apart from the program.
 
 use super::printed::wrong_row;
-use commands::{Command, DONE, REFUSED};
+use answers::Command;
+use commands::{DONE, REFUSED};
 use std::test::Fail;
 
 #[test]

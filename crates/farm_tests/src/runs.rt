@@ -1,7 +1,8 @@
 //! Runs of files on a farm, with what they print and the record that they keep.
 
 use super::printed::{NO_OP, run_words, spelled};
-use commands::{Command, DONE, FAULT, Order, REFUSED, answer, run_scripts};
+use answers::{Command, answer};
+use commands::{DONE, FAULT, Order, REFUSED, run_scripts};
 use jobs::{Cause, Fault};
 use std::alloc::Global;
 use std::fs;

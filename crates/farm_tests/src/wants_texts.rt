@@ -2,7 +2,8 @@
 //! prints for each. The texts were made apart from the program.
 
 use super::printed::wrong_row;
-use commands::{Command, DONE, REFUSED};
+use answers::Command;
+use commands::{DONE, REFUSED};
 use std::test::Fail;
 
 #[test]

@@ -13,7 +13,8 @@ use Rattle.farm_base.specs.declared.lease.Lease.{Lease}
 use Rattle.protocol.specs.Names.{Slot, NodeId}
 use Rattle.protocol.specs.Ledger.{is_at}
 use Rattle.leases.specs.declared.ending.Ending.{Ending}
-use Rattle.leases.specs.Leases.{Table, AreLeases}
+use Rattle.leases.specs.Leases.{Table}
+use Rattle.holdings.specs.Leases.{AreLeases}
 use Rattle.leases.specs.Changes.{Change, changed, ends_lease, has_ended, slots_ended}
 use Rattle.leases.specs.Table.{all_private, private_slots}
 use Rattle.leases.proofs.MarkLemmas.{drop-item}

@@ -11,13 +11,13 @@ use Rattle.protocol.specs.Ledger.{has_ticket, is_at}
 use Rattle.protocol.proofs.Base.{all_in}
 use Rattle.protocol.proofs.Leases.{find_some}
 use Rattle.leases.specs.Counts.{ask_eq, name_of, has_ask, ask_count, node_count, times_in, oldest_in, oldest_of, Counts, AreCounted, AreLast}
-use Rattle.leases.specs.Leases.{IsBefore}
+use Rattle.holdings.specs.Leases.{IsBefore}
 use Rattle.leases.specs.Newest.{node_eq}
 use Rattle.leases.specs.declared.lease_counts.LeaseCount.{LeaseCount}
 use Rattle.leases.specs.declared.lease_counts.LeaseCounts.{LeaseCounts}
 use Rattle.leases.specs.declared.lease_counts.AskName.{AskName}
 use Rattle.leases.proofs.MarkLemmas.{drop-item}
-use Rattle.leases.proofs.TableLemmas.{AllPairs-head, AllPairs-tail}
+use Rattle.holdings.proofs.LeaseLemmas.{AllPairs-head, AllPairs-tail}
 
 -- ---- what an index has of one ask
 

@@ -14,10 +14,10 @@ use Rattle.protocol.specs.Names.{Ticket}
 use Rattle.protocol.specs.Ledger.{has_ticket}
 use Rattle.leases.specs.declared.ending.Ending.{Ending}
 use Rattle.leases.specs.Changes.{has_ended, standing}
-use Rattle.leases.specs.Leases.{IsBefore}
-use Rattle.leases.specs.Places.{IsPlace, IsGap}
-use Rattle.leases.proofs.PlaceLemmas.{NoneBelow, none_below_place, none_in_gap}
-use Rattle.leases.proofs.TableLemmas.{AllPairs-head, AllPairs-tail}
+use Rattle.holdings.specs.Leases.{IsBefore}
+use Rattle.holdings.specs.Places.{IsPlace, IsGap}
+use Rattle.holdings.proofs.PlaceLemmas.{NoneBelow, none_below_place, none_in_gap}
+use Rattle.holdings.proofs.LeaseLemmas.{AllPairs-head, AllPairs-tail}
 
 -- ---- among those that are kept
 
@@ -78,40 +78,3 @@ ticket_once t live up i j d lt inside has =
     let rises = up i j d lt inside in
     let same = eqb-true (get_or live i d).ticket.0 t.0 has in
     ne_eqb (get_or live j d).ticket.0 t.0 (λ e. omega arith)
-
-abbrev pub tickets : List Lease → List ℕ
-tickets live = map (λ g. g.ticket.0) live
-
-pub tickets_rise : (live : List Lease) → AllPairs IsBefore live → IsStrictlyIncreasing (tickets live)
-tickets_rise [] up k inside = absurd (omega arith)
-tickets_rise (g ∷ live) up k inside =
-    let len = length-map (g ∷ live) (λ (h : Lease). h.ticket.0) in
-    let this = get_or-map (λ (h : Lease). h.ticket.0) (g ∷ live) k g 0 (omega arith) in
-    let next = get_or-map (λ (h : Lease). h.ticket.0) (g ∷ live) (k + 1) g 0 (omega arith) in
-    let rises = up k (k + 1) g (omega arith) (omega arith) in
-    rw (this, next) rises
-
-position_at : (t : Ticket) (live : List Lease) (from k n : ℕ) → n ≡ from + k → NoneBelow t.0 (tickets live) k → k < length live → get_or (tickets live) k 0 ≡ t.0 → position_from (has_ticket t) from live ≡ Some n
-position_at t [] from k n is none inside at = absurd (omega arith)
-position_at t (g ∷ live) from zero n is none inside at =
-    let here : eqb g.ticket.0 t.0 ≡ true = eq-eqb g.ticket.0 t.0 at in
-    let same : from ≡ n = omega arith in
-    rw here (ap (λ (m : ℕ). Some m) same)
-position_at t (g ∷ live) from (suc k) n is none inside at =
-    let other : eqb g.ticket.0 t.0 ≡ false = ne_eqb g.ticket.0 t.0 (none 0 (omega arith)) in
-    rw other (position_at t live (from + 1) k n (omega arith) (λ i lt. none (suc i) (omega arith)) (omega arith) at)
-
-no_position : (t : Ticket) (live : List Lease) (from : ℕ) → NoneBelow t.0 (tickets live) (length (tickets live)) → position_from (has_ticket t) from live ≡ None
-no_position t [] from none = refl
-no_position t (g ∷ live) from none =
-    let other : eqb g.ticket.0 t.0 ≡ false = ne_eqb g.ticket.0 t.0 (none 0 (omega arith)) in
-    rw other (no_position t live (from + 1) (λ i lt. none (suc i) (omega arith)))
-
--- what a search for a ticket says
-pub position_searched : (t : Ticket) (live : List Lease) (r : Result ℕ ℕ) → AllPairs IsBefore live → MatchResult r (IsPlace t.0 (tickets live)) (IsGap t.0 (tickets live))
-    → result_ok r ≡ position_from (has_ticket t) 0 live
-position_searched t live (Ok k) up place =
-    let len = length-map live (λ (g : Lease). g.ticket.0) in
-    let inside = place.inside in
-    sym (position_at t live 0 k k (omega arith) (none_below_place t.0 (tickets live) k (tickets_rise live up) place) (omega arith) place.number)
-position_searched t live (Err k) up gap = sym (no_position t live 0 (none_in_gap t.0 (tickets live) k gap))

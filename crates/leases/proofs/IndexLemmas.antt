@@ -17,9 +17,9 @@ use Rattle.protocol.specs.Ledger.{has_slot, has_ticket}
 use Rattle.protocol.proofs.Leases.{find_some}
 use Rattle.leases.specs.Counts.{AreLast}
 use Rattle.leases.specs.Index.{ticket_at, IsIndexed, AreIndexed, slot_entries, index_entries}
-use Rattle.leases.specs.Leases.{AreApart, IsBefore}
+use Rattle.holdings.specs.Leases.{AreApart, IsBefore}
 use Rattle.leases.proofs.FindLemmas.{PassesOnce}
-use Rattle.leases.proofs.TableLemmas.{AllPairs-head, AllPairs-tail}
+use Rattle.holdings.proofs.LeaseLemmas.{AllPairs-head, AllPairs-tail}
 
 -- ---- leases put into the index
 

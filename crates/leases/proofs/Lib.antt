@@ -2,11 +2,7 @@ pub mod MarkLemmas
 pub mod TableLemmas
 pub mod LowestLaw
 pub mod RetiredLemmas
-pub mod RisingLemmas
 pub mod SavedLemmas
-pub mod PlaceLemmas
-pub mod LifeLemmas
-pub mod NodeLemmas
 pub mod ChangeLemmas
 pub mod FindLemmas
 pub mod OldestLemmas

@@ -7,11 +7,12 @@ use Rattle.std.proofs.lemmas.List.Elements.{All-tail}
 use Rattle.farm_base.specs.declared.lease.Lease.{Lease}
 use Rattle.protocol.specs.Names.{Want, only_slot}
 use Rattle.protocol.specs.Ledger.{has_slot}
-use Rattle.leases.specs.Leases.{IsBefore}
+use Rattle.holdings.specs.Leases.{IsBefore}
 use Rattle.leases.specs.Live.{older}
-use Rattle.leases.specs.Table.{holds_some, takes}
+use Rattle.leases.specs.Table.{holds_some}
+use Rattle.holdings.specs.Leases.{takes}
 use Rattle.leases.proofs.MarkLemmas.{drop-item}
-use Rattle.leases.proofs.TableLemmas.{AllPairs-head, AllPairs-tail}
+use Rattle.holdings.proofs.LeaseLemmas.{AllPairs-head, AllPairs-tail}
 
 -- ---- which of two is older
 

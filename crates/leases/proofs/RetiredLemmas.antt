@@ -7,7 +7,8 @@ use Rattle.farm_base.proofs.CompareLaws as laws
 use Rattle.farm_base.specs.declared.lease.Lease.{Lease}
 use Rattle.protocol.specs.Names.{Slot, slot_eq, is_private}
 use Rattle.protocol.specs.Ledger.{has_slot, some_lease, retire_all}
-use Rattle.leases.specs.Table.{among, private_slots, private_of, all_private, retires_some}
+use Rattle.holdings.specs.Leases.{among}
+use Rattle.leases.specs.Table.{private_slots, private_of, all_private, retires_some}
 
 -- one more PRIVATE slot
 among_step : (p q r s t : Bool) → (q ≡ true → p ≡ s) → t ≡ (s && r) → (cond p (q || t) t) ≡ (s && (q || r))

@@ -10,10 +10,10 @@ use Rattle.leases.specs.declared.ending.Ending.{Ending}
 use Rattle.leases.specs.declared.ending.Ending.TheVariants as ending
 use Rattle.leases.specs.Changes.{ends_lease, has_ended, saved_tickets, ticket_of_saved}
 use Rattle.leases.specs.Counts.{AreLast}
-use Rattle.leases.specs.Leases.{IsBefore}
+use Rattle.holdings.specs.Leases.{IsBefore}
 use Rattle.leases.proofs.FindLemmas.{ticket_once}
 use Rattle.leases.proofs.LastLemmas.{last-filter, last-weaker}
-use Rattle.leases.proofs.TableLemmas.{AllPairs-head, AllPairs-tail}
+use Rattle.holdings.proofs.LeaseLemmas.{AllPairs-head, AllPairs-tail}
 
 -- nothing ends
 pub saved_tickets-none : (live : List Lease) → [] ≡ saved_tickets [] live

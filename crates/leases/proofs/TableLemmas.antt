@@ -18,15 +18,12 @@ use Rattle.protocol.proofs.Leases as instances
 use Rattle.protocol.specs.Names.{Slot, slot_eq, is_private, only_slot, FolderName, NodeId, Life, Ask, Ticket, Want, leased_wants}
 use Rattle.protocol.specs.Ledger.{has_slot, some_lease, lowest, slot_for, all_taken, busy, without, has_ticket}
 use Rattle.protocol.proofs.Base.{true_false, eqb_same}
-use Rattle.leases.specs.Leases.{Table, AreLeases, AreApart, IsBefore, Rises}
-use Rattle.leases.specs.Table.{takes, is_free, fit_of, first_fit, lease_for}
+use Rattle.leases.specs.Leases.{Table}
+use Rattle.holdings.specs.Leases.{AreLeases, AreApart, IsBefore, Rises}
+use Rattle.holdings.specs.Leases.{takes}
+use Rattle.holdings.proofs.LeaseLemmas.{leased-filter, wants_filter}
+use Rattle.leases.specs.Table.{is_free, fit_of, first_fit, lease_for}
 use Rattle.leases.specs.declared.lease_table.Fit.TheVariants.{Fits}
-
--- ---- the wants of which a lease takes slots
-
-pub leased-filter : (tenure : Bool) (wants : List Want) → leased_wants tenure wants ≡ filter (takes tenure) wants
-leased-filter true wants = refl
-leased-filter false wants = refl
 
 -- ---- removing leases
 
@@ -36,68 +33,6 @@ leases-filter p live h = record {
   apart = AllPairs-filter AreApart p live h.apart;
   slots = All-filter p Rises live h.slots;
 }
-
-pub AllPairs-tail : {A : Type 0} (R : A → A → Type 0) (x : A) (xs : List A) → AllPairs R (x ∷ xs) → AllPairs R xs
-AllPairs-tail R x xs h i j d lt inside = h (suc i) (suc j) d (omega arith) (omega arith)
-
-pub AllPairs-head : {A : Type 0} (R : A → A → Type 0) (x : A) (xs : List A) → AllPairs R (x ∷ xs) → All (R x) xs
-AllPairs-head R x xs h k d inside = h 0 (suc k) d (omega arith) (omega arith)
-
--- no later lease has the ticket
-later : (t : Ticket) (g : Lease) (live : List Lease) → g.ticket.0 ≡ t.0 → All (IsBefore g) live → without t live ≡ live
-later t g [] e above = refl
-later t g (h ∷ live) e above =
-    let higher : g.ticket.0 < h.ticket.0 = above 0 h (omega arith) in
-    let other : eqb h.ticket.0 t.0 ≡ false = ne_eqb h.ticket.0 t.0 (λ same. omega arith) in
-    rw other (ap (λ xs. h ∷ xs) (later t g live e (All-tail (IsBefore g) h live above)))
-
--- where the lease of a ticket stands
-pub record StandsAt (t : Ticket) (live : List Lease) (k : ℕ) : Type 0 where
-  pub inside : k < length live
-  pub found : (d : Lease) → find (has_ticket t) live ≡ Some (get_or live k d)
-  pub rest : AllPairs IsBefore live → remove live k ≡ without t live
-
-placed : (t : Ticket) (live : List Lease) (from n : ℕ) → position_from (has_ticket t) from live ≡ Some n → (k : ℕ) × (n ≡ from + k) × StandsAt t live k
-placed t [] from n e = absurd (cc e)
-placed t (g ∷ live) from n e = elim (cases_Bool (eqb g.ticket.0 t.0)) [
-  | inl same ↦ (
-      let at : Some from ≡ Some n = rw same at e in
-      let here : n ≡ from + 0 = (let same : from ≡ n = cc at in omega arith) in (
-        0,
-        here,
-        record {
-          inside = omega arith;
-          found = λ d. rw same refl;
-          rest = λ up. sym (rw same (later t g live (eqb-true g.ticket.0 t.0 same) (AllPairs-head IsBefore g live up)));
-        },
-      ))
-  | inr other ↦ (
-      let r = placed t live (from + 1) n (rw other at e) in
-      let s = r.2 in
-      let at : n ≡ from + suc r.0 = (let at = r.1 in omega arith) in (
-        suc r.0,
-        at,
-        record {
-          inside = omega (arith, s.inside);
-          found = λ d. rw other (s.found d);
-          rest = λ up. rw other (ap (λ xs. g ∷ xs) (s.rest (AllPairs-tail IsBefore g live up)));
-        },
-      ))
-]
-
-pub stands : (t : Ticket) (live : List Lease) (n : ℕ) → position_from (has_ticket t) 0 live ≡ Some n → StandsAt t live n
-stands t live n e =
-    let r = placed t live 0 n e in
-    let P : ℕ → Type 0 = λ k. StandsAt t live k in
-    let same : r.0 ≡ n = (let at = r.1 in omega arith) in
-    subst P same r.2
-
-pub missing : (t : Ticket) (live : List Lease) (from : ℕ) → position_from (has_ticket t) from live ≡ None → (find (has_ticket t) live ≡ None) × (without t live ≡ live)
-missing t [] from e = (refl, refl)
-missing t (g ∷ live) from e = elim (cases_Bool (eqb g.ticket.0 t.0)) [
-  | inl same ↦ (let bad : Some from ≡ None = rw same at e in absurd (cc bad))
-  | inr other ↦ (let r = missing t live (from + 1) (rw other at e) in (rw other r.0, rw other (ap (λ xs. g ∷ xs) r.1)))
-]
 
 -- ---- adding a lease
 
@@ -210,21 +145,6 @@ slots_rise : (n : ℕ) (free : Slot → Bool) (ws : List Want) → IsStrictlySor
 unfolding IsStrictlySortedBy
 slots_rise n free [] h = tt
 slots_rise n free (w ∷ ws) h = (below_all n free w ws h.0, slots_rise n free ws h.1)
-
-below_filter : (p : Want → Bool) (f : FolderName) (ws : List Want) → AllByRecursion (λ g. folder_cmp f g ≡ Less) (folders ws) → AllByRecursion (λ g. folder_cmp f g ≡ Less) (folders (filter p ws))
-below_filter p f [] h = tt
-below_filter p f (w ∷ ws) h = elim (cases_Bool (p w)) [
-  | inl e ↦ rw e (h.0, below_filter p f ws h.1)
-  | inr e ↦ rw e (below_filter p f ws h.1)
-]
-
-pub wants_filter : (p : Want → Bool) (ws : List Want) → IsStrictlySortedBy folder_cmp (folders ws) → IsStrictlySortedBy folder_cmp (folders (filter p ws))
-unfolding IsStrictlySortedBy
-wants_filter p [] h = tt
-wants_filter p (w ∷ ws) h = elim (cases_Bool (p w)) [
-  | inl e ↦ rw e (below_filter p w.folder ws h.0, wants_filter p ws h.1)
-  | inr e ↦ rw e (wants_filter p ws h.1)
-]
 
 -- adding a lease for wants that fit
 pub leases_more : (n : ℕ) (free : Slot → Bool) (live : List Lease) (wants : List Want) (g : Lease) → FreeIsOpen free live → IsWants wants

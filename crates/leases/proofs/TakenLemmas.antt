@@ -17,11 +17,12 @@ use Rattle.leases.specs.Instances.{has_of, instances_of, slot_instances, slot_na
 use Rattle.leases.specs.declared.instances.Instances.{Instances}
 use Rattle.leases.specs.declared.ending.Ending.{Ending}
 use Rattle.leases.specs.Changes.{ends_lease, has_ended}
-use Rattle.leases.specs.Leases.{AreApart}
-use Rattle.leases.specs.Table.{among, is_free}
+use Rattle.holdings.specs.Leases.{AreApart}
+use Rattle.holdings.specs.Leases.{among}
+use Rattle.leases.specs.Table.{is_free}
 use Rattle.leases.proofs.FindLemmas.{PassesOnce}
 use Rattle.leases.proofs.MarkLemmas.{drop-item}
-use Rattle.leases.proofs.TableLemmas.{AllPairs-head, AllPairs-tail}
+use Rattle.holdings.proofs.LeaseLemmas.{AllPairs-head, AllPairs-tail}
 
 -- ---- an index that is set at one folder
 

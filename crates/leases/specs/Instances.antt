@@ -8,7 +8,7 @@ use Rattle.farm_base.specs.declared.lease.Lease.{Lease}
 use Rattle.farm_base.specs.declared.limits.TheConstants.{INSTANCES}
 use Rattle.protocol.specs.Names.{Slot, FolderName}
 use Rattle.protocol.specs.Ledger.{some_lease}
-use Rattle.leases.specs.Table.{among}
+use Rattle.holdings.specs.Leases.{among}
 use Rattle.leases.specs.declared.instances.Instances.{Instances}
 use Rattle.leases.specs.declared.taken_instances.TakenInstances.{TakenInstances}
 

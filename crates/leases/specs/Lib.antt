@@ -1,13 +1,10 @@
-pub mod Tickets
 pub mod Leases
 pub mod Index
 pub mod Instances
 pub mod Newest
 pub mod Counts
 pub mod Live
-pub mod Lives
 pub mod Lowest
 pub mod Marks
-pub mod Places
 pub mod Table
 pub mod Changes

@@ -5,7 +5,7 @@ use Rattle.protocol.specs.Names.{FolderName, Ticket}
 use Rattle.leases.specs.Counts.{AreCounted}
 use Rattle.leases.specs.Index.{AreIndexed}
 use Rattle.leases.specs.Instances.{AreTaken}
-use Rattle.leases.specs.Leases.{AreLeases}
+use Rattle.holdings.specs.Leases.{AreLeases}
 use Rattle.leases.specs.declared.lease_counts.LeaseCounts.{LeaseCounts}
 
 -- live leases, as contracts see them

@@ -3,21 +3,17 @@ use Rattle.std.specs.Prelude.{ℕ, ◌==◌, if◌then◌else◌, Bool, true, fa
 use Rattle.std.specs.List.{list_any, find, flat_map}
 use Rattle.farm_base.specs.declared.limits.TheConstants.{INSTANCES}
 use Rattle.farm_base.specs.declared.lease.Lease.{Lease}
-use Rattle.farm_base.specs.declared.lease.NodeLife.{NodeLife}
-use Rattle.protocol.specs.Names.{FolderName, Slot, slot_eq, is_private, only_slot, NodeId, Life, Ask, Ticket, Want, any_shared, wants_shared, leased_wants}
+use Rattle.protocol.specs.Names.{FolderName, Slot, is_private, only_slot, NodeId, Life, Ask, Ticket, Want, any_shared, leased_wants}
 use Rattle.protocol.specs.Ledger.{has_slot, some_lease, lowest, slot_for, all_taken, busy, retires}
 use Rattle.leases.specs.declared.lease_table.Fit.{Fit}
 use Rattle.leases.specs.declared.lease_table.Fit.TheVariants.{Fits, Busy, InstancesSpent}
 use Rattle.leases.specs.declared.lease_table.SlotState.{SlotState}
 use Rattle.leases.specs.declared.lease_table.SlotState.TheVariants as state
+use Rattle.holdings.specs.Leases.{among, takes}
 use Rattle.leases.specs.Leases.{Table}
 
 abbrev pub is_leased : Table → Slot → Bool
 is_leased t s = some_lease t.live s
-
--- the slot is among these
-abbrev pub among : List Slot → Slot → Bool
-among slots s = list_any (λ x. slot_eq x s) slots
 
 abbrev pub is_free : Table → Slot → Bool
 is_free t s = not (some_lease t.live s) && not (among t.retired s)
@@ -32,24 +28,10 @@ first_fit true b = InstancesSpent
 first_fit false true = Busy
 first_fit false false = Fits
 
--- the greatest life seen of a node
-abbrev pub life_at : List NodeLife → ℕ → ℕ
-life_at [] n = 0
-life_at (l ∷ ls) n = if l.node.0 == n then l.life.0 else life_at ls n
-
--- the node is among these
-abbrev pub is_among : List NodeId → ℕ → Bool
-is_among nodes n = list_any (λ node. node.0 == n) nodes
-
 -- whether these wants fit. A PRIVATE folder has 4,096 instances
 abbrev pub fit_of : Table → Bool → List Want → Fit
 fit_of t tenure wants =
     first_fit (all_taken INSTANCES (is_free t) (leased_wants tenure wants)) (busy (is_leased t) (leased_wants tenure wants))
-
--- a lease takes a slot for the want
-abbrev pub takes : Bool → Want → Bool
-takes true w = wants_shared w
-takes false w = not (wants_shared w)
 
 -- the slots that these wants get, and whether each may be written
 abbrev pub slots_of : Table → List Want → List (Slot × Bool)

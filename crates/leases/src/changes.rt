@@ -6,15 +6,17 @@ ghost use Rattle.farm_base.specs.Slots.{slot_cmp};
 ghost use Rattle.protocol.specs.Names.{leased_wants};
 ghost use Rattle.protocol.specs.Ledger.{lease_of, lease_under, without, is_older, is_at, is_saved, retire_all};
 ghost use Rattle.leases.specs.Changes.{changed, ends_lease, saved_tickets, slots_ended};
-ghost use Rattle.leases.specs.Leases.{Table, AreLeases};
-ghost use Rattle.leases.specs.Table.{among, is_free, is_leased, is_spent, fit_of, lease_for, holds_some, retires_some};
+ghost use Rattle.leases.specs.Leases.{Table};
+ghost use Rattle.holdings.specs.Leases.{AreLeases};
+ghost use Rattle.holdings.specs.Leases.{among};
+ghost use Rattle.leases.specs.Table.{is_free, is_leased, is_spent, fit_of, lease_for, holds_some, retires_some};
 
 use super::ending::{Ending, drop_ending, only};
 use super::lease_table::{Fit, LeaseTable};
 use super::saved::{saved_copies, saved_tickets, ticket_of_saved};
-use super::slots::rising;
 use super::view::View;
 use farm_base::{Ask, FolderName, Lease, Life, NodeId, Parked, Slot, Ticket, Wants, copy_all};
+use holdings::rising;
 use std::alloc::{AllocError, Global};
 use std::marker::Model;
 

@@ -6,7 +6,7 @@ ghost use Rattle.farm_base.specs.Folders.{folder_eq};
 ghost use Rattle.farm_base.specs.declared.lease.Lease.{Lease};
 ghost use Rattle.leases.specs.Changes.{ends_lease};
 ghost use Rattle.leases.specs.Index.{ticket_at, IsIndexed, AreIndexed, slot_entries, index_entries};
-ghost use Rattle.leases.specs.Leases.{AreLeases};
+ghost use Rattle.holdings.specs.Leases.{AreLeases};
 
 use super::ending::Ending;
 use farm_base::{Copied, FolderName, Lease, Slot, Ticket};

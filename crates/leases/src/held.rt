@@ -3,7 +3,8 @@ ghost use Rattle.std.specs.Prelude.{◌≡◌, filter, option_copied};
 ghost use Rattle.std.specs.List.{list_any};
 ghost use Rattle.protocol.specs.Names.{leased_wants, any_shared, is_private, only_slot};
 ghost use Rattle.protocol.specs.Ledger.{has_slot, is_of, lease_of};
-ghost use Rattle.leases.specs.Table.{among, takes, holds_some};
+ghost use Rattle.holdings.specs.Leases.{among, takes};
+ghost use Rattle.leases.specs.Table.{holds_some};
 
 use farm_base::{Ask, FolderName, Lease, Life, Mode, NodeId, Slot, Want, Wants};
 

@@ -5,7 +5,7 @@ ghost use Rattle.farm_base.specs.declared.lease.Lease.{Lease};
 ghost use Rattle.protocol.specs.Ledger.{is_at};
 ghost use Rattle.leases.specs.Changes.{ends_lease};
 ghost use Rattle.leases.specs.Counts.{name_of, ask_count, node_count, count_room, oldest_of, Counts, AreCounted, AreLast};
-ghost use Rattle.leases.specs.Leases.{IsBefore};
+ghost use Rattle.holdings.specs.Leases.{IsBefore};
 
 use super::ending::Ending;
 use farm_base::{Ask, Lease, Life, NodeId, Ticket};

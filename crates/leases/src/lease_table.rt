@@ -7,8 +7,9 @@ ghost use Rattle.protocol.specs.Names.{leased_wants};
 ghost use Rattle.protocol.specs.Ledger.{has_slot, lease_of, lease_under, without, is_older, is_at, retire_all};
 ghost use Rattle.leases.specs.Changes.{changed, ends_lease};
 ghost use Rattle.leases.specs.Counts.{AreLast};
-ghost use Rattle.leases.specs.Leases.{AreLeases};
-ghost use Rattle.leases.specs.Table.{among, is_leased, fit_of, lease_for, state_of, holds_some, retires_some};
+ghost use Rattle.holdings.specs.Leases.{AreLeases};
+ghost use Rattle.holdings.specs.Leases.{among};
+ghost use Rattle.leases.specs.Table.{is_leased, fit_of, lease_for, state_of, holds_some, retires_some};
 
 use super::ending::Ending;
 use super::held::{among, has_slot};

@@ -8,10 +8,11 @@ ghost use Rattle.leases.specs.Changes.{ends_lease, frees, has_ended};
 ghost use Rattle.leases.specs.Counts.{AreLast};
 ghost use Rattle.leases.specs.Index.{index_entries};
 ghost use Rattle.leases.specs.Instances.{has, lease_instances};
-ghost use Rattle.leases.specs.Leases.{AreLeases, IsBefore};
+ghost use Rattle.holdings.specs.Leases.{AreLeases, IsBefore};
 ghost use Rattle.leases.specs.Live.{older};
 ghost use Rattle.leases.specs.Marks.{Unmarks};
-ghost use Rattle.leases.specs.Table.{holds_some, takes};
+ghost use Rattle.leases.specs.Table.{holds_some};
+ghost use Rattle.holdings.specs.Leases.{takes};
 
 use super::ending::{Ending, drop_ending_from, standing};
 use super::folder_index::{entries_of, forget, forget_ending, index_of, put_all};
@@ -21,6 +22,7 @@ use super::lease_counts::{AskName, LeaseCounts};
 use super::marks::{unmark_ending, unmark_lease};
 use super::taken_instances::{TakenInstances, instances_of, taken_of};
 use farm_base::{Ask, FolderName, Lease, Life, NodeId, Ticket, Want};
+use holdings::place_of;
 use indexmap::IndexMap;
 use std::alloc::{AllocError, Global};
 use std::marker::Model;
@@ -345,14 +347,4 @@ fn older<'t>(one: Option<&'t Lease>, other: Option<&'t Lease>) -> Option<&'t Lea
             }
         }
     }
-}
-
-/// The place of the lease of a ticket.
-pub fn place_of(leases: &[Lease], ticket: Ticket) -> Option<usize>
-    requires { AllPairs IsBefore leases.now }
-    ensures { result ≡ position_from (has_ticket ticket) 0 leases.now }
-{
-    leases
-        .binary_search_by_key(&ticket, |lease| lease.ticket)
-        .ok()
 }

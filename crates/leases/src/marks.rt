@@ -3,7 +3,7 @@ ghost use Rattle.protocol.specs.Names.{slot_eq};
 ghost use Rattle.protocol.specs.Ledger.{has_slot, some_lease};
 ghost use Rattle.leases.specs.Changes.{frees};
 ghost use Rattle.leases.specs.Marks.{Marks, Unmarks};
-ghost use Rattle.leases.specs.Table.{among};
+ghost use Rattle.holdings.specs.Leases.{among};
 
 use super::ending::Ending;
 use super::instances::Instances;

@@ -2,7 +2,7 @@
 ghost use Rattle.std.specs.Prelude.{◌≡◌, ℕ, ◌+◌, ◌≤◌, [], ◌++◌, map, length, vec_len, IfOk, OnOk, OnErr};
 ghost use Rattle.farm_base.specs.declared.limits.TheConstants.{INSTANCES};
 ghost use Rattle.leases.specs.Instances.{has, slot_names};
-ghost use Rattle.leases.specs.Table.{among};
+ghost use Rattle.holdings.specs.Leases.{among};
 
 use super::instances::Instances;
 use super::taken_instances::TakenInstances;

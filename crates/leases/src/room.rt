@@ -3,7 +3,7 @@ ghost use Rattle.std.specs.Prelude.{◌≡◌, ◌+◌, ◌≤◌, length, vec_l
 ghost use Rattle.leases.specs.Changes.{changed, HasRoom};
 ghost use Rattle.leases.specs.Index.{index_entries};
 ghost use Rattle.leases.specs.Instances.{lease_instances, slot_names};
-ghost use Rattle.leases.specs.Leases.{AreLeases};
+ghost use Rattle.holdings.specs.Leases.{AreLeases};
 
 use super::changes::TableChange;
 use super::lease_table::LeaseTable;

@@ -1,29 +1,12 @@
 //! What the record has of leases.
 ghost use Rattle.std.specs.Prelude.{◌≡◌, ◌&&◌, filter, map, IfOk, option_copied};
-ghost use Rattle.std.specs.List.{list_any};
-ghost use Rattle.protocol.specs.Names.{is_private};
 ghost use Rattle.protocol.specs.Ledger.{is_saved};
 ghost use Rattle.leases.specs.Changes.{ticket_of_saved, saved_tickets};
 
 use super::ending::{Ending, has_ended};
-use farm_base::{Copied, Lease, Mode, Slot, Ticket};
+use farm_base::{Copied, Lease, Ticket};
+use holdings::is_saved;
 use std::alloc::{AllocError, Global};
-
-/// Whether a PRIVATE slot is among these.
-fn has_private(slots: &[(Slot, bool)]) -> bool
-    ensures { result ≡ list_any (λ x. is_private x.0.folder.mode) slots.now }
-{
-    slots
-        .iter()
-        .any(|held| matches!(held.0.folder().mode, Mode::Private))
-}
-
-/// Whether the record has the lease: a tenure, or one with a PRIVATE slot.
-pub fn is_saved(lease: &Lease) -> bool
-    ensures { result ≡ is_saved lease.now }
-{
-    lease.tenure || has_private(lease.slots.as_slice())
-}
 
 /// The ticket of the lease, if there is one and the record has it.
 pub(crate) fn ticket_of_saved(

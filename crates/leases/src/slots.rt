@@ -1,10 +1,8 @@
-//! The PRIVATE slots of leases, and slots in order.
+//! The PRIVATE slots of leases, and copies of leases.
 ghost use Rattle.std.specs.Prelude.{◌≡◌, ◌++◌, not, filter, IfOk, OnOk};
-ghost use Rattle.std.specs.List.Sorted.{IsStrictlySortedBy};
-ghost use Rattle.farm_base.specs.Slots.{slot_cmp};
 ghost use Rattle.protocol.specs.Ledger.{is_at};
 ghost use Rattle.leases.specs.Changes.{has_ended, slots_ended};
-ghost use Rattle.leases.specs.Table.{among, private_slots, all_private};
+ghost use Rattle.leases.specs.Table.{private_slots, all_private};
 
 use super::ending::{Ending, has_ended};
 use farm_base::{Copied, Lease, Mode, NodeId, Slot, copy_all};
@@ -88,15 +86,4 @@ pub(crate) fn add_copies<T: Copied + Drop>(
     let mut copies = copy_all(alloc, more)?;
     items.append(&mut copies)?;
     Ok(())
-}
-
-/// These slots, each once, rising.
-pub fn rising(slots: Vec<Slot>) -> Result<Vec<Slot>, AllocError>
-    ensures rising { IfOk result (λ v. IsStrictlySortedBy slot_cmp v.items) }
-    ensures same { IfOk result (λ v. among v.items ≡ among slots.items) }
-{
-    let mut rising = slots;
-    rising.sort()?;
-    rising.dedup();
-    Ok(rising)
 }

@@ -37,7 +37,8 @@ use Rattle.services.specs.Rules.{Says, Says_all}
 use Rattle.services.specs.Rules.Says_all.{Says_none, Says_more}
 use Rattle.services.specs.Served as served
 use Rattle.services.specs.Served.{joined, settled_text}
-use Rattle.services.proofs.RuleLemmas.{whole_part, no_part, still_in, nothing_said, said_of, said_both}
+use Rattle.protocol.proofs.Following.{part_refl, part_none}
+use Rattle.services.proofs.RuleLemmas.{still_in, nothing_said, said_of, said_both}
 use Rattle.nodefilter.specs.declared.about.About.{About}
 use Rattle.nodefilter.specs.declared.about.About.TheVariants as about
 use Rattle.nodefilter.specs.declared.filter.NodeFilter.{NodeFilter}
@@ -209,17 +210,17 @@ call_done p q at me x new messages said c (Err refusal.Needed) number itself may
 -- ---- lines
 
 are_said : (lost down : Bool) (answer : Result NodeDone NodeRefusal) → AreSaid answer (said_of lost (sends_of down answer))
-are_said true down (Ok done) = no_part done.sends
+are_said true down (Ok done) = part_none done.sends
 are_said true down (Err e) = refl
-are_said false true (Ok done) = no_part done.sends
+are_said false true (Ok done) = part_none done.sends
 are_said false true (Err e) = refl
-are_said false false (Ok done) = whole_part done.sends
+are_said false false (Ok done) = part_refl done.sends
 are_said false false (Err e) = refl
 
 none_said : (lost : Bool) (answer : Result NodeDone NodeRefusal) → AreSaid answer (said_of lost [])
-none_said true (Ok done) = no_part done.sends
+none_said true (Ok done) = part_none done.sends
 none_said true (Err e) = refl
-none_said false (Ok done) = no_part done.sends
+none_said false (Ok done) = part_none done.sends
 none_said false (Err e) = refl
 
 -- a line was answered, and these are the messages so far
@@ -405,7 +406,7 @@ a_start_is_a_run kept last_life origin started p left begins =
     let loses = acts p p me x less [] [] left.number (stays p me x refl)
     (Loses had.store had.known (kept_stands x.store origin.contents.items left.found left.empty) (λ s number d none. absurd (cc none))) in
     let lives = acts p loses.0 me less (has_life less life.0) [] greeting left.number loses.1
-    (Begins_life life greeting left.goes_on (omega (arith, left.last)) (below origin.last.0 farm_limits.greatest begins.in_range) (whole_part greeting)) in
+    (Begins_life life greeting left.goes_on (omega (arith, left.last)) (below origin.last.0 farm_limits.greatest begins.in_range) (part_refl greeting)) in
     let lived : has_life less life.0 ≡ has_life had life.0 = λ i. record { life = life; asks = []; store = had.store; known = had.known; spent = left.goes_on i } in
     let is_node : (seen started.filter).node ≡ has_life less life.0 = sym (lived ∙ ap (λ (w : NodeWork). w.node) begins.begun) in
     let sends : greeting ≡ begins.done.sends = ap (λ (w : NodeWork). w.sends) begins.begun in (

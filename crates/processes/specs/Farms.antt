@@ -5,6 +5,7 @@ use Rattle.coordinator.specs.Seen.{Seen}
 use Rattle.coordinator.specs.Settling.{TakesUp}
 use Rattle.farm_base.specs.Contents.{content_digest}
 use Rattle.farm_base.specs.declared.limits.TheConstants.{NODES}
+use Rattle.filekeeper.specs.Keepers.{Filed, GatherSaves, FileGathers, FileSaves, FileLoads, FileSyncs, file_texts}
 use Rattle.nodefilter.specs.declared.filter.NodeFilter.{NodeFilter}
 use Rattle.nodefilter.specs.declared.starting.Origin.{Origin}
 use Rattle.nodefilter.specs.declared.starting.Started.{Started}
@@ -17,7 +18,6 @@ use Rattle.nodefilter.specs.Stores as store
 use Rattle.nodefilter.specs.Stores.{has_digest}
 use Rattle.protocol.specs.Farm.{farm_limits}
 use Rattle.protocol.specs.Processes.{Processes, Runs, StaySafe, first_processes}
-use Rattle.saverecord.specs.Keepers.{Filed, GatherSaves, FileGathers, FileSaves, FileLoads, FileSyncs, file_texts}
 use Rattle.saverecord.specs.Logs.{saved_in}
 use Rattle.saverecord.specs.Texts.{Texts}
 use Rattle.services.specs.Carried.{Saving}

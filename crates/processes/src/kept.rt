@@ -2,7 +2,8 @@
 use super::fault::{Cause, ProcessFault};
 use super::files::bytes_if_there;
 use coordinator::{CoordRefusal, Coordinator, NotStarted};
-use saverecord::{FileKeeper, Gathered, LogFault, RecordRefusal, texts_in};
+use filekeeper::{FileKeeper, Gathered, LogFault, texts_in};
+use saverecord::RecordRefusal;
 use std::alloc::Global;
 use std::io;
 use std::rt::Files;

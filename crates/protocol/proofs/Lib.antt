@@ -9,7 +9,7 @@ mod Bulk
 mod Meanings
 pub mod Leases
 mod Trying
-mod Following
+pub mod Following
 mod Calls
 mod Others
 mod Saying
@@ -17,7 +17,7 @@ pub mod Moving
 mod Using
 mod Noting
 mod Parking
-mod Wanting
+pub mod Wanting
 mod Denials
 mod Asked
 pub mod Saving

@@ -15,11 +15,12 @@ use Rattle.farm_base.specs.Slots.{slot_cmp}
 use Rattle.farm_base.specs.Contents.{content_digest}
 use Rattle.farm_base.specs.declared.lease.NodeLife.{NodeLife}
 use Rattle.farm_base.specs.declared.limits.TheConstants.{NODES}
-use Rattle.leases.specs.Leases.{IsBefore, IsOpen, Rises}
-use Rattle.leases.specs.Lives.{AreLives}
-use Rattle.leases.specs.Table.{among, is_among, life_at}
-use Rattle.leases.proofs.FindLemmas.{tickets_rise}
-use Rattle.leases.proofs.TableLemmas.{AllPairs-head, AllPairs-tail}
+use Rattle.holdings.specs.Leases.{IsBefore, IsOpen, Rises}
+use Rattle.holdings.specs.Lives.{AreLives}
+use Rattle.holdings.specs.Leases.{among}
+use Rattle.holdings.specs.Lives.{is_among, life_at}
+use Rattle.holdings.proofs.LeaseLemmas.{tickets_rise}
+use Rattle.holdings.proofs.LeaseLemmas.{AllPairs-head, AllPairs-tail}
 use Rattle.lists.proofs.Rising.{less-from_cmp}
 use Rattle.protocol.specs.Lists.{In}
 use Rattle.protocol.specs.Names.{Slot, slot_eq, is_private, NodeId, Ticket}

@@ -16,9 +16,10 @@ use Rattle.farm_base.specs.Folders.{folder_cmp, folder_eq}
 use Rattle.farm_base.specs.Slots.{SlotParts}
 use Rattle.farm_base.specs.Wanted.{folders}
 use Rattle.farm_base.proofs.WantLemmas.{eq-by_cmp}
-use Rattle.leases.specs.Leases.{Rises, IsOpen}
-use Rattle.leases.specs.Table.{among, takes, life_at, is_among}
-use Rattle.leases.proofs.TableLemmas.{leased-filter, wants_filter}
+use Rattle.holdings.specs.Leases.{Rises, IsOpen}
+use Rattle.holdings.specs.Leases.{among, takes}
+use Rattle.holdings.specs.Lives.{life_at, is_among}
+use Rattle.holdings.proofs.LeaseLemmas.{leased-filter, wants_filter}
 use Rattle.protocol.specs.Lists.{In}
 use Rattle.protocol.specs.Names.{Slot, slot_eq, is_shared, is_private, NodeId, Want, FolderName, wants_shared, leased_wants}
 use Rattle.protocol.specs.Machine.{LineVersion}

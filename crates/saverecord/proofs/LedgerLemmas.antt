@@ -22,7 +22,7 @@ use Rattle.versions.specs.declared.lines.SlotLine.{SlotLine}
 use Rattle.versions.specs.Lines.{line_at}
 use Rattle.versions.proofs.Ordered.{Rise, line_at-place}
 use Rattle.saverecord.specs.Relations.{is_same_ask}
-use Rattle.leases.specs.Table.{life_at}
+use Rattle.holdings.specs.Lives.{life_at}
 
 -- ---- what holds of each element
 

@@ -16,10 +16,3 @@ pub mod FoldLemmas
 pub mod LogEntryLaws
 pub mod LogLemmas
 pub mod LogLaws
-mod FramingLemmas
-mod DiskLemmas
-mod CrashLemmas
-mod TakingLemmas
-mod AddingLemmas
-mod ReplacingLemmas
-mod SyncLemmas

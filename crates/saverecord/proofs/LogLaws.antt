@@ -13,8 +13,8 @@ use Rattle.std.proofs.lemmas.Map.Keys.{sorted_from_strictly_increasing, IsStrict
 use Rattle.codec.specs.Steps.{◌>>=◌}
 use Rattle.farm_base.specs.declared.lease.NodeLife.{NodeLife}
 use Rattle.farm_base.specs.declared.limits.TheConstants.{NODES}
-use Rattle.leases.specs.Leases.{Rises}
-use Rattle.leases.specs.Table.{among}
+use Rattle.holdings.specs.Leases.{Rises}
+use Rattle.holdings.specs.Leases.{among}
 use Rattle.lists.proofs.Rising.{less-from_cmp}
 use Rattle.protocol.specs.Lists.{In, put}
 use Rattle.protocol.specs.Names.{Slot, slot_eq, is_private, NodeId, Ticket}

@@ -14,7 +14,7 @@ use Rattle.codec.proofs.Steps.{bind_ok, ok_is, passed_ok as test_ok}
 use Rattle.farm_base.specs.Slots.{slot_cmp}
 use Rattle.farm_base.specs.declared.limits.TheConstants.{NODES}
 use Rattle.farm_base.proofs.CompareLaws.{slot_eq-by_cmp}
-use Rattle.leases.specs.Leases.{IsOpen}
+use Rattle.holdings.specs.Leases.{IsOpen}
 use Rattle.protocol.specs.Farm.{farm_limits}
 use Rattle.protocol.specs.Lists.{In}
 use Rattle.protocol.specs.Names.{Slot, slot_eq, Ticket}

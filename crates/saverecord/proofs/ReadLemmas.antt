@@ -16,8 +16,9 @@ use Rattle.farm_base.specs.Slots.{SlotParts, slot_cmp}
 use Rattle.farm_base.specs.Wanted.{folders}
 use Rattle.farm_base.proofs.CompareLaws.{folder_cmp-tie}
 use Rattle.farm_base.proofs.WantLemmas.{eq-by_cmp}
-use Rattle.leases.specs.Leases.{Rises, IsOpen}
-use Rattle.leases.specs.Table.{among, life_at, is_among}
+use Rattle.holdings.specs.Leases.{Rises, IsOpen}
+use Rattle.holdings.specs.Leases.{among}
+use Rattle.holdings.specs.Lives.{life_at, is_among}
 use Rattle.lists.proofs.Rising.{less-from_cmp}
 use Rattle.protocol.specs.Lists.{In}
 use Rattle.protocol.specs.Names.{Slot, slot_eq, Mode, Shared, Private, Locked, is_shared, is_private, IsInstance, NodeId, Want, FolderName, leased_wants, tenure_wants}
@@ -26,6 +27,7 @@ use Rattle.protocol.specs.Ledger.{Lease, has_slot}
 use Rattle.protocol.specs.Lawful.{IsNumber, AreAsked, want_of, IsHolder, AllApart, IsCore}
 use Rattle.protocol.proofs.Base.{all_in, true_false, some_is, none_some, slot_eq_is, in_map, from_any, any_none}
 use Rattle.protocol.proofs.Moving.{all_in as each_passes}
+use Rattle.protocol.proofs.Wanting.{shared_mode}
 use Rattle.versions.specs.declared.lines.SlotLine.{SlotLine}
 use Rattle.versions.specs.Line.{IsLine}
 use Rattle.versions.specs.Lines.{line_at}
@@ -77,11 +79,6 @@ folders_rise (x ∷ slots) up typed own =
 
 -- ---- what a lease's ask wanted
 
-shared_is : (m : Mode) → is_shared m ≡ true → m ≡ Shared
-shared_is Shared h = refl
-shared_is Private h = absurd (cc h)
-shared_is Locked h = absurd (cc h)
-
 one_folder : (f : FolderName) → IsStrictlySortedBy folder_cmp (f ∷ [])
 unfolding IsStrictlySortedBy
 one_folder f = (tt, tt)
@@ -102,7 +99,7 @@ wanted true (x ∷ []) few up fits =
     let b = and_parts (is_shared x.0.folder.mode) x.1 fits in (
       tenure_wants x.0.folder,
       record { sorted = (omega arith, one_folder (record x.0.folder { mode = Shared })); one = λ e. refl },
-      same_wants x (shared_is x.0.folder.mode b.0) b.1,
+      same_wants x (shared_mode x.0.folder.mode b.0) b.1,
     )
 wanted true (x ∷ y ∷ rest) few up fits = absurd (cc fits)
 wanted false slots few up fits = (

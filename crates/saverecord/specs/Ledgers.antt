@@ -4,8 +4,9 @@ use Rattle.std.specs.List.Sorted.{IsStrictlyIncreasing, IsStrictlySortedBy}
 use Rattle.farm_base.specs.declared.limits.TheConstants.{NODES}
 use Rattle.farm_base.specs.Digests.{IsBytes}
 use Rattle.farm_base.specs.Slots.{slot_cmp}
-use Rattle.leases.specs.Leases.{Rises, IsOpen}
-use Rattle.leases.specs.Table.{among, life_at, is_among}
+use Rattle.holdings.specs.Leases.{Rises, IsOpen}
+use Rattle.holdings.specs.Leases.{among}
+use Rattle.holdings.specs.Lives.{life_at, is_among}
 use Rattle.protocol.specs.Names.{Slot, IsInstance}
 use Rattle.protocol.specs.Ledger.{Ledger, Lease}
 use Rattle.protocol.specs.Lawful.{IsLawful}

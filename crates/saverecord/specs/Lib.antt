@@ -6,12 +6,7 @@ pub mod Spelling
 pub mod Records
 pub mod Relations
 pub mod Fits
-pub mod Calls
-pub mod Disks
 pub mod Texts
-pub mod Framing
-pub mod RecordFiles
-pub mod Settled
 pub mod Keepers
 pub mod Ledgers
 pub mod LogEntries

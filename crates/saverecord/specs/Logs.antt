@@ -8,8 +8,9 @@ use Rattle.farm_base.specs.declared.lease.Lease.{Lease}
 use Rattle.farm_base.specs.declared.lease.NodeLife.{NodeLife}
 use Rattle.farm_base.specs.declared.limits.TheConstants.{NODES}
 use Rattle.farm_base.specs.Slots.{slot_cmp}
-use Rattle.leases.specs.Leases.{IsBefore, IsOpen, Rises}
-use Rattle.leases.specs.Table.{among, is_among, life_at}
+use Rattle.holdings.specs.Leases.{IsBefore, IsOpen, Rises}
+use Rattle.holdings.specs.Leases.{among}
+use Rattle.holdings.specs.Lives.{is_among, life_at}
 use Rattle.protocol.specs.Lawful.{IsNumber, IsSpeaker, AreAsked, want_of, IsLawful}
 use Rattle.protocol.specs.Lists.{put}
 use Rattle.protocol.specs.Names.{Slot, is_private, NodeId, Ticket, Want, leased_wants}

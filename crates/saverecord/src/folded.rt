@@ -1,7 +1,7 @@
 //! What texts hold while they are read, and the record that it makes.
 ghost use Rattle.std.specs.Prelude.{◌≡◌, IfOk};
 ghost use Rattle.std.specs.List.{list_all};
-ghost use Rattle.leases.specs.Table.{among};
+ghost use Rattle.holdings.specs.Leases.{among};
 ghost use Rattle.protocol.specs.Ledger.{reads, saves};
 ghost use Rattle.saverecord.specs.Ledgers.{IsKept, ledger_of};
 ghost use Rattle.saverecord.specs.Logs.{is_open, some_retired, fits, agreed, folded_ledger, IsReadable};
@@ -13,7 +13,7 @@ use super::record::Record;
 use super::refusal::{Flaw, RecordRefusal};
 use super::relation::are_apart;
 use farm_base::{Items, Lease, NodeId, Slot, Ticket};
-use leases::{Lives, RetiredNodes, is_saved, rising};
+use holdings::{Lives, RetiredNodes, is_saved, rising};
 use std::alloc::Global;
 use versions::Lines;
 

@@ -1,8 +1,9 @@
 //! Reading what is kept: a whole record, and what each entry after it changes.
 ghost use Rattle.std.specs.Prelude.{◌≡◌, ◌≤◌, All, AllPairs, IfOk, Ok};
 ghost use Rattle.std.specs.List.{list_all};
-ghost use Rattle.leases.specs.Leases.{IsBefore};
-ghost use Rattle.leases.specs.Table.{among, is_among, life_at};
+ghost use Rattle.holdings.specs.Leases.{IsBefore};
+ghost use Rattle.holdings.specs.Leases.{among};
+ghost use Rattle.holdings.specs.Lives.{is_among, life_at};
 ghost use Rattle.saverecord.specs.Ledgers.{IsKept, blank, ledger_of, record_in};
 ghost use Rattle.saverecord.specs.LogEntries.{IsLogEntry};
 ghost use Rattle.saverecord.specs.Logs.{with_version, with_versions, without_one, without_all, are_newer, with_leases, with_lives, with_gone, with_retired, is_coherent, may_follow, with_entry, after_text, ledger_in, folded_ledger, IsReadable};
@@ -18,7 +19,7 @@ use super::record::Record;
 use super::refusal::{Flaw, RecordRefusal};
 use super::relation::{are_of_own_folders, are_private, fits_tenure, lines_up_to};
 use farm_base::{Items, Lease, NodeId, NodeLife, Slot, Ticket};
-use leases::{Lives, RetiredNodes, is_saved, place_of};
+use holdings::{Lives, RetiredNodes, is_saved, place_of};
 use std::alloc::{AllocError, Global};
 use versions::{Lines, SlotLine};
 

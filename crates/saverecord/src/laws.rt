@@ -1,6 +1,5 @@
 //! A record and the ledger that it keeps. A function whose proof needs one of these laws calls it.
 ghost use Rattle.saverecord.specs.Ledgers.{KeptIsRecord, ReadIsKept, RecordIsKept};
-ghost use Rattle.saverecord.specs.Settled.{WhatIsHeldIsGiven};
 
 /// A record that keeps a lawful ledger, each of its lists in order, can be written.
 pub fn what_is_kept_is_a_record()
@@ -12,9 +11,4 @@ pub fn what_is_kept_is_a_record()
 pub fn what_is_read_is_lawful()
     ensures record { RecordIsKept }
     ensures read { ReadIsKept }
-{}
-
-/// Opening the files that a crash left gives the texts that they hold: those that the calls of `RecordFiles` name.
-pub fn what_is_held_is_given()
-    ensures { WhatIsHeldIsGiven }
 {}

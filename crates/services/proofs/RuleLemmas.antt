@@ -11,13 +11,14 @@ use Rattle.farm_base.specs.declared.digest.Digest.{Digest}
 use Rattle.farm_base.specs.declared.limits.TheConstants.{NODES}
 use Rattle.farm_base.specs.declared.message.Message.{Message}
 use Rattle.farm_base.specs.declared.message.ToCoord.{ToCoord}
+use Rattle.filekeeper.specs.Keepers.{Filed, GatherSaves, FileGathers, FileSaves, FileLoads, FileSyncs, file_texts}
 use Rattle.protocol.specs.declared.answer.CoordRefusal.{CoordRefusal}
 use Rattle.protocol.specs.declared.answer.CoordRefusal.TheVariants.{Down, SaveFault, BadRecord, NotLive, SlotLeased, NoSuchSlot, TicketsSpent, OutOfMemory, LoadFault, Tenure, TenureHeld, NodeRetired}
 use Rattle.protocol.specs.Farm.{farm_limits}
 use Rattle.protocol.specs.Ledger.{Ledger, Work, Saved, saves, reads}
 use Rattle.protocol.specs.Lists.{In}
 use Rattle.protocol.specs.Machine.{Told, Said, IsPartOf}
-use Rattle.protocol.specs.Machine.IsPartOf.{Ends_part, Keeps, Leaves}
+use Rattle.protocol.proofs.Following.{part_refl, part_none}
 use Rattle.protocol.specs.Processes as process
 use Rattle.protocol.specs.Processes.{Coordinator, Processes, Runs, MayCome, AllMayCome, decided, batch, begin_batch, is_up, is_down}
 use Rattle.protocol.specs.Processes.CoordinatorDoes.{Works, Fails, Is_killed, Starts}
@@ -25,7 +26,6 @@ use Rattle.protocol.specs.Processes.Happens.{Coordinator_does}
 use Rattle.protocol.specs.Processes.Runs.{Rests, Goes_on}
 use Rattle.saverecord.specs.declared.refusal.KeeperRefusal.{KeeperRefusal}
 use Rattle.saverecord.specs.declared.refusal.KeeperRefusal.TheVariants as keeper
-use Rattle.saverecord.specs.Keepers.{Filed, GatherSaves, FileGathers, FileSaves, FileLoads, FileSyncs, file_texts}
 use Rattle.saverecord.specs.Logs.{Holds, saved_in}
 use Rattle.saverecord.specs.Texts.{Texts}
 use Rattle.services.specs.declared.call.Call.{Call}
@@ -48,15 +48,6 @@ use Rattle.services.specs.Rules.{IsHonest, memory_of, process_of, Says, Says_all
 use Rattle.services.specs.Rules.Says_all.{Says_none, Says_more}
 
 -- ---- runs of the coordinator
-
--- the whole of a list is a part of it, and so is nothing
-pub whole_part : {A : Type 0} (xs : List A) → IsPartOf xs xs
-whole_part [] = Ends_part
-whole_part (x ∷ xs) = Keeps x xs xs (whole_part xs)
-
-pub no_part : {A : Type 0} (xs : List A) → IsPartOf xs []
-no_part [] = Ends_part
-no_part (x ∷ xs) = Leaves x xs [] (no_part xs)
 
 -- the processes come so far, with what the coordinator wrote
 abbrev pub Comes : (List ℕ → Digest) → Processes → Coordinator → List Message → Type 0
@@ -244,15 +235,15 @@ said_both true messages more = refl
 said_both false messages more = refl
 
 are_said : (lost : Bool) (result : Result Handled CoordRefusal) → AreSaid result (said_of lost (sends_of result))
-are_said true (Ok h) = no_part (map Told h.sends)
+are_said true (Ok h) = part_none (map Told h.sends)
 are_said true (Err e) = refl
-are_said false (Ok h) = whole_part (map Told h.sends)
+are_said false (Ok h) = part_refl (map Told h.sends)
 are_said false (Err e) = refl
 
 none_said : (lost : Bool) (result : Result Handled CoordRefusal) → AreSaid result (said_of lost [])
-none_said true (Ok h) = no_part (map Told h.sends)
+none_said true (Ok h) = part_none (map Told h.sends)
 none_said true (Err e) = refl
-none_said false (Ok h) = no_part (map Told h.sends)
+none_said false (Ok h) = part_none (map Told h.sends)
 none_said false (Err e) = refl
 
 quiet : (lost : Bool) (sha : List ℕ → Digest) (p : Processes) (c : Coordinator) (messages : List Message) → Comes sha p c messages → Comes sha p c (messages ++ said_of lost [])

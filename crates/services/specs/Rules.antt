@@ -10,13 +10,13 @@ use Rattle.farm_base.specs.declared.digest.Digest.{Digest}
 use Rattle.farm_base.specs.declared.limits.TheConstants.{NODES}
 use Rattle.farm_base.specs.declared.message.Message.{Message}
 use Rattle.farm_base.specs.declared.message.ToCoord.{ToCoord}
+use Rattle.filekeeper.specs.Keepers.{GatherSaves, FileGathers, FileSaves, FileLoads, FileSyncs, file_texts}
 use Rattle.protocol.specs.Farm.{farm_limits}
 use Rattle.protocol.specs.Ledger.{Ledger}
 use Rattle.protocol.specs.Lists.{In}
 use Rattle.protocol.specs.Machine.{Said, Told}
 use Rattle.protocol.specs.declared.answer.CoordRefusal.{CoordRefusal}
 use Rattle.protocol.specs.Processes.{Coordinator, Processes, Runs}
-use Rattle.saverecord.specs.Keepers.{GatherSaves, FileGathers, FileSaves, FileLoads, FileSyncs, file_texts}
 use Rattle.saverecord.specs.Logs.{saved_in}
 use Rattle.saverecord.specs.Texts.{Texts}
 use Rattle.saverecord.specs.declared.refusal.KeeperRefusal.{KeeperRefusal}

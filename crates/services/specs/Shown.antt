@@ -14,7 +14,7 @@ use Rattle.farm_base.specs.Slots.{SlotParts, slot_cmp}
 use Rattle.words.specs.Words.{access_text, digits_text, want_text}
 use Rattle.farmwire.specs.Lines.{kind_text}
 use Rattle.farmwire.specs.Words.{spaced}
-use Rattle.leases.specs.Table.{among}
+use Rattle.holdings.specs.Leases.{among}
 use Rattle.protocol.specs.Ledger.{Lease, granted_slot, last_digest}
 use Rattle.protocol.specs.Lists.{is_nil}
 use Rattle.protocol.specs.Machine.{Parked}

@@ -7,10 +7,10 @@ use Rattle.std.specs.Global.{Global}
 use Rattle.std.specs.Io.KnownBytes.{Appends}
 use Rattle.std.proofs.lemmas.List.{nil_from_length}
 use Rattle.lists.proofs.Places.{AllZip-push}
-use Rattle.commands.specs.Failures.{failure_line}
+use Rattle.answers.specs.Failures.{failure_line}
 use Rattle.commands.specs.Acts.{File, AnswersFile, AnswersAll}
-use Rattle.commands.specs.declared.command.Command.{Command}
-use Rattle.commands.proofs.Texts.{texts-push}
+use Rattle.answers.specs.declared.command.Command.{Command}
+use Rattle.answers.proofs.Texts.{texts-push}
 use Rattle.commands.proofs.acts.act.Goals as goal
 
 -- one more file

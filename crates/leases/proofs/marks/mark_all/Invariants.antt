@@ -1,6 +1,6 @@
 use Rattle.std.proofs.Common.{◌≡◌, ℕ, ◌≤◌, ◌||◌, drop}
 use Rattle.leases.specs.Instances.{has}
-use Rattle.leases.specs.Table.{among}
+use Rattle.holdings.specs.Leases.{among}
 use Rattle.leases.proofs.marks.mark_all.Given as goal
 
 abbrev pub invariant-loop-slot : goal.invariant-loop-slot

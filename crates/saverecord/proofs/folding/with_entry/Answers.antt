@@ -1,5 +1,6 @@
 use Rattle.std.proofs.Common.{◌≡◌, true, List, Ok, ap, sym, ◌∙◌}
-use Rattle.leases.specs.Table.{among, is_among, life_at}
+use Rattle.holdings.specs.Leases.{among}
+use Rattle.holdings.specs.Lives.{is_among, life_at}
 use Rattle.versions.specs.Lines.{line_at}
 use Rattle.versions.specs.declared.lines.SlotLine.{SlotLine}
 use Rattle.saverecord.specs.Logs.{with_versions, with_leases, with_lives, with_gone, with_retired, may_follow, changed, folded_ledger}

@@ -1,5 +1,5 @@
 use Rattle.std.proofs.Common.{◌≡◌, drop}
-use Rattle.leases.specs.Table.{is_among}
+use Rattle.holdings.specs.Lives.{is_among}
 use Rattle.saverecord.specs.Logs.{with_gone}
 use Rattle.saverecord.proofs.folding.with_gone.Given as goal
 

@@ -1,7 +1,7 @@
 use Rattle.std.proofs.Common.{◌+◌, ℕ, List, drop, ap, sym, ◌∙◌}
 use Rattle.std.proofs.lemmas.List.{drop_more}
 use Rattle.farm_base.specs.declared.lease.NodeLife.{NodeLife}
-use Rattle.leases.specs.Table.{life_at}
+use Rattle.holdings.specs.Lives.{life_at}
 use Rattle.saverecord.specs.Logs.{with_lives}
 use Rattle.saverecord.proofs.folding.with_lives.Goals as goal
 

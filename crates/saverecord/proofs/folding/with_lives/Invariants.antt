@@ -1,5 +1,5 @@
 use Rattle.std.proofs.Common.{◌≡◌, drop}
-use Rattle.leases.specs.Table.{life_at}
+use Rattle.holdings.specs.Lives.{life_at}
 use Rattle.saverecord.specs.Logs.{with_lives}
 use Rattle.saverecord.proofs.folding.with_lives.Given as goal
 

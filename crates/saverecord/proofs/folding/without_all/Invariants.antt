@@ -1,6 +1,6 @@
 use Rattle.std.proofs.Common.{◌≡◌, drop}
 use Rattle.std.specs.Prelude.{AllPairs}
-use Rattle.leases.specs.Leases.{IsBefore}
+use Rattle.holdings.specs.Leases.{IsBefore}
 use Rattle.saverecord.specs.Logs.{without_all}
 use Rattle.saverecord.proofs.folding.without_all.Given as goal
 

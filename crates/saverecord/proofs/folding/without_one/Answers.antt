@@ -2,7 +2,7 @@ use Rattle.std.proofs.Common.{◌∙◌, List, Option, Ok, ap, sym, inr, length,
 use Rattle.std.specs.List.{position_from}
 use Rattle.std.specs.Prelude.{is_some}
 use Rattle.farm_base.specs.declared.lease.Lease.{Lease}
-use Rattle.leases.proofs.TableLemmas.{StandsAt, stands, missing}
+use Rattle.holdings.proofs.LeaseLemmas.{StandsAt, stands, missing}
 use Rattle.protocol.specs.Ledger.{has_ticket, without}
 use Rattle.saverecord.specs.declared.refusal.Flaw.TheVariants.{Relation}
 use Rattle.saverecord.specs.Parts.{passed}

@@ -3,7 +3,8 @@ use Rattle.std.specs.List.{find}
 use Rattle.farm_base.specs.declared.lease.Lease.{Lease}
 use Rattle.protocol.specs.Ledger.{has_ticket}
 use Rattle.leases.specs.Changes.{Change, changed}
-use Rattle.leases.specs.Leases.{Table, AreLeases}
+use Rattle.leases.specs.Leases.{Table}
+use Rattle.holdings.specs.Leases.{AreLeases}
 use Rattle.leases.specs.Table.{lease_for}
 use Rattle.leases.proofs.ChangeLemmas.{live-granted}
 use Rattle.leases.proofs.TableLemmas.{leases-push, lease_under-push}

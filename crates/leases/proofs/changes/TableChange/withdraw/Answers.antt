@@ -3,7 +3,8 @@ use Rattle.protocol.specs.Names.{Slot}
 use Rattle.protocol.specs.Ledger.{lease_under}
 use Rattle.leases.specs.Changes.{changed}
 use Rattle.leases.specs.Leases.{Table}
-use Rattle.leases.specs.Table.{among, private_of}
+use Rattle.holdings.specs.Leases.{among}
+use Rattle.leases.specs.Table.{private_of}
 use Rattle.leases.proofs.RetiredLemmas.{retired-one}
 use Rattle.leases.proofs.changes.TableChange.withdraw.Goals as goal
 

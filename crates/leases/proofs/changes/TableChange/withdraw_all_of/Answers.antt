@@ -3,7 +3,8 @@ use Rattle.protocol.specs.Names.{Slot}
 use Rattle.protocol.specs.Ledger.{is_at}
 use Rattle.leases.specs.Changes.{changed}
 use Rattle.leases.specs.Leases.{Table}
-use Rattle.leases.specs.Table.{among, all_private}
+use Rattle.holdings.specs.Leases.{among}
+use Rattle.leases.specs.Table.{all_private}
 use Rattle.leases.proofs.RetiredLemmas.{retired-all}
 use Rattle.leases.proofs.changes.TableChange.withdraw_all_of.Goals as goal
 

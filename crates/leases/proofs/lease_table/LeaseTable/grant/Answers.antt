@@ -1,6 +1,6 @@
 use Rattle.std.proofs.Common.{◌++◌, ◌∷◌, [], sym, subst}
 use Rattle.leases.specs.Table.{lease_for}
-use Rattle.leases.specs.Leases.{AreLeases}
+use Rattle.holdings.specs.Leases.{AreLeases}
 use Rattle.leases.proofs.TableLemmas.{leases-push, lease_under-push}
 use Rattle.leases.proofs.lease_table.LeaseTable.grant.Goals as goal
 

@@ -2,7 +2,8 @@ use Rattle.std.proofs.Common.{◌≡◌, ◌++◌, List, ap, ◌∙◌}
 use Rattle.protocol.specs.Names.{Slot}
 use Rattle.protocol.specs.Ledger.{lease_under}
 use Rattle.leases.specs.Leases.{Table}
-use Rattle.leases.specs.Table.{among, private_of}
+use Rattle.holdings.specs.Leases.{among}
+use Rattle.leases.specs.Table.{private_of}
 use Rattle.leases.proofs.RetiredLemmas.{retired-one}
 use Rattle.leases.proofs.lease_table.LeaseTable.withdraw.Goals as goal
 

@@ -7,7 +7,7 @@ use Rattle.protocol.specs.Names.{FolderName}
 use Rattle.leases.specs.Counts.{AreCounted}
 use Rattle.leases.specs.Instances.{is_taken, AreTaken}
 use Rattle.leases.specs.Index.{ticket_at, AreIndexed, index_entries}
-use Rattle.leases.specs.Leases.{AreLeases}
+use Rattle.holdings.specs.Leases.{AreLeases}
 use Rattle.leases.specs.Live.{Live}
 use Rattle.leases.proofs.IndexLemmas.{indexed-all}
 use Rattle.leases.proofs.TakenLemmas.{taken-append}

@@ -6,12 +6,13 @@ use Rattle.protocol.specs.Ledger.{has_ticket, without}
 use Rattle.leases.specs.Counts.{AreCounted}
 use Rattle.leases.specs.Index.{ticket_at, AreIndexed}
 use Rattle.leases.specs.Instances.{is_taken, AreTaken}
-use Rattle.leases.specs.Leases.{AreLeases, IsBefore}
+use Rattle.holdings.specs.Leases.{AreLeases, IsBefore}
 use Rattle.leases.proofs.IndexLemmas.{indexed-ended}
 use Rattle.leases.proofs.CountLemmas.{split_at}
 use Rattle.leases.proofs.FindLemmas.{ticket_once}
 use Rattle.leases.proofs.TakenLemmas.{taken-failing, any_with-once}
-use Rattle.leases.proofs.TableLemmas.{StandsAt, stands, missing, leases-filter}
+use Rattle.holdings.proofs.LeaseLemmas.{StandsAt, stands, missing}
+use Rattle.leases.proofs.TableLemmas.{leases-filter}
 use Rattle.leases.proofs.live_leases.LiveLeases.end.Goals as goal
 
 pub place_of-requires : goal.place_of-requires

@@ -5,7 +5,7 @@ use Rattle.leases.specs.Changes.{ends_lease}
 use Rattle.leases.specs.Counts.{AreCounted, AreLast}
 use Rattle.leases.specs.Index.{ticket_at, AreIndexed}
 use Rattle.leases.specs.Instances.{is_taken, AreTaken}
-use Rattle.leases.specs.Leases.{AreLeases, IsBefore}
+use Rattle.holdings.specs.Leases.{AreLeases, IsBefore}
 use Rattle.leases.proofs.IndexLemmas.{indexed-last}
 use Rattle.leases.proofs.LastLemmas.{last-rest, last-with}
 use Rattle.leases.proofs.TableLemmas.{leases-filter}

@@ -3,7 +3,7 @@ use Rattle.std.proofs.lemmas.List.Kept.{AllPairs-filter}
 use Rattle.std.specs.Option.{option_copied}
 use Rattle.farm_base.specs.declared.lease.Lease.{Lease}
 use Rattle.leases.specs.Changes.{has_ended}
-use Rattle.leases.specs.Leases.{IsBefore}
+use Rattle.holdings.specs.Leases.{IsBefore}
 use Rattle.leases.specs.Live.{older}
 use Rattle.leases.proofs.OldestLemmas.{oldest, oldest_next, oldest_past, oldest_end}
 use Rattle.leases.proofs.live_leases.LiveLeases.oldest_beside.Goals as goal

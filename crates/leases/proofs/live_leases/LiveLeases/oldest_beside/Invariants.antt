@@ -3,7 +3,8 @@ use Rattle.std.specs.List.{find}
 use Rattle.std.specs.Option.{option_copied}
 use Rattle.leases.specs.Changes.{has_ended}
 use Rattle.leases.specs.Live.{older}
-use Rattle.leases.specs.Table.{holds_some, takes}
+use Rattle.leases.specs.Table.{holds_some}
+use Rattle.holdings.specs.Leases.{takes}
 use Rattle.leases.proofs.live_leases.LiveLeases.oldest_beside.Given as goal
 
 abbrev pub invariant-loop-want : goal.invariant-loop-want

@@ -1,7 +1,7 @@
 use Rattle.std.proofs.Common.{Some, ap, sym, ◌∙◌, length, arith}
 use Rattle.std.specs.List.{position_from}
 use Rattle.protocol.specs.Ledger.{has_ticket}
-use Rattle.leases.proofs.TableLemmas.{StandsAt, stands, missing}
+use Rattle.holdings.proofs.LeaseLemmas.{StandsAt, stands, missing}
 use Rattle.leases.proofs.live_leases.LiveLeases.under.Goals as goal
 
 pub returns-in-None-clause-value : goal.returns-in-None-clause-value

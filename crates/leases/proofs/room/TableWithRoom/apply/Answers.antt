@@ -3,7 +3,7 @@ use Rattle.farm_base.specs.declared.lease.Lease.{Lease}
 use Rattle.protocol.specs.Names.{Slot}
 use Rattle.leases.specs.declared.ending.Ending.{Ending}
 use Rattle.leases.specs.Changes.{has_ended, RoomyTable}
-use Rattle.leases.specs.Leases.{AreLeases}
+use Rattle.holdings.specs.Leases.{AreLeases}
 use Rattle.leases.proofs.ChangeLemmas.{length-kept}
 use Rattle.leases.proofs.room.TableWithRoom.apply.Goals as goal
 

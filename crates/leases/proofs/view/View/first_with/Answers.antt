@@ -7,7 +7,8 @@ use Rattle.std.specs.Option.{option_copied, option_or}
 use Rattle.farm_base.specs.declared.lease.Lease.{Lease}
 use Rattle.leases.specs.Changes.{has_ended}
 use Rattle.leases.specs.Leases.{Table}
-use Rattle.leases.specs.Table.{holds_some, takes}
+use Rattle.leases.specs.Table.{holds_some}
+use Rattle.holdings.specs.Leases.{takes}
 use Rattle.leases.proofs.FindLemmas.{copied_or}
 use Rattle.leases.proofs.view.View.first_with.Goals as goal
 

@@ -1,8 +1,9 @@
 use Rattle.std.proofs.Common.{List, filter, ap, sym, ◌∙◌}
 use Rattle.std.specs.List.{find}
 use Rattle.protocol.specs.Names.{Want}
-use Rattle.leases.specs.Table.{holds_some, takes}
-use Rattle.leases.proofs.TableLemmas.{leased-filter}
+use Rattle.leases.specs.Table.{holds_some}
+use Rattle.holdings.specs.Leases.{takes}
+use Rattle.holdings.proofs.LeaseLemmas.{leased-filter}
 use Rattle.leases.proofs.view.View.holder_of.Goals as goal
 
 pub returns : goal.returns

@@ -1,8 +1,10 @@
 use Rattle.std.proofs.Common.{List, filter, ap, sym, ◌∙◌}
 use Rattle.protocol.specs.Names.{Want}
 use Rattle.protocol.specs.Ledger.{all_taken}
-use Rattle.leases.specs.Table.{is_free, takes}
-use Rattle.leases.proofs.TableLemmas.{leased-filter, fits_both}
+use Rattle.leases.specs.Table.{is_free}
+use Rattle.holdings.specs.Leases.{takes}
+use Rattle.holdings.proofs.LeaseLemmas.{leased-filter}
+use Rattle.leases.proofs.TableLemmas.{fits_both}
 use Rattle.leases.proofs.view.View.lease_for.Goals as goal
 
 pub slots_for-requires : goal.slots_for-requires

@@ -1,6 +1,7 @@
 use Rattle.std.proofs.Common.{◌≡◌, ◌++◌, false, drop, filter}
 use Rattle.protocol.specs.Ledger.{all_taken}
-use Rattle.leases.specs.Table.{is_free, slots_of, takes}
+use Rattle.leases.specs.Table.{is_free, slots_of}
+use Rattle.holdings.specs.Leases.{takes}
 use Rattle.leases.proofs.view.View.slots_for.Given as goal
 
 abbrev pub invariant-loop-want : goal.invariant-loop-want

@@ -4,7 +4,8 @@ use Rattle.protocol.specs.Names.{Slot}
 use Rattle.protocol.specs.Ledger.{some_lease}
 use Rattle.leases.specs.Changes.{has_ended}
 use Rattle.leases.specs.Leases.{Table}
-use Rattle.leases.specs.Table.{among, is_free}
+use Rattle.holdings.specs.Leases.{among}
+use Rattle.leases.specs.Table.{is_free}
 use Rattle.leases.proofs.TakenLemmas.{taken-changed}
 use Rattle.leases.proofs.view.View.taken.Goals as goal
 

@@ -4,8 +4,9 @@ use Rattle.std.specs.List.Sorted.{IsStrictlyIncreasing, IsStrictlySortedBy}
 use Rattle.std.specs.Prelude.{map}
 use Rattle.farm_base.specs.Slots.{slot_cmp}
 use Rattle.farm_base.specs.declared.number.NodeId.{NodeId}
-use Rattle.leases.specs.Lives.{AreLives}
-use Rattle.leases.specs.Table.{among, is_among, life_at}
+use Rattle.holdings.specs.Lives.{AreLives}
+use Rattle.holdings.specs.Leases.{among}
+use Rattle.holdings.specs.Lives.{is_among, life_at}
 use Rattle.protocol.specs.Ledger.{Ledger}
 use Rattle.versions.specs.Lines.{line_at}
 use Rattle.versions.specs.Ordered.{AreLines}

@@ -1,6 +1,7 @@
 use Rattle.std.proofs.Common.{◌≡◌, filter, ap, ◌∙◌, rules}
 use Rattle.std.proofs.lemmas.Fn.{filter_same}
-use Rattle.leases.specs.Table.{among, is_among, life_at}
+use Rattle.holdings.specs.Leases.{among}
+use Rattle.holdings.specs.Lives.{is_among, life_at}
 use Rattle.protocol.specs.Ledger.{is_saved, saves, reads}
 use Rattle.versions.specs.Lines.{line_at}
 use Rattle.saverecord.specs.Ledgers.{ledger_of}

@@ -1,0 +1,81 @@
+-- What the program prints for a record (this project's own): a line for each part, in the record's order.
+use Rattle.std.specs.Prelude.{◌≡◌, ⊤, ℕ, Bool, if◌then◌else◌, List, [], ◌++◌, codes, decimal, Option, Some, None, Ok, Err}
+use Rattle.std.specs.List.{flat_map}
+use Rattle.farm_base.specs.declared.lease.Lease.{Lease}
+use Rattle.farm_base.specs.declared.lease.NodeLife.{NodeLife}
+use Rattle.farm_base.specs.declared.number.NodeId.{NodeId}
+use Rattle.farm_base.specs.Names.{slot_text}
+use Rattle.farm_base.specs.Slots.{SlotParts}
+use Rattle.versions.specs.declared.lines.SlotLine.{SlotLine}
+use Rattle.words.specs.Words.{access_text}
+use Rattle.schedule.specs.Printing.{line_text}
+use Rattle.saverecord.specs.declared.record.Record.{Record}
+use Rattle.saverecord.specs.Logs.{ledger_in}
+use Rattle.saverecord.specs.Records.{record_of}
+use Rattle.saverecord.specs.Texts.{whole_alone}
+use Rattle.answers.specs.declared.failure.Failure.{Failure}
+use Rattle.answers.specs.declared.failure.Failure.TheVariants as failure
+
+-- `home NODE`, where there is an old home
+abbrev pub home_line : Option NodeId → List ℕ
+home_line None = []
+home_line (Some node) = codes "home " ++ decimal node.0 ++ codes "\n"
+
+-- `life NODE LIFE`
+abbrev pub life_line : NodeLife → List ℕ
+life_line seen = codes "life " ++ decimal seen.node.0 ++ codes " " ++ decimal seen.life.0 ++ codes "\n"
+
+-- `gone NODE`
+abbrev pub gone_line : NodeId → List ℕ
+gone_line node = codes "gone " ++ decimal node.0 ++ codes "\n"
+
+-- a word, where it holds
+abbrev pub word_if : Bool → List ℕ → List ℕ
+word_if holds word = if holds then word else []
+
+-- ` SLOT`, and ` ro=SLOT` for one that may not be written
+abbrev pub leased_text : SlotParts × Bool → List ℕ
+leased_text leased = codes " " ++ access_text leased.1 ++ slot_text leased.0
+
+-- `lease TICKET NODE LIFE ASK`
+abbrev pub holder_text : Lease → List ℕ
+holder_text lease =
+    codes "lease " ++ decimal lease.ticket.0 ++ codes " " ++ decimal lease.node.0 ++ codes " " ++ decimal lease.life.0 ++ codes " " ++ decimal lease.ask.0
+
+-- who holds the lease, `shared` and `tenure` where they hold, and the slots
+abbrev pub lease_line : Lease → List ℕ
+lease_line lease =
+    holder_text lease ++ word_if lease.shared (codes " shared") ++ word_if lease.tenure (codes " tenure") ++ flat_map leased_text lease.slots ++ codes "\n"
+
+-- `retired SLOT`
+abbrev pub retired_line : SlotParts → List ℕ
+retired_line slot = codes "retired " ++ slot_text slot ++ codes "\n"
+
+-- a line of versions, as a replay prints it
+abbrev pub versions_line : SlotLine → List ℕ
+versions_line line = line_text line.slot line.line
+
+-- `last TICKET`, and then the lines of the other parts
+abbrev pub record_text : Record → List ℕ
+record_text r =
+    codes "last " ++ decimal r.last.0 ++ codes "\n" ++ home_line r.old_home ++ flat_map life_line r.lives ++ flat_map gone_line r.retired_nodes
+    ++ flat_map lease_line r.leases ++ flat_map retired_line r.retired ++ flat_map versions_line r.lines
+
+-- the bytes spell a record, and this is what is printed for it
+abbrev pub IsRecordText : List ℕ → List ℕ → Type 0
+IsRecordText bytes text = (r : Record) × (record_of bytes ≡ Ok r) × (text ≡ record_text r)
+
+-- why the bytes don't spell a record: their first fault
+abbrev pub IsNoRecord : List ℕ → Failure → Type 0
+IsNoRecord bytes (failure.Read e) = ⊥
+IsNoRecord bytes (failure.Load e) = ⊥
+IsNoRecord bytes (failure.Schedule e) = ⊥
+IsNoRecord bytes (failure.Record e) = record_of bytes ≡ Err e
+IsNoRecord bytes (failure.Entry place e) = ⊥
+IsNoRecord bytes (failure.BadHead place) = ⊥
+IsNoRecord bytes failure.Memory = ⊤
+
+-- the bytes of a record hold what this one holds with some entries behind it
+abbrev pub HoldsWith : List ℕ → List ℕ → Type 0
+HoldsWith whole bytes = (entries : List (List ℕ))
+    × (ledger_in (whole_alone bytes) ≡ ledger_in (record { whole = whole; entries = entries }))

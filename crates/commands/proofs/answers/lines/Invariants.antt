@@ -1,7 +1,0 @@
-use Rattle.std.proofs.Common.{◌≡◌, take}
-use Rattle.std.specs.String.{string_bytes}
-use Rattle.commands.specs.Answers.{keys_text}
-use Rattle.commands.proofs.answers.lines.Given as goal
-
-abbrev pub invariant-loop-number : goal.invariant-loop-number
-invariant-loop-number l = string_bytes l.text ≡ keys_text (take l.number l.digests) (take l.number l.keys)

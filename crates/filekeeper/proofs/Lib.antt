@@ -1,0 +1,7 @@
+mod FramingLemmas
+mod DiskLemmas
+mod CrashLemmas
+mod TakingLemmas
+mod AddingLemmas
+mod ReplacingLemmas
+mod SyncLemmas

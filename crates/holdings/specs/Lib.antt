@@ -1,0 +1,4 @@
+pub mod Tickets
+pub mod Leases
+pub mod Lives
+pub mod Places
