@@ -9,8 +9,8 @@ use Rattle.std.proofs.lemmas.List.Kept.{AllPairs-filter}
 use Rattle.farm_base.specs.declared.limits.TheConstants.{NODES}
 use Rattle.leases.specs.Changes.{has_ended, saved_tickets}
 use Rattle.leases.specs.declared.ending.Ending.{Ending}
-use Rattle.leases.specs.Leases.{IsBefore, IsOpen, Rises}
-use Rattle.leases.proofs.FindLemmas.{tickets_rise}
+use Rattle.holdings.specs.Leases.{IsBefore, IsOpen, Rises}
+use Rattle.holdings.proofs.LeaseLemmas.{tickets_rise}
 use Rattle.protocol.specs.Farm.{farm_limits}
 use Rattle.protocol.specs.Lists.{In}
 use Rattle.protocol.specs.Names.{Slot, slot_eq, Ticket}

@@ -11,9 +11,9 @@ use Rattle.protocol.specs.Machine.{Parked}
 use Rattle.protocol.specs.Ledger.{Limits, Ledger, Lease, Work, pick, elsewhere, another, all_taken, busy, lowest, is_free, is_leased, some_lease, has_slot, has_ticket, lease_under, without, decision, tried, stays, try_all, waiting}
 use Rattle.protocol.specs.declared.answer.Decision.TheVariants.{Wait}
 use Rattle.leases.specs.Changes.{ends_lease, slots_ended}
-use Rattle.leases.specs.Leases.{IsBefore}
+use Rattle.holdings.specs.Leases.{IsBefore}
 use Rattle.leases.specs.declared.ending.Ending.{Ending}
-use Rattle.leases.proofs.TableLemmas.{AllPairs-head, AllPairs-tail}
+use Rattle.holdings.proofs.LeaseLemmas.{AllPairs-head, AllPairs-tail}
 use Rattle.protocol.proofs.Base.{true_false, any_in, from_any, from_filter, slot_eq_is}
 use Rattle.coordinator.specs.Idle.{slots_under, is_open, is_held_up, AreHeldUp, IsIdle, AreIdle}
 use Rattle.parked.specs.Spent.{is_private_spent, is_noted, IsNoted, WantsNoneOf}

@@ -8,7 +8,7 @@ use Rattle.farm_base.specs.declared.message.FromCoord.TheVariants as told
 use Rattle.protocol.specs.Lists.{In}
 use Rattle.protocol.specs.Names.{Slot, NodeId, Life, Ask, leased_wants}
 use Rattle.protocol.specs.Machine.{LineVersion, ToCoord, Parked}
-use Rattle.protocol.specs.Ledger.{Ledger, Work, pick, is_free, is_leased, all_taken, busy, elsewhere, decision, is_parked, begin_work, handled}
+use Rattle.protocol.specs.Ledger.{Ledger, pick, is_free, is_leased, all_taken, busy, elsewhere, decision, is_parked, begin_work, handled}
 use Rattle.protocol.specs.Follows.{NoneReady, OnlyItself, after_life}
 use Rattle.protocol.specs.declared.answer.CoordNote.TheVariants as note
 use Rattle.farm_base.specs.declared.message.Why.TheVariants.{InstancesSpent}
@@ -18,15 +18,10 @@ use Rattle.protocol.proofs.Answering.{fitting_ask_is_granted}
 use Rattle.protocol.proofs.Base.{any_in}
 use Rattle.versions.specs.declared.lines.Added.{Added}
 use Rattle.versions.specs.declared.lines.SlotLine.{SlotLine}
-use Rattle.coordinator.specs.declared.draft.Draft.{Draft}
-use Rattle.coordinator.specs.Held.{Held, line_at}
-use Rattle.coordinator.specs.Shown.{lines_with, shown}
+use Rattle.coordinator.specs.Held.{line_at}
+use Rattle.coordinator.specs.Shown.{lines_with}
 use Rattle.coordinator.specs.Idle.{AreHeldUp}
 use Rattle.coordinator.specs.Promises.{OnlyGrow, asked, granted, GrantsAtOnce}
-
--- an event begins in its box as it was made
-pub begun : (h : Held) {d d' : Draft} {w : Work} → d' ≡ d → shown (line_at h.lines) h d ≡ w → shown (line_at h.lines) h d' ≡ w
-begun h is work = ap (λ (d : Draft). shown (line_at h.lines) h d) is ∙ work
 
 -- what a commit adds leaves all before it
 pub grows : (lines : List SlotLine) (o : Option Added) → OnlyGrow (line_at lines) (lines_with lines o)

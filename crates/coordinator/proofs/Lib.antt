@@ -1,4 +1,5 @@
 pub mod StateWords
+pub mod Drafting
 pub mod Trying
 pub mod TryingAll
 pub mod SoundWords

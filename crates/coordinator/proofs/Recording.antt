@@ -2,7 +2,7 @@
 use Rattle.std.proofs.Common.{◌≡◌, ◌<◌, ◌≤◌, List, [], ◌∷◌, Result, Ok, Err, inl, inr, sym, ap, ◌∙◌, arith}
 use Rattle.std.specs.Prelude.{AllPairs}
 use Rattle.protocol.specs.Farm.{farm_limits}
-use Rattle.leases.specs.Leases.{IsBefore}
+use Rattle.holdings.specs.Leases.{IsBefore}
 use Rattle.protocol.specs.Lists.{In}
 use Rattle.protocol.specs.Names.{Slot, NodeId, Ticket}
 use Rattle.protocol.specs.Machine.{ToCoord}
@@ -14,7 +14,7 @@ use Rattle.protocol.proofs.Saving.{Apart}
 use Rattle.protocol.proofs.Owning.{handled_keeps}
 use Rattle.coordinator.specs.Sound.{IsSound}
 use Rattle.coordinator.specs.Promises.{EndsOnlyItsOwn, ChangesAsTold}
-use Rattle.leases.proofs.TableLemmas.{AllPairs-head, AllPairs-tail}
+use Rattle.holdings.proofs.LeaseLemmas.{AllPairs-head, AllPairs-tail}
 
 -- rising tickets are of one lease each
 pub own_tickets : (live : List Lease) → AllPairs IsBefore live → (x y : Lease) → In x live → In y live → x.ticket.0 ≡ y.ticket.0 → x ≡ y

@@ -6,8 +6,8 @@ use Rattle.std.proofs.lemmas.List.Elements.{All-filter}
 use Rattle.std.proofs.lemmas.List.Kept.{AllPairs-cons}
 use Rattle.farm_base.specs.declared.limits.TheConstants.{NODES}
 use Rattle.farm_base.specs.Slots.{slot_cmp}
-use Rattle.leases.specs.Leases.{AreApart, Rises, AreLeases, IsOpen}
-use Rattle.leases.specs.Lives.{AreLives}
+use Rattle.holdings.specs.Leases.{AreApart, Rises, AreLeases, IsOpen}
+use Rattle.holdings.specs.Lives.{AreLives}
 use Rattle.protocol.specs.Farm.{farm_limits}
 use Rattle.protocol.specs.Names.{Slot}
 use Rattle.protocol.specs.Machine.{LineVersion}

@@ -12,8 +12,9 @@ use Rattle.farm_base.specs.Wanted.{IsWants}
 use Rattle.farm_base.specs.declared.message.Request.{Request}
 use Rattle.farm_base.specs.declared.message.Request.TheVariants.{Hello, Acquire, Commit, Release}
 use Rattle.farm_base.proofs.CompareLaws as laws
-use Rattle.leases.specs.Leases.{AreApart, Rises}
-use Rattle.leases.proofs.TableLemmas.{AllPairs-head, AllPairs-tail, leases-filter, leases_more, FreeIsOpen}
+use Rattle.holdings.specs.Leases.{AreApart, Rises}
+use Rattle.holdings.proofs.LeaseLemmas.{AllPairs-head, AllPairs-tail}
+use Rattle.leases.proofs.TableLemmas.{leases-filter, leases_more, FreeIsOpen}
 use Rattle.protocol.specs.Names.{Slot, slot_eq, slots_eq, NodeId, Life, Ticket, Digest}
 use Rattle.protocol.specs.Lists.{is_nil}
 use Rattle.protocol.specs.Machine.{News, LineVersion, Parked, ToCoord, slots_of, digest_for, version_of}

@@ -16,7 +16,8 @@ use Rattle.protocol.specs.declared.answer.Decision.TheVariants.{Give, Deny, Wait
 use Rattle.protocol.proofs.Base.{true_false, slot_eq_same, slot_eq_is, any_in, from_any, from_map, in_append, in_one, from_filter}
 use Rattle.leases.specs.Changes.{Change, changed, has_ended}
 use Rattle.leases.specs.Leases.{Table}
-use Rattle.leases.specs.Table.{among, is_free, is_spent}
+use Rattle.holdings.specs.Leases.{among}
+use Rattle.leases.specs.Table.{is_free, is_spent}
 use Rattle.leases.proofs.LowestLaw.{lowest_is_lowest}
 use Rattle.parked.specs.Spent.{is_private_spent, is_noted, IsNoted}
 use Rattle.coordinator.proofs.IdleWords.{leased-among}

@@ -3,8 +3,8 @@ use Rattle.std.specs.Prelude.{ℕ, List, Option}
 use Rattle.protocol.specs.Names.{Slot, NodeId}
 use Rattle.protocol.specs.Machine.{Parked}
 use Rattle.protocol.specs.Ledger.{Lease, Ledger}
-use Rattle.leases.specs.Table.{among}
-pub use Rattle.leases.specs.Table.{life_at, is_among}
+use Rattle.holdings.specs.Leases.{among}
+pub use Rattle.holdings.specs.Lives.{life_at, is_among}
 pub use Rattle.versions.specs.Lines.{line_at}
 use Rattle.versions.specs.declared.lines.SlotLine.{SlotLine}
 use Rattle.farm_base.specs.declared.lease.NodeLife.{NodeLife}

@@ -1,7 +1,6 @@
 -- What a coordinator keeps, by its fields.
 use Rattle.coordinator.specs.declared.state.State.{State}
-use Rattle.coordinator.specs.Held.{Held, line_at}
-use Rattle.coordinator.specs.Shown.{kept}
+use Rattle.coordinator.specs.Held.{Held, ledger}
 use Rattle.parked.specs.Queue.{asks_of}
 use Rattle.coordinator.specs.Sound.{IsRightful}
 use Rattle.parked.specs.Spent.{AreNoted}
@@ -21,9 +20,9 @@ held s = record {
 
 -- the folders that parked asks want and that have no free instance are noted
 abbrev pub NotesSpent : State → Type 0
-NotesSpent s = AreNoted s.spent.folders.items (kept (line_at s.lines) s)
+NotesSpent s = AreNoted s.spent.folders.items (ledger (held s))
 
 -- a state that a coordinator may keep
 pub record IsKeepable (s : State) : Type 0 where
-  pub rightful : IsRightful (kept (line_at s.lines) s)
+  pub rightful : IsRightful (ledger (held s))
   pub noted : NotesSpent s

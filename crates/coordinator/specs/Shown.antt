@@ -1,35 +1,24 @@
 -- What an event shows while it is worked out.
-use Rattle.std.specs.Prelude.{ℕ, Bool, true, false, ◌||◌, List, Option, Some, None}
+use Rattle.std.specs.Prelude.{◌≡◌, ℕ, Bool, true, false, ◌||◌, List, Option, Some, None, Result, Ok}
 use Rattle.protocol.specs.Lists.{put}
 use Rattle.protocol.specs.Names.{Ticket, NodeId}
 use Rattle.protocol.specs.Machine.{FromCoord}
 use Rattle.protocol.specs.Ledger.{Ledger, Work, begin_work, Lease, is_saved, without, lease_under}
 use Rattle.leases.specs.Changes.{changed}
 use Rattle.leases.specs.Leases.{Table}
-use Rattle.leases.specs.Table.{among, retires_some}
+use Rattle.holdings.specs.Leases.{among}
+use Rattle.leases.specs.Table.{retires_some}
 pub use Rattle.versions.specs.Lines.{LineOf, lines_with}
-use Rattle.versions.specs.declared.lines.Added.{Added}
-use Rattle.coordinator.specs.declared.state.State.{State}
+use Rattle.versions.specs.Additions.{IsReady}
+use Rattle.protocol.specs.declared.answer.CoordRefusal.{CoordRefusal}
 use Rattle.coordinator.specs.declared.change.Change.{Change}
 use Rattle.coordinator.specs.declared.new_life.NewLife.{NewLife}
 use Rattle.coordinator.specs.declared.draft.Draft.{Draft}
-use Rattle.coordinator.specs.Held.{Held, line_at, life_at, is_among}
+use Rattle.coordinator.specs.declared.effects.Effects.{Effects}
+use Rattle.coordinator.specs.Held.{Held, life_at, is_among}
+use Rattle.coordinator.specs.Keeps.{held}
+use Rattle.coordinator.specs.Sound.{IsSound}
 use Rattle.parked.specs.Waiting.{waits_after}
-use Rattle.parked.specs.Queue.{asks_of}
-
--- the ledger that a state shows, with these lines
-abbrev pub kept : LineOf → State → Ledger
-kept line s = record {
-  live = s.table.live;
-  retired = among s.table.retired;
-  gone = is_among s.gone.retired;
-  line = line;
-  last = s.tickets.position;
-  ceiling = s.tickets.ceiling;
-  old_home = s.old_home;
-  lives = life_at s.lives.seen;
-  parked = asks_of s.parked;
-}
 
 -- ---- what an event changes, over what is held
 
@@ -61,23 +50,43 @@ after line h c = record {
   parked = waits_after h.parked c.parked;
 }
 
--- the result of an event so far
-abbrev pub shown : LineOf → Held → Draft → Work
-shown line h d = record { ledger = after line h d.change; sends = d.sends.items; changed = d.changed; note = d.note }
+-- what these effects come to, over what is held
+abbrev pub work_of : Held → Effects → Work
+work_of h e = record {
+  ledger = after (lines_with h.lines e.added) h e.change;
+  sends = e.sends.items;
+  changed = e.changed;
+  note = e.note;
+}
 
--- the ledger of what is held with an event's changes: with what it adds to the lines, and with the lines as they were
-abbrev pub ledger_with : Held → Option Added → Change → Ledger
-ledger_with h added c = after (lines_with h.lines added) h c
+-- the work that a draft stands for
+abbrev pub work : Draft → Work
+work d = work_of (held d.base.now) d.effects.value
 
-abbrev pub ledger_at : Held → Change → Ledger
-ledger_at h c = after (line_at h.lines) h c
+-- the work so far, changed so, over the same state, and the same is added to the lines
+pub record Makes (f : Work → Work) (old new : Draft) : Type 0 where
+  pub base : new.base.now ≡ old.base.now
+  pub added : new.effects.value.added ≡ old.effects.value.added
+  pub work : work new ≡ f (work old)
 
--- the result of an event so far, with the same lines
-abbrev pub work_with : Held → Option Added → Draft → Work
-work_with h added d = shown (lines_with h.lines added) h d
+-- the work, changed so, over the same state, whose lines can take what is added
+pub record Finishes (f : Work → Work) (old new : Draft) : Type 0 where
+  pub base : new.base.now ≡ old.base.now
+  pub ready : IsReady new.base.now.lines new.effects.value.added
+  pub work : work new ≡ f (work old)
 
-abbrev pub work_at : Held → Draft → Work
-work_at h d = shown (line_at h.lines) h d
+-- the same of a call of the operator, which may be refused and isn't
+pub record Accepts (call : Work → Result Work CoordRefusal) (old new : Draft) : Type 0 where
+  pub base : new.base.now ≡ old.base.now
+  pub ready : IsReady new.base.now.lines new.effects.value.added
+  pub sound : IsSound (work new).ledger
+  pub work : call (work old) ≡ Ok (work new)
+
+-- nothing was added, no life began and no node was retired
+pub record IsFresh (e : Effects) : Type 0 where
+  pub added : e.added ≡ None
+  pub life : e.change.life ≡ None
+  pub gone : e.change.gone ≡ None
 
 -- the record has the lease, if there is one
 abbrev pub saved_under : Option Lease → Bool

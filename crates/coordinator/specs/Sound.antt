@@ -4,8 +4,8 @@ use Rattle.farm_base.specs.Wanted.{IsWants}
 use Rattle.farm_base.specs.declared.limits.TheConstants.{NODES}
 use Rattle.farm_base.specs.declared.message.Request.{Request}
 use Rattle.farm_base.specs.declared.message.Request.TheVariants.{Hello, Acquire, Commit, Release}
-use Rattle.leases.specs.Leases.{AreLeases}
-pub use Rattle.leases.specs.Leases.{IsOpen}
+use Rattle.holdings.specs.Leases.{AreLeases}
+pub use Rattle.holdings.specs.Leases.{IsOpen}
 use Rattle.protocol.specs.Names.{Slot}
 use Rattle.protocol.specs.Ledger.{Ledger}
 use Rattle.protocol.specs.Lawful.{IsLawful}

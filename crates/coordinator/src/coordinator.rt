@@ -4,7 +4,8 @@ ghost use Rattle.std.specs.List.{list_any};
 ghost use Rattle.std.specs.List.Sorted.{IsStrictlySortedBy};
 ghost use Rattle.farm_base.specs.Slots.{slot_cmp};
 ghost use Rattle.farm_base.specs.declared.limits.TheConstants.{NODES};
-ghost use Rattle.leases.specs.Table.{among, state_of};
+ghost use Rattle.holdings.specs.Leases.{among};
+ghost use Rattle.leases.specs.Table.{state_of};
 ghost use Rattle.versions.specs.Lines.{room_needed, line_shown};
 ghost use Rattle.protocol.specs.Farm.{farm_limits};
 ghost use Rattle.protocol.specs.Lists.{is_nil};
@@ -18,14 +19,15 @@ ghost use Rattle.coordinator.specs.Promises.{OnlyGrow, GrantsAtOnce, EndsOnlyIts
 ghost use Rattle.coordinator.specs.Held.{Held};
 ghost use Rattle.coordinator.specs.Seen.{IsKeeping};
 ghost use Rattle.coordinator.specs.Settling.{Answers, is_save_fault, Settles, Loads, TakesUp, Restarts, Syncs};
-ghost use Rattle.coordinator.specs.Shown.{work_with, ledger_with};
+ghost use Rattle.coordinator.specs.Shown.{work_of};
 ghost use Rattle.saverecord.specs.Keepers.{HasFailed};
 ghost use Rattle.coordinator.specs.Sound.{IsRightful};
 ghost use Rattle.versions.specs.Additions.{IsReady};
 ghost use Rattle.std.specs.Vec.{vec_capacity};
 
+use super::effects::Prepared;
 use super::handled::Handled;
-use super::ledger::{Ledger, Prepared};
+use super::ledger::Ledger;
 use super::text::Sizes;
 use farm_base::{Lease, NodeId, NodeLife, Parked, Slot, Ticket, ToCoord};
 use leases::SlotState;
@@ -151,12 +153,12 @@ impl<K: Keeper> Coordinator<K> {
     /// Saves an event that was worked out, where the record changed, and then applies it. Where the save fails it is down.
     fn settle(&mut self, alloc: Global, prepared: Prepared) -> Result<Handled, CoordRefusal>
         requires up { self.old.down ≡ false }
-        requires told { ChangesAsTold (ledger self.old.held) (Ok (work_with self.old.held prepared.added prepared.draft.value)) }
-        requires rightful { IsRightful (ledger_with self.old.held prepared.added prepared.draft.value.change) }
-        requires ready { IsReady self.old.held.lines prepared.added }
+        requires told { ChangesAsTold (ledger self.old.held) (Ok (work_of self.old.held prepared.effects.value)) }
+        requires rightful { IsRightful (work_of self.old.held prepared.effects.value).ledger }
+        requires ready { IsReady self.old.held.lines prepared.effects.value.added }
         requires empty { prepared.room.items ≡ [] }
-        requires larger { room_needed self.old.held.lines prepared.added ≤ vec_capacity prepared.room }
-        ensures answer { Answers K.saving (Ok (work_with self.old.held prepared.added prepared.draft.value)) self.old self.new result }
+        requires larger { room_needed self.old.held.lines prepared.effects.value.added ≤ vec_capacity prepared.room }
+        ensures answer { Answers K.saving (Ok (work_of self.old.held prepared.effects.value)) self.old self.new result }
         ensures cause { result ≡ Err CoordRefusal.SaveFault → HasFailed (K.failed self.old.keeper) (K.failed self.new.keeper) }
         ensures grow { OnlyGrow (line_at self.old.held.lines) (line_at self.new.held.lines) }
     {

@@ -4,7 +4,8 @@ ghost use Rattle.std.specs.List.Sorted.{IsStrictlySortedBy};
 ghost use Rattle.std.specs.Vec.{vec_capacity};
 ghost use Rattle.farm_base.specs.Slots.{slot_cmp};
 ghost use Rattle.protocol.specs.Farm.{farm_limits};
-ghost use Rattle.leases.specs.Table.{among, state_of};
+ghost use Rattle.holdings.specs.Leases.{among};
+ghost use Rattle.leases.specs.Table.{state_of};
 ghost use Rattle.protocol.specs.Lists.{is_nil};
 ghost use Rattle.protocol.specs.Names.{slot_eq, NodeId, Slot, Ticket};
 ghost use Rattle.protocol.specs.Machine.{ToCoord};
@@ -18,12 +19,12 @@ ghost use Rattle.coordinator.specs.Held.{line_at, ledger};
 ghost use Rattle.versions.specs.Additions.{IsReady};
 ghost use Rattle.std.specs.Vec.{vec_len};
 ghost use Rattle.leases.specs.Changes.{changed, HasRoom};
-ghost use Rattle.leases.specs.Leases.{AreLeases};
+ghost use Rattle.holdings.specs.Leases.{AreLeases};
 ghost use Rattle.saverecord.specs.Keepers.{HasFailed};
 ghost use Rattle.coordinator.specs.Keeps.{held, NotesSpent};
 ghost use Rattle.coordinator.specs.Seen.{IsKeeping};
 ghost use Rattle.coordinator.specs.Settling.{Answers, is_save_fault};
-ghost use Rattle.coordinator.specs.Shown.{LineOf, kept, after, work_with, ledger_with};
+ghost use Rattle.coordinator.specs.Shown.{work_of};
 ghost use Rattle.versions.specs.Lines.{lines_with, room_needed, line_shown};
 ghost use Rattle.coordinator.specs.Sound.{IsSound, IsRightful};
 ghost use Rattle.parked.specs.Queue.{HasRoomFor};
@@ -33,10 +34,11 @@ ghost use Rattle.coordinator.specs.Promises.{OnlyGrow, ChangesAsTold};
 
 use super::change::Change;
 use super::draft::Draft;
+use super::effects::{Effects, Prepared};
 use super::handled::Handled;
 use super::nodes::{begin, retire};
 use super::record::{entry_of, record_of, state_of};
-use super::state::State;
+use super::state::{State, is_home};
 use super::table_room::{put_back, put_changed, take_table};
 use super::text::{Sizes, Text, save};
 use farm_base::{Items, Lease, NodeId, NodeLife, Parked, Slot, Ticket, ToCoord};
@@ -47,7 +49,7 @@ use saverecord::laws::what_is_kept_is_a_record;
 use saverecord::{Keeper, Record};
 use std::alloc::{AllocError, Global};
 use std::marker::Model;
-use versions::{Added, Line, SlotLine};
+use versions::Line;
 
 /// What a coordinator keeps of its farm: who may use which slot, and the lines of versions. Contracts see it as lists.
 #[derive(Debug, Drop)]
@@ -69,16 +71,6 @@ impl Model for Ledger {
     ghost invariant = { λ c. IsKeepable c.state };
 }
 
-/// An event that was worked out and not applied yet.
-#[derive(Debug, Drop)]
-pub(crate) struct Prepared {
-    /// In a box, so that letting go of it is one step of a proof.
-    pub draft: Box<Draft>,
-    pub added: Option<Added>,
-    /// Room for the lines, with those that are added.
-    pub room: Vec<SlotLine>,
-}
-
 /// Applies an event that was worked out, after its save, in the room that was made for it. It takes no memory.
 fn apply(
     alloc: Global,
@@ -87,27 +79,28 @@ fn apply(
     spent: SpentFolders,
     prepared: Prepared,
 ) -> Handled
-    requires table_room { HasRoom table prepared.draft.value.change.table }
-    requires leases { AreLeases (changed table.table prepared.draft.value.change.table).live }
-    requires parking { HasRoomFor state.old.parked prepared.draft.value.change.parked.since.items }
+    requires table_room { HasRoom table prepared.effects.value.change.table }
+    requires leases { AreLeases (changed table.table prepared.effects.value.change.table).live }
+    requires parking { HasRoomFor state.old.parked prepared.effects.value.change.parked.since.items }
     requires lives { length state.old.lives.seen + 1 ≤ state.old.lives.room }
     requires gone { length state.old.gone.retired + 1 ≤ state.old.gone.room }
-    requires ready { IsReady state.old.lines prepared.added }
+    requires ready { IsReady state.old.lines prepared.effects.value.added }
     requires empty { prepared.room.items ≡ [] }
-    requires larger { room_needed state.old.lines prepared.added ≤ vec_capacity prepared.room }
-    ensures lines { line_at state.new.lines ≡ lines_with state.old.lines prepared.added }
-    ensures ledger { (line : LineOf) → kept line state.new ≡ after line (record (held state.old) { live = table.table.live; retired = table.table.retired }) prepared.draft.value.change }
+    requires larger { room_needed state.old.lines prepared.effects.value.added ≤ vec_capacity prepared.room }
+    ensures lines { line_at state.new.lines ≡ lines_with state.old.lines prepared.effects.value.added }
+    ensures ledger { ledger (held state.new) ≡ (work_of (record (held state.old) { live = table.table.live; retired = table.table.retired }) prepared.effects.value).ledger }
     ensures spent { state.new.spent ≡ spent }
-    ensures sends { result.sends ≡ prepared.draft.value.sends.items }
-    ensures note { result.note ≡ prepared.draft.value.note }
+    ensures sends { result.sends ≡ prepared.effects.value.sends.items }
+    ensures note { result.note ≡ prepared.effects.value.note }
 {
-    let Prepared { draft, added, room } = prepared;
-    let Draft {
+    let Prepared { effects, room } = prepared;
+    let Effects {
         change,
+        added,
         sends,
         changed: _,
         note,
-    } = Box::into_inner(draft);
+    } = Box::into_inner(effects);
     let Change {
         table: table_change,
         tickets,
@@ -162,26 +155,24 @@ impl Ledger {
 
     /// The whole record of an event that was worked out.
     fn record_bytes(&self, alloc: Global, prepared: &Prepared) -> Result<Vec<u8>, AllocError>
-        requires rightful { IsRightful (ledger_with self.now prepared.now.added prepared.now.draft.value.change) }
-        requires ready { IsReady self.now.lines prepared.now.added }
-        ensures { IfOk result (λ bytes. Holds (whole_alone bytes.items) (saves (ledger_with self.now prepared.now.added prepared.now.draft.value.change))) }
+        requires rightful { IsRightful (work_of self.now prepared.now.effects.value).ledger }
+        requires ready { IsReady self.now.lines prepared.now.effects.value.added }
+        ensures { IfOk result (λ bytes. Holds (whole_alone bytes.items) (saves (work_of self.now prepared.now.effects.value).ledger)) }
     {
-        let change = &prepared.draft.change;
-        let record = record_of(alloc, &self.state, change, &prepared.added)?;
+        let record = record_of(alloc, &self.state, &prepared.effects)?;
         what_is_kept_is_a_record();
         record.write(alloc)
     }
 
     /// The entry of an event that was worked out: what it changes in the record.
     fn entry_bytes(&self, alloc: Global, prepared: &Prepared) -> Result<Vec<u8>, AllocError>
-        requires rightful { IsRightful (ledger_with self.now prepared.now.added prepared.now.draft.value.change) }
-        requires ready { IsReady self.now.lines prepared.now.added }
-        requires block { self.now.ceiling ≤ prepared.now.draft.value.change.tickets.ceiling }
+        requires rightful { IsRightful (work_of self.now prepared.now.effects.value).ledger }
+        requires ready { IsReady self.now.lines prepared.now.effects.value.added }
+        requires block { self.now.ceiling ≤ prepared.now.effects.value.change.tickets.ceiling }
         ensures { IfOk result (λ bytes. (t : Texts) → Holds t (saves (ledger self.now))
-            → Holds (with_text bytes.items t) (saves (ledger_with self.now prepared.now.added prepared.now.draft.value.change))) }
+            → Holds (with_text bytes.items t) (saves (work_of self.now prepared.now.effects.value).ledger)) }
     {
-        let change = &prepared.draft.change;
-        let entry = entry_of(alloc, &self.state, change, &prepared.added)?;
+        let entry = entry_of(alloc, &self.state, &prepared.effects)?;
         entry.write(alloc)
     }
 
@@ -192,16 +183,16 @@ impl Ledger {
         alloc: Global,
         prepared: &Prepared,
     ) -> Result<Option<Text>, AllocError>
-        requires rightful { IsRightful (ledger_with self.now prepared.now.added prepared.now.draft.value.change) }
-        requires ready { IsReady self.now.lines prepared.now.added }
+        requires rightful { IsRightful (work_of self.now prepared.now.effects.value).ledger }
+        requires ready { IsReady self.now.lines prepared.now.effects.value.added }
         ensures text { IfOk result (λ o. IfSome o (λ text. (t : Texts) → Holds t (saves (ledger self.now))
-            → Holds (kept_with text t) (saves (ledger_with self.now prepared.now.added prepared.now.draft.value.change)))) }
-        ensures changed { IfOk result (λ o. is_some o ≡ prepared.now.draft.value.changed) }
+            → Holds (kept_with text t) (saves (work_of self.now prepared.now.effects.value).ledger))) }
+        ensures changed { IfOk result (λ o. is_some o ≡ prepared.now.effects.value.changed) }
     {
-        if !prepared.draft.changed {
+        if !prepared.effects.changed {
             return Ok(None);
         }
-        let ceiling = prepared.draft.change.tickets.ceiling();
+        let ceiling = prepared.effects.change.tickets.ceiling();
         let falls = ceiling.0 < self.state.tickets.ceiling().0;
         if falls || self.sizes.is_due() {
             Ok(Some(Text::Whole(self.record_bytes(alloc, prepared)?)))
@@ -213,18 +204,18 @@ impl Ledger {
     /// Works out what a message does. Nothing changes before `settle`.
     pub(crate) fn prepare(&self, alloc: Global, message: &ToCoord) -> Result<Prepared, AllocError>
         requires { IsSaid NODES message.now }
-        ensures work { IfOk result (λ p. work_with self.now p.added p.draft.value
+        ensures work { IfOk result (λ p. work_of self.now p.effects.value
             ≡ handled farm_limits message.now (begin_work (ledger self.now))) }
         ensures told { IfOk result (λ p. ChangesAsTold (ledger self.now) (Ok (handled farm_limits message.now (begin_work (ledger self.now))))) }
-        ensures rightful { IfOk result (λ p. IsRightful (ledger_with self.now p.added p.draft.value.change)) }
-        ensures ready { IfOk result (λ p. IsReady self.now.lines p.added) }
+        ensures rightful { IfOk result (λ p. IsRightful (work_of self.now p.effects.value).ledger) }
+        ensures ready { IfOk result (λ p. IsReady self.now.lines p.effects.value.added) }
         ensures empty { IfOk result (λ p. p.room.items ≡ []) }
-        ensures larger { IfOk result (λ p. room_needed self.now.lines p.added ≤ vec_capacity p.room) }
+        ensures larger { IfOk result (λ p. room_needed self.now.lines p.effects.value.added ≤ vec_capacity p.room) }
     {
-        let mut draft = Draft::boxed(alloc, &self.state)?;
-        let added = draft.deliver(alloc, &self.state, message)?;
-        let room = self.state.lines.room_to_add(alloc, &added)?;
-        Ok(Prepared { draft, added, room })
+        let mut draft = Draft::begin(alloc, &self.state)?;
+        draft.deliver(alloc, message)?;
+        let prepared = draft.finish(alloc)?;
+        Ok(prepared)
     }
 
     /// Saves an event that was worked out, where the record changed, and then applies it. The room that applying takes is
@@ -235,13 +226,13 @@ impl Ledger {
         keeper: &mut K,
         prepared: Prepared,
     ) -> Result<Handled, CoordRefusal>
-        requires told { ChangesAsTold (ledger self.old) (Ok (work_with self.old prepared.added prepared.draft.value)) }
-        requires rightful { IsRightful (ledger_with self.old prepared.added prepared.draft.value.change) }
-        requires ready { IsReady self.old.lines prepared.added }
+        requires told { ChangesAsTold (ledger self.old) (Ok (work_of self.old prepared.effects.value)) }
+        requires rightful { IsRightful (work_of self.old prepared.effects.value).ledger }
+        requires ready { IsReady self.old.lines prepared.effects.value.added }
         requires empty { prepared.room.items ≡ [] }
-        requires larger { room_needed self.old.lines prepared.added ≤ vec_capacity prepared.room }
+        requires larger { room_needed self.old.lines prepared.effects.value.added ≤ vec_capacity prepared.room }
         requires keeping { IsKeeping (K.kept keeper.old) self.old false }
-        ensures answer { Answers K.saving (Ok (work_with self.old prepared.added prepared.draft.value))
+        ensures answer { Answers K.saving (Ok (work_of self.old prepared.effects.value))
             (record { held = self.old; keeper = keeper.old; down = false }) (record { held = self.new; keeper = keeper.new; down = is_save_fault result }) result }
         ensures cause { result ≡ Err CoordRefusal.SaveFault → HasFailed (K.failed keeper.old) (K.failed keeper.new) }
         ensures keeping { IsKeeping (K.kept keeper.new) self.new (is_save_fault result) }
@@ -250,7 +241,7 @@ impl Ledger {
         let Ok(to_save) = self.to_save(alloc, &prepared) else {
             return Err(CoordRefusal::OutOfMemory);
         };
-        let change = &prepared.draft.change;
+        let change = &prepared.effects.change;
         let Ok(spent) = change.spent_after(alloc, &self.state) else {
             return Err(CoordRefusal::OutOfMemory);
         };
@@ -276,55 +267,63 @@ impl Ledger {
     pub(crate) fn withdrawal_refusal(&self, ticket: Ticket) -> Option<CoordRefusal>
         ensures { result ≡ result_err (withdrawn farm_limits ticket (begin_work (ledger self.now))) }
     {
-        self.state.withdrawal_refusal(ticket)
+        match self.state.table.lease(ticket) {
+            Some(lease) => {
+                if lease.tenure {
+                    Some(CoordRefusal::Tenure)
+                } else {
+                    None
+                }
+            }
+            None => Some(CoordRefusal::NotLive),
+        }
     }
 
     /// Works out the withdrawal of a lease, which adds nothing to the lines.
     pub(crate) fn withdrawal(&self, alloc: Global, ticket: Ticket) -> Result<Prepared, AllocError>
         requires { result_err (withdrawn farm_limits ticket (begin_work (ledger self.now))) ≡ None }
-        ensures work { IfOk result (λ p. withdrawn farm_limits ticket (begin_work (ledger self.now)) ≡ Ok (work_with self.now p.added p.draft.value)) }
+        ensures work { IfOk result (λ p. withdrawn farm_limits ticket (begin_work (ledger self.now)) ≡ Ok (work_of self.now p.effects.value)) }
         ensures told { IfOk result (λ p. ChangesAsTold (ledger self.now) (withdrawn farm_limits ticket (begin_work (ledger self.now)))) }
-        ensures rightful { IfOk result (λ p. IsRightful (ledger_with self.now p.added p.draft.value.change)) }
-        ensures ready { IfOk result (λ p. IsReady self.now.lines p.added) }
+        ensures rightful { IfOk result (λ p. IsRightful (work_of self.now p.effects.value).ledger) }
+        ensures ready { IfOk result (λ p. IsReady self.now.lines p.effects.value.added) }
         ensures empty { IfOk result (λ p. p.room.items ≡ []) }
-        ensures larger { IfOk result (λ p. room_needed self.now.lines p.added ≤ vec_capacity p.room) }
+        ensures larger { IfOk result (λ p. room_needed self.now.lines p.effects.value.added ≤ vec_capacity p.room) }
     {
-        let mut draft = Draft::boxed(alloc, &self.state)?;
-        draft.withdraw(alloc, &self.state, ticket)?;
-        let room = self.state.lines.room_to_add(alloc, &None)?;
-        Ok(Prepared {
-            draft,
-            added: None,
-            room,
-        })
+        let mut draft = Draft::begin(alloc, &self.state)?;
+        draft.withdraw(alloc, ticket)?;
+        let prepared = draft.finish(alloc)?;
+        Ok(prepared)
     }
 
     /// Why a node can't be retired, or None if it can.
     pub(crate) fn retirement_refusal(&self, node: NodeId) -> Option<CoordRefusal>
         ensures { result ≡ result_err (retired farm_limits node (begin_work (ledger self.now))) }
     {
-        self.state.retirement_refusal(node)
+        let state = &self.state;
+        if state.gone.contains(node) {
+            Some(CoordRefusal::NodeRetired)
+        } else if state.table.has_tenure_of(node) || is_home(node, state.old_home) {
+            Some(CoordRefusal::TenureHeld)
+        } else {
+            None
+        }
     }
 
     /// Works out the retirement of a node, which adds nothing to the lines.
     pub(crate) fn retirement(&self, alloc: Global, node: NodeId) -> Result<Prepared, AllocError>
         requires accepted { result_err (retired farm_limits node (begin_work (ledger self.now))) ≡ None }
         requires number { IsNumber NODES node }
-        ensures work { IfOk result (λ p. retired farm_limits node (begin_work (ledger self.now)) ≡ Ok (work_with self.now p.added p.draft.value)) }
+        ensures work { IfOk result (λ p. retired farm_limits node (begin_work (ledger self.now)) ≡ Ok (work_of self.now p.effects.value)) }
         ensures told { IfOk result (λ p. ChangesAsTold (ledger self.now) (retired farm_limits node (begin_work (ledger self.now)))) }
-        ensures rightful { IfOk result (λ p. IsRightful (ledger_with self.now p.added p.draft.value.change)) }
-        ensures ready { IfOk result (λ p. IsReady self.now.lines p.added) }
+        ensures rightful { IfOk result (λ p. IsRightful (work_of self.now p.effects.value).ledger) }
+        ensures ready { IfOk result (λ p. IsReady self.now.lines p.effects.value.added) }
         ensures empty { IfOk result (λ p. p.room.items ≡ []) }
-        ensures larger { IfOk result (λ p. room_needed self.now.lines p.added ≤ vec_capacity p.room) }
+        ensures larger { IfOk result (λ p. room_needed self.now.lines p.effects.value.added ≤ vec_capacity p.room) }
     {
-        let mut draft = Draft::boxed(alloc, &self.state)?;
-        draft.retire(alloc, &self.state, node)?;
-        let room = self.state.lines.room_to_add(alloc, &None)?;
-        Ok(Prepared {
-            draft,
-            added: None,
-            room,
-        })
+        let mut draft = Draft::begin(alloc, &self.state)?;
+        draft.retire(alloc, node)?;
+        let prepared = draft.finish(alloc)?;
+        Ok(prepared)
     }
 
     /// Why the line of a slot can't be pruned, or None if it can.
@@ -345,17 +344,17 @@ impl Ledger {
     /// Works out the prune of a slot's line.
     pub(crate) fn pruning(&self, alloc: Global, slot: &Slot) -> Result<Prepared, AllocError>
         requires { result_err (pruned farm_limits slot.now (begin_work (ledger self.now))) ≡ None }
-        ensures work { IfOk result (λ p. pruned farm_limits slot.now (begin_work (ledger self.now)) ≡ Ok (work_with self.now p.added p.draft.value)) }
+        ensures work { IfOk result (λ p. pruned farm_limits slot.now (begin_work (ledger self.now)) ≡ Ok (work_of self.now p.effects.value)) }
         ensures told { IfOk result (λ p. ChangesAsTold (ledger self.now) (pruned farm_limits slot.now (begin_work (ledger self.now)))) }
-        ensures rightful { IfOk result (λ p. IsRightful (ledger_with self.now p.added p.draft.value.change)) }
-        ensures ready { IfOk result (λ p. IsReady self.now.lines p.added) }
+        ensures rightful { IfOk result (λ p. IsRightful (work_of self.now p.effects.value).ledger) }
+        ensures ready { IfOk result (λ p. IsReady self.now.lines p.effects.value.added) }
         ensures empty { IfOk result (λ p. p.room.items ≡ []) }
-        ensures larger { IfOk result (λ p. room_needed self.now.lines p.added ≤ vec_capacity p.room) }
+        ensures larger { IfOk result (λ p. room_needed self.now.lines p.effects.value.added ≤ vec_capacity p.room) }
     {
-        let mut draft = Draft::boxed(alloc, &self.state)?;
-        let added = draft.prune(alloc, &self.state, slot)?;
-        let room = self.state.lines.room_to_add(alloc, &added)?;
-        Ok(Prepared { draft, added, room })
+        let mut draft = Draft::begin(alloc, &self.state)?;
+        draft.prune(alloc, slot)?;
+        let prepared = draft.finish(alloc)?;
+        Ok(prepared)
     }
 
     /// Sends the Grant of each lease again, the oldest first, and asks for each tenure that is waited for.

@@ -4,9 +4,11 @@
 mod change;
 mod coordinator;
 mod draft;
+mod effects;
 mod handled;
 pub mod laws;
 mod ledger;
+mod lookups;
 mod new_life;
 mod nodes;
 mod operator_calls;

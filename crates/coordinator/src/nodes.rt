@@ -1,13 +1,13 @@
 //! The greatest lives and the retired nodes with what an event changes: in their place, and as the lists of a record.
 ghost use Rattle.std.specs.Prelude.{◌≡◌, ◌+◌, ◌≤◌, length, map, IfOk};
 ghost use Rattle.std.specs.List.Sorted.{IsStrictlyIncreasing};
-ghost use Rattle.leases.specs.Lives.{AreLives};
-ghost use Rattle.leases.specs.Table.{life_at, is_among};
+ghost use Rattle.holdings.specs.Lives.{AreLives};
+ghost use Rattle.holdings.specs.Lives.{life_at, is_among};
 ghost use Rattle.coordinator.specs.Shown.{with_life, with_gone};
 
 use super::new_life::NewLife;
 use farm_base::{NodeId, NodeLife};
-use leases::{Lives, RetiredNodes};
+use holdings::{Lives, RetiredNodes};
 use std::alloc::{AllocError, Global};
 
 /// Sets the life that began, if one did. There has to be room for one more, and it takes no memory.

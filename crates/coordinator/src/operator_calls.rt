@@ -5,22 +5,20 @@ ghost use Rattle.std.specs.Result.{result_err};
 ghost use Rattle.farm_base.specs.Contents.{empty_digest};
 ghost use Rattle.protocol.specs.Farm.{farm_limits};
 ghost use Rattle.protocol.specs.Ledger.{begin_work, withdrawn, pruned, retired, retried, goes, holds_wanted, is_awaited, nudges, nudge_all};
-ghost use Rattle.versions.specs.Additions.{HasRoom, IsReady};
+ghost use Rattle.versions.specs.Additions.{HasRoom};
 ghost use Rattle.versions.specs.Lines.{news_of};
-ghost use Rattle.coordinator.specs.Held.{line_at};
-ghost use Rattle.coordinator.specs.Keeps.{held, NotesSpent};
-ghost use Rattle.farm_base.specs.Wanted.{IsWants};
-ghost use Rattle.coordinator.specs.Shown.{LineOf, having_said, kept, shown, work_with, work_at, ledger_with, ledger_at, withdraws_under};
+ghost use Rattle.coordinator.specs.Held.{ledger};
+ghost use Rattle.coordinator.specs.Keeps.{held, IsKeepable};
+ghost use Rattle.coordinator.specs.Shown.{work, Makes, Accepts, IsFresh, having_said, withdraws_under};
 ghost use Rattle.coordinator.specs.Idle.{AreHeldUp, AreIdle};
 ghost use Rattle.parked.specs.Queue.{asks_of};
-ghost use Rattle.parked.specs.Waiting.{waits_after};
 ghost use Rattle.coordinator.specs.Sound.{IsSound};
 
 use super::draft::Draft;
-use super::state::{State, grant_of, is_home, is_some_saved};
+use super::state::{State, grant_of, is_some_saved};
 use farm_base::{Copied, FromCoord, Lease, News, NodeId, Parked, Slot, Ticket, empty_digest};
 use leases::{Ending, holds_wanted};
-use protocol::{CoordNote, CoordRefusal};
+use protocol::CoordNote;
 use std::alloc::{AllocError, Global};
 use versions::{Added, Addition, Lines, additions};
 
@@ -39,37 +37,6 @@ fn is_asked_for(parked: &[Parked], lease: &Lease) -> bool
 }
 
 impl State {
-    /// Why the lease of a ticket can't be withdrawn, or None if it can.
-    pub(crate) fn withdrawal_refusal(&self, ticket: Ticket) -> Option<CoordRefusal>
-        ensures { (line : LineOf) → result ≡ result_err (withdrawn farm_limits ticket (begin_work (kept line self.now))) }
-    {
-        match self.table.lease(ticket) {
-            Some(lease) => {
-                if lease.tenure {
-                    Some(CoordRefusal::Tenure)
-                } else {
-                    None
-                }
-            }
-            None => Some(CoordRefusal::NotLive),
-        }
-    }
-}
-
-impl State {
-    /// Why a node can't be retired, or None if it can.
-    pub(crate) fn retirement_refusal(&self, node: NodeId) -> Option<CoordRefusal>
-        ensures { (line : LineOf) → result ≡ result_err (retired farm_limits node (begin_work (kept line self.now))) }
-    {
-        if self.gone.contains(node) {
-            Some(CoordRefusal::NodeRetired)
-        } else if self.table.has_tenure_of(node) || is_home(node, self.old_home) {
-            Some(CoordRefusal::TenureHeld)
-        } else {
-            None
-        }
-    }
-
     /// Whether a ticket can still be given.
     pub(crate) fn has_ticket(&self) -> bool
         ensures { result ≡ nat_lt self.now.tickets.position farm_limits.greatest }
@@ -91,8 +58,8 @@ impl State {
         sends: &mut Vec<FromCoord>,
         lease: &Lease,
     ) -> Result<(), AllocError>
-        ensures { OnOk result (having_said sends.new.items (kept (line_at self.now.lines) self.now)
-            ≡ nudges farm_limits lease.now (having_said sends.old.items (kept (line_at self.now.lines) self.now))) }
+        ensures { OnOk result (having_said sends.new.items (ledger (held self.now))
+            ≡ nudges farm_limits lease.now (having_said sends.old.items (ledger (held self.now)))) }
     {
         let grant = grant_of(alloc, &self.lines, &None, lease)?;
         sends.push(FromCoord::Granted(grant))?;
@@ -108,8 +75,8 @@ impl State {
 
     /// Reminds the holder of each lease of it, the oldest first.
     pub(crate) fn remind_all(&self, alloc: Global) -> Result<Vec<FromCoord>, AllocError>
-        ensures { IfOk result (λ sends. having_said sends.items (kept (line_at self.now.lines) self.now)
-            ≡ nudge_all farm_limits self.now.table.live (begin_work (kept (line_at self.now.lines) self.now))) }
+        ensures { IfOk result (λ sends. having_said sends.items (ledger (held self.now))
+            ≡ nudge_all farm_limits self.now.table.live (begin_work (ledger (held self.now)))) }
     {
         let mut sends = Vec::new(alloc);
         let leases = self.table.leases();
@@ -120,36 +87,32 @@ impl State {
     }
 }
 
-impl Draft {
+impl<'s> Draft<'s> {
     /// Withdraws the lease of a ticket, where there is one.
-    fn take_back(&mut self, alloc: Global, base: &State, ticket: Ticket) -> Result<(), AllocError>
-        ensures { OnOk result ((line : LineOf) → shown line (held base.now) self.new ≡ withdraws_under ticket (shown line (held base.now) self.old)) }
+    fn take_back(&mut self, alloc: Global, ticket: Ticket) -> Result<(), AllocError>
+        ensures { OnOk result (Makes (withdraws_under ticket) self.old self.new) }
     {
-        let is_saved = is_some_saved(self.change.table.lease(&base.table, ticket));
-        self.change.table.withdraw(alloc, &base.table, ticket)?;
-        self.changed = self.changed || is_saved;
+        let base = self.base;
+        let effects = &mut *self.effects;
+        let is_saved = is_some_saved(effects.change.table.lease(&base.table, ticket));
+        effects.change.table.withdraw(alloc, &base.table, ticket)?;
+        effects.changed = effects.changed || is_saved;
         Ok(())
     }
 
     /// Withdraws the lease of a ticket.
-    pub(crate) fn withdraw(
-        &mut self,
-        alloc: Global,
-        base: &State,
-        ticket: Ticket,
-    ) -> Result<(), AllocError>
-        requires sound { IsSound (ledger_at (held base.now) self.old.change) }
-        requires wants { All (λ p. IsWants p.wants) (asks_of base.now.parked) }
-        requires held_up { AreHeldUp (ledger_at (held base.now) self.old.change) }
-        requires noted { NotesSpent base.now }
-        requires accepted { result_err (withdrawn farm_limits ticket (work_at (held base.now) self.old)) ≡ None }
-        ensures work { OnOk result (withdrawn farm_limits ticket (work_at (held base.now) self.old) ≡ Ok (work_at (held base.now) self.new)) }
-        ensures sound { OnOk result (IsSound (ledger_at (held base.now) self.new.change)) }
+    pub(crate) fn withdraw(&mut self, alloc: Global, ticket: Ticket) -> Result<(), AllocError>
+        requires sound { IsSound (work self.old).ledger }
+        requires kept { IsKeepable self.old.base.now }
+        requires held_up { AreHeldUp (work self.old).ledger }
+        requires first { IsFresh self.old.effects.value }
+        requires accepted { result_err (withdrawn farm_limits ticket (work self.old)) ≡ None }
+        ensures { OnOk result (Accepts (withdrawn farm_limits ticket) self.old self.new) }
     {
-        let freed = self.freed_by(alloc, base, ticket)?;
-        self.take_back(alloc, base, ticket)?;
-        self.retry(alloc, base, &None, freed)?;
-        self.note = CoordNote::Withdrawn(ticket);
+        let freed = self.freed_by(alloc, ticket)?;
+        self.take_back(alloc, ticket)?;
+        self.retry(alloc, freed)?;
+        self.note(CoordNote::Withdrawn(ticket));
         Ok(())
     }
 
@@ -157,82 +120,70 @@ impl Draft {
     fn retry_if(
         &mut self,
         alloc: Global,
-        base: &State,
         due: bool,
         freed: Vec<(Slot, bool)>,
     ) -> Result<(), AllocError>
-        requires sound { IsSound (ledger_at (held base.now) self.old.change) }
-        requires wants { All (λ p. IsWants p.wants) (asks_of base.now.parked) }
-        requires noted { NotesSpent base.now }
-        requires idle { AreIdle freed.items (ledger_at (held base.now) self.old.change) (waits_after (asks_of base.now.parked) self.old.change.parked) }
-        ensures { OnOk result (work_at (held base.now) self.new
-            ≡ (if due then retried farm_limits (work_at (held base.now) self.old) else work_at (held base.now) self.old)) }
+        requires sound { IsSound (work self.old).ledger }
+        requires kept { IsKeepable self.old.base.now }
+        requires idle { AreIdle freed.items (work self.old).ledger (work self.old).ledger.parked }
+        ensures { OnOk result (Makes (λ w. if due then retried farm_limits w else w) self.old self.new) }
     {
         if !due {
             return Ok(());
         }
-        self.retry(alloc, base, &None, freed)?;
+        self.retry(alloc, freed)?;
         Ok(())
     }
 
     /// Drops a node: its leases are withdrawn, its parked asks go, and nothing that it says is heard again.
-    fn drop_node(&mut self, alloc: Global, base: &State, node: NodeId) -> Result<(), AllocError>
-        requires { self.old.change.gone ≡ None }
-        ensures { OnOk result ((line : LineOf) → shown line (held base.now) self.new ≡ goes node (shown line (held base.now) self.old)) }
+    fn drop_node(&mut self, alloc: Global, node: NodeId) -> Result<(), AllocError>
+        requires { self.old.effects.value.change.gone ≡ None }
+        ensures { OnOk result (Makes (goes node) self.old self.new) }
     {
-        self.change.table.withdraw_all_of(alloc, &base.table, node)?;
-        self.change
-            .parked
-            .end(alloc, &base.parked, Ending::Node(node))?;
-        self.change.gone = Some(node);
-        self.changed = true;
+        let base = self.base;
+        let effects = &mut *self.effects;
+        let change = &mut effects.change;
+        change.table.withdraw_all_of(alloc, &base.table, node)?;
+        change.parked.end(alloc, &base.parked, Ending::Node(node))?;
+        change.gone = Some(node);
+        effects.changed = true;
         Ok(())
     }
 
     /// Retires a node that holds no tenure and isn't the old home.
-    pub(crate) fn retire(
-        &mut self,
-        alloc: Global,
-        base: &State,
-        node: NodeId,
-    ) -> Result<(), AllocError>
-        requires sound { IsSound (ledger_at (held base.now) self.old.change) }
-        requires wants { All (λ p. IsWants p.wants) (asks_of base.now.parked) }
-        requires noted { NotesSpent base.now }
-        requires held_up { AreHeldUp (ledger_at (held base.now) self.old.change) }
-        requires accepted { result_err (retired farm_limits node (work_at (held base.now) self.old)) ≡ None }
-        requires first { self.old.change.gone ≡ None }
-        ensures work { OnOk result (retired farm_limits node (work_at (held base.now) self.old) ≡ Ok (work_at (held base.now) self.new)) }
-        ensures sound { OnOk result (IsSound (ledger_at (held base.now) self.new.change)) }
+    pub(crate) fn retire(&mut self, alloc: Global, node: NodeId) -> Result<(), AllocError>
+        requires sound { IsSound (work self.old).ledger }
+        requires kept { IsKeepable self.old.base.now }
+        requires held_up { AreHeldUp (work self.old).ledger }
+        requires first { IsFresh self.old.effects.value }
+        requires accepted { result_err (retired farm_limits node (work self.old)) ≡ None }
+        ensures { OnOk result (Accepts (retired farm_limits node) self.old self.new) }
     {
-        let had_leases = self.change.table.has_lease_of(&base.table, node);
-        let freed = self.freed_by_node(alloc, base, Ending::Node(node))?;
-        self.drop_node(alloc, base, node)?;
-        self.retry_if(alloc, base, had_leases, freed)?;
-        self.note = CoordNote::Retired(node);
+        let table = &self.effects.change.table;
+        let had_leases = table.has_lease_of(&self.base.table, node);
+        let freed = self.freed_by_node(alloc, Ending::Node(node))?;
+        self.drop_node(alloc, node)?;
+        self.retry_if(alloc, had_leases, freed)?;
+        self.note(CoordNote::Retired(node));
         Ok(())
     }
 
     /// Prunes the line of a slot that has a version and isn't leased.
-    pub(crate) fn prune(
-        &mut self,
-        alloc: Global,
-        base: &State,
-        slot: &Slot,
-    ) -> Result<Option<Added>, AllocError>
-        requires sound { IsSound (ledger_at (held base.now) self.old.change) }
-        requires accepted { result_err (pruned farm_limits slot.now (work_at (held base.now) self.old)) ≡ None }
-        ensures work { IfOk result (λ added. pruned farm_limits slot.now (work_at (held base.now) self.old) ≡ Ok (work_with (held base.now) added self.new)) }
-        ensures ready { IfOk result (IsReady base.now.lines) }
-        ensures sound { IfOk result (λ added. IsSound (ledger_with (held base.now) added self.new.change)) }
+    pub(crate) fn prune(&mut self, alloc: Global, slot: &Slot) -> Result<(), AllocError>
+        requires sound { IsSound (work self.old).ledger }
+        requires first { IsFresh self.old.effects.value }
+        requires accepted { result_err (pruned farm_limits slot.now (work self.old)) ≡ None }
+        ensures { OnOk result (Accepts (pruned farm_limits slot.now) self.old self.new) }
     {
-        let additions = emptied(alloc, &base.lines, slot)?;
-        let Ok(ticket) = self.change.tickets.next() else {
+        let additions = emptied(alloc, &self.base.lines, slot)?;
+        let effects = &mut *self.effects;
+        let Ok(ticket) = effects.change.tickets.next() else {
             unreachable!();
         };
-        self.changed = true;
-        self.note = CoordNote::Pruned(ticket);
-        Ok(Some(Added { ticket, additions }))
+        effects.added = Some(Added { ticket, additions });
+        effects.changed = true;
+        effects.note = CoordNote::Pruned(ticket);
+        Ok(())
     }
 }
 

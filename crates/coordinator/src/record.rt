@@ -1,28 +1,29 @@
 //! The record of what a coordinator keeps, the entry of an event, and what a restart makes of a record.
 ghost use Rattle.std.specs.Prelude.{◌≡◌, ◌≤◌, ℕ, Bool, IfOk, filter, map};
 ghost use Rattle.std.specs.List.Sorted.{IsStrictlyIncreasing};
-ghost use Rattle.leases.specs.Leases.{AreLeases};
-ghost use Rattle.leases.specs.Lives.{AreLives};
+ghost use Rattle.holdings.specs.Leases.{AreLeases};
+ghost use Rattle.holdings.specs.Lives.{AreLives};
 ghost use Rattle.protocol.specs.Ledger.{saves, reads, is_saved};
 ghost use Rattle.saverecord.specs.Ledgers.{IsKept, ledger_of};
 ghost use Rattle.saverecord.specs.Logs.{with_lives, IsChange, AreInOrder};
 ghost use Rattle.saverecord.specs.Logs.{with_gone as with_nodes};
 ghost use Rattle.versions.specs.Additions.{IsReady};
 ghost use Rattle.coordinator.specs.Keeps.{held, NotesSpent};
-ghost use Rattle.coordinator.specs.Shown.{after, kept, lines_with, with_life, with_gone};
-ghost use Rattle.coordinator.specs.Held.{line_at};
+ghost use Rattle.coordinator.specs.Shown.{work_of, with_life, with_gone};
+ghost use Rattle.coordinator.specs.Held.{ledger};
 ghost use Rattle.coordinator.specs.Sound.{IsRightful};
 
-use super::change::Change;
+use super::effects::Effects;
 use super::new_life::NewLife;
 use super::nodes::{lives_with, nodes_with};
 use super::state::State;
 use farm_base::{Items, Lease, NodeId, NodeLife};
-use leases::{LeaseTable, Lives, RetiredNodes, TicketSource, is_saved};
+use holdings::{Lives, RetiredNodes, TicketSource, is_saved};
+use leases::LeaseTable;
 use parked::{ParkedAsks, SpentFolders};
 use saverecord::{LogEntry, Record};
 use std::alloc::{AllocError, Global};
-use versions::{Added, Lines};
+use versions::Lines;
 
 /// Drops the leases that the record doesn't have.
 fn keep_saved(leases: &mut Vec<Lease>)
@@ -31,23 +32,23 @@ fn keep_saved(leases: &mut Vec<Lease>)
     leases.retain(|lease| is_saved(lease));
 }
 
-/// The record of a state with changes, and with what a commit adds to its lines.
+/// The record of a state with what an event did to it.
 pub(crate) fn record_of(
     alloc: Global,
     state: &State,
-    change: &Change,
-    added: &Option<Added>,
+    effects: &Effects,
 ) -> Result<Record, AllocError>
-    requires rightful { IsRightful (after (lines_with state.now.lines added.now) (held state.now) change.now) }
-    requires ready { IsReady state.now.lines added.now }
-    ensures ledger { IfOk result (λ r. ledger_of r ≡ reads (saves (after (lines_with state.now.lines added.now) (held state.now) change.now))) }
+    requires rightful { IsRightful (work_of (held state.now) effects.now).ledger }
+    requires ready { IsReady state.now.lines effects.now.added }
+    ensures ledger { IfOk result (λ r. ledger_of r ≡ reads (saves (work_of (held state.now) effects.now).ledger)) }
     ensures kept { IfOk result IsKept }
 {
+    let change = &effects.change;
     let (mut leases, retired) = change.table.to_parts(alloc, &state.table)?;
     keep_saved(&mut leases);
     let lives = lives_with(alloc, &state.lives, change.life)?;
     let retired_nodes = nodes_with(alloc, &state.gone, change.gone)?;
-    let lines = state.lines.copy_with(alloc, added)?;
+    let lines = state.lines.copy_with(alloc, &effects.added)?;
     Ok(Record {
         last: change.tickets.ceiling(),
         old_home: change.old_home,
@@ -83,24 +84,24 @@ fn retired_now(alloc: Global, gone: Option<NodeId>) -> Result<Vec<NodeId>, Alloc
     Ok(nodes)
 }
 
-/// The entry of changes over a state, and of what a commit adds to its lines.
+/// The entry of what an event did to a state.
 pub(crate) fn entry_of(
     alloc: Global,
     state: &State,
-    change: &Change,
-    added: &Option<Added>,
+    effects: &Effects,
 ) -> Result<LogEntry, AllocError>
     requires before { AreLeases (held state.now).live }
-    requires block { state.now.tickets.ceiling ≤ change.now.tickets.ceiling }
-    requires ready { IsReady state.now.lines added.now }
-    ensures change { IfOk result (IsChange (saves (kept (line_at state.now.lines) state.now)) (saves (after (lines_with state.now.lines added.now) (held state.now) change.now))) }
+    requires block { state.now.tickets.ceiling ≤ effects.now.change.tickets.ceiling }
+    requires ready { IsReady state.now.lines effects.now.added }
+    ensures change { IfOk result (IsChange (saves (ledger (held state.now))) (saves (work_of (held state.now) effects.now).ledger)) }
     ensures order { IfOk result AreInOrder }
 {
+    let change = &effects.change;
     let ended = change.table.saved_ended(alloc, &state.table)?;
     let leases = change.table.saved_granted(alloc)?;
     let retired = change.table.newly_retired(alloc)?;
     let none = Lines::new(alloc);
-    let lines = none.copy_with(alloc, added)?;
+    let lines = none.copy_with(alloc, &effects.added)?;
     Ok(LogEntry {
         last: change.tickets.ceiling(),
         old_home: change.old_home,
@@ -116,7 +117,7 @@ pub(crate) fn entry_of(
 /// The state that a restart makes of a record. The leases that a coordinator doesn't save are over.
 pub(crate) fn state_of(alloc: Global, read: Record) -> Result<State, AllocError>
     requires { IsKept read }
-    ensures ledger { IfOk result (λ state. kept (line_at state.lines) state ≡ reads (saves (ledger_of read))) }
+    ensures ledger { IfOk result (λ state. ledger (held state) ≡ reads (saves (ledger_of read))) }
     ensures noted { IfOk result NotesSpent }
 {
     let mut leases = read.leases.into_vec();

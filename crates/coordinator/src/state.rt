@@ -8,7 +8,8 @@ ghost use Rattle.protocol.specs.Ledger.{grant_of, is_saved, is_home, writable_sl
 ghost use Rattle.coordinator.specs.Shown.{lines_with, saved_under};
 
 use farm_base::{Grant, Items, Lease, LeaseKind, Mode, News, NodeId, Slot};
-use leases::{LeaseTable, Lives, RetiredNodes, TicketSource, is_saved};
+use holdings::{Lives, RetiredNodes, TicketSource, is_saved};
+use leases::LeaseTable;
 use parked::{ParkedAsks, SpentFolders};
 use std::alloc::{AllocError, Global};
 use versions::{Added, Lines, granted_slots};

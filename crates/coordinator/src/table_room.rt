@@ -2,7 +2,7 @@
 //! was where the save fails. In functions of their own, since letting go of a table is many steps of a proof.
 ghost use Rattle.std.specs.Prelude.{◌≡◌, IfOk, OnErr};
 ghost use Rattle.leases.specs.Changes.{changed, HasRoom};
-ghost use Rattle.leases.specs.Leases.{AreLeases};
+ghost use Rattle.holdings.specs.Leases.{AreLeases};
 
 use leases::{LeaseTable, TableChange, TableWithRoom};
 use std::alloc::{AllocError, Global};

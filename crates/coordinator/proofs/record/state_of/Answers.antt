@@ -1,5 +1,5 @@
 use Rattle.std.proofs.Common.{sym, ap, ◌∙◌, subst, filter}
-use Rattle.leases.specs.Leases.{AreLeases}
+use Rattle.holdings.specs.Leases.{AreLeases}
 use Rattle.protocol.specs.Ledger.{is_saved}
 use Rattle.coordinator.proofs.Records.{leases_of}
 use Rattle.coordinator.proofs.record.state_of.Goals as goal

@@ -3,17 +3,18 @@ use Rattle.protocol.specs.Machine.{Parked}
 use Rattle.protocol.specs.Ledger.{Ledger}
 use Rattle.leases.specs.Changes.{changed}
 use Rattle.leases.specs.Leases.{Table}
-use Rattle.leases.specs.Table.{among}
+use Rattle.holdings.specs.Leases.{among}
 use Rattle.leases.proofs.ChangeLemmas.{changed-none}
-use Rattle.coordinator.specs.Shown.{kept}
+use Rattle.coordinator.specs.Held.{ledger}
+use Rattle.coordinator.specs.Keeps.{held}
 use Rattle.parked.specs.Over.{still_waiting}
 use Rattle.parked.specs.Queue.{asks_of}
 use Rattle.parked.proofs.WaitingWords.{still-none}
 use Rattle.coordinator.proofs.change.Change.new.Goals as goal
 
 pub returns-clause-ledger : goal.returns-clause-ledger
-returns-clause-ledger c = λ line.
-    let q : Ledger = kept line c.args.base.now in
+returns-clause-ledger c =
+    let q : Ledger = ledger (held c.args.base.now) in
     let t : Table = c.args.base.now.table in
     let asks : List Parked = asks_of c.args.base.now.parked in
     let table : changed t c.new.result ≡ t = ap (changed t) c.new.ensures ∙ changed-none t in

@@ -2,7 +2,7 @@ use Rattle.std.proofs.Common.{◌≡◌, true, ap, sym, ◌∙◌, subst}
 use Rattle.protocol.specs.Lists.{In}
 use Rattle.protocol.specs.Names.{Slot, slot_eq}
 use Rattle.protocol.proofs.Base.{from_any, slot_eq_is}
-use Rattle.leases.specs.Table.{among}
+use Rattle.holdings.specs.Leases.{among}
 use Rattle.coordinator.proofs.SpentWords.{noted-changed, among-itself}
 use Rattle.coordinator.proofs.change.Change.spent.Goals as goal
 

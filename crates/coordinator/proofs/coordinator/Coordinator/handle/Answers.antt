@@ -1,10 +1,9 @@
 use Rattle.std.proofs.Common.{◌≡◌, false, Ok, sym, ap, ◌∙◌, subst}
 use Rattle.protocol.specs.Farm.{farm_limits}
 use Rattle.protocol.specs.Ledger.{Ledger, Work, begin_work, handled}
-use Rattle.versions.specs.Lines.{lines_with}
 use Rattle.coordinator.specs.Held.{Held, ledger}
 use Rattle.coordinator.specs.Seen.{Seen}
-use Rattle.coordinator.specs.Shown.{after, shown}
+use Rattle.coordinator.specs.Shown.{work_of}
 use Rattle.coordinator.specs.Sound.{IsRightful}
 use Rattle.coordinator.specs.Promises.{GrantsAtOnce, EndsOnlyItsOwn, ChangesAsTold}
 use Rattle.coordinator.proofs.Keeping.{settled_up, at_once, own}
@@ -15,7 +14,7 @@ use Rattle.coordinator.proofs.coordinator.Coordinator.handle.Goals as goal
 pub settle-requires-clause-told : goal.settle-requires-clause-told
 settle-requires-clause-told g c =
     let held : c.self.inside.ledger ≡ c.args.self.now.held = ap (λ (s : Seen g.row.K.Denot). s.held) c.self.view_is in
-    let w : (Held → Work) = λ h. shown (lines_with h.lines c.in-Ok.prepared.added) h c.in-Ok.prepared.draft.value in
+    let w : (Held → Work) = λ h. work_of h c.in-Ok.prepared.effects.value in
     let work : w c.args.self.now.held ≡ handled farm_limits c.args.message.now (begin_work (ledger c.args.self.now.held)) = subst (λ (h : Held). w h ≡ handled farm_limits c.args.message.now (begin_work (ledger h))) held c.in-Ok.ensures.work in
     let q : Ledger = ledger c.args.self.now.held in
     subst (λ (x : Work). ChangesAsTold q (Ok x)) (sym work) (subst (λ (h : Held). ChangesAsTold (ledger h) (Ok (handled farm_limits c.args.message.now (begin_work (ledger h))))) held c.in-Ok.ensures.told)
@@ -23,12 +22,12 @@ settle-requires-clause-told g c =
 pub settle-requires-clause-rightful : goal.settle-requires-clause-rightful
 settle-requires-clause-rightful g c =
     let held : c.self.inside.ledger ≡ c.args.self.now.held = ap (λ (s : Seen g.row.K.Denot). s.held) c.self.view_is in
-    subst (λ (h : Held). IsRightful (after (lines_with h.lines c.in-Ok.prepared.added) h c.in-Ok.prepared.draft.value.change)) held c.in-Ok.ensures.rightful
+    subst (λ (h : Held). IsRightful (work_of h c.in-Ok.prepared.effects.value).ledger) held c.in-Ok.ensures.rightful
 
 pub returns-clause-answer : goal.returns-clause-answer
 returns-clause-answer g c =
     let held : c.self.inside.ledger ≡ c.args.self.now.held = ap (λ (s : Seen g.row.K.Denot). s.held) c.self.view_is in
-    let w : (Held → Work) = λ h. shown (lines_with h.lines c.in-Ok.prepared.added) h c.in-Ok.prepared.draft.value in
+    let w : (Held → Work) = λ h. work_of h c.in-Ok.prepared.effects.value in
     let work : w c.args.self.now.held ≡ handled farm_limits c.args.message.now (begin_work (ledger c.args.self.now.held)) = subst (λ (h : Held). w h ≡ handled farm_limits c.args.message.now (begin_work (ledger h))) held c.in-Ok.ensures.work in
     let up : c.args.self.now.down ≡ false = sym (ap (λ (s : Seen g.row.K.Denot). s.down) c.self.view_is) ∙ c.if-self.false in
     settled_up g.K.Keeper.saving (Ok (handled farm_limits c.args.message.now (begin_work (ledger c.args.self.now.held)))) (Ok (w c.args.self.now.held)) c.args.self.now c.settle.new.self c.settle.result up (ap (λ (x : Work). Ok x) work) c.settle.ensures.answer
@@ -36,7 +35,7 @@ returns-clause-answer g c =
 pub returns-clause-at_once : goal.returns-clause-at_once
 returns-clause-at_once g c =
     let held : c.self.inside.ledger ≡ c.args.self.now.held = ap (λ (s : Seen g.row.K.Denot). s.held) c.self.view_is in
-    let w : (Held → Work) = λ h. shown (lines_with h.lines c.in-Ok.prepared.added) h c.in-Ok.prepared.draft.value in
+    let w : (Held → Work) = λ h. work_of h c.in-Ok.prepared.effects.value in
     let work : w c.args.self.now.held ≡ handled farm_limits c.args.message.now (begin_work (ledger c.args.self.now.held)) = subst (λ (h : Held). w h ≡ handled farm_limits c.args.message.now (begin_work (ledger h))) held c.in-Ok.ensures.work in
     let q : Ledger = ledger c.args.self.now.held in
     at_once g.K.Keeper.saving (w c.args.self.now.held) c.args.self.now c.settle.new.self c.settle.result c.args.message.now c.settle.ensures.answer
@@ -45,7 +44,7 @@ returns-clause-at_once g c =
 pub returns-clause-own : goal.returns-clause-own
 returns-clause-own g c =
     let held : c.self.inside.ledger ≡ c.args.self.now.held = ap (λ (s : Seen g.row.K.Denot). s.held) c.self.view_is in
-    let w : (Held → Work) = λ h. shown (lines_with h.lines c.in-Ok.prepared.added) h c.in-Ok.prepared.draft.value in
+    let w : (Held → Work) = λ h. work_of h c.in-Ok.prepared.effects.value in
     let work : w c.args.self.now.held ≡ handled farm_limits c.args.message.now (begin_work (ledger c.args.self.now.held)) = subst (λ (h : Held). w h ≡ handled farm_limits c.args.message.now (begin_work (ledger h))) held c.in-Ok.ensures.work in
     let q : Ledger = ledger c.args.self.now.held in
     own g.K.Keeper.saving (w c.args.self.now.held) c.args.self.now c.settle.new.self c.settle.result c.args.message.now c.settle.ensures.answer

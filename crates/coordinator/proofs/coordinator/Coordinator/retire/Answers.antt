@@ -1,10 +1,9 @@
 use Rattle.std.proofs.Common.{◌≡◌, false, Ok, sym, ap, ◌∙◌, subst}
 use Rattle.protocol.specs.Farm.{farm_limits}
 use Rattle.protocol.specs.Ledger.{Work, begin_work, retired}
-use Rattle.versions.specs.Lines.{lines_with}
 use Rattle.coordinator.specs.Held.{Held, ledger}
 use Rattle.coordinator.specs.Seen.{Seen}
-use Rattle.coordinator.specs.Shown.{after, shown}
+use Rattle.coordinator.specs.Shown.{work_of}
 use Rattle.coordinator.specs.Sound.{IsRightful}
 use Rattle.coordinator.specs.Promises.{ChangesAsTold}
 use Rattle.coordinator.proofs.Keeping.{settled_up}
@@ -13,19 +12,19 @@ use Rattle.coordinator.proofs.coordinator.Coordinator.retire.Goals as goal
 pub settle-requires-clause-told : goal.settle-requires-clause-told
 settle-requires-clause-told g c =
     let held : c.self.inside.ledger ≡ c.args.self.now.held = ap (λ (s : Seen g.row.K.Denot). s.held) c.self.view_is in
-    let w : (Held → Work) = λ h. shown (lines_with h.lines c.in-Ok.prepared.added) h c.in-Ok.prepared.draft.value in
+    let w : (Held → Work) = λ h. work_of h c.in-Ok.prepared.effects.value in
     let work : retired farm_limits c.args.node (begin_work (ledger c.args.self.now.held)) ≡ Ok (w c.args.self.now.held) = subst (λ (h : Held). retired farm_limits c.args.node (begin_work (ledger h)) ≡ Ok (w h)) held c.in-Ok.ensures.work in
     subst (ChangesAsTold (ledger c.args.self.now.held)) work (subst (λ (h : Held). ChangesAsTold (ledger h) (retired farm_limits c.args.node (begin_work (ledger h)))) held c.in-Ok.ensures.told)
 
 pub settle-requires-clause-rightful : goal.settle-requires-clause-rightful
 settle-requires-clause-rightful g c =
     let held : c.self.inside.ledger ≡ c.args.self.now.held = ap (λ (s : Seen g.row.K.Denot). s.held) c.self.view_is in
-    subst (λ (h : Held). IsRightful (after (lines_with h.lines c.in-Ok.prepared.added) h c.in-Ok.prepared.draft.value.change)) held c.in-Ok.ensures.rightful
+    subst (λ (h : Held). IsRightful (work_of h c.in-Ok.prepared.effects.value).ledger) held c.in-Ok.ensures.rightful
 
 pub returns-clause-answer : goal.returns-clause-answer
 returns-clause-answer g c =
     let held : c.self.inside.ledger ≡ c.args.self.now.held = ap (λ (s : Seen g.row.K.Denot). s.held) c.self.view_is in
-    let w : (Held → Work) = λ h. shown (lines_with h.lines c.in-Ok.prepared.added) h c.in-Ok.prepared.draft.value in
+    let w : (Held → Work) = λ h. work_of h c.in-Ok.prepared.effects.value in
     let work : retired farm_limits c.args.node (begin_work (ledger c.args.self.now.held)) ≡ Ok (w c.args.self.now.held) = subst (λ (h : Held). retired farm_limits c.args.node (begin_work (ledger h)) ≡ Ok (w h)) held c.in-Ok.ensures.work in
     let up : c.args.self.now.down ≡ false = sym (ap (λ (s : Seen g.row.K.Denot). s.down) c.self.view_is) ∙ c.if-self.false in
     settled_up g.K.Keeper.saving (retired farm_limits c.args.node (begin_work (ledger c.args.self.now.held))) (Ok (w c.args.self.now.held)) c.args.self.now c.settle.new.self c.settle.result up (sym work) c.settle.ensures.answer

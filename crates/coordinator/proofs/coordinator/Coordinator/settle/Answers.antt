@@ -1,10 +1,9 @@
 use Rattle.std.proofs.Common.{◌≡◌, Bool, false, Ok, sym, ap, ◌∙◌, subst}
 use Rattle.protocol.specs.Ledger.{Work}
-use Rattle.versions.specs.Lines.{lines_with}
 use Rattle.coordinator.specs.Held.{Held, line_at, ledger}
 use Rattle.coordinator.specs.Seen.{Seen, IsKeeping}
 use Rattle.coordinator.specs.Settling.{Answers}
-use Rattle.coordinator.specs.Shown.{after, shown}
+use Rattle.coordinator.specs.Shown.{work_of}
 use Rattle.coordinator.specs.Sound.{IsRightful}
 use Rattle.coordinator.specs.Promises.{OnlyGrow, ChangesAsTold}
 use Rattle.coordinator.proofs.coordinator.Coordinator.settle.Goals as goal
@@ -12,12 +11,12 @@ use Rattle.coordinator.proofs.coordinator.Coordinator.settle.Goals as goal
 pub settle-result-requires-clause-told : goal.settle-result-requires-clause-told
 settle-result-requires-clause-told g c =
     let held : c.self.inside.ledger ≡ c.args.self.now.held = ap (λ (s : Seen g.row.K.Denot). s.held) c.self.view_is in
-    subst (λ (h : Held). ChangesAsTold (ledger h) (Ok (shown (lines_with h.lines c.args.prepared.added) h c.args.prepared.draft.value))) (sym held) c.requires.told
+    subst (λ (h : Held). ChangesAsTold (ledger h) (Ok (work_of h c.args.prepared.effects.value))) (sym held) c.requires.told
 
 pub settle-result-requires-clause-rightful : goal.settle-result-requires-clause-rightful
 settle-result-requires-clause-rightful g c =
     let held : c.self.inside.ledger ≡ c.args.self.now.held = ap (λ (s : Seen g.row.K.Denot). s.held) c.self.view_is in
-    subst (λ (h : Held). IsRightful (after (lines_with h.lines c.args.prepared.added) h c.args.prepared.draft.value.change)) (sym held) c.requires.rightful
+    subst (λ (h : Held). IsRightful (work_of h c.args.prepared.effects.value).ledger) (sym held) c.requires.rightful
 
 pub settle-result-requires-clause-keeping : goal.settle-result-requires-clause-keeping
 settle-result-requires-clause-keeping g c =
@@ -31,7 +30,7 @@ invariant_of-self g c =
 pub returns-clause-answer : goal.returns-clause-answer
 returns-clause-answer g c =
     let up : c.self.inside.down ≡ false = ap (λ (s : Seen g.row.K.Denot). s.down) c.self.view_is ∙ c.requires.up in
-    let w : (Held → Work) = λ h. shown (lines_with h.lines c.args.prepared.added) h c.args.prepared.draft.value in
+    let w : (Held → Work) = λ h. work_of h c.args.prepared.effects.value in
     let before : (Bool → Seen g.row.K.Denot) = λ b. record { held = c.self.inside.ledger; keeper = c.self.inside.keeper; down = b } in
     let now : (Bool → Seen g.row.K.Denot) = λ b. record { held = c.settle-result.new.self; keeper = c.settle-result.new.keeper; down = b } in
     subst (λ (s : Seen g.row.K.Denot). Answers g.K.Keeper.saving (Ok (w s.held)) s (now c.is_save_fault-self-inside.result) c.settle-result.result) c.self.view_is

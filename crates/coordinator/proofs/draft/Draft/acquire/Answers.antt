@@ -2,19 +2,22 @@ use Rattle.std.proofs.Common.{◌≡◌, false, ap, sym, ◌∙◌}
 use Rattle.protocol.specs.Farm.{farm_limits}
 use Rattle.protocol.specs.Machine.{Parked}
 use Rattle.protocol.specs.Ledger.{Work, decision, decided, lease_of, is_parked}
-use Rattle.coordinator.specs.Keeps.{held}
-use Rattle.coordinator.specs.Shown.{LineOf, shown, lines_with}
+use Rattle.coordinator.specs.Shown.{work}
 use Rattle.coordinator.proofs.Trying.{acquiring-decides}
 use Rattle.coordinator.proofs.draft.Draft.acquire.Goals as goal
 
 pub returns : goal.returns
 returns c =
     let p : Parked = c.args.p in
-    let line : LineOf = lines_with c.args.base.now.lines c.args.added.now in
-    let w : Work = shown line (held c.args.base.now) c.args.self.now in
-    let same : shown line (held c.args.base.now) c.grant_again.new.self ≡ w = rw c.if-branch.false at c.in_ok-grant_again.ensures.work in
+    let w : Work = work c.args.self.now in
+    let again = c.in_ok-grant_again.ensures.work in
+    let same : work c.grant_again.new.self ≡ w = rw c.if-branch.false at again.work in
     let parked : is_parked w.ledger.parked p.node p.life p.ask ≡ false =
-    ap (λ (x : Work). is_parked x.ledger.parked p.node p.life p.ask) (sym same) ∙ sym c.waits.ensures ∙ c.if-waits.false in
-    c.in_ok-decide.ensures
-    ∙ ap (λ (x : Work). decided (decision farm_limits x.ledger p) farm_limits p x) same
-    ∙ sym (acquiring-decides farm_limits (lease_of w.ledger.live p.node p.life p.ask) (is_parked w.ledger.parked p.node p.life p.ask) p w (sym c.in_ok-grant_again.ensures.found ∙ c.if-branch.false) parked)
+    ap (λ (x : Work). is_parked x.ledger.parked p.node p.life p.ask) (sym same) ∙ sym c.is_parked.ensures ∙ c.if-is_parked.false in
+    record {
+      base = c.in_ok-decide.ensures.base ∙ again.base;
+      added = c.in_ok-decide.ensures.added ∙ again.added;
+      work = c.in_ok-decide.ensures.work
+          ∙ ap (λ (x : Work). decided (decision farm_limits x.ledger p) farm_limits p x) same
+          ∙ sym (acquiring-decides farm_limits (lease_of w.ledger.live p.node p.life p.ask) (is_parked w.ledger.parked p.node p.life p.ask) p w (sym c.in_ok-grant_again.ensures.found ∙ c.if-branch.false) parked);
+    }

@@ -1,40 +1,36 @@
-use Rattle.std.proofs.Common.{refl, Bool, cond, ap, sym, ◌∙◌, subst, Ok}
+use Rattle.std.proofs.Common.{◌≡◌, refl, Bool, cond, ap, sym, ◌∙◌, subst, Ok}
+use Rattle.std.specs.List.{list_any}
 use Rattle.protocol.specs.Farm.{farm_limits}
 use Rattle.protocol.specs.declared.answer.CoordNote.TheVariants as note
-use Rattle.protocol.specs.Ledger.{Work, retried, notes, goes}
+use Rattle.protocol.specs.Ledger.{Work, retired, retried, notes, goes, is_at}
+use Rattle.coordinator.specs.declared.effects.Effects.{Effects}
 use Rattle.coordinator.specs.Idle.{AreIdle}
-use Rattle.coordinator.specs.Keeps.{held}
-use Rattle.coordinator.specs.Held.{line_at}
-use Rattle.coordinator.specs.Shown.{LineOf, shown}
+use Rattle.coordinator.specs.Keeps.{held, IsKeepable}
+use Rattle.coordinator.specs.Shown.{work, table_after}
 use Rattle.coordinator.specs.Sound.{IsSound}
+use Rattle.coordinator.proofs.Drafting.{accepts, makes-then}
 use Rattle.coordinator.proofs.OwnCalls.{retirement, sound-goes, sound-tries}
 use Rattle.coordinator.proofs.draft.Draft.retire.Goals as goal
 
 pub retry_if-requires-clause-sound : goal.retry_if-requires-clause-sound
 retry_if-requires-clause-sound c =
-    let line : LineOf = line_at c.args.base.now.lines in
     let P : Work → Type 0 = λ w. IsSound w.ledger in
-    subst P (sym (c.in_ok-drop_node.ensures line)) (sound-goes c.args.node (shown line (held c.args.base.now) c.args.self.now) c.requires.sound)
+    subst P (sym c.in_ok-drop_node.ensures.work) (sound-goes c.args.node (work c.args.self.now) c.requires.sound)
+
+pub retry_if-requires-clause-kept : goal.retry_if-requires-clause-kept
+retry_if-requires-clause-kept c = subst IsKeepable (sym c.in_ok-drop_node.ensures.base) c.requires.kept
 
 pub retry_if-requires-clause-idle : goal.retry_if-requires-clause-idle
 retry_if-requires-clause-idle c =
-    let line : LineOf = line_at c.args.base.now.lines in
-    let w : Work = shown line (held c.args.base.now) c.args.self.now in
     let P : Work → Type 0 = λ w. AreIdle c.in_ok-freed.freed.items w.ledger w.ledger.parked in
-    subst P (sym (c.in_ok-drop_node.ensures line)) (c.in_ok-freed.ensures (goes c.args.node w).ledger refl refl refl)
+    subst P (sym c.in_ok-drop_node.ensures.work) (c.in_ok-freed.ensures (goes c.args.node (work c.args.self.now)).ledger refl refl refl)
 
-pub returns-clause-work : goal.returns-clause-work
-returns-clause-work c =
-    let line : LineOf = line_at c.args.base.now.lines in
-    let w : Work = shown line (held c.args.base.now) c.args.self.now in
-    let tries : (Bool → Work → Work) = λ b x. cond b (retried farm_limits x) x in
-    retirement farm_limits c.args.node w c.requires.accepted
-    ∙ ap (λ (x : Work). Ok (notes (note.Retired c.args.node) x))
-    (sym (c.in_ok-retry_if.ensures ∙ ap (tries c.has_lease_of-had_leases.result) (c.in_ok-drop_node.ensures line) ∙ ap (λ (b : Bool). tries b (goes c.args.node w)) c.has_lease_of-had_leases.ensures))
-
-pub returns-clause-sound : goal.returns-clause-sound
-returns-clause-sound c =
-    let line : LineOf = line_at c.args.base.now.lines in
-    let P : Work → Type 0 = λ w. IsSound w.ledger in
-    let gone = subst P (sym (c.in_ok-drop_node.ensures line)) (sound-goes c.args.node (shown line (held c.args.base.now) c.args.self.now) c.requires.sound) in
-    subst P (sym c.in_ok-retry_if.ensures) (sound-tries c.has_lease_of-had_leases.result farm_limits (shown line (held c.args.base.now) c.drop_node.new.self) gone)
+pub returns : goal.returns
+returns c =
+    let w : Work = work c.args.self.now in
+    let tries : (Bool → Work) = λ b. notes (note.Retired c.args.node) (cond b (retried farm_limits (goes c.args.node w)) (goes c.args.node w)) in
+    let had : c.has_lease_of-had_leases.result ≡ list_any (is_at c.args.node) w.ledger.live =
+    c.has_lease_of-had_leases.ensures ∙ ap (λ (e : Effects). list_any (is_at c.args.node) (table_after (held c.args.self.now.base.now) e.change).live) c.deref.ensures in
+    accepts (retired farm_limits c.args.node) c.requires.first.added (makes-then c.in_ok-drop_node.ensures (makes-then c.in_ok-retry_if.ensures c.note.ensures))
+    (retirement farm_limits c.args.node w c.requires.accepted ∙ ap (λ (b : Bool). Ok (tries b)) (sym had))
+    (sound-tries c.has_lease_of-had_leases.result farm_limits (goes c.args.node w) (sound-goes c.args.node w c.requires.sound))

@@ -1,37 +1,28 @@
-use Rattle.std.proofs.Common.{sym, ◌∙◌}
+use Rattle.std.proofs.Common.{sym}
 use Rattle.protocol.specs.Farm.{farm_limits}
+use Rattle.protocol.specs.Ledger.{tried}
 use Rattle.protocol.specs.declared.answer.Decision.TheVariants.{Give, Deny, Wait}
-use Rattle.coordinator.specs.Keeps.{held}
-use Rattle.coordinator.specs.Shown.{LineOf, shown, lines_with}
+use Rattle.coordinator.specs.Shown.{work}
+use Rattle.coordinator.proofs.Drafting.{makes-none, makes-as}
 use Rattle.coordinator.proofs.Trying.{tried-is, stays-is}
 use Rattle.coordinator.proofs.draft.Draft.try_ask.Goals as goal
 
 pub returns-in_ok-give-in-Give-clause-work : goal.returns-in_ok-give-in-Give-clause-work
 returns-in_ok-give-in-Give-clause-work c =
-    let line : LineOf = lines_with c.args.base.now.lines c.args.added.now in
-    c.in_ok-give-in-Give.ensures.work ∙ sym (tried-is farm_limits c.args.p.now (shown line (held c.args.base.now) c.args.self.now) Give (sym (c.in-Give.ensures.decision line)))
+    makes-as (tried farm_limits c.args.p.now) c.in_ok-give-in-Give.ensures.work (sym (tried-is farm_limits c.args.p.now (work c.args.self.now) Give (sym c.in-Give.ensures.decision)))
 
 pub returns-in_ok-give-in-Give-clause-waits : goal.returns-in_ok-give-in-Give-clause-waits
-returns-in_ok-give-in-Give-clause-waits c =
-    let line : LineOf = lines_with c.args.base.now.lines c.args.added.now in
-    sym (stays-is farm_limits c.args.p.now (shown line (held c.args.base.now) c.args.self.now) Give (sym (c.in-Give.ensures.decision line)))
+returns-in_ok-give-in-Give-clause-waits c = sym (stays-is farm_limits c.args.p.now (work c.args.self.now) Give (sym c.in-Give.ensures.decision))
 
 pub returns-in_ok-deny-in-Deny-clause-work : goal.returns-in_ok-deny-in-Deny-clause-work
 returns-in_ok-deny-in-Deny-clause-work c =
-    let line : LineOf = lines_with c.args.base.now.lines c.args.added.now in
-    c.in_ok-deny-in-Deny.ensures line (held c.args.base.now) ∙ sym (tried-is farm_limits c.args.p.now (shown line (held c.args.base.now) c.args.self.now) (Deny c.in-Deny.why) (sym (c.in-Deny.ensures.decision line)))
+    makes-as (tried farm_limits c.args.p.now) c.in_ok-deny-in-Deny.ensures (sym (tried-is farm_limits c.args.p.now (work c.args.self.now) (Deny c.in-Deny.why) (sym c.in-Deny.ensures.decision)))
 
 pub returns-in_ok-deny-in-Deny-clause-waits : goal.returns-in_ok-deny-in-Deny-clause-waits
-returns-in_ok-deny-in-Deny-clause-waits c =
-    let line : LineOf = lines_with c.args.base.now.lines c.args.added.now in
-    sym (stays-is farm_limits c.args.p.now (shown line (held c.args.base.now) c.args.self.now) (Deny c.in-Deny.why) (sym (c.in-Deny.ensures.decision line)))
+returns-in_ok-deny-in-Deny-clause-waits c = sym (stays-is farm_limits c.args.p.now (work c.args.self.now) (Deny c.in-Deny.why) (sym c.in-Deny.ensures.decision))
 
 pub returns-in-Wait-clause-work : goal.returns-in-Wait-clause-work
-returns-in-Wait-clause-work c =
-    let line : LineOf = lines_with c.args.base.now.lines c.args.added.now in
-    sym (tried-is farm_limits c.args.p.now (shown line (held c.args.base.now) c.args.self.now) Wait (sym (c.in-Wait.ensures.decision line)))
+returns-in-Wait-clause-work c = makes-none (tried farm_limits c.args.p.now) c.args.self.now (sym (tried-is farm_limits c.args.p.now (work c.args.self.now) Wait (sym c.in-Wait.ensures.decision)))
 
 pub returns-in-Wait-clause-waits : goal.returns-in-Wait-clause-waits
-returns-in-Wait-clause-waits c =
-    let line : LineOf = lines_with c.args.base.now.lines c.args.added.now in
-    sym (stays-is farm_limits c.args.p.now (shown line (held c.args.base.now) c.args.self.now) Wait (sym (c.in-Wait.ensures.decision line)))
+returns-in-Wait-clause-waits c = sym (stays-is farm_limits c.args.p.now (work c.args.self.now) Wait (sym c.in-Wait.ensures.decision))

@@ -1,38 +1,66 @@
-use Rattle.std.proofs.Common.{◌≡◌, Ok, ap, sym, ◌∙◌, subst}
+use Rattle.std.proofs.Common.{◌≡◌, ◌≤◌, Ok, ap, sym, ◌∙◌, subst}
+use Rattle.std.specs.Vec.{vec_capacity}
 use Rattle.std.specs.Result.{result_err}
 use Rattle.protocol.specs.Farm.{farm_limits}
 use Rattle.protocol.specs.Ledger.{Work, begin_work, pruned}
-use Rattle.coordinator.specs.Held.{Held, line_at, ledger}
+use Rattle.versions.specs.Additions.{IsReady}
+use Rattle.versions.specs.Lines.{room_needed}
+use Rattle.coordinator.specs.declared.effects.Effects.{Effects}
+use Rattle.coordinator.specs.Held.{Held, ledger}
 use Rattle.coordinator.specs.Keeps.{held}
-use Rattle.coordinator.specs.Shown.{after, shown, lines_with}
+use Rattle.coordinator.specs.Shown.{work_of}
 use Rattle.coordinator.specs.Sound.{IsSound, IsRightful}
+use Rattle.coordinator.proofs.Drafting.{on-state, over}
 use Rattle.coordinator.proofs.Rightful.{rightful-pruned}
 use Rattle.coordinator.proofs.Recording.{pruned-told}
-use Rattle.coordinator.proofs.Kept.{begun}
 use Rattle.coordinator.proofs.ledger.Ledger.pruning.Goals as goal
 
 pub prune-requires-clause-sound : goal.prune-requires-clause-sound
 prune-requires-clause-sound c =
     let P : Work → Type 0 = λ w. IsSound w.ledger in
-    subst P (sym (begun (held c.self.inside.state) c.deref_mut.ensures.value (c.in_ok-draft.ensures.work (line_at c.self.inside.state.lines)))) c.self.invariant.rightful.sound
+    subst P (sym c.in_ok-draft.ensures.work) c.self.invariant.rightful.sound
 
 pub prune-requires-clause-accepted : goal.prune-requires-clause-accepted
 prune-requires-clause-accepted c =
-    ap (λ (w : Work). result_err (pruned farm_limits c.args.slot.now w)) (begun (held c.self.inside.state) c.deref_mut.ensures.value (c.in_ok-draft.ensures.work (line_at c.self.inside.state.lines)))
+    ap (λ (w : Work). result_err (pruned farm_limits c.args.slot.now w)) c.in_ok-draft.ensures.work
     ∙ ap (λ (h : Held). result_err (pruned farm_limits c.args.slot.now (begin_work (ledger h)))) c.self.view_is ∙ c.requires
 
 pub returns-clause-work : goal.returns-clause-work
 returns-clause-work c =
-    subst (λ (h : Held). pruned farm_limits c.args.slot.now (begin_work (ledger h)) ≡ Ok (shown (lines_with h.lines c.in_ok-added.added) h c.prune.new.self)) c.self.view_is
-    (ap (pruned farm_limits c.args.slot.now) (sym (begun (held c.self.inside.state) c.deref_mut.ensures.value (c.in_ok-draft.ensures.work (line_at c.self.inside.state.lines)))) ∙ c.in_ok-added.ensures.work)
+    let effects : Effects = c.in_ok-prepared.prepared.effects.value in
+    let base : c.prune.new.self.base.now ≡ c.self.inside.state = c.in_ok-prune.ensures.base ∙ c.in_ok-draft.ensures.base in
+    let same : effects ≡ c.prune.new.self.effects.value = (λ j. (c.in_ok-prepared.ensures.effects j).value) in
+    let h : Held = held c.self.inside.state in
+    let made : pruned farm_limits c.args.slot.now (begin_work (ledger h)) ≡ Ok (work_of h effects) =
+    ap (pruned farm_limits c.args.slot.now) (sym c.in_ok-draft.ensures.work) ∙ c.in_ok-prune.ensures.work ∙ ap (λ (w : Work). Ok w) (sym (over c.self.inside.state c.prune.new.self effects base same)) in
+    subst (λ (x : Held). pruned farm_limits c.args.slot.now (begin_work (ledger x)) ≡ Ok (work_of x effects)) c.self.view_is made
 
 pub returns-clause-rightful : goal.returns-clause-rightful
 returns-clause-rightful c =
-    let s : Held = held c.self.inside.state in
-    let work : pruned farm_limits c.args.slot.now (begin_work (ledger s)) ≡ Ok (shown (lines_with s.lines c.in_ok-added.added) s c.prune.new.self) =
-    ap (pruned farm_limits c.args.slot.now) (sym (begun s c.deref_mut.ensures.value (c.in_ok-draft.ensures.work (line_at s.lines)))) ∙ c.in_ok-added.ensures.work in
-    subst (λ (h : Held). IsRightful (after (lines_with h.lines c.in_ok-added.added) h c.prune.new.self.change)) c.self.view_is
-    (rightful-pruned c.args.slot.now (ledger s) (shown (lines_with s.lines c.in_ok-added.added) s c.prune.new.self) c.self.invariant.rightful work c.in_ok-added.ensures.sound)
+    let effects : Effects = c.in_ok-prepared.prepared.effects.value in
+    let base : c.prune.new.self.base.now ≡ c.self.inside.state = c.in_ok-prune.ensures.base ∙ c.in_ok-draft.ensures.base in
+    let same : effects ≡ c.prune.new.self.effects.value = (λ j. (c.in_ok-prepared.ensures.effects j).value) in
+    let h : Held = held c.self.inside.state in
+    let made : pruned farm_limits c.args.slot.now (begin_work (ledger h)) ≡ Ok (work_of h effects) =
+    ap (pruned farm_limits c.args.slot.now) (sym c.in_ok-draft.ensures.work) ∙ c.in_ok-prune.ensures.work ∙ ap (λ (w : Work). Ok w) (sym (over c.self.inside.state c.prune.new.self effects base same)) in
+    let P : Work → Type 0 = λ w. IsSound w.ledger in
+    subst (λ (x : Held). IsRightful (work_of x effects).ledger) c.self.view_is
+    (rightful-pruned c.args.slot.now (ledger h) (work_of h effects) c.self.invariant.rightful made (subst P (sym (over c.self.inside.state c.prune.new.self effects base same)) c.in_ok-prune.ensures.sound))
+
+pub returns-clause-ready : goal.returns-clause-ready
+returns-clause-ready c =
+    let effects : Effects = c.in_ok-prepared.prepared.effects.value in
+    let base : c.prune.new.self.base.now ≡ c.self.inside.state = c.in_ok-prune.ensures.base ∙ c.in_ok-draft.ensures.base in
+    let same : effects ≡ c.prune.new.self.effects.value = (λ j. (c.in_ok-prepared.ensures.effects j).value) in
+    subst (λ (h : Held). IsReady h.lines effects.added) c.self.view_is (on-state (λ s e. IsReady s.lines e.added) c.self.inside.state c.prune.new.self effects base same c.in_ok-prune.ensures.ready)
+
+pub returns-clause-larger : goal.returns-clause-larger
+returns-clause-larger c =
+    let effects : Effects = c.in_ok-prepared.prepared.effects.value in
+    let base : c.prune.new.self.base.now ≡ c.self.inside.state = c.in_ok-prune.ensures.base ∙ c.in_ok-draft.ensures.base in
+    let same : effects ≡ c.prune.new.self.effects.value = (λ j. (c.in_ok-prepared.ensures.effects j).value) in
+    subst (λ (h : Held). room_needed h.lines effects.added ≤ vec_capacity c.in_ok-prepared.prepared.room) c.self.view_is
+    (on-state (λ s e. room_needed s.lines e.added ≤ vec_capacity c.in_ok-prepared.prepared.room) c.self.inside.state c.prune.new.self effects base same c.in_ok-prepared.ensures.larger)
 
 pub returns-clause-told : goal.returns-clause-told
 returns-clause-told c = pruned-told c.args.slot.now (ledger c.args.self.now)

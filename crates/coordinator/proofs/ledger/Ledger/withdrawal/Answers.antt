@@ -1,47 +1,75 @@
-use Rattle.std.proofs.Common.{◌≡◌, Ok, ap, sym, ◌∙◌, subst}
+use Rattle.std.proofs.Common.{◌≡◌, ◌≤◌, Ok, ap, sym, ◌∙◌, subst}
+use Rattle.std.specs.Vec.{vec_capacity}
 use Rattle.std.specs.Result.{result_err}
 use Rattle.protocol.specs.Farm.{farm_limits}
-use Rattle.coordinator.specs.Idle.{AreHeldUp}
 use Rattle.protocol.specs.Ledger.{Work, begin_work, withdrawn}
-use Rattle.coordinator.specs.Held.{Held, line_at, ledger}
-use Rattle.coordinator.specs.Keeps.{held}
-use Rattle.coordinator.specs.Shown.{after, shown}
+use Rattle.versions.specs.Additions.{IsReady}
+use Rattle.versions.specs.Lines.{room_needed}
+use Rattle.coordinator.specs.declared.effects.Effects.{Effects}
+use Rattle.coordinator.specs.Held.{Held, ledger}
+use Rattle.coordinator.specs.Idle.{AreHeldUp}
+use Rattle.coordinator.specs.Keeps.{held, IsKeepable}
+use Rattle.coordinator.specs.Shown.{work_of}
 use Rattle.coordinator.specs.Sound.{IsSound, IsRightful}
+use Rattle.coordinator.proofs.Drafting.{on-state, over}
 use Rattle.coordinator.proofs.Rightful.{rightful-withdrawn}
 use Rattle.coordinator.proofs.Recording.{withdrawn-told}
-use Rattle.coordinator.proofs.Kept.{begun}
 use Rattle.coordinator.proofs.ledger.Ledger.withdrawal.Goals as goal
 
 pub withdraw-requires-clause-sound : goal.withdraw-requires-clause-sound
 withdraw-requires-clause-sound c =
     let P : Work → Type 0 = λ w. IsSound w.ledger in
-    subst P (sym (begun (held c.self.inside.state) c.deref_mut.ensures.value (c.in_ok-draft.ensures.work (line_at c.self.inside.state.lines)))) c.self.invariant.rightful.sound
-
-pub withdraw-requires-clause-accepted : goal.withdraw-requires-clause-accepted
-withdraw-requires-clause-accepted c =
-    ap (λ (w : Work). result_err (withdrawn farm_limits c.args.ticket w)) (begun (held c.self.inside.state) c.deref_mut.ensures.value (c.in_ok-draft.ensures.work (line_at c.self.inside.state.lines)))
-    ∙ ap (λ (h : Held). result_err (withdrawn farm_limits c.args.ticket (begin_work (ledger h)))) c.self.view_is ∙ c.requires
+    subst P (sym c.in_ok-draft.ensures.work) c.self.invariant.rightful.sound
 
 pub withdraw-requires-clause-held_up : goal.withdraw-requires-clause-held_up
 withdraw-requires-clause-held_up c =
     let P : Work → Type 0 = λ w. AreHeldUp w.ledger in
-    subst P (sym (begun (held c.self.inside.state) c.deref_mut.ensures.value (c.in_ok-draft.ensures.work (line_at c.self.inside.state.lines)))) c.self.invariant.rightful.held_up
+    subst P (sym c.in_ok-draft.ensures.work) c.self.invariant.rightful.held_up
 
-pub withdraw-requires-clause-wants : goal.withdraw-requires-clause-wants
-withdraw-requires-clause-wants c = c.self.invariant.rightful.sound.asks
+pub withdraw-requires-clause-kept : goal.withdraw-requires-clause-kept
+withdraw-requires-clause-kept c = subst IsKeepable (sym c.in_ok-draft.ensures.base) c.self.invariant
+
+pub withdraw-requires-clause-accepted : goal.withdraw-requires-clause-accepted
+withdraw-requires-clause-accepted c =
+    ap (λ (w : Work). result_err (withdrawn farm_limits c.args.ticket w)) c.in_ok-draft.ensures.work
+    ∙ ap (λ (h : Held). result_err (withdrawn farm_limits c.args.ticket (begin_work (ledger h)))) c.self.view_is ∙ c.requires
 
 pub returns-clause-work : goal.returns-clause-work
 returns-clause-work c =
-    subst (λ (h : Held). withdrawn farm_limits c.args.ticket (begin_work (ledger h)) ≡ Ok (shown (line_at h.lines) h c.withdraw.new.self)) c.self.view_is
-    (ap (withdrawn farm_limits c.args.ticket) (sym (begun (held c.self.inside.state) c.deref_mut.ensures.value (c.in_ok-draft.ensures.work (line_at c.self.inside.state.lines)))) ∙ c.in_ok-withdraw.ensures.work)
+    let effects : Effects = c.in_ok-prepared.prepared.effects.value in
+    let base : c.withdraw.new.self.base.now ≡ c.self.inside.state = c.in_ok-withdraw.ensures.base ∙ c.in_ok-draft.ensures.base in
+    let same : effects ≡ c.withdraw.new.self.effects.value = (λ j. (c.in_ok-prepared.ensures.effects j).value) in
+    let h : Held = held c.self.inside.state in
+    let made : withdrawn farm_limits c.args.ticket (begin_work (ledger h)) ≡ Ok (work_of h effects) =
+    ap (withdrawn farm_limits c.args.ticket) (sym c.in_ok-draft.ensures.work) ∙ c.in_ok-withdraw.ensures.work ∙ ap (λ (w : Work). Ok w) (sym (over c.self.inside.state c.withdraw.new.self effects base same)) in
+    subst (λ (x : Held). withdrawn farm_limits c.args.ticket (begin_work (ledger x)) ≡ Ok (work_of x effects)) c.self.view_is made
 
 pub returns-clause-rightful : goal.returns-clause-rightful
 returns-clause-rightful c =
-    let s : Held = held c.self.inside.state in
-    let work : withdrawn farm_limits c.args.ticket (begin_work (ledger s)) ≡ Ok (shown (line_at s.lines) s c.withdraw.new.self) =
-    ap (withdrawn farm_limits c.args.ticket) (sym (begun s c.deref_mut.ensures.value (c.in_ok-draft.ensures.work (line_at s.lines)))) ∙ c.in_ok-withdraw.ensures.work in
-    subst (λ (h : Held). IsRightful (after (line_at h.lines) h c.withdraw.new.self.change)) c.self.view_is
-    (rightful-withdrawn c.args.ticket (ledger s) (shown (line_at s.lines) s c.withdraw.new.self) c.self.invariant.rightful work c.in_ok-withdraw.ensures.sound)
+    let effects : Effects = c.in_ok-prepared.prepared.effects.value in
+    let base : c.withdraw.new.self.base.now ≡ c.self.inside.state = c.in_ok-withdraw.ensures.base ∙ c.in_ok-draft.ensures.base in
+    let same : effects ≡ c.withdraw.new.self.effects.value = (λ j. (c.in_ok-prepared.ensures.effects j).value) in
+    let h : Held = held c.self.inside.state in
+    let made : withdrawn farm_limits c.args.ticket (begin_work (ledger h)) ≡ Ok (work_of h effects) =
+    ap (withdrawn farm_limits c.args.ticket) (sym c.in_ok-draft.ensures.work) ∙ c.in_ok-withdraw.ensures.work ∙ ap (λ (w : Work). Ok w) (sym (over c.self.inside.state c.withdraw.new.self effects base same)) in
+    let P : Work → Type 0 = λ w. IsSound w.ledger in
+    subst (λ (x : Held). IsRightful (work_of x effects).ledger) c.self.view_is
+    (rightful-withdrawn c.args.ticket (ledger h) (work_of h effects) c.self.invariant.rightful made (subst P (sym (over c.self.inside.state c.withdraw.new.self effects base same)) c.in_ok-withdraw.ensures.sound))
+
+pub returns-clause-ready : goal.returns-clause-ready
+returns-clause-ready c =
+    let effects : Effects = c.in_ok-prepared.prepared.effects.value in
+    let base : c.withdraw.new.self.base.now ≡ c.self.inside.state = c.in_ok-withdraw.ensures.base ∙ c.in_ok-draft.ensures.base in
+    let same : effects ≡ c.withdraw.new.self.effects.value = (λ j. (c.in_ok-prepared.ensures.effects j).value) in
+    subst (λ (h : Held). IsReady h.lines effects.added) c.self.view_is (on-state (λ s e. IsReady s.lines e.added) c.self.inside.state c.withdraw.new.self effects base same c.in_ok-withdraw.ensures.ready)
+
+pub returns-clause-larger : goal.returns-clause-larger
+returns-clause-larger c =
+    let effects : Effects = c.in_ok-prepared.prepared.effects.value in
+    let base : c.withdraw.new.self.base.now ≡ c.self.inside.state = c.in_ok-withdraw.ensures.base ∙ c.in_ok-draft.ensures.base in
+    let same : effects ≡ c.withdraw.new.self.effects.value = (λ j. (c.in_ok-prepared.ensures.effects j).value) in
+    subst (λ (h : Held). room_needed h.lines effects.added ≤ vec_capacity c.in_ok-prepared.prepared.room) c.self.view_is
+    (on-state (λ s e. room_needed s.lines e.added ≤ vec_capacity c.in_ok-prepared.prepared.room) c.self.inside.state c.withdraw.new.self effects base same c.in_ok-prepared.ensures.larger)
 
 pub returns-clause-told : goal.returns-clause-told
 returns-clause-told c = withdrawn-told c.args.ticket (ledger c.args.self.now) (subst IsRightful (ap ledger c.self.view_is) c.self.invariant.rightful).sound

@@ -1,10 +1,11 @@
 use Rattle.std.proofs.Common.{◌≡◌, drop}
 use Rattle.protocol.specs.Farm.{farm_limits}
 use Rattle.protocol.specs.Ledger.{begin_work, nudge_all}
-use Rattle.coordinator.specs.Held.{line_at}
-use Rattle.coordinator.specs.Shown.{having_said, kept}
+use Rattle.coordinator.specs.Held.{ledger}
+use Rattle.coordinator.specs.Keeps.{held}
+use Rattle.coordinator.specs.Shown.{having_said}
 use Rattle.coordinator.proofs.state.State.remind_all.Given as goal
 
 abbrev pub invariant-loop-lease : goal.invariant-loop-lease
-invariant-loop-lease l = nudge_all farm_limits (drop l.lease-index l.leases) (having_said l.sends.items (kept (line_at l.self.lines) l.self))
-    ≡ nudge_all farm_limits l.leases (begin_work (kept (line_at l.self.lines) l.self))
+invariant-loop-lease l = nudge_all farm_limits (drop l.lease-index l.leases) (having_said l.sends.items (ledger (held l.self)))
+    ≡ nudge_all farm_limits l.leases (begin_work (ledger (held l.self)))

@@ -1,38 +1,41 @@
-use Rattle.std.proofs.Common.{List, drop, get_or, sym, subst, arith}
+use Rattle.std.proofs.Common.{◌≡◌, List, drop, filter, get_or, ap, sym, ◌∙◌, subst, arith}
 use Rattle.std.specs.Prelude.{Bool}
 use Rattle.protocol.specs.Names.{FolderName, Slot}
 use Rattle.protocol.specs.Machine.{Parked}
 use Rattle.protocol.specs.Ledger.{Ledger}
 use Rattle.saverecord.proofs.LedgerLemmas.{in_at}
-use Rattle.coordinator.specs.Idle.{AreIdle}
+use Rattle.coordinator.specs.declared.effects.Effects.{Effects}
+use Rattle.coordinator.specs.Idle.{is_open, AreIdle}
 use Rattle.coordinator.specs.Keeps.{held}
 use Rattle.parked.specs.Over.{still_at}
 use Rattle.parked.specs.Queue.{asks_of}
-use Rattle.coordinator.specs.Shown.{after}
+use Rattle.coordinator.specs.Shown.{work, table_after}
 use Rattle.parked.specs.Spent.{WantsNoneOf}
 use Rattle.parked.specs.Noted.{WantsNone}
 use Rattle.coordinator.proofs.IdleWords.{are-idle-open, unwanted-waits}
 use Rattle.parked.proofs.OverWords.{still-has}
-use Rattle.coordinator.proofs.change.Change.first_due.Goals as goal
+use Rattle.coordinator.proofs.draft.Draft.first_due.Goals as goal
 
 pub returns-clause-forward : goal.returns-clause-forward
 returns-clause-forward c = c.first_over.ensures.forward c.args.place c.next.ensures.forward c.requires.over
 
 pub returns-clause-idle : goal.returns-clause-idle
-returns-clause-idle c line =
-    let left : List Parked = still_at c.args.place c.args.over.now (drop c.args.place (asks_of c.args.base.now.parked)) in
-    let q : Ledger = after line (held c.args.base.now) c.args.self.now in
-    subst (λ (xs : List (Slot × Bool)). AreIdle xs q left) (sym c.keep_open.ensures) (are-idle-open c.args.freed.now.items q left (c.requires.idle line))
+returns-clause-idle c =
+    let left : List Parked = still_at c.args.place c.args.over.now (drop c.args.place (asks_of c.args.self.now.base.now.parked)) in
+    let q : Ledger = (work c.args.self.now).ledger in
+    let open_now : c.keep_open.new.slots.items ≡ filter (is_open q.live) c.args.freed.now.items =
+    c.keep_open.ensures ∙ ap (λ (e : Effects). filter (is_open (table_after (held c.args.self.now.base.now) e.change).live) c.args.freed.now.items) c.deref.ensures in
+    subst (λ (xs : List (Slot × Bool)). AreIdle xs q left) (sym open_now) (are-idle-open c.args.freed.now.items q left c.requires.idle)
 
 pub returns-clause-passed : goal.returns-clause-passed
-returns-clause-passed c line k d low high =
-    let asks : List Parked = asks_of c.args.base.now.parked in
-    let q : Ledger = after line (held c.args.base.now) c.args.self.now in
+returns-clause-passed c k d low high =
+    let asks : List Parked = asks_of c.args.self.now.base.now.parked in
+    let q : Ledger = (work c.args.self.now).ledger in
     let p : Parked = get_or asks k d in
     let before = c.first_over.ensures.before in
     let behind = c.next.ensures.inside in
     unwanted-waits c.keep_open.new.slots.items c.args.spent.now.folders.items q p
-    (returns-clause-idle c line p (still-has asks c.args.over.now c.args.place c.first_over.result k d low high (omega arith) c.first_over.ensures.first))
+    (returns-clause-idle c p (still-has asks c.args.over.now c.args.place c.first_over.result k d low high (omega arith) c.first_over.ensures.first))
     (c.requires.noted p (in_at asks k d (omega arith)))
     (subst (λ (xs : List (Slot × Bool)). WantsNone xs p) c.as_slice.ensures.value (c.next.ensures.slots k d low (omega arith)))
     (subst (λ (fs : List FolderName). WantsNoneOf fs p) c.as_slice-2.ensures (c.next.ensures.folders k d low (omega arith)))
