@@ -1,7 +1,8 @@
 //! The files of a record over a device in memory that fails at each of its calls: what opening gives of all that it may leave then.
 
 use farm_base::Items;
-use saverecord::{Device, Disk, Log, RecordFiles};
+use filekeeper::{Device, Disk, RecordFiles};
+use saverecord::Log;
 use std::alloc::{AllocError, Global};
 use std::io::{self, ErrorKind};
 use std::test::Fail;
@@ -31,28 +32,33 @@ fn owned(alloc: Global, bytes: &[u8]) -> Result<Items<u8>, AllocError> {
     Ok(Items::new(Vec::from_slice(alloc, bytes)?))
 }
 
+/// A list of these bytes alone.
+fn alone(alloc: Global, bytes: &[u8]) -> Result<Vec<Items<u8>>, AllocError> {
+    let bytes = owned(alloc, bytes)?;
+    Ok(vec![in alloc; bytes]?)
+}
+
 impl Memory {
-    /// A device that has these files, and whose call behind the first `done` fails.
+    /// A device that has these files, and whose call behind the first `done` fails. In a box: letting go of it is one step of a proof.
     fn new(
         alloc: Global,
         record: &[u8],
         log: &[u8],
         done: usize,
         ends: bool,
-    ) -> Result<Self, AllocError> {
-        let mut memory = Memory {
+    ) -> Result<Box<Self>, AllocError> {
+        let (records, logs) = (alone(alloc, record)?, alone(alloc, log)?);
+        let memory = Memory {
             alloc,
             record: Vec::from_slice(alloc, record)?,
             log: Vec::from_slice(alloc, log)?,
             draft: Vec::new(alloc),
-            records: Vec::new(alloc),
-            logs: Vec::new(alloc),
+            records,
+            logs,
             done,
             ends,
         };
-        memory.records.push(owned(alloc, record)?)?;
-        memory.logs.push(owned(alloc, log)?)?;
-        Ok(memory)
+        Ok(Box::new(alloc, memory)?)
     }
 
     /// Whether this call fails.
@@ -221,24 +227,34 @@ fn spelled(alloc: Global, log: &Log) -> Result<Vec<u8>, AllocError> {
     Ok(bytes)
 }
 
-/// Does the steps over the device: how many went well before one didn't.
-fn steps_done(alloc: Global, memory: &mut Memory) -> Result<usize, Fail> {
-    let Ok(mut files) = RecordFiles::open(alloc, Disk::new(Lent(memory))) else {
-        return Ok(0);
-    };
+/// Does the steps: how many went well before one didn't.
+fn done_in<D: Device>(alloc: Global, files: &mut RecordFiles<D>) -> Result<usize, AllocError> {
     for (place, step) in STEPS.iter().enumerate() {
-        if !is_done(alloc, &mut files, *step)? {
+        if !is_done(alloc, files, *step)? {
             return Ok(place);
         }
     }
     Ok(STEPS.len())
 }
 
+/// Does the steps over the device: how many went well before one didn't.
+fn steps_done(alloc: Global, memory: &mut Memory) -> Result<usize, Fail> {
+    let Ok(mut files) = RecordFiles::open(alloc, Disk::new(Lent(memory))) else {
+        return Ok(0);
+    };
+    Ok(done_in(alloc, &mut files)?)
+}
+
+/// The texts that opening a device gives.
+fn texts_in(alloc: Global, memory: &mut Memory) -> Result<Vec<u8>, Fail> {
+    let files = RecordFiles::open(alloc, Disk::new(Lent(memory)))?;
+    Ok(spelled(alloc, files.log())?)
+}
+
 /// The texts that opening these files gives.
 fn opened(alloc: Global, record: &[u8], log: &[u8]) -> Result<Vec<u8>, Fail> {
     let mut memory = Memory::new(alloc, record, log, usize::MAX, true)?;
-    let files = RecordFiles::open(alloc, Disk::new(Lent(&mut memory)))?;
-    Ok(spelled(alloc, files.log())?)
+    texts_in(alloc, &mut *memory)
 }
 
 /// Adds the first `count` entries of a step, and a whole record where there are none.
@@ -299,16 +315,21 @@ fn leaves_what_is_wanted(alloc: Global, memory: &Memory, done: usize) -> Result<
 /// More calls than the steps make.
 const CALLS: usize = 60;
 
+/// How many steps went well where the power fails at this call, and whether what is left then is wanted.
+fn done_before(alloc: Global, call: usize) -> Result<(usize, bool), Fail> {
+    let mut memory = Memory::new(alloc, b"", b"", call, true)?;
+    let done = steps_done(alloc, &mut *memory)?;
+    Ok((done, leaves_what_is_wanted(alloc, &*memory, done)?))
+}
+
 /// The power fails at each call: whatever is left, opening gives the texts from before the step or those behind it, or of what was to be
 /// added the first entries.
 #[test]
 fn power_fails_at_each_call(rt: HostRuntime) -> Result<(), Fail> {
-    let alloc = rt.alloc();
     let mut all: usize = 0;
     for call in 0..CALLS {
-        let mut memory = Memory::new(alloc, b"", b"", call, true)?;
-        let done = steps_done(alloc, &mut memory)?;
-        assert!(rt; leaves_what_is_wanted(alloc, &memory, done)?);
+        let (done, is_wanted) = done_before(rt.alloc(), call)?;
+        assert!(rt; is_wanted, "{call}");
         if done == STEPS.len() {
             all = all.saturating_add(1);
         }
@@ -317,16 +338,23 @@ fn power_fails_at_each_call(rt: HostRuntime) -> Result<(), Fail> {
     Ok(())
 }
 
-/// Does the steps, and reads the files again where one fails: whether each crash then leaves the texts that are known, if they are
-/// settled.
-fn is_settled_again(alloc: Global, memory: &mut Memory) -> Result<Option<Vec<u8>>, Fail> {
-    let Ok(mut files) = RecordFiles::open(alloc, Disk::new(Lent(memory))) else {
-        return Ok(None);
-    };
+/// Does the steps, and reads the files again where one fails: whether that went well.
+fn is_redone<D: Device>(alloc: Global, files: &mut RecordFiles<D>) -> Result<bool, AllocError> {
     for step in &STEPS {
-        if !is_done(alloc, &mut files, *step)? && files.reload(alloc).is_err() {
-            return Ok(None);
+        if !is_done(alloc, files, *step)? && files.reload(alloc).is_err() {
+            return Ok(false);
         }
+    }
+    Ok(true)
+}
+
+/// The texts that are known after it, if the files are settled.
+fn known<D: Device>(
+    alloc: Global,
+    files: &mut RecordFiles<D>,
+) -> Result<Option<Vec<u8>>, AllocError> {
+    if !is_redone(alloc, files)? {
+        return Ok(None);
     }
     let _written = files.sync();
     if files.is_settled() && files.has_all() {
@@ -336,24 +364,86 @@ fn is_settled_again(alloc: Global, memory: &mut Memory) -> Result<Option<Vec<u8>
     }
 }
 
+/// The same over a device.
+fn known_in(alloc: Global, memory: &mut Memory) -> Result<Option<Vec<u8>>, Fail> {
+    let Ok(mut files) = RecordFiles::open(alloc, Disk::new(Lent(memory))) else {
+        return Ok(None);
+    };
+    Ok(known(alloc, &mut files)?)
+}
+
+/// Whether a crash leaves one record and one log, and these texts.
+fn leaves(alloc: Global, memory: &Memory, texts: &[u8]) -> Result<bool, Fail> {
+    let left = opened(alloc, memory.record.as_slice(), memory.log.as_slice())?;
+    let is_alone = memory.logs.len() == 1 && memory.records.len() == 1;
+    Ok(is_alone && left.as_slice() == texts)
+}
+
+/// Whether a crash then leaves the texts that are known, if the files are settled where this call fails.
+fn leaves_known(alloc: Global, call: usize) -> Result<Option<bool>, Fail> {
+    let mut memory = Memory::new(alloc, b"", b"", call, false)?;
+    let Some(known) = known_in(alloc, &mut *memory)? else {
+        return Ok(None);
+    };
+    Ok(Some(leaves(alloc, &*memory, known.as_slice())?))
+}
+
 /// One call fails, and those behind it don't: once the files are settled again a crash leaves the texts that are known.
 #[test]
 fn one_call_fails(rt: HostRuntime) -> Result<(), Fail> {
-    let alloc = rt.alloc();
     let mut settled: usize = 0;
     for call in 0..CALLS {
-        let mut memory = Memory::new(alloc, b"", b"", call, false)?;
-        let Some(known) = is_settled_again(alloc, &mut memory)? else {
-            continue;
-        };
-        settled = settled.saturating_add(1);
-        assert_eq!(rt; memory.logs.len(), 1);
-        assert_eq!(rt; memory.records.len(), 1);
-        let texts = opened(alloc, memory.record.as_slice(), memory.log.as_slice())?;
-        assert_eq!(rt; texts.as_slice(), known.as_slice());
+        if let Some(is_known) = leaves_known(rt.alloc(), call)? {
+            assert!(rt; is_known, "{call}");
+            settled = settled.saturating_add(1);
+        }
     }
     assert!(rt; settled > CALLS / 2);
     Ok(())
+}
+
+/// Saves another record and adds an entry.
+fn save_and_add<D: Device>(alloc: Global, files: &mut RecordFiles<D>) -> Result<(), Fail> {
+    files.replace(Vec::from_slice(alloc, b"another record, NAME 01")?)?;
+    gather(alloc, files, &[b"one"])?;
+    files.sync()?;
+    Ok(())
+}
+
+/// Whether a record is taken.
+fn takes<D: Device>(
+    alloc: Global,
+    files: &mut RecordFiles<D>,
+    record: &[u8],
+) -> Result<bool, AllocError> {
+    let record = Vec::from_slice(alloc, record)?;
+    Ok(files.replace(record).is_ok())
+}
+
+/// Whether files have these texts, and are settled.
+fn has<D: Device>(alloc: Global, files: &RecordFiles<D>, texts: &[u8]) -> Result<bool, AllocError> {
+    let has = spelled(alloc, files.log())?;
+    Ok(files.is_settled() && has.as_slice() == texts)
+}
+
+/// Whether files refuse a third record with the name of the second, and take it with another one.
+fn refuses_taken_name<D: Device>(
+    alloc: Global,
+    files: &mut RecordFiles<D>,
+) -> Result<bool, AllocError> {
+    Ok(
+        !takes(alloc, files, b"a third record, NAME 01")?
+            && has(alloc, files, b"another record, NAME 01|one")?
+            && takes(alloc, files, b"a third record, NAME 02")?
+            && files.has_all(),
+    )
+}
+
+/// The same over a device.
+fn refuses_taken_name_in(alloc: Global, memory: &mut Memory) -> Result<bool, Fail> {
+    let mut files = RecordFiles::open(alloc, Disk::new(Lent(memory)))?;
+    save_and_add(alloc, &mut files)?;
+    Ok(refuses_taken_name(alloc, &mut files)?)
 }
 
 /// Other bytes with the name of a record that entries follow are refused, and nothing is touched. Where none follow it they aren't.
@@ -361,16 +451,6 @@ fn one_call_fails(rt: HostRuntime) -> Result<(), Fail> {
 fn a_name_that_is_taken(rt: HostRuntime) -> Result<(), Fail> {
     let alloc = rt.alloc();
     let mut memory = Memory::new(alloc, b"a record, NAME 01", b"", usize::MAX, true)?;
-    let mut files = RecordFiles::open(alloc, Disk::new(Lent(&mut memory)))?;
-    files.replace(Vec::from_slice(alloc, b"another record, NAME 01")?)?;
-    gather(alloc, &mut files, &[b"one"])?;
-    files.sync()?;
-    let third = Vec::from_slice(alloc, b"a third record, NAME 01")?;
-    assert!(rt; files.replace(third).is_err());
-    assert!(rt; files.is_settled());
-    let texts = spelled(alloc, files.log())?;
-    assert_eq!(rt; texts.as_slice(), b"another record, NAME 01|one".as_slice());
-    files.replace(Vec::from_slice(alloc, b"a third record, NAME 02")?)?;
-    assert!(rt; files.has_all());
+    assert!(rt; refuses_taken_name_in(alloc, &mut *memory)?);
     Ok(())
 }

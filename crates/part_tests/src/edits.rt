@@ -63,7 +63,7 @@ fn edits_of_a_folder(rt: HostRuntime) -> Result<(), Fail> {
     let mut folder = Folder::new(rt.alloc());
     for (row, wanted) in &ROWS {
         let text = edited(rt.alloc(), &mut folder, *row)?;
-        assert_eq!(rt; text.as_str(), *wanted);
+        assert!(rt; text.as_str() == *wanted, "{wanted}");
     }
     Ok(())
 }
@@ -85,20 +85,42 @@ const LARGE: [(usize, bool, bool, usize); 3] = [
     (32 << 20, true, false, 10),
 ];
 
+/// The edits of a row.
+fn large(alloc: Global, size: usize, removed: bool) -> Result<Vec<Edit>, Fail> {
+    let mut edits = vec![in alloc; put_large(alloc, size)?]?;
+    if removed {
+        edits.push(remove(alloc, "b")?)?;
+    }
+    Ok(edits)
+}
+
+/// Whether edits are refused as too large, and whether they are made.
+fn applied(alloc: Global, folder: &mut Folder, edits: &[Edit]) -> (bool, bool) {
+    let result = folder.apply(alloc, edits);
+    (
+        matches!(&result, Err(EditRefusal::TooLarge)),
+        result.is_ok(),
+    )
+}
+
+/// Whether a folder has its small file still, and this size.
+fn has_size(alloc: Global, folder: &Folder, size: usize) -> Result<bool, Fail> {
+    let bytes = folder.to_bytes(alloc)?;
+    Ok(bytes.starts_with(&SMALL) && bytes.len() == size)
+}
+
+/// Whether the edits end as wanted.
+fn ends_so(alloc: Global, edits: &[Edit], refused: bool, wanted: usize) -> Result<bool, Fail> {
+    let mut folder = Folder::read(alloc, &SMALL)?;
+    let ends = applied(alloc, &mut folder, edits);
+    Ok(ends == (refused, !refused) && has_size(alloc, &folder, wanted)?)
+}
+
 #[test]
 fn large_edits(rt: HostRuntime) -> Result<(), Fail> {
     for (size, removed, refused, wanted) in &LARGE {
-        let mut folder = Folder::read(rt.alloc(), &SMALL)?;
-        let mut edits = vec![in rt.alloc(); put_large(rt.alloc(), *size)?]?;
-        if *removed {
-            edits.push(remove(rt.alloc(), "b")?)?;
-        }
-        let result = folder.apply(rt.alloc(), &edits);
-        assert_eq!(rt; matches!(&result, Err(EditRefusal::TooLarge)), *refused);
-        assert_eq!(rt; result.is_ok(), !*refused);
-        let bytes = folder.to_bytes(rt.alloc())?;
-        assert!(rt; bytes.starts_with(&SMALL));
-        assert_eq!(rt; bytes.len(), *wanted);
+        let edits = large(rt.alloc(), *size, *removed)?;
+        assert!(rt; ends_so(rt.alloc(), &edits, *refused, *wanted)?);
     }
     Ok(())
 }

@@ -54,14 +54,33 @@ fn folders_and_faults(rt: HostRuntime) -> Result<(), Fail> {
     Ok(())
 }
 
+/// Why bytes are refused.
+fn refusal(alloc: Global, bytes: &[u8]) -> Option<FolderRefusal> {
+    Folder::read(alloc, bytes).err()
+}
+
+/// The folder `{a: x}`.
+const SMALL: &str = "00000001610000000178";
+
 #[test]
 fn folders_cut_short(rt: HostRuntime) -> Result<(), Fail> {
-    let bytes = hex::decode(rt.alloc(), "00000001610000000178")?;
+    let bytes = hex::decode(rt.alloc(), SMALL)?;
     for len in 1..10 {
-        let refused = Folder::read(rt.alloc(), bytes.get(..len).ok_or("short")?);
-        assert!(rt; matches!(refused, Err(FolderRefusal::Truncated)));
+        let refused = refusal(rt.alloc(), bytes.get(..len).ok_or("short")?);
+        assert!(rt; matches!(refused, Some(FolderRefusal::Truncated)));
     }
-    let folder = Folder::read(rt.alloc(), &bytes)?;
+    Ok(())
+}
+
+/// The folder that the digits spell.
+fn spelled(alloc: Global, digits: &str) -> Result<Folder, Fail> {
+    let bytes = hex::decode(alloc, digits)?;
+    Ok(Folder::read(alloc, &bytes)?)
+}
+
+#[test]
+fn files_of_a_folder(rt: HostRuntime) -> Result<(), Fail> {
+    let folder = spelled(rt.alloc(), SMALL)?;
     assert_eq!(rt; folder.get("a"), Some(b"x".as_slice()));
     assert_eq!(rt; folder.get(""), None);
     assert_eq!(rt; folder.get("b"), None);
@@ -72,10 +91,10 @@ fn folders_cut_short(rt: HostRuntime) -> Result<(), Fail> {
 #[test]
 fn the_greatest_size(rt: HostRuntime) -> Result<(), Fail> {
     let mut bytes = vec![in rt.alloc(); 0; 16 << 20]?;
-    let refused = Folder::read(rt.alloc(), &bytes);
-    assert!(rt; matches!(refused, Err(FolderRefusal::PathOrder)));
+    let refused = refusal(rt.alloc(), &bytes);
+    assert!(rt; matches!(refused, Some(FolderRefusal::PathOrder)));
     bytes.push(0)?;
-    let refused = Folder::read(rt.alloc(), &bytes);
-    assert!(rt; matches!(refused, Err(FolderRefusal::TooLarge)));
+    let refused = refusal(rt.alloc(), &bytes);
+    assert!(rt; matches!(refused, Some(FolderRefusal::TooLarge)));
     Ok(())
 }

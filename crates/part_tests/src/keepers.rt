@@ -1,6 +1,7 @@
 //! Keepers in memory, whose saves fail where they were told to, and in files, worked out by hand.
 
-use saverecord::{FileKeeper, Keeper, KeeperRefusal, Kept, Log, MemoryKeeper};
+use filekeeper::FileKeeper;
+use saverecord::{Keeper, KeeperRefusal, Kept, Log, MemoryKeeper};
 use std::alloc::{AllocError, Global};
 use std::fs;
 use std::rt::Files;
@@ -58,58 +59,91 @@ fn arm(keeper: &mut MemoryKeeper, told: &[Kept]) {
     }
 }
 
+/// Whether the keeper saves as a row says.
+fn saves_so(
+    alloc: Global,
+    keeper: &mut MemoryKeeper,
+    (told, bytes, went_well, wanted, failures): &(&[Kept], &[u8], bool, &[u8], u64),
+) -> Result<bool, Fail> {
+    arm(keeper, *told);
+    let (ok, loaded) = saved(alloc, keeper, *bytes)?;
+    let has = loaded.as_slice() == *wanted && keeper.log().whole() == *wanted;
+    Ok(has && ok == *went_well && keeper.failures() == *failures)
+}
+
 #[test]
 fn saves_that_fail(rt: HostRuntime) -> Result<(), Fail> {
     let mut keeper = MemoryKeeper::new(rt.alloc(), Vec::new(rt.alloc()));
-    for (told, bytes, went_well, wanted, failures) in &SAVES {
-        arm(&mut keeper, *told);
-        let (ok, loaded) = saved(rt.alloc(), &mut keeper, *bytes)?;
-        assert_eq!(rt; ok, *went_well);
-        assert_eq!(rt; loaded.as_slice(), *wanted);
-        assert_eq!(rt; keeper.log().whole(), *wanted);
-        assert_eq!(rt; keeper.failures(), *failures);
+    for row in &SAVES {
+        assert!(rt; saves_so(rt.alloc(), &mut keeper, row)?);
     }
     assert_eq!(rt; keeper.saves(), 2);
     Ok(())
 }
 
-/// Opens a file keeper and saves `one`: whether nothing was there, whether the save went well, what is loaded after it, and
-/// the count of failures.
-fn save_one<R: Files>(
+/// A file keeper, in a box: letting go of it is one step of a proof.
+fn kept_at<'a, R: Files>(
+    rt: &'a R,
+    alloc: Global,
+    path: &str,
+) -> Result<Box<FileKeeper<'a, R>>, Fail> {
+    let keeper = FileKeeper::open(rt, alloc, path)?;
+    Ok(Box::new(alloc, keeper)?)
+}
+
+/// Whether a keeper saves `one`, and `one` is loaded after it.
+fn saves_one<K: Keeper>(alloc: Global, keeper: &mut K) -> Result<bool, Fail> {
+    let (ok, loaded) = saved(alloc, keeper, b"one")?;
+    Ok(ok && loaded.as_slice() == b"one".as_slice())
+}
+
+/// Opens a file keeper and saves `one`: whether nothing was there, and whether the save went well and `one` is loaded after it.
+fn save_one<R: Files>(rt: &R, alloc: Global, path: &str) -> Result<(bool, bool), Fail> {
+    let mut keeper = kept_at(rt, alloc, path)?;
+    let is_new = keeper.log().whole().is_empty();
+    Ok((is_new, saves_one(alloc, &mut *keeper)?))
+}
+
+/// Removes a record and its log.
+fn remove_both<R: Files>(rt: &R, record: &str, log: &str) -> Result<(), Fail> {
+    fs::remove_file(rt, record)?;
+    fs::remove_file(rt, log)?;
+    Ok(())
+}
+
+/// Has another hand change the file of a keeper: whether the load is a fault then.
+fn changed_is_fault<R: Files, K: Keeper>(
     rt: &R,
     alloc: Global,
     path: &str,
-) -> Result<(bool, bool, Vec<u8>, u64), Fail> {
-    let mut keeper = FileKeeper::open(rt, alloc, path)?;
-    let is_new = keeper.log().whole().is_empty();
-    let (ok, loaded) = saved(alloc, &mut keeper, b"one")?;
-    Ok((is_new, ok, loaded, keeper.failures()))
+    keeper: &mut K,
+) -> Result<bool, Fail> {
+    fs::write(rt, path, b"two".as_slice())?;
+    Ok(matches!(keeper.load(alloc), Err(KeeperRefusal::Fault)))
 }
 
-/// Opens a file keeper and has another hand change the file: the record that was there, whether the load is a fault then, and
-/// the count of failures.
-fn load_changed<R: Files>(rt: &R, alloc: Global, path: &str) -> Result<(Vec<u8>, bool, u64), Fail> {
-    let mut keeper = FileKeeper::open(rt, alloc, path)?;
-    let whole = Vec::from_slice(alloc, keeper.log().whole())?;
-    fs::write(rt, path, b"two".as_slice())?;
-    let is_fault = matches!(keeper.load(alloc), Err(KeeperRefusal::Fault));
-    Ok((whole, is_fault, keeper.failures()))
+/// Opens a file keeper and has another hand change the file: whether the record `one` was there, whether the load is a fault
+/// then, and the count of failures.
+fn load_changed<R: Files>(rt: &R, alloc: Global, path: &str) -> Result<(bool, bool, u64), Fail> {
+    let mut keeper = kept_at(rt, alloc, path)?;
+    let was_one = keeper.log().whole() == b"one".as_slice();
+    let is_fault = changed_is_fault(rt, alloc, path, &mut *keeper)?;
+    Ok((was_one, is_fault, keeper.failures()))
+}
+
+/// Whether a file keeper can be opened there.
+fn opens<R: Files>(rt: &R, alloc: Global, path: &str) -> bool {
+    FileKeeper::open(rt, alloc, path).is_ok()
 }
 
 /// A file that is not there, that was saved, that another hand changed, and one in a folder that isn't there.
 #[test]
 fn records_in_files(rt: HostRuntime) -> Result<(), Fail> {
     let path = "kept.record";
-    let (is_new, ok, loaded, _) = save_one(&rt, rt.alloc(), path)?;
-    assert!(rt; is_new && ok);
-    assert_eq!(rt; loaded.as_slice(), b"one".as_slice());
-    let (whole, is_fault, failures) = load_changed(&rt, rt.alloc(), path)?;
-    assert_eq!(rt; whole.as_slice(), b"one".as_slice());
-    assert!(rt; is_fault);
-    assert_eq!(rt; failures, 1);
-    fs::remove_file(&rt, path)?;
-    fs::remove_file(&rt, "kept.record.log")?;
-    assert!(rt; FileKeeper::open(&rt, rt.alloc(), "nowhere/kept.record").is_err());
+    assert_eq!(rt; save_one(&rt, rt.alloc(), path)?, (true, true));
+    assert_eq!(rt; load_changed(&rt, rt.alloc(), path)?, (true, true, 1));
+    remove_both(&rt, path, "kept.record.log")?;
+    assert!(rt; !opens(&rt, rt.alloc(), "nowhere/kept.record"));
     Ok(())
 }
 
@@ -122,43 +156,72 @@ const APPENDS: [(Option<Kept>, &[u8], bool, &[u8], u64); 4] = [
     (None, b"d", true, b"one a c d", 2),
 ];
 
+/// Whether the keeper appends as a row says.
+fn appends_so(
+    alloc: Global,
+    keeper: &mut MemoryKeeper,
+    (told, entry, went_well, wanted, failures): &(Option<Kept>, &[u8], bool, &[u8], u64),
+) -> Result<bool, Fail> {
+    if let Some(kept) = told {
+        keeper.fail_next(*kept);
+    }
+    let (ok, loaded) = appended(alloc, keeper, *entry)?;
+    Ok(ok == *went_well && loaded.as_slice() == *wanted && keeper.failures() == *failures)
+}
+
+/// Whether the keeper appends as all the rows say.
+fn all_append_so(alloc: Global, keeper: &mut MemoryKeeper) -> Result<bool, Fail> {
+    for row in &APPENDS {
+        if !appends_so(alloc, keeper, row)? {
+            return Ok(false);
+        }
+    }
+    Ok(true)
+}
+
+/// Whether the keeper saves `two`, and it is loaded after it with no entries.
+fn saves_two(alloc: Global, keeper: &mut MemoryKeeper) -> Result<bool, Fail> {
+    let (ok, loaded) = saved(alloc, keeper, b"two")?;
+    let is_two = loaded.as_slice() == b"two".as_slice();
+    Ok(ok && is_two && keeper.log().entries().is_empty())
+}
+
 #[test]
 fn appends_that_fail(rt: HostRuntime) -> Result<(), Fail> {
     let record = Vec::from_slice(rt.alloc(), b"one")?;
     let mut keeper = MemoryKeeper::new(rt.alloc(), record);
-    for (told, entry, went_well, wanted, failures) in &APPENDS {
-        if let Some(kept) = told {
-            keeper.fail_next(*kept);
-        }
-        let (ok, loaded) = appended(rt.alloc(), &mut keeper, *entry)?;
-        assert_eq!(rt; ok, *went_well);
-        assert_eq!(rt; loaded.as_slice(), *wanted);
-        assert_eq!(rt; keeper.failures(), *failures);
-    }
+    assert!(rt; all_append_so(rt.alloc(), &mut keeper)?);
     assert_eq!(rt; keeper.saves(), 2);
-    let (ok, loaded) = saved(rt.alloc(), &mut keeper, b"two")?;
-    assert!(rt; ok && keeper.log().entries().is_empty());
-    assert_eq!(rt; loaded.as_slice(), b"two".as_slice());
+    assert!(rt; saves_two(rt.alloc(), &mut keeper)?);
     Ok(())
 }
 
 /// The record of the files below: its last eight bytes are the name under which the log knows it.
 const RECORD: &[u8; 40] = b"the bytes of a record, and then its name";
 
-/// What a file keeper that is opened on this record and this log has.
-fn opened<R: Files>(rt: &R, alloc: Global, record: &[u8], log: &[u8]) -> Result<Vec<u8>, Fail> {
+/// Writes a record and a log.
+fn write_both<R: Files>(rt: &R, record: &[u8], log: &[u8]) -> Result<(), Fail> {
     fs::write(rt, "cut.record", record)?;
     fs::write(rt, "cut.record.log", log)?;
-    let keeper = FileKeeper::open(rt, alloc, "cut.record")?;
-    let texts = texts(alloc, keeper.log())?;
-    Ok(texts)
+    Ok(())
+}
+
+/// What a file keeper has.
+fn texts_kept<R: Files>(rt: &R, alloc: Global) -> Result<Vec<u8>, Fail> {
+    let keeper = kept_at(rt, alloc, "cut.record")?;
+    Ok(texts(alloc, keeper.log())?)
+}
+
+/// What a file keeper that is opened on this record and this log has.
+fn opened<R: Files>(rt: &R, alloc: Global, record: &[u8], log: &[u8]) -> Result<Vec<u8>, Fail> {
+    write_both(rt, record, log)?;
+    texts_kept(rt, alloc)
 }
 
 /// Whether a file keeper can't be opened on the record and this log.
 fn is_refused<R: Files>(rt: &R, alloc: Global, log: &[u8]) -> Result<bool, Fail> {
-    fs::write(rt, "cut.record", RECORD.as_slice())?;
-    fs::write(rt, "cut.record.log", log)?;
-    Ok(FileKeeper::open(rt, alloc, "cut.record").is_err())
+    write_both(rt, RECORD.as_slice(), log)?;
+    Ok(!opens(rt, alloc, "cut.record"))
 }
 
 /// Appends two entries: what is loaded after both.
@@ -174,8 +237,8 @@ fn append_two<K: Keeper>(alloc: Global, keeper: &mut K) -> Result<Vec<u8>, Fail>
 /// The same by a file keeper, behind the record.
 fn append_two_to_files<R: Files>(rt: &R, alloc: Global) -> Result<Vec<u8>, Fail> {
     fs::write(rt, "cut.record", RECORD.as_slice())?;
-    let mut keeper = FileKeeper::open(rt, alloc, "cut.record")?;
-    append_two(alloc, &mut keeper)
+    let mut keeper = kept_at(rt, alloc, "cut.record")?;
+    append_two(alloc, &mut *keeper)
 }
 
 /// Whether a file keeper can't be opened on the record and this log with one byte changed.
@@ -215,6 +278,22 @@ fn refuses_damaged_heads<R: Files>(rt: &R, alloc: Global, log: &[u8]) -> Result<
     Ok(true)
 }
 
+/// Whether the log of another record is taken for none.
+fn is_anothers_log<R: Files>(rt: &R, alloc: Global, log: &[u8]) -> Result<bool, Fail> {
+    let other = opened(rt, alloc, b"of another record", log)?;
+    Ok(other.as_slice() == b"of another record".as_slice())
+}
+
+/// Whether a log of two entries was written, and the same of it cut, damaged, or beside another record.
+fn is_sound_log<R: Files>(rt: &R, alloc: Global, log: &[u8]) -> Result<bool, Fail> {
+    Ok(
+        log.len() == 59
+            && keeps_whole_entries(rt, alloc, log)?
+            && refuses_damaged_heads(rt, alloc, log)?
+            && is_anothers_log(rt, alloc, log)?,
+    )
+}
+
 /// A log of two entries, cut at each byte: what was cut short is gone, and all behind it. And with each byte of the first
 /// one changed: a head that was damaged is refused, and an entry that was is as it stands.
 #[test]
@@ -222,36 +301,49 @@ fn logs_in_files(rt: HostRuntime) -> Result<(), Fail> {
     let both = append_two_to_files(&rt, rt.alloc())?;
     assert!(rt; both.ends_with(b" first second"));
     let log = fs::read(&rt, "cut.record.log")?;
-    assert_eq!(rt; log.len(), 59);
-    assert!(rt; keeps_whole_entries(&rt, rt.alloc(), log.as_slice())?);
-    assert!(rt; refuses_damaged_heads(&rt, rt.alloc(), log.as_slice())?);
-    let other = opened(&rt, rt.alloc(), b"of another record", log.as_slice())?;
-    assert_eq!(rt; other.as_slice(), b"of another record".as_slice());
+    assert!(rt; is_sound_log(&rt, rt.alloc(), log.as_slice())?);
     assert!(rt; fs::read(&rt, "cut.record.log")?.is_empty());
-    fs::remove_file(&rt, "cut.record")?;
-    fs::remove_file(&rt, "cut.record.log")?;
+    remove_both(&rt, "cut.record", "cut.record.log")
+}
+
+/// Writes a record, and a log that is damaged.
+fn write_damaged<R: Files>(rt: &R) -> Result<(), Fail> {
+    fs::write(rt, "put.record", RECORD.as_slice())?;
+    fs::write(
+        rt,
+        "put.record.log",
+        b"no log, though it is as long as a head and more",
+    )?;
     Ok(())
+}
+
+/// Whether a record can be put where a damaged log is, which is refused after it as before.
+fn is_refused_after_try<R: Files>(rt: &R, alloc: Global) -> Result<bool, Fail> {
+    write_damaged(rt)?;
+    FileKeeper::try_put(rt, alloc, "put.record")?;
+    Ok(!opens(rt, alloc, "put.record"))
+}
+
+/// Whether this record is there, with no entries.
+fn has_alone<R: Files>(rt: &R, alloc: Global, record: &[u8]) -> Result<bool, Fail> {
+    let keeper = kept_at(rt, alloc, "put.record")?;
+    Ok(keeper.log().whole() == record && keeper.log().entries().is_empty())
 }
 
 /// A record takes the place of an old one and of its log, which is damaged and isn't read.
 #[test]
 fn a_record_is_put(rt: HostRuntime) -> Result<(), Fail> {
-    let (alloc, path) = (rt.alloc(), "put.record");
-    fs::write(&rt, path, RECORD.as_slice())?;
-    fs::write(
-        &rt,
-        "put.record.log",
-        b"no log, though it is as long as a head and more",
-    )?;
-    FileKeeper::try_put(&rt, alloc, path)?;
-    assert!(rt; FileKeeper::open(&rt, alloc, path).is_err());
-    FileKeeper::put(&rt, alloc, path, b"another record")?;
-    let keeper = FileKeeper::open(&rt, alloc, path)?;
-    assert_eq!(rt; keeper.log().whole(), b"another record".as_slice());
-    assert!(rt; keeper.log().entries().is_empty());
-    // No record can be put where a folder stands, or in one that isn't there.
+    assert!(rt; is_refused_after_try(&rt, rt.alloc())?);
+    FileKeeper::put(&rt, rt.alloc(), "put.record", b"another record")?;
+    assert!(rt; has_alone(&rt, rt.alloc(), b"another record")?);
+    Ok(())
+}
+
+/// No record can be put where a folder stands, or in one that isn't there.
+#[test]
+fn no_place_for_a_record(rt: HostRuntime) -> Result<(), Fail> {
     fs::create_dir(&rt, "put.folder")?;
-    assert!(rt; FileKeeper::try_put(&rt, alloc, "put.folder").is_err());
-    assert!(rt; FileKeeper::try_put(&rt, alloc, "nowhere/put.record").is_err());
+    assert!(rt; FileKeeper::try_put(&rt, rt.alloc(), "put.folder").is_err());
+    assert!(rt; FileKeeper::try_put(&rt, rt.alloc(), "nowhere/put.record").is_err());
     Ok(())
 }

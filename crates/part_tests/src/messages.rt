@@ -10,6 +10,7 @@ use farmwire::{
     read, seal, write,
 };
 use std::alloc::Global;
+use std::process::Abort;
 use std::test::Fail;
 
 /// Key and data in hexadecimal digits, and the MAC: cases 1 to 4, 6 and 7 of RFC 4231, and keys of 64 and 65 bytes.
@@ -56,13 +57,18 @@ const MACS: [(&str, &str, &str); 8] = [
     ),
 ];
 
+/// The digits of a MAC.
+fn mac_text(alloc: Global, key: &str, data: &str) -> Result<String, Fail> {
+    let key = hex::decode(alloc, key)?;
+    let data = hex::decode(alloc, data)?;
+    Ok(Key(mac(key.as_slice(), data.as_slice())).to_text(alloc)?)
+}
+
 #[test]
 fn macs(rt: HostRuntime) -> Result<(), Fail> {
     for (key, data, wanted) in &MACS {
-        let key = hex::decode(rt.alloc(), *key)?;
-        let data = hex::decode(rt.alloc(), *data)?;
-        let digits = Key(mac(key.as_slice(), data.as_slice())).to_text(rt.alloc())?;
-        assert_eq!(rt; digits.as_str(), *wanted);
+        let digits = mac_text(rt.alloc(), *key, *data)?;
+        assert!(rt; digits.as_str() == *wanted, "{wanted}");
     }
     Ok(())
 }
@@ -99,6 +105,11 @@ const TEXTS: [&str; 28] = [
     "blob 1024 //4A",
 ];
 
+/// The table is handed out by one function, since a proof pays for it wherever it stands.
+fn texts() -> &'static [&'static str] {
+    &TEXTS
+}
+
 /// The text of the message that a text spells.
 fn again(alloc: Global, text: &str) -> Result<String, Fail> {
     let message = read(alloc, text.as_bytes())?;
@@ -107,15 +118,15 @@ fn again(alloc: Global, text: &str) -> Result<String, Fail> {
 
 #[test]
 fn texts_both_ways(rt: HostRuntime) -> Result<(), Fail> {
-    for text in &TEXTS {
+    for text in texts() {
         let written = again(rt.alloc(), *text)?;
-        assert_eq!(rt; written.as_str(), *text);
+        assert!(rt; written.as_str() == *text, "{text}");
     }
     Ok(())
 }
 
-/// Texts of no message.
-const BAD: [&str; 65] = [
+/// Texts of no message: those of a node that greets or asks.
+const HELLOS: [&str; 27] = [
     "",
     " ",
     " hello 1 1",
@@ -143,6 +154,10 @@ const BAD: [&str; 65] = [
     "acquire 1 1 1 ro=ro=locked:a",
     "acquire 1 1 1 rw=locked:a",
     "acquire 1 1 1 locked:a locked:b locked:c locked:d locked:e locked:f locked:g locked:h locked:i locked:j locked:k locked:l locked:m locked:n locked:o locked:p locked:q",
+];
+
+/// Those of a node that asks for a tenure, or is done with a lease.
+const ENDS: [&str; 13] = [
     "tenure 1 1 1",
     "tenure 1 1 1 locked:a",
     "tenure 1 1 1 ro=shared:a",
@@ -156,6 +171,10 @@ const BAD: [&str; 65] = [
     "commit 1 1 7 private:a=e3b0c44298fc1c149afbf4c8996fb92427ae41e4649b934ca495991b7852b855",
     "commit 1 1 7 private:a#4097=e3b0c44298fc1c149afbf4c8996fb92427ae41e4649b934ca495991b7852b855",
     "release 3 1",
+];
+
+/// Those of the coordinator, and of contents.
+const ANSWERS: [&str; 25] = [
     "granted 1 1 1 7",
     "granted 1 1 1 7 lone",
     "granted 1 1 1 7 plain ",
@@ -183,25 +202,47 @@ const BAD: [&str; 65] = [
     "blob 2 __4A",
 ];
 
-#[test]
-fn texts_of_nothing(rt: HostRuntime) -> Result<(), Fail> {
-    for text in &BAD {
-        let refused = matches!(read(rt.alloc(), text.as_bytes()), Err(ReadRefusal::BadForm));
-        assert!(rt; refused, "{text}");
+/// Whether bytes are no message's.
+fn is_nothing(alloc: Global, bytes: &[u8]) -> bool {
+    matches!(read(alloc, bytes), Err(ReadRefusal::BadForm))
+}
+
+/// Looks whether each text is no message's.
+fn assert_nothing(rt: &impl Abort, alloc: Global, texts: &[&str]) {
+    for text in texts {
+        assert!(rt; is_nothing(alloc, text.as_bytes()), "{text}");
     }
-    let not_text = read(rt.alloc(), b"hello 1 1\xff");
-    assert!(rt; matches!(not_text, Err(ReadRefusal::BadForm)));
-    Ok(())
+}
+
+/// Each table stands in a function of its own: what a proof pays for one goes by its rows times their length.
+#[test]
+fn hellos_of_nothing(rt: HostRuntime) {
+    assert_nothing(&rt, rt.alloc(), &HELLOS);
+}
+
+#[test]
+fn ends_of_nothing(rt: HostRuntime) {
+    assert_nothing(&rt, rt.alloc(), &ENDS);
+}
+
+#[test]
+fn answers_of_nothing(rt: HostRuntime) {
+    assert_nothing(&rt, rt.alloc(), &ANSWERS);
+}
+
+#[test]
+fn bytes_of_nothing(rt: HostRuntime) {
+    assert!(rt; is_nothing(rt.alloc(), b"hello 1 1\xff"));
 }
 
 const KEY: &[u8] = b"the key of a farm in these tests.";
 
+/// A line under the key.
+const SOUND: &str = "hello 3 14 92790a8ba26473c2fc2bc7c54f3b35e4010cc28920ac77993e84f774cbea5285";
+
 /// Lines under the key, and the text of the message that each opens to, or its fault.
 const LINES: [(&str, &str); 24] = [
-    (
-        "hello 3 14 92790a8ba26473c2fc2bc7c54f3b35e4010cc28920ac77993e84f774cbea5285",
-        "hello 3 14",
-    ),
+    (SOUND, "hello 3 14"),
     (
         "blob 2  5969630582636f9928377f4098fdeffad52290da4bb9ccc4fe2038afe42b0544",
         "blob 2 ",
@@ -310,45 +351,61 @@ fn lines(rt: HostRuntime) -> Result<(), Fail> {
     let key = FarmKey::of(rt.alloc(), KEY)?;
     for (line, wanted) in &LINES {
         let text = opened(rt.alloc(), &key, line.as_bytes())?;
-        assert_eq!(rt; text.as_str(), *wanted, "{line}");
+        assert!(rt; text.as_str() == *wanted, "{line}");
     }
     Ok(())
+}
+
+/// The text that a message's line opens to.
+fn sealed_and_opened(alloc: Global, key: &FarmKey, text: &str) -> Result<String, Fail> {
+    let message = read(alloc, text.as_bytes())?;
+    let line = seal(alloc, key, &message)?;
+    opened(alloc, key, line.as_bytes())
 }
 
 #[test]
 fn sealed_lines_open(rt: HostRuntime) -> Result<(), Fail> {
     let key = FarmKey::of(rt.alloc(), KEY)?;
-    for text in &TEXTS {
-        let message = read(rt.alloc(), text.as_bytes())?;
-        let line = seal(rt.alloc(), &key, &message)?;
-        let back = opened(rt.alloc(), &key, line.as_bytes())?;
-        assert_eq!(rt; back.as_str(), *text);
+    for text in texts() {
+        let back = sealed_and_opened(rt.alloc(), &key, *text)?;
+        assert!(rt; back.as_str() == *text, "{text}");
     }
     Ok(())
+}
+
+/// What a line opens to in which one bit of this byte was turned.
+fn opened_damaged(alloc: Global, key: &FarmKey, line: &str, index: usize) -> Result<String, Fail> {
+    let mut damaged = Vec::from_slice(alloc, line.as_bytes())?;
+    let Some(byte) = damaged.get_mut(index) else {
+        return Err("no such byte".into());
+    };
+    *byte ^= 1 << (index % 8);
+    opened(alloc, key, damaged.as_slice())
 }
 
 /// A line in which one bit was turned, at each byte in turn.
 #[test]
 fn turned_bits(rt: HostRuntime) -> Result<(), Fail> {
     let key = FarmKey::of(rt.alloc(), KEY)?;
-    let (line, _text) = LINES[0];
-    for index in 0..line.len() {
-        let mut damaged = Vec::from_slice(rt.alloc(), line.as_bytes())?;
-        damaged[index] = damaged[index] ^ (1 << (index % 8));
-        let text = opened(rt.alloc(), &key, damaged.as_slice())?;
-        assert_eq!(rt; text.as_str(), "BadMac", "{index}");
+    for index in 0..SOUND.len() {
+        let text = opened_damaged(rt.alloc(), &key, SOUND, index)?;
+        assert!(rt; text.as_str() == "BadMac", "{index}");
     }
     Ok(())
 }
 
+/// What a line of this many zeros opens to.
+fn zeros_opened(alloc: Global, len: usize) -> Result<String, Fail> {
+    let key = FarmKey::of(alloc, KEY)?;
+    let line = vec![in alloc; b'0'; len]?;
+    opened(alloc, &key, line.as_slice())
+}
+
 #[test]
 fn long_lines(rt: HostRuntime) -> Result<(), Fail> {
-    let key = FarmKey::of(rt.alloc(), KEY)?;
-    let mut line = vec![in rt.alloc(); b'0'; LINE_LIMIT]?;
-    let text = opened(rt.alloc(), &key, line.as_slice())?;
+    let text = zeros_opened(rt.alloc(), LINE_LIMIT)?;
     assert_eq!(rt; text.as_str(), "TooLong");
-    line.truncate(LINE_LIMIT - 1);
-    let text = opened(rt.alloc(), &key, line.as_slice())?;
+    let text = zeros_opened(rt.alloc(), LINE_LIMIT - 1)?;
     assert_eq!(rt; text.as_str(), "BadMac");
     Ok(())
 }
@@ -364,17 +421,26 @@ const FILES: [(&[u8], bool); 7] = [
     (b"0123456789012345678901234567890\n\n", true),
 ];
 
+/// Whether a file is long enough for a key.
+fn is_key(alloc: Global, file: &[u8]) -> Result<bool, Fail> {
+    match FarmKey::of(alloc, file) {
+        Ok(_key) => Ok(true),
+        Err(KeyRefusal::KeyTooShort) => Ok(false),
+        Err(refusal) => Err(refusal.into()),
+    }
+}
+
 #[test]
 fn key_files(rt: HostRuntime) -> Result<(), Fail> {
     for (file, wanted) in &FILES {
-        match FarmKey::of(rt.alloc(), *file) {
-            Ok(_key) => assert!(rt; *wanted),
-            Err(refusal) => {
-                assert!(rt; matches!(refusal, KeyRefusal::KeyTooShort));
-                assert!(rt; !*wanted);
-            }
-        }
+        assert_eq!(rt; is_key(rt.alloc(), *file)?, *wanted);
     }
+    Ok(())
+}
+
+/// The end of its line is no part of a key.
+#[test]
+fn a_key_and_its_end_of_line(rt: HostRuntime) -> Result<(), Fail> {
     let bare = FarmKey::of(rt.alloc(), FILES[4].0)?;
     let ended = FarmKey::of(rt.alloc(), FILES[5].0)?;
     assert!(rt; bare.mac(b"x") == ended.mac(b"x"));
@@ -394,20 +460,32 @@ const GRANTS: [(u32, u64, u64, u64, LeaseKind, bool); 9] = [
     (1, 1, 1, 0, LeaseKind::Plain, false),
 ];
 
+/// The Grant of a row, of no slot.
+fn granted(
+    alloc: Global,
+    (node, life, ask, ticket, kind, _wanted): &(u32, u64, u64, u64, LeaseKind, bool),
+) -> Message {
+    Message::ToNode(ToNode::FromCoord(FromCoord::Granted(Grant {
+        ticket: Ticket(*ticket),
+        node: NodeId(*node),
+        life: Life(*life),
+        ask: Ask(*ask),
+        kind: *kind,
+        slots: Items::new(Vec::new(alloc)),
+    })))
+}
+
+/// Whether a message has a line, and whether it is refused as one that has none.
+fn has_line(alloc: Global, message: &Message) -> (bool, bool) {
+    let refused = matches!(write(alloc, message), Err(WriteRefusal::Unlawful));
+    (is_lawful(message), refused)
+}
+
 #[test]
 fn grants(rt: HostRuntime) -> Result<(), Fail> {
-    for (node, life, ask, ticket, kind, wanted) in &GRANTS {
-        let message = Message::ToNode(ToNode::FromCoord(FromCoord::Granted(Grant {
-            ticket: Ticket(*ticket),
-            node: NodeId(*node),
-            life: Life(*life),
-            ask: Ask(*ask),
-            kind: *kind,
-            slots: Items::new(Vec::new(rt.alloc())),
-        })));
-        assert!(rt; is_lawful(&message) == *wanted);
-        let refused = matches!(write(rt.alloc(), &message), Err(WriteRefusal::Unlawful));
-        assert!(rt; refused != *wanted);
+    for row in &GRANTS {
+        let message = granted(rt.alloc(), row);
+        assert_eq!(rt; has_line(rt.alloc(), &message), (row.5, !row.5));
     }
     Ok(())
 }
@@ -420,21 +498,25 @@ const TENURES: [(&str, bool, bool); 4] = [
     ("private:a", true, false),
 ];
 
+/// Whether a folder can be asked for as a tenure.
+fn is_tenure(alloc: Global, folder: &str, writable: bool) -> Result<bool, Fail> {
+    let folder = FolderName::parse(alloc, folder)?;
+    let request = Request::Acquire {
+        ask: Ask(1),
+        wants: Wants::one(alloc, folder, writable)?,
+        tenure: true,
+    };
+    Ok(is_lawful(&Message::ToCoord(ToCoord {
+        node: NodeId(1),
+        life: Life(1),
+        request,
+    })))
+}
+
 #[test]
 fn tenures(rt: HostRuntime) -> Result<(), Fail> {
     for (folder, writable, wanted) in &TENURES {
-        let folder = FolderName::parse(rt.alloc(), *folder)?;
-        let request = Request::Acquire {
-            ask: Ask(1),
-            wants: Wants::one(rt.alloc(), folder, *writable)?,
-            tenure: true,
-        };
-        let message = Message::ToCoord(ToCoord {
-            node: NodeId(1),
-            life: Life(1),
-            request,
-        });
-        assert!(rt; is_lawful(&message) == *wanted);
+        assert_eq!(rt; is_tenure(rt.alloc(), *folder, *writable)?, *wanted);
     }
     Ok(())
 }

@@ -108,7 +108,7 @@ fn shown_op(alloc: Global, digits: &str) -> Result<String, Fail> {
 fn ops(rt: HostRuntime) -> Result<(), Fail> {
     for (digits, wanted) in &ROWS {
         let text = shown_op(rt.alloc(), *digits)?;
-        assert_eq!(rt; text.as_str(), *wanted);
+        assert!(rt; text.as_str() == *wanted, "{digits}");
     }
     Ok(())
 }
@@ -140,11 +140,16 @@ fn are_cut_so(alloc: Global, bytes: &[u8], lengths: &[usize]) -> Result<bool, Fa
     Ok(true)
 }
 
+/// Whether that is so of the bytes of the digits.
+fn are_cut_digits(alloc: Global, digits: &str, lengths: &[usize]) -> Result<bool, Fail> {
+    let bytes = hex::decode(alloc, digits)?;
+    are_cut_so(alloc, bytes.as_slice(), lengths)
+}
+
 #[test]
 fn ops_cut_at_every_byte(rt: HostRuntime) -> Result<(), Fail> {
     for (digits, lengths) in &CUT {
-        let bytes = hex::decode(rt.alloc(), *digits)?;
-        assert!(rt; are_cut_so(rt.alloc(), bytes.as_slice(), *lengths)?);
+        assert!(rt; are_cut_digits(rt.alloc(), *digits, *lengths)?);
     }
     Ok(())
 }
@@ -172,15 +177,25 @@ fn written_op(alloc: Global) -> Result<String, Fail> {
     Ok(hex::encode(alloc, &bytes)?)
 }
 
+/// Whether the body is that of the exec op that is read above.
+fn is_body_of_cached(alloc: Global) -> Result<bool, Fail> {
+    let body = written_exec(alloc)?;
+    Ok(body.as_str() == CACHED.strip_prefix("1241").ok_or("prefix")?)
+}
+
+/// Whether the whole op begins with its input.
+fn begins_with_input(alloc: Global) -> Result<bool, Fail> {
+    let text = written_op(alloc)?;
+    Ok(
+        text.as_str()
+            .starts_with("0a0e0a016410ffffffffffffffffff011241"),
+    )
+}
+
 #[test]
 fn an_exec_op_is_written(rt: HostRuntime) -> Result<(), Fail> {
-    let body = written_exec(rt.alloc())?;
-    assert_eq!(rt; body.as_str(), CACHED.strip_prefix("1241").ok_or("prefix")?);
-    let text = written_op(rt.alloc())?;
-    assert!(rt;
-        text.as_str()
-            .starts_with("0a0e0a016410ffffffffffffffffff011241")
-    );
+    assert!(rt; is_body_of_cached(rt.alloc())?);
+    assert!(rt; begins_with_input(rt.alloc())?);
     Ok(())
 }
 
@@ -198,15 +213,28 @@ fn written_again(alloc: Global, bytes: &[u8]) -> Result<Vec<u8>, OpRefusal> {
     Ok(write_definition(alloc, &definition_of(alloc, bytes)?)?)
 }
 
+/// Definitions, and how many entries each has. Metadata and source are skipped.
+const ENTRIES: [(&[u8], usize); 3] = [
+    (b"", 0),
+    (b"\x12\x00\x1a\x01\xff", 0),
+    (b"\x0a\x00\x0a\x01\x0a", 2),
+];
+
 #[test]
 fn definitions(rt: HostRuntime) -> Result<(), Fail> {
-    let alloc = rt.alloc();
-    // No entry; metadata and source, which are skipped; one entry; one that is cut.
-    assert_eq!(rt; entries(alloc, b"")?, 0);
-    assert_eq!(rt; entries(alloc, b"\x12\x00\x1a\x01\xff")?, 0);
-    assert_eq!(rt; entries(alloc, b"\x0a\x00\x0a\x01\x0a")?, 2);
-    let bytes = written_again(alloc, b"\x0a\x00\x0a\x01\x0a")?;
-    assert_eq!(rt; bytes.as_slice(), b"\x0a\x00\x0a\x01\x0a".as_slice());
-    assert!(rt; matches!(entries(alloc, b"\x0a"), Err(OpRefusal::Wire(_))));
+    for (bytes, wanted) in &ENTRIES {
+        assert_eq!(rt; entries(rt.alloc(), *bytes)?, *wanted);
+    }
+    Ok(())
+}
+
+/// Two entries are written as they were, and one that is cut is refused.
+#[test]
+fn definitions_again(rt: HostRuntime) -> Result<(), Fail> {
+    let wanted = b"\x0a\x00\x0a\x01\x0a".as_slice();
+    let bytes = written_again(rt.alloc(), wanted)?;
+    assert_eq!(rt; bytes.as_slice(), wanted);
+    let cut = entries(rt.alloc(), b"\x0a");
+    assert!(rt; matches!(cut, Err(OpRefusal::Wire(_))));
     Ok(())
 }

@@ -8,7 +8,7 @@ use farm_base::{
 use protocol::{CoordNote, CoordRefusal, EventNote, EventRefusal, Kept};
 use std::alloc::Global;
 use std::test::Fail;
-use world::{Event, World, read_schedule};
+use world::{Event, Setup, World, read_schedule};
 
 /// Schedules, their lines separated by semicolons.
 const SCHEDULES: [&str; 7] = [
@@ -82,31 +82,69 @@ fn begins_with(world: &World, slot: &Slot, versions: &[LineVersion]) -> bool {
     }
 }
 
+/// Whether a world has all these lines still.
+fn has_lines(world: &World, lines: &[(Slot, Vec<LineVersion>)]) -> bool {
+    for (slot, versions) in lines {
+        if !begins_with(world, slot, versions.as_slice()) {
+            return false;
+        }
+    }
+    true
+}
+
 impl Course {
-    /// Carries out an event, whatever is answered. Fails where a line lost or changed a version.
-    fn step(&mut self, alloc: Global, event: Event) -> Result<u64, Fail> {
-        let lines = lines_of(alloc, &self.world)?;
-        let first = match self.world.step(alloc, event) {
+    /// Notes the ticket of a prune.
+    fn note(&mut self, note: &EventNote) -> Result<(), Fail> {
+        if let EventNote::Coord(CoordNote::Pruned(ticket)) = note {
+            self.pruned.push(*ticket)?;
+        }
+        Ok(())
+    }
+
+    /// Carries out an event, whatever is answered.
+    fn carry_out(&mut self, alloc: Global, event: Event) -> Result<u64, Fail> {
+        match self.world.step(alloc, event) {
             Ok(outcome) => {
-                if let EventNote::Coord(CoordNote::Pruned(ticket)) = outcome.note {
-                    self.pruned.push(ticket)?;
-                }
-                outcome.first
+                self.note(&outcome.note)?;
+                Ok(outcome.first)
             }
-            Err(EventRefusal::OutOfMemory) => return Err("out of memory".into()),
+            Err(EventRefusal::OutOfMemory) => Err("out of memory".into()),
             Err(refusal) => {
                 if refusal == EventRefusal::Coord(CoordRefusal::SaveFault) {
                     self.failed = self.failed.saturating_add(1);
                 }
-                0
-            }
-        };
-        for (slot, versions) in lines.iter() {
-            if !begins_with(&self.world, slot, versions.as_slice()) {
-                return Err("a line lost or changed a version".into());
+                Ok(0)
             }
         }
-        Ok(first)
+    }
+
+    /// The same. Fails where a line lost or changed a version.
+    fn step(&mut self, alloc: Global, event: Event) -> Result<u64, Fail> {
+        let lines = lines_of(alloc, &self.world)?;
+        let first = self.carry_out(alloc, event)?;
+        if has_lines(&self.world, lines.as_slice()) {
+            Ok(first)
+        } else {
+            Err("a line lost or changed a version".into())
+        }
+    }
+
+    /// Carries out events, of which this one is disturbed.
+    fn step_all(
+        &mut self,
+        alloc: Global,
+        events: Vec<Event>,
+        disturbed: usize,
+        disturbance: Disturbance,
+    ) -> Result<(), Fail> {
+        for (place, event) in events.into_iter().enumerate() {
+            if place == disturbed {
+                self.step_disturbed(alloc, event, disturbance)?;
+            } else {
+                self.step(alloc, event)?;
+            }
+        }
+        Ok(())
     }
 
     /// Carries out an event with this disturbance.
@@ -234,30 +272,41 @@ impl Course {
     }
 }
 
+/// A course at its start. In a box: letting go of it is one step of a proof.
+fn started(alloc: Global, setup: Setup) -> Result<Box<Course>, Fail> {
+    let course = Course {
+        world: World::start(alloc, setup)?,
+        nodes: setup.nodes,
+        pruned: Vec::new(alloc),
+        failed: 0,
+    };
+    Ok(Box::new(alloc, course)?)
+}
+
 /// The course of a schedule that is disturbed at this place, and whether the schedule has it.
 fn course_of(
     alloc: Global,
     schedule: &str,
     disturbed: usize,
     disturbance: Disturbance,
-) -> Result<(Course, bool), Fail> {
+) -> Result<(Box<Course>, bool), Fail> {
     let text = schedule.replace(alloc, "; ", "\n")?;
     let (setup, events) = read_schedule(alloc, text.as_str().as_bytes())?;
-    let mut course = Course {
-        world: World::start(alloc, setup)?,
-        nodes: setup.nodes,
-        pruned: Vec::new(alloc),
-        failed: 0,
-    };
     let is_there = disturbed < events.len();
-    for (place, event) in events.into_iter().enumerate() {
-        if place == disturbed {
-            course.step_disturbed(alloc, event, disturbance)?;
-        } else {
-            course.step(alloc, event)?;
-        }
-    }
+    let mut course = started(alloc, setup)?;
+    course.step_all(alloc, events, disturbed, disturbance)?;
     Ok((course, is_there))
+}
+
+/// How many saves failed. Fails where a ticket was given twice, or two nodes differ.
+fn failed_in(alloc: Global, course: &Course) -> Result<usize, Fail> {
+    if !course.have_own_tickets() {
+        return Err("a ticket was given twice".into());
+    }
+    if !course.agrees(alloc)? {
+        return Err("two nodes hold different contents for one version".into());
+    }
+    Ok(course.failed)
 }
 
 /// How many saves failed in a schedule that is disturbed at each of its places, one after the other.
@@ -265,16 +314,11 @@ fn failures(alloc: Global, schedule: &str, disturbance: Disturbance) -> Result<u
     let mut failed = 0usize;
     for place in 0..100 {
         let (course, is_there) = course_of(alloc, schedule, place, disturbance)?;
-        if !course.have_own_tickets() {
-            return Err("a ticket was given twice".into());
-        }
-        if !course.agrees(alloc)? {
-            return Err("two nodes hold different contents for one version".into());
-        }
+        let more = failed_in(alloc, &*course)?;
         if !is_there {
             return Ok(failed);
         }
-        failed = failed.saturating_add(course.failed);
+        failed = failed.saturating_add(more);
     }
     Err("the schedule is too long".into())
 }

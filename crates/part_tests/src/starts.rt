@@ -9,7 +9,8 @@ use coordinator::{CoordNote, CoordRefusal, Coordinator, Handled};
 use farm_base::{
     Ask, FolderName, FromCoord, Life, Mode, NODES, NodeId, Request, ToCoord, Want, Wants,
 };
-use saverecord::{FileKeeper, Keeper, MemoryKeeper};
+use filekeeper::FileKeeper;
+use saverecord::{Keeper, MemoryKeeper};
 use sha2::Sha256;
 use std::alloc::{AllocError, Global};
 use std::fs;
