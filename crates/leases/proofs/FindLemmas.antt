@@ -1,22 +1,17 @@
 -- What is found among leases: by a ticket, and among those that are kept.
-use Rattle.std.proofs.Common.{◌≡◌, ℕ, zero, suc, ◌+◌, ◌<◌, List, [], ◌∷◌, ◌++◌, Bool, true, false, not, eqb, eq-eqb, length, get_or, map, filter, Option, Some, None, is_some, Result, Ok, Err, Bor, refl, sym, ◌∙◌, ap, inl, inr, arith}
+use Rattle.std.proofs.Common.{◌≡◌, ◌+◌, ◌<◌, List, [], ◌∷◌, ◌++◌, Bool, true, false, not, get_or, filter, Option, Some, None, is_some, Bor, refl, sym, ◌∙◌, ap, inl, inr, arith}
 use Rattle.std.proofs.lemmas.Bool.{cases_Bool, ne_eqb, eqb-true}
-use Rattle.std.proofs.lemmas.List.{get_or-map, length-map}
 use Rattle.std.proofs.lemmas.List.Elements.{All-tail}
 use Rattle.std.proofs.lemmas.List.Folds.{find-append}
-use Rattle.std.specs.Prelude.{if◌then◌else◌, All, AllPairs, MatchResult}
-use Rattle.std.specs.List.{find, position_from}
-use Rattle.std.specs.List.Sorted.{IsStrictlyIncreasing}
+use Rattle.std.specs.Prelude.{if◌then◌else◌, All, AllPairs}
+use Rattle.std.specs.List.{find}
 use Rattle.std.specs.Option.{option_copied, option_or}
-use Rattle.std.specs.Result.{result_ok}
 use Rattle.farm_base.specs.declared.lease.Lease.{Lease}
 use Rattle.protocol.specs.Names.{Ticket}
 use Rattle.protocol.specs.Ledger.{has_ticket}
 use Rattle.leases.specs.declared.ending.Ending.{Ending}
 use Rattle.leases.specs.Changes.{has_ended, standing}
 use Rattle.holdings.specs.Leases.{IsBefore}
-use Rattle.holdings.specs.Places.{IsPlace, IsGap}
-use Rattle.holdings.proofs.PlaceLemmas.{NoneBelow, none_below_place, none_in_gap}
 use Rattle.holdings.proofs.LeaseLemmas.{AllPairs-head, AllPairs-tail}
 
 -- ---- among those that are kept

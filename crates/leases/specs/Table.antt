@@ -9,7 +9,7 @@ use Rattle.leases.specs.declared.lease_table.Fit.{Fit}
 use Rattle.leases.specs.declared.lease_table.Fit.TheVariants.{Fits, Busy, InstancesSpent}
 use Rattle.leases.specs.declared.lease_table.SlotState.{SlotState}
 use Rattle.leases.specs.declared.lease_table.SlotState.TheVariants as state
-use Rattle.holdings.specs.Leases.{among, takes}
+use Rattle.holdings.specs.Leases.{among}
 use Rattle.leases.specs.Leases.{Table}
 
 abbrev pub is_leased : Table → Slot → Bool

@@ -1,14 +1,14 @@
 //! The leases of a table, and the ways to find one of them.
-ghost use Rattle.std.specs.Prelude.{◌≡◌, ℕ, ◌+◌, ◌≤◌, not, [], ◌∷◌, ◌++◌, filter, length, AllPairs, IfOk, OnOk, OnErr, option_copied, vec_len};
-ghost use Rattle.std.specs.List.{find, position_from};
+ghost use Rattle.std.specs.Prelude.{◌≡◌, ℕ, ◌+◌, ◌≤◌, not, [], ◌∷◌, ◌++◌, filter, length, IfOk, OnOk, OnErr, option_copied, vec_len};
+ghost use Rattle.std.specs.List.{find};
 ghost use Rattle.farm_base.specs.declared.limits.TheConstants.{INSTANCES};
 ghost use Rattle.protocol.specs.Names.{only_slot};
-ghost use Rattle.protocol.specs.Ledger.{has_slot, has_ticket, is_at, lease_of, lease_under, some_lease, without};
+ghost use Rattle.protocol.specs.Ledger.{has_slot, is_at, lease_of, lease_under, some_lease, without};
 ghost use Rattle.leases.specs.Changes.{ends_lease, frees, has_ended};
 ghost use Rattle.leases.specs.Counts.{AreLast};
 ghost use Rattle.leases.specs.Index.{index_entries};
 ghost use Rattle.leases.specs.Instances.{has, lease_instances};
-ghost use Rattle.holdings.specs.Leases.{AreLeases, IsBefore};
+ghost use Rattle.holdings.specs.Leases.{AreLeases};
 ghost use Rattle.leases.specs.Live.{older};
 ghost use Rattle.leases.specs.Marks.{Unmarks};
 ghost use Rattle.leases.specs.Table.{holds_some};
