@@ -1,6 +1,6 @@
 -- The MAC of a line.
 use Rattle.std.proofs.Common.{◌≡◌, ℕ, zero, suc, ◌+◌, ◌-◌, ◌*◌, ◌<◌, List, [], ◌∷◌, ◌++◌, take, drop, length, slice_index, get_or, replicate, set, refl, sym, ap, ◌∙◌, arith, length-append, length-take}
-use Rattle.std.proofs.lemmas.List.{take-append-drop, take_more, take_more_set, map-append, drop-replicate}
+use Rattle.std.proofs.lemmas.List.{take_at, drop_at, take_more, take_more_set, map-append, drop-replicate}
 use Rattle.std.specs.Prelude.{bit_xor}
 use Rattle.std.proofs.Math.Seq.{take-length}
 use Rattle.hex.specs.Hex.{encode_lower, encode_with}
@@ -35,33 +35,18 @@ length-mac key text = omega (arith, length-encode (hmac_sha256 key text), length
 pub length-with_mac : (key text : List ℕ) → length (with_mac key text) ≡ length text + 65
 length-with_mac key text = omega (arith, length-append text (32 ∷ encode_lower (hmac_sha256 key text)), length-mac key text)
 
--- the front of two equal lists
-front_same : (a b x y : List ℕ) → length a ≡ length b → a ++ x ≡ b ++ y → (a ≡ b) × (x ≡ y)
-front_same [] [] x y len e = (refl, e)
-front_same [] (w ∷ b) x y len e = absurd (omega arith)
-front_same (v ∷ a) [] x y len e = absurd (omega arith)
-front_same (v ∷ a) (w ∷ b) x y len e =
-    let rest = front_same a b x y (omega arith) (cc e) in
-    let first : v ≡ w = cc e in
-    (cc (first, rest.0), rest.1)
-
--- the text of a line is determined
-pub same_text : (key line s t : List ℕ) → line ≡ with_mac key s → line ≡ with_mac key t → s ≡ t
-same_text key line s t hs ht =
-    let ls = length-with_mac key s in
-    let lt = length-with_mac key t in
-    let len : length s ≡ length t = omega (arith, ap length hs, ap length ht) in
-    (front_same s t _ _ len (sym hs ∙ ht)).0
-
 -- what stands before and behind the text of a line
 pub cut : (key line text : List ℕ) → line ≡ with_mac key text
     → (take (length line - 65) line ≡ text) × (drop (length line - 65) line ≡ 32 ∷ encode_lower (hmac_sha256 key text))
 cut key line text e =
     let len = length-with_mac key text in
-    let at : length line - 65 ≡ length text = omega (arith, ap length e) in
-    let parts = take-append-drop (length line - 65) line in
-    let front : length (take (length line - 65) line) ≡ length text = omega (arith, length-take (length line - 65) line) in
-    front_same (take (length line - 65) line) text _ _ front (parts ∙ e)
+    let at : length text ≡ length line - 65 = omega (arith, ap length e) in
+    let mac = 32 ∷ encode_lower (hmac_sha256 key text) in
+    (ap (take (length line - 65)) e ∙ take_at text mac (length line - 65) at, ap (drop (length line - 65)) e ∙ drop_at text mac (length line - 65) at)
+
+-- the text of a line is determined
+pub same_text : (key line s t : List ℕ) → line ≡ with_mac key s → line ≡ with_mac key t → s ≡ t
+same_text key line s t hs ht = sym (cut key line s hs).0 ∙ (cut key line t ht).0
 
 -- ---- blocks
 

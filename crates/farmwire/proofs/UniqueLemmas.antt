@@ -20,7 +20,7 @@ use Rattle.farmwire.specs.Lawful.{IsLawful, IsNews, IsConfirmed, IsGranted}
 use Rattle.farmwire.specs.Lines.{message_text, news_text, confirmed_text, granted_text}
 use Rattle.farmwire.specs.Sealed.{IsSpelled}
 use Rattle.farmwire.specs.Words.{verb_text, said, told, releases, fences, recalls, SpellAll, SpellWants, OfLease, Says}
-use Rattle.words.proofs.ListLemmas.{map-injective}
+use Rattle.words.proofs.ListLemmas.{map-injective, read_back-injective}
 use Rattle.words.proofs.Spelling.{node_same, ticket_same, digest_same, want_same}
 use Rattle.farmwire.proofs.Spelling.{node_fits, life_same, ask_same, bytes_same, kind_same, why_same, news_same, confirmed_same, granted_same}
 use Rattle.farmwire.proofs.SpelledLemmas.{words-from_spelled}
@@ -28,8 +28,8 @@ use Rattle.farmwire.proofs.SpelledLemmas.{words-from_spelled}
 -- ---- verbs
 
 -- the verb of a word
-abbrev verb_named : List ℕ → Option Verb
-verb_named text =
+abbrev message_verb : List ℕ → Option Verb
+message_verb text =
     if bytes_eq text (verb_text Hello) then Some Hello
     else if bytes_eq text (verb_text Acquire) then Some Acquire
     else if bytes_eq text (verb_text Tenure) then Some Tenure
@@ -44,25 +44,19 @@ verb_named text =
     else if bytes_eq text (verb_text Blob) then Some Blob
     else None
 
-verb_named-text : (v : Verb) → verb_named (verb_text v) ≡ Some v
-verb_named-text Hello = refl
-verb_named-text Acquire = refl
-verb_named-text Tenure = refl
-verb_named-text Commit = refl
-verb_named-text Release = refl
-verb_named-text Granted = refl
-verb_named-text Committed = refl
-verb_named-text Fenced = refl
-verb_named-text Denied = refl
-verb_named-text Recall = refl
-verb_named-text Fetch = refl
-verb_named-text Blob = refl
-
-some_same : (v w : Verb) → Some v ≡ Some w → v ≡ w
-some_same v w e = cc e
-
-verb_same : (v w : Verb) → verb_text v ≡ verb_text w → v ≡ w
-verb_same v w e = some_same v w (sym (verb_named-text v) ∙ ap verb_named e ∙ verb_named-text w)
+message_verb-text : (v : Verb) → message_verb (verb_text v) ≡ Some v
+message_verb-text Hello = refl
+message_verb-text Acquire = refl
+message_verb-text Tenure = refl
+message_verb-text Commit = refl
+message_verb-text Release = refl
+message_verb-text Granted = refl
+message_verb-text Committed = refl
+message_verb-text Fenced = refl
+message_verb-text Denied = refl
+message_verb-text Recall = refl
+message_verb-text Fetch = refl
+message_verb-text Blob = refl
 
 -- ---- items
 
@@ -161,7 +155,7 @@ pub spelled_same : (text : List ℕ) (a b : Message) → IsSpelled text a → Is
 spelled_same text a b sa sb =
     let ha = words-from_spelled text a sa in
     let hb = words-from_spelled text b sb in
-    let verbs = verb_same ha.verb hb.verb (cc (ha.text, hb.text)) in
+    let verbs = read_back-injective verb_text message_verb message_verb-text ha.verb hb.verb (cc (ha.text, hb.text)) in
     let behind : ha.behind ≡ hb.behind = cc (ha.text, hb.text) in
     let says = subst (λ v. Says v hb.behind a) verbs (subst (λ ws. Says ha.verb ws a) behind ha.says) in
     said_same hb.verb hb.behind a b says hb.says

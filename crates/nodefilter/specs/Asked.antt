@@ -37,14 +37,15 @@ pub record IsHeard (key : List ℕ) (me : NodeId) (sealed : List ℕ) (o : Order
   pub opened : IsSealed key sealed message
   pub mine : IsFor me message o
 
--- what stands behind `m ` is no such line
-abbrev pub IsDropped : List ℕ → NodeId → List ℕ → Unread → Type 0
-IsDropped key me sealed TooLong = IsFault key sealed line.TooLong
-IsDropped key me sealed BadMac = IsFault key sealed line.BadMac
-IsDropped key me sealed BadForm = IsFault key sealed line.BadForm
-IsDropped key me sealed NotMine = (message : Message) × IsSealed key sealed message × IsForOthers me message
-IsDropped key me sealed BadLine = ⊥
-IsDropped key me sealed OutOfMemory = Unit {0}
+module _ (key : List ℕ) (me : NodeId) (sealed : List ℕ) where
+  -- what stands behind `m ` is no such line
+  abbrev pub IsDropped : Unread → Type 0
+  IsDropped TooLong = IsFault key sealed line.TooLong
+  IsDropped BadMac = IsFault key sealed line.BadMac
+  IsDropped BadForm = IsFault key sealed line.BadForm
+  IsDropped NotMine = (message : Message) × IsSealed key sealed message × IsForOthers me message
+  IsDropped BadLine = ⊥
+  IsDropped OutOfMemory = Unit {0}
 
 -- ---- a line
 
@@ -58,11 +59,12 @@ pub record IsBadLine (text : List ℕ) : Type 0 where
   pub inside : (sealed : List ℕ) → text ≢ from_outside sealed
   pub not_own : IsUtf8 text → (o : Order) → AskedBy (words text) o → ⊥
 
--- the line asks for nothing, and this is why
-abbrev pub IsUnread : List ℕ → NodeId → List ℕ → Unread → Type 0
-IsUnread key me text BadLine = IsBadLine text
-IsUnread key me text OutOfMemory = Unit {0}
-IsUnread key me text why = (sealed : List ℕ) × (text ≡ from_outside sealed) × IsDropped key me sealed why
+module _ (key : List ℕ) (me : NodeId) (text : List ℕ) where
+  -- the line asks for nothing, and this is why
+  abbrev pub IsUnread : Unread → Type 0
+  IsUnread BadLine = IsBadLine text
+  IsUnread OutOfMemory = Unit {0}
+  IsUnread why = (sealed : List ℕ) × (text ≡ from_outside sealed) × IsDropped key me sealed why
 
 -- what was handed on asks for this
 abbrev pub AsksFor : List ℕ → NodeId → Result (List ℕ) Lost → Order → Type 0

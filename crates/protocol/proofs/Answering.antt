@@ -21,7 +21,7 @@ decision_gives k q p may = picks _ _ _ _ may.here may.left may.idle (ap not may.
 abbrev Granted : Limits → Parked → Work → Work → Type 0
 Granted k p v w = (w.note ≡ note.Granted (grant_of k.empty v.ledger.line (lease_for k v.ledger p))) × In (told.Granted (grant_of k.empty v.ledger.line (lease_for k v.ledger p))) w.sends
 
-given : (k : Limits) (p : Parked) (v : Work) → Granted k p v (decided Give k p v)
+given : (k : Limits) (p : Parked) (v : Work) → Granted k p v (decided k Give p v)
 unfolding gives
 given k p v = (refl, in_right (told.Granted (grant_of k.empty v.ledger.line (lease_for k v.ledger p))) v.sends (told.Granted (grant_of k.empty v.ledger.line (lease_for k v.ledger p)) ∷ []) (inl refl))
 
@@ -30,7 +30,7 @@ acquired k p v none only may =
     let d : decision k v.ledger p ≡ Give = decision_gives k v.ledger p may in
     subst (λ o. Granted k p v (acquiring k o (is_parked v.ledger.parked p.node p.life p.ask) p v)) (sym may.new)
     (elim (cases_Bool (is_parked v.ledger.parked p.node p.life p.ask)) [
-      | inr f ↦ rw f (subst (λ x. Granted k p v (decided x k p v)) (sym d) (given k p v))
+      | inr f ↦ rw f (subst (λ x. Granted k p v (decided k x p v)) (sym d) (given k p v))
       | inl t ↦ (let r = from_any (λ (x : Parked). (eqb x.node.0 p.node.0) && (eqb x.life.0 p.life.0) && (eqb x.ask.0 p.ask.0)) v.ledger.parked t in
           let b = and_parts ((eqb r.0.node.0 p.node.0) && (eqb r.0.life.0 p.life.0)) (eqb r.0.ask.0 p.ask.0) r.2 in
           let c = and_parts (eqb r.0.node.0 p.node.0) (eqb r.0.life.0 p.life.0) b.0 in

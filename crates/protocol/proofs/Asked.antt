@@ -54,10 +54,10 @@ module _ (k : Limits) (m : Machine) (q : Ledger) (core : Core k.empty m q) where
 
   parked_note : (b : Bool) (p : Parked) (w : Work) → decision k w.ledger p ≡ Wait → (acquiring k None b p w).note ≡ note.Parked
   parked_note true p w e = refl
-  parked_note false p w e = subst (λ d. (decided d k p w).note ≡ note.Parked) (sym e) refl
+  parked_note false p w e = subst (λ d. (decided k d p w).note ≡ note.Parked) (sym e) refl
 
   denied_note : (p : Parked) (w : Work) (y : Why) → decision k w.ledger p ≡ Deny y → (acquiring k None false p w).note ≡ note.Denied y
-  denied_note p w y e = subst (λ d. (decided d k p w).note ≡ note.Denied y) (sym e) refl
+  denied_note p w y e = subst (λ d. (decided k d p w).note ≡ note.Denied y) (sym e) refl
 
   -- the machine has no parked ask of these names, so the ledger none
   not_parked : (p : Parked) → q.parked ≡ m.parked → ((r : Parked) → In r m.parked → (r.node ≡ p.node) × (r.life ≡ p.life) × (r.ask ≡ p.ask) → ⊥) → is_parked q.parked p.node p.life p.ask ≡ false

@@ -189,7 +189,7 @@ module _ (k : Limits) (fits : k.instances ≤ 4096) (pool : List Message) (m : M
             (waits_push w.ledger.live ps p (subst (Waits w.ledger.live) same f.agrees.waits) none other);
       }
 
-  decided_it : (d : Decision) (p : Parked) (w : Work) (f : Fo w) → In (acquire p.node p.life p.ask p.wants p.tenure) pool → w.ledger.gone p.node.0 ≡ false → p.life.0 ≤ w.ledger.lives p.node.0 → NoLease w.ledger.live p → is_parked w.ledger.parked p.node p.life p.ask ≡ false → decision k w.ledger p ≡ d → Fo (decided d k p w)
+  decided_it : (d : Decision) (p : Parked) (w : Work) (f : Fo w) → In (acquire p.node p.life p.ask p.wants p.tenure) pool → w.ledger.gone p.node.0 ≡ false → p.life.0 ≤ w.ledger.lives p.node.0 → NoLease w.ledger.live p → is_parked w.ledger.parked p.node p.life p.ask ≡ false → decision k w.ledger p ≡ d → Fo (decided k d p w)
   decided_it Give p w f asked here le none other e = note_it (note.Granted (grant_of k.empty w.ledger.line (lease_for k w.ledger p))) (gives k p w) (give_it p w f asked here le none other e)
   decided_it (Deny why) p w f asked here le none other e = note_it (note.Denied why) (denies why p w) (say_it (told.Denied p.node p.life p.ask why) w f (Says_denied p.node p.life p.ask why p.wants p.tenure asked))
   decided_it Wait p w f asked here le none other e =
@@ -605,10 +605,10 @@ module _ (k : Limits) (fits : k.instances ≤ 4096) (pool : List Message) (m : M
   acquired_quiet None true p w f = quiet_it note.Parked (acquiring k None true p w) (λ u q. (let bad : note.Parked ≡ note.Committed u = q in cc)) (λ u q. (let bad : note.Parked ≡ note.Released u = q in cc)) tt f
   acquired_quiet None false p w f = decided_quiet (decision k w.ledger p) f
     where
-      decided_quiet : (d : Decision) → At note.Nothing (decided d k p w) → At (decided d k p w).note (decided d k p w)
-      decided_quiet Give f = (let g : Grant = grant_of k.empty w.ledger.line (lease_for k w.ledger p) in quiet_it (note.Granted g) (decided Give k p w) (λ u q. (let bad : note.Granted g ≡ note.Committed u = q in cc)) (λ u q. (let bad : note.Granted g ≡ note.Released u = q in cc)) tt f)
-      decided_quiet (Deny why) f = quiet_it (note.Denied why) (decided (Deny why) k p w) (λ u q. (let bad : note.Denied why ≡ note.Committed u = q in cc)) (λ u q. (let bad : note.Denied why ≡ note.Released u = q in cc)) tt f
-      decided_quiet Wait f = quiet_it note.Parked (decided Wait k p w) (λ u q. (let bad : note.Parked ≡ note.Committed u = q in cc)) (λ u q. (let bad : note.Parked ≡ note.Released u = q in cc)) tt f
+      decided_quiet : (d : Decision) → At note.Nothing (decided k d p w) → At (decided k d p w).note (decided k d p w)
+      decided_quiet Give f = (let g : Grant = grant_of k.empty w.ledger.line (lease_for k w.ledger p) in quiet_it (note.Granted g) (decided k Give p w) (λ u q. (let bad : note.Granted g ≡ note.Committed u = q in cc)) (λ u q. (let bad : note.Granted g ≡ note.Released u = q in cc)) tt f)
+      decided_quiet (Deny why) f = quiet_it (note.Denied why) (decided k (Deny why) p w) (λ u q. (let bad : note.Denied why ≡ note.Committed u = q in cc)) (λ u q. (let bad : note.Denied why ≡ note.Released u = q in cc)) tt f
+      decided_quiet Wait f = quiet_it note.Parked (decided k Wait p w) (λ u q. (let bad : note.Parked ≡ note.Committed u = q in cc)) (λ u q. (let bad : note.Parked ≡ note.Released u = q in cc)) tt f
 
   -- a message of the life that is now the greatest
   answering_by : (r : Request) (w : Work) (f : At note.Nothing w) → w.note ≡ note.Nothing → y.request ≡ r → In (Said (record { node = y.node; life = y.life; request = r })) pool → w.ledger.gone y.node.0 ≡ false → y.life.0 ≤ w.ledger.lives y.node.0

@@ -130,7 +130,7 @@ module _ (k : Limits) (q : Ledger) (a : Apart q) where
         ];
       }
 
-  carried_m : (d : Decision) (p : Parked) (w : Work) → decision k w.ledger p ≡ d → M w → M (carried_out d k p w)
+  carried_m : (d : Decision) (p : Parked) (w : Work) → decision k w.ledger p ≡ d → M w → M (carried_out k d p w)
   carried_m Give p w e m = gives_m p w e m
   carried_m (Deny why) p w e m = same_work w (denies why p w) refl refl m
   carried_m Wait p w e m = m
@@ -173,12 +173,12 @@ module _ (k : Limits) (q : Ledger) (a : Apart q) where
       by None = refl
       by (Some g) = refl
 
-  decided_m : (d : Decision) (p : Parked) (w : Work) → decision k w.ledger p ≡ d → M w → M (decided d k p w)
-  decided_m Give p w e m = same_work (gives k p w) (decided Give k p w) refl refl (gives_m p w e m)
-  decided_m (Deny why) p w e m = same_work w (decided (Deny why) k p w) refl refl m
+  decided_m : (d : Decision) (p : Parked) (w : Work) → decision k w.ledger p ≡ d → M w → M (decided k d p w)
+  decided_m Give p w e m = same_work (gives k p w) (decided k Give p w) refl refl (gives_m p w e m)
+  decided_m (Deny why) p w e m = same_work w (decided k (Deny why) p w) refl refl m
   decided_m Wait p w e m =
       let v : Work = recalls (p.tenure && not (elsewhere w.ledger p)) p w in
-      same_work (parks (w.ledger.parked ++ p ∷ []) v) (decided Wait k p w) refl refl (parks_m (w.ledger.parked ++ p ∷ []) v (recalls_m (p.tenure && not (elsewhere w.ledger p)) p w m))
+      same_work (parks (w.ledger.parked ++ p ∷ []) v) (decided k Wait p w) refl refl (parks_m (w.ledger.parked ++ p ∷ []) v (recalls_m (p.tenure && not (elsewhere w.ledger p)) p w m))
 
   acquiring_m : (o : Option Lease) (b : Bool) (p : Parked) (w : Work) → M w → M (acquiring k o b p w)
   acquiring_m (Some g) b p w m = same_work w (acquiring k (Some g) b p w) refl refl m

@@ -148,7 +148,7 @@ module _ (k : Limits) (pool : List Message) (m : Machine) (sound : Sound k.empty
   -- ---- a rightful Commit and Release
 
   -- a lease that is there stays while parked asks are tried
-  carried_keeps : (h : Lease) (d : Decision) (p : Parked) (w : Work) → In h w.ledger.live → In h (carried_out d k p w).ledger.live
+  carried_keeps : (h : Lease) (d : Decision) (p : Parked) (w : Work) → In h w.ledger.live → In h (carried_out k d p w).ledger.live
   unfolding gives
   carried_keeps h Give p w i = in_left h w.ledger.live _ i
   carried_keeps h (Deny why) p w i = i

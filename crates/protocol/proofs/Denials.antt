@@ -148,7 +148,7 @@ module _ (k : Limits) (pool : List Message) where
   Differ kept ps = (r : Parked) → In r kept → is_parked ps r.node r.life r.ask ≡ false
 
   one_goes : (d : Decision) (p : Parked) (kept ps : List Parked) (w : Work) → decision k w.ledger p ≡ d → waits d ≡ false → In (acquire p.node p.life p.ask p.wants p.tenure) pool → NoLease w.ledger.live p → is_parked ps p.node p.life p.ask ≡ false
-      → Differ kept (p ∷ ps) → Rightly Always w (Left kept (p ∷ ps)) → Rightly Always (carried_out d k p w) (Left kept ps)
+      → Differ kept (p ∷ ps) → Rightly Always w (Left kept (p ∷ ps)) → Rightly Always (carried_out k d p w) (Left kept ps)
   one_goes Give p kept ps w e goes asked none alone differ right = give_right Always p w (Left kept (p ∷ ps)) (Left kept ps) (λ n l a y i o. (right n l a y i).unparked tt p (inr (inl refl))) (λ r i. elim i [ inl j ↦ inl j | inr j ↦ inr (inr j) ]) right
   one_goes (Deny z) p kept ps w e goes asked none alone differ right = deny_right Always z p w (Left kept (p ∷ ps)) (Left kept ps) e asked none (λ r i. elim i [ inl j ↦ inl j | inr j ↦ inr (inr j) ])
       (λ r i. elim i [
@@ -160,7 +160,7 @@ module _ (k : Limits) (pool : List Message) where
   tail_differ : (p : Parked) (ps : List Parked) (kept : List Parked) → Differ kept (p ∷ ps) → Differ kept ps
   tail_differ p ps kept differ r i = parked_part (p ∷ ps) ps r.node r.life r.ask (λ x j. inr j) (differ r i)
 
-  wait_is : (d : Decision) (p : Parked) (w : Work) → waits d ≡ true → carried_out d k p w ≡ w
+  wait_is : (d : Decision) (p : Parked) (w : Work) → waits d ≡ true → carried_out k d p w ≡ w
   wait_is Give p w e = (let bad : false ≡ true = e in cc)
   wait_is (Deny z) p w e = (let bad : false ≡ true = e in cc)
   wait_is Wait p w e = refl
@@ -242,7 +242,7 @@ module _ (k : Limits) (pool : List Message) where
     was_denied true p w n l a y i = was_recall (find (holds_wanted p) w.ledger.live) w n l a y i
     was_denied false p w n l a y i = i
 
-    waits_fine : (p : Parked) (w : Work) → Another Old w p → Fine w → Fine (decided Wait k p w)
+    waits_fine : (p : Parked) (w : Work) → Another Old w p → Fine w → Fine (decided k Wait p w)
     waits_fine p w other fine n l a y i =
         let b : Bool = p.tenure && not (elsewhere w.ledger p) in
         let v : Work = recalls b p w in
@@ -255,7 +255,7 @@ module _ (k : Limits) (pool : List Message) where
           | inr j ↦ inr (subst (λ z. named n l a z ≡ false) (sym (in_one x p j)) (other n l a y (was_denied b p w n l a y i) o))
         ]) r
 
-    decided_fine : (d : Decision) (p : Parked) (w : Work) → decision k w.ledger p ≡ d → In (acquire p.node p.life p.ask p.wants p.tenure) pool → NoLease w.ledger.live p → is_parked w.ledger.parked p.node p.life p.ask ≡ false → Another Old w p → Fine w → Fine (decided d k p w)
+    decided_fine : (d : Decision) (p : Parked) (w : Work) → decision k w.ledger p ≡ d → In (acquire p.node p.life p.ask p.wants p.tenure) pool → NoLease w.ledger.live p → is_parked w.ledger.parked p.node p.life p.ask ≡ false → Another Old w p → Fine w → Fine (decided k d p w)
     unfolding gives
     decided_fine Give p w e sent none alone other fine = give_right Old p w (Parks w) (Parks (gives k p w)) other (λ r i. i) fine
     decided_fine (Deny z) p w e sent none alone other fine = deny_right Old z p w (Parks w) (Parks w) e sent none (λ r i. i) (λ r i. any_none (named p.node p.life p.ask) r w.ledger.parked alone i) fine
@@ -345,7 +345,7 @@ module _ (k : Limits) (pool : List Message) where
       | inl j ↦ by (decision k w.ledger p) j
     ]
       where
-        by : (d : Decision) → In (told.Denied n l a z) (carried_out d k p w).sends → In (told.Denied n l a z) w.sends ⊎ ((r : Parked) × In r (p ∷ ps) × (n ≡ r.node) × (l ≡ r.life))
+        by : (d : Decision) → In (told.Denied n l a z) (carried_out k d p w).sends → In (told.Denied n l a z) w.sends ⊎ ((r : Parked) × In r (p ∷ ps) × (n ≡ r.node) × (l ≡ r.life))
         by Give j = elim (in_append (told.Denied n l a z) w.sends (told.Granted (grant_of k.empty w.ledger.line (lease_for k w.ledger p)) ∷ []) j) [ inl x ↦ inl x | inr x ↦ no_denied_grant n l a z (grant_of k.empty w.ledger.line (lease_for k w.ledger p)) (in_one (told.Denied n l a z) (told.Granted (grant_of k.empty w.ledger.line (lease_for k w.ledger p))) x) ]
         by (Deny y) j = elim (in_append (told.Denied n l a z) w.sends (told.Denied p.node p.life p.ask y ∷ []) j) [ inl x ↦ inl x | inr x ↦ (let is = denied_is n p.node l p.life a p.ask z y (in_one (told.Denied n l a z) (told.Denied p.node p.life p.ask y) x) in inr (p, inl refl, is.0, is.1)) ]
         by Wait j = inl j
@@ -359,7 +359,7 @@ module _ (k : Limits) (pool : List Message) where
       | inl j ↦ by (decision k w.ledger p) j
     ]
       where
-        by : (d : Decision) → In h (carried_out d k p w).ledger.live → In h w.ledger.live ⊎ ((r : Parked) × In r (p ∷ ps) × (h.node ≡ r.node) × (h.life ≡ r.life))
+        by : (d : Decision) → In h (carried_out k d p w).ledger.live → In h w.ledger.live ⊎ ((r : Parked) × In r (p ∷ ps) × (h.node ≡ r.node) × (h.life ≡ r.life))
         by Give j = elim (in_append h w.ledger.live (lease_for k w.ledger p ∷ []) j) [ inl x ↦ inl x | inr x ↦ (let is = in_one h (lease_for k w.ledger p) x in inr (p, inl refl, ap (λ (z : Lease). z.node) is, ap (λ (z : Lease). z.life) is)) ]
         by (Deny y) j = inl j
         by Wait j = inl j

@@ -107,7 +107,7 @@ module _ (k : Limits) where
     ];
   })
 
-  carried_w : (d : Decision) (p : Parked) (w : Work) → decision k w.ledger p ≡ d → W w → W (carried_out d k p w)
+  carried_w : (d : Decision) (p : Parked) (w : Work) → decision k w.ledger p ≡ d → W w → W (carried_out k d p w)
   carried_w Give p w e a = gives_w p w e a
   carried_w (Deny why) p w e a = says_w (told.Denied p.node p.life p.ask why) w (denies why p w) tt refl refl a
   carried_w Wait p w e a = a
@@ -134,12 +134,12 @@ module _ (k : Limits) where
   again_w : (w v : Work) → v.ledger.live ≡ w.ledger.live → v.sends ≡ w.sends → W w → W v
   again_w w v live sends a = less_w w v (λ h i. subst (In h) live i) sends a
 
-  decided_w : (d : Decision) (p : Parked) (w : Work) → decision k w.ledger p ≡ d → W w → W (decided d k p w)
-  decided_w Give p w e a = again_w (gives k p w) (decided Give k p w) refl refl (gives_w p w e a)
-  decided_w (Deny why) p w e a = says_w (told.Denied p.node p.life p.ask why) w (decided (Deny why) k p w) tt refl refl a
+  decided_w : (d : Decision) (p : Parked) (w : Work) → decision k w.ledger p ≡ d → W w → W (decided k d p w)
+  decided_w Give p w e a = again_w (gives k p w) (decided k Give p w) refl refl (gives_w p w e a)
+  decided_w (Deny why) p w e a = says_w (told.Denied p.node p.life p.ask why) w (decided k (Deny why) p w) tt refl refl a
   decided_w Wait p w e a =
       let v : Work = recalls (p.tenure && not (elsewhere w.ledger p)) p w in
-      again_w v (decided Wait k p w) refl refl (recalls_w (p.tenure && not (elsewhere w.ledger p)) p w a)
+      again_w v (decided k Wait p w) refl refl (recalls_w (p.tenure && not (elsewhere w.ledger p)) p w a)
 
   acquiring_w : (o : Option Lease) (b : Bool) (p : Parked) (w : Work) → lease_of w.ledger.live p.node p.life p.ask ≡ o → W w → W (acquiring k o b p w)
   acquiring_w (Some g) b p w e a = says_w (told.Granted (grant_of k.empty w.ledger.line g)) w (acquiring k (Some g) b p w) (grant_fits k.empty w.ledger.line g (a.leases g (find_some (ledger.is_of p.node p.life p.ask) w.ledger.live g e).0)) refl refl a

@@ -309,7 +309,7 @@ module _ (k : Limits) (fits : k.instances ≤ 4096) (pool : List Message) (m : M
     parked = g.parked;
   }
 
-  carried_going : (d : Decision) (p : Parked) (w : Work) → Going w → In (acquire p.node p.life p.ask p.wants p.tenure) pool → w.ledger.gone p.node.0 ≡ false → p.life.0 ≤ w.ledger.lives p.node.0 → NoLease w.ledger.live p → decision k w.ledger p ≡ d → Going (carried_out d k p w)
+  carried_going : (d : Decision) (p : Parked) (w : Work) → Going w → In (acquire p.node p.life p.ask p.wants p.tenure) pool → w.ledger.gone p.node.0 ≡ false → p.life.0 ≤ w.ledger.lives p.node.0 → NoLease w.ledger.live p → decision k w.ledger p ≡ d → Going (carried_out k d p w)
   carried_going Give p w g asked here le none e = give_going p w g asked here le none e
   carried_going (Deny why) p w g asked here le none e = deny_going why p w g asked
   carried_going Wait p w g asked here le none e = g

@@ -140,7 +140,7 @@ module _ (top : ℕ) (k : Limits) where
         gone = c.gone;
       }
 
-  carried_core : (d : Decision) (p : Parked) (w : Work) → IsCore top w.ledger → IsWaiter top w.ledger.lives w.ledger.gone p → NoLease w.ledger.live p → decision k w.ledger p ≡ d → IsCore top (carried_out d k p w).ledger
+  carried_core : (d : Decision) (p : Parked) (w : Work) → IsCore top w.ledger → IsWaiter top w.ledger.lives w.ledger.gone p → NoLease w.ledger.live p → decision k w.ledger p ≡ d → IsCore top (carried_out k d p w).ledger
   carried_core Give p w c wait none e = gives_core p w c wait none e
   carried_core (Deny why) p w c wait none e = c
   carried_core Wait p w c wait none e = c
@@ -195,7 +195,7 @@ module _ (top : ℕ) (k : Limits) where
   recalls_parks true p w l = recall_parks (find (holds_wanted p) w.ledger.live) p w l
   recalls_parks false p w l = l
 
-  decided_lawful : (d : Decision) (p : Parked) (w : Work) → IsLawful top w.ledger → IsWaiter top w.ledger.lives w.ledger.gone p → NoLease w.ledger.live p → is_parked w.ledger.parked p.node p.life p.ask ≡ false → decision k w.ledger p ≡ d → IsLawful top (decided d k p w).ledger
+  decided_lawful : (d : Decision) (p : Parked) (w : Work) → IsLawful top w.ledger → IsWaiter top w.ledger.lives w.ledger.gone p → NoLease w.ledger.live p → is_parked w.ledger.parked p.node p.life p.ask ≡ false → decision k w.ledger p ≡ d → IsLawful top (decided k d p w).ledger
   decided_lawful Give p w l wait none other e = record { core = gives_core p w l.core wait none e; parked = gives_parked p w l.parked other }
   decided_lawful (Deny why) p w l wait none other e = l
   decided_lawful Wait p w l wait none other e =

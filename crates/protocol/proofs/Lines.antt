@@ -58,10 +58,11 @@ is_grant (Pruned t p) = false
 abbrev pub Gone : (ℕ → Option Ending) → Made → Slot → Grant → Type 0
 Gone ending x s g = (y : Ending) × (ending g.ticket.0 ≡ Some y) × ((is_grant x ≡ true) → (is_alone s ≡ true) → y ≢ Withdrawn)
 
--- what is newer on a slot was made when the older grants of it had ended
-abbrev pub Apart : (ℕ → Option Ending) → List Made → Type 0
-Apart ending [] = ⊤
-Apart ending (x ∷ xs) = ((g : Grant) (s : Slot) → In (Granted g) xs → Touches x s → Has g s → Gone ending x s g) × Apart ending xs
+module _ (ending : ℕ → Option Ending) where
+  -- what is newer on a slot was made when the older grants of it had ended
+  abbrev pub Apart : List Made → Type 0
+  Apart [] = ⊤
+  Apart (x ∷ xs) = ((g : Grant) (s : Slot) → In (Granted g) xs → Touches x s → Has g s → Gone ending x s g) × Apart xs
 
 abbrev pub Extends : (ℕ → Option Ending) → (ℕ → Option Ending) → Type 0
 Extends e e' = (t : ℕ) (y : Ending) → e t ≡ Some y → e' t ≡ Some y
@@ -126,8 +127,10 @@ adds_cases s g Released law = inl refl
 adds_cases s g Withdrawn law = inl refl
 adds_cases s g Died law = inl refl
 
-abbrev pub AllLawful : (ℕ → Option Ending) → List Made → Type 0
-AllLawful e xs = (g : Grant) (y : Ending) → In (Granted g) xs → e g.ticket.0 ≡ Some y → Lawful g y
+module _ (ending : ℕ → Option Ending) where
+  -- each ending of these grants is lawful
+  abbrev pub AllLawful : List Made → Type 0
+  AllLawful xs = (g : Grant) (y : Ending) → In (Granted g) xs → ending g.ticket.0 ≡ Some y → Lawful g y
 
 module _ (empty : Digest) where
   -- an ending that is none of these tickets' changes nothing

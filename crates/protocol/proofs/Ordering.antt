@@ -120,7 +120,7 @@ module _ (k : Limits) where
   unfolding gives
   gives_more p w = record { home = refl; live = λ h i. in_left h w.ledger.live (lease_for k w.ledger p ∷ []) i; retired = λ s e. e; last = omega arith }
 
-  carried_more : (d : Decision) (p : Parked) (w : Work) → More w.ledger (carried_out d k p w).ledger
+  carried_more : (d : Decision) (p : Parked) (w : Work) → More w.ledger (carried_out k d p w).ledger
   carried_more Give p w = gives_more p w
   carried_more (Deny why) p w = more_refl w.ledger
   carried_more Wait p w = more_refl w.ledger
@@ -144,7 +144,7 @@ module _ (k : Limits) where
   unfolding tried
   tried_tops p w tops = by (decision k w.ledger p)
     where
-      by : (d : Decision) → Tops (carried_out d k p w).ledger
+      by : (d : Decision) → Tops (carried_out k d p w).ledger
       by Give = gives_tops p w tops
       by (Deny why) = tops
       by Wait = tops
@@ -160,7 +160,7 @@ module _ (k : Limits) where
       not_given : (d : Decision) → decision k w.ledger p ≡ d → (d ≡ Give → ⊥) → More w.ledger z → w.ledger.last < t → Settled z p t
       not_given d e other m lt = inr (record { was = w.ledger; waits = λ g. other (sym e ∙ g); more = m; older = λ o i. (let le : o.ticket.0 ≤ w.ledger.last = tops o i in omega arith); last = lt })
 
-      by : (d : Decision) → decision k w.ledger p ≡ d → More (carried_out d k p w).ledger z → (carried_out d k p w).ledger.last < t → Settled z p t
+      by : (d : Decision) → decision k w.ledger p ≡ d → More (carried_out k d p w).ledger z → (carried_out k d p w).ledger.last < t → Settled z p t
       by Give e m lt = inl (lease_for k w.ledger p, m.live (lease_for k w.ledger p) (in_right (lease_for k w.ledger p) w.ledger.live (lease_for k w.ledger p ∷ []) (inl refl)), its_own p w.ledger, lt)
       by (Deny why) e m lt = not_given (Deny why) e (λ bad. (cc)) m lt
       by Wait e m lt = not_given Wait e (λ bad. (cc)) m lt
@@ -205,7 +205,7 @@ module _ (k : Limits) where
         | inr j ↦ (w.ledger.line, h, in_right h w.ledger.live (h ∷ []) (inl refl), sym (grant_is g (grant_of k.empty w.ledger.line h) (in_one (told.Granted g) (told.Granted (grant_of k.empty w.ledger.line h)) j)))
       ]
 
-  carried_leased : (d : Decision) (p : Parked) (w : Work) → SendsLeased w → SendsLeased (carried_out d k p w)
+  carried_leased : (d : Decision) (p : Parked) (w : Work) → SendsLeased w → SendsLeased (carried_out k d p w)
   carried_leased Give p w s = gives_leased p w s
   carried_leased (Deny why) p w s = says_leased (told.Denied p.node p.life p.ask why) w (no_denial p.node p.life p.ask why) s
   carried_leased Wait p w s = s
@@ -255,7 +255,7 @@ module _ (k : Limits) where
           | inl j ↦ by (decision k w.ledger p) z m j
         ]
       where
-        by : (d : Decision) (z : Ledger) → More (carried_out d k p w).ledger z → In h (carried_out d k p w).ledger.live → In h w.ledger.live ⊎ ((w.ledger.last < h.ticket.0) × LowestIn z h × Passed z (p ∷ ps) h)
+        by : (d : Decision) (z : Ledger) → More (carried_out k d p w).ledger z → In h (carried_out k d p w).ledger.live → In h w.ledger.live ⊎ ((w.ledger.last < h.ticket.0) × LowestIn z h × Passed z (p ∷ ps) h)
         by Give z m j = elim (in_append h w.ledger.live (lease_for k w.ledger p ∷ []) j) [
           | inl old ↦ inl old
           | inr new ↦ inr (subst (λ (x : Lease). (w.ledger.last < x.ticket.0) × LowestIn z x × Passed z (p ∷ ps) x) (sym (in_one h (lease_for k w.ledger p) new))
@@ -324,7 +324,7 @@ module _ (k : Limits) where
     abbrev AllSettled : Work → Type 0
     AllSettled w = NoneReady k q → (t : ℕ) → w.ledger.last < t → (p : Parked) → In p q.parked → D p ⊎ Settled w.ledger p t
 
-    decided_orderly : (d : Decision) (p : Parked) (w : Work) → Tops w.ledger → AllSettled w → Orderly w → Orderly (decided d k p w)
+    decided_orderly : (d : Decision) (p : Parked) (w : Work) → Tops w.ledger → AllSettled w → Orderly w → Orderly (decided k d p w)
     unfolding gives
     decided_orderly Give p w tops all o = record {
       sends = gives_leased p w o.sends;
@@ -575,7 +575,7 @@ module _ (k : Limits) (q : Ledger) (B : Parked → Type 0) where
   unfolding retried
   retried_part w a = part_trans a (waiting_part k w.ledger.parked w)
 
-  decided_queue : (d : Decision) (p : Parked) (w : Work) → (In p q.parked → ⊥) → B p → Part w → Queue (decided d k p w)
+  decided_queue : (d : Decision) (p : Parked) (w : Work) → (In p q.parked → ⊥) → B p → Part w → Queue (decided k d p w)
   unfolding gives
   decided_queue Give p w new b a = inl a
   decided_queue (Deny why) p w new b a = inl a

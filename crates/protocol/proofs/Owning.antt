@@ -22,7 +22,7 @@ lt_is : (a b : ℕ) → nat_lt a b ≡ true → a < b
 lt_is a b h = grind (arith, nat_tests)
 
 module _ (k : Limits) (h : Lease) where
-  carried_keeps : (d : Decision) (p : Parked) (w : Work) → In h w.ledger.live → In h (carried_out d k p w).ledger.live
+  carried_keeps : (d : Decision) (p : Parked) (w : Work) → In h w.ledger.live → In h (carried_out k d p w).ledger.live
   unfolding gives
   carried_keeps Give p w i = in_left h w.ledger.live _ i
   carried_keeps (Deny why) p w i = i
@@ -45,7 +45,7 @@ module _ (k : Limits) (h : Lease) where
       by None = i
       by (Some g) = i
 
-  decided_keeps : (d : Decision) (p : Parked) (w : Work) → In h w.ledger.live → In h (decided d k p w).ledger.live
+  decided_keeps : (d : Decision) (p : Parked) (w : Work) → In h w.ledger.live → In h (decided k d p w).ledger.live
   unfolding gives
   decided_keeps Give p w i = in_left h w.ledger.live _ i
   decided_keeps (Deny why) p w i = i

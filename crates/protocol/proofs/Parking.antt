@@ -105,7 +105,7 @@ module _ (k : Limits) where
     last = omega arith;
   }
 
-  carried_fewer : (d : Decision) (p : Parked) (w : Work) → Fewer w.ledger (carried_out d k p w).ledger
+  carried_fewer : (d : Decision) (p : Parked) (w : Work) → Fewer w.ledger (carried_out k d p w).ledger
   carried_fewer Give p w = gives_fewer p w
   carried_fewer (Deny why) p w = fewer_refl w.ledger
   carried_fewer Wait p w = fewer_refl w.ledger
@@ -165,7 +165,7 @@ module _ (k : Limits) where
   unfolding gives
   gives-parked p w = refl
 
-  decided_none : (d : Decision) (p : Parked) (w : Work) → decision k w.ledger p ≡ d → N w → N (decided d k p w)
+  decided_none : (d : Decision) (p : Parked) (w : Work) → decision k w.ledger p ≡ d → N w → N (decided k d p w)
   decided_none Give p w e none = keeps_none w.ledger (gives k p w).ledger (gives_fewer p w) (λ r i. subst (In r) (gives-parked p w) i) none
   decided_none (Deny why) p w e none = none
   decided_none Wait p w e none =

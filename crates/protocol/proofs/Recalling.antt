@@ -49,7 +49,7 @@ recall_is : (n n' : NodeId) (l l' : Life) (t t' : Ticket) → told.Recall n l t 
 recall_is n n' l l' t t' e = (cc, cc, cc)
 
 module _ (k : Limits) where
-  carried_other : (d : Decision) (p : Parked) (w : Work) → Sends w → Sends (carried_out d k p w)
+  carried_other : (d : Decision) (p : Parked) (w : Work) → Sends w → Sends (carried_out k d p w)
   unfolding gives
   carried_other Give p w s = says_other (told.Granted (grant_of k.empty w.ledger.line (ledger.lease_for k w.ledger p))) w tt s
   carried_other (Deny why) p w s = says_other (told.Denied p.node p.life p.ask why) w tt s
@@ -81,10 +81,10 @@ module _ (k : Limits) where
       let r = found_properly p w s (tenure refl) (find (holds_wanted p) w.ledger.live) refl n l t i in
       (r.0, subst (λ (q : Ledger). In r.0 q.live) (sym (recalls-ledger k true p w)) r.1, r.2, r.3, r.4, r.5)
 
-  decided_properly : (d : Decision) (p : Parked) (w : Work) → Sends w → Properly (decided d k p w)
+  decided_properly : (d : Decision) (p : Parked) (w : Work) → Sends w → Properly (decided k d p w)
   unfolding gives
-  decided_properly Give p w s = other_properly (decided Give k p w) (says_other (told.Granted (grant_of k.empty w.ledger.line (ledger.lease_for k w.ledger p))) w tt s)
-  decided_properly (Deny why) p w s = other_properly (decided (Deny why) k p w) (says_other (told.Denied p.node p.life p.ask why) w tt s)
+  decided_properly Give p w s = other_properly (decided k Give p w) (says_other (told.Granted (grant_of k.empty w.ledger.line (ledger.lease_for k w.ledger p))) w tt s)
+  decided_properly (Deny why) p w s = other_properly (decided k (Deny why) p w) (says_other (told.Denied p.node p.life p.ask why) w tt s)
   decided_properly Wait p w s = waits_properly (p.tenure && not (elsewhere w.ledger p)) p w s (λ e. (and_parts p.tenure (not (elsewhere w.ledger p)) e).0)
 
   acquiring_properly : (o : Option Lease) (b : Bool) (p : Parked) (w : Work) → Sends w → Properly (acquiring k o b p w)

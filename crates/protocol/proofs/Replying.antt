@@ -75,7 +75,7 @@ module _ (k : Limits) (q : Ledger) (Due : NodeId → Life → Ask → Type 0) (C
   says_from : (y : FromCoord) (w : Work) → IsCalm y → From w (says y w)
   says_from y w is m i = elim (in_append m w.sends (y ∷ []) i) [ inl j ↦ inl j | inr j ↦ inr (subst IsCalm (sym (in_one m y j)) is) ]
 
-  carried_from : (d : Decision) (p : Parked) (w : Work) → Due p.node p.life p.ask → From w (carried_out d k p w)
+  carried_from : (d : Decision) (p : Parked) (w : Work) → Due p.node p.life p.ask → From w (carried_out k d p w)
   unfolding gives
   carried_from Give p w due = says_from (told.Granted (grant_of k.empty w.ledger.line (lease_for k w.ledger p))) w due
   carried_from (Deny why) p w due = says_from (told.Denied p.node p.life p.ask why) w due
@@ -104,7 +104,7 @@ module _ (k : Limits) (q : Ledger) (Due : NodeId → Life → Ask → Type 0) (C
   recalls_from true p w = recall_from (find (holds_wanted p) w.ledger.live) w
   recalls_from false p w = λ m i. inl i
 
-  decided_from : (d : Decision) (p : Parked) (w : Work) → Due p.node p.life p.ask → From w (decided d k p w)
+  decided_from : (d : Decision) (p : Parked) (w : Work) → Due p.node p.life p.ask → From w (decided k d p w)
   unfolding gives
   decided_from Give p w due = says_from (told.Granted (grant_of k.empty w.ledger.line (lease_for k w.ledger p))) w due
   decided_from (Deny why) p w due = says_from (told.Denied p.node p.life p.ask why) w due

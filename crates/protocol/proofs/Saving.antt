@@ -54,7 +54,7 @@ module _ (k : Limits) (q : Ledger) where
       let same : raised k w.ledger ≡ w.ledger.ceiling = rw b.1 refl in
       ap (λ l. record (saves w.ledger) { live = l; ceiling = raised k w.ledger }) (unsaved_push w.ledger.live (lease_for k w.ledger p) a.1) ∙ ap (λ c. record (saves w.ledger) { ceiling = c }) same ∙ s b.0
 
-  carried_saves : (d : Decision) (p : Parked) (w : Work) → S w → S (carried_out d k p w)
+  carried_saves : (d : Decision) (p : Parked) (w : Work) → S w → S (carried_out k d p w)
   carried_saves Give p w s = gives_saves p w s
   carried_saves (Deny why) p w s = s
   carried_saves Wait p w s = s
@@ -94,7 +94,7 @@ module _ (k : Limits) (q : Ledger) where
         ];
       }
 
-  carried_apart : (d : Decision) (p : Parked) (w : Work) → Apart w.ledger → Apart (carried_out d k p w).ledger
+  carried_apart : (d : Decision) (p : Parked) (w : Work) → Apart w.ledger → Apart (carried_out k d p w).ledger
   carried_apart Give p w a = gives_apart p w a
   carried_apart (Deny why) p w a = a
   carried_apart Wait p w a = a
@@ -124,7 +124,7 @@ module _ (k : Limits) (q : Ledger) where
       by None = s
       by (Some g) = s
 
-  decided_saves : (d : Decision) (p : Parked) (w : Work) → S w → S (decided d k p w)
+  decided_saves : (d : Decision) (p : Parked) (w : Work) → S w → S (decided k d p w)
   decided_saves Give p w s = gives_saves p w s
   decided_saves (Deny why) p w s = s
   decided_saves Wait p w s = recalls_saves (p.tenure && not (elsewhere w.ledger p)) p w s

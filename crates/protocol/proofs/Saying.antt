@@ -114,7 +114,7 @@ module _ (k : Limits) (q : Ledger) where
         waits = waits_more c w (told.Granted new ∷ []) g;
       }
 
-  carried_grows : (c : Change q) (d : Decision) (p : Parked) (w : Work) → Grows q c w → Grows q c (carried_out d k p w)
+  carried_grows : (c : Change q) (d : Decision) (p : Parked) (w : Work) → Grows q c w → Grows q c (carried_out k d p w)
   carried_grows c Give p w g = gives_grows c p w g
   carried_grows c (Deny why) p w g = says_grows c (told.Denied p.node p.life p.ask why) w (no_denial p.node p.life p.ask why) g
   carried_grows c Wait p w g = g
@@ -125,7 +125,7 @@ module _ (k : Limits) (q : Ledger) where
   try_grows c (p ∷ ps) w g = try_grows c ps (tried k p w) (carried_grows c (decision k w.ledger p) p w g)
 
   -- what was sent stays sent
-  pub carried_sent : (d : Decision) (p : Parked) (v : Work) (m : FromCoord) → In m v.sends → In m (carried_out d k p v).sends
+  pub carried_sent : (d : Decision) (p : Parked) (v : Work) (m : FromCoord) → In m v.sends → In m (carried_out k d p v).sends
   unfolding gives
   carried_sent Give p v m i = in_left m v.sends _ i
   carried_sent (Deny why) p v m i = in_left m v.sends _ i
@@ -141,7 +141,7 @@ module _ (k : Limits) (q : Ledger) where
   retried_sent v m i = try_sent v.ledger.parked v m i
 
   -- an ask that is tried stays, or is answered
-  one_served : (d : Decision) (p : Parked) (w : Work) → ledger.waits d ≡ false → Served p (carried_out d k p w).sends
+  one_served : (d : Decision) (p : Parked) (w : Work) → ledger.waits d ≡ false → Served p (carried_out k d p w).sends
   unfolding gives
   one_served Give p w e = inl (grant_of k.empty w.ledger.line (lease_for k w.ledger p), in_right _ w.sends _ (inl refl), refl, refl, refl)
   one_served (Deny why) p w e = inr (why, in_right _ w.sends _ (inl refl))
@@ -409,7 +409,7 @@ module _ (k : Limits) (y : ToCoord) (q : Ledger) where
       let tenure : p.tenure ≡ true = sym parts.2 in
       recall_sent p w b (and_not p.tenure (elsewhere w.ledger p) tenure here') h (subst (λ (z : Ledger). find (holds_wanted p) z.live ≡ Some h) kept (subst (λ z. find (holds_wanted z) (recalls b p w).ledger.live ≡ Some h) same f))
 
-  decided_says : (d : Decision) (p : Parked) (w : Work) → y.request ≡ Acquire p.ask p.wants p.tenure → AskedFor p.node p.life p.ask → ((c : CoordNote) (s : Slot) → request_adds y.request c s ≡ []) → G w → Says (decided d k p w)
+  decided_says : (d : Decision) (p : Parked) (w : Work) → y.request ≡ Acquire p.ask p.wants p.tenure → AskedFor p.node p.life p.ask → ((c : CoordNote) (s : Slot) → request_adds y.request c s ≡ []) → G w → Says (decided k d p w)
   unfolding gives
   decided_says Give p w is a none g =
       let h : Lease = lease_for k w.ledger p in

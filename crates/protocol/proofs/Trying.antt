@@ -18,7 +18,7 @@ module _ (k : Limits) where
   pub raised_covers : (q : Ledger) → q.last ≤ q.ceiling → nat_lt q.last k.greatest ≡ true → q.last + 1 ≤ raised k q
   raised_covers q le lt = grind (arith, nat_tests)
 
-  carried-gone : (d : Decision) (p : Parked) (w : Work) → (carried_out d k p w).ledger.gone ≡ w.ledger.gone
+  carried-gone : (d : Decision) (p : Parked) (w : Work) → (carried_out k d p w).ledger.gone ≡ w.ledger.gone
   unfolding gives
   carried-gone Give p w = refl
   carried-gone (Deny why) p w = refl
@@ -28,7 +28,7 @@ module _ (k : Limits) where
   unfolding tried
   tried-gone p w = carried-gone (decision k w.ledger p) p w
 
-  carried-lives : (d : Decision) (p : Parked) (w : Work) → (carried_out d k p w).ledger.lives ≡ w.ledger.lives
+  carried-lives : (d : Decision) (p : Parked) (w : Work) → (carried_out k d p w).ledger.lives ≡ w.ledger.lives
   unfolding gives
   carried-lives Give p w = refl
   carried-lives (Deny why) p w = refl
@@ -38,7 +38,7 @@ module _ (k : Limits) where
   unfolding tried
   tried-lives p w = carried-lives (decision k w.ledger p) p w
 
-  carried-parked : (d : Decision) (p : Parked) (w : Work) → (carried_out d k p w).ledger.parked ≡ w.ledger.parked
+  carried-parked : (d : Decision) (p : Parked) (w : Work) → (carried_out k d p w).ledger.parked ≡ w.ledger.parked
   unfolding gives
   carried-parked Give p w = refl
   carried-parked (Deny why) p w = refl
@@ -49,7 +49,7 @@ module _ (k : Limits) where
   tried-parked p w = carried-parked (decision k w.ledger p) p w
 
   -- the leases after a try: as before, or with one of the ask at the end
-  carried_live : (d : Decision) (p : Parked) (w : Work) → ((carried_out d k p w).ledger.live ≡ w.ledger.live) ⊎ ((h : Lease) × (h.node ≡ p.node) × (h.life ≡ p.life) × (h.ask ≡ p.ask) × ((carried_out d k p w).ledger.live ≡ w.ledger.live ++ h ∷ []) × (d ≡ Give))
+  carried_live : (d : Decision) (p : Parked) (w : Work) → ((carried_out k d p w).ledger.live ≡ w.ledger.live) ⊎ ((h : Lease) × (h.node ≡ p.node) × (h.life ≡ p.life) × (h.ask ≡ p.ask) × ((carried_out k d p w).ledger.live ≡ w.ledger.live ++ h ∷ []) × (d ≡ Give))
   unfolding gives
   carried_live Give p w = inr (lease_for k w.ledger p, refl, refl, refl, refl, refl)
   carried_live (Deny why) p w = inl refl
@@ -80,7 +80,7 @@ module _ (k : Limits) where
   try-parked [] w = refl
   try-parked (p ∷ ps) w = try-parked ps (tried k p w) ∙ tried-parked p w
 
-  carried-note : (d : Decision) (p : Parked) (w : Work) → (carried_out d k p w).note ≡ w.note
+  carried-note : (d : Decision) (p : Parked) (w : Work) → (carried_out k d p w).note ≡ w.note
   unfolding gives
   carried-note Give p w = refl
   carried-note (Deny why) p w = refl

@@ -216,11 +216,12 @@ module _ (limits : Limits) where
 abbrev pub denies : Why → Parked → Work → Work
 denies why parked work = says (told.Denied parked.node parked.life parked.ask why) work
 
--- the decision is carried out. An ask that waits changes nothing
-abbrev pub carried_out : Decision → Limits → Parked → Work → Work
-carried_out Give limits parked work = gives limits parked work
-carried_out (Deny why) limits parked work = denies why parked work
-carried_out Wait limits parked work = work
+module _ (limits : Limits) where
+  -- the decision is carried out. An ask that waits changes nothing
+  abbrev pub carried_out : Decision → Parked → Work → Work
+  carried_out Give parked work = gives limits parked work
+  carried_out (Deny why) parked work = denies why parked work
+  carried_out Wait parked work = work
 
 -- the ask stays parked
 abbrev pub waits : Decision → Bool
@@ -262,16 +263,17 @@ abbrev pub recalls : Bool → Parked → Work → Work
 recalls true parked work = recall (find (holds_wanted parked) work.ledger.live) work
 recalls false parked work = work
 
--- what comes of a new ask
-abbrev pub decided : Decision → Limits → Parked → Work → Work
-decided Give limits parked work =
-    notes (note.Granted (grant_of limits.empty work.ledger.line (lease_for limits work.ledger parked)))
-    (gives limits parked work)
-decided (Deny why) limits parked work = notes (note.Denied why) (denies why parked work)
-decided Wait limits parked work =
-    notes note.Parked
-    (parks (work.ledger.parked ++ parked ∷ [])
-    (recalls (parked.tenure && not (elsewhere work.ledger parked)) parked work))
+module _ (limits : Limits) where
+  -- what comes of a new ask
+  abbrev pub decided : Decision → Parked → Work → Work
+  decided Give parked work =
+      notes (note.Granted (grant_of limits.empty work.ledger.line (lease_for limits work.ledger parked)))
+      (gives limits parked work)
+  decided (Deny why) parked work = notes (note.Denied why) (denies why parked work)
+  decided Wait parked work =
+      notes note.Parked
+      (parks (work.ledger.parked ++ parked ∷ [])
+      (recalls (parked.tenure && not (elsewhere work.ledger parked)) parked work))
 
 -- Commit and Release
 
@@ -429,7 +431,7 @@ module _ (limits : Limits) where
 
   -- a parked ask is tried
   unfoldable pub tried : Parked → Work → Work
-  tried parked work = carried_out (decision limits work.ledger parked) limits parked work
+  tried parked work = carried_out limits (decision limits work.ledger parked) parked work
 
   -- a parked ask that is tried stays
   unfoldable pub stays : Parked → Work → Bool
@@ -459,7 +461,7 @@ module _ (limits : Limits) where
   acquiring (Some lease) queued parked work =
       notes (note.GrantedBefore (its_grant work lease)) (says (told.Granted (its_grant work lease)) work)
   acquiring None true parked work = notes note.Parked work
-  acquiring None false parked work = decided (decision limits work.ledger parked) limits parked work
+  acquiring None false parked work = decided limits (decision limits work.ledger parked) parked work
 
   -- news come: the lease that they are for ends, where they may end it
   abbrev pub committing : Bool → NodeId → Life → Ticket → List News → Work → Work

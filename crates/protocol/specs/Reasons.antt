@@ -32,15 +32,14 @@ Reaches world farm (Prune slot) = ⊤
 Reaches world farm (Retire who) = IsThere farm who
 Reaches world farm happening = ⊥
 
--- an ask holds the grant of the ticket
-abbrev pub HoldsUnder : Node → Ticket → ℕ → List Want → Grant → Type 0
-HoldsUnder state ticket place wants grant =
-    ((recalled : Bool) × IsAsk state place (Holding wants grant recalled)) × (grant.ticket ≡ ticket)
+module _ (state : Node) (ticket : Ticket) (place : ℕ) (wants : List Want) (grant : Grant) where
+  -- an ask holds the grant of the ticket
+  abbrev pub HoldsUnder : Type 0
+  HoldsUnder = ((recalled : Bool) × IsAsk state place (Holding wants grant recalled)) × (grant.ticket ≡ ticket)
 
--- an ask runs under the ticket
-abbrev pub RunsUnder : Node → Ticket → ℕ → List Want → Grant → Type 0
-RunsUnder state ticket place wants grant =
-    ((recalled : Bool) × IsAsk state place (Running wants grant recalled)) × (grant.ticket ≡ ticket)
+  -- an ask runs under the ticket
+  abbrev pub RunsUnder : Type 0
+  RunsUnder = ((recalled : Bool) × IsAsk state place (Running wants grant recalled)) × (grant.ticket ≡ ticket)
 
 module _ (limits : Limits) where
   -- ---- the coordinator

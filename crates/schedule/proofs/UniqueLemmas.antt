@@ -18,7 +18,7 @@ use Rattle.schedule.specs.declared.verb.Verb.TheVariants.{Ask, Tenure, Deliver, 
 use Rattle.words.specs.Words.{node_text, IsNode, SpellGiven}
 use Rattle.schedule.specs.Lines.{kept_text, left_text, IsLeft, Left, IsSpelled}
 use Rattle.schedule.specs.Words.{verb_text, Says, SpellLefts, OfNode, OfLease, Restarts}
-use Rattle.words.proofs.ListLemmas.{map-injective}
+use Rattle.words.proofs.ListLemmas.{map-injective, read_back-injective}
 use Rattle.words.proofs.PlainLemmas.{decimal_digits}
 use Rattle.schedule.proofs.Spelling.{left_text-injective}
 use Rattle.words.proofs.Spelling.{node_same, ticket_same}
@@ -28,8 +28,8 @@ use Rattle.schedule.proofs.SpelledLemmas.{words-from_spelled}
 -- ---- verbs
 
 -- the verb of a text
-abbrev verb_named : List ℕ → Option Verb
-verb_named text =
+abbrev event_verb : List ℕ → Option Verb
+event_verb text =
     if bytes_eq text (verb_text Ask) then Some Ask
     else if bytes_eq text (verb_text Tenure) then Some Tenure
     else if bytes_eq text (verb_text Deliver) then Some Deliver
@@ -47,28 +47,22 @@ verb_named text =
     else if bytes_eq text (verb_text Fail) then Some Fail
     else None
 
-verb_named-text : (v : Verb) → verb_named (verb_text v) ≡ Some v
-verb_named-text Ask = refl
-verb_named-text Tenure = refl
-verb_named-text Deliver = refl
-verb_named-text Begin = refl
-verb_named-text Finish = refl
-verb_named-text Abort = refl
-verb_named-text Resend = refl
-verb_named-text Restart = refl
-verb_named-text Forge = refl
-verb_named-text Forget = refl
-verb_named-text Nudge = refl
-verb_named-text Withdraw = refl
-verb_named-text Prune = refl
-verb_named-text Retire = refl
-verb_named-text Fail = refl
-
-some_same : (v w : Verb) → Some v ≡ Some w → v ≡ w
-some_same v w e = cc e
-
-verb_text-injective : (v w : Verb) → verb_text v ≡ verb_text w → v ≡ w
-verb_text-injective v w e = some_same v w (sym (verb_named-text v) ∙ ap verb_named e ∙ verb_named-text w)
+event_verb-text : (v : Verb) → event_verb (verb_text v) ≡ Some v
+event_verb-text Ask = refl
+event_verb-text Tenure = refl
+event_verb-text Deliver = refl
+event_verb-text Begin = refl
+event_verb-text Finish = refl
+event_verb-text Abort = refl
+event_verb-text Resend = refl
+event_verb-text Restart = refl
+event_verb-text Forge = refl
+event_verb-text Forget = refl
+event_verb-text Nudge = refl
+event_verb-text Withdraw = refl
+event_verb-text Prune = refl
+event_verb-text Retire = refl
+event_verb-text Fail = refl
 
 -- ---- nodes
 
@@ -159,7 +153,7 @@ pub spelled_same : (line : List ℕ) (a b : Event) → IsSpelled line a → IsSp
 spelled_same line a b sa sb =
     let ha = words-from_spelled line a sa in
     let hb = words-from_spelled line b sb in
-    let verbs = verb_text-injective ha.verb hb.verb (cc (ha.text, hb.text)) in
+    let verbs = read_back-injective verb_text event_verb event_verb-text ha.verb hb.verb (cc (ha.text, hb.text)) in
     let behind : ha.behind ≡ hb.behind = cc (ha.text, hb.text) in
     let says = subst (λ v. Says v hb.behind a) verbs (subst (λ ws. Says ha.verb ws a) behind ha.says) in
     said_same hb.verb hb.behind a b says hb.says

@@ -46,9 +46,14 @@ abbrev pub memory_of : Bool → Ledger → Option Ledger
 memory_of true q = None
 memory_of false q = Some q
 
--- the process that a coordinator is: its ledger while it is up, and on its disk what its keeper's texts hold
-abbrev pub process_of : {K : Type 0} → (K → Texts) → Seen K → Coordinator
-process_of kept seen = record { memory = memory_of seen.down (ledger seen.held); disk = saved_in (kept seen.keeper) }
+module _ {K : Type 0} (kept : K → Texts) (seen : Seen K) where
+  -- the process that a coordinator is: its ledger while it is up, and on its disk what its keeper's texts hold
+  abbrev pub process_of : Coordinator
+  process_of = record { memory = memory_of seen.down (ledger seen.held); disk = saved_in (kept seen.keeper) }
+
+  -- a coordinator's process is gone, and its disk is what its keeper's texts held
+  abbrev pub killed_of : Coordinator
+  killed_of = record { memory = None; disk = saved_in (kept seen.keeper) }
 
 -- the sealed lines of these messages, and behind them facts and a note
 pub record Says (key : List ℕ) (messages : List Message) (text : List ℕ) : Type 0 where
@@ -126,10 +131,6 @@ ABatchIsARun {K} saving loading syncing kept lasting =
     → (b : Batch (filter_steps saving loading kept key) (Settles syncing loading kept lasting) limit lines text old new) →
     let messages : List Message = batch_messages saving loading syncing kept lasting key limit lines text old new b in
     Runs sha farm_limits NODES p (with_coordinator p (process_of kept new) messages) × Says_all key messages text
-
--- a coordinator's process is gone, and its disk is what its keeper's texts held
-abbrev pub killed_of : {K : Type 0} → (K → Texts) → Seen K → Coordinator
-killed_of kept seen = record { memory = None; disk = saved_in (kept seen.keeper) }
 
 -- where a filter is killed amid a batch, of which it answered these lines and wrote nothing, the rules let the
 -- coordinator be killed so: its disk may have what was decided of any of them

@@ -10,7 +10,7 @@ use Rattle.vertices.specs.declared.refusal.LoadRefusal.{LoadRefusal}
 use Rattle.vertices.specs.declared.refusal.LoadRefusal.TheVariants as refusal
 use Rattle.vertices.specs.declared.table.Table.{Table}
 use Rattle.vertices.specs.Firsts.{number_in}
-use Rattle.vertices.specs.Outcomes.{Needs, Then}
+use Rattle.vertices.specs.Outcomes.{Check, Needs, Then}
 
 -- `sha256:` and the digits of 32 bytes
 abbrev pub IsDigestText : List ℕ → Type 0
@@ -21,7 +21,7 @@ abbrev pub NamesOne : List Digest → List ℕ → Type 0
 NamesOne digests text = (digest : Digest) × Contains digests digest × (text ≡ digest_text digest)
 
 -- the checks of an input, where the vertices have these digests
-abbrev pub InputCheck : List Digest → ℕ → Input Text → Option LoadRefusal → Type 0
+abbrev pub InputCheck : List Digest → ℕ → Input Text → Check
 InputCheck digests place input =
     Then (Needs (IsDigestText input.digest) (refusal.BadInputDigest place))
     (Then (Needs (NamesOne digests input.digest) (refusal.MissingInput place))

@@ -13,7 +13,7 @@ use Rattle.vertices.specs.declared.refusal.LoadRefusal.{LoadRefusal}
 use Rattle.vertices.specs.declared.refusal.LoadRefusal.TheVariants as refusal
 use Rattle.vertices.specs.Firsts.{IsFirstAt}
 use Rattle.vertices.specs.Orders as orders
-use Rattle.vertices.specs.Outcomes.{Passes, Fails, Needs, Refuses, Then, Each}
+use Rattle.vertices.specs.Outcomes.{Check, Passes, Fails, Needs, Refuses, Then, Each}
 use Rattle.vertices.specs.OpChecks.{KindCheck}
 use Rattle.vertices.specs.Edges.{InputCheck, IsEdge, AreEdges, GoesTo}
 
@@ -43,21 +43,21 @@ pub record AreVertices (entries : List (List ℕ)) (vertices : List Vertex) : Ty
   pub vertices_are : vertices ≡ map (vertex_at entries) places
 
 -- the entry at a place is an op
-abbrev pub ReadCheck : ℕ → List ℕ → Option LoadRefusal → Type 0
+abbrev pub ReadCheck : ℕ → List ℕ → Check
 ReadCheck place bytes = Needs (IsOk (op_at bytes)) (refusal.BadOp place)
 
 -- so is each from that place on
-abbrev pub ReadChecks : ℕ → List (List ℕ) → Option LoadRefusal → Type 0
+abbrev pub ReadChecks : ℕ → List (List ℕ) → Check
 ReadChecks place [] = Passes
 ReadChecks place (bytes ∷ entries) = Then (ReadCheck place bytes) (ReadChecks (place + 1) entries)
 
 -- the first input of the last entry names the result
-abbrev pub ResultCheck : List Digest → ℕ → List (Input Text) → Option LoadRefusal → Type 0
+abbrev pub ResultCheck : List Digest → ℕ → List (Input Text) → Check
 ResultCheck digests place [] = Fails refusal.NoResult
 ResultCheck digests place (input ∷ inputs) = InputCheck digests place input
 
 -- the checks of a vertex: its inputs in order, and then what it does
-abbrev pub VertexCheck : List Digest → Vertex → Option LoadRefusal → Type 0
+abbrev pub VertexCheck : List Digest → Vertex → Check
 VertexCheck digests v = Then (Each (InputCheck digests v.place) v.op.inputs) (KindCheck v.place (length v.op.inputs) v.op.kind)
 
 -- one of these vertices, by its number, names another
@@ -95,7 +95,7 @@ pub record IsGraph (g : GraphParts) : Type 0 where
   pub result : g.result.0 < length g.vertices
 
 -- the checks of vertices, where all have these digests, and of the inputs of the last entry, at its place
-abbrev pub GraphCheck : List Digest → ℕ → List Vertex → List (Input Text) → Option LoadRefusal → Type 0
+abbrev pub GraphCheck : List Digest → ℕ → List Vertex → List (Input Text) → Check
 GraphCheck digests place vertices last =
     Then (ResultCheck digests place last) (Then (Each (VertexCheck digests) vertices) (Refuses (IsCyclic vertices) refusal.Cycle))
 
@@ -108,12 +108,12 @@ abbrev pub last_of : List (List ℕ) → List ℕ
 last_of def = slice_index_or def (length def - 1) []
 
 -- the checks of the vertices, and of the last entry
-abbrev pub VerticesCheck : List (List ℕ) → Option LoadRefusal → Type 0
+abbrev pub VerticesCheck : List (List ℕ) → Check
 VerticesCheck def given =
     (vertices : List Vertex) × AreVertices (front def) vertices × GraphCheck (digests_in (front def)) (length (front def)) vertices (op_in (last_of def)).inputs given
 
 -- the checks of the entries of a definition, in this order
-abbrev pub DefinitionCheck : List (List ℕ) → Option LoadRefusal → Type 0
+abbrev pub DefinitionCheck : List (List ℕ) → Check
 DefinitionCheck def = Then (Needs (0 < length def) refusal.EmptyDefinition) (Then (ReadChecks 0 def) (VerticesCheck def))
 
 -- the graph of a definition: its vertices, and the edge to the result

@@ -10,7 +10,7 @@ use Rattle.opsproto.specs.declared.op.Kind.{Kind}
 use Rattle.opsproto.specs.declared.op.Kind.TheVariants.{Exec, Opaque, Bare}
 use Rattle.vertices.specs.declared.refusal.LoadRefusal.{LoadRefusal}
 use Rattle.vertices.specs.declared.refusal.LoadRefusal.TheVariants as refusal
-use Rattle.vertices.specs.Outcomes.{Passes, Fails, Needs, Then, Each}
+use Rattle.vertices.specs.Outcomes.{Check, Passes, Fails, Needs, Then, Each}
 
 -- mountType CACHE = 3 (ops.proto)
 abbrev pub IsCache : Mount Text → Type 0
@@ -25,7 +25,7 @@ abbrev pub IsMountInput : ℤ → ℕ → Type 0
 IsMountInput input count = (negsuc 0 ≤ℤ input) × (input <ℤ pos count)
 
 -- the check of the cache option of a cache mount
-abbrev pub CacheCheck : ℕ → Option (CacheOpt Text) → Option LoadRefusal → Type 0
+abbrev pub CacheCheck : ℕ → Option (CacheOpt Text) → Check
 CacheCheck place None = Fails (refusal.NoCacheOpt place)
 CacheCheck place (Some cache) = Needs (IsSharing cache.sharing) (refusal.UnknownSharing place cache.sharing)
 
@@ -34,7 +34,7 @@ pub data SharingCheck (place : ℕ) (mount : Mount Text) (given : Option LoadRef
   no_cache : (IsCache mount → ⊥) → Passes given → SharingCheck place mount given
   is_cache : IsCache mount → CacheCheck place mount.cache given → SharingCheck place mount given
 
-abbrev pub MountCheck : ℕ → ℕ → Mount Text → Option LoadRefusal → Type 0
+abbrev pub MountCheck : ℕ → ℕ → Mount Text → Check
 MountCheck place inputs mount = Then (Needs (IsMountInput mount.input inputs) (refusal.BadMountInput place)) (SharingCheck place mount)
 
 -- the mounts of the type CACHE
@@ -42,7 +42,7 @@ abbrev pub cache_count : List (Mount Text) → ℕ
 cache_count mounts = count_by (λ mount. int_eq mount.mount_type (pos 3)) mounts
 
 -- the checks of an exec op at a place, of a vertex with `inputs` inputs
-abbrev pub ExecCheck : ℕ → ℕ → ExecOp Text → Option LoadRefusal → Type 0
+abbrev pub ExecCheck : ℕ → ℕ → ExecOp Text → Check
 ExecCheck place inputs exec =
     Then (Needs (IsSome exec.meta) (refusal.NoMeta place))
     (Then (Needs (IfSome exec.meta (λ meta. 0 < length meta.args)) (refusal.NoArgs place))
@@ -52,7 +52,7 @@ ExecCheck place inputs exec =
     (Needs (cache_count exec.mounts ≤ 16) (refusal.TooManyCacheMounts place))))))
 
 -- the checks of what an op does
-abbrev pub KindCheck : ℕ → ℕ → Kind Text → Option LoadRefusal → Type 0
+abbrev pub KindCheck : ℕ → ℕ → Kind Text → Check
 KindCheck place inputs (Exec exec) = ExecCheck place inputs exec
 KindCheck place inputs (Opaque number) = Passes
 KindCheck place inputs Bare = Fails (refusal.NoOp place)

@@ -1,5 +1,5 @@
 -- Words and values, one value for each word.
-use Rattle.std.proofs.Common.{Bor, ◌≡◌, ℕ, zero, suc, ◌+◌, ◌-◌, ◌<◌, List, [], ◌∷◌, ◌++◌, map, take, drop, length, get_or, refl, ap, arith}
+use Rattle.std.proofs.Common.{Bor, ◌≡◌, ℕ, zero, suc, ◌+◌, ◌-◌, ◌<◌, List, [], ◌∷◌, ◌++◌, Option, Some, map, take, drop, length, get_or, refl, sym, ◌∙◌, ap, arith}
 use Rattle.std.specs.List.{All}
 use Rattle.std.proofs.lemmas.List.{take_more, map-append}
 use Rattle.std.proofs.Math.Seq.{take-length}
@@ -23,6 +23,11 @@ stuck_at text P (w ∷ ws) [] i d lt none each e = cc e
 stuck_at text P (w ∷ ws) (x ∷ xs) zero d lt none each e = none x (All-head P x xs each) (cc e)
 stuck_at text P (w ∷ ws) (x ∷ xs) (suc i) d lt none each e =
     stuck_at text P ws xs i d (omega arith) none (All-tail P x xs each) (cc e)
+
+-- a text that is read back determines its value
+pub read_back-injective : {X : Type 0} (text : X → List ℕ) (read : List ℕ → Option X) → ((x : X) → read (text x) ≡ Some x)
+    → (x y : X) → text x ≡ text y → x ≡ y
+read_back-injective text read back x y e = let both : Some x ≡ Some y = sym (back x) ∙ ap read e ∙ back y in cc both
 
 -- if no two values have the same text, the texts determine the values
 pub map-injective : {X : Type 0} (text : X → List ℕ) (P : X → Type 0) → ((x y : X) → P x → P y → text x ≡ text y → x ≡ y)

@@ -31,10 +31,11 @@ use Rattle.world.specs.Turns.{Came}
 use Rattle.world.specs.Meanings.{MeansAsTold, Grants, GrantsAtOnce, IsTold, AnswersAsks, NoneWaitsIdly}
 use Rattle.world.proofs.LimitLemmas.{is_farm}
 
--- what the law says of an event, from each world that the farm was in
-abbrev Law : Farm → Event → Result Outcome EventRefusal → Farm → Type 0
-Law old e r new = (u : protocol.World) → Moves content_digest (start content_digest) u → Shows content_digest u old
-    → (v : protocol.World) × Moves content_digest u v × Shows content_digest v new × Means content_digest farm_limits old.size u e r v × Fair farm_limits u old e r
+module _ (old : Farm) (e : Event) (r : Result Outcome EventRefusal) (new : Farm) where
+  -- what the law says of an event, from each world that the farm was in
+  abbrev Law : Type 0
+  Law = (u : protocol.World) → Moves content_digest (start content_digest) u → Shows content_digest u old
+      → (v : protocol.World) × Moves content_digest u v × Shows content_digest v new × Means content_digest farm_limits old.size u e r v × Fair farm_limits u old e r
 
 by_turn : EveryEventIsMoves → (old : Farm) (e : Event) (turn : Turn) → step content_digest farm_limits old e ≡ turn → Law old e turn.outcome turn.farm
 by_turn law old e turn is u moves shows =

@@ -30,12 +30,13 @@ abbrev pub IsFair : protocol.World → Farm → Event → Result Outcome EventRe
 IsFair world farm event (Err OutOfMemory) = ⊤
 IsFair world farm event result = Fair farm_limits world farm event result
 
--- each world of a run that the farm was in moves to one that it is in now, and the event means there what it answered
-abbrev pub MeansAsTold : Farm → Event → Result Outcome EventRefusal → Farm → Type 0
-MeansAsTold old event result new = (world : protocol.World) → Moves content_digest (start content_digest) world
-    → Shows content_digest world old
-    → (later : protocol.World) × Moves content_digest world later × Shows content_digest later new
-    × Means content_digest farm_limits old.size world event result later × IsFair world old event result
+module _ (old : Farm) (event : Event) (result : Result Outcome EventRefusal) (new : Farm) where
+  -- each world of a run that the farm was in moves to one that it is in now, and the event means there what it answered
+  abbrev pub MeansAsTold : Type 0
+  MeansAsTold = (world : protocol.World) → Moves content_digest (start content_digest) world
+      → Shows content_digest world old
+      → (later : protocol.World) × Moves content_digest world later × Shows content_digest later new
+      × Means content_digest farm_limits old.size world event result later × IsFair world old event result
 
 -- the event granted this, and sent it
 pub record Grants (grant : Grant) (result : Result Outcome EventRefusal) (new : Farm) : Type 0 where
@@ -43,21 +44,22 @@ pub record Grants (grant : Grant) (result : Result Outcome EventRefusal) (new : 
   pub note : IfOk result (λ outcome. outcome.note ≡ note.Coord (coord.Granted grant))
   pub sent : OnOk result (In (Told (told.Granted grant)) new.pool)
 
--- in a run an Acquire that is delivered, of a node that isn't retired, of no older life, that the rules let be granted,
--- is granted in that event, by a coordinator that isn't down and where no save is to fail
-abbrev pub GrantsAtOnce : Farm → Event → Result Outcome EventRefusal → Farm → Type 0
-GrantsAtOnce old event result new = (size : ℕ) (events : List Event)
-    → old ≡ replayed size events
-    → old.down ≡ false → old.armed ≡ None → (number : ℕ) (parked : Parked) → event ≡ Deliver number
-    → let saying : ToCoord = record {
-      node = parked.node;
-      life = parked.life;
-      request = Acquire parked.ask parked.wants parked.tenure;
-    } in
-    let after : Ledger = (after_life farm_limits parked.node parked.life (begin_work old.ledger)).ledger in
-    nth old.pool number ≡ Some (Said saying) → old.ledger.gone parked.node.0 ≡ false
-    → nat_lt parked.life.0 (old.ledger.lives parked.node.0) ≡ false
-    → MayBeGranted farm_limits after parked → Grants (granted after parked) result new
+module _ (old : Farm) (event : Event) (result : Result Outcome EventRefusal) (new : Farm) where
+  -- in a run an Acquire that is delivered, of a node that isn't retired, of no older life, that the rules let be granted,
+  -- is granted in that event, by a coordinator that isn't down and where no save is to fail
+  abbrev pub GrantsAtOnce : Type 0
+  GrantsAtOnce = (size : ℕ) (events : List Event)
+      → old ≡ replayed size events
+      → old.down ≡ false → old.armed ≡ None → (number : ℕ) (parked : Parked) → event ≡ Deliver number
+      → let saying : ToCoord = record {
+        node = parked.node;
+        life = parked.life;
+        request = Acquire parked.ask parked.wants parked.tenure;
+      } in
+      let after : Ledger = (after_life farm_limits parked.node parked.life (begin_work old.ledger)).ledger in
+      nth old.pool number ≡ Some (Said saying) → old.ledger.gone parked.node.0 ≡ false
+      → nat_lt parked.life.0 (old.ledger.lives parked.node.0) ≡ false
+      → MayBeGranted farm_limits after parked → Grants (granted after parked) result new
 
 -- the coordinator's answer is one of these
 abbrev pub IsTold : (CoordNote → Type 0) → Result Outcome EventRefusal → Type 0
