@@ -10,11 +10,18 @@ use farm_base::{Copied, Digest, Items, Key, NodeId};
 use std::alloc::{AllocError, Global};
 use std::collections::HashMap;
 
-/// For each key on a node its first new call: the place of the executor, and that of the call among the executor's new
-/// ones.
+/// Where a new call stands.
+#[derive(Clone, Copy)]
+struct CallPlace {
+    executor: usize,
+    /// Among the executor's new calls.
+    place: usize,
+}
+
+/// For each key on a node its first new call.
 #[derive(Drop)]
 pub(crate) struct Book {
-    places: HashMap<NodeKey, (usize, usize)>,
+    places: HashMap<NodeKey, CallPlace>,
 }
 
 impl Book {
@@ -36,7 +43,7 @@ impl Book {
     ) -> Option<&'a Call>
         ensures { IfSome result (λ call. IsCallFor (on_node node news.now) key.now call.now) }
     {
-        let (executor, place) = *self.places.get(&NodeKey { node, key: *key })?;
+        let CallPlace { executor, place } = *self.places.get(&NodeKey { node, key: *key })?;
         let call = call_at(news, node, executor, place)?;
         equal_digests_are_one();
         if call.key == *key { Some(call) } else { None }
@@ -84,7 +91,7 @@ pub(crate) fn output_in(call: &Call, index: u64) -> Option<&Digest>
 
 /// Books the calls of an executor for keys that have none yet.
 fn add_calls(
-    places: &mut HashMap<NodeKey, (usize, usize)>,
+    places: &mut HashMap<NodeKey, CallPlace>,
     executor: usize,
     node: NodeId,
     calls: &[Call],
@@ -95,7 +102,7 @@ fn add_calls(
             key: call.key,
         };
         if !places.contains_key(&here) {
-            places.insert(here, (executor, place))?;
+            places.insert(here, CallPlace { executor, place })?;
         }
     }
     Ok(())
