@@ -2,7 +2,7 @@ ghost use Rattle.std.specs.Prelude.{◌<◌, length, IfOk};
 ghost use Rattle.cachemounts.specs.CacheViews.{AreViews};
 ghost use Rattle.cachemounts.specs.CacheWants.{AreWants};
 
-use super::viewing::views;
+use super::viewing::{CacheView, views};
 use super::wanting::wants;
 use farm_base::Wants;
 use solverkeys::Keyed;
@@ -16,14 +16,12 @@ pub fn wants_of(alloc: Global, keyed: &Keyed, vertex: usize) -> Result<Wants, Al
     wants(alloc, keyed.graph(), vertex, keyed.keys())
 }
 
-/// What the vertex of a number wants, and its views of these wants, as `views` says: for each cache
-/// mount its place among the mounts and the place of its folder, both from 0. It is refused only
-/// where memory runs out.
+/// What the vertex of a number wants, and what its cache mounts see, as `views` says. It is refused only where memory runs out.
 pub fn views_of(
     alloc: Global,
     keyed: &Keyed,
     vertex: usize,
-) -> Result<(Wants, Vec<(usize, usize)>), AllocError>
+) -> Result<(Wants, Vec<CacheView>), AllocError>
     requires { vertex < length keyed.now.graph.vertices }
     ensures wants { IfOk result (λ given. AreWants keyed.now.graph keyed.now.keys vertex given.0) }
     ensures views { IfOk result (λ given. AreViews keyed.now.graph keyed.now.keys vertex given.0 given.1.items) }

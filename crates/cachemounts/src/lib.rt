@@ -9,5 +9,5 @@ mod viewing;
 mod wanting;
 
 pub use keyed::{views_of, wants_of};
-pub use viewing::views;
+pub use viewing::{CacheView, views};
 pub use wanting::{needs_home, wants};

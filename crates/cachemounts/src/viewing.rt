@@ -15,15 +15,23 @@ use opsproto::Mount;
 use std::alloc::{AllocError, Global};
 use vertices::Graph;
 
-/// For each cache mount of the vertex of a number, in order: its place among the vertex's mounts,
-/// and the place of its folder in the vertex's wants. Places count from 0.
+/// What a cache mount of a vertex sees. Places count from 0.
+#[derive(Clone, Copy, Debug, PartialEq, Eq)]
+pub struct CacheView {
+    /// The place of the mount among the vertex's mounts.
+    pub mount: usize,
+    /// The place of its folder among the vertex's wants.
+    pub want: usize,
+}
+
+/// What each cache mount of the vertex of a number sees, in their order.
 pub fn views(
     alloc: Global,
     graph: &Graph,
     vertex: usize,
     keys: &[Key],
     wants: &Wants,
-) -> Result<Vec<(usize, usize)>, AllocError>
+) -> Result<Vec<CacheView>, AllocError>
     requires vertex { vertex < length graph.now.vertices }
     requires keys { AreKeys graph.now keys.now }
     requires wants { AreWants graph.now keys.now vertex wants.now }
@@ -39,7 +47,7 @@ fn views_of_mounts(
     outputs: &[Base],
     mounts: &[Mount],
     wants: &[Want],
-) -> Result<Vec<(usize, usize)>, AllocError>
+) -> Result<Vec<CacheView>, AllocError>
     requires checked { All (IsChecked (length outputs.now)) mounts.now }
     requires wanted { (folder : FolderName) → IsWanted outputs.now mounts.now folder → Contains (folders wants.now) folder }
     ensures { IfOk result (λ views. AreViewsOf outputs.now mounts.now wants.now views.items) }
@@ -50,7 +58,7 @@ fn views_of_mounts(
             let Some(want) = place_of(wants, &folder) else {
                 unreachable!();
             };
-            views.push((place, want))?;
+            views.push(CacheView { mount: place, want })?;
         }
     }
     Ok(views)

@@ -1,6 +1,6 @@
 //! Which folders a definition uses.
 
-use cachemounts::{needs_home, views_of};
+use cachemounts::{CacheView, needs_home, views_of};
 use farm_base::Wants;
 use opsproto::read_definition;
 use solverkeys::Keyed;
@@ -29,8 +29,8 @@ fn add_wants(
 }
 
 /// Adds the place of the want that each cache mount of a vertex sees.
-fn add_views(text: &mut String, vertex: usize, views: &[(usize, usize)]) -> Result<(), AllocError> {
-    for (mount, want) in views {
+fn add_views(text: &mut String, vertex: usize, views: &[CacheView]) -> Result<(), AllocError> {
+    for CacheView { mount, want } in views {
         write!(text, "vertex {vertex}: mount {mount} sees want {want}\n")?;
     }
     Ok(())

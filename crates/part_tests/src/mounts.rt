@@ -1,7 +1,7 @@
 //! What vertices want for their cache mounts, worked out by hand.
 
 use super::build::{CACHED, digest_text, exec_op, graph_of};
-use cachemounts::{needs_home, views, wants};
+use cachemounts::{CacheView, needs_home, views, wants};
 use farm_base::{Key, Wants};
 use opsproto::{Input, write_op};
 use std::alloc::{AllocError, Global};
@@ -30,9 +30,9 @@ fn shown_wants(alloc: Global, wants: &Wants) -> Result<String, AllocError> {
 }
 
 /// The text, and behind it for each cache mount the place of the want that it sees.
-fn with_views(text: String, views: &[(usize, usize)]) -> Result<String, AllocError> {
+fn with_views(text: String, views: &[CacheView]) -> Result<String, AllocError> {
     let mut text = text;
-    for (mount, want) in views {
+    for CacheView { mount, want } in views {
         write!(text, "{mount}-{want} ")?;
     }
     Ok(text)

@@ -1,10 +1,11 @@
-use Rattle.std.proofs.Common.{ℕ, ◌+◌, Vec, length, take, refl, sym, subst}
+use Rattle.std.proofs.Common.{◌+◌, Vec, length, take, refl, sym, subst}
 use Rattle.std.specs.Global.{Global}
 use Rattle.std.proofs.lemmas.Option.{slice_get_read, MatchOption-at_some, MatchOption-at_none}
 use Rattle.lists.proofs.Places.{Contains-at}
 use Rattle.vertices.specs.OpChecks.{IsCache}
 use Rattle.cachemounts.specs.CacheFolders.{HasFolder}
 use Rattle.cachemounts.specs.CacheViews.{AreViewsOf}
+use Rattle.cachemounts.specs.declared.viewing.CacheView.{CacheView}
 use Rattle.cachemounts.specs.Checked.{IsChecked}
 use Rattle.cachemounts.proofs.ViewLemmas.{views_same, views_more}
 use Rattle.cachemounts.proofs.viewing.views_of_mounts.Goals as goal
@@ -31,7 +32,7 @@ loop-place-preserved c =
     let k = c.loop-place.place in
     let mount = c.index-mounts-place.result in
     let at = slice_get_read mounts _ k mount refl c.loop-place-test.true c.index-mounts-place.is in
-    let after = λ (vs : Vec (ℕ × ℕ) Global). AreViewsOf outputs (take (k + 1) mounts) c.args.wants.now vs.items in
+    let after = λ (vs : Vec CacheView Global). AreViewsOf outputs (take (k + 1) mounts) c.args.wants.now vs.items in
     elim c.match-branch-2.branch [
       | in-Some+in-Some-place_of+in_ok-push w ↦
           let folder : HasFolder outputs mount w.in-Some.folder
