@@ -40,7 +40,7 @@ pub record IsViewAt (seen : FolderName → Files) (wants : List Want) (outputs :
   pub place : view.mount ≡ places.0
   pub folder : view.folder ≡ want.folder
   pub writable : view.writable ≡ want.writable
-  pub files : view.files ≡ seen want.folder
+  pub files : view.files.now ≡ seen want.folder
   pub base : view.base ≡ output_at outputs mount.input
 
 -- what is given for a task that is the vertex of a number: what the vertex does, the outputs that its inputs name,

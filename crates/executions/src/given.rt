@@ -1,7 +1,9 @@
 //! What the executor of a lease is given.
-ghost use Rattle.std.specs.Prelude.{◌≡◌, ◌<◌, ℕ, List, length, IfOk, Contains};
+ghost use Rattle.std.specs.Prelude.{◌≡◌, ◌<◌, ℕ, List, length, IfOk, Contains, slice_get};
 ghost use Rattle.std.specs.List.{AllZip};
+ghost use Rattle.std.specs.Option.{option_copied};
 ghost use Rattle.farm_base.specs.declared.folder.Base.{Base};
+ghost use Rattle.vertices.specs.declared.vertex.Vertex.{Vertex as SpecVertex};
 ghost use Rattle.cachemounts.specs.CacheViews.{IsView};
 ghost use Rattle.cachemounts.specs.CacheWants.{AreWants, mounts_in};
 ghost use Rattle.executions.specs.Given.{command_in, output_at, IsViewAt, IsGiven};
@@ -17,12 +19,12 @@ use solverkeys::Keyed;
 use std::alloc::{AllocError, Global};
 
 /// The command of an op that runs one.
-fn command_in(alloc: Global, kind: &Kind) -> Result<Option<ExecOp>, AllocError>
-    ensures { IfOk result (λ exec. exec ≡ command_in kind.now) }
+fn command_in(kind: &Kind) -> Option<&ExecOp>
+    ensures { option_copied result ≡ command_in kind.now }
 {
     match kind {
-        Kind::Exec(exec) => Ok(Some(exec.copy(alloc)?)),
-        Kind::Opaque(_) | Kind::Bare => Ok(None),
+        Kind::Exec(exec) => Some(exec),
+        Kind::Opaque(_) | Kind::Bare => None,
     }
 }
 
@@ -45,14 +47,14 @@ fn output_at(outputs: &[Digest], input: i64) -> Option<Digest>
 }
 
 /// The view of the cache mount at the first place. The second is that of its folder among the wants.
-fn view_at(
+fn view_at<'a>(
     alloc: Global,
-    seen: &Seen,
+    seen: &'a Seen,
     wants: &[Want],
     outputs: &[Digest],
     mounts: &[Mount],
     places: (usize, usize),
-) -> Result<View, AllocError>
+) -> Result<View<'a>, AllocError>
     requires { (bases : List Base) × IsView bases mounts.now wants.now places }
     ensures { IfOk result (IsViewAt (folder_seen seen.now.leased seen.now.shared) wants.now outputs.now mounts.now places) }
 {
@@ -62,20 +64,20 @@ fn view_at(
         mount: places.0,
         folder: want.folder.copy(alloc)?,
         writable: want.writable,
-        files: seen.copy_of(alloc, &want.folder)?,
+        files: seen.folder(&want.folder),
         base: output_at(outputs, mount.input),
     })
 }
 
 /// The views of the cache mounts at these places.
-fn views_at(
+fn views_at<'a>(
     alloc: Global,
-    seen: &Seen,
+    seen: &'a Seen,
     wants: &[Want],
     outputs: &[Digest],
     mounts: &[Mount],
     places: &[(usize, usize)],
-) -> Result<Vec<View>, AllocError>
+) -> Result<Vec<View<'a>>, AllocError>
     requires { (bases : List Base) × ((places' : ℕ × ℕ) → Contains places.now places' → IsView bases mounts.now wants.now places') }
     ensures { IfOk result (λ views. AllZip (IsViewAt (folder_seen seen.now.leased seen.now.shared) wants.now outputs.now mounts.now) places.now views.items) }
 {
@@ -87,14 +89,14 @@ fn views_at(
 }
 
 /// What an executor is given for a task of this op, whose cache mounts and their folders among the wants have these places.
-fn given_by(
+fn given_by<'a>(
     alloc: Global,
-    seen: &Seen,
+    seen: &'a Seen,
     wants: &[Want],
-    task: &Task,
-    op: &Op,
+    task: &'a Task,
+    op: &'a Op,
     places: &[(usize, usize)],
-) -> Result<ExecTask, AllocError>
+) -> Result<ExecTask<'a>, AllocError>
     requires { (bases : List Base) × ((places' : ℕ × ℕ) → Contains places.now places' → IsView bases (mounts_in op.now.kind) wants.now places') }
     ensures key { IfOk result (λ given. given.key ≡ task.now.key) }
     ensures stripped { IfOk result (λ given. given.stripped ≡ op.now.stripped) }
@@ -102,34 +104,32 @@ fn given_by(
     ensures inputs { IfOk result (λ given. given.inputs ≡ task.now.inputs.items) }
     ensures views { IfOk result (λ given. AllZip (IsViewAt (folder_seen seen.now.leased seen.now.shared) wants.now task.now.inputs.items (mounts_in op.now.kind)) places.now given.views) }
 {
-    let stripped = Vec::from_slice(alloc, op.stripped())?;
-    let inputs = Vec::from_slice(alloc, task.inputs.as_slice())?;
     let mounts = mounts_in(op.kind());
     let views = views_at(alloc, seen, wants, &task.inputs, mounts, places)?;
-    let exec = command_in(alloc, op.kind())?;
     Ok(ExecTask {
         key: task.key,
-        stripped: Items::new(stripped),
-        exec,
-        inputs: Items::new(inputs),
+        stripped: op.stripped(),
+        exec: command_in(op.kind()),
+        inputs: task.inputs.as_slice(),
         views: Items::new(views),
     })
 }
 
-/// What an executor is given for a task. The task is the vertex of this number, which wants these folders.
-pub(crate) fn given(
+/// What an executor is given for a task. The task is the vertex of this number, which has this op and wants these folders.
+pub(crate) fn given<'a>(
     alloc: Global,
-    seen: &Seen,
+    seen: &'a Seen,
     wants: &Wants,
-    task: &Task,
+    task: &'a Task,
+    op: &'a Op,
     keyed: &Keyed,
     vertex: usize,
-) -> Result<ExecTask, AllocError>
+) -> Result<ExecTask<'a>, AllocError>
+    requires op { (it : SpecVertex) × (slice_get keyed.now.graph.vertices vertex ≡ Some it) × (op.now ≡ it.op) }
     requires vertex { vertex < length keyed.now.graph.vertices }
     requires wants { AreWants keyed.now.graph keyed.now.keys vertex wants.now }
     ensures { IfOk result (IsGiven keyed.now vertex task.now (folder_seen seen.now.leased seen.now.shared) wants.now) }
 {
     let places = views(alloc, keyed.graph(), vertex, keyed.keys(), wants)?;
-    let op = keyed.graph().vertex(vertex).op.read(alloc)?;
-    given_by(alloc, seen, wants.as_slice(), task, &op, &places)
+    given_by(alloc, seen, wants.as_slice(), task, op, &places)
 }

@@ -9,13 +9,16 @@ ghost use Rattle.executions.specs.Seen.{folder_seen};
 
 use super::call::ExecOutcome;
 use super::refusal::RunRefusal;
-use super::seen::{Named, Seen, find};
+use super::seen::{Seen, find};
 use farm_base::{Content, Copied, FolderName, GrantedSlot, Items, Left, Mode, Slot, Want};
-use folders::{Edit, EditRefusal};
+use folders::{Edit, EditRefusal, EditedFolder};
 use std::alloc::{AllocError, Global};
 
 /// Edits of a folder, by its name.
 type FolderEdits = (FolderName, Items<Edit>);
+
+/// A folder after its edits, and its name.
+type Changed<'a> = (FolderName, EditedFolder<'a>);
 
 /// Whether the folder is wanted to be written.
 fn may_write(wants: &[Want], name: &FolderName) -> bool
@@ -58,18 +61,25 @@ fn are_allowed(wants: &[Want], edits: &[FolderEdits]) -> bool
 }
 
 /// A folder after its edits.
-fn change(alloc: Global, seen: &Seen, edit: &FolderEdits) -> Result<Named, EditRefusal>
+fn change<'a>(
+    alloc: Global,
+    seen: &'a Seen,
+    edit: &'a FolderEdits,
+) -> Result<Changed<'a>, EditRefusal>
     ensures folder { IfOk result (λ folder. folder ≡ (edit.now.0, edited_all (folder_seen seen.now.leased seen.now.shared edit.now.0) edit.now.1)) }
     ensures small { IfOk result (λ folder. is_small folder ≡ true) }
     ensures large { result ≡ Err EditRefusal.TooLarge → is_small (edit.now.0, edited_all (folder_seen seen.now.leased seen.now.shared edit.now.0) edit.now.1) ≡ false }
 {
-    let mut folder = seen.copy_of(alloc, &edit.0)?;
-    folder.apply(alloc, edit.1.as_slice())?;
+    let folder = seen.folder(&edit.0).edited(alloc, edit.1.as_slice())?;
     Ok((edit.0.copy(alloc)?, folder))
 }
 
 /// Each folder after its edits.
-fn changed(alloc: Global, seen: &Seen, edits: &[FolderEdits]) -> Result<Vec<Named>, EditRefusal>
+fn changed<'a>(
+    alloc: Global,
+    seen: &'a Seen,
+    edits: &'a [FolderEdits],
+) -> Result<Vec<Changed<'a>>, EditRefusal>
     ensures folders { IfOk result (λ folders. folders.items ≡ changed (folder_seen seen.now.leased seen.now.shared) edits.now) }
     ensures small { IfOk result (λ folders. list_all is_small folders.items ≡ true) }
     ensures large { result ≡ Err EditRefusal.TooLarge → list_all is_small (changed (folder_seen seen.now.leased seen.now.shared) edits.now) ≡ false }
@@ -91,17 +101,21 @@ fn is_left(slot: &GrantedSlot) -> bool
 }
 
 /// A slot and the bytes of its folder, as it was changed or seen.
-fn left(alloc: Global, seen: &Seen, changed: &[Named], slot: &Slot) -> Result<Left, AllocError>
+fn left(
+    alloc: Global,
+    seen: &Seen,
+    changed: &[Changed<'_>],
+    slot: &Slot,
+) -> Result<Left, AllocError>
     ensures { IfOk result (λ left. left ≡ left_in (folder_seen seen.now.leased seen.now.shared) changed.now slot.now) }
 {
-    let folder = match find(changed, slot.folder()) {
-        Some(folder) => folder.copy(alloc)?,
-        None => seen.copy_of(alloc, slot.folder())?,
+    let bytes = match find(changed, slot.folder()) {
+        Some(folder) => folder.to_bytes(alloc)?,
+        None => seen.folder(slot.folder()).to_bytes(alloc)?,
     };
-    let content = Content::of(folder.to_bytes(alloc)?);
     Ok(Left {
         slot: slot.copy(alloc)?,
-        content,
+        content: Content::of(bytes),
     })
 }
 
@@ -109,7 +123,7 @@ fn left(alloc: Global, seen: &Seen, changed: &[Named], slot: &Slot) -> Result<Le
 fn lefts(
     alloc: Global,
     seen: &Seen,
-    changed: &[Named],
+    changed: &[Changed<'_>],
     slots: &[GrantedSlot],
 ) -> Result<Vec<Left>, AllocError>
     ensures { IfOk result (λ v. v.items ≡ lefts (folder_seen seen.now.leased seen.now.shared) changed.now slots.now) }

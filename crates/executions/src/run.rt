@@ -1,5 +1,5 @@
 //! One execution under a lease.
-ghost use Rattle.std.specs.Prelude.{◌≡◌, true, false, ◌<◌, length, map, slice_get, Some, Ok, Err, IfOk, IsOk, Contains};
+ghost use Rattle.std.specs.Prelude.{◌≡◌, true, false, ◌<◌, length, map, slice_get, Some, Ok, Err, IfOk, OnErr, IsOk, Contains};
 ghost use Rattle.std.specs.List.{All};
 ghost use Rattle.farm_base.specs.Slots.{SlotParts};
 ghost use Rattle.farm_base.specs.declared.folder.Mode.TheVariants.{Shared};
@@ -18,12 +18,12 @@ use super::given::given;
 use super::left::news_of;
 use super::refusal::RunRefusal;
 use super::seen::{Seen, read_leased};
-use farm_base::{FolderName, Items, Left};
+use farm_base::{FolderName, Items, Left, Wants};
 use farmboard::Running;
 use folders::Folder;
 use jobs::Task;
 use solverkeys::Keyed;
-use std::alloc::Global;
+use std::alloc::{AllocError, Global};
 
 /// An execution's outcome, which isn't `OutOfMemory`, and what it leaves in the slots of its lease.
 #[derive(Debug, Drop)]
@@ -32,6 +32,27 @@ pub struct Ran {
     /// The content of each slot that the execution may write, but for those of SHARED folders: their edits are in the
     /// outcome.
     pub news: Vec<Left>,
+}
+
+/// What an executor answers to a task, which is the vertex of this number and wants these folders. What it is given is let go.
+fn answer(
+    alloc: Global,
+    executor: &mut dyn Executor,
+    seen: &Seen,
+    wants: &Wants,
+    task: &Task,
+    keyed: &Keyed,
+    vertex: usize,
+) -> Result<ExecOutcome, AllocError>
+    requires vertex { vertex < length keyed.now.graph.vertices }
+    requires wants { AreWants keyed.now.graph keyed.now.keys vertex wants.now }
+    ensures calls { IfOk result (λ outcome. Adds task.now.key (history executor.old) outcome (history executor.new)) }
+    ensures given { IfOk result (λ outcome. Answered (IsGiven keyed.now vertex task.now (folder_seen seen.now.leased seen.now.shared) wants.now) (answers executor.old) outcome) }
+    ensures err { OnErr result (history executor.new ≡ history executor.old) }
+{
+    let op = keyed.graph().vertex(vertex).op.read(alloc)?;
+    let given = given(alloc, seen, wants, task, &op, keyed, vertex)?;
+    Ok(executor.run(&given))
 }
 
 /// Carries out one execution under a lease. The task is the vertex of this number, and `shared` has the folder of each
@@ -72,9 +93,9 @@ pub fn run_leased(
     let seen = Seen {
         leased: read_leased(alloc, slots, running.bases())?,
         shared: Items::new(shared),
+        empty: Folder::new(alloc),
     };
-    let given = given(alloc, &seen, running.wants(), task, keyed, vertex)?;
-    let outcome = executor.run(&given);
+    let outcome = answer(alloc, executor, &seen, running.wants(), task, keyed, vertex)?;
     let news = news_of(alloc, &seen, running.wants().as_slice(), slots, &outcome)?;
     Ok(Ran { outcome, news })
 }

@@ -1,5 +1,5 @@
 //! The folders that an execution under a lease sees.
-ghost use Rattle.std.specs.Prelude.{◌≡◌, IfOk};
+ghost use Rattle.std.specs.Prelude.{◌≡◌, []};
 ghost use Rattle.std.specs.List.{zip};
 ghost use Rattle.std.specs.Map.{lookup};
 ghost use Rattle.std.specs.Option.{option_copied};
@@ -9,7 +9,7 @@ ghost use Rattle.executions.specs.Seen.{read_one, read_all, folder_seen, IsOpene
 use super::refusal::RunRefusal;
 use farm_base::{Content, Copied, FolderName, GrantedSlot, Items, Mode};
 use folders::{Folder, FolderRefusal};
-use std::alloc::{AllocError, Global};
+use std::alloc::Global;
 
 /// A folder and its name.
 pub(crate) type Named = (FolderName, Folder);
@@ -19,10 +19,13 @@ pub(crate) type Named = (FolderName, Folder);
 pub(crate) struct Seen {
     pub(crate) leased: Items<Named>,
     pub(crate) shared: Items<Named>,
+    /// The folder that is seen under a name that none has.
+    pub(crate) empty: Folder,
+    ghost is_empty: { empty ≡ [] },
 }
 
 /// The folder of a name, if one has it.
-pub(crate) fn find<'a>(folders: &'a [Named], name: &FolderName) -> Option<&'a Folder>
+pub(crate) fn find<'a, F>(folders: &'a [(FolderName, F)], name: &FolderName) -> Option<&'a F>
     ensures { option_copied result ≡ lookup (folder_eq name.now) folders.now }
 {
     for (other, folder) in folders {
@@ -34,9 +37,9 @@ pub(crate) fn find<'a>(folders: &'a [Named], name: &FolderName) -> Option<&'a Fo
 }
 
 impl Seen {
-    /// A copy of the folder of a name. It is empty where none has the name.
-    pub(crate) fn copy_of(&self, alloc: Global, name: &FolderName) -> Result<Folder, AllocError>
-        ensures { IfOk result (λ folder. folder ≡ folder_seen self.now.leased self.now.shared name.now) }
+    /// The folder of a name. It is empty where none has the name.
+    pub(crate) fn folder(&self, name: &FolderName) -> &Folder
+        ensures { result.now ≡ folder_seen self.now.leased self.now.shared name.now }
     {
         let found = match name.mode {
             Mode::Shared => find(self.shared.as_slice(), name),
@@ -44,8 +47,8 @@ impl Seen {
             Mode::Locked => find(self.leased.as_slice(), name),
         };
         match found {
-            Some(folder) => folder.copy(alloc),
-            None => Ok(Folder::new(alloc)),
+            Some(folder) => folder,
+            None => &self.empty,
         }
     }
 }

@@ -36,13 +36,11 @@ length-file_bytes file =
     omega (arith, length-append (sized file.0) (sized file.1))
 
 -- a file has its place in the folder bytes
-pub file_within : (files : Files) (i : ℕ) (file : List ℕ × List ℕ) → i < length files → (d : List ℕ × List ℕ) → file ≡ get_or files i d → length file.0 + length file.1 ≤ length (folder_bytes files)
+pub file_within : (files : Files) (i : ℕ) (file : List ℕ × List ℕ) → i < length files → (d : List ℕ × List ℕ) → file ≡ get_or files i d → length (file_bytes file) ≤ length (folder_bytes files)
 file_within [] i file lt d is = absurd (omega arith)
 file_within (f ∷ fs) zero file lt d is =
     let count = length-append (file_bytes f) (folder_bytes fs) in
-    let len = length-file_bytes f in
-    let one : length file.0 ≡ length f.0 = ap (λ (x : List ℕ × List ℕ). length x.0) is in
-    let two : length file.1 ≡ length f.1 = ap (λ (x : List ℕ × List ℕ). length x.1) is in
+    let same : length (file_bytes file) ≡ length (file_bytes f) = ap (λ (x : List ℕ × List ℕ). length (file_bytes x)) is in
     omega arith
 file_within (f ∷ fs) (suc i) file lt d is =
     let count = length-append (file_bytes f) (folder_bytes fs) in

@@ -15,7 +15,7 @@ use Rattle.std.proofs.lemmas.Map.Lookups.{exact_bytes}
 use Rattle.std.proofs.lemmas.Map.Text.{is_eq-slice_cmp}
 use Rattle.folders.specs.declared.edit.Edit.{Edit}
 use Rattle.folders.specs.declared.edit.Edit.TheVariants.{Put, Remove}
-use Rattle.folders.specs.Edits.{edited}
+use Rattle.folders.specs.Edits.{edited, edited_all}
 use Rattle.folders.specs.Files.{Files, path_cmp, content_at}
 use Rattle.folders.proofs.Places.{Rise, reversed}
 
@@ -108,3 +108,7 @@ remove_rises test (f ∷ fs) up = by_test (test f.0) (remove_rises test fs up.1)
 pub edited_rises : (files : Files) (edit : Edit) → Rise files → Rise (edited files edit)
 edited_rises files (Put path content) up = put_rises files path content up
 edited_rises files (Remove path) up = remove_rises (is_at (path_cmp path)) files up
+
+pub edited_all_rises : (files : Files) (edits : List Edit) → Rise files → Rise (edited_all files edits)
+edited_all_rises files [] up = up
+edited_all_rises files (edit ∷ edits) up = edited_all_rises (edited files edit) edits (edited_rises files edit up)

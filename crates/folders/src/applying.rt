@@ -8,14 +8,13 @@ ghost use Rattle.folders.specs.Edits.{edited, edited_all, lent};
 ghost use Rattle.folders.specs.Files.{path_cmp, file_bytes, folder_bytes, most_bytes, IsFolder};
 
 use super::edit::Edit;
-use super::file::{File, file_of};
+use super::file::File;
 use super::reading::MOST_BYTES;
-use super::refusal::EditRefusal;
 use std::alloc::{AllocError, Global};
 use std::collections::BTreeMap;
 
 /// Files by path, lent by a folder or by the edits that put them.
-type Plan<'a> = BTreeMap<&'a str, &'a [u8]>;
+pub(crate) type Plan<'a> = BTreeMap<&'a str, &'a [u8]>;
 
 /// The files of a folder.
 fn plan_of<'a>(alloc: Global, files: &'a [File]) -> Result<Plan<'a>, AllocError>
@@ -45,13 +44,14 @@ fn edit_one<'a>(plan: &mut Plan<'a>, edit: &'a Edit) -> Result<(), AllocError>
 }
 
 /// The files of a folder after some edits.
-fn edited_plan<'a>(
+pub(crate) fn edited_plan<'a>(
     alloc: Global,
     files: &'a [File],
     edits: &'a [Edit],
 ) -> Result<Plan<'a>, AllocError>
     requires { IsStrictlySortedBy path_cmp (keys_of files.now) }
-    ensures { IfOk result (λ plan. lent plan ≡ edited_all files.now edits.now) }
+    ensures files { IfOk result (λ plan. lent plan ≡ edited_all files.now edits.now) }
+    ensures rise { IfOk result (λ plan. IsStrictlySortedBy path_cmp (keys_of (lent plan))) }
 {
     let mut plan = plan_of(alloc, files)?;
     for edit in edits {
@@ -65,6 +65,7 @@ fn size_with(size: usize, path: &str, content: &[u8]) -> Option<usize>
     requires { size ≤ most_bytes }
     ensures sum { IfSome result (λ sum. sum ≡ size + length (file_bytes (path.now, content.now))) }
     ensures small { IfSome result (λ sum. sum ≤ most_bytes) }
+    ensures utf8 { IsUtf8 path.now }
     ensures large { IfNone result (most_bytes < size + length (file_bytes (path.now, content.now))) }
 {
     let sum = (size + 8)
@@ -74,9 +75,10 @@ fn size_with(size: usize, path: &str, content: &[u8]) -> Option<usize>
 }
 
 /// The size of the files' folder bytes, if it is within the limit.
-fn size_of(plan: &Plan<'_>) -> Option<usize>
+pub(crate) fn size_of(plan: &Plan<'_>) -> Option<usize>
     ensures size { IfSome result (λ size. size ≡ length (folder_bytes (lent plan.now))) }
     ensures small { IfSome result (λ size. size ≤ most_bytes) }
+    ensures utf8 { IfSome result (λ size. AllByRecursion IsUtf8 (keys_of (lent plan.now))) }
     ensures large { IfNone result (most_bytes < length (folder_bytes (lent plan.now))) }
 {
     let mut size = 0;
@@ -84,36 +86,4 @@ fn size_of(plan: &Plan<'_>) -> Option<usize>
         size = size_with(size, path, content)?;
     }
     Some(size)
-}
-
-/// Copies of the files.
-fn files_of_plan(alloc: Global, plan: &Plan<'_>) -> Result<Vec<File>, AllocError>
-    ensures files { IfOk result (λ files. files.items ≡ lent plan.now) }
-    ensures rise { IfOk result (λ files. IsStrictlySortedBy path_cmp (keys_of files.items)) }
-    ensures utf8 { IfOk result (λ files. AllByRecursion IsUtf8 (keys_of files.items)) }
-{
-    let mut files = Vec::with_capacity(alloc, plan.len())?;
-    for (path, content) in plan {
-        files.push(file_of(alloc, path, content)?)?;
-    }
-    Ok(files)
-}
-
-/// The files of a folder after some edits, and the size of their folder bytes.
-pub(crate) fn edited_files(
-    alloc: Global,
-    files: &[File],
-    edits: &[Edit],
-) -> Result<(Vec<File>, usize), EditRefusal>
-    requires { IsStrictlySortedBy path_cmp (keys_of files.now) }
-    ensures files { IfOk result (λ made. made.0.items ≡ edited_all files.now edits.now) }
-    ensures folder { IfOk result (λ made. IsFolder made.0.items) }
-    ensures size { IfOk result (λ made. made.1 ≡ length (folder_bytes made.0.items)) }
-    ensures too_large { result ≡ Err EditRefusal.TooLarge → most_bytes < length (folder_bytes (edited_all files.now edits.now)) }
-{
-    let plan = edited_plan(alloc, files, edits)?;
-    let Some(size) = size_of(&plan) else {
-        return Err(EditRefusal::TooLarge);
-    };
-    Ok((files_of_plan(alloc, &plan)?, size))
 }

@@ -4,8 +4,8 @@ ghost use Rattle.folders.specs.Files.{Files, path_cmp, content_at, folder_bytes,
 ghost use Rattle.folders.specs.Edits.{edited_all};
 ghost use Rattle.folders.specs.Reading.{Gives, folder_of};
 
-use super::applying::edited_files;
 use super::edit::Edit;
+use super::edited_folder::EditedFolder;
 use super::file::{File, copy_files};
 use super::reading::read_files;
 use super::refusal::{EditRefusal, FolderRefusal};
@@ -97,10 +97,25 @@ impl Folder {
         ensures too_large { result ≡ Err EditRefusal.TooLarge → most_bytes < length (folder_bytes (edited_all self.old edits.now)) }
         ensures err { OnErr result (self.new ≡ self.old) }
     {
-        let (files, size) = edited_files(alloc, self.files.as_slice(), edits)?;
+        let (files, size) = self.edited(alloc, edits)?.into_files(alloc)?;
         self.files = files;
         self.size = size;
         Ok(())
+    }
+
+    /// The folder as these edits would make it, one after the other. It copies no file.
+    ///
+    /// The folder after all edits counts, as for `apply`.
+    pub fn edited<'a>(
+        &'a self,
+        alloc: Global,
+        edits: &'a [Edit],
+    ) -> Result<EditedFolder<'a>, EditRefusal>
+        ensures edited { IfOk result (λ folder. folder ≡ edited_all self.now edits.now) }
+        ensures folder { IfOk result IsFolder }
+        ensures too_large { result ≡ Err EditRefusal.TooLarge → most_bytes < length (folder_bytes (edited_all self.now edits.now)) }
+    {
+        EditedFolder::of(alloc, self.files.as_slice(), edits)
     }
 
     /// The content of the file at this path, if there is one. It takes no memory.

@@ -3,6 +3,7 @@
 
 mod applying;
 mod edit;
+mod edited_folder;
 mod file;
 mod folder;
 pub mod laws;
@@ -11,6 +12,7 @@ mod refusal;
 mod writing;
 
 pub use edit::Edit;
+pub use edited_folder::EditedFolder;
 pub use farm_base::Content;
 pub use folder::Folder;
 pub use refusal::{EditRefusal, FolderRefusal};
