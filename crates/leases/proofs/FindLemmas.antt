@@ -1,5 +1,5 @@
 -- What is found among leases: by a ticket, and among those that are kept.
-use Rattle.std.proofs.Common.{◌≡◌, ◌+◌, ◌<◌, List, [], ◌∷◌, ◌++◌, Bool, true, false, not, get_or, filter, Option, Some, None, is_some, Bor, refl, sym, ◌∙◌, ap, inl, inr, arith}
+use Rattle.std.proofs.Common.{◌≡◌, List, [], ◌∷◌, ◌++◌, Bool, true, false, not, get_or, filter, Option, Some, None, is_some, Bor, refl, sym, ◌∙◌, ap, inl, inr, arith}
 use Rattle.std.proofs.lemmas.Bool.{cases_Bool, ne_eqb, eqb-true}
 use Rattle.std.proofs.lemmas.List.Elements.{All-tail}
 use Rattle.std.proofs.lemmas.List.Folds.{find-append}
@@ -20,35 +20,36 @@ use Rattle.holdings.proofs.LeaseLemmas.{AllPairs-head, AllPairs-tail}
 abbrev pub PassesOnce : (Lease → Bool) → List Lease → Type 0
 PassesOnce test live = AllPairs (λ g h. test g ≡ true → test h ≡ false) live
 
-abbrev unless : (Lease → Bool) → Option Lease → Option Lease
-unless gone None = None
-unless gone (Some g) = if gone g then None else Some g
+-- the lease, if it passes the test
+abbrev pub only_if : (Lease → Bool) → Option Lease → Option Lease
+only_if test None = None
+only_if test (Some g) = if test g then Some g else None
 
-pub none_found : (test gone : Lease → Bool) (live : List Lease) → All (λ g. test g ≡ false) live → find test (filter (λ g. not (gone g)) live) ≡ None
-none_found test gone [] none = refl
-none_found test gone (g ∷ live) none =
+pub none_found : (test keep : Lease → Bool) (live : List Lease) → All (λ g. test g ≡ false) live → find test (filter keep live) ≡ None
+none_found test keep [] none = refl
+none_found test keep (g ∷ live) none =
     let here : test g ≡ false = none 0 g (omega arith) in
-    let rest = none_found test gone live (All-tail (λ g. test g ≡ false) g live none) in
-    elim (cases_Bool (gone g)) [ inl e ↦ rw e rest | inr e ↦ rw (e, here) rest ]
+    let rest = none_found test keep live (All-tail (λ g. test g ≡ false) g live none) in
+    elim (cases_Bool (keep g)) [ inl e ↦ rw (e, here) rest | inr e ↦ rw e rest ]
 
-found_kept : (test gone : Lease → Bool) (live : List Lease) → PassesOnce test live → unless gone (find test live) ≡ find test (filter (λ g. not (gone g)) live)
-found_kept test gone [] once = refl
-found_kept test gone (g ∷ live) once =
-    let rest = found_kept test gone live (AllPairs-tail (λ g h. test g ≡ true → test h ≡ false) g live once) in
+found_kept : (test keep : Lease → Bool) (live : List Lease) → PassesOnce test live → only_if keep (find test live) ≡ find test (filter keep live)
+found_kept test keep [] once = refl
+found_kept test keep (g ∷ live) once =
+    let rest = found_kept test keep live (AllPairs-tail (λ g h. test g ≡ true → test h ≡ false) g live once) in
     elim (cases_Bool (test g)) [
       | inl t ↦
-          let none = none_found test gone live (λ k d inside. AllPairs-head (λ g h. test g ≡ true → test h ≡ false) g live once k d inside t) in
-          elim (cases_Bool (gone g)) [ inl e ↦ rw (t, e) (sym none) | inr e ↦ rw (t, e, t) refl ]
-      | inr t ↦ elim (cases_Bool (gone g)) [ inl e ↦ rw (t, e) rest | inr e ↦ rw (t, e, t) rest ]
+          let none = none_found test keep live (λ k d inside. AllPairs-head (λ g h. test g ≡ true → test h ≡ false) g live once k d inside t) in
+          elim (cases_Bool (keep g)) [ inl e ↦ rw (t, e, t) refl | inr e ↦ rw (t, e) (sym none) ]
+      | inr t ↦ elim (cases_Bool (keep g)) [ inl e ↦ rw (t, e, t) rest | inr e ↦ rw (t, e) rest ]
     ]
 
-standing-unless : (ended : List Ending) (o : Option Lease) → standing ended o ≡ unless (has_ended ended) o
-standing-unless ended None = refl
-standing-unless ended (Some g) = refl
+standing-kept : (ended : List Ending) (o : Option Lease) → standing ended o ≡ only_if (λ g. not (has_ended ended g)) o
+standing-kept ended None = refl
+standing-kept ended (Some g) = elim (cases_Bool (has_ended ended g)) [ inl e ↦ rw e refl | inr e ↦ rw e refl ]
 
 -- what at most one of these leases passes, unless it has ended
 pub found_standing : (test : Lease → Bool) (ended : List Ending) (live : List Lease) → PassesOnce test live → standing ended (find test live) ≡ find test (filter (λ g. not (has_ended ended g)) live)
-found_standing test ended live once = standing-unless ended (find test live) ∙ found_kept test (has_ended ended) live once
+found_standing test ended live once = standing-kept ended (find test live) ∙ found_kept test (λ g. not (has_ended ended g)) live once
 
 -- the same, looked up in the table with changes
 pub found_over : (test : Lease → Bool) (ended : List Ending) (live granted : List Lease) → PassesOnce test live

@@ -18,7 +18,7 @@ use Rattle.protocol.proofs.Leases.{find_some}
 use Rattle.leases.specs.Counts.{AreLast}
 use Rattle.leases.specs.Index.{ticket_at, IsIndexed, AreIndexed, slot_entries, index_entries}
 use Rattle.holdings.specs.Leases.{AreApart, IsBefore}
-use Rattle.leases.proofs.FindLemmas.{PassesOnce}
+use Rattle.leases.proofs.FindLemmas.{PassesOnce, only_if}
 use Rattle.holdings.proofs.LeaseLemmas.{AllPairs-head, AllPairs-tail}
 
 -- ---- leases put into the index
@@ -148,10 +148,6 @@ ticket_is (Some x) t e = ticket_here x t e
 
 -- ---- looking a folder up
 
-only_if : (Lease → Bool) → Option Lease → Option Lease
-only_if test None = None
-only_if test (Some g) = cond (test g) (Some g) None
-
 pub none-found : (test : Lease → Bool) (live : List Lease) → All (λ g. test g ≡ false) live → find test live ≡ None
 none-found test [] none = refl
 none-found test (g ∷ live) none =
@@ -160,7 +156,6 @@ none-found test (g ∷ live) none =
 
 -- where what passes one test passes another, which one lease passes at most, that is looked for by the other
 found_by : (test other : Lease → Bool) (live : List Lease) → All (λ g. test g ≡ true → other g ≡ true) live → PassesOnce other live → find test live ≡ only_if test (find other live)
-unfolding only_if
 found_by test other [] passes once = refl
 found_by test other (g ∷ live) passes once = elim (cases_Bool (other g)) [
   | inl o ↦ elim (cases_Bool (test g)) [
@@ -205,13 +200,11 @@ indexed at f t live all here once = found_by (λ g. has_slot g.slots (only_slot 
 -- no lease has the ticket
 pub indexed-none : (at : FolderName → Option Ticket) (f : FolderName) (t : Ticket) (live : List Lease) → AreIndexed at live → at f ≡ Some t → PassesOnce (has_ticket t) live
     → find (has_ticket t) live ≡ None → find (λ g. has_slot g.slots (only_slot f)) live ≡ None
-unfolding only_if
 indexed-none at f t live all here once none = indexed at f t live all here once ∙ ap (only_if (λ g. has_slot g.slots (only_slot f))) none
 
 -- the lease of the ticket has the slot, or none has
 pub indexed-some : (at : FolderName → Option Ticket) (f : FolderName) (t : Ticket) (live : List Lease) (g : Lease) → AreIndexed at live → at f ≡ Some t → PassesOnce (has_ticket t) live
     → find (has_ticket t) live ≡ Some g → find (λ g. has_slot g.slots (only_slot f)) live ≡ cond (has_slot g.slots (only_slot f)) (Some g) None
-unfolding only_if
 indexed-some at f t live g all here once found = indexed at f t live all here once ∙ ap (only_if (λ g. has_slot g.slots (only_slot f))) found
 
 -- whether one is found

@@ -1,5 +1,5 @@
 -- What a lease table holds, and whether an ask fits.
-use Rattle.std.specs.Prelude.{ℕ, ◌==◌, if◌then◌else◌, Bool, true, false, not, ◌&&◌, List, [], ◌∷◌, map, filter, Option, Some, None}
+use Rattle.std.specs.Prelude.{◌==◌, Bool, true, false, not, ◌&&◌, List, [], map, filter, Option, Some, None}
 use Rattle.std.specs.List.{list_any, find, flat_map}
 use Rattle.farm_base.specs.declared.limits.TheConstants.{INSTANCES}
 use Rattle.farm_base.specs.declared.lease.Lease.{Lease}

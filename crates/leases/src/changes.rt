@@ -1,27 +1,26 @@
 //! The changes that one event makes, over a lease table that stays as it is until they are applied.
-ghost use Rattle.std.specs.Prelude.{◌≡◌, ◌<◌, not, [], ◌∷◌, ◌++◌, filter, All, IfOk, OnOk, OnErr, option_copied};
-ghost use Rattle.std.specs.List.{find, list_any};
+ghost use Rattle.std.specs.Prelude.{◌≡◌, ◌<◌, not, [], ◌∷◌, ◌++◌, filter, All, IfOk, OnOk, OnErr};
 ghost use Rattle.std.specs.List.Sorted.{IsStrictlySortedBy};
 ghost use Rattle.farm_base.specs.Slots.{slot_cmp};
-ghost use Rattle.protocol.specs.Names.{leased_wants};
-ghost use Rattle.protocol.specs.Ledger.{lease_of, lease_under, without, is_older, is_at, is_saved, retire_all};
-ghost use Rattle.leases.specs.Changes.{changed, ends_lease, saved_tickets, slots_ended};
+ghost use Rattle.protocol.specs.Ledger.{lease_under, without, is_older, is_at, is_saved, retire_all};
+ghost use Rattle.leases.specs.Changes.{changed, ends_lease, saved_tickets};
 ghost use Rattle.leases.specs.Leases.{Table};
 ghost use Rattle.holdings.specs.Leases.{AreLeases};
 ghost use Rattle.holdings.specs.Leases.{among};
-ghost use Rattle.leases.specs.Table.{is_free, is_leased, is_spent, fit_of, lease_for, holds_some, retires_some};
+ghost use Rattle.leases.specs.Table.{fit_of, lease_for, retires_some};
+ghost use Rattle.leases.specs.declared.lease_table.Fit.{Fit};
 
 use super::ending::{Ending, drop_ending, only};
-use super::lease_table::{Fit, LeaseTable};
+use super::lease_table::LeaseTable;
 use super::saved::{saved_copies, saved_tickets, ticket_of_saved};
-use super::view::View;
-use farm_base::{Ask, FolderName, Lease, Life, NodeId, Parked, Slot, Ticket, Wants, copy_all};
+use super::view::TableView;
+use farm_base::{Lease, Life, NodeId, Parked, Slot, Ticket, copy_all};
 use holdings::rising;
 use std::alloc::{AllocError, Global};
 use std::marker::Model;
 
 /// Leases that were granted and that ended, and PRIVATE slots that are not granted again, since a table was as it is.
-/// The table is passed to each call that looks at it.
+/// A look at the table with them borrows both: `over`.
 #[derive(Debug, Drop)]
 pub struct TableChange {
     ended: Vec<Ending>,
@@ -50,7 +49,7 @@ impl TableChange {
     }
 
     /// The table with the changes.
-    fn over<'t>(&'t self, table: &'t LeaseTable) -> View<'t>
+    pub fn over<'t>(&'t self, table: &'t LeaseTable) -> TableView<'t>
         ensures { result ≡ changed table.now self.now }
     {
         table.with_changes(
@@ -58,86 +57,6 @@ impl TableChange {
             self.granted.as_slice(),
             self.retired.as_slice(),
         )
-    }
-
-    /// Whether an ask with these wants can be granted. A tenure takes a slot of its SHARED folder, any other
-    /// ask of its other folders.
-    pub fn fits(&self, table: &LeaseTable, wants: &Wants, tenure: bool) -> Fit
-        ensures { result ≡ fit_of (changed table.now self.now) tenure wants.now }
-    {
-        self.over(table).fits(wants, tenure)
-    }
-
-    /// Whether no instance of a PRIVATE folder is free.
-    pub fn is_spent(&self, table: &LeaseTable, folder: &FolderName) -> bool
-        ensures { result ≡ is_spent (is_free (changed table.now self.now)) folder.now }
-    {
-        self.over(table).is_spent(folder)
-    }
-
-    /// Whether a lease has the slot.
-    pub fn is_leased(&self, table: &LeaseTable, slot: &Slot) -> bool
-        ensures { result ≡ is_leased (changed table.now self.now) slot.now }
-    {
-        self.over(table).is_leased(slot)
-    }
-
-    /// The lease of a ticket.
-    pub fn lease<'t>(&'t self, table: &'t LeaseTable, ticket: Ticket) -> Option<&'t Lease>
-        ensures { option_copied result ≡ lease_under (changed table.now self.now).live ticket }
-    {
-        self.over(table).lease(ticket)
-    }
-
-    /// The lease of an ask.
-    pub fn lease_of<'t>(
-        &'t self,
-        table: &'t LeaseTable,
-        node: NodeId,
-        life: Life,
-        ask: Ask,
-    ) -> Option<&'t Lease>
-        ensures { option_copied result ≡ lease_of (changed table.now self.now).live node life ask }
-    {
-        self.over(table).lease_of(node, life, ask)
-    }
-
-    /// The oldest lease that has the one slot of a folder for which an ask with these wants takes a slot.
-    pub fn holder_of<'t>(
-        &'t self,
-        table: &'t LeaseTable,
-        wants: &Wants,
-        tenure: bool,
-    ) -> Option<&'t Lease>
-        ensures { option_copied result ≡ find (holds_some (leased_wants tenure wants.now)) (changed table.now self.now).live }
-    {
-        self.over(table).holder_of(wants, tenure)
-    }
-
-    /// Whether a node has a lease.
-    pub fn has_lease_of(&self, table: &LeaseTable, node: NodeId) -> bool
-        ensures { result ≡ list_any (is_at node) (changed table.now self.now).live }
-    {
-        self.over(table).has_lease_of(node)
-    }
-
-    /// Whether a life of a node below this one has a lease.
-    pub fn has_lease_below(&self, table: &LeaseTable, node: NodeId, life: Life) -> bool
-        ensures { result ≡ list_any (is_older node life) (changed table.now self.now).live }
-    {
-        self.over(table).has_lease_below(node, life)
-    }
-
-    /// Copies of the slots of the leases that this would end, and whether each may be written.
-    pub fn slots_ended(
-        &self,
-        alloc: Global,
-        table: &LeaseTable,
-        ending: Ending,
-    ) -> Result<Vec<(Slot, bool)>, AllocError>
-        ensures { IfOk result (λ slots. slots.items ≡ slots_ended ending (changed table.now self.now).live) }
-    {
-        self.over(table).slots_ended(alloc, ending)
     }
 
     /// Grants an ask. Of each PRIVATE folder the lowest free instance is taken.
@@ -245,19 +164,6 @@ impl TableChange {
         self.ended.push(ending).unwrap();
         drop_ending(&mut self.granted, ending);
         Ok(())
-    }
-
-    /// Copies of the leases, by rising ticket, and of the slots that are never granted again, rising.
-    pub fn to_parts(
-        &self,
-        alloc: Global,
-        table: &LeaseTable,
-    ) -> Result<(Vec<Lease>, Vec<Slot>), AllocError>
-        ensures leases { IfOk result (λ parts. parts.0.items ≡ (changed table.now self.now).live) }
-        ensures rising { IfOk result (λ parts. IsStrictlySortedBy slot_cmp parts.1.items) }
-        ensures retired { IfOk result (λ parts. among parts.1.items ≡ among (changed table.now self.now).retired) }
-    {
-        self.over(table).to_parts(alloc)
     }
 
     /// The tickets of the table's leases that have ended, of those that the record has, rising.

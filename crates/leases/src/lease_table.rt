@@ -15,7 +15,7 @@ use super::ending::Ending;
 use super::held::{among, has_slot};
 use super::live_leases::LiveLeases;
 use super::retired_slots::RetiredSlots;
-use super::view::View;
+use super::view::TableView;
 use farm_base::{Ask, Lease, Life, NodeId, Slot, Ticket, Wants};
 use std::alloc::{AllocError, Global};
 use std::marker::Model;
@@ -72,12 +72,12 @@ impl LeaseTable {
         ended: &'t [Ending],
         granted: &'t [Lease],
         newly_retired: &'t [Slot],
-    ) -> View<'t>
+    ) -> TableView<'t>
         ensures { result ≡ changed self.now (record { ended = ended.now; granted = granted.now; retired = newly_retired.now }) }
     {
         let live = &self.live;
         let retired = &self.retired;
-        View {
+        TableView {
             live,
             ended,
             granted,
@@ -87,7 +87,7 @@ impl LeaseTable {
     }
 
     /// The table as it is, with no changes over it.
-    fn unchanged(&self) -> View<'_>
+    fn unchanged(&self) -> TableView<'_>
         ensures { result ≡ self.now }
     {
         self.with_changes(&[], &[], &[])

@@ -25,3 +25,4 @@ pub use held::holds_wanted;
 pub use lease_table::{Fit, LeaseTable, SlotState};
 pub use newest_asks::NewestAsks;
 pub use room::TableWithRoom;
+pub use view::TableView;

@@ -28,9 +28,9 @@ use holdings::rising;
 use std::alloc::{AllocError, Global};
 use std::marker::Model;
 
-/// The parts of a lease table and of changes over it. Contracts see the table with the changes.
+/// A lease table with changes over it, borrowed. Contracts see the table with the changes.
 #[derive(Drop)]
-pub(crate) struct View<'t> {
+pub struct TableView<'t> {
     /// The leases of the table.
     pub(crate) live: &'t LiveLeases,
     /// What ended of them.
@@ -43,7 +43,7 @@ pub(crate) struct View<'t> {
     pub(crate) newly_retired: &'t [Slot],
 }
 
-impl<'t> Model for View<'t> {
+impl<'t> Model for TableView<'t> {
     ghost use Rattle.leases.specs.Leases.{Table};
     ghost use Rattle.leases.specs.Changes.{changed};
 
@@ -52,7 +52,7 @@ impl<'t> Model for View<'t> {
     ghost view = { λ v. changed (record { live = v.live.now.leases; retired = v.retired.now.slots }) (record { ended = v.ended.now; granted = v.granted.now; retired = v.newly_retired.now }) };
 }
 
-impl<'t> View<'t> {
+impl<'t> TableView<'t> {
     /// The instances of a folder that are not free.
     fn taken(&self, folder: &FolderName) -> Instances
         ensures { (i : ℕ) → 1 ≤ i → i ≤ INSTANCES → has result i ≡ not (is_free self.now (record { folder = folder.now; instance = i })) }
@@ -76,7 +76,7 @@ impl<'t> View<'t> {
     }
 
     /// Whether no instance of a PRIVATE folder is free.
-    pub(crate) fn is_spent(&self, folder: &FolderName) -> bool
+    pub fn is_spent(&self, folder: &FolderName) -> bool
         ensures { result ≡ is_spent (is_free self.now) folder.now }
     {
         self.lowest(folder) == 0
@@ -118,8 +118,9 @@ impl<'t> View<'t> {
             && self.has_only_slot(&want.folder))
     }
 
-    /// Whether an ask with these wants can be granted.
-    pub(crate) fn fits(&self, wants: &Wants, tenure: bool) -> Fit
+    /// Whether an ask with these wants can be granted. A tenure takes a slot of its SHARED folder, any other
+    /// ask of its other folders.
+    pub fn fits(&self, wants: &Wants, tenure: bool) -> Fit
         ensures { result ≡ fit_of self.now tenure wants.now }
     {
         let wants = wants.as_slice();
@@ -133,7 +134,7 @@ impl<'t> View<'t> {
     }
 
     /// Whether a lease has the slot.
-    pub(crate) fn is_leased(&self, slot: &Slot) -> bool
+    pub fn is_leased(&self, slot: &Slot) -> bool
         ensures { result ≡ is_leased self.now slot.now }
     {
         if slot.instance() == 0 {
@@ -148,7 +149,7 @@ impl<'t> View<'t> {
     }
 
     /// The lease of a ticket.
-    pub(crate) fn lease(&self, ticket: Ticket) -> Option<&'t Lease>
+    pub fn lease(&self, ticket: Ticket) -> Option<&'t Lease>
         ensures { option_copied result ≡ lease_under self.now.live ticket }
     {
         standing(self.live.under(ticket), self.ended).or(
@@ -157,7 +158,7 @@ impl<'t> View<'t> {
     }
 
     /// The lease of an ask.
-    pub(crate) fn lease_of(&self, node: NodeId, life: Life, ask: Ask) -> Option<&'t Lease>
+    pub fn lease_of(&self, node: NodeId, life: Life, ask: Ask) -> Option<&'t Lease>
         ensures { option_copied result ≡ lease_of self.now.live node life ask }
     {
         match self.live.of_ask(node, life, ask) {
@@ -185,7 +186,7 @@ impl<'t> View<'t> {
     }
 
     /// The oldest lease that has the one slot of a folder for which an ask with these wants takes a slot.
-    pub(crate) fn holder_of(&self, wants: &Wants, tenure: bool) -> Option<&'t Lease>
+    pub fn holder_of(&self, wants: &Wants, tenure: bool) -> Option<&'t Lease>
         ensures { option_copied result ≡ find (holds_some (leased_wants tenure wants.now)) self.now.live }
     {
         self.first_with(wants.as_slice(), tenure)
@@ -202,7 +203,7 @@ impl<'t> View<'t> {
     }
 
     /// Whether a node has a lease.
-    pub(crate) fn has_lease_of(&self, node: NodeId) -> bool
+    pub fn has_lease_of(&self, node: NodeId) -> bool
         ensures { result ≡ list_any (is_at node) self.now.live }
     {
         self.live
@@ -214,7 +215,7 @@ impl<'t> View<'t> {
     }
 
     /// Whether a node holds a tenure.
-    pub(crate) fn has_tenure_of(&self, node: NodeId) -> bool
+    pub fn has_tenure_of(&self, node: NodeId) -> bool
         ensures { result ≡ list_any (λ g. is_at node g && g.tenure) self.now.live }
     {
         self.live
@@ -226,7 +227,7 @@ impl<'t> View<'t> {
     }
 
     /// Whether a life of a node below this one has a lease.
-    pub(crate) fn has_lease_below(&self, node: NodeId, life: Life) -> bool
+    pub fn has_lease_below(&self, node: NodeId, life: Life) -> bool
         ensures { result ≡ list_any (is_older node life) self.now.live }
     {
         self.live
@@ -238,7 +239,7 @@ impl<'t> View<'t> {
     }
 }
 
-impl<'t> View<'t> {
+impl<'t> TableView<'t> {
     /// The slot that a want gets.
     fn slot_for(&self, alloc: Global, want: &Want) -> Result<Slot, AllocError>
         requires { is_private want.now.folder.mode ≡ true → lowest (is_free self.now) want.now.folder 1 INSTANCES ≢ 0 }
@@ -324,7 +325,7 @@ impl<'t> View<'t> {
     }
 
     /// Copies of the slots of the leases that this ends.
-    pub(crate) fn slots_ended(
+    pub fn slots_ended(
         &self,
         alloc: Global,
         ending: Ending,
@@ -338,7 +339,7 @@ impl<'t> View<'t> {
     }
 
     /// Copies of the leases, and of the slots that are never granted again, these rising and each once.
-    pub(crate) fn to_parts(&self, alloc: Global) -> Result<(Vec<Lease>, Vec<Slot>), AllocError>
+    pub fn to_parts(&self, alloc: Global) -> Result<(Vec<Lease>, Vec<Slot>), AllocError>
         ensures leases { IfOk result (λ parts. parts.0.items ≡ self.now.live) }
         ensures rising { IfOk result (λ parts. IsStrictlySortedBy slot_cmp parts.1.items) }
         ensures retired { IfOk result (λ parts. among parts.1.items ≡ among self.now.retired) }

@@ -4,12 +4,11 @@ ghost use Rattle.protocol.specs.Lists.{In};
 ghost use Rattle.protocol.specs.Names.{FolderName, Slot, Want};
 ghost use Rattle.protocol.specs.Machine.{Parked};
 ghost use Rattle.protocol.specs.Ledger.{Lease};
-ghost use Rattle.leases.specs.Changes.{changed};
 ghost use Rattle.leases.specs.Table.{is_free};
 ghost use Rattle.parked.specs.Spent.{is_private_spent, is_noted, IsNoted};
 
 use farm_base::{Copied, FolderName, Lease, Mode, Parked, Slot, Want};
-use leases::{LeaseTable, TableChange};
+use leases::TableView;
 use std::alloc::{AllocError, Global};
 
 /// PRIVATE folders, each once. Those that a parked ask wants and of which no instance is free are among them; others may be.
@@ -18,11 +17,11 @@ pub struct SpentFolders {
     pub folders: Vec<FolderName>,
 }
 
-/// Whether a folder is PRIVATE, and no instance of it is free in the table with the changes.
-fn is_spent(table: &LeaseTable, change: &TableChange, folder: &FolderName) -> bool
-    ensures { result ≡ is_private_spent (is_free (changed table.now change.now)) folder.now }
+/// Whether a folder is PRIVATE, and no instance of it is free.
+fn is_spent(table: &TableView, folder: &FolderName) -> bool
+    ensures { result ≡ is_private_spent (is_free table.now) folder.now }
 {
-    matches!(folder.mode, Mode::Private) && change.is_spent(table, folder)
+    matches!(folder.mode, Mode::Private) && table.is_spent(folder)
 }
 
 /// Whether the slot before the one at this place is of the same folder.
@@ -63,14 +62,13 @@ impl SpentFolders {
     fn note(
         &mut self,
         alloc: Global,
-        table: &LeaseTable,
-        change: &TableChange,
+        table: &TableView,
         folder: &FolderName,
     ) -> Result<(), AllocError>
-        ensures noted { OnOk result (is_private_spent (is_free (changed table.now change.now)) folder.now ≡ true → is_noted self.new.folders.items folder.now ≡ true) }
+        ensures noted { OnOk result (is_private_spent (is_free table.now) folder.now ≡ true → is_noted self.new.folders.items folder.now ≡ true) }
         ensures kept { (f : FolderName) → is_noted self.old.folders.items f ≡ true → is_noted self.new.folders.items f ≡ true }
     {
-        if !is_spent(table, change, folder) || self.has(folder) {
+        if !is_spent(table, folder) || self.has(folder) {
             return Ok(());
         }
         self.folders.push(folder.copy(alloc)?)?;
@@ -81,15 +79,14 @@ impl SpentFolders {
     pub fn note_folders(
         &mut self,
         alloc: Global,
-        table: &LeaseTable,
-        change: &TableChange,
+        table: &TableView,
         folders: &[FolderName],
     ) -> Result<(), AllocError>
-        ensures noted { OnOk result ((f : FolderName) → In f folders.now → is_private_spent (is_free (changed table.now change.now)) f ≡ true → is_noted self.new.folders.items f ≡ true) }
+        ensures noted { OnOk result ((f : FolderName) → In f folders.now → is_private_spent (is_free table.now) f ≡ true → is_noted self.new.folders.items f ≡ true) }
         ensures kept { (f : FolderName) → is_noted self.old.folders.items f ≡ true → is_noted self.new.folders.items f ≡ true }
     {
         for folder in folders {
-            self.note(alloc, table, change, folder)?;
+            self.note(alloc, table, folder)?;
         }
         Ok(())
     }
@@ -98,17 +95,16 @@ impl SpentFolders {
     pub fn note_slots(
         &mut self,
         alloc: Global,
-        table: &LeaseTable,
-        change: &TableChange,
+        table: &TableView,
         slots: &[Slot],
     ) -> Result<(), AllocError>
-        ensures noted { OnOk result ((s : Slot) → In s slots.now → is_private_spent (is_free (changed table.now change.now)) s.folder ≡ true → is_noted self.new.folders.items s.folder ≡ true) }
+        ensures noted { OnOk result ((s : Slot) → In s slots.now → is_private_spent (is_free table.now) s.folder ≡ true → is_noted self.new.folders.items s.folder ≡ true) }
         ensures kept { (f : FolderName) → is_noted self.old.folders.items f ≡ true → is_noted self.new.folders.items f ≡ true }
     {
         let mut place = 0;
         while place < slots.len() {
             if !is_repeated(slots, place) {
-                self.note(alloc, table, change, slots[place].folder())?;
+                self.note(alloc, table, slots[place].folder())?;
             }
             place += 1;
         }
@@ -119,15 +115,14 @@ impl SpentFolders {
     fn note_held(
         &mut self,
         alloc: Global,
-        table: &LeaseTable,
-        change: &TableChange,
+        table: &TableView,
         slots: &[(Slot, bool)],
     ) -> Result<(), AllocError>
-        ensures noted { OnOk result ((x : Slot × Bool) → In x slots.now → is_private_spent (is_free (changed table.now change.now)) x.0.folder ≡ true → is_noted self.new.folders.items x.0.folder ≡ true) }
+        ensures noted { OnOk result ((x : Slot × Bool) → In x slots.now → is_private_spent (is_free table.now) x.0.folder ≡ true → is_noted self.new.folders.items x.0.folder ≡ true) }
         ensures kept { (f : FolderName) → is_noted self.old.folders.items f ≡ true → is_noted self.new.folders.items f ≡ true }
     {
         for held in slots {
-            self.note(alloc, table, change, held.0.folder())?;
+            self.note(alloc, table, held.0.folder())?;
         }
         Ok(())
     }
@@ -136,16 +131,15 @@ impl SpentFolders {
     pub fn note_leases(
         &mut self,
         alloc: Global,
-        table: &LeaseTable,
-        change: &TableChange,
+        table: &TableView,
         leases: &[Lease],
     ) -> Result<(), AllocError>
         ensures noted { OnOk result ((g : Lease) → In g leases.now → (x : Slot × Bool) → In x g.slots
-            → is_private_spent (is_free (changed table.now change.now)) x.0.folder ≡ true → is_noted self.new.folders.items x.0.folder ≡ true) }
+            → is_private_spent (is_free table.now) x.0.folder ≡ true → is_noted self.new.folders.items x.0.folder ≡ true) }
         ensures kept { (f : FolderName) → is_noted self.old.folders.items f ≡ true → is_noted self.new.folders.items f ≡ true }
     {
         for lease in leases {
-            self.note_held(alloc, table, change, lease.slots.as_slice())?;
+            self.note_held(alloc, table, lease.slots.as_slice())?;
         }
         Ok(())
     }
@@ -154,15 +148,14 @@ impl SpentFolders {
     pub fn note_wants(
         &mut self,
         alloc: Global,
-        table: &LeaseTable,
-        change: &TableChange,
+        table: &TableView,
         wants: &[Want],
     ) -> Result<(), AllocError>
-        ensures noted { OnOk result ((w : Want) → In w wants.now → is_private_spent (is_free (changed table.now change.now)) w.folder ≡ true → is_noted self.new.folders.items w.folder ≡ true) }
+        ensures noted { OnOk result ((w : Want) → In w wants.now → is_private_spent (is_free table.now) w.folder ≡ true → is_noted self.new.folders.items w.folder ≡ true) }
         ensures kept { (f : FolderName) → is_noted self.old.folders.items f ≡ true → is_noted self.new.folders.items f ≡ true }
     {
         for want in wants {
-            self.note(alloc, table, change, &want.folder)?;
+            self.note(alloc, table, &want.folder)?;
         }
         Ok(())
     }
@@ -171,15 +164,14 @@ impl SpentFolders {
     pub fn note_asks(
         &mut self,
         alloc: Global,
-        table: &LeaseTable,
-        change: &TableChange,
+        table: &TableView,
         asks: &[Parked],
     ) -> Result<(), AllocError>
-        ensures noted { OnOk result ((p : Parked) → In p asks.now → IsNoted self.new.folders.items (is_free (changed table.now change.now)) p) }
+        ensures noted { OnOk result ((p : Parked) → In p asks.now → IsNoted self.new.folders.items (is_free table.now) p) }
         ensures kept { (f : FolderName) → is_noted self.old.folders.items f ≡ true → is_noted self.new.folders.items f ≡ true }
     {
         for p in asks {
-            self.note_wants(alloc, table, change, p.wants.as_slice())?;
+            self.note_wants(alloc, table, p.wants.as_slice())?;
         }
         Ok(())
     }

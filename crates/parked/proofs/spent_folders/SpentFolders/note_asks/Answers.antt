@@ -1,6 +1,5 @@
 use Rattle.std.proofs.Common.{arith}
 use Rattle.protocol.specs.Machine.{Parked}
-use Rattle.leases.specs.Changes.{changed}
 use Rattle.leases.specs.Table.{is_free}
 use Rattle.parked.specs.Spent.{IsNoted}
 use Rattle.parked.proofs.NotedWords.{each_in}
@@ -8,5 +7,5 @@ use Rattle.parked.proofs.spent_folders.SpentFolders.note_asks.Goals as goal
 
 pub returns-clause-noted : goal.returns-clause-noted
 returns-clause-noted c p i =
-    each_in (λ (y : Parked). IsNoted c.loop-p.self.folders.items (is_free (changed c.args.table.now c.args.change.now)) y) c.args.asks.now
+    each_in (λ (y : Parked). IsNoted c.loop-p.self.folders.items (is_free c.args.table.now) y) c.args.asks.now
     (λ k d inside. c.loop-p.invariant.noted k d (omega arith)) p i

@@ -1,6 +1,5 @@
 use Rattle.std.proofs.Common.{◌≡◌, true, arith}
 use Rattle.protocol.specs.Names.{FolderName}
-use Rattle.leases.specs.Changes.{changed}
 use Rattle.leases.specs.Table.{is_free}
 use Rattle.parked.specs.Spent.{is_private_spent, is_noted}
 use Rattle.parked.proofs.NotedWords.{each_in}
@@ -8,5 +7,5 @@ use Rattle.parked.proofs.spent_folders.SpentFolders.note_folders.Goals as goal
 
 pub returns-clause-noted : goal.returns-clause-noted
 returns-clause-noted c f i =
-    each_in (λ (y : FolderName). is_private_spent (is_free (changed c.args.table.now c.args.change.now)) y ≡ true → is_noted c.loop-folder.self.folders.items y ≡ true) c.args.folders.now
+    each_in (λ (y : FolderName). is_private_spent (is_free c.args.table.now) y ≡ true → is_noted c.loop-folder.self.folders.items y ≡ true) c.args.folders.now
     (λ k d inside. c.loop-folder.invariant.noted k d (omega arith)) f i

@@ -1,12 +1,11 @@
 use Rattle.std.proofs.Common.{◌≡◌, ℕ, ◌<◌, true, get_or}
 use Rattle.protocol.specs.Names.{FolderName}
-use Rattle.leases.specs.Changes.{changed}
 use Rattle.leases.specs.Table.{is_free}
 use Rattle.parked.specs.Spent.{is_private_spent, is_noted}
 use Rattle.parked.proofs.spent_folders.SpentFolders.note_folders.Given as goal
 
 abbrev pub invariant-loop-folder : goal.invariant-loop-folder
 invariant-loop-folder l = record {
-  noted : (k : ℕ) (d : FolderName) → k < l.folder-index → is_private_spent (is_free (changed l.table l.change)) (get_or l.folders k d) ≡ true → is_noted l.self.folders.items (get_or l.folders k d) ≡ true;
+  noted : (k : ℕ) (d : FolderName) → k < l.folder-index → is_private_spent (is_free l.table) (get_or l.folders k d) ≡ true → is_noted l.self.folders.items (get_or l.folders k d) ≡ true;
   kept : (f : FolderName) → is_noted l.initial.self.folders.items f ≡ true → is_noted l.self.folders.items f ≡ true;
 }

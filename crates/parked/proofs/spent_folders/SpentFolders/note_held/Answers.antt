@@ -1,7 +1,6 @@
 use Rattle.std.proofs.Common.{◌≡◌, true, arith}
 use Rattle.std.specs.Prelude.{Bool}
 use Rattle.protocol.specs.Names.{Slot}
-use Rattle.leases.specs.Changes.{changed}
 use Rattle.leases.specs.Table.{is_free}
 use Rattle.parked.specs.Spent.{is_private_spent, is_noted}
 use Rattle.parked.proofs.NotedWords.{each_in}
@@ -9,5 +8,5 @@ use Rattle.parked.proofs.spent_folders.SpentFolders.note_held.Goals as goal
 
 pub returns-clause-noted : goal.returns-clause-noted
 returns-clause-noted c x i =
-    each_in (λ (y : Slot × Bool). is_private_spent (is_free (changed c.args.table.now c.args.change.now)) y.0.folder ≡ true → is_noted c.loop-held.self.folders.items y.0.folder ≡ true) c.args.slots.now
+    each_in (λ (y : Slot × Bool). is_private_spent (is_free c.args.table.now) y.0.folder ≡ true → is_noted c.loop-held.self.folders.items y.0.folder ≡ true) c.args.slots.now
     (λ k d inside. c.loop-held.invariant.noted k d (omega arith)) x i

@@ -3,7 +3,6 @@ use Rattle.std.specs.Prelude.{Bool}
 use Rattle.protocol.specs.Lists.{In}
 use Rattle.protocol.specs.Names.{Slot}
 use Rattle.protocol.specs.Ledger.{Lease}
-use Rattle.leases.specs.Changes.{changed}
 use Rattle.leases.specs.Table.{is_free}
 use Rattle.parked.specs.Spent.{is_private_spent, is_noted}
 use Rattle.parked.proofs.NotedWords.{each_in}
@@ -11,5 +10,5 @@ use Rattle.parked.proofs.spent_folders.SpentFolders.note_leases.Goals as goal
 
 pub returns-clause-noted : goal.returns-clause-noted
 returns-clause-noted c g i =
-    each_in (λ (y : Lease). (x : Slot × Bool) → In x y.slots → is_private_spent (is_free (changed c.args.table.now c.args.change.now)) x.0.folder ≡ true → is_noted c.loop-lease.self.folders.items x.0.folder ≡ true) c.args.leases.now
+    each_in (λ (y : Lease). (x : Slot × Bool) → In x y.slots → is_private_spent (is_free c.args.table.now) x.0.folder ≡ true → is_noted c.loop-lease.self.folders.items x.0.folder ≡ true) c.args.leases.now
     (λ k d inside. c.loop-lease.invariant.noted k d (omega arith)) g i

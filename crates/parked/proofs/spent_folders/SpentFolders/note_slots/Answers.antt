@@ -1,7 +1,6 @@
 use Rattle.std.proofs.Common.{◌≡◌, ◌-◌, ℕ, List, true, get_or, ap, sym, ◌∙◌, subst, inl, inr, arith}
 use Rattle.std.proofs.lemmas.Bool.{cases_lt}
 use Rattle.protocol.specs.Names.{FolderName, Slot}
-use Rattle.leases.specs.Changes.{changed}
 use Rattle.leases.specs.Table.{is_free}
 use Rattle.parked.specs.Spent.{is_private_spent, is_noted}
 use Rattle.parked.specs.declared.spent_folders.SpentFolders.{SpentFolders}
@@ -14,7 +13,7 @@ pub loop-place-preserved : goal.loop-place-preserved
 loop-place-preserved c =
     let place : ℕ = c.loop-place.place in
     let slots : List Slot = c.args.slots.now in
-    let Spent : FolderName → Type 0 = λ f. is_private_spent (is_free (changed c.args.table.now c.args.change.now)) f ≡ true in
+    let Spent : FolderName → Type 0 = λ f. is_private_spent (is_free c.args.table.now) f ≡ true in
     let old = c.loop-place.invariant in
     let inside = c.loop-place-test.true in
     elim c.if-not-is_repeated.branch [
@@ -48,5 +47,5 @@ loop-place-preserved c =
 
 pub returns-clause-noted : goal.returns-clause-noted
 returns-clause-noted c s i =
-    each_in (λ (y : Slot). is_private_spent (is_free (changed c.args.table.now c.args.change.now)) y.folder ≡ true → is_noted c.loop-place.self.folders.items y.folder ≡ true) c.args.slots.now
+    each_in (λ (y : Slot). is_private_spent (is_free c.args.table.now) y.folder ≡ true → is_noted c.loop-place.self.folders.items y.folder ≡ true) c.args.slots.now
     (λ k d inside. c.loop-place.invariant.noted k d (omega (arith, c.loop-place-test.false))) s i
