@@ -161,7 +161,7 @@ fn took_place<R: Threads + Wait + Sync>(
 ) -> Result<bool, Fail> {
     let plan = disturbance.plan(alloc, place)?;
     let course = course_of(rt, alloc, op, plan)?;
-    if !are_outputs(alloc, course.answers.as_slice(), op.2)? {
+    if !are_outputs(alloc, course.answers.as_slice(), op.1)? {
         return Err("a job is without its output".into());
     }
     let events = course.events.as_slice();
