@@ -19,8 +19,8 @@ import sys
 import tempfile
 
 PROGRAM = os.path.abspath("crates/farmctl/out/farmctl")
-# The worked schedules stand in this test, a string each, with `; ` for a line's end.
-WORKED = "crates/farm_tests/src/printed.rt"
+# The worked schedules stand in this table, a line each, with `; ` for a line's end.
+WORKED = "printed/worked.cases"
 # Each command on files of `examples`, and the status of its undisturbed run.
 ROWS = [
     ("replay locked.schedule", 0),
@@ -119,8 +119,7 @@ def is_sound(row, status, preload, folder="examples"):
 
 def worked(folder):
     """Writes each worked schedule to a file of the folder, and returns a row for each."""
-    text, _refused = read(WORKED).decode().split("const NO_SCHEDULES")
-    schedules = re.findall(r'^ +"(nodes [^"]+)",$', text, re.MULTILINE)
+    schedules = re.findall(r"^text F (nodes .+)$", read(WORKED).decode(), re.MULTILINE)
     rows = []
     for number, schedule in enumerate(schedules, 1):
         with open(f"{folder}/worked-{number}.schedule", "w", encoding="ascii") as file:

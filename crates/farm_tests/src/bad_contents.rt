@@ -81,8 +81,8 @@ fn a_version_that_is_no_folder(rt: HostRuntime) -> Result<(), Fail> {
     let alloc = rt.alloc();
     let jobs = jobs_on(alloc, &PUT, &[1])?;
     let (_, keyed) = jobs.first().ok_or("no job")?;
-    let mut board = Board::start(alloc, Setup { nodes: 1 })?;
-    let (refusal, calls) = refused_after(alloc, &mut board, keyed)?;
+    let mut board = Box::new(alloc, Board::start(alloc, Setup { nodes: 1 })?)?;
+    let (refusal, calls) = refused_after(alloc, &mut *board, keyed)?;
     let Some(RunRefusal::BadContents(slot)) = refusal else {
         return Err("no content was bad".into());
     };

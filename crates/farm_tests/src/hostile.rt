@@ -5,7 +5,7 @@ use super::runs::{Op, PUT, PUT_PRIVATE, PUT_SHARED};
 use super::threads::{is_output, jobs_on};
 use commands::Scripted;
 use executions::{Call, ExecOutcome, ExecTask, Executor, OpenGate};
-use farm::{Farm, FarmStop};
+use farm::{Farm, FarmLeft, FarmStop};
 use farm_base::{Copied, FolderName, Items, NodeId, Text, Ticket};
 use farmboard::FarmStep;
 use folders::Edit;
@@ -161,7 +161,7 @@ fn took_place<R: Threads + Wait + Sync>(
 ) -> Result<bool, Fail> {
     let plan = disturbance.plan(alloc, place)?;
     let course = course_of(rt, alloc, op, plan)?;
-    if !are_outputs(alloc, course.answers.as_slice(), op.2)? {
+    if !are_outputs(alloc, course.answers.as_slice(), op.1)? {
         return Err("a job is without its output".into());
     }
     let events = course.events.as_slice();
@@ -319,24 +319,27 @@ impl Executor for Misbehaving {
     }
 }
 
-/// The answer of one job with a folder whose executor does this, or how the run ends else.
+/// The answer of a run's first job, or how the run ends else. In a box: letting go of it is one step of a proof.
+type End = Result<Answer, Box<FarmStop>>;
+
+/// The end of a run of one job with a folder whose executor does this.
 fn end_of<R: Threads + Wait + Sync>(
     rt: &R,
     alloc: Global,
     op: &Op,
     misdeed: Misdeed,
-) -> Result<Result<Answer, FarmStop>, Fail> {
+) -> Result<End, Fail> {
     let jobs = jobs_on(alloc, op, &[1])?;
     end_of_jobs(rt, alloc, jobs, misdeed)
 }
 
-/// The same of these jobs, of which the first has this answer.
+/// The same of these jobs.
 fn end_of_jobs<R: Threads + Wait + Sync>(
     rt: &R,
     alloc: Global,
     jobs: Vec<(NodeId, Keyed)>,
     misdeed: Misdeed,
-) -> Result<Result<Answer, FarmStop>, Fail> {
+) -> Result<End, Fail> {
     let executor: Box<dyn Executor + Send> = Box::new(alloc, Misbehaving::new(alloc, misdeed))?;
     let executors = vec![in alloc; (NodeId(1), executor)]?;
     let plan = Vec::new(alloc);
@@ -351,7 +354,7 @@ fn end_of_jobs<R: Threads + Wait + Sync>(
     );
     match end {
         Ok(end) => Ok(Ok(*end.answers.first().ok_or("no answer")?)),
-        Err(stop) => Ok(Err(stop)),
+        Err(stop) => Ok(Err(Box::new(alloc, stop)?)),
     }
 }
 
@@ -364,11 +367,7 @@ const MISDEEDS: [(Misdeed, &str); 4] = [
 ];
 
 /// Whether the end of a run of one job is this.
-fn ends_so(
-    alloc: Global,
-    end: &Result<Answer, FarmStop>,
-    wanted: &str,
-) -> Result<bool, AllocError> {
+fn ends_so(alloc: Global, end: &End, wanted: &str) -> Result<bool, AllocError> {
     match end {
         Ok(answer) => Ok(*answer == Answer::Failed && wanted == "the job failed"),
         Err(stop) => Ok(stop.fault.to_string(alloc)?.as_str() == wanted),
@@ -376,7 +375,7 @@ fn ends_so(
 }
 
 /// Whether what stands of a stopped run has its executor, and a record without a lease: the one of the execution was given back.
-fn is_given_back(alloc: Global, end: &Result<Answer, FarmStop>) -> Result<bool, Fail> {
+fn is_given_back(alloc: Global, end: &End) -> Result<bool, Fail> {
     let Err(stop) = end else {
         return Ok(true);
     };
@@ -387,14 +386,37 @@ fn is_given_back(alloc: Global, end: &Result<Answer, FarmStop>) -> Result<bool, 
     Ok(record.leases.is_empty() && left.commits == 0 && left.executors.len() == 1)
 }
 
+/// Whether a run on an executor that does this ends so, and gives its lease back.
+fn misbehaves_so<R: Threads + Wait + Sync>(
+    rt: &R,
+    alloc: Global,
+    misdeed: Misdeed,
+    wanted: &str,
+) -> Result<bool, Fail> {
+    let end = end_of(rt, alloc, &PUT_PRIVATE, misdeed)?;
+    Ok(ends_so(alloc, &end, wanted)? && is_given_back(alloc, &end)?)
+}
+
 #[test]
 fn executors_that_misbehave(rt: HostRuntime) -> Result<(), Fail> {
     for (misdeed, wanted) in &MISDEEDS {
-        let end = end_of(&rt, rt.alloc(), &PUT_PRIVATE, *misdeed)?;
-        assert!(rt; ends_so(rt.alloc(), &end, *wanted)?);
-        assert!(rt; is_given_back(rt.alloc(), &end)?);
+        assert!(rt; misbehaves_so(&rt, rt.alloc(), *misdeed, *wanted)?, "{wanted}");
     }
     Ok(())
+}
+
+/// What stands of a run that was stopped.
+fn left_of(end: &End) -> Option<&FarmLeft> {
+    match end {
+        Ok(_) => None,
+        Err(stop) => stop.left.as_ref(),
+    }
+}
+
+/// Whether tenures are the only leases that a run left.
+fn has_tenures_alone(alloc: Global, left: &FarmLeft) -> Result<bool, Fail> {
+    let record = Record::read(alloc, left.saved.as_slice())?;
+    Ok(record.leases.iter().all(|lease| lease.tenure))
 }
 
 /// An edit of a SHARED folder that can't be made: the lease is given back too, and the open folder's tenure is all that is left.
@@ -402,40 +424,30 @@ fn executors_that_misbehave(rt: HostRuntime) -> Result<(), Fail> {
 fn shared_folders_of_a_stopped_run(rt: HostRuntime) -> Result<(), Fail> {
     let end = end_of(&rt, rt.alloc(), &PUT_SHARED, Misdeed::TooMuch)?;
     assert!(rt; ends_so(rt.alloc(), &end, "an outcome that can't be kept")?);
-    let Err(
-        FarmStop {
-            fault: _,
-            left: Some(left),
-        },
-    ) = end
-    else {
-        return Err("nothing stands".into());
-    };
-    let record = Record::read(rt.alloc(), left.saved.as_slice())?;
-    assert!(rt; record.leases.iter().all(|lease| lease.tenure));
+    let left = left_of(&end).ok_or("nothing stands")?;
+    assert!(rt; has_tenures_alone(rt.alloc(), left)?);
     Ok(())
 }
 
-/// An execution that commits, and one behind it whose edit can't be made: what the first committed stands, with its receipt.
-#[test]
-fn what_was_committed_stands(rt: HostRuntime) -> Result<(), Fail> {
-    let alloc = rt.alloc();
+/// The end of a run of an execution that commits, and of one behind it whose edit can't be made.
+fn end_of_two<R: Threads + Wait + Sync>(rt: &R, alloc: Global) -> Result<End, Fail> {
     let mut jobs = jobs_on(alloc, &PUT, &[1])?;
     jobs.append(&mut jobs_on(alloc, &PUT_PRIVATE, &[1])?)?;
-    let end = end_of_jobs(&rt, alloc, jobs, Misdeed::SecondTime)?;
-    let Err(
-        FarmStop {
-            fault: _,
-            left: Some(left),
-        },
-    ) = end
-    else {
-        return Err("nothing stands".into());
-    };
+    end_of_jobs(rt, alloc, jobs, Misdeed::SecondTime)
+}
+
+/// Whether a run left one commit, with its receipt and its line, and no lease.
+fn has_one_commit(alloc: Global, left: &FarmLeft) -> Result<bool, Fail> {
     let record = Record::read(alloc, left.saved.as_slice())?;
-    assert_eq!(rt; left.commits, 1);
-    assert_eq!(rt; left.receipts.len(), 1);
-    assert_eq!(rt; record.lines.len(), 1);
-    assert!(rt; record.leases.is_empty());
+    let is_kept = left.commits == 1 && left.receipts.len() == 1;
+    Ok(is_kept && record.lines.len() == 1 && record.leases.is_empty())
+}
+
+/// What the first committed stands.
+#[test]
+fn what_was_committed_stands(rt: HostRuntime) -> Result<(), Fail> {
+    let end = end_of_two(&rt, rt.alloc())?;
+    let left = left_of(&end).ok_or("nothing stands")?;
+    assert!(rt; has_one_commit(rt.alloc(), left)?);
     Ok(())
 }

@@ -1,5 +1,4 @@
-//! Tests of executions, runs on threads and what the program prints: outside vectors, printed texts, and what comes at
-//! limits.
+//! Tests of executions, and of runs on threads.
 #![tactic(auto)]
 
 #[cfg(test)]
@@ -7,17 +6,7 @@ mod bad_contents;
 #[cfg(test)]
 mod board_calls;
 #[cfg(test)]
-mod cuts;
-#[cfg(test)]
-mod explanations;
-#[cfg(test)]
 mod hostile;
-#[cfg(test)]
-mod printed;
-#[cfg(test)]
-mod record_logs;
-#[cfg(test)]
-mod record_texts;
 #[cfg(test)]
 mod runs;
 #[cfg(test)]
@@ -25,4 +14,4 @@ mod shared_batches;
 #[cfg(test)]
 mod threads;
 #[cfg(test)]
-mod wants_texts;
+mod unwritten;

@@ -2,7 +2,7 @@
 //! executor in one thread.
 ghost use Rattle.std.specs.Prelude.{⊤, ◌≡◌, ◌∷◌, [], IfOk};
 
-use super::runs::{Op, PUT_PRIVATE, file};
+use super::runs::{Op, PUT_PRIVATE};
 use commands::Scripted;
 use executions::{Call, ExecOutcome, ExecTask, Executor, Gate, OpenGate};
 use farm::{DownCount, Farm, FarmEnd, FarmFault};
@@ -125,16 +125,18 @@ impl Gate for Both {
     }
 }
 
+/// The graph of an op's definition, with its keys.
+fn keyed(alloc: Global, op: &Op) -> Result<Keyed, Fail> {
+    let bytes = hex::decode(alloc, op.0)?;
+    let graph = load(alloc, read_definition(alloc, bytes)?)?;
+    Ok(Keyed::of(alloc, graph)?)
+}
+
 /// A job of this op alone on each of these nodes. All have the same key.
 pub(crate) fn jobs_on(alloc: Global, op: &Op, nodes: &[u32]) -> Result<Vec<(NodeId, Keyed)>, Fail> {
     let mut jobs = Vec::new(alloc);
     for node in nodes {
-        let (_, bytes) = file(alloc, op)?;
-        let Some(bytes) = bytes else {
-            continue;
-        };
-        let graph = load(alloc, read_definition(alloc, bytes)?)?;
-        jobs.push((NodeId(*node), Keyed::of(alloc, graph)?))?;
+        jobs.push((NodeId(*node), keyed(alloc, op)?))?;
     }
     Ok(jobs)
 }
@@ -273,7 +275,7 @@ fn one_executor_in_one_thread(rt: HostRuntime) -> Result<(), Fail> {
     assert_eq!(rt; commits, 1);
     assert_eq!(rt; answers.len(), 2);
     for answer in &answers {
-        assert!(rt; is_output(alloc, answer, PUT_PRIVATE.2)?);
+        assert!(rt; is_output(alloc, answer, PUT_PRIVATE.1)?);
     }
     let nowhere = solved_here(alloc, &[2])?;
     assert_eq!(rt; nowhere.err(), Some(FarmFault::BadSetup));

@@ -1,5 +1,5 @@
-//! The lines of a coordinator's filter, each with its answer, word for word. They were worked out by hand; the digests are those of
-//! the contents `abc` and of nothing.
+//! Lines of a coordinator's filter whose answers the program can't be made to give: one that is too long, and one whose save fails.
+//! `printed/processes.cases` has the others.
 
 use coordinator::Coordinator;
 use farm_base::Key;
@@ -16,93 +16,12 @@ pub const KEY: &[u8] = b"the key of a farm, thirty-two bytes";
 /// How long a line may be here, with its end.
 const MOST: usize = 400;
 
-/// Lines and their answers. `m ` stands before messages, whose MACs are left out here.
-const LINES: [(&str, &str); 25] = [
-    ("m hello 1 5", "= nothing"),
-    (
-        "m acquire 1 5 1 locked:apt",
-        "m granted 1 5 1 1 plain locked:apt=0:e3b0c44298fc1c149afbf4c8996fb92427ae41e4649b934ca495991b7852b855\n= granted 1 locked:apt=0",
-    ),
-    ("m acquire 2 7 1 locked:apt ro=locked:b", "= parked"),
-    (
-        "status",
-        ": lease 1 1 5 1 plain locked:apt\n: parked acquire 2 7 1 locked:apt ro=locked:b\n: life 1 5\n: life 2 7\n: tickets 1\n= status",
-    ),
-    (
-        "needed",
-        ": e3b0c44298fc1c149afbf4c8996fb92427ae41e4649b934ca495991b7852b855\n= needed",
-    ),
-    (
-        "m commit 1 5 1 locked:apt=ba7816bf8f01cfea414140de5dae2223b00361a396177a9cb410ff61f20015ad",
-        "m committed 1 5 1 locked:apt=1:ba7816bf8f01cfea414140de5dae2223b00361a396177a9cb410ff61f20015ad\nm granted 2 7 1 2 plain locked:apt=1:ba7816bf8f01cfea414140de5dae2223b00361a396177a9cb410ff61f20015ad ro=locked:b=0:e3b0c44298fc1c149afbf4c8996fb92427ae41e4649b934ca495991b7852b855\n= committed 1",
-    ),
-    (
-        "m commit 1 5 1 locked:apt=ba7816bf8f01cfea414140de5dae2223b00361a396177a9cb410ff61f20015ad",
-        "m committed 1 5 1 locked:apt=1:ba7816bf8f01cfea414140de5dae2223b00361a396177a9cb410ff61f20015ad\n= committed before 1",
-    ),
-    (
-        "needed",
-        ": ba7816bf8f01cfea414140de5dae2223b00361a396177a9cb410ff61f20015ad\n: ba7816bf8f01cfea414140de5dae2223b00361a396177a9cb410ff61f20015ad\n: e3b0c44298fc1c149afbf4c8996fb92427ae41e4649b934ca495991b7852b855\n= needed",
-    ),
-    ("withdraw 2", ": ended 2 2\n= withdrawn 2"),
-    (
-        "m commit 2 7 2 locked:apt=ba7816bf8f01cfea414140de5dae2223b00361a396177a9cb410ff61f20015ad",
-        "m fenced 2 7 2\n= fenced 2",
-    ),
-    (
-        "line locked:apt",
-        ": 1 1 ba7816bf8f01cfea414140de5dae2223b00361a396177a9cb410ff61f20015ad\n= line",
-    ),
-    ("line locked:b", "= line"),
-    ("m hello 2 6", ": outdated 2 7\n= old life"),
-    ("retire 2", "= retired 2"),
-    ("m hello 2 8", ": gone 2\n= retired node"),
-    (
-        "m acquire 1 5 2 private:p",
-        "m granted 1 5 2 3 plain private:p#1=0:e3b0c44298fc1c149afbf4c8996fb92427ae41e4649b934ca495991b7852b855\n= granted 3 private:p#1=0",
-    ),
-    ("retire 1", ": ended 3 1\n= retired 1"),
-    (
-        "m tenure 3 1 1 shared:s",
-        "m granted 3 1 1 4 tenure shared:s=0:e3b0c44298fc1c149afbf4c8996fb92427ae41e4649b934ca495991b7852b855\n= granted 4 shared:s=0",
-    ),
-    ("m tenure 4 1 1 shared:s", "m recall 3 1 4\n= parked"),
-    (
-        "m acquire 3 1 2 ro=locked:apt shared:s",
-        "m granted 3 1 2 5 shared ro=locked:apt=1:ba7816bf8f01cfea414140de5dae2223b00361a396177a9cb410ff61f20015ad\n= granted 5 locked:apt=1",
-    ),
-    (
-        "nudge",
-        "m granted 3 1 1 4 tenure shared:s=0:e3b0c44298fc1c149afbf4c8996fb92427ae41e4649b934ca495991b7852b855\nm recall 3 1 4\nm granted 3 1 2 5 shared ro=locked:apt=1:ba7816bf8f01cfea414140de5dae2223b00361a396177a9cb410ff61f20015ad\n= nudged",
-    ),
-    (
-        "status",
-        ": lease 4 3 1 1 tenure shared:s\n: lease 5 3 1 2 shared ro=locked:apt\n: parked tenure 4 1 1 shared:s\n: life 1 5\n: life 2 7\n: life 3 1\n: life 4 1\n: gone 1\n: gone 2\n: retired private:p#1\n: last locked:apt 1:1:ba7816bf8f01cfea414140de5dae2223b00361a396177a9cb410ff61f20015ad\n: tickets 5\n= status",
-    ),
-    ("prune locked:apt", "= refused SlotLeased"),
-    ("withdraw 99", "= refused NotLive"),
-    ("withdraw 4", "= refused Tenure"),
-];
-
-/// Lines that are not carried out. One with `!` before it is taken as it stands, without a MAC.
-const UNREAD: [(&str, &str); 10] = [
-    (
-        "!m hello 3 1 0000000000000000000000000000000000000000000000000000000000000000",
-        "= dropped BadMac",
-    ),
-    ("!m ", "= dropped BadMac"),
-    ("m hello 0 5", "= dropped BadForm"),
-    ("m withdraw 5", "= dropped BadForm"),
-    ("m fenced 3 1 5", "= dropped NotMine"),
-    (
-        "!m xxxxxxxxxxxxxxxxxxxxxxxxxxxxxxxxxxxxxxxxxxxxxxxxxxxxxxxxxxxxxxxxxxxxxxxxxxxxxxxxxxxxxxxxxxxxxxxxxxxxxxxxxxxxxxxxxxxxxxxxxxxxxxxxxxxxxxxxxxxxxxxxxxxxxxxxxxxxxxxxxxxxxxxxxxxxxxxxxxxxxxxxxxxxxxxxxxxxxxxxxxxxxxxxxxxxxxxxxxxxxxxxxxxxxxxxxxxxxxxxxxxxxxxxxxxxxxxxxxxxxxxxxxxxxxxxxxxxxxxxxxxxxxxxxxxxxxxxxxxxxxxxxxxxxxxxxxxxxxxxxxxxxxxxxxxxxxxxxxxxxxxxxxxxxxxxxxxxxxxxxxxxxxxxxxxxxxxxxxxxxxxxxxxxxxxxxxxxxxxx",
-        "= dropped TooLong",
-    ),
-    ("needed ", "= refused BadLine"),
-    ("retire 1025", "= refused BadLine"),
-    ("line locked", "= refused BadLine"),
-    ("", "= refused BadLine"),
-];
+/// A line that is longer, and its answer. One with `!` before it is taken as it stands; `m ` stands before messages, whose MACs
+/// are left out here.
+const LONG: [(&str, &str); 1] = [(
+    "!m xxxxxxxxxxxxxxxxxxxxxxxxxxxxxxxxxxxxxxxxxxxxxxxxxxxxxxxxxxxxxxxxxxxxxxxxxxxxxxxxxxxxxxxxxxxxxxxxxxxxxxxxxxxxxxxxxxxxxxxxxxxxxxxxxxxxxxxxxxxxxxxxxxxxxxxxxxxxxxxxxxxxxxxxxxxxxxxxxxxxxxxxxxxxxxxxxxxxxxxxxxxxxxxxxxxxxxxxxxxxxxxxxxxxxxxxxxxxxxxxxxxxxxxxxxxxxxxxxxxxxxxxxxxxxxxxxxxxxxxxxxxxxxxxxxxxxxxxxxxxxxxxxxxxxxxxxxxxxxxxxxxxxxxxxxxxxxxxxxxxxxxxxxxxxxxxxxxxxxxxxxxxxxxxxxxxxxxxxxxxxxxxxxxxxxxxxxxxxxxx",
+    "= dropped TooLong",
+)];
 
 /// What is said where the first save fails, and leaves what was kept.
 const FAILED_SAVE: [(&str, &str); 2] = [
@@ -216,14 +135,8 @@ fn answers_so(alloc: Global, rows: &[(&str, &str)]) -> Result<bool, Fail> {
 }
 
 #[test]
-fn answers(rt: HostRuntime) -> Result<(), Fail> {
-    assert!(rt; answers_so(rt.alloc(), LINES.as_slice())?);
-    Ok(())
-}
-
-#[test]
-fn what_is_unread(rt: HostRuntime) -> Result<(), Fail> {
-    assert!(rt; answers_so(rt.alloc(), UNREAD.as_slice())?);
+fn a_long_line(rt: HostRuntime) -> Result<(), Fail> {
+    assert!(rt; answers_so(rt.alloc(), &LONG)?);
     Ok(())
 }
 
@@ -237,19 +150,5 @@ fn fails_so(alloc: Global) -> Result<bool, Fail> {
 #[test]
 fn a_failed_save(rt: HostRuntime) -> Result<(), Fail> {
     assert!(rt; fails_so(rt.alloc())?);
-    Ok(())
-}
-
-/// What a new filter writes that reads this text.
-fn said_to_new(alloc: Global, text: &str) -> Result<String, Fail> {
-    let mut filter = new_filter(alloc)?;
-    written(alloc, &mut filter, text, STARTED)
-}
-
-/// A line without its end is not carried out.
-#[test]
-fn half_a_line(rt: HostRuntime) -> Result<(), Fail> {
-    let text = said_to_new(rt.alloc(), "nudge\nprune locked:a")?;
-    assert_eq!(rt; text.as_str(), "= started\n= nudged\n");
     Ok(())
 }

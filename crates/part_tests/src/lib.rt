@@ -9,6 +9,8 @@ mod coordinator_lines;
 #[cfg(test)]
 mod crashes;
 #[cfg(test)]
+mod cuts;
+#[cfg(test)]
 mod edits;
 #[cfg(test)]
 mod endings;
@@ -29,8 +31,6 @@ mod mounts;
 #[cfg(test)]
 mod names;
 #[cfg(test)]
-mod node_lines;
-#[cfg(test)]
 mod ops;
 #[cfg(test)]
 mod orders;
@@ -38,8 +38,6 @@ mod orders;
 mod places;
 #[cfg(test)]
 mod records;
-#[cfg(test)]
-mod samples;
 #[cfg(test)]
 mod saves;
 #[cfg(test)]
