@@ -67,7 +67,7 @@ gives-more k p w = record {
   leased = λ s e. (let r = from_any (λ (g : Lease). has_slot g.slots s) w.ledger.live e in any_in (λ (g : Lease). has_slot g.slots s) r.0 (w.ledger.live ++ lease_for k w.ledger p ∷ []) (in_left r.0 w.ledger.live (lease_for k w.ledger p ∷ []) r.1) r.2);
 }
 
-carried-more : (d : Decision) (k : Limits) (p : Parked) (w : Work) → LeasesMore w.ledger (carried_out d k p w).ledger
+carried-more : (d : Decision) (k : Limits) (p : Parked) (w : Work) → LeasesMore w.ledger (carried_out k d p w).ledger
 carried-more Give k p w = gives-more k p w
 carried-more (Deny why) k p w = more_same w.ledger
 carried-more Wait k p w = more_same w.ledger
@@ -124,7 +124,7 @@ recalling true o p w e = ap (λ (x : Option Lease). (recall x w).ledger) (sym e)
     by None = refl
     by (Some g) = refl
 
-decided-held : (d : Decision) (k : Limits) (p : Parked) (w : Work) → decision k w.ledger p ≡ d → AreHeldUp w.ledger → AreHeldUp (decided d k p w).ledger
+decided-held : (d : Decision) (k : Limits) (p : Parked) (w : Work) → decision k w.ledger p ≡ d → AreHeldUp w.ledger → AreHeldUp (decided k d p w).ledger
 unfolding gives
 decided-held Give k p w e held = keeps w.ledger (gives k p w).ledger (gives-more k p w) (λ r i. i) held
 decided-held (Deny why) k p w e held = held

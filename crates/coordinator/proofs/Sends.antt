@@ -26,7 +26,7 @@ at_most_one false = omega arith
 
 -- an ask that makes it say something doesn't stay
 
-carried_few : (d : Decision) (k : Limits) (p : Parked) (w : Work) → length (carried_out d k p w).sends + cond (waits d) 1 0 ≤ length w.sends + 1
+carried_few : (d : Decision) (k : Limits) (p : Parked) (w : Work) → length (carried_out k d p w).sends + cond (waits d) 1 0 ≤ length w.sends + 1
 carried_few Give k p w = omega (arith, gives_one k p w)
 carried_few (Deny why) k p w = omega (arith, denies_one k why p w)
 carried_few Wait k p w = omega arith
@@ -62,7 +62,7 @@ recalls_few : (b : Bool) (p : Parked) (w : Work) → length (recalls b p w).send
 recalls_few true p w = recall_few (find (holds_wanted p) w.ledger.live) w
 recalls_few false p w = omega arith
 
-decided_few : (d : Decision) (k : Limits) (p : Parked) (w : Work) → length (decided d k p w).sends ≤ length w.sends + 1
+decided_few : (d : Decision) (k : Limits) (p : Parked) (w : Work) → length (decided k d p w).sends ≤ length w.sends + 1
 decided_few Give k p w = omega (arith, gives_one k p w)
 decided_few (Deny why) k p w = omega (arith, denies_one k why p w)
 decided_few Wait k p w = recalls_few (p.tenure && not (elsewhere w.ledger p)) p w

@@ -109,7 +109,7 @@ among-itself s slots i = any_in (λ (x : Slot). slot_eq x s) s slots i (slot_eq_
 
 -- a slot of a folder that the ask doesn't want is free still
 free_carried : (d : Decision) (k : Limits) (p : Parked) (w : Work) (f : FolderName) → list_any (λ v. folder_eq v.folder f) p.wants ≡ false
-    → (s : Slot) → s.folder ≡ f → is_free_in w.ledger s ≡ true → is_free_in (carried_out d k p w).ledger s ≡ true
+    → (s : Slot) → s.folder ≡ f → is_free_in w.ledger s ≡ true → is_free_in (carried_out k d p w).ledger s ≡ true
 unfolding gives
 free_carried Give k p w f none s is e =
     let b = and_parts (not (some_lease w.ledger.live s)) (not (w.ledger.retired s)) e in

@@ -12,9 +12,9 @@ use Rattle.protocol.specs.declared.answer.Decision.{Decision}
 use Rattle.protocol.specs.declared.answer.Decision.TheVariants.{Give, Deny, Wait}
 use Rattle.coordinator.specs.Shown.{ended, saved_under}
 
-pub tried-is : (k : Limits) (p : Parked) (w : Work) (d : Decision) → decision k w.ledger p ≡ d → tried k p w ≡ carried_out d k p w
+pub tried-is : (k : Limits) (p : Parked) (w : Work) (d : Decision) → decision k w.ledger p ≡ d → tried k p w ≡ carried_out k d p w
 unfolding tried
-tried-is k p w d e = ap (λ x. carried_out x k p w) e
+tried-is k p w d e = ap (λ x. carried_out k x p w) e
 
 pub stays-is : (k : Limits) (p : Parked) (w : Work) (d : Decision) → decision k w.ledger p ≡ d → stays k p w ≡ waits d
 unfolding stays
@@ -25,7 +25,7 @@ decision-parks : (k : Limits) (p : Parked) (w : Work) (ps : List Parked) → dec
 unfolding decision
 decision-parks k p w ps = refl
 
-carried_out-parks : (d : Decision) (k : Limits) (p : Parked) (w : Work) (ps : List Parked) → carried_out d k p (parks ps w) ≡ parks ps (carried_out d k p w)
+carried_out-parks : (d : Decision) (k : Limits) (p : Parked) (w : Work) (ps : List Parked) → carried_out k d p (parks ps w) ≡ parks ps (carried_out k d p w)
 unfolding gives
 carried_out-parks Give k p w ps = refl
 carried_out-parks (Deny why) k p w ps = refl
@@ -54,7 +54,7 @@ unfolding retried
 retried-is k w = refl
 
 -- an ask that was not granted or parked before is decided
-pub acquiring-decides : (k : Limits) (o : Option Lease) (b : Bool) (p : Parked) (w : Work) → is_some o ≡ false → b ≡ false → acquiring k o b p w ≡ decided (decision k w.ledger p) k p w
+pub acquiring-decides : (k : Limits) (o : Option Lease) (b : Bool) (p : Parked) (w : Work) → is_some o ≡ false → b ≡ false → acquiring k o b p w ≡ decided k (decision k w.ledger p) p w
 acquiring-decides k (Some g) b p w h e = (let bad : true ≡ false = h in absurd (cc bad))
 acquiring-decides k None true p w h e = (let bad : true ≡ false = e in absurd (cc bad))
 acquiring-decides k None false p w h e = refl

@@ -310,7 +310,7 @@ impl<'s> Draft<'s> {
     /// Grants or denies an ask, or parks it.
     fn decide(&mut self, alloc: Global, p: Parked) -> Result<(), AllocError>
         requires { IsSound (work self.old).ledger }
-        ensures { OnOk result (Makes (λ w. decided (decision farm_limits w.ledger p) farm_limits p w) self.old self.new) }
+        ensures { OnOk result (Makes (λ w. decided farm_limits (decision farm_limits w.ledger p) p w) self.old self.new) }
     {
         match self.decision(&p) {
             Decision::Give => {

@@ -18,6 +18,6 @@ returns c =
       base = c.in_ok-decide.ensures.base ∙ again.base;
       added = c.in_ok-decide.ensures.added ∙ again.added;
       work = c.in_ok-decide.ensures.work
-          ∙ ap (λ (x : Work). decided (decision farm_limits x.ledger p) farm_limits p x) same
+          ∙ ap (λ (x : Work). decided farm_limits (decision farm_limits x.ledger p) p x) same
           ∙ sym (acquiring-decides farm_limits (lease_of w.ledger.live p.node p.life p.ask) (is_parked w.ledger.parked p.node p.life p.ask) p w (sym c.in_ok-grant_again.ensures.found ∙ c.if-branch.false) parked);
     }

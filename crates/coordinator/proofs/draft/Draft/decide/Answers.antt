@@ -8,5 +8,5 @@ use Rattle.coordinator.proofs.draft.Draft.decide.Goals as goal
 
 pub returns-in_ok-deny-in-Deny : goal.returns-in_ok-deny-in-Deny
 returns-in_ok-deny-in-Deny c =
-    makes-as (λ w. decided (decision farm_limits w.ledger c.args.p) farm_limits c.args.p w) (makes-then c.in_ok-deny-in-Deny.ensures c.note-in-Deny.ensures)
-    (ap (λ (d : Decision). decided d farm_limits c.args.p (work c.args.self.now)) c.in-Deny.ensures.decision)
+    makes-as (λ w. decided farm_limits (decision farm_limits w.ledger c.args.p) c.args.p w) (makes-then c.in_ok-deny-in-Deny.ensures c.note-in-Deny.ensures)
+    (ap (λ (d : Decision). decided farm_limits d c.args.p (work c.args.self.now)) c.in-Deny.ensures.decision)
