@@ -11,6 +11,7 @@ use Rattle.opsproto.specs.declared.op.Kind.{Kind}
 use Rattle.opsproto.specs.declared.op.Kind.TheVariants.{Exec, Opaque, Bare}
 use Rattle.vertices.specs.declared.vertex.Vertex.{Vertex}
 use Rattle.solverkeys.specs.Keyed.{KeyedParts}
+use Rattle.cachemounts.specs.declared.viewing.CacheView.{CacheView}
 use Rattle.cachemounts.specs.CacheViews.{AreViews}
 use Rattle.cachemounts.specs.CacheWants.{mounts_in}
 use Rattle.folders.specs.Files.{Files}
@@ -30,17 +31,17 @@ abbrev pub output_at : List Digest → ℤ → Option Digest
 output_at outputs (pos place) = slice_get outputs place
 output_at outputs (negsuc number) = None
 
--- the view of a cache mount, of which there are its place among the mounts and that of its folder among the wants
+-- the view of a cache mount
 pub record IsViewAt (seen : FolderName → Files) (wants : List Want) (outputs : List Digest) (mounts : List (Mount Text))
-    (places : ℕ × ℕ) (view : View) : Type 0 where
+    (place : CacheView) (view : View) : Type 0 where
   pub mount : Mount Text
   pub want : Want
-  pub mount_there : slice_get mounts places.0 ≡ Some mount
-  pub want_there : slice_get wants places.1 ≡ Some want
-  pub place : view.mount ≡ places.0
+  pub mount_there : slice_get mounts place.mount ≡ Some mount
+  pub want_there : slice_get wants place.want ≡ Some want
+  pub here : view.mount ≡ place.mount
   pub folder : view.folder ≡ want.folder
   pub writable : view.writable ≡ want.writable
-  pub files : view.files.now ≡ seen want.folder
+  pub files : view.files ≡ seen want.folder
   pub base : view.base ≡ output_at outputs mount.input
 
 -- what is given for a task that is the vertex of a number: what the vertex does, the outputs that its inputs name,
@@ -53,7 +54,7 @@ pub record IsGiven (k : KeyedParts) (number : ℕ) (task : Task) (seen : FolderN
   pub stripped : given.stripped ≡ vertex.op.stripped
   pub exec : given.exec ≡ command_in vertex.op.kind
   pub inputs : given.inputs ≡ task.inputs.items
-  pub places : List (ℕ × ℕ)
+  pub places : List CacheView
   pub places_are : AreViews k.graph k.keys number wants places
   pub views : AllZip (IsViewAt seen wants task.inputs.items (mounts_in vertex.op.kind)) places given.views
 

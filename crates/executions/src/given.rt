@@ -1,9 +1,8 @@
 //! What the executor of a lease is given.
-ghost use Rattle.std.specs.Prelude.{◌≡◌, ◌<◌, ℕ, List, length, IfOk, Contains, slice_get};
+ghost use Rattle.std.specs.Prelude.{◌≡◌, ◌<◌, List, length, IfOk, Contains};
 ghost use Rattle.std.specs.List.{AllZip};
-ghost use Rattle.std.specs.Option.{option_copied};
 ghost use Rattle.farm_base.specs.declared.folder.Base.{Base};
-ghost use Rattle.vertices.specs.declared.vertex.Vertex.{Vertex as SpecVertex};
+ghost use Rattle.cachemounts.specs.declared.viewing.CacheView.{CacheView as SpecView};
 ghost use Rattle.cachemounts.specs.CacheViews.{IsView};
 ghost use Rattle.cachemounts.specs.CacheWants.{AreWants, mounts_in};
 ghost use Rattle.executions.specs.Given.{command_in, output_at, IsViewAt, IsGiven};
@@ -11,22 +10,12 @@ ghost use Rattle.executions.specs.Seen.{folder_seen};
 
 use super::seen::Seen;
 use super::task::{ExecTask, View};
-use cachemounts::views;
+use cachemounts::{CacheView, views};
 use farm_base::{Copied, Digest, Items, Want, Wants};
 use jobs::Task;
-use opsproto::{ExecOp, Kind, Mount, Op};
+use opsproto::{Kind, Mount, Op};
 use solverkeys::Keyed;
 use std::alloc::{AllocError, Global};
-
-/// The command of an op that runs one.
-fn command_in(kind: &Kind) -> Option<&ExecOp>
-    ensures { option_copied result ≡ command_in kind.now }
-{
-    match kind {
-        Kind::Exec(exec) => Some(exec),
-        Kind::Opaque(_) | Kind::Bare => None,
-    }
-}
 
 /// The mounts of an op.
 fn mounts_in(kind: &Kind) -> &[Mount]
@@ -46,90 +35,89 @@ fn output_at(outputs: &[Digest], input: i64) -> Option<Digest>
     outputs.get(place).copied()
 }
 
-/// The view of the cache mount at the first place. The second is that of its folder among the wants.
-fn view_at<'a>(
+/// The view of a cache mount.
+fn view_at(
     alloc: Global,
-    seen: &'a Seen,
+    seen: &Seen,
     wants: &[Want],
     outputs: &[Digest],
     mounts: &[Mount],
-    places: (usize, usize),
-) -> Result<View<'a>, AllocError>
-    requires { (bases : List Base) × IsView bases mounts.now wants.now places }
-    ensures { IfOk result (IsViewAt (folder_seen seen.now.leased seen.now.shared) wants.now outputs.now mounts.now places) }
+    place: CacheView,
+) -> Result<View, AllocError>
+    requires { (bases : List Base) × IsView bases mounts.now wants.now place }
+    ensures { IfOk result (IsViewAt (folder_seen seen.now.leased seen.now.shared) wants.now outputs.now mounts.now place) }
 {
-    let mount = &mounts[places.0];
-    let want = &wants[places.1];
+    let mount = &mounts[place.mount];
+    let want = &wants[place.want];
     Ok(View {
-        mount: places.0,
+        mount: place.mount,
         folder: want.folder.copy(alloc)?,
         writable: want.writable,
-        files: seen.folder(&want.folder),
+        files: seen.folder(&want.folder).copy(alloc)?,
         base: output_at(outputs, mount.input),
     })
 }
 
-/// The views of the cache mounts at these places.
-fn views_at<'a>(
+/// The views of these cache mounts.
+fn views_at(
     alloc: Global,
-    seen: &'a Seen,
+    seen: &Seen,
     wants: &[Want],
     outputs: &[Digest],
     mounts: &[Mount],
-    places: &[(usize, usize)],
-) -> Result<Vec<View<'a>>, AllocError>
-    requires { (bases : List Base) × ((places' : ℕ × ℕ) → Contains places.now places' → IsView bases mounts.now wants.now places') }
+    places: &[CacheView],
+) -> Result<Vec<View>, AllocError>
+    requires { (bases : List Base) × ((place : SpecView) → Contains places.now place → IsView bases mounts.now wants.now place) }
     ensures { IfOk result (λ views. AllZip (IsViewAt (folder_seen seen.now.leased seen.now.shared) wants.now outputs.now mounts.now) places.now views.items) }
 {
     let mut views = Vec::with_capacity(alloc, places.len())?;
-    for pair in places {
-        views.push(view_at(alloc, seen, wants, outputs, mounts, *pair)?)?;
+    for place in places {
+        views.push(view_at(alloc, seen, wants, outputs, mounts, *place)?)?;
     }
     Ok(views)
 }
 
-/// What an executor is given for a task of this op, whose cache mounts and their folders among the wants have these places.
-fn given_by<'a>(
+/// What an executor is given for a task of this op, which has these cache mounts.
+fn given_by(
     alloc: Global,
-    seen: &'a Seen,
+    seen: &Seen,
     wants: &[Want],
-    task: &'a Task,
-    op: &'a Op,
-    places: &[(usize, usize)],
-) -> Result<ExecTask<'a>, AllocError>
-    requires { (bases : List Base) × ((places' : ℕ × ℕ) → Contains places.now places' → IsView bases (mounts_in op.now.kind) wants.now places') }
+    task: &Task,
+    op: Op,
+    places: &[CacheView],
+) -> Result<ExecTask, AllocError>
+    requires { (bases : List Base) × ((place : SpecView) → Contains places.now place → IsView bases (mounts_in op.kind) wants.now place) }
     ensures key { IfOk result (λ given. given.key ≡ task.now.key) }
-    ensures stripped { IfOk result (λ given. given.stripped ≡ op.now.stripped) }
-    ensures exec { IfOk result (λ given. given.exec ≡ command_in op.now.kind) }
+    ensures stripped { IfOk result (λ given. given.stripped ≡ op.stripped) }
+    ensures exec { IfOk result (λ given. given.exec ≡ command_in op.kind) }
     ensures inputs { IfOk result (λ given. given.inputs ≡ task.now.inputs.items) }
-    ensures views { IfOk result (λ given. AllZip (IsViewAt (folder_seen seen.now.leased seen.now.shared) wants.now task.now.inputs.items (mounts_in op.now.kind)) places.now given.views) }
+    ensures views { IfOk result (λ given. AllZip (IsViewAt (folder_seen seen.now.leased seen.now.shared) wants.now task.now.inputs.items (mounts_in op.kind)) places.now given.views) }
 {
+    let inputs = Vec::from_slice(alloc, task.inputs.as_slice())?;
     let mounts = mounts_in(op.kind());
     let views = views_at(alloc, seen, wants, &task.inputs, mounts, places)?;
     Ok(ExecTask {
         key: task.key,
-        stripped: op.stripped(),
-        exec: command_in(op.kind()),
-        inputs: task.inputs.as_slice(),
+        op,
+        inputs: Items::new(inputs),
         views: Items::new(views),
     })
 }
 
-/// What an executor is given for a task. The task is the vertex of this number, which has this op and wants these folders.
-pub(crate) fn given<'a>(
+/// What an executor is given for a task. The task is the vertex of this number, which wants these folders.
+pub(crate) fn given(
     alloc: Global,
-    seen: &'a Seen,
+    seen: &Seen,
     wants: &Wants,
-    task: &'a Task,
-    op: &'a Op,
+    task: &Task,
     keyed: &Keyed,
     vertex: usize,
-) -> Result<ExecTask<'a>, AllocError>
-    requires op { (it : SpecVertex) × (slice_get keyed.now.graph.vertices vertex ≡ Some it) × (op.now ≡ it.op) }
+) -> Result<ExecTask, AllocError>
     requires vertex { vertex < length keyed.now.graph.vertices }
     requires wants { AreWants keyed.now.graph keyed.now.keys vertex wants.now }
     ensures { IfOk result (IsGiven keyed.now vertex task.now (folder_seen seen.now.leased seen.now.shared) wants.now) }
 {
     let places = views(alloc, keyed.graph(), vertex, keyed.keys(), wants)?;
+    let op = keyed.graph().vertex(vertex).op.read(alloc)?;
     given_by(alloc, seen, wants.as_slice(), task, op, &places)
 }

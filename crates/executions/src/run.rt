@@ -50,8 +50,7 @@ fn answer(
     ensures given { IfOk result (λ outcome. Answered (IsGiven keyed.now vertex task.now (folder_seen seen.now.leased seen.now.shared) wants.now) (answers executor.old) outcome) }
     ensures err { OnErr result (history executor.new ≡ history executor.old) }
 {
-    let op = keyed.graph().vertex(vertex).op.read(alloc)?;
-    let given = given(alloc, seen, wants, task, &op, keyed, vertex)?;
+    let given = given(alloc, seen, wants, task, keyed, vertex)?;
     Ok(executor.run(&given))
 }
 

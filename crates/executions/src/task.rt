@@ -3,42 +3,42 @@ ghost use Rattle.std.specs.Option.{option_copied};
 
 use farm_base::{Digest, FolderName, Items, Key};
 use folders::Folder;
-use opsproto::ExecOp;
+use opsproto::{ExecOp, Kind, Op};
 use std::marker::Model;
 
 /// What an execution sees at a cache mount.
 #[derive(Debug, Drop)]
-pub struct View<'a> {
+pub struct View {
     /// The mount's place among the command's mounts, from 0.
     pub mount: usize,
     pub folder: FolderName,
     /// Whether the execution may change the folder.
     pub writable: bool,
-    pub files: &'a Folder,
+    pub files: Folder,
     /// The output that the mount's input takes, if it has one.
     pub base: Option<Digest>,
 }
 
-/// What an executor is given. It lends the op, the outputs and the folders. Only `run_leased` makes it.
+/// What an executor is given. Only `run_leased` makes it.
 #[derive(Debug, Drop)]
-pub struct ExecTask<'a> {
+pub struct ExecTask {
     pub(crate) key: Key,
-    pub(crate) stripped: &'a [u8],
-    pub(crate) exec: Option<&'a ExecOp>,
-    pub(crate) inputs: &'a [Digest],
-    pub(crate) views: Items<View<'a>>,
+    /// What the vertex does.
+    pub(crate) op: Op,
+    pub(crate) inputs: Items<Digest>,
+    pub(crate) views: Items<View>,
 }
 
-impl<'a> Model for ExecTask<'a> {
-    ghost use Rattle.std.specs.Option.{option_copied};
+impl Model for ExecTask {
+    ghost use Rattle.executions.specs.Given.{command_in};
     ghost use Rattle.executions.specs.TaskParts.{TaskParts};
 
     ghost Value = { TaskParts };
 
-    ghost view = { λ t. record { key = t.key; stripped = t.stripped.now; exec = option_copied t.exec; inputs = t.inputs.now; views = t.views } };
+    ghost view = { λ t. record { key = t.key; stripped = t.op.stripped; exec = command_in t.op.kind; inputs = t.inputs; views = t.views } };
 }
 
-impl<'a> ExecTask<'a> {
+impl ExecTask {
     /// The solver key of the vertex.
     pub fn key(&self) -> Key
         ensures { result ≡ self.now.key }
@@ -50,25 +50,28 @@ impl<'a> ExecTask<'a> {
     pub fn stripped(&self) -> &[u8]
         ensures { result.now ≡ self.now.stripped }
     {
-        self.stripped
+        self.op.stripped()
     }
 
     /// The command, where the vertex runs one.
     pub fn exec(&self) -> Option<&ExecOp>
         ensures { option_copied result ≡ self.now.exec }
     {
-        self.exec
+        match self.op.kind() {
+            Kind::Exec(exec) => Some(exec),
+            Kind::Opaque(_) | Kind::Bare => None,
+        }
     }
 
     /// The outputs that the vertex's inputs name, in order.
     pub fn inputs(&self) -> &[Digest]
         ensures { result.now ≡ self.now.inputs }
     {
-        self.inputs
+        self.inputs.as_slice()
     }
 
     /// What it sees at each cache mount, in their order.
-    pub fn views(&self) -> &[View<'a>]
+    pub fn views(&self) -> &[View]
         ensures { result.now ≡ self.now.views }
     {
         self.views.as_slice()

@@ -5,5 +5,5 @@ use Rattle.executions.specs.Seen.{folder_seen}
 use Rattle.executions.proofs.given.views_at.Given as goal
 
 -- the views so far
-abbrev pub invariant-loop-pair : goal.invariant-loop-pair
-invariant-loop-pair l = AllZip (IsViewAt (folder_seen l.seen.leased l.seen.shared) l.wants l.outputs l.mounts) (take l.pair-index l.places) l.views.items
+abbrev pub invariant-loop-place : goal.invariant-loop-place
+invariant-loop-place l = AllZip (IsViewAt (folder_seen l.seen.leased l.seen.shared) l.wants l.outputs l.mounts) (take l.place-index l.places) l.views.items
