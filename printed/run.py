@@ -72,7 +72,7 @@ def data_of(text: str) -> bytes:
 
 def repeated(rest: str) -> str:
     count, _, line = rest.partition(" ")
-    return "".join(line.format(number) + "\n" for number in range(1, int(count) + 1))
+    return "".join(f"{line}\n".format(number) for number in range(1, int(count) + 1)) if "{" in line else f"{line}\n" * int(count)
 
 
 DATA: dict[str, Callable[[str], bytes]] = {"text": data_of, "hex": bytes.fromhex}
