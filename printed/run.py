@@ -3,8 +3,8 @@
 
 usage: [FARMCTL=PROGRAM] [CALL_SECONDS=N] printed/run.py [TABLE..]
 
-Without FARMCTL it is the program that the gate builds. A call may take 60 seconds; give a build that isn't proved more. A table,
-`TABLE.cases`, has blocks that are parted by an empty line. Of a block's lines the first word says what they are:
+Without FARMCTL it is the program that the gate builds; a call may take 60 seconds, and one of a build that isn't proved needs more. A table
+is a file `TABLE.cases` of blocks, parted by an empty line. The first word of a line says what it is:
 
     # ..                   a comment
     text NAME LINE; LINE   adds text to a file: `; ` is a line feed, and escapes are those of Python
@@ -26,6 +26,7 @@ from __future__ import annotations
 
 import concurrent.futures
 import dataclasses
+import difflib
 import hashlib
 import hmac
 import os
@@ -71,7 +72,7 @@ def data_of(text: str) -> bytes:
 
 def repeated(rest: str) -> str:
     count, _, line = rest.partition(" ")
-    return "".join(line.format(number) + "\n" for number in range(1, int(count) + 1))
+    return "".join(f"{line}\n".format(number) for number in range(1, int(count) + 1)) if "{" in line else f"{line}\n" * int(count)
 
 
 DATA: dict[str, Callable[[str], bytes]] = {"text": data_of, "hex": bytes.fromhex}
@@ -109,8 +110,7 @@ def add(case: Case, line: str) -> None:
 
 def cases_of(table: Path) -> Iterator[Case]:
     """The cases of a table."""
-    shared: dict[str, bytes] = {}
-    number = 1
+    shared, number = dict[str, bytes](), 1
     for block in table.read_text("ascii").split("\n\n"):
         case = Case(f"{table.name}:{number}", dict(shared))
         for line in block.splitlines():
@@ -149,9 +149,10 @@ def wrong_call(case: Case, call: Call, room: str) -> str:
     status, out, err = ran(words, room, read)
     if status == call.status and is_so(call.out, out) and is_so(call.err, err):
         return ""
-    wanted = [f"wanted: status {call.status}", *(f"> {line}" for line in call.out), *(f"! {line}" for line in call.err)]
-    came = [f"came: status {status}", *(f"> {line!r}" for line in out.splitlines()), *(f"! {line!r}" for line in err.splitlines())]
-    return "\n".join(f"  {line}" for line in (f"$ {' '.join(call.words)}", *wanted[:50], *came[:50]))
+    wanted = [*(f"> {line}" for line in call.out), *(f"! {line}" for line in call.err), f"= {call.status}"]
+    printed = [f"{mark} {line}" for mark, text in ((">", out), ("!", err)) for line in text.decode("latin-1").splitlines()]
+    differs = list(difflib.unified_diff(wanted, [*printed, f"= {status}"], "wanted", "came", lineterm="", n=2))
+    return "\n".join(f"  {line}" for line in (f"$ {' '.join(call.words)}", *differs[:60]))
 
 
 def wrong_case(case: Case) -> str:
@@ -161,9 +162,8 @@ def wrong_case(case: Case) -> str:
             Path(room, name).parent.mkdir(exist_ok=True)
             Path(room, name).write_bytes(data)
         wrong = [wrong_call(case, call, room) for call in case.calls]
-        for name, data in (case.files | case.left).items():
-            path = Path(room, name)
-            wrong.append("" if path.is_file() and path.read_bytes() == data else f"  {name} has other bytes than wanted")
+        left = {path.relative_to(room).as_posix(): path.read_bytes() for path in Path(room).rglob("*") if path.is_file()}
+    wrong += [f"  {name} has other bytes" for name, data in (case.files | case.left).items() if left.get(name) != data]
     return "\n".join(filter(None, wrong))
 
 

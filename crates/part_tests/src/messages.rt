@@ -10,7 +10,6 @@ use farmwire::{
     read, seal, write,
 };
 use std::alloc::Global;
-use std::process::Abort;
 use std::test::Fail;
 
 /// Key and data in hexadecimal digits, and the MAC: cases 1 to 4, 6 and 7 of RFC 4231, and keys of 64 and 65 bytes.
