@@ -45,13 +45,13 @@ abbrev pub is_save_fault : Result Handled CoordRefusal → Bool
 is_save_fault (Err SaveFault) = true
 is_save_fault result = false
 
--- the answer of a coordinator that is up, where the rules make this work of the event
-abbrev pub Answers : {K : Type 0} → (K → Texts → Bool → K → Type 0) → Result Work CoordRefusal → Seen K → Seen K
-    → Result Handled CoordRefusal → Type 0
-Answers saving (Ok w) old new (Ok h) = Does saving w old new h
-Answers saving (Ok w) old new (Err SaveFault) = Fails saving w old new
-Answers saving (Ok w) old new (Err e) = (e ≡ OutOfMemory) × (new ≡ old)
-Answers saving (Err e) old new result = (result ≡ Err e) × (new ≡ old)
+module _ {K : Type 0} (saving : K → Texts → Bool → K → Type 0) where
+  -- the answer of a coordinator that is up, where the rules make this work of the event
+  abbrev pub Answers : Result Work CoordRefusal → Seen K → Seen K → Result Handled CoordRefusal → Type 0
+  Answers (Ok w) old new (Ok h) = Does saving w old new h
+  Answers (Ok w) old new (Err SaveFault) = Fails saving w old new
+  Answers (Ok w) old new (Err e) = (e ≡ OutOfMemory) × (new ≡ old)
+  Answers (Err e) old new result = (result ≡ Err e) × (new ≡ old)
 
 -- a coordinator that is down does nothing
 abbrev pub SettlesWhile : {K : Type 0} → Bool → (K → Texts → Bool → K → Type 0) → Result Work CoordRefusal → Seen K
@@ -59,10 +59,10 @@ abbrev pub SettlesWhile : {K : Type 0} → Bool → (K → Texts → Bool → K 
 SettlesWhile true saving work old new result = (result ≡ Err Down) × (new ≡ old)
 SettlesWhile false saving work old new result = Answers saving work old new result
 
--- the answer of a coordinator, where the rules make this work of the event
-abbrev pub Settles : {K : Type 0} → (K → Texts → Bool → K → Type 0) → Result Work CoordRefusal → Seen K → Seen K
-    → Result Handled CoordRefusal → Type 0
-Settles saving work old new result = SettlesWhile old.down saving work old new result
+module _ {K : Type 0} (saving : K → Texts → Bool → K → Type 0) where
+  -- the answer of a coordinator, where the rules make this work of the event
+  abbrev pub Settles : Result Work CoordRefusal → Seen K → Seen K → Result Handled CoordRefusal → Type 0
+  Settles work old new result = SettlesWhile old.down saving work old new result
 
 -- the answer of a load of these texts
 abbrev pub Loads : {K : Type 0} → (K → Option KeeperRefusal → K → Type 0) → Texts → K → K → Result Held CoordRefusal

@@ -5,11 +5,11 @@ use Rattle.protocol.specs.Names.{Slot, FolderName}
 use Rattle.leases.specs.Instances.{has}
 use Rattle.leases.specs.declared.instances.Instances.{Instances}
 
--- each instance whose slot passes the test is added
-abbrev pub Marks : Instances → Instances → FolderName → (Slot → Bool) → Type 0
-Marks old new f test = (i : ℕ) → i ≤ INSTANCES → has new i ≡ (test (record { folder = f; instance = i }) || has old i)
+module _ (old new : Instances) (f : FolderName) (test : Slot → Bool) where
+  -- each instance whose slot passes the test is added
+  abbrev pub Marks : Type 0
+  Marks = (i : ℕ) → i ≤ INSTANCES → has new i ≡ (test (record { folder = f; instance = i }) || has old i)
 
--- each instance whose slot passes the test is taken out
-abbrev pub Unmarks : Instances → Instances → FolderName → (Slot → Bool) → Type 0
-Unmarks old new f test = (i : ℕ) → i ≤ INSTANCES
-    → has new i ≡ (not (test (record { folder = f; instance = i })) && has old i)
+  -- each instance whose slot passes the test is taken out
+  abbrev pub Unmarks : Type 0
+  Unmarks = (i : ℕ) → i ≤ INSTANCES → has new i ≡ (not (test (record { folder = f; instance = i })) && has old i)
