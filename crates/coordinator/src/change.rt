@@ -11,7 +11,7 @@ use super::new_life::NewLife;
 use super::state::State;
 use farm_base::{Copied, Mode, NodeId, Parked, Slot};
 use holdings::TicketSource;
-use leases::TableChange;
+use leases::{TableChange, TableView};
 use parked::{ParkedChange, SpentFolders};
 use std::alloc::{AllocError, Global};
 
@@ -26,6 +26,20 @@ pub struct Change {
     pub gone: Option<NodeId>,
     pub old_home: Option<NodeId>,
     pub parked: ParkedChange,
+}
+
+/// Whether this is the slot of a LOCKED or SHARED folder that is not leased.
+fn is_open(table: &TableView, slot: &(Slot, bool)) -> bool
+    ensures { result ≡ is_open table.now.live slot.now }
+{
+    !matches!(slot.0.folder().mode, Mode::Private) && !table.is_leased(&slot.0)
+}
+
+/// Drops those of the slots that are leased again, and those of PRIVATE folders.
+pub(crate) fn keep_open(table: &TableView, slots: &mut Vec<(Slot, bool)>)
+    ensures { slots.new.items ≡ filter (is_open table.now.live) slots.old.items }
+{
+    slots.retain(|slot| is_open(table, slot));
 }
 
 impl Change {
@@ -46,21 +60,6 @@ impl Change {
         })
     }
 
-    /// Whether this is the slot of a LOCKED or SHARED folder that is not leased.
-    fn is_open(&self, base: &State, slot: &(Slot, bool)) -> bool
-        ensures { result ≡ is_open (table_after (held base.now) self.now).live slot.now }
-    {
-        !matches!(slot.0.folder().mode, Mode::Private)
-            && !self.table.is_leased(&base.table, &slot.0)
-    }
-
-    /// Drops those of the slots that are leased again, and those of PRIVATE folders.
-    pub(crate) fn keep_open(&self, base: &State, slots: &mut Vec<(Slot, bool)>)
-        ensures { slots.new.items ≡ filter (is_open (table_after (held base.now) self.now).live) slots.old.items }
-    {
-        slots.retain(|slot| self.is_open(base, slot));
-    }
-
     /// The PRIVATE folders that waiting asks may want and of which no instance is free, before asks that wait since.
     pub(crate) fn spent(&self, alloc: Global, base: &State) -> Result<SpentFolders, AllocError>
         ensures { IfOk result (λ spent. (p : Parked) → IsNoted base.now.spent.folders.items (is_free base.now.table) p
@@ -69,9 +68,10 @@ impl Change {
         let mut spent = SpentFolders::new(alloc);
         let (granted, _) = self.table.added();
         let retired = self.table.newly_retired(alloc)?;
-        spent.note_folders(alloc, &base.table, &self.table, base.spent.as_slice())?;
-        spent.note_leases(alloc, &base.table, &self.table, granted)?;
-        spent.note_slots(alloc, &base.table, &self.table, retired.as_slice())?;
+        let table = self.table.over(&base.table);
+        spent.note_folders(alloc, &table, base.spent.as_slice())?;
+        spent.note_leases(alloc, &table, granted)?;
+        spent.note_slots(alloc, &table, retired.as_slice())?;
         Ok(spent)
     }
 
@@ -86,7 +86,7 @@ impl Change {
     {
         let mut spent = self.spent(alloc, base)?;
         let since = self.parked.since.as_slice();
-        spent.note_asks(alloc, &base.table, &self.table, since)?;
+        spent.note_asks(alloc, &self.table.over(&base.table), since)?;
         Ok(spent)
     }
 }

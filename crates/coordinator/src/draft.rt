@@ -282,8 +282,7 @@ impl<'s> Draft<'s> {
     fn tell_holder(&mut self, p: &Parked) -> Result<(), AllocError>
         ensures { OnOk result (Makes (λ w. recall (find (holds_wanted p.now) w.ledger.live) w) self.old self.new) }
     {
-        let table = &self.effects.change.table;
-        match table.holder_of(&self.base.table, &p.wants, p.tenure) {
+        match self.table().holder_of(&p.wants, p.tenure) {
             Some(lease) => {
                 let message = FromCoord::Recall {
                     node: lease.node,
@@ -338,13 +337,11 @@ impl<'s> Draft<'s> {
             then acquiring farm_limits (lease_of w.ledger.live p.now.node p.now.life p.now.ask) false p.now w
             else w) self.old self.new) }
     {
-        let base = self.base;
-        let effects = &*self.effects;
-        let table = &effects.change.table;
-        let Some(lease) = table.lease_of(&base.table, p.node, p.life, p.ask) else {
+        let draft = &*self;
+        let Some(lease) = draft.table().lease_of(p.node, p.life, p.ask) else {
             return Ok(false);
         };
-        let grant = grant_of(alloc, &base.lines, &effects.added, lease)?;
+        let grant = grant_of(alloc, &draft.base.lines, &draft.effects.added, lease)?;
         self.send(FromCoord::Granted(grant.copy(alloc)?))?;
         self.note(CoordNote::GrantedBefore(grant));
         Ok(true)
@@ -412,9 +409,8 @@ impl<'s> Draft<'s> {
     fn end(&mut self, ticket: Ticket) -> Result<(), AllocError>
         ensures { OnOk result (Makes (ended ticket) self.old self.new) }
     {
-        let base = self.base;
+        let is_saved = is_some_saved(self.table().lease(ticket));
         let effects = &mut *self.effects;
-        let is_saved = is_some_saved(effects.change.table.lease(&base.table, ticket));
         effects.change.table.end(ticket)?;
         effects.changed = effects.changed || is_saved;
         Ok(())
@@ -509,9 +505,8 @@ impl<'s> Draft<'s> {
         requires first { self.old.effects.value.change.life ≡ None }
         ensures { OnOk result (Makes (newer_life farm_limits node life) self.old self.new) }
     {
-        let change = &self.effects.change;
-        let was_home = is_home(node, change.old_home);
-        let had_leases = change.table.has_lease_below(&self.base.table, node, life);
+        let was_home = is_home(node, self.effects.change.old_home);
+        let had_leases = self.table().has_lease_below(node, life);
         let freed = self.freed_by_node(alloc, Ending::LivesBelow(node, life))?;
         self.see(alloc, node, life)?;
         if was_home {

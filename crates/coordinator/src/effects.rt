@@ -65,7 +65,7 @@ impl Effects {
             unreachable!();
         };
         self.change.table.grant(alloc, &base.table, p, ticket)?;
-        let Some(lease) = self.change.table.lease(&base.table, ticket) else {
+        let Some(lease) = self.change.table.over(&base.table).lease(ticket) else {
             unreachable!();
         };
         let grant = grant_of(alloc, &base.lines, &self.added, lease)?;

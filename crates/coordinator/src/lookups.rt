@@ -16,15 +16,23 @@ ghost use Rattle.parked.specs.Queue.{asks_of};
 ghost use Rattle.parked.specs.Spent.{IsNoted, is_noted, is_private_spent};
 ghost use Rattle.parked.specs.Waiting.{ends_ask};
 
+use super::change::keep_open;
 use super::draft::Draft;
 use super::state::fit_slots;
 use farm_base::{Copied, Life, News, NodeId, Parked, Slot, Ticket, Want, Why};
-use leases::{Ending, Fit};
+use leases::{Ending, Fit, TableView};
 use parked::{SpentFolders, first_over};
 use protocol::Decision;
 use std::alloc::{AllocError, Global};
 
 impl<'s> Draft<'s> {
+    /// The table of leases, with the changes so far.
+    pub(crate) fn table(&self) -> TableView<'_>
+        ensures { result ≡ table_after (held self.now.base.now) self.now.effects.value.change }
+    {
+        self.effects.change.table.over(&self.base.table)
+    }
+
     /// Whether a node was retired.
     pub(crate) fn is_gone(&self, node: NodeId) -> bool
         ensures { result ≡ (work self.now).ledger.gone node.0 }
@@ -85,12 +93,11 @@ impl<'s> Draft<'s> {
         if self.is_elsewhere(p) {
             return Decision::Wait;
         }
-        let change = &self.effects.change;
-        match change.table.fits(&self.base.table, &p.wants, p.tenure) {
+        match self.table().fits(&p.wants, p.tenure) {
             Fit::InstancesSpent => Decision::Deny(Why::InstancesSpent),
             Fit::Busy => Decision::Wait,
             Fit::Fits => {
-                match change.tickets.peek() {
+                match self.effects.change.tickets.peek() {
                     Ok(_) => Decision::Give,
                     Err(_) => Decision::Deny(Why::TicketsSpent),
                 }
@@ -119,7 +126,7 @@ impl<'s> Draft<'s> {
             → decision farm_limits (work self.now).ledger (slice_index_or (asks_of self.now.base.now.parked) k d) ≡ Decision.Wait }
         ensures idle { AreIdle freed.new.items (work self.now).ledger (still_at place over.now (drop place (asks_of self.now.base.now.parked))) }
     {
-        self.effects.change.keep_open(self.base, freed);
+        keep_open(&self.table(), freed);
         let asks = &self.base.parked;
         first_over(over, asks.next(freed.as_slice(), spent.as_slice(), place))
     }
@@ -134,14 +141,14 @@ impl<'s> Draft<'s> {
         ensures noted { OnOk result ((w : Want) → In w wants.now → is_private_spent (is_free (work self.now).ledger) w.folder ≡ true → is_noted spent.new.folders.items w.folder ≡ true) }
         ensures kept { (f : FolderName) → is_noted spent.old.folders.items f ≡ true → is_noted spent.new.folders.items f ≡ true }
     {
-        spent.note_wants(alloc, &self.base.table, &self.effects.change.table, wants)?;
+        spent.note_wants(alloc, &self.table(), wants)?;
         Ok(())
     }
 
     pub(crate) fn may_commit(&self, node: NodeId, life: Life, ticket: Ticket, news: &[News]) -> bool
         ensures { result ≡ may_commit node life news.now (lease_under (work self.now).ledger.live ticket) }
     {
-        match self.effects.change.table.lease(&self.base.table, ticket) {
+        match self.table().lease(ticket) {
             Some(lease) => {
                 lease.node == node
                     && lease.life == life
@@ -155,7 +162,7 @@ impl<'s> Draft<'s> {
     pub(crate) fn may_release(&self, node: NodeId, life: Life, ticket: Ticket) -> bool
         ensures { result ≡ may_release node life (lease_under (work self.now).ledger.live ticket) }
     {
-        match self.effects.change.table.lease(&self.base.table, ticket) {
+        match self.table().lease(ticket) {
             Some(lease) => lease.node == node && lease.life == life,
             None => false,
         }
@@ -172,7 +179,7 @@ impl<'s> Draft<'s> {
         ensures { IfOk result (λ freed. (q : Ledger) → q.live ≡ without ticket (work self.now).ledger.live → q.old_home ≡ (work self.now).ledger.old_home
             → q.parked ≡ (work self.now).ledger.parked → AreIdle freed.items q q.parked) }
     {
-        match self.effects.change.table.lease(&self.base.table, ticket) {
+        match self.table().lease(ticket) {
             Some(lease) => Ok(lease.slots.copy(alloc)?.into_vec()),
             None => Ok(Vec::new(alloc)),
         }
@@ -188,8 +195,7 @@ impl<'s> Draft<'s> {
         ensures { IfOk result (λ freed. (q : Ledger) → q.live ≡ filter (λ g. not (ends_lease ending g)) (work self.now).ledger.live → q.old_home ≡ (work self.now).ledger.old_home
             → q.parked ≡ filter (λ p. not (ends_ask ending p)) (work self.now).ledger.parked → AreIdle freed.items q q.parked) }
     {
-        let table = &self.effects.change.table;
-        let slots = table.slots_ended(alloc, &self.base.table, ending)?;
+        let slots = self.table().slots_ended(alloc, ending)?;
         Ok(slots)
     }
 }

@@ -92,9 +92,9 @@ impl<'s> Draft<'s> {
     fn take_back(&mut self, alloc: Global, ticket: Ticket) -> Result<(), AllocError>
         ensures { OnOk result (Makes (withdraws_under ticket) self.old self.new) }
     {
+        let is_saved = is_some_saved(self.table().lease(ticket));
         let base = self.base;
         let effects = &mut *self.effects;
-        let is_saved = is_some_saved(effects.change.table.lease(&base.table, ticket));
         effects.change.table.withdraw(alloc, &base.table, ticket)?;
         effects.changed = effects.changed || is_saved;
         Ok(())
@@ -159,8 +159,7 @@ impl<'s> Draft<'s> {
         requires accepted { result_err (retired farm_limits node (work self.old)) ≡ None }
         ensures { OnOk result (Accepts (retired farm_limits node) self.old self.new) }
     {
-        let table = &self.effects.change.table;
-        let had_leases = table.has_lease_of(&self.base.table, node);
+        let had_leases = self.table().has_lease_of(node);
         let freed = self.freed_by_node(alloc, Ending::Node(node))?;
         self.drop_node(alloc, node)?;
         self.retry_if(alloc, had_leases, freed)?;

@@ -44,7 +44,7 @@ pub(crate) fn record_of(
     ensures kept { IfOk result IsKept }
 {
     let change = &effects.change;
-    let (mut leases, retired) = change.table.to_parts(alloc, &state.table)?;
+    let (mut leases, retired) = change.table.over(&state.table).to_parts(alloc)?;
     keep_saved(&mut leases);
     let lives = lives_with(alloc, &state.lives, change.life)?;
     let retired_nodes = nodes_with(alloc, &state.gone, change.gone)?;

@@ -2,6 +2,7 @@ use Rattle.std.proofs.Common.{◌≡◌, List, [], ap, sym, ◌∙◌, subst, fi
 use Rattle.std.specs.Prelude.{map}
 use Rattle.std.specs.List.Sorted.{IsStrictlyIncreasing, IsStrictlySortedBy}
 use Rattle.farm_base.specs.Slots.{slot_cmp}
+use Rattle.leases.specs.Leases.{Table}
 use Rattle.holdings.specs.Leases.{among}
 use Rattle.holdings.specs.Lives.{life_at, is_among}
 use Rattle.holdings.specs.Lives.{AreLives}
@@ -18,8 +19,8 @@ use Rattle.coordinator.proofs.record.record_of.Goals as goal
 pub returns-clause-ledger : goal.returns-clause-ledger
 returns-clause-ledger c =
     let h : Held = held c.args.state.now in
-    let live : c.new-3.result ≡ filter is_saved (table_after h c.args.effects.now.change).live = c.new-3.ensures ∙ c.keep_saved.ensures ∙ ap (filter is_saved) c.in_ok-leases.ensures.leases in
-    let retired : among c.new-4.result ≡ among (table_after h c.args.effects.now.change).retired = ap among c.new-4.ensures ∙ c.in_ok-leases.ensures.retired in
+    let live : c.new-3.result ≡ filter is_saved (table_after h c.args.effects.now.change).live = c.new-3.ensures ∙ c.keep_saved.ensures ∙ ap (filter is_saved) (c.in_ok-leases.ensures.leases ∙ ap (λ (t : Table). t.live) c.over.ensures) in
+    let retired : among c.new-4.result ≡ among (table_after h c.args.effects.now.change).retired = ap among c.new-4.ensures ∙ c.in_ok-leases.ensures.retired ∙ ap (λ (t : Table). among t.retired) c.over.ensures in
     let gone : is_among c.new-2.result ≡ with_gone c.args.effects.now.change.gone (is_among h.gone) = ap is_among c.new-2.ensures ∙ c.in_ok-retired_nodes.ensures.nodes in
     let line : line_at c.new-5.result ≡ lines_with c.args.state.now.lines c.args.effects.now.added = ap line_at c.new-5.ensures ∙ c.in_ok-lines.ensures.lines in
     let last : c.ceiling.result.0 ≡ c.args.effects.now.change.tickets.ceiling = c.ceiling.ensures.value in

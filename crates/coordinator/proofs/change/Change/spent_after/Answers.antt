@@ -2,6 +2,7 @@ use Rattle.std.proofs.Common.{List, ℕ, sym, subst, inl, inr}
 use Rattle.protocol.specs.Machine.{Parked}
 use Rattle.protocol.specs.Lists.{In}
 use Rattle.protocol.proofs.Base.{all_in, in_append}
+use Rattle.leases.specs.Leases.{Table}
 use Rattle.leases.specs.Table.{is_free}
 use Rattle.saverecord.proofs.LedgerLemmas.{all_from_in}
 use Rattle.coordinator.specs.Keeps.{held}
@@ -20,5 +21,5 @@ returns c = λ line p i.
     let before : (q : Parked) → In q asks → P q = λ q j. (λ w k spent. c.note_asks.ensures.kept w.folder (c.in_ok-spent.ensures q (c.requires q j) w k spent)) in
     elim (in_append p (still_waiting over asks) c.args.self.now.parked.since.items i) [
       | inl j ↦ all_in P (still_waiting over asks) (all-still P 0 over asks (all_from_in P asks before)) p j
-      | inr j ↦ c.in_ok-note_asks.ensures.noted p (subst (In p) (sym c.as_slice-since.ensures.value) j)
+      | inr j ↦ subst (λ (t : Table). IsNoted c.note_asks.new.self.folders.items (is_free t) p) c.over.ensures (c.in_ok-note_asks.ensures.noted p (subst (In p) (sym c.as_slice-since.ensures.value) j))
     ]

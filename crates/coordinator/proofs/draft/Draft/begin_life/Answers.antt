@@ -2,10 +2,11 @@ use Rattle.std.proofs.Common.{refl, ◌≡◌, false, ap, sym, ◌∙◌, subst}
 use Rattle.std.specs.List.{list_any}
 use Rattle.protocol.specs.Farm.{farm_limits}
 use Rattle.protocol.specs.Ledger.{Work, newer_life, sees, is_home, is_older}
+use Rattle.leases.specs.Leases.{Table}
 use Rattle.coordinator.specs.declared.effects.Effects.{Effects}
 use Rattle.coordinator.specs.Idle.{AreIdle}
-use Rattle.coordinator.specs.Keeps.{held, IsKeepable}
-use Rattle.coordinator.specs.Shown.{work, table_after}
+use Rattle.coordinator.specs.Keeps.{IsKeepable}
+use Rattle.coordinator.specs.Shown.{work}
 use Rattle.coordinator.specs.Sound.{IsSound}
 use Rattle.coordinator.proofs.Drafting.{makes-as, makes-then}
 use Rattle.coordinator.proofs.HeldUp.{other-home}
@@ -48,7 +49,7 @@ pub returns-in_ok-retry : goal.returns-in_ok-retry
 returns-in_ok-retry c =
     let w : Work = work c.args.self.now in
     let had : c.has_lease_below-had_leases.result ≡ list_any (is_older c.args.node c.args.life) w.ledger.live =
-    c.has_lease_below-had_leases.ensures ∙ ap (λ (e : Effects). list_any (is_older c.args.node c.args.life) (table_after (held c.args.self.now.base.now) e.change).live) c.deref.ensures in
+    c.has_lease_below-had_leases.ensures ∙ ap (λ (t : Table). list_any (is_older c.args.node c.args.life) t.live) c.table.ensures in
     makes-as (newer_life farm_limits c.args.node c.args.life) (makes-then c.in_ok-see.ensures c.in_ok-retry.ensures)
     (sym (newer_life-leases farm_limits c.args.node c.args.life w (sym had ∙ c.if-had_leases.true)))
 
@@ -57,6 +58,6 @@ returns-else-had_leases c =
     let w : Work = work c.args.self.now in
     let home : c.is_home-was_home.result ≡ is_home c.args.node w.ledger.old_home = c.is_home-was_home.ensures ∙ ap (λ (e : Effects). is_home c.args.node e.change.old_home) c.deref.ensures in
     let had : c.has_lease_below-had_leases.result ≡ list_any (is_older c.args.node c.args.life) w.ledger.live =
-    c.has_lease_below-had_leases.ensures ∙ ap (λ (e : Effects). list_any (is_older c.args.node c.args.life) (table_after (held c.args.self.now.base.now) e.change).live) c.deref.ensures in
+    c.has_lease_below-had_leases.ensures ∙ ap (λ (t : Table). list_any (is_older c.args.node c.args.life) t.live) c.table.ensures in
     makes-as (newer_life farm_limits c.args.node c.args.life) c.in_ok-see.ensures
     (sym (newer_life-sees farm_limits c.args.node c.args.life w (sym had ∙ c.if-had_leases.false) (sym home ∙ c.if-was_home.false)))

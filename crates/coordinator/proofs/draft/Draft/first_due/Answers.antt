@@ -3,13 +3,12 @@ use Rattle.std.specs.Prelude.{Bool}
 use Rattle.protocol.specs.Names.{FolderName, Slot}
 use Rattle.protocol.specs.Machine.{Parked}
 use Rattle.protocol.specs.Ledger.{Ledger}
+use Rattle.leases.specs.Leases.{Table}
 use Rattle.saverecord.proofs.LedgerLemmas.{in_at}
-use Rattle.coordinator.specs.declared.effects.Effects.{Effects}
 use Rattle.coordinator.specs.Idle.{is_open, AreIdle}
-use Rattle.coordinator.specs.Keeps.{held}
 use Rattle.parked.specs.Over.{still_at}
 use Rattle.parked.specs.Queue.{asks_of}
-use Rattle.coordinator.specs.Shown.{work, table_after}
+use Rattle.coordinator.specs.Shown.{work}
 use Rattle.parked.specs.Spent.{WantsNoneOf}
 use Rattle.parked.specs.Noted.{WantsNone}
 use Rattle.coordinator.proofs.IdleWords.{are-idle-open, unwanted-waits}
@@ -24,7 +23,7 @@ returns-clause-idle c =
     let left : List Parked = still_at c.args.place c.args.over.now (drop c.args.place (asks_of c.args.self.now.base.now.parked)) in
     let q : Ledger = (work c.args.self.now).ledger in
     let open_now : c.keep_open.new.slots.items ≡ filter (is_open q.live) c.args.freed.now.items =
-    c.keep_open.ensures ∙ ap (λ (e : Effects). filter (is_open (table_after (held c.args.self.now.base.now) e.change).live) c.args.freed.now.items) c.deref.ensures in
+    c.keep_open.ensures ∙ ap (λ (t : Table). filter (is_open t.live) c.args.freed.now.items) c.table.ensures in
     subst (λ (xs : List (Slot × Bool)). AreIdle xs q left) (sym open_now) (are-idle-open c.args.freed.now.items q left c.requires.idle)
 
 pub returns-clause-passed : goal.returns-clause-passed

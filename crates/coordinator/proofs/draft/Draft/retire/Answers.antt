@@ -3,10 +3,10 @@ use Rattle.std.specs.List.{list_any}
 use Rattle.protocol.specs.Farm.{farm_limits}
 use Rattle.protocol.specs.declared.answer.CoordNote.TheVariants as note
 use Rattle.protocol.specs.Ledger.{Work, retired, retried, notes, goes, is_at}
-use Rattle.coordinator.specs.declared.effects.Effects.{Effects}
+use Rattle.leases.specs.Leases.{Table}
 use Rattle.coordinator.specs.Idle.{AreIdle}
-use Rattle.coordinator.specs.Keeps.{held, IsKeepable}
-use Rattle.coordinator.specs.Shown.{work, table_after}
+use Rattle.coordinator.specs.Keeps.{IsKeepable}
+use Rattle.coordinator.specs.Shown.{work}
 use Rattle.coordinator.specs.Sound.{IsSound}
 use Rattle.coordinator.proofs.Drafting.{accepts, makes-then}
 use Rattle.coordinator.proofs.OwnCalls.{retirement, sound-goes, sound-tries}
@@ -30,7 +30,7 @@ returns c =
     let w : Work = work c.args.self.now in
     let tries : (Bool → Work) = λ b. notes (note.Retired c.args.node) (cond b (retried farm_limits (goes c.args.node w)) (goes c.args.node w)) in
     let had : c.has_lease_of-had_leases.result ≡ list_any (is_at c.args.node) w.ledger.live =
-    c.has_lease_of-had_leases.ensures ∙ ap (λ (e : Effects). list_any (is_at c.args.node) (table_after (held c.args.self.now.base.now) e.change).live) c.deref.ensures in
+    c.has_lease_of-had_leases.ensures ∙ ap (λ (t : Table). list_any (is_at c.args.node) t.live) c.table.ensures in
     accepts (retired farm_limits c.args.node) c.requires.first.added (makes-then c.in_ok-drop_node.ensures (makes-then c.in_ok-retry_if.ensures c.note.ensures))
     (retirement farm_limits c.args.node w c.requires.accepted ∙ ap (λ (b : Bool). Ok (tries b)) (sym had))
     (sound-tries c.has_lease_of-had_leases.result farm_limits (goes c.args.node w) (sound-goes c.args.node w c.requires.sound))
