@@ -16,3 +16,4 @@ pub mod Rightful
 pub mod Records
 pub mod Keeping
 pub mod Entries
+pub mod Preparing

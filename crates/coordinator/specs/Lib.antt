@@ -1,9 +1,10 @@
 pub mod Held
-pub mod Shown
 pub mod Idle
-pub mod Sound
-pub mod Keeps
-pub mod Promises
 pub mod Keeping
+pub mod Keeps
+pub mod Prepared
+pub mod Promises
 pub mod Seen
 pub mod Settling
+pub mod Shown
+pub mod Sound

@@ -1,4 +1,4 @@
-ghost use Rattle.std.specs.Prelude.{◌≡◌, ◌+◌, ◌≤◌, [], false, not, Some, Result, Ok, Err, IfOk, IfErr, OnOk, OnErr, option_copied, length};
+ghost use Rattle.std.specs.Prelude.{◌≡◌, ◌+◌, ◌≤◌, false, not, Some, Result, Ok, Err, IfOk, IfErr, OnOk, OnErr, option_copied, length};
 ghost use Rattle.std.specs.Result.{is_ok};
 ghost use Rattle.std.specs.List.{list_any};
 ghost use Rattle.std.specs.List.Sorted.{IsStrictlySortedBy};
@@ -6,7 +6,7 @@ ghost use Rattle.farm_base.specs.Slots.{slot_cmp};
 ghost use Rattle.farm_base.specs.declared.limits.TheConstants.{NODES};
 ghost use Rattle.holdings.specs.Leases.{among};
 ghost use Rattle.leases.specs.Table.{state_of};
-ghost use Rattle.versions.specs.Lines.{room_needed, line_shown};
+ghost use Rattle.versions.specs.Lines.{line_shown};
 ghost use Rattle.protocol.specs.Farm.{farm_limits};
 ghost use Rattle.protocol.specs.Lists.{is_nil};
 ghost use Rattle.protocol.specs.Names.{slot_eq, NodeId, Slot, Ticket};
@@ -15,15 +15,13 @@ ghost use Rattle.protocol.specs.Follows.{NoneReady};
 ghost use Rattle.protocol.specs.Lawful.{IsNumber, IsSaid};
 ghost use Rattle.protocol.specs.Ledger.{Work, begin_work, handled, withdrawn, retired, pruned, nudged};
 ghost use Rattle.coordinator.specs.Held.{line_at, ledger};
-ghost use Rattle.coordinator.specs.Promises.{OnlyGrow, GrantsAtOnce, EndsOnlyItsOwn, ChangesAsTold};
+ghost use Rattle.coordinator.specs.Prepared.{IsPrepared};
+ghost use Rattle.coordinator.specs.Promises.{OnlyGrow, GrantsAtOnce, EndsOnlyItsOwn};
 ghost use Rattle.coordinator.specs.Held.{Held};
 ghost use Rattle.coordinator.specs.Seen.{IsKeeping};
 ghost use Rattle.coordinator.specs.Settling.{Answers, is_save_fault, Settles, Loads, TakesUp, Restarts, Syncs};
 ghost use Rattle.coordinator.specs.Shown.{work_of};
 ghost use Rattle.saverecord.specs.Keepers.{HasFailed};
-ghost use Rattle.coordinator.specs.Sound.{IsRightful};
-ghost use Rattle.versions.specs.Additions.{IsReady};
-ghost use Rattle.std.specs.Vec.{vec_capacity};
 
 use super::effects::Prepared;
 use super::handled::Handled;
@@ -153,11 +151,7 @@ impl<K: Keeper> Coordinator<K> {
     /// Saves an event that was worked out, where the record changed, and then applies it. Where the save fails it is down.
     fn settle(&mut self, alloc: Global, prepared: Prepared) -> Result<Handled, CoordRefusal>
         requires up { self.old.down ≡ false }
-        requires told { ChangesAsTold (ledger self.old.held) (Ok (work_of self.old.held prepared.effects.value)) }
-        requires rightful { IsRightful (work_of self.old.held prepared.effects.value).ledger }
-        requires ready { IsReady self.old.held.lines prepared.effects.value.added }
-        requires empty { prepared.room.items ≡ [] }
-        requires larger { room_needed self.old.held.lines prepared.effects.value.added ≤ vec_capacity prepared.room }
+        requires prepared { IsPrepared self.old.held prepared }
         ensures answer { Answers K.saving (Ok (work_of self.old.held prepared.effects.value)) self.old self.new result }
         ensures cause { result ≡ Err CoordRefusal.SaveFault → HasFailed (K.failed self.old.keeper) (K.failed self.new.keeper) }
         ensures grow { OnlyGrow (line_at self.old.held.lines) (line_at self.new.held.lines) }

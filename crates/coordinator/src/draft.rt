@@ -337,10 +337,11 @@ impl<'s> Draft<'s> {
             then acquiring farm_limits (lease_of w.ledger.live p.now.node p.now.life p.now.ask) false p.now w
             else w) self.old self.new) }
     {
-        let Some(lease) = self.table().lease_of(p.node, p.life, p.ask) else {
+        let draft = &*self;
+        let Some(lease) = draft.table().lease_of(p.node, p.life, p.ask) else {
             return Ok(false);
         };
-        let grant = grant_of(alloc, &self.base.lines, &self.effects.added, lease)?;
+        let grant = grant_of(alloc, &draft.base.lines, &draft.effects.added, lease)?;
         self.send(FromCoord::Granted(grant.copy(alloc)?))?;
         self.note(CoordNote::GrantedBefore(grant));
         Ok(true)

@@ -30,7 +30,8 @@ ghost use Rattle.coordinator.specs.Sound.{IsSound, IsRightful};
 ghost use Rattle.parked.specs.Queue.{HasRoomFor};
 ghost use Rattle.farm_base.specs.declared.limits.TheConstants.{NODES};
 ghost use Rattle.protocol.specs.Lawful.{IsNumber, IsSaid};
-ghost use Rattle.coordinator.specs.Promises.{OnlyGrow, ChangesAsTold};
+ghost use Rattle.coordinator.specs.Prepared.{IsPrepared};
+ghost use Rattle.coordinator.specs.Promises.{OnlyGrow};
 
 use super::change::Change;
 use super::draft::Draft;
@@ -206,11 +207,7 @@ impl Ledger {
         requires { IsSaid NODES message.now }
         ensures work { IfOk result (λ p. work_of self.now p.effects.value
             ≡ handled farm_limits message.now (begin_work (ledger self.now))) }
-        ensures told { IfOk result (λ p. ChangesAsTold (ledger self.now) (Ok (handled farm_limits message.now (begin_work (ledger self.now))))) }
-        ensures rightful { IfOk result (λ p. IsRightful (work_of self.now p.effects.value).ledger) }
-        ensures ready { IfOk result (λ p. IsReady self.now.lines p.effects.value.added) }
-        ensures empty { IfOk result (λ p. p.room.items ≡ []) }
-        ensures larger { IfOk result (λ p. room_needed self.now.lines p.effects.value.added ≤ vec_capacity p.room) }
+        ensures prepared { IfOk result (IsPrepared self.now) }
     {
         let mut draft = Draft::begin(alloc, &self.state)?;
         draft.deliver(alloc, message)?;
@@ -226,11 +223,7 @@ impl Ledger {
         keeper: &mut K,
         prepared: Prepared,
     ) -> Result<Handled, CoordRefusal>
-        requires told { ChangesAsTold (ledger self.old) (Ok (work_of self.old prepared.effects.value)) }
-        requires rightful { IsRightful (work_of self.old prepared.effects.value).ledger }
-        requires ready { IsReady self.old.lines prepared.effects.value.added }
-        requires empty { prepared.room.items ≡ [] }
-        requires larger { room_needed self.old.lines prepared.effects.value.added ≤ vec_capacity prepared.room }
+        requires prepared { IsPrepared self.old prepared }
         requires keeping { IsKeeping (K.kept keeper.old) self.old false }
         ensures answer { Answers K.saving (Ok (work_of self.old prepared.effects.value))
             (record { held = self.old; keeper = keeper.old; down = false }) (record { held = self.new; keeper = keeper.new; down = is_save_fault result }) result }
@@ -283,11 +276,7 @@ impl Ledger {
     pub(crate) fn withdrawal(&self, alloc: Global, ticket: Ticket) -> Result<Prepared, AllocError>
         requires { result_err (withdrawn farm_limits ticket (begin_work (ledger self.now))) ≡ None }
         ensures work { IfOk result (λ p. withdrawn farm_limits ticket (begin_work (ledger self.now)) ≡ Ok (work_of self.now p.effects.value)) }
-        ensures told { IfOk result (λ p. ChangesAsTold (ledger self.now) (withdrawn farm_limits ticket (begin_work (ledger self.now)))) }
-        ensures rightful { IfOk result (λ p. IsRightful (work_of self.now p.effects.value).ledger) }
-        ensures ready { IfOk result (λ p. IsReady self.now.lines p.effects.value.added) }
-        ensures empty { IfOk result (λ p. p.room.items ≡ []) }
-        ensures larger { IfOk result (λ p. room_needed self.now.lines p.effects.value.added ≤ vec_capacity p.room) }
+        ensures prepared { IfOk result (IsPrepared self.now) }
     {
         let mut draft = Draft::begin(alloc, &self.state)?;
         draft.withdraw(alloc, ticket)?;
@@ -314,11 +303,7 @@ impl Ledger {
         requires accepted { result_err (retired farm_limits node (begin_work (ledger self.now))) ≡ None }
         requires number { IsNumber NODES node }
         ensures work { IfOk result (λ p. retired farm_limits node (begin_work (ledger self.now)) ≡ Ok (work_of self.now p.effects.value)) }
-        ensures told { IfOk result (λ p. ChangesAsTold (ledger self.now) (retired farm_limits node (begin_work (ledger self.now)))) }
-        ensures rightful { IfOk result (λ p. IsRightful (work_of self.now p.effects.value).ledger) }
-        ensures ready { IfOk result (λ p. IsReady self.now.lines p.effects.value.added) }
-        ensures empty { IfOk result (λ p. p.room.items ≡ []) }
-        ensures larger { IfOk result (λ p. room_needed self.now.lines p.effects.value.added ≤ vec_capacity p.room) }
+        ensures prepared { IfOk result (IsPrepared self.now) }
     {
         let mut draft = Draft::begin(alloc, &self.state)?;
         draft.retire(alloc, node)?;
@@ -345,11 +330,7 @@ impl Ledger {
     pub(crate) fn pruning(&self, alloc: Global, slot: &Slot) -> Result<Prepared, AllocError>
         requires { result_err (pruned farm_limits slot.now (begin_work (ledger self.now))) ≡ None }
         ensures work { IfOk result (λ p. pruned farm_limits slot.now (begin_work (ledger self.now)) ≡ Ok (work_of self.now p.effects.value)) }
-        ensures told { IfOk result (λ p. ChangesAsTold (ledger self.now) (pruned farm_limits slot.now (begin_work (ledger self.now)))) }
-        ensures rightful { IfOk result (λ p. IsRightful (work_of self.now p.effects.value).ledger) }
-        ensures ready { IfOk result (λ p. IsReady self.now.lines p.effects.value.added) }
-        ensures empty { IfOk result (λ p. p.room.items ≡ []) }
-        ensures larger { IfOk result (λ p. room_needed self.now.lines p.effects.value.added ≤ vec_capacity p.room) }
+        ensures prepared { IfOk result (IsPrepared self.now) }
     {
         let mut draft = Draft::begin(alloc, &self.state)?;
         draft.prune(alloc, slot)?;

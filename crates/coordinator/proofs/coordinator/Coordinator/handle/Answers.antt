@@ -3,26 +3,17 @@ use Rattle.protocol.specs.Farm.{farm_limits}
 use Rattle.protocol.specs.Ledger.{Ledger, Work, begin_work, handled}
 use Rattle.coordinator.specs.Held.{Held, ledger}
 use Rattle.coordinator.specs.Seen.{Seen}
+use Rattle.coordinator.specs.Prepared.{IsPrepared}
 use Rattle.coordinator.specs.Shown.{work_of}
 use Rattle.coordinator.specs.Sound.{IsRightful}
-use Rattle.coordinator.specs.Promises.{GrantsAtOnce, EndsOnlyItsOwn, ChangesAsTold}
+use Rattle.coordinator.specs.Promises.{GrantsAtOnce, EndsOnlyItsOwn}
 use Rattle.coordinator.proofs.Keeping.{settled_up, at_once, own}
 use Rattle.coordinator.proofs.Kept.{grants}
 use Rattle.coordinator.proofs.Recording.{handled-own}
 use Rattle.coordinator.proofs.coordinator.Coordinator.handle.Goals as goal
 
-pub settle-requires-clause-told : goal.settle-requires-clause-told
-settle-requires-clause-told g c =
-    let held : c.self.inside.ledger ≡ c.args.self.now.held = ap (λ (s : Seen g.row.K.Denot). s.held) c.self.view_is in
-    let w : (Held → Work) = λ h. work_of h c.in-Ok.prepared.effects.value in
-    let work : w c.args.self.now.held ≡ handled farm_limits c.args.message.now (begin_work (ledger c.args.self.now.held)) = subst (λ (h : Held). w h ≡ handled farm_limits c.args.message.now (begin_work (ledger h))) held c.in-Ok.ensures.work in
-    let q : Ledger = ledger c.args.self.now.held in
-    subst (λ (x : Work). ChangesAsTold q (Ok x)) (sym work) (subst (λ (h : Held). ChangesAsTold (ledger h) (Ok (handled farm_limits c.args.message.now (begin_work (ledger h))))) held c.in-Ok.ensures.told)
-
-pub settle-requires-clause-rightful : goal.settle-requires-clause-rightful
-settle-requires-clause-rightful g c =
-    let held : c.self.inside.ledger ≡ c.args.self.now.held = ap (λ (s : Seen g.row.K.Denot). s.held) c.self.view_is in
-    subst (λ (h : Held). IsRightful (work_of h c.in-Ok.prepared.effects.value).ledger) held c.in-Ok.ensures.rightful
+pub settle-requires-clause-prepared : goal.settle-requires-clause-prepared
+settle-requires-clause-prepared g c = subst (λ (h : Held). IsPrepared h c.in-Ok.prepared) (ap (λ (s : Seen g.row.K.Denot). s.held) c.self.view_is) c.in-Ok.ensures.prepared
 
 pub returns-clause-answer : goal.returns-clause-answer
 returns-clause-answer g c =

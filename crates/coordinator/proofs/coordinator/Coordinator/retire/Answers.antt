@@ -3,23 +3,13 @@ use Rattle.protocol.specs.Farm.{farm_limits}
 use Rattle.protocol.specs.Ledger.{Work, begin_work, retired}
 use Rattle.coordinator.specs.Held.{Held, ledger}
 use Rattle.coordinator.specs.Seen.{Seen}
+use Rattle.coordinator.specs.Prepared.{IsPrepared}
 use Rattle.coordinator.specs.Shown.{work_of}
-use Rattle.coordinator.specs.Sound.{IsRightful}
-use Rattle.coordinator.specs.Promises.{ChangesAsTold}
 use Rattle.coordinator.proofs.Keeping.{settled_up}
 use Rattle.coordinator.proofs.coordinator.Coordinator.retire.Goals as goal
 
-pub settle-requires-clause-told : goal.settle-requires-clause-told
-settle-requires-clause-told g c =
-    let held : c.self.inside.ledger ≡ c.args.self.now.held = ap (λ (s : Seen g.row.K.Denot). s.held) c.self.view_is in
-    let w : (Held → Work) = λ h. work_of h c.in-Ok.prepared.effects.value in
-    let work : retired farm_limits c.args.node (begin_work (ledger c.args.self.now.held)) ≡ Ok (w c.args.self.now.held) = subst (λ (h : Held). retired farm_limits c.args.node (begin_work (ledger h)) ≡ Ok (w h)) held c.in-Ok.ensures.work in
-    subst (ChangesAsTold (ledger c.args.self.now.held)) work (subst (λ (h : Held). ChangesAsTold (ledger h) (retired farm_limits c.args.node (begin_work (ledger h)))) held c.in-Ok.ensures.told)
-
-pub settle-requires-clause-rightful : goal.settle-requires-clause-rightful
-settle-requires-clause-rightful g c =
-    let held : c.self.inside.ledger ≡ c.args.self.now.held = ap (λ (s : Seen g.row.K.Denot). s.held) c.self.view_is in
-    subst (λ (h : Held). IsRightful (work_of h c.in-Ok.prepared.effects.value).ledger) held c.in-Ok.ensures.rightful
+pub settle-requires-clause-prepared : goal.settle-requires-clause-prepared
+settle-requires-clause-prepared g c = subst (λ (h : Held). IsPrepared h c.in-Ok.prepared) (ap (λ (s : Seen g.row.K.Denot). s.held) c.self.view_is) c.in-Ok.ensures.prepared
 
 pub returns-clause-answer : goal.returns-clause-answer
 returns-clause-answer g c =

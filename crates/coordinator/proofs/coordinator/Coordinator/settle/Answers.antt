@@ -1,22 +1,15 @@
 use Rattle.std.proofs.Common.{◌≡◌, Bool, false, Ok, sym, ap, ◌∙◌, subst}
 use Rattle.protocol.specs.Ledger.{Work}
-use Rattle.coordinator.specs.Held.{Held, line_at, ledger}
+use Rattle.coordinator.specs.Held.{Held, line_at}
 use Rattle.coordinator.specs.Seen.{Seen, IsKeeping}
 use Rattle.coordinator.specs.Settling.{Answers}
+use Rattle.coordinator.specs.Prepared.{IsPrepared}
 use Rattle.coordinator.specs.Shown.{work_of}
-use Rattle.coordinator.specs.Sound.{IsRightful}
-use Rattle.coordinator.specs.Promises.{OnlyGrow, ChangesAsTold}
+use Rattle.coordinator.specs.Promises.{OnlyGrow}
 use Rattle.coordinator.proofs.coordinator.Coordinator.settle.Goals as goal
 
-pub settle-result-requires-clause-told : goal.settle-result-requires-clause-told
-settle-result-requires-clause-told g c =
-    let held : c.self.inside.ledger ≡ c.args.self.now.held = ap (λ (s : Seen g.row.K.Denot). s.held) c.self.view_is in
-    subst (λ (h : Held). ChangesAsTold (ledger h) (Ok (work_of h c.args.prepared.effects.value))) (sym held) c.requires.told
-
-pub settle-result-requires-clause-rightful : goal.settle-result-requires-clause-rightful
-settle-result-requires-clause-rightful g c =
-    let held : c.self.inside.ledger ≡ c.args.self.now.held = ap (λ (s : Seen g.row.K.Denot). s.held) c.self.view_is in
-    subst (λ (h : Held). IsRightful (work_of h c.args.prepared.effects.value).ledger) (sym held) c.requires.rightful
+pub settle-result-requires-clause-prepared : goal.settle-result-requires-clause-prepared
+settle-result-requires-clause-prepared g c = subst (λ (h : Held). IsPrepared h c.args.prepared) (sym (ap (λ (s : Seen g.row.K.Denot). s.held) c.self.view_is)) c.requires.prepared
 
 pub settle-result-requires-clause-keeping : goal.settle-result-requires-clause-keeping
 settle-result-requires-clause-keeping g c =

@@ -1,16 +1,18 @@
-use Rattle.std.proofs.Common.{◌≡◌, ◌≤◌, Ok, ap, sym, ◌∙◌, subst}
-use Rattle.std.specs.Vec.{vec_capacity}
+use Rattle.std.proofs.Common.{◌≡◌, Ok, ap, sym, ◌∙◌, subst}
 use Rattle.std.specs.Result.{result_err}
 use Rattle.protocol.specs.Farm.{farm_limits}
-use Rattle.protocol.specs.Ledger.{Work, begin_work, pruned}
-use Rattle.versions.specs.Additions.{IsReady}
-use Rattle.versions.specs.Lines.{room_needed}
+use Rattle.protocol.specs.Ledger.{Ledger, Work, begin_work, pruned}
+use Rattle.coordinator.specs.declared.draft.Draft.{Draft}
 use Rattle.coordinator.specs.declared.effects.Effects.{Effects}
+use Rattle.coordinator.specs.declared.state.State.{State}
 use Rattle.coordinator.specs.Held.{Held, ledger}
 use Rattle.coordinator.specs.Keeps.{held}
-use Rattle.coordinator.specs.Shown.{work_of}
-use Rattle.coordinator.specs.Sound.{IsSound, IsRightful}
-use Rattle.coordinator.proofs.Drafting.{on-state, over}
+use Rattle.coordinator.specs.Prepared.{IsPrepared}
+use Rattle.coordinator.specs.Promises.{ChangesAsTold}
+use Rattle.coordinator.specs.Shown.{work, work_of}
+use Rattle.coordinator.specs.Sound.{IsSound}
+use Rattle.coordinator.proofs.Drafting.{over}
+use Rattle.coordinator.proofs.Preparing.{prepared}
 use Rattle.coordinator.proofs.Rightful.{rightful-pruned}
 use Rattle.coordinator.proofs.Recording.{pruned-told}
 use Rattle.coordinator.proofs.ledger.Ledger.pruning.Goals as goal
@@ -35,32 +37,13 @@ returns-clause-work c =
     ap (pruned farm_limits c.args.slot.now) (sym c.in_ok-draft.ensures.work) ∙ c.in_ok-prune.ensures.work ∙ ap (λ (w : Work). Ok w) (sym (over c.self.inside.state c.prune.new.self effects base same)) in
     subst (λ (x : Held). pruned farm_limits c.args.slot.now (begin_work (ledger x)) ≡ Ok (work_of x effects)) c.self.view_is made
 
-pub returns-clause-rightful : goal.returns-clause-rightful
-returns-clause-rightful c =
-    let effects : Effects = c.in_ok-prepared.prepared.effects.value in
-    let base : c.prune.new.self.base.now ≡ c.self.inside.state = c.in_ok-prune.ensures.base ∙ c.in_ok-draft.ensures.base in
-    let same : effects ≡ c.prune.new.self.effects.value = (λ j. (c.in_ok-prepared.ensures.effects j).value) in
-    let h : Held = held c.self.inside.state in
-    let made : pruned farm_limits c.args.slot.now (begin_work (ledger h)) ≡ Ok (work_of h effects) =
-    ap (pruned farm_limits c.args.slot.now) (sym c.in_ok-draft.ensures.work) ∙ c.in_ok-prune.ensures.work ∙ ap (λ (w : Work). Ok w) (sym (over c.self.inside.state c.prune.new.self effects base same)) in
-    let P : Work → Type 0 = λ w. IsSound w.ledger in
-    subst (λ (x : Held). IsRightful (work_of x effects).ledger) c.self.view_is
-    (rightful-pruned c.args.slot.now (ledger h) (work_of h effects) c.self.invariant.rightful made (subst P (sym (over c.self.inside.state c.prune.new.self effects base same)) c.in_ok-prune.ensures.sound))
-
-pub returns-clause-ready : goal.returns-clause-ready
-returns-clause-ready c =
-    let effects : Effects = c.in_ok-prepared.prepared.effects.value in
-    let base : c.prune.new.self.base.now ≡ c.self.inside.state = c.in_ok-prune.ensures.base ∙ c.in_ok-draft.ensures.base in
-    let same : effects ≡ c.prune.new.self.effects.value = (λ j. (c.in_ok-prepared.ensures.effects j).value) in
-    subst (λ (h : Held). IsReady h.lines effects.added) c.self.view_is (on-state (λ s e. IsReady s.lines e.added) c.self.inside.state c.prune.new.self effects base same c.in_ok-prune.ensures.ready)
-
-pub returns-clause-larger : goal.returns-clause-larger
-returns-clause-larger c =
-    let effects : Effects = c.in_ok-prepared.prepared.effects.value in
-    let base : c.prune.new.self.base.now ≡ c.self.inside.state = c.in_ok-prune.ensures.base ∙ c.in_ok-draft.ensures.base in
-    let same : effects ≡ c.prune.new.self.effects.value = (λ j. (c.in_ok-prepared.ensures.effects j).value) in
-    subst (λ (h : Held). room_needed h.lines effects.added ≤ vec_capacity c.in_ok-prepared.prepared.room) c.self.view_is
-    (on-state (λ s e. room_needed s.lines e.added ≤ vec_capacity c.in_ok-prepared.prepared.room) c.self.inside.state c.prune.new.self effects base same c.in_ok-prepared.ensures.larger)
-
-pub returns-clause-told : goal.returns-clause-told
-returns-clause-told c = pruned-told c.args.slot.now (ledger c.args.self.now)
+pub returns-clause-prepared : goal.returns-clause-prepared
+returns-clause-prepared c =
+    let s : State = c.self.inside.state in
+    let q : Ledger = ledger (held s) in
+    let draft : Draft = c.prune.new.self in
+    let made : pruned farm_limits c.args.slot.now (begin_work q) ≡ Ok (work draft) = ap (pruned farm_limits c.args.slot.now) (sym c.in_ok-draft.ensures.work) ∙ c.in_ok-prune.ensures.work in
+    subst (λ (h : Held). IsPrepared h c.in_ok-prepared.prepared) c.self.view_is
+    (prepared s draft c.in_ok-prepared.prepared (c.in_ok-prune.ensures.base ∙ c.in_ok-draft.ensures.base) c.in_ok-prepared.ensures.effects c.in_ok-prepared.ensures.empty c.in_ok-prepared.ensures.larger c.in_ok-prune.ensures.ready
+    (rightful-pruned c.args.slot.now q (work draft) c.self.invariant.rightful made c.in_ok-prune.ensures.sound)
+    (subst (ChangesAsTold q) made (pruned-told c.args.slot.now q)))

@@ -1,17 +1,19 @@
-use Rattle.std.proofs.Common.{◌≡◌, ◌≤◌, Ok, ap, sym, ◌∙◌, subst}
-use Rattle.std.specs.Vec.{vec_capacity}
+use Rattle.std.proofs.Common.{◌≡◌, Ok, ap, sym, ◌∙◌, subst}
 use Rattle.std.specs.Result.{result_err}
 use Rattle.protocol.specs.Farm.{farm_limits}
-use Rattle.protocol.specs.Ledger.{Work, begin_work, retired}
-use Rattle.versions.specs.Additions.{IsReady}
-use Rattle.versions.specs.Lines.{room_needed}
+use Rattle.protocol.specs.Ledger.{Ledger, Work, begin_work, retired}
+use Rattle.coordinator.specs.declared.draft.Draft.{Draft}
 use Rattle.coordinator.specs.declared.effects.Effects.{Effects}
+use Rattle.coordinator.specs.declared.state.State.{State}
 use Rattle.coordinator.specs.Held.{Held, ledger}
 use Rattle.coordinator.specs.Idle.{AreHeldUp}
 use Rattle.coordinator.specs.Keeps.{held, IsKeepable}
-use Rattle.coordinator.specs.Shown.{work_of}
-use Rattle.coordinator.specs.Sound.{IsSound, IsRightful}
-use Rattle.coordinator.proofs.Drafting.{on-state, over}
+use Rattle.coordinator.specs.Prepared.{IsPrepared}
+use Rattle.coordinator.specs.Promises.{ChangesAsTold}
+use Rattle.coordinator.specs.Shown.{work, work_of}
+use Rattle.coordinator.specs.Sound.{IsSound}
+use Rattle.coordinator.proofs.Drafting.{over}
+use Rattle.coordinator.proofs.Preparing.{prepared}
 use Rattle.coordinator.proofs.Rightful.{rightful-retired}
 use Rattle.coordinator.proofs.Recording.{retired-told}
 use Rattle.coordinator.proofs.ledger.Ledger.retirement.Goals as goal
@@ -44,32 +46,13 @@ returns-clause-work c =
     ap (retired farm_limits c.args.node) (sym c.in_ok-draft.ensures.work) ∙ c.in_ok-retire.ensures.work ∙ ap (λ (w : Work). Ok w) (sym (over c.self.inside.state c.retire.new.self effects base same)) in
     subst (λ (x : Held). retired farm_limits c.args.node (begin_work (ledger x)) ≡ Ok (work_of x effects)) c.self.view_is made
 
-pub returns-clause-rightful : goal.returns-clause-rightful
-returns-clause-rightful c =
-    let effects : Effects = c.in_ok-prepared.prepared.effects.value in
-    let base : c.retire.new.self.base.now ≡ c.self.inside.state = c.in_ok-retire.ensures.base ∙ c.in_ok-draft.ensures.base in
-    let same : effects ≡ c.retire.new.self.effects.value = (λ j. (c.in_ok-prepared.ensures.effects j).value) in
-    let h : Held = held c.self.inside.state in
-    let made : retired farm_limits c.args.node (begin_work (ledger h)) ≡ Ok (work_of h effects) =
-    ap (retired farm_limits c.args.node) (sym c.in_ok-draft.ensures.work) ∙ c.in_ok-retire.ensures.work ∙ ap (λ (w : Work). Ok w) (sym (over c.self.inside.state c.retire.new.self effects base same)) in
-    let P : Work → Type 0 = λ w. IsSound w.ledger in
-    subst (λ (x : Held). IsRightful (work_of x effects).ledger) c.self.view_is
-    (rightful-retired c.args.node (ledger h) (work_of h effects) c.self.invariant.rightful c.requires.number made (subst P (sym (over c.self.inside.state c.retire.new.self effects base same)) c.in_ok-retire.ensures.sound))
-
-pub returns-clause-ready : goal.returns-clause-ready
-returns-clause-ready c =
-    let effects : Effects = c.in_ok-prepared.prepared.effects.value in
-    let base : c.retire.new.self.base.now ≡ c.self.inside.state = c.in_ok-retire.ensures.base ∙ c.in_ok-draft.ensures.base in
-    let same : effects ≡ c.retire.new.self.effects.value = (λ j. (c.in_ok-prepared.ensures.effects j).value) in
-    subst (λ (h : Held). IsReady h.lines effects.added) c.self.view_is (on-state (λ s e. IsReady s.lines e.added) c.self.inside.state c.retire.new.self effects base same c.in_ok-retire.ensures.ready)
-
-pub returns-clause-larger : goal.returns-clause-larger
-returns-clause-larger c =
-    let effects : Effects = c.in_ok-prepared.prepared.effects.value in
-    let base : c.retire.new.self.base.now ≡ c.self.inside.state = c.in_ok-retire.ensures.base ∙ c.in_ok-draft.ensures.base in
-    let same : effects ≡ c.retire.new.self.effects.value = (λ j. (c.in_ok-prepared.ensures.effects j).value) in
-    subst (λ (h : Held). room_needed h.lines effects.added ≤ vec_capacity c.in_ok-prepared.prepared.room) c.self.view_is
-    (on-state (λ s e. room_needed s.lines e.added ≤ vec_capacity c.in_ok-prepared.prepared.room) c.self.inside.state c.retire.new.self effects base same c.in_ok-prepared.ensures.larger)
-
-pub returns-clause-told : goal.returns-clause-told
-returns-clause-told c = retired-told c.args.node (ledger c.args.self.now)
+pub returns-clause-prepared : goal.returns-clause-prepared
+returns-clause-prepared c =
+    let s : State = c.self.inside.state in
+    let q : Ledger = ledger (held s) in
+    let draft : Draft = c.retire.new.self in
+    let made : retired farm_limits c.args.node (begin_work q) ≡ Ok (work draft) = ap (retired farm_limits c.args.node) (sym c.in_ok-draft.ensures.work) ∙ c.in_ok-retire.ensures.work in
+    subst (λ (h : Held). IsPrepared h c.in_ok-prepared.prepared) c.self.view_is
+    (prepared s draft c.in_ok-prepared.prepared (c.in_ok-retire.ensures.base ∙ c.in_ok-draft.ensures.base) c.in_ok-prepared.ensures.effects c.in_ok-prepared.ensures.empty c.in_ok-prepared.ensures.larger c.in_ok-retire.ensures.ready
+    (rightful-retired c.args.node q (work draft) c.self.invariant.rightful c.requires.number made c.in_ok-retire.ensures.sound)
+    (subst (ChangesAsTold q) made (retired-told c.args.node q)))

@@ -73,7 +73,7 @@ invariant_of-self-in-Ok-save g c =
     let noted : AreNoted c.in-Ok-spent_after.spent.folders.items (after line (held s) effects.change) =
     subst (λ (e : Effects). AreNoted c.in-Ok-spent_after.spent.folders.items (after line (held s) e.change)) c.deref.ensures (c.in-Ok-spent_after.ensures line) in
     record {
-      rightful = subst IsRightful (sym ledger_is) c.requires.rightful;
+      rightful = subst IsRightful (sym ledger_is) c.requires.prepared.rightful;
       noted = subst (λ (x : SpentFolders). AreNoted x.folders.items (ledger (held c.apply.new.state))) (sym c.apply.ensures.spent)
           (subst (AreNoted c.in-Ok-spent_after.spent.folders.items) (sym ledger_is)
           (subst (λ (x : Held). AreNoted c.in-Ok-spent_after.spent.folders.items (after line x effects.change)) was noted));
@@ -120,7 +120,7 @@ returns-in-Ok-save-clause-keeping g c =
     record {
       saved = saves now;
       holds = holds_after c.in-Ok.to_save c.args.prepared.effects.value.changed (saves (ledger h)) (saves now) (g.K.Keeper.kept c.args.keeper.now) (g.K.Keeper.kept c.save.new.keeper)
-          c.in-Ok.ensures.changed c.in-Ok.ensures.text c.requires.told before c.in-Ok-save.ensures.ok;
+          c.in-Ok.ensures.changed c.in-Ok.ensures.text c.requires.prepared.told before c.in-Ok-save.ensures.ok;
       up = λ d. ap saves (sym ledger_is);
     }
 
@@ -172,7 +172,7 @@ returns-in-Err-clause-keeping g c =
         | inr new ↦ record {
           saved = saves w.ledger;
           holds = holds_after c.in-Ok.to_save c.args.prepared.effects.value.changed (saves (ledger h)) (saves w.ledger) (g.K.Keeper.kept c.args.keeper.now) (g.K.Keeper.kept c.save.new.keeper)
-              c.in-Ok.ensures.changed c.in-Ok.ensures.text c.requires.told before new;
+              c.in-Ok.ensures.changed c.in-Ok.ensures.text c.requires.prepared.told before new;
           up = λ d. not_down d;
         }
       ])

@@ -1,17 +1,19 @@
-use Rattle.std.proofs.Common.{◌≡◌, ◌≤◌, Ok, ap, sym, ◌∙◌, subst}
-use Rattle.std.specs.Vec.{vec_capacity}
+use Rattle.std.proofs.Common.{◌≡◌, Ok, ap, sym, ◌∙◌, subst}
 use Rattle.std.specs.Result.{result_err}
 use Rattle.protocol.specs.Farm.{farm_limits}
-use Rattle.protocol.specs.Ledger.{Work, begin_work, withdrawn}
-use Rattle.versions.specs.Additions.{IsReady}
-use Rattle.versions.specs.Lines.{room_needed}
+use Rattle.protocol.specs.Ledger.{Ledger, Work, begin_work, withdrawn}
+use Rattle.coordinator.specs.declared.draft.Draft.{Draft}
 use Rattle.coordinator.specs.declared.effects.Effects.{Effects}
+use Rattle.coordinator.specs.declared.state.State.{State}
 use Rattle.coordinator.specs.Held.{Held, ledger}
 use Rattle.coordinator.specs.Idle.{AreHeldUp}
 use Rattle.coordinator.specs.Keeps.{held, IsKeepable}
-use Rattle.coordinator.specs.Shown.{work_of}
-use Rattle.coordinator.specs.Sound.{IsSound, IsRightful}
-use Rattle.coordinator.proofs.Drafting.{on-state, over}
+use Rattle.coordinator.specs.Prepared.{IsPrepared}
+use Rattle.coordinator.specs.Promises.{ChangesAsTold}
+use Rattle.coordinator.specs.Shown.{work, work_of}
+use Rattle.coordinator.specs.Sound.{IsSound}
+use Rattle.coordinator.proofs.Drafting.{over}
+use Rattle.coordinator.proofs.Preparing.{prepared}
 use Rattle.coordinator.proofs.Rightful.{rightful-withdrawn}
 use Rattle.coordinator.proofs.Recording.{withdrawn-told}
 use Rattle.coordinator.proofs.ledger.Ledger.withdrawal.Goals as goal
@@ -44,32 +46,13 @@ returns-clause-work c =
     ap (withdrawn farm_limits c.args.ticket) (sym c.in_ok-draft.ensures.work) ∙ c.in_ok-withdraw.ensures.work ∙ ap (λ (w : Work). Ok w) (sym (over c.self.inside.state c.withdraw.new.self effects base same)) in
     subst (λ (x : Held). withdrawn farm_limits c.args.ticket (begin_work (ledger x)) ≡ Ok (work_of x effects)) c.self.view_is made
 
-pub returns-clause-rightful : goal.returns-clause-rightful
-returns-clause-rightful c =
-    let effects : Effects = c.in_ok-prepared.prepared.effects.value in
-    let base : c.withdraw.new.self.base.now ≡ c.self.inside.state = c.in_ok-withdraw.ensures.base ∙ c.in_ok-draft.ensures.base in
-    let same : effects ≡ c.withdraw.new.self.effects.value = (λ j. (c.in_ok-prepared.ensures.effects j).value) in
-    let h : Held = held c.self.inside.state in
-    let made : withdrawn farm_limits c.args.ticket (begin_work (ledger h)) ≡ Ok (work_of h effects) =
-    ap (withdrawn farm_limits c.args.ticket) (sym c.in_ok-draft.ensures.work) ∙ c.in_ok-withdraw.ensures.work ∙ ap (λ (w : Work). Ok w) (sym (over c.self.inside.state c.withdraw.new.self effects base same)) in
-    let P : Work → Type 0 = λ w. IsSound w.ledger in
-    subst (λ (x : Held). IsRightful (work_of x effects).ledger) c.self.view_is
-    (rightful-withdrawn c.args.ticket (ledger h) (work_of h effects) c.self.invariant.rightful made (subst P (sym (over c.self.inside.state c.withdraw.new.self effects base same)) c.in_ok-withdraw.ensures.sound))
-
-pub returns-clause-ready : goal.returns-clause-ready
-returns-clause-ready c =
-    let effects : Effects = c.in_ok-prepared.prepared.effects.value in
-    let base : c.withdraw.new.self.base.now ≡ c.self.inside.state = c.in_ok-withdraw.ensures.base ∙ c.in_ok-draft.ensures.base in
-    let same : effects ≡ c.withdraw.new.self.effects.value = (λ j. (c.in_ok-prepared.ensures.effects j).value) in
-    subst (λ (h : Held). IsReady h.lines effects.added) c.self.view_is (on-state (λ s e. IsReady s.lines e.added) c.self.inside.state c.withdraw.new.self effects base same c.in_ok-withdraw.ensures.ready)
-
-pub returns-clause-larger : goal.returns-clause-larger
-returns-clause-larger c =
-    let effects : Effects = c.in_ok-prepared.prepared.effects.value in
-    let base : c.withdraw.new.self.base.now ≡ c.self.inside.state = c.in_ok-withdraw.ensures.base ∙ c.in_ok-draft.ensures.base in
-    let same : effects ≡ c.withdraw.new.self.effects.value = (λ j. (c.in_ok-prepared.ensures.effects j).value) in
-    subst (λ (h : Held). room_needed h.lines effects.added ≤ vec_capacity c.in_ok-prepared.prepared.room) c.self.view_is
-    (on-state (λ s e. room_needed s.lines e.added ≤ vec_capacity c.in_ok-prepared.prepared.room) c.self.inside.state c.withdraw.new.self effects base same c.in_ok-prepared.ensures.larger)
-
-pub returns-clause-told : goal.returns-clause-told
-returns-clause-told c = withdrawn-told c.args.ticket (ledger c.args.self.now) (subst IsRightful (ap ledger c.self.view_is) c.self.invariant.rightful).sound
+pub returns-clause-prepared : goal.returns-clause-prepared
+returns-clause-prepared c =
+    let s : State = c.self.inside.state in
+    let q : Ledger = ledger (held s) in
+    let draft : Draft = c.withdraw.new.self in
+    let made : withdrawn farm_limits c.args.ticket (begin_work q) ≡ Ok (work draft) = ap (withdrawn farm_limits c.args.ticket) (sym c.in_ok-draft.ensures.work) ∙ c.in_ok-withdraw.ensures.work in
+    subst (λ (h : Held). IsPrepared h c.in_ok-prepared.prepared) c.self.view_is
+    (prepared s draft c.in_ok-prepared.prepared (c.in_ok-withdraw.ensures.base ∙ c.in_ok-draft.ensures.base) c.in_ok-prepared.ensures.effects c.in_ok-prepared.ensures.empty c.in_ok-prepared.ensures.larger c.in_ok-withdraw.ensures.ready
+    (rightful-withdrawn c.args.ticket q (work draft) c.self.invariant.rightful made c.in_ok-withdraw.ensures.sound)
+    (subst (ChangesAsTold q) made (withdrawn-told c.args.ticket q c.self.invariant.rightful.sound)))

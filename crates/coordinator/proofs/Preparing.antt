@@ -1,0 +1,32 @@
+-- A draft that was worked out, as it is saved and applied.
+use Rattle.std.proofs.Common.{◌≡◌, ◌≤◌, [], Ok, sym, subst}
+use Rattle.std.specs.Vec.{vec_capacity}
+use Rattle.protocol.specs.Ledger.{Work}
+use Rattle.versions.specs.Additions.{IsReady}
+use Rattle.versions.specs.Lines.{room_needed}
+use Rattle.coordinator.specs.declared.draft.Draft.{Draft}
+use Rattle.coordinator.specs.declared.effects.Effects.{Effects}
+use Rattle.coordinator.specs.declared.effects.Prepared.{Prepared}
+use Rattle.coordinator.specs.declared.state.State.{State}
+use Rattle.coordinator.specs.Held.{ledger}
+use Rattle.coordinator.specs.Keeps.{held}
+use Rattle.coordinator.specs.Prepared.{IsPrepared}
+use Rattle.coordinator.specs.Promises.{ChangesAsTold}
+use Rattle.coordinator.specs.Shown.{work, work_of}
+use Rattle.coordinator.specs.Sound.{IsRightful}
+use Rattle.coordinator.proofs.Drafting.{on-state, over}
+
+-- a draft's effects with room for what they add to the lines, where they may be saved
+pub prepared : (s : State) (d : Draft) (p : Prepared) → d.base.now ≡ s → p.effects ≡ d.effects → p.room.items ≡ [] → room_needed d.base.now.lines d.effects.value.added ≤ vec_capacity p.room
+    → IsReady d.base.now.lines d.effects.value.added → IsRightful (work d).ledger → ChangesAsTold (ledger (held s)) (Ok (work d)) → IsPrepared (held s) p
+prepared s d p base same empty larger ready rightful told =
+    let effects : Effects = p.effects.value in
+    let is : effects ≡ d.effects.value = (λ j. (same j).value) in
+    let made : work_of (held s) effects ≡ work d = over s d effects base is in
+    record {
+      told = subst (λ (w : Work). ChangesAsTold (ledger (held s)) (Ok w)) (sym made) told;
+      rightful = subst (λ (w : Work). IsRightful w.ledger) (sym made) rightful;
+      ready = on-state (λ t e. IsReady t.lines e.added) s d effects base is ready;
+      empty = empty;
+      larger = on-state (λ t e. room_needed t.lines e.added ≤ vec_capacity p.room) s d effects base is larger;
+    }
