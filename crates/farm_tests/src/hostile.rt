@@ -400,7 +400,10 @@ fn misbehaves_so<R: Threads + Wait + Sync>(
 #[test]
 fn executors_that_misbehave(rt: HostRuntime) -> Result<(), Fail> {
     for (misdeed, wanted) in &MISDEEDS {
-        assert!(rt; misbehaves_so(&rt, rt.alloc(), *misdeed, *wanted)?, "{wanted}");
+        assert!(rt;
+            misbehaves_so(&rt, rt.alloc(), *misdeed, *wanted)?,
+            "{wanted}"
+        );
     }
     Ok(())
 }

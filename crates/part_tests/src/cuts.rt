@@ -76,7 +76,10 @@ const DIGEST: &str = "sha256:ba7816bf8f01cfea414140de5dae2223b00361a396177a9cb41
 /// Whether no prefix of the digest's text but the whole is one.
 fn is_cut_refused() -> bool {
     for len in 0..DIGEST.len() {
-        if DIGEST.get(..len).is_none_or(|prefix| Digest::parse(prefix).is_ok()) {
+        let Some(prefix) = DIGEST.get(..len) else {
+            return false;
+        };
+        if Digest::parse(prefix).is_ok() {
             return false;
         }
     }

@@ -1,5 +1,5 @@
-//! Lines of messages: the MACs of RFC 4231, texts that are written as they were read, texts of nothing, and lines that were
-//! damaged. The MACs of lines, and those of keys of one block and of a byte more, are Python's (hmac, hashlib).
+//! Lines of messages: the MACs of RFC 4231, texts that are written as they were read, and lines that were damaged. The MACs of
+//! lines, and those of keys of one block and of a byte more, are Python's (hmac, hashlib).
 
 use farm_base::{
     Ask, FolderName, FromCoord, Grant, Items, Key, LeaseKind, Life, Message, NodeId, Request,
