@@ -6,10 +6,22 @@ use std::io::{ErrorKind, Read};
 use std::rt::Files;
 use std::{fs, io};
 
-/// The bytes of a reader, at most `most` of them.
-fn bytes_of<R: Read>(alloc: Global, reader: &mut R, most: usize) -> io::Result<Vec<u8>> {
-    let mut bytes = Vec::new(alloc);
-    let mut part = [0u8; 4096];
+/// How many bytes are read at once.
+const PART: usize = 4096;
+
+/// Room for the bytes of a file of this length, at most `most` of them, and no room where memory hasn't that much.
+fn room_for(alloc: Global, length: u64, most: usize) -> Vec<u8> {
+    let bytes = usize::try_from(length).unwrap_or(most).min(most);
+    match Vec::with_capacity(alloc, bytes.saturating_add(PART)) {
+        Ok(room) => room,
+        Err(_) => Vec::new(alloc),
+    }
+}
+
+/// The bytes of a reader, at most `most` of them, in this room.
+fn bytes_of<R: Read>(room: Vec<u8>, reader: &mut R, most: usize) -> io::Result<Vec<u8>> {
+    let mut bytes = room;
+    let mut part = [0u8; PART];
     for _ in 0..u64::MAX {
         let read = reader.read(&mut part)?;
         if read == 0 || bytes.len() >= most {
@@ -28,10 +40,12 @@ pub fn contents<R: Files + Input + AllocGlobal>(
     most: usize,
 ) -> io::Result<Vec<u8>> {
     if name == "-" {
-        bytes_of(rt.alloc(), &mut rt.reader(), most)
-    } else {
-        bytes_of(rt.alloc(), &mut fs::open(rt, name)?, most)
+        return bytes_of(Vec::new(rt.alloc()), &mut rt.reader(), most);
     }
+    let mut file = fs::open(rt, name)?;
+    // Where the length isn't known, the room grows.
+    let length = fs::metadata(rt, name).map_or(0, |found| found.len());
+    bytes_of(room_for(rt.alloc(), length, most), &mut file, most)
 }
 
 /// The bytes of the log beside the record of this name, none where there is no log.

@@ -1,5 +1,5 @@
 -- What an execution leaves in the slots of its lease (this project's own).
-use Rattle.std.specs.Prelude.{ℕ, nat_le, Bool, true, ◌&&◌, not, List, [], ◌∷◌, map, filter, length}
+use Rattle.std.specs.Prelude.{nat_le, Bool, true, ◌&&◌, not, List, [], ◌∷◌, map, filter, length}
 use Rattle.std.specs.List.{list_all, list_any}
 use Rattle.std.specs.Map.{lookup}
 use Rattle.std.specs.Option.{unwrap_or}
