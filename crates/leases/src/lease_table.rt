@@ -1,22 +1,20 @@
-ghost use Rattle.std.specs.Prelude.{◌≡◌, ◌<◌, not, [], ◌∷◌, ◌++◌, filter, count_by, ◌&&◌, All, IfOk, OnOk, OnErr, option_copied};
+ghost use Rattle.std.specs.Prelude.{◌≡◌, [], ◌&&◌, IfOk, option_copied};
 ghost use Rattle.std.specs.List.{find, list_any};
 ghost use Rattle.std.specs.List.Sorted.{IsStrictlySortedBy};
 ghost use Rattle.farm_base.specs.Slots.{slot_cmp};
-ghost use Rattle.farm_base.specs.Wanted.{IsWants};
-ghost use Rattle.protocol.specs.Names.{leased_wants};
-ghost use Rattle.protocol.specs.Ledger.{has_slot, lease_of, lease_under, without, is_older, is_at, retire_all};
+ghost use Rattle.protocol.specs.Ledger.{has_slot, lease_under, is_at};
 ghost use Rattle.leases.specs.Changes.{changed, ends_lease};
 ghost use Rattle.leases.specs.Counts.{AreLast};
 ghost use Rattle.holdings.specs.Leases.{AreLeases};
 ghost use Rattle.holdings.specs.Leases.{among};
-ghost use Rattle.leases.specs.Table.{is_leased, fit_of, lease_for, state_of, holds_some, retires_some};
+ghost use Rattle.leases.specs.Table.{is_leased, state_of};
 
 use super::ending::Ending;
 use super::held::{among, has_slot};
 use super::live_leases::LiveLeases;
 use super::retired_slots::RetiredSlots;
 use super::view::TableView;
-use farm_base::{Ask, Lease, Life, NodeId, Slot, Ticket, Wants};
+use farm_base::{Lease, NodeId, Slot, Ticket};
 use std::alloc::{AllocError, Global};
 use std::marker::Model;
 
@@ -42,8 +40,8 @@ pub enum SlotState {
 /// The leases that were granted and have not ended, and the PRIVATE slots that are never granted again.
 #[derive(Debug, Drop)]
 pub struct LeaseTable {
-    live: LiveLeases,
-    retired: RetiredSlots,
+    pub(crate) live: LiveLeases,
+    pub(crate) retired: RetiredSlots,
 }
 
 impl Model for LeaseTable {
@@ -87,18 +85,10 @@ impl LeaseTable {
     }
 
     /// The table as it is, with no changes over it.
-    fn unchanged(&self) -> TableView<'_>
+    pub(crate) fn unchanged(&self) -> TableView<'_>
         ensures { result ≡ self.now }
     {
         self.with_changes(&[], &[], &[])
-    }
-
-    /// Whether an ask with these wants can be granted. A tenure takes a slot of its SHARED folder, any other
-    /// ask of its other folders.
-    pub fn fits(&self, wants: &Wants, tenure: bool) -> Fit
-        ensures { result ≡ fit_of self.now tenure wants.now }
-    {
-        self.unchanged().fits(wants, tenure)
     }
 
     /// The lease that has a slot.
@@ -150,109 +140,6 @@ impl LeaseTable {
         self.live.under(ticket)
     }
 
-    /// The lease of an ask.
-    pub fn lease_of(&self, node: NodeId, life: Life, ask: Ask) -> Option<&Lease>
-        ensures { option_copied result ≡ lease_of self.now.live node life ask }
-    {
-        self.unchanged().lease_of(node, life, ask)
-    }
-
-    /// The oldest lease that has the one slot of a folder for which an ask with these wants takes a slot.
-    pub fn holder_of(&self, wants: &Wants, tenure: bool) -> Option<&Lease>
-        ensures { option_copied result ≡ find (holds_some (leased_wants tenure wants.now)) self.now.live }
-    {
-        self.unchanged().holder_of(wants, tenure)
-    }
-
-    /// The lease that an ask gets.
-    fn lease_for(
-        &self,
-        alloc: Global,
-        node: NodeId,
-        life: Life,
-        ask: Ask,
-        wants: &Wants,
-        tenure: bool,
-        ticket: Ticket,
-    ) -> Result<Lease, AllocError>
-        requires { fit_of self.now tenure wants.now ≡ Fit.Fits }
-        ensures value { IfOk result (λ lease. lease ≡ lease_for self.now node life ask wants.now tenure ticket) }
-        ensures sorted { IsWants wants.now }
-    {
-        self.unchanged()
-            .lease_for(alloc, node, life, ask, wants, tenure, ticket)
-    }
-
-    fn add(&mut self, alloc: Global, lease: Lease) -> Result<(), AllocError>
-        requires { AreLeases self.old.live → AreLeases (self.old.live ++ lease ∷ []) }
-        ensures ok { OnOk result (self.new ≡ record self.old { live = self.old.live ++ lease ∷ [] }) }
-        ensures err { OnErr result (self.new ≡ self.old) }
-    {
-        self.live.add(alloc, lease)?;
-        Ok(())
-    }
-
-    /// Grants an ask. Of each PRIVATE folder the lowest free instance is taken.
-    pub fn grant(
-        &mut self,
-        alloc: Global,
-        node: NodeId,
-        life: Life,
-        ask: Ask,
-        wants: &Wants,
-        tenure: bool,
-        ticket: Ticket,
-    ) -> Result<(), AllocError>
-        requires fits { fit_of self.old tenure wants.now ≡ Fit.Fits }
-        requires above { All (λ g. g.ticket.0 < ticket.0) self.old.live }
-        ensures ok { OnOk result (self.new ≡ record self.old { live = self.old.live ++ lease_for self.old node life ask wants.now tenure ticket ∷ [] }) }
-        ensures found { OnOk result (lease_under self.new.live ticket ≡ Some (lease_for self.old node life ask wants.now tenure ticket)) }
-        ensures err { OnErr result (self.new ≡ self.old) }
-    {
-        let lease = self.lease_for(alloc, node, life, ask, wants, tenure, ticket)?;
-        self.add(alloc, lease)?;
-        Ok(())
-    }
-
-    /// Ends the lease of a ticket, and returns it. Its slots are free again.
-    pub fn end(&mut self, ticket: Ticket) -> Option<Lease>
-        ensures ended { result ≡ lease_under self.old.live ticket }
-        ensures rest { self.new ≡ record self.old { live = without ticket self.old.live } }
-    {
-        self.live.end(ticket)
-    }
-
-    /// Withdraws the lease of a ticket, and returns it. Its PRIVATE slots are never granted again.
-    pub fn withdraw(&mut self, alloc: Global, ticket: Ticket) -> Result<Option<Lease>, AllocError>
-        ensures ended { IfOk result (λ lease. lease ≡ lease_under self.old.live ticket) }
-        ensures rest { OnOk result (self.new.live ≡ without ticket self.old.live) }
-        ensures retired { OnOk result (among self.new.retired ≡ retires_some (lease_under self.old.live ticket) (among self.old.retired)) }
-        ensures err { OnErr result (self.new ≡ self.old) }
-    {
-        let retired = self.unchanged().private_under(alloc, ticket)?;
-        self.retired.add(alloc, retired)?;
-        Ok(self.live.end(ticket))
-    }
-
-    /// Withdraws all leases of a node. Their PRIVATE slots are never granted again.
-    pub fn withdraw_all_of(&mut self, alloc: Global, node: NodeId) -> Result<(), AllocError>
-        ensures rest { OnOk result (self.new.live ≡ filter (λ g. not (is_at node g)) self.old.live) }
-        ensures retired { OnOk result (among self.new.retired ≡ retire_all (filter (is_at node) self.old.live) (among self.old.retired)) }
-        ensures err { OnErr result (self.new ≡ self.old) }
-    {
-        let retired = self.unchanged().private_at(alloc, node)?;
-        self.retired.add(alloc, retired)?;
-        self.live.end_all(&Ending::Node(node));
-        Ok(())
-    }
-
-    /// Whether a node has a lease.
-    pub fn has_lease_of(&self, node: NodeId) -> bool
-        ensures { result ≡ list_any (is_at node) self.now.live }
-    {
-        self.unchanged().has_lease_of(node)
-    }
-
     /// Whether a node holds a tenure.
     pub fn has_tenure_of(&self, node: NodeId) -> bool
         ensures { result ≡ list_any (λ g. is_at node g && g.tenure) self.now.live }
@@ -279,16 +166,6 @@ impl LeaseTable {
         ensures { result.now ≡ self.now.retired }
     {
         self.retired.as_slice()
-    }
-
-    /// Ends the leases of older lives of a node, and returns their number. Their slots are free again.
-    pub fn end_lives_below(&mut self, node: NodeId, life: Life) -> usize
-        ensures ended { result ≡ count_by (is_older node life) self.old.live }
-        ensures rest { self.new ≡ record self.old { live = filter (λ g. not (is_older node life g)) self.old.live } }
-    {
-        let ended = count_older(self.live.last_at(node), node, life);
-        self.live.end_all(&Ending::LivesBelow(node, life));
-        ended
     }
 }
 
@@ -332,13 +209,4 @@ impl LeaseTable {
         let LeaseTable { live, retired } = self;
         (live, retired)
     }
-}
-
-fn count_older(leases: &[Lease], node: NodeId, life: Life) -> usize
-    ensures { result ≡ count_by (is_older node life) leases.now }
-{
-    leases
-        .iter()
-        .filter(|lease| lease.node == node && lease.life < life)
-        .count()
 }

@@ -12,6 +12,7 @@ mod lease_table;
 mod live_leases;
 mod marks;
 mod newest_asks;
+mod own_coordinator;
 mod retired_slots;
 mod room;
 mod saved;

@@ -35,6 +35,8 @@ mod ops;
 #[cfg(test)]
 mod orders;
 #[cfg(test)]
+mod own_coordinator;
+#[cfg(test)]
 mod places;
 #[cfg(test)]
 mod records;
