@@ -257,14 +257,14 @@ sound-recalls true p w wants s = sound-recall (find (holds_wanted p) w.ledger.li
 sound-recalls false p w wants s = sound-parks (w.ledger.parked ++ p ∷ []) w s wants
 
 sound-decided : (d : Decision) (k : Limits) (p : Parked) (w : Work) → IsSound w.ledger → IsWants p.wants → decision k w.ledger p ≡ d → IsSound (decided k d p w).ledger
-sound-decided k Give p w s wants e = sound-gives k p w s wants e
-sound-decided k (Deny why) p w s wants e = s
-sound-decided k Wait p w s wants e = sound-recalls (p.tenure && not (elsewhere w.ledger p)) p w (All-push (λ p. IsWants p.wants) w.ledger.parked p s.asks wants) s
+sound-decided Give k p w s wants e = sound-gives k p w s wants e
+sound-decided (Deny why) k p w s wants e = s
+sound-decided Wait k p w s wants e = sound-recalls (p.tenure && not (elsewhere w.ledger p)) p w (All-push (λ p. IsWants p.wants) w.ledger.parked p s.asks wants) s
 
 sound-acquiring : (k : Limits) (o : Option Lease) (b : Bool) (p : Parked) (w : Work) → IsSound w.ledger → IsWants p.wants → IsSound (acquiring k o b p w).ledger
 sound-acquiring k (Some g) b p w s wants = s
 sound-acquiring k None true p w s wants = s
-sound-acquiring k None false p w s wants = sound-decided k (decision k w.ledger p) p w s wants refl
+sound-acquiring k None false p w s wants = sound-decided (decision k w.ledger p) k p w s wants refl
 
 sound-answering : (k : Limits) (n : NodeId) (l : Life) (r : Request) (w : Work) → IsSound w.ledger → IsRequest r → IsSound (answering k n l r w).ledger
 sound-answering k n l Hello w s h = s
