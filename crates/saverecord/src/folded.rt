@@ -18,7 +18,7 @@ use std::alloc::Global;
 use versions::Lines;
 
 /// What texts hold, up to an entry.
-#[derive(Debug, Drop)]
+#[derive(Drop)]
 pub struct Folded {
     pub last: Ticket,
     pub old_home: Option<NodeId>,

@@ -2,7 +2,7 @@ ghost use Rattle.std.specs.Prelude.{◌≡◌};
 ghost use Rattle.saverecord.specs.Layouts.{has_shared, has_retired_nodes};
 
 /// How the bytes of a record are laid out, by its magic. Only the third is written.
-#[derive(Clone, Copy, Debug)]
+#[derive(Clone, Copy)]
 pub enum Layout {
     First,
     Second,

@@ -20,7 +20,7 @@ use versions::SlotLine;
 const MAGIC: &[u8; 8] = b"BKENTR01";
 
 /// What one event changed of what is saved.
-#[derive(Debug, Drop)]
+#[derive(Drop)]
 pub struct LogEntry {
     /// The last ticket of the block that may be in use after the event.
     pub last: Ticket,
