@@ -1,0 +1,6 @@
+pub mod Parts
+pub mod Layouts
+pub mod Slots
+pub mod Entries
+pub mod Spelling
+pub mod Fits
