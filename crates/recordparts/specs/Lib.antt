@@ -4,3 +4,4 @@ pub mod Slots
 pub mod Entries
 pub mod Spelling
 pub mod Fits
+pub mod Relations

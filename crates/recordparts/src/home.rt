@@ -17,6 +17,7 @@ fn home_of(number: u32) -> Option<NodeId>
     }
 }
 
+/// A node, or 0 for none.
 #[tactic(auto, unfolding(crate::specs::Parts::home_at))]
 pub fn take_home(bytes: &[u8]) -> Result<(Option<NodeId>, &[u8]), RecordRefusal>
     ensures { Gives (λ x. (x.0, x.1.now)) result (home_at bytes.now) }

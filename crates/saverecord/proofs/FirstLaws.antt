@@ -19,7 +19,8 @@ use Rattle.codec.specs.Steps.{◌>>=◌}
 use Rattle.recordparts.specs.Parts.{Gives}
 use Rattle.recordparts.specs.Entries.{is_above}
 use Rattle.saverecord.specs.Records.{whole_body, layout_of, opened, place_for, has_life, with_life, with_home, from_first, judged, record_of}
-use Rattle.saverecord.specs.Relations.{no_two, tickets_up_to, lines_up_to, lives_there, clash, has_retired, is_same_private, fits_tenure, is_gone, is_above_lines, fits_record, agrees, is_at_home}
+use Rattle.recordparts.specs.Relations.{no_two, tickets_up_to, lines_up_to, lives_there, clash, has_retired, is_same_private, fits_tenure, is_gone, is_above_lines}
+use Rattle.saverecord.specs.Relations.{fits_record, agrees, is_at_home}
 use Rattle.saverecord.specs.Spelling.{record_bytes}
 use Rattle.recordparts.specs.Fits.{IsNode, IsHome, IsNodeLife}
 use Rattle.saverecord.specs.Fits.{HasParts, IsRecord, IsTypedRecord}

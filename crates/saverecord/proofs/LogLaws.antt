@@ -32,7 +32,7 @@ use Rattle.recordparts.specs.Fits.{IsTicket, IsNode, IsNodeLife, IsLease, IsVers
 use Rattle.saverecord.specs.LogEntries.{entry_of, IsLogEntry}
 use Rattle.saverecord.specs.Logs.{Holds, Follows, IsChange, IsSaved, AreInOrder, is_ended, with_versions, without_one, without_all, ticket_of, are_newer, with_leases, with_lives, with_gone, is_coherent, may_follow, changed, with_entry, after_text}
 use Rattle.recordparts.specs.Parts.{passed}
-use Rattle.saverecord.specs.Relations.{versions_up_to}
+use Rattle.recordparts.specs.Relations.{versions_up_to}
 use Rattle.saverecord.specs.Texts.{Texts, with_text}
 use Rattle.saverecord.proofs.FoldLemmas.{entry_gives, lawful_agrees}
 use Rattle.saverecord.proofs.KeptLemmas.{home_fits, lease_folders, lease_is, own_folders, tenure_fits, tickets_rise}

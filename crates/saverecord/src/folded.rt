@@ -10,10 +10,9 @@ ghost use Rattle.versions.specs.Line.{is_above_all};
 ghost use Rattle.versions.specs.Lines.{line_at};
 
 use super::record::Record;
-use super::relation::are_apart;
 use farm_base::{Items, Lease, NodeId, Slot, Ticket};
 use holdings::{Lives, RetiredNodes, is_saved, rising};
-use recordparts::{Flaw, RecordRefusal};
+use recordparts::{Flaw, RecordRefusal, are_apart};
 use std::alloc::Global;
 use versions::Lines;
 

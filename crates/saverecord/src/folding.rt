@@ -16,10 +16,9 @@ use super::laws::{what_is_kept_is_a_record, what_is_read_is_lawful};
 use super::log::Log;
 use super::log_entry::LogEntry;
 use super::record::Record;
-use super::relation::{are_of_own_folders, are_private, fits_tenure, lines_up_to};
 use farm_base::{Items, Lease, NodeId, NodeLife, Slot, Ticket};
 use holdings::{Lives, RetiredNodes, is_saved, place_of};
-use recordparts::{Flaw, RecordRefusal};
+use recordparts::{Flaw, RecordRefusal, are_of_own_folders, are_private, fits_tenure, lines_up_to};
 use std::alloc::{AllocError, Global};
 use versions::{Lines, SlotLine};
 
