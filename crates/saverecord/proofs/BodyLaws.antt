@@ -19,7 +19,7 @@ use Rattle.recordparts.specs.Spelling.{slot_bytes, counted, node_bytes, node_lif
 use Rattle.saverecord.specs.Spelling.{first_bytes, nodes_bytes, slots_bytes, body_bytes}
 use Rattle.recordparts.specs.Fits.{IsNode, IsTypedNode, IsTypedList}
 use Rattle.saverecord.specs.Fits.{HasParts, IsTypedRecord}
-use Rattle.codec.proofs.Formats.{Any, IsFormat, ◌and_then◌, begins, begins_assoc, took, then_takes, then_again, last_again}
+use Rattle.codec.proofs.Formats.{IsFormat, ◌and_then◌, begins, begins_assoc, took, then_takes, then_again, last_again}
 use Rattle.codec.proofs.Steps.{bind_ok}
 use Rattle.farm_base.specs.Digests.{IsBytes}
 use Rattle.recordparts.proofs.Fields.{passed_ok, any64, home_format}
