@@ -1,4 +1,3 @@
-pub mod MacLemmas
 pub mod PlainLemmas
 pub mod Spelling
 pub mod SpelledLemmas

@@ -1,17 +1,11 @@
--- A sealed line, without its end: the text of a message, a space, and the digits of its MAC under the farm's key (this
--- project's own).
-use Rattle.std.specs.Prelude.{◌≡◌, ◌≢◌, ℕ, ◌*◌, ◌^◌, ◌<◌, ◌≤◌, List, ◌∷◌, ◌++◌, length}
-use Rattle.hex.specs.Hex.{encode_lower}
+-- A sealed line of a message, without its end (this project's own).
+use Rattle.std.specs.Prelude.{◌≡◌, ◌≢◌, ℕ, ◌*◌, ◌^◌, ◌<◌, ◌≤◌, List, length}
 use Rattle.farm_base.specs.declared.message.Message.{Message}
 use Rattle.farmwire.specs.declared.refusal.LineFault.{LineFault}
 use Rattle.farmwire.specs.declared.refusal.LineFault.TheVariants.{TooLong, BadMac, BadForm, OutOfMemory}
 use Rattle.farmwire.specs.Lawful.{IsLawful}
 use Rattle.farmwire.specs.Lines.{message_text}
-use Rattle.farmwire.specs.Macs.{hmac_sha256}
-
--- the text, and its MAC
-abbrev pub with_mac : List ℕ → List ℕ → List ℕ
-with_mac key text = text ++ 32 ∷ encode_lower (hmac_sha256 key text)
+use Rattle.seals.specs.Seals.{with_mac}
 
 -- the line is the text of a lawful message
 pub record IsSpelled (line : List ℕ) (m : Message) : Type 0 where

@@ -1,7 +1,6 @@
 //! The lines that the processes of a farm exchange: the text of a message, and behind it the MAC of that text.
 #![tactic(auto)]
 
-mod hmac;
 pub mod item;
 mod lawful;
 pub mod laws;
@@ -12,11 +11,11 @@ mod verb;
 pub mod word;
 mod writing;
 
-pub use hmac::{FarmKey, mac};
 pub use item::{Item, push_items};
 pub use lawful::is_lawful;
 pub use reading::read;
-pub use refusal::{KeyRefusal, LineFault, SealRefusal, WriteRefusal};
+pub use refusal::{LineFault, SealRefusal, WriteRefusal};
 pub use sealing::{LINE_LIMIT, open, seal};
+pub use seals::{FarmKey, KeyRefusal, mac};
 pub use words::ReadRefusal;
 pub use writing::{kind_name, push_grant, push_number, push_word, write};

@@ -1,4 +1,4 @@
-use Rattle.farmwire.proofs.MacLemmas.{same_text}
+use Rattle.seals.proofs.MacLemmas.{same_text}
 use Rattle.farmwire.proofs.UniqueLemmas.{text_same}
 use Rattle.farmwire.proofs.laws.one_message_per_line.Goals as goal
 

@@ -1,6 +1,6 @@
 use Rattle.std.proofs.Common.{◌++◌, length, drop, replicate, ap, ◌∙◌}
-use Rattle.farmwire.proofs.MacLemmas.{zeros_behind}
-use Rattle.farmwire.proofs.hmac.filled.Goals as goal
+use Rattle.seals.proofs.MacLemmas.{zeros_behind}
+use Rattle.seals.proofs.hmac.filled.Goals as goal
 
 pub returns : goal.returns
 returns c =

@@ -2,8 +2,8 @@
 ghost use Rattle.std.specs.Prelude.{◌≡◌, ◌≢◌, ◌↔◌, ◌<◌, ◌≤◌, ◌-◌, ◌++◌, ℕ, List, length, replicate, IfOk, IsErrOf};
 ghost use Rattle.sha2.specs.Hashers.{Holds256};
 ghost use Rattle.sha2.specs.Sha256.{sha256};
-ghost use Rattle.farmwire.specs.Hashers.{HasTaken};
-ghost use Rattle.farmwire.specs.Macs.{key_block, block_xor, hmac_sha256, without_end};
+ghost use Rattle.seals.specs.Hashers.{HasTaken};
+ghost use Rattle.seals.specs.Macs.{key_block, block_xor, hmac_sha256, without_end};
 
 use super::refusal::KeyRefusal;
 use farm_base::Digest;
@@ -109,7 +109,7 @@ pub struct FarmKey {
 
 impl Model for FarmKey {
     ghost use Rattle.std.specs.Prelude.{ℕ, List, ◌≤◌, length};
-    ghost use Rattle.farmwire.specs.Hashers.{HasTaken};
+    ghost use Rattle.seals.specs.Hashers.{HasTaken};
 
     ghost Value = { List ℕ };
 

@@ -1,6 +1,6 @@
 use Rattle.std.proofs.Common.{◌≡◌, take, length}
-use Rattle.farmwire.specs.Macs.{block_xor}
-use Rattle.farmwire.proofs.hmac.padded.Given as goal
+use Rattle.seals.specs.Macs.{block_xor}
+use Rattle.seals.proofs.hmac.padded.Given as goal
 
 abbrev pub invariant-loop-index : goal.invariant-loop-index
 invariant-loop-index l = record {

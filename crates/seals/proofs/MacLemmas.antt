@@ -6,8 +6,8 @@ use Rattle.std.proofs.Math.Seq.{take-length}
 use Rattle.hex.specs.Hex.{encode_lower, encode_with}
 use Rattle.std.specs.Int.{w32, to_be_bytes}
 use Rattle.sha2.specs.Sha256.{sha256, digest_bytes}
-use Rattle.farmwire.specs.Macs.{hmac_sha256, block_xor}
-use Rattle.farmwire.specs.Sealed.{with_mac}
+use Rattle.seals.specs.Macs.{hmac_sha256, block_xor}
+use Rattle.seals.specs.Seals.{with_mac}
 
 length-digest_bytes : (h : List ℕ) (n : ℕ) → length (digest_bytes h n) ≡ 4 * n
 unfolding digest_bytes

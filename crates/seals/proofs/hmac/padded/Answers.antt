@@ -1,7 +1,7 @@
 use Rattle.std.proofs.Common.{◌≡◌, ℕ, length, arith, length-set}
 use Rattle.std.proofs.lemmas.List.{take_all}
-use Rattle.farmwire.proofs.MacLemmas.{xor_more}
-use Rattle.farmwire.proofs.hmac.padded.Goals as goal
+use Rattle.seals.proofs.MacLemmas.{xor_more}
+use Rattle.seals.proofs.hmac.padded.Goals as goal
 
 pub loop-index-preserved : goal.loop-index-preserved
 loop-index-preserved c =

@@ -1,9 +1,9 @@
 use Rattle.std.proofs.Common.{◌≡◌, ℕ, List, ap, get_or, length, sym, ◌∙◌, arith}
 use Rattle.hex.specs.Hex.{encode_lower}
-use Rattle.farmwire.specs.Macs.{hmac_sha256}
-use Rattle.farmwire.proofs.MacLemmas.{length-with_mac, cut, tail_of}
-use Rattle.farmwire.proofs.sealing.text_of.Goals as goal
-use Rattle.farmwire.proofs.sealing.text_of.Goals.{else-end-eq32-via-then-end-eq32+else-are_equal, else-end-eq32-via-else-end-eq32}
+use Rattle.seals.specs.Macs.{hmac_sha256}
+use Rattle.seals.proofs.MacLemmas.{length-with_mac, cut, tail_of}
+use Rattle.seals.proofs.sealing.text_of.Goals as goal
+use Rattle.seals.proofs.sealing.text_of.Goals.{else-end-eq32-via-then-end-eq32+else-are_equal, else-end-eq32-via-else-end-eq32}
 
 pub returns-then-line-lt-MAC_LEN-clause-only : goal.returns-then-line-lt-MAC_LEN-clause-only
 returns-then-line-lt-MAC_LEN-clause-only c = λ text e. omega (arith, length-with_mac c.args.key.now text, ap length e)

@@ -1,0 +1,3 @@
+pub mod Hashers
+pub mod Macs
+pub mod Seals
