@@ -115,7 +115,7 @@ fn left(
     };
     Ok(Left {
         slot: slot.copy(alloc)?,
-        content: Content::of(bytes),
+        content: Content::of(bytes).shared(alloc)?,
     })
 }
 

@@ -187,13 +187,14 @@ impl LiveShared {
             return Err(SharedRefusal::NotOpen);
         };
         let bytes = self.folders[place].files.to_bytes(alloc)?;
+        let content = Content::of(bytes).shared(alloc)?;
         let Open {
             folder: _,
             running,
             since: _,
             files: _,
         } = self.folders.remove(place);
-        Ok((running, Content::of(bytes)))
+        Ok((running, content))
     }
 
     /// Gives up the folder that was opened last: gives its tenure back, without the content. It takes no memory.

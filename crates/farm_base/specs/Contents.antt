@@ -1,7 +1,15 @@
 -- What a version of a slot holds: any bytes, known by their digest.
 use Rattle.std.specs.Prelude.{ℕ, List, []}
+use Rattle.std.specs.Arc.{arc_value}
 use Rattle.sha2.specs.Sha256.{sha256}
+use Rattle.farm_base.specs.declared.content.Place.{Place}
+use Rattle.farm_base.specs.declared.content.Place.TheVariants.{Own, Shared}
 use Rattle.farm_base.specs.declared.digest.Digest.{Digest}
+
+-- the bytes, wherever they stand
+abbrev pub bytes_at : Place → List ℕ
+bytes_at (Own bytes) = bytes.items
+bytes_at (Shared bytes) = (arc_value bytes).items
 
 -- the digest of a content: SHA-256, as FIPS 180-4 defines it in section 6.2, of its bytes
 abbrev pub content_digest : List ℕ → Digest

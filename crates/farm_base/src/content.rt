@@ -1,29 +1,39 @@
-ghost use Rattle.std.specs.Prelude.{◌≡◌};
+ghost use Rattle.std.specs.Prelude.{◌≡◌, IfOk};
 ghost use Rattle.farm_base.specs.Digests.{IsBytes, IsDigest};
-ghost use Rattle.farm_base.specs.Contents.{content_digest, empty_digest};
+ghost use Rattle.farm_base.specs.Contents.{bytes_at, content_digest, empty_digest};
 
 use super::copied::Copied;
 use super::digest::{Digest, are_bytes};
 use sha2::Sha256;
 use std::alloc::{AllocError, Global};
 use std::marker::Model;
+use std::sync::Arc;
+
+/// Where the bytes of a content stand.
+#[derive(Debug, Drop)]
+enum Place {
+    /// In the content, whose copies have bytes of their own.
+    Own(Vec<u8>),
+    /// In one place for it and its copies.
+    Shared(Arc<Vec<u8>>),
+}
 
 /// Bytes with their digest, which contracts see as the list of the bytes. They are hashed once.
 #[derive(Debug, Drop)]
 pub struct Content {
-    bytes: Vec<u8>,
+    place: Place,
     digest: Digest,
 }
 
 impl Model for Content {
     ghost use Rattle.std.specs.Prelude.{◌≡◌, ℕ, List};
-    ghost use Rattle.farm_base.specs.Contents.{content_digest};
+    ghost use Rattle.farm_base.specs.Contents.{bytes_at, content_digest};
 
     ghost Value = { List ℕ };
 
-    ghost view = { λ c. c.bytes.items };
+    ghost view = { λ c. bytes_at c.place };
 
-    ghost invariant = { λ c. c.digest ≡ content_digest c.bytes.items };
+    ghost invariant = { λ c. c.digest ≡ content_digest (bytes_at c.place) };
 }
 
 impl Content {
@@ -32,7 +42,22 @@ impl Content {
         ensures { result ≡ bytes.items }
     {
         let digest = Digest(<Sha256 as sha2::Digest>::digest(bytes.as_slice()));
-        Content { bytes, digest }
+        Content {
+            place: Place::Own(bytes),
+            digest,
+        }
+    }
+
+    /// The same content, with copies that take no room: they share its bytes.
+    pub fn shared(self, alloc: Global) -> Result<Self, AllocError>
+        ensures { IfOk result (λ content. content ≡ self) }
+    {
+        let Content { place, digest } = self;
+        let place = match place {
+            Place::Own(bytes) => Place::Shared(Arc::new(alloc, bytes)?),
+            Place::Shared(bytes) => Place::Shared(bytes),
+        };
+        Ok(Content { place, digest })
     }
 
     /// The SHA-256 of the bytes, worked out when the content was made.
@@ -49,7 +74,10 @@ impl Content {
         ensures value { result.now ≡ self.now }
         ensures bytes { IsBytes result.now }
     {
-        let bytes = self.bytes.as_slice();
+        let bytes = match &self.place {
+            Place::Own(bytes) => bytes.as_slice(),
+            Place::Shared(bytes) => bytes.as_slice(),
+        };
         are_bytes(bytes);
         bytes
     }
@@ -65,9 +93,12 @@ pub fn empty_digest(alloc: Global) -> Digest
 
 impl Copied for Content {
     fn copy(&self, alloc: Global) -> Result<Self, AllocError> {
-        let bytes = Vec::from_slice(alloc, self.bytes.as_slice())?;
+        let place = match &self.place {
+            Place::Own(bytes) => Place::Own(Vec::from_slice(alloc, bytes.as_slice())?),
+            Place::Shared(bytes) => Place::Shared(Arc::try_clone(bytes)?),
+        };
         Ok(Content {
-            bytes,
+            place,
             digest: self.digest,
         })
     }

@@ -1,13 +1,14 @@
 //! The text of an answer.
-ghost use Rattle.std.specs.Prelude.{◌≡◌, ◌++◌, codes, decimal, map, IfOk, OnOk};
+ghost use Rattle.std.specs.Prelude.{◌≡◌, ◌++◌, codes, decimal, map, IfOk, OnOk, Ok};
 ghost use Rattle.std.specs.List.{flat_map};
 ghost use Rattle.std.specs.String.{string_bytes};
 ghost use Rattle.schedule.specs.RefusalNames.{coord_refusal_text};
 ghost use Rattle.protocol.specs.Machine.{Told};
-ghost use Rattle.services.specs.Written.{restart_lines, ended_line, over_lines, note_line, refused_line, IsWritten};
+ghost use Rattle.services.specs.Written.{restart_lines, ended_line, over_lines, fact_lines, note_line, refused_line, IsAnswered, IsWritten};
 
 use super::outside::push_messages;
 use super::reply::{Ended, Over, Reply};
+use coordinator::Handled;
 use farm_base::{FromCoord, Items, Message, ToNode};
 use farmwire::FarmKey;
 use protocol::{CoordNote, CoordRefusal, EventNote, EventRefusal};
@@ -109,34 +110,47 @@ fn push_note(alloc: Global, text: &mut String, note: CoordNote) -> Result<(), Al
     text.push_str("\n")
 }
 
+/// Adds the facts of a call.
+fn push_facts(alloc: Global, text: &mut String, reply: &Reply) -> Result<(), AllocError>
+    ensures { OnOk result (string_bytes text.new ≡ string_bytes text.old ++ fact_lines reply.now) }
+{
+    push_restart(text, reply.before)?;
+    if reply.answer.is_ok() {
+        push_ended(alloc, text, reply.ended.as_slice())?;
+    }
+    push_over(alloc, text, reply.over)?;
+    push_restart(text, reply.after)
+}
+
+/// The text of what was done: the messages, these facts and the note.
+fn print_handled(
+    alloc: Global,
+    key: &FarmKey,
+    facts: &str,
+    handled: Handled,
+) -> Result<String, AllocError>
+    ensures { IfOk result (λ text. IsAnswered key.now facts.now (Ok handled) (string_bytes text)) }
+{
+    let messages = told(alloc, handled.sends)?;
+    let mut text = String::new(alloc);
+    push_messages(alloc, key, &mut text, messages.as_slice())?;
+    text.push_str(facts)?;
+    push_note(alloc, &mut text, handled.note)?;
+    Ok(text)
+}
+
 /// The text of what came of a call: the messages, the facts and the note.
 pub(crate) fn print_reply(alloc: Global, key: &FarmKey, reply: Reply) -> Result<String, AllocError>
     ensures { IfOk result (λ text. IsWritten key.now reply (string_bytes text)) }
 {
-    let Reply {
-        before,
-        ended,
-        answer,
-        over,
-        after,
-    } = reply;
-    let mut text = String::new(alloc);
+    let mut facts = String::new(alloc);
+    push_facts(alloc, &mut facts, &reply)?;
+    let Reply { answer, .. } = reply;
     match answer {
-        Ok(handled) => {
-            let messages = told(alloc, handled.sends)?;
-            push_messages(alloc, key, &mut text, messages.as_slice())?;
-            push_restart(&mut text, before)?;
-            push_ended(alloc, &mut text, ended.as_slice())?;
-            push_over(alloc, &mut text, over)?;
-            push_restart(&mut text, after)?;
-            push_note(alloc, &mut text, handled.note)?;
-        }
+        Ok(handled) => print_handled(alloc, key, facts.as_str(), handled),
         Err(refusal) => {
-            push_restart(&mut text, before)?;
-            push_over(alloc, &mut text, over)?;
-            push_restart(&mut text, after)?;
-            push_refusal(&mut text, "= refused ", refusal)?;
+            push_refusal(&mut facts, "= refused ", refusal)?;
+            Ok(facts)
         }
     }
-    Ok(text)
 }
