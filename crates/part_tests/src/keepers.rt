@@ -1,24 +1,19 @@
 //! A keeper in memory, each call of it, worked out by hand. `printed/records.cases` has records and logs in files.
 
 use saverecord::{Keeper, Kept, MemoryKeeper};
-use std::alloc::{AllocError, Global};
+use std::alloc::Global;
 use std::test::Fail;
-
-/// Bytes of their own.
-fn owned(alloc: Global, bytes: &[u8]) -> Result<Vec<u8>, AllocError> {
-    Vec::from_slice(alloc, bytes)
-}
 
 /// Saves a record, appends an entry, and gathers another one.
 fn keep_all<K: Keeper>(alloc: Global, keeper: &mut K) -> Result<(), Fail> {
-    keeper.save(owned(alloc, b"one")?)?;
-    keeper.append(owned(alloc, b"two")?)?;
-    keeper.gather(owned(alloc, b"three")?)?;
+    keeper.save(Vec::from_slice(alloc, b"one")?)?;
+    keeper.append(Vec::from_slice(alloc, b"two")?)?;
+    keeper.gather(Vec::from_slice(alloc, b"three")?)?;
     keeper.sync()?;
     Ok(())
 }
 
-/// The lengths of what is loaded: of the record, and of the entries together.
+/// The length of the record that is loaded, and how many entries follow it.
 fn loaded<K: Keeper>(alloc: Global, keeper: &mut K) -> Result<(usize, usize), Fail> {
     let log = keeper.load(alloc)?;
     Ok((log.whole().len(), log.entries().len()))

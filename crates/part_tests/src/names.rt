@@ -28,13 +28,19 @@ fn digest_shown(alloc: Global, digits: &str) -> Result<String, Fail> {
     let base = format!(in alloc; "locked:apt@{digits}.7")?;
     let digest = Digest::parse(text.as_str())?;
     let folder = FolderName::parse(alloc, base.as_str())?;
-    Ok(format!(in alloc; "{digest} {} {} {folder}", Key::parse(digits)?, Ticket(7))?)
+    Ok(format!(in alloc;
+        "{digest} {digest:?} {} {} {folder}",
+        Key::parse(digits)?,
+        Ticket(7)
+    )?)
 }
 
 #[test]
 fn a_digest(rt: HostRuntime) -> Result<(), Fail> {
     let shown = digest_shown(rt.alloc(), DIGITS)?;
-    let wanted = format!(in rt.alloc(); "sha256:{DIGITS} {DIGITS} 7 locked:apt@{DIGITS}.7")?;
+    let wanted = format!(in rt.alloc();
+        "sha256:{DIGITS} sha256:{DIGITS} {DIGITS} 7 locked:apt@{DIGITS}.7"
+    )?;
     assert_eq!(rt; shown.as_str(), wanted.as_str());
     Ok(())
 }
