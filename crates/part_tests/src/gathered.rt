@@ -30,7 +30,8 @@ const AFTER: &str =
 /// A filter that gathers over a keeper whose next sync fails.
 fn failing_filter(alloc: Global) -> Result<CoordinatorFilter<Gathered<MemoryKeeper>>, Fail> {
     let key = FarmKey::of(alloc, KEY)?;
-    let mut keeper = MemoryKeeper::new(alloc, hex::decode(alloc, RECORD)?);
+    let record = hex::decode(alloc, RECORD)?;
+    let mut keeper = MemoryKeeper::new(alloc, record);
     keeper.fail_next(Kept::Old);
     match Coordinator::start(alloc, Gathered::new(keeper)) {
         Ok(coordinator) => Ok(CoordinatorFilter { coordinator, key }),

@@ -6,9 +6,12 @@ use std::test::Fail;
 
 /// Saves a record, appends an entry, and gathers another one.
 fn keep_all<K: Keeper>(alloc: Global, keeper: &mut K) -> Result<(), Fail> {
-    keeper.save(Vec::from_slice(alloc, b"one")?)?;
-    keeper.append(Vec::from_slice(alloc, b"two")?)?;
-    keeper.gather(Vec::from_slice(alloc, b"three")?)?;
+    let record = Vec::from_slice(alloc, b"one")?;
+    keeper.save(record)?;
+    let entry = Vec::from_slice(alloc, b"two")?;
+    keeper.append(entry)?;
+    let entry = Vec::from_slice(alloc, b"three")?;
+    keeper.gather(entry)?;
     keeper.sync()?;
     Ok(())
 }

@@ -73,16 +73,15 @@ const TEXT: &str = "hello 3 14";
 
 const LINE: &str = "hello 3 14 92790a8ba26473c2fc2bc7c54f3b35e4010cc28920ac77993e84f774cbea5285";
 
-/// The line of the message that the text spells, and the text of the one that it opens to, if that is lawful.
-fn there_and_back(alloc: Global, key: &FarmKey) -> Result<(String, Option<String>), Fail> {
+/// The line of the message that the text spells, and the text of the message that it opens to.
+fn there_and_back(alloc: Global, key: &FarmKey) -> Result<(String, String), Fail> {
     let message = read(alloc, TEXT.as_bytes())?;
     let line = seal(alloc, key, &message)?;
     let back = open(alloc, key, line.as_bytes())?;
-    let text = if is_lawful(&back) {
-        Some(write(alloc, &back)?)
-    } else {
-        None
-    };
+    if !is_lawful(&back) {
+        return Err("an unlawful message".into());
+    }
+    let text = write(alloc, &back)?;
     Ok((line, text))
 }
 
@@ -91,7 +90,7 @@ fn a_line(rt: HostRuntime) -> Result<(), Fail> {
     let key = FarmKey::of(rt.alloc(), KEY)?;
     let (line, text) = there_and_back(rt.alloc(), &key)?;
     assert_eq!(rt; line.as_str(), LINE);
-    assert!(rt; text.is_some_and(|text| text.as_str() == TEXT));
+    assert_eq!(rt; text.as_str(), TEXT);
     Ok(())
 }
 

@@ -26,13 +26,9 @@ const DIGITS: &str = "ba7816bf8f01cfea414140de5dae2223b00361a396177a9cb410ff61f2
 fn digest_shown(alloc: Global, digits: &str) -> Result<String, Fail> {
     let text = format!(in alloc; "sha256:{digits}")?;
     let base = format!(in alloc; "locked:apt@{digits}.7")?;
-    let digest = Digest::parse(text.as_str())?;
+    let (digest, key) = (Digest::parse(text.as_str())?, Key::parse(digits)?);
     let folder = FolderName::parse(alloc, base.as_str())?;
-    Ok(format!(in alloc;
-        "{digest} {digest:?} {} {} {folder}",
-        Key::parse(digits)?,
-        Ticket(7)
-    )?)
+    Ok(format!(in alloc; "{digest} {digest:?} {key} {} {folder}", Ticket(7))?)
 }
 
 #[test]
