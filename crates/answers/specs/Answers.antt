@@ -8,11 +8,12 @@ use Rattle.vertices.specs.Loading.{GraphParts, IsGraphOf, DefinitionCheck}
 use Rattle.opsproto.specs.declared.definition.Definition.{Definition}
 use Rattle.opsproto.specs.Definitions.{definition_at}
 use Rattle.solverkeys.specs.GraphKeys.{AreKeys}
+use Rattle.answers.specs.declared.answer.RefusedEvent.{RefusedEvent}
 use Rattle.answers.specs.declared.command.Command.{Command}
 use Rattle.answers.specs.declared.command.Command.TheVariants.{Check, Keys, Wants, Record, Replay, Draw}
 use Rattle.answers.specs.Drawings.{IsDrawn}
 use Rattle.answers.specs.Records.{IsRecordText, IsNoRecord}
-use Rattle.answers.specs.Replays.{IsReplayed, IsUnread}
+use Rattle.answers.specs.Replays.{AreRefusedIn, IsReplayed, IsUnread}
 use Rattle.answers.specs.Wants.{AreWantsListed}
 use Rattle.answers.specs.declared.failure.Failure.{Failure}
 use Rattle.answers.specs.declared.failure.Failure.TheVariants as failure
@@ -70,6 +71,11 @@ IsAnswer Wants bytes text = (g : GraphParts) × SpellsGraph bytes g × AreWantsL
 IsAnswer Record bytes text = IsRecordText bytes text
 IsAnswer Replay bytes text = IsReplayed bytes text
 IsAnswer (Draw range) bytes text = IsDrawn range bytes text
+
+-- the events of a schedule that the farm refuses, where it is replayed
+abbrev pub AreRefused : Command → List ℕ → List RefusedEvent → Type 0
+AreRefused Replay bytes refused = AreRefusedIn bytes refused
+AreRefused _ bytes refused = refused ≡ []
 
 -- why nothing is printed
 abbrev pub IsRefused : Command → List ℕ → Failure → Type 0

@@ -9,10 +9,10 @@ use Rattle.vertices.specs.declared.refusal.LoadRefusal.{LoadRefusal}
 use Rattle.vertices.specs.declared.refusal.LoadRefusal.TheVariants as load
 use Rattle.schedule.specs.declared.refusal.ScheduleRefusal.{ScheduleRefusal}
 use Rattle.schedule.specs.declared.refusal.ScheduleRefusal.TheVariants as schedule
-use Rattle.saverecord.specs.declared.refusal.Flaw.{Flaw}
-use Rattle.saverecord.specs.declared.refusal.Flaw.TheVariants as flaw
-use Rattle.saverecord.specs.declared.refusal.RecordRefusal.{RecordRefusal}
-use Rattle.saverecord.specs.declared.refusal.RecordRefusal.TheVariants as saved
+use Rattle.recordparts.specs.declared.refusal.Flaw.{Flaw}
+use Rattle.recordparts.specs.declared.refusal.Flaw.TheVariants as flaw
+use Rattle.recordparts.specs.declared.refusal.RecordRefusal.{RecordRefusal}
+use Rattle.recordparts.specs.declared.refusal.RecordRefusal.TheVariants as saved
 use Rattle.answers.specs.declared.failure.Failure.{Failure}
 use Rattle.answers.specs.declared.failure.Failure.TheVariants as failure
 

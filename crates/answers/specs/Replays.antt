@@ -1,16 +1,19 @@
 -- What the program prints for a schedule (this project's own).
-use Rattle.std.specs.Prelude.{◌≡◌, ⊤, ℕ, ◌+◌, List, [], ◌∷◌, ◌++◌}
+use Rattle.std.specs.Prelude.{◌≡◌, ⊤, ℕ, ◌+◌, List, [], ◌∷◌, ◌++◌, Result, Ok, Err}
 use Rattle.farm_base.specs.Contents.{content_digest}
 use Rattle.protocol.specs.Farm.{farm_limits}
 use Rattle.schedule.specs.Printing.{outcome_text}
 use Rattle.protocol.specs.World.{start}
 use Rattle.protocol.specs.Chronicle.{Chronicle}
 use Rattle.protocol.specs.Replay.{Farm, step, run, opening}
+use Rattle.protocol.specs.declared.answer.EventRefusal.{EventRefusal}
+use Rattle.protocol.specs.declared.answer.Outcome.{Outcome}
 use Rattle.protocol.specs.declared.event.Event.{Event}
 use Rattle.schedule.specs.declared.setup.Setup.{Setup}
 use Rattle.schedule.specs.Schedules as schedule
 use Rattle.world.specs.Printing.{ArePrinted}
 use Rattle.world.specs.Replays.{KeepsHeadline}
+use Rattle.answers.specs.declared.answer.RefusedEvent.{RefusedEvent}
 use Rattle.answers.specs.declared.failure.Failure.{Failure}
 use Rattle.answers.specs.declared.failure.Failure.TheVariants as failure
 
@@ -19,6 +22,17 @@ abbrev pub events_text : ℕ → List Event → Farm → List ℕ
 events_text number [] s = []
 events_text number (e ∷ es) s =
     outcome_text number (step content_digest farm_limits s e).outcome ++ events_text (number + 1) es (step content_digest farm_limits s e).farm
+
+-- an event with this outcome, where the farm refuses it
+abbrev pub refused_by : ℕ → Result Outcome EventRefusal → List RefusedEvent
+refused_by number (Ok outcome) = []
+refused_by number (Err refusal) = record { number = number; refusal = refusal } ∷ []
+
+-- the events that the farm refuses, the first event with this number
+abbrev pub refused_events : ℕ → List Event → Farm → List RefusedEvent
+refused_events number [] s = []
+refused_events number (e ∷ es) s =
+    refused_by number (step content_digest farm_limits s e).outcome ++ refused_events (number + 1) es (step content_digest farm_limits s e).farm
 
 -- what is printed for events in a farm: their lines, and the lines of versions of the farm after them
 pub record IsPrinted (s : Farm) (events : List Event) (text : List ℕ) : Type 0 where
@@ -39,6 +53,11 @@ pub record HasHeadline (setup : Setup) (events : List Event) : Type 0 where
 abbrev pub IsReplayed : List ℕ → List ℕ → Type 0
 IsReplayed bytes text = (setup : Setup) × (events : List Event) × schedule.IsSchedule bytes setup events
     × IsReplayOf setup events text
+
+-- the bytes spell a schedule, and these are its events that are refused
+abbrev pub AreRefusedIn : List ℕ → List RefusedEvent → Type 0
+AreRefusedIn bytes refused = (setup : Setup) × (events : List Event) × schedule.IsSchedule bytes setup events
+    × (refused ≡ refused_events 1 events (opening content_digest setup.nodes))
 
 -- the headline holds of the schedule that the bytes spell
 abbrev pub TellsHeadline : List ℕ → Type 0

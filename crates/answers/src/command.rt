@@ -1,8 +1,9 @@
 //! What each command answers for a file.
 ghost use Rattle.std.specs.Prelude.{IfOk, IfErr};
 ghost use Rattle.std.specs.String.{string_bytes};
-ghost use Rattle.answers.specs.Answers.{IsRefused, IsAnswer};
+ghost use Rattle.answers.specs.Answers.{AreRefused, IsRefused, IsAnswer};
 
+use super::answer::Answer;
 use super::definition::{checked, graph_of, listed};
 use super::drawing::drawn;
 use super::failure::Failure;
@@ -13,7 +14,7 @@ use draw::Range;
 use std::alloc::Global;
 
 /// What the program is asked to do with a file.
-#[derive(Clone, Copy, Debug, PartialEq, Eq)]
+#[derive(Clone, Copy, PartialEq, Eq)]
 pub enum Command {
     /// Says whether a definition can be solved, and what its result is.
     Check,
@@ -29,29 +30,28 @@ pub enum Command {
     Draw(Range),
 }
 
-/// The lines that the command prints for a file.
-pub fn answer(alloc: Global, command: Command, bytes: Vec<u8>) -> Result<String, Failure>
-    ensures printed { IfOk result (λ text. IsAnswer command bytes.items (string_bytes text)) }
+/// The lines that the command prints for a file, and the events that are refused where it replays a schedule.
+pub fn answer(alloc: Global, command: Command, bytes: Vec<u8>) -> Result<Answer, Failure>
+    ensures printed { IfOk result (λ answer. IsAnswer command bytes.items (string_bytes answer.text)) }
+    ensures refused_events { IfOk result (λ answer. AreRefused command bytes.items answer.refused.items) }
     ensures refused { IfErr result (IsRefused command bytes.items) }
 {
-    match command {
+    let text = match command {
         Command::Check => {
             let graph = graph_of(alloc, bytes)?;
-            let text = checked(alloc, &graph)?;
-            Ok(text)
+            checked(alloc, &graph)?
         }
         Command::Keys => {
             let graph = graph_of(alloc, bytes)?;
-            let text = listed(alloc, graph)?;
-            Ok(text)
+            listed(alloc, graph)?
         }
         Command::Wants => {
             let graph = graph_of(alloc, bytes)?;
-            let text = wanted(alloc, &graph)?;
-            Ok(text)
+            wanted(alloc, &graph)?
         }
-        Command::Record => recorded(alloc, bytes.as_slice()),
-        Command::Replay => replayed(alloc, bytes.as_slice()),
-        Command::Draw(range) => drawn(alloc, bytes.as_slice(), range),
-    }
+        Command::Record => recorded(alloc, bytes.as_slice())?,
+        Command::Draw(range) => drawn(alloc, bytes.as_slice(), range)?,
+        Command::Replay => return replayed(alloc, bytes.as_slice()),
+    };
+    Ok(Answer::of(alloc, text))
 }

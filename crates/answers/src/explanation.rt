@@ -1,13 +1,14 @@
 //! What `--explain` adds for the bytes of a file: why they are refused, in plain words. Tests alone say what is printed here.
 
+use super::answer::RefusedEvent;
 use super::command::Command;
 use super::definition::graph_of;
 use super::failure::Failure;
 use super::line_fault::line_fault;
+use super::replaying::replayed;
 use saverecord::{Record, RecordRefusal};
-use schedule::{Event, ScheduleRefusal, Setup, read_schedule};
+use schedule::{ScheduleRefusal, read_schedule};
 use std::alloc::{AllocError, Global};
-use world::{EventRefusal, StartRefusal, World};
 
 /// Whether bytes are a text as a person writes it.
 fn is_written(bytes: &[u8]) -> bool {
@@ -77,52 +78,17 @@ fn schedule_fault(
     }
 }
 
-/// The events that the farm refuses, by their numbers, from 1.
-fn refused_by(
-    alloc: Global,
-    world: &mut World,
-    events: Vec<Event>,
-) -> Result<Vec<(u64, EventRefusal)>, AllocError> {
-    let mut refused = Vec::new(alloc);
-    let mut number: u64 = 0;
-    for event in events {
-        number = number.saturating_add(1);
-        match world.step(alloc, event) {
-            Ok(_) => {}
-            Err(EventRefusal::OutOfMemory) => return Err(AllocError),
-            Err(refusal) => refused.push((number, refusal))?,
-        }
-    }
-    Ok(refused)
-}
-
-/// A line for each event that is refused, with its reason.
-fn event_faults(
+/// A line for each event of a schedule that is refused, with its reason.
+pub fn events_told(
     alloc: Global,
     name: &str,
-    setup: Setup,
-    events: Vec<Event>,
+    refused: &[RefusedEvent],
 ) -> Result<String, AllocError> {
     let mut lines = String::new(alloc);
-    let mut world = match World::start(alloc, setup) {
-        Ok(world) => world,
-        Err(StartRefusal::BadSetup) => return Ok(lines),
-        Err(StartRefusal::OutOfMemory) => return Err(AllocError),
-    };
-    let refused = refused_by(alloc, &mut world, events)?;
-    push_faults(&mut lines, name, refused.as_slice())?;
-    Ok(lines)
-}
-
-fn push_faults(
-    lines: &mut String,
-    name: &str,
-    refused: &[(u64, EventRefusal)],
-) -> Result<(), AllocError> {
-    for (number, refusal) in refused {
+    for RefusedEvent { number, refusal } in refused {
         write!(lines, "{name}: event {number}: {refusal}\n")?;
     }
-    Ok(())
+    Ok(lines)
 }
 
 /// Why a file is refused, or what of it: its lines, and whether an event of a schedule is refused.
@@ -132,43 +98,56 @@ pub struct Explanation {
     pub has_refused_event: bool,
 }
 
-/// What there is to say of a schedule.
-fn schedule_explained(alloc: Global, name: &str, bytes: &[u8]) -> Result<Explanation, AllocError> {
+/// What is wrong with a schedule.
+fn schedule_faults(alloc: Global, name: &str, bytes: &[u8]) -> Result<String, AllocError> {
     match read_schedule(alloc, bytes) {
+        Ok(_) => Ok(String::new(alloc)),
         Err(ScheduleRefusal::OutOfMemory) => Err(AllocError),
         Err(refusal) => {
             let fault = schedule_fault(alloc, bytes, refusal)?;
-            Ok(Explanation {
-                lines: format!(in alloc; "{name}: {fault}\n")?,
-                has_refused_event: false,
-            })
-        }
-        Ok((setup, events)) => {
-            let lines = event_faults(alloc, name, setup, events)?;
-            let has_refused_event = !lines.is_empty();
-            Ok(Explanation {
-                lines,
-                has_refused_event,
-            })
+            format!(in alloc; "{name}: {fault}\n")
         }
     }
 }
 
-/// What there is to say of a file that is read for this command.
+/// What there is to say of a schedule that is drawn: the picture doesn't have all of its events.
+fn drawing_explained(alloc: Global, name: &str, bytes: &[u8]) -> Result<Explanation, AllocError> {
+    match replayed(alloc, bytes) {
+        Ok(answer) => Ok(Explanation {
+            lines: events_told(alloc, name, answer.refused.as_slice())?,
+            has_refused_event: !answer.refused.is_empty(),
+        }),
+        Err(Failure::Schedule(_)) => Ok(Explanation {
+            lines: schedule_faults(alloc, name, bytes)?,
+            has_refused_event: false,
+        }),
+        Err(_) => Err(AllocError),
+    }
+}
+
+/// A line of what is wrong with a file, if something is.
+fn fault_line(alloc: Global, name: &str, fault: Option<String>) -> Result<String, AllocError> {
+    match fault {
+        Some(fault) => format!(in alloc; "{name}: {fault}\n"),
+        None => Ok(String::new(alloc)),
+    }
+}
+
+/// What there is to say of a file that is read for this command. Of the events of a schedule that is replayed, its
+/// `Answer` tells.
 pub fn explained(
     alloc: Global,
     command: Command,
     name: &str,
     bytes: &[u8],
 ) -> Result<Explanation, AllocError> {
-    let fault = match command {
-        Command::Replay | Command::Draw(_) => return schedule_explained(alloc, name, bytes),
-        Command::Record => record_fault(alloc, bytes)?,
-        Command::Check | Command::Keys | Command::Wants => definition_fault(alloc, bytes)?,
-    };
-    let lines = match fault {
-        Some(fault) => format!(in alloc; "{name}: {fault}\n")?,
-        None => String::new(alloc),
+    let lines = match command {
+        Command::Draw(_) => return drawing_explained(alloc, name, bytes),
+        Command::Replay => schedule_faults(alloc, name, bytes)?,
+        Command::Record => fault_line(alloc, name, record_fault(alloc, bytes)?)?,
+        Command::Check | Command::Keys | Command::Wants => {
+            fault_line(alloc, name, definition_fault(alloc, bytes)?)?
+        }
     };
     Ok(Explanation {
         lines,

@@ -2,6 +2,7 @@
 //! runs a farm on threads.
 #![tactic(auto)]
 
+mod answer;
 mod command;
 mod definition;
 mod drawing;
@@ -13,9 +14,10 @@ mod record;
 mod replaying;
 mod wants;
 
+pub use answer::{Answer, RefusedEvent};
 pub use command::{Command, answer};
 pub use definition::graph_of;
-pub use explanation::{Explanation, explained};
+pub use explanation::{Explanation, events_told, explained};
 pub use failure::Failure;
 pub use record::whole_of;
 pub use replaying::replayed;

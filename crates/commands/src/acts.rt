@@ -10,7 +10,7 @@ use super::explain::{causes_told, copies_of, explained, push_log_fault};
 use super::files::{contents, kept};
 use super::processing::{be_node, coordinate};
 use super::running::{Order, run_scripts};
-use answers::{Command, Explanation, Failure, answer};
+use answers::{Command, Explanation, Failure, RefusedEvent, answer, events_told};
 use std::alloc::{AllocError, Global};
 use std::fs::File;
 use std::io::{self, Write};
@@ -68,12 +68,49 @@ pub(crate) fn print_unreadable<E: Write>(alloc: Global, name: &str, err: &mut E)
     }
 }
 
+/// What there is to say of the files, if the words ask for it.
+#[derive(Drop)]
+pub struct Told {
+    pub is_wanted: bool,
+    pub explanation: Explanation,
+}
+
+impl Told {
+    /// Nothing is said yet.
+    pub fn new(alloc: Global, is_wanted: bool) -> Self {
+        Told {
+            is_wanted,
+            explanation: Explanation {
+                lines: String::new(alloc),
+                has_refused_event: false,
+            },
+        }
+    }
+
+    /// Says which events of a schedule are refused, unless that was said of one before it.
+    fn tell(
+        &mut self,
+        alloc: Global,
+        name: &str,
+        refused: &[RefusedEvent],
+    ) -> Result<(), AllocError> {
+        if self.is_wanted && !refused.is_empty() && !self.explanation.has_refused_event {
+            self.explanation = Explanation {
+                lines: events_told(alloc, name, refused)?,
+                has_refused_event: true,
+            };
+        }
+        Ok(())
+    }
+}
+
 /// Carries out a command on files, each with its bytes or `None` where it can't be read. Nothing is printed
 /// before all texts are made; the first fault decides. Returns the status of the program.
 pub fn act<O: Write, E: Write>(
     alloc: Global,
     command: Command,
     files: Vec<(String, Option<Vec<u8>>)>,
+    told: &mut Told,
     out: &mut O,
     err: &mut E,
 ) -> u8
@@ -90,8 +127,11 @@ pub fn act<O: Write, E: Write>(
         };
         match answer(alloc, command, bytes) {
             Err(failure) => return print_failure(alloc, failure, err),
-            Ok(text) => {
-                if all.push_str(text.as_str()).is_err() {
+            Ok(answer) => {
+                let is_told = told
+                    .tell(alloc, name.as_str(), answer.refused.as_slice())
+                    .is_ok();
+                if !is_told || all.push_str(answer.text.as_str()).is_err() {
                     return print_failure(alloc, Failure::Memory, err);
                 }
             }
@@ -111,20 +151,18 @@ pub fn print_no_words<E: Write>(error: &io::Error, err: &mut E) -> u8
     }
 }
 
-/// What there is to say of a file, if the options ask for it.
+/// What there is to say of a file that was read, or can't be.
 fn explanation(
     alloc: Global,
-    words: &Words,
+    request: Request,
     name: &str,
     read: &io::Result<Result<Vec<u8>, Failure>>,
 ) -> Result<Explanation, AllocError> {
     let mut lines = String::new(alloc);
-    if words.options.explain || words.options.strict {
-        match read {
-            Ok(Ok(bytes)) => return explained(alloc, words.request, name, bytes.as_slice()),
-            Ok(Err(failure)) => push_log_fault(&mut lines, name, *failure)?,
-            Err(error) => write!(lines, "{name}: {error}\n")?,
-        }
+    match read {
+        Ok(Ok(bytes)) => return explained(alloc, request, name, bytes.as_slice()),
+        Ok(Err(failure)) => push_log_fault(&mut lines, name, *failure)?,
+        Err(error) => write!(lines, "{name}: {error}\n")?,
     }
     Ok(Explanation {
         lines,
@@ -164,19 +202,19 @@ fn read<R: Files + Input + AllocGlobal>(
     }
 }
 
-/// Reads the file of this name, and replaces the explanation with that of the file where there is none yet.
+/// Reads the file of this name, and replaces what is said with what there is to say of it where nothing is said yet.
 fn read_file<R: Files + Input + AllocGlobal>(
     rt: &R,
-    words: &Words,
+    request: Request,
     name: &str,
-    told: &mut Explanation,
+    told: &mut Told,
 ) -> Result<Result<Option<Vec<u8>>, Failure>, AllocError> {
-    let read = read(rt, words.request, name);
+    let read = read(rt, request, name);
     if matches!(&read, Err(error) if matches!(error.kind(), io::ErrorKind::OutOfMemory)) {
         return Err(AllocError);
     }
-    if told.lines.is_empty() {
-        *told = explanation(rt.alloc(), words, name, &read)?;
+    if told.is_wanted && told.explanation.lines.is_empty() {
+        told.explanation = explanation(rt.alloc(), request, name, &read)?;
     }
     match read {
         Ok(Ok(bytes)) => Ok(Ok(Some(bytes))),
@@ -196,12 +234,12 @@ struct Inputs {
 fn read_files<R: Files + Input + AllocGlobal>(
     rt: &R,
     words: &Words,
-    told: &mut Explanation,
+    told: &mut Told,
 ) -> Result<Inputs, AllocError> {
     let alloc = rt.alloc();
     let mut files = Vec::new(alloc);
     for name in &words.files {
-        match read_file(rt, words, name, told)? {
+        match read_file(rt, words.request, name, told)? {
             Ok(bytes) => files.push((String::from_str(alloc, name)?, bytes))?,
             Err(failure) => {
                 let refused = Some(failure);
@@ -220,15 +258,16 @@ fn act_on_all<O: Write, E: Write>(
     alloc: Global,
     command: Command,
     inputs: Inputs,
+    told: &mut Told,
     out: &mut O,
     err: &mut E,
 ) -> u8 {
     let Inputs { files, refused } = inputs;
     let Some(failure) = refused else {
-        return act(alloc, command, files, out, err);
+        return act(alloc, command, files, told, out, err);
     };
     let mut unprinted = Vec::new(alloc);
-    match act(alloc, command, files, &mut unprinted, err) {
+    match act(alloc, command, files, told, &mut unprinted, err) {
         DONE => print_failure(alloc, failure, err),
         status => status,
     }
@@ -272,19 +311,16 @@ fn act_on<
     E: Write,
 >(rt: &R, words: &Words, out: &mut O, err: &mut E) -> Result<u8, AllocError> {
     let alloc = rt.alloc();
-    let mut told = Explanation {
-        lines: String::new(alloc),
-        has_refused_event: false,
-    };
+    let mut told = Told::new(alloc, words.options.explain || words.options.strict);
     let inputs = read_files(rt, words, &mut told)?;
     let (status, has_failed) = match words.request {
         Request::Print(command) => {
-            let status = act_on_all(alloc, command, inputs, out, err);
-            (status, told.has_refused_event)
+            let status = act_on_all(alloc, command, inputs, &mut told, out, err);
+            (status, told.explanation.has_refused_event)
         }
         Request::Run(order) => {
             let shown = run_all(rt, order, words.options, inputs.files, out, err)?;
-            told.lines.push_str(shown.lines.as_str())?;
+            told.explanation.lines.push_str(shown.lines.as_str())?;
             (shown.status, shown.has_failed)
         }
         Request::Coordinator(place) => {
@@ -296,7 +332,7 @@ fn act_on<
             (be_node(rt, place, out, err), false)
         }
     };
-    let lines = told.lines.as_str();
+    let lines = told.explanation.lines.as_str();
     Ok(print_explanation(words.options, lines, has_failed, status, err))
 }
 

@@ -11,7 +11,7 @@ use processes::{CoordinatorPlace, NodePlace};
 use std::alloc::{AllocError, Global};
 
 /// What the program is asked to do.
-#[derive(Clone, Copy, Debug, PartialEq, Eq)]
+#[derive(Clone, Copy, PartialEq, Eq)]
 pub enum Request<'a> {
     /// Prints what the command answers for a file.
     Print(Command),
@@ -34,7 +34,7 @@ impl Request<'_> {
 }
 
 /// How a command answers.
-#[derive(Clone, Copy, Debug, PartialEq, Eq)]
+#[derive(Clone, Copy, PartialEq, Eq)]
 pub struct Options {
     /// Whether to say in plain words why something is refused, on the standard error.
     pub explain: bool,

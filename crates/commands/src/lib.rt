@@ -10,7 +10,7 @@ mod processing;
 mod running;
 mod scripted;
 
-pub use acts::{DONE, FAULT, MEMORY, REFUSED, USAGE, act, print_no_words, run};
+pub use acts::{DONE, FAULT, MEMORY, REFUSED, Told, USAGE, act, print_no_words, run};
 pub use command::{Options, Request, Words, words_of};
 pub use explain::explained;
 pub use running::{Ended, Order, run_scripts, solve};

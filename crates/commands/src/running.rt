@@ -215,7 +215,7 @@ fn print_input_fault<E: Write>(
 }
 
 /// What `run` is asked to do.
-#[derive(Clone, Copy, Debug, PartialEq, Eq)]
+#[derive(Clone, Copy, PartialEq, Eq)]
 pub struct Order<'a> {
     pub nodes: u32,
     /// Where the coordinator's record is kept, if it is.
@@ -223,7 +223,7 @@ pub struct Order<'a> {
 }
 
 /// How a run ended.
-#[derive(Debug, Drop)]
+#[derive(Drop)]
 pub struct Ended {
     /// The status of the program.
     pub status: u8,

@@ -5,7 +5,7 @@ use Rattle.protocol.specs.declared.answer.CoordRefusal.{CoordRefusal}
 use Rattle.protocol.specs.declared.answer.CoordRefusal.TheVariants.{Down, SaveFault, BadRecord, LoadFault, OutOfMemory}
 use Rattle.saverecord.specs.Logs.{Holds, ledger_in, saved_in}
 use Rattle.saverecord.specs.Texts.{Texts}
-use Rattle.saverecord.specs.declared.refusal.RecordRefusal.{RecordRefusal}
+use Rattle.recordparts.specs.declared.refusal.RecordRefusal.{RecordRefusal}
 use Rattle.saverecord.specs.declared.refusal.KeeperRefusal.{KeeperRefusal}
 use Rattle.saverecord.specs.declared.refusal.KeeperRefusal.TheVariants.{Fault}
 use Rattle.coordinator.specs.Held.{Held, ledger}

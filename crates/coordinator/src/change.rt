@@ -16,7 +16,7 @@ use parked::{ParkedChange, SpentFolders};
 use std::alloc::{AllocError, Global};
 
 /// The changes of an event. What they are changes of is passed to each call that looks at it.
-#[derive(Debug, Drop)]
+#[derive(Drop)]
 pub struct Change {
     pub table: TableChange,
     pub tickets: TicketSource,

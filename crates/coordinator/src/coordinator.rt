@@ -37,7 +37,7 @@ use versions::Line;
 
 /// The coordinator of a farm, which decides who may use which slot, and keeps the lines of versions. What it decides
 /// is saved with its keeper before it is answered.
-#[derive(Debug, Drop)]
+#[derive(Drop)]
 pub struct Coordinator<K: Keeper> {
     ledger: Ledger,
     keeper: K,
@@ -58,7 +58,7 @@ impl<K: Keeper> Model for Coordinator<K> {
 }
 
 /// A coordinator that didn't start: its keeper, and why.
-#[derive(Debug, Drop)]
+#[derive(Drop)]
 pub struct NotStarted<K: Keeper> {
     pub keeper: K,
     pub refusal: CoordRefusal,

@@ -18,7 +18,7 @@ use std::alloc::{AllocError, Global};
 use versions::{Added, SlotLine};
 
 /// What an event changes, adds to the lines, sends and tells.
-#[derive(Debug, Drop)]
+#[derive(Drop)]
 pub struct Effects {
     pub change: Change,
     pub added: Option<Added>,
@@ -76,7 +76,7 @@ impl Effects {
 }
 
 /// An event that was worked out and not applied yet.
-#[derive(Debug, Drop)]
+#[derive(Drop)]
 pub(crate) struct Prepared {
     /// In a box, so that letting go of it is one step of a proof.
     pub effects: Box<Effects>,

@@ -53,7 +53,7 @@ use std::marker::Model;
 use versions::Line;
 
 /// What a coordinator keeps of its farm: who may use which slot, and the lines of versions. Contracts see it as lists.
-#[derive(Debug, Drop)]
+#[derive(Drop)]
 pub(crate) struct Ledger {
     state: State,
     /// How long the texts are that its keeper has.

@@ -3,7 +3,7 @@ ghost use Rattle.std.specs.Prelude.{◌≤◌};
 use farm_base::{Life, NodeId};
 
 /// A life of a node that began. Lives are counted from 1.
-#[derive(Clone, Copy, Debug)]
+#[derive(Clone, Copy)]
 pub struct NewLife {
     pub node: NodeId,
     pub life: Life,

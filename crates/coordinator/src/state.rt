@@ -15,7 +15,7 @@ use std::alloc::{AllocError, Global};
 use versions::{Added, Lines, granted_slots};
 
 /// All that the coordinator keeps.
-#[derive(Debug, Drop)]
+#[derive(Drop)]
 pub struct State {
     pub table: LeaseTable,
     pub tickets: TicketSource,

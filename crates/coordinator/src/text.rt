@@ -11,7 +11,7 @@ use saverecord::{Keeper, KeeperRefusal, Log};
 const LEAST: u64 = 65536;
 
 /// What is saved of an event.
-#[derive(Debug, Drop)]
+#[derive(Drop)]
 pub enum Text {
     /// The whole record that it leaves.
     Whole(Vec<u8>),
@@ -20,7 +20,7 @@ pub enum Text {
 }
 
 /// The bytes of the texts that a keeper has.
-#[derive(Clone, Copy, Debug)]
+#[derive(Clone, Copy)]
 pub(crate) struct Sizes {
     whole: u64,
     entries: u64,

@@ -2,21 +2,21 @@
 use farm_base::{Items, Text};
 
 /// A live lease: its ticket, and the lifeline that holds it.
-#[derive(Clone, Copy, Debug, PartialEq, Eq)]
+#[derive(Clone, Copy, PartialEq, Eq)]
 pub struct Held {
     pub ticket: u64,
     pub node: u32,
 }
 
 /// A message that was sent: its number, and the lifeline that it is for.
-#[derive(Clone, Copy, Debug, PartialEq, Eq)]
+#[derive(Clone, Copy, PartialEq, Eq)]
 pub struct Sent {
     pub number: u64,
     pub to: u32,
 }
 
 /// What the picture shows of an outcome.
-#[derive(Clone, Copy, Debug, PartialEq, Eq)]
+#[derive(Clone, Copy, PartialEq, Eq)]
 pub enum Done {
     Refused,
     SaveFailed,
@@ -35,7 +35,7 @@ pub enum Done {
 }
 
 /// One event, as the picture sees it.
-#[derive(Debug, Drop)]
+#[derive(Drop)]
 pub struct Frame {
     /// What is printed of it.
     pub words: Text,

@@ -2,7 +2,7 @@ use farm_base::{FolderName, Items, Ticket};
 use folders::Edit;
 
 /// What one execution changed in a SHARED folder.
-#[derive(Debug, Drop)]
+#[derive(Drop)]
 pub struct Batch {
     pub ticket: Ticket,
     pub folder: FolderName,

@@ -2,7 +2,7 @@ use farm_base::{Digest, FolderName, Items, Key};
 use folders::Edit;
 
 /// An execution that an executor carried out.
-#[derive(Debug, Drop)]
+#[derive(Drop)]
 pub struct Call {
     pub key: Key,
     /// Its outputs, or the status with which it failed.
@@ -10,7 +10,7 @@ pub struct Call {
 }
 
 /// What an executor answers.
-#[derive(Debug, Drop)]
+#[derive(Drop)]
 pub enum ExecOutcome {
     Done {
         /// The outputs, by their index.

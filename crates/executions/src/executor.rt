@@ -34,7 +34,7 @@ pub trait Gate: Sync {
 }
 
 /// A gate that lets every execution begin at once.
-#[derive(Clone, Copy, Debug)]
+#[derive(Clone, Copy)]
 pub struct OpenGate;
 
 impl Gate for OpenGate {

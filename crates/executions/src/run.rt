@@ -26,7 +26,7 @@ use solverkeys::Keyed;
 use std::alloc::{AllocError, Global};
 
 /// An execution's outcome, which isn't `OutOfMemory`, and what it leaves in the slots of its lease.
-#[derive(Debug, Drop)]
+#[derive(Drop)]
 pub struct Ran {
     pub outcome: ExecOutcome,
     /// The content of each slot that the execution may write, but for those of SHARED folders: their edits are in the

@@ -7,7 +7,7 @@ use opsproto::{ExecOp, Kind, Op};
 use std::marker::Model;
 
 /// What an execution sees at a cache mount.
-#[derive(Debug, Drop)]
+#[derive(Drop)]
 pub struct View {
     /// The mount's place among the command's mounts, from 0.
     pub mount: usize,
@@ -20,7 +20,7 @@ pub struct View {
 }
 
 /// What an executor is given. Only `run_leased` makes it.
-#[derive(Debug, Drop)]
+#[derive(Drop)]
 pub struct ExecTask {
     pub(crate) key: Key,
     /// What the vertex does.

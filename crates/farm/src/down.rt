@@ -5,7 +5,7 @@ ghost use Rattle.farm.specs.Downs.{counted, ENOUGH};
 use std::marker::Model;
 
 /// Counts the failures in a row, up to eight and no further.
-#[derive(Clone, Copy, Debug)]
+#[derive(Clone, Copy)]
 pub struct DownCount {
     failures: u8,
 }

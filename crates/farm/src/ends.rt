@@ -6,7 +6,7 @@ use jobs::{Answer, Cause};
 use protocol::Event;
 
 /// What a run of one executor leaves.
-#[derive(Debug, Drop)]
+#[derive(Drop)]
 pub struct OneEnd {
     /// The answer of each job, in their order.
     pub answers: Vec<Answer>,
@@ -16,7 +16,7 @@ pub struct OneEnd {
 }
 
 /// A job that failed, and why.
-#[derive(Debug, Drop)]
+#[derive(Drop)]
 pub struct FailedJob {
     /// Its place among the jobs, from 0.
     pub place: usize,

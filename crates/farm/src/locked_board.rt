@@ -12,7 +12,7 @@ use protocol::{EventNote, EventRefusal, NodeNote, NodeRefusal};
 use std::alloc::{AllocError, Global};
 
 /// How the tenure of a SHARED folder stands on a node.
-#[derive(Clone, Copy, Debug, PartialEq, Eq)]
+#[derive(Clone, Copy, PartialEq, Eq)]
 pub(crate) enum Stage {
     /// It was asked for.
     Asked,
@@ -42,7 +42,7 @@ pub(crate) struct LockedBoard {
 }
 
 /// Which tenures end now, where no execution uses them.
-#[derive(Clone, Copy, Debug, PartialEq, Eq)]
+#[derive(Clone, Copy, PartialEq, Eq)]
 pub(crate) enum Ends {
     Recalled,
     OfNode(NodeId),

@@ -1,7 +1,7 @@
 //! An answer, and a refusal, that can't be written.
 
 use answers::Command;
-use commands::{FAULT, act};
+use commands::{FAULT, Told, act};
 use std::alloc::Global;
 use std::io::Cursor;
 use std::test::Fail;
@@ -11,9 +11,10 @@ fn status_of_short(alloc: Global, schedule: &[u8]) -> Result<u8, Fail> {
     let bytes = Vec::from_slice(alloc, schedule)?;
     let mut files = Vec::new(alloc);
     files.push((String::from_str(alloc, "F")?, Some(bytes)))?;
+    let mut told = Told::new(alloc, false);
     let mut out = Cursor::new([0u8; 4]);
     let mut err = Cursor::new([0u8; 4]);
-    Ok(act(alloc, Command::Replay, files, &mut out, &mut err))
+    Ok(act(alloc, Command::Replay, files, &mut told, &mut out, &mut err))
 }
 
 #[test]

@@ -2,7 +2,7 @@ use farm_base::{Content, NodeId, Slot, Ticket};
 use protocol::Kept;
 
 /// A step by which a farm is disturbed.
-#[derive(Debug, Drop)]
+#[derive(Drop)]
 pub enum FarmStep {
     /// The next message is never delivered, unless again.
     Skip,

@@ -48,7 +48,7 @@ pub enum Accept {
 }
 
 /// What `begin` would say of a grant.
-#[derive(Clone, Copy, Debug, PartialEq, Eq)]
+#[derive(Clone, Copy, PartialEq, Eq)]
 pub enum Look {
     Ready,
     /// The content of a base isn't here yet.
@@ -58,7 +58,7 @@ pub enum Look {
 }
 
 /// What became of a lease that was to be given back.
-#[derive(Clone, Copy, Debug, PartialEq, Eq)]
+#[derive(Clone, Copy, PartialEq, Eq)]
 pub enum Ended {
     Sent,
     /// The node no longer has the lease.
@@ -66,7 +66,7 @@ pub enum Ended {
 }
 
 /// The versions that an execution added under its ticket.
-#[derive(Debug, Drop)]
+#[derive(Drop)]
 pub struct Receipt {
     pub ticket: Ticket,
     /// By rising slot.

@@ -7,7 +7,7 @@ use farm_base::NodeId;
 use std::alloc::{AllocError, Global};
 
 /// An executor as it is handed in: its node, and the calls that it has.
-#[derive(Debug, Drop)]
+#[derive(Drop)]
 pub struct Hired {
     pub node: NodeId,
     pub had: Vec<Call>,

@@ -1,7 +1,7 @@
 use farm_base::{Key, NodeId};
 
 /// A key on a node.
-#[derive(Clone, Copy, Debug, PartialEq, Eq, Hash)]
+#[derive(Clone, Copy, PartialEq, Eq, Hash)]
 pub struct NodeKey {
     pub node: NodeId,
     pub key: Key,

@@ -3,7 +3,7 @@ ghost use Rattle.farmwire.specs.declared.verb.Verb.{Verb};
 ghost use Rattle.farmwire.specs.Words.{verb_text};
 
 /// The word that a text begins with.
-#[derive(Clone, Copy, Debug)]
+#[derive(Clone, Copy)]
 pub(crate) enum Verb {
     Hello,
     Acquire,

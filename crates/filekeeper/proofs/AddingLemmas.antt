@@ -8,7 +8,7 @@ use Rattle.filekeeper.specs.Disks.{Files, with_log, MaySee, MayLeave, Leaves}
 use Rattle.filekeeper.specs.Disks.Leaves.{Begins}
 use Rattle.filekeeper.specs.Framing.{name_of, check_of, head_of, framed, log_bytes}
 use Rattle.filekeeper.specs.Settled.{files_of, IsSettled, IsAddedTo}
-use Rattle.saverecord.specs.Spelling.{number64}
+use Rattle.recordparts.specs.Spelling.{number64}
 use Rattle.saverecord.specs.Texts.{Texts}
 use Rattle.filekeeper.specs.declared.device_call.DeviceCall.TheVariants.{Append, SyncLog}
 use Rattle.filekeeper.proofs.DiskLemmas.{at_last, goes_on, log_left}

@@ -10,7 +10,7 @@ use Rattle.std.proofs.Math.Seq.{take-append-add}
 use Rattle.filekeeper.specs.Disks.{Files}
 use Rattle.filekeeper.specs.Framing.{name_of, check_of, framed, log_bytes, HasNone, IsTold, HasEntries}
 use Rattle.filekeeper.specs.Settled.{Clashes, Holds, HoldsSome, IsAddedTo}
-use Rattle.saverecord.specs.Spelling.{number64}
+use Rattle.recordparts.specs.Spelling.{number64}
 use Rattle.saverecord.specs.Texts.{Texts, whole_alone}
 use Rattle.filekeeper.proofs.FramingLemmas.{framed_head, framed-length, name-length, number-length, check-length, told_again}
 

@@ -10,7 +10,7 @@ use Rattle.std.proofs.Math.Seq.{take-append_seam, drop-append_seam}
 use Rattle.sha2.specs.Sha256.{sha256}
 use Rattle.sha2.proofs.Facts256.{length-sha256}
 use Rattle.filekeeper.specs.Framing.{name_of, check_of, framed, log_bytes, HasHead, HasNone, IsTold, HasEntries, AreTaken}
-use Rattle.saverecord.specs.Spelling.{number64}
+use Rattle.recordparts.specs.Spelling.{number64}
 use Rattle.saverecord.specs.Texts.{Texts, with_text, with_texts}
 
 -- ---- heads

@@ -6,7 +6,7 @@ use Rattle.std.specs.List.{flat_map}
 use Rattle.sha2.specs.Sha256.{sha256}
 use Rattle.filekeeper.specs.declared.framing.LogFault.{LogFault}
 use Rattle.filekeeper.specs.declared.framing.LogFault.TheVariants.{BadHead, OutOfMemory}
-use Rattle.saverecord.specs.Spelling.{number64}
+use Rattle.recordparts.specs.Spelling.{number64}
 use Rattle.saverecord.specs.Texts.{Texts, with_texts}
 
 -- the name of a record in its log: its last eight bytes, which are of its digest

@@ -10,7 +10,7 @@ use std::alloc::{AllocError, Global};
 use std::marker::Model;
 
 /// A keeper that gathers what is appended: one sync makes many entries last. What it keeps isn't to be told before that.
-#[derive(Debug, Drop)]
+#[derive(Drop)]
 pub struct Gathered<K: Keeper>(K);
 
 impl<K: Keeper> Model for Gathered<K> {

@@ -4,7 +4,7 @@ use farm_base::{Copied, Items, Text};
 use std::alloc::{AllocError, Global};
 
 /// A change of one file of a folder.
-#[derive(Debug, Drop)]
+#[derive(Drop)]
 pub enum Edit {
     /// The path gets this content, whatever it had before.
     Put(Text, Items<u8>),

@@ -19,7 +19,7 @@ use std::marker::Model;
 ///
 /// Contracts see a finite map, as the list of the paths, rising by their bytes, with the content of each. A path is any
 /// UTF-8 text. There are at most 16 MiB of folder bytes.
-#[derive(Debug, Drop)]
+#[derive(Drop)]
 pub struct Folder {
     files: Vec<File>,
     /// The size of the folder bytes.

@@ -10,7 +10,7 @@ use std::alloc::{AllocError, Global};
 use std::marker::Model;
 
 /// The greatest life seen of each node, by rising node.
-#[derive(Debug, Drop)]
+#[derive(Drop)]
 pub struct Lives {
     lives: Vec<NodeLife>,
 }

@@ -9,7 +9,7 @@ use std::alloc::{AllocError, Global};
 use std::marker::Model;
 
 /// The nodes that were retired, rising.
-#[derive(Debug, Drop)]
+#[derive(Drop)]
 pub struct RetiredNodes {
     nodes: Vec<NodeId>,
 }

@@ -7,7 +7,7 @@ use std::marker::Model;
 use thiserror::Error;
 
 /// Gives each ticket once, in rising order. Tickets come in blocks: who gives them saves the block's ceiling first.
-#[derive(Debug, Drop)]
+#[derive(Drop)]
 pub struct TicketSource {
     position: u64,
     ceiling: u64,

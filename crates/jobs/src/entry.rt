@@ -10,7 +10,7 @@ pub enum Fault {
 }
 
 /// The progress of a key.
-#[derive(Debug, Drop)]
+#[derive(Drop)]
 pub enum Progress {
     /// It was submitted.
     Waiting,
@@ -23,7 +23,7 @@ pub enum Progress {
 }
 
 /// A key that was submitted.
-#[derive(Debug, Drop)]
+#[derive(Drop)]
 pub struct Entry {
     pub key: Key,
     /// For each of its inputs, in order, the key and the index of the output.
@@ -32,7 +32,7 @@ pub struct Entry {
 }
 
 /// A key that is handed out, to be solved.
-#[derive(Debug, Drop)]
+#[derive(Drop)]
 pub struct Task {
     pub key: Key,
     /// The outputs that its inputs name, in order.

@@ -21,7 +21,7 @@ use std::marker::Model;
 
 /// Leases that were granted and that ended, and PRIVATE slots that are not granted again, since a table was as it is.
 /// A look at the table with them borrows both: `over`.
-#[derive(Debug, Drop)]
+#[derive(Drop)]
 pub struct TableChange {
     ended: Vec<Ending>,
     granted: Vec<Lease>,

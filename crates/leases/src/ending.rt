@@ -6,7 +6,7 @@ ghost use Rattle.leases.specs.Changes.{ends_lease, has_ended, standing};
 use farm_base::{Lease, Life, NodeId, Ticket};
 
 /// Leases that an event ends.
-#[derive(Clone, Copy, Debug)]
+#[derive(Clone, Copy)]
 pub enum Ending {
     /// The lease of a ticket.
     Ticket(Ticket),

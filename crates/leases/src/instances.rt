@@ -8,7 +8,7 @@ ghost use Rattle.leases.specs.Instances.{has};
 const WORDS: usize = 65;
 
 /// A set of instances. One above 4,159 is never in it.
-#[derive(Clone, Copy, Debug)]
+#[derive(Clone, Copy)]
 pub(crate) struct Instances {
     /// A bit for each instance, 64 to a word.
     words: [u64; WORDS],

@@ -14,7 +14,7 @@ use std::alloc::{AllocError, Global};
 use std::hash::Hash;
 
 /// An ask of a life of a node.
-#[derive(Clone, Copy, Debug, PartialEq, Eq, Hash)]
+#[derive(Clone, Copy, PartialEq, Eq, Hash)]
 pub(crate) struct AskName {
     pub(crate) node: NodeId,
     pub(crate) life: Life,
@@ -22,7 +22,7 @@ pub(crate) struct AskName {
 }
 
 /// How many leases an ask or a node has, and the oldest of them.
-#[derive(Clone, Copy, Debug)]
+#[derive(Clone, Copy)]
 pub(crate) struct LeaseCount {
     /// How many. Where the count has reached its greatest value, it stays there.
     times: u64,
@@ -31,7 +31,7 @@ pub(crate) struct LeaseCount {
 }
 
 /// How many leases each ask and each node has, and the oldest of them. What has none is not in it.
-#[derive(Debug, Drop)]
+#[derive(Drop)]
 pub(crate) struct LeaseCounts {
     by_ask: IndexMap<AskName, LeaseCount>,
     by_node: IndexMap<NodeId, LeaseCount>,

@@ -19,7 +19,7 @@ use std::alloc::{AllocError, Global};
 use std::marker::Model;
 
 /// Whether an ask can be granted.
-#[derive(Clone, Copy, Debug, PartialEq, Eq)]
+#[derive(Clone, Copy, PartialEq, Eq)]
 pub enum Fit {
     Fits,
     /// A slot that it needs is leased.
@@ -29,7 +29,7 @@ pub enum Fit {
 }
 
 /// The state of a slot, as new asks find it.
-#[derive(Clone, Copy, Debug, PartialEq, Eq)]
+#[derive(Clone, Copy, PartialEq, Eq)]
 pub enum SlotState {
     Free,
     Leased(Ticket),
@@ -38,7 +38,7 @@ pub enum SlotState {
 }
 
 /// The leases that were granted and have not ended, and the PRIVATE slots that are never granted again.
-#[derive(Debug, Drop)]
+#[derive(Drop)]
 pub struct LeaseTable {
     pub(crate) live: LiveLeases,
     pub(crate) retired: RetiredSlots,

@@ -28,7 +28,7 @@ use std::alloc::{AllocError, Global};
 use std::marker::Model;
 
 /// Leases that may be live together, by rising ticket.
-#[derive(Debug, Drop)]
+#[derive(Drop)]
 pub(crate) struct LiveLeases {
     leases: Vec<Lease>,
     /// The ticket of the lease that has a folder's one slot, and none or an old one where no lease has it.
@@ -40,7 +40,7 @@ pub(crate) struct LiveLeases {
 }
 
 /// What the indexes are to have of more leases.
-#[derive(Debug, Drop)]
+#[derive(Drop)]
 pub(crate) struct Entries {
     /// A ticket at each folder whose one slot a lease has.
     pub(crate) tickets: Vec<(FolderName, Ticket)>,

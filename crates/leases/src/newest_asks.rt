@@ -8,7 +8,7 @@ use indexmap::IndexMap;
 use std::alloc::{AllocError, Global};
 
 /// An ask of a node.
-#[derive(Clone, Copy, Debug)]
+#[derive(Clone, Copy)]
 pub(crate) struct NewestAsk {
     pub(crate) life: Life,
     pub(crate) ask: Ask,
@@ -16,7 +16,7 @@ pub(crate) struct NewestAsk {
 
 /// The newest ask of each node, of those that were noted. A node numbers its asks in turn, so of nearly each new one it
 /// is known that it wasn't noted.
-#[derive(Debug, Drop)]
+#[derive(Drop)]
 pub struct NewestAsks {
     by_node: IndexMap<NodeId, NewestAsk>,
 }

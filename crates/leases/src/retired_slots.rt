@@ -11,7 +11,7 @@ use std::alloc::{AllocError, Global};
 use std::marker::Model;
 
 /// PRIVATE slots that are never granted again.
-#[derive(Debug, Drop)]
+#[derive(Drop)]
 pub(crate) struct RetiredSlots {
     slots: Vec<Slot>,
     /// The instances of these slots, by folder.

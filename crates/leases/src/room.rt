@@ -14,7 +14,7 @@ use std::alloc::{AllocError, Global};
 use std::marker::Model;
 
 /// A lease table with room for changes, so that applying them can't fail.
-#[derive(Debug, Drop)]
+#[derive(Drop)]
 pub struct TableWithRoom {
     live: LiveLeases,
     retired: RetiredSlots,

@@ -15,7 +15,7 @@ use indexmap::IndexMap;
 use std::alloc::{AllocError, Global};
 
 /// The instances from 1 on that are taken, by folder. A folder with none is not in it.
-#[derive(Debug, Drop)]
+#[derive(Drop)]
 pub(crate) struct TakenInstances {
     by_folder: IndexMap<FolderName, Instances>,
 }

@@ -2,7 +2,7 @@
 use protocol::KeptAsk;
 
 /// An ask that is kept, under its place among the asks of its life, counted from 0.
-#[derive(Debug, Drop)]
+#[derive(Drop)]
 pub struct AskRow {
     pub(crate) place: usize,
     pub(crate) kept: KeptAsk,

@@ -17,7 +17,7 @@ use std::alloc::{AllocError, Global};
 use std::mem;
 
 /// How an ask stands that is sought by its ticket.
-#[derive(Clone, Copy, Debug)]
+#[derive(Clone, Copy)]
 pub(crate) enum Sought {
     /// Granted, and not begun.
     Held,
@@ -30,7 +30,7 @@ pub(crate) enum Sought {
 }
 
 /// What happens to an ask. It changes no ask that stands otherwise than is said.
-#[derive(Debug, Drop)]
+#[derive(Drop)]
 pub(crate) enum AskChange {
     /// An open ask is granted.
     Grant(Grant),

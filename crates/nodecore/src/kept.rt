@@ -15,7 +15,7 @@ pub struct ToKeep<'a> {
 }
 
 /// What a process finds on its disk of its node's last life. What is missing is fetched again.
-#[derive(Debug, Drop)]
+#[derive(Drop)]
 pub struct KeptContents {
     /// In any order, with or without the empty one. Each is known by its own digest.
     pub contents: Vec<Content>,

@@ -2,7 +2,7 @@ use farm_base::{Grant, Items, Message, Ticket};
 use protocol::{How, NodeNote};
 
 /// What a call did, and what the node sends.
-#[derive(Debug, Drop)]
+#[derive(Drop)]
 pub struct NodeDone {
     /// What happened at the node.
     pub note: NodeNote,
@@ -11,7 +11,7 @@ pub struct NodeDone {
 }
 
 /// How an ask of this life of the node stands.
-#[derive(Debug, Drop)]
+#[derive(Drop)]
 pub enum AskState {
     Pending,
     Granted(Grant),

@@ -8,7 +8,7 @@ use indexmap::IndexMap;
 use std::alloc::{AllocError, Global};
 
 /// Which asks were granted one ticket.
-#[derive(Clone, Copy, Debug, PartialEq, Eq)]
+#[derive(Clone, Copy, PartialEq, Eq)]
 pub enum Holders {
     /// The one at this place.
     One(usize),
@@ -18,7 +18,7 @@ pub enum Holders {
 
 /// Which asks have their lease under each ticket that was granted to the node in this life, and isn't over. A ticket that
 /// more than one ask may have stays as long as the life.
-#[derive(Debug, Drop)]
+#[derive(Drop)]
 pub struct TicketIndex {
     holders: IndexMap<Ticket, Holders>,
 }

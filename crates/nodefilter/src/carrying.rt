@@ -196,7 +196,7 @@ fn keep_changes<S: Store>(
 }
 
 /// What came of a call, and what it was about.
-#[derive(Debug, Drop)]
+#[derive(Drop)]
 pub struct Carried {
     pub about: About,
     pub answer: Result<NodeDone, NodeRefusal>,

@@ -2,7 +2,7 @@
 use farm_base::{Ask, Content, Digest, FolderName, Items, Left, Slot, Text, Ticket, ToNode, Wants};
 
 /// What a node is asked to do.
-#[derive(Debug, Drop)]
+#[derive(Drop)]
 pub enum Call {
     /// A message for it came.
     Receive(ToNode),
@@ -19,14 +19,14 @@ pub enum Call {
 }
 
 /// A slot, and the file that has what an execution left in it.
-#[derive(Debug, Drop)]
+#[derive(Drop)]
 pub struct LeftFile {
     pub slot: Slot,
     pub file: Text,
 }
 
 /// What a line asks for.
-#[derive(Debug, Drop)]
+#[derive(Drop)]
 pub enum Order {
     Call(Call),
     /// The execution under the ticket is over, and left what these files have.

@@ -3,7 +3,7 @@ ghost use Rattle.nodefilter.specs.declared.verb.Verb.{Verb};
 ghost use Rattle.nodefilter.specs.Orders.{verb_text};
 
 /// The word that a line of the agent's begins with.
-#[derive(Clone, Copy, Debug)]
+#[derive(Clone, Copy)]
 pub(crate) enum Verb {
     Ask,
     Tenure,

@@ -3,7 +3,7 @@ use protowire::BodyList;
 use std::alloc::{AllocError, Global};
 
 /// A build: the bytes of its ops. The last entry names the result.
-#[derive(Debug, Drop)]
+#[derive(Drop)]
 pub struct Definition {
     pub def: BodyList,
 }

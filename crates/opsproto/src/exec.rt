@@ -2,7 +2,7 @@ use farm_base::{Copied, Items, Text};
 use std::alloc::{AllocError, Global};
 
 /// How a cache mount's folder is named and shared.
-#[derive(Debug, Drop)]
+#[derive(Drop)]
 pub struct CacheOpt<T = Text> {
     pub id: T,
     /// 0 for SHARED, 1 for PRIVATE, 2 for LOCKED. Other numbers are kept.
@@ -10,7 +10,7 @@ pub struct CacheOpt<T = Text> {
 }
 
 /// A mount of an exec op.
-#[derive(Debug, Drop)]
+#[derive(Drop)]
 pub struct Mount<T = Text> {
     /// The place of its input among the op's, or -1 for none.
     pub input: i64,
@@ -25,7 +25,7 @@ pub struct Mount<T = Text> {
 }
 
 /// The command of an exec op.
-#[derive(Debug, Drop)]
+#[derive(Drop)]
 pub struct Meta<T = Text> {
     pub args: Items<T>,
     pub env: Items<T>,
@@ -34,7 +34,7 @@ pub struct Meta<T = Text> {
 }
 
 /// An op that runs a command.
-#[derive(Debug, Drop)]
+#[derive(Drop)]
 pub struct ExecOp<T = Text> {
     pub meta: Option<Meta<T>>,
     pub mounts: Items<Mount<T>>,

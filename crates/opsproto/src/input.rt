@@ -3,7 +3,7 @@ use std::alloc::{AllocError, Global};
 
 /// An output of another op, taken as input. `T` is how its text is kept: while a message is read, as
 /// bytes that may not be UTF-8.
-#[derive(Debug, Drop)]
+#[derive(Drop)]
 pub struct Input<T = Text> {
     /// The digest of the other op.
     pub digest: T,

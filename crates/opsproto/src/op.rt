@@ -10,7 +10,7 @@ use std::alloc::{AllocError, Global};
 use std::marker::Model;
 
 /// What an op does.
-#[derive(Debug, Drop)]
+#[derive(Drop)]
 pub enum Kind<T = Text> {
     Exec(ExecOp<T>),
     /// A member of the oneof that nothing reads, by its field number.
@@ -20,7 +20,7 @@ pub enum Kind<T = Text> {
 }
 
 /// A vertex of a build. Its kind is the one that its stripped bytes spell.
-#[derive(Debug, Drop)]
+#[derive(Drop)]
 pub struct Op {
     inputs: Items<Input>,
     kind: Kind,

@@ -8,7 +8,7 @@ use std::alloc::{AllocError, Global};
 use std::marker::Model;
 
 /// An op as the bytes that spell it. A contract sees the op.
-#[derive(Debug, Drop)]
+#[derive(Drop)]
 pub struct WireOp<'a> {
     bytes: &'a [u8],
 }

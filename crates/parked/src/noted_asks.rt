@@ -18,7 +18,7 @@ use std::hash::Hash;
 
 /// The numbers of the asks that want each folder, and of those of each node. Other numbers may be there too: of asks that are
 /// over, or that never came to wait since their event failed.
-#[derive(Debug, Drop)]
+#[derive(Drop)]
 pub struct NotedAsks {
     by_folder: IndexMap<FolderName, BTreeSet<u64>>,
     by_node: IndexMap<NodeId, BTreeSet<u64>>,

@@ -12,7 +12,7 @@ use farm_base::Parked;
 use std::alloc::{AllocError, Global};
 
 /// A number for each ask that waits, rising. The greatest number is given more than once.
-#[derive(Debug, Drop)]
+#[derive(Drop)]
 pub struct Numbers {
     /// The numbers, those first whose asks are over.
     pub items: Vec<u64>,

@@ -5,7 +5,7 @@ ghost use Rattle.parked.specs.Over.{is_over_at, later_over, Begins, AreRising};
 use std::alloc::{AllocError, Global};
 
 /// The places of the items of a list that are over, rising.
-#[derive(Debug, Drop)]
+#[derive(Drop)]
 pub struct Over {
     pub places: Vec<usize>,
     pub ghost rising: { AreRising places.items },

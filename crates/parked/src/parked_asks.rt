@@ -17,7 +17,7 @@ use std::alloc::Global;
 
 /// The asks that wait, in order of arrival. A node numbers its asks in turn, so nearly each new one is known not to wait
 /// without a look at them.
-#[derive(Debug, Drop)]
+#[derive(Drop)]
 pub struct ParkedAsks {
     /// The asks, those first that are over.
     pub asks: Vec<Parked>,

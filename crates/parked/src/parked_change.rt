@@ -15,7 +15,7 @@ use std::alloc::{AllocError, Global};
 use std::mem;
 
 /// Asks that wait no longer, and asks that wait since, where others wait.
-#[derive(Debug, Drop)]
+#[derive(Drop)]
 pub struct ParkedChange {
     /// The places of the asks that are over, of those that waited.
     pub over: Over,

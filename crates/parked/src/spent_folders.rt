@@ -12,7 +12,7 @@ use leases::TableView;
 use std::alloc::{AllocError, Global};
 
 /// PRIVATE folders, each once. Those that a parked ask wants and of which no instance is free are among them; others may be.
-#[derive(Debug, Drop)]
+#[derive(Drop)]
 pub struct SpentFolders {
     pub folders: Vec<FolderName>,
 }

@@ -3,7 +3,7 @@ use std::alloc::{AllocError, AllocFailed, Global};
 use std::io::{self, ErrorKind};
 
 /// What is at fault.
-#[derive(Debug, Drop)]
+#[derive(Drop)]
 pub enum Cause {
     /// Another process has the lock.
     Locked,
@@ -29,7 +29,7 @@ pub enum Cause {
 }
 
 /// Why a process ends with a status other than 0.
-#[derive(Debug, Drop)]
+#[derive(Drop)]
 pub struct ProcessFault {
     /// The file that it is about.
     pub path: String,

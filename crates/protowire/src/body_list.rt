@@ -6,14 +6,14 @@ use std::alloc::{AllocError, Global};
 use std::marker::Model;
 
 /// Where a byte string stands in a buffer.
-#[derive(Clone, Copy, Debug)]
+#[derive(Clone, Copy)]
 pub(crate) struct Span {
     pub start: usize,
     pub end: usize,
 }
 
 /// Byte strings that stand in one buffer, such as the bodies of a repeated field. A contract sees the list of them.
-#[derive(Debug, Drop)]
+#[derive(Drop)]
 pub struct BodyList {
     buffer: Vec<u8>,
     spans: Vec<Span>,

@@ -1,5 +1,5 @@
 /// What a field holds, by its wire type.
-#[derive(Clone, Copy, Debug)]
+#[derive(Clone, Copy)]
 pub enum Value<'a> {
     Varint(u64),
     /// Eight bytes, which nothing reads.
@@ -10,7 +10,7 @@ pub enum Value<'a> {
 }
 
 /// A field of a message, whose body is borrowed from the message's bytes.
-#[derive(Clone, Copy, Debug)]
+#[derive(Clone, Copy)]
 pub struct Field<'a> {
     pub number: u32,
     pub value: Value<'a>,

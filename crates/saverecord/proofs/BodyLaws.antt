@@ -1,6 +1,5 @@
 -- The parts of a record as a format: those that are read are those that were written, and what was written is read again.
-use Rattle.std.proofs.Common.{◌≡◌, ℕ, zero, suc, ◌^◌, ◌≤◌, eqb, List, [], ◌++◌, length, Option, Some, None, Ok, refl, sym, ap, subst, ◌∙◌, arith}
-use Rattle.std.specs.Int.{w32, to_be_bytes}
+use Rattle.std.proofs.Common.{◌≡◌, ℕ, eqb, List, [], ◌++◌, length, None, Ok, refl, sym, ap, subst, ◌∙◌}
 use Rattle.std.specs.List.{AllByRecursion}
 use Rattle.std.specs.List.Sorted.{IsStrictlySortedBy}
 use Rattle.std.proofs.lemmas.Bool.{eqb-true}
@@ -8,48 +7,26 @@ use Rattle.std.proofs.lemmas.List.{append-nil, nil_from_length, map-id}
 use Rattle.farm_base.specs.declared.lease.Lease.{Lease}
 use Rattle.farm_base.specs.declared.number.NodeId.{NodeId}
 use Rattle.farm_base.specs.Slots.{slot_cmp}
-use Rattle.saverecord.specs.declared.layout.Layout.{Layout}
-use Rattle.saverecord.specs.declared.layout.Layout.TheVariants.{First, Second, Third}
+use Rattle.recordparts.specs.declared.layout.Layout.{Layout}
+use Rattle.recordparts.specs.declared.layout.Layout.TheVariants.{First, Second, Third}
 use Rattle.saverecord.specs.declared.record.Record.{Record}
-use Rattle.saverecord.specs.declared.refusal.Flaw.TheVariants.{Trailing}
-use Rattle.saverecord.specs.Parts.{passed, number_at}
-use Rattle.saverecord.specs.Slots.{is_slot_above}
-use Rattle.saverecord.specs.Entries.{is_above}
-use Rattle.saverecord.specs.Records.{home_of, home_at, retired_nodes_at, body_at, whole_body}
-use Rattle.saverecord.specs.Spelling.{slot_bytes, counted, node_bytes, node_life_bytes, line_bytes, home_bytes, first_bytes, nodes_bytes, slots_bytes, body_bytes}
-use Rattle.saverecord.specs.Fits.{IsNode, IsHome, HasParts, IsTypedNode, IsTypedList, IsTypedRecord}
-use Rattle.codec.proofs.Formats.{Any, IsFormat, ◌and_then◌, begins, begins_assoc, took, then_takes, then_again, last_again}
-use Rattle.codec.proofs.Fronts.{Takes, wide32}
+use Rattle.recordparts.specs.declared.refusal.Flaw.TheVariants.{Trailing}
+use Rattle.recordparts.specs.Parts.{passed}
+use Rattle.recordparts.specs.Slots.{is_slot_above}
+use Rattle.recordparts.specs.Entries.{is_above}
+use Rattle.saverecord.specs.Records.{retired_nodes_at, body_at, whole_body}
+use Rattle.recordparts.specs.Spelling.{slot_bytes, counted, node_bytes, node_life_bytes, line_bytes}
+use Rattle.saverecord.specs.Spelling.{first_bytes, nodes_bytes, slots_bytes, body_bytes}
+use Rattle.recordparts.specs.Fits.{IsNode, IsTypedNode, IsTypedList}
+use Rattle.saverecord.specs.Fits.{HasParts, IsTypedRecord}
+use Rattle.codec.proofs.Formats.{IsFormat, ◌and_then◌, begins, begins_assoc, took, then_takes, then_again, last_again}
 use Rattle.codec.proofs.Steps.{bind_ok}
 use Rattle.farm_base.specs.Digests.{IsBytes}
-use Rattle.saverecord.proofs.Fields.{passed_ok, number_format, any64}
+use Rattle.recordparts.proofs.Fields.{passed_ok, any64, home_format}
 use Rattle.lists.proofs.Rising.{Row, sorted-from_row, row-from_sorted}
-use Rattle.saverecord.proofs.Rows.{slot_tests, numbers-from_row, row-from_numbers}
-use Rattle.saverecord.proofs.EntryLaws.{list_format}
-use Rattle.saverecord.proofs.PartLaws.{node_key, life_key, slot_key, line_key, ticket_key, all_any, retired_node_format, node_life_format, retired_format, line_format, lease_bytes_in, lease_bytes-third, lease_format}
-
--- ---- the home
-
-home_number : IsFormat (number_at w32 0 1024) (to_be_bytes w32) (λ n. (0 ≤ n) × (n ≤ 1024)) Any
-home_number = number_format w32 (2 ^ 32) wide32 0 1024 (omega arith)
-
-home_fits : (n : ℕ) (bytes rest : List ℕ) → Takes bytes (to_be_bytes w32 n) rest → n ≤ 1024 → Takes bytes (home_bytes (home_of n)) rest × IsHome (home_of n)
-unfolding home_bytes
-home_fits zero bytes rest t le = (t, tt)
-home_fits (suc n) bytes rest t le = (t, (omega arith, le))
-
-some_home : (n : ℕ) → 1 ≤ n → home_of n ≡ Some (record { 0 = n })
-some_home zero le = absurd (omega arith)
-some_home (suc n) le = refl
-
-home_again : (o : Option NodeId) (rest : List ℕ) → IsHome o → Any o → home_at (home_bytes o ++ rest) ≡ Ok (o, rest)
-unfolding home_at home_bytes
-home_again None rest fits typed = last_again home_number 0 (begins (to_be_bytes w32 0) rest) (omega arith, omega arith) tt _ refl
-home_again (Some n) rest fits typed = last_again home_number n.0 (begins (to_be_bytes w32 n.0) rest) (omega arith, fits.1) tt _ (ap (λ (o : Option NodeId). Ok (o, rest)) (some_home n.0 fits.0))
-
-pub home_format : IsFormat home_at home_bytes IsHome Any
-unfolding home_at
-home_format = record { takes = λ bytes fits. then_takes home_number bytes fits _ _ λ n rest t between. home_fits n bytes rest t between.1; again = home_again }
+use Rattle.recordparts.proofs.Rows.{slot_tests, numbers-from_row, row-from_numbers}
+use Rattle.recordparts.proofs.EntryLaws.{list_format}
+use Rattle.recordparts.proofs.PartLaws.{node_key, life_key, slot_key, line_key, ticket_key, all_any, retired_node_format, node_life_format, retired_format, line_format, lease_bytes_in, lease_bytes-third, lease_format}
 
 -- ---- the retired nodes
 

@@ -10,17 +10,17 @@ use Rattle.codec.specs.Steps.{◌>>=◌}
 use Rattle.farm_base.specs.Slots.{SlotParts, IsInstance}
 use Rattle.protocol.specs.Names.{Mode, Shared, Private, Locked}
 use Rattle.protocol.specs.Ledger.{Lease}
-use Rattle.saverecord.specs.declared.layout.Layout.{Layout}
-use Rattle.saverecord.specs.declared.layout.Layout.TheVariants.{First, Second, Third}
+use Rattle.recordparts.specs.declared.layout.Layout.{Layout}
+use Rattle.recordparts.specs.declared.layout.Layout.TheVariants.{First, Second, Third}
 use Rattle.saverecord.specs.declared.log_entry.LogEntry.{LogEntry}
 use Rattle.saverecord.specs.declared.record.Record.{Record}
-use Rattle.saverecord.specs.declared.refusal.Flaw.{Flaw}
-use Rattle.saverecord.specs.declared.refusal.Flaw.TheVariants.{Range, Order, Trailing, Relation}
-use Rattle.saverecord.specs.declared.refusal.RecordRefusal.{RecordRefusal}
-use Rattle.saverecord.specs.Parts.{passed, number_at, flag_at, id_at}
-use Rattle.saverecord.specs.Slots.{mode_at, base_at, has_instance, slot_at, is_slot_above, slot_after}
-use Rattle.saverecord.specs.Entries.{Reader, each_at, counted_at, node_at, positive_at, ticket_after, ended_at, retired_node_at, retired_at, node_life_at, leased_at, tenure_at, lease_at, line_at}
-use Rattle.saverecord.specs.Records.{home_at, list_at, retired_nodes_at, body_at, whole_body, opened_by, opened, from_first, judged, record_of}
+use Rattle.recordparts.specs.declared.refusal.Flaw.{Flaw}
+use Rattle.recordparts.specs.declared.refusal.Flaw.TheVariants.{Range, Order, Trailing, Relation}
+use Rattle.recordparts.specs.declared.refusal.RecordRefusal.{RecordRefusal}
+use Rattle.recordparts.specs.Parts.{passed, number_at, flag_at, id_at, home_at}
+use Rattle.recordparts.specs.Slots.{mode_at, base_at, has_instance, slot_at, is_slot_above, slot_after}
+use Rattle.recordparts.specs.Entries.{Reader, each_at, counted_at, node_at, positive_at, ticket_after, ended_at, retired_node_at, retired_at, node_life_at, leased_at, tenure_at, lease_at, line_at, list_at}
+use Rattle.saverecord.specs.Records.{retired_nodes_at, body_at, whole_body, opened_by, opened, from_first, judged, record_of}
 use Rattle.saverecord.specs.LogEntries.{parts_at, whole_parts, entry_layout, entry_of}
 use Rattle.saverecord.specs.Relations.{agrees, is_at_home}
 use Rattle.saverecord.specs.Ledgers.{HasInstance, HasInstances, ReadIsKept}

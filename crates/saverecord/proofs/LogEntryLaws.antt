@@ -13,23 +13,22 @@ use Rattle.lists.proofs.Rising.{sorted-from_row, row-from_sorted}
 use Rattle.codec.proofs.Formats.{IsFormat, ◌and_then◌, begins, begins_assoc, took, then_takes, then_again, last_again}
 use Rattle.codec.proofs.Steps.{bind_ok, passed_ok as test_ok}
 use Rattle.sha2.specs.Sha256.{sha256}
-use Rattle.saverecord.specs.declared.layout.Layout.{Layout}
-use Rattle.saverecord.specs.declared.layout.Layout.TheVariants.{Third}
+use Rattle.recordparts.specs.declared.layout.Layout.{Layout}
+use Rattle.recordparts.specs.declared.layout.Layout.TheVariants.{Third}
 use Rattle.saverecord.specs.declared.log_entry.LogEntry.{LogEntry}
-use Rattle.saverecord.specs.declared.refusal.Flaw.TheVariants.{Trailing}
-use Rattle.saverecord.specs.declared.refusal.RecordRefusal.{RecordRefusal}
-use Rattle.saverecord.specs.declared.refusal.RecordRefusal.TheVariants.{BadMagic}
+use Rattle.recordparts.specs.declared.refusal.Flaw.TheVariants.{Trailing}
+use Rattle.recordparts.specs.declared.refusal.RecordRefusal.{RecordRefusal}
+use Rattle.recordparts.specs.declared.refusal.RecordRefusal.TheVariants.{BadMagic}
 use Rattle.saverecord.specs.LogEntries.{place_bytes, nodes_bytes, leases_bytes, slots_bytes, parts_bytes, entry_bytes, parts_at, whole_parts, entry_layout, entry_of, IsLogEntry, IsTypedLogEntry}
-use Rattle.saverecord.specs.Parts.{Gives, passed}
+use Rattle.recordparts.specs.Parts.{Gives, passed}
 use Rattle.saverecord.specs.Records.{is_same, opened_by}
-use Rattle.saverecord.specs.Slots.{is_slot_above}
-use Rattle.saverecord.specs.Spelling.{counted, ticket_bytes, node_bytes, node_life_bytes, slot_bytes, line_bytes}
-use Rattle.saverecord.proofs.BodyLaws.{home_format}
-use Rattle.saverecord.proofs.EntryLaws.{list_format}
-use Rattle.saverecord.proofs.Fields.{passed_ok, any64}
-use Rattle.saverecord.proofs.PartLaws.{node_key, life_key, ended_key, slot_key, line_key, ticket_key, all_any, retired_node_format, node_life_format, ended_format, retired_format, line_format, lease_bytes_in, lease_bytes-third, lease_format}
+use Rattle.recordparts.specs.Slots.{is_slot_above}
+use Rattle.recordparts.specs.Spelling.{counted, ticket_bytes, node_bytes, node_life_bytes, slot_bytes, line_bytes}
+use Rattle.recordparts.proofs.Fields.{home_format, passed_ok, any64}
+use Rattle.recordparts.proofs.EntryLaws.{list_format}
+use Rattle.recordparts.proofs.PartLaws.{node_key, life_key, ended_key, slot_key, line_key, ticket_key, all_any, retired_node_format, node_life_format, ended_format, retired_format, line_format, lease_bytes_in, lease_bytes-third, lease_format}
 use Rattle.saverecord.proofs.RecordLaws.{same_bytes, opened_takes, opened_again}
-use Rattle.saverecord.proofs.Rows.{slot_tests, numbers-from_row, row-from_numbers}
+use Rattle.recordparts.proofs.Rows.{slot_tests, numbers-from_row, row-from_numbers}
 
 -- ---- the parts
 

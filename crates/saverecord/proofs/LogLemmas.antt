@@ -31,17 +31,17 @@ use Rattle.versions.specs.declared.lines.SlotLine.{SlotLine}
 use Rattle.versions.proofs.Ordered.{Rise}
 use Rattle.saverecord.specs.declared.log_entry.LogEntry.{LogEntry}
 use Rattle.saverecord.specs.declared.record.Record.{Record}
-use Rattle.saverecord.specs.declared.refusal.Flaw.TheVariants.{Relation}
-use Rattle.saverecord.specs.declared.refusal.RecordRefusal.{RecordRefusal}
-use Rattle.saverecord.specs.declared.refusal.RecordRefusal.TheVariants.{NotCanonical}
+use Rattle.recordparts.specs.declared.refusal.Flaw.TheVariants.{Relation}
+use Rattle.recordparts.specs.declared.refusal.RecordRefusal.{RecordRefusal}
+use Rattle.recordparts.specs.declared.refusal.RecordRefusal.TheVariants.{NotCanonical}
 use Rattle.saverecord.specs.Ledgers.{IsKept, ledger_of, record_in}
 use Rattle.saverecord.specs.LogEntries.{entry_of}
 use Rattle.saverecord.specs.Logs.{Holds, Follows, with_version, with_versions, without_one, without_all, are_newer, with_leases, is_coherent, may_follow, changed, with_entry, after_text, with_entries, fits, agreed, ledger_in}
-use Rattle.saverecord.specs.Parts.{passed}
+use Rattle.recordparts.specs.Parts.{passed}
 use Rattle.saverecord.specs.Records.{opened_by, record_of}
-use Rattle.saverecord.specs.Relations.{no_two, clash}
+use Rattle.recordparts.specs.Relations.{no_two, clash}
 use Rattle.saverecord.specs.Texts.{Texts, whole_alone, with_text}
-use Rattle.saverecord.proofs.Fields.{passed_ok}
+use Rattle.recordparts.proofs.Fields.{passed_ok}
 use Rattle.saverecord.proofs.FoldLemmas.{followed, lawful_agrees}
 use Rattle.saverecord.proofs.LedgerLemmas.{all_from_in, each_in, line_from}
 

@@ -6,11 +6,11 @@ use Rattle.std.proofs.lemmas.List.{take_at, drop_at, take-append-drop, length-ap
 use Rattle.std.proofs.lemmas.Slice.Eq.{bytes_eq-Decides}
 use Rattle.sha2.specs.Sha256.{sha256}
 use Rattle.sha2.proofs.Facts256.{length-sha256}
-use Rattle.saverecord.specs.declared.layout.Layout.TheVariants.{Third}
+use Rattle.recordparts.specs.declared.layout.Layout.TheVariants.{Third}
 use Rattle.saverecord.specs.declared.record.Record.{Record}
-use Rattle.saverecord.specs.declared.refusal.Flaw.TheVariants.{Relation}
-use Rattle.saverecord.specs.declared.refusal.RecordRefusal.{RecordRefusal}
-use Rattle.saverecord.specs.declared.refusal.RecordRefusal.TheVariants.{Truncated, BadDigest}
+use Rattle.recordparts.specs.declared.refusal.Flaw.TheVariants.{Relation}
+use Rattle.recordparts.specs.declared.refusal.RecordRefusal.{RecordRefusal}
+use Rattle.recordparts.specs.declared.refusal.RecordRefusal.TheVariants.{Truncated, BadDigest}
 use Rattle.codec.specs.Steps.{◌>>=◌}
 use Rattle.saverecord.specs.Records.{whole_body, is_same, layout_of, signed, opened_by, opened, judged, record_of}
 use Rattle.saverecord.specs.Relations.{agrees}
@@ -19,7 +19,7 @@ use Rattle.saverecord.specs.Fits.{IsRecord, IsTypedRecord}
 use Rattle.codec.proofs.Fronts.{IsBytes-take, IsBytes-drop}
 use Rattle.codec.proofs.Steps.{bind_ok, guard_ok, ok_is, passed_ok as test_ok}
 use Rattle.farm_base.specs.Digests.{IsBytes}
-use Rattle.saverecord.proofs.Fields.{passed_ok}
+use Rattle.recordparts.proofs.Fields.{passed_ok}
 use Rattle.saverecord.proofs.BodyLaws.{body_bytes_in, body_bytes-third, whole_takes, whole_again}
 
 -- the same bytes

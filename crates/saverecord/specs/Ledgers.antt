@@ -13,7 +13,7 @@ use Rattle.protocol.specs.Lawful.{IsLawful}
 use Rattle.versions.specs.Lines.{line_at}
 use Rattle.versions.specs.Ordered.{AreLines}
 use Rattle.saverecord.specs.declared.record.Record.{Record}
-use Rattle.saverecord.specs.declared.refusal.RecordRefusal.{RecordRefusal}
+use Rattle.recordparts.specs.declared.refusal.RecordRefusal.{RecordRefusal}
 use Rattle.saverecord.specs.Records.{record_of}
 use Rattle.saverecord.specs.Fits.{IsRecord}
 

@@ -1,7 +1,3 @@
-pub mod Parts
-pub mod Layouts
-pub mod Slots
-pub mod Entries
 pub mod Spelling
 pub mod Records
 pub mod Relations

@@ -7,17 +7,17 @@ use Rattle.std.specs.List.Sorted.{IsStrictlyIncreasing, IsStrictlySortedBy}
 use Rattle.farm_base.specs.Slots.{slot_cmp}
 use Rattle.sha2.specs.Sha256.{sha256}
 use Rattle.codec.specs.Steps.{◌>>=◌}
-use Rattle.saverecord.specs.declared.layout.Layout.TheVariants.{Third}
-use Rattle.saverecord.specs.declared.layout.Layout.{Layout}
+use Rattle.recordparts.specs.declared.layout.Layout.TheVariants.{Third}
+use Rattle.recordparts.specs.declared.layout.Layout.{Layout}
 use Rattle.saverecord.specs.declared.log_entry.LogEntry.{LogEntry}
-use Rattle.saverecord.specs.declared.refusal.Flaw.TheVariants.{Trailing}
-use Rattle.saverecord.specs.declared.refusal.RecordRefusal.{RecordRefusal}
-use Rattle.saverecord.specs.declared.refusal.RecordRefusal.TheVariants.{BadMagic}
-use Rattle.saverecord.specs.Parts.{Part, passed, number_at}
-use Rattle.saverecord.specs.Entries.{ended_at, retired_node_at, node_life_at, retired_at, lease_at, line_at}
-use Rattle.saverecord.specs.Records.{home_at, list_at, is_same, opened_by}
-use Rattle.saverecord.specs.Spelling.{number64, counted, ticket_bytes, node_bytes, slot_bytes, node_life_bytes, lease_bytes, line_bytes, home_bytes}
-use Rattle.saverecord.specs.Fits.{IsTicket, IsNode, IsHome, IsNodeLife, IsLease, IsSlotLine, IsTypedTicket, IsTypedNode, IsTypedLife, IsTypedSlot, IsTypedLease, IsTypedLine, IsTypedList}
+use Rattle.recordparts.specs.declared.refusal.Flaw.TheVariants.{Trailing}
+use Rattle.recordparts.specs.declared.refusal.RecordRefusal.{RecordRefusal}
+use Rattle.recordparts.specs.declared.refusal.RecordRefusal.TheVariants.{BadMagic}
+use Rattle.recordparts.specs.Parts.{Part, passed, number_at, home_at}
+use Rattle.recordparts.specs.Entries.{ended_at, retired_node_at, node_life_at, retired_at, lease_at, line_at, list_at}
+use Rattle.saverecord.specs.Records.{is_same, opened_by}
+use Rattle.recordparts.specs.Spelling.{number64, counted, ticket_bytes, node_bytes, slot_bytes, node_life_bytes, lease_bytes, line_bytes, home_bytes}
+use Rattle.recordparts.specs.Fits.{IsTicket, IsNode, IsHome, IsNodeLife, IsLease, IsSlotLine, IsTypedTicket, IsTypedNode, IsTypedLife, IsTypedSlot, IsTypedLease, IsTypedLine, IsTypedList}
 
 -- ---- the bytes
 

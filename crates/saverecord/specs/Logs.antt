@@ -22,13 +22,13 @@ use Rattle.versions.specs.Lines.{LineOf, line_at}
 use Rattle.versions.specs.declared.lines.SlotLine.{SlotLine}
 use Rattle.saverecord.specs.declared.folded.Folded.{Folded}
 use Rattle.saverecord.specs.declared.log_entry.LogEntry.{LogEntry}
-use Rattle.saverecord.specs.declared.refusal.Flaw.TheVariants.{Relation}
-use Rattle.saverecord.specs.declared.refusal.RecordRefusal.{RecordRefusal}
-use Rattle.saverecord.specs.declared.refusal.RecordRefusal.TheVariants.{NotCanonical}
+use Rattle.recordparts.specs.declared.refusal.Flaw.TheVariants.{Relation}
+use Rattle.recordparts.specs.declared.refusal.RecordRefusal.{RecordRefusal}
+use Rattle.recordparts.specs.declared.refusal.RecordRefusal.TheVariants.{NotCanonical}
 use Rattle.saverecord.specs.Ledgers.{ledger_of, record_in}
 use Rattle.saverecord.specs.LogEntries.{entry_of}
-use Rattle.saverecord.specs.Parts.{passed}
-use Rattle.saverecord.specs.Relations.{no_two, lines_up_to, clash, is_same_private, fits_tenure}
+use Rattle.recordparts.specs.Parts.{passed}
+use Rattle.recordparts.specs.Relations.{no_two, lines_up_to, clash, is_same_private, fits_tenure}
 use Rattle.saverecord.specs.Texts.{Texts}
 
 -- ---- an entry

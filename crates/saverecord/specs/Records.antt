@@ -1,37 +1,22 @@
 -- Reading a record from the left, up to its first fault.
-use Rattle.std.specs.Prelude.{ℕ, zero, suc, insert, ◌-◌, ◌==◌, ◌&&◌, nat_lt, nat_eq, Bool, if◌then◌else◌, List, [], ◌∷◌, length, take, drop, Option, Some, None, Result, Ok, Err, codes}
+use Rattle.std.specs.Prelude.{ℕ, suc, insert, ◌-◌, ◌==◌, ◌&&◌, nat_lt, nat_eq, Bool, if◌then◌else◌, List, [], ◌∷◌, length, take, drop, Option, Some, None, Result, Ok, Err, codes}
 use Rattle.std.specs.Cmp.Lexicographic.{pointwise}
 use Rattle.std.specs.List.{list_any}
-use Rattle.std.specs.Int.{w32, w64}
-use Rattle.farm_base.specs.declared.limits.TheConstants.{NODES}
+use Rattle.std.specs.Int.{w64}
 use Rattle.farm_base.specs.declared.number.NodeId.{NodeId}
 use Rattle.sha2.specs.Sha256.{sha256}
-use Rattle.saverecord.specs.declared.layout.Layout.{Layout}
-use Rattle.saverecord.specs.declared.layout.Layout.TheVariants.{First, Second, Third}
+use Rattle.recordparts.specs.declared.layout.Layout.{Layout}
+use Rattle.recordparts.specs.declared.layout.Layout.TheVariants.{First, Second, Third}
 use Rattle.farm_base.specs.declared.lease.NodeLife.{NodeLife}
 use Rattle.saverecord.specs.declared.record.Record.{Record}
-use Rattle.saverecord.specs.declared.refusal.Flaw.TheVariants.{Trailing, Relation}
-use Rattle.saverecord.specs.declared.refusal.RecordRefusal.{RecordRefusal}
-use Rattle.saverecord.specs.declared.refusal.RecordRefusal.TheVariants.{Truncated, BadMagic, BadDigest}
-use Rattle.saverecord.specs.Layouts.{has_retired_nodes}
+use Rattle.recordparts.specs.declared.refusal.Flaw.TheVariants.{Trailing, Relation}
+use Rattle.recordparts.specs.declared.refusal.RecordRefusal.{RecordRefusal}
+use Rattle.recordparts.specs.declared.refusal.RecordRefusal.TheVariants.{Truncated, BadMagic, BadDigest}
+use Rattle.recordparts.specs.Layouts.{has_retired_nodes}
 use Rattle.codec.specs.Steps.{◌>>=◌}
-use Rattle.saverecord.specs.Parts.{Part, passed, number_at}
+use Rattle.recordparts.specs.Parts.{Part, passed, number_at, home_at}
 use Rattle.saverecord.specs.Relations.{agrees, is_at_home}
-use Rattle.saverecord.specs.Entries.{Reader, counted_at, retired_node_at, node_life_at, retired_at, lease_at, line_at}
-
--- a node, or 0 for none
-abbrev pub home_of : ℕ → Option NodeId
-home_of zero = None
-home_of (suc n) = Some (record { 0 = suc n })
-
-unfoldable pub home_at : List ℕ → Part (Option NodeId)
-home_at bytes = do
-  home ← number_at w32 0 NODES bytes
-  Ok (home_of home.0, home.1)
-
--- a list of any length
-abbrev pub list_at : {X : Type 0} → Reader X → Layout → List ℕ → Part (List X)
-list_at read layout bytes = counted_at read layout 0 0xffff_ffff_ffff_ffff bytes
+use Rattle.recordparts.specs.Entries.{list_at, retired_node_at, node_life_at, retired_at, lease_at, line_at}
 
 -- the retired nodes, where the layout has them
 unfoldable pub retired_nodes_at : Layout → List ℕ → Part (List NodeId)

@@ -5,20 +5,19 @@ ghost use Rattle.holdings.specs.Leases.{among};
 ghost use Rattle.protocol.specs.Ledger.{reads, saves};
 ghost use Rattle.saverecord.specs.Ledgers.{IsKept, ledger_of};
 ghost use Rattle.saverecord.specs.Logs.{is_open, some_retired, fits, agreed, folded_ledger, IsReadable};
-ghost use Rattle.saverecord.specs.Parts.{Gives};
+ghost use Rattle.recordparts.specs.Parts.{Gives};
 ghost use Rattle.versions.specs.Line.{is_above_all};
 ghost use Rattle.versions.specs.Lines.{line_at};
 
 use super::record::Record;
-use super::refusal::{Flaw, RecordRefusal};
-use super::relation::are_apart;
 use farm_base::{Items, Lease, NodeId, Slot, Ticket};
 use holdings::{Lives, RetiredNodes, is_saved, rising};
+use recordparts::{Flaw, RecordRefusal, are_apart};
 use std::alloc::Global;
 use versions::Lines;
 
 /// What texts hold, up to an entry.
-#[derive(Debug, Drop)]
+#[derive(Drop)]
 pub struct Folded {
     pub last: Ticket,
     pub old_home: Option<NodeId>,

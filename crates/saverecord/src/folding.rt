@@ -7,7 +7,7 @@ ghost use Rattle.holdings.specs.Lives.{is_among, life_at};
 ghost use Rattle.saverecord.specs.Ledgers.{IsKept, blank, ledger_of, record_in};
 ghost use Rattle.saverecord.specs.LogEntries.{IsLogEntry};
 ghost use Rattle.saverecord.specs.Logs.{with_version, with_versions, without_one, without_all, are_newer, with_leases, with_lives, with_gone, with_retired, is_coherent, may_follow, with_entry, after_text, ledger_in, folded_ledger, IsReadable};
-ghost use Rattle.saverecord.specs.Parts.{Gives};
+ghost use Rattle.recordparts.specs.Parts.{Gives};
 ghost use Rattle.saverecord.specs.Texts.{whole_alone};
 ghost use Rattle.versions.specs.Lines.{line_at};
 
@@ -16,10 +16,9 @@ use super::laws::{what_is_kept_is_a_record, what_is_read_is_lawful};
 use super::log::Log;
 use super::log_entry::LogEntry;
 use super::record::Record;
-use super::refusal::{Flaw, RecordRefusal};
-use super::relation::{are_of_own_folders, are_private, fits_tenure, lines_up_to};
 use farm_base::{Items, Lease, NodeId, NodeLife, Slot, Ticket};
 use holdings::{Lives, RetiredNodes, is_saved, place_of};
+use recordparts::{Flaw, RecordRefusal, are_of_own_folders, are_private, fits_tenure, lines_up_to};
 use std::alloc::{AllocError, Global};
 use versions::{Lines, SlotLine};
 

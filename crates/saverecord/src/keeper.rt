@@ -85,7 +85,7 @@ pub trait Keeper: Drop {
 }
 
 /// Keeps the texts in memory. It fails only where it was told to.
-#[derive(Debug, Drop)]
+#[derive(Drop)]
 pub struct MemoryKeeper {
     log: Log,
     armed: Option<Kept>,

@@ -1,21 +1,16 @@
 //! The record of what a coordinator has saved, and who keeps it.
 #![tactic(auto)]
 
-mod entries;
-mod entry;
 mod folded;
 mod folding;
 mod keeper;
 pub mod laws;
-mod layout;
 mod log;
 mod log_entry;
-mod part;
 mod reading;
 mod record;
 mod refusal;
 mod relation;
-mod slot;
 mod writing;
 
 pub use farm_base::NodeLife;
@@ -24,5 +19,6 @@ pub use log::Log;
 pub use log_entry::LogEntry;
 pub use protocol::Kept;
 pub use record::Record;
-pub use refusal::{Flaw, KeeperRefusal, RecordRefusal, SaveFault};
+pub use recordparts::{Flaw, RecordRefusal};
+pub use refusal::{KeeperRefusal, SaveFault};
 pub use versions::SlotLine;

@@ -7,7 +7,7 @@ use std::marker::Model;
 
 /// What a keeper keeps: a whole record, and an entry for each event since. No bytes of a whole record mean that none was
 /// saved yet.
-#[derive(Debug, Drop)]
+#[derive(Drop)]
 pub struct Log {
     whole: Vec<u8>,
     entries: Vec<Items<u8>>,

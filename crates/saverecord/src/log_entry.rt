@@ -1,17 +1,15 @@
 //! An entry of a log, and its bytes.
 ghost use Rattle.std.specs.Prelude.{◌≡◌, ◌<◌, ◌^◌, ◌++◌, OnOk, IfOk, Ok};
-ghost use Rattle.saverecord.specs.Fits.{IsTypedList, IsTypedTicket, IsTypedNode, IsTypedLife, IsTypedSlot, IsTypedLease, IsTypedLine};
+ghost use Rattle.recordparts.specs.Fits.{IsTypedList, IsTypedTicket, IsTypedNode, IsTypedLife, IsTypedSlot, IsTypedLease, IsTypedLine};
 ghost use Rattle.saverecord.specs.LogEntries.{IsLogEntry, IsTypedLogEntry, place_bytes, nodes_bytes, leases_bytes, slots_bytes, entry_bytes, parts_at, whole_parts, entry_layout, entry_of};
-ghost use Rattle.saverecord.specs.Parts.{Gives};
+ghost use Rattle.recordparts.specs.Parts.{Gives};
 ghost use Rattle.saverecord.specs.Records.{opened_by};
 
-use super::entry::put_counted;
-use super::layout::Layout;
-use super::part::take_u64;
-use super::reading::{signed, take_home, take_list};
-use super::refusal::{Flaw, RecordRefusal};
-use super::writing::put_home;
+use super::reading::signed;
 use farm_base::{Items, Lease, NodeId, NodeLife, Slot, Ticket};
+use recordparts::{
+    Flaw, Layout, RecordRefusal, put_counted, put_home, take_home, take_list, take_u64,
+};
 use sha2::Sha256;
 use std::alloc::{AllocError, Global};
 use versions::SlotLine;
@@ -20,7 +18,7 @@ use versions::SlotLine;
 const MAGIC: &[u8; 8] = b"BKENTR01";
 
 /// What one event changed of what is saved.
-#[derive(Debug, Drop)]
+#[derive(Drop)]
 pub struct LogEntry {
     /// The last ticket of the block that may be in use after the event.
     pub last: Ticket,

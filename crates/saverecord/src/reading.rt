@@ -3,47 +3,16 @@ ghost use Rattle.std.specs.Prelude.{◌≡◌, ◌≤◌, length, take, codes, I
 ghost use Rattle.saverecord.specs.declared.record.Record.{Record};
 ghost use Rattle.saverecord.specs.Fits.{IsRecord, IsTypedRecord};
 ghost use Rattle.saverecord.specs.Spelling.{record_bytes};
-ghost use Rattle.saverecord.specs.Parts.{Gives};
-ghost use Rattle.saverecord.specs.Records.{home_of, home_at, list_at, retired_nodes_at, body_at, whole_body, layout_of, signed, opened, place_for, has_life, with_life, with_home, from_first, judged, record_of};
+ghost use Rattle.recordparts.specs.Parts.{Gives};
+ghost use Rattle.saverecord.specs.Records.{retired_nodes_at, body_at, whole_body, layout_of, signed, opened, place_for, has_life, with_life, with_home, from_first, judged, record_of};
 
-use super::entry::{Entry, take_counted};
-use super::layout::Layout;
-use super::part::{take_u32, take_u64};
 use super::record::Record;
-use super::refusal::{Flaw, RecordRefusal};
 use super::relation::{agrees, is_at_home};
 use super::writing::MAGIC;
-use farm_base::{Items, Life, NODES, NodeId, NodeLife, Ticket};
+use farm_base::{Items, Life, NodeId, NodeLife, Ticket};
+use recordparts::{Flaw, Layout, RecordRefusal, take_home, take_list, take_u64};
 use sha2::Sha256;
 use std::alloc::{AllocError, Global};
-
-fn home_of(number: u32) -> Option<NodeId>
-    ensures { result ≡ home_of number }
-{
-    match number {
-        0 => None,
-        node => Some(NodeId(node)),
-    }
-}
-
-#[tactic(auto, unfolding(crate::specs::Records::home_at))]
-pub(crate) fn take_home(bytes: &[u8]) -> Result<(Option<NodeId>, &[u8]), RecordRefusal>
-    ensures { Gives (λ x. (x.0, x.1.now)) result (home_at bytes.now) }
-{
-    let (home, rest) = take_u32(bytes, 0, NODES)?;
-    Ok((home_of(home), rest))
-}
-
-/// A list of any length.
-pub(crate) fn take_list<X: Entry>(
-    alloc: Global,
-    layout: Layout,
-    bytes: &[u8],
-) -> Result<(Items<X>, &[u8]), RecordRefusal>
-    ensures { Gives (λ x. (x.0, x.1.now)) result (list_at X.reads layout bytes.now) }
-{
-    take_counted(alloc, layout, 0, u64::MAX, bytes)
-}
 
 #[tactic(auto, unfolding(crate::specs::Records::retired_nodes_at))]
 fn take_retired_nodes(

@@ -5,7 +5,7 @@ use std::alloc::{AllocError, Global};
 use versions::SlotLine;
 
 /// What a coordinator has saved.
-#[derive(Debug, Drop)]
+#[derive(Drop)]
 pub struct Record {
     /// The last ticket of the block that may be in use.
     pub last: Ticket,

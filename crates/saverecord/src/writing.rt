@@ -1,29 +1,17 @@
 //! Writing a record.
 ghost use Rattle.std.specs.Prelude.{◌≡◌, ◌<◌, ◌^◌, ◌++◌, OnOk, IfOk, Ok};
-ghost use Rattle.saverecord.specs.Fits.{IsRecord, IsTypedList, IsTypedNode, IsTypedLife, IsTypedSlot, IsTypedLease, IsTypedLine, IsTypedRecord};
+ghost use Rattle.recordparts.specs.Fits.{IsTypedList, IsTypedNode, IsTypedLife, IsTypedSlot, IsTypedLease, IsTypedLine};
+ghost use Rattle.saverecord.specs.Fits.{IsRecord, IsTypedRecord};
 ghost use Rattle.saverecord.specs.Records.{record_of};
-ghost use Rattle.saverecord.specs.Spelling.{home_bytes, first_bytes, nodes_bytes, slots_bytes, record_bytes};
+ghost use Rattle.saverecord.specs.Spelling.{first_bytes, nodes_bytes, slots_bytes, record_bytes};
 
-use super::entry::put_counted;
 use super::record::Record;
-use farm_base::NodeId;
+use recordparts::{put_counted, put_home};
 use sha2::Sha256;
 use std::alloc::{AllocError, Global};
 
 /// The bytes with which a record of version 3 begins.
 pub(crate) const MAGIC: &[u8; 8] = b"BKFARM03";
-
-/// The number of the node, or 0 for none.
-#[tactic(auto, unfolding(crate::specs::Spelling::home_bytes))]
-pub(crate) fn put_home(out: &mut Vec<u8>, home: Option<NodeId>) -> Result<(), AllocError>
-    ensures { OnOk result (out.new.items ≡ out.old.items ++ home_bytes home) }
-{
-    match home {
-        None => out.extend_from_slice(&0u32.to_be_bytes())?,
-        Some(node) => out.extend_from_slice(&node.0.to_be_bytes())?,
-    }
-    Ok(())
-}
 
 #[tactic(auto, unfolding(crate::specs::Spelling::first_bytes))]
 fn put_first(out: &mut Vec<u8>, saved: &Record) -> Result<(), AllocError>

@@ -5,7 +5,7 @@ ghost use Rattle.schedule.specs.Words.{verb_text};
 ghost use Rattle.schedule.specs.Forms.{first_words, further_words, wanted_at};
 
 /// What a word of an event's line stands for.
-#[derive(Clone, Copy, Debug, PartialEq, Eq)]
+#[derive(Clone, Copy, PartialEq, Eq)]
 pub enum Wanted {
     Node,
     /// A node, or `coordinator`.
@@ -25,7 +25,7 @@ pub enum Wanted {
 }
 
 /// How the line of an event is written.
-#[derive(Clone, Copy, Debug)]
+#[derive(Clone, Copy)]
 pub struct Form {
     pub verb: &'static str,
     /// What is written behind the verb.
@@ -37,7 +37,7 @@ pub struct Form {
 }
 
 /// The word that a line begins with.
-#[derive(Clone, Copy, Debug, PartialEq, Eq)]
+#[derive(Clone, Copy, PartialEq, Eq)]
 pub enum Verb {
     Ask,
     Tenure,

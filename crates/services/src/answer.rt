@@ -9,7 +9,7 @@ use std::marker::Model;
 const OUT_OF_MEMORY: &str = "= refused OutOfMemory\n";
 
 /// The answer to a line. Only the loop of a process reads it, once what it says lasts.
-#[derive(Debug, Drop)]
+#[derive(Drop)]
 pub struct Answer(Result<String, AllocError>);
 
 impl Model for Answer {

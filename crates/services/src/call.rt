@@ -2,7 +2,7 @@
 use farm_base::{NodeId, Slot, Ticket, ToCoord};
 
 /// What a coordinator is asked to do.
-#[derive(Debug, Drop)]
+#[derive(Drop)]
 pub enum Call {
     /// A node says this.
     Handle(ToCoord),
@@ -13,7 +13,7 @@ pub enum Call {
 }
 
 /// What the operator may be shown.
-#[derive(Debug, Drop)]
+#[derive(Drop)]
 pub enum Question {
     /// The versions of this slot.
     Line(Slot),
@@ -24,7 +24,7 @@ pub enum Question {
 }
 
 /// What a line asks for.
-#[derive(Debug, Drop)]
+#[derive(Drop)]
 pub enum Order {
     Call(Call),
     Show(Question),

@@ -3,7 +3,7 @@ use farm_base::{Items, Life, NodeId, Ticket};
 use protocol::CoordRefusal;
 
 /// Why a process isn't heard.
-#[derive(Clone, Copy, Debug, PartialEq, Eq)]
+#[derive(Clone, Copy, PartialEq, Eq)]
 pub enum Over {
     /// A later life of its node was seen: this is the greatest.
     Outdated(NodeId, Life),
@@ -12,14 +12,14 @@ pub enum Over {
 }
 
 /// A lease that a call ends.
-#[derive(Clone, Copy, Debug, PartialEq, Eq)]
+#[derive(Clone, Copy, PartialEq, Eq)]
 pub struct Ended {
     pub ticket: Ticket,
     pub node: NodeId,
 }
 
 /// What came of a call.
-#[derive(Debug, Drop)]
+#[derive(Drop)]
 pub struct Reply {
     /// The restart before it, where the coordinator was down.
     pub before: Option<Result<(), CoordRefusal>>,

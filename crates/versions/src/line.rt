@@ -8,7 +8,7 @@ use std::alloc::{AllocError, Global};
 use std::marker::Model;
 
 /// The versions of a slot, from number 1 on, which contracts see as their list.
-#[derive(Debug, Drop)]
+#[derive(Drop)]
 pub struct Line {
     versions: Vec<LineVersion>,
 }
@@ -112,7 +112,7 @@ impl Line {
 }
 
 /// Room for one more version on a line, made before the line changes. Contracts see how many versions it holds.
-#[derive(Debug, Drop)]
+#[derive(Drop)]
 pub struct Room {
     versions: Vec<LineVersion>,
 }

@@ -24,7 +24,7 @@ use std::cmp::Ordering;
 use std::marker::Model;
 
 /// The line of a slot.
-#[derive(Debug, Drop)]
+#[derive(Drop)]
 pub struct SlotLine {
     pub slot: Slot,
     pub line: Line,
@@ -40,7 +40,7 @@ impl Copied for SlotLine {
 }
 
 /// A version that a commit adds to a slot's line, with room for it.
-#[derive(Debug, Drop)]
+#[derive(Drop)]
 pub struct Addition {
     pub slot: Slot,
     pub digest: Digest,
@@ -50,21 +50,21 @@ pub struct Addition {
 }
 
 /// What a commit adds to the lines.
-#[derive(Debug, Drop)]
+#[derive(Drop)]
 pub struct Added {
     pub ticket: Ticket,
     pub additions: Vec<Addition>,
 }
 
 /// The version that a lease begins from.
-#[derive(Debug, Drop)]
+#[derive(Drop)]
 struct Base {
     number: u64,
     digest: Digest,
 }
 
 /// The lines of the slots that have a version, by rising slot. Contracts see the list of the lines.
-#[derive(Debug, Drop)]
+#[derive(Drop)]
 pub struct Lines {
     lines: Vec<SlotLine>,
 }

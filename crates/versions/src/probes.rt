@@ -36,7 +36,7 @@ pub trait Probed {
 }
 
 /// The tickets of a line, and how often they were looked at.
-#[derive(Debug, Drop)]
+#[derive(Drop)]
 pub struct LineProbes<'a> {
     line: &'a Line,
     probes: u64,

@@ -2,7 +2,7 @@ use farm_base::Digest;
 use opsproto::WireOp;
 
 /// A vertex of a graph.
-#[derive(Debug, Drop)]
+#[derive(Drop)]
 pub struct Vertex<'a> {
     /// The place of its entry in the definition.
     pub place: usize,

@@ -8,7 +8,7 @@ use protocol::NodeRefusal;
 use std::alloc::Global;
 
 /// What an event asks of one node.
-#[derive(Debug, Drop)]
+#[derive(Drop)]
 pub(crate) enum Call {
     Ask(Wants),
     Tenure(FolderName),

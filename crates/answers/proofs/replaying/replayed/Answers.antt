@@ -9,7 +9,7 @@ returns-clause-headline c = λ setup events is. record {
   headline = c.every_replay_means.ensures.headline setup.nodes events;
 }
 
-pub returns-in_err-text-clause-refused : goal.returns-in_err-text-clause-refused
-returns-in_err-text-clause-refused c =
+pub returns-in_err-answer-clause-refused : goal.returns-in_err-answer-clause-refused
+returns-in_err-answer-clause-refused c =
     let error = err_from_is_err_and c.from_residual.result c.from_residual.ensures.1 in
     subst (λ r. IfErr r (IsUnread c.args.bytes.now)) (sym error.1) (subst (IsUnread c.args.bytes.now) (sym error.2) tt)

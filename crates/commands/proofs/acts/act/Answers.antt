@@ -33,7 +33,7 @@ loop-name-preserved g c =
     let file : File = (c.in-Some.name, c.in-Some.bytes) in
     let bytes : option_map (λ (v : Vec ℕ Global). v.items) c.in-Some.bytes ≡ Some c.in-Some-bytes.bytes.items
     = ap (option_map (λ (v : Vec ℕ Global). v.items)) c.in-Some-bytes.is in
-    let pushed : string_bytes c.push_str.new.self ≡ string_bytes c.loop-name.all ++ string_bytes c.in-Ok.text = search rules in
+    let pushed : string_bytes c.push_str.new.self ≡ string_bytes c.loop-name.all ++ string_bytes c.in-Ok.answer.text = search rules in
     record {
       can_next = tt;
       is_finite = tt;
@@ -42,7 +42,7 @@ loop-name-preserved g c =
         so_far.0 ++ file ∷ [],
         append_assoc so_far.0 (file ∷ []) c.next.new.self.rest.items ∙ ap (λ (fs : List File). so_far.0 ++ fs) (sym c.in-Some.ensures.steps.0) ∙ so_far.1,
         subst (AnswersAll c.args.command (so_far.0 ++ file ∷ [])) (sym pushed)
-            (all_push c.args.command so_far.0 file (string_bytes c.loop-name.all) (string_bytes c.in-Ok.text) so_far.2 (c.in-Some-bytes.bytes.items, bytes, c.in-Ok.ensures.printed)),
+            (all_push c.args.command so_far.0 file (string_bytes c.loop-name.all) (string_bytes c.in-Ok.answer.text) so_far.2 (c.in-Some-bytes.bytes.items, bytes, c.in-Ok.ensures.printed)),
       );
     }
 

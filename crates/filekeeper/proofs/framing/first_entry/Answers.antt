@@ -5,7 +5,7 @@ use Rattle.std.proofs.lemmas.Nat.{be_bytes_8}
 use Rattle.farm_base.specs.Digests.{IsBytes}
 use Rattle.codec.proofs.Fronts.{IsBytes-drop, IsBytes-take}
 use Rattle.filekeeper.specs.Framing.{check_of, HasHead}
-use Rattle.saverecord.specs.Spelling.{number64}
+use Rattle.recordparts.specs.Spelling.{number64}
 use Rattle.filekeeper.proofs.FramingLemmas.{eight, three_eights, framed_by}
 use Rattle.filekeeper.proofs.framing.first_entry.Goals as goal
 

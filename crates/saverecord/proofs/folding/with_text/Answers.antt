@@ -1,9 +1,9 @@
 use Rattle.std.proofs.Common.{Result, sym, subst}
 use Rattle.codec.specs.Steps.{◌>>=◌}
 use Rattle.saverecord.specs.declared.log_entry.LogEntry.{LogEntry}
-use Rattle.saverecord.specs.declared.refusal.RecordRefusal.{RecordRefusal}
+use Rattle.recordparts.specs.declared.refusal.RecordRefusal.{RecordRefusal}
 use Rattle.saverecord.specs.Logs.{with_entry, folded_ledger}
-use Rattle.saverecord.specs.Parts.{Gives}
+use Rattle.recordparts.specs.Parts.{Gives}
 use Rattle.saverecord.proofs.FoldLemmas.{given_readable}
 use Rattle.saverecord.proofs.InstanceLemmas.{entry_instances}
 use Rattle.saverecord.proofs.folding.with_text.Goals as goal

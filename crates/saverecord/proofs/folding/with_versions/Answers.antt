@@ -3,7 +3,7 @@ use Rattle.std.specs.Vec.Iter.{into_iter_items}
 use Rattle.codec.specs.Steps.{◌>>=◌}
 use Rattle.versions.specs.Lines.{LineOf, line_at}
 use Rattle.versions.specs.declared.lines.SlotLine.{SlotLine}
-use Rattle.saverecord.specs.declared.refusal.RecordRefusal.{RecordRefusal}
+use Rattle.recordparts.specs.declared.refusal.RecordRefusal.{RecordRefusal}
 use Rattle.saverecord.specs.Logs.{with_versions}
 use Rattle.saverecord.proofs.folding.with_versions.Goals as goal
 

@@ -4,8 +4,8 @@ use Rattle.std.specs.Prelude.{is_some}
 use Rattle.farm_base.specs.declared.lease.Lease.{Lease}
 use Rattle.holdings.proofs.LeaseLemmas.{StandsAt, stands, missing}
 use Rattle.protocol.specs.Ledger.{has_ticket, without}
-use Rattle.saverecord.specs.declared.refusal.Flaw.TheVariants.{Relation}
-use Rattle.saverecord.specs.Parts.{passed}
+use Rattle.recordparts.specs.declared.refusal.Flaw.TheVariants.{Relation}
+use Rattle.recordparts.specs.Parts.{passed}
 use Rattle.saverecord.proofs.folding.without_one.Goals as goal
 
 pub returns-in-None-clause-exact : goal.returns-in-None-clause-exact

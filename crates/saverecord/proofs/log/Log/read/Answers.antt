@@ -2,7 +2,7 @@ use Rattle.std.proofs.Common.{List, ℕ, Result, ap, sym, subst, ◌∙◌}
 use Rattle.codec.specs.Steps.{◌>>=◌}
 use Rattle.protocol.specs.Ledger.{Ledger, saves, reads}
 use Rattle.saverecord.specs.declared.record.Record.{Record}
-use Rattle.saverecord.specs.declared.refusal.RecordRefusal.{RecordRefusal}
+use Rattle.recordparts.specs.declared.refusal.RecordRefusal.{RecordRefusal}
 use Rattle.saverecord.specs.Ledgers.{ledger_of, record_in}
 use Rattle.saverecord.specs.Logs.{with_entries, agreed, IsReadable}
 use Rattle.saverecord.proofs.FoldLemmas.{kept_readable}
