@@ -139,7 +139,8 @@ def lock_alone(room: Room) -> None:
 
 
 def only_reads(room: Room) -> None:
-    """Once it has started its files can't be written any more: it carries out nothing that it can't save, until it can."""
+    """Once it has started its files can't be written any more, and another hand changes one: it carries out nothing that it can't save,
+    until it can."""
     for name in ("", "record", "record.log"):
         os.chmod(f"{room.path}/{name}", 0o777)
     os.chmod(f"{room.path}/record.lock", 0o666)
@@ -151,8 +152,14 @@ def only_reads(room: Room) -> None:
     line = coordinator.call("line locked:a")
     expect(line.note == "refused SaveFault" or line.facts == [f"1 1 {DIGEST}"], f"it tells another line: {line}")
     expect(room.state() == state, "its files were changed")
+    record = Path(room.path, "record")
+    kept = record.read_bytes()
+    record.write_bytes(b"of another hand")
     for name in ("", "record", "record.log"):
         os.chmod(f"{room.path}/{name}", 0o777)
+    other = coordinator.call("line locked:a")
+    expect((other.facts, other.note) == (["down LoadFault"], "refused SaveFault"), f"it takes another record: {other}")
+    record.write_bytes(kept)
     again = coordinator.call("line locked:a")
     expect((again.facts, again.note) == (["restarted"], "refused SaveFault"), f"it doesn't restart: {again}")
     line = coordinator.call("line locked:a")

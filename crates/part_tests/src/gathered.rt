@@ -1,56 +1,36 @@
-//! Entries that are gathered: one sync makes them last, and where it fails nothing is said that rests on them.
+//! Lines that come together, where the sync of what they change fails. The record was made by a script apart from the program, and the
+//! MACs are those of Python's hmac.
 
-use super::coordinator_lines::{KEY, STARTED, talks_so};
 use coordinator::Coordinator;
-use farm_base::{Life, NodeId, Request, ToCoord};
 use farmwire::FarmKey;
-use filekeeper::{FileKeeper, Gathered};
+use filekeeper::Gathered;
 use protocol::Kept;
-use saverecord::{Keeper, MemoryKeeper};
-use services::CoordinatorFilter;
+use saverecord::MemoryKeeper;
+use services::{CoordinatorFilter, serve};
 use std::alloc::Global;
-use std::fs;
-use std::rt::Files;
 use std::test::Fail;
 
-/// Two lines that come together, of which the first is saved: the sync fails.
-const FAILED_SYNC: [(&str, &str); 2] = [
-    (
-        "m acquire 1 5 1 private:p",
-        ": restarted\n= refused SaveFault",
-    ),
-    ("nudge", "= refused SaveFault"),
-];
+const KEY: &[u8] = b"the key of a farm, thirty-two bytes";
 
-/// The same ask after it. The restart took up what was gathered, and the PRIVATE lease with it.
-const AFTER_IT: [(&str, &str); 1] = [(
-    "m acquire 1 5 1 private:p",
-    "m granted 1 5 1 1 plain private:p#1=0:e3b0c44298fc1c149afbf4c8996fb92427ae41e4649b934ca495991b7852b855\n= granted before 1 private:p#1=0",
-)];
+/// The record of a farm where node 1 was heard in its life 5.
+const RECORD: &str =
+    "424b4641524d3033000000000000000000000000000000000000000100000001000000000000000500000000000000000000000000000000000000000000000000000000000000007eac3b03699c311fb302b94569141fee37009fc3c7d75512cefda14d2288bfd2";
 
-/// What a coordinator keeps once one node was heard.
-fn heard(alloc: Global, coordinator: &mut Coordinator<MemoryKeeper>) -> Result<Vec<u8>, Fail> {
-    let hello = ToCoord {
-        node: NodeId(1),
-        life: Life(5),
-        request: Request::Hello,
-    };
-    let _handled = coordinator.handle(alloc, &hello)?;
-    Ok(Vec::from_slice(alloc, coordinator.keeper().log().whole())?)
-}
+/// Two lines, of which the first changes what is saved.
+const LINES: &str =
+    "m acquire 1 5 1 private:p cfaf0ab623fbf10b345928420608c9b1b765839885b142831e7abaa88e4672b8\nnudge\n";
 
-/// A record of a farm where one node was heard.
-fn record_of_one(alloc: Global) -> Result<Vec<u8>, Fail> {
-    match Coordinator::start(alloc, MemoryKeeper::new(alloc, Vec::new(alloc))) {
-        Ok(mut coordinator) => heard(alloc, &mut coordinator),
-        Err(_) => Err(Fail::from("not started")),
-    }
-}
+/// What is written where the sync fails.
+const FAILED: &str = "= started\n: restarted\n= refused SaveFault\n= refused SaveFault\n";
+
+/// What is written of the same lines then. The restart took up what was gathered, and the PRIVATE lease with it.
+const AFTER: &str =
+    "= started\nm granted 1 5 1 1 plain private:p#1=0:e3b0c44298fc1c149afbf4c8996fb92427ae41e4649b934ca495991b7852b855 0d05d474b90cf61746e6c3c84925ba6d9af0d1dcfb0f39e85da8838e58e56f1c\n= granted before 1 private:p#1=0\nm granted 1 5 1 1 plain private:p#1=0:e3b0c44298fc1c149afbf4c8996fb92427ae41e4649b934ca495991b7852b855 0d05d474b90cf61746e6c3c84925ba6d9af0d1dcfb0f39e85da8838e58e56f1c\n= nudged\n";
 
 /// A filter that gathers over a keeper whose next sync fails.
 fn failing_filter(alloc: Global) -> Result<CoordinatorFilter<Gathered<MemoryKeeper>>, Fail> {
-    let record = record_of_one(alloc)?;
     let key = FarmKey::of(alloc, KEY)?;
+    let record = hex::decode(alloc, RECORD)?;
     let mut keeper = MemoryKeeper::new(alloc, record);
     keeper.fail_next(Kept::Old);
     match Coordinator::start(alloc, Gathered::new(keeper)) {
@@ -59,64 +39,29 @@ fn failing_filter(alloc: Global) -> Result<CoordinatorFilter<Gathered<MemoryKeep
     }
 }
 
-/// What is said where a sync fails, and then.
-fn says_so(
+/// What the filter writes of the lines.
+fn written(
     alloc: Global,
     filter: &mut CoordinatorFilter<Gathered<MemoryKeeper>>,
-) -> Result<bool, Fail> {
-    let greeting = (STARTED, ["= started"].as_slice());
-    let at_fault = talks_so(alloc, filter, greeting, &FAILED_SYNC)?;
-    Ok(at_fault && talks_so(alloc, filter, greeting, &AFTER_IT)?)
-}
-
-/// A filter whose sync fails.
-fn fails_so(alloc: Global) -> Result<bool, Fail> {
-    let mut filter = failing_filter(alloc)?;
-    says_so(alloc, &mut filter)
+) -> Result<String, Fail> {
+    let mut bytes = Vec::new(alloc);
+    serve(
+        alloc,
+        LINES.as_bytes(),
+        &mut bytes,
+        filter,
+        400,
+        b"= started\n",
+    )?;
+    Ok(String::from_utf8(bytes).ok().ok_or("no text")?)
 }
 
 #[test]
 fn a_failed_sync(rt: HostRuntime) -> Result<(), Fail> {
-    assert!(rt; fails_so(rt.alloc())?);
-    Ok(())
-}
-
-/// Has a keeper save a record and gather two entries.
-fn gather_two<K: Keeper>(alloc: Global, keeper: &mut K) -> Result<(), Fail> {
-    keeper.save(Vec::from_slice(alloc, b"the bytes of a record")?)?;
-    keeper.gather(Vec::from_slice(alloc, b"one")?)?;
-    keeper.gather(Vec::from_slice(alloc, b"two")?)?;
-    Ok(())
-}
-
-/// How many entries the files of a path have.
-fn entries_of<R: Files>(rt: &R, alloc: Global, path: &str) -> Result<usize, Fail> {
-    Ok(FileKeeper::open(rt, alloc, path)?.log().entries().len())
-}
-
-/// How many entries the files have once two were gathered, and once a sync made them last.
-fn counted<R: Files, K: Keeper>(
-    rt: &R,
-    alloc: Global,
-    path: &str,
-    keeper: &mut K,
-) -> Result<(usize, usize), Fail> {
-    gather_two(alloc, keeper)?;
-    let before = entries_of(rt, alloc, path)?;
-    keeper.sync()?;
-    Ok((before, entries_of(rt, alloc, path)?))
-}
-
-/// The same, of a new keeper.
-fn gathered<R: Files>(rt: &R, alloc: Global, path: &str) -> Result<(usize, usize), Fail> {
-    let mut keeper = FileKeeper::open(rt, alloc, path)?;
-    counted(rt, alloc, path, &mut keeper)
-}
-
-#[test]
-fn one_sync_for_two(rt: HostRuntime) -> Result<(), Fail> {
-    assert_eq!(rt; gathered(&rt, rt.alloc(), "gathered.record")?, (0, 2));
-    fs::remove_file(&rt, "gathered.record")?;
-    fs::remove_file(&rt, "gathered.record.log")?;
+    let mut filter = failing_filter(rt.alloc())?;
+    let failed = written(rt.alloc(), &mut filter)?;
+    assert_eq!(rt; failed.as_str(), FAILED);
+    let after = written(rt.alloc(), &mut filter)?;
+    assert_eq!(rt; after.as_str(), AFTER);
     Ok(())
 }

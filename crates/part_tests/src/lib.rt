@@ -5,15 +5,9 @@
 #[cfg(test)]
 mod build;
 #[cfg(test)]
-mod coordinator_lines;
-#[cfg(test)]
 mod crashes;
 #[cfg(test)]
-mod cuts;
-#[cfg(test)]
 mod edits;
-#[cfg(test)]
-mod endings;
 #[cfg(test)]
 mod fields;
 #[cfg(test)]
@@ -39,10 +33,4 @@ mod own_coordinator;
 #[cfg(test)]
 mod places;
 #[cfg(test)]
-mod records;
-#[cfg(test)]
 mod saves;
-#[cfg(test)]
-mod starts;
-#[cfg(test)]
-mod tickets;

@@ -1,14 +1,8 @@
-//! Lines of messages: the MACs of RFC 4231, texts that are written as they were read, and lines that were damaged. The MACs of
-//! lines, and those of keys of one block and of a byte more, are Python's (hmac, hashlib).
+//! Lines of messages: the MACs of RFC 4231, and a line that was damaged; the MACs of keys of one block and of a byte more, and that of
+//! the line, are Python's (hmac). `printed/processes.cases` has the texts of messages, and other lines.
 
-use farm_base::{
-    Ask, FolderName, FromCoord, Grant, Items, Key, LeaseKind, Life, Message, NodeId, Request,
-    Ticket, ToCoord, ToNode, Wants,
-};
-use farmwire::{
-    FarmKey, KeyRefusal, LINE_LIMIT, LineFault, ReadRefusal, WriteRefusal, is_lawful, mac, open,
-    read, seal, write,
-};
+use farm_base::Key;
+use farmwire::{FarmKey, LineFault, is_lawful, mac, open, read, seal, write};
 use std::alloc::Global;
 use std::test::Fail;
 
@@ -72,351 +66,49 @@ fn macs(rt: HostRuntime) -> Result<(), Fail> {
     Ok(())
 }
 
-/// Texts of messages.
-const TEXTS: [&str; 28] = [
-    "acquire 1 1 1 private:x locked:x",
-    "hello 1 1",
-    "hello 1024 18446744073709551615",
-    "acquire 1 1 1",
-    "acquire 1 2 3 locked:a=b ro=private:x shared:y",
-    "acquire 1 2 3 locked:a locked:b locked:c locked:d locked:e locked:f locked:g locked:h locked:i locked:j locked:k locked:l locked:m locked:n locked:o locked:p",
-    "acquire 2 1 18446744073709551615 locked:%20 locked:a@0123456789abcdef0123456789abcdef0123456789abcdef0123456789abcdef.3",
-    "tenure 1 1 1 shared:go",
-    "commit 1 1 7",
-    "commit 1 1 7 locked:a=b=e3b0c44298fc1c149afbf4c8996fb92427ae41e4649b934ca495991b7852b855",
-    "commit 1 1 7 private:x#4096=e3b0c44298fc1c149afbf4c8996fb92427ae41e4649b934ca495991b7852b855 shared:=0123456789abcdef0123456789abcdef0123456789abcdef0123456789abcdef",
-    "release 3 1 9",
-    "granted 1 1 1 7 plain",
-    "granted 1 1 1 7 plain private:x#3=0:e3b0c44298fc1c149afbf4c8996fb92427ae41e4649b934ca495991b7852b855 ro=locked:a=b=18446744073709551615:0123456789abcdef0123456789abcdef0123456789abcdef0123456789abcdef",
-    "granted 1 1 1 7 shared locked:%20=1:e3b0c44298fc1c149afbf4c8996fb92427ae41e4649b934ca495991b7852b855",
-    "granted 1 1 1 7 tenure shared:=0:e3b0c44298fc1c149afbf4c8996fb92427ae41e4649b934ca495991b7852b855",
-    "committed 2 1 7",
-    "committed 2 1 7 locked:a=3:e3b0c44298fc1c149afbf4c8996fb92427ae41e4649b934ca495991b7852b855 locked:b=0:0123456789abcdef0123456789abcdef0123456789abcdef0123456789abcdef",
-    "fenced 2 1 7",
-    "denied 2 1 7 InstancesSpent",
-    "denied 2 1 7 TicketsSpent",
-    "recall 2 1 7",
-    "fetch 2 1 e3b0c44298fc1c149afbf4c8996fb92427ae41e4649b934ca495991b7852b855",
-    "blob 2 ",
-    "blob 2 Zg==",
-    "blob 2 Zm8=",
-    "blob 2 Zm9v",
-    "blob 1024 //4A",
-];
-
-/// The table is handed out by one function, since a proof pays for it wherever it stands.
-fn texts() -> &'static [&'static str] {
-    &TEXTS
-}
-
-/// The text of the message that a text spells.
-fn again(alloc: Global, text: &str) -> Result<String, Fail> {
-    let message = read(alloc, text.as_bytes())?;
-    Ok(write(alloc, &message)?)
-}
-
-#[test]
-fn texts_both_ways(rt: HostRuntime) -> Result<(), Fail> {
-    for text in texts() {
-        let written = again(rt.alloc(), *text)?;
-        assert!(rt; written.as_str() == *text, "{text}");
-    }
-    Ok(())
-}
-
-/// Whether bytes are no message's.
-fn is_nothing(alloc: Global, bytes: &[u8]) -> bool {
-    matches!(read(alloc, bytes), Err(ReadRefusal::BadForm))
-}
-
-/// `printed/processes.cases` has the texts of no message that a line can have.
-#[test]
-fn a_line_feed(rt: HostRuntime) {
-    assert!(rt; is_nothing(rt.alloc(), b"hello 1 1\n"));
-}
-
 const KEY: &[u8] = b"the key of a farm in these tests.";
 
-/// A line under the key.
-const SOUND: &str = "hello 3 14 92790a8ba26473c2fc2bc7c54f3b35e4010cc28920ac77993e84f774cbea5285";
+/// A text, and its line under the key.
+const TEXT: &str = "hello 3 14";
 
-/// Lines under the key, and the text of the message that each opens to, or its fault.
-const LINES: [(&str, &str); 24] = [
-    (SOUND, "hello 3 14"),
-    (
-        "blob 2  5969630582636f9928377f4098fdeffad52290da4bb9ccc4fe2038afe42b0544",
-        "blob 2 ",
-    ),
-    (
-        "hello 0 1 39fd11e3f23fa4b8ab66c3317a40f470bb526616daa95c22ad576a378a680a78",
-        "BadForm",
-    ),
-    (
-        " ca4979cd8911e13a48b57228888fbd4f9d44faca2944f9f2e57bc33a8f25ca65",
-        "BadForm",
-    ),
-    ("hello 3 14", "BadMac"),
-    ("hello 3 14 ", "BadMac"),
-    (
-        "hello 3 14 92790a8ba26473c2fc2bc7c54f3b35e4010cc28920ac77993e84f774cbea5285 ",
-        "BadMac",
-    ),
-    (
-        " hello 3 14 92790a8ba26473c2fc2bc7c54f3b35e4010cc28920ac77993e84f774cbea5285",
-        "BadMac",
-    ),
-    (
-        "hello 3 14  92790a8ba26473c2fc2bc7c54f3b35e4010cc28920ac77993e84f774cbea5285",
-        "BadMac",
-    ),
-    (
-        "hello 3 1492790a8ba26473c2fc2bc7c54f3b35e4010cc28920ac77993e84f774cbea5285",
-        "BadMac",
-    ),
-    (
-        "hello 3 14_92790a8ba26473c2fc2bc7c54f3b35e4010cc28920ac77993e84f774cbea5285",
-        "BadMac",
-    ),
-    (
-        "hello 3 14 92790a8ba26473c2fc2bc7c54f3b35e4010cc28920ac77993e84f774cbea528",
-        "BadMac",
-    ),
-    (
-        "hello 3 14 2790a8ba26473c2fc2bc7c54f3b35e4010cc28920ac77993e84f774cbea5285",
-        "BadMac",
-    ),
-    (
-        "hello 3 14 092790a8ba26473c2fc2bc7c54f3b35e4010cc28920ac77993e84f774cbea5285",
-        "BadMac",
-    ),
-    (
-        "hello 3 14 92790A8BA26473C2FC2BC7C54F3B35E4010CC28920AC77993E84F774CBEA5285",
-        "BadMac",
-    ),
-    (
-        "hello 3 14 a0e1ac4e02060f6f785bb29b6e011d03c9c368e1b572ddd60237cca7b8af0b97",
-        "BadMac",
-    ),
-    (
-        "hello 3 15 92790a8ba26473c2fc2bc7c54f3b35e4010cc28920ac77993e84f774cbea5285",
-        "BadMac",
-    ),
-    (
-        "hello 4 14 92790a8ba26473c2fc2bc7c54f3b35e4010cc28920ac77993e84f774cbea5285",
-        "BadMac",
-    ),
-    (
-        "92790a8ba26473c2fc2bc7c54f3b35e4010cc28920ac77993e84f774cbea5285",
-        "BadMac",
-    ),
-    (
-        " 92790a8ba26473c2fc2bc7c54f3b35e4010cc28920ac77993e84f774cbea5285",
-        "BadMac",
-    ),
-    (
-        "hello 3 14 92790a8ba26473c2fc2bc7c54f3b35e4010cc28920ac77993e84f774cbea5285 92790a8ba26473c2fc2bc7c54f3b35e4010cc28920ac77993e84f774cbea5285",
-        "BadMac",
-    ),
-    (
-        "fenced 1 2 3 92790a8ba26473c2fc2bc7c54f3b35e4010cc28920ac77993e84f774cbea5285",
-        "BadMac",
-    ),
-    (
-        "hello 3 14 0000000000000000000000000000000000000000000000000000000000000000",
-        "BadMac",
-    ),
-    ("", "BadMac"),
-];
+const LINE: &str = "hello 3 14 92790a8ba26473c2fc2bc7c54f3b35e4010cc28920ac77993e84f774cbea5285";
 
-/// The name of a fault.
-fn fault_name(fault: LineFault) -> &'static str {
-    match fault {
-        LineFault::TooLong => "TooLong",
-        LineFault::BadMac => "BadMac",
-        LineFault::BadForm => "BadForm",
-        LineFault::OutOfMemory => "OutOfMemory",
-    }
-}
-
-/// The text of the message that a line opens to, or its fault.
-fn opened(alloc: Global, key: &FarmKey, line: &[u8]) -> Result<String, Fail> {
-    Ok(match open(alloc, key, line) {
-        Ok(message) => write(alloc, &message)?,
-        Err(fault) => String::from_str(alloc, fault_name(fault))?,
-    })
-}
-
-#[test]
-fn lines(rt: HostRuntime) -> Result<(), Fail> {
-    let key = FarmKey::of(rt.alloc(), KEY)?;
-    for (line, wanted) in &LINES {
-        let text = opened(rt.alloc(), &key, line.as_bytes())?;
-        assert!(rt; text.as_str() == *wanted, "{line}");
-    }
-    Ok(())
-}
-
-/// The text that a message's line opens to.
-fn sealed_and_opened(alloc: Global, key: &FarmKey, text: &str) -> Result<String, Fail> {
-    let message = read(alloc, text.as_bytes())?;
+/// The line of the message that the text spells, and the text of the message that it opens to.
+fn there_and_back(alloc: Global, key: &FarmKey) -> Result<(String, String), Fail> {
+    let message = read(alloc, TEXT.as_bytes())?;
     let line = seal(alloc, key, &message)?;
-    opened(alloc, key, line.as_bytes())
+    let back = open(alloc, key, line.as_bytes())?;
+    if !is_lawful(&back) {
+        return Err("an unlawful message".into());
+    }
+    let text = write(alloc, &back)?;
+    Ok((line, text))
 }
 
 #[test]
-fn sealed_lines_open(rt: HostRuntime) -> Result<(), Fail> {
+fn a_line(rt: HostRuntime) -> Result<(), Fail> {
     let key = FarmKey::of(rt.alloc(), KEY)?;
-    for text in texts() {
-        let back = sealed_and_opened(rt.alloc(), &key, *text)?;
-        assert!(rt; back.as_str() == *text, "{text}");
-    }
+    let (line, text) = there_and_back(rt.alloc(), &key)?;
+    assert_eq!(rt; line.as_str(), LINE);
+    assert_eq!(rt; text.as_str(), TEXT);
     Ok(())
 }
 
-/// What a line opens to in which one bit of this byte was turned.
-fn opened_damaged(alloc: Global, key: &FarmKey, line: &str, index: usize) -> Result<String, Fail> {
-    let mut damaged = Vec::from_slice(alloc, line.as_bytes())?;
+/// Whether the line is refused once one bit of this byte was turned.
+fn is_refused(alloc: Global, key: &FarmKey, index: usize) -> Result<bool, Fail> {
+    let mut damaged = Vec::from_slice(alloc, LINE.as_bytes())?;
     let Some(byte) = damaged.get_mut(index) else {
         return Err("no such byte".into());
     };
     *byte ^= 1 << (index % 8);
-    opened(alloc, key, damaged.as_slice())
+    Ok(matches!(open(alloc, key, damaged.as_slice()), Err(LineFault::BadMac)))
 }
 
-/// A line in which one bit was turned, at each byte in turn.
 #[test]
 fn turned_bits(rt: HostRuntime) -> Result<(), Fail> {
     let key = FarmKey::of(rt.alloc(), KEY)?;
-    for index in 0..SOUND.len() {
-        let text = opened_damaged(rt.alloc(), &key, SOUND, index)?;
-        assert!(rt; text.as_str() == "BadMac", "{index}");
-    }
-    Ok(())
-}
-
-/// What a line of this many zeros opens to.
-fn zeros_opened(alloc: Global, len: usize) -> Result<String, Fail> {
-    let key = FarmKey::of(alloc, KEY)?;
-    let line = vec![in alloc; b'0'; len]?;
-    opened(alloc, &key, line.as_slice())
-}
-
-#[test]
-fn long_lines(rt: HostRuntime) -> Result<(), Fail> {
-    let text = zeros_opened(rt.alloc(), LINE_LIMIT)?;
-    assert_eq!(rt; text.as_str(), "TooLong");
-    let text = zeros_opened(rt.alloc(), LINE_LIMIT - 1)?;
-    assert_eq!(rt; text.as_str(), "BadMac");
-    Ok(())
-}
-
-/// Files, and whether each is long enough for a key.
-const FILES: [(&[u8], bool); 7] = [
-    (b"", false),
-    (b"\n", false),
-    (b"0123456789012345678901234567890", false),
-    (b"0123456789012345678901234567890\n", false),
-    (b"01234567890123456789012345678901", true),
-    (b"01234567890123456789012345678901\n", true),
-    (b"0123456789012345678901234567890\n\n", true),
-];
-
-/// Whether a file is long enough for a key.
-fn is_key(alloc: Global, file: &[u8]) -> Result<bool, Fail> {
-    match FarmKey::of(alloc, file) {
-        Ok(_key) => Ok(true),
-        Err(KeyRefusal::KeyTooShort) => Ok(false),
-        Err(refusal) => Err(refusal.into()),
-    }
-}
-
-#[test]
-fn key_files(rt: HostRuntime) -> Result<(), Fail> {
-    for (file, wanted) in &FILES {
-        assert_eq!(rt; is_key(rt.alloc(), *file)?, *wanted);
-    }
-    Ok(())
-}
-
-/// The end of its line is no part of a key.
-#[test]
-fn a_key_and_its_end_of_line(rt: HostRuntime) -> Result<(), Fail> {
-    let bare = FarmKey::of(rt.alloc(), FILES[4].0)?;
-    let ended = FarmKey::of(rt.alloc(), FILES[5].0)?;
-    assert!(rt; bare.mac(b"x") == ended.mac(b"x"));
-    Ok(())
-}
-
-/// Node, life, ask and ticket of a grant, its kind, and whether it has a line.
-const GRANTS: [(u32, u64, u64, u64, LeaseKind, bool); 9] = [
-    (1, 1, 1, 1, LeaseKind::Plain, true),
-    (1, 1, 1, 1, LeaseKind::Shared, true),
-    (1, 1, 1, 1, LeaseKind::Tenure, true),
-    (1024, u64::MAX, u64::MAX, u64::MAX, LeaseKind::Plain, true),
-    (0, 1, 1, 1, LeaseKind::Plain, false),
-    (1025, 1, 1, 1, LeaseKind::Plain, false),
-    (1, 0, 1, 1, LeaseKind::Plain, false),
-    (1, 1, 0, 1, LeaseKind::Plain, false),
-    (1, 1, 1, 0, LeaseKind::Plain, false),
-];
-
-/// The Grant of a row, of no slot.
-fn granted(
-    alloc: Global,
-    (node, life, ask, ticket, kind, _wanted): &(u32, u64, u64, u64, LeaseKind, bool),
-) -> Message {
-    Message::ToNode(ToNode::FromCoord(FromCoord::Granted(Grant {
-        ticket: Ticket(*ticket),
-        node: NodeId(*node),
-        life: Life(*life),
-        ask: Ask(*ask),
-        kind: *kind,
-        slots: Items::new(Vec::new(alloc)),
-    })))
-}
-
-/// Whether a message has a line, and whether it is refused as one that has none.
-fn has_line(alloc: Global, message: &Message) -> (bool, bool) {
-    let refused = matches!(write(alloc, message), Err(WriteRefusal::Unlawful));
-    (is_lawful(message), refused)
-}
-
-#[test]
-fn grants(rt: HostRuntime) -> Result<(), Fail> {
-    for row in &GRANTS {
-        let message = granted(rt.alloc(), row);
-        assert_eq!(rt; has_line(rt.alloc(), &message), (row.5, !row.5));
-    }
-    Ok(())
-}
-
-/// A folder, whether it may be written, and whether it can be asked for as a tenure.
-const TENURES: [(&str, bool, bool); 4] = [
-    ("shared:a", true, true),
-    ("shared:a", false, false),
-    ("locked:a", true, false),
-    ("private:a", true, false),
-];
-
-/// Whether a folder can be asked for as a tenure.
-fn is_tenure(alloc: Global, folder: &str, writable: bool) -> Result<bool, Fail> {
-    let folder = FolderName::parse(alloc, folder)?;
-    let request = Request::Acquire {
-        ask: Ask(1),
-        wants: Wants::one(alloc, folder, writable)?,
-        tenure: true,
-    };
-    Ok(is_lawful(&Message::ToCoord(ToCoord {
-        node: NodeId(1),
-        life: Life(1),
-        request,
-    })))
-}
-
-#[test]
-fn tenures(rt: HostRuntime) -> Result<(), Fail> {
-    for (folder, writable, wanted) in &TENURES {
-        assert_eq!(rt; is_tenure(rt.alloc(), *folder, *writable)?, *wanted);
+    for index in 0..LINE.len() {
+        assert!(rt; is_refused(rt.alloc(), &key, index)?, "{index}");
     }
     Ok(())
 }
