@@ -8,7 +8,7 @@ use Rattle.vertices.specs.Loading.{GraphParts, IsGraphOf, DefinitionCheck}
 use Rattle.opsproto.specs.declared.definition.Definition.{Definition}
 use Rattle.opsproto.specs.Definitions.{definition_at}
 use Rattle.solverkeys.specs.GraphKeys.{AreKeys}
-use Rattle.answers.specs.declared.answer.RefusedEvent.{RefusedEvent}
+use Rattle.answers.specs.declared.answered.RefusedEvent.{RefusedEvent}
 use Rattle.answers.specs.declared.command.Command.{Command}
 use Rattle.answers.specs.declared.command.Command.TheVariants.{Check, Keys, Wants, Record, Replay, Draw}
 use Rattle.answers.specs.Drawings.{IsDrawn}

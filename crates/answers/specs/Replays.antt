@@ -13,7 +13,7 @@ use Rattle.schedule.specs.declared.setup.Setup.{Setup}
 use Rattle.schedule.specs.Schedules as schedule
 use Rattle.world.specs.Printing.{ArePrinted}
 use Rattle.world.specs.Replays.{KeepsHeadline}
-use Rattle.answers.specs.declared.answer.RefusedEvent.{RefusedEvent}
+use Rattle.answers.specs.declared.answered.RefusedEvent.{RefusedEvent}
 use Rattle.answers.specs.declared.failure.Failure.{Failure}
 use Rattle.answers.specs.declared.failure.Failure.TheVariants as failure
 

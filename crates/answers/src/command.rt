@@ -3,7 +3,7 @@ ghost use Rattle.std.specs.Prelude.{IfOk, IfErr};
 ghost use Rattle.std.specs.String.{string_bytes};
 ghost use Rattle.answers.specs.Answers.{AreRefused, IsRefused, IsAnswer};
 
-use super::answer::Answer;
+use super::answered::Answer;
 use super::definition::{checked, graph_of, listed};
 use super::drawing::drawn;
 use super::failure::Failure;

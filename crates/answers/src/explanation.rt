@@ -1,6 +1,6 @@
 //! What `--explain` adds for the bytes of a file: why they are refused, in plain words. Tests alone say what is printed here.
 
-use super::answer::RefusedEvent;
+use super::answered::RefusedEvent;
 use super::command::Command;
 use super::definition::graph_of;
 use super::failure::Failure;

@@ -2,7 +2,7 @@
 //! runs a farm on threads.
 #![tactic(auto)]
 
-mod answer;
+mod answered;
 mod command;
 mod definition;
 mod drawing;
@@ -14,7 +14,7 @@ mod record;
 mod replaying;
 mod wants;
 
-pub use answer::{Answer, RefusedEvent};
+pub use answered::{Answer, RefusedEvent};
 pub use command::{Command, answer};
 pub use definition::graph_of;
 pub use explanation::{Explanation, events_told, explained};

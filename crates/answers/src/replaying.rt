@@ -8,7 +8,7 @@ ghost use Rattle.protocol.specs.Replay.{run, step};
 ghost use Rattle.world.specs.Shown.{shown};
 ghost use Rattle.answers.specs.Replays.{events_text, refused_by, refused_events, AreRefusedIn, IsPrinted, IsReplayed, IsUnread, TellsHeadline};
 
-use super::answer::{Answer, RefusedEvent};
+use super::answered::{Answer, RefusedEvent};
 use super::failure::Failure;
 use schedule::{Event, ScheduleRefusal, read_schedule};
 use std::alloc::{AllocError, Global};
