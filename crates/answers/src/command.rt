@@ -36,22 +36,30 @@ pub fn answer(alloc: Global, command: Command, bytes: Vec<u8>) -> Result<Answer,
     ensures refused_events { IfOk result (λ answer. AreRefused command bytes.items answer.refused.items) }
     ensures refused { IfErr result (IsRefused command bytes.items) }
 {
-    let text = match command {
+    match command {
         Command::Check => {
             let graph = graph_of(alloc, bytes)?;
-            checked(alloc, &graph)?
+            let text = checked(alloc, &graph)?;
+            Ok(Answer::of(alloc, text))
         }
         Command::Keys => {
             let graph = graph_of(alloc, bytes)?;
-            listed(alloc, graph)?
+            let text = listed(alloc, graph)?;
+            Ok(Answer::of(alloc, text))
         }
         Command::Wants => {
             let graph = graph_of(alloc, bytes)?;
-            wanted(alloc, &graph)?
+            let text = wanted(alloc, &graph)?;
+            Ok(Answer::of(alloc, text))
         }
-        Command::Record => recorded(alloc, bytes.as_slice())?,
-        Command::Draw(range) => drawn(alloc, bytes.as_slice(), range)?,
-        Command::Replay => return replayed(alloc, bytes.as_slice()),
-    };
-    Ok(Answer::of(alloc, text))
+        Command::Record => {
+            let text = recorded(alloc, bytes.as_slice())?;
+            Ok(Answer::of(alloc, text))
+        }
+        Command::Replay => replayed(alloc, bytes.as_slice()),
+        Command::Draw(range) => {
+            let text = drawn(alloc, bytes.as_slice(), range)?;
+            Ok(Answer::of(alloc, text))
+        }
+    }
 }

@@ -36,7 +36,7 @@ returns c =
     let taken : c.remove-running.result ≡ o = c.remove-running.ensures.value ∙ get_or_from_slice_get folders place o c.remove-running.result at in
     let read : c.index.result.now ≡ o = c.index.ensures ∙ get_or_from_slice_get folders place o c.index.result.now at in
     let files : c.index.result.now.files ≡ files_of batches (opened o) = ap (λ (x : Open). x.files) read ∙ (c.self.invariant.each place o at).files in
-    let bytes = c.of.ensures ∙ c.in_ok-bytes.ensures.bytes ∙ ap folder_bytes files in
+    let bytes = c.in_ok-content.ensures ∙ c.of.ensures ∙ c.in_ok-bytes.ensures.bytes ∙ ap folder_bytes files in
     let left : map opened c.remove-running.new.self.items ≡ remove (map opened folders) place
     = ap (map opened) c.remove-running.ensures.items ∙ map_remove opened folders place in (
       place,
