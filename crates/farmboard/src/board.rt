@@ -29,6 +29,7 @@ use world::{StartRefusal, World};
 
 /// The world beside the schedule that led to it. Contracts see it as its history: its setup, its schedule, and the
 /// messages that it skipped.
+#[derive(Drop)]
 pub struct Board {
     setup: Setup,
     schedule: Vec<Event>,
@@ -40,21 +41,6 @@ pub struct Board {
     /// The executions in use.
     out: Vec<InUse>,
     counts: Counts,
-}
-
-impl Drop for Board {
-    fn drop(self) {
-        let Board {
-            setup: _,
-            schedule: _,
-            skipped: _,
-            world: _,
-            passed: _,
-            ahead: _,
-            out: _,
-            counts: _,
-        } = self;
-    }
 }
 
 impl Model for Board {

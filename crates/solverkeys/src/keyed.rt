@@ -9,21 +9,12 @@ use std::marker::Model;
 use vertices::Graph;
 
 /// A graph with its solver keys, and the vertex of each key. The keys are always those of the graph.
+#[derive(Drop)]
 pub struct Keyed {
     graph: Graph,
     keys: Vec<Key>,
     /// For each key the first vertex that has it.
     firsts: HashMap<Key, usize>,
-}
-
-impl Drop for Keyed {
-    fn drop(self) {
-        let Keyed {
-            graph: _,
-            keys: _,
-            firsts: _,
-        } = self;
-    }
 }
 
 impl Model for Keyed {

@@ -10,24 +10,13 @@ use std::marker::Model;
 
 /// A graph without cycles, whose edges all name vertices of it. Its vertices have numbers from 0,
 /// by rising place.
+#[derive(Drop)]
 pub struct Graph {
     pub(crate) entries: BodyList,
     pub(crate) sources: Vec<Source>,
     pub(crate) edges: Vec<Items<(usize, u64)>>,
     pub(crate) order: Vec<usize>,
     pub(crate) result: (usize, u64),
-}
-
-impl Drop for Graph {
-    fn drop(self) {
-        let Graph {
-            entries: _,
-            sources: _,
-            edges: _,
-            order: _,
-            result: _,
-        } = self;
-    }
 }
 
 impl Model for Graph {

@@ -32,15 +32,10 @@ use thiserror::Error;
 
 /// A farm at one moment: its coordinator, its nodes, and every message that was ever sent. A run of
 /// the protocol leads to each one, so each is safe.
+#[derive(Drop)]
 pub struct World {
     parts: Box<Parts>,
     ghost sound: { ∥ IsWorld (shown_parts parts.value) ∥₁ },
-}
-
-impl Drop for World {
-    fn drop(self) {
-        let World { parts: _ } = self;
-    }
 }
 
 /// Why a farm does not start.
