@@ -196,4 +196,5 @@ def main() -> int:
     return 0 if found and not wrong else 1
 
 
-sys.exit(main())
+if __name__ == "__main__":
+    sys.exit(main())

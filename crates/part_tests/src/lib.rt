@@ -5,8 +5,6 @@
 #[cfg(test)]
 mod build;
 #[cfg(test)]
-mod crashes;
-#[cfg(test)]
 mod edits;
 #[cfg(test)]
 mod fields;
@@ -30,7 +28,5 @@ mod ops;
 mod orders;
 #[cfg(test)]
 mod own_coordinator;
-#[cfg(test)]
-mod places;
 #[cfg(test)]
 mod saves;
