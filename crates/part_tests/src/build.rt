@@ -84,7 +84,7 @@ fn meta(alloc: Global) -> Result<Meta, AllocError> {
 
 /// The exec op that runs `x` with a root mount and these cache mounts, all of one sharing. Of each its input, its dest,
 /// its id, and whether it is readonly.
-pub fn exec(
+fn exec(
     alloc: Global,
     caches: &[(i64, &str, &str, bool)],
     sharing: i32,

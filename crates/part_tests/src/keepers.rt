@@ -22,14 +22,24 @@ fn loaded<K: Keeper>(alloc: Global, keeper: &mut K) -> Result<(usize, usize), Fa
     Ok((log.whole().len(), log.entries().len()))
 }
 
+/// Whether the next sync fails, and what was kept before stays.
+fn fails_once(alloc: Global, keeper: &mut MemoryKeeper) -> Result<bool, Fail> {
+    keeper.fail_next(Kept::Old);
+    Ok(
+        keeper.sync().is_err()
+            && loaded(alloc, keeper)? == (3, 2)
+            && keeper.log().whole() == b"one".as_slice()
+            && (keeper.saves(), keeper.failures()) == (2, 1),
+    )
+}
+
 #[test]
 fn calls_of_a_keeper(rt: HostRuntime) -> Result<(), Fail> {
-    let mut keeper = MemoryKeeper::new(rt.alloc(), Vec::new(rt.alloc()));
-    keep_all(rt.alloc(), &mut keeper)?;
-    keeper.fail_next(Kept::Old);
-    assert!(rt; keeper.sync().is_err());
-    assert_eq!(rt; loaded(rt.alloc(), &mut keeper)?, (3, 2));
-    assert!(rt; keeper.log().whole() == b"one".as_slice());
-    assert_eq!(rt; (keeper.saves(), keeper.failures()), (2, 1));
+    let mut keeper = Box::new(
+        rt.alloc(),
+        MemoryKeeper::new(rt.alloc(), Vec::new(rt.alloc())),
+    )?;
+    keep_all(rt.alloc(), &mut *keeper)?;
+    assert!(rt; fails_once(rt.alloc(), &mut *keeper)?);
     Ok(())
 }

@@ -29,9 +29,13 @@ fn shown_wants(alloc: Global, wants: &Wants) -> Result<String, AllocError> {
     Ok(text)
 }
 
-/// The text, and behind it for each cache mount the place of the want that it sees.
-fn with_views(text: String, views: &[CacheView]) -> Result<String, AllocError> {
-    let mut text = text;
+/// The same, and behind it for each cache mount the place of the want that it sees.
+fn shown_with_views(
+    alloc: Global,
+    wants: &Wants,
+    views: &[CacheView],
+) -> Result<String, AllocError> {
+    let mut text = shown_wants(alloc, wants)?;
     for CacheView { mount, want } in views {
         write!(text, "{mount}-{want} ")?;
     }
@@ -40,13 +44,13 @@ fn with_views(text: String, views: &[CacheView]) -> Result<String, AllocError> {
 
 /// What the vertex of a number wants, and what its cache mounts see.
 fn shown(alloc: Global, graph: &Graph, number: usize) -> Result<String, Fail> {
-    let keys = solverkeys::keys(alloc, graph)?;
     if number >= graph.len() {
         return Err(Fail::from("no vertex"));
     }
+    let keys = solverkeys::keys(alloc, graph)?;
     let wants = wants(alloc, graph, number, &keys)?;
     let views = views(alloc, graph, number, &keys, &wants)?;
-    Ok(with_views(shown_wants(alloc, &wants)?, &views)?)
+    Ok(shown_with_views(alloc, &wants, &views)?)
 }
 
 /// Whether the vertex of a number wants this.

@@ -1,9 +1,9 @@
 //! Ops and definitions. Their bytes were spelled by hand from proto3's encoding.
 
-use super::build::{CACHED, exec, exec_op, text};
+use super::build::{CACHED, exec_op, text};
 use opsproto::{
     Definition, ExecOp, Input, Kind, Meta, Mount, Op, OpRefusal, read_definition, read_op,
-    write_definition, write_exec, write_op,
+    write_definition, write_op,
 };
 use protowire::WireRefusal;
 use std::alloc::{AllocError, Global};
@@ -87,21 +87,25 @@ fn shown_exec(alloc: Global, exec: &ExecOp) -> Result<String, AllocError> {
     Ok(shown)
 }
 
-fn shown(alloc: Global, read: &Result<Op, OpRefusal>) -> Result<String, AllocError> {
-    match read {
+fn shown_kind(alloc: Global, op: &Op) -> Result<String, AllocError> {
+    match op.kind() {
+        Kind::Bare => String::from_str(alloc, "bare"),
+        Kind::Opaque(number) => format!(in alloc; "opaque {number}"),
+        Kind::Exec(exec) => shown_exec(alloc, exec),
+    }
+}
+
+fn shown(alloc: Global, bytes: &[u8]) -> Result<String, AllocError> {
+    match read_op(alloc, bytes) {
         Err(refusal) => format!(in alloc; "{refusal:?}"),
-        Ok(op) => match op.kind() {
-            Kind::Bare => String::from_str(alloc, "bare"),
-            Kind::Opaque(number) => format!(in alloc; "opaque {number}"),
-            Kind::Exec(exec) => shown_exec(alloc, exec),
-        },
+        Ok(op) => shown_kind(alloc, &op),
     }
 }
 
 /// What an op of these hexadecimal digits is.
 fn shown_op(alloc: Global, digits: &str) -> Result<String, Fail> {
     let bytes = hex::decode(alloc, digits)?;
-    Ok(shown(alloc, &read_op(alloc, &bytes))?)
+    Ok(shown(alloc, &bytes)?)
 }
 
 #[test]
@@ -154,14 +158,7 @@ fn ops_cut_at_every_byte(rt: HostRuntime) -> Result<(), Fail> {
     Ok(())
 }
 
-/// The body of an exec op with a LOCKED cache mount, as it is written.
-fn written_exec(alloc: Global) -> Result<String, Fail> {
-    let exec = exec(alloc, &[(-1, "/go/pkg/mod", "", false)], 3)?;
-    let body = write_exec(alloc, &exec)?;
-    Ok(hex::encode(alloc, &body)?)
-}
-
-/// An exec op with an input.
+/// An exec op with a cache mount and an input.
 fn op_with_input(alloc: Global) -> Result<Op, AllocError> {
     let input = Input {
         digest: text(alloc, "d")?,
@@ -172,30 +169,24 @@ fn op_with_input(alloc: Global) -> Result<Op, AllocError> {
 }
 
 /// The same as it is written.
-fn written_op(alloc: Global) -> Result<String, Fail> {
-    let bytes = write_op(alloc, &op_with_input(alloc)?)?;
-    Ok(hex::encode(alloc, &bytes)?)
+fn written_op(alloc: Global) -> Result<Vec<u8>, AllocError> {
+    let op = op_with_input(alloc)?;
+    write_op(alloc, &op)
 }
 
-/// Whether the body is that of the exec op that is read above.
-fn is_body_of_cached(alloc: Global) -> Result<bool, Fail> {
-    let body = written_exec(alloc)?;
-    Ok(body.as_str() == CACHED.strip_prefix("1241").ok_or("prefix")?)
-}
+/// Its input as it is written.
+const INPUT: &[u8] = b"\x0a\x0e\x0a\x01d\x10\xff\xff\xff\xff\xff\xff\xff\xff\xff\x01";
 
-/// Whether the whole op begins with its input.
-fn begins_with_input(alloc: Global) -> Result<bool, Fail> {
-    let text = written_op(alloc)?;
-    Ok(
-        text.as_str()
-            .starts_with("0a0e0a016410ffffffffffffffffff011241"),
-    )
+/// Whether it is the op that is read above, with its input.
+fn is_cached_with_input(alloc: Global, bytes: &[u8]) -> Result<bool, Fail> {
+    let cached = hex::decode(alloc, CACHED)?;
+    Ok(bytes.strip_prefix(INPUT) == Some(cached.as_slice()))
 }
 
 #[test]
 fn an_exec_op_is_written(rt: HostRuntime) -> Result<(), Fail> {
-    assert!(rt; is_body_of_cached(rt.alloc())?);
-    assert!(rt; begins_with_input(rt.alloc())?);
+    let bytes = written_op(rt.alloc())?;
+    assert!(rt; is_cached_with_input(rt.alloc(), &bytes)?);
     Ok(())
 }
 
@@ -223,18 +214,20 @@ const ENTRIES: [(&[u8], usize); 3] = [
 #[test]
 fn definitions(rt: HostRuntime) -> Result<(), Fail> {
     for (bytes, wanted) in &ENTRIES {
-        assert_eq!(rt; entries(rt.alloc(), *bytes)?, *wanted);
+        assert!(rt; entries(rt.alloc(), *bytes)? == *wanted);
     }
     Ok(())
+}
+
+/// Whether a definition is written as it was.
+fn is_written_again(alloc: Global, bytes: &[u8]) -> Result<bool, OpRefusal> {
+    Ok(written_again(alloc, bytes)?.as_slice() == bytes)
 }
 
 /// Two entries are written as they were, and one that is cut is refused.
 #[test]
 fn definitions_again(rt: HostRuntime) -> Result<(), Fail> {
-    let wanted = b"\x0a\x00\x0a\x01\x0a".as_slice();
-    let bytes = written_again(rt.alloc(), wanted)?;
-    assert_eq!(rt; bytes.as_slice(), wanted);
-    let cut = entries(rt.alloc(), b"\x0a");
-    assert!(rt; matches!(cut, Err(OpRefusal::Wire(_))));
+    assert!(rt; is_written_again(rt.alloc(), b"\x0a\x00\x0a\x01\x0a")?);
+    assert!(rt; matches!(entries(rt.alloc(), b"\x0a"), Err(OpRefusal::Wire(_))));
     Ok(())
 }

@@ -43,11 +43,16 @@ fn entries_of(
     Ok(entries)
 }
 
+/// Whether the entries of a row are ordered so.
+fn are_ordered(alloc: Global, row: &[(u8, &[u8])], wanted: &str) -> Result<bool, AllocError> {
+    let entries = entries_of(alloc, row)?;
+    Ok(shown(alloc, &entries)?.as_str() == wanted)
+}
+
 #[test]
 fn orders(rt: HostRuntime) -> Result<(), Fail> {
     for (row, wanted) in &ROWS {
-        let text = shown(rt.alloc(), &entries_of(rt.alloc(), *row)?)?;
-        assert_eq!(rt; text.as_str(), *wanted);
+        assert!(rt; are_ordered(rt.alloc(), *row, *wanted)?);
     }
     Ok(())
 }

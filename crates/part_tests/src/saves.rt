@@ -54,7 +54,8 @@ fn folded(alloc: Global, log: &Log) -> Result<Vec<u8>, RecordRefusal> {
 /// Whether the coordinator of a world saved so often, and has this record.
 fn has_saved(alloc: Global, world: &World, saves: u64, wanted: &str) -> Result<bool, Fail> {
     let keeper = world.coordinator().keeper();
-    let text = hex::encode(alloc, &folded(alloc, keeper.log())?)?;
+    let record = folded(alloc, keeper.log())?;
+    let text = hex::encode(alloc, &record)?;
     Ok(text.as_str() == wanted && keeper.saves() == saves)
 }
 
@@ -94,20 +95,17 @@ fn rounds(alloc: Global, count: u64) -> Result<String, Fail> {
     Ok(text)
 }
 
-/// How often the coordinator saves in a schedule.
-fn saves_after(alloc: Global, schedule: &str) -> Result<u64, Fail> {
-    let world = world_after(alloc, schedule)?;
+/// How often the coordinator saves in it.
+fn saves_in_rounds(alloc: Global, count: u64) -> Result<u64, Fail> {
+    let schedule = rounds(alloc, count)?;
+    let world = world_after(alloc, schedule.as_str())?;
     Ok(world.coordinator().keeper().saves())
 }
 
 #[test]
 fn block_saves(rt: HostRuntime) -> Result<(), Fail> {
     for (count, wanted) in &BLOCKS {
-        let schedule = rounds(rt.alloc(), *count)?;
-        assert!(rt;
-            saves_after(rt.alloc(), schedule.as_str())? == *wanted,
-            "{count}"
-        );
+        assert!(rt; saves_in_rounds(rt.alloc(), *count)? == *wanted, "{count}");
     }
     Ok(())
 }
