@@ -2,11 +2,12 @@
 //! MACs are those of Python's hmac.
 
 use coordinator::Coordinator;
+use coordinatorfilter::CoordinatorFilter;
 use farmwire::FarmKey;
 use filekeeper::Gathered;
 use protocol::Kept;
 use saverecord::MemoryKeeper;
-use services::{CoordinatorFilter, serve};
+use services::serve;
 use std::alloc::Global;
 use std::test::Fail;
 

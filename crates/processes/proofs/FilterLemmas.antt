@@ -3,7 +3,7 @@ use Rattle.std.proofs.Common.{◌≡◌, ℕ, List, [], ◌∷◌, Option, Resul
 use Rattle.coordinator.specs.Seen.{Seen}
 use Rattle.saverecord.specs.Texts.{Texts}
 use Rattle.services.specs.declared.lost.Lost.{Lost}
-use Rattle.services.specs.Carried.{Saving, Loading}
+use Rattle.coordinatorfilter.specs.Carried.{Saving, Loading}
 use Rattle.services.specs.declared.settled.Settled.{Settled}
 use Rattle.services.specs.Served.{Steps, Settling, Answers, Batches, Serves}
 use Rattle.services.specs.Served.Batches.{Begins, Goes_on}
