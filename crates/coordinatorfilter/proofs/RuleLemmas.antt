@@ -26,7 +26,7 @@ use Rattle.protocol.specs.Processes.Happens.{Coordinator_does}
 use Rattle.protocol.specs.Processes.Runs.{Rests, Goes_on}
 use Rattle.saverecord.specs.declared.refusal.KeeperRefusal.{KeeperRefusal}
 use Rattle.saverecord.specs.declared.refusal.KeeperRefusal.TheVariants as keeper
-use Rattle.saverecord.specs.Logs.{Holds, saved_in}
+use Rattle.saverecord.specs.Logs.{saved_in}
 use Rattle.saverecord.specs.Texts.{Texts}
 use Rattle.coordinatorfilter.specs.declared.call.Call.{Call}
 use Rattle.coordinatorfilter.specs.declared.call.Call.TheVariants.{Handle, Withdraw, Retire, Prune, Nudge}

@@ -4,7 +4,7 @@ ghost use Rattle.std.specs.List.{flat_map};
 ghost use Rattle.std.specs.String.{string_bytes};
 ghost use Rattle.schedule.specs.RefusalNames.{coord_refusal_text};
 ghost use Rattle.protocol.specs.Machine.{Told};
-ghost use Rattle.coordinatorfilter.specs.Written.{restart_lines, ended_line, over_lines, fact_lines, note_line, refused_line, IsAnswered, IsWritten};
+ghost use Rattle.coordinatorfilter.specs.Written.{restart_lines, ended_line, over_lines, fact_lines, note_line, IsAnswered, IsWritten};
 
 use super::reply::{Ended, Over, Reply};
 use coordinator::Handled;

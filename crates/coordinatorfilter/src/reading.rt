@@ -1,5 +1,5 @@
 //! The call that a line asks for.
-ghost use Rattle.std.specs.Prelude.{◌≡◌, ◌≢◌, ℕ, ◌<◌, ◌^◌, List, ◌++◌, codes, decimal, IfOk, IfErr, IfSome, IfNone};
+ghost use Rattle.std.specs.Prelude.{◌≡◌, ◌≢◌, ◌<◌, ◌^◌, ◌++◌, decimal, IfOk, IfErr, IfSome, IfNone};
 ghost use Rattle.farm_base.specs.declared.limits.TheConstants.{NODES};
 ghost use Rattle.farm_base.specs.declared.number.NodeId.{NodeId};
 ghost use Rattle.farm_base.specs.declared.number.Ticket.{Ticket};

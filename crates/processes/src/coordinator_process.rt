@@ -1,5 +1,5 @@
 //! The coordinator as a process.
-ghost use Rattle.std.specs.Prelude.{◌≡◌, OnOk, IfSome};
+ghost use Rattle.std.specs.Prelude.{OnOk, IfSome};
 ghost use Rattle.processes.specs.Farms.{EveryFarmStaysSafe};
 ghost use Rattle.processes.specs.Served.{IsServed};
 ghost use Rattle.coordinatorfilter.specs.Rules.{

@@ -1,5 +1,5 @@
 //! A node as a process.
-ghost use Rattle.std.specs.Prelude.{◌≡◌, OnOk, IfSome};
+ghost use Rattle.std.specs.Prelude.{OnOk, IfSome};
 ghost use Rattle.nodefilter.specs.Rules.{ABatchIsARun, AKillIsARun, AStartIsARun};
 ghost use Rattle.processes.specs.Farms.{EveryFarmStaysSafe};
 ghost use Rattle.processes.specs.Served.{IsNodeServed};
