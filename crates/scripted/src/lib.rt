@@ -1,4 +1,6 @@
 //! The executor of `run`: an execution does what a few words of its command say. Tests say what it does.
+#![tactic(auto)]
+
 ghost use Rattle.std.specs.Prelude.{⊤};
 
 use executions::{Call, ExecOutcome, ExecTask, Executor};
