@@ -8,6 +8,7 @@ ghost use Rattle.commands.specs.Runs.{job_line, job_lines, commits_line, names_o
 
 use super::acts::{DONE, FAULT, MEMORY, REFUSED, print, print_failure, print_unreadable};
 use answers::{Failure, graph_of};
+use commandline::Order;
 use executions::{Executor, OpenGate};
 use farm::{FailedJob, Farm, FarmEnd, FarmFault, FarmStop};
 use farm_base::NodeId;
@@ -212,14 +213,6 @@ fn print_input_fault<E: Write>(
             }
         }
     }
-}
-
-/// What `run` is asked to do.
-#[derive(Clone, Copy, PartialEq, Eq)]
-pub struct Order<'a> {
-    pub nodes: u32,
-    /// Where the coordinator's record is kept, if it is.
-    pub record_path: Option<&'a str>,
 }
 
 /// How a run ended.

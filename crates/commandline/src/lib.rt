@@ -1,6 +1,6 @@
 //! The words of the command line.
+#![tactic(auto)]
 
-use super::running::Order;
 use answers::Command;
 use clap::builder::ValueParser;
 use clap::{Arg, ArgAction, ArgMatches, Error};
@@ -9,6 +9,14 @@ use farm_base::{EVENTS, NODES, NodeId};
 use opsproto::LIMIT;
 use processes::{CoordinatorPlace, NodePlace};
 use std::alloc::{AllocError, Global};
+
+/// What `run` is asked to do.
+#[derive(Clone, Copy, PartialEq, Eq)]
+pub struct Order<'a> {
+    pub nodes: u32,
+    /// Where the coordinator's record is kept, if it is.
+    pub record_path: Option<&'a str>,
+}
 
 /// What the program is asked to do.
 #[derive(Clone, Copy, PartialEq, Eq)]
