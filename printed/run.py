@@ -11,7 +11,8 @@ is a file `TABLE.cases` of blocks, parted by an empty line. The first word of a 
     hex NAME DIGITS        adds bytes to it
     lines NAME N LINE      adds a line N times, with its number for {}; `hexes` adds bytes so
     cut NAME FROM TO       the block is tried with the file cut to each of these lengths
-    $ WORDS                calls farmctl in the folder of the files; a last word `<NAME` is the file that it reads
+    $ WORDS                calls farmctl in the folder of the files; a last word `<NAME` is the file that it reads, `>PATH` one that it
+                           prints to
     < LINE                 is read by it; `<!` is a line that gets no MAC
     > LINE                 is printed to the standard output
     ! LINE                 is printed to the standard error
@@ -134,16 +135,19 @@ def is_so(wanted: list[str], printed: bytes) -> bool:
 
 def ran(words: list[str], room: str, read: bytes) -> tuple[int, bytes, bytes]:
     """The status of a call, -1 where it doesn't end, and what it printed."""
-    try:
-        done = subprocess.run([PROGRAM, *words], cwd=room, input=read, capture_output=True, timeout=SECONDS)
-    except subprocess.TimeoutExpired:
-        return -1, b"", b"it doesn't end\n"
-    return done.returncode, done.stdout, done.stderr
+    path = words.pop()[1:] if words and words[-1].startswith(">") else ""
+    with open(path or os.devnull, "wb") as other:
+        out = other if path else subprocess.PIPE
+        try:
+            done = subprocess.run([PROGRAM, *words], cwd=room, input=read, stdout=out, stderr=subprocess.PIPE, timeout=SECONDS)
+        except subprocess.TimeoutExpired:
+            return -1, b"", b"it doesn't end\n"
+    return done.returncode, done.stdout or b"", done.stderr
 
 
 def wrong_call(case: Case, call: Call, room: str) -> str:
     """What is wrong of a call: no text where nothing is."""
-    words, read = call.words, "".join(f"{line}\n" for line in call.read).encode("latin-1")
+    words, read = list(call.words), "".join(f"{line}\n" for line in call.read).encode("latin-1")
     if words and words[-1].startswith("<"):
         words, read = words[:-1], case.files[words[-1][1:]]
     status, out, err = ran(words, room, read)

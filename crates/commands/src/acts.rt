@@ -5,12 +5,12 @@ ghost use Rattle.answers.specs.declared.failure.Failure.TheVariants as failures;
 ghost use Rattle.answers.specs.Failures.{failure_line};
 ghost use Rattle.commands.specs.Acts.{AnswersAll, FirstFault};
 
-use super::command::{Options, Request, Words, words_of};
 use super::explain::{causes_told, copies_of, explained, push_log_fault};
 use super::files::{contents, kept};
 use super::processing::{be_node, coordinate};
-use super::running::{Order, run_scripts};
+use super::running::run_scripts;
 use answers::{Command, Explanation, Failure, RefusedEvent, answer, events_told};
+use commandline::{Options, Order, Request, Words, words_of};
 use std::alloc::{AllocError, Global};
 use std::fs::File;
 use std::io::{self, Write};

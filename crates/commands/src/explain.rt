@@ -1,8 +1,8 @@
 //! What `--explain` adds of a run's files and of logs, in plain words, on the standard error. Tests alone say what is printed
 //! here.
 
-use super::command::Request;
 use answers::{Command, Explanation, Failure, graph_of};
+use commandline::Request;
 use farm::FailedJob;
 use farm_base::{Key, Why};
 use jobs::{Cause, Fault};

@@ -3,15 +3,11 @@
 #![tactic(auto)]
 
 mod acts;
-mod command;
 mod explain;
 mod files;
 mod processing;
 mod running;
-mod scripted;
 
 pub use acts::{DONE, FAULT, MEMORY, REFUSED, Told, USAGE, act, print_no_words, run};
-pub use command::{Options, Request, Words, words_of};
 pub use explain::explained;
-pub use running::{Ended, Order, run_scripts, solve};
-pub use scripted::Scripted;
+pub use running::{Ended, run_scripts, solve};

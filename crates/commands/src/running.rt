@@ -1,20 +1,21 @@
 //! What `run` does with its files.
-ghost use Rattle.std.specs.Prelude.{◌≡◌, ◌≢◌, ◌+◌, ◌++◌, ◌∷◌, [], ℕ, List, codes, length, map, None, IfOk, IfErr, IfSome, IfNone, OnOk};
+ghost use Rattle.std.specs.Prelude.{◌≡◌, ◌≢◌, ◌+◌, ◌++◌, ◌∷◌, [], ℕ, List, length, map, None, IfOk, IfErr, IfSome, IfNone, OnOk};
 ghost use Rattle.std.specs.String.{string_bytes};
 ghost use Rattle.std.specs.Io.KnownBytes.{Appends};
 ghost use Rattle.commands.specs.declared.running.InputFault.TheVariants as inputs;
 ghost use Rattle.answers.specs.Answers.{SpellsGraph, IsNoGraph};
-ghost use Rattle.commands.specs.Runs.{answer_text, job_line, job_lines, commits_line, names_of, IsRunOf, IsRecordOf};
+ghost use Rattle.commands.specs.Runs.{job_line, job_lines, commits_line, names_of, IsRunOf, IsRecordOf};
 
 use super::acts::{DONE, FAULT, MEMORY, REFUSED, print, print_failure, print_unreadable};
-use super::scripted::Scripted;
 use answers::{Failure, graph_of};
+use commandline::Order;
 use executions::{Executor, OpenGate};
 use farm::{FailedJob, Farm, FarmEnd, FarmFault, FarmStop};
 use farm_base::NodeId;
 use filekeeper::FileKeeper;
 use jobs::Answer;
 use schedule::Setup;
+use scripted::Scripted;
 use solverkeys::Keyed;
 use std::alloc::{AllocError, AllocFailed, Global};
 use std::io::{self, Write};
@@ -212,14 +213,6 @@ fn print_input_fault<E: Write>(
             }
         }
     }
-}
-
-/// What `run` is asked to do.
-#[derive(Clone, Copy, PartialEq, Eq)]
-pub struct Order<'a> {
-    pub nodes: u32,
-    /// Where the coordinator's record is kept, if it is.
-    pub record_path: Option<&'a str>,
 }
 
 /// How a run ended.

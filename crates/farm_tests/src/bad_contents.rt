@@ -3,8 +3,8 @@ ghost use Rattle.std.specs.Prelude.{◌≡◌, ◌<◌, length, All, IfOk};
 ghost use Rattle.cachemounts.specs.CacheWants.{AreWants};
 
 use super::board_calls::{begun, deliver, execute, granted};
+use super::definitions::PUT;
 use super::hostile::{Misbehaving, Misdeed};
-use super::runs::PUT;
 use super::threads::jobs_on;
 use cachemounts::{needs_home, wants_of};
 use executions::{Executor, RunRefusal, run_leased};

@@ -1,9 +1,8 @@
 //! Runs that are disturbed once, at each place of their schedule, and runs by an executor that misbehaves.
 ghost use Rattle.std.specs.Prelude.{⊤, ◌≡◌, ◌∷◌, []};
 
-use super::runs::{Op, PUT, PUT_PRIVATE, PUT_SHARED};
+use super::definitions::{Op, PUT, PUT_PRIVATE, PUT_SHARED};
 use super::threads::{is_output, jobs_on};
-use commands::Scripted;
 use executions::{Call, ExecOutcome, ExecTask, Executor, OpenGate};
 use farm::{Farm, FarmLeft, FarmStop};
 use farm_base::{Copied, FolderName, Items, NodeId, Text, Ticket};
@@ -13,6 +12,7 @@ use jobs::Answer;
 use protocol::{Event, Kept};
 use saverecord::Record;
 use schedule::Setup;
+use scripted::Scripted;
 use solverkeys::Keyed;
 use std::alloc::{AllocError, Global};
 use std::sync::Wait;

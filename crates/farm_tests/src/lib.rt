@@ -6,12 +6,10 @@ mod bad_contents;
 #[cfg(test)]
 mod board_calls;
 #[cfg(test)]
-mod hostile;
+mod definitions;
 #[cfg(test)]
-mod runs;
+mod hostile;
 #[cfg(test)]
 mod shared_batches;
 #[cfg(test)]
 mod threads;
-#[cfg(test)]
-mod unwritten;

@@ -2,8 +2,7 @@
 //! executor in one thread.
 ghost use Rattle.std.specs.Prelude.{⊤, ◌≡◌, ◌∷◌, [], IfOk};
 
-use super::runs::{Op, PUT_PRIVATE};
-use commands::Scripted;
+use super::definitions::{Op, PUT_PRIVATE};
 use executions::{Call, ExecOutcome, ExecTask, Executor, Gate, OpenGate};
 use farm::{DownCount, Farm, FarmEnd, FarmFault};
 use farm_base::{Digest, Items, Key, NodeId};
@@ -11,6 +10,7 @@ use farmboard::FarmStep;
 use jobs::Answer;
 use opsproto::read_definition;
 use schedule::Setup;
+use scripted::Scripted;
 use solverkeys::Keyed;
 use std::alloc::{AllocError, Global};
 use std::sync::atomic::{AtomicBool, Ordering};

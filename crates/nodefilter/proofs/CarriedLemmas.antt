@@ -9,8 +9,8 @@ use Rattle.protocol.specs.Nodes.{NodeAnswer}
 use Rattle.protocol.specs.World.{Node}
 use Rattle.nodefilter.specs.declared.order.Call.{Call}
 use Rattle.nodefilter.specs.Carried.{node_answer, brought_by, forgotten_by}
-use Rattle.nodefilter.specs.States.{Seen}
-use Rattle.nodefilter.specs.Stores.{Kept, StayKept, AllKept, AreKept, IsSound}
+use Rattle.nodefilter.specs.States.{Seen, AreKept, IsSound}
+use Rattle.nodestore.specs.Stores.{Kept, StayKept, AllKept}
 use Rattle.nodefilter.proofs.GainLemmas.{gains, goes}
 
 -- what is refused leaves the node as it was

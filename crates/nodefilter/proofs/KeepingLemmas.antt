@@ -4,7 +4,7 @@ use Rattle.std.specs.List.{Contains}
 use Rattle.std.proofs.lemmas.List.{take_more}
 use Rattle.std.proofs.lemmas.List.Elements.{Contains-push_cases}
 use Rattle.protocol.specs.Names.{Digest}
-use Rattle.nodefilter.specs.Stores.{Kept, StayKept, AllKept}
+use Rattle.nodestore.specs.Stores.{Kept, StayKept, AllKept}
 
 -- of one more the content that is stored is kept
 pub kept_more : {S : Type 0} (kept : Kept S) (store : Digest → Option (List ℕ)) (ds : List Digest) (i : ℕ) (e : Digest) (old new : S) → i < length ds

@@ -33,12 +33,12 @@ use Rattle.protocol.specs.Processes.Runs.{Rests, Goes_on}
 use Rattle.protocol.specs.World.{Node, has_life}
 use Rattle.services.specs.declared.lost.Lost.{Lost}
 use Rattle.services.specs.Buffers.{IsKept}
-use Rattle.services.specs.Rules.{Says, Says_all}
-use Rattle.services.specs.Rules.Says_all.{Says_none, Says_more}
+use Rattle.services.specs.Says.{Says, Says_all}
+use Rattle.services.specs.Says.Says_all.{Says_none, Says_more}
 use Rattle.services.specs.Served as served
 use Rattle.services.specs.Served.{joined, settled_text}
 use Rattle.protocol.proofs.Following.{part_refl, part_none}
-use Rattle.services.proofs.RuleLemmas.{still_in, nothing_said, said_of, said_both}
+use Rattle.services.proofs.SaysLemmas.{still_in, nothing_said, said_of, said_both}
 use Rattle.nodefilter.specs.declared.about.About.{About}
 use Rattle.nodefilter.specs.declared.about.About.TheVariants as about
 use Rattle.nodefilter.specs.declared.filter.NodeFilter.{NodeFilter}
@@ -55,7 +55,7 @@ use Rattle.nodefilter.specs.Filters.IsCallOf.{Itself}
 use Rattle.nodefilter.specs.Filters.Makes.{Made, Stopped}
 use Rattle.nodefilter.specs.Rules.{AreOfTheFarm, with_node, node_steps, sends_of, made_messages, followed_messages, line_messages, messages_of, ABatchIsARun, AKillIsARun, AStartIsARun}
 use Rattle.nodefilter.specs.States.{Seen, seen}
-use Rattle.nodefilter.specs.Stores.{Kept}
+use Rattle.nodestore.specs.Stores.{Kept}
 use Rattle.nodefilter.specs.Written.{note_line}
 use Rattle.nodefilter.proofs.StartLemmas.{kept_stands}
 

@@ -18,8 +18,8 @@ use Rattle.nodefilter.specs.declared.about.About.{About}
 use Rattle.nodefilter.specs.declared.about.About.TheVariants as about
 use Rattle.nodefilter.specs.declared.order.Call.{Call}
 use Rattle.nodefilter.specs.declared.order.Call.TheVariants as call
-use Rattle.nodefilter.specs.States.{Seen}
-use Rattle.nodefilter.specs.Stores.{Kept, StayKept, IsSound}
+use Rattle.nodefilter.specs.States.{Seen, IsSound}
+use Rattle.nodestore.specs.Stores.{Kept, StayKept}
 
 -- what the protocol's rules make of the call. A content that the agent brings is heard as if another node had sent it
 abbrev pub node_answer : NodeId → Place → Node → Call → NodeAnswer

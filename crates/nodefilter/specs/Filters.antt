@@ -23,7 +23,7 @@ use Rattle.nodefilter.specs.declared.order.Order.TheVariants as order
 use Rattle.nodefilter.specs.Asked.{AsksFor, AsksNothing}
 use Rattle.nodefilter.specs.Carried.{about_call, CarriesOut}
 use Rattle.nodefilter.specs.States.{Seen}
-use Rattle.nodefilter.specs.Stores.{Kept}
+use Rattle.nodestore.specs.Stores.{Kept}
 use Rattle.nodefilter.specs.Written.{noted, IsWritten, store_fault, file_fault, no_content, content_line, state_text}
 
 -- what was left in the slots of these files

@@ -1,7 +1,6 @@
 pub mod Orders
 pub mod Asked
 pub mod Carried
-pub mod Stores
 pub mod States
 pub mod Written
 pub mod Filters

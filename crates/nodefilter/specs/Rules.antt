@@ -15,7 +15,7 @@ use Rattle.protocol.specs.Lists.{In, put}
 use Rattle.protocol.specs.declared.answer.NodeRefusal.{NodeRefusal}
 use Rattle.protocol.specs.Processes.{Processes, Runs}
 use Rattle.protocol.specs.World.{Node}
-use Rattle.services.specs.Rules.{Says_all}
+use Rattle.services.specs.Says.{Says_all}
 use Rattle.services.specs.Served.{Steps, Answers, Batch}
 use Rattle.nodefilter.specs.declared.filter.NodeFilter.{NodeFilter}
 use Rattle.nodecore.specs.declared.message.NodeDone.{NodeDone}
@@ -33,7 +33,7 @@ use Rattle.nodefilter.specs.declared.starting.Origin.{Origin}
 use Rattle.nodefilter.specs.declared.starting.Started.{Started}
 use Rattle.nodefilter.specs.Starts.{Begins}
 use Rattle.nodefilter.specs.States.{Seen, seen}
-use Rattle.nodefilter.specs.Stores.{Kept}
+use Rattle.nodestore.specs.Stores.{Kept}
 
 -- each of these lines that says something to the node was written by a process: that is the premise on the farm's key
 abbrev pub AreOfTheFarm : List ℕ → NodeId → List (List ℕ) → List Message → Type 0

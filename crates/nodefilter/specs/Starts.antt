@@ -10,8 +10,8 @@ use Rattle.protocol.specs.Nodes.{Place, restarted, may_restart}
 use Rattle.nodefilter.specs.declared.about.About.TheVariants as about
 use Rattle.nodefilter.specs.declared.starting.Origin.{Origin}
 use Rattle.nodefilter.specs.declared.starting.Started.{Started}
-use Rattle.nodefilter.specs.States.{seen}
-use Rattle.nodefilter.specs.Stores.{Kept, IsSound}
+use Rattle.nodefilter.specs.States.{seen, IsSound}
+use Rattle.nodestore.specs.Stores.{Kept}
 use Rattle.nodefilter.specs.Written.{IsDone}
 
 -- which node it is, and how many there are

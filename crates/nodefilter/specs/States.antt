@@ -1,9 +1,11 @@
 -- What contracts see of a node's filter.
-use Rattle.std.specs.Prelude.{ℕ, Bool, List}
+use Rattle.std.specs.Prelude.{◌≡◌, ◌≢◌, ℕ, Bool, true, false, List, [], Some}
+use Rattle.farm_base.specs.Contents.{content_digest}
 use Rattle.nodecore.specs.Shown.{forgets, shown, place}
-use Rattle.protocol.specs.Names.{NodeId}
+use Rattle.protocol.specs.Names.{Digest, NodeId}
 use Rattle.protocol.specs.Nodes.{Place}
 use Rattle.protocol.specs.World.{Node}
+use Rattle.nodestore.specs.Stores.{Kept}
 use Rattle.nodefilter.specs.declared.filter.NodeFilter.{NodeFilter}
 
 pub record Seen (S : Type 0) : Type 0 where
@@ -21,3 +23,11 @@ pub record Seen (S : Type 0) : Type 0 where
 abbrev pub seen : {S : Type 0} → NodeFilter S → Seen S
 seen f =
     record { node = shown f.core; at = place f.core; forgets = forgets f.core; me = f.me; key = f.key; store = f.store; down = f.down }
+
+-- each content that the node stores is kept, but the empty one, which each node has
+abbrev pub AreKept : {S : Type 0} → Kept S → Seen S → Type 0
+AreKept kept f = (d : Digest) (c : List ℕ) → f.node.store d ≡ Some c → d ≢ content_digest [] → kept f.store d ≡ true
+
+-- so it is while the filter is up
+abbrev pub IsSound : {S : Type 0} → Kept S → Seen S → Type 0
+IsSound kept f = f.down ≡ false → AreKept kept f

@@ -1,5 +1,5 @@
 //! What a line asks of a node, its agent's or one from outside.
-ghost use Rattle.std.specs.Prelude.{◌≡◌, IfOk, IfErr, IfSome, IfNone};
+ghost use Rattle.std.specs.Prelude.{IfOk, IfErr, IfSome, IfNone};
 ghost use Rattle.nodefilter.specs.Asked.{IsFor, IsForOthers, IsHeard, IsDropped, Orders, IsUnread, AsksFor, AsksNothing};
 
 use super::order::{Call, Order};

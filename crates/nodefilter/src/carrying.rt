@@ -6,14 +6,14 @@ ghost use Rattle.nodecore.specs.Shown.{forgets, shown, place, Answers};
 ghost use Rattle.nodefilter.specs.declared.order.Call.{Call};
 ghost use Rattle.nodefilter.specs.Carried.{node_answer, brought_by, forgotten_by, about_told, about_call, CarriesOut};
 ghost use Rattle.nodefilter.specs.States.{seen};
-ghost use Rattle.nodefilter.specs.Stores.{StayKept, AllKept};
+ghost use Rattle.nodestore.specs.Stores.{StayKept, AllKept};
 
 use super::about::About;
 use super::filter::NodeFilter;
 use super::order::Call;
-use super::store::{Store, StoreFault};
 use farm_base::{Copied, Digest, FromCoord, Items, Left, NodeId, ToNode};
 use nodecore::{NodeCore, NodeDone};
+use nodestore::{Store, StoreFault};
 use protocol::NodeRefusal;
 use std::alloc::{AllocError, Global};
 

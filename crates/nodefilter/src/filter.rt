@@ -10,10 +10,10 @@ use super::asking::asked;
 use super::carrying::carry_out;
 use super::order::{Call, LeftFile, Order};
 use super::printing::{print_carried, print_content, print_line, print_state};
-use super::store::{FileFault, Store};
 use farm_base::{Ask, Copied, Digest, Items, Left, NodeId, Text, Ticket};
 use farmwire::FarmKey;
 use nodecore::NodeCore;
+use nodestore::{FileFault, Store};
 use services::{Answer, Lost, Settled, Step, print_unread};
 use std::alloc::{AllocError, Global};
 

@@ -1,7 +1,7 @@
 //! Laws of a node's filter.
 ghost use Rattle.nodefilter.specs.Rules.{ABatchIsARun, AKillIsARun, AStartIsARun};
 
-use super::store::Store;
+use nodestore::Store;
 
 /// What a node's filter does with lines that come together a node of protocol's processes may do, with the messages of what it
 /// writes. So what is proved of processes holds of it.

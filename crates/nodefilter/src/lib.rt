@@ -4,20 +4,16 @@
 mod about;
 mod asking;
 mod carrying;
-mod file_store;
 mod filter;
 pub mod laws;
 mod order;
 mod printing;
 mod reading;
 mod starting;
-mod store;
 mod verb;
 
 pub use about::About;
 pub use carrying::Carried;
-pub use file_store::{FileStore, Found, OpenFault, open_store};
 pub use filter::NodeFilter;
 pub use order::{Call, LeftFile, Order};
 pub use starting::{Origin, StartFault, Started, start};
-pub use store::{FileFault, Store, StoreFault};

@@ -1,10 +1,10 @@
 //! The text of an answer.
-ghost use Rattle.std.specs.Prelude.{◌≡◌, ◌++◌, ◌∷◌, [], map, codes, IfOk, OnOk};
+ghost use Rattle.std.specs.Prelude.{◌≡◌, ◌++◌, ◌∷◌, [], IfOk, OnOk};
 ghost use Rattle.std.specs.String.{string_bytes};
-ghost use Rattle.words.specs.Words.{ticket_text, digits_text, why_text};
-ghost use Rattle.farmwire.specs.Lines.{ask_text, confirmed_text, grant_words};
+ghost use Rattle.words.specs.Words.{ticket_text};
+ghost use Rattle.farmwire.specs.Lines.{grant_words};
 ghost use Rattle.farmwire.specs.Words.{spaced};
-ghost use Rattle.nodefilter.specs.Written.{noted, versions_text, denied_ask, told_note, note_line, refused_line, IsDone, IsWritten, content_line, over_text, state_text};
+ghost use Rattle.nodefilter.specs.Written.{noted, versions_text, denied_ask, told_note, refused_line, IsDone, IsWritten, content_line, over_text, state_text};
 
 use super::about::About;
 use super::carrying::Carried;

@@ -1,5 +1,5 @@
 //! What the agent's lines ask for.
-ghost use Rattle.std.specs.Prelude.{◌≡◌, ◌≢◌, List, ◌++◌, map, IfOk};
+ghost use Rattle.std.specs.Prelude.{◌≡◌, ◌≢◌, List, map, IfOk};
 ghost use Rattle.std.specs.List.{All};
 ghost use Rattle.words.specs.Words.{texts, words};
 ghost use Rattle.nodefilter.specs.declared.order.LeftFile.{LeftFile};

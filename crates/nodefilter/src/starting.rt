@@ -6,10 +6,10 @@ ghost use Rattle.nodefilter.specs.Starts.{Begins};
 use super::about::About;
 use super::filter::NodeFilter;
 use super::printing::print_done;
-use super::store::Store;
 use farm_base::{Content, Life, NodeId};
 use farmwire::FarmKey;
 use nodecore::{KeptContents, NodeCore, ResumeRefusal};
+use nodestore::Store;
 use std::alloc::Global;
 use thiserror::Error;
 

@@ -2,10 +2,11 @@
 //! MACs are those of Python's hmac.
 
 use coordinator::Coordinator;
+use coordinatorfilter::CoordinatorFilter;
 use farmwire::FarmKey;
 use filekeeper::Gathered;
 use saverecord::{Kept, MemoryKeeper};
-use services::{CoordinatorFilter, serve};
+use services::serve;
 use std::alloc::Global;
 use std::test::Fail;
 

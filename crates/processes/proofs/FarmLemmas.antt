@@ -3,13 +3,13 @@ use Rattle.std.proofs.Common.{List, ℕ, arith, refl}
 use Rattle.farm_base.specs.Contents.{content_digest, empty_digest}
 use Rattle.farm_base.specs.declared.limits.TheConstants.{NODES}
 use Rattle.nodefilter.proofs.RuleLemmas as node
-use Rattle.nodefilter.specs.Stores.{has_digest}
+use Rattle.nodestore.specs.Stores.{has_digest}
 use Rattle.protocol.specs.Farm.{farm_limits}
 use Rattle.protocol.specs.Follows.{IsFarm}
 use Rattle.protocol.specs.Processes.{Processes, Runs, ProcessesStaySafe, first_processes}
 use Rattle.protocol.specs.Processes.Runs.{Rests, Goes_on}
-use Rattle.services.proofs.RuleLemmas.{over_files, kill_over_files, start_over_files}
-use Rattle.processes.specs.Farms.{last_life, Does, Comes_to, EveryFarmIsARun, EveryFarmStaysSafe}
+use Rattle.coordinatorfilter.proofs.RuleLemmas.{over_files, kill_over_files, start_over_files}
+use Rattle.processes.specs.Farms.{last_life, Does, EveryFarmIsARun, EveryFarmStaysSafe}
 use Rattle.processes.specs.Farms.Does.{Answers_lines, Is_killed, Starts, Node_answers_lines, Node_is_killed, Node_starts}
 use Rattle.processes.specs.Farms.Comes_to.{Stays, And_then}
 

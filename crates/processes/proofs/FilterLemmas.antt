@@ -1,9 +1,6 @@
 -- What a filter serves, seen as what its coordinator does.
-use Rattle.std.proofs.Common.{◌≡◌, ℕ, List, [], ◌∷◌, Option, Result, refl, sym, ap, ◌∙◌, subst}
-use Rattle.coordinator.specs.Seen.{Seen}
-use Rattle.saverecord.specs.Texts.{Texts}
+use Rattle.std.proofs.Common.{◌≡◌, ℕ, List, [], ◌∷◌, Option, Result, sym, ap, ◌∙◌}
 use Rattle.services.specs.declared.lost.Lost.{Lost}
-use Rattle.services.specs.Carried.{Saving, Loading}
 use Rattle.services.specs.declared.settled.Settled.{Settled}
 use Rattle.services.specs.Served.{Steps, Settling, Answers, Batches, Serves}
 use Rattle.services.specs.Served.Batches.{Begins, Goes_on}

@@ -14,16 +14,16 @@ use Rattle.nodefilter.specs.Rules as node
 use Rattle.nodefilter.specs.Rules.{IsNodeOf, IsLeftOf, with_node, node_steps}
 use Rattle.nodefilter.specs.Starts.{Begins}
 use Rattle.nodefilter.specs.States.{seen}
-use Rattle.nodefilter.specs.Stores as store
-use Rattle.nodefilter.specs.Stores.{has_digest}
+use Rattle.nodestore.specs.Stores as store
+use Rattle.nodestore.specs.Stores.{has_digest}
 use Rattle.protocol.specs.Farm.{farm_limits}
 use Rattle.protocol.specs.Processes.{Processes, Runs, StaySafe, first_processes}
 use Rattle.saverecord.specs.Logs.{saved_in}
 use Rattle.saverecord.specs.Texts.{Texts}
-use Rattle.services.specs.Carried.{Saving}
-use Rattle.services.specs.Rules.{process_of, killed_of, with_coordinator, AreOfTheFarm, filter_steps, batch_messages}
+use Rattle.coordinatorfilter.specs.Carried.{Saving}
+use Rattle.coordinatorfilter.specs.Rules.{process_of, killed_of, with_coordinator, AreOfTheFarm, filter_steps, batch_messages}
 use Rattle.services.specs.Served.{Answers, Batch}
-use Rattle.services.specs.Written.{Settles}
+use Rattle.coordinatorfilter.specs.Written.{Settles}
 
 abbrev pub texts_of : Filed → Texts
 texts_of f = f.texts

@@ -7,13 +7,13 @@ use Rattle.nodefilter.specs.declared.filter.NodeFilter.{NodeFilter}
 use Rattle.nodefilter.specs.declared.starting.Started.{Started}
 use Rattle.nodefilter.specs.Filters.{IsSettled}
 use Rattle.nodefilter.specs.Rules.{node_steps}
-use Rattle.nodefilter.specs.Stores.{Kept}
+use Rattle.nodestore.specs.Stores.{Kept}
 use Rattle.saverecord.specs.Texts.{Texts}
-use Rattle.services.specs.Carried.{Saving, Loading, Syncing}
+use Rattle.coordinatorfilter.specs.Carried.{Saving, Loading, Syncing}
 use Rattle.services.specs.Lines.{lines_behind}
-use Rattle.services.specs.Rules.{filter_steps}
+use Rattle.coordinatorfilter.specs.Rules.{filter_steps}
 use Rattle.services.specs.Served.{Serves}
-use Rattle.services.specs.Written.{Settles}
+use Rattle.coordinatorfilter.specs.Written.{Settles}
 
 -- it greeted, and then answered each whole line of the text, each from the coordinator that the one before it left; and
 -- before answers were written, the keeper made last what they say

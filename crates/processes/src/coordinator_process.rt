@@ -1,8 +1,8 @@
 //! The coordinator as a process.
-ghost use Rattle.std.specs.Prelude.{◌≡◌, OnOk, IfSome};
+ghost use Rattle.std.specs.Prelude.{OnOk, IfSome};
 ghost use Rattle.processes.specs.Farms.{EveryFarmStaysSafe};
 ghost use Rattle.processes.specs.Served.{IsServed};
-ghost use Rattle.services.specs.Rules.{
+ghost use Rattle.coordinatorfilter.specs.Rules.{
   IsHonest,
   ABatchIsARun,
   AKillIsARun,
@@ -16,13 +16,14 @@ use super::fault::ProcessFault;
 use super::files::{key_of, lock_of};
 use super::kept::started;
 use super::laws::a_farm_is_safe;
-use farmwire::LINE_LIMIT;
-use saverecord::Keeper;
-use services::laws::{
+use coordinatorfilter::CoordinatorFilter;
+use coordinatorfilter::laws::{
     a_batch_is_a_run, a_batch_over_files_is_a_run, a_kill_is_a_run, a_start_is_a_run,
     kills_and_starts_over_files_are_runs,
 };
-use services::{CoordinatorFilter, serve};
+use farmwire::LINE_LIMIT;
+use saverecord::Keeper;
+use services::serve;
 use std::alloc::Global;
 use std::fs::File;
 use std::io::{self, BufWriter, Read, Write};

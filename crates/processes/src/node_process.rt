@@ -1,5 +1,5 @@
 //! A node as a process.
-ghost use Rattle.std.specs.Prelude.{◌≡◌, OnOk, IfSome};
+ghost use Rattle.std.specs.Prelude.{OnOk, IfSome};
 ghost use Rattle.nodefilter.specs.Rules.{ABatchIsARun, AKillIsARun, AStartIsARun};
 ghost use Rattle.processes.specs.Farms.{EveryFarmStaysSafe};
 ghost use Rattle.processes.specs.Served.{IsNodeServed};
@@ -10,7 +10,8 @@ use super::laws::a_farm_is_safe;
 use farm_base::{Life, NodeId};
 use farmwire::{FarmKey, LINE_LIMIT};
 use nodefilter::laws::{a_batch_is_a_run, a_kill_is_a_run, a_start_is_a_run};
-use nodefilter::{FileStore, OpenFault, Origin, StartFault, Started, Store, open_store, start};
+use nodefilter::{Origin, StartFault, Started, start};
+use nodestore::{FileStore, OpenFault, Store, open_store};
 use services::serve;
 use std::alloc::{AllocError, Global};
 use std::fs::File;

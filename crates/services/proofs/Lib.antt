@@ -1,5 +1,3 @@
 mod ServingLemmas
-mod CallLemmas
+pub mod SaysLemmas
 pub mod SentLemmas
-mod ShownLemmas
-pub mod RuleLemmas

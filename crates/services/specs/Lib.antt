@@ -2,9 +2,5 @@ pub mod Buffers
 pub mod Lines
 pub mod Served
 pub mod Outside
+pub mod Says
 pub mod Unreads
-pub mod Calls
-pub mod Carried
-pub mod Shown
-pub mod Written
-pub mod Rules

@@ -2,7 +2,7 @@ use Rattle.std.proofs.Common.{◌≡◌, ℕ, true, List, Some, None, take}
 use Rattle.std.specs.List.{Contains}
 use Rattle.nodecore.specs.Shown.{shown}
 use Rattle.protocol.specs.Names.{Digest}
-use Rattle.nodefilter.specs.Stores.{StayKept}
+use Rattle.nodestore.specs.Stores.{StayKept}
 use Rattle.nodefilter.proofs.carrying.keep_each.Given as goal
 
 abbrev pub invariant-loop-digest : goal.invariant-loop-digest

@@ -1,8 +1,8 @@
 use Rattle.std.proofs.Common.{◌∙◌, refl, subst}
 use Rattle.std.proofs.lemmas.Option.{IfSome_then}
 use Rattle.std.proofs.lemmas.Result.{on_ok_weaker}
-use Rattle.services.specs.Written.{Filters, Settles}
-use Rattle.services.specs.Rules.{filter_steps}
+use Rattle.coordinatorfilter.specs.Written.{Filters, Settles}
+use Rattle.coordinatorfilter.specs.Rules.{filter_steps}
 use Rattle.processes.proofs.FilterLemmas.{serves_seen}
 use Rattle.processes.proofs.coordinator_process.serve_coordinator.Goals as goal
 

@@ -1,0 +1,412 @@
+//! The words of the command line.
+#![tactic(auto)]
+
+use answers::Command;
+use clap::builder::ValueParser;
+use clap::{Arg, ArgAction, ArgMatches, Error};
+use draw::Range;
+use farm_base::{EVENTS, NODES, NodeId};
+use opsproto::LIMIT;
+use processes::{CoordinatorPlace, NodePlace};
+use std::alloc::{AllocError, Global};
+
+/// What `run` is asked to do.
+#[derive(Clone, Copy, PartialEq, Eq)]
+pub struct Order<'a> {
+    pub nodes: u32,
+    /// Where the coordinator's record is kept, if it is.
+    pub record_path: Option<&'a str>,
+}
+
+/// What the program is asked to do.
+#[derive(Clone, Copy, PartialEq, Eq)]
+pub enum Request<'a> {
+    /// Prints what the command answers for a file.
+    Print(Command),
+    /// Builds definitions on a farm, and prints their answers.
+    Run(Order<'a>),
+    /// Is the coordinator of a farm, and answers the lines of the standard input.
+    Coordinator(CoordinatorPlace<'a>),
+    /// Is a node of a farm, and answers the lines of the standard input.
+    Node(NodePlace<'a>),
+}
+
+impl Request<'_> {
+    /// How much of a file is read: of a record all, else one byte past the limit, so that what is longer is refused.
+    pub fn most_bytes(self) -> usize {
+        match self {
+            Request::Print(Command::Record) => usize::MAX,
+            _ => LIMIT + 1,
+        }
+    }
+}
+
+/// How a command answers.
+#[derive(Clone, Copy, PartialEq, Eq)]
+pub struct Options {
+    /// Whether to say in plain words why something is refused, on the standard error.
+    pub explain: bool,
+    /// Whether a replay with a refused event, or a run with a failed file, ends with status 1.
+    pub strict: bool,
+}
+
+/// What the words of the command line say.
+#[derive(Drop)]
+pub struct Words<'a> {
+    pub request: Request<'a>,
+    pub options: Options,
+    pub files: Vec<&'a str>,
+}
+
+/// What a definition's command reads.
+const DEFINITION: &str = "A build definition as BuildKit writes it; `-` is the standard input";
+
+/// What `record` prints.
+const RECORD_LINES: &str = "Prints a line for each part that the record has:
+  last TICKET
+  home NODE
+  life NODE LIFE
+  gone NODE
+  lease TICKET NODE LIFE ASK [shared] [tenure] SLOT..
+  retired SLOT
+  SLOT NUMBER:TICKET:DIGITS..
+`ro=` stands before a slot that may not be written.";
+
+/// A command that reads a file: what it does, and what its lines are.
+fn subcommand<'a>(
+    alloc: Global,
+    name: &'a str,
+    about: &'a str,
+    lines: &'a str,
+    file: &'a str,
+) -> Result<clap::Command<'a>, AllocError> {
+    let file = Arg::new(alloc, "FILE").required(true).help(file);
+    clap::Command::new(alloc, name)
+        .about(about)
+        .after_help(lines)
+        .arg(file)
+}
+
+fn check_command<'a>(alloc: Global) -> Result<clap::Command<'a>, AllocError> {
+    subcommand(
+        alloc,
+        "check",
+        "Says whether a build definition can be solved, and what its result is",
+        "Prints `vertices N result DIGEST INDEX`: how many vertices there are, and the vertex and output of the result.",
+        DEFINITION,
+    )
+}
+
+fn keys_command<'a>(alloc: Global) -> Result<clap::Command<'a>, AllocError> {
+    subcommand(
+        alloc,
+        "keys",
+        "Prints the solver key of each vertex: vertices with one key are solved once",
+        "Prints `DIGEST KEY` for each vertex, by its place in the definition.",
+        DEFINITION,
+    )
+}
+
+fn wants_command<'a>(alloc: Global) -> Result<clap::Command<'a>, AllocError> {
+    subcommand(
+        alloc,
+        "wants",
+        "Prints which cache folders each vertex of a build definition uses",
+        "Prints `DIGEST FOLDER..` for each vertex with cache mounts, by its place in the definition; `ro=` stands before a folder that no mount may write.",
+        DEFINITION,
+    )
+}
+
+fn record_command<'a>(alloc: Global) -> Result<clap::Command<'a>, AllocError> {
+    subcommand(
+        alloc,
+        "record",
+        "Prints what a coordinator's record keeps, with the log beside it: nodes, leases, retired slots and versions",
+        RECORD_LINES,
+        "A record that a coordinator saved; `-` is the standard input",
+    )
+}
+
+fn replay_command<'a>(alloc: Global) -> Result<clap::Command<'a>, AllocError> {
+    subcommand(
+        alloc,
+        "replay",
+        "Prints what comes of each event of a schedule, and the versions of each folder after them",
+        "Prints a line for each event, and then `SLOT NUMBER:TICKET:DIGITS..` for each slot that has a version.",
+        "A schedule; `-` is the standard input",
+    )?
+    .arg(strict_arg(alloc, "Ends with status 1 if an event is refused"))
+}
+
+/// What `draw` draws.
+const PICTURE: &str =
+    "Prints an SVG. Time runs down, with a lifeline for the coordinator and one for each node: an arrow for each delivery, a stub for a \
+message that none of the events delivers, bars for lives, leases and executions, and the lines of versions after the last event. At most \
+1,000 events are drawn.";
+
+/// The number of an event.
+fn event_arg<'a>(alloc: Global, name: &'static str, help: &'static str) -> Arg<'a> {
+    Arg::new(alloc, name)
+        .long(name)
+        .value_name("N")
+        .value_parser(ValueParser::Unsigned(1, EVENTS as u64))
+        .help(help)
+}
+
+fn draw_command<'a>(alloc: Global) -> Result<clap::Command<'a>, AllocError> {
+    subcommand(
+        alloc,
+        "draw",
+        "Draws what comes of the events of a schedule",
+        PICTURE,
+        "A schedule; `-` is the standard input",
+    )?
+    .arg(event_arg(alloc, "from", "The first event that is drawn, else 1"))?
+    .arg(event_arg(alloc, "to", "The last one, else the 200th from the first"))
+}
+
+fn strict_arg<'a>(alloc: Global, help: &'static str) -> Arg<'a> {
+    Arg::new(alloc, "strict")
+        .long("strict")
+        .action(ArgAction::SetTrue)
+        .help(help)
+}
+
+/// What the executor of `run` does.
+const SCRIPTS: &str =
+    "Prints `FILE DIGEST` or `FILE failed` for each file, in order, and then `commits C`: how many \
+executions added versions to cache folders.
+
+No command is really run. An execution does what its command's words say:
+  put DEST PATH TEXT   puts a file into the first cache mount at DEST
+  remove DEST PATH     removes one
+  fail                 fails
+Any other command changes nothing.";
+
+fn nodes_arg<'a>(alloc: Global) -> Arg<'a> {
+    Arg::new(alloc, "nodes")
+        .long("nodes")
+        .value_name("N")
+        .required(true)
+        .value_parser(ValueParser::Unsigned(1, NODES as u64))
+        .help("How many nodes the farm has; the files are built on them in turn")
+}
+
+fn record_arg<'a>(alloc: Global) -> Arg<'a> {
+    Arg::new(alloc, "record")
+        .long("record")
+        .value_name("PATH")
+        .help("Keeps the coordinator's record in this file, as `farmctl record` reads it")
+}
+
+fn files_arg<'a>(alloc: Global) -> Arg<'a> {
+    Arg::new(alloc, "FILE")
+        .required(true)
+        .num_args(1..)
+        .help(DEFINITION)
+}
+
+fn run_command<'a>(alloc: Global) -> Result<clap::Command<'a>, AllocError> {
+    clap::Command::new(alloc, "run")
+        .about("Builds definitions on a farm, with executors that run scripts")
+        .after_help(SCRIPTS)
+        .arg(nodes_arg(alloc))?
+        .arg(record_arg(alloc))?
+        .arg(strict_arg(alloc, "Ends with status 1 if a file failed"))?
+        .arg(files_arg(alloc))
+}
+
+/// What `coordinator` reads and prints.
+const COORDINATOR_LINES: &str =
+    "Prints `= started`, and then the answer to each line of the standard input, up to its end: lines `m SEALED` to be sent, \
+facts `: ..`, and last `= ` with what was done. A line is one of
+  m SEALED     what a node says, with its MAC under the farm's key
+  withdraw T   ends the lease of this ticket
+  retire N     hears this node no more
+  prune SLOT   empties this slot
+  nudge        sends grants again
+  status       shows who has what, and who waits
+  line SLOT    shows the versions of this slot
+  needed       shows the contents that must not be forgotten
+
+Status 4 with `fault Locked`: another process has the record.
+
+Example: head -c 32 /dev/urandom >key && echo status | farmctl coordinator --record kept --key key";
+
+/// A file or a folder that has to be named.
+fn place_arg<'a>(
+    alloc: Global,
+    name: &'static str,
+    value: &'static str,
+    help: &'static str,
+) -> Arg<'a> {
+    Arg::new(alloc, name)
+        .long(name)
+        .value_name(value)
+        .required(true)
+        .help(help)
+}
+
+fn coordinator_command<'a>(alloc: Global) -> Result<clap::Command<'a>, AllocError> {
+    let record =
+        "The file of its record, made where it isn't there; a log and a lock stand beside it";
+    let key = "The file of the farm's key, of 32 bytes or more: the same for all processes";
+    clap::Command::new(alloc, "coordinator")
+        .about("Is the coordinator of a farm, whose nodes' lines come on the standard input")
+        .after_help(COORDINATOR_LINES)
+        .arg(place_arg(alloc, "record", "PATH", record))?
+        .arg(place_arg(alloc, "key", "FILE", key))
+}
+
+/// What `node` reads and prints.
+const NODE_LINES: &str =
+    "Prints `= life L` behind its greeting, and then the answer to each line of the standard input, up to its end: lines \
+`m SEALED` to be sent, facts `: ..`, and last `= ` with what was done. A line is one of
+  m SEALED               what another process says, with its MAC under the farm's key
+  ask [ro=]FOLDER..      asks for a lease of these folders
+  tenure FOLDER          asks for a lease under which many executions use a SHARED folder
+  begin T                the execution begins under the lease of this ticket
+  finish T SLOT=FILE..   it is over, and left these contents
+  abort T                it left nothing
+  resend                 sends again what is not answered
+  blob FILE              brings a content that this node needs
+  content DIGEST FILE    puts a content into this file
+  forget DIGEST          stores a content no longer
+  state A                shows how an ask stands
+
+Status 4 with `fault Locked`: another process is this node. After `= refused StoreFault` the process has to end.";
+
+/// The greatest number of a node that the farm will have, and the one of this node.
+fn number_arg<'a>(alloc: Global, name: &'static str, help: &'static str) -> Arg<'a> {
+    Arg::new(alloc, name)
+        .long(name)
+        .value_name("N")
+        .required(true)
+        .value_parser(ValueParser::Unsigned(1, NODES as u64))
+        .help(help)
+}
+
+fn node_command<'a>(alloc: Global) -> Result<clap::Command<'a>, AllocError> {
+    let nodes = "The greatest number of a node that the farm will have";
+    let store =
+        "The folder of its contents and its life, made where it isn't there; a lock stands beside it";
+    let key = "The file of the farm's key, of 32 bytes or more: the same for all processes";
+    clap::Command::new(alloc, "node")
+        .about("Is a node of a farm, whose agent's lines come on the standard input")
+        .after_help(NODE_LINES)
+        .arg(number_arg(alloc, "node", "The number of this node, from 1"))?
+        .arg(number_arg(alloc, "nodes", nodes))?
+        .arg(place_arg(alloc, "store", "DIR", store))?
+        .arg(place_arg(alloc, "key", "FILE", key))
+}
+
+/// What the program's help says below its commands.
+const NOTES: &str = "Without words it does `replay -`.
+
+Status:
+  0  done
+  1  an input was refused, or can't be read; with --strict, an event was refused, or a file failed
+  2  the words are no command
+  3  memory ran out
+  4  the answer could not be written, or a run or a process ended with a fault
+
+Example: farmctl replay examples/fenced.schedule";
+
+fn farmctl<'a>(alloc: Global) -> Result<clap::Command<'a>, AllocError> {
+    let explain = Arg::new(alloc, "explain")
+        .long("explain")
+        .action(ArgAction::SetTrue)
+        .global(true)
+        .help("Says in plain words why something is refused or failed, on the standard error");
+    clap::Command::new(alloc, "farmctl")
+        .bin_name("farmctl")?
+        .version("0.1.0")
+        .about("The solving core of a container build farm")
+        .after_help(NOTES)
+        .no_binary_name(true)
+        .subcommand_required(true)
+        .arg(explain)?
+        .subcommand(check_command(alloc)?)?
+        .subcommand(keys_command(alloc)?)?
+        .subcommand(wants_command(alloc)?)?
+        .subcommand(record_command(alloc)?)?
+        .subcommand(replay_command(alloc)?)?
+        .subcommand(draw_command(alloc)?)?
+        .subcommand(run_command(alloc)?)?
+        .subcommand(coordinator_command(alloc)?)?
+        .subcommand(node_command(alloc)?)
+}
+
+/// Which events are to be drawn.
+fn range_of(found: &ArgMatches<'_>) -> Range {
+    let first: usize = found.get_one("from").unwrap_or(1);
+    let last = found.get_one("to").unwrap_or(first.saturating_add(199));
+    Range { first, last }
+}
+
+/// What the command of this name is asked to do.
+fn named<'a>(name: &str, found: &ArgMatches<'a>) -> Request<'a> {
+    match name {
+        "check" => Request::Print(Command::Check),
+        "keys" => Request::Print(Command::Keys),
+        "wants" => Request::Print(Command::Wants),
+        "record" => Request::Print(Command::Record),
+        "draw" => Request::Print(Command::Draw(range_of(found))),
+        "run" => Request::Run(Order {
+            nodes: found.get_one("nodes").unwrap_or(1),
+            record_path: found.get_str("record"),
+        }),
+        "coordinator" => Request::Coordinator(CoordinatorPlace {
+            record: found.get_str("record").unwrap_or(""),
+            key: found.get_str("key").unwrap_or(""),
+        }),
+        "node" => Request::Node(NodePlace {
+            node: NodeId(found.get_one("node").unwrap_or(1)),
+            nodes: found.get_one("nodes").unwrap_or(1),
+            store: found.get_str("store").unwrap_or(""),
+            key: found.get_str("key").unwrap_or(""),
+        }),
+        _ => Request::Print(Command::Replay),
+    }
+}
+
+/// The files that were named.
+fn files_of<'a>(alloc: Global, found: &ArgMatches<'a>) -> Result<Vec<&'a str>, AllocError> {
+    let mut files = Vec::new(alloc);
+    for file in found.get_strs("FILE").unwrap_or(&[]) {
+        files.push(*file)?;
+    }
+    Ok(files)
+}
+
+/// The replay of the standard input.
+fn default_words<'a>(alloc: Global) -> Result<Words<'a>, AllocError> {
+    Ok(Words {
+        request: Request::Print(Command::Replay),
+        options: Options {
+            explain: false,
+            strict: false,
+        },
+        files: vec![in alloc; "-"]?,
+    })
+}
+
+/// What the words say; without words, the replay of the standard input. An error is a usage fault, the help that was
+/// asked for, or out of memory.
+pub fn words_of<'a>(alloc: Global, words: &'a [String]) -> Result<Words<'a>, Error> {
+    if words.is_empty() {
+        return Ok(default_words(alloc)?);
+    }
+    let matches = farmctl(alloc)?.try_get_matches_from(words)?;
+    let Some((name, found)) = matches.subcommand() else {
+        return Ok(default_words(alloc)?);
+    };
+    Ok(Words {
+        request: named(name, found),
+        options: Options {
+            explain: found.get_flag("explain"),
+            strict: matches!(name, "replay" | "run") && found.get_flag("strict"),
+        },
+        files: files_of(alloc, found)?,
+    })
+}

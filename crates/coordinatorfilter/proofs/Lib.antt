@@ -1,0 +1,3 @@
+mod CallLemmas
+mod ShownLemmas
+pub mod RuleLemmas

@@ -1,0 +1,5 @@
+pub mod Calls
+pub mod Carried
+pub mod Shown
+pub mod Written
+pub mod Rules

@@ -1,0 +1,146 @@
+-- A coordinator's filter is the coordinator of protocol's processes: what it does with lines is what the rules let that
+-- do.
+use Rattle.std.specs.Prelude.{◌≡◌, ◌⊎◌, ℕ, Bool, true, false, List, [], ◌∷◌, ◌++◌, map, Option, Some, None, Result, Ok, Err}
+use mathlib.Core.Logic.{inl, inr}
+use Rattle.coordinator.specs.declared.handled.Handled.{Handled}
+use Rattle.coordinator.specs.Held.{ledger}
+use Rattle.coordinator.specs.Seen.{Seen}
+use Rattle.coordinator.specs.Settling.{TakesUp}
+use Rattle.farm_base.specs.declared.digest.Digest.{Digest}
+use Rattle.farm_base.specs.declared.limits.TheConstants.{NODES}
+use Rattle.farm_base.specs.declared.message.Message.{Message}
+use Rattle.farm_base.specs.declared.message.ToCoord.{ToCoord}
+use Rattle.filekeeper.specs.Keepers.{GatherSaves, FileGathers, FileSaves, FileLoads, FileSyncs, file_texts}
+use Rattle.protocol.specs.Farm.{farm_limits}
+use Rattle.protocol.specs.Ledger.{Ledger}
+use Rattle.protocol.specs.Lists.{In}
+use Rattle.protocol.specs.Machine.{Said, Told}
+use Rattle.protocol.specs.declared.answer.CoordRefusal.{CoordRefusal}
+use Rattle.protocol.specs.Processes.{Coordinator, Processes, Runs}
+use Rattle.saverecord.specs.Logs.{saved_in}
+use Rattle.saverecord.specs.Texts.{Texts}
+use Rattle.saverecord.specs.declared.refusal.KeeperRefusal.{KeeperRefusal}
+use Rattle.coordinatorfilter.specs.declared.call.Call.TheVariants.{Handle}
+use Rattle.services.specs.declared.lost.Lost.{Lost}
+use Rattle.services.specs.declared.settled.Settled.{Settled}
+use Rattle.services.specs.declared.settled.Settled.TheVariants.{Lasts, Failed}
+use Rattle.coordinatorfilter.specs.Calls.{Asks}
+use Rattle.coordinatorfilter.specs.Carried.{Saving, Loading, Syncing}
+use Rattle.services.specs.Says.{Says_all}
+use Rattle.services.specs.Served.{Steps, Answers, Batch}
+use Rattle.coordinatorfilter.specs.Written.{Filters, Settles}
+use Rattle.coordinatorfilter.specs.Written.Filters.{Calls, Stops, Shows, Drops}
+
+-- a keeper's relations say of the texts that are kept what their names say: where a save fails these are the old or the
+-- new ones
+pub record IsHonest {K : Type 0} (saving : Saving K) (loading : Loading K) (syncing : Syncing K)
+    (kept : K → Texts) : Type 0 where
+  pub saves : (old : K) (texts : Texts) (new : K) → saving old texts true new → kept new ≡ texts
+  pub fails : (old : K) (texts : Texts) (new : K) → saving old texts false new → (kept new ≡ kept old)
+      ⊎ (kept new ≡ texts)
+  pub loads : (old : K) (refusal : Option KeeperRefusal) (new : K) → loading old refusal new → kept new ≡ kept old
+  pub syncs : (old : K) (ok : Bool) (new : K) → syncing old ok new → kept new ≡ kept old
+
+-- a coordinator that is down has no ledger
+abbrev pub memory_of : Bool → Ledger → Option Ledger
+memory_of true q = None
+memory_of false q = Some q
+
+module _ {K : Type 0} (kept : K → Texts) (seen : Seen K) where
+  -- the process that a coordinator is: its ledger while it is up, and on its disk what its keeper's texts hold
+  abbrev pub process_of : Coordinator
+  process_of = record { memory = memory_of seen.down (ledger seen.held); disk = saved_in (kept seen.keeper) }
+
+  -- a coordinator's process is gone, and its disk is what its keeper's texts held
+  abbrev pub killed_of : Coordinator
+  killed_of = record { memory = None; disk = saved_in (kept seen.keeper) }
+
+-- each of these lines that says something to a coordinator was written by a process: that is the premise on the farm's
+-- key
+abbrev pub AreOfTheFarm : List ℕ → List (List ℕ) → List Message → Type 0
+AreOfTheFarm key lines written = (line : List ℕ) (message : ToCoord) → In line lines → Asks key line (Handle message)
+    → In (Said message) written
+
+-- these processes, whose coordinator is this one now and wrote these messages
+abbrev pub with_coordinator : Processes → Coordinator → List Message → Processes
+with_coordinator p coordinator messages = record p { coordinator = coordinator; written = p.written ++ messages }
+
+-- a step of the filter, under a key
+abbrev pub filter_steps : {K : Type 0} → Saving K → Loading K → (K → Texts) → List ℕ → Steps (Seen K)
+filter_steps saving loading kept key old given answer new = Filters saving loading kept key given answer old new
+
+-- ---- the messages of what is written
+
+abbrev pub sends_of : Result Handled CoordRefusal → List Message
+sends_of (Ok handled) = map Told handled.sends
+sends_of (Err refusal) = []
+
+-- those of a line's answer
+abbrev pub line_messages : {K : Type 0} {saving : Saving K} {loading : Loading K} {kept : K → Texts} {key : List ℕ}
+    {given : Result (List ℕ) Lost} {answer : List ℕ} {old new : Seen K}
+    → Filters saving loading kept key given answer old new → List Message
+line_messages (Calls call reply asks done (inl written)) = sends_of reply.answer
+line_messages (Calls call reply asks done (inr lost)) = []
+line_messages (Stops call asks restarts out) = []
+line_messages (Shows question asks same shown) = []
+line_messages (Drops why asks same unread) = []
+
+-- those of the answers of some lines
+abbrev pub messages_of : {K : Type 0} (saving : Saving K) (loading : Loading K) (kept : K → Texts) (key : List ℕ)
+    (limit : ℕ) (old new : Seen K) (lines answers : List (List ℕ))
+    → Answers (filter_steps saving loading kept key) limit old lines answers new → List Message
+messages_of saving loading kept key limit old new [] [] h = []
+messages_of saving loading kept key limit old new [] (answer ∷ answers) h = []
+messages_of saving loading kept key limit old new (line ∷ lines) [] h = []
+messages_of saving loading kept key limit old new (line ∷ lines) (answer ∷ answers) h =
+    line_messages h.3 ++ messages_of saving loading kept key limit h.1 new lines answers h.4
+
+-- of lines that were answered together all, or none where the answers don't last
+abbrev pub settled_messages : Settled → List Message → List Message
+settled_messages Lasts messages = messages
+settled_messages (Failed restart) messages = []
+
+abbrev pub batch_messages : {K : Type 0} (saving : Saving K) (loading : Loading K) (syncing : Syncing K)
+    (kept lasting : K → Texts) (key : List ℕ) (limit : ℕ) (lines : List (List ℕ)) (text : List ℕ) (old new : Seen K)
+    → Batch (filter_steps saving loading kept key) (Settles syncing loading kept lasting) limit lines text old new
+    → List Message
+batch_messages saving loading syncing kept lasting key limit lines text old new b =
+    settled_messages b.settled (messages_of saving loading kept key limit old b.answered_to lines b.answers b.answered)
+
+-- ---- the rules
+
+-- what a filter does with lines that come together the coordinator of processes may do, and what it writes it may write
+abbrev pub ABatchIsARun : {K : Type 0} → Saving K → Loading K → Syncing K → (K → Texts) → (K → Texts) → Type 0
+ABatchIsARun {K} saving loading syncing kept lasting =
+    (sha : List ℕ → Digest) (key : List ℕ) (limit : ℕ) (lines : List (List ℕ)) (text : List ℕ) (old new : Seen K)
+    (p : Processes)
+    → p.coordinator ≡ process_of kept old → AreOfTheFarm key lines p.written
+    → (b : Batch (filter_steps saving loading kept key) (Settles syncing loading kept lasting) limit lines text old new) →
+    let messages : List Message = batch_messages saving loading syncing kept lasting key limit lines text old new b in
+    Runs sha farm_limits NODES p (with_coordinator p (process_of kept new) messages) × Says_all key messages text
+
+-- where a filter is killed amid a batch, of which it answered these lines and wrote nothing, the rules let the
+-- coordinator be killed so: its disk may have what was decided of any of them
+abbrev pub AKillIsARun : {K : Type 0} → Saving K → Loading K → (K → Texts) → Type 0
+AKillIsARun {K} saving loading kept =
+    (sha : List ℕ → Digest) (key : List ℕ) (limit : ℕ) (lines answers : List (List ℕ)) (old new : Seen K)
+    (p : Processes)
+    → p.coordinator ≡ process_of kept old → AreOfTheFarm key lines p.written
+    → Answers (filter_steps saving loading kept key) limit old lines answers new
+    → Runs sha farm_limits NODES p (with_coordinator p (killed_of kept new) [])
+
+-- a coordinator that takes up what a keeper's texts hold is one that starts from its disk
+abbrev pub AStartIsARun : {K : Type 0} → Loading K → (K → Texts) → Type 0
+AStartIsARun {K} loading kept = (sha : List ℕ → Digest) (keeper : K) (new : Seen K) (p : Processes)
+    → p.coordinator.disk ≡ saved_in (kept keeper) → TakesUp loading (kept keeper) keeper new
+    → Runs sha farm_limits NODES p (with_coordinator p (process_of kept new) [])
+
+-- the same over a keeper in files that gathers
+abbrev pub ABatchOverFilesIsARun : Type 0
+ABatchOverFilesIsARun = ABatchIsARun (GatherSaves FileGathers FileSaves) FileLoads FileSyncs (λ f. f.texts) file_texts
+
+abbrev pub AKillOverFilesIsARun : Type 0
+AKillOverFilesIsARun = AKillIsARun (GatherSaves FileGathers FileSaves) FileLoads (λ f. f.texts)
+
+abbrev pub AStartOverFilesIsARun : Type 0
+AStartOverFilesIsARun = AStartIsARun FileLoads (λ f. f.texts)

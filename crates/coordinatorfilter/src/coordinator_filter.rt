@@ -1,0 +1,62 @@
+//! A coordinator as a process that answers lines.
+ghost use Rattle.std.specs.Prelude.{◌≡◌};
+ghost use Rattle.services.specs.Served.{answer_text};
+ghost use Rattle.coordinatorfilter.specs.Written.{Filters, Settles};
+
+use super::call::Order;
+use super::carrying::carry_out;
+use super::printing::print_reply;
+use super::reading::asked;
+use super::showing::print_shown;
+use coordinator::Coordinator;
+use farm_base::Items;
+use farmwire::FarmKey;
+use saverecord::Keeper;
+use services::{Answer, Lost, Settled, Step, print_unread};
+use std::alloc::{AllocError, Global};
+
+/// A coordinator that answers lines: those of nodes, which come and go sealed under the farm's key, and the operator's.
+#[derive(Drop)]
+pub struct CoordinatorFilter<K: Keeper> {
+    pub coordinator: Coordinator<K>,
+    pub key: FarmKey,
+}
+
+impl<K: Keeper> CoordinatorFilter<K> {
+    /// The text that answers a line.
+    fn text_of(
+        &mut self,
+        alloc: Global,
+        line: Result<Items<u8>, Lost>,
+    ) -> Result<String, AllocError>
+        ensures { Filters K.saving K.loading K.kept self.old.key line (answer_text result) self.old.coordinator self.new.coordinator × (self.new.key ≡ self.old.key) }
+    {
+        match asked(alloc, &self.key, line) {
+            Ok(Order::Call(call)) => {
+                let reply = carry_out(&mut self.coordinator, alloc, &call)?;
+                print_reply(alloc, &self.key, reply)
+            }
+            Ok(Order::Show(question)) => print_shown(alloc, &self.coordinator, &question),
+            Err(why) => print_unread(alloc, why),
+        }
+    }
+}
+
+impl<K: Keeper> Step for CoordinatorFilter<K> {
+    ghost use Rattle.coordinatorfilter.specs.Written.{Filters, Settles};
+
+    ghost steps = { λ old line answer new. Filters K.saving K.loading K.kept old.key line answer old.coordinator new.coordinator × (new.key ≡ old.key) };
+
+    ghost settles = { λ old settled new. Settles K.syncing K.loading K.kept K.lasting old.coordinator settled new.coordinator × (new.key ≡ old.key) };
+
+    fn step(&mut self, alloc: Global, line: Result<Items<u8>, Lost>) -> Answer {
+        Answer::of(self.text_of(alloc, line))
+    }
+
+    fn settle(&mut self, alloc: Global) -> Settled {
+        if self.coordinator.sync().is_ok() {
+            return Settled::Lasts;
+        }
+        Settled::Failed(self.coordinator.restart(alloc))
+    }
+}

@@ -1,0 +1,49 @@
+//! Laws of lines, and of a coordinator's filter.
+ghost use Rattle.farm_base.specs.declared.limits.TheConstants.{NODES};
+ghost use Rattle.farm_base.specs.declared.message.ToCoord.{ToCoord};
+ghost use Rattle.farmwire.specs.Lawful as wire;
+ghost use Rattle.protocol.specs.Lawful.{IsSaid};
+ghost use Rattle.coordinatorfilter.specs.Rules.{
+  IsHonest,
+  ABatchIsARun,
+  AKillIsARun,
+  AStartIsARun,
+  ABatchOverFilesIsARun,
+  AKillOverFilesIsARun,
+  AStartOverFilesIsARun,
+};
+
+use saverecord::Keeper;
+
+/// What a line says to a coordinator can be handled by it.
+pub fn what_is_read_can_be_handled()
+    ensures { (y : ToCoord) → wire.IsSaid y → IsSaid NODES y }
+{}
+
+/// What a filter does with lines that come together the coordinator of protocol's processes may do, with the messages of what it
+/// writes. So what is proved of processes holds of it.
+pub fn a_batch_is_a_run<K: Keeper>()
+    ensures { IsHonest K.saving K.loading K.syncing K.kept → ABatchIsARun K.saving K.loading K.syncing K.kept K.lasting }
+{}
+
+/// The same over a `FileKeeper` that gathers.
+pub fn a_batch_over_files_is_a_run()
+    ensures { ABatchOverFilesIsARun }
+{}
+
+/// Where a filter is killed before what it answered is written, its coordinator is one that was killed: its record has what was decided
+/// of the lines so far, or of the first of them.
+pub fn a_kill_is_a_run<K: Keeper>()
+    ensures { IsHonest K.saving K.loading K.syncing K.kept → AKillIsARun K.saving K.loading K.kept }
+{}
+
+/// A coordinator that takes up its keeper's texts is one that starts from its record.
+pub fn a_start_is_a_run<K: Keeper>()
+    ensures { IsHonest K.saving K.loading K.syncing K.kept → AStartIsARun K.loading K.kept }
+{}
+
+/// Both over a `FileKeeper` that gathers.
+pub fn kills_and_starts_over_files_are_runs()
+    ensures kills { AKillOverFilesIsARun }
+    ensures starts { AStartOverFilesIsARun }
+{}

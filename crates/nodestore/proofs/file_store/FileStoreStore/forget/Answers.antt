@@ -1,0 +1,16 @@
+use Rattle.std.proofs.Common.{rules, ◌≡◌, true, not, List, filter, sym, ap, subst}
+use Rattle.std.proofs.lemmas.Fn.{filter_same}
+use Rattle.farm_base.specs.Digests.{digest_eq}
+use Rattle.protocol.specs.Names.{Digest}
+use Rattle.nodestore.specs.Stores.{Filed}
+use Rattle.nodestore.proofs.FiledLemmas.{is_among, still_among}
+use Rattle.nodestore.proofs.file_store.FileStoreStore.forget.Goals as goal
+
+pub returns-clause-others : goal.returns-clause-others
+returns-clause-others g c = λ d apart h.
+    let old = c.self.inside.digests.items in
+    let left : c.retain.new.self.items ≡ filter (λ (e : Digest). not (digest_eq e c.args.digest)) old =
+    filter_same _ _ _ (λ x b f' k. search rules) _ _ c.retain.ensures.filtered in
+    let was : old ≡ c.args.self.now.digests = ap (λ (f : Filed). f.digests) c.self.view_is in
+    subst (λ (ds : List Digest). is_among ds d ≡ true) (sym left)
+    (still_among c.args.digest d old apart (subst (λ (ds : List Digest). is_among ds d ≡ true) (sym was) h))

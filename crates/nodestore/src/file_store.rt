@@ -1,0 +1,362 @@
+//! Keeps a node's contents and its last life in a folder.
+ghost use Rattle.std.specs.Prelude.{◌≡◌, IfOk};
+ghost use Rattle.nodestore.specs.Stores.{has_digest, HasFound};
+
+use super::store::{FileFault, Store, StoreFault};
+use farm_base::reading::{after, number, split};
+use farm_base::{Content, Digest, Key, Life, NodeId};
+use std::alloc::{AllocError, Global};
+use std::fs::{self, OpenFile};
+use std::io::{self, ErrorKind, Read, Write};
+use std::marker::Model;
+use std::rt::Files;
+use thiserror::Error;
+
+/// Keeps contents in the files `contents/DIGEST` of a folder, and in its file `life` the node and its last life. Each is written
+/// beside, synced and renamed, and then its folder is synced: so whatever ends the process, a file that is there is whole.
+///
+/// What is proved is said of what it knows to be kept. That a device keeps what was synced is trusted.
+#[derive(Drop)]
+pub struct FileStore<'a, R: Files> {
+    files: &'a R,
+    alloc: Global,
+    node: NodeId,
+    folder: String,
+    /// The contents that are known to be kept.
+    digests: Vec<Digest>,
+    last: Life,
+}
+
+impl<'a, R: Files> Model for FileStore<'a, R> {
+    ghost use Rattle.nodestore.specs.Stores.{Filed};
+
+    ghost Value = { Filed };
+
+    ghost view = { λ s. record { digests = s.digests.items; last = s.last } };
+}
+
+/// Why a node's folder can't be used.
+#[derive(Debug, Drop, Error)]
+pub enum OpenFault {
+    /// It has the life of this other node.
+    #[error("it is the folder of node {0}")]
+    OtherNode(u32),
+    #[error("its file `life` is damaged")]
+    BadLife,
+    #[error("{0}")]
+    Io(io::Error),
+    #[error("out of memory")]
+    OutOfMemory,
+}
+
+/// What a folder has of contents.
+#[derive(Drop)]
+pub struct Found {
+    pub contents: Vec<Content>,
+    /// The names of files that have other bytes than their names say.
+    pub wrong: Vec<String>,
+}
+
+impl From<AllocError> for OpenFault {
+    fn from(_error: AllocError) -> OpenFault {
+        OpenFault::OutOfMemory
+    }
+}
+
+impl From<io::Error> for OpenFault {
+    fn from(error: io::Error) -> OpenFault {
+        match error.kind() {
+            ErrorKind::OutOfMemory => OpenFault::OutOfMemory,
+            _ => OpenFault::Io(error),
+        }
+    }
+}
+
+/// Writes a file, and waits until the device has it.
+fn write_synced<R: Files>(files: &R, path: &str, bytes: &[u8]) -> io::Result<()> {
+    let mut file = fs::create(files, path)?;
+    file.write_all(bytes)?;
+    file.sync_all()
+}
+
+/// Waits until the device has the names in a folder.
+fn sync_names<R: Files>(files: &R, folder: &str) -> io::Result<()> {
+    fs::open(files, folder)?.sync_all()
+}
+
+/// Writes a draft, puts it in its place, and waits until the device has both.
+fn put_draft<R: Files>(
+    files: &R,
+    folder: &str,
+    draft: &str,
+    path: &str,
+    bytes: &[u8],
+) -> io::Result<()> {
+    write_synced(files, draft, bytes)?;
+    fs::rename(files, draft, path)?;
+    sync_names(files, folder)
+}
+
+/// Writes a file beside, waits until the device has it, and puts it in its place; then it waits for the folder's names.
+fn put_file<R: Files>(
+    files: &R,
+    alloc: Global,
+    folder: &str,
+    name: &str,
+    bytes: &[u8],
+) -> io::Result<()> {
+    let path = format!(in alloc; "{folder}/{name}")?;
+    let draft = format!(in alloc; "{folder}/{name}.new")?;
+    put_draft(files, folder, draft.as_str(), path.as_str(), bytes)
+}
+
+/// All that a file has left to read.
+fn bytes_of<F: Read + Drop>(alloc: Global, file: F) -> io::Result<Vec<u8>> {
+    let mut file = file;
+    let mut bytes = Vec::new(alloc);
+    file.read_to_end(&mut bytes)?;
+    Ok(bytes)
+}
+
+/// The bytes of a file, if it is there.
+fn read_file<R: Files>(files: &R, alloc: Global, path: &str) -> io::Result<Option<Vec<u8>>> {
+    match fs::open(files, path) {
+        Ok(file) => Ok(Some(bytes_of(alloc, file)?)),
+        Err(error) if error.kind() == ErrorKind::NotFound => Ok(None),
+        Err(error) => Err(error),
+    }
+}
+
+/// Writes a file of the agent's.
+fn write_file<R: Files>(files: &R, path: &str, bytes: &[u8]) -> io::Result<()> {
+    fs::create(files, path)?.write_all(bytes)
+}
+
+/// Why a file of the agent's can't be used.
+fn file_fault(error: io::Error) -> FileFault {
+    match error.kind() {
+        ErrorKind::OutOfMemory => FileFault::OutOfMemory,
+        _ => FileFault::Unusable,
+    }
+}
+
+/// The node and the life that `node N life L` says.
+fn life_in(text: &str) -> Option<(NodeId, Life)> {
+    let (node, life) = split(after(text, "node ")?, ' ')?;
+    let node = u32::try_from(number(node)?).ok()?;
+    let life = number(after(life, "life ")?.strip_suffix('\n')?)?;
+    Some((NodeId(node), Life(life)))
+}
+
+/// The last life that a folder has, 0 where it has none.
+fn last_life<R: Files>(
+    files: &R,
+    alloc: Global,
+    folder: &str,
+    node: NodeId,
+) -> Result<Life, OpenFault> {
+    let path = format!(in alloc; "{folder}/life")?;
+    let Some(bytes) = read_file(files, alloc, path.as_str())? else {
+        return Ok(Life(0));
+    };
+    let Ok(text) = str::from_utf8(bytes.as_slice()) else {
+        return Err(OpenFault::BadLife);
+    };
+    match life_in(text) {
+        Some((owner, life)) if owner == node => Ok(life),
+        Some((owner, _)) => Err(OpenFault::OtherNode(owner.0)),
+        None => Err(OpenFault::BadLife),
+    }
+}
+
+impl<'a, R: Files> FileStore<'a, R> {
+    /// Takes a content as kept, where the file's bytes are those that its name says.
+    fn find(&mut self, alloc: Global, name: &str, found: &mut Found) -> io::Result<()>
+        requires { HasFound self.old found.old }
+        ensures { HasFound self.new found.new }
+    {
+        let path = format!(in alloc; "{}/contents/{name}", self.folder)?;
+        let Some(bytes) = read_file(self.files, alloc, path.as_str())? else {
+            return Ok(());
+        };
+        let content = Content::of(bytes);
+        let digits = Key(content.digest()).to_text(alloc)?;
+        if digits.as_str() != name {
+            found.wrong.push(String::from_str(alloc, name)?)?;
+            return Ok(());
+        }
+        self.digests.push(content.digest())?;
+        found.contents.push(content)?;
+        Ok(())
+    }
+
+    /// Takes the contents of these names as kept, where their bytes are those that the names say.
+    fn find_all(&mut self, alloc: Global, names: &[String]) -> io::Result<Found>
+        ensures { IfOk result (λ found. HasFound self.new found) }
+    {
+        let mut found = Found {
+            contents: Vec::new(alloc),
+            wrong: Vec::new(alloc),
+        };
+        for name in names {
+            self.find(alloc, name.as_str(), &mut found)?;
+        }
+        Ok(found)
+    }
+
+    /// Whether a content is known to be kept.
+    fn has(&self, digest: Digest) -> bool
+        ensures { result ≡ has_digest self.now digest }
+    {
+        self.digests.iter().any(|kept| *kept == digest)
+    }
+
+    /// The last life that is kept, 0 where there was none.
+    pub fn last(&self) -> Life
+        ensures { result ≡ self.now.last }
+    {
+        self.last
+    }
+
+    /// Puts a content in its file.
+    fn put_content(&self, content: &Content) -> io::Result<()> {
+        let folder = format!(in self.alloc; "{}/contents", self.folder)?;
+        let name = Key(content.digest()).to_text(self.alloc)?;
+        put_file(
+            self.files,
+            self.alloc,
+            folder.as_str(),
+            name.as_str(),
+            content.bytes(),
+        )
+    }
+
+    /// Removes the file of a content.
+    fn remove_content(&self, digest: Digest) -> io::Result<()> {
+        let name = Key(digest).to_text(self.alloc)?;
+        let path = format!(in self.alloc; "{}/contents/{}", self.folder, name)?;
+        fs::remove_file(self.files, path.as_str())
+    }
+
+    /// Puts a life in its file.
+    fn put_life(&self, life: Life) -> io::Result<()> {
+        let text = format!(in self.alloc; "node {} life {}\n", self.node.0, life.0)?;
+        put_file(
+            self.files,
+            self.alloc,
+            self.folder.as_str(),
+            "life",
+            text.as_bytes(),
+        )
+    }
+}
+
+/// The names of the contents that a folder has: 64 digits each. What was being written when a process ended has another name.
+fn names_in<R: Files + Alloc + Clone + Drop>(
+    rt: &R,
+    alloc: Global,
+    folder: &str,
+) -> io::Result<Vec<String>> {
+    let mut names = Vec::new(alloc);
+    for entry in fs::read_dir(rt, folder)? {
+        let entry = entry?;
+        let name = entry.file_name();
+        if Key::parse(name).is_ok() {
+            names.push(String::from_str(alloc, name)?)?;
+        }
+    }
+    Ok(names)
+}
+
+/// The names of the contents that a node's folder has. A process that was killed may have left names that the device doesn't have.
+fn kept_names<R: Files + Alloc + Clone + Drop>(
+    rt: &R,
+    alloc: Global,
+    folder: &str,
+) -> io::Result<Vec<String>> {
+    let contents = format!(in alloc; "{folder}/contents")?;
+    let names = names_in(rt, alloc, contents.as_str())?;
+    sync_names(rt, contents.as_str())?;
+    Ok(names)
+}
+
+/// The store of a node's folder, which is made where there is none. No content is taken as kept yet.
+fn empty_store<'a, R: Files>(
+    files: &'a R,
+    alloc: Global,
+    folder: &str,
+    node: NodeId,
+) -> Result<FileStore<'a, R>, OpenFault> {
+    let contents = format!(in alloc; "{folder}/contents")?;
+    fs::create_dir_all(files, contents.as_str())?;
+    let last = last_life(files, alloc, folder, node)?;
+    Ok(FileStore {
+        files,
+        alloc,
+        node,
+        folder: String::from_str(alloc, folder)?,
+        digests: Vec::new(alloc),
+        last,
+    })
+}
+
+/// Opens a node's folder, and makes it where there is none: its last life and its contents.
+pub fn open_store<'a, R: Files + Alloc + Clone + Drop>(
+    files: &'a R,
+    alloc: Global,
+    folder: &str,
+    node: NodeId,
+) -> Result<(FileStore<'a, R>, Found), OpenFault>
+    ensures { IfOk result (λ opened. HasFound opened.0 opened.1) }
+{
+    let mut store = empty_store(files, alloc, folder, node)?;
+    let names = kept_names(files, alloc, folder)?;
+    let found = store.find_all(alloc, names.as_slice())?;
+    Ok((store, found))
+}
+
+impl<'a, R: Files> Store for FileStore<'a, R> {
+    ghost kept = { has_digest };
+
+    ghost last_life = { λ s. s.last.0 };
+
+    fn keep(&mut self, content: &Content) -> Result<(), StoreFault> {
+        let digest = content.digest();
+        if self.has(digest) {
+            return Ok(());
+        }
+        if self.digests.reserve(1).is_err() || self.put_content(content).is_err() {
+            return Err(StoreFault);
+        }
+        self.digests.push_reserved(digest);
+        Ok(())
+    }
+
+    fn keep_life(&mut self, life: Life) -> Result<(), StoreFault> {
+        if self.put_life(life).is_err() {
+            return Err(StoreFault);
+        }
+        self.last = life;
+        Ok(())
+    }
+
+    fn forget(&mut self, digest: Digest) {
+        self.digests.retain(|kept| *kept != digest);
+        let _removed = self.remove_content(digest);
+    }
+
+    fn read(&self, alloc: Global, file: &str) -> Result<Content, FileFault> {
+        match read_file(self.files, alloc, file) {
+            Ok(Some(bytes)) => Ok(Content::of(bytes)),
+            Ok(None) => Err(FileFault::Unusable),
+            Err(error) => Err(file_fault(error)),
+        }
+    }
+
+    fn write(&self, file: &str, bytes: &[u8]) -> Result<(), FileFault> {
+        match write_file(self.files, file, bytes) {
+            Ok(()) => Ok(()),
+            Err(error) => Err(file_fault(error)),
+        }
+    }
+}

@@ -1,0 +1,8 @@
+//! What lasts of a node's process: a trait, and a folder that keeps it.
+#![tactic(auto)]
+
+mod file_store;
+mod store;
+
+pub use file_store::{FileStore, Found, OpenFault, open_store};
+pub use store::{FileFault, Store, StoreFault};

@@ -1,4 +1,0 @@
-use Rattle.services.proofs.coordinator_filter.CoordinatorFilterStep.step.Goals as goal
-
-pub returns : goal.returns
-returns g c = rw c.of.ensures c.text_of.ensures

@@ -1,5 +1,0 @@
-use Rattle.services.proofs.RuleLemmas.{a_kill_is_a_run}
-use Rattle.services.proofs.laws.a_kill_is_a_run.Goals as goal
-
-pub returns : goal.returns
-returns g c = λ honest. a_kill_is_a_run g.K.Keeper.saving g.K.Keeper.loading g.K.Keeper.syncing g.K.Keeper.kept honest

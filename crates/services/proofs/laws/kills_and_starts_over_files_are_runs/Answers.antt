@@ -1,8 +1,0 @@
-use Rattle.services.proofs.RuleLemmas.{kill_over_files, start_over_files}
-use Rattle.services.proofs.laws.kills_and_starts_over_files_are_runs.Goals as goal
-
-pub returns-clause-kills : goal.returns-clause-kills
-returns-clause-kills c = kill_over_files
-
-pub returns-clause-starts : goal.returns-clause-starts
-returns-clause-starts c = start_over_files
