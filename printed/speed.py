@@ -250,20 +250,24 @@ def timed(room: Room, case: Callable[[Schedule, int], Turn], count: int, times: 
     return [["replay", before], ["replay", room.file(made.data())]]
 
 
+def private(room: Room) -> None:
+    made = Schedule(1)
+    grants = [["replay", room.file(made.data())]]
+    for number in range(2 * sized(2_048)):
+        made.lease(1, "private:p")
+        if (number + 1) % sized(2_048) == 0:
+            grants.append(["replay", room.file(made.data())])
+    none, half, whole = fastest(grants)
+    print(f"events, one of the last {sized(2_048)} PRIVATE grants: {(whole - half) / (half - none):.2f} of one of the first", flush=True)
+
+
 def events(room: Room) -> None:
     many, times = sized(16_000), sized(3_000)
     for name, case in CASES:
         least = fastest([*timed(room, case, FEW, times), *timed(room, case, many, times)])
         few, much = ((least[place + 1] - least[place]) / times for place in (0, 2))
         print(f"events, {name}: {much / few:.2f} at {many} of one at {FEW} ({much * 1e6:.1f} microseconds)", flush=True)
-    made = Schedule(1)
-    grants = [["replay", room.file(made.data())]]
-    for _ in range(2):
-        for _ in range(sized(2_048)):
-            made.lease(1, "private:p")
-        grants.append(["replay", room.file(made.data())])
-    none, half, whole = fastest(grants)
-    print(f"events, one of the last {sized(2_048)} PRIVATE grants: {(whole - half) / (half - none):.2f} of one of the first", flush=True)
+    private(room)
 
 
 # Definitions
@@ -375,6 +379,9 @@ def read(room: Room) -> None:
             ratio = took / (block * blocks(len(each)))
             print(f"read {len(each) / MEBIBYTE:.1f} MiB, metadata {metadata}: {len(each) / took / 1e6:.0f} MB/s, {ratio:.2f} of hashing", flush=True)
         print(f"growth for a byte, metadata {metadata}: {growth:.2f}", flush=True)
+    large, small = (chain(count).unread() for count in (sized(64_000), 1))
+    most = memory(["check", room.file(large)]) - memory(["check", room.file(small)])
+    print(f"read {sized(64_000)} entries: {most / len(large):.2f} of their bytes at most in memory", flush=True)
 
 
 def keys(room: Room) -> None:
@@ -419,24 +426,30 @@ def wall(calls: list[list[str]]) -> float:
     return time.perf_counter() - begun
 
 
-def run(room: Room) -> None:
-    base = ["run", "--nodes", "1"]
-    shapes: list[tuple[str, Callable[[int], Definition]]] = [("in a chain", chain), ("side by side", wide)]
-    for name, shape in shapes:
-        sizes = [sized(1_000), sized(8_000)]
-        least, *times = fastest([[*base, room.file(shape(size).data())] for size in (1, *sizes)])
-        few, many = ((took - least) / size for took, size in zip(times, sizes))
-        print(f"run, {sizes[1]} keys {name}: {1 / many:.0f} keys/s, a key takes {many / few:.2f} of one of {sizes[0]}", flush=True)
+def growth_of_keys(room: Room, name: str, shape: Callable[[int], Definition]) -> None:
+    sizes = [sized(1_000), sized(8_000)]
+    least, *times = fastest([["run", "--nodes", "1", room.file(shape(size).data())] for size in (1, *sizes)])
+    few, many = ((took - least) / size for took, size in zip(times, sizes))
+    print(f"run, {sizes[1]} keys {name}: {1 / many:.0f} keys/s, a key takes {many / few:.2f} of one of {sizes[0]}", flush=True)
+
+
+def side_by_side(room: Room) -> None:
+    """How much faster jobs are on several nodes of one farm; beside it, in as many farms of one node, which share nothing."""
     files = [room.file(filled(job, CONTENT // SMALLER, VERTICES)) for job in range(JOBS)]
     ways = [[["run", "--nodes", str(nodes), *files]] for nodes in (1, 2, 4)]
-    ways += [[[*base, *files[place::count]] for place in range(count)] for count in (2, 4)]
+    ways += [[["run", "--nodes", "1", *files[place::count]] for place in range(count)] for count in (2, 4)]
     took = [float("inf")] * len(ways)
     for _ in range(3):
         took = [min(before, wall(way)) for before, way in zip(took, ways)]
-    for nodes, one in zip((2, 4), took[1:3]):
-        print(f"run, {JOBS} jobs of {VERTICES}, a folder each, nodes {nodes}: {took[0] / one:.2f} times 1 node", flush=True)
-    for count, one in zip((2, 4), took[3:]):
-        print(f"run, the same jobs, {count} programs of 1 node side by side: {took[0] / one:.2f} times 1 program", flush=True)
+    names = ["nodes 2", "nodes 4", "2 farms of 1 node", "4 farms of 1 node"]
+    for name, one in zip(names, took[1:]):
+        print(f"run, {JOBS} jobs of {VERTICES}, a folder each, {name}: {took[0] / one:.2f} times 1 node", flush=True)
+
+
+def run(room: Room) -> None:
+    growth_of_keys(room, "in a chain", chain)
+    growth_of_keys(room, "side by side", wide)
+    side_by_side(room)
     large = ["run", "--nodes", "2", *(room.file(filled(job, 16_000_000 // SMALLER, 1)) for job in range(2))]
     print(f"run, two files of 16 MB put: {min(wall([large]) for _ in range(3)):.2f} s, {memory(large) / 1e6:.0f} MB at most in memory", flush=True)
 
