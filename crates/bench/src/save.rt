@@ -33,8 +33,8 @@ fn put_head(out: &mut Vec<u8>, last: u64) -> Result<(), AllocError> {
 }
 
 /// Puts the versions.
-fn put_versions(out: &mut Vec<u8>, last: u64) -> Result<(), AllocError> {
-    for ticket in 1..last + 1 {
+fn put_versions(out: &mut Vec<u8>, count: u32) -> Result<(), AllocError> {
+    for ticket in 1..u64::from(count) + 1 {
         out.extend_from_slice(&ticket.to_be_bytes())?;
         out.extend_from_slice(&[7; 32])?;
     }
@@ -45,7 +45,7 @@ fn put_versions(out: &mut Vec<u8>, last: u64) -> Result<(), AllocError> {
 fn record(alloc: Global, count: u32) -> Result<Vec<u8>, AllocError> {
     let mut out = Vec::new(alloc);
     put_head(&mut out, u64::from(count))?;
-    put_versions(&mut out, u64::from(count))?;
+    put_versions(&mut out, count)?;
     let digest: [u8; 32] = <Sha256 as sha2::Digest>::digest(out.as_slice());
     out.extend_from_slice(&digest)?;
     Ok(out)
@@ -60,86 +60,71 @@ fn started(alloc: Global, bytes: &[u8]) -> anyhow::Result<Box<Coordinator<Memory
     }
 }
 
-/// What a node says, in a box for the same reason.
-fn said(alloc: Global, request: Request) -> Result<Box<ToCoord>, AllocError> {
-    let message = ToCoord {
-        node: NodeId(1),
-        life: Life(1),
-        request,
-    };
-    Ok(Box::new(alloc, message)?)
+/// The one want of each lease.
+fn wants(alloc: Global) -> anyhow::Result<Wants> {
+    let folder = FolderName::parse(alloc, FOLDER)?;
+    Ok(Wants::one(alloc, folder, true)?)
 }
 
-/// The node asks for the folder.
-fn acquire(alloc: Global) -> anyhow::Result<Box<ToCoord>> {
-    let wants = Wants::one(alloc, FolderName::parse(alloc, FOLDER)?, true)?;
-    let _wants = wants.as_slice();
-    let request = Request::Acquire {
-        ask: Ask(1),
-        wants,
-        tenure: false,
-    };
-    Ok(said(alloc, request)?)
-}
-
-/// The node leaves a content in the folder's slot.
-fn commit(alloc: Global, ticket: Ticket) -> anyhow::Result<Box<ToCoord>> {
+/// What a node leaves in the folder's slot.
+fn news(alloc: Global) -> anyhow::Result<Items<News>> {
     let news = News {
         slot: Slot::parse(alloc, FOLDER)?,
         digest: Digest([7; 32]),
     };
-    let news = Items::new(vec![in alloc; news]?);
-    Ok(said(alloc, Request::Commit { ticket, news })?)
+    Ok(Items::new(vec![in alloc; news]?))
 }
 
-/// The ticket of the lease that is granted.
+/// A node leases the folder.
 fn leased(
     coordinator: &mut Coordinator<MemoryKeeper>,
     alloc: Global,
-    message: &ToCoord,
 ) -> anyhow::Result<Option<Ticket>> {
-    let handled = coordinator.handle(alloc, message)?;
+    let wants = wants(alloc)?;
+    let _wants = wants.as_slice();
+    let message = ToCoord {
+        node: NodeId(1),
+        life: Life(1),
+        request: Request::Acquire {
+            ask: Ask(1),
+            wants,
+            tenure: false,
+        },
+    };
+    let handled = coordinator.handle(alloc, &message)?;
     match &handled.note {
         CoordNote::Granted(grant) => Ok(Some(grant.ticket)),
         _ => Ok(None),
     }
 }
 
-/// The time of an event.
-fn handling<R: Clock + AllocGlobal>(
-    rt: &R,
-    coordinator: &mut Coordinator<MemoryKeeper>,
-    message: &ToCoord,
-) -> anyhow::Result<f64> {
-    let start = Instant::now(rt)?;
-    let _handled = coordinator.handle(rt.alloc(), message)?;
-    Ok(seconds_since(rt, start))
-}
-
-/// The time of a commit, after the lease that it ends.
+/// The time of the commit of a lease.
 fn committing<R: Clock + AllocGlobal>(
     rt: &R,
     coordinator: &mut Coordinator<MemoryKeeper>,
-    ask: &ToCoord,
+    ticket: Ticket,
 ) -> anyhow::Result<f64> {
-    match leased(coordinator, rt.alloc(), ask)? {
-        Some(ticket) => {
-            let message = commit(rt.alloc(), ticket)?;
-            handling(rt, coordinator, &message)
-        }
-        None => Ok(0.0),
-    }
+    let start = Instant::now(rt)?;
+    let news = news(rt.alloc())?;
+    let message = ToCoord {
+        node: NodeId(1),
+        life: Life(1),
+        request: Request::Commit { ticket, news },
+    };
+    let _handled = coordinator.handle(rt.alloc(), &message)?;
+    Ok(seconds_since(rt, start))
 }
 
 /// The mean time of a commit to what a coordinator keeps, spread over many of them.
 fn commit_all<R: Clock + AllocGlobal>(
     rt: &R,
     coordinator: &mut Coordinator<MemoryKeeper>,
-    ask: &ToCoord,
 ) -> anyhow::Result<f64> {
     let mut total = 0.0;
     for _ in 0..COMMITS {
-        total += committing(rt, coordinator, ask)?;
+        if let Some(ticket) = leased(coordinator, rt.alloc())? {
+            total += committing(rt, coordinator, ticket)?;
+        }
     }
     Ok(total / f64::from(COMMITS))
 }
@@ -156,15 +141,11 @@ struct Times {
 }
 
 /// The time of a start, and then of a commit.
-fn starting<R: Clock + AllocGlobal>(
-    rt: &R,
-    bytes: &[u8],
-    ask: &ToCoord,
-) -> anyhow::Result<(f64, f64)> {
+fn starting<R: Clock + AllocGlobal>(rt: &R, bytes: &[u8]) -> anyhow::Result<(f64, f64)> {
     let begun = Instant::now(rt)?;
     let mut coordinator = started(rt.alloc(), bytes)?;
     let start = seconds_since(rt, begun);
-    let event = commit_all(rt, &mut coordinator, ask)?;
+    let event = commit_all(rt, &mut coordinator)?;
     Ok((start, event))
 }
 
@@ -177,14 +158,14 @@ fn hashing<R: Clock + AllocGlobal>(rt: &R, bytes: &[u8]) -> anyhow::Result<f64> 
 }
 
 /// The least times of the rounds over a record.
-fn measured<R: Clock + AllocGlobal>(rt: &R, bytes: &[u8], ask: &ToCoord) -> anyhow::Result<Times> {
+fn measured<R: Clock + AllocGlobal>(rt: &R, bytes: &[u8]) -> anyhow::Result<Times> {
     let mut least = Times {
         event: f64::INFINITY,
         start: f64::INFINITY,
         hash: f64::INFINITY,
     };
     for _ in 0..ROUNDS {
-        let (start, event) = starting(rt, bytes, ask)?;
+        let (start, event) = starting(rt, bytes)?;
         least = Times {
             event: least.event.min(event),
             start: least.start.min(start),
@@ -197,8 +178,7 @@ fn measured<R: Clock + AllocGlobal>(rt: &R, bytes: &[u8], ask: &ToCoord) -> anyh
 /// The least times over a record with `count` versions.
 fn measured_of<R: Clock + AllocGlobal>(rt: &R, count: u32) -> anyhow::Result<Times> {
     let bytes = record(rt.alloc(), count)?;
-    let ask = acquire(rt.alloc())?;
-    measured(rt, &bytes, &ask)
+    measured(rt, &bytes)
 }
 
 /// Prints, for records of 100, 1,000, 10,000 and 100,000 versions, the time of a commit, over that to a record of 100, and
