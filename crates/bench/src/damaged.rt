@@ -1,7 +1,6 @@
 //! Damaged inputs: texts of schedules, definitions, records and folders with bytes turned, cut, joined and repeated. Each is answered
 //! by a refusal or a value, and a value that has a spelling is written as it was read.
 
-use super::graphs;
 use folders::Folder;
 use opsproto::{read_definition, write_definition};
 use rand_core::utils::NextWord;
@@ -11,12 +10,13 @@ use sha2::Sha256;
 use std::alloc::{AllocError, Global};
 use world::{World, print_lines, read_schedule, replay};
 
-/// How many inputs of each kind are made.
-const INPUTS: u64 = 1_000_000;
-
 /// A schedule with leases of each kind, a failed save and restarts.
 const SCHEDULE: &str =
     "nodes 2\nask 1 locked:apt private:npm\nask 2 locked:apt\ndeliver 1\ndeliver 2\ndeliver 3\nbegin 1 1\nfinish 1 1 locked:apt=616263 private:npm#1=\ndeliver 4\nfail new\ndeliver 6\nrestart coordinator\ntenure 2 shared:pip\ndeliver 8\nrestart 2\nwithdraw 2\nresend 1\nnudge\n";
+
+/// A definition of two vertices, the second with a cache mount, and metadata.
+const DEFINITION: &[u8; 369] =
+    b"\nR\x12P\n>\n\x07/bin/sh\n\x02-c\n\x04make\x12#PATH=/usr/local/sbin:/usr/local/bin\x1a\x04/src\x12\x0e\x08\xff\xff\xff\xff\xff\xff\xff\xff\xff\x01\x1a\x01/\n\xc6\x01\nI\nGsha256:527a0a76ae3c048cd5263ec45077e7e8a88becb0d71071f14b9e0791773e9df0\x12y\nF\n\x07/bin/sh\n\x02-c\n\x0cmake install\x12#PATH=/usr/local/sbin:/usr/local/bin\x1a\x04/src\x12\x03\x1a\x01/\x12*\x08\xff\xff\xff\xff\xff\xff\xff\xff\xff\x01\x1a\x06/cache \xff\xff\xff\xff\xff\xff\xff\xff\xff\x010\x03\xa2\x01\x07\n\x03apt\x10\x02\nK\nI\nGsha256:ce2fdd52506ad13ae9d2747901914adca2518679a3512cf0a1b8e60002c3a938\x12\x05about";
 
 /// The bytes of a folder with two files.
 const FOLDER: &[u8; 22] = b"\0\0\0\x01a\0\0\0\x01x\0\0\0\x02bc\0\0\0\x02yz";
@@ -36,31 +36,6 @@ const KINDS: [(Kind, &str); 4] = [
     (Kind::Record, "records"),
     (Kind::Folder, "folders"),
 ];
-
-/// How an input is answered.
-#[derive(Clone, Copy)]
-enum Answer {
-    Refused,
-    Accepted,
-    /// It is read otherwise than it is written.
-    Unsound,
-}
-
-/// How many inputs of a kind are answered so.
-#[derive(Clone, Copy)]
-struct Counts {
-    accepted: u64,
-    unsound: u64,
-}
-
-/// The answer where what was read is written so, or not.
-fn sound_if(same: bool) -> Answer {
-    if same {
-        Answer::Accepted
-    } else {
-        Answer::Unsound
-    }
-}
 
 /// A place among this many bytes.
 fn place(words: &mut Pcg32, len: usize) -> usize {
@@ -115,44 +90,56 @@ fn with_digest(bytes: &mut Vec<u8>) -> Result<(), AllocError> {
     bytes.extend_from_slice(&digest)
 }
 
-/// Reads a schedule. Where that is accepted it is replayed, and what it leaves is printed.
-fn read_as_schedule(alloc: Global, bytes: &[u8]) -> anyhow::Result<Answer> {
+/// The world that a schedule leads to, in a box: letting go of it is one step of a proof. None where it is refused.
+fn replayed(alloc: Global, bytes: &[u8]) -> anyhow::Result<Option<Box<World>>> {
     let Ok((setup, events)) = read_schedule(alloc, bytes) else {
-        return Ok(Answer::Refused);
+        return Ok(None);
     };
     let world = replay(alloc, setup, events.as_slice())?;
-    let _lines = print_lines(alloc, &world)?;
-    Ok(Answer::Accepted)
+    Ok(Some(Box::new(alloc, world)?))
 }
 
-/// Reads a definition. What is written of one that is accepted has to be read as the same.
-fn read_as_definition(alloc: Global, bytes: &[u8]) -> anyhow::Result<Answer> {
-    let Ok(definition) = read_definition(alloc, Vec::from_slice(alloc, bytes)?) else {
-        return Ok(Answer::Refused);
-    };
-    let written = write_definition(alloc, &definition)?;
-    let again = read_definition(alloc, Vec::from_slice(alloc, written.as_slice())?)?;
-    let twice = write_definition(alloc, &again)?;
-    Ok(sound_if(written == twice))
+/// A schedule that isn't refused, which nothing writes. It is replayed, and what that leaves is printed.
+fn rewritten_schedule(alloc: Global, bytes: &[u8]) -> anyhow::Result<Option<Vec<u8>>> {
+    match replayed(alloc, bytes)? {
+        Some(world) => {
+            let _lines = print_lines(alloc, &world)?;
+            Ok(Some(Vec::from_slice(alloc, bytes)?))
+        }
+        None => Ok(None),
+    }
 }
 
-/// Reads a record. What is written of one that is accepted has to be read as the same.
-fn read_as_record(alloc: Global, bytes: &[u8]) -> anyhow::Result<Answer> {
-    let Ok(record) = Record::read(alloc, bytes) else {
-        return Ok(Answer::Refused);
-    };
-    let written = record.write(alloc)?;
-    let twice = Record::read(alloc, written.as_slice())?.write(alloc)?;
-    Ok(sound_if(written == twice))
+/// What is written of a definition that isn't refused.
+fn rewritten_definition(alloc: Global, bytes: &[u8]) -> anyhow::Result<Option<Vec<u8>>> {
+    match read_definition(alloc, Vec::from_slice(alloc, bytes)?) {
+        Ok(definition) => Ok(Some(write_definition(alloc, &definition)?)),
+        Err(_) => Ok(None),
+    }
 }
 
-/// Reads a folder. What is written of one that is accepted has to be what was read.
-fn read_as_folder(alloc: Global, bytes: &[u8]) -> anyhow::Result<Answer> {
-    let Ok(folder) = Folder::read(alloc, bytes) else {
-        return Ok(Answer::Refused);
-    };
-    let written = folder.to_bytes(alloc)?;
-    Ok(sound_if(written.as_slice() == bytes))
+/// What is written of a record that isn't refused.
+fn rewritten_record(alloc: Global, bytes: &[u8]) -> anyhow::Result<Option<Vec<u8>>> {
+    match Record::read(alloc, bytes) {
+        Ok(record) => Ok(Some(record.write(alloc)?)),
+        Err(_) => Ok(None),
+    }
+}
+
+/// What is written of a folder that isn't refused.
+fn rewritten_folder(alloc: Global, bytes: &[u8]) -> anyhow::Result<Option<Vec<u8>>> {
+    match Folder::read(alloc, bytes) {
+        Ok(folder) => Ok(Some(folder.to_bytes(alloc)?)),
+        Err(_) => Ok(None),
+    }
+}
+
+/// The record of the schedule's farm.
+fn record(alloc: Global) -> anyhow::Result<Vec<u8>> {
+    match replayed(alloc, SCHEDULE.as_bytes())? {
+        Some(world) => Ok(world.coordinator().keeper().log().fold(alloc)?),
+        None => Ok(Vec::new(alloc)),
+    }
 }
 
 impl Kind {
@@ -160,28 +147,32 @@ impl Kind {
     fn sound(self, alloc: Global) -> anyhow::Result<Vec<u8>> {
         match self {
             Kind::Schedule => Ok(Vec::from_slice(alloc, SCHEDULE.as_bytes())?),
-            Kind::Definition => Ok(graphs::chain(alloc, 2, true)?),
+            Kind::Definition => Ok(Vec::from_slice(alloc, DEFINITION)?),
             Kind::Record => record(alloc),
             Kind::Folder => Ok(Vec::from_slice(alloc, FOLDER)?),
         }
     }
 
-    /// Reads an input of this kind.
-    fn read(self, alloc: Global, bytes: &[u8]) -> anyhow::Result<Answer> {
+    /// What is written of an input that isn't refused.
+    fn rewritten(self, alloc: Global, bytes: &[u8]) -> anyhow::Result<Option<Vec<u8>>> {
         match self {
-            Kind::Schedule => read_as_schedule(alloc, bytes),
-            Kind::Definition => read_as_definition(alloc, bytes),
-            Kind::Record => read_as_record(alloc, bytes),
-            Kind::Folder => read_as_folder(alloc, bytes),
+            Kind::Schedule => rewritten_schedule(alloc, bytes),
+            Kind::Definition => rewritten_definition(alloc, bytes),
+            Kind::Record => rewritten_record(alloc, bytes),
+            Kind::Folder => rewritten_folder(alloc, bytes),
         }
     }
-}
 
-/// The record of the schedule's farm.
-fn record(alloc: Global) -> anyhow::Result<Vec<u8>> {
-    let (setup, events) = read_schedule(alloc, SCHEDULE.as_bytes())?;
-    let world: World = replay(alloc, setup, events.as_slice())?;
-    Ok(world.coordinator().keeper().log().fold(alloc)?)
+    /// Whether what was written of an input is read as the same; of a folder, whether it is the input.
+    fn stands(self, alloc: Global, bytes: &[u8], written: &[u8]) -> anyhow::Result<bool> {
+        if let Kind::Folder = self {
+            return Ok(written == bytes);
+        }
+        match self.rewritten(alloc, written)? {
+            Some(again) => Ok(again.as_slice() == written),
+            None => Ok(false),
+        }
+    }
 }
 
 /// A sound input, damaged once to four times.
@@ -201,30 +192,44 @@ fn damaged(
     Ok(bytes)
 }
 
-/// How this many damaged inputs of a kind are answered.
-fn answers(alloc: Global, kind: Kind, inputs: u64) -> anyhow::Result<Counts> {
-    let whole = kind.sound(alloc)?;
+/// How many inputs of a kind were accepted, and how many of these are read otherwise than written.
+#[derive(Clone, Copy)]
+struct Counts {
+    accepted: u64,
+    unsound: u64,
+}
+
+/// Reads an input, and counts it.
+fn count(alloc: Global, kind: Kind, bytes: &[u8], counts: &mut Counts) -> anyhow::Result<()> {
+    if let Some(written) = kind.rewritten(alloc, bytes)? {
+        counts.accepted = counts.accepted.saturating_add(1);
+        if !kind.stands(alloc, bytes, &written)? {
+            counts.unsound = counts.unsound.saturating_add(1);
+        }
+    }
+    Ok(())
+}
+
+/// How this many damaged inputs of a kind, made from a sound one, are answered.
+fn counted(alloc: Global, kind: Kind, whole: &[u8], inputs: u64) -> anyhow::Result<Counts> {
     let mut words = Pcg32::new(2026, 54);
     let mut counts = Counts {
         accepted: 0,
         unsound: 0,
     };
     for _ in 0..inputs {
-        let bytes = damaged(alloc, &mut words, kind, whole.as_slice())?;
-        match kind.read(alloc, bytes.as_slice())? {
-            Answer::Refused => {}
-            Answer::Accepted => counts.accepted = counts.accepted.saturating_add(1),
-            Answer::Unsound => counts.unsound = counts.unsound.saturating_add(1),
-        }
+        let bytes = damaged(alloc, &mut words, kind, whole)?;
+        count(alloc, kind, &bytes, &mut counts)?;
     }
     Ok(counts)
 }
 
 /// Makes damaged inputs of each kind, and prints how many are accepted, and how many are read otherwise than they are written.
-pub fn measure<R: Print + AllocGlobal>(rt: &R) -> anyhow::Result<()> {
+pub fn read_all<R: Print + AllocGlobal>(rt: &R, inputs: u64) -> anyhow::Result<()> {
     for (kind, name) in &KINDS {
-        let Counts { accepted, unsound } = answers(rt.alloc(), *kind, INPUTS)?;
-        println!(rt; "{INPUTS} damaged {name}: {accepted} accepted, {unsound} unsound")?;
+        let whole = kind.sound(rt.alloc())?;
+        let Counts { accepted, unsound } = counted(rt.alloc(), *kind, &whole, inputs)?;
+        println!(rt; "{inputs} damaged {name}: {accepted} accepted, {unsound} unsound")?;
     }
     Ok(())
 }

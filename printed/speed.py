@@ -1,0 +1,473 @@
+#!/usr/bin/env python3
+"""Measures farmctl, as ratios of times in one run: docs/SPEED.md has the figures.
+
+usage: [FARMCTL=PROGRAM] [SMALLER=N] printed/speed.py [replay] [events] [read] [keys] [run]
+
+Without words it measures all. Without FARMCTL it is the program that the gate builds; SMALLER divides the sizes, to try a build that isn't
+proved. A time is that of a processor, the system's included, less that of the same command on the least input; of nine runs, in turn
+with those that they are compared with, the fastest counts. Hashing is the program's own: what `check` takes longer for a vertex of 12 MiB
+than to read these bytes.
+"""
+from __future__ import annotations
+
+import dataclasses
+import hashlib
+import os
+import subprocess
+import sys
+import tempfile
+import time
+from collections.abc import Callable
+from pathlib import Path
+
+PROGRAM = os.path.abspath(os.environ.get("FARMCTL") or Path(__file__).resolve().parent.parent / "crates/farmctl/out/farmctl")
+SMALLER = int(os.environ.get("SMALLER") or 1)
+ROUNDS = 9
+FEW = 16
+MEBIBYTE = 1 << 20
+
+
+def sized(count: int) -> int:
+    return max(count // SMALLER, FEW)
+
+
+def call(words: list[str], status: int = 0) -> float:
+    """The seconds of a processor that the program takes for these words."""
+    null = os.open("/dev/null", os.O_RDWR)
+    try:
+        files = [(os.POSIX_SPAWN_DUP2, null, number) for number in range(3)]
+        pid = os.posix_spawn(PROGRAM, [PROGRAM, *words], os.environ, file_actions=files)
+    finally:
+        os.close(null)
+    _, ended, usage = os.wait4(pid, 0)
+    if os.waitstatus_to_exitcode(ended) != status:
+        raise SystemExit(f"{' '.join(words)[-300:]}: status {os.waitstatus_to_exitcode(ended)}")
+    seconds: float = usage.ru_utime + usage.ru_stime
+    return seconds
+
+
+def fastest(calls: list[list[str]], status: int = 0) -> list[float]:
+    """The least seconds of each call, made in turn."""
+    least = [float("inf")] * len(calls)
+    for _ in range(ROUNDS):
+        for place, words in enumerate(calls):
+            least[place] = min(least[place], call(words, status))
+    return least
+
+
+def memory(words: list[str]) -> int:
+    """The most bytes of memory that the program has. A child is born with its parent's most, so a small one calls it."""
+    small = "import os, sys\npid = os.posix_spawn(sys.argv[1], sys.argv[1:], os.environ)\nprint(os.wait4(pid, 0)[2].ru_maxrss, file=sys.stderr)"
+    done = subprocess.run([sys.executable, "-IS", "-c", small, PROGRAM, *words], stdout=subprocess.DEVNULL, stderr=subprocess.PIPE, check=True)
+    return int(done.stderr.split()[-1]) * 1024
+
+
+class Room:
+    """The folder of the inputs."""
+
+    def __init__(self, folder: str) -> None:
+        self.folder = folder
+        self.count = 0
+
+    def file(self, data: bytes) -> str:
+        self.count += 1
+        path = f"{self.folder}/{self.count}"
+        Path(path).write_bytes(data)
+        return path
+
+
+# Schedules
+
+
+class Schedule:
+    """The lines of a schedule. Messages and tickets are numbered as they come."""
+
+    def __init__(self, nodes: int) -> None:
+        self.lines = [f"nodes {nodes}"]
+        self.messages = 0
+        self.tickets = 0
+
+    def sends(self, line: str) -> None:
+        """An event that sends a message, which arrives."""
+        self.lines.append(line)
+        self.deliver()
+
+    def deliver(self) -> None:
+        self.messages += 1
+        self.lines.append(f"deliver {self.messages}")
+
+    def lease(self, node: int, folder: str) -> int:
+        self.sends(f"ask {node} {folder}")
+        self.deliver()
+        self.tickets += 1
+        return self.tickets
+
+    def turn(self, node: int, folder: str) -> None:
+        """A folder is leased and given back."""
+        self.sends(f"abort {node} {self.lease(node, folder)}")
+
+    def data(self) -> bytes:
+        return "\n".join([*self.lines, ""]).encode("ascii")
+
+
+# Between two restarts are whole blocks of tickets, so that the coordinator goes on with the next.
+LEASES_OF_A_LIFE = 2_560
+
+
+def turns(nodes: int, events: int) -> bytes:
+    """Nodes in turn with one LOCKED folder. Of several one restarts now and then, and so does the coordinator; one alone would lose the
+    contents."""
+    made = Schedule(nodes)
+    lease = 0
+    while len(made.lines) <= events:
+        node = lease % nodes + 1
+        ticket = made.lease(node, "locked:apt")
+        made.lines.append(f"begin {node} {ticket}")
+        made.sends(f"finish {node} {ticket} locked:apt={f'{lease:08x}' if nodes == 1 else ''}")
+        made.deliver()
+        lease += 1
+        if nodes > 1 and lease % LEASES_OF_A_LIFE == 0:
+            made.lines.append("restart coordinator")
+            made.sends(f"restart {lease // LEASES_OF_A_LIFE % nodes + 1}")
+    del made.lines[events + 1 :]
+    return made.data()
+
+
+def replay(room: Room) -> None:
+    for nodes in (1, 64):
+        counts = [sized(count) for count in (4_096, 16_384, 65_536)]
+        calls = [["replay", room.file(turns(nodes, count))] for count in (0, *counts)]
+        start, *times = fastest(calls)
+        each = [(took - start) / count for took, count in zip(times, counts)]
+        for count, one in zip(counts, each):
+            print(f"replay, {count} events, nodes {nodes}: {1 / one:.0f} events/s, {one / each[0]:.2f} of an event of {counts[0]}", flush=True)
+
+
+# Each case makes what is there before, and gives what is done again and again.
+Turn = Callable[[], None]
+
+
+def leased(made: Schedule, count: int) -> Turn:
+    for number in range(count):
+        made.lease(1, f"locked:f{number}")
+    return lambda: made.turn(1, "locked:turn")
+
+
+def asked_again(made: Schedule, count: int) -> Turn:
+    leased(made, count)
+    asked = made.messages - 1
+
+    def turn() -> None:
+        for _ in range(5):
+            made.lines.append(f"deliver {asked}")
+
+    return turn
+
+
+def waiting(made: Schedule, count: int) -> Turn:
+    made.lease(1, "locked:f")
+
+    def turn() -> None:
+        made.sends("ask 1 locked:f")
+
+    for _ in range(count):
+        turn()
+    return turn
+
+
+def freed(made: Schedule, count: int) -> Turn:
+    """Each turn the slot is freed, for the first that waits, and one more waits."""
+    wait = waiting(made, count)
+
+    def turn() -> None:
+        wait()
+        made.sends(f"abort 1 {made.tickets}")
+        made.deliver()
+        made.tickets += 1
+
+    return turn
+
+
+def freed_behind(made: Schedule, count: int) -> Turn:
+    waiting(made, count)
+    made.lease(1, "locked:g")
+
+    def turn() -> None:
+        made.sends("ask 1 locked:g")
+        made.sends(f"abort 1 {made.tickets}")
+        made.deliver()
+        made.tickets += 1
+
+    return turn
+
+
+def new_life(made: Schedule) -> Turn:
+    def turn() -> None:
+        made.lease(2, "locked:h")
+        made.sends("restart 2")
+
+    return turn
+
+
+def new_life_beside_asks(made: Schedule, count: int) -> Turn:
+    waiting(made, count)
+    return new_life(made)
+
+
+def new_life_beside_leases(made: Schedule, count: int) -> Turn:
+    leased(made, count)
+    return new_life(made)
+
+
+def resent(made: Schedule, count: int) -> Turn:
+    """Of a node with ten asks open the others are over."""
+    for _ in range(count // 2):
+        made.turn(1, "locked:turn")
+    for _ in range(10):
+        made.lines.append("ask 1 locked:turn")
+    return lambda: made.lines.append("resend 1")
+
+
+CASES: list[tuple[str, Callable[[Schedule, int], Turn]]] = [
+    ("leased and given back, beside N leases", leased),
+    ("an ask that comes again, beside N leases", asked_again),
+    ("an ask that waits, beside N for its slot", waiting),
+    ("a slot is freed for which N asks wait, and one comes", freed),
+    ("a slot is freed for which one ask waits, behind N for another", freed_behind),
+    ("a newer life that ends a lease, beside N asks of another node", new_life_beside_asks),
+    ("a newer life that ends a lease, beside N leases of another node", new_life_beside_leases),
+    ("a resend of 10 asks, with N/2 over", resent),
+]
+
+
+def timed(room: Room, case: Callable[[Schedule, int], Turn], count: int, times: int) -> list[list[str]]:
+    """The replay of what is there before, and the same with the turns."""
+    made = Schedule(2)
+    turn = case(made, count)
+    before = room.file(made.data())
+    for _ in range(times):
+        turn()
+    return [["replay", before], ["replay", room.file(made.data())]]
+
+
+def private(room: Room) -> None:
+    made = Schedule(1)
+    grants = [["replay", room.file(made.data())]]
+    for number in range(2 * sized(2_048)):
+        made.lease(1, "private:p")
+        if (number + 1) % sized(2_048) == 0:
+            grants.append(["replay", room.file(made.data())])
+    none, half, whole = fastest(grants)
+    print(f"events, one of the last {sized(2_048)} PRIVATE grants: {(whole - half) / (half - none):.2f} of one of the first", flush=True)
+
+
+def events(room: Room) -> None:
+    many, times = sized(16_000), sized(3_000)
+    for name, case in CASES:
+        least = fastest([*timed(room, case, FEW, times), *timed(room, case, many, times)])
+        few, much = ((least[place + 1] - least[place]) / times for place in (0, 2))
+        print(f"events, {name}: {much / few:.2f} at {many} of one at {FEW} ({much * 1e6:.1f} microseconds)", flush=True)
+    private(room)
+
+
+# Definitions
+
+
+def varint(value: int) -> bytes:
+    value &= (1 << 64) - 1
+    out = bytearray()
+    while value > 127:
+        out.append(value & 127 | 128)
+        value >>= 7
+    out.append(value)
+    return bytes(out)
+
+
+def field(number: int, body: bytes) -> bytes:
+    return varint(number << 3 | 2) + varint(len(body)) + body
+
+
+def integer(number: int, value: int) -> bytes:
+    return varint(number << 3) + varint(value) if value else b""
+
+
+def blocks(length: int) -> int:
+    """How many blocks of 64 bytes SHA-256 works on for a message of this length."""
+    return (length + 8) // 64 + 1
+
+
+@dataclasses.dataclass
+class Definition:
+    """The entries of vertices, and the blocks that their keys need hashed: of each op, of its stripped bytes, and of its key's message."""
+
+    entries: list[bytes] = dataclasses.field(default_factory=list)
+    digests: list[str] = dataclasses.field(default_factory=list)
+    blocks: int = 0
+
+    def add(self, rest: bytes, inputs: list[str]) -> None:
+        entry = b"".join(field(1, field(1, digest.encode("ascii"))) for digest in inputs) + rest
+        self.blocks += blocks(len(entry)) + blocks(len(rest)) + blocks(33 + 40 * len(inputs))
+        self.entries.append(entry)
+        self.digests.append(f"sha256:{hashlib.sha256(entry).hexdigest()}")
+
+    def run(self, words: list[str], inputs: list[str], folder: str = "") -> None:
+        """A vertex that runs a command, on the first output of each input, with a LOCKED folder."""
+        meta = b"".join(field(1, word.encode("ascii")) for word in words) + field(2, b"PATH=/usr/local/sbin:/usr/local/bin") + field(3, b"/src")
+        mounts = field(2, integer(1, 0 if inputs else -1) + field(3, b"/"))
+        if folder:
+            cache = field(1, folder.encode("ascii")) + integer(2, 2)
+            mounts += field(2, integer(1, -1) + field(3, b"/cache") + integer(4, -1) + integer(6, 3) + field(20, cache))
+        self.add(field(2, field(1, meta) + mounts), inputs)
+
+    def data(self, metadata: bool = False) -> bytes:
+        """The definition; its metadata, if asked, is of twice the size of a chain's entries."""
+        result = field(1, field(1, self.digests[-1].encode("ascii")))
+        entries = [field(1, entry) for entry in (*self.entries, result)]
+        return b"".join(entries) + field(2, b"\x07" * 440) * len(entries) * metadata
+
+    def unread(self, metadata: bool = False) -> bytes:
+        """The same behind an entry that is no op: it is read, and then refused."""
+        return field(1, b"\xff") + self.data(metadata)
+
+
+def step(number: int, padding: str = "") -> list[str]:
+    return ["/bin/sh", "-c", f"make step-{number} && install --mode 0755 out/step-{number} /usr/local/bin {padding}"]
+
+
+def chain(count: int, padding: str = "") -> Definition:
+    """Each vertex takes the one before."""
+    made = Definition()
+    for number in range(count):
+        made.run(step(number, padding), made.digests[-1:])
+    return made
+
+
+def wide(count: int) -> Definition:
+    """The last vertex takes all others."""
+    made = Definition()
+    for number in range(count - 1):
+        made.run(step(number), [])
+    made.run(step(count), list(made.digests))
+    return made
+
+
+def diamonds(count: int) -> Definition:
+    """Each vertex takes the two before."""
+    made = Definition()
+    for number in range(count):
+        made.run(step(number), made.digests[-2:])
+    return made
+
+
+def block_seconds(room: Room) -> float:
+    """The seconds in which the program hashes a block."""
+    made = Definition()
+    made.add(field(3, bytes(12 * MEBIBYTE // SMALLER)), [])
+    refused = fastest([["check", room.file(made.unread())]], 1)[0]
+    return (fastest([["check", room.file(made.data())]])[0] - refused) / blocks(len(made.entries[0]))
+
+
+def read(room: Room) -> None:
+    block = block_seconds(room)
+    least = fastest([["check", room.file(chain(1).unread())]], 1)[0]
+    for count, metadata in ((16_000, False), (6_000, True)):
+        sizes = [sized(count), 4 * sized(count)]
+        data = [chain(size).unread(metadata) for size in sizes]
+        times = [took - least for took in fastest([["check", room.file(each)] for each in data], 1)]
+        growth = times[1] / len(data[1]) / (times[0] / len(data[0]))
+        for each, took in zip(data, times):
+            ratio = took / (block * blocks(len(each)))
+            print(f"read {len(each) / MEBIBYTE:.1f} MiB, metadata {metadata}: {len(each) / took / 1e6:.0f} MB/s, {ratio:.2f} of hashing", flush=True)
+        print(f"growth for a byte, metadata {metadata}: {growth:.2f}", flush=True)
+    large, small = (chain(count).unread() for count in (sized(64_000), 1))
+    most = memory(["check", room.file(large)]) - memory(["check", room.file(small)])
+    print(f"read {sized(64_000)} entries: {most / len(large):.2f} of their bytes at most in memory", flush=True)
+
+
+def keys(room: Room) -> None:
+    block = block_seconds(room)
+    least = fastest([["keys", room.file(chain(1).data())]])[0]
+    sizes = [sized(count) for count in (4_000, 16_000, 64_000)]
+    graphs = [(f"a chain of {size}", chain(size)) for size in sizes]
+    graphs += [(f"a wide graph of {sizes[1]}", wide(sizes[1])), (f"diamonds of {sizes[1]}", diamonds(sizes[1]))]
+    graphs.append(("15 vertices of a mebibyte", chain(15, "0123456789abcdef" * (65_536 // SMALLER))))
+    times = fastest([["keys", room.file(made.data())] for _, made in graphs])
+    for (name, made), took in zip(graphs, times):
+        print(f"keys, {name}: {(took - least) * 1e3:.1f} ms, {(took - least) / (block * made.blocks):.2f} of the hashing", flush=True)
+    growth = (times[2] - least) / sizes[2] / ((times[0] - least) / sizes[0])
+    print(f"growth for a vertex from {sizes[0]} to {sizes[2]}: {growth:.2f}", flush=True)
+    for count, metadata in ((64_000, False), (24_000, True)):
+        data = chain(sized(count)).data(metadata)
+        print(f"keys, a chain of {sized(count)}, metadata {metadata}: {memory(['keys', room.file(data)]) / len(data):.2f} of its bytes at most in memory", flush=True)
+
+
+# Runs
+
+JOBS = 64
+VERTICES = 16
+CONTENT = 256 * 1024
+
+
+def filled(job: int, content: int, vertices: int) -> bytes:
+    """A job with a LOCKED folder of its own: its first vertex fills that, and each further one changes a little, so all is hashed again."""
+    made = Definition()
+    made.run(["put", "/cache", "large", f"{job:8d}" * (content // 8)], [], f"folder-{job}")
+    for number in range(1, vertices):
+        made.run(["put", "/cache", "small", f"{job} {number}"], made.digests[-1:], f"folder-{job}")
+    return made.data()
+
+
+def wall(calls: list[list[str]]) -> float:
+    """The seconds until programs that run side by side have all ended."""
+    begun = time.perf_counter()
+    running = [subprocess.Popen([PROGRAM, *words], stdin=subprocess.DEVNULL, stdout=subprocess.DEVNULL) for words in calls]
+    if any([each.wait() for each in running]):
+        raise SystemExit("a run failed")
+    return time.perf_counter() - begun
+
+
+def growth_of_keys(room: Room, name: str, shape: Callable[[int], Definition]) -> None:
+    sizes = [sized(1_000), sized(8_000)]
+    least, *times = fastest([["run", "--nodes", "1", room.file(shape(size).data())] for size in (1, *sizes)])
+    few, many = ((took - least) / size for took, size in zip(times, sizes))
+    print(f"run, {sizes[1]} keys {name}: {1 / many:.0f} keys/s, a key takes {many / few:.2f} of one of {sizes[0]}", flush=True)
+
+
+def side_by_side(room: Room) -> None:
+    """How much faster jobs are on several nodes of one farm; beside it, in as many farms of one node, which share nothing."""
+    files = [room.file(filled(job, CONTENT // SMALLER, VERTICES)) for job in range(JOBS)]
+    ways = [[["run", "--nodes", str(nodes), *files]] for nodes in (1, 2, 4)]
+    ways += [[["run", "--nodes", "1", *files[place::count]] for place in range(count)] for count in (2, 4)]
+    took = [float("inf")] * len(ways)
+    for _ in range(3):
+        took = [min(before, wall(way)) for before, way in zip(took, ways)]
+    names = ["nodes 2", "nodes 4", "2 farms of 1 node", "4 farms of 1 node"]
+    for name, one in zip(names, took[1:]):
+        print(f"run, {JOBS} jobs of {VERTICES}, a folder each, {name}: {took[0] / one:.2f} times 1 node", flush=True)
+
+
+def run(room: Room) -> None:
+    growth_of_keys(room, "in a chain", chain)
+    growth_of_keys(room, "side by side", wide)
+    side_by_side(room)
+    large = ["run", "--nodes", "2", *(room.file(filled(job, 16_000_000 // SMALLER, 1)) for job in range(2))]
+    print(f"run, two files of 16 MB put: {min(wall([large]) for _ in range(3)):.2f} s, {memory(large) / 1e6:.0f} MB at most in memory", flush=True)
+
+
+SUBJECTS: dict[str, Callable[[Room], None]] = {"replay": replay, "events": events, "read": read, "keys": keys, "run": run}
+
+
+def main(words: list[str]) -> int:
+    if not set(words) <= set(SUBJECTS):
+        print((__doc__ or "").split("\n\n")[1], file=sys.stderr)
+        return 2
+    print(f"load {os.getloadavg()[0]:.1f}, {os.cpu_count()} processors", flush=True)
+    for name, measure in SUBJECTS.items():
+        if not words or name in words:
+            with tempfile.TemporaryDirectory(prefix="speed-") as folder:
+                measure(Room(folder))
+    return 0
+
+
+if __name__ == "__main__":
+    sys.exit(main(sys.argv[1:]))
