@@ -37,6 +37,7 @@ import sys
 import tempfile
 from collections.abc import Callable, Iterator
 from pathlib import Path
+from typing import IO
 
 HERE = Path(__file__).resolve().parent
 PROGRAM = os.path.abspath(os.environ.get("FARMCTL") or HERE.parent / "crates/farmctl/out/farmctl")
@@ -137,7 +138,7 @@ def ran(words: list[str], room: str, read: bytes) -> tuple[int, bytes, bytes]:
     """The status of a call, -1 where it doesn't end, and what it printed."""
     path = words.pop()[1:] if words and words[-1].startswith(">") else ""
     with open(path or os.devnull, "wb") as other:
-        out = other if path else subprocess.PIPE
+        out: IO[bytes] | int = other if path else subprocess.PIPE
         try:
             done = subprocess.run([PROGRAM, *words], cwd=room, input=read, stdout=out, stderr=subprocess.PIPE, timeout=SECONDS)
         except subprocess.TimeoutExpired:
