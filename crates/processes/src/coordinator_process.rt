@@ -70,12 +70,12 @@ pub fn serve_coordinator<K: Keeper, R: Read + Drop, W: Write>(
 /// Answers the lines of the standard input.
 fn answer_input<K: Keeper, R: Input + AllocGlobal, W: Write>(
     rt: &R,
-    mut filter: CoordinatorFilter<K>,
+    filter: &mut CoordinatorFilter<K>,
     writer: &mut W,
 ) -> Result<(), ProcessFault> {
     let alloc = rt.alloc();
     let served = match BufWriter::with_capacity(alloc, TOGETHER, writer) {
-        Ok(mut writer) => serve_coordinator(alloc, &mut filter, rt.reader(), &mut writer),
+        Ok(mut writer) => serve_coordinator(alloc, filter, rt.reader(), &mut writer),
         Err(error) => Err(error),
     };
     match served {
@@ -103,5 +103,8 @@ pub fn run_coordinator<R: Files<File = File> + Input + AllocGlobal, W: Write>(
     let key = key_of(rt, place.key)?;
     let _lock = lock_of(rt, place.record)?;
     let coordinator = started(rt, place.record)?;
-    answer_input(rt, CoordinatorFilter { coordinator, key }, writer)
+    let mut filter = CoordinatorFilter { coordinator, key };
+    let answered = answer_input(rt, &mut filter, writer);
+    drop(filter);
+    answered
 }
