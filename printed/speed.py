@@ -1,7 +1,7 @@
 #!/usr/bin/env python3
 """Measures farmctl, as ratios of times in one run: docs/SPEED.md has the figures.
 
-usage: [FARMCTL=PROGRAM] [SMALLER=N] printed/speed.py [replay] [events] [read] [keys] [run]
+usage: [FARMCTL=PROGRAM] [SMALLER=N] printed/speed.py [replay] [events] [node] [read] [keys] [run]
 
 Without words it measures all. Without FARMCTL it is the program that the gate builds; SMALLER divides the sizes, to try a build that isn't
 proved. A time is that of a processor, the system's included, less that of the same command on the least input; of nine runs, in turn
@@ -12,6 +12,7 @@ from __future__ import annotations
 
 import dataclasses
 import hashlib
+import hmac
 import os
 import subprocess
 import sys
@@ -31,14 +32,10 @@ def sized(count: int) -> int:
     return max(count // SMALLER, FEW)
 
 
-def call(words: list[str], status: int = 0) -> float:
-    """The seconds of a processor that the program takes for these words."""
-    null = os.open("/dev/null", os.O_RDWR)
-    try:
-        files = [(os.POSIX_SPAWN_DUP2, null, number) for number in range(3)]
-        pid = os.posix_spawn(PROGRAM, [PROGRAM, *words], os.environ, file_actions=files)
-    finally:
-        os.close(null)
+def call(words: list[str], status: int = 0, read: str = os.devnull) -> float:
+    """The seconds of a processor that the program takes for these words, reading this file."""
+    files = [(os.POSIX_SPAWN_OPEN, 0, read, os.O_RDONLY, 0), *((os.POSIX_SPAWN_OPEN, number, os.devnull, os.O_WRONLY, 0) for number in (1, 2))]
+    pid = os.posix_spawn(PROGRAM, [PROGRAM, *words], os.environ, file_actions=files)
     _, ended, usage = os.wait4(pid, 0)
     if os.waitstatus_to_exitcode(ended) != status:
         raise SystemExit(f"{' '.join(words)[-300:]}: status {os.waitstatus_to_exitcode(ended)}")
@@ -55,10 +52,11 @@ def fastest(calls: list[list[str]], status: int = 0) -> list[float]:
     return least
 
 
-def memory(words: list[str]) -> int:
+def memory(words: list[str], read: str = os.devnull) -> int:
     """The most bytes of memory that the program has. A child is born with its parent's most, so a small one calls it."""
     small = "import os, sys\npid = os.posix_spawn(sys.argv[1], sys.argv[1:], os.environ)\nprint(os.wait4(pid, 0)[2].ru_maxrss, file=sys.stderr)"
-    done = subprocess.run([sys.executable, "-IS", "-c", small, PROGRAM, *words], stdout=subprocess.DEVNULL, stderr=subprocess.PIPE, check=True)
+    with open(read, "rb") as file:
+        done = subprocess.run([sys.executable, "-IS", "-c", small, PROGRAM, *words], stdin=file, stdout=subprocess.DEVNULL, stderr=subprocess.PIPE, check=True)
     return int(done.stderr.split()[-1]) * 1024
 
 
@@ -219,15 +217,6 @@ def new_life_beside_leases(made: Schedule, count: int) -> Turn:
     return new_life(made)
 
 
-def resent(made: Schedule, count: int) -> Turn:
-    """Of a node with ten asks open the others are over."""
-    for _ in range(count // 2):
-        made.turn(1, "locked:turn")
-    for _ in range(10):
-        made.lines.append("ask 1 locked:turn")
-    return lambda: made.lines.append("resend 1")
-
-
 CASES: list[tuple[str, Callable[[Schedule, int], Turn]]] = [
     ("leased and given back, beside N leases", leased),
     ("an ask that comes again, beside N leases", asked_again),
@@ -236,7 +225,6 @@ CASES: list[tuple[str, Callable[[Schedule, int], Turn]]] = [
     ("a slot is freed for which one ask waits, behind N for another", freed_behind),
     ("a newer life that ends a lease, beside N asks of another node", new_life_beside_asks),
     ("a newer life that ends a lease, beside N leases of another node", new_life_beside_leases),
-    ("a resend of 10 asks, with N/2 over", resent),
 ]
 
 
@@ -268,6 +256,50 @@ def events(room: Room) -> None:
         few, much = ((least[place + 1] - least[place]) / times for place in (0, 2))
         print(f"events, {name}: {much / few:.2f} at {many} of one at {FEW} ({much * 1e6:.1f} microseconds)", flush=True)
     private(room)
+
+
+# A node
+
+LIFE = 1 << 40
+EMPTY = hashlib.sha256(b"").hexdigest()
+KEY = b"5" * 64
+
+
+def over(asks: int) -> list[str]:
+    """What a node hears of so many asks that are over, and of ten that are open."""
+    lines = []
+    for ask in range(1, asks + 1):
+        text = f"granted 1 {LIFE} {ask} {ask} plain locked:f=0:{EMPTY}"
+        lines += ["ask locked:f", f"m {text} {hmac.digest(KEY, text.encode('ascii'), 'sha256').hex()}", f"begin {ask}", f"abort {ask}"]
+    return [*lines, *["ask locked:f"] * 10]
+
+
+class Node:
+    """A node's process, which begins the same life each time."""
+
+    def __init__(self, room: Room) -> None:
+        self.store = Path(room.folder, "n1")
+        self.store.mkdir()
+        self.words = ["node", "--node", "1", "--nodes", "1", "--store", str(self.store), "--key", room.file(KEY)]
+
+    def begun(self) -> list[str]:
+        Path(self.store, "life").write_text(f"node 1 life {LIFE - 1}\n", "ascii")
+        return self.words
+
+    def seconds(self, read: str) -> float:
+        return min(call(self.begun(), 0, read) for _ in range(3))
+
+
+def node(room: Room) -> None:
+    one, each, most = Node(room), [], []
+    counts, resends = (FEW, sized(1_000_000)), sized(2_000)
+    for count in counts:
+        before = over(count)
+        first, last = (room.file("\n".join([*before, *["resend"] * times, ""]).encode("ascii")) for times in (0, resends))
+        each.append((one.seconds(last) - one.seconds(first)) / resends)
+        most.append(memory(one.begun(), first))
+    print(f"node, a resend of 10 asks, {counts[1]} over: {each[1] / each[0]:.2f} of one with {counts[0]} over ({each[1] * 1e6:.1f} microseconds)", flush=True)
+    print(f"node, {counts[1]} asks over: {most[1] / most[0]:.2f} of the most memory with {counts[0]} over ({most[1] / 1e6:.1f} MB)", flush=True)
 
 
 # Definitions
@@ -454,7 +486,7 @@ def run(room: Room) -> None:
     print(f"run, two files of 16 MB put: {min(wall([large]) for _ in range(3)):.2f} s, {memory(large) / 1e6:.0f} MB at most in memory", flush=True)
 
 
-SUBJECTS: dict[str, Callable[[Room], None]] = {"replay": replay, "events": events, "read": read, "keys": keys, "run": run}
+SUBJECTS: dict[str, Callable[[Room], None]] = {"replay": replay, "events": events, "node": node, "read": read, "keys": keys, "run": run}
 
 
 def main(words: list[str]) -> int:
