@@ -129,10 +129,18 @@ fn asked(alloc: Global, board: &mut Board) -> Result<Asked, Fail> {
 }
 
 /// The empty content in the slot of that folder.
-fn lefts(alloc: Global) -> Result<Vec<Left>, Fail> {
+fn left(alloc: Global) -> Result<Left, Fail> {
     let slot = Slot::parse(alloc, "locked:apt")?;
-    let content = Content::of(Vec::new(alloc));
-    Ok(vec![in alloc; Left { slot, content }]?)
+    Ok(Left {
+        slot,
+        content: Content::of(Vec::new(alloc)),
+    })
+}
+
+/// That alone.
+fn lefts(alloc: Global) -> Result<Vec<Left>, Fail> {
+    let left = left(alloc)?;
+    Ok(vec![in alloc; left]?)
 }
 
 /// Whether an execution, from its ask on, has the first receipt.
@@ -148,7 +156,8 @@ fn executes(alloc: Global, board: &mut Board) -> Result<bool, Fail> {
 /// Makes node 2 ask for a tenure.
 fn ask_tenure(alloc: Global, board: &mut Board) -> Result<(), Fail> {
     let folder = FolderName::parse(alloc, "shared:pip")?;
-    abandon_asked(board.ask_tenure(alloc, NodeId(2), folder)?);
+    let asked = board.ask_tenure(alloc, NodeId(2), folder)?;
+    abandon_asked(asked);
     Ok(())
 }
 

@@ -211,22 +211,29 @@ enum Misdeed {
     SecondTime,
 }
 
+/// Puts a file of this size.
+fn put(alloc: Global, size: usize) -> Result<Edit, AllocError> {
+    let content = vec![in alloc; 0; size]?;
+    let path = String::from_str(alloc, "a")?;
+    Ok(Edit::Put(Text::new(path), Items::new(content)))
+}
+
 /// The edits that put a file of this size into this folder.
 fn edits_of(
     alloc: Global,
     folder: FolderName,
     size: usize,
 ) -> Result<Vec<(FolderName, Items<Edit>)>, AllocError> {
-    let path = Text::new(String::from_str(alloc, "a")?);
-    let content = Items::new(vec![in alloc; 0; size]?);
-    let edits = Items::new(vec![in alloc; Edit::Put(path, content)]?);
+    let edit = put(alloc, size)?;
+    let edits = Items::new(vec![in alloc; edit]?);
     Ok(vec![in alloc; (folder, edits)]?)
 }
 
 /// Another folder than this.
 fn other(alloc: Global, folder: &FolderName) -> Result<FolderName, AllocError> {
+    let id = String::from_str(alloc, "other")?;
     Ok(FolderName {
-        id: Text::new(String::from_str(alloc, "other")?),
+        id: Text::new(id),
         mode: folder.mode,
         base: None,
     })

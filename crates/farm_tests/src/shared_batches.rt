@@ -22,8 +22,9 @@ fn put(alloc: Global, name: &str) -> Result<Vec<Edit>, AllocError> {
 fn folder_name(alloc: Global) -> Result<FolderName, AllocError>
     ensures { IfOk result (λ folder. folder.mode ≡ Mode.Shared) }
 {
+    let id = String::from_str(alloc, "pip")?;
     Ok(FolderName {
-        id: Text::new(String::from_str(alloc, "pip")?),
+        id: Text::new(id),
         mode: Mode::Shared,
         base: None,
     })

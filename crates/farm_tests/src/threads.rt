@@ -61,7 +61,22 @@ impl Executor for Meeting {
     }
 }
 
-/// Adds an executor with these flags.
+/// An executor with these flags.
+fn meeting_of(
+    alloc: Global,
+    mine: &Arc<AtomicBool>,
+    theirs: &Arc<AtomicBool>,
+) -> Result<Meeting, Fail> {
+    let mine = Arc::try_clone(mine)?;
+    let theirs = Arc::try_clone(theirs)?;
+    Ok(Meeting {
+        mine,
+        theirs,
+        calls: Vec::new(alloc),
+    })
+}
+
+/// Adds such an executor.
 fn add_meeting(
     alloc: Global,
     executors: &mut Executors,
@@ -69,14 +84,7 @@ fn add_meeting(
     mine: &Arc<AtomicBool>,
     theirs: &Arc<AtomicBool>,
 ) -> Result<(), Fail> {
-    let mine = Arc::try_clone(mine)?;
-    let theirs = Arc::try_clone(theirs)?;
-    let calls = Vec::new(alloc);
-    let executor = Meeting {
-        mine,
-        theirs,
-        calls,
-    };
+    let executor = meeting_of(alloc, mine, theirs)?;
     let executor: Box<dyn Executor + Send> = Box::new(alloc, executor)?;
     executors.push((NodeId(node), executor))?;
     Ok(())
@@ -175,17 +183,20 @@ fn fault_on<R: Threads + Wait + Sync, G: Gate>(
     }
 }
 
-/// A plan of `count` such steps, all at the first place.
-fn repeated<F: Fn() -> FarmStep>(
-    alloc: Global,
-    count: usize,
-    step: F,
-) -> Result<Vec<(usize, FarmStep)>, Fail>
-    requires { F.IsAlwaysCallable step }
-{
+/// A plan that loses this many messages, all at the first place.
+fn losses(alloc: Global, count: usize) -> Result<Vec<(usize, FarmStep)>, Fail> {
     let mut plan = Vec::new(alloc);
     for _ in 0..count {
-        plan.push((0, step()))?;
+        plan.push((0, FarmStep::Skip))?;
+    }
+    Ok(plan)
+}
+
+/// A plan of more nudges than a schedule has events, all at the first place.
+fn nudges(alloc: Global) -> Result<Vec<(usize, FarmStep)>, Fail> {
+    let mut plan = Vec::new(alloc);
+    for _ in 0..70_000 {
+        plan.push((0, FarmStep::Nudge))?;
     }
     Ok(plan)
 }
@@ -194,10 +205,10 @@ fn repeated<F: Fn() -> FarmStep>(
 #[test]
 fn lost_messages(rt: HostRuntime) -> Result<(), Fail> {
     let alloc = rt.alloc();
-    let few = repeated(alloc, 100, || FarmStep::Skip)?;
+    let few = losses(alloc, 100)?;
     let fault = fault_on(&rt, alloc, 1, few, &OpenGate)?;
     assert!(rt; fault.is_none());
-    let many = repeated(alloc, 3_000, || FarmStep::Skip)?;
+    let many = losses(alloc, 3_000)?;
     let fault = fault_on(&rt, alloc, 1, many, &OpenGate)?;
     assert!(rt; matches!(fault, Some(FarmFault::Stalled)));
     Ok(())
@@ -216,8 +227,8 @@ fn a_node_that_is_gone(rt: HostRuntime) -> Result<(), Fail> {
 #[test]
 fn runs_that_end_with_a_fault(rt: HostRuntime) -> Result<(), Fail> {
     let alloc = rt.alloc();
-    let nudges = repeated(alloc, 70_000, || FarmStep::Nudge)?;
-    let full = fault_on(&rt, alloc, 1, nudges, &OpenGate)?;
+    let plan = nudges(alloc)?;
+    let full = fault_on(&rt, alloc, 1, plan, &OpenGate)?;
     assert!(rt; matches!(full, Some(FarmFault::HistoryFull)));
     let nowhere = fault_on(&rt, alloc, 2, Vec::new(alloc), &OpenGate)?;
     assert!(rt; matches!(nowhere, Some(FarmFault::BadSetup)));
@@ -226,13 +237,18 @@ fn runs_that_end_with_a_fault(rt: HostRuntime) -> Result<(), Fail> {
     Ok(())
 }
 
+/// The output of the first job, if it has one.
+fn output_in(end: &FarmEnd) -> Option<Answer> {
+    match end.answers.first() {
+        Some(Answer::Output(output)) => Some(Answer::Output(*output)),
+        _ => None,
+    }
+}
+
 /// The output of a run on threads.
 fn output_of<R: Threads + Wait + Sync>(rt: &R, alloc: Global) -> Result<Answer, Fail> {
     match end_on(rt, alloc, 1, Vec::new(alloc), &OpenGate)? {
-        Ok(end) => match end.answers.first() {
-            Some(Answer::Output(output)) => Ok(Answer::Output(*output)),
-            _ => Err("no output".into()),
-        },
+        Ok(end) => Ok(output_in(&*end).ok_or("no output")?),
         Err(stop) => Err(stop.fault.into()),
     }
 }
