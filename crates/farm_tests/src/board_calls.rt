@@ -10,23 +10,28 @@ use schedule::Setup;
 use std::alloc::Global;
 use std::test::Fail;
 
-/// The wants of one folder, writable.
-fn wants_of(alloc: Global, folder: &str) -> Result<Wants, Fail> {
-    let folder = FolderName::parse(alloc, folder)?;
-    Ok(Wants::one(alloc, folder, true)?)
+/// A board of a farm of this many nodes. In a box: letting go of it is one step of a proof.
+pub(crate) fn board_of(alloc: Global, nodes: u32) -> Result<Box<Board>, Fail> {
+    let board = Board::start(alloc, Setup { nodes })?;
+    Ok(Box::new(alloc, board)?)
 }
 
-/// Delivers up to this many messages.
-pub(crate) fn deliver(alloc: Global, board: &mut Board, most: u64) {
-    for _ in 0..most {
-        let Ok(Some(_)) = board.deliver_next(alloc) else {
+/// Whether a message is left, which it delivers.
+fn is_delivered(alloc: Global, board: &mut Board) -> bool {
+    matches!(board.deliver_next(alloc), Ok(Some(_)))
+}
+
+/// Delivers what is sent.
+fn deliver(alloc: Global, board: &mut Board) {
+    for _ in 0..64 {
+        if !is_delivered(alloc, board) {
             break;
-        };
+        }
     }
 }
 
 /// The lease of an ask, if it has one.
-pub(crate) fn granted(alloc: Global, board: &Board, asked: Asked) -> Option<Granted>
+fn granted(alloc: Global, board: &Board, asked: Asked) -> Option<Granted>
     ensures { IfSome result (λ granted. granted.wants ≡ asked.wants) }
 {
     match board.accept(alloc, asked) {
@@ -44,7 +49,8 @@ pub(crate) fn granted(alloc: Global, board: &Board, asked: Asked) -> Option<Gran
     }
 }
 
-pub(crate) fn begun(alloc: Global, board: &mut Board, granted: Granted) -> Option<Running>
+/// The execution of a lease, if it begins.
+fn begun(alloc: Global, board: &mut Board, granted: Granted) -> Option<Running>
     ensures { IfSome result (λ running. running.wants ≡ granted.wants) }
 {
     match board.begin(alloc, granted) {
@@ -56,21 +62,22 @@ pub(crate) fn begun(alloc: Global, board: &mut Board, granted: Granted) -> Optio
     }
 }
 
-/// Ends an execution that leaves `abc` in the slot.
-fn finished(alloc: Global, board: &mut Board, running: Running, slot: Slot) -> Option<Finished> {
-    let Ok(bytes) = Vec::from_slice(alloc, b"abc") else {
-        abandon_running(running);
-        return None;
-    };
-    let Ok(lefts) = vec![in alloc;
-        Left {
-            slot,
-            content: Content::of(bytes)
-        },
-    ] else {
-        abandon_running(running);
-        return None;
-    };
+/// The execution of an ask, if its lease comes.
+pub(crate) fn running(alloc: Global, board: &mut Board, asked: Asked) -> Option<Running>
+    ensures { IfSome result (λ running. running.wants ≡ asked.wants) }
+{
+    deliver(alloc, board);
+    let lease = granted(alloc, board, asked)?;
+    begun(alloc, board, lease)
+}
+
+/// The execution that is over, if it leaves this.
+fn finished(
+    alloc: Global,
+    board: &mut Board,
+    running: Running,
+    lefts: Vec<Left>,
+) -> Option<Finished> {
     match board.finish(alloc, running, lefts) {
         Ok(finished) => Some(finished),
         Err((running, _)) => {
@@ -80,116 +87,96 @@ fn finished(alloc: Global, board: &mut Board, running: Running, slot: Slot) -> O
     }
 }
 
-fn receipt(board: &Board, finished: Finished) -> Option<Receipt> {
+/// Whether it is of ticket 1 and the first version of one slot.
+fn is_first(receipt: &Receipt) -> bool {
+    match receipt.versions.as_slice() {
+        [version] => version.number == 1 && receipt.ticket == Ticket(1),
+        _ => false,
+    }
+}
+
+/// Whether an execution that is over has the first receipt.
+fn has_first_receipt(board: &Board, finished: Finished) -> bool {
     match board.receipt(finished) {
-        Settled::Receipt(receipt) => Some(receipt),
+        Settled::Receipt(receipt) => is_first(&receipt),
         Settled::Waiting(finished) => {
             abandon_finished(finished);
-            None
+            false
         }
-        Settled::Fenced => None,
-        Settled::Lost => None,
+        Settled::Fenced | Settled::Lost => false,
     }
 }
 
-/// The lease that a node asks for, if it has it after this many deliveries.
-fn leased(
+/// Whether an execution that leaves this has the first receipt.
+fn is_first_committed(
     alloc: Global,
     board: &mut Board,
-    node: u32,
-    folder: &str,
-    deliveries: u64,
-) -> Result<Option<Granted>, Fail> {
-    let asked = board.ask(alloc, NodeId(node), wants_of(alloc, folder)?)?;
-    deliver(alloc, board, deliveries);
-    Ok(granted(alloc, board, asked))
+    running: Running,
+    lefts: Vec<Left>,
+) -> bool {
+    let Some(finished) = finished(alloc, board, running, lefts) else {
+        return false;
+    };
+    deliver(alloc, board);
+    has_first_receipt(board, finished)
 }
 
-/// An execution on the folder, from its ask to its receipt.
-pub(crate) fn execute(
-    alloc: Global,
-    board: &mut Board,
-    folder: &str,
-) -> Result<Option<Receipt>, Fail> {
-    let slot = Slot::parse(alloc, folder)?;
-    let Some(lease) = leased(alloc, board, 1, folder, 64)? else {
-        return Ok(None);
-    };
-    let Some(running) = begun(alloc, board, lease) else {
-        return Ok(None);
-    };
-    let Some(finished) = finished(alloc, board, running, slot) else {
-        return Ok(None);
-    };
-    deliver(alloc, board, 64);
-    Ok(receipt(board, finished))
+/// The ask of node 1 for one LOCKED folder, writable.
+fn asked(alloc: Global, board: &mut Board) -> Result<Asked, Fail> {
+    let folder = FolderName::parse(alloc, "locked:apt")?;
+    let wants = Wants::one(alloc, folder, true)?;
+    Ok(board.ask(alloc, NodeId(1), wants)?)
 }
 
-/// What a receipt says: its ticket, how many versions it names, and the number of the first.
-fn told(receipt: Receipt) -> (Ticket, usize, u64) {
-    let ticket = receipt.ticket;
-    let versions = receipt.versions.into_vec();
-    let first = match versions.first() {
-        Some(version) => version.number,
-        None => 0,
-    };
-    (ticket, versions.len(), first)
+/// The empty content in the slot of that folder.
+fn left(alloc: Global) -> Result<Left, Fail> {
+    let slot = Slot::parse(alloc, "locked:apt")?;
+    Ok(Left {
+        slot,
+        content: Content::of(Vec::new(alloc)),
+    })
 }
 
-/// What a board counts: its commits, its events, the refused ones, and whether no token is out.
-#[derive(Clone, Copy, Debug, PartialEq, Eq)]
-struct Counts {
-    commits: u64,
-    events: usize,
-    refused: u64,
-    none_out: bool,
+/// That alone.
+fn lefts(alloc: Global) -> Result<Vec<Left>, Fail> {
+    let left = left(alloc)?;
+    Ok(vec![in alloc; left]?)
 }
 
-fn counted(board: &Board) -> Counts {
-    Counts {
-        commits: board.commits(),
-        events: board.schedule().len(),
-        refused: board.refused(),
-        none_out: board.out().is_empty(),
+/// Whether an execution, from its ask on, has the first receipt.
+fn executes(alloc: Global, board: &mut Board) -> Result<bool, Fail> {
+    let lefts = lefts(alloc)?;
+    let asked = asked(alloc, board)?;
+    match running(alloc, board, asked) {
+        Some(running) => Ok(is_first_committed(alloc, board, running, lefts)),
+        None => Ok(false),
     }
 }
 
-/// Executes on a folder of the board, and then asks for a tenure: what the receipt says, and the counts after each.
-fn execute_and_ask(
-    alloc: Global,
-    board: &mut Board,
-) -> Result<(Option<Receipt>, Counts, Counts), Fail> {
+/// Makes node 2 ask for a tenure.
+fn ask_tenure(alloc: Global, board: &mut Board) -> Result<(), Fail> {
     let folder = FolderName::parse(alloc, "shared:pip")?;
-    let receipt = execute(alloc, board, "locked:apt")?;
-    let executed = counted(board);
     let asked = board.ask_tenure(alloc, NodeId(2), folder)?;
     abandon_asked(asked);
-    Ok((receipt, executed, counted(board)))
+    Ok(())
 }
 
-/// The same on a board of its own.
-fn on_a_board(alloc: Global) -> Result<(Option<Receipt>, Counts, Counts), Fail> {
-    let mut board = Board::start(alloc, Setup { nodes: 2 })?;
-    execute_and_ask(alloc, &mut board)
+/// Whether a board has this many events, none of them refused, and one commit, and no token is out.
+fn has_counts(board: &Board, events: usize) -> bool {
+    board.schedule().len() == events
+        && board.refused() == 0
+        && board.commits() == 1
+        && board.out().is_empty()
 }
 
+/// One execution, and then an ask for a tenure.
 #[test]
-fn one_execution_and_an_ask_for_a_tenure(rt: HostRuntime) -> Result<(), Fail> {
-    let (receipt, executed, asked) = on_a_board(rt.alloc())?;
-    assert!(rt; receipt.is_some());
-    if let Some(receipt) = receipt {
-        assert_eq!(rt; told(receipt), (Ticket(1), 1, 1));
-    }
-    assert_eq!(rt;
-        executed,
-        Counts {
-            commits: 1,
-            events: 7,
-            refused: 0,
-            none_out: true
-        }
-    );
-    assert_eq!(rt; asked.events, 8);
-    assert_eq!(rt; asked.refused, 0);
+fn board_path(rt: HostRuntime) -> Result<(), Fail> {
+    let alloc = rt.alloc();
+    let mut board = board_of(alloc, 2)?;
+    assert!(rt; executes(alloc, &mut *board)?);
+    assert!(rt; has_counts(&*board, 7));
+    ask_tenure(alloc, &mut *board)?;
+    assert!(rt; has_counts(&*board, 8));
     Ok(())
 }

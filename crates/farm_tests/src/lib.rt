@@ -2,13 +2,13 @@
 #![tactic(auto)]
 
 #[cfg(test)]
-mod bad_contents;
-#[cfg(test)]
 mod board_calls;
 #[cfg(test)]
 mod definitions;
 #[cfg(test)]
 mod hostile;
+#[cfg(test)]
+mod runs;
 #[cfg(test)]
 mod shared_batches;
 #[cfg(test)]

@@ -1,21 +1,46 @@
 //! A batch of edits of a SHARED folder, and a second one under the same ticket.
-ghost use Rattle.std.specs.Prelude.{◌≡◌, IfOk, IfSome, None};
+ghost use Rattle.std.specs.Prelude.{◌≡◌, true, IfOk, IfSome, None};
+ghost use Rattle.farm_base.specs.Kinds.{is_tenure};
 ghost use Rattle.executions.specs.Live.{IsTenureOf, files_in};
 
-use super::board_calls::{begun, deliver, granted};
+use super::board_calls::{board_of, running};
 use executions::{LiveShared, SharedRefusal};
-use farm_base::{Content, Copied, FolderName, Items, Mode, NodeId, Text, Ticket};
-use farmboard::{Board, Running, abandon_running};
+use farm_base::{Copied, FolderName, Items, Mode, NodeId, Text, Ticket};
+use farmboard::{Asked, Board, Running, abandon_running};
 use folders::Edit;
-use schedule::Setup;
 use std::alloc::{AllocError, Global};
 use std::test::Fail;
 
-/// Puts a file `a` with this content.
-fn put(alloc: Global, content: &str) -> Result<Vec<Edit>, AllocError> {
-    let path = Text::new(String::from_str(alloc, "a")?);
-    let content = Vec::from_slice(alloc, content.as_bytes())?;
-    Ok(vec![in alloc; Edit::Put(path, Items::new(content))]?)
+/// Puts an empty file of this name.
+fn put(alloc: Global, name: &str) -> Result<Vec<Edit>, AllocError> {
+    let name = String::from_str(alloc, name)?;
+    let edit = Edit::Put(Text::new(name), Items::new(Vec::new(alloc)));
+    Ok(vec![in alloc; edit]?)
+}
+
+/// The name of a SHARED folder.
+fn folder_name(alloc: Global) -> Result<FolderName, AllocError>
+    ensures { IfOk result (λ folder. folder.mode ≡ Mode.Shared) }
+{
+    let id = String::from_str(alloc, "pip")?;
+    Ok(FolderName {
+        id: Text::new(id),
+        mode: Mode::Shared,
+        base: None,
+    })
+}
+
+/// The execution of an ask, if it is that of a tenure.
+fn tenure_of(alloc: Global, board: &mut Board, asked: Asked) -> Option<Running>
+    ensures wants { IfSome result (λ running. running.wants ≡ asked.wants) }
+    ensures tenure { IfSome result (λ running. is_tenure running.grant.kind ≡ true) }
+{
+    let running = running(alloc, board, asked)?;
+    if running.grant().kind.is_tenure() {
+        return Some(running);
+    }
+    abandon_running(running);
+    None
 }
 
 /// The tenure of a SHARED folder, in use.
@@ -24,40 +49,65 @@ fn tenure(alloc: Global, board: &mut Board, folder: FolderName) -> Result<Option
     ensures { IfOk result (λ found. IfSome found (λ running. IsTenureOf running folder)) }
 {
     let asked = board.ask_tenure(alloc, NodeId(1), folder)?;
-    deliver(alloc, board, 64);
-    let Some(lease) = granted(alloc, board, asked) else {
-        return Ok(None);
-    };
-    let Some(running) = begun(alloc, board, lease) else {
-        return Ok(None);
-    };
-    if running.grant().kind.is_tenure() {
-        return Ok(Some(running));
-    }
-    abandon_running(running);
-    Ok(None)
+    Ok(tenure_of(alloc, board, asked))
 }
 
-/// Opens the folder of a tenure, makes two batches under one ticket, and closes the folder: what the second batch is
-/// answered, and the content of the folder.
-fn two_batches(
+/// Opens the folder of a tenure.
+fn open(
     alloc: Global,
     live: &mut LiveShared,
     folder: &FolderName,
     running: Running,
-) -> Result<(Result<(), SharedRefusal>, Content), SharedRefusal>
+) -> Result<(), SharedRefusal>
     requires tenure { IsTenureOf running folder.now }
     requires closed { files_in live.old folder.now ≡ None }
 {
-    if let Err((running, refusal)) = live.open_folder(alloc, running) {
-        abandon_running(running);
-        return Err(refusal);
+    match live.open_folder(alloc, running) {
+        Ok(()) => Ok(()),
+        Err((running, refusal)) => {
+            abandon_running(running);
+            Err(refusal)
+        }
     }
-    live.apply(alloc, Ticket(7), folder, put(alloc, "x")?)?;
-    let again = live.apply(alloc, Ticket(7), folder, put(alloc, "y")?);
+}
+
+/// Makes a batch that puts an empty file of this name.
+fn batch(
+    alloc: Global,
+    live: &mut LiveShared,
+    folder: &FolderName,
+    name: &str,
+) -> Result<(), SharedRefusal> {
+    let edits = put(alloc, name)?;
+    live.apply(alloc, Ticket(7), folder, edits)
+}
+
+/// Closes a folder. Whether it has one file, which is empty and named `x`.
+fn has_x_alone(
+    alloc: Global,
+    live: &mut LiveShared,
+    folder: &FolderName,
+) -> Result<bool, SharedRefusal> {
     let (running, content) = live.close(alloc, folder)?;
     abandon_running(running);
-    Ok((again, content))
+    Ok(content.bytes() == b"\0\0\0\x01x\0\0\0\0".as_slice())
+}
+
+/// Whether the second of two batches under one ticket is refused, and changes nothing.
+fn is_made_once(
+    alloc: Global,
+    live: &mut LiveShared,
+    folder: &FolderName,
+    running: Running,
+) -> Result<bool, SharedRefusal>
+    requires tenure { IsTenureOf running folder.now }
+    requires closed { files_in live.old folder.now ≡ None }
+{
+    open(alloc, live, folder, running)?;
+    batch(alloc, live, folder, "x")?;
+    let again = batch(alloc, live, folder, "y");
+    let closed = has_x_alone(alloc, live, folder)?;
+    Ok(matches!(again, Err(SharedRefusal::Twice)) && closed && live.batches().len() == 1)
 }
 
 /// Gives up what is open.
@@ -69,28 +119,29 @@ fn give_up(live: LiveShared) {
     let _batches = left.into_batches();
 }
 
+/// The same in a folder that is opened for it.
+fn is_made_once_in(
+    alloc: Global,
+    folder: &FolderName,
+    running: Running,
+) -> Result<bool, SharedRefusal>
+    requires { IsTenureOf running folder.now }
+{
+    let mut live = LiveShared::new(alloc);
+    let made = is_made_once(alloc, &mut live, folder, running);
+    give_up(live);
+    made
+}
+
 #[test]
 fn a_batch_is_made_once(rt: HostRuntime) -> Result<(), Fail> {
     let alloc = rt.alloc();
-    let mut board = Board::start(alloc, Setup { nodes: 1 })?;
-    let folder = FolderName {
-        id: Text::new(String::from_str(alloc, "pip")?),
-        mode: Mode::Shared,
-        base: None,
-    };
-    let running = tenure(alloc, &mut board, folder.copy(alloc)?)?;
-    assert!(rt; running.is_some());
-    if let Some(running) = running {
-        let mut live = LiveShared::new(alloc);
-        let made = two_batches(alloc, &mut live, &folder, running);
-        assert_eq!(rt; live.batches().len(), 1);
-        give_up(live);
-        let (again, content) = made?;
-        assert_eq!(rt; again, Err(SharedRefusal::Twice));
-        assert_eq!(rt;
-            content.bytes(),
-            [0, 0, 0, 1, b'a', 0, 0, 0, 1, b'x'].as_slice()
-        );
+    let folder = folder_name(alloc)?;
+    let copy = folder.copy(alloc)?;
+    let mut board = board_of(alloc, 1)?;
+    match tenure(alloc, &mut *board, copy)? {
+        Some(running) => assert!(rt; is_made_once_in(alloc, &folder, running)?),
+        None => return Err("no tenure".into()),
     }
     Ok(())
 }
