@@ -132,11 +132,13 @@ def turns(nodes: int, events: int) -> bytes:
 
 
 def replay(room: Room) -> None:
+    """What reading takes is not counted: that of a schedule whose last line is none."""
     for nodes in (1, 64):
-        counts = [sized(count) for count in (4_096, 16_384, 65_536)]
-        calls = [["replay", room.file(turns(nodes, count))] for count in (0, *counts)]
-        start, *times = fastest(calls)
-        each = [(took - start) / count for took, count in zip(times, counts)]
+        counts = [sized(count) for count in (4_096, 16_384, 65_535)]
+        data = [turns(nodes, count) for count in counts]
+        times = fastest([["replay", room.file(one)] for one in data])
+        reads = fastest([["replay", room.file(one + b"none\n")] for one in data], 1)
+        each = [(took - read) / count for took, read, count in zip(times, reads, counts)]
         for count, one in zip(counts, each):
             print(f"replay, {count} events, nodes {nodes}: {1 / one:.0f} events/s, {one / each[0]:.2f} of an event of {counts[0]}", flush=True)
 
@@ -241,16 +243,16 @@ def timed(room: Room, case: Callable[[Schedule, int], Turn], count: int, times: 
 def private(room: Room) -> None:
     made = Schedule(1)
     grants = [["replay", room.file(made.data())]]
-    for number in range(2 * sized(2_048)):
-        made.lease(1, "private:p")
-        if (number + 1) % sized(2_048) == 0:
-            grants.append(["replay", room.file(made.data())])
+    for _ in range(2):
+        for number in range(5 * sized(2_048)):
+            made.lease(1, f"private:p{number % 5}")
+        grants.append(["replay", room.file(made.data())])
     none, half, whole = fastest(grants)
     print(f"events, one of the last {sized(2_048)} PRIVATE grants: {(whole - half) / (half - none):.2f} of one of the first", flush=True)
 
 
 def events(room: Room) -> None:
-    many, times = sized(16_000), sized(3_000)
+    many, times = sized(10_000), sized(6_900)
     for name, case in CASES:
         least = fastest([*timed(room, case, FEW, times), *timed(room, case, many, times)])
         few, much = ((least[place + 1] - least[place]) / times for place in (0, 2))
@@ -292,7 +294,7 @@ class Node:
 
 def node(room: Room) -> None:
     one, each, most = Node(room), [], []
-    counts, resends = (FEW, sized(1_000_000)), sized(2_000)
+    counts, resends = (FEW, sized(1_000_000)), sized(200_000)
     for count in counts:
         before = over(count)
         first, last = (room.file("\n".join([*before, *["resend"] * times, ""]).encode("ascii")) for times in (0, resends))
