@@ -5,8 +5,8 @@ usage: [FARMCTL=PROGRAM] [SMALLER=N] printed/speed.py [replay] [events] [node] [
 
 Without words it measures all. Without FARMCTL it is the program that the gate builds; SMALLER divides the sizes, to try a build that isn't
 proved. A time is that of a processor, the system's included, less that of the same command on the least input; of nine runs, in turn
-with those that they are compared with, the fastest counts. Hashing is the program's own: what `check` takes longer for a vertex of 12 MiB
-than to read these bytes.
+with those that they are compared with, the fastest counts. Hashing is the program's own: what `check` takes longer for a vertex of 12 MiB,
+which it hashes twice, than to read these bytes.
 """
 from __future__ import annotations
 
@@ -332,7 +332,7 @@ def blocks(length: int) -> int:
 
 @dataclasses.dataclass
 class Definition:
-    """The entries of vertices, and the blocks that their keys need hashed: of each op, of its stripped bytes, and of its key's message."""
+    """The entries of vertices, and the blocks that have to be hashed: of each op, and of its stripped bytes."""
 
     entries: list[bytes] = dataclasses.field(default_factory=list)
     digests: list[str] = dataclasses.field(default_factory=list)
@@ -340,7 +340,7 @@ class Definition:
 
     def add(self, rest: bytes, inputs: list[str]) -> None:
         entry = b"".join(field(1, field(1, digest.encode("ascii"))) for digest in inputs) + rest
-        self.blocks += blocks(len(entry)) + blocks(len(rest)) + blocks(33 + 40 * len(inputs))
+        self.blocks += blocks(len(entry)) + blocks(len(rest))
         self.entries.append(entry)
         self.digests.append(f"sha256:{hashlib.sha256(entry).hexdigest()}")
 
@@ -398,7 +398,7 @@ def block_seconds(room: Room) -> float:
     made = Definition()
     made.add(field(3, bytes(12 * MEBIBYTE // SMALLER)), [])
     refused = fastest([["check", room.file(made.unread())]], 1)[0]
-    return (fastest([["check", room.file(made.data())]])[0] - refused) / blocks(len(made.entries[0]))
+    return (fastest([["check", room.file(made.data())]])[0] - refused) / made.blocks
 
 
 def read(room: Room) -> None:
@@ -413,22 +413,24 @@ def read(room: Room) -> None:
             ratio = took / (block * blocks(len(each)))
             print(f"read {len(each) / MEBIBYTE:.1f} MiB, metadata {metadata}: {len(each) / took / 1e6:.0f} MB/s, {ratio:.2f} of hashing", flush=True)
         print(f"growth for a byte, metadata {metadata}: {growth:.2f}", flush=True)
-    large, small = (chain(count).unread() for count in (sized(64_000), 1))
-    most = memory(["check", room.file(large)]) - memory(["check", room.file(small)])
-    print(f"read {sized(64_000)} entries: {most / len(large):.2f} of their bytes at most in memory", flush=True)
+    large = chain(sized(64_000)).unread()
+    print(f"read {sized(64_000)} entries: {memory(['check', room.file(large)]) / len(large):.2f} of their bytes at most in memory", flush=True)
 
 
 def keys(room: Room) -> None:
     block = block_seconds(room)
-    least = fastest([["keys", room.file(chain(1).data())]])[0]
     sizes = [sized(count) for count in (4_000, 16_000, 64_000)]
     graphs = [(f"a chain of {size}", chain(size)) for size in sizes]
     graphs += [(f"a wide graph of {sizes[1]}", wide(sizes[1])), (f"diamonds of {sizes[1]}", diamonds(sizes[1]))]
     graphs.append(("15 vertices of a mebibyte", chain(15, "0123456789abcdef" * (65_536 // SMALLER))))
-    times = fastest([["keys", room.file(made.data())] for _, made in graphs])
-    for (name, made), took in zip(graphs, times):
-        print(f"keys, {name}: {(took - least) * 1e3:.1f} ms, {(took - least) / (block * made.blocks):.2f} of the hashing", flush=True)
-    growth = (times[2] - least) / sizes[2] / ((times[0] - least) / sizes[0])
+    times = []
+    for name, made in graphs:
+        file = room.file(made.data())
+        read = fastest([["check", room.file(made.unread())]], 1)[0]
+        checked, keyed = (took - read for took in fastest([["check", file], ["keys", file]]))
+        print(f"check, {name}: {checked / (block * made.blocks):.2f} of the hashing; keys {keyed / checked:.2f} of check, {keyed * 1e3:.1f} ms", flush=True)
+        times.append(keyed)
+    growth = times[2] / sizes[2] / (times[0] / sizes[0])
     print(f"growth for a vertex from {sizes[0]} to {sizes[2]}: {growth:.2f}", flush=True)
     for count, metadata in ((64_000, False), (24_000, True)):
         data = chain(sized(count)).data(metadata)
