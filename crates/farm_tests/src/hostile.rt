@@ -240,7 +240,7 @@ fn other(alloc: Global, folder: &FolderName) -> Result<FolderName, AllocError> {
 }
 
 impl Misdeed {
-    /// The folder that it edits, where an execution has this one and so many were before.
+    /// The folder that it edits in the execution that has this one, after `made` others.
     fn folder(
         self,
         alloc: Global,
@@ -378,7 +378,7 @@ fn has_tenures_alone(alloc: Global, left: &FarmLeft) -> Result<bool, Fail> {
     Ok(record.leases.iter().all(|lease| lease.tenure))
 }
 
-/// Whether a run ended with a fault of this misdeed, and left its executor, so many commits with their receipts, and no leases but
+/// Whether a run ended with a fault of this misdeed, and left its executor, a receipt for each of its commits, and no leases but
 /// tenures.
 fn ended_so(alloc: Global, end: &End, misdeed: Misdeed, commits: usize) -> Result<bool, Fail> {
     let Err(stop) = end else {
