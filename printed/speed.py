@@ -268,7 +268,7 @@ KEY = b"5" * 64
 
 
 def over(asks: int) -> list[str]:
-    """What a node hears of so many asks that are over, and of ten that are open."""
+    """What a node hears of this many asks that are over, and of ten that are open."""
     lines = []
     for ask in range(1, asks + 1):
         text = f"granted 1 {LIFE} {ask} {ask} plain locked:f=0:{EMPTY}"
