@@ -15,7 +15,6 @@ use std::alloc::{AllocError, Global};
 use versions::{Added, Lines, granted_slots};
 
 /// All that the coordinator keeps.
-#[derive(Drop)]
 pub struct State {
     pub table: LeaseTable,
     pub tickets: TicketSource,
@@ -26,6 +25,22 @@ pub struct State {
     /// The PRIVATE folders that parked asks want and of which no instance may be free.
     pub spent: SpentFolders,
     pub lines: Lines,
+}
+
+// By hand, so that letting go of one is one step of a proof.
+impl Drop for State {
+    fn drop(self) {
+        let Self {
+            table: _,
+            tickets: _,
+            lives: _,
+            gone: _,
+            old_home: _,
+            parked: _,
+            spent: _,
+            lines: _,
+        } = self;
+    }
 }
 
 /// Clears the old home if it is this node.

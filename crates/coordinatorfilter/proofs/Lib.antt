@@ -1,3 +1,2 @@
-mod CallLemmas
 mod ShownLemmas
 pub mod RuleLemmas

@@ -28,17 +28,17 @@ use Rattle.saverecord.specs.declared.refusal.KeeperRefusal.{KeeperRefusal}
 use Rattle.saverecord.specs.declared.refusal.KeeperRefusal.TheVariants as keeper
 use Rattle.saverecord.specs.Logs.{saved_in}
 use Rattle.saverecord.specs.Texts.{Texts}
-use Rattle.coordinatorfilter.specs.declared.call.Call.{Call}
-use Rattle.coordinatorfilter.specs.declared.call.Call.TheVariants.{Handle, Withdraw, Retire, Prune, Nudge}
-use Rattle.coordinatorfilter.specs.declared.call.Order.{Order}
-use Rattle.coordinatorfilter.specs.declared.call.Order.TheVariants as order
+use Rattle.coordinatorlines.specs.declared.call.Call.{Call}
+use Rattle.coordinatorlines.specs.declared.call.Call.TheVariants.{Handle, Withdraw, Retire, Prune, Nudge}
+use Rattle.coordinatorlines.specs.declared.call.Order.{Order}
+use Rattle.coordinatorlines.specs.declared.call.Order.TheVariants as order
 use Rattle.services.specs.declared.lost.Lost.{Lost}
 use Rattle.coordinatorfilter.specs.declared.reply.Reply.{Reply}
 use Rattle.services.specs.declared.settled.Settled.{Settled}
 use Rattle.services.specs.declared.settled.Settled.TheVariants.{Lasts, Failed}
 use Rattle.services.specs.Buffers.{IsKept}
-use Rattle.coordinatorfilter.specs.Calls.{called, Asks, AsksFor, Orders}
-use Rattle.coordinatorfilter.specs.Calls.Asks.{Heard, Own}
+use Rattle.coordinatorlines.specs.Calls.{called, Asks, AsksFor, Orders}
+use Rattle.coordinatorlines.specs.Calls.Asks.{Heard, Own}
 use Rattle.coordinatorfilter.specs.Carried.{Saving, Loading, Syncing, RestartsIf, CarriesOut}
 use Rattle.services.specs.Served as served
 use Rattle.services.specs.Served.{joined, settled_text}

@@ -1,4 +1,3 @@
-pub mod Calls
 pub mod Carried
 pub mod Shown
 pub mod Written

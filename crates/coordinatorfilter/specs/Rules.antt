@@ -20,11 +20,11 @@ use Rattle.protocol.specs.Processes.{Coordinator, Processes, Runs}
 use Rattle.saverecord.specs.Logs.{saved_in}
 use Rattle.saverecord.specs.Texts.{Texts}
 use Rattle.saverecord.specs.declared.refusal.KeeperRefusal.{KeeperRefusal}
-use Rattle.coordinatorfilter.specs.declared.call.Call.TheVariants.{Handle}
+use Rattle.coordinatorlines.specs.declared.call.Call.TheVariants.{Handle}
 use Rattle.services.specs.declared.lost.Lost.{Lost}
 use Rattle.services.specs.declared.settled.Settled.{Settled}
 use Rattle.services.specs.declared.settled.Settled.TheVariants.{Lasts, Failed}
-use Rattle.coordinatorfilter.specs.Calls.{Asks}
+use Rattle.coordinatorlines.specs.Calls.{Asks}
 use Rattle.coordinatorfilter.specs.Carried.{Saving, Loading, Syncing}
 use Rattle.services.specs.Says.{Says_all}
 use Rattle.services.specs.Served.{Steps, Answers, Batch}

@@ -19,8 +19,8 @@ use Rattle.protocol.specs.Ledger.{Lease, granted_slot, last_digest}
 use Rattle.protocol.specs.Lists.{is_nil}
 use Rattle.protocol.specs.Machine.{Parked}
 use Rattle.schedule.specs.Printing.{version_text}
-use Rattle.coordinatorfilter.specs.declared.call.Question.{Question}
-use Rattle.coordinatorfilter.specs.declared.call.Question.TheVariants.{Line, Status, Needed}
+use Rattle.coordinatorlines.specs.declared.call.Question.{Question}
+use Rattle.coordinatorlines.specs.declared.call.Question.TheVariants.{Line, Status, Needed}
 use Rattle.versions.specs.declared.lines.SlotLine.{SlotLine}
 use Rattle.versions.specs.Lines.{line_shown}
 

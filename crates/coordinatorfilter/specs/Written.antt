@@ -10,9 +10,9 @@ use Rattle.protocol.specs.Machine.{Told}
 use Rattle.saverecord.specs.Texts.{Texts}
 use Rattle.schedule.specs.Notes.{coord_note_text}
 use Rattle.schedule.specs.RefusalNames.{coord_refusal_text}
-use Rattle.coordinatorfilter.specs.declared.call.Call.{Call}
-use Rattle.coordinatorfilter.specs.declared.call.Order.TheVariants as order
-use Rattle.coordinatorfilter.specs.declared.call.Question.{Question}
+use Rattle.coordinatorlines.specs.declared.call.Call.{Call}
+use Rattle.coordinatorlines.specs.declared.call.Order.TheVariants as order
+use Rattle.coordinatorlines.specs.declared.call.Question.{Question}
 use Rattle.services.specs.declared.lost.Lost.{Lost}
 use Rattle.coordinatorfilter.specs.declared.reply.Ended.{Ended}
 use Rattle.coordinatorfilter.specs.declared.reply.Over.{Over}
@@ -21,7 +21,7 @@ use Rattle.coordinatorfilter.specs.declared.reply.Reply.{Reply}
 use Rattle.services.specs.declared.settled.Settled.{Settled}
 use Rattle.services.specs.declared.settled.Settled.TheVariants.{Lasts, Failed}
 use Rattle.services.specs.declared.unread.Unread.{Unread}
-use Rattle.coordinatorfilter.specs.Calls.{called, AsksFor, AsksNothing}
+use Rattle.coordinatorlines.specs.Calls.{called, AsksFor, AsksNothing}
 use Rattle.coordinatorfilter.specs.Carried.{Saving, Loading, Syncing, OnlyRestarts, CarriesOut}
 use Rattle.services.specs.Outside.{Sends}
 use Rattle.services.specs.Served.{OrLost, out_of_memory, restart_line}

@@ -4,12 +4,12 @@ ghost use Rattle.coordinator.specs.Held.{ledger, life_at};
 ghost use Rattle.coordinator.specs.Settling.{Settles, is_save_fault};
 ghost use Rattle.protocol.specs.Farm.{farm_limits};
 ghost use Rattle.protocol.specs.Processes.{decided};
-ghost use Rattle.coordinatorfilter.specs.Calls.{called, MayBeMade};
+ghost use Rattle.coordinatorlines.specs.Calls.{called, MayBeMade};
 ghost use Rattle.coordinatorfilter.specs.Carried.{RestartsIf, OnlyRestarts, ends, ended_by, unheard, over_of, CarriesOut};
 
-use super::call::Call;
 use super::reply::{Ended, Over, Reply};
 use coordinator::{Coordinator, Handled};
+use coordinatorlines::Call;
 use farm_base::{Items, Lease, Life, NodeId, NodeLife, ToCoord};
 use protocol::{CoordNote, CoordRefusal};
 use saverecord::Keeper;

@@ -3,12 +3,11 @@ ghost use Rattle.std.specs.Prelude.{◌≡◌};
 ghost use Rattle.services.specs.Served.{answer_text};
 ghost use Rattle.coordinatorfilter.specs.Written.{Filters, Settles};
 
-use super::call::Order;
 use super::carrying::carry_out;
 use super::printing::print_reply;
-use super::reading::asked;
 use super::showing::print_shown;
 use coordinator::Coordinator;
+use coordinatorlines::{Order, asked};
 use farm_base::Items;
 use farmwire::FarmKey;
 use saverecord::Keeper;

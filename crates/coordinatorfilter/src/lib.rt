@@ -1,18 +1,15 @@
 //! A coordinator of the farm as a process that answers lines.
 #![tactic(auto)]
 
-mod call;
 mod carrying;
 mod coordinator_filter;
 pub mod laws;
 mod needed;
 mod printed;
 mod printing;
-mod reading;
 mod reply;
 mod showing;
 mod status;
 
-pub use call::{Call, Order, Question};
 pub use coordinator_filter::CoordinatorFilter;
 pub use reply::{Ended, Over, Reply};

@@ -4,10 +4,10 @@ ghost use Rattle.std.specs.List.{flat_map, enumerate_from};
 ghost use Rattle.std.specs.String.{string_bytes};
 ghost use Rattle.coordinatorfilter.specs.Shown.{version_line, line_answer, IsShown};
 
-use super::call::Question;
 use super::needed::print_needed;
 use super::status::print_status;
 use coordinator::Coordinator;
+use coordinatorlines::Question;
 use farm_base::{Key, LineVersion};
 use saverecord::Keeper;
 use std::alloc::{AllocError, Global};

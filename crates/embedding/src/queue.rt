@@ -129,11 +129,12 @@ impl Farm {
         let folder = FolderName::parse(alloc, FOLDER)?;
         let wants = Wants::one(alloc, folder, true)?;
         let asked = self.core(node).ask(alloc, wants)?;
-        let NodeNote::Asked(ask) = self.send(asked)? else {
+        let note = self.send(asked)?;
+        let NodeNote::Asked(ask) = &note else {
             return Ok(None);
         };
         self.deliver_all(alloc)?;
-        match self.core(node).ask_state(alloc, ask)? {
+        match self.core(node).ask_state(alloc, *ask)? {
             Some(AskState::Granted(grant)) => Ok(Some(grant.ticket)),
             _ => Ok(None),
         }

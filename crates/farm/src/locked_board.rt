@@ -228,8 +228,8 @@ impl LockedBoard {
     pub(crate) fn deliver(&mut self, alloc: Global) -> Result<bool, FarmFault> {
         match self.board.deliver_next(alloc) {
             Ok(Some(outcome)) => {
-                if let EventNote::Node(NodeNote::Recalled(ticket)) = outcome.note {
-                    self.recall(ticket)?;
+                if let EventNote::Node(NodeNote::Recalled(ticket)) = &outcome.note {
+                    self.recall(*ticket)?;
                 }
                 Ok(true)
             }

@@ -10,7 +10,7 @@ use super::want::Wants;
 use std::alloc::{AllocError, Global};
 
 /// What a lease is given for.
-#[derive(Clone, Copy, Debug, PartialEq, Eq)]
+#[derive(Clone, Copy, PartialEq, Eq)]
 pub enum LeaseKind {
     /// An execution that uses no SHARED folder.
     Plain,
@@ -40,7 +40,7 @@ impl LeaseKind {
 }
 
 /// A lease that was granted and has not ended.
-#[derive(Debug, Drop)]
+#[derive(Drop)]
 pub struct Lease {
     pub ticket: Ticket,
     pub node: NodeId,
@@ -55,14 +55,14 @@ pub struct Lease {
 }
 
 /// The greatest life seen of a node.
-#[derive(Clone, Copy, Debug, PartialEq, Eq)]
+#[derive(Clone, Copy, PartialEq, Eq)]
 pub struct NodeLife {
     pub node: NodeId,
     pub life: Life,
 }
 
 /// An ask that waits for a slot or a tenure.
-#[derive(Debug, Drop)]
+#[derive(Drop)]
 pub struct Parked {
     pub node: NodeId,
     pub life: Life,

@@ -5,7 +5,7 @@ use super::slot::Slot;
 use std::alloc::{AllocError, Global};
 
 /// A slot, and the content that an execution left in it.
-#[derive(Debug, Drop)]
+#[derive(Drop)]
 pub struct Left {
     pub slot: Slot,
     pub content: Content,

@@ -13,14 +13,14 @@ use super::want::Wants;
 use std::alloc::{AllocError, Global};
 
 /// A version of a slot. Version 0 of each slot is the empty folder.
-#[derive(Debug, Drop, PartialEq, Eq, PartialOrd, Ord, Hash)]
+#[derive(Drop, PartialEq, Eq, PartialOrd, Ord, Hash)]
 pub struct Version {
     pub slot: Slot,
     pub number: u64,
 }
 
 /// A version as its slot's line has it.
-#[derive(Clone, Copy, Debug, PartialEq, Eq)]
+#[derive(Clone, Copy, PartialEq, Eq)]
 pub struct LineVersion {
     /// The ticket under which it was added.
     pub ticket: Ticket,
@@ -28,14 +28,14 @@ pub struct LineVersion {
 }
 
 /// What a commit leaves in a slot.
-#[derive(Debug, Drop)]
+#[derive(Drop)]
 pub struct News {
     pub slot: Slot,
     pub digest: Digest,
 }
 
 /// A slot of a grant, with the version that its holder begins from.
-#[derive(Debug, Drop)]
+#[derive(Drop)]
 pub struct GrantedSlot {
     pub slot: Slot,
     pub writable: bool,
@@ -46,7 +46,7 @@ pub struct GrantedSlot {
 }
 
 /// A version that a commit added.
-#[derive(Debug, Drop)]
+#[derive(Drop)]
 pub struct Confirmed {
     pub slot: Slot,
     pub number: u64,
@@ -54,7 +54,7 @@ pub struct Confirmed {
 }
 
 /// What a node says to the coordinator.
-#[derive(Debug, Drop)]
+#[derive(Drop)]
 pub enum Request {
     /// This life of the node has begun.
     Hello,
@@ -76,7 +76,7 @@ pub enum Request {
 }
 
 /// A message to the coordinator, from one life of a node.
-#[derive(Debug, Drop)]
+#[derive(Drop)]
 pub struct ToCoord {
     pub node: NodeId,
     pub life: Life,
@@ -84,7 +84,7 @@ pub struct ToCoord {
 }
 
 /// A lease, as its holder hears of it.
-#[derive(Debug, Drop)]
+#[derive(Drop)]
 pub struct Grant {
     pub ticket: Ticket,
     pub node: NodeId,
@@ -96,7 +96,7 @@ pub struct Grant {
 }
 
 /// Why an ask is denied.
-#[derive(Clone, Copy, Debug, PartialEq, Eq)]
+#[derive(Clone, Copy, PartialEq, Eq)]
 pub enum Why {
     /// A PRIVATE folder has no instance left.
     InstancesSpent,
@@ -105,7 +105,7 @@ pub enum Why {
 }
 
 /// A message from the coordinator to one life of a node.
-#[derive(Debug, Drop)]
+#[derive(Drop)]
 pub enum FromCoord {
     Granted(Grant),
     /// The commit under this ticket counts, and added these versions.
@@ -136,7 +136,7 @@ pub enum FromCoord {
 }
 
 /// A node asks another one for a content.
-#[derive(Clone, Copy, Debug, PartialEq, Eq)]
+#[derive(Clone, Copy, PartialEq, Eq)]
 pub struct Fetch {
     /// The node that is asked.
     pub node: NodeId,
@@ -146,7 +146,7 @@ pub struct Fetch {
 }
 
 /// A message to a node.
-#[derive(Debug, Drop)]
+#[derive(Drop)]
 pub enum ToNode {
     FromCoord(FromCoord),
     Fetch(Fetch),
@@ -155,7 +155,7 @@ pub enum ToNode {
 }
 
 /// A message of the farm.
-#[derive(Debug, Drop)]
+#[derive(Drop)]
 pub enum Message {
     ToCoord(ToCoord),
     ToNode(ToNode),

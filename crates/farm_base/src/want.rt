@@ -12,7 +12,7 @@ use std::marker::Model;
 use thiserror::Error;
 
 /// A folder that an execution uses.
-#[derive(Debug, Drop, PartialEq, Eq, PartialOrd, Ord, Hash)]
+#[derive(Drop, PartialEq, Eq, PartialOrd, Ord, Hash)]
 pub struct Want {
     pub folder: FolderName,
     pub writable: bool,
@@ -28,7 +28,7 @@ impl Copied for Want {
 }
 
 /// What an execution wants: at most 16 folders, each once, by rising folder.
-#[derive(Debug, Drop)]
+#[derive(Drop)]
 pub struct Wants {
     wants: Items<Want>,
 }

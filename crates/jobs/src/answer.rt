@@ -7,11 +7,11 @@ use std::alloc::{AllocError, AllocFailed};
 use thiserror::Error;
 
 /// A job, by its number in the order of submission, from 0.
-#[derive(Clone, Copy, Debug, PartialEq, Eq)]
+#[derive(Clone, Copy, PartialEq, Eq)]
 pub struct JobId(pub usize);
 
 /// The answer of a job so far.
-#[derive(Clone, Copy, Debug, PartialEq, Eq)]
+#[derive(Clone, Copy, PartialEq, Eq)]
 pub enum Answer {
     /// Its result is not known yet.
     Waiting,
@@ -22,7 +22,7 @@ pub enum Answer {
 }
 
 /// Why a job has no output.
-#[derive(Clone, Copy, Debug, PartialEq, Eq)]
+#[derive(Clone, Copy, PartialEq, Eq)]
 pub enum Cause {
     /// This key was called failed, with this fault.
     Failed(Key, Fault),

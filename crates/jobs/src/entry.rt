@@ -1,7 +1,7 @@
 use farm_base::{Digest, Items, Key, Why};
 
 /// Why a key has no outputs.
-#[derive(Clone, Copy, Debug, PartialEq, Eq)]
+#[derive(Clone, Copy, PartialEq, Eq)]
 pub enum Fault {
     /// The execution ended with this status.
     Exit(i32),

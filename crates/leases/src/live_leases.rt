@@ -28,7 +28,6 @@ use std::alloc::{AllocError, Global};
 use std::marker::Model;
 
 /// Leases that may be live together, by rising ticket.
-#[derive(Drop)]
 pub(crate) struct LiveLeases {
     leases: Vec<Lease>,
     /// The ticket of the lease that has a folder's one slot, and none or an old one where no lease has it.
@@ -37,6 +36,18 @@ pub(crate) struct LiveLeases {
     taken: TakenInstances,
     /// How many leases each ask and each node has, and the oldest of them.
     counts: LeaseCounts,
+}
+
+// By hand, so that letting go of one is one step of a proof.
+impl Drop for LiveLeases {
+    fn drop(self) {
+        let Self {
+            leases: _,
+            by_folder: _,
+            taken: _,
+            counts: _,
+        } = self;
+    }
 }
 
 /// What the indexes are to have of more leases.

@@ -47,7 +47,6 @@ fn one_message(
 }
 
 /// A node of the farm: what it keeps in its present life.
-#[derive(Drop)]
 pub struct NodeCore {
     pub(crate) node: NodeId,
     /// How many nodes the farm has.
@@ -61,6 +60,22 @@ pub struct NodeCore {
     /// Whether it is down for good.
     pub(crate) spent: bool,
     ghost indexed: { AreIndexed by_ticket asks.all.asks },
+}
+
+// By hand, so that letting go of one is one step of a proof.
+impl Drop for NodeCore {
+    fn drop(self) {
+        let Self {
+            node: _,
+            nodes: _,
+            life: _,
+            asks: _,
+            by_ticket: _,
+            contents: _,
+            versions: _,
+            spent: _,
+        } = self;
+    }
 }
 
 impl NodeCore {

@@ -70,18 +70,18 @@ fn push_told(
 ) -> Result<(), AllocError>
     ensures { OnOk result (string_bytes text.new ≡ string_bytes text.old ++ told_note about.now note) }
 {
-    match note {
-        NodeNote::Took(grant) => push_lease(alloc, text, "took", &grant),
+    match &note {
+        NodeNote::Took(grant) => push_lease(alloc, text, "took", grant),
         NodeNote::Learned(ticket) => {
-            push_ticket(alloc, text, "learned", ticket)?;
+            push_ticket(alloc, text, "learned", *ticket)?;
             push_versions(alloc, text, about)
         }
         NodeNote::Denied(why) => {
             text.push_str("denied")?;
             push_ask(alloc, text, about)?;
-            push_word(text, why_name(why))
+            push_word(text, why_name(*why))
         }
-        note => {
+        _ => {
             let words = print_note(alloc, &EventNote::Node(note))?;
             text.push_str(words.as_str())
         }

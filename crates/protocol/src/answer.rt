@@ -4,7 +4,6 @@ use std::alloc::{AllocError, Global};
 use thiserror::Error;
 
 /// What the coordinator did.
-#[derive(Debug, Drop)]
 pub enum CoordNote {
     Granted(Grant),
     /// The lease of this ask is live: its Grant is sent again.
@@ -25,6 +24,29 @@ pub enum CoordNote {
     Retired(NodeId),
     Nudged,
     Nothing,
+}
+
+// By hand, so that letting go of one is one step of a proof.
+impl Drop for CoordNote {
+    fn drop(self) {
+        match self {
+            Self::Granted(_)
+            | Self::GrantedBefore(_)
+            | Self::Parked
+            | Self::Committed(_)
+            | Self::CommittedBefore(_)
+            | Self::Fenced(_)
+            | Self::Released(_)
+            | Self::Denied(_)
+            | Self::OldLife
+            | Self::NodeRetired
+            | Self::Withdrawn(_)
+            | Self::Pruned(_)
+            | Self::Retired(_)
+            | Self::Nudged
+            | Self::Nothing => {}
+        }
+    }
 }
 
 /// Why the coordinator refused a call. What is refused changes nothing, but for `SaveFault`.
@@ -57,7 +79,6 @@ pub enum CoordRefusal {
 }
 
 /// What a node did.
-#[derive(Debug, Drop)]
 pub enum NodeNote {
     Asked(Ask),
     Begun(Ticket),
@@ -78,6 +99,31 @@ pub enum NodeNote {
     /// The message is for an older life of this node.
     OldLife,
     Nothing,
+}
+
+// By hand, so that letting go of one is one step of a proof.
+impl Drop for NodeNote {
+    fn drop(self) {
+        match self {
+            Self::Asked(_)
+            | Self::Begun(_)
+            | Self::Finished(_)
+            | Self::Aborted(_)
+            | Self::Resent
+            | Self::Life(_)
+            | Self::Took(_)
+            | Self::GaveBack(_)
+            | Self::Learned(_)
+            | Self::Dropped(_)
+            | Self::Denied(_)
+            | Self::Recalled(_)
+            | Self::SentBlob
+            | Self::BlobTaken
+            | Self::Forgot
+            | Self::OldLife
+            | Self::Nothing => {}
+        }
+    }
 }
 
 /// Why a node refused a call. What is refused changes nothing, but for `LivesSpent`.
@@ -110,7 +156,7 @@ pub enum NodeRefusal {
 }
 
 /// What is done with an ask.
-#[derive(Clone, Copy, Debug, PartialEq, Eq)]
+#[derive(Clone, Copy, PartialEq, Eq)]
 pub enum Decision {
     Give,
     Deny(Why),
@@ -119,7 +165,7 @@ pub enum Decision {
 }
 
 /// How an ask ended, and what came of it.
-#[derive(Debug, Drop)]
+#[derive(Drop)]
 pub enum How {
     Denied(Why),
     /// The news count: these versions were made of them.
@@ -148,7 +194,7 @@ impl Copied for How {
 }
 
 /// What a record holds after a save that failed.
-#[derive(Clone, Copy, Debug, PartialEq, Eq)]
+#[derive(Clone, Copy, PartialEq, Eq)]
 pub enum Kept {
     /// What it held before.
     Old,
@@ -157,7 +203,6 @@ pub enum Kept {
 }
 
 /// What an event of the world did.
-#[derive(Debug, Drop)]
 pub enum EventNote {
     Coord(CoordNote),
     Node(NodeNote),
@@ -167,8 +212,17 @@ pub enum EventNote {
     Armed,
 }
 
+// By hand, so that letting go of one is one step of a proof.
+impl Drop for EventNote {
+    fn drop(self) {
+        match self {
+            Self::Coord(_) | Self::Node(_) | Self::Restarted | Self::Armed => {}
+        }
+    }
+}
+
 /// An accepted event: what it did, and the messages that it sent.
-#[derive(Debug, Drop)]
+#[derive(Drop)]
 pub struct Outcome {
     pub note: EventNote,
     /// The number of the first message sent, 0 where none was.

@@ -2,7 +2,7 @@ use super::answer::How;
 use farm_base::{Grant, Items, News, Wants};
 
 /// An ask of a node's present life.
-#[derive(Debug, Drop)]
+#[derive(Drop)]
 pub enum KeptAsk {
     Open {
         wants: Wants,

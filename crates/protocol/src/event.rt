@@ -3,7 +3,7 @@ use farm_base::{Content, Copied, Digest, FolderName, Items, Left, NodeId, Slot, 
 use std::alloc::{AllocError, Global};
 
 /// One thing that happens in a farm.
-#[derive(Debug, Drop)]
+#[derive(Drop)]
 pub enum Event {
     /// The node asks for a lease.
     Ask(NodeId, Wants),

@@ -85,12 +85,23 @@ pub trait Keeper: Drop {
 }
 
 /// Keeps the texts in memory. It fails only where it was told to.
-#[derive(Drop)]
 pub struct MemoryKeeper {
     log: Log,
     armed: Option<Kept>,
     saves: u64,
     failures: u64,
+}
+
+// By hand, so that letting go of one is one step of a proof.
+impl Drop for MemoryKeeper {
+    fn drop(self) {
+        let Self {
+            log: _,
+            armed: _,
+            saves: _,
+            failures: _,
+        } = self;
+    }
 }
 
 impl Model for MemoryKeeper {

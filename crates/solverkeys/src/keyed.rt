@@ -9,12 +9,22 @@ use std::marker::Model;
 use vertices::Graph;
 
 /// A graph with its solver keys, and the vertex of each key. The keys are always those of the graph.
-#[derive(Drop)]
 pub struct Keyed {
     graph: Graph,
     keys: Vec<Key>,
     /// For each key the first vertex that has it.
     firsts: HashMap<Key, usize>,
+}
+
+// By hand, so that letting go of one is one step of a proof.
+impl Drop for Keyed {
+    fn drop(self) {
+        let Self {
+            graph: _,
+            keys: _,
+            firsts: _,
+        } = self;
+    }
 }
 
 impl Model for Keyed {

@@ -1,5 +1,5 @@
 use Rattle.std.proofs.Common.{◌≡◌, take, filter, map}
-use Rattle.coordinatorfilter.specs.Calls.{called}
+use Rattle.coordinatorlines.specs.Calls.{called}
 use Rattle.coordinatorfilter.specs.Carried.{ends, ended_of}
 use Rattle.coordinatorfilter.proofs.carrying.ended_by.Given as goal
 

@@ -1,4 +1,4 @@
-use Rattle.coordinatorfilter.proofs.CallLemmas.{said}
+use Rattle.coordinatorlines.proofs.CallLemmas.{said}
 use Rattle.coordinatorfilter.proofs.laws.what_is_read_can_be_handled.Goals as goal
 
 pub returns : goal.returns

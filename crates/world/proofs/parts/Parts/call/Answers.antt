@@ -16,15 +16,15 @@ pub send_node-requires : goal.send_node-requires
 send_node-requires c =
     let cores : List NodeCore = c.args.self.now.nodes.cores.items in
     let n : NodeId = c.args.node in
-    let answer : Answers (called c.args.call (seat cores n) (node_at cores n.0)) (node_at cores n.0) (node_at c.call-2.new.self.cores.items n.0) (Ok c.in-Ok.done) =
-    subst (Answers (called c.args.call (seat cores n) (node_at cores n.0)) (node_at cores n.0) (node_at c.call-2.new.self.cores.items n.0)) c.in-Ok.is c.in-Some.ensures.answer in
-    let few_sends : length c.in-Ok.done.sends ≤ 1 = few c.args.call (seat cores n) (node_at cores n.0) (node_at c.call-2.new.self.cores.items n.0) c.in-Ok.done answer in
+    let answer : Answers (called c.args.call (seat cores n) (node_at cores n.0)) (node_at cores n.0) (node_at c.call.new.self.cores.items n.0) (Ok c.in-Ok.done) =
+    subst (Answers (called c.args.call (seat cores n) (node_at cores n.0)) (node_at cores n.0) (node_at c.call.new.self.cores.items n.0)) c.in-Ok.is c.in-Some.ensures.answer in
+    let few_sends : length c.in-Ok.done.sends ≤ 1 = few c.args.call (seat cores n) (node_at cores n.0) (node_at c.call.new.self.cores.items n.0) c.in-Ok.done answer in
     grind (arith, common_steps)
 
 pub returns-in-Err : goal.returns-in-Err
 returns-in-Err c =
     let cores : List NodeCore = c.args.self.now.nodes.cores.items in
-    let new : List NodeCore = c.call-2.new.self.cores.items in
+    let new : List NodeCore = c.call.new.self.cores.items in
     let n : NodeId = c.args.node in
     let s : Farm = shown_parts c.args.self.now in
     let here : is_node s n ≡ true = sym c.in-Some.ensures.exact in

@@ -1,6 +1,6 @@
 use Rattle.std.proofs.Common.{sym, ◌∙◌}
 use Rattle.std.proofs.lemmas.List.{append_cancel_left}
-use Rattle.coordinatorfilter.proofs.reading.slot_behind.Goals as goal
+use Rattle.coordinatorlines.proofs.reading.slot_behind.Goals as goal
 
 pub returns-in-Some-clause-only : goal.returns-in-Some-clause-only
 returns-in-Some-clause-only c = λ same slot is e.

@@ -12,12 +12,12 @@ use Rattle.farmwire.specs.declared.refusal.LineFault.TheVariants as line
 use Rattle.farmwire.specs.Sealed.{IsSealed, IsFault}
 use Rattle.protocol.specs.Lawful.{IsNumber, IsSaid}
 use Rattle.protocol.specs.Processes as process
-use Rattle.coordinatorfilter.specs.declared.call.Call.{Call}
-use Rattle.coordinatorfilter.specs.declared.call.Call.TheVariants.{Handle, Withdraw, Retire, Prune, Nudge}
-use Rattle.coordinatorfilter.specs.declared.call.Order.{Order}
-use Rattle.coordinatorfilter.specs.declared.call.Order.TheVariants as order
-use Rattle.coordinatorfilter.specs.declared.call.Question.{Question}
-use Rattle.coordinatorfilter.specs.declared.call.Question.TheVariants.{Line, Status, Needed}
+use Rattle.coordinatorlines.specs.declared.call.Call.{Call}
+use Rattle.coordinatorlines.specs.declared.call.Call.TheVariants.{Handle, Withdraw, Retire, Prune, Nudge}
+use Rattle.coordinatorlines.specs.declared.call.Order.{Order}
+use Rattle.coordinatorlines.specs.declared.call.Order.TheVariants as order
+use Rattle.coordinatorlines.specs.declared.call.Question.{Question}
+use Rattle.coordinatorlines.specs.declared.call.Question.TheVariants.{Line, Status, Needed}
 use Rattle.services.specs.declared.lost.Lost.{Lost}
 use Rattle.services.specs.declared.unread.Unread.{Unread}
 use Rattle.services.specs.declared.unread.Unread.TheVariants.{TooLong, BadMac, BadForm, NotMine, BadLine, OutOfMemory}

@@ -1,6 +1,6 @@
 use Rattle.std.proofs.Common.{◌≡◌, sym, ◌∙◌, arith}
 use Rattle.std.proofs.lemmas.Fmt.{decimal_injective}
-use Rattle.coordinatorfilter.proofs.reading.node_of.Goals as goal
+use Rattle.coordinatorlines.proofs.reading.node_of.Goals as goal
 
 pub returns-else-value-ge1-clause-only : goal.returns-else-value-ge1-clause-only
 returns-else-value-ge1-clause-only c = λ node fits e.

@@ -8,12 +8,12 @@ use Rattle.farm_base.specs.declared.want.Want.{Want}
 use Rattle.farm_base.proofs.WantLemmas.{one_is_wants}
 use Rattle.farmwire.specs.Lawful as wire
 use Rattle.protocol.specs.Lawful.{IsSaid, IsRequest, AreAsked}
-use Rattle.coordinatorfilter.specs.declared.call.Call.{Call}
-use Rattle.coordinatorfilter.specs.declared.call.Call.TheVariants.{Handle, Withdraw, Retire, Prune, Nudge}
-use Rattle.coordinatorfilter.specs.declared.call.Order.TheVariants as order
+use Rattle.coordinatorlines.specs.declared.call.Call.{Call}
+use Rattle.coordinatorlines.specs.declared.call.Call.TheVariants.{Handle, Withdraw, Retire, Prune, Nudge}
+use Rattle.coordinatorlines.specs.declared.call.Order.TheVariants as order
 use Rattle.services.specs.declared.lost.Lost.{Lost}
-use Rattle.coordinatorfilter.specs.Calls.{MayBeMade, IsOwn, IsHeard, Asks, AsksFor}
-use Rattle.coordinatorfilter.specs.Calls.Asks.{Heard, Own}
+use Rattle.coordinatorlines.specs.Calls.{MayBeMade, IsOwn, IsHeard, Asks, AsksFor}
+use Rattle.coordinatorlines.specs.Calls.Asks.{Heard, Own}
 
 tenure_asked : (wants : List Want) → wire.IsTenure wants → AreAsked true wants
 tenure_asked wants h = record {

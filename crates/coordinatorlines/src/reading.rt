@@ -6,10 +6,10 @@ ghost use Rattle.farm_base.specs.declared.number.Ticket.{Ticket};
 ghost use Rattle.farm_base.specs.Names.{slot_text, IsSlot};
 ghost use Rattle.farm_base.specs.Slots.{SlotParts};
 ghost use Rattle.protocol.specs.Lawful.{IsNumber};
-ghost use Rattle.coordinatorfilter.specs.declared.call.Call.{Call};
-ghost use Rattle.coordinatorfilter.specs.declared.call.Order.{Order};
-ghost use Rattle.coordinatorfilter.specs.declared.call.Question.{Question};
-ghost use Rattle.coordinatorfilter.specs.Calls.{withdraw_line, retire_line, IsOwn, IsQuestion, IsOperators, IsHeard, IsDropped, IsUnread, Orders, AsksFor, AsksNothing};
+ghost use Rattle.coordinatorlines.specs.declared.call.Call.{Call};
+ghost use Rattle.coordinatorlines.specs.declared.call.Order.{Order};
+ghost use Rattle.coordinatorlines.specs.declared.call.Question.{Question};
+ghost use Rattle.coordinatorlines.specs.Calls.{withdraw_line, retire_line, IsOwn, IsQuestion, IsOperators, IsHeard, IsDropped, IsUnread, Orders, AsksFor, AsksNothing};
 
 use super::call::{Call, Order, Question};
 use farm_base::laws::is_slot;
@@ -154,11 +154,7 @@ fn order_of(alloc: Global, key: &FarmKey, line: &[u8]) -> Result<Order, Unread>
 }
 
 /// What is asked for by what is handed on.
-pub(crate) fn asked(
-    alloc: Global,
-    key: &FarmKey,
-    line: Result<Items<u8>, Lost>,
-) -> Result<Order, Unread>
+pub fn asked(alloc: Global, key: &FarmKey, line: Result<Items<u8>, Lost>) -> Result<Order, Unread>
     ensures asked { IfOk result (AsksFor key.now line) }
     ensures nothing { IfErr result (AsksNothing key.now line) }
 {
