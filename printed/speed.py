@@ -1,12 +1,12 @@
 #!/usr/bin/env python3
 """Measures farmctl, as ratios of times in one run: docs/SPEED.md has the figures.
 
-usage: [FARMCTL=PROGRAM] [SMALLER=N] printed/speed.py [replay] [events] [node] [read] [keys] [run]
+usage: [FARMCTL=PROGRAM] [SMALLER=N] printed/speed.py [replay] [save] [events] [node] [read] [keys] [run]
 
 Without words it measures all. Without FARMCTL it is the program that the gate builds; SMALLER divides the sizes, to try a build that isn't
 proved. A time is that of a processor, the system's included, less that of the same command on the least input; of nine runs, in turn
 with those that they are compared with, the fastest counts. Hashing is the program's own: what `check` takes longer for a vertex of 12 MiB,
-which it hashes twice, than to read these bytes.
+which it hashes twice, than to read these bytes; of `save` it is Python's.
 """
 from __future__ import annotations
 
@@ -18,6 +18,7 @@ import subprocess
 import sys
 import tempfile
 import time
+import timeit
 from collections.abc import Callable
 from pathlib import Path
 
@@ -267,12 +268,15 @@ EMPTY = hashlib.sha256(b"").hexdigest()
 KEY = b"5" * 64
 
 
+def sealed(text: str) -> str:
+    return f"m {text} {hmac.digest(KEY, text.encode('ascii'), 'sha256').hex()}"
+
+
 def over(asks: int) -> list[str]:
     """What a node hears of this many asks that are over, and of ten that are open."""
     lines = []
     for ask in range(1, asks + 1):
-        text = f"granted 1 {LIFE} {ask} {ask} plain locked:f=0:{EMPTY}"
-        lines += ["ask locked:f", f"m {text} {hmac.digest(KEY, text.encode('ascii'), 'sha256').hex()}", f"begin {ask}", f"abort {ask}"]
+        lines += ["ask locked:f", sealed(f"granted 1 {LIFE} {ask} {ask} plain locked:f=0:{EMPTY}"), f"begin {ask}", f"abort {ask}"]
     return [*lines, *["ask locked:f"] * 10]
 
 
@@ -302,6 +306,53 @@ def node(room: Room) -> None:
         most.append(memory(one.begun(), first))
     print(f"node, a resend of 10 asks, {counts[1]} over: {each[1] / each[0]:.2f} of one with {counts[0]} over ({each[1] * 1e6:.1f} microseconds)", flush=True)
     print(f"node, {counts[1]} asks over: {most[1] / most[0]:.2f} of the most memory with {counts[0]} over ({most[1] / 1e6:.1f} MB)", flush=True)
+
+
+# A coordinator
+
+COMMITS = 1_000
+
+
+def number(value: int) -> bytes:
+    return value.to_bytes(8, "big")
+
+
+def record(count: int) -> bytes:
+    """A record with this many versions of one LOCKED folder, whose tickets are all that were given."""
+    versions = b"".join(number(ticket) + bytes.fromhex(EMPTY) for ticket in range(1, count + 1))
+    line = b"\x02" + number(3) + b"apt" + bytes(5) + number(count) + versions
+    body = b"BKFARM03" + number(count) + bytes(4 + 4 * 8) + number(1) + line
+    return body + hashlib.sha256(body).digest()
+
+
+class Coordinator:
+    """A coordinator's process, which begins with the same record each time."""
+
+    def __init__(self, room: Room, versions: int) -> None:
+        self.versions, self.data, self.path = versions, record(versions), room.file(b"")
+        self.words = ["coordinator", "--record", self.path, "--key", room.file(KEY)]
+        asks = range(1, sized(COMMITS) + 1)
+        lines = [(sealed(f"acquire 1 1 {ask} locked:apt"), sealed(f"commit 1 1 {versions + ask} locked:apt={EMPTY}")) for ask in asks]
+        self.said = room.file("".join(f"{ask}\n{commit}\n" for ask, commit in lines).encode("ascii"))
+
+    def seconds(self, read: str) -> float:
+        Path(self.path).write_bytes(self.data)
+        Path(f"{self.path}.log").unlink(missing_ok=True)
+        return call(self.words, 0, read)
+
+
+def save(room: Room) -> None:
+    filters = [Coordinator(room, versions) for versions in (1, 100, *map(sized, (1_000, 10_000, 100_000)))]
+    rounds = [[each.seconds(read) for each in filters for read in (os.devnull, each.said)] for _ in range(ROUNDS)]
+    least = [min(times) for times in zip(*rounds)]
+    starts, commits = least[::2], [(took - start) / sized(COMMITS) for start, took in zip(least[::2], least[1::2])]
+    for each, start, commit in list(zip(filters, starts, commits))[1:]:
+        last = subprocess.check_output([PROGRAM, "record", each.path]).split()[-1]
+        if not last.startswith(b"%d:" % (each.versions + sized(COMMITS))):
+            raise SystemExit("a commit isn't in the record")
+        hashing = min(timeit.repeat(lambda: hashlib.sha256(bytearray(each.data)), timer=time.process_time, number=10, repeat=ROUNDS)) / 10
+        took = f"a lease and its commit {commit / commits[1]:.2f} of one to 100 ({commit * 1e6:.1f} microseconds)"
+        print(f"save, {each.versions} versions: {took}; a start {(start - starts[0]) / hashing:.2f} of copying and hashing the record", flush=True)
 
 
 # Definitions
@@ -490,7 +541,7 @@ def run(room: Room) -> None:
     print(f"run, two files of 16 MB put: {min(wall([large]) for _ in range(3)):.2f} s, {memory(large) / 1e6:.0f} MB at most in memory", flush=True)
 
 
-SUBJECTS: dict[str, Callable[[Room], None]] = {"replay": replay, "events": events, "node": node, "read": read, "keys": keys, "run": run}
+SUBJECTS: dict[str, Callable[[Room], None]] = {"replay": replay, "save": save, "events": events, "node": node, "read": read, "keys": keys, "run": run}
 
 
 def main(words: list[str]) -> int:
