@@ -7,7 +7,8 @@ Of each kind COUNT inputs are made of sound ones, 300 if it isn't said: bytes ar
 and heads of what a coordinator keeps are made right then. Each is refused, as docs/REFUSALS.md has it, or accepted, and no file changes. The
 line of a schedule that is refused is the first one; a schedule that is accepted prints the same without its empty lines, and what
 disturbed.py looks at holds. `check` and `keys` agree, and so do `record` and the coordinator that starts from the same files. The status is
-1 where something is wrong.
+1 where something is wrong. Tried on programs that abort, don't end, run out of memory, write to the file, accept or refuse everything, print
+a line less or another number, or name or explain a refusal otherwise: each is told.
 """
 from __future__ import annotations
 
@@ -92,7 +93,7 @@ def look_at_schedule(files: Files) -> bool:
         return False
     lines = [text[0], *filter(None, text[1:])]
     expect(answer("replay", {"F": b"\n".join(lines)})[1] == told, "it prints other lines without the empty ones")
-    expect([line.split()[0] for line in told[:len(lines) - 1]] == [str(number) for number in range(1, len(lines))], f"{lines} isn't {told}")
+    expect([line.split()[0] for line in told[:len(lines) - 1]] == [str(number) for number in range(1, len(lines))], f"{told!s:.300} isn't of {lines!s:.300}")
     failures([line.decode("ascii") for line in lines])
     return True
 
@@ -102,7 +103,7 @@ def look_at_definition(files: Files) -> bool:
     expect(refusal == other, f"check refuses it as {refusal!r}, keys as {other!r}")
     if not refusal:
         digests, (*counted, digest, _) = [line.split()[0] for line in keyed], " ".join(checked).split()
-        expect(counted == ["vertices", str(len(set(digests))), "result"] and digest in digests, f"{checked} isn't of {keyed}")
+        expect(counted == ["vertices", str(len(set(digests))), "result"] and digest in digests, f"{checked} isn't of {keyed!s:.300}")
     return not refusal
 
 
@@ -126,10 +127,11 @@ def look_at_record(files: Files) -> bool:
     refusal, lines = answer("record", files)
     asks = ["status", *(f"line {line.split()[0]}" for line in lines if ":" in line.split()[0])]
     words = ["coordinator", "--record", "F", "--key", "key"]
-    status, out, err, _ = called(words, files | {"key": b"5" * 64}, "".join(f"{ask}\n" for ask in asks).encode("ascii"))
+    status, out, err, left = called(words, files | {"key": b"5" * 64}, "".join(f"{ask}\n" for ask in asks).encode("ascii"))
     expect(err.startswith("refused BadRecord\n") and status == 1 if refusal else not err and status == 0, f"{refusal!r}, coordinator {err!r}")
+    expect(not refusal or files.items() <= left.items(), "a coordinator that doesn't start changes a file")
     told, wanted = (sorted(facts) for facts in (re.findall("^: (.*)$", out, re.MULTILINE), [fact for line in lines for fact in facts_of(line)]))
-    expect(told == wanted, f"record {wanted}, coordinator {told}")
+    expect(told == wanted, f"record {wanted!s:.300}, coordinator {told!s:.300}")
     return not refusal
 
 
