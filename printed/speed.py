@@ -6,7 +6,7 @@ usage: [FARMCTL=PROGRAM] [SMALLER=N] printed/speed.py [replay] [save] [events] [
 Without words it measures all. Without FARMCTL it is the program that the gate builds; SMALLER divides the sizes, to try a build that isn't
 proved. A time is that of a processor, the system's included, less that of the same command on the least input; of nine runs, in turn
 with those that they are compared with, the fastest counts. Hashing is the program's own: what `check` takes longer for a vertex of 12 MiB,
-which it hashes twice, than to read these bytes; of `save` it is Python's.
+which it hashes twice, than to read these bytes.
 """
 from __future__ import annotations
 
@@ -18,7 +18,6 @@ import subprocess
 import sys
 import tempfile
 import time
-import timeit
 from collections.abc import Callable
 from pathlib import Path
 
@@ -346,13 +345,14 @@ def save(room: Room) -> None:
     rounds = [[each.seconds(read) for each in filters for read in (os.devnull, each.said)] for _ in range(ROUNDS)]
     least = [min(times) for times in zip(*rounds)]
     starts, commits = least[::2], [(took - start) / sized(COMMITS) for start, took in zip(least[::2], least[1::2])]
-    for each, start, commit in list(zip(filters, starts, commits))[1:]:
+    block = block_seconds(room)
+    for each, start, commit in list(zip(filters, starts, commits))[2:]:
         last = subprocess.check_output([PROGRAM, "record", each.path]).split()[-1]
         if not last.startswith(b"%d:" % (each.versions + sized(COMMITS))):
             raise SystemExit("a commit isn't in the record")
-        hashing = min(timeit.repeat(lambda: hashlib.sha256(bytearray(each.data)), timer=time.process_time, number=10, repeat=ROUNDS)) / 10
+        hashing = block * blocks(len(each.data))
         took = f"a lease and its commit {commit / commits[1]:.2f} of one to 100 ({commit * 1e6:.1f} microseconds)"
-        print(f"save, {each.versions} versions: {took}; a start {(start - starts[0]) / hashing:.2f} of copying and hashing the record", flush=True)
+        print(f"save, {each.versions} versions: {took}; a start {(start - starts[0]) / hashing:.2f} of hashing the record", flush=True)
 
 
 # Definitions
