@@ -10,9 +10,10 @@ use Rattle.protocol.specs.Names.{Slot, slot_eq, is_private, only_slot, FolderNam
 use Rattle.protocol.specs.Machine.{Parked}
 use Rattle.protocol.specs.Ledger.{Limits, Ledger, Lease, Work, pick, elsewhere, another, all_taken, busy, lowest, is_free, is_leased, some_lease, has_slot, has_ticket, lease_under, without, decision, tried, stays, try_all, waiting}
 use Rattle.protocol.specs.declared.answer.Decision.TheVariants.{Wait}
-use Rattle.leases.specs.Changes.{ends_lease, slots_ended}
+use Rattle.leaseindex.specs.Endings.{ends_lease}
+use Rattle.leases.specs.Changes.{slots_ended}
 use Rattle.holdings.specs.Leases.{IsBefore}
-use Rattle.leases.specs.declared.ending.Ending.{Ending}
+use Rattle.leaseindex.specs.declared.ending.Ending.{Ending}
 use Rattle.holdings.proofs.LeaseLemmas.{AllPairs-head, AllPairs-tail}
 use Rattle.protocol.proofs.Base.{true_false, any_in, from_any, from_filter, slot_eq_is}
 use Rattle.coordinator.specs.Idle.{slots_under, is_open, is_held_up, AreHeldUp, IsIdle, AreIdle}
@@ -21,7 +22,7 @@ use Rattle.farm_base.specs.declared.limits.TheConstants.{INSTANCES}
 use Rattle.protocol.specs.Farm.{farm_limits}
 use Rattle.farm_base.specs.Folders.{folder_eq}
 use Rattle.farm_base.proofs.CompareLaws.{folder_eq-itself}
-use Rattle.leases.proofs.MarkLemmas.{drop-item}
+use Rattle.leaseindex.proofs.MarkLemmas.{drop-item}
 use Rattle.parked.specs.Over.{Begins, still_at}
 use Rattle.parked.specs.Noted.{WantsNone}
 use Rattle.parked.proofs.WaitingWords.{begins-before, stays-first}

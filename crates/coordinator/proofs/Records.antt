@@ -24,7 +24,7 @@ use Rattle.saverecord.specs.Texts.{Texts}
 use Rattle.saverecord.proofs.FoldLemmas.{pairs_of}
 use Rattle.saverecord.proofs.LedgerLemmas.{all_from_in}
 use Rattle.coordinator.specs.Sound.{IsRightful}
-use Rattle.leases.proofs.TableLemmas.{leases-filter}
+use Rattle.leaseindex.proofs.EndedLemmas.{leases-filter}
 
 -- versions up to a ticket are so up to a higher one
 pub up_to : (low high : ℕ) (vs : List LineVersion) → low ≤ high → All (λ v. v.ticket.0 ≤ low) vs → All (λ v. v.ticket.0 ≤ high) vs

@@ -14,7 +14,8 @@ use Rattle.farm_base.specs.declared.message.Request.TheVariants.{Hello, Acquire,
 use Rattle.farm_base.proofs.CompareLaws as laws
 use Rattle.holdings.specs.Leases.{AreApart, Rises}
 use Rattle.holdings.proofs.LeaseLemmas.{AllPairs-head, AllPairs-tail}
-use Rattle.leases.proofs.TableLemmas.{leases-filter, leases_more, FreeIsOpen}
+use Rattle.leaseindex.proofs.EndedLemmas.{leases-filter}
+use Rattle.leases.proofs.TableLemmas.{leases_more, FreeIsOpen}
 use Rattle.protocol.specs.Names.{Slot, slot_eq, slots_eq, NodeId, Life, Ticket, Digest}
 use Rattle.protocol.specs.Lists.{is_nil}
 use Rattle.protocol.specs.Machine.{News, LineVersion, Parked, ToCoord, slots_of, digest_for, version_of}

@@ -14,7 +14,8 @@ use Rattle.protocol.specs.Ledger.{is_free as is_free_in}
 use Rattle.protocol.specs.declared.answer.Decision.{Decision}
 use Rattle.protocol.specs.declared.answer.Decision.TheVariants.{Give, Deny, Wait}
 use Rattle.protocol.proofs.Base.{true_false, slot_eq_same, slot_eq_is, any_in, from_any, from_map, in_append, in_one, from_filter}
-use Rattle.leases.specs.Changes.{Change, changed, has_ended}
+use Rattle.leases.specs.Changes.{Change, changed}
+use Rattle.leaseindex.specs.Endings.{has_ended}
 use Rattle.leases.specs.Leases.{Table}
 use Rattle.holdings.specs.Leases.{among}
 use Rattle.leases.specs.Table.{is_free, is_spent}

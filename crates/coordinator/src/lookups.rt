@@ -4,7 +4,7 @@ ghost use Rattle.protocol.specs.Lists.{In};
 ghost use Rattle.protocol.specs.Farm.{farm_limits};
 ghost use Rattle.protocol.specs.Names.{FolderName, Want};
 ghost use Rattle.protocol.specs.Ledger.{Ledger, is_free, elsewhere, is_parked, decision, may_commit, may_release, lease_under, without};
-ghost use Rattle.leases.specs.Changes.{ends_lease};
+ghost use Rattle.leaseindex.specs.Endings.{ends_lease};
 ghost use Rattle.leases.specs.Table.{fit_of};
 ghost use Rattle.leases.specs.declared.lease_table.Fit.{Fit};
 ghost use Rattle.coordinator.specs.Idle.{AreHeldUp, AreIdle};

@@ -1,15 +1,5 @@
-pub mod MarkLemmas
 pub mod TableLemmas
 pub mod LowestLaw
 pub mod RetiredLemmas
 pub mod SavedLemmas
 pub mod ChangeLemmas
-pub mod FindLemmas
-pub mod OldestLemmas
-pub mod IndexLemmas
-pub mod InstanceLemmas
-pub mod TakenLemmas
-pub mod NewestLemmas
-pub mod CountLemmas
-pub mod LastLemmas
-pub mod MovedLemmas

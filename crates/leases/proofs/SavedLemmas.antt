@@ -6,13 +6,14 @@ use Rattle.std.specs.Prelude.{All, AllPairs}
 use Rattle.farm_base.specs.declared.lease.Lease.{Lease}
 use Rattle.protocol.specs.Names.{Ticket}
 use Rattle.protocol.specs.Ledger.{has_ticket, is_saved, lease_under}
-use Rattle.leases.specs.declared.ending.Ending.{Ending}
-use Rattle.leases.specs.declared.ending.Ending.TheVariants as ending
-use Rattle.leases.specs.Changes.{ends_lease, has_ended, saved_tickets, ticket_of_saved}
-use Rattle.leases.specs.Counts.{AreLast}
+use Rattle.leaseindex.specs.declared.ending.Ending.{Ending}
+use Rattle.leaseindex.specs.declared.ending.Ending.TheVariants as ending
+use Rattle.leaseindex.specs.Endings.{ends_lease, has_ended}
+use Rattle.leases.specs.Changes.{saved_tickets, ticket_of_saved}
+use Rattle.leaseindex.specs.Counts.{AreLast}
 use Rattle.holdings.specs.Leases.{IsBefore}
-use Rattle.leases.proofs.FindLemmas.{ticket_once}
-use Rattle.leases.proofs.LastLemmas.{last-filter, last-weaker}
+use Rattle.leaseindex.proofs.FindLemmas.{ticket_once}
+use Rattle.leaseindex.proofs.LastLemmas.{last-filter, last-weaker}
 use Rattle.holdings.proofs.LeaseLemmas.{AllPairs-head, AllPairs-tail}
 
 -- nothing ends

@@ -1,13 +1,13 @@
--- Leases that may be live together: adding one, and removing some.
-use Rattle.std.proofs.Common.{◌≡◌, ◌≢◌, ℕ, zero, suc, ◌+◌, ◌<◌, ◌≤◌, List, [], ◌∷◌, ◌++◌, Bool, true, false, not, ◌&&◌, eqb, length, get_or, map, filter, Some, refl, sym, ◌∙◌, ap, subst, inl, inr, arith}
+-- Leases that may be live together: adding one. Which instances are free.
+use Rattle.std.proofs.Common.{◌≡◌, ◌≢◌, ℕ, zero, suc, ◌+◌, ◌<◌, ◌≤◌, List, [], ◌∷◌, ◌++◌, Bool, true, false, not, ◌&&◌, ◌||◌, eqb, length, get_or, map, filter, Some, refl, sym, ◌∙◌, ap, subst, inl, inr, arith}
 use Rattle.std.proofs.lemmas.Bool.{ne_eqb, cases_Bool, cases_eq, not-true, and_parts, or_parts}
 use Rattle.std.specs.Prelude.{All}
 use Rattle.std.specs.List.{list_any, find, AllByRecursion}
 use Rattle.std.specs.List.Sorted.{IsStrictlySortedBy}
 use Rattle.std.specs.Ordering.{ordering_then, nat_cmp}
 use Rattle.std.specs.declared.cmp.Ordering.TheVariants.{Less}
-use Rattle.std.proofs.lemmas.List.Elements.{All-filter, All-push, All-tail}
-use Rattle.std.proofs.lemmas.List.Kept.{AllPairs-filter}
+use Rattle.std.proofs.lemmas.List.Elements.{All-push, All-tail}
+use Rattle.std.proofs.lemmas.List.Folds.{list_any-append}
 use Rattle.std.proofs.lemmas.List.Quantifiers.{all_pairs_push}
 use Rattle.farm_base.specs.Folders.{folder_cmp}
 use Rattle.farm_base.specs.Slots.{slot_cmp}
@@ -19,20 +19,10 @@ use Rattle.protocol.specs.Names.{Slot, slot_eq, is_private, only_slot, FolderNam
 use Rattle.protocol.specs.Ledger.{has_slot, some_lease, lowest, slot_for, all_taken, busy, has_ticket}
 use Rattle.protocol.proofs.Base.{true_false, eqb_same}
 use Rattle.leases.specs.Leases.{Table}
-use Rattle.holdings.specs.Leases.{AreLeases, AreApart, IsBefore, Rises}
-use Rattle.holdings.specs.Leases.{takes}
+use Rattle.holdings.specs.Leases.{AreLeases, AreApart, IsBefore, Rises, among, takes}
 use Rattle.holdings.proofs.LeaseLemmas.{leased-filter, wants_filter}
 use Rattle.leases.specs.Table.{is_free, fit_of, first_fit, lease_for}
 use Rattle.leases.specs.declared.lease_table.Fit.TheVariants.{Fits}
-
--- ---- removing leases
-
-pub leases-filter : (p : Lease → Bool) (live : List Lease) → AreLeases live → AreLeases (filter p live)
-leases-filter p live h = record {
-  tickets = AllPairs-filter IsBefore p live h.tickets;
-  apart = AllPairs-filter AreApart p live h.apart;
-  slots = All-filter p Rises live h.slots;
-}
 
 -- ---- adding a lease
 
@@ -178,3 +168,28 @@ lease_under-push (h ∷ live) g above =
     let lower : h.ticket.0 < g.ticket.0 = above 0 h (omega arith) in
     let other : eqb h.ticket.0 g.ticket.0 ≡ false = ne_eqb h.ticket.0 g.ticket.0 (λ same. omega arith) in
     rw other (lease_under-push live g (All-tail (λ h. h.ticket.0 < g.ticket.0) h live above))
+
+-- ---- the instances that are not free
+
+not_free : (a b c d : Bool) → (d || (c || (b || a))) ≡ not (not (a || b) && not (c || d))
+not_free true b true true = refl
+not_free true b false true = refl
+not_free true b true false = refl
+not_free true true false false = refl
+not_free true false false false = refl
+not_free false true true true = refl
+not_free false true false true = refl
+not_free false true true false = refl
+not_free false true false false = refl
+not_free false false true true = refl
+not_free false false false true = refl
+not_free false false true false = refl
+not_free false false false false = refl
+
+-- a slot that a lease has, old or new, or that is retired, now or before, isn't free
+pub taken-changed : (live granted : List Lease) (retired more : List Slot) (s : Slot)
+    → (among more s || (among retired s || (some_lease granted s || some_lease live s))) ≡ not (is_free (record { live = live ++ granted; retired = retired ++ more }) s)
+taken-changed live granted retired more s =
+    not_free (some_lease live s) (some_lease granted s) (among retired s) (among more s)
+    ∙ ap (λ (b : Bool). not (not b && not (among retired s || among more s))) (sym (list_any-append (λ (g : Lease). has_slot g.slots s) live granted))
+    ∙ ap (λ (b : Bool). not (not (some_lease (live ++ granted) s) && not b)) (sym (list_any-append (λ (x : Slot). slot_eq x s) retired more))

@@ -4,10 +4,10 @@ use Rattle.std.specs.List.{list_any, flat_map}
 use Rattle.farm_base.specs.declared.lease.Lease.{Lease}
 use Rattle.protocol.specs.Names.{Slot, FolderName, Ticket}
 use Rattle.protocol.specs.Ledger.{has_slot, has_ticket, is_at, is_older, is_saved}
-use Rattle.leases.specs.declared.ending.Ending.{Ending}
-use Rattle.leases.specs.declared.ending.Ending.TheVariants as ending
-use Rattle.leases.specs.Index.{index_entries}
-use Rattle.leases.specs.Instances.{lease_instances, slot_names}
+use Rattle.leaseindex.specs.declared.ending.Ending.{Ending}
+use Rattle.leaseindex.specs.declared.ending.Ending.TheVariants as ending
+use Rattle.leaseindex.specs.Index.{index_entries}
+use Rattle.leaseindex.specs.Instances.{lease_instances, slot_names}
 use Rattle.leases.specs.Leases.{Table}
 
 -- changes over a lease table, as contracts see them
@@ -19,28 +19,9 @@ pub record Change : Type 0 where
   -- the PRIVATE slots that are not granted again either
   pub retired : List Slot
 
--- the lease is that of the ticket, of the node, or of a life of the node below this one
-abbrev pub ends_lease : Ending → Lease → Bool
-ends_lease (ending.Ticket t) g = has_ticket t g
-ends_lease (ending.Node n) g = is_at n g
-ends_lease (ending.LivesBelow n l) g = is_older n l g
-
--- one of these endings ends the lease
-abbrev pub has_ended : List Ending → Lease → Bool
-has_ended ended g = list_any (λ e. ends_lease e g) ended
-
--- one of these leases that this ends has the slot
-abbrev pub frees : Ending → List Lease → Slot → Bool
-frees e leases s = list_any (λ g. ends_lease e g && has_slot g.slots s) leases
-
 -- the slots of the leases that this ends
 abbrev pub slots_ended : Ending → List Lease → List (Slot × Bool)
 slots_ended e leases = flat_map (λ g. g.slots) (filter (ends_lease e) leases)
-
--- the lease, unless it has ended
-abbrev pub standing : List Ending → Option Lease → Option Lease
-standing ended None = None
-standing ended (Some g) = if has_ended ended g then None else Some g
 
 -- the table with the changes
 abbrev pub changed : Table → Change → Table

@@ -1,10 +1,4 @@
 pub mod Leases
-pub mod Index
-pub mod Instances
-pub mod Newest
-pub mod Counts
-pub mod Live
 pub mod Lowest
-pub mod Marks
 pub mod Table
 pub mod Changes

@@ -49,10 +49,6 @@ lease_for t n l a wants tenure ticket = record {
   slots = slots_of t (leased_wants tenure wants);
 }
 
--- the lease has the one slot of a folder that is wanted
-abbrev pub holds_some : List Want → Lease → Bool
-holds_some wants g = list_any (λ w. has_slot g.slots (only_slot w.folder)) wants
-
 abbrev pub state_by : Option Lease → Bool → SlotState
 state_by (Some g) b = state.Leased g.ticket
 state_by None true = state.Retired

@@ -3,19 +3,20 @@ ghost use Rattle.std.specs.Prelude.{◌≡◌, ◌<◌, not, [], ◌∷◌, ◌+
 ghost use Rattle.std.specs.List.Sorted.{IsStrictlySortedBy};
 ghost use Rattle.farm_base.specs.Slots.{slot_cmp};
 ghost use Rattle.protocol.specs.Ledger.{lease_under, without, is_older, is_at, is_saved, retire_all};
-ghost use Rattle.leases.specs.Changes.{changed, ends_lease, saved_tickets};
+ghost use Rattle.leases.specs.Changes.{changed, saved_tickets};
+ghost use Rattle.leaseindex.specs.Endings.{ends_lease};
 ghost use Rattle.leases.specs.Leases.{Table};
 ghost use Rattle.holdings.specs.Leases.{AreLeases};
 ghost use Rattle.holdings.specs.Leases.{among};
 ghost use Rattle.leases.specs.Table.{fit_of, lease_for, retires_some};
 ghost use Rattle.leases.specs.declared.lease_table.Fit.{Fit};
 
-use super::ending::{Ending, drop_ending, only};
 use super::lease_table::LeaseTable;
 use super::saved::{saved_copies, saved_tickets, ticket_of_saved};
 use super::view::TableView;
 use farm_base::{Lease, Life, NodeId, Parked, Slot, Ticket, copy_all};
 use holdings::rising;
+use leaseindex::Ending;
 use std::alloc::{AllocError, Global};
 use std::marker::Model;
 
@@ -219,4 +220,21 @@ impl TableChange {
         } = self;
         (ended, granted, retired)
     }
+}
+
+/// The one ending, if there is only one.
+fn only(ended: &[Ending]) -> Option<Ending>
+    ensures { IfSome result (λ ending. ended.now ≡ ending ∷ []) }
+{
+    if ended.len() != 1 {
+        return None;
+    }
+    ended.first().copied()
+}
+
+/// Removes the leases that this ends.
+fn drop_ending(leases: &mut Vec<Lease>, ending: Ending)
+    ensures items { leases.new.items ≡ filter (λ g. not (ends_lease ending g)) leases.old.items }
+{
+    leases.retain(|lease| !ending.ends(lease));
 }

@@ -1,12 +1,13 @@
-//! Tests of slots, of the leases that have them, of the wants that take them, and of asks.
-ghost use Rattle.std.specs.Prelude.{◌≡◌, filter, option_copied};
+//! Tests of slots, and of the wants that take them.
+ghost use Rattle.std.specs.Prelude.{◌≡◌, filter};
 ghost use Rattle.std.specs.List.{list_any};
 ghost use Rattle.protocol.specs.Names.{leased_wants, any_shared, is_private, only_slot};
-ghost use Rattle.protocol.specs.Ledger.{has_slot, is_of, lease_of};
+ghost use Rattle.protocol.specs.Ledger.{has_slot};
 ghost use Rattle.holdings.specs.Leases.{among, takes};
-ghost use Rattle.leases.specs.Table.{holds_some};
+ghost use Rattle.leaseindex.specs.Live.{holds_some};
 
-use farm_base::{Ask, FolderName, Lease, Life, Mode, NodeId, Slot, Want, Wants};
+use farm_base::{Lease, Mode, Slot, Want, Wants};
+use leaseindex::{has_only, takes};
 
 /// Whether a slot is among a lease's.
 pub(crate) fn has_slot(slots: &[(Slot, bool)], slot: &Slot) -> bool
@@ -20,13 +21,6 @@ pub(crate) fn among(slots: &[Slot], slot: &Slot) -> bool
     ensures { result ≡ among slots.now slot.now }
 {
     slots.iter().any(|other| other == slot)
-}
-
-/// Whether a lease takes a slot for the want.
-pub(crate) fn takes(want: &Want, tenure: bool) -> bool
-    ensures { result ≡ takes tenure want.now }
-{
-    matches!(want.folder.mode, Mode::Shared) == tenure
 }
 
 /// Whether a want is of a SHARED folder.
@@ -52,15 +46,6 @@ pub fn holds_wanted(lease: &Lease, wants: &Wants, tenure: bool) -> bool
     holds_some(lease.slots.as_slice(), wants.as_slice(), tenure)
 }
 
-/// Whether the folder's one slot is among the lease's.
-pub(crate) fn has_only(slots: &[(Slot, bool)], folder: &FolderName) -> bool
-    ensures { result ≡ has_slot slots.now (only_slot folder.now) }
-{
-    slots
-        .iter()
-        .any(|held| held.0.folder() == folder && held.0.instance() == 0)
-}
-
 /// Whether the slots have the one slot of a folder for which an ask takes a slot.
 pub(crate) fn holds_some(slots: &[(Slot, bool)], wants: &[Want], tenure: bool) -> bool
     ensures { result ≡ list_any (λ w. has_slot slots.now (only_slot w.folder)) (filter (takes tenure) wants.now) }
@@ -69,18 +54,4 @@ pub(crate) fn holds_some(slots: &[(Slot, bool)], wants: &[Want], tenure: bool) -
         .iter()
         .filter(|want| takes(want, tenure))
         .any(|want| has_only(slots, &want.folder))
-}
-
-/// Whether the lease has the ask.
-pub(crate) fn is_of(lease: &Lease, node: NodeId, life: Life, ask: Ask) -> bool
-    ensures { result ≡ is_of node life ask lease.now }
-{
-    lease.node == node && lease.life == life && lease.ask == ask
-}
-
-/// The first of these leases that has the ask.
-pub(crate) fn first_of(leases: &[Lease], node: NodeId, life: Life, ask: Ask) -> Option<&Lease>
-    ensures { option_copied result ≡ lease_of leases.now node life ask }
-{
-    leases.iter().find(|lease| is_of(lease, node, life, ask))
 }

@@ -3,18 +3,17 @@ ghost use Rattle.std.specs.List.{find, list_any};
 ghost use Rattle.std.specs.List.Sorted.{IsStrictlySortedBy};
 ghost use Rattle.farm_base.specs.Slots.{slot_cmp};
 ghost use Rattle.protocol.specs.Ledger.{has_slot, lease_under, is_at};
-ghost use Rattle.leases.specs.Changes.{changed, ends_lease};
-ghost use Rattle.leases.specs.Counts.{AreLast};
+ghost use Rattle.leases.specs.Changes.{changed};
+ghost use Rattle.leaseindex.specs.Endings.{ends_lease};
+ghost use Rattle.leaseindex.specs.Counts.{AreLast};
 ghost use Rattle.holdings.specs.Leases.{AreLeases};
 ghost use Rattle.holdings.specs.Leases.{among};
 ghost use Rattle.leases.specs.Table.{is_leased, state_of};
 
-use super::ending::Ending;
 use super::held::{among, has_slot};
-use super::live_leases::LiveLeases;
-use super::retired_slots::RetiredSlots;
 use super::view::TableView;
 use farm_base::{Lease, NodeId, Slot, Ticket};
+use leaseindex::{Ending, LiveLeases, RetiredSlots};
 use std::alloc::{AllocError, Global};
 use std::marker::Model;
 

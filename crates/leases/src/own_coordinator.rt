@@ -6,9 +6,9 @@ ghost use Rattle.protocol.specs.Ledger.{lease_of, lease_under, without, is_older
 ghost use Rattle.holdings.specs.Leases.{AreLeases, among};
 ghost use Rattle.leases.specs.Table.{fit_of, lease_for, retires_some};
 
-use super::ending::Ending;
 use super::lease_table::{Fit, LeaseTable};
 use farm_base::{Ask, Lease, Life, NodeId, Ticket, Wants};
+use leaseindex::Ending;
 use std::alloc::{AllocError, Global};
 
 impl LeaseTable {

@@ -1,15 +1,14 @@
 //! Applying changes to a lease table, in room that was made for them.
 ghost use Rattle.std.specs.Prelude.{◌≡◌, ◌+◌, ◌≤◌, length, vec_len, IfOk, IfErr, OnOk};
 ghost use Rattle.leases.specs.Changes.{changed, HasRoom};
-ghost use Rattle.leases.specs.Index.{index_entries};
-ghost use Rattle.leases.specs.Instances.{lease_instances, slot_names};
+ghost use Rattle.leaseindex.specs.Index.{index_entries};
+ghost use Rattle.leaseindex.specs.Instances.{lease_instances, slot_names};
 ghost use Rattle.holdings.specs.Leases.{AreLeases};
 
 use super::changes::TableChange;
 use super::lease_table::LeaseTable;
-use super::live_leases::{Entries, LiveLeases};
-use super::retired_slots::RetiredSlots;
 use farm_base::{FolderName, Lease, Slot};
+use leaseindex::{Entries, LiveLeases, RetiredSlots};
 use std::alloc::{AllocError, Global};
 use std::marker::Model;
 

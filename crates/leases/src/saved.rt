@@ -3,9 +3,9 @@ ghost use Rattle.std.specs.Prelude.{◌≡◌, ◌&&◌, filter, map, IfOk, opti
 ghost use Rattle.protocol.specs.Ledger.{is_saved};
 ghost use Rattle.leases.specs.Changes.{ticket_of_saved, saved_tickets};
 
-use super::ending::{Ending, has_ended};
 use farm_base::{Copied, Lease, Ticket};
 use holdings::is_saved;
+use leaseindex::{Ending, has_ended};
 use std::alloc::{AllocError, Global};
 
 /// The ticket of the lease, if there is one and the record has it.

@@ -8,23 +8,23 @@ ghost use Rattle.farm_base.specs.Wanted.{IsWants};
 ghost use Rattle.protocol.specs.Names.{leased_wants, is_private, only_slot};
 ghost use Rattle.protocol.specs.Ledger.{has_slot, lowest, slot_for, all_taken, busy, lease_of, lease_under, is_older, is_at};
 ghost use Rattle.leases.specs.Changes.{slots_ended};
-ghost use Rattle.leases.specs.Instances.{has};
+ghost use Rattle.leaseindex.specs.Instances.{has};
 ghost use Rattle.holdings.specs.Leases.{among, takes};
-ghost use Rattle.leases.specs.Table.{is_leased, is_free, is_spent, fit_of, lease_for, slots_of, holds_some, private_of, all_private};
+ghost use Rattle.leases.specs.Table.{is_leased, is_free, is_spent, fit_of, lease_for, slots_of, private_of, all_private};
+ghost use Rattle.leaseindex.specs.Live.{holds_some};
 
-use super::ending::{Ending, has_ended, standing};
-use super::held::{any_shared, first_of, has_only, has_slot, holds_some, is_of, is_private, takes};
-use super::instances::Instances;
+use super::held::{any_shared, has_slot, holds_some, is_private};
 use super::lease_table::Fit;
-use super::live_leases::LiveLeases;
-use super::marks::{mark_all, mark_leased};
-use super::retired_slots::RetiredSlots;
 use super::slots::{add_copies, copy_standing, private_slots, private_slots_of, slots_ended};
 use farm_base::{
     Ask, Copied, FolderName, INSTANCES, Items, Lease, Life, Mode, NodeId, Slot, Ticket, Want,
     Wants, copy_all,
 };
 use holdings::rising;
+use leaseindex::{
+    Ending, Instances, LiveLeases, RetiredSlots, first_of, has_ended, has_only, is_of, mark_all,
+    mark_leased, standing, takes,
+};
 use std::alloc::{AllocError, Global};
 use std::marker::Model;
 

@@ -1,3 +1,4 @@
+pub mod NewestLemmas
 pub mod WaitingWords
 pub mod PassedWords
 pub mod NotedWords

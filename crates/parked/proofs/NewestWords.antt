@@ -6,10 +6,9 @@ use Rattle.std.proofs.lemmas.List.Elements.{All-head, All-tail, All-cons}
 use Rattle.protocol.specs.Names.{NodeId, Life, Ask}
 use Rattle.protocol.specs.Machine.{Parked}
 use Rattle.protocol.specs.Ledger.{is_parked}
-use Rattle.leases.specs.Newest.{knows}
-use Rattle.leases.specs.declared.newest_asks.NewestAsks.{NewestAsks}
-use Rattle.leases.proofs.NewestLemmas.{unknown-other}
-use Rattle.parked.specs.Newest.{AreKnown}
+use Rattle.parked.specs.Newest.{knows, AreKnown}
+use Rattle.parked.specs.declared.newest_asks.NewestAsks.{NewestAsks}
+use Rattle.parked.proofs.NewestLemmas.{unknown-other}
 use Rattle.parked.specs.Over.{is_over_at, later_over, still_at}
 
 -- an ask that is newer than each of its node doesn't wait

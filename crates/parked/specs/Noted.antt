@@ -8,7 +8,7 @@ use Rattle.farm_base.specs.Folders.{folder_eq}
 use Rattle.protocol.specs.Lists.{In}
 use Rattle.protocol.specs.Names.{FolderName, NodeId, Slot, Want}
 use Rattle.protocol.specs.Machine.{Parked}
-use Rattle.leases.specs.Newest.{node_eq}
+use Rattle.leaseindex.specs.Counts.{node_eq}
 use Rattle.parked.specs.declared.noted_asks.NotedAsks.{NotedAsks}
 
 -- the number is among these, if there are some

@@ -1,7 +1,7 @@
 -- The asks that a coordinator keeps in order of arrival, and their numbers.
 use Rattle.std.specs.Prelude.{ℕ, ◌+◌, ◌≤◌, List, drop, length, vec_len}
 use Rattle.std.specs.Vec.{vec_capacity}
-use Rattle.leases.specs.Newest.{node_room}
+use Rattle.parked.specs.Newest.{node_room}
 use Rattle.protocol.specs.Machine.{Parked}
 use Rattle.parked.specs.Numbers.{numbers_from}
 use Rattle.parked.specs.Noted.{AreIndexed}

@@ -1,6 +1,7 @@
 //! The asks that wait for a lease, in order of arrival, and what one event changes of them.
 #![tactic(auto)]
 
+mod newest_asks;
 mod noted_asks;
 mod numbers;
 mod over;

@@ -2,7 +2,7 @@ use Rattle.std.proofs.Common.{◌≡◌, ◌<◌, ℕ, List, get_or, length, inl
 use Rattle.std.proofs.lemmas.Bool.{cases_eq}
 use Rattle.std.proofs.lemmas.List.{get_or_read}
 use Rattle.protocol.specs.Machine.{Parked}
-use Rattle.leases.specs.Newest.{knows}
+use Rattle.parked.specs.Newest.{knows}
 use Rattle.parked.proofs.parked_asks.note_all.Goals as goal
 
 pub loop-p-preserved : goal.loop-p-preserved

@@ -1,6 +1,6 @@
 use Rattle.std.proofs.Common.{◌≡◌, ◌<◌, ◌≤◌, ◌+◌, ℕ, true, length, get_or}
 use Rattle.protocol.specs.Machine.{Parked}
-use Rattle.leases.specs.Newest.{knows, node_room}
+use Rattle.parked.specs.Newest.{knows, node_room}
 use Rattle.parked.proofs.parked_asks.note_all.Given as goal
 
 abbrev pub invariant-loop-p : goal.invariant-loop-p

@@ -5,7 +5,7 @@ use Rattle.protocol.specs.Lists.{In}
 use Rattle.protocol.specs.Machine.{Parked}
 use Rattle.protocol.specs.Ledger.{Work, try_all, waiting, decision, is_free}
 use Rattle.protocol.specs.declared.answer.Decision.TheVariants.{Wait}
-use Rattle.leases.proofs.MarkLemmas.{drop-item}
+use Rattle.leaseindex.proofs.MarkLemmas.{drop-item}
 use Rattle.coordinator.specs.declared.effects.Effects.{Effects}
 use Rattle.coordinator.specs.declared.state.State.{State}
 use Rattle.coordinator.specs.Idle.{AreIdle}

@@ -3,7 +3,7 @@ use Rattle.std.specs.Prelude.{count_by, nat_lt}
 use Rattle.farm_base.specs.declared.lease.Lease.{Lease}
 use Rattle.protocol.specs.Ledger.{is_at, is_older}
 use Rattle.leases.specs.Leases.{Table}
-use Rattle.leases.proofs.LastLemmas.{last-weaker, last-count}
+use Rattle.leaseindex.proofs.LastLemmas.{last-weaker, last-count}
 use Rattle.leases.proofs.lease_table.LeaseTable.end_lives_below.Goals as goal
 
 pub returns-clause-ended : goal.returns-clause-ended

@@ -1,8 +1,9 @@
 use Rattle.std.proofs.Common.{◌≡◌, ◌++◌, Bool, List, not, length, filter, ap, subst, sym, ◌∙◌, arith}
 use Rattle.farm_base.specs.declared.lease.Lease.{Lease}
 use Rattle.protocol.specs.Names.{Slot}
-use Rattle.leases.specs.declared.ending.Ending.{Ending}
-use Rattle.leases.specs.Changes.{has_ended, RoomyTable}
+use Rattle.leaseindex.specs.declared.ending.Ending.{Ending}
+use Rattle.leaseindex.specs.Endings.{has_ended}
+use Rattle.leases.specs.Changes.{RoomyTable}
 use Rattle.holdings.specs.Leases.{AreLeases}
 use Rattle.leases.proofs.ChangeLemmas.{length-kept}
 use Rattle.leases.proofs.room.TableWithRoom.apply.Goals as goal

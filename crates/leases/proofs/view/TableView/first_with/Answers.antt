@@ -5,11 +5,11 @@ use Rattle.std.proofs.lemmas.Iterator.Search.{find_from_yields_List}
 use Rattle.std.specs.List.{find}
 use Rattle.std.specs.Option.{option_copied, option_or}
 use Rattle.farm_base.specs.declared.lease.Lease.{Lease}
-use Rattle.leases.specs.Changes.{has_ended}
+use Rattle.leaseindex.specs.Endings.{has_ended}
 use Rattle.leases.specs.Leases.{Table}
-use Rattle.leases.specs.Table.{holds_some}
+use Rattle.leaseindex.specs.Live.{holds_some}
 use Rattle.holdings.specs.Leases.{takes}
-use Rattle.leases.proofs.FindLemmas.{copied_or}
+use Rattle.leaseindex.proofs.FindLemmas.{copied_or}
 use Rattle.leases.proofs.view.TableView.first_with.Goals as goal
 
 pub returns : goal.returns

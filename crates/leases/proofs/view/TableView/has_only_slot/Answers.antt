@@ -1,8 +1,8 @@
 use Rattle.std.proofs.Common.{is_some, ap, ◌∙◌}
 use Rattle.protocol.specs.Names.{only_slot}
 use Rattle.protocol.specs.Ledger.{has_slot}
-use Rattle.leases.proofs.FindLemmas.{is_some-copied}
-use Rattle.leases.proofs.IndexLemmas.{is_some-find}
+use Rattle.leaseindex.proofs.FindLemmas.{is_some-copied}
+use Rattle.leaseindex.proofs.IndexLemmas.{is_some-find}
 use Rattle.leases.proofs.view.TableView.has_only_slot.Goals as goal
 
 pub returns : goal.returns

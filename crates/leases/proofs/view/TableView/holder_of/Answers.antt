@@ -1,7 +1,7 @@
 use Rattle.std.proofs.Common.{List, filter, ap, sym, ◌∙◌}
 use Rattle.std.specs.List.{find}
 use Rattle.protocol.specs.Names.{Want}
-use Rattle.leases.specs.Table.{holds_some}
+use Rattle.leaseindex.specs.Live.{holds_some}
 use Rattle.holdings.specs.Leases.{takes}
 use Rattle.holdings.proofs.LeaseLemmas.{leased-filter}
 use Rattle.leases.proofs.view.TableView.holder_of.Goals as goal

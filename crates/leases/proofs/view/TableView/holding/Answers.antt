@@ -7,9 +7,9 @@ use Rattle.std.specs.Option.{option_copied, option_or}
 use Rattle.farm_base.specs.declared.lease.Lease.{Lease}
 use Rattle.protocol.specs.Names.{only_slot}
 use Rattle.protocol.specs.Ledger.{has_slot}
-use Rattle.leases.specs.Changes.{has_ended}
+use Rattle.leaseindex.specs.Endings.{has_ended}
 use Rattle.leases.specs.Leases.{Table}
-use Rattle.leases.proofs.FindLemmas.{copied_or}
+use Rattle.leaseindex.proofs.FindLemmas.{copied_or}
 use Rattle.leases.proofs.view.TableView.holding.Goals as goal
 
 pub returns : goal.returns

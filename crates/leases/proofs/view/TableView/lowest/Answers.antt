@@ -1,6 +1,6 @@
 use Rattle.std.proofs.Common.{Bool, ◌||◌, sym, ◌∙◌, ap, arith}
 use Rattle.std.proofs.lemmas.Bool.{ne_eqb}
-use Rattle.leases.specs.Instances.{has}
+use Rattle.leaseindex.specs.Instances.{has}
 use Rattle.leases.specs.Table.{is_free}
 use Rattle.leases.proofs.TableLemmas.{lowest-missing, lowest-all_there}
 use Rattle.leases.proofs.view.TableView.lowest.Goals as goal

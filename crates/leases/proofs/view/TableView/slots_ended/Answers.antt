@@ -2,10 +2,11 @@ use Rattle.std.proofs.Common.{List, Bool, ◌++◌, not, filter, ap, ◌∙◌}
 use Rattle.farm_base.specs.declared.lease.Lease.{Lease}
 use Rattle.protocol.specs.Names.{Slot}
 use Rattle.std.specs.List.{flat_map}
-use Rattle.leases.specs.Changes.{ends_lease, has_ended, slots_ended}
+use Rattle.leaseindex.specs.Endings.{ends_lease, has_ended}
+use Rattle.leases.specs.Changes.{slots_ended}
 use Rattle.leases.specs.Leases.{Table}
 use Rattle.leases.proofs.ChangeLemmas.{slots_ended-both}
-use Rattle.leases.proofs.LastLemmas.{last-passing}
+use Rattle.leaseindex.proofs.LastLemmas.{last-passing}
 use Rattle.leases.proofs.view.TableView.slots_ended.Goals as goal
 
 pub returns : goal.returns

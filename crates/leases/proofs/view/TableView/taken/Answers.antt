@@ -2,11 +2,11 @@ use Rattle.std.proofs.Common.{Bool, ◌||◌, not, List, filter, ◌∙◌, ap}
 use Rattle.farm_base.specs.declared.lease.Lease.{Lease}
 use Rattle.protocol.specs.Names.{Slot}
 use Rattle.protocol.specs.Ledger.{some_lease}
-use Rattle.leases.specs.Changes.{has_ended}
+use Rattle.leaseindex.specs.Endings.{has_ended}
 use Rattle.leases.specs.Leases.{Table}
 use Rattle.holdings.specs.Leases.{among}
 use Rattle.leases.specs.Table.{is_free}
-use Rattle.leases.proofs.TakenLemmas.{taken-changed}
+use Rattle.leases.proofs.TableLemmas.{taken-changed}
 use Rattle.leases.proofs.view.TableView.taken.Goals as goal
 
 pub returns : goal.returns

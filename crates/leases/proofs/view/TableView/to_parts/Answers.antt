@@ -1,6 +1,6 @@
 use Rattle.std.proofs.Common.{List, ◌++◌, not, filter, ap, ◌∙◌}
 use Rattle.farm_base.specs.declared.lease.Lease.{Lease}
-use Rattle.leases.specs.Changes.{has_ended}
+use Rattle.leaseindex.specs.Endings.{has_ended}
 use Rattle.leases.specs.Leases.{Table}
 use Rattle.leases.proofs.view.TableView.to_parts.Goals as goal
 

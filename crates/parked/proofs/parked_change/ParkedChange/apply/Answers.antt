@@ -2,7 +2,7 @@ use Rattle.std.proofs.Common.{◌≡◌, ◌++◌, ℕ, true, List, drop, length
 use Rattle.std.specs.Prelude.{All}
 use Rattle.std.proofs.lemmas.List.Elements.{All-append}
 use Rattle.protocol.specs.Machine.{Parked}
-use Rattle.leases.specs.Newest.{knows}
+use Rattle.parked.specs.Newest.{knows}
 use Rattle.parked.specs.Numbers.{numbers_from}
 use Rattle.parked.specs.Over.{still_waiting}
 use Rattle.parked.specs.Queue.{asks_of, numbers_of}

@@ -1,7 +1,7 @@
 use Rattle.std.proofs.Common.{◌≡◌, ◌∙◌, ℕ, true, List, get_or, length, drop, sym, ap, subst, arith}
 use Rattle.std.specs.Prelude.{All}
 use Rattle.protocol.specs.Machine.{Parked}
-use Rattle.leases.specs.Newest.{knows}
+use Rattle.parked.specs.Newest.{knows}
 use Rattle.parked.specs.Queue.{asks_of, numbers_of}
 use Rattle.parked.specs.Noted.{AreIndexed}
 use Rattle.parked.specs.Numbers.{numbers_from}

@@ -1,6 +1,6 @@
 use Rattle.std.proofs.Common.{◌≡◌, true, List, sym, ◌∙◌}
 use Rattle.protocol.specs.Machine.{Parked}
-use Rattle.leases.specs.Newest.{knows}
+use Rattle.parked.specs.Newest.{knows}
 use Rattle.parked.specs.Over.{still_waiting}
 use Rattle.parked.specs.Queue.{asks_of}
 use Rattle.parked.proofs.NewestWords.{unknown-not-parked, all-still}

@@ -1,0 +1,10 @@
+pub mod MarkLemmas
+pub mod EndedLemmas
+pub mod FindLemmas
+pub mod OldestLemmas
+pub mod IndexLemmas
+pub mod InstanceLemmas
+pub mod TakenLemmas
+pub mod CountLemmas
+pub mod LastLemmas
+pub mod MovedLemmas

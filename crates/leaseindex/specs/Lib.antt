@@ -1,0 +1,6 @@
+pub mod Index
+pub mod Instances
+pub mod Endings
+pub mod Counts
+pub mod Live
+pub mod Marks

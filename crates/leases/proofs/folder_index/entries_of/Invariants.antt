@@ -1,6 +1,0 @@
-use Rattle.std.proofs.Common.{◌≡◌, ◌++◌, drop}
-use Rattle.leases.specs.Index.{index_entries}
-use Rattle.leases.proofs.folder_index.entries_of.Given as goal
-
-abbrev pub invariant-loop-lease : goal.invariant-loop-lease
-invariant-loop-lease l = l.entries.items ++ index_entries (drop l.lease-index l.leases) ≡ index_entries l.leases

@@ -1,8 +1,0 @@
-use Rattle.std.proofs.Common.{◌<◌, ◌/◌, length, arith}
-use Rattle.leases.proofs.InstanceLemmas.{bit_in-insert}
-use Rattle.leases.proofs.instances.Instances.insert.Goals as goal
-
-pub returns-then-place-lt-WORDS : goal.returns-then-place-lt-WORDS
-returns-then-place-lt-WORDS c i to =
-    let inside : c.args.instance / 64 < length c.args.self.now.words = omega arith in
-    bit_in-insert c.args.self.now.words c.args.instance i inside

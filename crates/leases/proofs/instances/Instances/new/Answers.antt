@@ -1,7 +1,0 @@
-use Rattle.std.proofs.Common.{◌/◌}
-use Rattle.std.specs.Prelude.{replicate}
-use Rattle.leases.proofs.InstanceLemmas.{bit_in-zero, zero_at}
-use Rattle.leases.proofs.instances.Instances.new.Goals as goal
-
-pub returns : goal.returns
-returns c i = bit_in-zero (replicate 65 0) i (zero_at 65 (i / 64))

@@ -1,6 +1,0 @@
-use Rattle.std.proofs.Common.{◌≡◌, ◌++◌, drop}
-use Rattle.leases.specs.Instances.{lease_instances}
-use Rattle.leases.proofs.taken_instances.instances_of.Given as goal
-
-abbrev pub invariant-loop-lease : goal.invariant-loop-lease
-invariant-loop-lease l = l.entries.items ++ lease_instances (drop l.lease-index l.leases) ≡ lease_instances l.leases
