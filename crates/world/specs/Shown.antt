@@ -4,5 +4,5 @@ use Rattle.world.specs.declared.world.World.{World}
 use Rattle.world.specs.Parts.{shown_parts}
 
 -- the protocol's farm
-abbrev pub shown : World → Farm
+unfoldable pub shown : World → Farm
 shown w = shown_parts w.parts.value

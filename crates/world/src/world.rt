@@ -67,6 +67,7 @@ impl World {
     ghost use Rattle.world.specs.Shown.{shown};
 
     /// A farm where nothing happened. It is safe.
+    #[tactic(auto, unfolding(crate::specs::Shown::shown))]
     pub fn start(alloc: Global, setup: Setup) -> Result<Self, StartRefusal>
         ensures farm { IfOk result (λ w. shown w ≡ opening content_digest setup.nodes) }
         ensures safe { IfOk result (λ w. SafeAfter content_digest (shown w)) }
@@ -85,11 +86,13 @@ impl World {
     }
 
     /// Every world is safe.
+    #[tactic(auto, unfolding(crate::specs::Shown::shown))]
     pub fn is_safe(&self)
         ensures { ∥ SafeAfter content_digest (shown self.now) ∥₁ }
     {}
 
     /// The coordinator, which keeps its record in memory.
+    #[tactic(auto, unfolding(crate::specs::Shown::shown))]
     pub fn coordinator(&self) -> &Coordinator<MemoryKeeper>
         ensures ledger { ledger result.now.held ≡ (shown self.now).ledger }
         ensures record { saved_in result.now.keeper.texts ≡ (shown self.now).saved }
@@ -100,6 +103,7 @@ impl World {
     }
 
     /// The node of this number, from 1 on.
+    #[tactic(auto, unfolding(crate::specs::Shown::shown))]
     pub fn node(&self, node: NodeId) -> Option<&NodeCore>
         ensures node { IfSome result (λ x. core.shown x.now ≡ (shown self.now).nodes node.0) }
         // It tells of each ask how it ended: no node of a farm forgets.
@@ -110,6 +114,7 @@ impl World {
     }
 
     /// The message of this number, from 1 on.
+    #[tactic(auto, unfolding(crate::specs::Shown::shown))]
     pub fn message(&self, number: u64) -> Option<&Message>
         ensures { option_copied result ≡ nth (shown self.now).pool number }
     {
@@ -117,6 +122,7 @@ impl World {
     }
 
     /// How many messages were ever sent.
+    #[tactic(auto, unfolding(crate::specs::Shown::shown))]
     pub fn pool_len(&self) -> u64
         ensures { result ≡ length (shown self.now).pool }
     {

@@ -21,30 +21,36 @@ came_of : (p q : Parts) (event : Event) (new : Farm) (r : Result Outcome EventRe
 came_of p q event new r e came = subst (λ (x : Parts). Came (step content_digest farm_limits (shown_parts x) event) (shown_parts x) new r) e came
 
 pub returns-clause-came : goal.returns-clause-came
+unfolding shown
 returns-clause-came c =
     came_of _ _ c.args.event (shown_parts c.carry_out.new.self) c.carry_out.result c.deref_mut.ensures.value c.carry_out.ensures
 
 pub returns-clause-meaning : goal.returns-clause-meaning
+unfolding shown
 returns-clause-meaning c = means_as_told c.every_event_is_moves.ensures (shown c.args.self.now) (shown_parts c.carry_out.new.self) c.args.event c.carry_out.result
     (came_of _ _ c.args.event (shown_parts c.carry_out.new.self) c.carry_out.result c.deref_mut.ensures.value c.carry_out.ensures)
 
 pub returns-clause-at_once : goal.returns-clause-at_once
+unfolding shown
 returns-clause-at_once c =
     grants_at_once c.a_fitting_message_is_granted.ensures (shown c.args.self.now) (shown_parts c.carry_out.new.self) c.args.event c.carry_out.result
     (came_of _ _ c.args.event (shown_parts c.carry_out.new.self) c.carry_out.result c.deref_mut.ensures.value c.carry_out.ensures)
 
 pub returns-clause-asks : goal.returns-clause-asks
+unfolding shown
 returns-clause-asks c =
     answers_asks c.every_ask_is_answered.ensures.answered (shown c.args.self.now) (shown_parts c.carry_out.new.self) c.args.event c.carry_out.result
     (came_of _ _ c.args.event (shown_parts c.carry_out.new.self) c.carry_out.result c.deref_mut.ensures.value c.carry_out.ensures)
 
 pub returns-clause-safe : goal.returns-clause-safe
+unfolding shown
 returns-clause-safe c =
     let came = came_of _ _ c.args.event (shown_parts c.carry_out.new.self) c.carry_out.result c.deref_mut.ensures.value c.carry_out.ensures in
     ∥∥₁_map c.args.self.now.sound (λ w.
     stays_safe c.every_event_is_moves.ensures c.every_run_is_safe.ensures.safe c.every_run_is_safe.ensures.stays (shown c.args.self.now) (shown_parts c.carry_out.new.self) c.args.event c.carry_out.result w.safe came)
 
 pub invariant_of-self : goal.invariant_of-self
+unfolding shown
 invariant_of-self c =
     let came = came_of _ _ c.args.event (shown_parts c.carry_out.new.self) c.carry_out.result c.deref_mut.ensures.value c.carry_out.ensures in
     record {
@@ -56,4 +62,5 @@ invariant_of-self c =
     }
 
 pub carry_out-requires : goal.carry_out-requires
+unfolding shown
 carry_out-requires c = ∥∥₁_map c.args.self.now.sound (λ w. subst (λ (p : Parts). IsLawfulFarm NODES (shown_parts p)) (sym c.deref_mut.ensures.value) w.lawful)
