@@ -23,7 +23,7 @@ use Rattle.farmboard.specs.contracts.board.Board.TheInside as Inside
 use Rattle.jobs.specs.contracts.jobs.Jobs as Jobs
 use Rattle.executions.specs.contracts.live_shared.LiveShared as LiveShared
 use Rattle.solverkeys.specs.contracts.keyed.Keyed as Keyed
-use Rattle.farm.specs.contracts.work.Work as Work
+use Rattle.solving.specs.contracts.work.Work as Work
 use Rattle.farm.specs.contracts.node_state.NodeJobs as NodeJobs
 use Rattle.farm.specs.contracts.open_folders.OpenFolders as OpenFolders
 use Rattle.farm.specs.contracts.node_state.NodeState as NodeState

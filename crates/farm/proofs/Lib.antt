@@ -1,3 +1,1 @@
 pub mod Crosses
-pub mod ViewLemmas
-pub mod SetupLemmas

@@ -1,19 +1,7 @@
--- What a run leaves, and what its schedule says when it is replayed (this project's own).
-use Rattle.std.specs.Prelude.{◌≡◌, ◌+◌, ℕ, List, [], ◌∷◌}
-use Rattle.protocol.specs.declared.event.Event.{Event}
-use Rattle.schedule.specs.declared.setup.Setup.{Setup}
+-- What a run leaves (this project's own).
+use Rattle.std.specs.Prelude.{◌+◌, ℕ, List, [], ◌∷◌}
 use Rattle.jobs.specs.declared.answer.Answer.{Answer}
 use Rattle.jobs.specs.declared.answer.Answer.TheVariants.{Waiting, Output, Failed}
-use Rattle.farmboard.specs.Counts.{counts_of}
-use Rattle.farmend.specs.Replays.{replayed}
-
--- no event is refused
-abbrev pub RefusesNone : Setup → List Event → Type 0
-RefusesNone setup events = (counts_of (replayed setup events)).refused ≡ 0
-
--- how many events are answered `committed`
-abbrev pub committed_of : Setup → List Event → ℕ
-committed_of setup events = (counts_of (replayed setup events)).committed
 
 -- the places of the jobs that failed, the first of these answers being at this place
 abbrev pub failed_from : ℕ → List Answer → List ℕ

@@ -1,6 +1,2 @@
 pub mod Downs
 pub mod Ends
-pub mod Faults
-pub mod Leases
-pub mod Places
-pub mod Setups

@@ -1,12 +1,10 @@
 //! The ends of tenures, whose folders are closed then.
 use super::common::Common;
-use super::fault::FarmFault;
-use super::faults::shared_fault;
 use super::locked_board::{Ends, LockedBoard, Stage};
-use super::run::lefts_of;
 use super::worker::push_receipt;
 use farm_base::{Content, FolderName, NodeId};
 use farmboard::{Finished, Receipt, Running, Settled, abandon_finished, abandon_running};
+use solving::{FarmFault, lefts_of, shared_fault};
 use std::alloc::Global;
 use std::sync::Wait;
 

@@ -1,10 +1,9 @@
 //! What the threads of a farm share.
 use super::bell::Bell;
-use super::fault::FarmFault;
 use super::locked_board::LockedBoard;
 use super::node_state::NodeState;
-use super::work::Work;
 use farm_base::NodeId;
+use solving::{FarmFault, Work};
 use std::alloc::Global;
 use std::sync::atomic::{AtomicBool, AtomicU64, Ordering};
 use std::sync::{Mutex, Wait};

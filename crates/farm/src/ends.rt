@@ -1,19 +1,9 @@
 //! What a run leaves.
-use super::fault::FarmFault;
 use executions::Executor;
 use farmboard::Receipt;
 use jobs::{Answer, Cause};
 use protocol::Event;
-
-/// What a run of one executor leaves.
-#[derive(Drop)]
-pub struct OneEnd {
-    /// The answer of each job, in their order.
-    pub answers: Vec<Answer>,
-    /// How many commits were accepted.
-    pub commits: u64,
-    pub schedule: Vec<Event>,
-}
+use solving::FarmFault;
 
 /// A job that failed, and why.
 #[derive(Drop)]

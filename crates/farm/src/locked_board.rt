@@ -2,13 +2,12 @@
 ghost use Rattle.std.specs.Prelude.{◌≡◌, IfOk, IfSome};
 ghost use Rattle.protocol.specs.Names.{tenure_wants};
 
-use super::fault::FarmFault;
-use super::faults::board_fault;
 use farm_base::{Copied, EVENTS, FolderName, Left, Mode, NodeId, Ticket, Want, Wants};
 use farmboard::{
     Asked, Board, BoardRefusal, Finished, Granted, Running, abandon_granted, abandon_running,
 };
 use protocol::{EventNote, EventRefusal, NodeNote, NodeRefusal};
+use solving::{FarmFault, board_fault};
 use std::alloc::{AllocError, Global};
 
 /// How the tenure of a SHARED folder stands on a node.

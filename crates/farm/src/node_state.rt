@@ -1,10 +1,9 @@
 //! The jobs of a node, under their lock.
-use super::fault::FarmFault;
-use super::faults::jobs_fault;
 use super::open_folders::OpenFolders;
 use executions::LiveShared;
 use farm_base::{Digest, Key};
 use jobs::{Fault, Jobs, Task};
+use solving::{FarmFault, jobs_fault};
 use std::alloc::Global;
 use std::sync::Mutex;
 

@@ -3,11 +3,10 @@ ghost use Rattle.std.specs.Prelude.{◌≡◌};
 ghost use Rattle.executions.specs.Live.{IsTenureOf};
 ghost use Rattle.farm_base.specs.declared.folder.FolderName.{FolderName as Name};
 
-use super::fault::FarmFault;
-use super::faults::shared_fault;
 use executions::LiveShared;
 use farm_base::FolderName;
 use farmboard::{Running, abandon_running};
+use solving::{FarmFault, give_up_all, shared_fault};
 use std::alloc::Global;
 
 /// The SHARED folders that are open on a node. Those that are open when it is dropped are given up.
@@ -20,15 +19,6 @@ impl Drop for OpenFolders {
         let OpenFolders { live } = self;
         give_up_all(live);
     }
-}
-
-/// Gives up all tenures that are in use.
-pub(crate) fn give_up_all(live: LiveShared) {
-    let mut left = live;
-    while let Some(running) = left.pop() {
-        abandon_running(running);
-    }
-    let _batches = left.into_batches();
 }
 
 impl OpenFolders {

@@ -3,15 +3,13 @@ ghost use Rattle.std.specs.Prelude.{◌≡◌, IfOk};
 
 use super::bell::Bell;
 use super::common::Common;
-use super::fault::FarmFault;
-use super::faults::jobs_fault;
 use super::locked_board::LockedBoard;
 use super::node_state::NodeState;
-use super::work::{Work, shared_folders};
 use farm_base::NodeId;
 use farmboard::Board;
 use jobs::{JobId, Jobs};
 use solverkeys::Keyed;
+use solving::{FarmFault, Work, jobs_fault, shared_folders};
 use std::alloc::{AllocError, Global};
 use std::sync::Mutex;
 use std::sync::atomic::{AtomicBool, AtomicU64};

@@ -1,10 +1,9 @@
 //! The steps by which a run is disturbed.
-use super::fault::FarmFault;
-use super::faults::board_fault;
 use super::locked_board::LockedBoard;
 use farm_base::{FromCoord, Message, NodeId, Ticket, ToNode};
 use farmboard::{Board, BoardRefusal, FarmStep};
 use protocol::EventRefusal;
+use solving::{FarmFault, board_fault};
 use std::alloc::Global;
 
 /// The steps that are left, the next one last. Each has the number of events from which on it is due.

@@ -1,12 +1,12 @@
 //! The threads of a farm: one for each executor, beside the router.
 use super::common::Shared;
-use super::fault::FarmFault;
 use super::plan::Plan;
 use super::router::route;
 use super::worker::{WorkerEnd, work};
 use executions::{Executor, Gate};
 use farm_base::NodeId;
 use farmboard::Receipt;
+use solving::FarmFault;
 use std::alloc::Global;
 use std::sync::Wait;
 use std::thread;

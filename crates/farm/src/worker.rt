@@ -1,19 +1,16 @@
 //! A worker: it solves the keys of its node, one after the other, by its executor.
 ghost use Rattle.std.specs.Prelude.{◌≡◌, All, IfOk, IfSome};
-ghost use Rattle.farm.specs.Leases.{IsReplyTo};
-ghost use Rattle.farm.specs.Places.{IsSeenIn};
+ghost use Rattle.solving.specs.Leases.{IsReplyTo};
+ghost use Rattle.solving.specs.Places.{IsSeenIn};
 
 use super::common::Common;
-use super::driver::{Ground, solve};
-use super::fault::FarmFault;
-use super::lease::Reply;
 use super::node_state::{Next, NodeState};
-use super::run::{apply_shared, views_of};
 use executions::{Executor, Gate};
 use farm_base::{Digest, FolderName, Items, Key, Left, NodeId, Ticket, Want, Wants};
 use farmboard::{Granted, Receipt, Running};
 use folders::{Edit, Folder};
 use jobs::Fault;
+use solving::{FarmFault, Ground, Reply, apply_shared, solve, views_of};
 use std::alloc::Global;
 use std::sync::Wait;
 

@@ -2,19 +2,16 @@
 //! what it sent, it delivers the messages itself in the same hold, so that no thread has to be woken for that.
 ghost use Rattle.std.specs.Prelude.{◌≡◌, IfOk, IfSome};
 ghost use Rattle.protocol.specs.Names.{tenure_wants};
-ghost use Rattle.farm.specs.Leases.{IsLeaseOf, IsReplyTo};
+ghost use Rattle.solving.specs.Leases.{IsLeaseOf, IsReplyTo};
 
-use super::fault::FarmFault;
-use super::faults::board_fault;
-use super::lease::{Lease, Reply};
 use super::locked_board::{LockedBoard, Stage};
-use super::steps::tenure_of;
 use super::worker::Worker;
 use farm_base::{FolderName, Left, Mode, Want, Wants, Why};
 use farmboard::{
     Accept, Asked, BoardRefusal, Finished, Granted, Look, Receipt, Running, Settled, abandon_asked,
     abandon_finished, abandon_granted,
 };
+use solving::{FarmFault, Lease, Reply, board_fault, tenure_of};
 use std::sync::Wait;
 
 impl<R: Wait> Worker<'_, '_, R> {

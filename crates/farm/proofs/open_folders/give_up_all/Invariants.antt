@@ -1,6 +1,0 @@
-use Rattle.std.proofs.Common.{length}
-use Rattle.farm.proofs.open_folders.give_up_all.Given as goal
-
--- each turn takes one
-abbrev pub decreases-loop-running : goal.decreases-loop-running
-decreases-loop-running l = length l.left.folders

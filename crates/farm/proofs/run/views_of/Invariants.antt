@@ -1,8 +1,0 @@
-use Rattle.std.proofs.Common.{take}
-use Rattle.std.specs.List.{All}
-use Rattle.farm.specs.Places.{IsSeenIn}
-use Rattle.farm.proofs.run.views_of.Given as goal
-
--- the folders of the wants so far are there
-abbrev pub invariant-loop-want : goal.invariant-loop-want
-invariant-loop-want l = All (IsSeenIn l.views.items) (take l.want-index l.wants)

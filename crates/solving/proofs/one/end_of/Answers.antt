@@ -1,0 +1,24 @@
+use Rattle.std.proofs.Common.{◌≡◌, ◌∙◌, List, sym, ap}
+use Rattle.protocol.specs.declared.event.Event.{Event}
+use Rattle.schedule.specs.declared.setup.Setup.{Setup}
+use Rattle.farmboard.specs.Counts.{counts_of}
+use Rattle.farmboard.specs.declared.counts.Counts.{Counts}
+use Rattle.farmend.specs.Replays.{replayed}
+use Rattle.farmend.proofs.ReplayLemmas.{counts_of-replayed}
+use Rattle.solving.proofs.one.end_of.Goals as goal
+
+pub returns-clause-replay : goal.returns-clause-replay
+returns-clause-replay c =
+    let nodes : c.args.board.setup.nodes ≡ c.args.setup.nodes = search in
+    let same : c.args.board.setup ≡ c.args.setup = λ j. record { nodes = nodes j } in
+    let told = ap (λ (events : List Event). counts_of (replayed c.args.setup events)) c.into_parts-schedule.ensures.schedule
+    ∙ ap (λ (setup : Setup). counts_of (replayed setup c.args.board.events)) (sym same) ∙ counts_of-replayed c.args.board ∙ sym c.counts-counts.ensures.value in
+    ap (λ (counts : Counts). counts.refused) told ∙ search
+
+pub returns-clause-commits : goal.returns-clause-commits
+returns-clause-commits c =
+    let nodes : c.args.board.setup.nodes ≡ c.args.setup.nodes = search in
+    let same : c.args.board.setup ≡ c.args.setup = λ j. record { nodes = nodes j } in
+    let told = ap (λ (events : List Event). counts_of (replayed c.args.setup events)) c.into_parts-schedule.ensures.schedule
+    ∙ ap (λ (setup : Setup). counts_of (replayed setup c.args.board.events)) (sym same) ∙ counts_of-replayed c.args.board ∙ sym c.counts-counts.ensures.value in
+    sym (ap (λ (counts : Counts). counts.committed) told)

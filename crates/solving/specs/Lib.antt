@@ -1,0 +1,5 @@
+pub mod Ends
+pub mod Faults
+pub mod Leases
+pub mod Places
+pub mod Setups
