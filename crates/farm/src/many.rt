@@ -7,6 +7,7 @@ ghost use Rattle.executions.specs.Calls.{Grew};
 ghost use Rattle.farm.specs.Ends.{failed_in};
 ghost use Rattle.solving.specs.Faults.{is_bare};
 ghost use Rattle.solving.specs.Setups.{is_staffed};
+ghost use Rattle.solving.specs.Works.{jobs_of};
 ghost use Rattle.farmend.specs.Answers.{AreAnswered, IsAnswered};
 ghost use Rattle.farmend.specs.NewCalls.{new_calls};
 ghost use Rattle.farmend.specs.Receipts.{StandsOn, tickets_of};
@@ -146,7 +147,7 @@ fn told_of<R: Wait>(
 
 /// The board and the jobs.
 fn parts_of(common: Common) -> (Board, Vec<(NodeId, Keyed)>)
-    ensures { result.1.items ≡ common.work.jobs.items }
+    ensures { result.1.items ≡ jobs_of common.work }
 {
     let Common {
         alloc: _,

@@ -3,3 +3,4 @@ pub mod Faults
 pub mod Leases
 pub mod Places
 pub mod Setups
+pub mod Works

@@ -27,10 +27,11 @@ pub(crate) struct Place<'a> {
 
 impl Work {
     ghost use Rattle.solving.specs.Places.{IsPlaceOf};
+    ghost use Rattle.solving.specs.Works.{jobs_of};
 
     /// The jobs, with the home of each key.
     pub fn of(alloc: Global, jobs: Vec<(NodeId, Keyed)>) -> Result<Self, AllocError>
-        ensures { IfOk result (λ work. work.jobs.items ≡ jobs.items) }
+        ensures { IfOk result (λ work. jobs_of work ≡ jobs.items) }
     {
         let mut homes = HashMap::new(alloc);
         for (job, (node, keyed)) in jobs.iter().enumerate() {
@@ -41,14 +42,14 @@ impl Work {
 
     /// The jobs, in their order.
     pub fn jobs(&self) -> &[(NodeId, Keyed)]
-        ensures { result.now ≡ self.now.jobs.items }
+        ensures { result.now ≡ jobs_of self.now }
     {
         self.jobs.as_slice()
     }
 
     /// The jobs, in their order.
     pub fn into_jobs(self) -> Vec<(NodeId, Keyed)>
-        ensures { result.items ≡ self.jobs.items }
+        ensures { result.items ≡ jobs_of self }
     {
         let Work { jobs, homes: _ } = self;
         jobs
