@@ -3,8 +3,7 @@ ghost use Rattle.std.specs.Prelude.{◌≡◌, ◌++◌, Contains, IfOk, IfSome,
 ghost use Rattle.std.specs.Option.{option_copied};
 ghost use Rattle.farmend.specs.NewCalls.{IsAmong, IsCallFor, on_node, outputs_in};
 
-use super::node_key::NodeKey;
-use executions::Call;
+use executions::{Call, NodeKey};
 use farm_base::laws::equal_digests_are_one;
 use farm_base::{Copied, Digest, Items, Key, NodeId};
 use std::alloc::{AllocError, Global};

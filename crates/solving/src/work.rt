@@ -4,8 +4,8 @@ ghost use Rattle.solving.specs.Places.{Fits};
 
 use super::fault::FarmFault;
 use cachemounts::wants_of;
+use executions::NodeKey;
 use farm_base::{Copied, FolderName, Key, Mode, NodeId, Wants};
-use farmend::NodeKey;
 use jobs::Task;
 use solverkeys::Keyed;
 use std::alloc::{AllocError, Global};
