@@ -1,9 +1,9 @@
 -- The changes of one event over a lease table.
 use Rattle.std.specs.Prelude.{◌≡◌, ℕ, ◌+◌, ◌≤◌, if◌then◌else◌, Bool, not, ◌&&◌, List, [], ◌∷◌, ◌++◌, length, map, filter, Option, Some, None}
-use Rattle.std.specs.List.{list_any, flat_map}
+use Rattle.std.specs.List.{flat_map}
 use Rattle.farm_base.specs.declared.lease.Lease.{Lease}
 use Rattle.protocol.specs.Names.{Slot, FolderName, Ticket}
-use Rattle.protocol.specs.Ledger.{has_slot, has_ticket, is_at, is_older, is_saved}
+use Rattle.protocol.specs.Ledger.{is_saved}
 use Rattle.leaseindex.specs.declared.ending.Ending.{Ending}
 use Rattle.leaseindex.specs.declared.ending.Ending.TheVariants as ending
 use Rattle.leaseindex.specs.Index.{index_entries}
