@@ -1,5 +1,5 @@
 //! The changes that one event makes, over a lease table that stays as it is until they are applied.
-ghost use Rattle.std.specs.Prelude.{◌≡◌, ◌<◌, not, [], ◌∷◌, ◌++◌, filter, All, IfOk, OnOk, OnErr};
+ghost use Rattle.std.specs.Prelude.{◌≡◌, ◌<◌, not, [], ◌∷◌, ◌++◌, filter, All, IfOk, IfSome, OnOk, OnErr};
 ghost use Rattle.std.specs.List.Sorted.{IsStrictlySortedBy};
 ghost use Rattle.farm_base.specs.Slots.{slot_cmp};
 ghost use Rattle.protocol.specs.Ledger.{lease_under, without, is_older, is_at, is_saved, retire_all};
@@ -234,7 +234,7 @@ fn only(ended: &[Ending]) -> Option<Ending>
 
 /// Removes the leases that this ends.
 fn drop_ending(leases: &mut Vec<Lease>, ending: Ending)
-    ensures items { leases.new.items ≡ filter (λ g. not (ends_lease ending g)) leases.old.items }
+    ensures { leases.new.items ≡ filter (λ g. not (ends_lease ending g)) leases.old.items }
 {
     leases.retain(|lease| !ending.ends(lease));
 }
