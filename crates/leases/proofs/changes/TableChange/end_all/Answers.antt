@@ -10,7 +10,7 @@ use Rattle.leases.proofs.changes.TableChange.end_all.Goals as goal
 pub returns-clause-ok : goal.returns-clause-ok
 returns-clause-ok c t =
     let new : Change = record { ended = c.push.new.self.items; granted = c.drop_ending.new.leases.items; retired = c.self.inside.retired.items } in
-    let live = live-ended t c.args.self.now new c.args.ending (c.in_ok-push.ensures.items ∙ ap (λ (d : Change). d.ended ++ c.args.ending ∷ []) c.self.view_is) (c.drop_ending.ensures.items ∙ ap (λ (d : Change). filter (λ g. not (ends_lease c.args.ending g)) d.granted) c.self.view_is) in
+    let live = live-ended t c.args.self.now new c.args.ending (c.in_ok-push.ensures.items ∙ ap (λ (d : Change). d.ended ++ c.args.ending ∷ []) c.self.view_is) (c.drop_ending.ensures ∙ ap (λ (d : Change). filter (λ g. not (ends_lease c.args.ending g)) d.granted) c.self.view_is) in
     let with_live : List Lease → Table = λ live. record { live = live; retired = t.retired ++ c.self.inside.retired.items } in
     let with_retired : List Slot → Table = λ retired. record { live = filter (λ g. not (ends_lease c.args.ending g)) (changed t c.args.self.now).live; retired = t.retired ++ retired } in
     ap with_live live ∙ ap with_retired (ap (λ (d : Change). d.retired) c.self.view_is)
@@ -18,4 +18,4 @@ returns-clause-ok c t =
 pub returns-clause-sound : goal.returns-clause-sound
 returns-clause-sound c t sound =
     let new : Change = record { ended = c.push.new.self.items; granted = c.drop_ending.new.leases.items; retired = c.self.inside.retired.items } in
-    sound-ended t c.args.self.now new c.args.ending (c.in_ok-push.ensures.items ∙ ap (λ (d : Change). d.ended ++ c.args.ending ∷ []) c.self.view_is) (c.drop_ending.ensures.items ∙ ap (λ (d : Change). filter (λ g. not (ends_lease c.args.ending g)) d.granted) c.self.view_is) sound
+    sound-ended t c.args.self.now new c.args.ending (c.in_ok-push.ensures.items ∙ ap (λ (d : Change). d.ended ++ c.args.ending ∷ []) c.self.view_is) (c.drop_ending.ensures ∙ ap (λ (d : Change). filter (λ g. not (ends_lease c.args.ending g)) d.granted) c.self.view_is) sound
