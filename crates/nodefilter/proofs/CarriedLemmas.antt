@@ -7,7 +7,7 @@ use Rattle.protocol.specs.declared.answer.NodeRefusal.{NodeRefusal}
 use Rattle.protocol.specs.declared.answer.NodeRefusal.TheVariants as refusal
 use Rattle.protocol.specs.Nodes.{NodeAnswer}
 use Rattle.protocol.specs.World.{Node}
-use Rattle.nodefilter.specs.declared.order.Call.{Call}
+use Rattle.nodelines.specs.declared.order.Call.{Call}
 use Rattle.nodefilter.specs.Carried.{node_answer, brought_by, forgotten_by}
 use Rattle.nodefilter.specs.States.{Seen, AreKept, IsSound}
 use Rattle.nodestore.specs.Stores.{Kept, StayKept, AllKept}

@@ -22,8 +22,8 @@ use Rattle.protocol.specs.Machine.{Grant, Confirmed, slots_of, written}
 use Rattle.protocol.specs.Names.{Ask, Ticket, Life, NodeId, Digest, slots_eq, tenure_wants}
 use Rattle.protocol.specs.Nodes.{Place, Left, NodeWork, NodeAnswer, HeldGrant, Sent, guard, in_use, beginning, finishing, leaving, news_of, stored, aborting, heard, of_life, granted, gives_back, learned, dropped, denied, recalled, fetched, brought, nothing, unless_spent, opens, is_tenure_of, at_home, needs, first, held, running, held_or_running, is_stored, is_base}
 use Rattle.protocol.specs.World.{Node, keep, without}
-use Rattle.nodefilter.specs.declared.order.Call.{Call}
-use Rattle.nodefilter.specs.declared.order.Call.TheVariants as call
+use Rattle.nodelines.specs.declared.order.Call.{Call}
+use Rattle.nodelines.specs.declared.order.Call.TheVariants as call
 use Rattle.nodefilter.specs.Carried.{node_answer, brought_by, forgotten_by}
 
 -- what is stored was, or is one of these

@@ -39,13 +39,13 @@ use Rattle.services.specs.Served as served
 use Rattle.services.specs.Served.{joined, settled_text}
 use Rattle.protocol.proofs.Following.{part_refl, part_none}
 use Rattle.services.proofs.SaysLemmas.{still_in, nothing_said, said_of, said_both}
-use Rattle.nodefilter.specs.declared.about.About.{About}
-use Rattle.nodefilter.specs.declared.about.About.TheVariants as about
+use Rattle.nodelines.specs.declared.about.About.{About}
+use Rattle.nodelines.specs.declared.about.About.TheVariants as about
 use Rattle.nodefilter.specs.declared.filter.NodeFilter.{NodeFilter}
-use Rattle.nodefilter.specs.declared.order.Call.{Call}
-use Rattle.nodefilter.specs.declared.order.Call.TheVariants as call
-use Rattle.nodefilter.specs.declared.order.Order.{Order}
-use Rattle.nodefilter.specs.declared.order.Order.TheVariants as order
+use Rattle.nodelines.specs.declared.order.Call.{Call}
+use Rattle.nodelines.specs.declared.order.Call.TheVariants as call
+use Rattle.nodelines.specs.declared.order.Order.{Order}
+use Rattle.nodelines.specs.declared.order.Order.TheVariants as order
 use Rattle.nodefilter.specs.Asked.{AsksFor, Orders}
 use Rattle.nodefilter.specs.Carried.{node_answer, about_call}
 use Rattle.nodefilter.specs.Filters.{IsCallOf, IsAnswered, Makes, Follows, Filters}
@@ -56,7 +56,7 @@ use Rattle.nodefilter.specs.Filters.Makes.{Made, Stopped}
 use Rattle.nodefilter.specs.Rules.{AreOfTheFarm, with_node, node_steps, sends_of, made_messages, followed_messages, line_messages, messages_of, ABatchIsARun, AKillIsARun, AStartIsARun}
 use Rattle.nodefilter.specs.States.{Seen, seen}
 use Rattle.nodestore.specs.Stores.{Kept}
-use Rattle.nodefilter.specs.Written.{note_line}
+use Rattle.nodelines.specs.Written.{note_line}
 use Rattle.nodefilter.proofs.StartLemmas.{kept_stands}
 
 -- ---- runs of a node

@@ -14,10 +14,10 @@ use Rattle.services.specs.declared.unread.Unread.{Unread}
 use Rattle.services.specs.declared.unread.Unread.TheVariants.{TooLong, BadMac, BadForm, NotMine, BadLine, OutOfMemory}
 use Rattle.services.specs.Outside.{from_outside}
 use Rattle.services.specs.Unreads.{lost_line}
-use Rattle.nodefilter.specs.declared.order.Call.TheVariants as call
-use Rattle.nodefilter.specs.declared.order.Order.{Order}
-use Rattle.nodefilter.specs.declared.order.Order.TheVariants as order
-use Rattle.nodefilter.specs.Orders.{AskedBy}
+use Rattle.nodelines.specs.declared.order.Call.TheVariants as call
+use Rattle.nodelines.specs.declared.order.Order.{Order}
+use Rattle.nodelines.specs.declared.order.Order.TheVariants as order
+use Rattle.nodelines.specs.Orders.{AskedBy}
 
 -- the message is for this node
 pub record IsFor (me : NodeId) (m : Message) (o : Order) : Type 0 where

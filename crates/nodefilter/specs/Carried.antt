@@ -14,10 +14,10 @@ use Rattle.protocol.specs.Nodes.{Place, NodeAnswer, unless_spent}
 use Rattle.protocol.specs.Processes.{node_decided}
 use Rattle.protocol.specs.Processes as process
 use Rattle.protocol.specs.World.{Node}
-use Rattle.nodefilter.specs.declared.about.About.{About}
-use Rattle.nodefilter.specs.declared.about.About.TheVariants as about
-use Rattle.nodefilter.specs.declared.order.Call.{Call}
-use Rattle.nodefilter.specs.declared.order.Call.TheVariants as call
+use Rattle.nodelines.specs.declared.about.About.{About}
+use Rattle.nodelines.specs.declared.about.About.TheVariants as about
+use Rattle.nodelines.specs.declared.order.Call.{Call}
+use Rattle.nodelines.specs.declared.order.Call.TheVariants as call
 use Rattle.nodefilter.specs.States.{Seen, IsSound}
 use Rattle.nodestore.specs.Stores.{Kept, StayKept}
 

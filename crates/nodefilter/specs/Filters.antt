@@ -1,5 +1,5 @@
 -- How a node's filter answers a line (this project's own).
-use Rattle.std.specs.Prelude.{◌≡◌, ℕ, Bool, true, false, List, map, None, is_some, option_map, Result}
+use Rattle.std.specs.Prelude.{◌≡◌, ℕ, Bool, true, false, List, map, codes, None, is_some, option_map, Result}
 use Rattle.farm_base.specs.declared.digest.Digest.{Digest}
 use Rattle.farm_base.specs.declared.left.Left.{Left}
 use Rattle.farm_base.specs.declared.number.Ask.{Ask}
@@ -14,17 +14,29 @@ use Rattle.services.specs.declared.settled.Settled.TheVariants.{Lasts}
 use Rattle.services.specs.declared.unread.Unread.{Unread}
 use Rattle.services.specs.Served.{OrLost, out_of_memory}
 use Rattle.services.specs.Unreads.{unread_line}
-use Rattle.nodefilter.specs.declared.about.About.{About}
-use Rattle.nodefilter.specs.declared.order.Call.{Call}
-use Rattle.nodefilter.specs.declared.order.Call.TheVariants as call
-use Rattle.nodefilter.specs.declared.order.LeftFile.{LeftFile}
-use Rattle.nodefilter.specs.declared.order.Order.{Order}
-use Rattle.nodefilter.specs.declared.order.Order.TheVariants as order
+use Rattle.nodelines.specs.declared.about.About.{About}
+use Rattle.nodelines.specs.declared.order.Call.{Call}
+use Rattle.nodelines.specs.declared.order.Call.TheVariants as call
+use Rattle.nodelines.specs.declared.order.LeftFile.{LeftFile}
+use Rattle.nodelines.specs.declared.order.Order.{Order}
+use Rattle.nodelines.specs.declared.order.Order.TheVariants as order
 use Rattle.nodefilter.specs.Asked.{AsksFor, AsksNothing}
 use Rattle.nodefilter.specs.Carried.{about_call, CarriesOut}
 use Rattle.nodefilter.specs.States.{Seen}
 use Rattle.nodestore.specs.Stores.{Kept}
-use Rattle.nodefilter.specs.Written.{noted, IsWritten, store_fault, file_fault, no_content, content_line, state_text}
+use Rattle.nodelines.specs.Written.{noted, IsWritten, content_line, state_text}
+
+-- a content of the node could not be kept, now or earlier
+abbrev pub store_fault : List ℕ
+store_fault = codes "= refused StoreFault\n"
+
+-- a file of the agent's can't be used
+abbrev pub file_fault : List ℕ
+file_fault = codes "= refused FileFault\n"
+
+-- the content isn't stored here
+abbrev pub no_content : List ℕ
+no_content = codes "= refused NoSuchContent\n"
 
 -- what was left in the slots of these files
 abbrev pub AreLeft : List LeftFile → List Left → Type 0

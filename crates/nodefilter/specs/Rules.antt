@@ -20,10 +20,10 @@ use Rattle.services.specs.Served.{Steps, Answers, Batch}
 use Rattle.nodefilter.specs.declared.filter.NodeFilter.{NodeFilter}
 use Rattle.nodecore.specs.declared.message.NodeDone.{NodeDone}
 use Rattle.services.specs.declared.lost.Lost.{Lost}
-use Rattle.nodefilter.specs.declared.order.Call.{Call}
-use Rattle.nodefilter.specs.declared.order.Call.TheVariants as call
-use Rattle.nodefilter.specs.declared.order.Order.{Order}
-use Rattle.nodefilter.specs.declared.order.Order.TheVariants as order
+use Rattle.nodelines.specs.declared.order.Call.{Call}
+use Rattle.nodelines.specs.declared.order.Call.TheVariants as call
+use Rattle.nodelines.specs.declared.order.Order.{Order}
+use Rattle.nodelines.specs.declared.order.Order.TheVariants as order
 use Rattle.nodefilter.specs.Asked.{Orders}
 use Rattle.nodefilter.specs.Filters.{Makes, Follows, Filters, IsSettled}
 use Rattle.nodefilter.specs.Filters.Makes.{Made, Stopped}

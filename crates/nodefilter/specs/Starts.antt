@@ -7,12 +7,12 @@ use Rattle.nodecore.specs.Shown.{work_of}
 use Rattle.nodecore.specs.Stored.{kept_node}
 use Rattle.protocol.specs.Farm.{farm_limits}
 use Rattle.protocol.specs.Nodes.{Place, restarted, may_restart}
-use Rattle.nodefilter.specs.declared.about.About.TheVariants as about
+use Rattle.nodelines.specs.declared.about.About.TheVariants as about
 use Rattle.nodefilter.specs.declared.starting.Origin.{Origin}
 use Rattle.nodefilter.specs.declared.starting.Started.{Started}
 use Rattle.nodefilter.specs.States.{seen, IsSound}
 use Rattle.nodestore.specs.Stores.{Kept}
-use Rattle.nodefilter.specs.Written.{IsDone}
+use Rattle.nodelines.specs.Written.{IsDone}
 
 -- which node it is, and how many there are
 abbrev pub place_in : {S : Type 0} → Origin S → Place

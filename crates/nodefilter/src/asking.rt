@@ -2,10 +2,9 @@
 ghost use Rattle.std.specs.Prelude.{IfOk, IfErr, IfSome, IfNone};
 ghost use Rattle.nodefilter.specs.Asked.{IsFor, IsForOthers, IsHeard, IsDropped, Orders, IsUnread, AsksFor, AsksNothing};
 
-use super::order::{Call, Order};
-use super::reading::own_order;
 use farm_base::{Items, Message, NodeId};
 use farmwire::{FarmKey, ReadRefusal, open};
+use nodelines::{Call, Order, own_order};
 use services::{Lost, Unread, from_outside, lost_line, unread_of};
 use std::alloc::Global;
 

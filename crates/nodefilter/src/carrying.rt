@@ -3,16 +3,15 @@ ghost use Rattle.std.specs.Prelude.{◌≡◌, ◌≤◌, ◌⊎◌, ◌∷◌, 
 ghost use Rattle.farm_base.specs.Contents.{content_digest};
 ghost use Rattle.nodecore.specs.Rows.{endings_after};
 ghost use Rattle.nodecore.specs.Shown.{forgets, shown, place, Answers};
-ghost use Rattle.nodefilter.specs.declared.order.Call.{Call};
+ghost use Rattle.nodelines.specs.declared.order.Call.{Call};
 ghost use Rattle.nodefilter.specs.Carried.{node_answer, brought_by, forgotten_by, about_told, about_call, CarriesOut};
 ghost use Rattle.nodefilter.specs.States.{seen};
 ghost use Rattle.nodestore.specs.Stores.{StayKept, AllKept};
 
-use super::about::About;
 use super::filter::NodeFilter;
-use super::order::Call;
 use farm_base::{Copied, Digest, FromCoord, Items, Left, NodeId, ToNode};
 use nodecore::{NodeCore, NodeDone};
+use nodelines::{About, Call, Carried};
 use nodestore::{Store, StoreFault};
 use protocol::NodeRefusal;
 use std::alloc::{AllocError, Global};
@@ -193,13 +192,6 @@ fn keep_changes<S: Store>(
     }
     drop_kept(store, gone);
     keep_each(store, core, brought).is_ok()
-}
-
-/// What came of a call, and what it was about.
-#[derive(Drop)]
-pub struct Carried {
-    pub about: About,
-    pub answer: Result<NodeDone, NodeRefusal>,
 }
 
 /// Carries a call out, and keeps what the node stored.

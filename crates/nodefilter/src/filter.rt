@@ -1,18 +1,17 @@
 //! A node as a process that answers lines.
 ghost use Rattle.std.specs.Prelude.{◌≡◌, false, IfOk};
+ghost use Rattle.std.specs.String.{string_bytes};
 ghost use Rattle.services.specs.Served.{answer_text, OrLost};
-ghost use Rattle.nodefilter.specs.declared.order.Order.TheVariants as order;
-ghost use Rattle.nodefilter.specs.Filters.{AreLeft, Makes, Follows, Filters};
+ghost use Rattle.nodelines.specs.declared.order.Order.TheVariants as order;
+ghost use Rattle.nodefilter.specs.Filters.{file_fault, AreLeft, Makes, Follows, Filters};
 ghost use Rattle.nodefilter.specs.States.{seen};
-ghost use Rattle.nodefilter.specs.Written.{file_fault};
 
 use super::asking::asked;
 use super::carrying::carry_out;
-use super::order::{Call, LeftFile, Order};
-use super::printing::{print_carried, print_content, print_line, print_state};
 use farm_base::{Ask, Copied, Digest, Items, Left, NodeId, Text, Ticket};
 use farmwire::FarmKey;
 use nodecore::NodeCore;
+use nodelines::{Call, LeftFile, Order, print_carried, print_content, print_state};
 use nodestore::{FileFault, Store};
 use services::{Answer, Lost, Settled, Step, print_unread};
 use std::alloc::{AllocError, Global};
@@ -48,6 +47,13 @@ impl<S: Store> Drop for NodeFilter<S> {
             down: _,
         } = self;
     }
+}
+
+/// A line of these words.
+fn print_line(alloc: Global, line: &str) -> Result<String, AllocError>
+    ensures { IfOk result (λ text. string_bytes text ≡ line.now) }
+{
+    String::from_str(alloc, line)
 }
 
 /// Makes a call.

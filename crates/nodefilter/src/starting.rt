@@ -3,12 +3,11 @@ ghost use Rattle.std.specs.Prelude.{◌≡◌, true, All, IfOk};
 ghost use Rattle.farm_base.specs.Contents.{content_digest};
 ghost use Rattle.nodefilter.specs.Starts.{Begins};
 
-use super::about::About;
 use super::filter::NodeFilter;
-use super::printing::print_done;
 use farm_base::{Content, Life, NodeId};
 use farmwire::FarmKey;
 use nodecore::{KeptContents, NodeCore, ResumeRefusal};
+use nodelines::{About, print_done};
 use nodestore::Store;
 use std::alloc::Global;
 use thiserror::Error;

@@ -3,7 +3,7 @@ use Rattle.std.proofs.lemmas.Result.{IfOk-weaker}
 use Rattle.words.specs.Words.{words}
 use Rattle.nodefilter.specs.Asked.{IsHeard, Orders}
 use Rattle.nodefilter.specs.Asked.Orders.{Heard}
-use Rattle.nodefilter.specs.Orders.{AskedBy}
+use Rattle.nodelines.specs.Orders.{AskedBy}
 use Rattle.nodefilter.proofs.asking.order_of.Goals as goal
 
 pub returns-in-Some-clause-asked : goal.returns-in-Some-clause-asked

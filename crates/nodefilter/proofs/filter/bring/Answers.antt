@@ -1,4 +1,4 @@
-use Rattle.nodefilter.specs.declared.order.Call.TheVariants.{Bring}
+use Rattle.nodelines.specs.declared.order.Call.TheVariants.{Bring}
 use Rattle.nodefilter.specs.Filters.Follows.{Calls}
 use Rattle.nodefilter.specs.Filters.IsCallOf.{Brought_in}
 use Rattle.nodefilter.proofs.filter.bring.Goals as goal

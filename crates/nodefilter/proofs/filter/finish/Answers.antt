@@ -1,4 +1,4 @@
-use Rattle.nodefilter.specs.declared.order.Call.TheVariants.{Finish}
+use Rattle.nodelines.specs.declared.order.Call.TheVariants.{Finish}
 use Rattle.nodefilter.specs.Filters.Follows.{Calls}
 use Rattle.nodefilter.specs.Filters.IsCallOf.{Left_in}
 use Rattle.nodefilter.proofs.filter.finish.Goals as goal

@@ -1,7 +1,8 @@
 use Rattle.std.proofs.Common.{◌≡◌, is_some, option_copied, refl, sym, ap, ◌∙◌}
 use Rattle.services.proofs.SentLemmas.{or_lost}
+use Rattle.nodefilter.specs.Filters.{no_content}
 use Rattle.nodefilter.specs.Filters.Follows.{Hands, Has_not}
-use Rattle.nodefilter.specs.Written.{no_content, content_line}
+use Rattle.nodelines.specs.Written.{content_line}
 use Rattle.nodefilter.proofs.filter.hand.Goals as goal
 
 pub returns-in_default : goal.returns-in_default

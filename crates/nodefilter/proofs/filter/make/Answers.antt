@@ -2,12 +2,12 @@ use Rattle.std.proofs.Common.{◌≡◌, ℕ, Bool, List, IfOk, sym, ap, subst}
 use Rattle.std.specs.String.{string_bytes}
 use Rattle.services.specs.Served.{answer_text, OrLost}
 use Rattle.services.proofs.SentLemmas.{or_lost}
-use Rattle.nodefilter.specs.declared.about.About.{About}
+use Rattle.nodelines.specs.declared.about.About.{About}
 use Rattle.nodefilter.specs.Carried.{about_call}
-use Rattle.nodefilter.specs.Filters.{IsAnswered}
+use Rattle.nodefilter.specs.Filters.{IsAnswered, store_fault}
 use Rattle.nodefilter.specs.Filters.Makes.{Made}
 use Rattle.nodefilter.specs.States.{Seen}
-use Rattle.nodefilter.specs.Written.{IsWritten, store_fault}
+use Rattle.nodelines.specs.Written.{IsWritten}
 use Rattle.nodefilter.proofs.filter.make.Goals as goal
 
 pub returns-then-filter : goal.returns-then-filter

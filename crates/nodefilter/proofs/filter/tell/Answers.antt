@@ -6,7 +6,7 @@ use Rattle.nodecore.specs.declared.message.AskState.{AskState}
 use Rattle.protocol.specs.Lists.{nth}
 use Rattle.services.proofs.SentLemmas.{or_lost, lost_text}
 use Rattle.nodefilter.specs.Filters.Follows.{Tells}
-use Rattle.nodefilter.specs.Written.{noted, state_text}
+use Rattle.nodelines.specs.Written.{noted, state_text}
 use Rattle.nodefilter.proofs.filter.tell.Goals as goal
 
 pub returns-in_err-state : goal.returns-in_err-state

@@ -1,7 +1,7 @@
 use Rattle.std.proofs.Common.{◌≡◌, refl}
 use Rattle.services.specs.Unreads.{unread_line}
 use Rattle.services.proofs.SentLemmas.{or_lost}
-use Rattle.nodefilter.specs.declared.order.Order.TheVariants.{Call, Finish, Blob, Content, State}
+use Rattle.nodelines.specs.declared.order.Order.TheVariants.{Call, Finish, Blob, Content, State}
 use Rattle.nodefilter.specs.Filters.Filters.{Does, Drops}
 use Rattle.nodefilter.specs.Filters.Follows.{Calls}
 use Rattle.nodefilter.specs.Filters.IsCallOf.{Itself}

@@ -1,7 +1,7 @@
 use Rattle.std.proofs.Common.{Err, ap}
 use Rattle.words.proofs.Spelling.{slot_without, slot_parts}
 use Rattle.words.proofs.WordLemmas.{passed_on}
-use Rattle.nodefilter.proofs.reading.left_of.Goals as goal
+use Rattle.nodelines.proofs.reading.left_of.Goals as goal
 
 pub returns-in_default-clause-only : goal.returns-in_default-clause-only
 returns-in_default-clause-only c = λ same left h e. slot_without c.args.word.now left.slot _ c.in_default.ensures.only e

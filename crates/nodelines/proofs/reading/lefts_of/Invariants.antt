@@ -1,8 +1,8 @@
 use Rattle.std.proofs.Common.{◌≡◌, map, take}
 use Rattle.std.specs.List.{All}
 use Rattle.words.specs.Words.{texts}
-use Rattle.nodefilter.specs.Orders.{left_text, IsLeft}
-use Rattle.nodefilter.proofs.reading.lefts_of.Given as goal
+use Rattle.nodelines.specs.Orders.{left_text, IsLeft}
+use Rattle.nodelines.proofs.reading.lefts_of.Given as goal
 
 abbrev pub invariant-loop-word : goal.invariant-loop-word
 invariant-loop-word l = record {

@@ -1,6 +1,6 @@
 ghost use Rattle.std.specs.Prelude.{◌≡◌, ◌≢◌, IfSome, IfNone};
-ghost use Rattle.nodefilter.specs.declared.verb.Verb.{Verb};
-ghost use Rattle.nodefilter.specs.Orders.{verb_text};
+ghost use Rattle.nodelines.specs.declared.verb.Verb.{Verb};
+ghost use Rattle.nodelines.specs.Orders.{verb_text};
 
 /// The word that a line of the agent's begins with.
 #[derive(Clone, Copy)]

@@ -1,6 +1,6 @@
 use Rattle.std.proofs.Common.{Err, ap}
 use Rattle.words.proofs.WordLemmas.{passed_on}
-use Rattle.nodefilter.proofs.reading.wants_order.Goals as goal
+use Rattle.nodelines.proofs.reading.wants_order.Goals as goal
 
 pub returns-in_err-wants-clause-only : goal.returns-in_err-wants-clause-only
 returns-in_err-wants-clause-only c = λ same o h.

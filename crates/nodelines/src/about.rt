@@ -1,4 +1,6 @@
 use farm_base::{Ask, Confirmed, Items};
+use nodecore::NodeDone;
+use protocol::NodeRefusal;
 
 /// What a message of the coordinator's is about, as far as a note doesn't say it.
 #[derive(Drop)]
@@ -8,4 +10,11 @@ pub enum About {
     /// The ask that is denied.
     OfAsk(Ask),
     Nothing,
+}
+
+/// What came of a call, and what it was about.
+#[derive(Drop)]
+pub struct Carried {
+    pub about: About,
+    pub answer: Result<NodeDone, NodeRefusal>,
 }

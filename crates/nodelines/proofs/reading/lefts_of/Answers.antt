@@ -2,8 +2,8 @@ use Rattle.std.proofs.Common.{Err, ap}
 use Rattle.std.proofs.lemmas.List.Elements.{All-push}
 use Rattle.words.proofs.ListLemmas.{spelled_more, stuck_at}
 use Rattle.words.proofs.WordLemmas.{passed_on}
-use Rattle.nodefilter.specs.Orders.{left_text, IsLeft}
-use Rattle.nodefilter.proofs.reading.lefts_of.Goals as goal
+use Rattle.nodelines.specs.Orders.{left_text, IsLeft}
+use Rattle.nodelines.proofs.reading.lefts_of.Goals as goal
 
 pub returns-in_err-left_of-clause-only : goal.returns-in_err-left_of-clause-only
 returns-in_err-left_of-clause-only c = λ same lefts each e.

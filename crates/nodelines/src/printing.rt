@@ -4,10 +4,9 @@ ghost use Rattle.std.specs.String.{string_bytes};
 ghost use Rattle.words.specs.Words.{ticket_text};
 ghost use Rattle.farmwire.specs.Lines.{grant_words};
 ghost use Rattle.farmwire.specs.Words.{spaced};
-ghost use Rattle.nodefilter.specs.Written.{noted, versions_text, denied_ask, told_note, refused_line, IsDone, IsWritten, content_line, over_text, state_text};
+ghost use Rattle.nodelines.specs.Written.{noted, versions_text, denied_ask, told_note, refused_line, IsDone, IsWritten, content_line, over_text, state_text};
 
-use super::about::About;
-use super::carrying::Carried;
+use super::about::{About, Carried};
 use farm_base::{Ask, Digest, Grant, Key, Ticket};
 use farmwire::item::push_items;
 use farmwire::{FarmKey, push_grant, push_number, push_word};
@@ -89,7 +88,7 @@ fn push_told(
 }
 
 /// The text of what was done: the messages, the facts and the note.
-pub(crate) fn print_done(
+pub fn print_done(
     alloc: Global,
     key: &FarmKey,
     facts: &str,
@@ -119,11 +118,7 @@ fn print_refusal(alloc: Global, refusal: NodeRefusal) -> Result<String, AllocErr
 }
 
 /// The text of what came of a call.
-pub(crate) fn print_carried(
-    alloc: Global,
-    key: &FarmKey,
-    carried: Carried,
-) -> Result<String, AllocError>
+pub fn print_carried(alloc: Global, key: &FarmKey, carried: Carried) -> Result<String, AllocError>
     ensures { IfOk result (λ text. IsWritten key.now carried.about carried.answer (string_bytes text)) }
 {
     let Carried { about, answer } = carried;
@@ -133,15 +128,8 @@ pub(crate) fn print_carried(
     }
 }
 
-/// A line of these words.
-pub(crate) fn print_line(alloc: Global, line: &str) -> Result<String, AllocError>
-    ensures { IfOk result (λ text. string_bytes text ≡ line.now) }
-{
-    String::from_str(alloc, line)
-}
-
 /// The line of a content that was put in a file.
-pub(crate) fn print_content(alloc: Global, digest: Digest) -> Result<String, AllocError>
+pub fn print_content(alloc: Global, digest: Digest) -> Result<String, AllocError>
     ensures { IfOk result (λ text. string_bytes text ≡ content_line digest) }
 {
     let digits = Key(digest).to_text(alloc)?;
@@ -191,11 +179,7 @@ fn push_state(
 }
 
 /// The line of how an ask stands.
-pub(crate) fn print_state(
-    alloc: Global,
-    ask: Ask,
-    state: &Option<AskState>,
-) -> Result<String, AllocError>
+pub fn print_state(alloc: Global, ask: Ask, state: &Option<AskState>) -> Result<String, AllocError>
     ensures { IfOk result (λ text. string_bytes text ≡ noted (state_text ask state.now)) }
 {
     let mut text = String::from_str(alloc, "= ")?;

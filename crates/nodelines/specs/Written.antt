@@ -17,8 +17,8 @@ use Rattle.protocol.specs.declared.answer.NodeRefusal.{NodeRefusal}
 use Rattle.schedule.specs.Notes.{node_note_text}
 use Rattle.schedule.specs.RefusalNames.{node_refusal_text}
 use Rattle.services.specs.Outside.{Sends}
-use Rattle.nodefilter.specs.declared.about.About.{About}
-use Rattle.nodefilter.specs.declared.about.About.TheVariants as about
+use Rattle.nodelines.specs.declared.about.About.{About}
+use Rattle.nodelines.specs.declared.about.About.TheVariants as about
 
 -- `= `, a note, and the end of the line
 abbrev pub noted : List ℕ → List ℕ
@@ -59,18 +59,6 @@ pub record IsDone (key facts : List ℕ) (it : About) (done : NodeDone) (text : 
 abbrev pub IsWritten : List ℕ → About → Result NodeDone NodeRefusal → List ℕ → Type 0
 IsWritten key it (Ok done) text = IsDone key [] it done text
 IsWritten key it (Err refusal) text = text ≡ refused_line refusal
-
--- a content of the node could not be kept, now or earlier
-abbrev pub store_fault : List ℕ
-store_fault = codes "= refused StoreFault\n"
-
--- a file of the agent's can't be used
-abbrev pub file_fault : List ℕ
-file_fault = codes "= refused FileFault\n"
-
--- the content isn't stored here
-abbrev pub no_content : List ℕ
-no_content = codes "= refused NoSuchContent\n"
 
 -- the content was put in the file
 abbrev pub content_line : Digest → List ℕ

@@ -1,7 +1,7 @@
 use Rattle.std.proofs.Common.{ap, sym, subst, ◌∙◌}
 use Rattle.words.specs.Words.{texts}
-use Rattle.nodefilter.specs.Orders.{AskedBy}
-use Rattle.nodefilter.proofs.reading.own_order.Goals as goal
+use Rattle.nodelines.specs.Orders.{AskedBy}
+use Rattle.nodelines.proofs.reading.own_order.Goals as goal
 
 pub returns-clause-only : goal.returns-clause-only
 returns-clause-only c = λ same o h.

@@ -13,13 +13,13 @@ use Rattle.farm_base.specs.Names.{folder_text, IsName, IsSlot}
 use Rattle.farmwire.specs.Lawful.{IsAsk, IsTicket}
 use Rattle.words.specs.Words.{ticket_text, digits_text, slot_with, SpellGiven}
 use Rattle.farmwire.specs.Lines.{ask_text}
-use Rattle.nodefilter.specs.declared.order.Call.{Call}
-use Rattle.nodefilter.specs.declared.order.Call.TheVariants as call
-use Rattle.nodefilter.specs.declared.order.LeftFile.{LeftFile}
-use Rattle.nodefilter.specs.declared.order.Order.{Order}
-use Rattle.nodefilter.specs.declared.order.Order.TheVariants as order
-use Rattle.nodefilter.specs.declared.verb.Verb.{Verb}
-use Rattle.nodefilter.specs.declared.verb.Verb.TheVariants.{Ask, Tenure, Begin, Finish, Abort, Resend, Blob, Content, Forget, State}
+use Rattle.nodelines.specs.declared.order.Call.{Call}
+use Rattle.nodelines.specs.declared.order.Call.TheVariants as call
+use Rattle.nodelines.specs.declared.order.LeftFile.{LeftFile}
+use Rattle.nodelines.specs.declared.order.Order.{Order}
+use Rattle.nodelines.specs.declared.order.Order.TheVariants as order
+use Rattle.nodelines.specs.declared.verb.Verb.{Verb}
+use Rattle.nodelines.specs.declared.verb.Verb.TheVariants.{Ask, Tenure, Begin, Finish, Abort, Resend, Blob, Content, Forget, State}
 
 abbrev pub verb_text : Verb → List ℕ
 verb_text Ask = codes "ask"

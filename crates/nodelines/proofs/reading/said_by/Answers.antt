@@ -1,4 +1,4 @@
-use Rattle.nodefilter.proofs.reading.said_by.Goals as goal
+use Rattle.nodelines.proofs.reading.said_by.Goals as goal
 
 pub returns-in-Ask : goal.returns-in-Ask
 returns-in-Ask c = rw c.in-Ask.is c.wants_order.ensures

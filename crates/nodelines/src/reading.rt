@@ -2,9 +2,9 @@
 ghost use Rattle.std.specs.Prelude.{◌≡◌, ◌≢◌, List, map, IfOk};
 ghost use Rattle.std.specs.List.{All};
 ghost use Rattle.words.specs.Words.{texts, words};
-ghost use Rattle.nodefilter.specs.declared.order.LeftFile.{LeftFile};
-ghost use Rattle.nodefilter.specs.declared.order.Order.{Order};
-ghost use Rattle.nodefilter.specs.Orders.{left_text, IsLeft, Says, AskedBy};
+ghost use Rattle.nodelines.specs.declared.order.LeftFile.{LeftFile};
+ghost use Rattle.nodelines.specs.declared.order.Order.{Order};
+ghost use Rattle.nodelines.specs.Orders.{left_text, IsLeft, Says, AskedBy};
 
 use super::order::{Call, LeftFile, Order};
 use super::verb::{Verb, verb_of};
@@ -198,8 +198,8 @@ fn asked_by(alloc: Global, words: &[&str]) -> Result<Order, ReadRefusal>
     said_by(alloc, verb, others)
 }
 
-/// What a line asks for.
-pub(crate) fn own_order(alloc: Global, line: &str) -> Result<Order, ReadRefusal>
+/// What a line of the agent's asks for.
+pub fn own_order(alloc: Global, line: &str) -> Result<Order, ReadRefusal>
     ensures spelled { IfOk result (AskedBy (words line.now)) }
     ensures only { result ≡ Err ReadRefusal.BadForm → (o : Order) → AskedBy (words line.now) o → ⊥ }
 {
