@@ -1,7 +1,9 @@
 -- The live leases of a table, as it keeps them.
 use Rattle.std.specs.Prelude.{if◌then◌else◌, nat_lt, ℕ, Bool, List, Option, Some, None}
+use Rattle.std.specs.List.{list_any}
 use Rattle.farm_base.specs.declared.lease.Lease.{Lease}
-use Rattle.protocol.specs.Names.{FolderName, Ticket}
+use Rattle.protocol.specs.Names.{FolderName, Ticket, Want, only_slot}
+use Rattle.protocol.specs.Ledger.{has_slot}
 use Rattle.leaseindex.specs.Counts.{AreCounted}
 use Rattle.leaseindex.specs.Index.{AreIndexed}
 use Rattle.leaseindex.specs.Instances.{AreTaken}
