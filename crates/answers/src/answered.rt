@@ -5,7 +5,7 @@ use std::alloc::Global;
 use world::EventRefusal;
 
 /// An event of a schedule that the farm refuses.
-#[derive(Clone, Copy, PartialEq, Eq)]
+#[derive(Clone, Copy)]
 pub struct RefusedEvent {
     /// Its number, from 1.
     pub number: u64,

@@ -14,7 +14,7 @@ use draw::Range;
 use std::alloc::Global;
 
 /// What the program is asked to do with a file.
-#[derive(Clone, Copy, PartialEq, Eq)]
+#[derive(Clone, Copy)]
 pub enum Command {
     /// Says whether a definition can be solved, and what its result is.
     Check,

@@ -13,7 +13,7 @@ use std::alloc::{AllocError, Global};
 use vertices::LoadRefusal;
 
 /// Why there is no answer for a file.
-#[derive(Clone, Copy, PartialEq, Eq)]
+#[derive(Clone, Copy)]
 pub enum Failure {
     /// Its bytes are not a definition.
     Read(OpRefusal),

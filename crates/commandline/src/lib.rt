@@ -11,7 +11,7 @@ use processes::{CoordinatorPlace, NodePlace};
 use std::alloc::{AllocError, Global};
 
 /// What `run` is asked to do.
-#[derive(Clone, Copy, PartialEq, Eq)]
+#[derive(Clone, Copy)]
 pub struct Order<'a> {
     pub nodes: u32,
     /// Where the coordinator's record is kept, if it is.
@@ -19,7 +19,7 @@ pub struct Order<'a> {
 }
 
 /// What the program is asked to do.
-#[derive(Clone, Copy, PartialEq, Eq)]
+#[derive(Clone, Copy)]
 pub enum Request<'a> {
     /// Prints what the command answers for a file.
     Print(Command),
@@ -42,7 +42,7 @@ impl Request<'_> {
 }
 
 /// How a command answers.
-#[derive(Clone, Copy, PartialEq, Eq)]
+#[derive(Clone, Copy)]
 pub struct Options {
     /// Whether to say in plain words why something is refused, on the standard error.
     pub explain: bool,

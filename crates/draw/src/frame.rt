@@ -2,21 +2,21 @@
 use farm_base::{Items, Text};
 
 /// A live lease: its ticket, and the lifeline that holds it.
-#[derive(Clone, Copy, PartialEq, Eq)]
+#[derive(Clone, Copy)]
 pub struct Held {
     pub ticket: u64,
     pub node: u32,
 }
 
 /// A message that was sent: its number, and the lifeline that it is for.
-#[derive(Clone, Copy, PartialEq, Eq)]
+#[derive(Clone, Copy)]
 pub struct Sent {
     pub number: u64,
     pub to: u32,
 }
 
 /// What the picture shows of an outcome.
-#[derive(Clone, Copy, PartialEq, Eq)]
+#[derive(Clone, Copy)]
 pub enum Done {
     Refused,
     SaveFailed,

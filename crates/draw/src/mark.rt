@@ -1,7 +1,7 @@
 //! The marks of a picture. Columns are counted from the left, rows from the top, both from 0.
 
 /// How a lease ended.
-#[derive(Clone, Copy, PartialEq, Eq)]
+#[derive(Clone, Copy)]
 pub enum End {
     Committed,
     Released,
@@ -15,7 +15,7 @@ pub enum End {
 }
 
 /// What an event is marked by.
-#[derive(Clone, Copy, PartialEq, Eq)]
+#[derive(Clone, Copy)]
 pub enum Sign {
     Plain,
     Refused,
@@ -25,7 +25,7 @@ pub enum Sign {
 }
 
 /// Something that is drawn. What reaches from one row to another has both as `from` and `to`.
-#[derive(Clone, Copy, PartialEq, Eq)]
+#[derive(Clone, Copy)]
 pub enum Mark {
     /// A life of a lifeline.
     Life {

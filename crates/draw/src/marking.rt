@@ -12,7 +12,7 @@ use super::sought::{Sought, is_fault, is_live, is_start};
 use std::alloc::{AllocError, Global};
 
 /// A kind of marks: each covers those before it.
-#[derive(Clone, Copy, PartialEq, Eq)]
+#[derive(Clone, Copy)]
 pub enum Pass {
     Labels,
     Lives,

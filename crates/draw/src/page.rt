@@ -14,7 +14,7 @@ use super::shape::{push_mark, push_point, push_size, x_of, y_of};
 use std::alloc::{AllocError, Global};
 
 /// Which events are drawn, counted from 1, of how many, on a farm of how many nodes.
-#[derive(Clone, Copy, PartialEq, Eq)]
+#[derive(Clone, Copy)]
 pub struct Extent {
     pub first: usize,
     pub last: usize,

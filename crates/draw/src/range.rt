@@ -6,7 +6,7 @@ ghost use Rattle.draw.specs.Ranges.{skipped, drawn_to};
 pub const MOST_EVENTS: usize = 1_000;
 
 /// Which events to draw, counted from 1.
-#[derive(Clone, Copy, PartialEq, Eq)]
+#[derive(Clone, Copy)]
 pub struct Range {
     pub first: usize,
     pub last: usize,

@@ -5,7 +5,7 @@ ghost use Rattle.draw.specs.Frames.{is_live, ends_run, is_start, is_fault, is_am
 use super::frame::{Done, Frame, Held, Sent};
 
 /// Which frame is looked for.
-#[derive(Clone, Copy, PartialEq, Eq)]
+#[derive(Clone, Copy)]
 pub enum Sought {
     /// After it no lease of this ticket is live.
     Ended(u64),

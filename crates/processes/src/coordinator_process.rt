@@ -39,7 +39,7 @@ const TOGETHER: usize = 65536;
 const GREETING: &str = "= started\n";
 
 /// Where a coordinator has its files.
-#[derive(Clone, Copy, PartialEq, Eq)]
+#[derive(Clone, Copy)]
 pub struct CoordinatorPlace<'a> {
     /// The record. Its log and its lock stand beside it, with `.log` and `.lock` behind its name.
     pub record: &'a str,

@@ -23,7 +23,7 @@ use std::time::{SystemTime, UNIX_EPOCH};
 const MOST: usize = LINE_LIMIT + 2;
 
 /// Which node it is, and where it has its files.
-#[derive(Clone, Copy, PartialEq, Eq)]
+#[derive(Clone, Copy)]
 pub struct NodePlace<'a> {
     pub node: NodeId,
     /// The greatest number of a node that the farm will have.
