@@ -11,7 +11,7 @@ use solving::{FarmFault, board_fault};
 use std::alloc::{AllocError, Global};
 
 /// How the tenure of a SHARED folder stands on a node.
-#[derive(Clone, Copy, PartialEq, Eq)]
+#[derive(Clone, Copy)]
 pub(crate) enum Stage {
     /// It was asked for.
     Asked,
@@ -41,7 +41,7 @@ pub(crate) struct LockedBoard {
 }
 
 /// Which tenures end now, where no execution uses them.
-#[derive(Clone, Copy, PartialEq, Eq)]
+#[derive(Clone, Copy)]
 pub(crate) enum Ends {
     Recalled,
     OfNode(NodeId),
