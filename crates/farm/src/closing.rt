@@ -44,7 +44,10 @@ fn close<R: Wait>(
         return Err(FarmFault::ReceiptLost);
     };
     let closed = state.open.lock(rt).live.close(common.alloc, folder);
-    closed.map_err(shared_fault)
+    match closed {
+        Ok(closed) => Ok(closed),
+        Err(refusal) => Err(shared_fault(refusal)),
+    }
 }
 
 /// Ends a tenure with the content of its folder.

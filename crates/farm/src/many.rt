@@ -422,7 +422,10 @@ fn solve_all<R: Threads + Wait + Sync, G: Gate>(
     ensures jobs { IfOk result (λ solved. solved.jobs.items ≡ jobs.items) }
     ensures causes { IfOk result (λ solved. IfOk solved.told (λ told. map (λ each. each.place) told.causes.items ≡ failed_in told.answers.items)) }
 {
-    let board = Board::start(alloc, setup).map_err(start_fault)?;
+    let board = match Board::start(alloc, setup) {
+        Ok(board) => board,
+        Err(refusal) => return Err(start_fault(refusal)),
+    };
     let nodes = nodes_of(alloc, executors.as_slice())?;
     let Submitted { tables, numbers } = submit_all(alloc, setup.nodes, jobs.as_slice())?;
     let work = Work::of(alloc, jobs)?;

@@ -61,12 +61,18 @@ impl NodeJobs {
     /// A key is done with these outputs.
     pub(crate) fn done(&mut self, key: Key, outputs: Vec<Digest>) -> Result<(), FarmFault> {
         self.out = self.out.saturating_sub(1);
-        self.jobs.done(key, outputs).map_err(jobs_fault)
+        match self.jobs.done(key, outputs) {
+            Ok(()) => Ok(()),
+            Err(refusal) => Err(jobs_fault(refusal)),
+        }
     }
 
     /// A key has failed.
     pub(crate) fn failed(&mut self, key: Key, fault: Fault) -> Result<(), FarmFault> {
         self.out = self.out.saturating_sub(1);
-        self.jobs.failed(key, fault).map_err(jobs_fault)
+        match self.jobs.failed(key, fault) {
+            Ok(()) => Ok(()),
+            Err(refusal) => Err(jobs_fault(refusal)),
+        }
     }
 }

@@ -57,7 +57,10 @@ fn submit(
         return Err(FarmFault::ReceiptLost);
     };
     match tables.get_mut(place) {
-        Some(table) => table.submit_keyed(alloc, keyed).map_err(jobs_fault),
+        Some(table) => match table.submit_keyed(alloc, keyed) {
+            Ok(job) => Ok(job),
+            Err(refusal) => Err(jobs_fault(refusal)),
+        },
         None => Err(FarmFault::ReceiptLost),
     }
 }
