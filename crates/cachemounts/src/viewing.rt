@@ -16,7 +16,7 @@ use std::alloc::{AllocError, Global};
 use vertices::Graph;
 
 /// What a cache mount of a vertex sees. Places count from 0.
-#[derive(Clone, Copy, PartialEq, Eq)]
+#[derive(Clone, Copy)]
 pub struct CacheView {
     /// The place of the mount among the vertex's mounts.
     pub mount: usize,

@@ -3,7 +3,7 @@ use farm_base::{Items, Life, NodeId, Ticket};
 use protocol::CoordRefusal;
 
 /// Why a process isn't heard.
-#[derive(Clone, Copy, PartialEq, Eq)]
+#[derive(Clone, Copy)]
 pub enum Over {
     /// A later life of its node was seen: this is the greatest.
     Outdated(NodeId, Life),
@@ -12,7 +12,7 @@ pub enum Over {
 }
 
 /// A lease that a call ends.
-#[derive(Clone, Copy, PartialEq, Eq)]
+#[derive(Clone, Copy)]
 pub struct Ended {
     pub ticket: Ticket,
     pub node: NodeId,

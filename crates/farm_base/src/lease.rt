@@ -10,7 +10,7 @@ use super::want::Wants;
 use std::alloc::{AllocError, Global};
 
 /// What a lease is given for.
-#[derive(Clone, Copy, PartialEq, Eq)]
+#[derive(Clone, Copy)]
 pub enum LeaseKind {
     /// An execution that uses no SHARED folder.
     Plain,
@@ -55,7 +55,7 @@ pub struct Lease {
 }
 
 /// The greatest life seen of a node.
-#[derive(Clone, Copy, PartialEq, Eq)]
+#[derive(Clone, Copy)]
 pub struct NodeLife {
     pub node: NodeId,
     pub life: Life,

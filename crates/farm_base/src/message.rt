@@ -20,7 +20,7 @@ pub struct Version {
 }
 
 /// A version as its slot's line has it.
-#[derive(Clone, Copy, PartialEq, Eq)]
+#[derive(Clone, Copy)]
 pub struct LineVersion {
     /// The ticket under which it was added.
     pub ticket: Ticket,
@@ -136,7 +136,7 @@ pub enum FromCoord {
 }
 
 /// A node asks another one for a content.
-#[derive(Clone, Copy, PartialEq, Eq)]
+#[derive(Clone, Copy)]
 pub struct Fetch {
     /// The node that is asked.
     pub node: NodeId,

@@ -13,7 +13,7 @@ use std::alloc::{AllocError, Global};
 use world::World;
 
 /// What is counted of a schedule.
-#[derive(Clone, Copy, PartialEq, Eq)]
+#[derive(Clone, Copy)]
 pub struct Counts {
     /// Its Commits that were answered as committed.
     pub committed: u64,

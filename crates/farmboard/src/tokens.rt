@@ -48,7 +48,7 @@ pub enum Accept {
 }
 
 /// What `begin` would say of a grant.
-#[derive(Clone, Copy, PartialEq, Eq)]
+#[derive(Clone, Copy)]
 pub enum Look {
     Ready,
     /// The content of a base isn't here yet.
@@ -58,7 +58,7 @@ pub enum Look {
 }
 
 /// What became of a lease that was to be given back.
-#[derive(Clone, Copy, PartialEq, Eq)]
+#[derive(Clone, Copy)]
 pub enum Ended {
     Sent,
     /// The node no longer has the lease.

@@ -8,7 +8,7 @@ use farm_base::{NodeId, Ticket};
 use protocol::{Event, EventRefusal, Outcome};
 
 /// An execution in use: its node, and its ticket.
-#[derive(Clone, Copy, PartialEq, Eq)]
+#[derive(Clone, Copy)]
 pub struct InUse {
     pub node: NodeId,
     pub ticket: Ticket,

@@ -6,7 +6,7 @@ ghost use Rattle.filekeeper.specs.Calls.{Called, noted};
 use std::marker::{Model, PhantomData};
 
 /// A call of a device, and whether it was done. The bytes that it gave, or was given, stand beside it.
-#[derive(Clone, Copy, PartialEq, Eq)]
+#[derive(Clone, Copy)]
 pub enum DeviceCall {
     ReadRecord,
     ReadLog,

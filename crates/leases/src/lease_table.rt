@@ -18,7 +18,7 @@ use std::alloc::{AllocError, Global};
 use std::marker::Model;
 
 /// Whether an ask can be granted.
-#[derive(Clone, Copy, PartialEq, Eq)]
+#[derive(Clone, Copy)]
 pub enum Fit {
     Fits,
     /// A slot that it needs is leased.
@@ -28,7 +28,7 @@ pub enum Fit {
 }
 
 /// The state of a slot, as new asks find it.
-#[derive(Clone, Copy, PartialEq, Eq)]
+#[derive(Clone, Copy)]
 pub enum SlotState {
     Free,
     Leased(Ticket),

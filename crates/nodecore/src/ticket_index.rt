@@ -8,7 +8,7 @@ use indexmap::IndexMap;
 use std::alloc::{AllocError, Global};
 
 /// Which asks were granted one ticket.
-#[derive(Clone, Copy, PartialEq, Eq)]
+#[derive(Clone, Copy)]
 pub enum Holders {
     /// The one at this place.
     One(usize),

@@ -156,7 +156,7 @@ pub enum NodeRefusal {
 }
 
 /// What is done with an ask.
-#[derive(Clone, Copy, PartialEq, Eq)]
+#[derive(Clone, Copy)]
 pub enum Decision {
     Give,
     Deny(Why),
@@ -194,7 +194,7 @@ impl Copied for How {
 }
 
 /// What a record holds after a save that failed.
-#[derive(Clone, Copy, PartialEq, Eq)]
+#[derive(Clone, Copy)]
 pub enum Kept {
     /// What it held before.
     Old,

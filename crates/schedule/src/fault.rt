@@ -3,7 +3,7 @@
 use super::verb::{Verb, Wanted};
 
 /// How the words of a line are parted otherwise than by one space.
-#[derive(Clone, Copy, PartialEq, Eq)]
+#[derive(Clone, Copy)]
 pub enum Spacing {
     /// The line ends with a carriage return.
     CarriageReturn,
@@ -14,7 +14,7 @@ pub enum Spacing {
 
 /// Why a word doesn't stand for what was wanted. What it lacks may be lacking in a part of it alone: in the folder
 /// behind `ro=`, or in the slot or the digits around the last `=`.
-#[derive(Clone, Copy, PartialEq, Eq)]
+#[derive(Clone, Copy)]
 pub enum WordFault {
     NoNode,
     NoMessage,
@@ -36,7 +36,7 @@ pub enum WordFault {
 }
 
 /// Why the words behind a verb say no event. They are counted from 0.
-#[derive(Clone, Copy, PartialEq, Eq)]
+#[derive(Clone, Copy)]
 pub enum FormFault {
     /// The word at this index is the first that doesn't stand for what is wanted there.
     BadWord(usize, Wanted, WordFault),
@@ -49,7 +49,7 @@ pub enum FormFault {
 }
 
 /// Why a line can't be read.
-#[derive(Clone, Copy, PartialEq, Eq)]
+#[derive(Clone, Copy)]
 pub enum LineFault {
     NotUtf8,
     Spacing(Spacing),

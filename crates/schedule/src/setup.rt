@@ -1,5 +1,5 @@
 /// How a farm is set up.
-#[derive(Clone, Copy, PartialEq, Eq)]
+#[derive(Clone, Copy)]
 pub struct Setup {
     /// The number of its nodes.
     pub nodes: u32,

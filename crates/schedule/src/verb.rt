@@ -5,7 +5,7 @@ ghost use Rattle.schedule.specs.Words.{verb_text};
 ghost use Rattle.schedule.specs.Forms.{first_words, further_words, wanted_at};
 
 /// What a word of an event's line stands for.
-#[derive(Clone, Copy, PartialEq, Eq)]
+#[derive(Clone, Copy)]
 pub enum Wanted {
     Node,
     /// A node, or `coordinator`.
@@ -37,7 +37,7 @@ pub struct Form {
 }
 
 /// The word that a line begins with.
-#[derive(Clone, Copy, PartialEq, Eq)]
+#[derive(Clone, Copy)]
 pub enum Verb {
     Ask,
     Tenure,

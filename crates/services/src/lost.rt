@@ -1,5 +1,5 @@
 /// Why a line isn't handed on.
-#[derive(Clone, Copy, PartialEq, Eq)]
+#[derive(Clone, Copy)]
 pub enum Lost {
     /// With its end it has more bytes than the limit.
     TooLong,

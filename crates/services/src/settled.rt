@@ -1,7 +1,7 @@
 use protocol::CoordRefusal;
 
 /// Whether what was answered lasts.
-#[derive(Clone, Copy, PartialEq, Eq)]
+#[derive(Clone, Copy)]
 pub enum Settled {
     /// It does, so the answers are written.
     Lasts,

@@ -8,7 +8,7 @@ use farmwire::LineFault;
 use std::alloc::{AllocError, Global};
 
 /// Why a line isn't carried out.
-#[derive(Clone, Copy, PartialEq, Eq)]
+#[derive(Clone, Copy)]
 pub enum Unread {
     TooLong,
     /// What stands behind `m ` is no text with its MAC.
