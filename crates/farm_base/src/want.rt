@@ -12,10 +12,20 @@ use std::marker::Model;
 use thiserror::Error;
 
 /// A folder that an execution uses.
-#[derive(Drop, PartialEq, Eq, PartialOrd, Ord, Hash)]
+#[derive(PartialEq, Eq, PartialOrd, Ord, Hash)]
 pub struct Want {
     pub folder: FolderName,
     pub writable: bool,
+}
+
+// By hand, so that letting go of one is one step of a proof, which no other crate makes again.
+impl Drop for Want {
+    fn drop(self) {
+        let Self {
+            folder: _,
+            writable: _,
+        } = self;
+    }
 }
 
 impl Copied for Want {
@@ -28,9 +38,15 @@ impl Copied for Want {
 }
 
 /// What an execution wants: at most 16 folders, each once, by rising folder.
-#[derive(Drop)]
 pub struct Wants {
     wants: Items<Want>,
+}
+
+// By hand, so that letting go of one is one step of a proof, which no other crate makes again.
+impl Drop for Wants {
+    fn drop(self) {
+        let Self { wants: _ } = self;
+    }
 }
 
 impl Model for Wants {

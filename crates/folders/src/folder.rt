@@ -19,11 +19,17 @@ use std::marker::Model;
 ///
 /// Contracts see a finite map, as the list of the paths, rising by their bytes, with the content of each. A path is any
 /// UTF-8 text. There are at most 16 MiB of folder bytes.
-#[derive(Drop)]
 pub struct Folder {
     files: Vec<File>,
     /// The size of the folder bytes.
     size: usize,
+}
+
+// By hand, so that letting go of one is one step of a proof, which no other crate makes again.
+impl Drop for Folder {
+    fn drop(self) {
+        let Self { files: _, size: _ } = self;
+    }
 }
 
 impl Model for Folder {

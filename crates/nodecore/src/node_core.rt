@@ -282,11 +282,8 @@ impl NodeCore {
         if self.spent {
             return Err(NodeRefusal::LivesSpent);
         }
-        let folder = FolderName {
-            id: folder.id,
-            mode: Mode::Shared,
-            base: folder.base,
-        };
+        let mut folder = folder;
+        folder.mode = Mode::Shared;
         if has_tenure(&self.asks, &folder) {
             return Err(NodeRefusal::TenureHere);
         }

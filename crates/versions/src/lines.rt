@@ -64,9 +64,15 @@ struct Base {
 }
 
 /// The lines of the slots that have a version, by rising slot. Contracts see the list of the lines.
-#[derive(Drop)]
 pub struct Lines {
     lines: Vec<SlotLine>,
+}
+
+// By hand, so that letting go of one is one step of a proof, which no other crate makes again.
+impl Drop for Lines {
+    fn drop(self) {
+        let Self { lines: _ } = self;
+    }
 }
 
 impl Model for Lines {
@@ -115,7 +121,7 @@ impl Lines {
         let added = again(alloc, &copy, added)?;
         let room = copy.room_to_add(alloc, &added)?;
         copy.add_to(added, room);
-        Ok(copy.lines)
+        Ok(copy.into_vec())
     }
 
     /// The line of the slot, None where it has no version.
@@ -176,7 +182,8 @@ impl Lines {
         ensures items { result.items ≡ self }
         ensures sound { AreLines result.items }
     {
-        self.lines
+        let Self { lines } = self;
+        lines
     }
 
     /// Whether a ticket is above all on a slot's line.
