@@ -5,8 +5,8 @@ usage: [FARMCTL=PROGRAM] [SMALLER=N] printed/speed.py [replay] [save] [events] [
 
 Without words it measures all. Without FARMCTL it is the program that the gate builds; SMALLER divides the sizes, to try a build that isn't
 proved. A time is that of a processor, the system's included, less that of the same command on the least input; of nine runs, in turn
-with those that they are compared with, the fastest counts. Hashing is the program's own: what `check` takes longer for a vertex of 12 MiB,
-which it hashes twice, than to read these bytes.
+with those that they are compared with, the fastest counts. Hashing is the program's own: what `check` takes longer for a vertex of 12 MiB
+than to read these bytes.
 """
 from __future__ import annotations
 
@@ -383,7 +383,7 @@ def blocks(length: int) -> int:
 
 @dataclasses.dataclass
 class Definition:
-    """The entries of vertices, and the blocks that have to be hashed: of each op, and of its stripped bytes."""
+    """The entries of vertices, and the blocks that have to be hashed: of each op, and of its stripped bytes where it has inputs."""
 
     entries: list[bytes] = dataclasses.field(default_factory=list)
     digests: list[str] = dataclasses.field(default_factory=list)
@@ -391,7 +391,7 @@ class Definition:
 
     def add(self, rest: bytes, inputs: list[str]) -> None:
         entry = b"".join(field(1, field(1, digest.encode("ascii"))) for digest in inputs) + rest
-        self.blocks += blocks(len(entry)) + blocks(len(rest))
+        self.blocks += blocks(len(entry)) + (blocks(len(rest)) if inputs else 0)
         self.entries.append(entry)
         self.digests.append(f"sha256:{hashlib.sha256(entry).hexdigest()}")
 

@@ -7,6 +7,7 @@ use Rattle.farm_base.specs.declared.folder.Base.{Base}
 use Rattle.opsproto.specs.Scalars.{Text}
 use Rattle.opsproto.specs.declared.exec.Mount.{Mount}
 use Rattle.opsproto.specs.declared.input.Input.{Input}
+use Rattle.opsproto.specs.Mounts.{mounts_in}
 use Rattle.opsproto.specs.declared.op.Kind.{Kind}
 use Rattle.opsproto.specs.declared.op.Kind.TheVariants.{Exec, Opaque, Bare}
 use Rattle.vertices.specs.declared.vertex.Vertex.{Vertex}
@@ -17,7 +18,7 @@ use Rattle.vertices.specs.Outcomes.{Each}
 use Rattle.vertices.proofs.GraphLemmas.{list_at-get}
 use Rattle.vertices.proofs.ZipLemmas.{all_zip_length, all_zip_at}
 use Rattle.cachemounts.specs.CacheFolders.{TakesOutput, TakesOutputs}
-use Rattle.cachemounts.specs.CacheWants.{mounts_in, HasMounts}
+use Rattle.cachemounts.specs.CacheWants.{HasMounts}
 use Rattle.cachemounts.specs.Checked.{IsChecked}
 
 -- ---- checks
@@ -100,13 +101,3 @@ one_has g keys number outputs others mounts more h k =
       same_outputs keys (list_at g.edges number) outputs others h.outputs_are k.outputs_are,
       h.mounts_are ∙ ap (λ (v : Vertex). mounts_in v.op.kind) same ∙ sym k.mounts_are,
     )
-
--- ---- edges
-
--- an edge is that of the input at its place
-pub edge_at : (vertices : List Vertex) (inputs : List (Input Text)) (edges : List (ℕ × ℕ)) (k : ℕ) (input : Input Text) (edge : ℕ × ℕ)
-    → AreEdges vertices inputs edges → slice_get inputs k ≡ Some input → slice_get edges k ≡ Some edge → IsEdge vertices input edge
-edge_at vertices inputs edges k input edge are at there =
-    let found = all_zip_at (IsEdge vertices) inputs edges k input are at in
-    let same : found.0 ≡ edge = let a = found.1 in cc (a, there) in
-    subst (IsEdge vertices input) same found.2

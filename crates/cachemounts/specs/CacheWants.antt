@@ -1,5 +1,5 @@
 -- What a vertex wants: the folders of its cache mounts, as a set (this project's own).
-use Rattle.std.specs.Prelude.{◌≡◌, ◌↔◌, ℕ, true, false, List, [], Some, slice_get}
+use Rattle.std.specs.Prelude.{◌≡◌, ◌↔◌, ℕ, true, false, List, Some, slice_get}
 use Rattle.std.specs.List.{Contains}
 use Rattle.farm_base.specs.declared.digest.Key.{Key}
 use Rattle.farm_base.specs.declared.folder.Base.{Base}
@@ -8,18 +8,11 @@ use Rattle.farm_base.specs.declared.want.Want.{Want}
 use Rattle.farm_base.specs.Wanted.{folders}
 use Rattle.opsproto.specs.Scalars.{Text}
 use Rattle.opsproto.specs.declared.exec.Mount.{Mount}
-use Rattle.opsproto.specs.declared.op.Kind.{Kind}
-use Rattle.opsproto.specs.declared.op.Kind.TheVariants.{Exec, Opaque, Bare}
+use Rattle.opsproto.specs.Mounts.{mounts_in}
 use Rattle.vertices.specs.declared.vertex.Vertex.{Vertex}
 use Rattle.vertices.specs.Edges.{list_at}
 use Rattle.vertices.specs.Loading.{GraphParts}
 use Rattle.cachemounts.specs.CacheFolders.{TakesOutputs, HasFolder}
-
--- the mounts of an op; one that isn't an exec op has none
-abbrev pub mounts_in : Kind Text → List (Mount Text)
-mounts_in (Exec exec) = exec.mounts
-mounts_in (Opaque number) = []
-mounts_in Bare = []
 
 -- the want to write a folder
 abbrev pub to_write : FolderName → Want

@@ -1,28 +1,30 @@
 ghost use Rattle.std.specs.Prelude.{◌≡◌, ◌<◌, ◌≤◌, List, length, IfOk};
 ghost use Rattle.std.specs.List.{All};
+ghost use Rattle.opsproto.specs.Scalars.{Text};
+ghost use Rattle.opsproto.specs.declared.input.Input.{Input};
 ghost use Rattle.vertices.specs.declared.vertex.Vertex.{Vertex};
 ghost use Rattle.vertices.specs.Edges.{IsEdge, AreEdges};
 ghost use Rattle.vertices.specs.Loading.{IsGraph};
 ghost use Rattle.vertices.specs.OpChecks.{cache_count};
 ghost use Rattle.solverkeys.specs.GraphKeys.{AreKeys};
 ghost use Rattle.cachemounts.specs.CacheFolders.{TakesOutput, TakesOutputs};
-ghost use Rattle.cachemounts.specs.CacheWants.{mounts_in, HasMounts};
+ghost use Rattle.cachemounts.specs.CacheWants.{HasMounts};
 ghost use Rattle.cachemounts.specs.Checked.{IsChecked};
 
-use farm_base::{Base, Index, Key};
-use opsproto::{Input, Kind, Mount, Op};
+use farm_base::{Base, Index, Items, Key};
+use opsproto::Mount;
 use std::alloc::{AllocError, Global};
 use vertices::Graph;
 
-/// An op, and the output that each of its inputs takes.
+/// The mounts of a vertex, and the output that each of its inputs takes.
 #[derive(Drop)]
 pub(crate) struct Mounted {
-    op: Op,
+    mounts: Items<Mount>,
     outputs: Vec<Base>,
 }
 
 impl Mounted {
-    /// The op of a vertex.
+    /// The mounts of a vertex. The rest of its op is not read.
     pub(crate) fn of(
         alloc: Global,
         graph: &Graph,
@@ -31,24 +33,21 @@ impl Mounted {
     ) -> Result<Self, AllocError>
         requires vertex { vertex < length graph.now.vertices }
         requires keys { AreKeys graph.now keys.now }
-        ensures has { IfOk result (λ m. HasMounts graph.now keys.now vertex m.outputs.items (mounts_in m.op.kind)) }
-        ensures checked { IfOk result (λ m. All (IsChecked (length m.outputs.items)) (mounts_in m.op.kind)) }
-        ensures few { IfOk result (λ m. cache_count (mounts_in m.op.kind) ≤ 16) }
+        ensures has { IfOk result (λ m. HasMounts graph.now keys.now vertex m.outputs.items m.mounts) }
+        ensures checked { IfOk result (λ m. All (IsChecked (length m.outputs.items)) m.mounts) }
+        ensures few { IfOk result (λ m. cache_count m.mounts ≤ 16) }
     {
         is_graph(graph);
-        let op = graph.vertex(vertex).op.read(alloc)?;
-        let outputs = outputs_of(alloc, keys, op.inputs(), graph.inputs_of(vertex))?;
-        Ok(Mounted { op, outputs })
+        let mounts = graph.vertex(vertex).op.mounts(alloc)?;
+        let outputs = outputs_of(alloc, keys, graph.inputs_of(vertex))?;
+        Ok(Mounted { mounts, outputs })
     }
 
-    /// The mounts of the op.
+    /// The mounts.
     pub(crate) fn mounts(&self) -> &[Mount]
-        ensures { result.now ≡ mounts_in self.now.op.kind }
+        ensures { result.now ≡ self.now.mounts }
     {
-        match self.op.kind() {
-            Kind::Exec(exec) => exec.mounts.as_slice(),
-            Kind::Opaque(_) | Kind::Bare => &[],
-        }
+        self.mounts.as_slice()
     }
 
     /// The output that each input takes.
@@ -66,32 +65,24 @@ fn is_graph(graph: &Graph)
     let _count = graph.len();
 }
 
-/// The output that each edge of a vertex takes. These are the inputs of its op.
-fn outputs_of(
-    alloc: Global,
-    keys: &[Key],
-    inputs: &[Input],
-    edges: &[(usize, u64)],
-) -> Result<Vec<Base>, AllocError>
-    requires { (vertices : List Vertex) × AreEdges vertices inputs.now edges.now × (length vertices ≡ length keys.now) }
+/// The output that each edge of a vertex takes. They are the edges of its inputs.
+fn outputs_of(alloc: Global, keys: &[Key], edges: &[(usize, u64)]) -> Result<Vec<Base>, AllocError>
+    requires { (vertices : List Vertex) × (inputs : List (Input Text)) × AreEdges vertices inputs edges.now × (length vertices ≡ length keys.now) }
     ensures { IfOk result (λ outputs. TakesOutputs keys.now edges.now outputs.items) }
 {
     let mut outputs = Vec::with_capacity(alloc, edges.len())?;
-    for (place, edge) in edges.iter().enumerate() {
-        outputs.push(output_of(keys, &inputs[place], *edge))?;
+    for edge in edges {
+        outputs.push(output_of(keys, *edge))?;
     }
     Ok(outputs)
 }
 
-/// The output that an edge takes. It is the edge of this input.
-fn output_of(keys: &[Key], input: &Input, edge: (usize, u64)) -> Base
-    requires { (vertices : List Vertex) × IsEdge vertices input.now edge × (length vertices ≡ length keys.now) }
+/// The output that an edge takes. It is the edge of an input.
+fn output_of(keys: &[Key], edge: (usize, u64)) -> Base
+    requires { (vertices : List Vertex) × (input : Input Text) × IsEdge vertices input edge × (length vertices ≡ length keys.now) }
     ensures { TakesOutput keys.now edge result }
 {
-    let Ok(index) = u64::try_from(input.index) else {
-        unreachable!();
-    };
-    let Some(index) = Index::new(index) else {
+    let Some(index) = Index::new(edge.1) else {
         unreachable!();
     };
     Base {

@@ -7,7 +7,7 @@ use std::rt::Files;
 use std::{fs, io};
 
 /// How many bytes are read at once.
-const PART: usize = 4096;
+const PART: usize = 65_536;
 
 /// Room for the bytes of a file of this length, at most `most` of them, and no room where memory hasn't that much.
 fn room_for(alloc: Global, length: u64, most: usize) -> Vec<u8> {

@@ -7,13 +7,13 @@ use Rattle.farm_base.specs.declared.want.Want.{Want}
 use Rattle.opsproto.specs.Scalars.{Text}
 use Rattle.opsproto.specs.declared.exec.ExecOp.{ExecOp}
 use Rattle.opsproto.specs.declared.exec.Mount.{Mount}
+use Rattle.opsproto.specs.Mounts.{mounts_in}
 use Rattle.opsproto.specs.declared.op.Kind.{Kind}
 use Rattle.opsproto.specs.declared.op.Kind.TheVariants.{Exec, Opaque, Bare}
 use Rattle.vertices.specs.declared.vertex.Vertex.{Vertex}
 use Rattle.solverkeys.specs.Keyed.{KeyedParts}
 use Rattle.cachemounts.specs.declared.viewing.CacheView.{CacheView}
 use Rattle.cachemounts.specs.CacheViews.{AreViews}
-use Rattle.cachemounts.specs.CacheWants.{mounts_in}
 use Rattle.folders.specs.Files.{Files}
 use Rattle.jobs.specs.declared.entry.Task.{Task}
 use Rattle.executions.specs.declared.call.ExecOutcome.{ExecOutcome}

@@ -2,9 +2,10 @@
 ghost use Rattle.std.specs.Prelude.{◌≡◌, ◌<◌, List, length, IfOk, Contains};
 ghost use Rattle.std.specs.List.{AllZip};
 ghost use Rattle.farm_base.specs.declared.folder.Base.{Base};
+ghost use Rattle.opsproto.specs.Mounts.{mounts_in};
 ghost use Rattle.cachemounts.specs.declared.viewing.CacheView.{CacheView as SpecView};
 ghost use Rattle.cachemounts.specs.CacheViews.{IsView};
-ghost use Rattle.cachemounts.specs.CacheWants.{AreWants, mounts_in};
+ghost use Rattle.cachemounts.specs.CacheWants.{AreWants};
 ghost use Rattle.executions.specs.Given.{command_in, output_at, IsViewAt, IsGiven};
 ghost use Rattle.executions.specs.Seen.{folder_seen};
 
@@ -13,19 +14,9 @@ use super::task::{ExecTask, View};
 use cachemounts::{CacheView, views};
 use farm_base::{Copied, Digest, Items, Want, Wants};
 use jobs::Task;
-use opsproto::{Kind, Mount, Op};
+use opsproto::{Mount, Op};
 use solverkeys::Keyed;
 use std::alloc::{AllocError, Global};
-
-/// The mounts of an op.
-fn mounts_in(kind: &Kind) -> &[Mount]
-    ensures { result.now ≡ mounts_in kind.now }
-{
-    match kind {
-        Kind::Exec(exec) => exec.mounts.as_slice(),
-        Kind::Opaque(_) | Kind::Bare => &[],
-    }
-}
 
 /// The output that a mount's input takes, if it has one.
 fn output_at(outputs: &[Digest], input: i64) -> Option<Digest>
@@ -94,7 +85,7 @@ fn given_by(
     ensures views { IfOk result (λ given. AllZip (IsViewAt (folder_seen seen.now.leased seen.now.shared) wants.now task.now.inputs.items (mounts_in op.kind)) places.now given.views) }
 {
     let inputs = Vec::from_slice(alloc, task.inputs.as_slice())?;
-    let mounts = mounts_in(op.kind());
+    let mounts = op.kind().mounts();
     let views = views_at(alloc, seen, wants, &task.inputs, mounts, places)?;
     Ok(ExecTask {
         key: task.key,

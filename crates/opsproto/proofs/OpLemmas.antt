@@ -1,5 +1,5 @@
 -- The bytes of an op without its inputs are an op of the same kind.
-use Rattle.std.proofs.Common.{◌≡◌, ℕ, Bool, true, false, cond, eqb, ltb, List, [], ◌∷◌, length, None, Result, Ok, Err, refl, sym, ap, subst, ◌∙◌, inl, inr}
+use Rattle.std.proofs.Common.{◌≡◌, ℕ, ◌≤◌, Bool, true, false, cond, not, eqb, ltb, List, [], ◌∷◌, ◌++◌, length, length-append, None, Result, Ok, Err, refl, sym, ap, subst, ◌∙◌, inl, inr, arith}
 use Rattle.std.specs.Prelude.{filter_map}
 use Rattle.std.specs.List.{AllByRecursion}
 use Rattle.std.specs.Result.{IsOk, result_unwrap_or}
@@ -94,6 +94,30 @@ is_op text op kind e checked =
     rw t.stripped (stripped_read t.fields op.kind t.are.each t.kind) in
     rw (alone, checked) refl
 
+-- ---- an op whose stripped bytes are all of its bytes
+
+kept_shorter : (fs : List Spelled) → length (message (kept fs)) ≤ length (message fs)
+kept_shorter [] = omega arith
+kept_shorter (f ∷ fs) = by_input (kept_shorter fs) (is_input f)
+  where
+    by_input : length (message (kept fs)) ≤ length (message fs) → (b : Bool) → length (message (cond (not b) (f ∷ kept fs) (kept fs))) ≤ length (message (f ∷ fs))
+    by_input shorter true = omega (arith, shorter, length-append f.text (message fs))
+    by_input shorter false = omega (arith, shorter, length-append f.text (message fs), length-append f.text (message (kept fs)))
+
+left_out : (text kept whole : List ℕ) → length kept ≤ length whole → (length kept ≡ length whole → kept ≡ whole) → length kept ≡ length (text ++ whole) → kept ≡ text ++ whole
+left_out [] kept whole shorter is same = is same
+left_out (b ∷ text) kept whole shorter is same = absurd (omega (arith, shorter, same, length-append text whole))
+
+-- nothing is left out where as many bytes are left
+kept_whole : (fs : List Spelled) → length (message (kept fs)) ≡ length (message fs) → message (kept fs) ≡ message fs
+kept_whole [] same = refl
+kept_whole (f ∷ fs) same = by_input (kept_whole fs) (is_input f) same
+  where
+    by_input : (length (message (kept fs)) ≡ length (message fs) → message (kept fs) ≡ message fs) → (b : Bool)
+        → length (message (cond (not b) (f ∷ kept fs) (kept fs))) ≡ length (message (f ∷ fs)) → message (cond (not b) (f ∷ kept fs) (kept fs)) ≡ message (f ∷ fs)
+    by_input whole true same = left_out f.text (message (kept fs)) (message fs) (kept_shorter fs) whole same
+    by_input whole false same = ap (λ (rest : List ℕ). f.text ++ rest) (whole (omega (arith, same, length-append f.text (message fs), length-append f.text (message (kept fs)))))
+
 -- ---- the stripped bytes alone
 
 wire_ok : (r : Result OpParts WireRefusal) (op : OpParts) → wire r ≡ Ok op → r ≡ Ok op
@@ -104,27 +128,56 @@ fits : (b : Bool) (r : Result OpParts OpRefusal) (op : OpParts) → cond b (Err 
 fits true r op e = absurd cc
 fits false r op e = e
 
-checked_stripped : (raw op : OpParts) → op_checked raw ≡ Ok op → raw.stripped ≡ op.stripped
+-- what was checked of an op
+checked_parts : (raw op : OpParts) → op_checked raw ≡ Ok op → (kind_checked raw.kind ≡ Ok op.kind) × (raw.stripped ≡ op.stripped)
 unfolding op_checked
-checked_stripped raw op e =
+checked_parts raw op e =
     let a = bind_ok (each_checked input_checked raw.inputs) (λ inputs. kind_checked raw.kind >>= λ kind. Ok (record { inputs = inputs; kind = kind; stripped = raw.stripped })) op e in
     let b = bind_ok (kind_checked raw.kind) (λ kind. Ok (record { inputs = a.0; kind = kind; stripped = raw.stripped })) op a.2 in
     let made : OpParts = record { inputs = a.0; kind = b.0; stripped = raw.stripped } in
-    ap (λ (o : OpParts). o.stripped) (ok_is {E = OpRefusal} made op b.2)
+    let same : made ≡ op = ok_is {E = OpRefusal} made op b.2 in
+    (b.1 ∙ ap (λ (o : OpParts). Ok o.kind) same, ap (λ (o : OpParts). o.stripped) same)
 
-op_stripped : (text stripped : List ℕ) (op : OpParts) → op_at text ≡ Ok op → stripped_of text ≡ Ok stripped → stripped ≡ op.stripped
+-- the op of some bytes: what was read of them, and what was checked of that
+pub record OpHeld (text : List ℕ) (op : OpParts) : Type 0 where
+  pub raw : OpParts
+  pub took : OpTook text raw
+  pub kind : kind_checked raw.kind ≡ Ok op.kind
+  pub stripped : op.stripped ≡ message (kept took.fields)
+
+pub op_held : (text : List ℕ) (op : OpParts) → op_at text ≡ Ok op → OpHeld text op
 unfolding op_at op_read
-op_stripped text stripped op e s =
+op_held text op e =
     let read = fits (ltb limit (length text)) (op_read text) op e in
     let a = bind_ok (wire (op_of text)) op_checked op read in
-    let t = op_took text a.0 (wire_ok (op_of text) a.0 a.1) in
-    let again : stripped_of text ≡ Ok (message (kept t.fields)) = rw (fields_again text t.fields t.are) refl in
-    ok_is {E = WireRefusal} stripped (message (kept t.fields)) (sym s ∙ again) ∙ sym t.stripped ∙ checked_stripped a.0 op a.2
+    let took = op_took text a.0 (wire_ok (op_of text) a.0 a.1) in
+    let parts = checked_parts a.0 op a.2 in
+    record { raw = a.0; took = took; kind = parts.0; stripped = sym parts.1 ∙ took.stripped }
 
-found : (r : Result OpParts OpRefusal) (other : OpParts) → IsOk r → r ≡ Ok (result_unwrap_or r other)
-found (Ok op) other h = refl
-found (Err e) other h = absurd cc
+op_stripped : (text stripped : List ℕ) (op : OpParts) → op_at text ≡ Ok op → stripped_of text ≡ Ok stripped → stripped ≡ op.stripped
+op_stripped text stripped op e s =
+    let held = op_held text op e in
+    let fields = held.took.fields in
+    let again : stripped_of text ≡ Ok (message (kept fields)) = rw (fields_again text fields held.took.are) refl in
+    ok_is {E = WireRefusal} stripped (message (kept fields)) (sym s ∙ again) ∙ sym held.stripped
+
+-- an op whose stripped bytes are as many as its bytes
+pub stripped_whole : (text : List ℕ) (op : OpParts) → op_at text ≡ Ok op → length op.stripped ≡ length text → op.stripped ≡ text
+stripped_whole text op e same =
+    let held = op_held text op e in
+    let fields = held.took.fields in
+    let joined = held.took.are.joined in
+    let lengths : length (message (kept fields)) ≡ length (message fields) = ap (λ (bytes : List ℕ). length bytes) (sym held.stripped) ∙ same ∙ ap (λ (bytes : List ℕ). length bytes) joined in
+    held.stripped ∙ kept_whole fields lengths ∙ sym joined
+
+unwrapped : (r : Result OpParts OpRefusal) (other : OpParts) → IsOk r → r ≡ Ok (result_unwrap_or r other)
+unwrapped (Ok op) other h = refl
+unwrapped (Err e) other h = absurd cc
+
+-- bytes that spell an op spell the op of these bytes
+pub spells : (text : List ℕ) → IsOk (op_at text) → op_at text ≡ Ok (op_in text)
+spells text h = unwrapped (op_at text) (record { inputs = []; kind = Bare; stripped = [] }) h
 
 -- the op of some bytes has their stripped bytes
 pub stripped_is : (text stripped : List ℕ) → IsOk (op_at text) → stripped_of text ≡ Ok stripped → stripped ≡ (op_in text).stripped
-stripped_is text stripped h s = op_stripped text stripped (op_in text) (found (op_at text) (record { inputs = []; kind = Bare; stripped = [] }) h) s
+stripped_is text stripped h s = op_stripped text stripped (op_in text) (spells text h) s

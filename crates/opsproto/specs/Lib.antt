@@ -3,6 +3,7 @@ pub mod Scalars
 pub mod Reading
 pub mod Texts
 pub mod Ops
+pub mod Mounts
 pub mod RawOps
 pub mod Definitions
 pub mod Writing

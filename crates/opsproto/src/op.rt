@@ -1,6 +1,6 @@
 ghost use Rattle.std.specs.Prelude.{◌≡◌, IfOk};
 
-use super::exec::ExecOp;
+use super::exec::{ExecOp, Mount};
 use super::fields::Bytes;
 use super::input::Input;
 use super::raw::EXEC;
@@ -96,6 +96,20 @@ impl Op {
         ensures kind { IsOp result.now self.now.kind }
     {
         self.stripped.as_slice()
+    }
+}
+
+impl Kind {
+    ghost use Rattle.opsproto.specs.Mounts.{mounts_in};
+
+    /// The mounts of a command; nothing else has any.
+    pub fn mounts(&self) -> &[Mount]
+        ensures { result.now ≡ mounts_in self.now }
+    {
+        match self {
+            Kind::Exec(exec) => exec.mounts.as_slice(),
+            Kind::Opaque(_) | Kind::Bare => &[],
+        }
     }
 }
 

@@ -7,11 +7,13 @@ ghost use Rattle.protowire.specs.Reading.{Gives};
 ghost use Rattle.protowire.specs.Lookups.{last_member};
 ghost use Rattle.opsproto.specs.Ops.{members, kind_of, kept, stripped_of, op_of};
 ghost use Rattle.opsproto.specs.RawOps.{parts, parts_in};
+ghost use Rattle.opsproto.specs.Mounts.{member_mounts_of};
 
+use super::exec::Mount;
 use super::fields::Bytes;
 use super::input::Input;
 use super::op::Kind;
-use super::reading::{INPUTS, exec_of, inputs_of};
+use super::reading::{INPUTS, exec_mounts_of, exec_of, inputs_of};
 use farm_base::Items;
 use protowire::{Field, WireRefusal};
 use std::alloc::{AllocError, Global};
@@ -48,6 +50,35 @@ fn kind_of(alloc: Global, fields: &[Field<'_>]) -> Result<Kind<Bytes>, WireRefus
     match protowire::last_member(alloc, fields, &MEMBERS)? {
         Some((number, body)) => member_kind(alloc, number, &body),
         None => Ok(Kind::Bare),
+    }
+}
+
+fn member_mounts(
+    alloc: Global,
+    number: u32,
+    body: &[u8],
+) -> Result<Items<Mount<Bytes>>, WireRefusal>
+    ensures { Gives (λ v. v) result (member_mounts_of (Some (number, body.now))) }
+{
+    match number {
+        EXEC => exec_mounts_of(alloc, body),
+        _ => Ok(Items::new(Vec::new(alloc))),
+    }
+}
+
+/// The mounts of an op.
+pub(crate) fn mounts_in(
+    alloc: Global,
+    fields: &[Field<'_>],
+) -> Result<Items<Mount<Bytes>>, WireRefusal>
+    ensures { Gives (λ v. v) result (member_mounts_of (last_member members (entries fields.now))) }
+{
+    if let Some((number, body)) = protowire::lone_member(fields, &MEMBERS) {
+        return member_mounts(alloc, number, body);
+    }
+    match protowire::last_member(alloc, fields, &MEMBERS)? {
+        Some((number, body)) => member_mounts(alloc, number, &body),
+        None => Ok(Items::new(Vec::new(alloc))),
     }
 }
 

@@ -3,14 +3,17 @@ ghost use Rattle.opsproto.specs.Refusals.{Gives};
 ghost use Rattle.opsproto.specs.Texts.{each_checked, input_checked};
 ghost use Rattle.opsproto.specs.Ops.{kind_checked, op_at, op_checked, op_of};
 ghost use Rattle.opsproto.specs.RawOps.{parts};
+ghost use Rattle.opsproto.specs.Mounts.{mounts_read};
 ghost use Rattle.opsproto.specs.Definitions.{definition_at};
 
 use super::definition::Definition;
-use super::fields::Bytes;
+use super::exec::Mount;
+use super::fields::{Bytes, fields};
 use super::op::{Kind, Op};
-use super::raw::{RawOp, raw_op};
+use super::raw::{RawOp, mounts_in, raw_op};
 use super::refusal::OpRefusal;
-use super::texts::{exec_checked, inputs_checked};
+use super::texts::{exec_checked, inputs_checked, mounts_checked};
+use farm_base::Items;
 use std::alloc::Global;
 
 /// The greatest size of a definition or an op: 16 MiB.
@@ -53,6 +56,15 @@ pub fn read_op(alloc: Global, bytes: &[u8]) -> Result<Op, OpRefusal>
     }
     let raw = raw_op(alloc, bytes)?;
     op_checked(alloc, raw)
+}
+
+/// Reads the mounts of an op alone.
+pub(crate) fn read_mounts(alloc: Global, bytes: &[u8]) -> Result<Items<Mount>, OpRefusal>
+    ensures { Gives (λ mounts. mounts) result (mounts_read bytes.now) }
+{
+    let fields = fields(alloc, bytes)?;
+    let raw = mounts_in(alloc, &fields)?;
+    mounts_checked(alloc, raw)
 }
 
 /// Reads a definition. Its size is checked first, then its form, then the number of its entries. The definition keeps the

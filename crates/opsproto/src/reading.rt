@@ -4,6 +4,7 @@ ghost use Rattle.std.specs.Prelude.{◌≡◌};
 ghost use Rattle.protowire.specs.Seen.{entries};
 ghost use Rattle.protowire.specs.Reading.{Gives};
 ghost use Rattle.protowire.specs.Lookups.{bodies, joined_body};
+ghost use Rattle.opsproto.specs.Mounts.{exec_mounts_of};
 ghost use Rattle.opsproto.specs.Reading.{each_of, optional_of, input_of, cache_of, mount_of, meta_of, exec_of};
 
 use super::exec::{CacheOpt, ExecOp, Meta, Mount};
@@ -110,6 +111,17 @@ fn mounts_of(alloc: Global, fields: &[Field<'_>]) -> Result<Items<Mount<Bytes>>,
         mounts.push(mount_of(alloc, message)?)?;
     }
     Ok(Items::new(mounts))
+}
+
+/// The mounts of an exec op alone.
+pub(crate) fn exec_mounts_of(
+    alloc: Global,
+    message: &[u8],
+) -> Result<Items<Mount<Bytes>>, WireRefusal>
+    ensures { Gives (λ v. v) result (exec_mounts_of message.now) }
+{
+    let fields = fields(alloc, message)?;
+    mounts_of(alloc, &fields)
 }
 
 fn meta_in(alloc: Global, fields: &[Field<'_>]) -> Result<Option<Meta<Bytes>>, WireRefusal>

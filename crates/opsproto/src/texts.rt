@@ -118,7 +118,10 @@ fn check_mounts(checked: &mut Vec<Mount>, mounts: Vec<Mount<Bytes>>) -> Result<(
 }
 
 #[tactic(auto, using(crate::proofs::TextLemmas::no_front))]
-fn mounts_checked(alloc: Global, mounts: Items<Mount<Bytes>>) -> Result<Items<Mount>, OpRefusal>
+pub(crate) fn mounts_checked(
+    alloc: Global,
+    mounts: Items<Mount<Bytes>>,
+) -> Result<Items<Mount>, OpRefusal>
     ensures { Gives (λ v. v) result (each_checked mount_checked mounts) }
 {
     let mounts = mounts.into_vec();

@@ -1,9 +1,12 @@
 ghost use Rattle.std.specs.Prelude.{◌≡◌, IfOk, IsOk, Ok};
 ghost use Rattle.opsproto.specs.Ops.{op_at};
+ghost use Rattle.opsproto.specs.Mounts.{mounts_in};
 
+use super::exec::Mount;
 use super::op::Op;
 use super::raw::stripped_of;
-use super::read::read_op;
+use super::read::{read_mounts, read_op};
+use farm_base::Items;
 use std::alloc::{AllocError, Global};
 use std::marker::Model;
 
@@ -39,6 +42,17 @@ impl<'a> WireOp<'a> {
     {
         // These bytes have no fault, so only memory can run out.
         read_op(alloc, self.bytes).map_err(|_| AllocError)
+    }
+
+    /// Its mounts. Nothing else of it takes memory, so its words may be long.
+    pub fn mounts(&self, alloc: Global) -> Result<Items<Mount>, AllocError>
+        ensures { IfOk result (λ mounts. mounts ≡ mounts_in self.now.kind) }
+    {
+        match read_mounts(alloc, self.bytes) {
+            Ok(mounts) => Ok(mounts),
+            // These bytes have no fault, so only memory can run out.
+            Err(_) => Err(AllocError),
+        }
     }
 
     /// Its bytes without the fields of the inputs' number.

@@ -40,7 +40,7 @@ edges_fit g number edge is less c =
     let v = all_zip_back (λ v es. AreEdges g.vertices v.op.inputs es) g.vertices g.edges number edges is.edges at in
     let there = at_Contains edges edge (subst (λ (es : List (ℕ × ℕ)). Contains es edge) (list_at-get g.edges number edges at) c) in
     let i = all_zip_back (IsEdge g.vertices) v.0.op.inputs edges there.0 edge v.2 there.1 in
-    i.2.small
+    omega (arith, i.2.small)
 
 mutual
   unfolding IsShapeOf HasIndexes

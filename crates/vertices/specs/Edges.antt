@@ -27,13 +27,13 @@ InputCheck digests place input =
     (Then (Needs (NamesOne digests input.digest) (refusal.MissingInput place))
     (Needs (pos 0 ≤ℤ input.index) (refusal.NegativeIndex place)))
 
--- an edge goes to the vertex that the input names, and takes the output of its index, a number of 64 bits
+-- an edge goes to the vertex that the input names, and takes the output of its index, an int64 that isn't negative (ops.proto)
 pub record IsEdge (vertices : List Vertex) (input : Input Text) (edge : ℕ × ℕ) : Type 0 where
   pub vertex : Vertex
   pub there : slice_get vertices edge.0 ≡ Some vertex
   pub named : input.digest ≡ digest_text vertex.digest
   pub index : input.index ≡ pos edge.1
-  pub small : edge.1 < 2 ^ 64
+  pub small : edge.1 < 2 ^ 63
 
 -- an edge for each input, in order
 abbrev pub AreEdges : List Vertex → List (Input Text) → List (ℕ × ℕ) → Type 0

@@ -8,7 +8,7 @@ ghost use Rattle.vertices.specs.Loading.{ReadCheck, ReadChecks, GraphCheck, Defi
 use super::building::{all_edges, edge_order};
 use super::edges::edge_of;
 use super::graph::Graph;
-use super::reading::{digest_of, read_entry};
+use super::reading::{digest_of, read_entry, stripped_digest};
 use super::refusal::LoadRefusal;
 use super::table::Table;
 use super::unresolved::{Asked, Named};
@@ -76,7 +76,7 @@ impl Loading {
         ensures read { OnOk result (IsReadTo (place + 1) self.new) }
     {
         if self.table.add(place, digest)? {
-            let stripped = digest_of(op.stripped());
+            let stripped = stripped_digest(self.entries.body(place), digest, op);
             self.sources.push(Source {
                 place,
                 digest,

@@ -32,3 +32,17 @@ pub(crate) fn digest_of(bytes: &[u8]) -> Digest
     prove!(digest.bytes().len() == 32);
     digest
 }
+
+/// The SHA-256 of an op's stripped bytes. Without inputs these are the bytes of its entry, whose digest is there already.
+#[tactic(auto, using(opsproto::proofs::OpLemmas::stripped_whole))]
+pub(crate) fn stripped_digest(entry: &[u8], digest: Digest, op: &Op) -> Digest
+    requires op { op_at entry.now ≡ Ok op.now }
+    requires digest { digest ≡ digest_in entry.now }
+    ensures { result ≡ digest_in op.now.stripped }
+{
+    let stripped = op.stripped();
+    if stripped.len() == entry.len() {
+        return digest;
+    }
+    digest_of(stripped)
+}

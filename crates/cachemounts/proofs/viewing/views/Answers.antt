@@ -3,7 +3,7 @@ use Rattle.std.specs.List.{All}
 use Rattle.farm_base.specs.declared.folder.Base.{Base}
 use Rattle.opsproto.specs.Scalars.{Text}
 use Rattle.opsproto.specs.declared.exec.Mount.{Mount}
-use Rattle.cachemounts.specs.CacheWants.{mounts_in, AreWantsOf}
+use Rattle.cachemounts.specs.CacheWants.{AreWantsOf}
 use Rattle.cachemounts.specs.Checked.{IsChecked}
 use Rattle.cachemounts.proofs.MountLemmas.{one_has}
 use Rattle.cachemounts.proofs.viewing.views.Goals as goal
@@ -18,7 +18,7 @@ views_of_mounts-requires-clause-wanted c = λ folder h.
     let given = c.requires.wants in
     let own = c.in_ok-mounted.ensures.has in
     let outputs = c.in_ok-mounted.mounted.outputs.items in
-    let mounts = mounts_in c.in_ok-mounted.mounted.op.kind in
+    let mounts = c.in_ok-mounted.mounted.mounts in
     let same = one_has c.args.graph.now c.args.keys.now c.args.vertex given.outputs outputs given.mounts mounts given.has own in
     let wants : AreWantsOf c.outputs.result.now c.mounts.result.now c.as_slice.result.now
     = subst (λ (os : List Base). AreWantsOf os c.mounts.result.now c.as_slice.result.now) (same.0 ∙ sym c.outputs.ensures)

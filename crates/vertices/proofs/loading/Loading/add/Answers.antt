@@ -33,7 +33,7 @@ returns-in_ok-push-2-clause-read c =
     (digests_more (digests_in (take k entries)) (digest_in x) read.digests (subst IsDigest digest c.requires.digits)) in
     let places_if : Bool → List ℕ = λ b. if b then loading.table.places.items ++ k ∷ [] else loading.table.places.items in
     let op : op_at x ≡ Ok c.args.op.now = subst (λ (o : Option (List ℕ)). IfSome o (λ entry. op_at entry ≡ Ok c.args.op.now)) at c.requires.op in
-    let stripped = c.digest_of-stripped.result in
+    let stripped = c.stripped_digest-stripped.result in
     let places : c.add.new.self.places.items ≡ loading.table.places.items ++ k ∷ [] = c.in_ok-add.ensures.places ∙ ap places_if c.if-branch.true in
     record {
       table = table;
@@ -42,7 +42,7 @@ returns-in_ok-push-2-clause-read c =
           ∙ ap (map (vertex_at entries)) (sym places);
       digests = digests;
       sources = subst (AllByRecursion (IsSource entries)) (sym c.in_ok-push.ensures.items)
-          (sources_more entries k x c.args.digest stripped c.args.op.now loading.sources.items at op (c.digest_of-stripped.ensures.value ∙ ap digest_in c.stripped.ensures.value) read.sources);
+          (sources_more entries k x c.args.digest stripped c.args.op.now loading.sources.items at op c.stripped_digest-stripped.ensures read.sources);
       asked = subst (λ (ss : List Source). AllZip Asks (map (vertex_of entries) ss) c.push-then-branch.new.self.items) (sym c.in_ok-push.ensures.items)
           (subst (AllZip Asks (map (vertex_of entries) (loading.sources.items ++ (record { place = k; digest = c.args.digest; stripped = stripped }) ∷ [])))
           (sym c.in_ok-push-2.ensures.items)

@@ -1,0 +1,14 @@
+use Rattle.std.proofs.Common.{List, Result, Ok, ap, sym, ◌∙◌}
+use Rattle.codec.proofs.Steps.{ok_is}
+use Rattle.opsproto.specs.declared.refusal.OpRefusal.{OpRefusal}
+use Rattle.opsproto.specs.declared.exec.Mount.{Mount}
+use Rattle.opsproto.specs.Scalars.{Text}
+use Rattle.opsproto.specs.Ops.{OpParts, op_in}
+use Rattle.opsproto.specs.Mounts.{mounts_in}
+use Rattle.opsproto.proofs.MountLemmas.{mounts_are}
+use Rattle.opsproto.proofs.wire_op.WireOp.mounts.Goals as goal
+
+pub returns-in-Ok : goal.returns-in-Ok
+returns-in-Ok c =
+    let text = c.self.inside.bytes.now in
+    ok_is {E = OpRefusal} c.in-Ok.mounts (mounts_in (op_in text).kind) (sym c.in-Ok.ensures ∙ mounts_are text c.self.invariant) ∙ ap (λ (op : OpParts). mounts_in op.kind) c.self.view_is
