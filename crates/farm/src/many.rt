@@ -11,7 +11,7 @@ ghost use Rattle.solving.specs.Works.{jobs_of};
 ghost use Rattle.farmend.specs.Answers.{AreAnswered, IsAnswered};
 ghost use Rattle.farmend.specs.NewCalls.{new_calls};
 ghost use Rattle.farmend.specs.Receipts.{StandsOn, tickets_of};
-ghost use Rattle.farmend.specs.Replays.{commits_after, farm_after};
+ghost use Rattle.farmboard.specs.Replays.{commits_after, farm_after};
 ghost use Rattle.farmend.specs.Standing.{IsStanding};
 
 use super::common::Common;

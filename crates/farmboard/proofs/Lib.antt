@@ -1,9 +1,10 @@
+pub mod BeginLemmas
 pub mod FarmLemmas
+pub mod HistoryLemmas
+pub mod LookLemmas
+pub mod NodeLemmas
+pub mod NoteLemmas
+pub mod ReplayLemmas
+pub mod SettleLemmas
 pub mod TicketLemmas
 pub mod UseLemmas
-pub mod HistoryLemmas
-pub mod NoteLemmas
-pub mod NodeLemmas
-pub mod SettleLemmas
-pub mod LookLemmas
-pub mod BeginLemmas

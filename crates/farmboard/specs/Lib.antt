@@ -1,9 +1,10 @@
+pub mod Begins
+pub mod Boards
+pub mod Counts
+pub mod Ends
+pub mod Faults
 pub mod History
 pub mod Out
-pub mod Boards
-pub mod Faults
-pub mod Tokens
-pub mod Ends
-pub mod Begins
+pub mod Replays
 pub mod Settling
-pub mod Counts
+pub mod Tokens

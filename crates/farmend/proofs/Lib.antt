@@ -1,6 +1,5 @@
 pub mod AnswerLemmas
 mod NewsLemmas
 mod ReceiptLemmas
-pub mod ReplayLemmas
 pub mod SolvedLemmas
 pub mod SavedLemmas

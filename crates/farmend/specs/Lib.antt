@@ -1,6 +1,5 @@
 pub mod Answers
 pub mod NewCalls
 pub mod Receipts
-pub mod Replays
 pub mod Solved
 pub mod Standing

@@ -7,7 +7,7 @@ use Rattle.saverecord.specs.Texts.{whole_alone}
 use Rattle.schedule.specs.declared.setup.Setup.{Setup}
 use Rattle.farmboard.specs.declared.tokens.Receipt.{Receipt}
 use Rattle.farmend.specs.Receipts.{StandsOn, tickets_of}
-use Rattle.farmend.specs.Replays.{farm_after, commits_after}
+use Rattle.farmboard.specs.Replays.{farm_after, commits_after}
 
 -- the replay of the setup and the events has the bytes as its record, and these commits; the receipts are on its lines,
 -- each under a ticket of its own, and at most as many as the commits: a commit has none if nobody saw its end

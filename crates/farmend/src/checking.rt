@@ -9,7 +9,7 @@ ghost use Rattle.farmboard.specs.History.{farm_of};
 ghost use Rattle.farmboard.specs.Counts.{commits_of};
 ghost use Rattle.farmend.specs.Answers.{AreAnswered};
 ghost use Rattle.farmend.specs.Receipts.{StandsOn, tickets_of};
-ghost use Rattle.farmend.specs.Replays.{farm_after, commits_after};
+ghost use Rattle.farmboard.specs.Replays.{farm_after, commits_after};
 ghost use Rattle.farmend.specs.Standing.{IsStanding};
 
 use super::answers::are_answered;

@@ -3,7 +3,7 @@ use Rattle.std.specs.Prelude.{◌≡◌, ℕ, List}
 use Rattle.protocol.specs.declared.event.Event.{Event}
 use Rattle.schedule.specs.declared.setup.Setup.{Setup}
 use Rattle.farmboard.specs.Counts.{counts_of}
-use Rattle.farmend.specs.Replays.{replayed}
+use Rattle.farmboard.specs.Replays.{replayed}
 
 -- no event is refused
 abbrev pub RefusesNone : Setup → List Event → Type 0

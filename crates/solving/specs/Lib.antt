@@ -1,3 +1,4 @@
+pub mod Batches
 pub mod Ends
 pub mod Faults
 pub mod Leases

@@ -1,5 +1,6 @@
 //! What refusals end a run with.
-ghost use Rattle.std.specs.Prelude.{◌≡◌, ◌↔◌};
+ghost use Rattle.std.specs.Prelude.{◌≡◌};
+ghost use Rattle.solving.specs.Faults.{of_board, of_start, of_jobs, of_run, of_edits, of_shared};
 
 use super::fault::FarmFault;
 use executions::{RunRefusal, SharedRefusal};
@@ -11,7 +12,7 @@ use world::StartRefusal;
 
 /// What a refusal of the board ends a run with.
 pub fn board_fault(refusal: BoardRefusal) -> FarmFault
-    ensures { (result ≡ FarmFault.HistoryFull) ↔ (refusal ≡ BoardRefusal.HistoryFull) }
+    ensures { result ≡ of_board refusal }
 {
     match refusal {
         BoardRefusal::Event(EventRefusal::OutOfMemory) => FarmFault::Memory,
@@ -24,7 +25,7 @@ pub fn board_fault(refusal: BoardRefusal) -> FarmFault
 
 /// What a refused start ends a run with.
 pub fn start_fault(refusal: StartRefusal) -> FarmFault
-    ensures { (result ≡ FarmFault.BadSetup) ↔ (refusal ≡ StartRefusal.BadSetup) }
+    ensures { result ≡ of_start refusal }
 {
     match refusal {
         StartRefusal::BadSetup => FarmFault::BadSetup,
@@ -34,7 +35,7 @@ pub fn start_fault(refusal: StartRefusal) -> FarmFault
 
 /// What a refusal of the jobs ends a run with.
 pub fn jobs_fault(refusal: JobsRefusal) -> FarmFault
-    ensures { (result ≡ FarmFault.Memory) ↔ (refusal ≡ JobsRefusal.OutOfMemory) }
+    ensures { result ≡ of_jobs refusal }
 {
     match refusal {
         JobsRefusal::NotRunningKey => FarmFault::ReceiptLost,
@@ -45,7 +46,9 @@ pub fn jobs_fault(refusal: JobsRefusal) -> FarmFault
 }
 
 /// What a refused execution of a key ends a run with.
-pub(crate) fn run_fault(key: Key, refusal: RunRefusal) -> FarmFault {
+pub(crate) fn run_fault(key: Key, refusal: RunRefusal) -> FarmFault
+    ensures { result ≡ of_run key refusal }
+{
     match refusal {
         RunRefusal::BadContents(_) => FarmFault::BadOutcome(key),
         RunRefusal::BadEdits => FarmFault::BadOutcome(key),
@@ -54,7 +57,9 @@ pub(crate) fn run_fault(key: Key, refusal: RunRefusal) -> FarmFault {
 }
 
 /// What a refused change of a SHARED folder by the execution of a key ends a run with.
-pub(crate) fn edits_fault(key: Key, refusal: SharedRefusal) -> FarmFault {
+pub(crate) fn edits_fault(key: Key, refusal: SharedRefusal) -> FarmFault
+    ensures { result ≡ of_edits key refusal }
+{
     match refusal {
         SharedRefusal::TooLarge => FarmFault::BadOutcome(key),
         SharedRefusal::OutOfMemory => FarmFault::Memory,
@@ -66,7 +71,7 @@ pub(crate) fn edits_fault(key: Key, refusal: SharedRefusal) -> FarmFault {
 
 /// What a refused opening, look or closing of a SHARED folder ends a run with.
 pub fn shared_fault(refusal: SharedRefusal) -> FarmFault
-    ensures { (result ≡ FarmFault.Memory) ↔ (refusal ≡ SharedRefusal.OutOfMemory) }
+    ensures { result ≡ of_shared refusal }
 {
     match refusal {
         SharedRefusal::OutOfMemory => FarmFault::Memory,

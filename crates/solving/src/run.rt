@@ -1,7 +1,9 @@
 //! A run of one executor, on a board to which nobody else comes.
-ghost use Rattle.std.specs.Prelude.{◌≡◌, All, IfOk, IfSome, OnOk, None};
+ghost use Rattle.std.specs.Prelude.{◌≡◌, ◌++◌, List, All, IfOk, IfSome, OnOk, OnErr, None};
 ghost use Rattle.farm_base.specs.declared.want.Want.{Want as SpecWant};
+ghost use Rattle.executions.specs.Left.{FolderEdits};
 ghost use Rattle.executions.specs.Live.{files_in};
+ghost use Rattle.solving.specs.Batches.{batches_of, with_batches};
 ghost use Rattle.solving.specs.Leases.{IsReplyTo};
 ghost use Rattle.solving.specs.Places.{IsSeenIn};
 
@@ -227,7 +229,10 @@ pub fn apply_shared(
     ticket: Ticket,
     key: Key,
     edits: Items<(FolderName, Items<Edit>)>,
-) -> Result<(), FarmFault> {
+) -> Result<(), FarmFault>
+    ensures ok { OnOk result (live.new ≡ with_batches (batches_of ticket edits) live.old) }
+    ensures err { OnErr result ((front : List FolderEdits) × (rest : List FolderEdits) × (edits ≡ front ++ rest) × (live.new ≡ with_batches (batches_of ticket front) live.old)) }
+{
     for (folder, edits) in edits.into_vec() {
         if matches!(folder.mode, Mode::Shared) {
             match live.apply(alloc, ticket, &folder, edits.into_vec()) {

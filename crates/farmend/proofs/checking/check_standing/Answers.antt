@@ -8,7 +8,7 @@ use Rattle.protocol.specs.Replay.{Farm}
 use Rattle.saverecord.specs.Texts.{whole_alone}
 use Rattle.saverecord.specs.Logs.{Holds}
 use Rattle.farmend.specs.Receipts.{StandsOn, tickets_of}
-use Rattle.farmend.proofs.ReplayLemmas.{farm_same, commits_same}
+use Rattle.farmboard.proofs.ReplayLemmas.{farm_same, commits_same}
 use Rattle.farmend.proofs.checking.check_standing.Goals as goal
 
 pub returns-clause-stands : goal.returns-clause-stands

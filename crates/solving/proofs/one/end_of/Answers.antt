@@ -3,8 +3,8 @@ use Rattle.protocol.specs.declared.event.Event.{Event}
 use Rattle.schedule.specs.declared.setup.Setup.{Setup}
 use Rattle.farmboard.specs.Counts.{counts_of}
 use Rattle.farmboard.specs.declared.counts.Counts.{Counts}
-use Rattle.farmend.specs.Replays.{replayed}
-use Rattle.farmend.proofs.ReplayLemmas.{counts_of-replayed}
+use Rattle.farmboard.specs.Replays.{replayed}
+use Rattle.farmboard.proofs.ReplayLemmas.{counts_of-replayed}
 use Rattle.solving.proofs.one.end_of.Goals as goal
 
 pub returns-clause-replay : goal.returns-clause-replay

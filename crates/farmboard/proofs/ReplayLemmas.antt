@@ -5,7 +5,7 @@ use Rattle.schedule.specs.declared.setup.Setup.{Setup}
 use Rattle.farmboard.specs.History.{History, farm_of}
 use Rattle.farmboard.specs.Counts.{counts_of, commits_of}
 use Rattle.farmboard.specs.declared.counts.Counts.{Counts}
-use Rattle.farmend.specs.Replays.{replayed, farm_after, commits_after}
+use Rattle.farmboard.specs.Replays.{replayed, farm_after, commits_after}
 
 -- what was skipped doesn't count
 pub counts_of-replayed : (h : History) → counts_of (replayed h.setup h.events) ≡ counts_of h
