@@ -16,11 +16,16 @@ pub fn text(alloc: Global, text: &str) -> Result<Text, AllocError> {
     Ok(Text::new(String::from_str(alloc, text)?))
 }
 
-/// For each byte the digest of 32 of it.
+/// The digest that is 32 times this byte.
+pub fn digest_of(byte: u8) -> Digest {
+    Digest([byte; 32])
+}
+
+/// The digest of each byte.
 pub fn digests(alloc: Global, bytes: &[u8]) -> Result<Vec<Digest>, AllocError> {
     let mut digests = Vec::with_capacity(alloc, bytes.len())?;
     for byte in bytes {
-        digests.push(Digest([*byte; 32]))?;
+        digests.push(digest_of(*byte))?;
     }
     Ok(digests)
 }
@@ -125,13 +130,19 @@ fn result_of(alloc: Global, op: &[u8]) -> Result<Vec<u8>, Fail> {
     Ok(entry)
 }
 
+/// Appends entries to a definition.
+fn put_entries(definition: &mut Vec<u8>, entries: &[Vec<u8>]) -> Result<(), AllocError> {
+    for entry in entries {
+        put_bytes(definition, 1, entry)?;
+    }
+    Ok(())
+}
+
 /// The definition of some ops, of which the last gives the result.
 fn definition_of(alloc: Global, ops: &[Vec<u8>]) -> Result<Vec<u8>, Fail> {
     let result = result_of(alloc, ops.last().ok_or("no op")?)?;
     let mut bytes = Vec::new(alloc);
-    for op in ops {
-        put_bytes(&mut bytes, 1, op)?;
-    }
+    put_entries(&mut bytes, ops)?;
     put_bytes(&mut bytes, 1, &result)?;
     Ok(bytes)
 }

@@ -1,8 +1,8 @@
 //! Calls of jobs that share one table of keys. What they answer was worked out by hand; the digests of the ops are
 //! Python's hashlib's.
 
-use super::build::{digests, load};
-use farm_base::{Digest, Key};
+use super::build::{digest_of, digests, load};
+use farm_base::Key;
 use jobs::{Answer, Cause, Fault, JobId, Jobs};
 use std::alloc::{AllocError, Global};
 use std::test::Fail;
@@ -113,7 +113,7 @@ impl Play {
         let Some(task) = self.jobs.take_ready(alloc)? else {
             return Ok(false);
         };
-        let digest = input.map(|byte| Digest([byte; 32]));
+        let digest = input.map(digest_of);
         Ok(self.keys.get(place) == Some(&task.key) && task.inputs.first() == digest.as_ref())
     }
 
@@ -170,7 +170,7 @@ impl Play {
 /// The answer of a job that has this output, or waits.
 fn answer_of(output: Option<u8>) -> Answer {
     match output {
-        Some(byte) => Answer::Output(Digest([byte; 32])),
+        Some(byte) => Answer::Output(digest_of(byte)),
         None => Answer::Waiting,
     }
 }

@@ -1,6 +1,6 @@
 //! Orders of entries, worked out by hand.
 
-use super::build::digests;
+use super::build::{digest_of, digests};
 use farm_base::Digest;
 use std::alloc::{AllocError, Global};
 use std::test::Fail;
@@ -38,7 +38,7 @@ fn entries_of(
 ) -> Result<Vec<(Digest, Vec<Digest>)>, AllocError> {
     let mut entries = Vec::new(alloc);
     for (byte, inputs) in row {
-        entries.push((Digest([*byte; 32]), digests(alloc, *inputs)?))?;
+        entries.push((digest_of(*byte), digests(alloc, *inputs)?))?;
     }
     Ok(entries)
 }
