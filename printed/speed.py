@@ -5,8 +5,8 @@ usage: [FARMCTL=PROGRAM] [SMALLER=N] printed/speed.py [replay] [save] [events] [
 
 Without words it measures all. Without FARMCTL it is the program that the gate builds; SMALLER divides the sizes, to try a build that isn't
 proved. A time is that of a processor, the system's included, less that of the same command on the least input; of nine runs, in turn
-with those that they are compared with, the fastest counts. Hashing is the program's own: what `check` takes longer for a vertex of 12 MiB
-than to read these bytes.
+with those that they are compared with, the fastest counts. Hashing is the program's own: what `check` takes longer for a vertex of 12 MiB with an
+input, which it hashes twice, than to read these bytes.
 """
 from __future__ import annotations
 
@@ -446,8 +446,8 @@ def diamonds(count: int) -> Definition:
 
 def block_seconds(room: Room) -> float:
     """The seconds in which the program hashes a block."""
-    made = Definition()
-    made.add(field(3, bytes(12 * MEBIBYTE // SMALLER)), [])
+    made = chain(1)
+    made.add(field(3, bytes(12 * MEBIBYTE // SMALLER)), made.digests)
     refused = fastest([["check", room.file(made.unread())]], 1)[0]
     return (fastest([["check", room.file(made.data())]])[0] - refused) / made.blocks
 
