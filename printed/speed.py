@@ -5,8 +5,8 @@ usage: [FARMCTL=PROGRAM] [SMALLER=N] printed/speed.py [replay] [save] [events] [
 
 Without words it measures all. Without FARMCTL it is the program that the gate builds; SMALLER divides the sizes, to try a build that isn't
 proved. A time is that of a processor, the system's included, less that of the same command on the least input; of nine runs, in turn
-with those that they are compared with, the fastest counts. Hashing is the program's own: what `check` takes longer for a vertex of 12 MiB with an
-input, which it hashes twice, than to read these bytes.
+with those that they are compared with, the fastest counts. Hashing is the program's own: what `check` takes longer for a vertex of 12 MiB
+with an input, which it hashes twice, than to read these bytes.
 """
 from __future__ import annotations
 
