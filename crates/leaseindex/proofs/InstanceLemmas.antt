@@ -4,9 +4,9 @@ use Rattle.std.specs.Prelude.{All, replicate}
 use Rattle.std.specs.Int.{bit_at, bit_not, trailing_ones, w64}
 use Rattle.std.specs.Int.RustNames.{bit_or}
 use lib.Bits.{bit_and}
-use Rattle.std.proofs.lemmas.Bool.{cases_eq, cases_lt, ne_eqb}
+use Rattle.std.proofs.lemmas.Bool.{cases_eq, cases_lt, ne_eqb, true≢false}
 use Rattle.std.proofs.lemmas.List.{get_or-set_same, get_or-set_other, length-set}
-use Rattle.std.proofs.lemmas.Nat.Bits.{bit_at-lt, bit_at-zero, bit_at_ones, bit_at_or, bit_at_set_same, bit_at_set_other, bit_at_clear_same, bit_at_clear_other, bit_at-trailing_ones}
+use Rattle.std.proofs.lemmas.Nat.Bits.{bit_at-lt, bit_at-zero, same_from_bits_below, bit_at_ones, bit_at_or, bit_at_set_same, bit_at_set_other, bit_at_clear_same, bit_at_clear_other, bit_at-trailing_ones}
 use Rattle.std.proofs.Math.ListN.{get_or-eq_default}
 use Rattle.leaseindex.specs.Instances.{bit_in}
 
@@ -104,6 +104,17 @@ bit_is words i k j b is below at =
     let word : i / 64 ≡ k = omega arith in
     let bit : i % 64 ≡ j = omega arith in
     (λ z. eqb (bit_at (get_or words (word z) 0) (bit z)) 1) ∙ ap (λ (n : ℕ). eqb n 1) at
+
+bit_is_zero : (b : ℕ) → b < 2 → eqb b 1 ≡ false → b ≡ 0
+bit_is_zero zero below other = refl
+bit_is_zero (suc zero) below other = absurd (true≢false other)
+bit_is_zero (suc (suc b)) below other = absurd (omega arith)
+
+-- a word of a set without bits is 0
+pub zero_word : (words : List ℕ) (k : ℕ) → get_or words k 0 < 2 ^ 64 → ((i : ℕ) → bit_in words i ≡ false) → get_or words k 0 ≡ 0
+zero_word words k below none = same_from_bits_below 64 (get_or words k 0) 0 below (omega arith) (λ j inside.
+    let bit : ℕ = bit_at (get_or words k 0) j in
+    bit_is_zero bit (bit_at-lt (get_or words k 0) j) (sym (bit_is words (64 * k + j) k j bit refl inside refl) ∙ none (64 * k + j)) ∙ sym (bit_at-zero j))
 
 -- the lowest bit that a word lacks
 pub bit_in-missing : (words : List ℕ) (k i : ℕ) → get_or words k 0 + 1 < 2 ^ 64 → i ≡ 64 * k + trailing_ones w64 (get_or words k 0) → bit_in words i ≡ false

@@ -1,6 +1,5 @@
 //! A set of a folder's instances.
-ghost use Rattle.std.specs.Prelude.{◌≡◌, ◌==◌, ℕ, ◌<◌, ◌≤◌, ◌&&◌, ◌||◌, true, false, not};
-ghost use Rattle.std.specs.Bool.{OnTrue};
+ghost use Rattle.std.specs.Prelude.{◌≡◌, ◌↔◌, ◌==◌, ℕ, ◌<◌, ◌≤◌, ◌&&◌, ◌||◌, true, false, not};
 ghost use Rattle.farm_base.specs.declared.limits.TheConstants.{INSTANCES};
 ghost use Rattle.leaseindex.specs.Instances.{has};
 
@@ -53,9 +52,14 @@ impl Instances {
 
     /// Whether it has no instance.
     pub fn is_empty(&self) -> bool
-        ensures { OnTrue result ((i : ℕ) → has self.now i ≡ false) }
+        ensures { (result ≡ true) ↔ ((i : ℕ) → has self.now i ≡ false) }
     {
-        self.words.iter().all(|word| *word == 0)
+        for word in self.words.iter() {
+            if *word != 0 {
+                return false;
+            }
+        }
+        true
     }
 
     /// The lowest number that is not in it.

@@ -1,4 +1,4 @@
-use Rattle.std.proofs.Common.{Bool, ◌&&◌, not, Some, None, eqb, sym, ◌∙◌, ap, rules}
+use Rattle.std.proofs.Common.{Bool, ◌&&◌, not, Some, None, eqb, refl, sym, ◌∙◌, ap, rules}
 use Rattle.leaseindex.specs.Instances.{has_of, instances_of}
 use Rattle.leaseindex.proofs.TakenLemmas.{taken-remove, taken-missing}
 use Rattle.leaseindex.proofs.taken_instances.TakenInstances.remove.Goals as goal
@@ -6,7 +6,7 @@ use Rattle.leaseindex.proofs.taken_instances.TakenInstances.remove.Goals as goal
 pub returns-then-is_empty-clause-free : goal.returns-then-is_empty-clause-free
 returns-then-is_empty-clause-free c f i to =
     taken-remove c.args.self.now.by_folder c.swap_remove.new.self c.args.folder.now f None c.args.instance i c.swap_remove.ensures.updates.0
-    (sym (c.if-is_empty.ensures i) ∙ c.remove.ensures i to ∙ ap (λ (b : Bool). not (eqb c.args.instance i) && b) (c.of-instances.ensures i))
+    (sym (c.if-is_empty.ensures.0 refl i) ∙ c.remove.ensures i to ∙ ap (λ (b : Bool). not (eqb c.args.instance i) && b) (c.of-instances.ensures i))
 
 pub returns-in-Some-clause-free : goal.returns-in-Some-clause-free
 returns-in-Some-clause-free c f i to =
