@@ -1,12 +1,13 @@
 //! The ends of tenures, whose folders are closed then.
 use super::common::Common;
-use super::locked_board::{Ends, LockedBoard, Stage};
+use super::locked_board::LockedBoard;
 use super::worker::push_receipt;
 use farm_base::{Content, FolderName, NodeId};
 use farmboard::{Finished, Receipt, Running, Settled, abandon_finished, abandon_running};
 use solving::{FarmFault, lefts_of, shared_fault};
 use std::alloc::Global;
 use std::sync::Wait;
+use tenures::{Ends, Stage};
 
 /// A tenure that ended and is not settled.
 pub(crate) struct Leaving {
@@ -83,7 +84,7 @@ pub(crate) fn end_next<R: Wait>(
     }
     let (running, content) = close(rt, common, node, &folder)?;
     let finished = finish(common.alloc, locked, running, content)?;
-    locked.stage(node, &folder, Stage::Ending);
+    locked.tenures.stage(node, &folder, Stage::Ending);
     leaving.push_reserved(Leaving {
         node,
         folder,
@@ -118,7 +119,7 @@ pub(crate) fn settle_next(
             return Ok(false);
         }
     };
-    locked.forget(node, &folder);
+    locked.tenures.forget(node, &folder);
     push_receipt(receipts, receipt)?;
     Ok(true)
 }

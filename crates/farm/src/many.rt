@@ -164,11 +164,7 @@ fn parts_of(common: Common) -> (Board, Vec<(NodeId, Keyed)>)
         waits: _,
         ended: _,
     } = common;
-    let LockedBoard {
-        board,
-        tenures: _,
-        recalled: _,
-    } = board.into_inner();
+    let LockedBoard { board, tenures: _ } = board.into_inner();
     (board, work.into_jobs())
 }
 

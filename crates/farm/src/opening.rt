@@ -13,6 +13,7 @@ use solving::{FarmFault, Work, jobs_fault, shared_folders};
 use std::alloc::{AllocError, Global};
 use std::sync::Mutex;
 use std::sync::atomic::{AtomicBool, AtomicU64};
+use tenures::Tenures;
 
 /// Where a job was submitted: its node, and its number there.
 #[derive(Clone, Copy)]
@@ -114,8 +115,7 @@ pub(crate) fn open(
 {
     let locked = LockedBoard {
         board,
-        tenures: Vec::new(alloc),
-        recalled: Vec::new(alloc),
+        tenures: Tenures::new(alloc),
     };
     let shares = !shared_folders(alloc, work.jobs())?.is_empty();
     Ok(Common {

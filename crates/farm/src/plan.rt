@@ -86,7 +86,7 @@ impl Plan {
         };
         if let FarmStep::Again(number) = &step {
             if let Some(ticket) = recall_in(&locked.board, *number) {
-                locked.recall(ticket)?;
+                locked.tenures.recall(ticket)?;
             }
         }
         is_done(locked.board.fault(alloc, step))

@@ -6,7 +6,7 @@ ghost use Rattle.farm.specs.Downs.{counted, ENOUGH, IsFailedRestart};
 use super::closing::{Leaving, abandon_all, end_next, settle_next};
 use super::common::Common;
 use super::down::DownCount;
-use super::locked_board::{Ends, LockedBoard};
+use super::locked_board::LockedBoard;
 use super::plan::Plan;
 use farm_base::NodeId;
 use farmboard::{BoardRefusal, FarmStep, Receipt};
@@ -14,6 +14,7 @@ use solving::{FarmFault, board_fault};
 use std::alloc::Global;
 use std::sync::Wait;
 use std::sync::atomic::Ordering;
+use tenures::Ends;
 
 /// How often in a row all is sent again where nobody can go on.
 const IDLE_ROUNDS: u32 = 1_000;

@@ -4,7 +4,7 @@ ghost use Rattle.std.specs.Prelude.{◌≡◌, IfOk, IfSome};
 ghost use Rattle.protocol.specs.Names.{tenure_wants};
 ghost use Rattle.solving.specs.Leases.{IsLeaseOf, IsReplyTo};
 
-use super::locked_board::{LockedBoard, Stage};
+use super::locked_board::LockedBoard;
 use super::worker::Worker;
 use farm_base::{FolderName, Left, Mode, Want, Wants, Why};
 use farmboard::{
@@ -13,6 +13,7 @@ use farmboard::{
 };
 use solving::{FarmFault, Lease, Reply, board_fault, tenure_of};
 use std::sync::Wait;
+use tenures::Stage;
 
 impl<R: Wait> Worker<'_, '_, R> {
     /// Delivers the messages, unless the router has to act first. The answer is the number of changes as of then: what is looked at
@@ -151,13 +152,19 @@ impl<R: Wait> Worker<'_, '_, R> {
     ) -> Result<Finished, FarmFault> {
         let mut locked = self.common.board.lock(self.rt);
         self.common.count_step();
-        locked.release(self.node, running.wants().as_slice());
+        locked
+            .tenures
+            .put_down(self.node, running.wants().as_slice());
         locked.finish(self.common.alloc, running, lefts)
     }
 
     /// The tenure of a folder is not to be had now.
     fn forget(&self, folder: &FolderName) {
-        self.common.board.lock(self.rt).forget(self.node, folder);
+        self.common
+            .board
+            .lock(self.rt)
+            .tenures
+            .forget(self.node, folder);
         self.common.note_step();
     }
 
@@ -192,6 +199,7 @@ impl<R: Wait> Worker<'_, '_, R> {
         self.common
             .board
             .lock(self.rt)
+            .tenures
             .stage(self.node, folder, stage);
         self.common.note_step();
         Ok(())
@@ -225,7 +233,12 @@ impl<R: Wait> Worker<'_, '_, R> {
     {
         for _ in self.rt.forever() {
             let seen = self.common.changes();
-            let held = self.common.board.lock(self.rt).is_in_use(self.node, folder);
+            let held = self
+                .common
+                .board
+                .lock(self.rt)
+                .tenures
+                .is_in_use(self.node, folder);
             if held {
                 return Ok(None);
             }
@@ -259,12 +272,13 @@ impl<R: Wait> Worker<'_, '_, R> {
         Ok(None)
     }
 
-    /// An execution of the node less uses the SHARED folders of these wants.
+    /// Counts off an execution of the node, which no longer uses the SHARED folders of these wants.
     pub(crate) fn release(&self, wants: &Wants) {
         self.common
             .board
             .lock(self.rt)
-            .release(self.node, wants.as_slice());
+            .tenures
+            .put_down(self.node, wants.as_slice());
         self.common.note_step();
     }
 

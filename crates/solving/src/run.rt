@@ -1,9 +1,8 @@
 //! A run of one executor, on a board to which nobody else comes.
-ghost use Rattle.std.specs.Prelude.{◌≡◌, ◌++◌, List, All, IfOk, IfSome, OnOk, OnErr, None};
+ghost use Rattle.std.specs.Prelude.{◌≡◌, All, IfOk, IfErr, IfSome, OnOk, None};
 ghost use Rattle.farm_base.specs.declared.want.Want.{Want as SpecWant};
-ghost use Rattle.executions.specs.Left.{FolderEdits};
 ghost use Rattle.executions.specs.Live.{files_in};
-ghost use Rattle.solving.specs.Batches.{batches_of, with_batches};
+ghost use Rattle.solving.specs.Batches.{batches_of, with_batches, IsStopped};
 ghost use Rattle.solving.specs.Leases.{IsReplyTo};
 ghost use Rattle.solving.specs.Places.{IsSeenIn};
 
@@ -231,7 +230,7 @@ pub fn apply_shared(
     edits: Items<(FolderName, Items<Edit>)>,
 ) -> Result<(), FarmFault>
     ensures ok { OnOk result (live.new ≡ with_batches (batches_of ticket edits) live.old) }
-    ensures err { OnErr result ((front : List FolderEdits) × (rest : List FolderEdits) × (edits ≡ front ++ rest) × (live.new ≡ with_batches (batches_of ticket front) live.old)) }
+    ensures err { IfErr result (IsStopped key ticket edits live.old live.new) }
 {
     for (folder, edits) in edits.into_vec() {
         if matches!(folder.mode, Mode::Shared) {
