@@ -42,7 +42,7 @@ enum Turn {
     Ends,
 }
 
-/// Routes until all workers have ended and all tenures are settled, or a fault stops all. The answer are the receipts of the tenures
+/// Routes until all workers have ended and all tenures are settled, or a fault stops all. Gives the receipts of the tenures
 /// that were settled by then.
 pub(crate) fn route<R: Wait>(rt: &R, alloc: Global, common: &Common, plan: Plan) -> Vec<Receipt> {
     let mut router = Router {

@@ -67,7 +67,7 @@ pub(crate) fn work<R: Wait, G: Gate>(
 }
 
 impl<R: Wait> Worker<'_, '_, R> {
-    /// Solves keys until none is left on the node, or a fault stops all. The answer are the receipts.
+    /// Solves keys until none is left on the node, or a fault stops all. Gives the receipts.
     fn work<G: Gate>(self, gate: &G, executor: &mut dyn Executor) -> Vec<Receipt> {
         let mut worker = self;
         if let Err(fault) = worker.solve_all(gate, executor) {
