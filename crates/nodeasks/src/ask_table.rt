@@ -26,9 +26,9 @@ pub struct AskTable {
     /// How many of the rows are of asks that are over.
     over: usize,
     pub all: AllAsks,
-    ghost counted: { made ≡ length all.asks },
+    pub ghost counted: { made ≡ length all.asks },
     ghost over_counted: { over ≡ row_endings rows.items },
-    ghost tied: { HaveRows all.asks 0 rows.items } by { HaveRows-prop all.asks 0 rows.items },
+    pub ghost tied: { HaveRows all.asks 0 rows.items } by { HaveRows-prop all.asks 0 rows.items },
 }
 
 /// How many asks more are over once one was or wasn't, and is or isn't.

@@ -11,7 +11,7 @@ use Rattle.farm_base.specs.Receivers.{receiver}
 use Rattle.protocol.specs.Farm.{farm_limits}
 use Rattle.farm_base.specs.declared.message.ToNode.{ToNode}
 use Rattle.farm_base.specs.declared.message.ToNode.TheVariants.{FromCoord, Fetch, Blob}
-use Rattle.farm_base.specs.declared.message.FromCoord as told
+use Rattle.farm_base.specs.declared.message.FromCoord as from_coord
 use Rattle.farm_base.specs.declared.message.FromCoord.TheVariants as coord
 use Rattle.protocol.specs.declared.answer.NodeRefusal.{NodeRefusal}
 use Rattle.protocol.specs.declared.answer.NodeRefusal.TheVariants.{OutOfMemory}
@@ -88,7 +88,7 @@ abbrev pub hearing : Place → Node → ToNode → NodeWork
 hearing at x m = if (receiver m).0 == at.node.0 then message_work at x m else nothing x
 
 -- the slots of the lease that the coordinator grants, none where it says something else
-abbrev pub slots_told : told.FromCoord → List GrantedSlot
+abbrev pub slots_told : from_coord.FromCoord → List GrantedSlot
 slots_told (coord.Granted g) = g.slots
 slots_told (coord.Committed n l t versions) = []
 slots_told (coord.Fenced n l t) = []
