@@ -9,11 +9,11 @@ use Rattle.folders.specs.contracts.folder.Folder as Folder
 use Rattle.farmboard.specs.contracts.tokens.Running as Running
 use Rattle.executions.specs.contracts.batch.Batch as Batch
 use Rattle.executions.specs.contracts.live_shared.Open as Open
-use Rattle.nodecore.specs.contracts.all_asks.AllAsks as AllAsks
-use Rattle.nodecore.specs.contracts.ask_row.AskRow as AskRow
-use Rattle.nodecore.specs.contracts.ask_table.AskTable as AskTable
+use Rattle.nodeasks.specs.contracts.all_asks.AllAsks as AllAsks
+use Rattle.nodeasks.specs.contracts.ask_row.AskRow as AskRow
+use Rattle.nodeasks.specs.contracts.ask_table.AskTable as AskTable
 use Rattle.nodecore.specs.contracts.stored.StoredContents as StoredContents
-use Rattle.nodecore.specs.contracts.ticket_index.TicketIndex as TicketIndex
+use Rattle.nodeasks.specs.contracts.ticket_index.TicketIndex as TicketIndex
 use Rattle.nodecore.specs.contracts.node_core.NodeCore as NodeCore
 use Rattle.saverecord.specs.contracts.keeper.MemoryKeeper as MemoryKeeper
 use Rattle.coordinator.specs.contracts.ledger.Ledger as Ledger

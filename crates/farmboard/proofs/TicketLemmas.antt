@@ -13,7 +13,7 @@ use Rattle.protocol.specs.declared.ask.KeptAsk.TheVariants.{Open, Holding, Runni
 use Rattle.protocol.specs.World.{World, Node, Act, Asks, Asks_tenure, Asks_again, Greets, Takes, Gives_back, Begins, Finishes, Gives_up, Sends_commit, Learns, Drops, Is_denied, Is_recalled, Is_recalled_running, Stores, Forgets, Asks_content, Sends_blob, Restarts, Stops, Move, Node_moves, Machine_moves, Machine_says, Fails, Recovers, Moves, Still, Then, start}
 use Rattle.protocol.specs.Safe.{Falling}
 use Rattle.protocol.proofs.Base.{put_same, put_other, in_one, in_left, in_append, nth_set_cases, nth_push_cases, some_is}
-use Rattle.nodecore.specs.Asks.{lease_in}
+use Rattle.nodeasks.specs.Asks.{lease_in}
 
 -- the leases of the asks were sent, each for its ask
 abbrev pub AreTold : List KeptAsk → List Message → Type 0

@@ -8,7 +8,7 @@ use Rattle.farm_base.specs.declared.message.Version.{Version}
 use Rattle.protocol.specs.declared.answer.How.{How}
 use Rattle.protocol.specs.declared.answer.How.TheVariants as how
 use Rattle.versions.specs.Line.{number_in}
-use Rattle.nodecore.specs.Asks.{way_out_of}
+use Rattle.nodeasks.specs.Asks.{way_out_of}
 use Rattle.farmboard.specs.declared.tokens.Finished.{Finished}
 use Rattle.farmboard.specs.declared.tokens.Settled.{Settled}
 use Rattle.farmboard.specs.declared.tokens.Settled.TheVariants.{Receipt, Fenced, Waiting, Lost}

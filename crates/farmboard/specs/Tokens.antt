@@ -7,9 +7,9 @@ use Rattle.protocol.specs.Machine.{Grant}
 use Rattle.protocol.specs.Replay.{Farm, is_node}
 use Rattle.farm_base.specs.declared.message.Why.{Why}
 use Rattle.protocol.specs.declared.answer.How.TheVariants as how
-use Rattle.nodecore.specs.Asks.{told_state}
-use Rattle.nodecore.specs.declared.message.AskState.{AskState}
-use Rattle.nodecore.specs.declared.message.AskState.TheVariants as state
+use Rattle.nodeasks.specs.Asks.{told_state}
+use Rattle.nodeasks.specs.declared.ask_state.AskState.{AskState}
+use Rattle.nodeasks.specs.declared.ask_state.AskState.TheVariants as state
 use Rattle.farmboard.specs.History.{History, farm_of}
 use Rattle.farmboard.specs.declared.tokens.Asked.{Asked}
 use Rattle.farmboard.specs.declared.tokens.Accept.{Accept}

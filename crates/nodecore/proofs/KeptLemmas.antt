@@ -5,9 +5,9 @@ use Rattle.farm_base.specs.Kinds.{is_tenure}
 use Rattle.protocol.specs.declared.answer.How.TheVariants as how
 use Rattle.protocol.specs.declared.answer.NodeNote.TheVariants as note
 use Rattle.nodecore.proofs.FirstLemmas.{FirstAt}
-use Rattle.nodecore.proofs.RowLemmas.{kept_at}
-use Rattle.nodecore.specs.declared.ask_row.AskRow.{AskRow}
-use Rattle.nodecore.specs.Rows.{HaveRows}
+use Rattle.nodeasks.proofs.RowLemmas.{kept_at}
+use Rattle.nodeasks.specs.declared.ask_row.AskRow.{AskRow}
+use Rattle.nodeasks.specs.Rows.{HaveRows}
 use Rattle.protocol.proofs.Base.{some_is}
 use Rattle.protocol.specs.declared.answer.How.{How}
 use Rattle.protocol.proofs.Moving.{held_is, running_is, either_is}
@@ -22,7 +22,7 @@ use Rattle.std.specs.declared.alloc.AllocError.{AllocError}
 use Rattle.nodecore.specs.declared.message.NodeDone.{NodeDone}
 use Rattle.nodecore.specs.Shown.{work_of, Does}
 use Rattle.protocol.specs.Nodes.{HeldGrant, in_use, held, running, held_or_running, recallable, recalled_if, denied, nothing, becomes, granted, gives_back, of_life, NodeWork, Place}
-use Rattle.nodecore.specs.Asks.{recalls, is_open, is_in_use}
+use Rattle.nodeasks.specs.Asks.{recalls, is_open, is_in_use}
 
 abbrev pub held_ask : HeldGrant → KeptAsk
 held_ask h = Holding h.wants h.grant h.recalled

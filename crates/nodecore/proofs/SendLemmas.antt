@@ -17,8 +17,7 @@ use Rattle.protocol.specs.declared.ask.KeptAsk.TheVariants.{Open, Holding, Runni
 use Rattle.protocol.specs.Nodes.{NodeWork, Place, Sent, nodes_from, fetches, fetches_of, is_missing, is_stored, is_base, gives_back, granted, learned, dropped, denied, recalled, first, finished, recallable, fetched, heard}
 use Rattle.farm_base.specs.declared.message.ToNode.{ToNode}
 use Rattle.farm_base.specs.declared.message.ToNode.TheVariants.{FromCoord as Told, Fetch, Blob}
-use Rattle.nodecore.specs.Shown.{message_work, granted_slots}
-use Rattle.nodecore.specs.Asks.{slots_told}
+use Rattle.nodecore.specs.Shown.{message_work, granted_slots, slots_told}
 use Rattle.nodecore.proofs.FetchLemmas.{fetches_slot, fetches_end, is_other}
 
 nodes_length : (i k : ℕ) → length (nodes_from i k) ≡ k

@@ -1,7 +1,7 @@
 -- How many asks a node holds. This project's own.
 use Rattle.std.specs.Prelude.{ℕ, ◌+◌, ◌*◌, ◌≤◌, length}
 use Rattle.nodecore.specs.declared.node_core.NodeCore.{NodeCore}
-use Rattle.nodecore.specs.Rows.{present_asks}
+use Rattle.nodeasks.specs.Rows.{present_asks}
 use Rattle.nodecore.specs.Shown.{shown}
 
 -- how many asks the node holds, present or over

@@ -11,12 +11,13 @@ use Rattle.farm_base.specs.Receivers.{receiver}
 use Rattle.protocol.specs.Farm.{farm_limits}
 use Rattle.farm_base.specs.declared.message.ToNode.{ToNode}
 use Rattle.farm_base.specs.declared.message.ToNode.TheVariants.{FromCoord, Fetch, Blob}
+use Rattle.farm_base.specs.declared.message.FromCoord as from_coord
+use Rattle.farm_base.specs.declared.message.FromCoord.TheVariants as coord
 use Rattle.protocol.specs.declared.answer.NodeRefusal.{NodeRefusal}
 use Rattle.protocol.specs.declared.answer.NodeRefusal.TheVariants.{OutOfMemory}
 use Rattle.nodecore.specs.declared.message.NodeDone.{NodeDone}
 use Rattle.nodecore.specs.declared.node_core.NodeCore.{NodeCore}
-use Rattle.nodecore.specs.Asks.{slots_told}
-use Rattle.nodecore.specs.Rows.{is_lost}
+use Rattle.nodeasks.specs.Rows.{is_lost}
 pub use Rattle.nodecore.specs.Stored.{store_in, known_in, learn_all}
 
 -- the base of a granted slot
@@ -85,6 +86,14 @@ message_work at x m = received content_digest farm_limits at m x
 -- what a message to a node makes this one do: nothing, where it is for another
 abbrev pub hearing : Place → Node → ToNode → NodeWork
 hearing at x m = if (receiver m).0 == at.node.0 then message_work at x m else nothing x
+
+-- the slots of the lease that the coordinator grants, none where it says something else
+abbrev pub slots_told : from_coord.FromCoord → List GrantedSlot
+slots_told (coord.Granted g) = g.slots
+slots_told (coord.Committed n l t versions) = []
+slots_told (coord.Fenced n l t) = []
+slots_told (coord.Denied n l a why) = []
+slots_told (coord.Recall n l t) = []
 
 -- the slots of the lease that the message grants, none where it grants no lease
 abbrev pub granted_slots : ToNode → List GrantedSlot

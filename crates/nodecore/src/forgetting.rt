@@ -3,14 +3,14 @@ ghost use Rattle.std.specs.Prelude.{◌≡◌, ◌≤◌, ◌⊎◌, length, tru
 ghost use Rattle.protocol.specs.Farm.{farm_limits};
 ghost use Rattle.protocol.specs.Nodes.{forgotten};
 ghost use Rattle.nodecore.specs.HeldAsks.{asks_held_by, IsFewHeld};
-ghost use Rattle.nodecore.specs.Rows.{endings_after};
+ghost use Rattle.nodeasks.specs.Rows.{endings_after};
 ghost use Rattle.nodecore.specs.Shown.{forgets, place, shown, Answers};
 
 use super::message::NodeDone;
 use super::node_core::NodeCore;
 use super::receive::silent;
-use super::scans::any_needs;
 use farm_base::{Digest, empty_digest};
+use nodeasks::any_needs;
 use protocol::{NodeNote, NodeRefusal};
 use std::alloc::Global;
 

@@ -2,12 +2,11 @@
 ghost use Rattle.std.specs.Prelude.{◌≡◌, Err, IfOk, IfErr, is_some, option_copied};
 ghost use Rattle.protocol.specs.Lists.{nth};
 ghost use Rattle.protocol.specs.Nodes.{begun, first, held, running};
-ghost use Rattle.nodecore.specs.Asks.{way_out_unless};
+ghost use Rattle.nodeasks.specs.Asks.{way_out_unless};
 
-use super::asks::{Sought, lease, way_out};
 use super::node_core::NodeCore;
-use super::scans::row_of;
 use farm_base::{Ask, Grant, Ticket};
+use nodeasks::{Sought, lease, row_of, way_out};
 use protocol::{How, NodeRefusal};
 
 impl NodeCore {

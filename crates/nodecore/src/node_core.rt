@@ -6,25 +6,25 @@ ghost use Rattle.protocol.specs.Nodes.{HeldGrant, first, held, finished_with, le
 ghost use Rattle.farm_base.specs.Contents.{content_digest};
 ghost use Rattle.protocol.specs.Farm.{farm_limits};
 ghost use Rattle.protocol.specs.declared.ask.KeptAsk.{KeptAsk};
-ghost use Rattle.nodecore.specs.declared.ask_row.AskRow.{AskRow};
-ghost use Rattle.nodecore.specs.Asks.{told_unless};
-ghost use Rattle.nodecore.specs.Rows.{has_row, none_lost};
+ghost use Rattle.nodeasks.specs.declared.ask_row.AskRow.{AskRow};
+ghost use Rattle.nodeasks.specs.Asks.{told_unless};
+ghost use Rattle.nodeasks.specs.Rows.{has_row, none_lost};
 ghost use Rattle.nodecore.specs.Stored.{kept_node, HaveOneDigestEach};
-ghost use Rattle.nodecore.specs.Tickets.{AreIndexed};
+ghost use Rattle.nodeasks.specs.Tickets.{AreIndexed};
 
-use super::ask_table::AskTable;
-use super::asks::{AskChange, Sought, slots, told};
 use super::contents::{fits, known_from, news_of};
 use super::kept::{KeptContents, ResumeRefusal, ToKeep};
-use super::message::{AskState, NodeDone};
-use super::scans::{at_home, has_tenure, in_use, row_of};
+use super::message::NodeDone;
 use super::stored::StoredContents;
-use super::ticket_index::TicketIndex;
 use farm_base::{
     Ask, Content, Copied, Digest, FolderName, GREATEST, GrantedSlot, Items, Left, Life, Message,
     Mode, NodeId, Request, Ticket, ToCoord, Version, Want, Wants,
 };
 use indexmap::IndexMap;
+use nodeasks::{
+    AskChange, AskState, AskTable, Sought, TicketIndex, at_home, has_tenure, in_use, row_of, slots,
+    told,
+};
 use protocol::{How, KeptAsk, NodeNote, NodeRefusal};
 use std::alloc::{AllocError, Global};
 

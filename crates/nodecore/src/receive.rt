@@ -2,21 +2,20 @@ ghost use Rattle.std.specs.Prelude.{◌≡◌, ◌+◌, ◌<◌, [], List, Bool,
 ghost use Rattle.protocol.specs.Names.{Want};
 ghost use Rattle.protocol.specs.Farm.{farm_limits};
 ghost use Rattle.protocol.specs.declared.ask.KeptAsk.{KeptAsk};
-ghost use Rattle.nodecore.specs.declared.ask_row.AskRow.{AskRow};
+ghost use Rattle.nodeasks.specs.declared.ask_row.AskRow.{AskRow};
 ghost use Rattle.protocol.specs.Lists.{nth};
 ghost use Rattle.protocol.specs.Nodes.{heard, unless_spent, brought, denied, dropped, fetched, finished, gives_back, granted, takes, learned, first, recallable, recalled};
 ghost use Rattle.farm_base.specs.Contents.{content_digest};
 ghost use Rattle.nodecore.specs.Shown.{forgets, shown, place, work_of, message_work, hearing, Does, Answers};
 
-use super::asks::{AskChange, Sought, is_open, keeps};
 use super::contents::{bases, confirmed, learn};
 use super::message::NodeDone;
 use super::node_core::NodeCore;
-use super::scans::{any_base, row_of};
 use farm_base::{
     Ask, Confirmed, Content, Copied, Digest, FromCoord, Grant, Items, Message, NodeId, Request,
     Ticket, ToNode, Why,
 };
+use nodeasks::{AskChange, Sought, any_base, is_open, keeps, row_of};
 use protocol::{How, NodeNote, NodeRefusal};
 use std::alloc::{AllocError, Global};
 

@@ -5,7 +5,7 @@ use Rattle.farm_base.specs.declared.message.FromCoord.{FromCoord}
 use Rattle.farm_base.specs.declared.message.FromCoord.TheVariants.{Granted, Committed, Fenced, Denied, Recall}
 use Rattle.farm_base.specs.declared.message.ToNode.TheVariants as to_node
 use Rattle.nodecore.specs.declared.message.NodeDone.{NodeDone}
-use Rattle.nodecore.specs.Rows.{endings_after}
+use Rattle.nodeasks.specs.Rows.{endings_after}
 use Rattle.nodecore.specs.Shown.{Answers, hearing}
 use Rattle.protocol.specs.declared.answer.NodeRefusal.{NodeRefusal}
 use Rattle.protocol.specs.Farm.{farm_limits}

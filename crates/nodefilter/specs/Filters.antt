@@ -5,7 +5,7 @@ use Rattle.farm_base.specs.declared.left.Left.{Left}
 use Rattle.farm_base.specs.declared.number.Ask.{Ask}
 use Rattle.farm_base.specs.declared.number.Ticket.{Ticket}
 use Rattle.nodecore.specs.declared.message.NodeDone.{NodeDone}
-use Rattle.nodecore.specs.Asks.{told_unless}
+use Rattle.nodeasks.specs.Asks.{told_unless}
 use Rattle.protocol.specs.declared.answer.NodeRefusal.{NodeRefusal}
 use Rattle.protocol.specs.Lists.{nth}
 use Rattle.services.specs.declared.lost.Lost.{Lost}

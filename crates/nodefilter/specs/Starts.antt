@@ -2,7 +2,7 @@
 use Rattle.std.specs.Prelude.{◌≡◌, ℕ, true, false, []}
 use Rattle.std.specs.String.{string_bytes}
 use Rattle.nodecore.specs.declared.message.NodeDone.{NodeDone}
-use Rattle.nodecore.specs.Rows.{none_lost}
+use Rattle.nodeasks.specs.Rows.{none_lost}
 use Rattle.nodecore.specs.Shown.{work_of}
 use Rattle.nodecore.specs.Stored.{kept_node}
 use Rattle.protocol.specs.Farm.{farm_limits}

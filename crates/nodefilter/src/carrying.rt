@@ -1,7 +1,7 @@
 //! Calls that are carried out.
 ghost use Rattle.std.specs.Prelude.{◌≡◌, ◌≤◌, ◌⊎◌, ◌∷◌, ℕ, [], true, false, map, Some, None, IfOk, OnOk, OnErr};
 ghost use Rattle.farm_base.specs.Contents.{content_digest};
-ghost use Rattle.nodecore.specs.Rows.{endings_after};
+ghost use Rattle.nodeasks.specs.Rows.{endings_after};
 ghost use Rattle.nodecore.specs.Shown.{forgets, shown, place, Answers};
 ghost use Rattle.nodelines.specs.declared.order.Call.{Call};
 ghost use Rattle.nodefilter.specs.Carried.{node_answer, brought_by, forgotten_by, about_told, about_call, CarriesOut};

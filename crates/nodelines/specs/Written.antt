@@ -6,8 +6,8 @@ use Rattle.farm_base.specs.declared.number.Ask.{Ask}
 use Rattle.words.specs.Words.{ticket_text, digits_text, why_text}
 use Rattle.farmwire.specs.Lines.{ask_text, confirmed_text, grant_words}
 use Rattle.farmwire.specs.Words.{spaced}
-use Rattle.nodecore.specs.declared.message.AskState.{AskState}
-use Rattle.nodecore.specs.declared.message.AskState.TheVariants as state
+use Rattle.nodeasks.specs.declared.ask_state.AskState.{AskState}
+use Rattle.nodeasks.specs.declared.ask_state.AskState.TheVariants as state
 use Rattle.nodecore.specs.declared.message.NodeDone.{NodeDone}
 use Rattle.protocol.specs.declared.answer.How.{How}
 use Rattle.protocol.specs.declared.answer.How.TheVariants as how

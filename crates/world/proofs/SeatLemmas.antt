@@ -19,7 +19,7 @@ use Rattle.farm_base.specs.Contents.{content_digest}
 use Rattle.farm_base.specs.Receivers.{receiver}
 use Rattle.farm_base.specs.declared.message.ToNode.{ToNode}
 use Rattle.nodecore.specs.declared.node_core.NodeCore.{NodeCore}
-use Rattle.nodecore.specs.Rows.{none_lost}
+use Rattle.nodeasks.specs.Rows.{none_lost}
 use Rattle.nodecore.specs.Shown.{forgets, shown, place, work_of, message_work, hearing, Answers}
 use Rattle.world.specs.Tables.{node_at, shown_or_first, seat, IsSeated, AreSeated, AreFirstOf, AreFirst, OnlyNode, Restarts}
 

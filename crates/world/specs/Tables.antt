@@ -10,7 +10,7 @@ use Rattle.nodecore.specs.declared.node_core.NodeCore.{NodeCore}
 use Rattle.protocol.specs.declared.answer.NodeRefusal.{NodeRefusal}
 use Rattle.protocol.specs.declared.answer.NodeRefusal.TheVariants as refusal
 use Rattle.nodecore.specs.declared.message.NodeDone.{NodeDone}
-use Rattle.nodecore.specs.Rows.{none_lost}
+use Rattle.nodeasks.specs.Rows.{none_lost}
 use Rattle.nodecore.specs.Shown.{forgets, shown, place, work_of}
 use Rattle.world.specs.declared.call.Call.{Call}
 use Rattle.world.specs.declared.call.Call.TheVariants as call

@@ -1,7 +1,7 @@
 //! The nodes of a farm, by their numbers.
 ghost use Rattle.std.specs.Prelude.{◌≡◌, ◌+◌, ◌<◌, length, IfOk, IfSome, IfNone, is_some};
 ghost use Rattle.protocol.specs.Nodes.{unless_spent};
-ghost use Rattle.nodecore.specs.Rows.{none_lost};
+ghost use Rattle.nodeasks.specs.Rows.{none_lost};
 ghost use Rattle.nodecore.specs.Shown.{forgets, shown, place, message_work, Answers};
 ghost use Rattle.farm_base.specs.Receivers.{receiver};
 ghost use Rattle.world.specs.Tables.{node_at, has, seat, called, AreSeated, AreFirst, OnlyNode, Restarts};

@@ -8,7 +8,7 @@ ghost use Rattle.protocol.specs.Follows.{SafeAfter, SafeBetween};
 ghost use Rattle.coordinator.specs.Held.{ledger};
 ghost use Rattle.saverecord.specs.Logs.{saved_in};
 ghost use Rattle.nodecore.specs.Shown as core;
-ghost use Rattle.nodecore.specs.Rows.{none_lost};
+ghost use Rattle.nodeasks.specs.Rows.{none_lost};
 ghost use Rattle.world.specs.Meanings.{MeansAsTold, GrantsAtOnce, AnswersAsks};
 ghost use Rattle.world.specs.Parts.{shown_parts};
 ghost use Rattle.world.specs.Setups.{IsSetup};

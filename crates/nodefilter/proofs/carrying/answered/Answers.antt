@@ -1,5 +1,5 @@
 use Rattle.std.proofs.Common.{ℕ, ◌≤◌, Bool, inl, inr, ap, sym, subst, ◌∙◌}
-use Rattle.nodecore.specs.Rows.{endings_after}
+use Rattle.nodeasks.specs.Rows.{endings_after}
 use Rattle.protocol.specs.World.{Node}
 use Rattle.nodefilter.proofs.carrying.answered.Goals as goal
 

@@ -1,8 +1,8 @@
 use Rattle.std.proofs.Common.{◌≡◌, IfOk, Option, inr, option_map, refl, subst}
 use Rattle.std.specs.String.{string_bytes}
-use Rattle.nodecore.specs.Asks.{told_unless}
+use Rattle.nodeasks.specs.Asks.{told_unless}
 use Rattle.nodecore.specs.Shown.{forgets, shown}
-use Rattle.nodecore.specs.declared.message.AskState.{AskState}
+use Rattle.nodeasks.specs.declared.ask_state.AskState.{AskState}
 use Rattle.protocol.specs.Lists.{nth}
 use Rattle.services.proofs.SentLemmas.{or_lost, lost_text}
 use Rattle.nodefilter.specs.Filters.Follows.{Tells}

@@ -1,5 +1,5 @@
 use Rattle.std.proofs.Common.{option_map, ap, ◌∙◌}
-use Rattle.nodecore.specs.Asks.{told_unless}
+use Rattle.nodeasks.specs.Asks.{told_unless}
 use Rattle.protocol.specs.Lists.{nth}
 use Rattle.protocol.specs.Replay.{Farm}
 use Rattle.farmboard.specs.Tokens.{state_of}

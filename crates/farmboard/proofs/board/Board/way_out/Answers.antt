@@ -1,5 +1,5 @@
 use Rattle.std.proofs.Common.{ap, ◌∙◌}
-use Rattle.nodecore.specs.Asks.{way_out_unless}
+use Rattle.nodeasks.specs.Asks.{way_out_unless}
 use Rattle.protocol.specs.Lists.{nth}
 use Rattle.protocol.specs.Replay.{Farm}
 use Rattle.farmboard.specs.Settling.{way_out_in}

@@ -1,6 +1,6 @@
 use Rattle.std.proofs.Common.{◌≡◌, ◌+◌, true, false, refl, ap, sym, ◌∙◌, arith}
 use Rattle.protocol.specs.Nodes.{held_or_running, in_use}
-use Rattle.nodecore.specs.Asks.{is_in_use}
+use Rattle.nodeasks.specs.Asks.{is_in_use}
 use Rattle.nodecore.specs.Shown.{shown, place}
 use Rattle.nodecore.proofs.FirstLemmas.{FirstAt, some_first, none_first}
 use Rattle.nodecore.proofs.KeptLemmas.{held_or_running_at, kept_is}

@@ -2,11 +2,11 @@ use Rattle.std.proofs.Common.{◌≡◌, ◌∷◌, [], ◌++◌, List, length, 
 use Rattle.std.proofs.lemmas.Option.{slice_get_read, slice_get_within}
 use Rattle.protocol.specs.Farm.{farm_limits}
 use Rattle.protocol.specs.Machine.{Message, hello}
-use Rattle.nodecore.specs.declared.ask_row.AskRow.{AskRow}
+use Rattle.nodeasks.specs.declared.ask_row.AskRow.{AskRow}
 use Rattle.nodecore.specs.Shown.{place, shown}
 use Rattle.nodecore.proofs.MapLemmas.{drop_end}
-use Rattle.nodecore.proofs.RowLemmas.{kept_at}
-use Rattle.nodecore.proofs.ScanLemmas.{again_rows, all_again_rows}
+use Rattle.nodeasks.proofs.RowLemmas.{kept_at}
+use Rattle.nodecore.proofs.AgainLemmas.{again_rows, all_again_rows}
 use Rattle.nodecore.proofs.node_core.NodeCore.all_again.Goals as goal
 
 pub prove-unreachable-requires : goal.prove-unreachable-requires

@@ -2,7 +2,7 @@ use Rattle.std.proofs.Common.{◌≡◌, ◌++◌, ◌∷◌, drop}
 use Rattle.protocol.specs.Farm.{farm_limits}
 use Rattle.protocol.specs.Machine.{hello}
 use Rattle.nodecore.specs.Shown.{place, shown}
-use Rattle.nodecore.proofs.ScanLemmas.{again_rows}
+use Rattle.nodecore.proofs.AgainLemmas.{again_rows}
 use Rattle.nodecore.proofs.node_core.NodeCore.all_again.Given as goal
 
 abbrev pub invariant-loop-row : goal.invariant-loop-row

@@ -1,9 +1,9 @@
 use Rattle.std.proofs.Common.{◌≡◌, Some, ap, sym, ◌∙◌, option_map}
 use Rattle.std.proofs.lemmas.Option.{get_or_from_slice_get}
-use Rattle.nodecore.specs.declared.ask_row.AskRow.{AskRow}
-use Rattle.nodecore.specs.Asks.{told_state, told_unless}
-use Rattle.nodecore.proofs.AskLemmas.{ask_at}
-use Rattle.nodecore.proofs.LostLemmas.{row_told}
+use Rattle.nodeasks.specs.declared.ask_row.AskRow.{AskRow}
+use Rattle.nodeasks.specs.Asks.{told_state, told_unless}
+use Rattle.nodeasks.proofs.AskLemmas.{ask_at}
+use Rattle.nodeasks.proofs.LostLemmas.{row_told}
 use Rattle.nodecore.proofs.node_core.NodeCore.ask_state.Goals as goal
 
 pub returns : goal.returns

@@ -1,5 +1,5 @@
 use Rattle.std.proofs.Common.{arith}
-use Rattle.nodecore.proofs.RowLemmas.{rows_few}
+use Rattle.nodeasks.proofs.RowLemmas.{rows_few}
 use Rattle.nodecore.proofs.node_core.NodeCore.asks_held.Goals as goal
 
 pub returns : goal.returns

@@ -7,16 +7,16 @@ use Rattle.protocol.specs.declared.ask.KeptAsk.TheVariants.{Over}
 use Rattle.protocol.specs.Nodes.{denied, becomes}
 use Rattle.protocol.specs.declared.answer.How.TheVariants as how
 use Rattle.protocol.specs.declared.answer.NodeNote.TheVariants as note
-use Rattle.nodecore.specs.declared.ask_row.AskRow.{AskRow}
-use Rattle.nodecore.specs.Asks.{is_open}
+use Rattle.nodeasks.specs.declared.ask_row.AskRow.{AskRow}
+use Rattle.nodeasks.specs.Asks.{is_open}
 use Rattle.nodecore.specs.Shown.{shown, work_of}
-use Rattle.nodecore.specs.Tickets.{AreIndexed}
-use Rattle.nodecore.proofs.AskLemmas.{ask_at}
+use Rattle.nodeasks.specs.Tickets.{AreIndexed}
+use Rattle.nodeasks.proofs.AskLemmas.{ask_at}
 use Rattle.nodecore.proofs.KeptLemmas.{none_denied, not_denied, is_denied}
 use Rattle.nodecore.proofs.NodeLemmas.{becomes_now}
-use Rattle.nodecore.proofs.RowLemmas.{kept_at}
-use Rattle.nodecore.proofs.ScanLemmas.{nth_without}
-use Rattle.nodecore.proofs.TicketLemmas.{indexed_changed, ends_all}
+use Rattle.nodeasks.proofs.RowLemmas.{kept_at}
+use Rattle.nodeasks.proofs.ScanLemmas.{nth_without}
+use Rattle.nodeasks.proofs.TicketLemmas.{indexed_changed, ends_all}
 use Rattle.nodecore.proofs.node_core.NodeCore.deny.Goals as goal
 
 pub returns-in_default-clause-work : goal.returns-in_default-clause-work

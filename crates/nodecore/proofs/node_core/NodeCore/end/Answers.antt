@@ -3,10 +3,10 @@ use Rattle.std.proofs.lemmas.Option.{slice_get_read}
 use Rattle.protocol.specs.declared.ask.KeptAsk.{KeptAsk}
 use Rattle.protocol.specs.declared.ask.KeptAsk.TheVariants.{Over}
 use Rattle.nodecore.specs.Shown.{shown}
-use Rattle.nodecore.specs.Tickets.{AreIndexed}
+use Rattle.nodeasks.specs.Tickets.{AreIndexed}
 use Rattle.nodecore.proofs.NodeLemmas.{becomes_now}
-use Rattle.nodecore.proofs.RowLemmas.{kept_at}
-use Rattle.nodecore.proofs.TicketLemmas.{indexed_released}
+use Rattle.nodeasks.proofs.RowLemmas.{kept_at}
+use Rattle.nodeasks.proofs.TicketLemmas.{indexed_released}
 use Rattle.nodecore.proofs.node_core.NodeCore.end.Goals as goal
 
 pub returns-clause-shown : goal.returns-clause-shown

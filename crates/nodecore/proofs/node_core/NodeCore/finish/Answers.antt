@@ -1,6 +1,6 @@
 use Rattle.std.proofs.Common.{◌≡◌, ◌+◌, List, true, false, refl, ap, sym, ◌∙◌, rules, arith}
 use Rattle.protocol.specs.Nodes.{running, in_use}
-use Rattle.nodecore.specs.Asks.{is_in_use, slots_in}
+use Rattle.nodeasks.specs.Asks.{is_in_use, slots_in}
 use Rattle.farm_base.specs.Contents.{content_digest}
 use Rattle.protocol.specs.Machine.{GrantedSlot, slots_of, written}
 use Rattle.protocol.specs.Names.{slots_eq}

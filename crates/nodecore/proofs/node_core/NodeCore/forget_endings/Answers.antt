@@ -1,6 +1,6 @@
 use Rattle.std.proofs.Common.{arith}
 use Rattle.std.proofs.lemmas.Bool.Decides.{nat_tests}
-use Rattle.nodecore.proofs.CountLemmas.{rows_counted}
+use Rattle.nodeasks.proofs.CountLemmas.{rows_counted}
 use Rattle.nodecore.proofs.node_core.NodeCore.forget_endings.Goals as goal
 
 pub returns-then-not-is_due-clause-few : goal.returns-then-not-is_due-clause-few

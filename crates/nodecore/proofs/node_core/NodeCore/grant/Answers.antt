@@ -6,12 +6,12 @@ use Rattle.protocol.specs.World.{keeps}
 use Rattle.protocol.specs.declared.ask.KeptAsk.{KeptAsk}
 use Rattle.protocol.specs.declared.ask.KeptAsk.TheVariants.{Open}
 use Rattle.protocol.specs.Nodes.{granted}
-use Rattle.nodecore.specs.declared.ask_row.AskRow.{AskRow}
-use Rattle.nodecore.specs.Asks.{is_open}
+use Rattle.nodeasks.specs.declared.ask_row.AskRow.{AskRow}
+use Rattle.nodeasks.specs.Asks.{is_open}
 use Rattle.nodecore.specs.Shown.{shown, place, work_of, Does}
-use Rattle.nodecore.proofs.AskLemmas.{ask_at}
+use Rattle.nodeasks.proofs.AskLemmas.{ask_at}
 use Rattle.nodecore.proofs.KeptLemmas.{open_is, granted_kept, none_granted, does_ok}
-use Rattle.nodecore.proofs.ScanLemmas.{nth_without}
+use Rattle.nodeasks.proofs.ScanLemmas.{nth_without}
 use Rattle.nodecore.proofs.node_core.NodeCore.grant.Goals as goal
 
 pub returns-in_default-clause-work : goal.returns-in_default-clause-work

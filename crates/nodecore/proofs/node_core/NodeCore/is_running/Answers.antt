@@ -1,7 +1,7 @@
 use Rattle.std.proofs.Common.{◌∙◌}
 use Rattle.protocol.specs.Nodes.{running}
 use Rattle.nodecore.proofs.FirstLemmas.{picked}
-use Rattle.nodecore.proofs.ScanLemmas.{same_some}
+use Rattle.nodeasks.proofs.ScanLemmas.{same_some}
 use Rattle.nodecore.proofs.node_core.NodeCore.is_running.Goals as goal
 
 pub returns : goal.returns

@@ -2,7 +2,7 @@ use Rattle.std.proofs.Common.{◌≡◌, ◌+◌, true, false, Option, None, Som
 use Rattle.std.specs.Option.{option_copied}
 use Rattle.protocol.specs.Machine.{Grant}
 use Rattle.protocol.specs.Nodes.{held, all_stored}
-use Rattle.nodecore.specs.Asks.{lease_in}
+use Rattle.nodeasks.specs.Asks.{lease_in}
 use Rattle.nodecore.specs.Shown.{shown}
 use Rattle.nodecore.proofs.FirstLemmas.{FirstAt, some_first, none_first}
 use Rattle.nodecore.proofs.KeptLemmas.{held_ask, held_at, read_row}

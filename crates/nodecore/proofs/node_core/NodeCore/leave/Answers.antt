@@ -7,14 +7,14 @@ use Rattle.protocol.specs.Machine.{News, commit}
 use Rattle.protocol.specs.declared.ask.KeptAsk.{KeptAsk}
 use Rattle.protocol.specs.declared.ask.KeptAsk.TheVariants.{Finished}
 use Rattle.protocol.specs.Nodes.{Left, news_of, stored}
-use Rattle.nodecore.specs.declared.ask_row.AskRow.{AskRow}
-use Rattle.nodecore.specs.Asks.{ends_with}
+use Rattle.nodeasks.specs.declared.ask_row.AskRow.{AskRow}
+use Rattle.nodeasks.specs.Asks.{ends_with}
 use Rattle.nodecore.specs.Shown.{shown, place, store_in}
-use Rattle.nodecore.specs.Tickets.{AreIndexed}
+use Rattle.nodeasks.specs.Tickets.{AreIndexed}
 use Rattle.nodecore.proofs.KeptLemmas.{any_row}
 use Rattle.nodecore.proofs.NodeLemmas.{left_work, set_at}
-use Rattle.nodecore.proofs.RowLemmas.{kept_at}
-use Rattle.nodecore.proofs.TicketLemmas.{indexed_changed, ends_less}
+use Rattle.nodeasks.proofs.RowLemmas.{kept_at}
+use Rattle.nodeasks.proofs.TicketLemmas.{indexed_changed, ends_less}
 use Rattle.nodecore.proofs.node_core.NodeCore.leave.Goals as goal
 
 pub returns-clause-work : goal.returns-clause-work

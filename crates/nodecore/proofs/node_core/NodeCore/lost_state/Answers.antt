@@ -1,7 +1,7 @@
 use Rattle.std.proofs.Common.{◌∙◌, sym}
 use Rattle.protocol.specs.Lists.{nth}
-use Rattle.nodecore.specs.Rows.{has_row}
-use Rattle.nodecore.proofs.LostLemmas.{lost_told, none_told}
+use Rattle.nodeasks.specs.Rows.{has_row}
+use Rattle.nodeasks.proofs.LostLemmas.{lost_told, none_told}
 use Rattle.nodecore.proofs.node_core.NodeCore.lost_state.Goals as goal
 
 pub returns-then-has_made : goal.returns-then-has_made

@@ -4,14 +4,14 @@ use Rattle.protocol.specs.World.{Node}
 use Rattle.protocol.specs.Nodes.{recalled, recallable}
 use Rattle.protocol.specs.declared.answer.NodeNote.TheVariants as note
 use Rattle.protocol.specs.declared.ask.KeptAsk.{KeptAsk}
-use Rattle.nodecore.specs.Asks.{recalls}
+use Rattle.nodeasks.specs.Asks.{recalls}
 use Rattle.nodecore.specs.Shown.{shown, work_of}
-use Rattle.nodecore.specs.Tickets.{AreIndexed}
+use Rattle.nodeasks.specs.Tickets.{AreIndexed}
 use Rattle.nodecore.proofs.FirstLemmas.{FirstAt, some_first, none_first}
 use Rattle.nodecore.proofs.KeptLemmas.{recalls_is}
 use Rattle.nodecore.proofs.NodeLemmas.{becomes_now}
-use Rattle.nodecore.proofs.RowLemmas.{kept_at}
-use Rattle.nodecore.proofs.TicketLemmas.{indexed_changed, recalls_less}
+use Rattle.nodeasks.proofs.RowLemmas.{kept_at}
+use Rattle.nodeasks.proofs.TicketLemmas.{indexed_changed, recalls_less}
 use Rattle.nodecore.proofs.node_core.NodeCore.recall.Goals as goal
 
 pub returns-in_default-clause-work : goal.returns-in_default-clause-work

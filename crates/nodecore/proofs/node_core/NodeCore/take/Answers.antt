@@ -8,13 +8,13 @@ use Rattle.protocol.specs.declared.ask.KeptAsk.{KeptAsk}
 use Rattle.protocol.specs.declared.ask.KeptAsk.TheVariants.{Holding}
 use Rattle.protocol.specs.Nodes.{fetches}
 use Rattle.protocol.specs.declared.answer.NodeNote.TheVariants as note
-use Rattle.nodecore.specs.Asks.{holds}
+use Rattle.nodeasks.specs.Asks.{holds}
 use Rattle.nodecore.specs.Shown.{shown, place, base_of, known_in, learn_all}
-use Rattle.nodecore.specs.Tickets.{may_have, AreIndexed}
+use Rattle.nodeasks.specs.Tickets.{may_have, AreIndexed}
 use Rattle.nodecore.proofs.MapLemmas.{bases_learned, same_known}
 use Rattle.nodecore.proofs.NodeLemmas.{set_at}
-use Rattle.nodecore.proofs.RowLemmas.{kept_at}
-use Rattle.nodecore.proofs.TicketLemmas.{indexed_held, indexed_more, indexed_same, noted_here, noted_more}
+use Rattle.nodeasks.proofs.RowLemmas.{kept_at}
+use Rattle.nodeasks.proofs.TicketLemmas.{indexed_held, indexed_more, indexed_same, noted_here, noted_more}
 use Rattle.nodecore.proofs.node_core.NodeCore.take.Goals as goal
 
 pub returns-clause-work : goal.returns-clause-work

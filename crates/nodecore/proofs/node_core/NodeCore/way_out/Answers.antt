@@ -1,11 +1,11 @@
 use Rattle.std.proofs.Common.{◌≡◌, ap, sym, ◌∙◌}
 use Rattle.std.proofs.lemmas.Option.{get_or_from_slice_get}
 use Rattle.protocol.specs.Lists.{nth}
-use Rattle.nodecore.specs.declared.ask_row.AskRow.{AskRow}
-use Rattle.nodecore.specs.Asks.{way_out, way_out_unless}
-use Rattle.nodecore.specs.Rows.{has_row}
-use Rattle.nodecore.proofs.AskLemmas.{ask_at}
-use Rattle.nodecore.proofs.LostLemmas.{row_told, none_out}
+use Rattle.nodeasks.specs.declared.ask_row.AskRow.{AskRow}
+use Rattle.nodeasks.specs.Asks.{way_out, way_out_unless}
+use Rattle.nodeasks.specs.Rows.{has_row}
+use Rattle.nodeasks.proofs.AskLemmas.{ask_at}
+use Rattle.nodeasks.proofs.LostLemmas.{row_told, none_out}
 use Rattle.nodecore.proofs.node_core.NodeCore.way_out.Goals as goal
 
 pub returns-in_default : goal.returns-in_default

@@ -1,0 +1,4 @@
+pub mod Asks
+pub mod RowProps
+pub mod Rows
+pub mod Tickets

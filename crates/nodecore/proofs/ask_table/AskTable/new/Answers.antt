@@ -1,8 +1,0 @@
-use Rattle.std.proofs.Common.{List, ap, ◌∙◌}
-use Rattle.protocol.specs.declared.ask.KeptAsk.{KeptAsk}
-use Rattle.nodecore.specs.Rows.{is_lost}
-use Rattle.nodecore.proofs.LostLemmas.{none_lost_at}
-use Rattle.nodecore.proofs.ask_table.AskTable.new.Goals as goal
-
-pub returns-clause-told : goal.returns-clause-told
-returns-clause-told c = ap (λ (asks : List KeptAsk). is_lost asks c.new.result.items) c.new-2.ensures ∙ none_lost_at c.new.result.items
