@@ -15,6 +15,7 @@ mod open_folders;
 mod opening;
 mod plan;
 mod router;
+mod signals;
 mod threads;
 mod worker;
 mod worker_steps;

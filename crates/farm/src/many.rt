@@ -137,7 +137,7 @@ fn told_of<R: Wait>(
 ) -> Result<Told, FarmFault>
     ensures { IfOk result (λ told. map (λ each. each.place) told.causes.items ≡ failed_in told.answers.items) }
 {
-    if let Some(fault) = *common.fault.lock(rt) {
+    if let Some(fault) = common.signals.fault(rt) {
         return Err(fault);
     }
     let answers = answers_of(rt, alloc, common, numbers)?;
@@ -154,15 +154,7 @@ fn parts_of(common: Common) -> (Board, Vec<(NodeId, Keyed)>)
         board,
         nodes: _,
         work,
-        fault: _,
-        stop: _,
-        changes: _,
-        calls: _,
-        shares: _,
-        due: _,
-        steps: _,
-        waits: _,
-        ended: _,
+        signals: _,
     } = common;
     let LockedBoard { board, tenures: _ } = board.into_inner();
     (board, work.into_jobs())

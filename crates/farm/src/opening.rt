@@ -1,10 +1,10 @@
 //! What the threads of a farm share, as they begin.
 ghost use Rattle.std.specs.Prelude.{◌≡◌, IfOk};
 
-use super::bell::Bell;
 use super::common::Common;
 use super::locked_board::LockedBoard;
 use super::node_state::NodeState;
+use super::signals::Signals;
 use farm_base::NodeId;
 use farmboard::Board;
 use jobs::{JobId, Jobs};
@@ -12,7 +12,6 @@ use solverkeys::Keyed;
 use solving::{FarmFault, Work, jobs_fault, shared_folders};
 use std::alloc::{AllocError, Global};
 use std::sync::Mutex;
-use std::sync::atomic::{AtomicBool, AtomicU64};
 use tenures::Tenures;
 
 /// Where a job was submitted: its node, and its number there.
@@ -93,15 +92,6 @@ fn states_of(alloc: Global, tables: Vec<Jobs>) -> Result<Vec<NodeState>, AllocEr
     Ok(states)
 }
 
-/// What each worker waits for: nothing, at first.
-fn waits_of(alloc: Global, workers: usize) -> Result<Vec<AtomicU64>, AllocError> {
-    let mut waits = Vec::with_capacity(alloc, workers)?;
-    for _ in 0..workers {
-        waits.push(AtomicU64::new(0))?;
-    }
-    Ok(waits)
-}
-
 /// What this number of workers share. From `due` events on the router has to act before a message is delivered.
 pub(crate) fn open(
     alloc: Global,
@@ -123,14 +113,6 @@ pub(crate) fn open(
         board: Mutex::new(locked),
         nodes: states_of(alloc, tables)?,
         work,
-        fault: Mutex::new(None),
-        stop: AtomicBool::new(false),
-        changes: Bell::new(),
-        calls: Bell::new(),
-        shares,
-        due: AtomicU64::new(due),
-        steps: AtomicU64::new(0),
-        waits: waits_of(alloc, workers)?,
-        ended: AtomicU64::new(0),
+        signals: Signals::new(alloc, workers, shares, due)?,
     })
 }

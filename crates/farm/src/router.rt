@@ -13,7 +13,6 @@ use farmboard::{BoardRefusal, FarmStep, Receipt};
 use solving::{FarmFault, board_fault};
 use std::alloc::Global;
 use std::sync::Wait;
-use std::sync::atomic::Ordering;
 use tenures::Ends;
 
 /// How often in a row all is sent again where nobody can go on.
@@ -54,7 +53,7 @@ pub(crate) fn route<R: Wait>(rt: &R, alloc: Global, common: &Common, plan: Plan)
         downs: DownCount::new(),
     };
     if let Err(fault) = router.run(rt, common) {
-        common.fail(rt, fault);
+        common.signals.fail(rt, fault);
     }
     let Router {
         plan: _,
@@ -71,12 +70,12 @@ pub(crate) fn route<R: Wait>(rt: &R, alloc: Global, common: &Common, plan: Plan)
 impl Router {
     fn run<R: Wait>(&mut self, rt: &R, common: &Common) -> Result<(), FarmFault> {
         for _ in rt.forever() {
-            let called = common.calls.rings();
-            common.go_on()?;
-            let changes = common.changes();
+            let called = common.signals.calls();
+            common.signals.go_on()?;
+            let changes = common.signals.changes();
             match self.turn(rt, common, changes)? {
-                Turn::Acted => common.note_change(),
-                Turn::Waits => common.calls.wait(rt, called),
+                Turn::Acted => common.signals.note_change(),
+                Turn::Waits => common.signals.wait_for_call(rt, called),
                 Turn::Ends => return Ok(()),
             }
         }
@@ -89,10 +88,10 @@ impl Router {
         if self.act(rt, common, &mut locked)? {
             return Ok(Turn::Acted);
         }
-        if common.all_ended() && locked.tenures.is_empty() {
+        if common.signals.all_ended() && locked.tenures.is_empty() {
             return Ok(Turn::Ends);
         }
-        if !common.all_wait(changes) || common.changes() != changes {
+        if !common.signals.all_wait(changes) || common.signals.changes() != changes {
             return Ok(Turn::Waits);
         }
         self.send_again(common, &mut locked)?;
@@ -113,7 +112,7 @@ impl Router {
         if self.disturb(rt, common, locked)? {
             return Ok(true);
         }
-        let ends = if common.all_ended() {
+        let ends = if common.signals.all_ended() {
             Ends::All
         } else {
             Ends::Recalled
@@ -137,7 +136,7 @@ impl Router {
             }
         }
         let disturbed = self.plan.next(common.alloc, locked);
-        common.await_step(self.plan.next_due());
+        common.signals.await_step(self.plan.next_due());
         disturbed
     }
 
@@ -164,7 +163,7 @@ impl Router {
     /// Makes each node and the coordinator send again what is open. `Stalled` where that was done too often in a row,
     /// and no worker made a step in between.
     fn send_again(&mut self, common: &Common, locked: &mut LockedBoard) -> Result<(), FarmFault> {
-        let steps = common.steps.load(Ordering::SeqCst);
+        let steps = common.signals.steps();
         if steps != self.steps {
             self.steps = steps;
             self.rounds = 0;

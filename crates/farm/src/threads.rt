@@ -32,13 +32,13 @@ pub(crate) fn run_threads<R: Threads + Wait + Sync, G: Gate, S: Shared>(
         let mut children: Vec<JoinHandle<WorkerEnd>> = Vec::new(alloc);
         for (worker, hired) in executors.into_iter().enumerate() {
             if children.reserve(1).is_err() {
-                shared.common().fail(rt, FarmFault::Memory);
+                shared.common().signals.fail(rt, FarmFault::Memory);
                 break;
             }
             match scope.spawn(move || work(rt, alloc, shared.common(), gate, worker, hired)) {
                 Ok(child) => children.push_reserved(child),
                 Err(_) => {
-                    shared.common().fail(rt, FarmFault::NoThread);
+                    shared.common().signals.fail(rt, FarmFault::NoThread);
                     break;
                 }
             }
@@ -47,7 +47,7 @@ pub(crate) fn run_threads<R: Threads + Wait + Sync, G: Gate, S: Shared>(
         let mut workers = Vec::new(alloc);
         for child in children {
             if workers.push(child.join(rt)).is_err() {
-                shared.common().fail(rt, FarmFault::Memory);
+                shared.common().signals.fail(rt, FarmFault::Memory);
             }
         }
         Ends { workers, receipts }

@@ -58,11 +58,11 @@ pub(crate) fn work<R: Wait, G: Gate>(
             worker.work(gate, &mut *executor)
         }
         None => {
-            common.fail(rt, FarmFault::ReceiptLost);
+            common.signals.fail(rt, FarmFault::ReceiptLost);
             Vec::new(alloc)
         }
     };
-    common.end(number);
+    common.signals.end(number);
     WorkerEnd { executor, receipts }
 }
 
@@ -71,7 +71,7 @@ impl<R: Wait> Worker<'_, '_, R> {
     fn work<G: Gate>(self, gate: &G, executor: &mut dyn Executor) -> Vec<Receipt> {
         let mut worker = self;
         if let Err(fault) = worker.solve_all(gate, executor) {
-            worker.common.fail(worker.rt, fault);
+            worker.common.signals.fail(worker.rt, fault);
         }
         let Worker {
             rt: _,
@@ -92,12 +92,12 @@ impl<R: Wait> Worker<'_, '_, R> {
     ) -> Result<(), FarmFault> {
         let common = self.common;
         for _ in self.rt.forever() {
-            common.go_on()?;
-            let seen = common.changes();
+            common.signals.go_on()?;
+            let seen = common.signals.changes();
             let next = self.state.jobs.lock(self.rt).next(common.alloc)?;
             match next {
                 Next::Solve(task) => solve(self, gate, &common.work, executor, task)?,
-                Next::Wait => common.pause(self.rt, self.number, seen)?,
+                Next::Wait => common.signals.pause(self.rt, self.number, seen)?,
                 Next::End => return Ok(()),
             }
         }
@@ -115,12 +115,12 @@ impl<R: Wait> Ground for Worker<'_, '_, R> {
     }
 
     fn go_on(&self) -> Result<(), FarmFault> {
-        self.common.go_on()
+        self.common.signals.go_on()
     }
 
     fn ask(&mut self, wants: &Wants) -> Result<Reply, FarmFault> {
         for _ in self.rt.forever() {
-            self.common.go_on()?;
+            self.common.signals.go_on()?;
             if let Some(why) = self.hold_tenures(wants.as_slice())? {
                 return Ok(Reply::Denied(why));
             }
@@ -161,7 +161,7 @@ impl<R: Wait> Ground for Worker<'_, '_, R> {
     }
 
     fn give_up(&mut self, running: Running) -> Result<(), FarmFault> {
-        self.common.count_step();
+        self.common.signals.count_step();
         self.common
             .board
             .lock(self.rt)
@@ -169,7 +169,7 @@ impl<R: Wait> Ground for Worker<'_, '_, R> {
     }
 
     fn give_up_last(&mut self, running: Running) -> Result<(), FarmFault> {
-        self.common.count_step();
+        self.common.signals.count_step();
         let mut locked = self.common.board.lock(self.rt);
         locked.give_up(self.common.alloc, running)?;
         let _seen = self.deliver(&mut locked)?;
@@ -178,13 +178,13 @@ impl<R: Wait> Ground for Worker<'_, '_, R> {
 
     fn done(&mut self, key: Key, outputs: Vec<Digest>) -> Result<(), FarmFault> {
         let noted = self.state.jobs.lock(self.rt).done(key, outputs);
-        self.common.note_step();
+        self.common.signals.note_step();
         noted
     }
 
     fn failed(&mut self, key: Key, fault: Fault) -> Result<(), FarmFault> {
         let noted = self.state.jobs.lock(self.rt).failed(key, fault);
-        self.common.note_step();
+        self.common.signals.note_step();
         noted
     }
 }

@@ -19,10 +19,10 @@ impl<R: Wait> Worker<'_, '_, R> {
     /// Delivers the messages, unless the router has to act first. The answer is the number of changes as of then: what is looked at
     /// in the same hold of the lock stands as it is until there is one more.
     pub(crate) fn deliver(&self, locked: &mut LockedBoard) -> Result<u64, FarmFault> {
-        if locked.deliver_all(self.common.alloc, self.common.due())? {
-            self.common.note_change();
+        if locked.deliver_all(self.common.alloc, self.common.signals.due())? {
+            self.common.signals.note_change();
         }
-        Ok(self.common.changes())
+        Ok(self.common.signals.changes())
     }
 
     /// Waits until an ask is granted or denied. None where its node restarted.
@@ -51,7 +51,7 @@ impl<R: Wait> Worker<'_, '_, R> {
                     return Err(board_fault(refusal));
                 }
             }
-            if let Err(fault) = self.common.pause(self.rt, self.number, seen) {
+            if let Err(fault) = self.common.signals.pause(self.rt, self.number, seen) {
                 abandon_asked(asked);
                 return Err(fault);
             }
@@ -61,7 +61,7 @@ impl<R: Wait> Worker<'_, '_, R> {
 
     /// Gives a lease back that the node no longer has.
     fn give_back(&self, locked: &mut LockedBoard, granted: Granted) -> Result<(), FarmFault> {
-        self.common.count_step();
+        self.common.signals.count_step();
         locked.give_back(self.common.alloc, granted)
     }
 
@@ -87,7 +87,7 @@ impl<R: Wait> Worker<'_, '_, R> {
                     return Ok(None);
                 }
             }
-            if let Err(fault) = self.common.pause(self.rt, self.number, seen) {
+            if let Err(fault) = self.common.signals.pause(self.rt, self.number, seen) {
                 abandon_granted(granted);
                 return Err(fault);
             }
@@ -103,7 +103,7 @@ impl<R: Wait> Worker<'_, '_, R> {
     ) -> Result<Option<Running>, FarmFault>
         ensures { IfOk result (λ begun. IfSome begun (λ running. running.wants ≡ granted.wants)) }
     {
-        self.common.count_step();
+        self.common.signals.count_step();
         match locked.board.begin(self.common.alloc, granted) {
             Ok(running) => Ok(Some(running)),
             Err((granted, BoardRefusal::Event(_))) => {
@@ -136,7 +136,7 @@ impl<R: Wait> Worker<'_, '_, R> {
                 Settled::Fenced | Settled::Lost => return Ok(None),
                 Settled::Waiting(token) => finished = token,
             }
-            if let Err(fault) = self.common.pause(self.rt, self.number, seen) {
+            if let Err(fault) = self.common.signals.pause(self.rt, self.number, seen) {
                 abandon_finished(finished);
                 return Err(fault);
             }
@@ -151,7 +151,7 @@ impl<R: Wait> Worker<'_, '_, R> {
         lefts: Vec<Left>,
     ) -> Result<Finished, FarmFault> {
         let mut locked = self.common.board.lock(self.rt);
-        self.common.count_step();
+        self.common.signals.count_step();
         locked
             .tenures
             .put_down(self.node, running.wants().as_slice());
@@ -165,7 +165,7 @@ impl<R: Wait> Worker<'_, '_, R> {
             .lock(self.rt)
             .tenures
             .forget(self.node, folder);
-        self.common.note_step();
+        self.common.signals.note_step();
     }
 
     /// Takes a tenure that was asked for into use. None where the node restarted.
@@ -201,7 +201,7 @@ impl<R: Wait> Worker<'_, '_, R> {
             .lock(self.rt)
             .tenures
             .stage(self.node, folder, stage);
-        self.common.note_step();
+        self.common.signals.note_step();
         Ok(())
     }
 
@@ -232,7 +232,7 @@ impl<R: Wait> Worker<'_, '_, R> {
         requires { folder.now.mode ≡ Mode.Shared }
     {
         for _ in self.rt.forever() {
-            let seen = self.common.changes();
+            let seen = self.common.signals.changes();
             let held = self
                 .common
                 .board
@@ -248,10 +248,10 @@ impl<R: Wait> Worker<'_, '_, R> {
                 .lock(self.rt)
                 .ask_tenure(self.common.alloc, self.node, folder)?;
             let Some(asked) = asked else {
-                self.common.pause(self.rt, self.number, seen)?;
+                self.common.signals.pause(self.rt, self.number, seen)?;
                 continue;
             };
-            self.common.note_step();
+            self.common.signals.note_step();
             if let Some(why) = self.take_tenure(folder, asked)? {
                 return Ok(Some(why));
             }
@@ -279,7 +279,7 @@ impl<R: Wait> Worker<'_, '_, R> {
             .lock(self.rt)
             .tenures
             .put_down(self.node, wants.as_slice());
-        self.common.note_step();
+        self.common.signals.note_step();
     }
 
     /// Asks for a lease and waits for it. None where it is to be asked for again.
@@ -292,7 +292,7 @@ impl<R: Wait> Worker<'_, '_, R> {
             .lock(self.rt)
             .ask(self.common.alloc, self.node, wants)?;
         let Some(asked) = asked else {
-            self.common.note_change();
+            self.common.signals.note_change();
             return Ok(None);
         };
         match self.settle_ask(asked)? {
