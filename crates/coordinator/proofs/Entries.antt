@@ -30,8 +30,8 @@ use Rattle.saverecord.specs.Logs.{Follows, IsSaved}
 use Rattle.saverecord.specs.Logs.{is_ended}
 use Rattle.saverecord.proofs.FoldLemmas.{above_all}
 use Rattle.saverecord.proofs.LedgerLemmas.{all_from_in, line_in, none_from_in}
-use Rattle.coordinator.specs.Shown.{lines_with}
-use Rattle.coordinator.specs.Sound.{IsRightful}
+use Rattle.drafts.specs.Shown.{lines_with}
+use Rattle.drafts.specs.Sound.{IsRightful}
 use Rattle.coordinator.proofs.Recording.{own_tickets}
 use Rattle.coordinator.proofs.Records.{up_to}
 

@@ -7,7 +7,7 @@ use Rattle.protocol.specs.declared.answer.CoordRefusal.{CoordRefusal}
 use Rattle.protocol.specs.Ledger.{Work, Saved, saves, reads}
 use Rattle.saverecord.specs.Logs.{Holds, saved_in}
 use Rattle.saverecord.specs.Texts.{Texts}
-use Rattle.coordinator.specs.Held.{Held, ledger}
+use Rattle.drafts.specs.Held.{Held, ledger}
 use Rattle.coordinator.specs.Seen.{Seen, IsKeeping}
 use Rattle.coordinator.specs.Keeping.{kept_with, kept_with_some}
 use Rattle.coordinator.specs.Settling.{Answers, Saves, SavesIf, SettlesWhile, Settles}

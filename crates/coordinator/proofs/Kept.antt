@@ -18,9 +18,9 @@ use Rattle.protocol.proofs.Answering.{fitting_ask_is_granted}
 use Rattle.protocol.proofs.Base.{any_in}
 use Rattle.versions.specs.declared.lines.Added.{Added}
 use Rattle.versions.specs.declared.lines.SlotLine.{SlotLine}
-use Rattle.coordinator.specs.Held.{line_at}
-use Rattle.coordinator.specs.Shown.{lines_with}
-use Rattle.coordinator.specs.Idle.{AreHeldUp}
+use Rattle.drafts.specs.Held.{line_at}
+use Rattle.drafts.specs.Shown.{lines_with}
+use Rattle.drafts.specs.Idle.{AreHeldUp}
 use Rattle.coordinator.specs.Promises.{OnlyGrow, asked, granted, GrantsAtOnce}
 
 -- what a commit adds leaves all before it

@@ -1,16 +1,4 @@
-pub mod StateWords
-pub mod Drafting
-pub mod Trying
-pub mod TryingAll
-pub mod SoundWords
 pub mod Kept
-pub mod Sends
-pub mod OwnCalls
-pub mod Prunes
-pub mod OwnSends
-pub mod HeldUp
-pub mod IdleWords
-pub mod SpentWords
 pub mod Recording
 pub mod Rightful
 pub mod Records

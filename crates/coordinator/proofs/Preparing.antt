@@ -4,17 +4,17 @@ use Rattle.std.specs.Vec.{vec_capacity}
 use Rattle.protocol.specs.Ledger.{Work}
 use Rattle.versions.specs.Additions.{IsReady}
 use Rattle.versions.specs.Lines.{room_needed}
-use Rattle.coordinator.specs.declared.draft.Draft.{Draft}
-use Rattle.coordinator.specs.declared.effects.Effects.{Effects}
-use Rattle.coordinator.specs.declared.effects.Prepared.{Prepared}
-use Rattle.coordinator.specs.declared.state.State.{State}
-use Rattle.coordinator.specs.Held.{ledger}
-use Rattle.coordinator.specs.Keeps.{held}
+use Rattle.drafts.specs.declared.draft.Draft.{Draft}
+use Rattle.drafts.specs.declared.effects.Effects.{Effects}
+use Rattle.drafts.specs.declared.effects.Prepared.{Prepared}
+use Rattle.drafts.specs.declared.state.State.{State}
+use Rattle.drafts.specs.Held.{ledger}
+use Rattle.drafts.specs.Keeps.{held}
 use Rattle.coordinator.specs.Prepared.{IsPrepared}
 use Rattle.coordinator.specs.Promises.{ChangesAsTold}
-use Rattle.coordinator.specs.Shown.{work, work_of}
-use Rattle.coordinator.specs.Sound.{IsRightful}
-use Rattle.coordinator.proofs.Drafting.{on-state, over}
+use Rattle.drafts.specs.Shown.{work, work_of}
+use Rattle.drafts.specs.Sound.{IsRightful}
+use Rattle.drafts.proofs.Drafting.{on-state, over}
 
 -- a draft's effects with room for what they add to the lines, where they may be saved
 pub prepared : (s : State) (d : Draft) (p : Prepared) → d.base.now ≡ s → p.effects ≡ d.effects → p.room.items ≡ [] → room_needed d.base.now.lines d.effects.value.added ≤ vec_capacity p.room

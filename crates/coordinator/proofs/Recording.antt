@@ -12,7 +12,7 @@ use Rattle.protocol.proofs.Base.{all_in}
 use Rattle.protocol.proofs.Saving as saving
 use Rattle.protocol.proofs.Saving.{Apart}
 use Rattle.protocol.proofs.Owning.{handled_keeps}
-use Rattle.coordinator.specs.Sound.{IsSound}
+use Rattle.drafts.specs.Sound.{IsSound}
 use Rattle.coordinator.specs.Promises.{EndsOnlyItsOwn, ChangesAsTold}
 use Rattle.holdings.proofs.LeaseLemmas.{AllPairs-head, AllPairs-tail}
 

@@ -23,7 +23,7 @@ use Rattle.saverecord.specs.Logs.{Holds, saved_by, saved_in}
 use Rattle.saverecord.specs.Texts.{Texts}
 use Rattle.saverecord.proofs.FoldLemmas.{pairs_of}
 use Rattle.saverecord.proofs.LedgerLemmas.{all_from_in}
-use Rattle.coordinator.specs.Sound.{IsRightful}
+use Rattle.drafts.specs.Sound.{IsRightful}
 use Rattle.leaseindex.proofs.EndedLemmas.{leases-filter}
 
 -- versions up to a ticket are so up to a higher one

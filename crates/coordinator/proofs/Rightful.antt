@@ -11,10 +11,10 @@ use Rattle.protocol.specs.Lawful.{IsNumber, IsSaid, IsLawfulWork}
 use Rattle.protocol.specs.Farm.{farm_limits}
 use Rattle.protocol.specs.Lawful as lawful
 use Rattle.protocol.proofs.Lawfulness.{every_ledger_stays_lawful}
-use Rattle.coordinator.specs.Sound.{IsSound, IsRightful, IsRequest}
-use Rattle.coordinator.specs.Idle.{AreHeldUp}
-use Rattle.coordinator.proofs.HeldUp.{handled-held, withdrawn-held, retired-held, pruned-held}
-use Rattle.coordinator.proofs.SoundWords.{sound-handled}
+use Rattle.drafts.specs.Sound.{IsSound, IsRightful, IsRequest}
+use Rattle.drafts.specs.Idle.{AreHeldUp}
+use Rattle.drafts.proofs.HeldUp.{handled-held, withdrawn-held, retired-held, pruned-held}
+use Rattle.drafts.proofs.SoundWords.{sound-handled}
 
 -- the wants of an Acquire are wants
 request_of : (r : Request) → lawful.IsRequest r → IsRequest r

@@ -1,10 +1,6 @@
-pub mod Held
-pub mod Idle
+pub use Rattle.drafts.specs.Held
 pub mod Keeping
-pub mod Keeps
 pub mod Prepared
 pub mod Promises
 pub mod Seen
 pub mod Settling
-pub mod Shown
-pub mod Sound

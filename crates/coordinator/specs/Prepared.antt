@@ -3,11 +3,11 @@ use Rattle.std.specs.Prelude.{◌≡◌, ◌≤◌, [], Ok}
 use Rattle.std.specs.Vec.{vec_capacity}
 use Rattle.versions.specs.Additions.{IsReady}
 use Rattle.versions.specs.Lines.{room_needed}
-use Rattle.coordinator.specs.declared.effects.Prepared.{Prepared}
-use Rattle.coordinator.specs.Held.{Held, ledger}
+use Rattle.drafts.specs.declared.effects.Prepared.{Prepared}
+use Rattle.drafts.specs.Held.{Held, ledger}
 use Rattle.coordinator.specs.Promises.{ChangesAsTold}
-use Rattle.coordinator.specs.Shown.{work_of}
-use Rattle.coordinator.specs.Sound.{IsRightful}
+use Rattle.drafts.specs.Shown.{work_of}
+use Rattle.drafts.specs.Sound.{IsRightful}
 
 -- what the event comes to can be saved and applied to what is held
 pub record IsPrepared (h : Held) (p : Prepared) : Type 0 where

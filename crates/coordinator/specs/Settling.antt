@@ -8,7 +8,7 @@ use Rattle.saverecord.specs.Texts.{Texts}
 use Rattle.recordparts.specs.declared.refusal.RecordRefusal.{RecordRefusal}
 use Rattle.saverecord.specs.declared.refusal.KeeperRefusal.{KeeperRefusal}
 use Rattle.saverecord.specs.declared.refusal.KeeperRefusal.TheVariants.{Fault}
-use Rattle.coordinator.specs.Held.{Held, ledger}
+use Rattle.drafts.specs.Held.{Held, ledger}
 use Rattle.coordinator.specs.Seen.{Seen}
 use Rattle.coordinator.specs.declared.handled.Handled.{Handled}
 

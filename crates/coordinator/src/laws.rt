@@ -1,7 +1,7 @@
 //! Laws of what the contracts promise. A function whose proof needs one of them calls it.
 ghost use Rattle.std.specs.Prelude.{◌≡◌};
 ghost use Rattle.coordinator.specs.Promises.{OnlyGrow};
-ghost use Rattle.coordinator.specs.Shown.{LineOf};
+ghost use Rattle.versions.specs.Lines.{LineOf};
 
 /// Lines that are as they were have only grown, and lines that grew twice have only grown. So what each call promises
 /// holds of all calls from first to last.

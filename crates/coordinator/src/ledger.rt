@@ -15,33 +15,30 @@ ghost use Rattle.saverecord.specs.Logs.{Holds};
 ghost use Rattle.saverecord.specs.Texts.{Texts, whole_alone, with_text};
 ghost use Rattle.coordinator.specs.Keeping.{kept_with};
 ghost use Rattle.std.specs.Result.{result_err};
-ghost use Rattle.coordinator.specs.Held.{line_at, ledger};
+ghost use Rattle.drafts.specs.Held.{line_at, ledger};
 ghost use Rattle.versions.specs.Additions.{IsReady};
 ghost use Rattle.std.specs.Vec.{vec_len};
 ghost use Rattle.leases.specs.Changes.{changed, HasRoom};
 ghost use Rattle.holdings.specs.Leases.{AreLeases};
 ghost use Rattle.saverecord.specs.Keepers.{HasFailed};
-ghost use Rattle.coordinator.specs.Keeps.{held, NotesSpent};
+ghost use Rattle.drafts.specs.Keeps.{held, NotesSpent};
 ghost use Rattle.coordinator.specs.Seen.{IsKeeping};
 ghost use Rattle.coordinator.specs.Settling.{Answers, is_save_fault};
-ghost use Rattle.coordinator.specs.Shown.{work_of};
+ghost use Rattle.drafts.specs.Shown.{work_of};
 ghost use Rattle.versions.specs.Lines.{lines_with, room_needed, line_shown};
-ghost use Rattle.coordinator.specs.Sound.{IsSound, IsRightful};
+ghost use Rattle.drafts.specs.Sound.{IsSound, IsRightful};
 ghost use Rattle.parked.specs.Queue.{HasRoomFor};
 ghost use Rattle.farm_base.specs.declared.limits.TheConstants.{NODES};
 ghost use Rattle.protocol.specs.Lawful.{IsNumber, IsSaid};
 ghost use Rattle.coordinator.specs.Prepared.{IsPrepared};
 ghost use Rattle.coordinator.specs.Promises.{OnlyGrow};
 
-use super::change::Change;
-use super::draft::Draft;
-use super::effects::{Effects, Prepared};
 use super::handled::Handled;
 use super::nodes::{begin, retire};
 use super::record::{entry_of, record_of, state_of};
-use super::state::{State, is_home};
 use super::table_room::{put_back, put_changed, take_table};
 use super::text::{Sizes, Text, save};
+use drafts::{Change, Draft, Effects, Prepared, State, is_home};
 use farm_base::{Items, Lease, NodeId, NodeLife, Parked, Slot, Ticket, ToCoord};
 use leases::{SlotState, TableWithRoom};
 use parked::SpentFolders;
@@ -67,11 +64,11 @@ impl Drop for Ledger {
 }
 
 impl Model for Ledger {
-    ghost use Rattle.coordinator.specs.Held.{Held};
+    ghost use Rattle.drafts.specs.Held.{Held};
 
     ghost Value = { Held };
 
-    ghost use Rattle.coordinator.specs.Keeps.{held, IsKeepable};
+    ghost use Rattle.drafts.specs.Keeps.{held, IsKeepable};
 
     ghost view = { λ c. held c.state };
 

@@ -1,7 +1,7 @@
 use Rattle.std.proofs.Common.{subst}
 use Rattle.protocol.proofs.Base.{front_trans}
 use Rattle.coordinator.specs.Promises.{OnlyGrow}
-use Rattle.coordinator.specs.Shown.{LineOf}
+use Rattle.drafts.specs.Shown.{LineOf}
 use Rattle.coordinator.proofs.Kept.{stays}
 use Rattle.coordinator.proofs.laws.lines_only_grow.Goals as goal
 

@@ -17,9 +17,9 @@ use Rattle.versions.specs.declared.lines.SlotLine.{SlotLine}
 use Rattle.saverecord.specs.Logs.{with_lives}
 use Rattle.saverecord.specs.Logs.{is_ended}
 use Rattle.saverecord.specs.Logs.{with_gone as with_nodes}
-use Rattle.coordinator.specs.Held.{Held}
-use Rattle.coordinator.specs.Keeps.{held}
-use Rattle.coordinator.specs.Shown.{lines_with}
+use Rattle.drafts.specs.Held.{Held}
+use Rattle.drafts.specs.Keeps.{held}
+use Rattle.drafts.specs.Shown.{lines_with}
 use Rattle.coordinator.proofs.Entries.{split_lines, ready_alone, added_follow, ended_there, ended_rise, live_after}
 use Rattle.coordinator.proofs.record.entry_of.Goals as goal
 

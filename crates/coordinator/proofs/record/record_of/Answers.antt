@@ -10,9 +10,9 @@ use Rattle.protocol.specs.Names.{Slot, NodeId}
 use Rattle.protocol.specs.Ledger.{is_saved}
 use Rattle.versions.specs.Lines.{line_at}
 use Rattle.versions.specs.Ordered.{AreLines}
-use Rattle.coordinator.specs.Held.{Held}
-use Rattle.coordinator.specs.Keeps.{held}
-use Rattle.coordinator.specs.Shown.{work_of, table_after, with_life, with_gone, lines_with}
+use Rattle.drafts.specs.Held.{Held}
+use Rattle.drafts.specs.Keeps.{held}
+use Rattle.drafts.specs.Shown.{work_of, table_after, with_life, with_gone, lines_with}
 use Rattle.coordinator.proofs.Records.{record_kept}
 use Rattle.coordinator.proofs.record.record_of.Goals as goal
 

@@ -1,11 +1,11 @@
 use Rattle.std.proofs.Common.{◌≡◌, false, Ok, sym, ap, ◌∙◌, subst}
 use Rattle.protocol.specs.Farm.{farm_limits}
 use Rattle.protocol.specs.Ledger.{Ledger, Work, begin_work, handled}
-use Rattle.coordinator.specs.Held.{Held, ledger}
+use Rattle.drafts.specs.Held.{Held, ledger}
 use Rattle.coordinator.specs.Seen.{Seen}
 use Rattle.coordinator.specs.Prepared.{IsPrepared}
-use Rattle.coordinator.specs.Shown.{work_of}
-use Rattle.coordinator.specs.Sound.{IsRightful}
+use Rattle.drafts.specs.Shown.{work_of}
+use Rattle.drafts.specs.Sound.{IsRightful}
 use Rattle.coordinator.specs.Promises.{GrantsAtOnce, EndsOnlyItsOwn}
 use Rattle.coordinator.proofs.Keeping.{settled_up, at_once, own}
 use Rattle.coordinator.proofs.Kept.{grants}

@@ -1,7 +1,7 @@
 use Rattle.std.proofs.Common.{◌≡◌, ap, subst}
 use Rattle.protocol.specs.Farm.{farm_limits}
 use Rattle.protocol.specs.Follows.{NoneReady}
-use Rattle.coordinator.specs.Held.{Held, ledger}
+use Rattle.drafts.specs.Held.{Held, ledger}
 use Rattle.coordinator.specs.Seen.{Seen}
 use Rattle.coordinator.proofs.Kept.{none_ready}
 use Rattle.coordinator.proofs.coordinator.Coordinator.is_none_ready.Goals as goal

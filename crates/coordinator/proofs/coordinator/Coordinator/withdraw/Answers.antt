@@ -1,10 +1,10 @@
 use Rattle.std.proofs.Common.{◌≡◌, false, Ok, sym, ap, ◌∙◌, subst}
 use Rattle.protocol.specs.Farm.{farm_limits}
 use Rattle.protocol.specs.Ledger.{Work, begin_work, withdrawn}
-use Rattle.coordinator.specs.Held.{Held, ledger}
+use Rattle.drafts.specs.Held.{Held, ledger}
 use Rattle.coordinator.specs.Seen.{Seen}
 use Rattle.coordinator.specs.Prepared.{IsPrepared}
-use Rattle.coordinator.specs.Shown.{work_of}
+use Rattle.drafts.specs.Shown.{work_of}
 use Rattle.coordinator.proofs.Keeping.{settled_up}
 use Rattle.coordinator.proofs.coordinator.Coordinator.withdraw.Goals as goal
 

@@ -7,11 +7,11 @@ use Rattle.saverecord.specs.LogEntries.{IsLogEntry}
 use Rattle.saverecord.specs.Logs.{Holds, IsSaved}
 use Rattle.saverecord.specs.Texts.{Texts, with_text}
 use Rattle.saverecord.proofs.LogLaws.{change_is_entry, entry_holds}
-use Rattle.coordinator.specs.declared.effects.Effects.{Effects}
-use Rattle.coordinator.specs.Held.{Held, ledger}
-use Rattle.coordinator.specs.Keeps.{held}
-use Rattle.coordinator.specs.Shown.{work_of}
-use Rattle.coordinator.specs.Sound.{IsRightful}
+use Rattle.drafts.specs.declared.effects.Effects.{Effects}
+use Rattle.drafts.specs.Held.{Held, ledger}
+use Rattle.drafts.specs.Keeps.{held}
+use Rattle.drafts.specs.Shown.{work_of}
+use Rattle.drafts.specs.Sound.{IsRightful}
 use Rattle.coordinator.proofs.Entries.{rightful_saves}
 use Rattle.coordinator.proofs.ledger.Ledger.entry_bytes.Goals as goal
 

@@ -1,8 +1,8 @@
 use Rattle.std.proofs.Common.{◌≡◌, List, length, ap, arith}
 use Rattle.protocol.specs.Machine.{Parked}
 use Rattle.protocol.specs.Farm.{farm_limits}
-use Rattle.coordinator.specs.Held.{Held, ledger}
-use Rattle.coordinator.proofs.Sends.{handled_few}
+use Rattle.drafts.specs.Held.{Held, ledger}
+use Rattle.drafts.proofs.Sends.{handled_few}
 use Rattle.parked.specs.Queue.{asks_of}
 use Rattle.coordinator.proofs.ledger.Ledger.most_sends.Goals as goal
 

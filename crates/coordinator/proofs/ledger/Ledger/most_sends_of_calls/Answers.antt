@@ -1,8 +1,8 @@
 use Rattle.std.proofs.Common.{◌≡◌, List, length, ap, arith}
 use Rattle.protocol.specs.Machine.{Parked}
 use Rattle.protocol.specs.Farm.{farm_limits}
-use Rattle.coordinator.specs.Held.{Held, ledger}
-use Rattle.coordinator.proofs.OwnSends.{withdrawn_few, retired_few, pruned_none}
+use Rattle.drafts.specs.Held.{Held, ledger}
+use Rattle.drafts.proofs.OwnSends.{withdrawn_few, retired_few, pruned_none}
 use Rattle.parked.specs.Queue.{asks_of}
 use Rattle.coordinator.proofs.ledger.Ledger.most_sends_of_calls.Goals as goal
 

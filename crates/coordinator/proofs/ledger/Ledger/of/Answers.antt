@@ -1,5 +1,5 @@
 use Rattle.std.proofs.Common.{sym, subst}
-use Rattle.coordinator.specs.Sound.{IsRightful}
+use Rattle.drafts.specs.Sound.{IsRightful}
 use Rattle.coordinator.proofs.Records.{rightful_of}
 use Rattle.coordinator.proofs.ledger.Ledger.of.Goals as goal
 

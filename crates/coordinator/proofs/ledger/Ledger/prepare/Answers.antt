@@ -1,17 +1,17 @@
 use Rattle.std.proofs.Common.{◌≡◌, Ok, ap, sym, ◌∙◌, subst}
 use Rattle.protocol.specs.Farm.{farm_limits}
 use Rattle.protocol.specs.Ledger.{Ledger, Work, begin_work, handled}
-use Rattle.coordinator.specs.declared.draft.Draft.{Draft}
-use Rattle.coordinator.specs.declared.effects.Effects.{Effects}
-use Rattle.coordinator.specs.declared.state.State.{State}
-use Rattle.coordinator.specs.Held.{Held, ledger}
-use Rattle.coordinator.specs.Idle.{AreHeldUp}
-use Rattle.coordinator.specs.Keeps.{held, IsKeepable}
+use Rattle.drafts.specs.declared.draft.Draft.{Draft}
+use Rattle.drafts.specs.declared.effects.Effects.{Effects}
+use Rattle.drafts.specs.declared.state.State.{State}
+use Rattle.drafts.specs.Held.{Held, ledger}
+use Rattle.drafts.specs.Idle.{AreHeldUp}
+use Rattle.drafts.specs.Keeps.{held, IsKeepable}
 use Rattle.coordinator.specs.Prepared.{IsPrepared}
 use Rattle.coordinator.specs.Promises.{ChangesAsTold}
-use Rattle.coordinator.specs.Shown.{work, work_of}
-use Rattle.coordinator.specs.Sound.{IsSound, IsRightful}
-use Rattle.coordinator.proofs.Drafting.{over}
+use Rattle.drafts.specs.Shown.{work, work_of}
+use Rattle.drafts.specs.Sound.{IsSound, IsRightful}
+use Rattle.drafts.proofs.Drafting.{over}
 use Rattle.coordinator.proofs.Preparing.{prepared}
 use Rattle.coordinator.proofs.Rightful.{rightful-handled}
 use Rattle.coordinator.proofs.Recording.{handled-told}

@@ -5,11 +5,11 @@ use Rattle.saverecord.specs.Ledgers.{ledger_of}
 use Rattle.saverecord.specs.Logs.{Holds}
 use Rattle.saverecord.specs.Texts.{whole_alone}
 use Rattle.versions.specs.Additions.{IsReady}
-use Rattle.coordinator.specs.Held.{Held}
-use Rattle.coordinator.specs.declared.effects.Effects.{Effects}
-use Rattle.coordinator.specs.Keeps.{held}
-use Rattle.coordinator.specs.Shown.{work_of}
-use Rattle.coordinator.specs.Sound.{IsRightful}
+use Rattle.drafts.specs.Held.{Held}
+use Rattle.drafts.specs.declared.effects.Effects.{Effects}
+use Rattle.drafts.specs.Keeps.{held}
+use Rattle.drafts.specs.Shown.{work_of}
+use Rattle.drafts.specs.Sound.{IsRightful}
 use Rattle.saverecord.proofs.LogLemmas.{whole_holds}
 use Rattle.coordinator.proofs.Records.{saves_again}
 use Rattle.coordinator.proofs.ledger.Ledger.record_bytes.Goals as goal

@@ -4,15 +4,15 @@ use Rattle.protocol.specs.Ledger.{Ledger, Work, saves}
 use Rattle.protocol.specs.declared.answer.CoordRefusal.{CoordRefusal}
 use Rattle.protocol.specs.declared.answer.CoordRefusal.TheVariants.{SaveFault, OutOfMemory}
 use Rattle.saverecord.specs.Logs.{Holds}
-use Rattle.coordinator.specs.declared.state.State.{State}
-use Rattle.coordinator.specs.declared.effects.Effects.{Effects}
+use Rattle.drafts.specs.declared.state.State.{State}
+use Rattle.drafts.specs.declared.effects.Effects.{Effects}
 use Rattle.parked.specs.declared.spent_folders.SpentFolders.{SpentFolders}
-use Rattle.coordinator.specs.Held.{Held, line_at, ledger}
-use Rattle.coordinator.specs.Keeps.{held, IsKeepable}
+use Rattle.drafts.specs.Held.{Held, line_at, ledger}
+use Rattle.drafts.specs.Keeps.{held, IsKeepable}
 use Rattle.coordinator.specs.Seen.{IsKeeping}
 use Rattle.coordinator.specs.Settling.{Answers, is_save_fault}
-use Rattle.coordinator.specs.Shown.{LineOf, after, work_of, lines_with}
-use Rattle.coordinator.specs.Sound.{IsRightful}
+use Rattle.drafts.specs.Shown.{LineOf, after, work_of, lines_with}
+use Rattle.drafts.specs.Sound.{IsRightful}
 use Rattle.parked.specs.Spent.{AreNoted}
 use Rattle.coordinator.specs.Promises.{OnlyGrow}
 use Rattle.coordinator.proofs.Kept.{grows, stays}

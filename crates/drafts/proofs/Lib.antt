@@ -1,0 +1,12 @@
+pub mod StateWords
+pub mod Drafting
+pub mod Trying
+pub mod TryingAll
+pub mod SoundWords
+pub mod Sends
+pub mod OwnCalls
+pub mod Prunes
+pub mod OwnSends
+pub mod HeldUp
+pub mod IdleWords
+pub mod SpentWords

@@ -1,0 +1,5 @@
+pub mod Held
+pub mod Idle
+pub mod Keeps
+pub mod Shown
+pub mod Sound
