@@ -1,5 +1,5 @@
 //! What `check` and `keys` answer for a definition.
-ghost use Rattle.std.specs.Prelude.{◌≡◌, IfOk, IfErr, OnOk, List, ◌++◌, length};
+ghost use Rattle.std.specs.Prelude.{◌≡◌, IfOk, IfErr, OnOk, ◌++◌, length};
 ghost use Rattle.std.specs.String.{string_bytes};
 ghost use Rattle.answers.specs.Answers.{result_text, check_text, key_line, vertex_digests, keys_text, SpellsGraph, IsNoGraph, AreListed};
 

@@ -1,5 +1,5 @@
 //! What `draw` answers for a schedule.
-ghost use Rattle.std.specs.Prelude.{◌≡◌, IfOk, IfErr};
+ghost use Rattle.std.specs.Prelude.{IfOk, IfErr};
 ghost use Rattle.std.specs.String.{string_bytes};
 ghost use Rattle.answers.specs.Drawings.{IsDrawn};
 ghost use Rattle.answers.specs.Replays.{IsUnread};

@@ -1,4 +1,4 @@
-ghost use Rattle.std.specs.Prelude.{◌≡◌, ◌+◌, ◌≤◌, false, not, Some, Result, Ok, Err, IfOk, IfErr, OnOk, OnErr, option_copied, length};
+ghost use Rattle.std.specs.Prelude.{◌≡◌, ◌≤◌, false, not, Some, Ok, Err, IfOk, IfErr, OnOk, OnErr, option_copied, length};
 ghost use Rattle.std.specs.Result.{is_ok};
 ghost use Rattle.std.specs.List.{list_any};
 ghost use Rattle.std.specs.List.Sorted.{IsStrictlySortedBy};
@@ -17,7 +17,6 @@ ghost use Rattle.protocol.specs.Ledger.{Work, begin_work, handled, withdrawn, re
 ghost use Rattle.drafts.specs.Held.{line_at, ledger};
 ghost use Rattle.coordinator.specs.Prepared.{IsPrepared};
 ghost use Rattle.coordinator.specs.Promises.{OnlyGrow, GrantsAtOnce, EndsOnlyItsOwn};
-ghost use Rattle.drafts.specs.Held.{Held};
 ghost use Rattle.coordinator.specs.Seen.{IsKeeping};
 ghost use Rattle.coordinator.specs.Settling.{Answers, is_save_fault, Settles, Loads, TakesUp, Restarts, Syncs};
 ghost use Rattle.drafts.specs.Shown.{work_of};

@@ -1,5 +1,5 @@
 //! An event as it is worked out: its effects so far, over a state that stays as it is.
-ghost use Rattle.std.specs.Prelude.{if◌then◌else◌, ◌++◌, ◌∷◌, [], ◌≡◌, ◌≢◌, ◌≤◌, ◌&&◌, All, IfOk, OnOk, not, false, true, is_some, ◌||◌, Some, None};
+ghost use Rattle.std.specs.Prelude.{if◌then◌else◌, ◌++◌, ◌∷◌, [], ◌≡◌, ◌≢◌, ◌≤◌, ◌&&◌, All, IfOk, OnOk, not, false, is_some, ◌||◌, Some, None};
 ghost use Rattle.std.specs.List.{find};
 ghost use Rattle.std.specs.Vec.{vec_capacity};
 ghost use Rattle.farm_base.specs.Contents.{empty_digest};

@@ -1,5 +1,5 @@
 //! The operator's calls, as they are worked out: withdraw, retire, prune and nudge.
-ghost use Rattle.std.specs.Prelude.{◌≡◌, ◌∷◌, [], ◌&&◌, if◌then◌else◌, nat_lt, map, All, IfOk, OnOk, Ok, None};
+ghost use Rattle.std.specs.Prelude.{◌≡◌, ◌∷◌, [], ◌&&◌, if◌then◌else◌, nat_lt, map, All, IfOk, OnOk, None};
 ghost use Rattle.std.specs.List.{list_any};
 ghost use Rattle.std.specs.Result.{result_err};
 ghost use Rattle.farm_base.specs.Contents.{empty_digest};

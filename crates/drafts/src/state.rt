@@ -1,10 +1,9 @@
 //! What the coordinator keeps.
-ghost use Rattle.std.specs.Prelude.{◌≡◌, ℕ, ◌<◌, ◌==◌, ◌&&◌, true, IfOk, List, option_copied};
+ghost use Rattle.std.specs.Prelude.{◌≡◌, IfOk, option_copied};
 ghost use Rattle.farm_base.specs.Contents.{empty_digest};
-ghost use Rattle.std.specs.List.{list_any};
-ghost use Rattle.protocol.specs.Names.{slots_eq, is_private};
+ghost use Rattle.protocol.specs.Names.{slots_eq};
 ghost use Rattle.protocol.specs.Machine.{slots_of, cleared};
-ghost use Rattle.protocol.specs.Ledger.{grant_of, is_saved, is_home, writable_slots};
+ghost use Rattle.protocol.specs.Ledger.{grant_of, is_home, writable_slots};
 ghost use Rattle.drafts.specs.Shown.{lines_with, saved_under};
 
 use farm_base::{Grant, Items, Lease, LeaseKind, Mode, News, NodeId, Slot};

@@ -1,5 +1,5 @@
 //! The picture as a whole.
-ghost use Rattle.std.specs.Prelude.{◌≡◌, ◌++◌, OnOk, IfOk, length, count_by};
+ghost use Rattle.std.specs.Prelude.{◌≡◌, ◌++◌, OnOk, IfOk, count_by};
 ghost use Rattle.std.specs.List.{flat_map};
 ghost use Rattle.std.specs.String.{string_bytes};
 ghost use Rattle.draw.specs.Pages.{view_text, root_text, open_text, events_text, nodes_text, extent_text, head_text, name_text, named_text, drop_text, lifeline_text, lifelines_text, is_break, version_byte, shown, shown_text, versions_text, width_of, height_of, begun_text, headed_text, body_text, foot_y, foot_text, page_text};

@@ -1,6 +1,5 @@
 //! The frames of a schedule.
 ghost use Rattle.std.specs.Prelude.{◌≡◌, ◌+◌, ◌<◌, ◌^◌, IfOk, OnOk, length};
-ghost use Rattle.std.specs.String.{string_bytes};
 ghost use Rattle.farm_base.specs.Contents.{content_digest};
 ghost use Rattle.protocol.specs.Farm.{farm_limits};
 ghost use Rattle.protocol.specs.Replay.{run, step, opening};

@@ -1,5 +1,5 @@
 //! The text of each mark.
-ghost use Rattle.std.specs.Prelude.{◌≡◌, ◌+◌, ◌*◌, ◌++◌, OnOk};
+ghost use Rattle.std.specs.Prelude.{◌≡◌, ◌+◌, ◌++◌, OnOk};
 ghost use Rattle.std.specs.String.{string_bytes};
 ghost use Rattle.draw.specs.Shapes.{x_of, y_of, title_text, titles_text, size_text, rect_text, bar_text, end_class, lease_x, number_text, number_x, number_y, point_text, line_text, shaft_text, numbered_text, arrow_text, arrival_text, spot_text, path_text, stub_text, lost_text, sign_class, sign_outline, sign_text, shortened, guide_text, beside_text, begun_label, label_text, mark_text};
 

@@ -1,7 +1,5 @@
 //! The SHARED folders that are open on a node, under their lock.
-ghost use Rattle.std.specs.Prelude.{◌≡◌};
 ghost use Rattle.executions.specs.Live.{IsTenureOf};
-ghost use Rattle.farm_base.specs.declared.folder.FolderName.{FolderName as Name};
 
 use executions::LiveShared;
 use farm_base::FolderName;

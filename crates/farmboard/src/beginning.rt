@@ -1,5 +1,5 @@
 //! How executions begin.
-ghost use Rattle.std.specs.Prelude.{◌≡◌, ◌≢◌, true, Ok, Err, IfOk, IfErr, IfSome, IfNone, map, length};
+ghost use Rattle.std.specs.Prelude.{◌≡◌, ◌≢◌, true, Ok, Err, IfOk, IfErr, IfSome, IfNone, map};
 ghost use Rattle.farm_base.specs.Contents.{content_digest};
 ghost use Rattle.protocol.specs.Nodes.{all_stored};
 ghost use Rattle.protocol.specs.declared.answer.EventNote.TheVariants as note;

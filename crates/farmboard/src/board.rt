@@ -1,6 +1,5 @@
 //! The board.
-ghost use Rattle.std.specs.Prelude.{◌≡◌, ◌+◌, ◌<◌, ◌≤◌, ◌↔◌, [], true, false, IfOk, IfErr, IfSome, IfNone, is_some, length, map, ℕ, ◌∷◌};
-ghost use Rattle.farm_base.specs.Contents.{content_digest};
+ghost use Rattle.std.specs.Prelude.{◌≡◌, ◌≤◌, ◌↔◌, [], true, IfOk, IfErr, IfSome, IfNone, is_some, length, map, ℕ};
 ghost use Rattle.farm_base.specs.declared.limits.TheConstants.{EVENTS};
 ghost use Rattle.protocol.specs.Names.{tenure_wants};
 ghost use Rattle.protocol.specs.Replay.{is_node};

@@ -1,8 +1,6 @@
 //! What became of executions that are over.
-ghost use Rattle.std.specs.Prelude.{◌≡◌, ◌==◌, is_some, IfSome, map, option_copied};
+ghost use Rattle.std.specs.Prelude.{◌≡◌, is_some, IfSome, map, option_copied};
 ghost use Rattle.std.specs.List.{list_any, list_all};
-ghost use Rattle.protocol.specs.Lists.{nth};
-ghost use Rattle.nodeasks.specs.Asks.{way_out_of};
 ghost use Rattle.world.specs.Shown.{shown};
 ghost use Rattle.farmboard.specs.Settling.{number_on, or_zero, stands, numbered, is_live};
 

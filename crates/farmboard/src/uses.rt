@@ -1,5 +1,5 @@
 //! The executions in use.
-ghost use Rattle.std.specs.Prelude.{◌≡◌, ◌<◌, ◌+◌, ◌≤◌, ◌==◌, ◌&&◌, not, filter, length, vec_len};
+ghost use Rattle.std.specs.Prelude.{◌≡◌, ◌<◌, not, filter, vec_len};
 ghost use Rattle.std.specs.List.{list_any};
 ghost use Rattle.std.specs.Vec.{vec_capacity};
 ghost use Rattle.farmboard.specs.Out.{is_use_of, is_on, out_after, out_if};

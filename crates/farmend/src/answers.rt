@@ -1,5 +1,5 @@
 //! Whether answers have their reasons.
-ghost use Rattle.std.specs.Prelude.{◌≡◌, IfOk, IsTrue};
+ghost use Rattle.std.specs.Prelude.{IfOk, IsTrue};
 ghost use Rattle.std.specs.List.{AllZip};
 ghost use Rattle.world.specs.Shown.{shown};
 ghost use Rattle.farmend.specs.Answers.{IsAnswered};

@@ -1,5 +1,5 @@
 //! The Denied messages of a farm.
-ghost use Rattle.std.specs.Prelude.{◌≡◌, IsTrue};
+ghost use Rattle.std.specs.Prelude.{IsTrue};
 ghost use Rattle.world.specs.Shown.{shown};
 ghost use Rattle.farmend.specs.Answers.{IsDenial, WasDenied};
 

@@ -1,5 +1,5 @@
 //! Whether receipts are told by the lines of a farm.
-ghost use Rattle.std.specs.Prelude.{◌≡◌, All, Some, IfOk, IsTrue, nat_eq, map};
+ghost use Rattle.std.specs.Prelude.{◌≡◌, All, Some, IfOk, IsTrue, nat_eq};
 ghost use Rattle.std.specs.List.{IsDistinct};
 ghost use Rattle.std.specs.List.Sorted.{IsStrictlyIncreasing};
 ghost use Rattle.world.specs.Shown.{shown};

@@ -1,5 +1,5 @@
 //! What a run of a farm can begin with.
-ghost use Rattle.std.specs.Prelude.{◌≡◌, ◌≢◌, ◌==◌, ◌&&◌, true};
+ghost use Rattle.std.specs.Prelude.{◌≡◌, ◌≢◌, ◌==◌, true};
 ghost use Rattle.std.specs.List.{list_all, list_any};
 ghost use Rattle.solving.specs.Faults.{is_bare};
 ghost use Rattle.solving.specs.Setups.{is_in_range, is_there, is_staffed, is_of_one};

@@ -1,5 +1,5 @@
 //! The jobs with their graphs.
-ghost use Rattle.std.specs.Prelude.{◌≡◌, ◌<◌, length, All, IfOk, OnOk, IfSome, Some, slice_get};
+ghost use Rattle.std.specs.Prelude.{◌≡◌, All, IfOk, OnOk, IfSome};
 ghost use Rattle.solving.specs.Places.{Fits};
 
 use super::fault::FarmFault;

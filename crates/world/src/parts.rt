@@ -10,7 +10,7 @@ ghost use Rattle.protocol.specs.Ledger.{opening as first_ledger};
 ghost use Rattle.protocol.specs.declared.answer.EventNote.TheVariants as note;
 ghost use Rattle.coordinator.specs.Held.{ledger};
 ghost use Rattle.saverecord.specs.Texts.{whole_alone};
-ghost use Rattle.protocol.specs.Replay.{opening, step, node_does, is_node, delivered, coordinated};
+ghost use Rattle.protocol.specs.Replay.{opening, step, node_does, delivered, coordinated};
 ghost use Rattle.protocol.specs.Nodes.{resent};
 ghost use Rattle.world.specs.Tables.{called};
 ghost use Rattle.world.specs.Turns.{Came, FitsIn, from_node, from_coordinator, restarting, restarting_coordinator, retiring};

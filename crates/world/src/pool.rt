@@ -1,5 +1,5 @@
 //! The messages that were ever sent, in order of sending.
-ghost use Rattle.std.specs.Prelude.{◌≡◌, ◌≤◌, ◌+◌, ◌++◌, ◌<◌, None, IfSome, IfNone, length, map, option_map, option_copied, vec_len};
+ghost use Rattle.std.specs.Prelude.{◌≡◌, ◌≤◌, ◌+◌, ◌++◌, ◌<◌, None, IfSome, IfNone, length, map, option_copied, vec_len};
 ghost use Rattle.std.specs.Vec.{vec_capacity};
 ghost use Rattle.protocol.specs.Machine.{Told};
 ghost use Rattle.protocol.specs.Lists.{nth};
