@@ -14,7 +14,8 @@ use super::task::{ExecTask, View};
 use cachemounts::{CacheView, views};
 use farm_base::{Copied, Digest, Items, Want, Wants};
 use jobs::Task;
-use opsproto::{Mount, Op};
+use opsproto::{Kind, Mount};
+use protowire::SharedBytes;
 use solverkeys::Keyed;
 use std::alloc::{AllocError, Global};
 
@@ -68,28 +69,30 @@ fn views_at(
     Ok(views)
 }
 
-/// What an executor is given for a task of this op, which has these cache mounts.
+/// What an executor is given for a task that does this and has these stripped bytes and these cache mounts.
 fn given_by(
     alloc: Global,
     seen: &Seen,
     wants: &[Want],
     task: &Task,
-    op: Op,
+    kind: Kind,
+    stripped: SharedBytes,
     places: &[CacheView],
 ) -> Result<ExecTask, AllocError>
-    requires { (bases : List Base) × ((place : SpecView) → Contains places.now place → IsView bases (mounts_in op.kind) wants.now place) }
+    requires { (bases : List Base) × ((place : SpecView) → Contains places.now place → IsView bases (mounts_in kind) wants.now place) }
     ensures key { IfOk result (λ given. given.key ≡ task.now.key) }
-    ensures stripped { IfOk result (λ given. given.stripped ≡ op.stripped) }
-    ensures exec { IfOk result (λ given. given.exec ≡ command_in op.kind) }
+    ensures stripped { IfOk result (λ given. given.stripped ≡ stripped) }
+    ensures exec { IfOk result (λ given. given.exec ≡ command_in kind) }
     ensures inputs { IfOk result (λ given. given.inputs ≡ task.now.inputs.items) }
-    ensures views { IfOk result (λ given. AllZip (IsViewAt (folder_seen seen.now.leased seen.now.shared) wants.now task.now.inputs.items (mounts_in op.kind)) places.now given.views) }
+    ensures views { IfOk result (λ given. AllZip (IsViewAt (folder_seen seen.now.leased seen.now.shared) wants.now task.now.inputs.items (mounts_in kind)) places.now given.views) }
 {
     let inputs = Vec::from_slice(alloc, task.inputs.as_slice())?;
-    let mounts = op.kind().mounts();
+    let mounts = kind.mounts();
     let views = views_at(alloc, seen, wants, &task.inputs, mounts, places)?;
     Ok(ExecTask {
         key: task.key,
-        op,
+        kind,
+        stripped,
         inputs: Items::new(inputs),
         views: Items::new(views),
     })
@@ -109,6 +112,8 @@ pub(crate) fn given(
     ensures { IfOk result (IsGiven keyed.now vertex task.now (folder_seen seen.now.leased seen.now.shared) wants.now) }
 {
     let places = views(alloc, keyed.graph(), vertex, keyed.keys(), wants)?;
-    let op = keyed.graph().vertex(vertex).op.read(alloc)?;
-    given_by(alloc, seen, wants.as_slice(), task, op, &places)
+    let graph = keyed.graph();
+    let kind = graph.vertex(vertex).op.kind(alloc)?;
+    let stripped = graph.stripped(alloc, vertex)?;
+    given_by(alloc, seen, wants.as_slice(), task, kind, stripped, &places)
 }

@@ -1,5 +1,5 @@
 //! The SHARED folders that a node has open.
-ghost use Rattle.std.specs.Prelude.{◌≡◌, ◌<◌, [], map, length, Some, None, Ok, Err, slice_get, set, vec_len, IfOk, IfErr, IfSome, IfNone, OnErr, OnOk, is_some};
+ghost use Rattle.std.specs.Prelude.{◌≡◌, ◌<◌, [], map, length, Some, None, Err, slice_get, set, vec_len, IfOk, IfErr, IfSome, IfNone, OnErr, OnOk, is_some};
 ghost use Rattle.std.specs.List.{find, list_any};
 ghost use Rattle.farm_base.specs.Slots.{SlotParts};
 ghost use Rattle.farm_base.specs.declared.folder.FolderName.{FolderName as Name};
@@ -8,7 +8,7 @@ ghost use Rattle.folders.specs.Files.{folder_bytes, most_bytes};
 ghost use Rattle.executions.specs.declared.live_shared.Open.{Open as SpecOpen};
 ghost use Rattle.executions.specs.Leased.{held, leased};
 ghost use Rattle.executions.specs.Seen.{folder_at, read_all};
-ghost use Rattle.executions.specs.Live.{is_named, is_by, files_in, has_changed, IsTenureOf, Opens, Views, Applies, Closes, Pops};
+ghost use Rattle.executions.specs.Live.{is_named, is_by, files_in, IsTenureOf, Opens, Views, Applies, Closes, Pops};
 ghost use Rattle.executions.specs.Keeping.{opened, AreOnce, IsFirstRefusal};
 
 use super::batch::Batch;

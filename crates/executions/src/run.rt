@@ -1,5 +1,5 @@
 //! One execution under a lease.
-ghost use Rattle.std.specs.Prelude.{◌≡◌, true, false, ◌<◌, length, map, slice_get, Some, Ok, Err, IfOk, OnErr, IsOk, Contains};
+ghost use Rattle.std.specs.Prelude.{◌≡◌, true, false, ◌<◌, length, map, slice_get, Some, Err, IfOk, OnErr, IsOk, Contains};
 ghost use Rattle.std.specs.List.{All};
 ghost use Rattle.farm_base.specs.Slots.{SlotParts};
 ghost use Rattle.farm_base.specs.declared.folder.Mode.TheVariants.{Shared};

@@ -3,7 +3,8 @@ ghost use Rattle.std.specs.Option.{option_copied};
 
 use farm_base::{Digest, FolderName, Items, Key};
 use folders::Folder;
-use opsproto::{ExecOp, Kind, Op};
+use opsproto::{ExecOp, Kind};
+use protowire::SharedBytes;
 use std::marker::Model;
 
 /// What an execution sees at a cache mount.
@@ -23,7 +24,8 @@ pub struct View {
 pub struct ExecTask {
     pub(crate) key: Key,
     /// What the vertex does.
-    pub(crate) op: Op,
+    pub(crate) kind: Kind,
+    pub(crate) stripped: SharedBytes,
     pub(crate) inputs: Items<Digest>,
     pub(crate) views: Items<View>,
 }
@@ -33,7 +35,8 @@ impl Drop for ExecTask {
     fn drop(self) {
         let Self {
             key: _,
-            op: _,
+            kind: _,
+            stripped: _,
             inputs: _,
             views: _,
         } = self;
@@ -46,7 +49,7 @@ impl Model for ExecTask {
 
     ghost Value = { TaskParts };
 
-    ghost view = { λ t. record { key = t.key; stripped = t.op.stripped; exec = command_in t.op.kind; inputs = t.inputs; views = t.views } };
+    ghost view = { λ t. record { key = t.key; stripped = t.stripped; exec = command_in t.kind; inputs = t.inputs; views = t.views } };
 }
 
 impl ExecTask {
@@ -61,14 +64,14 @@ impl ExecTask {
     pub fn stripped(&self) -> &[u8]
         ensures { result.now ≡ self.now.stripped }
     {
-        self.op.stripped()
+        self.stripped.as_slice()
     }
 
     /// The command, where the vertex runs one.
     pub fn exec(&self) -> Option<&ExecOp>
         ensures { option_copied result ≡ self.now.exec }
     {
-        match self.op.kind() {
+        match &self.kind {
             Kind::Exec(exec) => Some(exec),
             Kind::Opaque(_) | Kind::Bare => None,
         }

@@ -1,6 +1,5 @@
 ghost use Rattle.std.specs.Prelude.{◌≡◌, ◌≤◌, ◌++◌, ◌∷◌, ℕ, [], length, Some, None, slice_get, OnOk, OnErr, IfErr, IfNone, IfOk, IfSome, IsSomeAnd};
 ghost use Rattle.jobs.specs.declared.entry.Entry.{Entry as SpecEntry};
-ghost use Rattle.jobs.specs.declared.entry.Progress.{Progress as SpecProgress};
 ghost use Rattle.jobs.specs.declared.entry.Progress.TheVariants.{Waiting, Out, Done, Failed};
 ghost use Rattle.jobs.specs.declared.answer.JobsRefusal.TheVariants as refusal;
 ghost use Rattle.farm_base.specs.declared.digest.Key.{Key as SpecKey};

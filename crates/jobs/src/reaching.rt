@@ -1,4 +1,4 @@
-ghost use Rattle.std.specs.Prelude.{◌≡◌, ◌<◌, ◌+◌, ℕ, false, [], All, OnOk, IfOk, length, replicate, vec_len};
+ghost use Rattle.std.specs.Prelude.{◌≡◌, ◌<◌, ◌+◌, false, [], All, OnOk, IfOk, length, replicate, vec_len};
 ghost use Rattle.vertices.specs.Loading.{IsGraph};
 ghost use Rattle.vertices.specs.Sorting.{open_count};
 ghost use Rattle.jobs.specs.Reaching.{AreReached, Reaching};

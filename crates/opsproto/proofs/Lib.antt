@@ -2,6 +2,7 @@ pub mod ReadingLemmas
 pub mod TextLemmas
 pub mod OpLemmas
 pub mod MountLemmas
+pub mod PieceLemmas
 pub mod PutLemmas
 pub mod Parts
 pub mod Again

@@ -1,5 +1,5 @@
 -- The mounts of an op are those that are read alone.
-use Rattle.std.proofs.Common.{◌≡◌, ℕ, Bool, true, false, cond, eqb, List, [], Option, Some, None, Result, Ok, Err, refl, ap, ◌∙◌}
+use Rattle.std.proofs.Common.{◌≡◌, ℕ, Bool, true, false, cond, eqb, List, [], Option, Some, None, Result, Ok, ap, ◌∙◌}
 use Rattle.std.specs.Result.{IsOk}
 use Rattle.codec.specs.Steps.{◌>>=◌}
 use Rattle.codec.proofs.Steps.{bind_ok, ok_is}
@@ -15,9 +15,9 @@ use Rattle.opsproto.specs.Refusals.{wire}
 use Rattle.opsproto.specs.Scalars.{Text, int32_in}
 use Rattle.opsproto.specs.Reading.{says, entries_of, each_of, optional_of, meta_of, mount_of, exec_of}
 use Rattle.opsproto.specs.Texts.{each_checked, optional_checked, meta_checked, mount_checked, exec_checked}
-use Rattle.opsproto.specs.Ops.{OpParts, members, kind_of, kind_checked, op_at, op_in}
+use Rattle.opsproto.specs.Ops.{members, kind_of, kind_checked, op_at, op_in}
 use Rattle.opsproto.specs.Mounts.{mounts_in, exec_mounts_of, member_mounts_of, mounts_read}
-use Rattle.opsproto.proofs.OpLemmas.{OpTook, OpHeld, op_held, spells}
+use Rattle.opsproto.proofs.OpLemmas.{op_held, spells}
 
 -- what was read of an exec op
 exec_took : (text : List ℕ) (exec : ExecOp Text) → exec_of text ≡ Ok exec → exec_mounts_of text ≡ Ok exec.mounts

@@ -18,8 +18,8 @@ use Rattle.opsproto.specs.declared.op.Kind.TheVariants.{Bare}
 use Rattle.opsproto.specs.Refusals.{wire}
 use Rattle.opsproto.specs.Texts.{each_checked, input_checked}
 use Rattle.opsproto.specs.Scalars.{Text}
-use Rattle.opsproto.specs.Reading.{says, each_of, input_of}
-use Rattle.opsproto.specs.Ops.{OpParts, members, kind_of, kept, op_of, kind_checked, op_checked, op_read, limit, op_at, op_in, stripped_of, IsOp}
+use Rattle.opsproto.specs.Reading.{says, entries_of, each_of, input_of}
+use Rattle.opsproto.specs.Ops.{OpParts, members, kind_of, kept, op_of, kind_checked, op_checked, op_read, limit, op_at, op_in, stripped_of, IsOp, kind_read}
 
 -- whether a field is an input
 abbrev is_input : Spelled → Bool
@@ -181,3 +181,18 @@ spells text h = unwrapped (op_at text) (record { inputs = []; kind = Bare; strip
 -- the op of some bytes has their stripped bytes
 pub stripped_is : (text stripped : List ℕ) → IsOk (op_at text) → stripped_of text ≡ Ok stripped → stripped ≡ (op_in text).stripped
 stripped_is text stripped h s = op_stripped text stripped (op_in text) (spells text h) s
+
+-- so is its kind, read alone
+pub kind_is : (text : List ℕ) → IsOk (op_at text) → kind_read text ≡ Ok (op_in text).kind
+unfolding entries_of
+kind_is text h =
+    let held = op_held text (op_in text) (spells text h) in
+    let fields = held.took.fields in
+    rw (fields_again text fields held.took.are, held.took.kind) held.kind
+
+-- the stripped bytes can be read
+pub stripped_reads : (text : List ℕ) → IsOk (op_at text) → stripped_of text ≡ Ok (op_in text).stripped
+stripped_reads text h =
+    let held = op_held text (op_in text) (spells text h) in
+    let fields = held.took.fields in
+    rw (fields_again text fields held.took.are) (ap (λ (bytes : List ℕ). Ok bytes) (sym held.stripped))

@@ -1,5 +1,5 @@
 -- The meaning of an op's bytes (ops.proto).
-use Rattle.std.specs.Prelude.{◌≡◌, ℕ, ◌*◌, ◌^◌, not, ◌==◌, nat_lt, if◌then◌else◌, List, [], ◌∷◌, length, filter, Option, Some, None, Result, Ok, Err}
+use Rattle.std.specs.Prelude.{◌≡◌, ◌≤◌, ℕ, ◌*◌, ◌^◌, not, ◌==◌, nat_lt, if◌then◌else◌, List, [], ◌∷◌, length, filter, slice_range, Option, Some, None, Result, Ok, Err}
 use Rattle.std.specs.Result.{result_unwrap_or}
 use Rattle.protowire.specs.declared.refusal.WireRefusal.{WireRefusal}
 use Rattle.protowire.specs.Fields.{Spelled, message}
@@ -13,7 +13,7 @@ use Rattle.opsproto.specs.declared.op.Kind.{Kind}
 use Rattle.opsproto.specs.declared.op.Kind.TheVariants.{Exec, Opaque, Bare}
 use Rattle.opsproto.specs.Refusals.{wire}
 use Rattle.opsproto.specs.Scalars.{Text}
-use Rattle.opsproto.specs.Reading.{says, each_of, input_of, exec_of}
+use Rattle.opsproto.specs.Reading.{says, entries_of, each_of, input_of, exec_of}
 use Rattle.opsproto.specs.Texts.{each_checked, input_checked, exec_checked}
 
 -- what a contract sees of an op
@@ -77,3 +77,13 @@ op_in bytes = result_unwrap_or (op_at bytes) (record { inputs = []; kind = Bare;
 -- the bytes alone are an op without inputs, of this kind
 abbrev pub IsOp : List ℕ → Kind Text → Type 0
 IsOp stripped kind = op_read stripped ≡ Ok (record { inputs = []; kind = kind; stripped = stripped })
+
+-- a part of a text stands in it from one place to another
+pub record StandsAt (text part : List ℕ) (start end : ℕ) : Type 0 where
+  pub rises : start ≤ end
+  pub within : end ≤ length text
+  pub is : slice_range text start end ≡ part
+
+-- the kind of an op, read without the rest of it
+abbrev pub kind_read : List ℕ → Result (Kind Text) OpRefusal
+kind_read text = wire (entries_of text >>= λ es. kind_of (last_member members es)) >>= kind_checked

@@ -1,5 +1,4 @@
 ghost use Rattle.std.specs.Prelude.{◌≡◌, IfOk};
-ghost use Rattle.std.specs.Option.{option_map};
 ghost use Rattle.protowire.specs.Seen.{entries};
 ghost use Rattle.protowire.specs.Reading.{Gives};
 ghost use Rattle.protowire.specs.Lookups.{bodies};

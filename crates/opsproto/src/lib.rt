@@ -21,5 +21,5 @@ pub use input::Input;
 pub use op::{Kind, Op};
 pub use read::{ENTRIES, LIMIT, read_definition, read_op};
 pub use refusal::OpRefusal;
-pub use wire_op::WireOp;
+pub use wire_op::{WireOp, stripped_place};
 pub use write::{write_definition, write_exec, write_op};

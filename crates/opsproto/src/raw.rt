@@ -1,11 +1,11 @@
 //! What the bytes of an op mean, before its texts are checked.
 
-ghost use Rattle.std.specs.Prelude.{◌≡◌, Some, IfOk, length};
+ghost use Rattle.std.specs.Prelude.{◌≡◌, ℕ, List, Some, IfOk, IfSome, Ok, length};
 ghost use Rattle.protowire.specs.Fields.{message as joined};
 ghost use Rattle.protowire.specs.Seen.{entries, spelled_all, StandInRow};
 ghost use Rattle.protowire.specs.Reading.{Gives};
 ghost use Rattle.protowire.specs.Lookups.{last_member};
-ghost use Rattle.opsproto.specs.Ops.{members, kind_of, kept, stripped_of, op_of};
+ghost use Rattle.opsproto.specs.Ops.{members, kind_of, kept, stripped_of, op_of, StandsAt};
 ghost use Rattle.opsproto.specs.RawOps.{parts, parts_in};
 ghost use Rattle.opsproto.specs.Mounts.{member_mounts_of};
 
@@ -15,7 +15,7 @@ use super::input::Input;
 use super::op::Kind;
 use super::reading::{INPUTS, exec_mounts_of, exec_of, inputs_of};
 use farm_base::Items;
-use protowire::{Field, WireRefusal};
+use protowire::{Field, Span, WireRefusal};
 use std::alloc::{AllocError, Global};
 
 /// The field number of an exec op.
@@ -41,7 +41,8 @@ fn member_kind(alloc: Global, number: u32, body: &[u8]) -> Result<Kind<Bytes>, W
     }
 }
 
-fn kind_of(alloc: Global, fields: &[Field<'_>]) -> Result<Kind<Bytes>, WireRefusal>
+/// What an op does.
+pub(crate) fn kind_of(alloc: Global, fields: &[Field<'_>]) -> Result<Kind<Bytes>, WireRefusal>
     ensures { Gives (λ v. v) result (kind_of (last_member members (entries fields.now))) }
 {
     if let Some((number, body)) = protowire::lone_member(fields, &MEMBERS) {
@@ -126,4 +127,35 @@ pub(crate) fn stripped_of(alloc: Global, message: &[u8]) -> Result<Bytes, WireRe
 {
     let fields = protowire::fields(alloc, message)?;
     Ok(stripped(alloc, message, &fields)?)
+}
+
+/// Where all fields but the inputs stand, if they stand in one piece.
+fn one_piece(fields: &[Field<'_>]) -> Option<Span>
+    ensures { IfSome result (λ place. (message : List ℕ) → StandInRow 0 fields.now (length message)
+        → StandsAt message (joined (kept (spelled_all message fields.now))) place.start place.end) }
+{
+    let mut start = 0;
+    let mut end = 0;
+    for field in fields {
+        if field.number == INPUTS {
+            continue;
+        }
+        if start == end {
+            start = field.start;
+        } else if field.start != end {
+            return None;
+        }
+        end = field.end;
+    }
+    Some(Span { start, end })
+}
+
+/// Where the stripped bytes stand in an op's bytes, if they stand in one piece.
+#[tactic(auto, using(crate::proofs::ReadingLemmas::says_spelled))]
+pub(crate) fn stripped_place(alloc: Global, message: &[u8]) -> Result<Option<Span>, WireRefusal>
+    ensures { IfOk result (λ found. IfSome found (λ place. (stripped : List ℕ) → stripped_of message.now ≡ Ok stripped
+        → StandsAt message.now stripped place.start place.end)) }
+{
+    let fields = protowire::fields(alloc, message)?;
+    Ok(one_piece(&fields))
 }

@@ -1,7 +1,6 @@
 ghost use Rattle.std.specs.Prelude.{◌≡◌, ℕ, List, Ok};
 ghost use Rattle.opsproto.specs.Refusals.{Gives};
-ghost use Rattle.opsproto.specs.Texts.{each_checked, input_checked};
-ghost use Rattle.opsproto.specs.Ops.{kind_checked, op_at, op_checked, op_of};
+ghost use Rattle.opsproto.specs.Ops.{kind_checked, kind_read, op_at, op_checked, op_of};
 ghost use Rattle.opsproto.specs.RawOps.{parts};
 ghost use Rattle.opsproto.specs.Mounts.{mounts_read};
 ghost use Rattle.opsproto.specs.Definitions.{definition_at};
@@ -10,7 +9,7 @@ use super::definition::Definition;
 use super::exec::Mount;
 use super::fields::{Bytes, fields};
 use super::op::{Kind, Op};
-use super::raw::{RawOp, mounts_in, raw_op};
+use super::raw::{RawOp, kind_of, mounts_in, raw_op};
 use super::refusal::OpRefusal;
 use super::texts::{exec_checked, inputs_checked, mounts_checked};
 use farm_base::Items;
@@ -56,6 +55,15 @@ pub fn read_op(alloc: Global, bytes: &[u8]) -> Result<Op, OpRefusal>
     }
     let raw = raw_op(alloc, bytes)?;
     op_checked(alloc, raw)
+}
+
+/// Reads the kind of an op alone.
+pub(crate) fn read_kind(alloc: Global, bytes: &[u8]) -> Result<Kind, OpRefusal>
+    ensures { Gives (λ kind. kind) result (kind_read bytes.now) }
+{
+    let fields = fields(alloc, bytes)?;
+    let raw = kind_of(alloc, &fields)?;
+    kind_checked(alloc, raw)
 }
 
 /// Reads the mounts of an op alone.

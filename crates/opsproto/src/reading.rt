@@ -1,6 +1,5 @@
 //! What the bytes of a message mean, before its texts are checked.
 
-ghost use Rattle.std.specs.Prelude.{◌≡◌};
 ghost use Rattle.protowire.specs.Seen.{entries};
 ghost use Rattle.protowire.specs.Reading.{Gives};
 ghost use Rattle.protowire.specs.Lookups.{bodies, joined_body};

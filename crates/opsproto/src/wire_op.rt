@@ -1,12 +1,13 @@
-ghost use Rattle.std.specs.Prelude.{◌≡◌, IfOk, IsOk, Ok};
-ghost use Rattle.opsproto.specs.Ops.{op_at};
+ghost use Rattle.std.specs.Prelude.{◌≡◌, IfOk, IfSome, IsOk, Ok};
+ghost use Rattle.opsproto.specs.Ops.{op_at, op_in, StandsAt};
 ghost use Rattle.opsproto.specs.Mounts.{mounts_in};
 
 use super::exec::Mount;
-use super::op::Op;
-use super::raw::stripped_of;
-use super::read::{read_mounts, read_op};
+use super::op::{Kind, Op};
+use super::raw::{self, stripped_of};
+use super::read::{read_kind, read_mounts, read_op};
 use farm_base::Items;
+use protowire::Span;
 use std::alloc::{AllocError, Global};
 use std::marker::Model;
 
@@ -44,7 +45,18 @@ impl<'a> WireOp<'a> {
         read_op(alloc, self.bytes).map_err(|_| AllocError)
     }
 
-    /// Its mounts. Nothing else of it takes memory, so its words may be long.
+    /// What it does, without a copy of its stripped bytes.
+    pub fn kind(&self, alloc: Global) -> Result<Kind, AllocError>
+        ensures { IfOk result (λ kind. kind ≡ self.now.kind) }
+    {
+        match read_kind(alloc, self.bytes) {
+            Ok(kind) => Ok(kind),
+            // These bytes have no fault, so only memory can run out.
+            Err(_) => Err(AllocError),
+        }
+    }
+
+    /// Its mounts alone, without a copy of its words.
     pub fn mounts(&self, alloc: Global) -> Result<Items<Mount>, AllocError>
         ensures { IfOk result (λ mounts. mounts ≡ mounts_in self.now.kind) }
     {
@@ -63,5 +75,17 @@ impl<'a> WireOp<'a> {
             Ok(bytes) => Ok(bytes.into_vec()),
             Err(_) => Err(AllocError),
         }
+    }
+}
+
+/// Where the stripped bytes of an op stand in the op's bytes, if they stand in one piece.
+pub fn stripped_place(alloc: Global, bytes: &[u8]) -> Result<Option<Span>, AllocError>
+    requires { IsOk (op_at bytes.now) }
+    ensures { IfOk result (λ found. IfSome found (λ place. StandsAt bytes.now (op_in bytes.now).stripped place.start place.end)) }
+{
+    match raw::stripped_place(alloc, bytes) {
+        Ok(found) => Ok(found),
+        // These bytes have no fault, so only memory can run out.
+        Err(_) => Err(AllocError),
     }
 }

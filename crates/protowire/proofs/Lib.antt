@@ -2,6 +2,7 @@ pub mod BodyLoop
 pub mod FieldLaws
 pub mod FieldLoop
 pub mod SpanLemmas
+pub mod PartLemmas
 pub mod VarintLaws
 pub mod VarintLoop
 pub mod LookupLoop

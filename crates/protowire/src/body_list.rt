@@ -1,13 +1,15 @@
-ghost use Rattle.std.specs.Prelude.{◌≡◌, ◌<◌, Some, length, slice_get};
+ghost use Rattle.std.specs.Prelude.{◌≡◌, ◌<◌, Some, IfOk, length, slice_get};
 ghost use Rattle.protowire.specs.BodyLists.{AreWithin, pieces};
 
+use super::shared_bodies::SharedBodies;
 use farm_base::Copied;
 use std::alloc::{AllocError, Global};
 use std::marker::Model;
+use std::sync::Arc;
 
-/// Where a byte string stands in a buffer.
+/// Where a byte string stands in another: from `start` on, and before `end`.
 #[derive(Clone, Copy)]
-pub(crate) struct Span {
+pub struct Span {
     pub start: usize,
     pub end: usize,
 }
@@ -81,6 +83,14 @@ impl BodyList {
             return Err(failed.into());
         }
         Ok(())
+    }
+
+    /// The same byte strings, of which parts can be shared. No byte is copied.
+    pub fn share(self, alloc: Global) -> Result<SharedBodies, AllocError>
+        ensures { IfOk result (λ bodies. bodies ≡ self) }
+    {
+        let BodyList { buffer, spans } = self;
+        Ok(SharedBodies::at(Arc::new(alloc, buffer)?, spans))
     }
 }
 

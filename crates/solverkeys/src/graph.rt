@@ -1,4 +1,4 @@
-ghost use Rattle.std.specs.Prelude.{◌≡◌, ◌<◌, ℕ, length, All, IfOk};
+ghost use Rattle.std.specs.Prelude.{◌≡◌, ◌<◌, length, All, IfOk};
 ghost use Rattle.vertices.specs.Loading.{IsGraph};
 ghost use Rattle.solverkeys.specs.GraphKeys.{AreKeys, TakesKeys, FollowsKeys};
 

@@ -4,6 +4,7 @@ pub mod GraphLemmas
 pub mod LoadLemmas
 pub mod OrderLaws
 pub mod RowLemmas
+pub mod SharedLemmas
 pub mod SortingLemmas
 pub mod TableLemmas
 pub mod ZipLemmas

@@ -1,5 +1,5 @@
 -- What a definition means as a graph (this project's own, over BuildKit's ops.proto).
-use Rattle.std.specs.Prelude.{◌≡◌, ℕ, ◌+◌, ◌-◌, ◌<◌, List, [], ◌∷◌, length, map, take, slice_index_or, slice_get, Option, Some, None, IsOk, IfSome}
+use Rattle.std.specs.Prelude.{◌≡◌, ℕ, ◌+◌, ◌-◌, ◌<◌, List, [], ◌∷◌, length, map, take, slice_index_or, slice_get, Some, None, IsOk, IfSome}
 use Rattle.std.specs.List.{AllByRecursion, Contains, AllZip}
 use Rattle.std.specs.List.Sorted.{IsStrictlyIncreasing}
 use Rattle.sha2.specs.Sha256.{sha256}
@@ -9,7 +9,6 @@ use Rattle.opsproto.specs.Scalars.{Text}
 use Rattle.opsproto.specs.declared.input.Input.{Input}
 use Rattle.opsproto.specs.Ops.{op_at, op_in}
 use Rattle.vertices.specs.declared.vertex.Vertex.{Vertex}
-use Rattle.vertices.specs.declared.refusal.LoadRefusal.{LoadRefusal}
 use Rattle.vertices.specs.declared.refusal.LoadRefusal.TheVariants as refusal
 use Rattle.vertices.specs.Firsts.{IsFirstAt}
 use Rattle.vertices.specs.Orders as orders

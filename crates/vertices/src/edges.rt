@@ -1,4 +1,4 @@
-ghost use Rattle.std.specs.Prelude.{◌≡◌, ◌<◌, List, IfOk, IfSome, IfNone, IsTrue, length};
+ghost use Rattle.std.specs.Prelude.{◌≡◌, ◌<◌, List, IfOk, IfSome, IfNone, IsTrue};
 ghost use Rattle.farm_base.specs.declared.digest.Digest.{Digest as SpecDigest};
 ghost use Rattle.farm_base.specs.Digests.{IsDigest, digest_text, encode_lower};
 ghost use Rattle.std.specs.List.{AllZip};

@@ -1,6 +1,6 @@
-ghost use Rattle.std.specs.Prelude.{◌≡◌, ◌<◌, ◌≤◌, pos, length, map, codes, IsTrue, ◌↔◌, Contains};
+ghost use Rattle.std.specs.Prelude.{◌≡◌, map, codes, IsTrue, ◌↔◌, Contains};
 ghost use Rattle.vertices.specs.Outcomes.{Each, refused};
-ghost use Rattle.vertices.specs.OpChecks.{IsMountInput, MountCheck, SharingCheck, CacheCheck, ExecCheck, KindCheck, cache_count};
+ghost use Rattle.vertices.specs.OpChecks.{IsMountInput, MountCheck, CacheCheck, ExecCheck, KindCheck, cache_count};
 
 use super::refusal::LoadRefusal;
 use opsproto::{CacheOpt, ExecOp, Kind, Meta, Mount};

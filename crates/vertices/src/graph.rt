@@ -1,17 +1,18 @@
-ghost use Rattle.std.specs.Prelude.{◌≡◌, ◌<◌, ℕ, List, length, slice_get, Some, IfOk};
+ghost use Rattle.std.specs.Prelude.{◌≡◌, ◌<◌, length, slice_get, Some, IfOk};
 ghost use Rattle.vertices.specs.declared.vertex.Vertex.{Vertex as SpecVertex};
 ghost use Rattle.vertices.specs.Loading.{GraphParts, IsGraph, digest_in};
 
 use super::vertex::{Source, Vertex};
 use farm_base::{Digest, Items};
-use opsproto::WireOp;
-use protowire::BodyList;
+use opsproto::{WireOp, stripped_place};
+use protowire::{SharedBodies, SharedBytes};
+use std::alloc::{AllocError, Global};
 use std::marker::Model;
 
 /// A graph without cycles, whose edges all name vertices of it. Its vertices have numbers from 0,
 /// by rising place.
 pub struct Graph {
-    pub(crate) entries: BodyList,
+    pub(crate) entries: SharedBodies,
     pub(crate) sources: Vec<Source>,
     pub(crate) edges: Vec<Items<(usize, u64)>>,
     pub(crate) order: Vec<usize>,
@@ -71,6 +72,20 @@ impl Graph {
         ensures { (vertex : SpecVertex) → slice_get self.now.vertices number ≡ Some vertex → result ≡ digest_in vertex.op.stripped }
     {
         self.sources[number].stripped
+    }
+
+    /// The stripped bytes of a vertex's op. Where they stand in one piece in its entry, the graph shares them, and none is
+    /// copied.
+    pub fn stripped(&self, alloc: Global, number: usize) -> Result<SharedBytes, AllocError>
+        requires { number < length self.now.vertices }
+        ensures { (vertex : SpecVertex) → slice_get self.now.vertices number ≡ Some vertex → IfOk result (λ bytes. bytes ≡ vertex.op.stripped) }
+    {
+        let place = self.sources[number].place;
+        let entry = self.entries.body(place);
+        match stripped_place(alloc, entry)? {
+            Some(span) => self.entries.part(place, span),
+            None => Ok(SharedBytes::own(WireOp::new(entry).stripped(alloc)?)),
+        }
     }
 
     /// The edges of a vertex: for each of its inputs, in order, the number of the vertex that it

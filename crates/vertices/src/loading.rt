@@ -118,7 +118,7 @@ impl Loading {
         let Some(order) = edge_order(alloc, edges.as_slice())? else {
             return Err(LoadRefusal::Cycle);
         };
-        let entries = self.entries;
+        let entries = self.entries.share(alloc)?;
         let sources = self.sources;
         Ok(Graph {
             entries,

@@ -1,7 +1,6 @@
-ghost use Rattle.std.specs.Prelude.{◌≡◌, ◌<◌, ℕ, [], Some, List, length, slice_get, Contains, IfOk, IfSome, IfNone, OnOk};
-ghost use Rattle.std.specs.List.{AllZip};
+ghost use Rattle.std.specs.Prelude.{◌≡◌, ◌<◌, ℕ, [], Some, List, length, slice_get, IfOk, IfSome, IfNone, OnOk};
 ghost use Rattle.farm_base.specs.declared.digest.Digest.{Digest as SpecDigest};
-ghost use Rattle.vertices.specs.Firsts.{IsFirstAt, IsTable};
+ghost use Rattle.vertices.specs.Firsts.{IsTable};
 ghost use Rattle.vertices.specs.Orders.{IsOrder, IsCyclic};
 ghost use Rattle.vertices.specs.Entries.{Entry, digests_of, IsVertex, NamesInput, LacksInput, AreResolved, HasUnknown, IsRowOf, AreRowsOf};
 

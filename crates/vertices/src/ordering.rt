@@ -1,4 +1,4 @@
-ghost use Rattle.std.specs.Prelude.{◌≡◌, ◌<◌, ◌≤◌, ℕ, List, [], ◌∷◌, length, vec_len, IfOk, OnOk, IfSome, IfNone, MatchOption, All, Contains, replicate, map, false, true, IsTrue};
+ghost use Rattle.std.specs.Prelude.{◌≡◌, ◌<◌, ℕ, List, [], ◌∷◌, length, IfOk, OnOk, IfSome, IfNone, All, replicate, map, false, true};
 ghost use Rattle.std.specs.Bool.{OnTrue, OnFalse, MatchBool};
 ghost use Rattle.vertices.specs.Flags.{flag_at, ArePlaced, IsFirstOpen, HasOpen};
 ghost use Rattle.vertices.specs.Waiters.{first_look};

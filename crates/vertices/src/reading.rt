@@ -1,5 +1,4 @@
 ghost use Rattle.std.specs.Prelude.{◌≡◌, IfOk, Ok};
-ghost use Rattle.sha2.specs.Sha256.{sha256};
 ghost use Rattle.opsproto.specs.Ops.{op_at};
 ghost use Rattle.farm_base.specs.Digests.{IsDigest};
 ghost use Rattle.vertices.specs.Outcomes.{Meets};

@@ -1,4 +1,4 @@
-ghost use Rattle.std.specs.Prelude.{◌≡◌, ◌++◌, ◌∷◌, ◌<◌, ℕ, [], List, Some, None, length, if◌then◌else◌, OnOk, IfOk, IfSome, IfNone, slice_get};
+ghost use Rattle.std.specs.Prelude.{◌≡◌, ◌++◌, ◌∷◌, ℕ, [], List, Some, length, if◌then◌else◌, OnOk, IfOk, IfSome, IfNone, slice_get};
 
 use farm_base::Digest;
 use std::alloc::{AllocError, Global};

@@ -1,8 +1,6 @@
-use Rattle.std.proofs.Common.{List, Result, Ok, ap, sym, ◌∙◌}
+use Rattle.std.proofs.Common.{ap, sym, ◌∙◌}
 use Rattle.codec.proofs.Steps.{ok_is}
 use Rattle.opsproto.specs.declared.refusal.OpRefusal.{OpRefusal}
-use Rattle.opsproto.specs.declared.exec.Mount.{Mount}
-use Rattle.opsproto.specs.Scalars.{Text}
 use Rattle.opsproto.specs.Ops.{OpParts, op_in}
 use Rattle.opsproto.specs.Mounts.{mounts_in}
 use Rattle.opsproto.proofs.MountLemmas.{mounts_are}

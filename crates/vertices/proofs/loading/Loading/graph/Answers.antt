@@ -9,7 +9,8 @@ use Rattle.opsproto.specs.Scalars.{Text}
 use Rattle.opsproto.specs.declared.input.Input.{Input}
 use Rattle.vertices.specs.Edges.{IsEdge, AreEdges, GoesTo}
 use Rattle.vertices.specs.Loaded.{vertices_in}
-use Rattle.vertices.specs.Loading.{HasEdge, IsCyclic, ResultCheck, VertexCheck, digests_in}
+use Rattle.vertices.specs.Kept.{AreKept, parts}
+use Rattle.vertices.specs.Loading.{IsGraph, HasEdge, IsCyclic, ResultCheck, VertexCheck, digests_in}
 use Rattle.vertices.proofs.LoadLemmas.{loaded_numbers}
 use Rattle.vertices.proofs.EntryLemmas.{at_some, at_none, cycle_same}
 use Rattle.vertices.proofs.GraphLemmas.{all_runnable, result_check, edges_answer, edge_within, edge_named, named_edge, vertex_order}
@@ -65,7 +66,8 @@ invariant_of-result c =
     let order = at_some c.in_ok-order.field-0 _ c.in-Some-2.order c.in_ok-order.ensures.order c.in-Some-2.is in
     let acyclic = at_some c.in_ok-order.field-0 _ c.in-Some-2.order c.in_ok-order.ensures.acyclic c.in-Some-2.is in
     let edge = c.in_ok-result.ensures.edge c.in-Some.input.now digests vertices c.of.ensures n in
-    record {
+    subst (λ (entries : List (List ℕ)). AreKept entries c.args.self.sources.items (parts entries c.args.self.sources.items edges c.in-Some-2.order.items c.in_ok-result.result)) (sym c.in_ok-entries.ensures)
+    (record {
       graph = record {
         runnable = all_runnable digests vertices (c.in_ok-edges.ensures.check vertices digests c.requires.loaded.1.asked n);
         edges = are;
@@ -76,7 +78,7 @@ invariant_of-result c =
         result = slice_get_within vertices c.in_ok-result.result.0 edge.vertex edge.there;
       };
       ops = c.requires.loaded.1.sources;
-    }
+    })
 
 pub returns-clause-check : goal.returns-clause-check
 returns-clause-check c = λ digests n.
@@ -108,7 +110,8 @@ returns-clause-graph c =
     let order = at_some c.in_ok-order.field-0 _ c.in-Some-2.order c.in_ok-order.ensures.order c.in-Some-2.is in
     let acyclic = at_some c.in_ok-order.field-0 _ c.in-Some-2.order c.in_ok-order.ensures.acyclic c.in-Some-2.is in
     let edge = c.in_ok-result.ensures.edge c.in-Some.input.now digests vertices c.of.ensures n in
-    record {
+    subst (λ (entries : List (List ℕ)). IsGraph (parts entries c.args.self.sources.items edges c.in-Some-2.order.items c.in_ok-result.result)) (sym c.in_ok-entries.ensures)
+    (record {
       runnable = all_runnable digests vertices (c.in_ok-edges.ensures.check vertices digests c.requires.loaded.1.asked n);
       edges = are;
       order = vertex_order digests vertices c.args.self.table n edges are c.in-Some-2.order.items
@@ -116,7 +119,7 @@ returns-clause-graph c =
       acyclic = λ cycle. acyclic (subst (λ (es : List (List (ℕ × ℕ))). orders.IsCyclic (GoesTo es)) (sym c.as_slice.ensures.value)
           (cycle_same (HasEdge vertices) (GoesTo edges) (named_edge digests vertices c.args.self.table n edges are) cycle));
       result = slice_get_within vertices c.in_ok-result.result.0 edge.vertex edge.there;
-    }
+    })
 
 pub returns-clause-result : goal.returns-clause-result
 returns-clause-result c =
