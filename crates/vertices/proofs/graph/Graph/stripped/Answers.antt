@@ -19,7 +19,7 @@ returns-in-Some c = λ vertex at.
     let op = op_of_source entries sources c.args.number c.index.result.now vertex c.body-entry.result.now less c.index.ensures c.body-entry.ensures own in
     part_is c.part.result (slice_get entries c.index.result.now.place) c.body-entry.result.now vertex.op.stripped c.in-Some.span.start c.in-Some.span.end c.body-entry.ensures c.part.ensures
     (subst (λ (o : OpParts). StandsAt c.body-entry.result.now o.stripped c.in-Some.span.start c.in-Some.span.end) op
-    (at_some c.in_ok-start.field-0 (λ place. StandsAt c.body-entry.result.now (op_in c.body-entry.result.now).stripped place.start place.end) c.in-Some.span c.in_ok-start.ensures c.in-Some.is))
+    (at_some c.in_ok-span.field-0 (λ place. StandsAt c.body-entry.result.now (op_in c.body-entry.result.now).stripped place.start place.end) c.in-Some.span c.in_ok-span.ensures c.in-Some.is))
 
 pub returns-in_ok-stripped-in-None : goal.returns-in_ok-stripped-in-None
 returns-in_ok-stripped-in-None c = λ vertex at.
