@@ -9,7 +9,7 @@ use Rattle.opsproto.specs.Reading.{each_of, input_of}
 use Rattle.opsproto.specs.Ops.{OpParts, members, kind_of}
 
 abbrev pub parts : RawOp → OpParts
-parts raw = record { inputs = raw.inputs; kind = raw.kind; stripped = raw.stripped }
+parts raw = record { inputs = raw.inputs; kind = raw.kind; stripped = raw.stripped.now }
 
 -- what an op's fields mean, where the fields but the inputs have these bytes
 abbrev pub parts_in : List Entry → List ℕ → Result OpParts WireRefusal

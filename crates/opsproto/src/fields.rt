@@ -5,12 +5,10 @@ ghost use Rattle.protowire.specs.Lookups.{bodies};
 ghost use Rattle.opsproto.specs.Scalars.{int64_in, int32_in, bool_in, text_in};
 ghost use Rattle.opsproto.specs.Reading.{entries_of};
 
+use super::lent::RawText;
 use farm_base::Items;
 use protowire::{Field, Value, WireRefusal};
 use std::alloc::{AllocError, Global};
-
-/// A text as it is read, which may not be UTF-8.
-pub(crate) type Bytes = Items<u8>;
 
 /// The fields of a message.
 #[tactic(auto, using(crate::proofs::ReadingLemmas::says_spelled), unfolding(crate::specs::Reading::entries_of))]
@@ -42,17 +40,17 @@ pub(crate) fn bool_in(fields: &[Field<'_>], number: u32) -> bool
 }
 
 /// The last string of this number.
-pub(crate) fn text_in(alloc: Global, fields: &[Field<'_>], number: u32) -> Result<Bytes, AllocError>
-    ensures { IfOk result (λ text. text ≡ text_in number (entries fields.now)) }
+pub(crate) fn text_in<'a>(fields: &[Field<'a>], number: u32) -> RawText<'a>
+    ensures { result ≡ text_in number (entries fields.now) }
 {
-    let mut last: &[u8] = &[];
+    let mut last: &'a [u8] = &[];
     for field in fields {
         match field.value {
             Value::Bytes(body) if field.number == number => last = body,
             _ => {}
         }
     }
-    Ok(Items::new(Vec::from_slice(alloc, last)?))
+    RawText::new(last)
 }
 
 /// How many bodies have this number.
@@ -64,17 +62,17 @@ pub(crate) fn body_count(fields: &[Field<'_>], number: u32) -> usize {
 }
 
 /// The strings of this number.
-pub(crate) fn texts_in(
+pub(crate) fn texts_in<'a>(
     alloc: Global,
-    fields: &[Field<'_>],
+    fields: &[Field<'a>],
     number: u32,
-) -> Result<Items<Bytes>, AllocError>
+) -> Result<Items<RawText<'a>>, AllocError>
     ensures { IfOk result (λ texts. texts ≡ bodies number (entries fields.now)) }
 {
     let mut texts = Vec::with_capacity(alloc, body_count(fields, number))?;
     for field in fields {
         if let Some(body) = protowire::body_in(field, number) {
-            texts.push(Items::new(Vec::from_slice(alloc, body)?))?;
+            texts.push(RawText::new(body))?;
         }
     }
     Ok(Items::new(texts))

@@ -1,7 +1,6 @@
 ghost use Rattle.std.specs.Prelude.{◌≡◌, IfOk};
 
 use super::exec::{ExecOp, Mount};
-use super::fields::Bytes;
 use super::input::Input;
 use super::raw::EXEC;
 use super::write::write_exec;
@@ -23,7 +22,7 @@ pub enum Kind<T = Text> {
 pub struct Op {
     inputs: Items<Input>,
     kind: Kind,
-    stripped: Bytes,
+    stripped: Items<u8>,
 }
 
 // By hand, so that letting go of one is one step of a proof.
@@ -52,7 +51,7 @@ impl Op {
     ghost use Rattle.opsproto.specs.Writing.{exec_text};
     ghost use Rattle.protowire.specs.Writing.{bytes_field};
 
-    pub(crate) fn new(inputs: Items<Input>, kind: Kind, stripped: Bytes) -> Self
+    pub(crate) fn new(inputs: Items<Input>, kind: Kind, stripped: Items<u8>) -> Self
         requires { IsOp stripped kind }
         ensures { result ≡ record { inputs = inputs; kind = kind; stripped = stripped } }
     {
@@ -123,7 +122,7 @@ impl Copied for Kind {
     }
 }
 
-pub(crate) fn copied_bytes(alloc: Global, bytes: &Bytes) -> Result<Bytes, AllocError>
+pub(crate) fn copied_bytes(alloc: Global, bytes: &Items<u8>) -> Result<Items<u8>, AllocError>
     ensures { IfOk result (λ copy. copy ≡ bytes.now) }
 {
     Ok(Items::new(Vec::from_slice(alloc, bytes.as_slice())?))

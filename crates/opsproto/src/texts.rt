@@ -1,29 +1,34 @@
-//! The same messages, with texts that are known to be UTF-8.
+//! The same messages, with texts that are known to be UTF-8. All are lent from the bytes of the message.
 
 ghost use Rattle.std.specs.Prelude.{◌≡◌};
 ghost use Rattle.opsproto.specs.Refusals.{Gives};
 ghost use Rattle.opsproto.specs.Texts.{text_checked, each_checked, optional_checked, with_front, input_checked, cache_checked, mount_checked, meta_checked, exec_checked};
 
 use super::exec::{CacheOpt, ExecOp, Meta, Mount};
-use super::fields::Bytes;
 use super::input::Input;
+use super::lent::{LentText, RawText};
 use super::refusal::OpRefusal;
-use farm_base::{Items, Text};
+use farm_base::Items;
 use std::alloc::Global;
+use std::str;
 
-fn text_checked(bytes: Bytes, number: u32) -> Result<Text, OpRefusal>
-    ensures { result ≡ text_checked number bytes }
+fn text_checked<'a>(raw: RawText<'a>, number: u32) -> Result<LentText<'a>, OpRefusal>
+    ensures { result ≡ text_checked number raw.entry }
 {
-    match String::from_utf8(bytes.into_vec()) {
-        Ok(string) => Ok(Text::new(string)),
+    match str::from_utf8(raw.as_slice()) {
+        Ok(text) => Ok(LentText::new(text)),
         Err(_) => Err(OpRefusal::NotUtf8(number)),
     }
 }
 
 /// Checks texts, and adds them at the end.
 #[tactic(auto, using(crate::proofs::TextLemmas::goes_on, crate::proofs::TextLemmas::stops, crate::proofs::TextLemmas::is_done))]
-fn check_texts(checked: &mut Vec<Text>, texts: Vec<Bytes>, number: u32) -> Result<(), OpRefusal>
-    ensures { Gives (λ _. checked.new.items) result (with_front checked.old.items (each_checked (text_checked number) texts.items)) }
+fn check_texts<'a>(
+    checked: &mut Vec<LentText<'a>>,
+    texts: Vec<RawText<'a>>,
+    number: u32,
+) -> Result<(), OpRefusal>
+    ensures { Gives (λ _. checked.new.items) result (with_front checked.old.items (each_checked (text_checked number) texts.entry.items)) }
 {
     for text in texts {
         checked.push(text_checked(text, number)?)?;
@@ -32,8 +37,12 @@ fn check_texts(checked: &mut Vec<Text>, texts: Vec<Bytes>, number: u32) -> Resul
 }
 
 #[tactic(auto, using(crate::proofs::TextLemmas::no_front))]
-fn texts_checked(alloc: Global, texts: Items<Bytes>, number: u32) -> Result<Items<Text>, OpRefusal>
-    ensures { Gives (λ v. v) result (each_checked (text_checked number) texts) }
+fn texts_checked<'a>(
+    alloc: Global,
+    texts: Items<RawText<'a>>,
+    number: u32,
+) -> Result<Items<LentText<'a>>, OpRefusal>
+    ensures { Gives (λ v. v) result (each_checked (text_checked number) texts.entry) }
 {
     let texts = texts.into_vec();
     let mut checked = Vec::with_capacity(alloc, texts.len())?;
@@ -42,8 +51,8 @@ fn texts_checked(alloc: Global, texts: Items<Bytes>, number: u32) -> Result<Item
 }
 
 #[tactic(auto, unfolding(crate::specs::Texts::input_checked))]
-fn input_checked(input: Input<Bytes>) -> Result<Input, OpRefusal>
-    ensures { result ≡ input_checked input }
+fn input_checked<'a>(input: Input<RawText<'a>>) -> Result<Input<LentText<'a>>, OpRefusal>
+    ensures { result ≡ input_checked input.entry }
 {
     Ok(Input {
         digest: text_checked(input.digest, 1)?,
@@ -52,8 +61,8 @@ fn input_checked(input: Input<Bytes>) -> Result<Input, OpRefusal>
 }
 
 #[tactic(auto, unfolding(crate::specs::Texts::cache_checked))]
-fn cache_checked(cache: CacheOpt<Bytes>) -> Result<CacheOpt, OpRefusal>
-    ensures { result ≡ cache_checked cache }
+fn cache_checked<'a>(cache: CacheOpt<RawText<'a>>) -> Result<CacheOpt<LentText<'a>>, OpRefusal>
+    ensures { result ≡ cache_checked cache.entry }
 {
     Ok(CacheOpt {
         id: text_checked(cache.id, 1)?,
@@ -61,8 +70,10 @@ fn cache_checked(cache: CacheOpt<Bytes>) -> Result<CacheOpt, OpRefusal>
     })
 }
 
-fn found_cache_checked(found: Option<CacheOpt<Bytes>>) -> Result<Option<CacheOpt>, OpRefusal>
-    ensures { result ≡ optional_checked cache_checked found }
+fn found_cache_checked<'a>(
+    found: Option<CacheOpt<RawText<'a>>>,
+) -> Result<Option<CacheOpt<LentText<'a>>>, OpRefusal>
+    ensures { result ≡ optional_checked cache_checked found.entry }
 {
     match found {
         Some(cache) => Ok(Some(cache_checked(cache)?)),
@@ -71,8 +82,8 @@ fn found_cache_checked(found: Option<CacheOpt<Bytes>>) -> Result<Option<CacheOpt
 }
 
 #[tactic(auto, unfolding(crate::specs::Texts::mount_checked))]
-fn mount_checked(mount: Mount<Bytes>) -> Result<Mount, OpRefusal>
-    ensures { result ≡ mount_checked mount }
+fn mount_checked<'a>(mount: Mount<RawText<'a>>) -> Result<Mount<LentText<'a>>, OpRefusal>
+    ensures { result ≡ mount_checked mount.entry }
 {
     Ok(Mount {
         input: mount.input,
@@ -86,8 +97,8 @@ fn mount_checked(mount: Mount<Bytes>) -> Result<Mount, OpRefusal>
 }
 
 #[tactic(auto, unfolding(crate::specs::Texts::meta_checked))]
-fn meta_checked(alloc: Global, meta: Meta<Bytes>) -> Result<Meta, OpRefusal>
-    ensures { Gives (λ v. v) result (meta_checked meta) }
+fn meta_checked<'a>(alloc: Global, meta: Meta<RawText<'a>>) -> Result<Meta<LentText<'a>>, OpRefusal>
+    ensures { Gives (λ v. v) result (meta_checked meta.entry) }
 {
     Ok(Meta {
         args: texts_checked(alloc, meta.args, 1)?,
@@ -97,8 +108,11 @@ fn meta_checked(alloc: Global, meta: Meta<Bytes>) -> Result<Meta, OpRefusal>
     })
 }
 
-fn found_meta_checked(alloc: Global, found: Option<Meta<Bytes>>) -> Result<Option<Meta>, OpRefusal>
-    ensures { Gives (λ v. v) result (optional_checked meta_checked found) }
+fn found_meta_checked<'a>(
+    alloc: Global,
+    found: Option<Meta<RawText<'a>>>,
+) -> Result<Option<Meta<LentText<'a>>>, OpRefusal>
+    ensures { Gives (λ v. v) result (optional_checked meta_checked found.entry) }
 {
     match found {
         Some(meta) => Ok(Some(meta_checked(alloc, meta)?)),
@@ -108,8 +122,11 @@ fn found_meta_checked(alloc: Global, found: Option<Meta<Bytes>>) -> Result<Optio
 
 /// Checks mounts, and adds them at the end.
 #[tactic(auto, using(crate::proofs::TextLemmas::goes_on, crate::proofs::TextLemmas::stops, crate::proofs::TextLemmas::is_done))]
-fn check_mounts(checked: &mut Vec<Mount>, mounts: Vec<Mount<Bytes>>) -> Result<(), OpRefusal>
-    ensures { Gives (λ _. checked.new.items) result (with_front checked.old.items (each_checked mount_checked mounts.items)) }
+fn check_mounts<'a>(
+    checked: &mut Vec<Mount<LentText<'a>>>,
+    mounts: Vec<Mount<RawText<'a>>>,
+) -> Result<(), OpRefusal>
+    ensures { Gives (λ _. checked.new.items) result (with_front checked.old.items (each_checked mount_checked mounts.entry.items)) }
 {
     for mount in mounts {
         checked.push(mount_checked(mount)?)?;
@@ -118,11 +135,11 @@ fn check_mounts(checked: &mut Vec<Mount>, mounts: Vec<Mount<Bytes>>) -> Result<(
 }
 
 #[tactic(auto, using(crate::proofs::TextLemmas::no_front))]
-pub(crate) fn mounts_checked(
+pub(crate) fn mounts_checked<'a>(
     alloc: Global,
-    mounts: Items<Mount<Bytes>>,
-) -> Result<Items<Mount>, OpRefusal>
-    ensures { Gives (λ v. v) result (each_checked mount_checked mounts) }
+    mounts: Items<Mount<RawText<'a>>>,
+) -> Result<Items<Mount<LentText<'a>>>, OpRefusal>
+    ensures { Gives (λ v. v) result (each_checked mount_checked mounts.entry) }
 {
     let mounts = mounts.into_vec();
     let mut checked = Vec::with_capacity(alloc, mounts.len())?;
@@ -132,8 +149,11 @@ pub(crate) fn mounts_checked(
 
 /// Checks inputs, and adds them at the end.
 #[tactic(auto, using(crate::proofs::TextLemmas::goes_on, crate::proofs::TextLemmas::stops, crate::proofs::TextLemmas::is_done))]
-fn check_inputs(checked: &mut Vec<Input>, inputs: Vec<Input<Bytes>>) -> Result<(), OpRefusal>
-    ensures { Gives (λ _. checked.new.items) result (with_front checked.old.items (each_checked input_checked inputs.items)) }
+fn check_inputs<'a>(
+    checked: &mut Vec<Input<LentText<'a>>>,
+    inputs: Vec<Input<RawText<'a>>>,
+) -> Result<(), OpRefusal>
+    ensures { Gives (λ _. checked.new.items) result (with_front checked.old.items (each_checked input_checked inputs.entry.items)) }
 {
     for input in inputs {
         checked.push(input_checked(input)?)?;
@@ -142,11 +162,11 @@ fn check_inputs(checked: &mut Vec<Input>, inputs: Vec<Input<Bytes>>) -> Result<(
 }
 
 #[tactic(auto, using(crate::proofs::TextLemmas::no_front))]
-pub(crate) fn inputs_checked(
+pub(crate) fn inputs_checked<'a>(
     alloc: Global,
-    inputs: Items<Input<Bytes>>,
-) -> Result<Items<Input>, OpRefusal>
-    ensures { Gives (λ v. v) result (each_checked input_checked inputs) }
+    inputs: Items<Input<RawText<'a>>>,
+) -> Result<Items<Input<LentText<'a>>>, OpRefusal>
+    ensures { Gives (λ v. v) result (each_checked input_checked inputs.entry) }
 {
     let inputs = inputs.into_vec();
     let mut checked = Vec::with_capacity(alloc, inputs.len())?;
@@ -155,8 +175,11 @@ pub(crate) fn inputs_checked(
 }
 
 #[tactic(auto, unfolding(crate::specs::Texts::exec_checked))]
-pub(crate) fn exec_checked(alloc: Global, exec: ExecOp<Bytes>) -> Result<ExecOp, OpRefusal>
-    ensures { Gives (λ v. v) result (exec_checked exec) }
+pub(crate) fn exec_checked<'a>(
+    alloc: Global,
+    exec: ExecOp<RawText<'a>>,
+) -> Result<ExecOp<LentText<'a>>, OpRefusal>
+    ensures { Gives (λ v. v) result (exec_checked exec.entry) }
 {
     Ok(ExecOp {
         meta: found_meta_checked(alloc, exec.meta)?,

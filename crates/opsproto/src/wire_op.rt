@@ -72,7 +72,7 @@ impl<'a> WireOp<'a> {
         ensures { IfOk result (λ bytes. bytes.items ≡ self.now.stripped) }
     {
         match stripped_of(alloc, self.bytes) {
-            Ok(bytes) => Ok(bytes.into_vec()),
+            Ok(bytes) => Ok(bytes),
             Err(_) => Err(AllocError),
         }
     }

@@ -13,4 +13,5 @@ pub mod Outcomes
 pub mod Rows
 pub mod Sorting
 pub mod Sources
+pub mod Taken
 pub mod Waiters

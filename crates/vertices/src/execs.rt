@@ -3,7 +3,7 @@ ghost use Rattle.vertices.specs.Outcomes.{Each, refused};
 ghost use Rattle.vertices.specs.OpChecks.{IsMountInput, MountCheck, CacheCheck, ExecCheck, KindCheck, cache_count};
 
 use super::refusal::LoadRefusal;
-use opsproto::{CacheOpt, ExecOp, Kind, Meta, Mount};
+use opsproto::{CacheOpt, ExecOp, Kind, LentText, Meta, Mount};
 
 /// The mount type of a cache.
 const CACHE: i32 = 3;
@@ -12,7 +12,11 @@ const CACHE: i32 = 3;
 const CACHE_MOUNTS: usize = 16;
 
 /// Checks what a vertex does, by its number of inputs.
-pub(crate) fn check_kind(place: usize, inputs: usize, kind: &Kind) -> Result<(), LoadRefusal>
+pub(crate) fn check_kind(
+    place: usize,
+    inputs: usize,
+    kind: &Kind<LentText<'_>>,
+) -> Result<(), LoadRefusal>
     ensures { KindCheck place inputs kind.now (refused result) }
 {
     match kind {
@@ -22,7 +26,7 @@ pub(crate) fn check_kind(place: usize, inputs: usize, kind: &Kind) -> Result<(),
     }
 }
 
-fn check_exec(place: usize, inputs: usize, exec: &ExecOp) -> Result<(), LoadRefusal>
+fn check_exec(place: usize, inputs: usize, exec: &ExecOp<LentText<'_>>) -> Result<(), LoadRefusal>
     ensures { ExecCheck place inputs exec.now (refused result) }
 {
     let Some(meta) = &exec.meta else {
@@ -46,7 +50,7 @@ fn check_exec(place: usize, inputs: usize, exec: &ExecOp) -> Result<(), LoadRefu
 }
 
 /// Whether a mount is at `/`.
-fn has_root(mounts: &[Mount]) -> bool
+fn has_root(mounts: &[Mount<LentText<'_>>]) -> bool
     ensures { IsTrue result ↔ Contains (map (λ mount. mount.dest) mounts.now) (codes "/") }
 {
     for mount in mounts {
@@ -58,7 +62,7 @@ fn has_root(mounts: &[Mount]) -> bool
 }
 
 /// How many mounts are caches.
-fn count_caches(mounts: &[Mount]) -> usize
+fn count_caches(mounts: &[Mount<LentText<'_>>]) -> usize
     ensures { result ≡ cache_count mounts.now }
 {
     mounts
@@ -67,7 +71,11 @@ fn count_caches(mounts: &[Mount]) -> usize
         .count()
 }
 
-fn check_mounts(place: usize, inputs: usize, mounts: &[Mount]) -> Result<(), LoadRefusal>
+fn check_mounts(
+    place: usize,
+    inputs: usize,
+    mounts: &[Mount<LentText<'_>>],
+) -> Result<(), LoadRefusal>
     ensures { Each (MountCheck place inputs) mounts.now (refused result) }
 {
     for mount in mounts {
@@ -76,7 +84,7 @@ fn check_mounts(place: usize, inputs: usize, mounts: &[Mount]) -> Result<(), Loa
     Ok(())
 }
 
-fn check_mount(place: usize, inputs: usize, mount: &Mount) -> Result<(), LoadRefusal>
+fn check_mount(place: usize, inputs: usize, mount: &Mount<LentText<'_>>) -> Result<(), LoadRefusal>
     ensures { MountCheck place inputs mount.now (refused result) }
 {
     if !is_mount_input(mount.input, inputs) {
@@ -99,7 +107,7 @@ fn is_mount_input(input: i64, inputs: usize) -> bool
     }
 }
 
-fn check_cache(place: usize, cache: &Option<CacheOpt>) -> Result<(), LoadRefusal>
+fn check_cache(place: usize, cache: &Option<CacheOpt<LentText<'_>>>) -> Result<(), LoadRefusal>
     ensures { CacheCheck place cache.now (refused result) }
 {
     let Some(cache) = cache else {

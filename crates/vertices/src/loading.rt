@@ -1,20 +1,18 @@
-ghost use Rattle.std.specs.Prelude.{◌≡◌, ◌≤◌, ◌<◌, ◌+◌, ℕ, List, length, take, IfOk, OnOk, IfSome, Ok, Some, slice_get};
-ghost use Rattle.farm_base.specs.Digests.{IsDigest};
-ghost use Rattle.opsproto.specs.Ops.{op_at};
+ghost use Rattle.std.specs.Prelude.{◌≡◌, ◌≤◌, ◌<◌, ◌+◌, ℕ, List, length, take, IfOk, OnOk, IfSome, Some, slice_get};
 ghost use Rattle.vertices.specs.Outcomes.{Meets};
 ghost use Rattle.vertices.specs.Edges.{Numbers, IsEdge};
-ghost use Rattle.vertices.specs.Loading.{ReadCheck, ReadChecks, GraphCheck, DefinitionCheck, IsGraph, IsGraphOf, digest_in};
+ghost use Rattle.vertices.specs.Taken.{IsEntry};
+ghost use Rattle.vertices.specs.Loading.{ReadCheck, ReadChecks, GraphCheck, DefinitionCheck, IsGraph, IsGraphOf};
 
 use super::building::{all_edges, edge_order};
 use super::edges::edge_of;
 use super::graph::Graph;
-use super::reading::{digest_of, read_entry, stripped_digest};
+use super::reading::read_inputs;
 use super::refusal::LoadRefusal;
 use super::table::Table;
-use super::unresolved::{Asked, Named};
+use super::unresolved::{Asked, Entry, Named};
 use super::vertex::Source;
-use farm_base::Digest;
-use opsproto::{Definition, Input, Op};
+use opsproto::{Definition, Input};
 use protowire::BodyList;
 use std::alloc::{AllocError, Global};
 
@@ -52,37 +50,26 @@ impl Loading {
         ensures entries { self.new.entries ≡ self.old.entries }
         ensures read { OnOk result (IsReadTo (place + 1) self.new) }
     {
-        let entry = self.entries.body(place);
-        let op = read_entry(alloc, place, entry)?;
-        let digest = digest_of(entry);
-        self.add(alloc, place, digest, &op)?;
+        let entry = Entry::read(alloc, place, self.entries.body(place))?;
+        self.add(place, entry)?;
         Ok(())
     }
 
-    /// Makes a vertex of the entry at the next place, which has this digest and this op, where the digest is new.
-    fn add(
-        &mut self,
-        alloc: Global,
-        place: usize,
-        digest: Digest,
-        op: &Op,
-    ) -> Result<(), AllocError>
+    /// Makes a vertex of the entry at the next place, of which this is kept, where its digest is new.
+    fn add(&mut self, place: usize, entry: Entry) -> Result<(), AllocError>
         requires place { place < length self.old.entries }
-        requires digest { IfSome (slice_get self.old.entries place) (λ entry. digest ≡ digest_in entry) }
-        requires digits { IsDigest digest }
-        requires op { IfSome (slice_get self.old.entries place) (λ entry. op_at entry ≡ Ok op.now) }
+        requires entry { IfSome (slice_get self.old.entries place) (λ bytes. IsEntry place bytes entry) }
         requires read { IsReadTo place self.old }
         ensures entries { self.new.entries ≡ self.old.entries }
         ensures read { OnOk result (IsReadTo (place + 1) self.new) }
     {
-        if self.table.add(place, digest)? {
-            let stripped = stripped_digest(self.entries.body(place), digest, op);
+        if self.table.add(place, entry.digest)? {
             self.sources.push(Source {
                 place,
-                digest,
-                stripped,
+                digest: entry.digest,
+                stripped: entry.stripped,
             })?;
-            self.asked.push(Asked::of(alloc, place, op)?)?;
+            self.asked.push(entry.asked)?;
         }
         Ok(())
     }
@@ -143,6 +130,6 @@ pub fn load(alloc: Global, definition: Definition) -> Result<Graph, LoadRefusal>
         return Err(LoadRefusal::EmptyDefinition);
     };
     let loading = Loading::of(alloc, definition.def, place)?;
-    let last = read_entry(alloc, place, loading.entries.body(place))?;
-    loading.graph(alloc, place, last.inputs())
+    let last = read_inputs(alloc, place, loading.entries.body(place))?;
+    loading.graph(alloc, place, last.as_slice())
 }

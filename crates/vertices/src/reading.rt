@@ -1,25 +1,45 @@
 ghost use Rattle.std.specs.Prelude.{◌≡◌, IfOk, Ok};
-ghost use Rattle.opsproto.specs.Ops.{op_at};
+ghost use Rattle.opsproto.specs.Ops.{OpParts, op_at};
 ghost use Rattle.farm_base.specs.Digests.{IsDigest};
 ghost use Rattle.vertices.specs.Outcomes.{Meets};
 ghost use Rattle.vertices.specs.Loading.{ReadCheck, digest_in};
 
 use super::refusal::LoadRefusal;
-use farm_base::Digest;
-use opsproto::{Op, OpRefusal, read_op};
+use bumpalo::Bump;
+use farm_base::{Digest, Items};
+use opsproto::{Input, LentOp, OpRefusal, read_lent_op};
 use sha2::{Digest as Hasher, Sha256};
 use std::alloc::Global;
 
-/// The op of the entry at a place.
-pub(crate) fn read_entry(alloc: Global, place: usize, bytes: &[u8]) -> Result<Op, LoadRefusal>
+/// The op of the entry at a place, lent from its bytes.
+pub(crate) fn read_entry<'a>(
+    alloc: Global,
+    arena: &'a Bump,
+    place: usize,
+    bytes: &'a [u8],
+) -> Result<LentOp<'a>, LoadRefusal>
     ensures check { Meets (ReadCheck place bytes.now) result }
     ensures op { IfOk result (λ op. op_at bytes.now ≡ Ok op) }
 {
-    match read_op(alloc, bytes) {
+    match read_lent_op(alloc, arena, bytes) {
         Ok(op) => Ok(op),
         Err(OpRefusal::OutOfMemory) => Err(LoadRefusal::OutOfMemory),
         Err(_) => Err(LoadRefusal::BadOp(place)),
     }
+}
+
+/// The inputs of the op of the entry at a place.
+pub(crate) fn read_inputs(
+    alloc: Global,
+    place: usize,
+    bytes: &[u8],
+) -> Result<Items<Input>, LoadRefusal>
+    ensures check { Meets (ReadCheck place bytes.now) result }
+    ensures inputs { IfOk result (λ inputs. (op : OpParts) × (op_at bytes.now ≡ Ok op) × (inputs ≡ op.inputs)) }
+{
+    let arena = Bump::new(alloc);
+    let op = read_entry(alloc, &arena, place, bytes)?;
+    Ok(op.own_inputs(alloc)?)
 }
 
 /// The SHA-256 of an entry's bytes.
@@ -34,7 +54,7 @@ pub(crate) fn digest_of(bytes: &[u8]) -> Digest
 
 /// The SHA-256 of an op's stripped bytes. Without inputs these are the bytes of its entry, whose digest is there already.
 #[tactic(auto, using(opsproto::proofs::OpLemmas::stripped_whole))]
-pub(crate) fn stripped_digest(entry: &[u8], digest: Digest, op: &Op) -> Digest
+pub(crate) fn stripped_digest(entry: &[u8], digest: Digest, op: &LentOp<'_>) -> Digest
     requires op { op_at entry.now ≡ Ok op.now }
     requires digest { digest ≡ digest_in entry.now }
     ensures { result ≡ digest_in op.now.stripped }

@@ -53,12 +53,14 @@ returns-clause-check c =
     let is : place ≡ length def - 1 = omega (arith, c.in-Some.ensures.1) in
     let at : slice_get def place ≡ Some last = ap (λ (es : List (List ℕ)). slice_get es place) (sym c.in_ok-loading.ensures.entries) ∙ c.body.ensures in
     let split = last_split def place last some is at in
-    let read : op_at last ≡ Ok c.in_ok-last.last = c.in_ok-last.ensures.op in
-    answers_weaker (GraphCheck (digests_in entries) (length entries) (vertices_in loading) c.inputs.result.now) (DefinitionCheck def) c.graph.result
-    (λ given h. graph_answers entries last def c.in_ok-last.last (vertices_in loading) given split.0 c.in_ok-loading.ensures.check read
+    let op = c.in_ok-last.ensures.inputs.0 in
+    let read : op_at last ≡ Ok op = c.in_ok-last.ensures.inputs.1 in
+    let inputs : c.as_slice.result.now ≡ op.inputs = c.as_slice.ensures ∙ c.in_ok-last.ensures.inputs.2 in
+    answers_weaker (GraphCheck (digests_in entries) (length entries) (vertices_in loading) c.as_slice.result.now) (DefinitionCheck def) c.graph.result
+    (λ given h. graph_answers entries last def op (vertices_in loading) given split.0 c.in_ok-loading.ensures.check read
     (loaded_vertices entries loading loaded)
-    (subst (λ (xs : List (Input Text)). GraphCheck (digests_in entries) (length entries) (vertices_in loading) xs given) c.inputs.ensures h))
-    (subst (λ (n : ℕ). Meets (GraphCheck (digests_in entries) n (vertices_in loading) c.inputs.result.now) c.graph.result) (sym split.1)
+    (subst (λ (xs : List (Input Text)). GraphCheck (digests_in entries) (length entries) (vertices_in loading) xs given) inputs h))
+    (subst (λ (n : ℕ). Meets (GraphCheck (digests_in entries) n (vertices_in loading) c.as_slice.result.now) c.graph.result) (sym split.1)
     (c.graph.ensures.check (digests_in entries) (loaded_numbers entries loading loaded)))
 
 pub returns-clause-graph : goal.returns-clause-graph
@@ -73,8 +75,10 @@ returns-clause-graph c =
     let is : place ≡ length def - 1 = omega (arith, c.in-Some.ensures.1) in
     let at : slice_get def place ≡ Some last = ap (λ (es : List (List ℕ)). slice_get es place) (sym c.in_ok-loading.ensures.entries) ∙ c.body.ensures in
     let split = last_split def place last some is at in
-    let read : op_at last ≡ Ok c.in_ok-last.last = c.in_ok-last.ensures.op in
-    graph_is def (vertices_in loading) c.inputs.result.now c.graph.result
+    let op = c.in_ok-last.ensures.inputs.0 in
+    let read : op_at last ≡ Ok op = c.in_ok-last.ensures.inputs.1 in
+    let inputs : c.as_slice.result.now ≡ op.inputs = c.as_slice.ensures ∙ c.in_ok-last.ensures.inputs.2 in
+    graph_is def (vertices_in loading) c.as_slice.result.now c.graph.result
     (definition_vertices entries last def (vertices_in loading) split.0 (loaded_vertices entries loading c.in_ok-loading.ensures.loaded))
-    (definition_last entries last def c.in_ok-last.last split.0 read ∙ sym c.inputs.ensures)
+    (definition_last entries last def op split.0 read ∙ sym inputs)
     c.graph.ensures.vertices c.graph.ensures.graph c.graph.ensures.result

@@ -5,4 +5,4 @@ use Rattle.opsproto.proofs.wire_op.WireOp.stripped.Goals as goal
 
 pub returns-in-Ok : goal.returns-in-Ok
 returns-in-Ok c =
-    c.into_vec.ensures ∙ stripped_is c.self.inside.bytes.now c.in-Ok.bytes c.self.invariant c.in-Ok.ensures ∙ ap (λ (op : OpParts). op.stripped) c.self.view_is
+    stripped_is c.self.inside.bytes.now c.in-Ok.bytes.items c.self.invariant c.in-Ok.ensures ∙ ap (λ (op : OpParts). op.stripped) c.self.view_is

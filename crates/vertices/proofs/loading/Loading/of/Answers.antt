@@ -1,13 +1,10 @@
-use Rattle.std.proofs.Common.{◌≡◌, ℕ, ◌+◌, ◌<◌, Some, None, List, [], length, get_or, take, sym, ap, ◌∙◌, subst, arith}
-use Rattle.std.specs.List.{slice_get, Contains}
+use Rattle.std.proofs.Common.{◌≡◌, ℕ, Some, None, List, [], length, get_or, take, sym, ap, ◌∙◌, subst, arith}
+use Rattle.std.specs.List.{slice_get}
 use Rattle.std.proofs.lemmas.List.{take-take}
 use Rattle.std.proofs.lemmas.Option.{slice_get-get_or}
 use Rattle.std.proofs.lemmas.Result.{err_from_is_err_and}
-use Rattle.farm_base.specs.declared.digest.Digest.{Digest}
-use Rattle.farm_base.specs.Digests.{IsDigest}
-use Rattle.vertices.specs.Firsts.{IsTable}
 use Rattle.vertices.specs.Loaded.{IsReadTo, IsLoaded}
-use Rattle.vertices.specs.Loading.{digests_in, ReadChecks}
+use Rattle.vertices.specs.Loading.{ReadChecks}
 use Rattle.vertices.proofs.LoadLemmas.{in_front, reads_more, entry_answers, loaded_of}
 use Rattle.vertices.proofs.loading.Loading.of.Goals as goal
 

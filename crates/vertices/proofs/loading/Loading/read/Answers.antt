@@ -1,11 +1,7 @@
-use Rattle.std.proofs.Common.{◌≡◌, ℕ, List, Option, Ok, sym, subst}
+use Rattle.std.proofs.Common.{ℕ, List, Option, sym, subst}
 use Rattle.std.specs.Option.{IfSome}
-use Rattle.opsproto.specs.Ops.{op_at}
-use Rattle.vertices.specs.Loading.{digest_in}
+use Rattle.vertices.specs.Taken.{IsEntry}
 use Rattle.vertices.proofs.loading.Loading.read.Goals as goal
 
-pub add-requires-clause-digest : goal.add-requires-clause-digest
-add-requires-clause-digest c = subst (λ (o : Option (List ℕ)). IfSome o (λ entry. c.digest_of-digest.result ≡ digest_in entry)) (sym c.body-entry.ensures) c.digest_of-digest.ensures.value
-
-pub add-requires-clause-op : goal.add-requires-clause-op
-add-requires-clause-op c = subst (λ (o : Option (List ℕ)). IfSome o (λ entry. op_at entry ≡ Ok c.in_ok-op.op)) (sym c.body-entry.ensures) c.in_ok-op.ensures.op
+pub add-requires-clause-entry : goal.add-requires-clause-entry
+add-requires-clause-entry c = subst (λ (o : Option (List ℕ)). IfSome o (λ bytes. IsEntry c.args.place bytes c.in_ok-entry.entry)) (sym c.body.ensures) c.in_ok-entry.ensures.entry

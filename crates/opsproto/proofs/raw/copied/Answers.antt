@@ -1,6 +1,6 @@
 use Rattle.std.proofs.Common.{length, arith}
 use Rattle.opsproto.proofs.ReadingLemmas.{no_field, row_within}
-use Rattle.opsproto.proofs.raw.stripped.Goals as goal
+use Rattle.opsproto.proofs.raw.copied.Goals as goal
 
 pub slice_bounds-extend_from_slice-count : goal.slice_bounds-extend_from_slice-count
 slice_bounds-extend_from_slice-count c =
