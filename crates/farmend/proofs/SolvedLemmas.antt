@@ -1,11 +1,11 @@
 -- Flags of vertices, and what follows along the walks from a result.
 use Rattle.std.proofs.Common.{◌≡◌, ℕ, zero, suc, ◌+◌, Bool, true, List, [], ◌∷◌, refl, ap, subst, arith}
 use Rattle.std.specs.List.{Contains}
+use Rattle.ordering.specs.Flags.{flag_at}
+use Rattle.ordering.specs.Orders.{Walk}
+use Rattle.ordering.proofs.OrderLaws.{walk_join}
 use Rattle.vertices.specs.Edges.{GoesTo, targets, list_at}
-use Rattle.vertices.specs.Flags.{flag_at}
 use Rattle.vertices.specs.Loading.{GraphParts}
-use Rattle.vertices.specs.Orders.{Walk}
-use Rattle.vertices.proofs.OrderLaws.{walk_join}
 use Rattle.jobs.specs.Reaching.{IsNeeded}
 use Rattle.farmend.specs.Solved.{IsClosed, Takes}
 use Rattle.farmend.specs.Solved.Takes.{result, input}

@@ -4,8 +4,8 @@ use Rattle.std.specs.List.{Contains}
 use Rattle.farm_base.specs.declared.digest.Digest.{Digest}
 use Rattle.farm_base.specs.declared.digest.Key.{Key}
 use Rattle.executions.specs.declared.call.Call.{Call}
+use Rattle.ordering.specs.Flags.{flag_at}
 use Rattle.vertices.specs.Edges.{list_at}
-use Rattle.vertices.specs.Flags.{flag_at}
 use Rattle.vertices.specs.Loading.{GraphParts}
 use Rattle.solverkeys.specs.Keyed.{KeyedParts}
 use Rattle.jobs.specs.Reaching.{IsNeeded}

@@ -1,8 +1,8 @@
 //! Whether an answer is what the new calls gave.
 ghost use Rattle.std.specs.Prelude.{◌≡◌, ◌<◌, ℕ, true, length, Some, slice_get, All, Contains, IfOk, IfSome, IsTrue};
 ghost use Rattle.farm_base.specs.declared.digest.Key.{Key as SpecKey};
+ghost use Rattle.ordering.specs.Flags.{flag_at};
 ghost use Rattle.vertices.specs.Edges.{list_at};
-ghost use Rattle.vertices.specs.Flags.{flag_at};
 ghost use Rattle.jobs.specs.Reaching.{IsNeeded};
 ghost use Rattle.farmend.specs.NewCalls.{GaveOutputs, Gave};
 ghost use Rattle.farmend.specs.Solved.{AreGiven, IsClosed, IsClosedAt, IsSolved, IsFailing, Looks, news_in};

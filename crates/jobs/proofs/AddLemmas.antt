@@ -10,8 +10,8 @@ use Rattle.indexmap.specs.IndexSet.{insert_key}
 use Rattle.farm_base.specs.declared.digest.Key.{Key}
 use Rattle.lists.proofs.Places.{AllZip-push, get_push_left, get_push_end, at_place, at_Contains, some_is}
 use Rattle.lists.proofs.Rising.{rising_push}
+use Rattle.ordering.specs.Flags.{flag_at}
 use Rattle.vertices.specs.Edges.{list_at}
-use Rattle.vertices.specs.Flags.{flag_at}
 use Rattle.vertices.specs.Loading.{GraphParts, IsGraph}
 use Rattle.vertices.proofs.ZipLemmas.{all_zip_back}
 use Rattle.vertices.proofs.GraphLemmas.{list_at-get, edge_target}

@@ -6,7 +6,7 @@ use Rattle.std.proofs.lemmas.Bool.{cases_eq}
 use Rattle.std.proofs.lemmas.Option.{slice_get_within}
 use Rattle.farm_base.specs.declared.digest.Key.{Key}
 use Rattle.lists.proofs.Places.{some_is}
-use Rattle.vertices.specs.Flags.{flag_at}
+use Rattle.ordering.specs.Flags.{flag_at}
 use Rattle.jobs.specs.declared.answer.Cause.{Cause}
 use Rattle.jobs.specs.declared.entry.Entry.{Entry}
 use Rattle.jobs.specs.declared.entry.Fault.{Fault}

@@ -8,12 +8,12 @@ use Rattle.std.proofs.lemmas.List.Sums.{sum_by-set}
 use Rattle.std.proofs.lemmas.Option.{slice_get-get_or}
 use Rattle.solverkeys.proofs.KeyLemmas.{edges_within}
 use Rattle.lists.proofs.Places.{take_push}
+use Rattle.ordering.specs.Flags.{flag_at}
+use Rattle.ordering.specs.Orders.{Walk}
+use Rattle.ordering.specs.Sorting.{open_count}
+use Rattle.ordering.proofs.OrderLaws.{walk_join}
 use Rattle.vertices.specs.Edges.{GoesTo, targets, list_at}
-use Rattle.vertices.specs.Flags.{flag_at}
 use Rattle.vertices.specs.Loading.{GraphParts, IsGraph}
-use Rattle.vertices.specs.Orders.{Walk}
-use Rattle.vertices.specs.Sorting.{open_count}
-use Rattle.vertices.proofs.OrderLaws.{walk_join}
 use Rattle.jobs.specs.Reaching.{IsNeeded, AreReached, Reaching, IsReaching}
 
 -- one more flag leaves one fewer open flag

@@ -9,7 +9,7 @@ use Rattle.std.proofs.lemmas.Option.{slice_get_within, slice_get-get_or}
 use Rattle.farm_base.specs.declared.digest.Digest.{Digest}
 use Rattle.farm_base.specs.declared.digest.Key.{Key}
 use Rattle.lists.proofs.Places.{AllZip-push, Contains-at, at_Contains, at_place, some_is, take_push, get_set_cases}
-use Rattle.vertices.specs.Flags.{flag_at}
+use Rattle.ordering.specs.Flags.{flag_at}
 use Rattle.jobs.specs.declared.entry.Entry.{Entry}
 use Rattle.jobs.specs.declared.entry.Progress.TheVariants.{Waiting, Out, Done}
 use Rattle.jobs.specs.declared.table.Table.{Table}

@@ -2,7 +2,7 @@
 use Rattle.std.specs.Prelude.{◌≡◌, ℕ, Bool, true, List, Some, slice_get, length}
 use Rattle.std.specs.List.{Contains}
 use Rattle.farm_base.specs.declared.digest.Key.{Key}
-use Rattle.vertices.specs.Flags.{flag_at}
+use Rattle.ordering.specs.Flags.{flag_at}
 use Rattle.jobs.specs.declared.entry.Fault.{Fault}
 use Rattle.jobs.specs.declared.entry.Entry.{Entry}
 use Rattle.jobs.specs.declared.entry.Progress.TheVariants.{Failed}

@@ -1,10 +1,10 @@
 -- The vertices that a graph's result depends on (this project's own).
 use Rattle.std.specs.Prelude.{◌≡◌, ◌⊎◌, ℕ, Bool, true, List, length}
 use Rattle.std.specs.List.{Contains}
+use Rattle.ordering.specs.Flags.{flag_at}
+use Rattle.ordering.specs.Orders.{Walk}
 use Rattle.vertices.specs.Edges.{GoesTo, targets}
-use Rattle.vertices.specs.Flags.{flag_at}
 use Rattle.vertices.specs.Loading.{GraphParts}
-use Rattle.vertices.specs.Orders.{Walk}
 
 -- the vertex of the number is that of the result, or a walk from it leads there
 abbrev pub IsNeeded : GraphParts → ℕ → Type 0

@@ -1,6 +1,6 @@
 -- While the first cause is looked for (this project's own).
 use Rattle.std.specs.Prelude.{◌≡◌, ◌<◌, ℕ, Bool, true, false, [], List, Some, length, slice_get}
-use Rattle.vertices.specs.Flags.{flag_at}
+use Rattle.ordering.specs.Flags.{flag_at}
 use Rattle.jobs.specs.declared.entry.Entry.{Entry}
 use Rattle.jobs.specs.declared.users.Link.{Link}
 use Rattle.jobs.specs.Causes.{FailsItself}

@@ -2,7 +2,7 @@
 use Rattle.std.specs.Prelude.{◌≡◌, ◌⊎◌, ℕ, Bool, true, List, Some, None, length, slice_get}
 use Rattle.std.specs.List.{Contains}
 use Rattle.farm_base.specs.declared.digest.Digest.{Digest}
-use Rattle.vertices.specs.Flags.{flag_at}
+use Rattle.ordering.specs.Flags.{flag_at}
 use Rattle.jobs.specs.declared.users.Link.{Link}
 use Rattle.jobs.specs.Marks.{KeepsMarks}
 

@@ -3,7 +3,7 @@ ghost use Rattle.std.specs.Bool.{MatchBool};
 ghost use Rattle.std.specs.List.{Contains};
 ghost use Rattle.std.specs.Vec.{vec_capacity};
 ghost use Rattle.farm_base.specs.declared.digest.Key.{Key as SpecKey};
-ghost use Rattle.vertices.specs.Flags.{flag_at};
+ghost use Rattle.ordering.specs.Flags.{flag_at};
 ghost use Rattle.jobs.specs.declared.entry.Entry.{Entry as SpecEntry};
 ghost use Rattle.jobs.specs.declared.users.Link.{Link as SpecLink};
 ghost use Rattle.jobs.specs.Causes.{FailsItself, IsCause, IsFirstCause, IsFirstLacking, IsOwnCause};

@@ -1,6 +1,6 @@
 ghost use Rattle.std.specs.Prelude.{◌≡◌, ◌<◌, ◌+◌, false, [], All, OnOk, IfOk, length, replicate, vec_len};
+ghost use Rattle.ordering.specs.Sorting.{open_count};
 ghost use Rattle.vertices.specs.Loading.{IsGraph};
-ghost use Rattle.vertices.specs.Sorting.{open_count};
 ghost use Rattle.jobs.specs.Reaching.{AreReached, Reaching};
 
 use std::alloc::{AllocError, Global};

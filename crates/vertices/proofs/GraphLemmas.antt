@@ -12,18 +12,18 @@ use Rattle.opsproto.specs.Scalars.{Text}
 use Rattle.opsproto.specs.declared.input.Input.{Input}
 use Rattle.farm_base.proofs.NameLaws.{digest_text-injective}
 use Rattle.lists.proofs.Places.{at_Contains, Contains-at}
+use Rattle.ordering.specs.declared.table.Table.{Table}
+use Rattle.ordering.specs.Firsts.{number_in}
+use Rattle.ordering.specs.Rows.{row_at, HasInput, AreRows}
+use Rattle.ordering.specs.Orders.{IsOrder}
+use Rattle.ordering.proofs.EntryLemmas.{order_same}
 use Rattle.vertices.specs.declared.vertex.Vertex.{Vertex}
-use Rattle.vertices.specs.declared.table.Table.{Table}
-use Rattle.vertices.specs.Firsts.{number_in}
-use Rattle.vertices.specs.Rows.{row_at, HasInput, AreRows}
-use Rattle.vertices.specs.Orders.{IsOrder}
 use Rattle.vertices.specs.declared.refusal.LoadRefusal.{LoadRefusal}
 use Rattle.vertices.specs.declared.refusal.LoadRefusal.TheVariants.{OutOfMemory}
 use Rattle.vertices.specs.Outcomes.{Each}
 use Rattle.vertices.specs.Edges.{InputCheck, IsEdge, AreEdges, Numbers, list_at, targets, GoesTo}
 use Rattle.vertices.specs.Numbered.{AreNumbers, HasTargets}
 use Rattle.vertices.specs.Loading.{HasEdge, ResultCheck, VertexCheck, GraphCheck, IsRunnable}
-use Rattle.vertices.proofs.EntryLemmas.{order_same}
 use Rattle.vertices.proofs.ZipLemmas.{all_zip_length, all_zip_at, all_zip_back}
 
 -- ---- lists of lists

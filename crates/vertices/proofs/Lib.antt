@@ -1,10 +1,5 @@
 pub mod CheckLemmas
-pub mod EntryLemmas
 pub mod GraphLemmas
 pub mod LoadLemmas
-pub mod OrderLaws
-pub mod RowLemmas
 pub mod SharedLemmas
-pub mod SortingLemmas
-pub mod TableLemmas
 pub mod ZipLemmas

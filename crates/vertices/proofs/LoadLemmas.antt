@@ -11,16 +11,17 @@ use Rattle.farm_base.specs.Digests.{IsDigest}
 use Rattle.opsproto.specs.Ops.{OpParts, op_at, op_in}
 use Rattle.opsproto.specs.declared.op.Kind.TheVariants.{Bare}
 use Rattle.lists.proofs.Places.{take_push, Contains-at, at_Contains, get_push_end, AllZip-push}
+use Rattle.ordering.specs.declared.table.Table.{Table}
+use Rattle.ordering.specs.Firsts.{IsTable, number_in, places_in}
+use Rattle.ordering.proofs.TableLemmas.{first_once}
 use Rattle.vertices.specs.declared.vertex.Vertex.{Vertex}
 use Rattle.vertices.specs.declared.refusal.LoadRefusal.{LoadRefusal}
 use Rattle.vertices.specs.declared.refusal.LoadRefusal.TheVariants.{OutOfMemory}
 use Rattle.vertices.specs.declared.unresolved.Asked.{Asked}
 use Rattle.vertices.specs.declared.vertex.Source.{Source}
-use Rattle.vertices.specs.declared.table.Table.{Table}
 use Rattle.vertices.specs.Asked.{Asks}
 use Rattle.vertices.specs.Sources.{IsSource, vertex_of}
 use Rattle.vertices.specs.declared.loading.Loading.{Loading}
-use Rattle.vertices.specs.Firsts.{IsTable, number_in}
 use Rattle.vertices.specs.Outcomes.{Meets}
 use Rattle.vertices.specs.Edges.{Numbers, IsEdge}
 use Rattle.opsproto.specs.declared.refusal.OpRefusal.{OpRefusal}
@@ -28,7 +29,6 @@ use Rattle.opsproto.specs.declared.input.Input.{Input}
 use Rattle.opsproto.specs.Scalars.{Text}
 use Rattle.vertices.specs.Loading.{GraphParts, IsGraph, IsGraphOf, front, last_of, GraphCheck, VerticesCheck, DefinitionCheck, digest_in, digests_in, vertex_at, AreVertices, ReadCheck, ReadChecks}
 use Rattle.vertices.specs.Loaded.{IsLoaded, IsReadTo, vertices_in}
-use Rattle.vertices.proofs.TableLemmas.{first_once}
 
 -- ---- checks of entries by place
 
@@ -133,9 +133,9 @@ map_same f g (p ∷ ps) h = ap (λ (x : _). x ∷ map f ps) (h 0 p refl) ∙ ap 
 
 -- the vertices of the entries in front
 pub vertices_front : (entries : List (List ℕ)) (count : ℕ) (table : Table) → IsTable (digests_in (take count entries)) table
-    → map (vertex_at entries) table.places.items ≡ map (vertex_at (take count entries)) table.places.items
+    → map (vertex_at entries) (places_in table) ≡ map (vertex_at (take count entries)) (places_in table)
 vertices_front entries count table h =
-    map_same (vertex_at entries) (vertex_at (take count entries)) table.places.items (λ n p e.
+    map_same (vertex_at entries) (vertex_at (take count entries)) (places_in table) (λ n p e.
     let f = h.vertex n p e in
     let within = slice_get_within (digests_in (take count entries)) p f.0 f.1.there in
     let len = length-map (take count entries) digest_in in
@@ -160,13 +160,13 @@ digests_more digests x all is d c = elim (Contains-push_cases digests x d c) [ i
 
 -- the vertex of a number
 vertex_of_number : (entries : List (List ℕ)) (loading : Loading) (number place : ℕ) → IsLoaded entries loading
-    → slice_get loading.table.places.items number ≡ Some place → slice_get (vertices_in loading) number ≡ Some (vertex_at entries place)
+    → slice_get (places_in loading.table) number ≡ Some place → slice_get (vertices_in loading) number ≡ Some (vertex_at entries place)
 vertex_of_number entries loading number place h at =
-    let within = slice_get_within loading.table.places.items number place at in
-    let value = get_or_from_slice_get loading.table.places.items number place place at in
+    let within = slice_get_within (places_in loading.table) number place at in
+    let value = get_or_from_slice_get (places_in loading.table) number place place at in
     ap (λ (vs : List Vertex). slice_get vs number) h.vertices
-    ∙ slice_get-get_or (map (vertex_at entries) loading.table.places.items) number (vertex_at entries place) (omega (arith, length-map loading.table.places.items (vertex_at entries)))
-    ∙ ap (λ (v : Vertex). Some v) (get_or-map (vertex_at entries) loading.table.places.items number place (vertex_at entries place) within ∙ ap (vertex_at entries) value)
+    ∙ slice_get-get_or (map (vertex_at entries) (places_in loading.table)) number (vertex_at entries place) (omega (arith, length-map (places_in loading.table) (vertex_at entries)))
+    ∙ ap (λ (v : Vertex). Some v) (get_or-map (vertex_at entries) (places_in loading.table) number place (vertex_at entries place) within ∙ ap (vertex_at entries) value)
 
 -- the digest at a place
 digest_at_place : (entries : List (List ℕ)) (place : ℕ) (d : Digest) → slice_get (digests_in entries) place ≡ Some d → (vertex_at entries place).digest ≡ d
@@ -185,10 +185,10 @@ loaded_numbers entries loading h = record {
   missing = λ d none c. let there = at_Contains (digests_in entries) d c in h.table.missing d there.0 none there.1;
   are_digests = h.digests;
   numbered = λ n v at.
-      let len : length (vertices_in loading) ≡ length loading.table.places.items = ap length h.vertices ∙ length-map loading.table.places.items (vertex_at entries) in
+      let len : length (vertices_in loading) ≡ length (places_in loading.table) = ap length h.vertices ∙ length-map (places_in loading.table) (vertex_at entries) in
       let within = slice_get_within (vertices_in loading) n v at in
-      let p = get_or loading.table.places.items n 0 in
-      let here : slice_get loading.table.places.items n ≡ Some p = slice_get-get_or loading.table.places.items n 0 (omega arith) in
+      let p = get_or (places_in loading.table) n 0 in
+      let here : slice_get (places_in loading.table) n ≡ Some p = slice_get-get_or (places_in loading.table) n 0 (omega arith) in
       let f = h.table.vertex n p here in
       let same : vertex_at entries p ≡ v = let a = vertex_of_number entries loading n p h here in cc (a, at) in
       ap (number_in loading.table) (ap (λ (x : Vertex). x.digest) (sym same) ∙ digest_at_place entries p f.0 f.1.there) ∙ f.2;
@@ -197,16 +197,16 @@ loaded_numbers entries loading h = record {
 -- they are the vertices of the entries
 pub loaded_vertices : (entries : List (List ℕ)) (loading : Loading) → IsLoaded entries loading → AreVertices entries (vertices_in loading)
 loaded_vertices entries loading h = record {
-  places = loading.table.places.items;
+  places = places_in loading.table;
   firsts = record {
-    first = λ p c. let there = at_Contains loading.table.places.items p c in let f = h.table.vertex there.0 p there.1 in (f.0, f.1);
+    first = λ p c. let there = at_Contains (places_in loading.table) p c in let f = h.table.vertex there.0 p there.1 in (f.0, f.1);
     whole = λ p d first.
-        let case : (n : Option ℕ) → number_in loading.table d ≡ n → Contains loading.table.places.items p
-        = λ n. elim n as (λ m. number_in loading.table d ≡ m → Contains loading.table.places.items p) [
+        let case : (n : Option ℕ) → number_in loading.table d ≡ n → Contains (places_in loading.table) p
+        = λ n. elim n as (λ m. number_in loading.table d ≡ m → Contains (places_in loading.table) p) [
           | None ↦ λ e. absurd (h.table.missing d p e first.there)
           | Some number ↦ λ e.
               let f = h.table.found d number e in
-              subst (Contains loading.table.places.items) (first_once (digests_in entries) f.0 p d f.2 first) (Contains-at loading.table.places.items number f.0 f.1)
+              subst (Contains (places_in loading.table)) (first_once (digests_in entries) f.0 p d f.2 first) (Contains-at (places_in loading.table) number f.0 f.1)
         ] in
         case (number_in loading.table d) refl;
     rising = h.table.rising;

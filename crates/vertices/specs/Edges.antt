@@ -5,10 +5,10 @@ use Rattle.farm_base.specs.declared.digest.Digest.{Digest}
 use Rattle.farm_base.specs.Digests.{IsDigest, digest_text}
 use Rattle.opsproto.specs.Scalars.{Text}
 use Rattle.opsproto.specs.declared.input.Input.{Input}
+use Rattle.ordering.specs.declared.table.Table.{Table}
+use Rattle.ordering.specs.Firsts.{number_in}
 use Rattle.vertices.specs.declared.vertex.Vertex.{Vertex}
 use Rattle.vertices.specs.declared.refusal.LoadRefusal.TheVariants as refusal
-use Rattle.vertices.specs.declared.table.Table.{Table}
-use Rattle.vertices.specs.Firsts.{number_in}
 use Rattle.vertices.specs.Outcomes.{Check, Needs, Then}
 
 -- `sha256:` and the digits of 32 bytes

@@ -1,17 +1,10 @@
 pub mod Asked
 pub mod Edges
-pub mod Entries
-pub mod Firsts
-pub mod Flags
 pub mod Kept
 pub mod Loaded
 pub mod Loading
 pub mod Numbered
 pub mod OpChecks
-pub mod Orders
 pub mod Outcomes
-pub mod Rows
-pub mod Sorting
 pub mod Sources
 pub mod Taken
-pub mod Waiters

@@ -8,10 +8,10 @@ use Rattle.farm_base.specs.Digests.{digest_text}
 use Rattle.opsproto.specs.Scalars.{Text}
 use Rattle.opsproto.specs.declared.input.Input.{Input}
 use Rattle.opsproto.specs.Ops.{op_at, op_in}
+use Rattle.ordering.specs.Firsts.{IsFirstAt}
+use Rattle.ordering.specs.Orders as orders
 use Rattle.vertices.specs.declared.vertex.Vertex.{Vertex}
 use Rattle.vertices.specs.declared.refusal.LoadRefusal.TheVariants as refusal
-use Rattle.vertices.specs.Firsts.{IsFirstAt}
-use Rattle.vertices.specs.Orders as orders
 use Rattle.vertices.specs.Outcomes.{Check, Passes, Fails, Needs, Refuses, Then, Each}
 use Rattle.vertices.specs.OpChecks.{KindCheck}
 use Rattle.vertices.specs.Edges.{InputCheck, IsEdge, AreEdges, GoesTo}

@@ -1,20 +1,19 @@
 ghost use Rattle.std.specs.Prelude.{◌≡◌, ◌<◌, ℕ, List, length, IfOk, IfSome, IfNone};
 ghost use Rattle.std.specs.List.{AllZip};
 ghost use Rattle.farm_base.specs.declared.digest.Digest.{Digest as SpecDigest};
+ghost use Rattle.ordering.specs.Orders.{IsOrder, IsCyclic};
 ghost use Rattle.vertices.specs.declared.vertex.Vertex.{Vertex as SpecVertex};
 ghost use Rattle.vertices.specs.Outcomes.{Each, Meets};
 ghost use Rattle.vertices.specs.Asked.{Asks};
 ghost use Rattle.vertices.specs.Edges.{AreEdges, Numbers, GoesTo, targets};
 ghost use Rattle.vertices.specs.Numbered.{AreNumbers, HasTargets};
-ghost use Rattle.vertices.specs.Orders.{IsOrder, IsCyclic};
 ghost use Rattle.vertices.specs.Loading.{VertexCheck};
 
 use super::edges::edges_of;
-use super::ordering::order_of;
 use super::refusal::LoadRefusal;
-use super::table::Table;
 use super::unresolved::Asked;
 use farm_base::Items;
+use ordering::{Table, order_of};
 use std::alloc::{AllocError, Global};
 
 /// Checks a vertex, and gives its edges.

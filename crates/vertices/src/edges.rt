@@ -10,9 +10,9 @@ ghost use Rattle.vertices.specs.Outcomes.{Each, refused, Meets};
 ghost use Rattle.vertices.specs.Edges.{IsDigestText, InputCheck, IsEdge, AreEdges, Numbers};
 
 use super::refusal::LoadRefusal;
-use super::table::Table;
 use super::unresolved::Named;
 use farm_base::Digest;
+use ordering::Table;
 use std::alloc::Global;
 
 /// The value of a lower-case digit, or any number for another byte. It has no branches, since digits come in no

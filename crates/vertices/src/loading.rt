@@ -9,10 +9,10 @@ use super::edges::edge_of;
 use super::graph::Graph;
 use super::reading::read_inputs;
 use super::refusal::LoadRefusal;
-use super::table::Table;
 use super::unresolved::{Asked, Entry, Named};
 use super::vertex::Source;
 use opsproto::{Definition, Input};
+use ordering::Table;
 use protowire::BodyList;
 use std::alloc::{AllocError, Global};
 

@@ -1,5 +1,5 @@
 use Rattle.std.proofs.Common.{◌≡◌, ℕ, true, sym, ap, subst, ◌∙◌}
-use Rattle.vertices.specs.Flags.{flag_at}
+use Rattle.ordering.specs.Flags.{flag_at}
 use Rattle.farmend.proofs.SolvedLemmas.{flag_down}
 use Rattle.farmend.proofs.solved.covers.Goals as goal
 

@@ -1,6 +1,6 @@
 use Rattle.std.proofs.Common.{◌≡◌, ℕ, true, List, sym, subst}
 use Rattle.std.specs.List.{All}
-use Rattle.vertices.specs.Flags.{flag_at}
+use Rattle.ordering.specs.Flags.{flag_at}
 use Rattle.vertices.proofs.GraphLemmas.{list_at-get}
 use Rattle.farmend.proofs.solved.is_closed_at.Goals as goal
 

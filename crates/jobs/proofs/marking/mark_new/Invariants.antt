@@ -2,8 +2,8 @@ use Rattle.std.proofs.Common.{◌≡◌, ◌+◌, ◌≤◌, ◌<◌, ◌⊎◌,
 use Rattle.std.specs.List.{Contains}
 use Rattle.std.specs.Vec.{vec_capacity}
 use Rattle.farm_base.specs.declared.digest.Key.{Key}
-use Rattle.vertices.specs.Flags.{flag_at}
-use Rattle.vertices.specs.Sorting.{open_count}
+use Rattle.ordering.specs.Flags.{flag_at}
+use Rattle.ordering.specs.Sorting.{open_count}
 use Rattle.jobs.specs.declared.entry.Entry.{Entry}
 use Rattle.jobs.specs.Failing.{LacksOutput}
 use Rattle.jobs.specs.Marks.{MarksFail}

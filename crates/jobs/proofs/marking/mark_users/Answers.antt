@@ -1,6 +1,6 @@
 use Rattle.std.proofs.Common.{◌≡◌, Some, None, ap, sym, subst, ◌∙◌, arith, ℕ, true, slice_get, inl, inr}
 use Rattle.lists.proofs.Places.{some_is}
-use Rattle.vertices.specs.Flags.{flag_at}
+use Rattle.ordering.specs.Flags.{flag_at}
 use Rattle.jobs.specs.declared.users.Link.{Link}
 use Rattle.jobs.proofs.SpreadLemmas.{marking_join, output_missing, output_there}
 use Rattle.jobs.proofs.UserLemmas.{walk_at, walk_step, walk_more, walk_last, last_below, steps_left, place_within, link_there, before_is}

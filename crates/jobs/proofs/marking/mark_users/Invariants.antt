@@ -1,7 +1,7 @@
 use Rattle.std.proofs.Common.{◌≡◌, ◌+◌, ◌⊎◌, ℕ, true, None, vec_len, slice_get}
 use Rattle.std.specs.Vec.{vec_capacity}
-use Rattle.vertices.specs.Flags.{flag_at}
-use Rattle.vertices.specs.Sorting.{open_count}
+use Rattle.ordering.specs.Flags.{flag_at}
+use Rattle.ordering.specs.Sorting.{open_count}
 use Rattle.jobs.specs.declared.users.Link.{Link}
 use Rattle.jobs.specs.Spreading.{Lacks, Marking}
 use Rattle.jobs.proofs.UserLemmas.{IsWalking, steps_left}

@@ -1,8 +1,8 @@
 use Rattle.std.proofs.Common.{◌≡◌, ◌+◌, ◌≤◌, ℕ, true, vec_len}
 use Rattle.std.specs.List.{Contains}
 use Rattle.std.specs.Vec.{vec_capacity}
-use Rattle.vertices.specs.Flags.{flag_at}
-use Rattle.vertices.specs.Sorting.{open_count}
+use Rattle.ordering.specs.Flags.{flag_at}
+use Rattle.ordering.specs.Sorting.{open_count}
 use Rattle.jobs.specs.Marks.{KeepsMarks}
 use Rattle.jobs.specs.Spreading.{AreSpread, GetsMark}
 use Rattle.jobs.proofs.marking.spread.Given as goal

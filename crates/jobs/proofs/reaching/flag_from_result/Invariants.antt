@@ -1,5 +1,5 @@
 use Rattle.std.proofs.Common.{◌+◌, length}
-use Rattle.vertices.specs.Sorting.{open_count}
+use Rattle.ordering.specs.Sorting.{open_count}
 use Rattle.jobs.specs.Reaching.{IsReaching}
 use Rattle.jobs.proofs.reaching.flag_from_result.Given as goal
 

@@ -1,5 +1,5 @@
 use Rattle.std.proofs.Common.{◌≡◌, ◌+◌, take, length}
-use Rattle.vertices.specs.Sorting.{open_count}
+use Rattle.ordering.specs.Sorting.{open_count}
 use Rattle.jobs.specs.Reaching.{Reaching}
 use Rattle.jobs.proofs.reaching.flag_inputs.Given as goal
 

@@ -1,10 +1,10 @@
 use Rattle.std.proofs.Common.{ℕ, ◌<◌, List, length, subst, sym}
 use Rattle.std.specs.List.{Contains}
-use Rattle.vertices.specs.Rows.{IsRowOrder, HasInput, HasRowCycle}
-use Rattle.vertices.specs.Orders.{IsOrder, IsCyclic}
+use Rattle.ordering.specs.Rows.{IsRowOrder, HasInput, HasRowCycle}
+use Rattle.ordering.specs.Orders.{IsOrder, IsCyclic}
+use Rattle.ordering.proofs.EntryLemmas.{if_ok_some, if_ok_none, order_same, cycle_same}
 use Rattle.vertices.specs.Edges.{GoesTo}
 use Rattle.vertices.specs.Numbered.{HasTargets, AreNumbers}
-use Rattle.vertices.proofs.EntryLemmas.{if_ok_some, if_ok_none, order_same, cycle_same}
 use Rattle.vertices.proofs.GraphLemmas.{target_rows, row_goes, goes_row}
 use Rattle.vertices.proofs.building.edge_order.Goals as goal
 

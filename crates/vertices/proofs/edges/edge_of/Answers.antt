@@ -4,7 +4,7 @@ use Rattle.std.specs.List.{Contains}
 use Rattle.farm_base.specs.declared.digest.Digest.{Digest}
 use Rattle.farm_base.specs.Digests.{IsDigest, digest_text}
 use Rattle.farm_base.proofs.NameLaws.{digest_text-injective}
-use Rattle.vertices.specs.Firsts.{number_in}
+use Rattle.ordering.specs.Firsts.{number_in}
 use Rattle.vertices.proofs.edges.edge_of.Goals as goal
 
 pub returns-in_default-number-clause-check : goal.returns-in_default-number-clause-check

@@ -2,9 +2,9 @@ use Rattle.std.proofs.Common.{◌≡◌, ◌<◌, length, sym, ap, subst, ◌∙
 use Rattle.std.specs.List.{slice_get}
 use Rattle.std.proofs.lemmas.List.{length-map}
 use Rattle.opsproto.specs.Ops.{OpParts, op_in, StandsAt}
+use Rattle.ordering.proofs.EntryLemmas.{at_some}
 use Rattle.vertices.specs.Sources.{vertex_of}
 use Rattle.vertices.specs.Loading.{GraphParts}
-use Rattle.vertices.proofs.EntryLemmas.{at_some}
 use Rattle.vertices.proofs.SharedLemmas.{op_of_source, part_is, read_is}
 use Rattle.vertices.proofs.graph.Graph.stripped.Goals as goal
 

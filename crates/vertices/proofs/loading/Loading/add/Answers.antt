@@ -5,10 +5,10 @@ use Rattle.std.proofs.lemmas.List.{length-map, length-take-le}
 use Rattle.std.proofs.lemmas.Option.{slice_get-get_or}
 use Rattle.farm_base.specs.declared.digest.Digest.{Digest}
 use Rattle.farm_base.specs.Digests.{IsDigest}
+use Rattle.ordering.specs.Firsts.{IsTable, places_in}
 use Rattle.vertices.specs.declared.vertex.Source.{Source}
 use Rattle.vertices.specs.Asked.{Asks}
 use Rattle.vertices.specs.Sources.{IsSource, vertex_of}
-use Rattle.vertices.specs.Firsts.{IsTable}
 use Rattle.vertices.specs.Taken.{IsEntry}
 use Rattle.vertices.specs.Loading.{digest_in, digests_in, vertex_at}
 use Rattle.vertices.proofs.LoadLemmas.{digests_in-more, vertices_more, sources_more, asked_more, digests_more}
@@ -31,12 +31,12 @@ returns-in_ok-push-2-clause-read c =
     let digests : (d : Digest) → Contains (digests_in (take (k + 1) entries)) d → IsDigest d =
     subst (λ (ds : List Digest). (d : Digest) → Contains ds d → IsDigest d) (sym more)
     (digests_more (digests_in (take k entries)) (digest_in x) read.digests (subst IsDigest kept.digest kept.digits)) in
-    let places_if : Bool → List ℕ = λ b. if b then loading.table.places.items ++ k ∷ [] else loading.table.places.items in
-    let places : c.add.new.self.places.items ≡ loading.table.places.items ++ k ∷ [] = c.in_ok-add.ensures.places ∙ ap places_if c.if-branch.true in
+    let places_if : Bool → List ℕ = λ b. if b then places_in loading.table ++ k ∷ [] else places_in loading.table in
+    let places : places_in c.add.new.self ≡ places_in loading.table ++ k ∷ [] = c.in_ok-add.ensures.places ∙ ap places_if c.if-branch.true in
     record {
       table = table;
       vertices = ap (map (vertex_of entries)) c.in_ok-push.ensures.items
-          ∙ vertices_more entries k x c.args.entry.digest c.args.entry.stripped loading.table.places.items loading.sources.items at kept.digest read.vertices
+          ∙ vertices_more entries k x c.args.entry.digest c.args.entry.stripped (places_in loading.table) loading.sources.items at kept.digest read.vertices
           ∙ ap (map (vertex_at entries)) (sym places);
       digests = digests;
       sources = subst (AllByRecursion (IsSource entries)) (sym c.in_ok-push.ensures.items)
@@ -64,8 +64,8 @@ returns-else-branch-clause-read c =
     let digests : (d : Digest) → Contains (digests_in (take (k + 1) entries)) d → IsDigest d =
     subst (λ (ds : List Digest). (d : Digest) → Contains ds d → IsDigest d) (sym more)
     (digests_more (digests_in (take k entries)) (digest_in x) read.digests (subst IsDigest kept.digest kept.digits)) in
-    let places_if : Bool → List ℕ = λ b. if b then loading.table.places.items ++ k ∷ [] else loading.table.places.items in
-    let places : c.add.new.self.places.items ≡ loading.table.places.items = c.in_ok-add.ensures.places ∙ ap places_if c.if-branch.false in
+    let places_if : Bool → List ℕ = λ b. if b then places_in loading.table ++ k ∷ [] else places_in loading.table in
+    let places : places_in c.add.new.self ≡ places_in loading.table = c.in_ok-add.ensures.places ∙ ap places_if c.if-branch.false in
     record {
       table = table;
       vertices = read.vertices ∙ ap (map (vertex_at entries)) (sym places);

@@ -2,7 +2,8 @@ use Rattle.std.proofs.Common.{◌<◌, inl, inr, ℕ, List, length, Option, Some
 use Rattle.std.specs.List.{AllZip}
 use Rattle.std.proofs.lemmas.Option.{slice_get_within}
 use Rattle.std.proofs.lemmas.Result.{err_from_is_err_and}
-use Rattle.vertices.specs.Orders as orders
+use Rattle.ordering.specs.Orders as orders
+use Rattle.ordering.proofs.EntryLemmas.{at_some, at_none, cycle_same}
 use Rattle.vertices.specs.Outcomes.{Each}
 use Rattle.std.specs.Option.{IfSome}
 use Rattle.opsproto.specs.Scalars.{Text}
@@ -12,7 +13,6 @@ use Rattle.vertices.specs.Loaded.{vertices_in}
 use Rattle.vertices.specs.Kept.{AreKept, parts}
 use Rattle.vertices.specs.Loading.{IsGraph, HasEdge, IsCyclic, ResultCheck, VertexCheck, digests_in}
 use Rattle.vertices.proofs.LoadLemmas.{loaded_numbers}
-use Rattle.vertices.proofs.EntryLemmas.{at_some, at_none, cycle_same}
 use Rattle.vertices.proofs.GraphLemmas.{all_runnable, result_check, edges_answer, edge_within, edge_named, named_edge, vertex_order}
 use Rattle.vertices.proofs.loading.Loading.graph.Goals as goal
 

@@ -1,0 +1,5 @@
+pub mod EntryLemmas
+pub mod OrderLaws
+pub mod RowLemmas
+pub mod SortingLemmas
+pub mod TableLemmas

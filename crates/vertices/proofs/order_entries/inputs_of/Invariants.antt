@@ -1,8 +1,0 @@
-use Rattle.std.proofs.Common.{List, take}
-use Rattle.farm_base.specs.declared.digest.Digest.{Digest}
-use Rattle.vertices.specs.Firsts.{IsTable}
-use Rattle.vertices.specs.Entries.{AreResolved}
-use Rattle.vertices.proofs.order_entries.inputs_of.Given as goal
-
-abbrev pub invariant-loop-input : goal.invariant-loop-input
-invariant-loop-input l = (digests : List Digest) → IsTable digests l.table → AreResolved digests (take l.input-index l.inputs) l.row.items

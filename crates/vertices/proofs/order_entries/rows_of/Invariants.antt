@@ -1,5 +1,0 @@
-use Rattle.vertices.specs.Entries.{AreRowsOf}
-use Rattle.vertices.proofs.order_entries.rows_of.Given as goal
-
-abbrev pub invariant-loop-place : goal.invariant-loop-place
-invariant-loop-place l = AreRowsOf l.entries l.place l.rows.items

@@ -1,8 +1,0 @@
-use Rattle.std.proofs.Common.{◌≡◌, true, arith}
-use Rattle.std.proofs.lemmas.List.Elements.{All-from_get_or}
-use Rattle.vertices.specs.Flags.{flag_at}
-use Rattle.vertices.proofs.ordering.are_all_placed.Goals as goal
-
-pub returns : goal.returns
-returns c = All-from_get_or (λ place. flag_at c.args.placed.now place ≡ true) c.args.vertices.now 0
-    (λ k h. c.loop-place.invariant k (omega arith))
