@@ -4,7 +4,7 @@ ghost use Rattle.solving.specs.Leases.{IsReplyTo};
 ghost use Rattle.solving.specs.Places.{IsSeenIn};
 
 use super::common::Common;
-use super::node_state::{Next, NodeState};
+use super::node_state::{Next, NodeState, state_of};
 use executions::{Executor, Gate};
 use farm_base::{Digest, FolderName, Items, Key, Left, NodeId, Ticket, Want, Wants};
 use farmboard::{Granted, Receipt, Running};
@@ -45,7 +45,7 @@ pub(crate) fn work<R: Wait, G: Gate>(
     hired: (NodeId, Box<dyn Executor + Send>),
 ) -> WorkerEnd {
     let (node, mut executor) = hired;
-    let receipts = match common.node(node) {
+    let receipts = match state_of(common.nodes.as_slice(), node) {
         Some(state) => {
             let worker = Worker {
                 rt,
@@ -84,6 +84,11 @@ impl<R: Wait> Worker<'_, '_, R> {
         receipts
     }
 
+    /// What is to be done next on the node.
+    fn next(&self) -> Result<Next, FarmFault> {
+        self.state.jobs.lock(self.rt).next(self.common.alloc)
+    }
+
     /// Solves keys until none is left on the node.
     fn solve_all<G: Gate>(
         &mut self,
@@ -94,8 +99,7 @@ impl<R: Wait> Worker<'_, '_, R> {
         for _ in self.rt.forever() {
             common.signals.go_on()?;
             let seen = common.signals.changes();
-            let next = self.state.jobs.lock(self.rt).next(common.alloc)?;
-            match next {
+            match self.next()? {
                 Next::Solve(task) => solve(self, gate, &common.work, executor, task)?,
                 Next::Wait => common.signals.pause(self.rt, self.number, seen)?,
                 Next::End => return Ok(()),
