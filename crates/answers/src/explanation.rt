@@ -35,20 +35,17 @@ fn definition_fault(alloc: Global, bytes: &[u8]) -> Result<Option<String>, Alloc
 
 /// What is wrong with a record.
 fn record_fault(alloc: Global, bytes: &[u8]) -> Result<Option<String>, AllocError> {
-    match Record::read(alloc, bytes) {
-        Ok(_) => Ok(None),
-        Err(RecordRefusal::OutOfMemory) => Err(AllocError),
-        Err(_) if bytes.is_empty() => Ok(Some(String::from_str(
-            alloc,
-            "it is empty, and no record",
-        )?)),
-        Err(RecordRefusal::Truncated) => Ok(Some(String::from_str(alloc, "it is cut short")?)),
-        Err(RecordRefusal::BadDigest) => {
-            let fault = "it is cut short or damaged: its digest isn't that of its bytes";
-            Ok(Some(String::from_str(alloc, fault)?))
+    let fault = match Record::read(alloc, bytes).err() {
+        None => return Ok(None),
+        Some(RecordRefusal::OutOfMemory) => return Err(AllocError),
+        Some(_) if bytes.is_empty() => "it is empty, and no record",
+        Some(RecordRefusal::Truncated) => "it is cut short",
+        Some(RecordRefusal::BadDigest) => {
+            "it is cut short or damaged: its digest isn't that of its bytes"
         }
-        Err(refusal) => Ok(Some(format!(in alloc; "{refusal}")?)),
-    }
+        Some(refusal) => return Ok(Some(format!(in alloc; "{refusal}")?)),
+    };
+    Ok(Some(String::from_str(alloc, fault)?))
 }
 
 /// The line of this number, from 1.

@@ -136,16 +136,31 @@ pub(crate) fn recorded(alloc: Global, bytes: &[u8]) -> Result<String, Failure>
     Ok(text)
 }
 
+/// Why a log holds nothing, if it does.
+fn refusal_of(alloc: Global, log: &Log) -> Result<Option<RecordRefusal>, AllocError> {
+    match log.read(alloc) {
+        Ok(_) => Ok(None),
+        Err(RecordRefusal::OutOfMemory) => Err(AllocError),
+        Err(refusal) => Ok(Some(refusal)),
+    }
+}
+
+/// Adds a copy of an entry.
+fn push_copy(alloc: Global, log: &mut Log, entry: &[u8]) -> Result<(), AllocError> {
+    let entry = Vec::from_slice(alloc, entry)?;
+    log.push(entry)?;
+    Ok(())
+}
+
 /// Why texts hold nothing: the first entry with which they do, where those before it hold something. With all entries they are
 /// refused so.
 fn first_fault(alloc: Global, log: &Log, refusal: RecordRefusal) -> Result<Failure, AllocError> {
     let mut part = Log::of(alloc, Vec::from_slice(alloc, log.whole())?);
     for (place, entry) in log.entries().iter().enumerate() {
-        match part.read(alloc) {
-            Ok(_) => part.push(Vec::from_slice(alloc, entry.as_slice())?)?,
-            Err(RecordRefusal::OutOfMemory) => return Err(AllocError),
-            Err(refusal) if place == 0 => return Ok(Failure::Record(refusal)),
-            Err(refusal) => return Ok(Failure::Entry(place, refusal)),
+        match refusal_of(alloc, &part)? {
+            None => push_copy(alloc, &mut part, entry.as_slice())?,
+            Some(refusal) if place == 0 => return Ok(Failure::Record(refusal)),
+            Some(refusal) => return Ok(Failure::Entry(place, refusal)),
         }
     }
     Ok(Failure::Entry(log.entries().len(), refusal))

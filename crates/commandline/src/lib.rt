@@ -322,12 +322,55 @@ Status:
 
 Example: farmctl replay examples/fenced.schedule";
 
-fn farmctl<'a>(alloc: Global) -> Result<clap::Command<'a>, AllocError> {
-    let explain = Arg::new(alloc, "explain")
+/// The program with one more command, where there is memory for it.
+fn with<'a>(
+    program: clap::Command<'a>,
+    command: Result<clap::Command<'a>, AllocError>,
+) -> Result<clap::Command<'a>, AllocError> {
+    let command = command?;
+    program.subcommand(command)
+}
+
+/// The program with the commands that read a build definition.
+fn with_definitions<'a>(
+    alloc: Global,
+    program: clap::Command<'a>,
+) -> Result<clap::Command<'a>, AllocError> {
+    let program = with(program, check_command(alloc))?;
+    let program = with(program, keys_command(alloc))?;
+    with(program, wants_command(alloc))
+}
+
+/// The program with the commands that read what a farm kept, or is to do.
+fn with_records<'a>(
+    alloc: Global,
+    program: clap::Command<'a>,
+) -> Result<clap::Command<'a>, AllocError> {
+    let program = with(program, record_command(alloc))?;
+    let program = with(program, replay_command(alloc))?;
+    with(program, draw_command(alloc))
+}
+
+/// The program with the commands that are a farm, or a part of one.
+fn with_farms<'a>(
+    alloc: Global,
+    program: clap::Command<'a>,
+) -> Result<clap::Command<'a>, AllocError> {
+    let program = with(program, run_command(alloc))?;
+    let program = with(program, coordinator_command(alloc))?;
+    with(program, node_command(alloc))
+}
+
+fn explain_arg<'a>(alloc: Global) -> Arg<'a> {
+    Arg::new(alloc, "explain")
         .long("explain")
         .action(ArgAction::SetTrue)
         .global(true)
-        .help("Says in plain words why something is refused or failed, on the standard error");
+        .help("Says in plain words why something is refused or failed, on the standard error")
+}
+
+/// The program without its commands.
+fn bare_program<'a>(alloc: Global) -> Result<clap::Command<'a>, AllocError> {
     clap::Command::new(alloc, "farmctl")
         .bin_name("farmctl")?
         .version("0.1.0")
@@ -335,16 +378,14 @@ fn farmctl<'a>(alloc: Global) -> Result<clap::Command<'a>, AllocError> {
         .after_help(NOTES)
         .no_binary_name(true)
         .subcommand_required(true)
-        .arg(explain)?
-        .subcommand(check_command(alloc)?)?
-        .subcommand(keys_command(alloc)?)?
-        .subcommand(wants_command(alloc)?)?
-        .subcommand(record_command(alloc)?)?
-        .subcommand(replay_command(alloc)?)?
-        .subcommand(draw_command(alloc)?)?
-        .subcommand(run_command(alloc)?)?
-        .subcommand(coordinator_command(alloc)?)?
-        .subcommand(node_command(alloc)?)
+        .arg(explain_arg(alloc))
+}
+
+fn farmctl<'a>(alloc: Global) -> Result<clap::Command<'a>, AllocError> {
+    let program = bare_program(alloc)?;
+    let program = with_definitions(alloc, program)?;
+    let program = with_records(alloc, program)?;
+    with_farms(alloc, program)
 }
 
 /// Which events are to be drawn.
@@ -401,16 +442,12 @@ fn default_words<'a>(alloc: Global) -> Result<Words<'a>, AllocError> {
     })
 }
 
-/// What the words say; without words, the replay of the standard input. An error is a usage fault, the help that was
-/// asked for, or out of memory.
-pub fn words_of<'a>(alloc: Global, words: &'a [String]) -> Result<Words<'a>, Error> {
-    if words.is_empty() {
-        return Ok(default_words(alloc)?);
-    }
-    let matches = farmctl(alloc)?.try_get_matches_from(words)?;
-    let Some((name, found)) = matches.subcommand() else {
-        return Ok(default_words(alloc)?);
-    };
+/// What the words behind a command of this name say.
+fn found_words<'a>(
+    alloc: Global,
+    name: &str,
+    found: &ArgMatches<'a>,
+) -> Result<Words<'a>, AllocError> {
     Ok(Words {
         request: named(name, found),
         options: Options {
@@ -419,4 +456,18 @@ pub fn words_of<'a>(alloc: Global, words: &'a [String]) -> Result<Words<'a>, Err
         },
         files: files_of(alloc, found)?,
     })
+}
+
+/// What the words say; without words, the replay of the standard input. An error is a usage fault, the help that was
+/// asked for, or out of memory.
+pub fn words_of<'a>(alloc: Global, words: &'a [String]) -> Result<Words<'a>, Error> {
+    if words.is_empty() {
+        return Ok(default_words(alloc)?);
+    }
+    let matches = farmctl(alloc)?.try_get_matches_from(words)?;
+    let found = match matches.subcommand() {
+        Some((name, found)) => found_words(alloc, name, found),
+        None => default_words(alloc),
+    };
+    Ok(found?)
 }

@@ -1,7 +1,9 @@
 //! What the program does: reads, answers, prints.
-ghost use Rattle.std.specs.Prelude.{◌≡◌, ◌≢◌, ◌++◌, ℕ, List, codes};
+ghost use Rattle.std.specs.Prelude.{◌≡◌, ◌≢◌, ◌++◌, ℕ, List, IfErr, OnOk, codes};
+ghost use Rattle.std.specs.String.{string_bytes};
 ghost use Rattle.std.specs.Io.KnownBytes.{Appends};
 ghost use Rattle.answers.specs.declared.failure.Failure.TheVariants as failures;
+ghost use Rattle.answers.specs.Answers.{IsAnswer, IsRefused};
 ghost use Rattle.answers.specs.Failures.{failure_line};
 ghost use Rattle.commands.specs.Acts.{AnswersAll, FirstFault};
 
@@ -104,6 +106,24 @@ impl Told {
     }
 }
 
+/// Adds what a command answers for a file. The events that it refuses are told.
+fn push_answer(
+    alloc: Global,
+    command: Command,
+    name: &str,
+    bytes: Vec<u8>,
+    told: &mut Told,
+    all: &mut String,
+) -> Result<(), Failure>
+    ensures printed { OnOk result ((text : List ℕ) × IsAnswer command bytes.items text × (string_bytes all.new ≡ string_bytes all.old ++ text)) }
+    ensures refused { IfErr result (IsRefused command bytes.items) }
+{
+    let answer = answer(alloc, command, bytes)?;
+    told.tell(alloc, name, answer.refused.as_slice())?;
+    all.push_str(answer.text.as_str())?;
+    Ok(())
+}
+
 /// Carries out a command on files, each with its bytes or `None` where it can't be read. Nothing is printed
 /// before all texts are made; the first fault decides. Returns the status of the program.
 pub fn act<O: Write, E: Write>(
@@ -125,16 +145,9 @@ pub fn act<O: Write, E: Write>(
         let Some(bytes) = bytes else {
             return print_unreadable(alloc, name.as_str(), err);
         };
-        match answer(alloc, command, bytes) {
+        match push_answer(alloc, command, name.as_str(), bytes, told, &mut all) {
+            Ok(()) => {}
             Err(failure) => return print_failure(alloc, failure, err),
-            Ok(answer) => {
-                let is_told = told
-                    .tell(alloc, name.as_str(), answer.refused.as_slice())
-                    .is_ok();
-                if !is_told || all.push_str(answer.text.as_str()).is_err() {
-                    return print_failure(alloc, Failure::Memory, err);
-                }
-            }
         }
     }
     print(out, all.as_str(), DONE)
@@ -230,27 +243,40 @@ struct Inputs {
     refused: Option<Failure>,
 }
 
+impl Inputs {
+    /// Adds a file of this name.
+    fn push(
+        &mut self,
+        alloc: Global,
+        name: &str,
+        bytes: Option<Vec<u8>>,
+    ) -> Result<(), AllocError> {
+        let name = String::from_str(alloc, name)?;
+        self.files.push((name, bytes))?;
+        Ok(())
+    }
+}
+
 /// Reads the files that the words name.
 fn read_files<R: Files + Input + AllocGlobal>(
     rt: &R,
     words: &Words,
     told: &mut Told,
 ) -> Result<Inputs, AllocError> {
-    let alloc = rt.alloc();
-    let mut files = Vec::new(alloc);
+    let mut inputs = Inputs {
+        files: Vec::new(rt.alloc()),
+        refused: None,
+    };
     for name in &words.files {
         match read_file(rt, words.request, name, told)? {
-            Ok(bytes) => files.push((String::from_str(alloc, name)?, bytes))?,
+            Ok(bytes) => inputs.push(rt.alloc(), name, bytes)?,
             Err(failure) => {
-                let refused = Some(failure);
-                return Ok(Inputs { files, refused });
+                inputs.refused = Some(failure);
+                break;
             }
         }
     }
-    Ok(Inputs {
-        files,
-        refused: None,
-    })
+    Ok(inputs)
 }
 
 /// Carries out a command on files. One that was refused as it was read comes behind them.
@@ -304,36 +330,52 @@ struct Shown {
     has_failed: bool,
 }
 
+/// Does what is asked for. The answer is the status, and whether something failed.
+fn carry_out<
+    R: Files<File = File> + Input + Clock + AllocGlobal + Threads + Wait + Sync + Clone + Drop,
+    O: Write,
+    E: Write,
+>(
+    rt: &R,
+    words: &Words,
+    inputs: Inputs,
+    told: &mut Told,
+    out: &mut O,
+    err: &mut E,
+) -> Result<(u8, bool), AllocError> {
+    match words.request {
+        Request::Print(command) => {
+            let status = act_on_all(rt.alloc(), command, inputs, told, out, err);
+            Ok((status, told.explanation.has_refused_event))
+        }
+        Request::Run(order) => {
+            let shown = run_all(rt, order, words.options, inputs.files, out, err)?;
+            told.explanation.lines.push_str(shown.lines.as_str())?;
+            Ok((shown.status, shown.has_failed))
+        }
+        Request::Coordinator(place) => {
+            drop(inputs);
+            Ok((coordinate(rt, place, out, err), false))
+        }
+        Request::Node(place) => {
+            drop(inputs);
+            Ok((be_node(rt, place, out, err), false))
+        }
+    }
+}
+
 /// Reads the files that the words name, acts, and explains what is refused or failed if the words ask for it.
 fn act_on<
     R: Files<File = File> + Input + Clock + AllocGlobal + Threads + Wait + Sync + Clone + Drop,
     O: Write,
     E: Write,
 >(rt: &R, words: &Words, out: &mut O, err: &mut E) -> Result<u8, AllocError> {
-    let alloc = rt.alloc();
-    let mut told = Told::new(alloc, words.options.explain || words.options.strict);
+    let options = words.options;
+    let mut told = Told::new(rt.alloc(), options.explain || options.strict);
     let inputs = read_files(rt, words, &mut told)?;
-    let (status, has_failed) = match words.request {
-        Request::Print(command) => {
-            let status = act_on_all(alloc, command, inputs, &mut told, out, err);
-            (status, told.explanation.has_refused_event)
-        }
-        Request::Run(order) => {
-            let shown = run_all(rt, order, words.options, inputs.files, out, err)?;
-            told.explanation.lines.push_str(shown.lines.as_str())?;
-            (shown.status, shown.has_failed)
-        }
-        Request::Coordinator(place) => {
-            drop(inputs);
-            (coordinate(rt, place, out, err), false)
-        }
-        Request::Node(place) => {
-            drop(inputs);
-            (be_node(rt, place, out, err), false)
-        }
-    };
+    let (status, has_failed) = carry_out(rt, words, inputs, &mut told, out, err)?;
     let lines = told.explanation.lines.as_str();
-    Ok(print_explanation(words.options, lines, has_failed, status, err))
+    Ok(print_explanation(options, lines, has_failed, status, err))
 }
 
 /// Does what the words say. The texts of usage faults and help are `clap`'s.

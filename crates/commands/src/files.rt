@@ -57,24 +57,26 @@ fn log_beside<R: Files + Input + AllocGlobal>(rt: &R, name: &str) -> io::Result<
     }
 }
 
+/// The bytes of a record beside this log, as they were read: none where there is a log, and no whole record was saved yet.
+fn whole_beside(alloc: Global, log: &[u8], read: io::Result<Vec<u8>>) -> io::Result<Vec<u8>> {
+    match read {
+        Err(error) if error.kind() == ErrorKind::NotFound && !log.is_empty() => Ok(Vec::new(alloc)),
+        read => read,
+    }
+}
+
 /// What the record of this name holds with the log beside it, as one whole record, or why it is refused. Of the standard input it is
 /// what stands there.
 pub(crate) fn kept<R: Files + Input + AllocGlobal>(
     rt: &R,
     name: &str,
 ) -> io::Result<Result<Vec<u8>, Failure>> {
-    let whole = contents(rt, name, usize::MAX);
+    let read = contents(rt, name, usize::MAX);
     if name == "-" {
-        return Ok(Ok(whole?));
+        return Ok(Ok(read?));
     }
     let log = log_beside(rt, name)?;
-    let whole = match whole {
-        // No whole record was saved yet.
-        Err(error) if error.kind() == ErrorKind::NotFound && !log.is_empty() => Vec::new(
-            rt.alloc(),
-        ),
-        read => read?,
-    };
+    let whole = whole_beside(rt.alloc(), log.as_slice(), read)?;
     match whole_of(rt.alloc(), whole, log.as_slice()) {
         Err(Failure::Memory) => Err(io::Error::from(ErrorKind::OutOfMemory)),
         kept => Ok(kept),

@@ -1,6 +1,7 @@
 //! The ends of tenures, whose folders are closed then.
 use super::common::Common;
 use super::locked_board::LockedBoard;
+use super::node_state::{NodeState, state_of};
 use super::worker::push_receipt;
 use farm_base::{Content, FolderName, NodeId};
 use farmboard::{Finished, Receipt, Running, Settled, abandon_finished, abandon_running};
@@ -37,14 +38,15 @@ fn abandon(leaving: Leaving) {
 /// Closes the folder of a tenure, and takes its content.
 fn close<R: Wait>(
     rt: &R,
-    common: &Common,
+    alloc: Global,
+    nodes: &[NodeState],
     node: NodeId,
     folder: &FolderName,
 ) -> Result<(Running, Content), FarmFault> {
-    let Some(state) = common.node(node) else {
+    let Some(state) = state_of(nodes, node) else {
         return Err(FarmFault::ReceiptLost);
     };
-    let closed = state.open.lock(rt).live.close(common.alloc, folder);
+    let closed = state.open.lock(rt).live.close(alloc, folder);
     match closed {
         Ok(closed) => Ok(closed),
         Err(refusal) => Err(shared_fault(refusal)),
@@ -82,7 +84,8 @@ pub(crate) fn end_next<R: Wait>(
     if leaving.reserve(1).is_err() {
         return Err(FarmFault::Memory);
     }
-    let (running, content) = close(rt, common, node, &folder)?;
+    let nodes = common.nodes.as_slice();
+    let (running, content) = close(rt, common.alloc, nodes, node, &folder)?;
     let finished = finish(common.alloc, locked, running, content)?;
     locked.tenures.stage(node, &folder, Stage::Ending);
     leaving.push_reserved(Leaving {

@@ -2,7 +2,6 @@
 use super::locked_board::LockedBoard;
 use super::node_state::NodeState;
 use super::signals::Signals;
-use farm_base::NodeId;
 use solving::Work;
 use std::alloc::Global;
 use std::sync::Mutex;
@@ -17,16 +16,6 @@ pub(crate) struct Common {
     pub(crate) nodes: Vec<NodeState>,
     pub(crate) work: Work,
     pub(crate) signals: Signals,
-}
-
-impl Common {
-    /// What belongs to a node, if it is there.
-    pub(crate) fn node(&self, node: NodeId) -> Option<&NodeState> {
-        if node.0 == 0 {
-            return None;
-        }
-        self.nodes.get(node.0 as usize - 1)
-    }
 }
 
 /// What a thread sees of the others. It stands for what they share where threads are started: all threads may share it.

@@ -18,6 +18,7 @@ use super::common::Common;
 use super::ends::{FailedJob, FarmEnd, FarmLeft, FarmStop};
 use super::faults::{early_fault, end_fault};
 use super::locked_board::LockedBoard;
+use super::node_state::{NodeState, state_of};
 use super::one::Farm;
 use super::opening::{Submission, Submitted, open, submit_all};
 use super::plan::Plan;
@@ -34,18 +35,6 @@ use solving::{FarmFault, Work, answer_of, beside_setup, cause_of, is_staffed, st
 use std::alloc::{AllocError, Global};
 use std::sync::Wait;
 use std::thread::Threads;
-
-/// The nodes of the workers.
-fn nodes_of(
-    alloc: Global,
-    executors: &[(NodeId, Box<dyn Executor + Send>)],
-) -> Result<Vec<NodeId>, AllocError> {
-    let mut nodes = Vec::with_capacity(alloc, executors.len())?;
-    for (node, _) in executors {
-        nodes.push(*node)?;
-    }
-    Ok(nodes)
-}
 
 /// The executors, and all receipts.
 fn gather(
@@ -68,19 +57,29 @@ fn gather(
     Ok((executors, receipts))
 }
 
+/// The answer of a job.
+fn answer_at<R: Wait>(
+    rt: &R,
+    nodes: &[NodeState],
+    submission: &Submission,
+) -> Result<Answer, FarmFault> {
+    let Some(state) = state_of(nodes, submission.node) else {
+        return Err(FarmFault::ReceiptLost);
+    };
+    let answer = answer_of(&state.jobs.lock(rt).jobs, submission.number)?;
+    Ok(answer)
+}
+
 /// The answers of the jobs with these numbers on their nodes.
 fn answers_of<R: Wait>(
     rt: &R,
     alloc: Global,
-    common: &Common,
+    nodes: &[NodeState],
     numbers: &[Submission],
 ) -> Result<Vec<Answer>, FarmFault> {
     let mut answers = Vec::with_capacity(alloc, numbers.len())?;
     for submission in numbers {
-        let Some(state) = common.node(submission.node) else {
-            return Err(FarmFault::ReceiptLost);
-        };
-        let answer = answer_of(&state.jobs.lock(rt).jobs, submission.number)?;
+        let answer = answer_at(rt, nodes, submission)?;
         answers.push(answer)?;
     }
     Ok(answers)
@@ -90,10 +89,10 @@ fn answers_of<R: Wait>(
 fn cause_at<R: Wait>(
     rt: &R,
     alloc: Global,
-    common: &Common,
+    nodes: &[NodeState],
     submission: &Submission,
 ) -> Result<Cause, FarmFault> {
-    let Some(state) = common.node(submission.node) else {
+    let Some(state) = state_of(nodes, submission.node) else {
         return Err(FarmFault::ReceiptLost);
     };
     let cause = cause_of(alloc, &state.jobs.lock(rt).jobs, submission.number)?;
@@ -104,7 +103,7 @@ fn cause_at<R: Wait>(
 fn causes_of<R: Wait>(
     rt: &R,
     alloc: Global,
-    common: &Common,
+    nodes: &[NodeState],
     numbers: &[Submission],
     answers: &[Answer],
 ) -> Result<Vec<FailedJob>, FarmFault>
@@ -117,7 +116,7 @@ fn causes_of<R: Wait>(
             break;
         };
         if let Answer::Failed = answer {
-            let cause = cause_at(rt, alloc, common, &numbers[place])?;
+            let cause = cause_at(rt, alloc, nodes, &numbers[place])?;
             causes.push(FailedJob { place, cause })?;
         }
         rest = others;
@@ -140,8 +139,9 @@ fn told_of<R: Wait>(
     if let Some(fault) = common.signals.fault(rt) {
         return Err(fault);
     }
-    let answers = answers_of(rt, alloc, common, numbers)?;
-    let causes = causes_of(rt, alloc, common, numbers, answers.as_slice())?;
+    let nodes = common.nodes.as_slice();
+    let answers = answers_of(rt, alloc, nodes, numbers)?;
+    let causes = causes_of(rt, alloc, nodes, numbers, answers.as_slice())?;
     Ok(Told { answers, causes })
 }
 
@@ -396,6 +396,26 @@ struct Solved {
     jobs: Vec<(NodeId, Keyed)>,
 }
 
+/// Submits the jobs. The answer is what this number of workers share, and where each job was submitted.
+fn submitted(
+    alloc: Global,
+    setup: Setup,
+    jobs: Vec<(NodeId, Keyed)>,
+    workers: usize,
+    due: u64,
+) -> Result<(Common, Vec<Submission>), FarmFault>
+    ensures { IfOk result (λ submitted. jobs_of submitted.0.work ≡ jobs.items) }
+{
+    let board = match Board::start(alloc, setup) {
+        Ok(board) => board,
+        Err(refusal) => return Err(start_fault(refusal)),
+    };
+    let Submitted { tables, numbers } = submit_all(alloc, setup.nodes, jobs.as_slice())?;
+    let work = Work::of(alloc, jobs)?;
+    let common = open(alloc, board, tables, work, workers, due)?;
+    Ok((common, numbers))
+}
+
 /// Solves the jobs on their nodes.
 #[tactic(auto, using(crate::proofs::Crosses::common))]
 fn solve_all<R: Threads + Wait + Sync, G: Gate>(
@@ -410,15 +430,9 @@ fn solve_all<R: Threads + Wait + Sync, G: Gate>(
     ensures jobs { IfOk result (λ solved. solved.jobs.items ≡ jobs.items) }
     ensures causes { IfOk result (λ solved. IfOk solved.told (λ told. map (λ each. each.place) told.causes.items ≡ failed_in told.answers.items)) }
 {
-    let board = match Board::start(alloc, setup) {
-        Ok(board) => board,
-        Err(refusal) => return Err(start_fault(refusal)),
-    };
-    let nodes = nodes_of(alloc, executors.as_slice())?;
-    let Submitted { tables, numbers } = submit_all(alloc, setup.nodes, jobs.as_slice())?;
-    let work = Work::of(alloc, jobs)?;
     let plan = Plan::of(fault_plan);
-    let common = open(alloc, board, tables, work, nodes.len(), plan.next_due())?;
+    let workers = executors.len();
+    let (common, numbers) = submitted(alloc, setup, jobs, workers, plan.next_due())?;
     let ends = run_threads(rt, alloc, &common, executors, plan, gate);
     let told = told_of(rt, alloc, &common, numbers.as_slice());
     let (executors, receipts) = gather(alloc, ends)?;

@@ -1,7 +1,7 @@
 //! The jobs of a node, under their lock.
 use super::open_folders::OpenFolders;
 use executions::LiveShared;
-use farm_base::{Digest, Key};
+use farm_base::{Digest, Key, NodeId};
 use jobs::{Fault, Jobs, Task};
 use solving::{FarmFault, jobs_fault};
 use std::alloc::Global;
@@ -42,6 +42,14 @@ impl NodeState {
             }),
         }
     }
+}
+
+/// What belongs to a node, if it is there: the first is that of node 1.
+pub(crate) fn state_of(nodes: &[NodeState], node: NodeId) -> Option<&NodeState> {
+    if node.0 == 0 {
+        return None;
+    }
+    nodes.get(node.0 as usize - 1)
 }
 
 impl NodeJobs {

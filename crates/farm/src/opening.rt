@@ -92,6 +92,12 @@ fn states_of(alloc: Global, tables: Vec<Jobs>) -> Result<Vec<NodeState>, AllocEr
     Ok(states)
 }
 
+/// What this number of workers on these jobs tell each other.
+fn signals_of(alloc: Global, work: &Work, workers: usize, due: u64) -> Result<Signals, AllocError> {
+    let folders = shared_folders(alloc, work.jobs())?;
+    Signals::new(alloc, workers, !folders.is_empty(), due)
+}
+
 /// What this number of workers share. From `due` events on the router has to act before a message is delivered.
 pub(crate) fn open(
     alloc: Global,
@@ -103,16 +109,17 @@ pub(crate) fn open(
 ) -> Result<Common, AllocError>
     ensures { IfOk result (λ common. common.work ≡ work) }
 {
+    let signals = signals_of(alloc, &work, workers, due)?;
+    let nodes = states_of(alloc, tables)?;
     let locked = LockedBoard {
         board,
         tenures: Tenures::new(alloc),
     };
-    let shares = !shared_folders(alloc, work.jobs())?.is_empty();
     Ok(Common {
         alloc,
         board: Mutex::new(locked),
-        nodes: states_of(alloc, tables)?,
+        nodes,
         work,
-        signals: Signals::new(alloc, workers, shares, due)?,
+        signals,
     })
 }

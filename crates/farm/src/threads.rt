@@ -2,6 +2,7 @@
 use super::common::Shared;
 use super::plan::Plan;
 use super::router::route;
+use super::signals::Signals;
 use super::worker::{WorkerEnd, work};
 use executions::{Executor, Gate};
 use farm_base::NodeId;
@@ -17,6 +18,22 @@ use std::thread::{JoinHandle, Threads};
 pub(crate) struct Ends {
     pub(crate) workers: Vec<WorkerEnd>,
     pub(crate) receipts: Vec<Receipt>,
+}
+
+/// Joins the workers. A fault is noted where memory runs out for what one of them does.
+fn join_all<R: Threads + Wait>(
+    rt: &R,
+    alloc: Global,
+    signals: &Signals,
+    children: Vec<JoinHandle<WorkerEnd>>,
+) -> Vec<WorkerEnd> {
+    let mut workers = Vec::new(alloc);
+    for child in children {
+        if workers.push(child.join(rt)).is_err() {
+            signals.fail(rt, FarmFault::Memory);
+        }
+    }
+    workers
 }
 
 /// Starts a thread for each executor, routes in this one, and joins them. A fault is noted for all of them.
@@ -44,12 +61,7 @@ pub(crate) fn run_threads<R: Threads + Wait + Sync, G: Gate, S: Shared>(
             }
         }
         let receipts = route(rt, alloc, shared.common(), plan);
-        let mut workers = Vec::new(alloc);
-        for child in children {
-            if workers.push(child.join(rt)).is_err() {
-                shared.common().signals.fail(rt, FarmFault::Memory);
-            }
-        }
+        let workers = join_all(rt, alloc, &shared.common().signals, children);
         Ends { workers, receipts }
     })
 }

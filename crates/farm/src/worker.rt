@@ -4,26 +4,24 @@ ghost use Rattle.solving.specs.Leases.{IsReplyTo};
 ghost use Rattle.solving.specs.Places.{IsSeenIn};
 
 use super::common::Common;
-use super::node_state::{Next, NodeState};
+use super::node_state::{Next, NodeJobs, state_of};
+use super::worker_steps::Seat;
 use executions::{Executor, Gate};
 use farm_base::{Digest, FolderName, Items, Key, Left, NodeId, Ticket, Want, Wants};
 use farmboard::{Granted, Receipt, Running};
 use folders::{Edit, Folder};
 use jobs::Fault;
-use solving::{FarmFault, Ground, Reply, apply_shared, solve, views_of};
+use solving::{FarmFault, Ground, Reply, Work, apply_shared, solve, views_of};
 use std::alloc::Global;
-use std::sync::Wait;
+use std::sync::{Mutex, Wait};
 
-/// A worker: what it waits by, where it stands, and what it got.
+/// A worker: where it is, what there is to do, and what it got.
 #[derive(Drop)]
-pub(crate) struct Worker<'r, 'a, R: Wait> {
-    pub(crate) rt: &'r R,
-    pub(crate) common: &'a Common,
-    /// What belongs to its node.
-    pub(crate) state: &'a NodeState,
-    pub(crate) node: NodeId,
-    /// Its place among the workers.
-    pub(crate) number: usize,
+struct Worker<'r, 'a, R: Wait> {
+    seat: Seat<'r, 'a, R>,
+    work: &'a Work,
+    /// The jobs of its node.
+    jobs: &'a Mutex<NodeJobs>,
     /// The receipts of its executions that left something in a slot.
     receipts: Vec<Receipt>,
 }
@@ -45,14 +43,21 @@ pub(crate) fn work<R: Wait, G: Gate>(
     hired: (NodeId, Box<dyn Executor + Send>),
 ) -> WorkerEnd {
     let (node, mut executor) = hired;
-    let receipts = match common.node(node) {
+    let receipts = match state_of(common.nodes.as_slice(), node) {
         Some(state) => {
-            let worker = Worker {
+            let seat = Seat {
                 rt,
-                common,
-                state,
+                alloc,
+                board: &common.board,
+                signals: &common.signals,
+                open: &state.open,
                 node,
                 number,
+            };
+            let worker = Worker {
+                seat,
+                work: &common.work,
+                jobs: &state.jobs,
                 receipts: Vec::new(alloc),
             };
             worker.work(gate, &mut *executor)
@@ -71,17 +76,20 @@ impl<R: Wait> Worker<'_, '_, R> {
     fn work<G: Gate>(self, gate: &G, executor: &mut dyn Executor) -> Vec<Receipt> {
         let mut worker = self;
         if let Err(fault) = worker.solve_all(gate, executor) {
-            worker.common.signals.fail(worker.rt, fault);
+            worker.seat.signals.fail(worker.seat.rt, fault);
         }
         let Worker {
-            rt: _,
-            common: _,
-            state: _,
-            node: _,
-            number: _,
+            seat: _,
+            work: _,
+            jobs: _,
             receipts,
         } = worker;
         receipts
+    }
+
+    /// What is to be done next on the node.
+    fn next(&self) -> Result<Next, FarmFault> {
+        self.jobs.lock(self.seat.rt).next(self.seat.alloc)
     }
 
     /// Solves keys until none is left on the node.
@@ -90,14 +98,14 @@ impl<R: Wait> Worker<'_, '_, R> {
         gate: &G,
         executor: &mut dyn Executor,
     ) -> Result<(), FarmFault> {
-        let common = self.common;
-        for _ in self.rt.forever() {
-            common.signals.go_on()?;
-            let seen = common.signals.changes();
-            let next = self.state.jobs.lock(self.rt).next(common.alloc)?;
-            match next {
-                Next::Solve(task) => solve(self, gate, &common.work, executor, task)?,
-                Next::Wait => common.signals.pause(self.rt, self.number, seen)?,
+        let signals = self.seat.signals;
+        let work = self.work;
+        for _ in self.seat.rt.forever() {
+            signals.go_on()?;
+            let seen = signals.changes();
+            match self.next()? {
+                Next::Solve(task) => solve(self, gate, work, executor, task)?,
+                Next::Wait => signals.pause(self.seat.rt, self.seat.number, seen)?,
                 Next::End => return Ok(()),
             }
         }
@@ -107,24 +115,24 @@ impl<R: Wait> Worker<'_, '_, R> {
 
 impl<R: Wait> Ground for Worker<'_, '_, R> {
     fn alloc(&self) -> Global {
-        self.common.alloc
+        self.seat.alloc
     }
 
     fn node(&self) -> NodeId {
-        self.node
+        self.seat.node
     }
 
     fn go_on(&self) -> Result<(), FarmFault> {
-        self.common.signals.go_on()
+        self.seat.signals.go_on()
     }
 
     fn ask(&mut self, wants: &Wants) -> Result<Reply, FarmFault> {
-        for _ in self.rt.forever() {
-            self.common.signals.go_on()?;
-            if let Some(why) = self.hold_tenures(wants.as_slice())? {
+        for _ in self.seat.rt.forever() {
+            self.seat.signals.go_on()?;
+            if let Some(why) = self.seat.hold_tenures(wants.as_slice())? {
                 return Ok(Reply::Denied(why));
             }
-            if let Some(reply) = self.ask_once(wants)? {
+            if let Some(reply) = self.seat.ask_once(wants)? {
                 return Ok(reply);
             }
         }
@@ -132,16 +140,16 @@ impl<R: Wait> Ground for Worker<'_, '_, R> {
     }
 
     fn begin(&mut self, granted: Granted, wants: &Wants) -> Result<Option<Running>, FarmFault> {
-        let begun = self.begin_granted(granted)?;
+        let begun = self.seat.begin_granted(granted)?;
         if begun.is_none() {
-            self.release(wants);
+            self.seat.release(wants);
         }
         Ok(begun)
     }
 
     fn views(&mut self, wants: &[Want]) -> Result<Vec<(FolderName, Folder)>, FarmFault> {
-        let open = self.state.open.lock(self.rt);
-        views_of(self.common.alloc, &open.live, wants)
+        let open = self.seat.open.lock(self.seat.rt);
+        views_of(self.seat.alloc, &open.live, wants)
     }
 
     fn apply(
@@ -150,41 +158,41 @@ impl<R: Wait> Ground for Worker<'_, '_, R> {
         key: Key,
         edits: Items<(FolderName, Items<Edit>)>,
     ) -> Result<(), FarmFault> {
-        let mut open = self.state.open.lock(self.rt);
-        apply_shared(self.common.alloc, &mut open.live, ticket, key, edits)
+        let mut open = self.seat.open.lock(self.seat.rt);
+        apply_shared(self.seat.alloc, &mut open.live, ticket, key, edits)
     }
 
     fn finish(&mut self, running: Running, lefts: Vec<Left>) -> Result<(), FarmFault> {
-        let finished = self.finish_use(running, lefts)?;
-        let receipt = self.settle(finished)?;
+        let finished = self.seat.finish_use(running, lefts)?;
+        let receipt = self.seat.settle(finished)?;
         push_receipt(&mut self.receipts, receipt)
     }
 
     fn give_up(&mut self, running: Running) -> Result<(), FarmFault> {
-        self.common.signals.count_step();
-        self.common
+        self.seat.signals.count_step();
+        self.seat
             .board
-            .lock(self.rt)
-            .give_up(self.common.alloc, running)
+            .lock(self.seat.rt)
+            .give_up(self.seat.alloc, running)
     }
 
     fn give_up_last(&mut self, running: Running) -> Result<(), FarmFault> {
-        self.common.signals.count_step();
-        let mut locked = self.common.board.lock(self.rt);
-        locked.give_up(self.common.alloc, running)?;
-        let _seen = self.deliver(&mut locked)?;
+        self.seat.signals.count_step();
+        let mut locked = self.seat.board.lock(self.seat.rt);
+        locked.give_up(self.seat.alloc, running)?;
+        let _seen = self.seat.deliver(&mut locked)?;
         Ok(())
     }
 
     fn done(&mut self, key: Key, outputs: Vec<Digest>) -> Result<(), FarmFault> {
-        let noted = self.state.jobs.lock(self.rt).done(key, outputs);
-        self.common.signals.note_step();
+        let noted = self.jobs.lock(self.seat.rt).done(key, outputs);
+        self.seat.signals.note_step();
         noted
     }
 
     fn failed(&mut self, key: Key, fault: Fault) -> Result<(), FarmFault> {
-        let noted = self.state.jobs.lock(self.rt).failed(key, fault);
-        self.common.signals.note_step();
+        let noted = self.jobs.lock(self.seat.rt).failed(key, fault);
+        self.seat.signals.note_step();
         noted
     }
 }

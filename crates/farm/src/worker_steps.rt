@@ -5,24 +5,41 @@ ghost use Rattle.protocol.specs.Names.{tenure_wants};
 ghost use Rattle.solving.specs.Leases.{IsLeaseOf, IsReplyTo};
 
 use super::locked_board::LockedBoard;
-use super::worker::Worker;
-use farm_base::{FolderName, Left, Mode, Want, Wants, Why};
+use super::open_folders::OpenFolders;
+use super::signals::Signals;
+use farm_base::{FolderName, Left, Mode, NodeId, Want, Wants, Why};
 use farmboard::{
     Accept, Asked, BoardRefusal, Finished, Granted, Look, Receipt, Running, Settled, abandon_asked,
     abandon_finished, abandon_granted,
 };
 use solving::{FarmFault, Lease, Reply, board_fault, tenure_of};
-use std::sync::Wait;
+use std::alloc::Global;
+use std::sync::{Mutex, Wait};
 use tenures::Stage;
 
-impl<R: Wait> Worker<'_, '_, R> {
+/// A worker on the board: what it waits by, and where it stands. It reaches no more than these steps need, since their proofs pay for
+/// all that it reaches.
+#[derive(Drop)]
+pub(crate) struct Seat<'r, 'a, R: Wait> {
+    pub(crate) rt: &'r R,
+    pub(crate) alloc: Global,
+    pub(crate) board: &'a Mutex<LockedBoard>,
+    pub(crate) signals: &'a Signals,
+    /// The SHARED folders that are open on its node.
+    pub(crate) open: &'a Mutex<OpenFolders>,
+    pub(crate) node: NodeId,
+    /// Its place among the workers.
+    pub(crate) number: usize,
+}
+
+impl<R: Wait> Seat<'_, '_, R> {
     /// Delivers the messages, unless the router has to act first. The answer is the number of changes as of then: what is looked at
     /// in the same hold of the lock stands as it is until there is one more.
     pub(crate) fn deliver(&self, locked: &mut LockedBoard) -> Result<u64, FarmFault> {
-        if locked.deliver_all(self.common.alloc, self.common.signals.due())? {
-            self.common.signals.note_change();
+        if locked.deliver_all(self.alloc, self.signals.due())? {
+            self.signals.note_change();
         }
-        Ok(self.common.signals.changes())
+        Ok(self.signals.changes())
     }
 
     /// Waits until an ask is granted or denied. None where its node restarted.
@@ -31,7 +48,7 @@ impl<R: Wait> Worker<'_, '_, R> {
     {
         let mut asked = first;
         for _ in self.rt.forever() {
-            let mut locked = self.common.board.lock(self.rt);
+            let mut locked = self.board.lock(self.rt);
             let seen = match self.deliver(&mut locked) {
                 Ok(seen) => seen,
                 Err(fault) => {
@@ -39,7 +56,7 @@ impl<R: Wait> Worker<'_, '_, R> {
                     return Err(fault);
                 }
             };
-            let accepted = locked.board.accept(self.common.alloc, asked);
+            let accepted = locked.board.accept(self.alloc, asked);
             drop(locked);
             match accepted {
                 Ok(Accept::Granted(granted)) => return Ok(Some(Reply::Granted(granted))),
@@ -51,7 +68,7 @@ impl<R: Wait> Worker<'_, '_, R> {
                     return Err(board_fault(refusal));
                 }
             }
-            if let Err(fault) = self.common.signals.pause(self.rt, self.number, seen) {
+            if let Err(fault) = self.signals.pause(self.rt, self.number, seen) {
                 abandon_asked(asked);
                 return Err(fault);
             }
@@ -61,8 +78,8 @@ impl<R: Wait> Worker<'_, '_, R> {
 
     /// Gives a lease back that the node no longer has.
     fn give_back(&self, locked: &mut LockedBoard, granted: Granted) -> Result<(), FarmFault> {
-        self.common.signals.count_step();
-        locked.give_back(self.common.alloc, granted)
+        self.signals.count_step();
+        locked.give_back(self.alloc, granted)
     }
 
     /// Begins an execution once the contents are there from which it begins. None where its node restarted.
@@ -71,7 +88,7 @@ impl<R: Wait> Worker<'_, '_, R> {
     {
         let mut granted = first;
         for _ in self.rt.forever() {
-            let mut locked = self.common.board.lock(self.rt);
+            let mut locked = self.board.lock(self.rt);
             let seen = match self.deliver(&mut locked) {
                 Ok(seen) => seen,
                 Err(fault) => {
@@ -87,7 +104,7 @@ impl<R: Wait> Worker<'_, '_, R> {
                     return Ok(None);
                 }
             }
-            if let Err(fault) = self.common.signals.pause(self.rt, self.number, seen) {
+            if let Err(fault) = self.signals.pause(self.rt, self.number, seen) {
                 abandon_granted(granted);
                 return Err(fault);
             }
@@ -103,8 +120,8 @@ impl<R: Wait> Worker<'_, '_, R> {
     ) -> Result<Option<Running>, FarmFault>
         ensures { IfOk result (λ begun. IfSome begun (λ running. running.wants ≡ granted.wants)) }
     {
-        self.common.signals.count_step();
-        match locked.board.begin(self.common.alloc, granted) {
+        self.signals.count_step();
+        match locked.board.begin(self.alloc, granted) {
             Ok(running) => Ok(Some(running)),
             Err((granted, BoardRefusal::Event(_))) => {
                 self.give_back(locked, granted)?;
@@ -121,7 +138,7 @@ impl<R: Wait> Worker<'_, '_, R> {
     pub(crate) fn settle(&self, first: Finished) -> Result<Option<Receipt>, FarmFault> {
         let mut finished = first;
         for _ in self.rt.forever() {
-            let mut locked = self.common.board.lock(self.rt);
+            let mut locked = self.board.lock(self.rt);
             let seen = match self.deliver(&mut locked) {
                 Ok(seen) => seen,
                 Err(fault) => {
@@ -136,7 +153,7 @@ impl<R: Wait> Worker<'_, '_, R> {
                 Settled::Fenced | Settled::Lost => return Ok(None),
                 Settled::Waiting(token) => finished = token,
             }
-            if let Err(fault) = self.common.signals.pause(self.rt, self.number, seen) {
+            if let Err(fault) = self.signals.pause(self.rt, self.number, seen) {
                 abandon_finished(finished);
                 return Err(fault);
             }
@@ -150,22 +167,18 @@ impl<R: Wait> Worker<'_, '_, R> {
         running: Running,
         lefts: Vec<Left>,
     ) -> Result<Finished, FarmFault> {
-        let mut locked = self.common.board.lock(self.rt);
-        self.common.signals.count_step();
+        let mut locked = self.board.lock(self.rt);
+        self.signals.count_step();
         locked
             .tenures
             .put_down(self.node, running.wants().as_slice());
-        locked.finish(self.common.alloc, running, lefts)
+        locked.finish(self.alloc, running, lefts)
     }
 
     /// The tenure of a folder is not to be had now.
     fn forget(&self, folder: &FolderName) {
-        self.common
-            .board
-            .lock(self.rt)
-            .tenures
-            .forget(self.node, folder);
-        self.common.signals.note_step();
+        self.board.lock(self.rt).tenures.forget(self.node, folder);
+        self.signals.note_step();
     }
 
     /// Takes a tenure that was asked for into use. None where the node restarted.
@@ -189,19 +202,14 @@ impl<R: Wait> Worker<'_, '_, R> {
     {
         let running = tenure_of(running)?;
         let ticket = running.ticket();
-        let opened = self
-            .state
-            .open
-            .lock(self.rt)
-            .open(self.common.alloc, folder, running);
+        let opened = self.open.lock(self.rt).open(self.alloc, folder, running);
         opened?;
         let stage = Stage::InUse(ticket);
-        self.common
-            .board
+        self.board
             .lock(self.rt)
             .tenures
             .stage(self.node, folder, stage);
-        self.common.signals.note_step();
+        self.signals.note_step();
         Ok(())
     }
 
@@ -232,9 +240,8 @@ impl<R: Wait> Worker<'_, '_, R> {
         requires { folder.now.mode ≡ Mode.Shared }
     {
         for _ in self.rt.forever() {
-            let seen = self.common.signals.changes();
+            let seen = self.signals.changes();
             let held = self
-                .common
                 .board
                 .lock(self.rt)
                 .tenures
@@ -243,15 +250,14 @@ impl<R: Wait> Worker<'_, '_, R> {
                 return Ok(None);
             }
             let asked = self
-                .common
                 .board
                 .lock(self.rt)
-                .ask_tenure(self.common.alloc, self.node, folder)?;
+                .ask_tenure(self.alloc, self.node, folder)?;
             let Some(asked) = asked else {
-                self.common.signals.pause(self.rt, self.number, seen)?;
+                self.signals.pause(self.rt, self.number, seen)?;
                 continue;
             };
-            self.common.signals.note_step();
+            self.signals.note_step();
             if let Some(why) = self.take_tenure(folder, asked)? {
                 return Ok(Some(why));
             }
@@ -274,25 +280,20 @@ impl<R: Wait> Worker<'_, '_, R> {
 
     /// Counts off an execution of the node, which no longer uses the SHARED folders of these wants.
     pub(crate) fn release(&self, wants: &Wants) {
-        self.common
-            .board
+        self.board
             .lock(self.rt)
             .tenures
             .put_down(self.node, wants.as_slice());
-        self.common.signals.note_step();
+        self.signals.note_step();
     }
 
     /// Asks for a lease and waits for it. None where it is to be asked for again.
     pub(crate) fn ask_once(&self, wants: &Wants) -> Result<Option<Reply>, FarmFault>
         ensures { IfOk result (λ settled. IfSome settled (IsReplyTo wants.now)) }
     {
-        let asked = self
-            .common
-            .board
-            .lock(self.rt)
-            .ask(self.common.alloc, self.node, wants)?;
+        let asked = self.board.lock(self.rt).ask(self.alloc, self.node, wants)?;
         let Some(asked) = asked else {
-            self.common.signals.note_change();
+            self.signals.note_change();
             return Ok(None);
         };
         match self.settle_ask(asked)? {

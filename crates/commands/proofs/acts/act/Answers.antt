@@ -1,4 +1,4 @@
-use Rattle.std.proofs.Common.{rules, ◌≡◌, ℕ, List, [], ◌∷◌, ◌++◌, Some, inl, inr, Vec, refl, sym, ap, ◌∙◌, subst, append_assoc, append-nil}
+use Rattle.std.proofs.Common.{◌≡◌, ℕ, List, [], ◌∷◌, ◌++◌, Some, inl, inr, Vec, refl, sym, ap, ◌∙◌, subst, append_assoc, append-nil}
 use Rattle.std.specs.Prelude.{codes}
 use Rattle.std.specs.Option.{option_map}
 use Rattle.std.specs.String.{string_bytes}
@@ -32,7 +32,7 @@ loop-name-preserved g c =
     let file : File = (c.in-Some.name, c.in-Some.bytes) in
     let bytes : option_map (λ (v : Vec ℕ Global). v.items) c.in-Some.bytes ≡ Some c.in-Some-bytes.bytes.items
     = ap (option_map (λ (v : Vec ℕ Global). v.items)) c.in-Some-bytes.is in
-    let pushed : string_bytes c.push_str.new.self ≡ string_bytes c.loop-name.all ++ string_bytes c.in-Ok.answer.text = search rules in
+    let pushed = c.in-Ok.ensures.printed in
     record {
       can_next = tt;
       is_finite = tt;
@@ -40,8 +40,8 @@ loop-name-preserved g c =
       so_far = (
         so_far.0 ++ file ∷ [],
         append_assoc so_far.0 (file ∷ []) c.next.new.self.rest.items ∙ ap (λ (fs : List File). so_far.0 ++ fs) (sym c.in-Some.ensures.steps.0) ∙ so_far.1,
-        subst (AnswersAll c.args.command (so_far.0 ++ file ∷ [])) (sym pushed)
-            (all_push c.args.command so_far.0 file (string_bytes c.loop-name.all) (string_bytes c.in-Ok.answer.text) so_far.2 (c.in-Some-bytes.bytes.items, bytes, c.in-Ok.ensures.printed)),
+        subst (AnswersAll c.args.command (so_far.0 ++ file ∷ [])) (sym pushed.2)
+            (all_push c.args.command so_far.0 file (string_bytes c.loop-name.all) pushed.0 so_far.2 (c.in-Some-bytes.bytes.items, bytes, pushed.1)),
       );
     }
 
