@@ -5,7 +5,7 @@ ghost use Rattle.solving.specs.Places.{IsSeenIn};
 
 use super::common::Common;
 use super::node_state::{Next, NodeJobs, state_of};
-use super::worker_steps::Seat;
+use super::worker_steps::BoardClient;
 use executions::{Executor, Gate};
 use farm_base::{Digest, FolderName, Items, Key, Left, NodeId, Ticket, Want, Wants};
 use farmboard::{Granted, Receipt, Running};
@@ -18,7 +18,7 @@ use std::sync::{Mutex, Wait};
 /// A worker: where it is, what there is to do, and what it got.
 #[derive(Drop)]
 struct Worker<'r, 'a, R: Wait> {
-    seat: Seat<'r, 'a, R>,
+    client: BoardClient<'r, 'a, R>,
     work: &'a Work,
     /// The jobs of its node.
     jobs: &'a Mutex<NodeJobs>,
@@ -45,7 +45,7 @@ pub(crate) fn work<R: Wait, G: Gate>(
     let (node, mut executor) = hired;
     let receipts = match state_of(common.nodes.as_slice(), node) {
         Some(state) => {
-            let seat = Seat {
+            let client = BoardClient {
                 rt,
                 alloc,
                 board: &common.board,
@@ -55,7 +55,7 @@ pub(crate) fn work<R: Wait, G: Gate>(
                 number,
             };
             let worker = Worker {
-                seat,
+                client,
                 work: &common.work,
                 jobs: &state.jobs,
                 receipts: Vec::new(alloc),
@@ -76,10 +76,10 @@ impl<R: Wait> Worker<'_, '_, R> {
     fn work<G: Gate>(self, gate: &G, executor: &mut dyn Executor) -> Vec<Receipt> {
         let mut worker = self;
         if let Err(fault) = worker.solve_all(gate, executor) {
-            worker.seat.signals.fail(worker.seat.rt, fault);
+            worker.client.signals.fail(worker.client.rt, fault);
         }
         let Worker {
-            seat: _,
+            client: _,
             work: _,
             jobs: _,
             receipts,
@@ -89,7 +89,7 @@ impl<R: Wait> Worker<'_, '_, R> {
 
     /// What is to be done next on the node.
     fn next(&self) -> Result<Next, FarmFault> {
-        self.jobs.lock(self.seat.rt).next(self.seat.alloc)
+        self.jobs.lock(self.client.rt).next(self.client.alloc)
     }
 
     /// Solves keys until none is left on the node.
@@ -98,14 +98,14 @@ impl<R: Wait> Worker<'_, '_, R> {
         gate: &G,
         executor: &mut dyn Executor,
     ) -> Result<(), FarmFault> {
-        let signals = self.seat.signals;
+        let signals = self.client.signals;
         let work = self.work;
-        for _ in self.seat.rt.forever() {
+        for _ in self.client.rt.forever() {
             signals.go_on()?;
             let seen = signals.changes();
             match self.next()? {
                 Next::Solve(task) => solve(self, gate, work, executor, task)?,
-                Next::Wait => signals.pause(self.seat.rt, self.seat.number, seen)?,
+                Next::Wait => signals.pause(self.client.rt, self.client.number, seen)?,
                 Next::End => return Ok(()),
             }
         }
@@ -115,24 +115,24 @@ impl<R: Wait> Worker<'_, '_, R> {
 
 impl<R: Wait> Ground for Worker<'_, '_, R> {
     fn alloc(&self) -> Global {
-        self.seat.alloc
+        self.client.alloc
     }
 
     fn node(&self) -> NodeId {
-        self.seat.node
+        self.client.node
     }
 
     fn go_on(&self) -> Result<(), FarmFault> {
-        self.seat.signals.go_on()
+        self.client.signals.go_on()
     }
 
     fn ask(&mut self, wants: &Wants) -> Result<Reply, FarmFault> {
-        for _ in self.seat.rt.forever() {
-            self.seat.signals.go_on()?;
-            if let Some(why) = self.seat.hold_tenures(wants.as_slice())? {
+        for _ in self.client.rt.forever() {
+            self.client.signals.go_on()?;
+            if let Some(why) = self.client.hold_tenures(wants.as_slice())? {
                 return Ok(Reply::Denied(why));
             }
-            if let Some(reply) = self.seat.ask_once(wants)? {
+            if let Some(reply) = self.client.ask_once(wants)? {
                 return Ok(reply);
             }
         }
@@ -140,16 +140,16 @@ impl<R: Wait> Ground for Worker<'_, '_, R> {
     }
 
     fn begin(&mut self, granted: Granted, wants: &Wants) -> Result<Option<Running>, FarmFault> {
-        let begun = self.seat.begin_granted(granted)?;
+        let begun = self.client.begin_granted(granted)?;
         if begun.is_none() {
-            self.seat.release(wants);
+            self.client.release(wants);
         }
         Ok(begun)
     }
 
     fn views(&mut self, wants: &[Want]) -> Result<Vec<(FolderName, Folder)>, FarmFault> {
-        let open = self.seat.open.lock(self.seat.rt);
-        views_of(self.seat.alloc, &open.live, wants)
+        let open = self.client.open.lock(self.client.rt);
+        views_of(self.client.alloc, &open.live, wants)
     }
 
     fn apply(
@@ -158,41 +158,41 @@ impl<R: Wait> Ground for Worker<'_, '_, R> {
         key: Key,
         edits: Items<(FolderName, Items<Edit>)>,
     ) -> Result<(), FarmFault> {
-        let mut open = self.seat.open.lock(self.seat.rt);
-        apply_shared(self.seat.alloc, &mut open.live, ticket, key, edits)
+        let mut open = self.client.open.lock(self.client.rt);
+        apply_shared(self.client.alloc, &mut open.live, ticket, key, edits)
     }
 
     fn finish(&mut self, running: Running, lefts: Vec<Left>) -> Result<(), FarmFault> {
-        let finished = self.seat.finish_use(running, lefts)?;
-        let receipt = self.seat.settle(finished)?;
+        let finished = self.client.finish_use(running, lefts)?;
+        let receipt = self.client.settle(finished)?;
         push_receipt(&mut self.receipts, receipt)
     }
 
     fn give_up(&mut self, running: Running) -> Result<(), FarmFault> {
-        self.seat.signals.count_step();
-        self.seat
+        self.client.signals.count_step();
+        self.client
             .board
-            .lock(self.seat.rt)
-            .give_up(self.seat.alloc, running)
+            .lock(self.client.rt)
+            .give_up(self.client.alloc, running)
     }
 
     fn give_up_last(&mut self, running: Running) -> Result<(), FarmFault> {
-        self.seat.signals.count_step();
-        let mut locked = self.seat.board.lock(self.seat.rt);
-        locked.give_up(self.seat.alloc, running)?;
-        let _seen = self.seat.deliver(&mut locked)?;
+        self.client.signals.count_step();
+        let mut locked = self.client.board.lock(self.client.rt);
+        locked.give_up(self.client.alloc, running)?;
+        let _seen = self.client.deliver(&mut locked)?;
         Ok(())
     }
 
     fn done(&mut self, key: Key, outputs: Vec<Digest>) -> Result<(), FarmFault> {
-        let noted = self.jobs.lock(self.seat.rt).done(key, outputs);
-        self.seat.signals.note_step();
+        let noted = self.jobs.lock(self.client.rt).done(key, outputs);
+        self.client.signals.note_step();
         noted
     }
 
     fn failed(&mut self, key: Key, fault: Fault) -> Result<(), FarmFault> {
-        let noted = self.jobs.lock(self.seat.rt).failed(key, fault);
-        self.seat.signals.note_step();
+        let noted = self.jobs.lock(self.client.rt).failed(key, fault);
+        self.client.signals.note_step();
         noted
     }
 }

@@ -17,10 +17,10 @@ use std::alloc::Global;
 use std::sync::{Mutex, Wait};
 use tenures::Stage;
 
-/// A worker on the board: what it waits by, and where it stands. It reaches no more than these steps need, since their proofs pay for
-/// all that it reaches.
+/// A worker as a client of the board: what it waits by, and where it stands. It reaches no more than these steps need, since their
+/// proofs pay for all that it reaches.
 #[derive(Drop)]
-pub(crate) struct Seat<'r, 'a, R: Wait> {
+pub(crate) struct BoardClient<'r, 'a, R: Wait> {
     pub(crate) rt: &'r R,
     pub(crate) alloc: Global,
     pub(crate) board: &'a Mutex<LockedBoard>,
@@ -32,7 +32,7 @@ pub(crate) struct Seat<'r, 'a, R: Wait> {
     pub(crate) number: usize,
 }
 
-impl<R: Wait> Seat<'_, '_, R> {
+impl<R: Wait> BoardClient<'_, '_, R> {
     /// Delivers the messages, unless the router has to act first. The answer is the number of changes as of then: what is looked at
     /// in the same hold of the lock stands as it is until there is one more.
     pub(crate) fn deliver(&self, locked: &mut LockedBoard) -> Result<u64, FarmFault> {

@@ -1,5 +1,5 @@
 use Rattle.std.proofs.Common.{◌≡◌}
-use Rattle.farm.proofs.worker_steps.Seat.settle_ask.Given as goal
+use Rattle.farm.proofs.worker_steps.BoardClient.settle_ask.Given as goal
 
 -- it is an ask for the same
 abbrev pub invariant-loop : goal.invariant-loop
